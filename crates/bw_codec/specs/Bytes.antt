@@ -1,0 +1,23 @@
+-- Keys as bytes, their order, and a run of bytes behind its length.
+
+use Rattle.std.specs.Prelude.{ℕ, ◌≤◌, ◌&&◌, Bool, true, List, [], ◌∷◌, length}
+use Rattle.std.specs.Ordering.{nat_cmp, is_lt}
+use Rattle.std.specs.Cmp.Lexicographic.{slice_cmp}
+
+-- keys are ordered by bytes, a beginning before its continuation
+abbrev pub is_below : List ℕ → List ℕ → Bool
+is_below a b = is_lt (slice_cmp nat_cmp a b)
+
+-- each key is below the next
+abbrev pub ascends : List (List ℕ × List ℕ) → Bool
+ascends [] = true
+ascends (p ∷ []) = true
+ascends (p ∷ q ∷ rest) = is_below p.0 q.0 && ascends (q ∷ rest)
+
+-- one byte of length, and that many bytes
+abbrev pub text : List ℕ → List ℕ
+text bytes = length bytes ∷ bytes
+
+-- the length of a key
+abbrev pub IsKey : List ℕ → Type 0
+IsKey k = (1 ≤ length k) × (length k ≤ 64)

@@ -1,0 +1,4 @@
+pub mod Bytes
+pub mod Record
+pub mod Grammar
+pub mod Touch

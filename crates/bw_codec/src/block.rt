@@ -1,0 +1,141 @@
+//! Blocks, the frames and segments that hold them, and what reading finds at the front of bytes.
+
+ghost use Rattle.std.specs.Prelude.{◌≡◌};
+ghost use Rattle.bw_codec.specs.Grammar.{is_head, is_header};
+
+use crate::leaf::Leaf;
+use crate::record::Ops;
+use std::marker::Model;
+
+/// Where a block stands: its frame's number, from 1, and its index in that frame, from 0. It does not
+/// depend on the segment.
+#[derive(Debug, Clone, Copy, PartialEq, Eq)]
+pub struct Place {
+    pub frame: u64,
+    pub index: u32,
+}
+
+/// What became of a page.
+#[derive(Debug, Drop)]
+pub enum Block {
+    /// The page was changed by these records, after the block at `back`.
+    Delta { page: u32, back: Place, ops: Ops },
+    /// The page is this leaf, whatever it was.
+    Base(Leaf),
+    /// The page lost all keys from the low key of `upper` on, after the block at `back`, and `upper`
+    /// is the page that they became.
+    Split {
+        page: u32,
+        back: Place,
+        upper: Leaf,
+    },
+}
+
+/// Blocks, in the order in which they apply.
+#[derive(Debug, Drop)]
+pub struct Blocks {
+    items: Vec<Block>,
+}
+
+impl Model for Blocks {
+    ghost use Rattle.std.specs.Prelude.{List};
+    ghost use Rattle.bw_codec.specs.declared.block.Block.{Block};
+
+    ghost Value = { List Block };
+
+    ghost view = { λ b. b.items.items };
+}
+
+impl Blocks {
+    /// Blocks as they stand in a `Vec`.
+    pub fn of(items: Vec<Block>) -> Blocks
+        ensures { result ≡ items.items }
+    {
+        Blocks { items }
+    }
+
+    /// The `Vec` again. No memory is taken.
+    pub fn into_vec(self) -> Vec<Block>
+        ensures { result.items ≡ self }
+    {
+        self.items
+    }
+
+    /// The blocks.
+    pub fn as_slice(&self) -> &[Block]
+        ensures { result.now ≡ self.now }
+    {
+        self.items.as_slice()
+    }
+}
+
+/// What one flush wrote.
+#[derive(Debug, Drop)]
+pub struct Frame {
+    /// From 1, one after the other over all segments of a log.
+    pub number: u64,
+    pub blocks: Blocks,
+}
+
+/// The numbers in a frame's first 20 bytes.
+#[derive(Debug, Clone, Copy, PartialEq, Eq)]
+pub struct Head {
+    /// The frame's number.
+    pub number: u64,
+    /// The length of its blocks, in bytes.
+    pub body: u32,
+    /// How many blocks it has.
+    pub blocks: u32,
+}
+
+impl Head {
+    /// Whether a frame of at most `limit` bytes may begin so.
+    pub fn is_lawful(&self, limit: u32) -> bool
+        ensures { result ≡ is_head limit self.now }
+    {
+        0 < self.number
+            && 8 <= self.body
+            && u64::from(self.body) + 20 <= u64::from(limit)
+            && 0 < self.blocks
+    }
+}
+
+/// What a segment begins with.
+#[derive(Debug, Clone, Copy, PartialEq, Eq)]
+pub struct Header {
+    /// The segment's number, from 1, in the order in which segments were begun.
+    pub number: u64,
+    /// The most pairs that a page holds, 4 to 32.
+    pub m: u16,
+    /// The most bytes that a frame has, 16,384 to 65,536.
+    pub f: u32,
+}
+
+impl Header {
+    /// Whether a segment may begin so.
+    pub fn is_lawful(&self) -> bool
+        ensures { result ≡ is_header self.now }
+    {
+        0 < self.number && 4 <= self.m && self.m <= 32 && 16384 <= self.f && self.f <= 65536
+    }
+}
+
+/// What stands at the front of a segment's bytes.
+#[derive(Debug, Clone, Copy, PartialEq, Eq)]
+pub enum HeaderRead {
+    /// A header, in the first 24 bytes.
+    Whole(Header),
+    /// 1 to 23 bytes at which a header was cut off.
+    Part,
+    /// Neither; also no bytes at all.
+    Bad,
+}
+
+/// What stands at the front of the bytes behind a header or a frame.
+#[derive(Debug, Drop)]
+pub enum FrameRead {
+    /// A frame, in so many bytes.
+    Whole(Frame, usize),
+    /// Bytes at which a frame was cut off; also no bytes at all.
+    Tail,
+}

@@ -1,0 +1,166 @@
+//! A leaf: a page's low key and its pairs in the order of their keys.
+
+ghost use Rattle.std.specs.Prelude.{◌≡◌, ◌<◌, ◌≤◌, ◌+◌, length, insert, remove, take, slice_set, slice_index_or, OnOk, OnErr, IfOk};
+
+use crate::key::{Key, Value};
+use std::alloc::{AllocError, Global};
+use std::marker::Model;
+
+/// The low key of a page: 0 to 64 bytes, empty for page 1 alone. No key of the page is below it.
+#[derive(Debug, Drop)]
+pub struct Low {
+    bytes: Vec<u8>,
+}
+
+impl Model for Low {
+    ghost use Rattle.std.specs.Prelude.{List, ℕ};
+
+    ghost Value = { List ℕ };
+
+    ghost view = { λ l. l.bytes.items };
+}
+
+impl Low {
+    /// A low key as it stands in a `Vec`.
+    pub fn of(bytes: Vec<u8>) -> Low
+        ensures { result ≡ bytes.items }
+    {
+        Low { bytes }
+    }
+
+    /// The `Vec` again. No memory is taken.
+    pub fn into_vec(self) -> Vec<u8>
+        ensures { result.items ≡ self }
+    {
+        self.bytes
+    }
+
+    /// The low key's bytes.
+    pub fn as_slice(&self) -> &[u8]
+        ensures { result.now ≡ self.now }
+    {
+        self.bytes.as_slice()
+    }
+
+    /// The same low key.
+    pub fn copy(&self) -> Result<Low, AllocError>
+        ensures { IfOk result (λ low. low ≡ self.now) }
+    {
+        let bytes = Vec::from_slice(*self.bytes.allocator(), self.bytes.as_slice())?;
+        Ok(Low { bytes })
+    }
+}
+
+/// Keys with their values, in the order of the keys where a leaf holds them.
+#[derive(Debug, Drop)]
+pub struct Pairs {
+    items: Vec<(Key, Value)>,
+}
+
+impl Model for Pairs {
+    ghost use Rattle.std.specs.Prelude.{List, ℕ};
+
+    ghost Value = { List (List ℕ × List ℕ) };
+
+    ghost view = { λ p. p.items.items };
+}
+
+impl Pairs {
+    /// Pairs as they stand in a `Vec`.
+    pub fn of(items: Vec<(Key, Value)>) -> Pairs
+        ensures { result ≡ items.items }
+    {
+        Pairs { items }
+    }
+
+    /// The `Vec` again. No memory is taken.
+    pub fn into_vec(self) -> Vec<(Key, Value)>
+        ensures { result.items ≡ self }
+    {
+        self.items
+    }
+
+    /// The pairs.
+    pub fn as_slice(&self) -> &[(Key, Value)]
+        ensures { result.now ≡ self.now }
+    {
+        self.items.as_slice()
+    }
+
+    /// Puts a pair before the one at an index, or last. A refusal changes nothing.
+    pub fn insert(&mut self, at: usize, key: Key, value: Value) -> Result<(), AllocError>
+        requires { at ≤ length self.old }
+        ensures ok { OnOk result (self.new ≡ insert self.old at (key, value)) }
+        ensures err { OnErr result (self.new ≡ self.old) }
+    {
+        let _ = self.items.as_slice().len();
+        self.items.insert(at, (key, value))?;
+        Ok(())
+    }
+
+    /// Gives the key at an index, which is this key, another value.
+    pub fn replace(&mut self, at: usize, key: Key, value: Value)
+        requires { at < length self.old }
+        ensures { self.new ≡ slice_set self.old at (key, value) }
+    {
+        let _ = self.items.as_slice().len();
+        self.items[at] = (key, value);
+    }
+
+    /// Removes the pair at an index.
+    pub fn remove(&mut self, at: usize)
+        requires { at < length self.old }
+        ensures { self.new ≡ remove self.old at }
+    {
+        let _ = self.items.as_slice().len();
+        let _ = self.items.remove(at);
+    }
+
+    /// Keeps the first pairs alone.
+    pub fn truncate(&mut self, count: usize)
+        ensures { self.new ≡ take count self.old }
+    {
+        self.items.truncate(count);
+    }
+
+    /// The same pairs as these.
+    pub fn copy_of(alloc: Global, pairs: &[(Key, Value)]) -> Result<Pairs, AllocError>
+        ensures { IfOk result (λ copy. copy ≡ pairs.now) }
+    {
+        let mut items = Vec::with_capacity(alloc, pairs.len())?;
+        for (key, value) in pairs {
+            items.push((key.copy(), value.copy()))?;
+        }
+        Ok(Pairs { items })
+    }
+
+    /// The same pairs.
+    pub fn copy(&self) -> Result<Pairs, AllocError>
+        ensures { IfOk result (λ copy. copy ≡ self.now) }
+    {
+        Pairs::copy_of(*self.items.allocator(), self.items.as_slice())
+    }
+}
+
+/// A page: its number from 1, its low key, and its pairs.
+#[derive(Debug, Drop)]
+pub struct Leaf {
+    pub page: u32,
+    pub low: Low,
+    pub pairs: Pairs,
+}
+
+impl Leaf {
+    /// The same page.
+    pub fn copy(&self) -> Result<Leaf, AllocError>
+        ensures { IfOk result (λ leaf. leaf ≡ self.now) }
+    {
+        let low = self.low.copy()?;
+        let pairs = self.pairs.copy()?;
+        Ok(Leaf {
+            page: self.page,
+            low,
+            pairs,
+        })
+    }
+}

@@ -1,0 +1,18 @@
+//! Keys, values, records, blocks and frames as bytes: each has one spelling, and reading gives back
+//! what was written.
+//!
+//! A frame is what one flush writes: a head of 20 bytes and blocks. A block says what became of one
+//! page: it is set (`Base`), changed by records (`Delta`) or cut in two (`Split`). `docs/FORMAT.md`
+//! has the tables. The spelling is a function of the value (`specs/Grammar.antt`); reading is its
+//! inverse, and says of all other bytes whether they are a frame that was cut off or no frame at all.
+#![tactic(auto)]
+
+pub mod key;
+pub mod record;
+pub mod leaf;
+pub mod block;
+
+pub use block::{Block, Blocks, Frame, Head, Header, Place};
+pub use key::{Key, LengthError, Value, is_before};
+pub use leaf::{Leaf, Low, Pairs};
+pub use record::{Ops, Record};

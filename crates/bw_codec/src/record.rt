@@ -1,0 +1,85 @@
+//! A record is one change of one key; a list of records is what a Delta holds.
+
+ghost use Rattle.std.specs.Prelude.{◌≡◌, IfOk, OnErr};
+ghost use Rattle.bw_codec.specs.Record.{key_of};
+ghost use Rattle.bw_codec.specs.Grammar.{IsOp};
+
+use crate::key::{Key, Value};
+use std::marker::Model;
+
+/// One change of one key.
+#[derive(Debug, PartialEq, Eq, Drop)]
+pub enum Record {
+    /// The key has this value from now on.
+    Put(Key, Value),
+    /// The key has no value from now on.
+    Del(Key),
+}
+
+impl Record {
+    /// The key that is changed.
+    pub fn key(&self) -> &Key
+        ensures value { result.now ≡ key_of self.now }
+        ensures lawful { IsOp self.now }
+    {
+        match self {
+            Record::Put(key, value) => {
+                let _ = key.as_slice();
+                let _ = value.as_slice();
+                key
+            }
+            Record::Del(key) => {
+                let _ = key.as_slice();
+                key
+            }
+        }
+    }
+
+    /// The same record. No memory is taken.
+    pub fn copy(&self) -> Record
+        ensures { result ≡ self.now }
+    {
+        match self {
+            Record::Put(key, value) => Record::Put(key.copy(), value.copy()),
+            Record::Del(key) => Record::Del(key.copy()),
+        }
+    }
+}
+
+/// Records, in the order in which they apply.
+#[derive(Debug, Drop)]
+pub struct Ops {
+    items: Vec<Record>,
+}
+
+impl Model for Ops {
+    ghost use Rattle.std.specs.Prelude.{List};
+    ghost use Rattle.bw_codec.specs.declared.record.Record.{Record};
+
+    ghost Value = { List Record };
+
+    ghost view = { λ o. o.items.items };
+}
+
+impl Ops {
+    /// Records as they stand in a `Vec`.
+    pub fn of(items: Vec<Record>) -> Ops
+        ensures { result ≡ items.items }
+    {
+        Ops { items }
+    }
+
+    /// The `Vec` again. No memory is taken.
+    pub fn into_vec(self) -> Vec<Record>
+        ensures { result.items ≡ self }
+    {
+        self.items
+    }
+
+    /// The records.
+    pub fn as_slice(&self) -> &[Record]
+        ensures { result.now ≡ self.now }
+    {
+        self.items.as_slice()
+    }
+}
