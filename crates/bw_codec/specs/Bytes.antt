@@ -3,6 +3,7 @@
 use Rattle.std.specs.Prelude.{ℕ, ◌≤◌, ◌&&◌, Bool, true, List, [], ◌∷◌, length}
 use Rattle.std.specs.Ordering.{nat_cmp, is_lt}
 use Rattle.std.specs.Cmp.Lexicographic.{slice_cmp}
+use Rattle.byteorder.specs.Endian.{little_bytes}
 
 -- keys are ordered by bytes, a beginning before its continuation
 abbrev pub is_below : List ℕ → List ℕ → Bool
@@ -21,3 +22,7 @@ text bytes = length bytes ∷ bytes
 -- the length of a key
 abbrev pub IsKey : List ℕ → Type 0
 IsKey k = (1 ≤ length k) × (length k ≤ 64)
+
+-- a number in n bytes, the lowest first
+unfoldable pub number_bytes : ℕ → ℕ → List ℕ
+number_bytes n x = little_bytes n x

@@ -2,8 +2,7 @@
 
 use Rattle.std.specs.Prelude.{ℕ, ◌+◌, ◌^◌, ◌<◌, ◌≤◌, ◌≡◌, ◌≢◌, ◌⊎◌, ◌==◌, ◌&&◌, nat_lt, nat_le, Bool, IsTrue, List, [], ◌∷◌, ◌++◌, length}
 use Rattle.std.specs.List.{flat_map, list_all, zip, AllByRecursion}
-use Rattle.byteorder.specs.Endian.{little_bytes}
-use Rattle.bw_codec.specs.Bytes.{text, ascends, IsKey}
+use Rattle.bw_codec.specs.Bytes.{number_bytes, text, ascends, IsKey}
 use Rattle.bw_codec.specs.declared.record.Record.{Record}
 use Rattle.bw_codec.specs.declared.record.Record.TheVariants.{Put, Del}
 use Rattle.bw_codec.specs.declared.leaf.Leaf.{Leaf}
@@ -28,22 +27,22 @@ abbrev pub pair_bytes : List ℕ × List ℕ → List ℕ
 pair_bytes p = text p.0 ++ text p.1
 
 abbrev pub place_bytes : Place → List ℕ
-place_bytes p = little_bytes 8 p.frame ++ little_bytes 4 p.index
+place_bytes p = number_bytes 8 p.frame ++ number_bytes 4 p.index
 
 abbrev pub pairs_bytes : List (List ℕ × List ℕ) → List ℕ
-pairs_bytes ps = little_bytes 2 (length ps) ++ flat_map pair_bytes ps
+pairs_bytes ps = number_bytes 2 (length ps) ++ flat_map pair_bytes ps
 
 abbrev pub ops_bytes : List Record → List ℕ
-ops_bytes ops = little_bytes 2 (length ops) ++ flat_map op_bytes ops
+ops_bytes ops = number_bytes 2 (length ops) ++ flat_map op_bytes ops
 
 -- the new page of a Split
 abbrev pub upper_bytes : Leaf → List ℕ
-upper_bytes leaf = text leaf.low ++ (little_bytes 4 leaf.page ++ pairs_bytes leaf.pairs)
+upper_bytes leaf = text leaf.low ++ (number_bytes 4 leaf.page ++ pairs_bytes leaf.pairs)
 
 abbrev pub block_bytes : Block → List ℕ
-block_bytes (Delta page back ops) = 1 ∷ (little_bytes 4 page ++ (place_bytes back ++ ops_bytes ops))
-block_bytes (Base leaf) = 2 ∷ (little_bytes 4 leaf.page ++ (text leaf.low ++ pairs_bytes leaf.pairs))
-block_bytes (Split page back upper) = 3 ∷ (little_bytes 4 page ++ (place_bytes back ++ upper_bytes upper))
+block_bytes (Delta page back ops) = 1 ∷ (number_bytes 4 page ++ (place_bytes back ++ ops_bytes ops))
+block_bytes (Base leaf) = 2 ∷ (number_bytes 4 leaf.page ++ (text leaf.low ++ pairs_bytes leaf.pairs))
+block_bytes (Split page back upper) = 3 ∷ (number_bytes 4 page ++ (place_bytes back ++ upper_bytes upper))
 
 abbrev pub body_bytes : List Block → List ℕ
 body_bytes blocks = flat_map block_bytes blocks
@@ -57,13 +56,13 @@ abbrev pub segment_word : List ℕ
 segment_word = 66 ∷ 87 ∷ 76 ∷ 79 ∷ 71 ∷ 83 ∷ 71 ∷ 49 ∷ []
 
 abbrev pub head_bytes : ℕ → ℕ → ℕ → List ℕ
-head_bytes number body blocks = frame_word ++ (little_bytes 8 number ++ (little_bytes 4 body ++ little_bytes 4 blocks))
+head_bytes number body blocks = frame_word ++ (number_bytes 8 number ++ (number_bytes 4 body ++ number_bytes 4 blocks))
 
 abbrev pub frame_bytes : Frame → List ℕ
 frame_bytes f = head_bytes f.number (length (body_bytes f.blocks)) (length f.blocks) ++ body_bytes f.blocks
 
 abbrev pub header_bytes : Header → List ℕ
-header_bytes h = segment_word ++ (little_bytes 8 h.number ++ (little_bytes 2 h.m ++ (little_bytes 2 0 ++ little_bytes 4 h.f)))
+header_bytes h = segment_word ++ (number_bytes 8 h.number ++ (number_bytes 2 h.m ++ (number_bytes 2 0 ++ number_bytes 4 h.f)))
 
 -- ---- what is lawful
 

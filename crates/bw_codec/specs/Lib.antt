@@ -2,3 +2,4 @@ pub mod Bytes
 pub mod Record
 pub mod Grammar
 pub mod Touch
+pub mod Reading

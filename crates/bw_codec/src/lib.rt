@@ -11,8 +11,12 @@ pub mod key;
 pub mod record;
 pub mod leaf;
 pub mod block;
+pub mod fault;
+mod parts;
+mod reading;
 
 pub use block::{Block, Blocks, Frame, Head, Header, Place};
+pub use fault::CodecFault;
 pub use key::{Key, LengthError, Value, is_before};
 pub use leaf::{Leaf, Low, Pairs};
 pub use record::{Ops, Record};

@@ -1,0 +1,202 @@
+//! The parts of a block, each read from the front of bytes: numbers, runs of bytes, records, pairs.
+//! What follows a part is handed on with it; nothing is reserved by a count or a length that was read.
+
+ghost use Rattle.std.specs.Prelude.{◌≡◌};
+ghost use Rattle.bw_codec.specs.Bytes.{ascends};
+ghost use Rattle.bw_codec.specs.Reading.{Gives, number_at, run_at, text_at, op_at, pair_at, many_at, place_at, page_at, pairs_at};
+
+use crate::block::Place;
+use crate::fault::CodecFault;
+use crate::key::{Key, Value, is_before};
+use crate::leaf::{Low, Pairs};
+use crate::record::{Ops, Record};
+use byteorder::{ByteOrder, LittleEndian};
+use std::alloc::Global;
+
+pub fn two_of(bytes: &[u8]) -> Result<(u16, &[u8]), CodecFault>
+    ensures { Gives (λ x. (x.0, x.1.now)) result (number_at 2 bytes.now) }
+{
+    if bytes.len() < 2 {
+        return Err(CodecFault::BadBytes);
+    }
+    Ok((LittleEndian::read_u16(bytes), &bytes[2..]))
+}
+
+pub fn four_of(bytes: &[u8]) -> Result<(u32, &[u8]), CodecFault>
+    ensures { Gives (λ x. (x.0, x.1.now)) result (number_at 4 bytes.now) }
+{
+    if bytes.len() < 4 {
+        return Err(CodecFault::BadBytes);
+    }
+    Ok((LittleEndian::read_u32(bytes), &bytes[4..]))
+}
+
+pub fn eight_of(bytes: &[u8]) -> Result<(u64, &[u8]), CodecFault>
+    ensures { Gives (λ x. (x.0, x.1.now)) result (number_at 8 bytes.now) }
+{
+    if bytes.len() < 8 {
+        return Err(CodecFault::BadBytes);
+    }
+    Ok((LittleEndian::read_u64(bytes), &bytes[8..]))
+}
+
+fn run_of(bytes: &[u8]) -> Result<(&[u8], &[u8]), CodecFault>
+    ensures { Gives (λ x. (x.0.now, x.1.now)) result (run_at bytes.now) }
+{
+    match bytes {
+        [] => Err(CodecFault::BadBytes),
+        [length, rest @ ..] => {
+            let length = *length as usize;
+            if rest.len() < length {
+                return Err(CodecFault::BadBytes);
+            }
+            Ok((&rest[..length], &rest[length..]))
+        }
+    }
+}
+
+#[tactic(auto, unfolding(crate::specs::Reading::text_at))]
+pub fn key_at(bytes: &[u8]) -> Result<(Key, &[u8]), CodecFault>
+    ensures { Gives (λ x. (x.0, x.1.now)) result (text_at 1 64 bytes.now) }
+{
+    let (run, rest) = run_of(bytes)?;
+    match Key::new(run) {
+        Ok(key) => Ok((key, rest)),
+        Err(_) => Err(CodecFault::BadBytes),
+    }
+}
+
+#[tactic(auto, unfolding(crate::specs::Reading::text_at))]
+pub fn value_at(bytes: &[u8]) -> Result<(Value, &[u8]), CodecFault>
+    ensures { Gives (λ x. (x.0, x.1.now)) result (text_at 0 128 bytes.now) }
+{
+    let (run, rest) = run_of(bytes)?;
+    match Value::new(run) {
+        Ok(value) => Ok((value, rest)),
+        Err(_) => Err(CodecFault::BadBytes),
+    }
+}
+
+#[tactic(auto, unfolding(crate::specs::Reading::text_at))]
+pub fn low_of(alloc: Global, bytes: &[u8]) -> Result<(Low, &[u8]), CodecFault>
+    ensures { Gives (λ x. (x.0, x.1.now)) result (text_at 0 64 bytes.now) }
+{
+    let (run, rest) = run_of(bytes)?;
+    if 64 < run.len() {
+        return Err(CodecFault::BadBytes);
+    }
+    let low = Vec::from_slice(alloc, run)?;
+    Ok((Low::of(low), rest))
+}
+
+#[tactic(auto, unfolding(crate::specs::Reading::op_at))]
+pub fn op_of(bytes: &[u8]) -> Result<(Record, &[u8]), CodecFault>
+    ensures { Gives (λ x. (x.0, x.1.now)) result (op_at bytes.now) }
+{
+    match bytes {
+        [] => Err(CodecFault::BadBytes),
+        [tag, rest @ ..] => {
+            if *tag == 1 {
+                let (key, rest) = key_at(rest)?;
+                let (value, rest) = value_at(rest)?;
+                Ok((Record::Put(key, value), rest))
+            } else if *tag == 2 {
+                let (key, rest) = key_at(rest)?;
+                Ok((Record::Del(key), rest))
+            } else {
+                Err(CodecFault::BadBytes)
+            }
+        }
+    }
+}
+
+#[tactic(auto, unfolding(crate::specs::Reading::pair_at))]
+pub fn pair_of(bytes: &[u8]) -> Result<((Key, Value), &[u8]), CodecFault>
+    ensures { Gives (λ x. (x.0, x.1.now)) result (pair_at bytes.now) }
+{
+    let (key, rest) = key_at(bytes)?;
+    let (value, rest) = value_at(rest)?;
+    Ok(((key, value), rest))
+}
+
+pub fn some_pairs(alloc: Global, count: u16, bytes: &[u8]) -> Result<(Pairs, &[u8]), CodecFault>
+    ensures { Gives (λ x. (x.0, x.1.now)) result (many_at pair_at count bytes.now) }
+{
+    let mut items = Vec::new(alloc);
+    let mut rest = bytes;
+    for _i in 0..count {
+        let (pair, others) = pair_of(rest)?;
+        items.push(pair)?;
+        rest = others;
+    }
+    Ok((Pairs::of(items), rest))
+}
+
+pub fn some_ops(alloc: Global, count: u16, bytes: &[u8]) -> Result<(Ops, &[u8]), CodecFault>
+    ensures { Gives (λ x. (x.0, x.1.now)) result (many_at op_at count bytes.now) }
+{
+    let mut items = Vec::new(alloc);
+    let mut rest = bytes;
+    for _i in 0..count {
+        let (op, others) = op_of(rest)?;
+        items.push(op)?;
+        rest = others;
+    }
+    Ok((Ops::of(items), rest))
+}
+
+pub fn ascend(pairs: &[(Key, Value)]) -> bool
+    ensures { result ≡ ascends pairs.now }
+{
+    let mut last: Option<&Key> = None;
+    for (key, _) in pairs {
+        match last {
+            None => {}
+            Some(before) => {
+                if !is_before(before.as_slice(), key.as_slice()) {
+                    return false;
+                }
+            }
+        }
+        last = Some(key);
+    }
+    true
+}
+
+#[tactic(auto, unfolding(crate::specs::Reading::pairs_at))]
+pub fn pairs_of(alloc: Global, m: u16, bytes: &[u8]) -> Result<(Pairs, &[u8]), CodecFault>
+    ensures { Gives (λ x. (x.0, x.1.now)) result (pairs_at m bytes.now) }
+{
+    let (count, rest) = two_of(bytes)?;
+    if m < count {
+        return Err(CodecFault::BadBytes);
+    }
+    let (pairs, rest) = some_pairs(alloc, count, rest)?;
+    if !ascend(pairs.as_slice()) {
+        return Err(CodecFault::BadBytes);
+    }
+    Ok((pairs, rest))
+}
+
+#[tactic(auto, unfolding(crate::specs::Reading::page_at))]
+pub fn page_of(bytes: &[u8]) -> Result<(u32, &[u8]), CodecFault>
+    ensures { Gives (λ x. (x.0, x.1.now)) result (page_at bytes.now) }
+{
+    let (page, rest) = four_of(bytes)?;
+    if page < 1 {
+        return Err(CodecFault::BadBytes);
+    }
+    Ok((page, rest))
+}
+
+#[tactic(auto, unfolding(crate::specs::Reading::place_at))]
+pub fn place_of(bytes: &[u8]) -> Result<(Place, &[u8]), CodecFault>
+    ensures { Gives (λ x. (x.0, x.1.now)) result (place_at bytes.now) }
+{
+    let (frame, rest) = eight_of(bytes)?;
+    let (index, rest) = four_of(rest)?;
+    if frame < 1 {
+        return Err(CodecFault::BadBytes);
+    }
+    Ok((Place { frame, index }, rest))
+}

@@ -1,0 +1,197 @@
+//! Blocks, frames and headers, read from the front of bytes.
+
+ghost use Rattle.std.specs.Prelude.{◌≡◌, ◌≤◌, IfOk, Some, length};
+ghost use Rattle.bw_codec.specs.declared.block.FrameRead.{FrameRead};
+ghost use Rattle.bw_codec.specs.Grammar.{agrees, IsFront, IsHeading};
+ghost use Rattle.bw_codec.specs.Reading.{Gives, delta_at, base_at, upper_at, split_at, block_at, many_at, head_at, front_at, heading_of, is_led};
+
+use crate::block::{Block, Blocks, Frame, FrameRead, Head, Header, HeaderRead};
+use crate::fault::CodecFault;
+use crate::leaf::Leaf;
+use crate::parts::{eight_of, four_of, low_of, page_of, pairs_of, place_of, some_ops, two_of};
+use byteorder::{ByteOrder, LittleEndian};
+use std::alloc::Global;
+
+#[tactic(auto, unfolding(crate::specs::Reading::delta_at))]
+fn delta_of(alloc: Global, bytes: &[u8]) -> Result<(Block, &[u8]), CodecFault>
+    ensures { Gives (λ x. (x.0, x.1.now)) result (delta_at bytes.now) }
+{
+    let (page, rest) = page_of(bytes)?;
+    let (back, rest) = place_of(rest)?;
+    let (count, rest) = two_of(rest)?;
+    if count < 1 {
+        return Err(CodecFault::BadBytes);
+    }
+    let (ops, rest) = some_ops(alloc, count, rest)?;
+    Ok((Block::Delta { page, back, ops }, rest))
+}
+
+#[tactic(auto, unfolding(crate::specs::Reading::base_at))]
+fn base_of(alloc: Global, m: u16, bytes: &[u8]) -> Result<(Block, &[u8]), CodecFault>
+    ensures { Gives (λ x. (x.0, x.1.now)) result (base_at m bytes.now) }
+{
+    let (page, rest) = page_of(bytes)?;
+    let (low, rest) = low_of(alloc, rest)?;
+    let (pairs, rest) = pairs_of(alloc, m, rest)?;
+    Ok((Block::Base(Leaf { page, low, pairs }), rest))
+}
+
+fn leads(leaf: &Leaf) -> bool
+    ensures { result ≡ is_led leaf.now.low leaf.now.pairs }
+{
+    match leaf.pairs.as_slice().first() {
+        None => false,
+        Some((key, _)) => key.as_slice() == leaf.low.as_slice(),
+    }
+}
+
+#[tactic(auto, unfolding(crate::specs::Reading::upper_at))]
+fn upper_of(alloc: Global, m: u16, bytes: &[u8]) -> Result<(Leaf, &[u8]), CodecFault>
+    ensures { Gives (λ x. (x.0, x.1.now)) result (upper_at m bytes.now) }
+{
+    let (low, rest) = low_of(alloc, bytes)?;
+    let (page, rest) = four_of(rest)?;
+    let (pairs, rest) = pairs_of(alloc, m, rest)?;
+    if page < 2 {
+        return Err(CodecFault::BadBytes);
+    }
+    let leaf = Leaf { page, low, pairs };
+    if !leads(&leaf) {
+        return Err(CodecFault::BadBytes);
+    }
+    Ok((leaf, rest))
+}
+
+#[tactic(auto, unfolding(crate::specs::Reading::split_at))]
+fn split_of(alloc: Global, m: u16, bytes: &[u8]) -> Result<(Block, &[u8]), CodecFault>
+    ensures { Gives (λ x. (x.0, x.1.now)) result (split_at m bytes.now) }
+{
+    let (page, rest) = page_of(bytes)?;
+    let (back, rest) = place_of(rest)?;
+    let (upper, rest) = upper_of(alloc, m, rest)?;
+    if upper.page == page {
+        return Err(CodecFault::BadBytes);
+    }
+    Ok((Block::Split { page, back, upper }, rest))
+}
+
+#[tactic(auto, unfolding(crate::specs::Reading::block_at))]
+fn block_of(alloc: Global, m: u16, bytes: &[u8]) -> Result<(Block, &[u8]), CodecFault>
+    ensures { Gives (λ x. (x.0, x.1.now)) result (block_at m bytes.now) }
+{
+    match bytes {
+        [] => Err(CodecFault::BadBytes),
+        [tag, rest @ ..] => {
+            if *tag == 1 {
+                delta_of(alloc, rest)
+            } else if *tag == 2 {
+                base_of(alloc, m, rest)
+            } else if *tag == 3 {
+                split_of(alloc, m, rest)
+            } else {
+                Err(CodecFault::BadBytes)
+            }
+        }
+    }
+}
+
+fn some_blocks(
+    alloc: Global,
+    m: u16,
+    count: u32,
+    bytes: &[u8],
+) -> Result<(Blocks, &[u8]), CodecFault>
+    ensures { Gives (λ x. (x.0, x.1.now)) result (many_at (block_at m) count bytes.now) }
+{
+    let mut items = Vec::new(alloc);
+    let mut rest = bytes;
+    for _i in 0..count {
+        let (block, others) = block_of(alloc, m, rest)?;
+        items.push(block)?;
+        rest = others;
+    }
+    Ok((Blocks::of(items), rest))
+}
+
+fn begins_as(bytes: &[u8], word: &[u8]) -> bool
+    ensures { result ≡ agrees bytes.now word.now }
+{
+    word.iter().zip(bytes).all(|(a, b)| *a == *b)
+}
+
+#[tactic(auto, unfolding(crate::specs::Reading::head_at))]
+fn head_of(limit: u32, bytes: &[u8]) -> Result<(Head, &[u8]), CodecFault>
+    requires { 20 ≤ length bytes.now }
+    ensures { Gives (λ x. (x.0, x.1.now)) result (head_at limit bytes.now) }
+{
+    if !begins_as(bytes, b"FRM1") {
+        return Err(CodecFault::BadBytes);
+    }
+    let (number, rest) = eight_of(&bytes[4..])?;
+    let (body, rest) = four_of(rest)?;
+    let (blocks, rest) = four_of(rest)?;
+    let head = Head {
+        number,
+        body,
+        blocks,
+    };
+    if !head.is_lawful(limit) {
+        return Err(CodecFault::BadBytes);
+    }
+    Ok((head, rest))
+}
+
+#[tactic(auto, unfolding(crate::specs::Reading::front_at))]
+fn front_of(alloc: Global, m: u16, limit: u32, bytes: &[u8]) -> Result<FrameRead, CodecFault>
+    ensures { Gives (λ x. x) result (front_at m limit bytes.now) }
+{
+    if bytes.len() < 20 {
+        if begins_as(bytes, b"FRM1") {
+            return Ok(FrameRead::Tail);
+        }
+        return Err(CodecFault::BadBytes);
+    }
+    let (head, rest) = head_of(limit, bytes)?;
+    let body = head.body as usize;
+    if rest.len() < body {
+        return Ok(FrameRead::Tail);
+    }
+    let (blocks, after) = some_blocks(alloc, m, head.blocks, &rest[..body])?;
+    if !after.is_empty() {
+        return Err(CodecFault::BadBytes);
+    }
+    let frame = Frame {
+        number: head.number,
+        blocks,
+    };
+    Ok(FrameRead::Whole(frame, body + 20))
+}
+
+#[tactic(auto, unfolding(crate::specs::Reading::heading_of))]
+fn heading(bytes: &[u8]) -> HeaderRead
+    ensures { result ≡ heading_of bytes.now }
+{
+    if !begins_as(bytes, b"BWLOGSG1") {
+        return HeaderRead::Bad;
+    }
+    if bytes.len() < 24 {
+        return if bytes.is_empty() {
+            HeaderRead::Bad
+        } else {
+            HeaderRead::Part
+        };
+    }
+    if LittleEndian::read_u16(&bytes[18..]) != 0 {
+        return HeaderRead::Bad;
+    }
+    let header = Header {
+        number: LittleEndian::read_u64(&bytes[8..]),
+        m: LittleEndian::read_u16(&bytes[16..]),
+        f: LittleEndian::read_u32(&bytes[20..]),
+    };
+    if header.is_lawful() {
+        HeaderRead::Whole(header)
+    } else {
+        HeaderRead::Bad
+    }
+}
