@@ -1,1 +1,5 @@
 pub mod Many
+pub mod Format
+pub mod BlockFormat
+pub mod FrontFormat
+pub mod Heading

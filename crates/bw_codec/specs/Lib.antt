@@ -3,3 +3,4 @@ pub mod Record
 pub mod Grammar
 pub mod Touch
 pub mod Reading
+pub mod Laws

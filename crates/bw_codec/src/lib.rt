@@ -14,9 +14,11 @@ pub mod block;
 pub mod fault;
 mod parts;
 mod reading;
+pub mod laws;
 
-pub use block::{Block, Blocks, Frame, Head, Header, Place};
+pub use block::{Block, Blocks, Frame, FrameRead, Head, Header, HeaderRead, Place};
 pub use fault::CodecFault;
 pub use key::{Key, LengthError, Value, is_before};
 pub use leaf::{Leaf, Low, Pairs};
+pub use reading::{read_frame, read_header};
 pub use record::{Ops, Record};

@@ -195,3 +195,42 @@ fn heading(bytes: &[u8]) -> HeaderRead
         HeaderRead::Bad
     }
 }
+
+fn read_within(
+    alloc: Global,
+    m: u16,
+    limit: u32,
+    bytes: &[u8],
+) -> Result<FrameRead, CodecFault>
+    ensures found { IfOk result (IsFront m limit bytes.now) }
+    ensures only {
+        (read : FrameRead) → IsFront m limit bytes.now read → Gives (λ x. x) result (Some read)
+    }
+{
+    front_of(alloc, m, limit, bytes)
+}
+
+/// What stands at the front of the bytes behind a header or a frame: a whole frame of a segment with
+/// this header, or bytes at which one was cut off. `BadBytes` for all other bytes, `NoMemory` only
+/// where a growth was refused. Time and memory are linear in the bytes; nothing is reserved by a count
+/// or a length that was read.
+pub fn read_frame(alloc: Global, bytes: &[u8], header: &Header) -> Result<FrameRead, CodecFault>
+    // What is answered stands there.
+    ensures found { IfOk result (IsFront header.now.m header.now.f bytes.now) }
+
+    // What stands there is answered, unless memory runs out.
+    ensures only {
+        (read : FrameRead) → IsFront header.now.m header.now.f bytes.now read
+        → Gives (λ x. x) result (Some read)
+    }
+{
+    read_within(alloc, header.m, header.f, bytes)
+}
+
+/// What a segment begins with: a header, a part of one, or neither. No bytes at all are `Bad`: such a
+/// segment is a spare, and its caller asks for its length first. No memory is taken.
+pub fn read_header(bytes: &[u8]) -> HeaderRead
+    ensures { IsHeading bytes.now result }
+{
+    heading(bytes)
+}

@@ -1,0 +1,143 @@
+-- What stands at the front of a segment: a header, a part of one, or neither.
+
+use Rattle.std.proofs.Common.{◌≡◌, ℕ, ◌+◌, ◌^◌, ◌<◌, ◌≤◌, ◌==◌, ◌&&◌, Bool, true, false, if◌then◌else◌, IsTrue, List, [], ◌∷◌, ◌++◌, length, take, drop, nat_lt, nat_le, refl, sym, ap, subst, ◌∙◌, append_assoc, arith, length-append, length-drop}
+use Rattle.std.proofs.lemmas.Bool.{ltb-false, ltb-true, le-ltb, lt-ltb, leb-true, le-leb, eqb-true, and_parts, and_from}
+use Rattle.std.proofs.lemmas.List.{drop_at, drop-drop}
+use Rattle.byteorder.specs.Endian.{little_number}
+use Rattle.bw_codec.specs.Bytes.{number_bytes}
+use Rattle.bw_codec.specs.Grammar.{segment_word, header_bytes, agrees, is_header, IsHeader, IsPart, IsHeading}
+use Rattle.bw_codec.specs.Reading.{header_in, heading_of}
+use Rattle.bw_codec.specs.declared.block.Header.{Header}
+use Rattle.bw_codec.specs.declared.block.HeaderRead.{HeaderRead}
+use Rattle.bw_codec.specs.declared.block.HeaderRead.TheVariants as heading
+use Rattle.bw_codec.proofs.Format.{IsBytes, bytes_after, then_parts, number_there, number_reads}
+use Rattle.bw_codec.proofs.FrontFormat.{agrees_begins, agrees_whole, length-number}
+
+-- ---- the tests
+
+tested : (h : Header) → is_header h ≡ true → h.number < 2 ^ 64 → IsHeader h
+tested h is number =
+    let a = and_parts (nat_lt 0 h.number && nat_le 4 h.m && nat_le h.m 32 && nat_le 16384 h.f) (nat_le h.f 65536) is in
+    let b = and_parts (nat_lt 0 h.number && nat_le 4 h.m && nat_le h.m 32) (nat_le 16384 h.f) a.0 in
+    let c = and_parts (nat_lt 0 h.number && nat_le 4 h.m) (nat_le h.m 32) b.0 in
+    let d = and_parts (nat_lt 0 h.number) (nat_le 4 h.m) c.0 in
+    record {
+      number = (ltb-true 0 h.number d.0, number);
+      m = (leb-true 4 h.m d.1, leb-true h.m 32 c.1);
+      f = (leb-true 16384 h.f b.1, leb-true h.f 65536 a.1)
+    }
+
+passes : (h : Header) → IsHeader h → is_header h ≡ true
+passes h law =
+    and_from (nat_lt 0 h.number && nat_le 4 h.m && nat_le h.m 32 && nat_le 16384 h.f) (nat_le h.f 65536)
+    (and_from (nat_lt 0 h.number && nat_le 4 h.m && nat_le h.m 32) (nat_le 16384 h.f)
+    (and_from (nat_lt 0 h.number && nat_le 4 h.m) (nat_le h.m 32)
+    (and_from (nat_lt 0 h.number) (nat_le 4 h.m) (lt-ltb 0 h.number law.number.0) (le-leb 4 h.m law.m.0))
+    (le-leb h.m 32 law.m.1))
+    (le-leb 16384 h.f law.f.0))
+    (le-leb h.f 65536 law.f.1)
+
+-- ---- a header is spelled where one is read
+
+-- a number stands at an offset, and more bytes behind it
+number_at_offset : (n k j : ℕ) (bytes : List ℕ) → k + n ≡ j → j ≤ length bytes → IsBytes (drop k bytes)
+    → (drop k bytes ≡ number_bytes n (little_number n (drop k bytes)) ++ drop j bytes) × (little_number n (drop k bytes) < 256 ^ n) × IsBytes (drop j bytes)
+number_at_offset n k j bytes at long fits =
+    let there = number_there n (drop k bytes) (omega (arith, length-drop k bytes)) fits in
+    let next : drop n (drop k bytes) ≡ drop j bytes = drop-drop n k bytes ∙ ap (λ (i : ℕ). drop i bytes) at in
+    (there.parts ∙ ap (λ (r : List ℕ). number_bytes n (little_number n (drop k bytes)) ++ r) next, there.lawful, subst IsBytes next there.others)
+
+header_there : (bytes : List ℕ) → IsBytes bytes → 24 ≤ length bytes → agrees bytes segment_word ≡ true → little_number 2 (drop 18 bytes) ≡ 0 → is_header (header_in bytes) ≡ true
+    → IsHeader (header_in bytes) × (bytes ≡ header_bytes (header_in bytes) ++ drop 24 bytes)
+header_there bytes fits long word zero is =
+    let front : bytes ≡ segment_word ++ drop 8 bytes = agrees_begins segment_word bytes (omega arith) word in
+    let number = number_at_offset 8 8 16 bytes refl (omega arith) (bytes_after bytes segment_word (drop 8 bytes) front fits) in
+    let m = number_at_offset 2 16 18 bytes refl (omega arith) number.2 in
+    let none = number_at_offset 2 18 20 bytes refl (omega arith) m.2 in
+    let f = number_at_offset 4 20 24 bytes refl long none.2 in
+    let h = header_in bytes in
+    let none_parts : drop 18 bytes ≡ number_bytes 2 0 ++ drop 20 bytes = none.0 ∙ ap (λ (x : ℕ). number_bytes 2 x ++ drop 20 bytes) zero in
+    let p3 = then_parts (drop 18 bytes) (number_bytes 2 0) (number_bytes 4 h.f) (drop 20 bytes) (drop 24 bytes) none_parts f.0 in
+    let p2 = then_parts (drop 16 bytes) (number_bytes 2 h.m) (number_bytes 2 0 ++ number_bytes 4 h.f) (drop 18 bytes) (drop 24 bytes) m.0 p3 in
+    let p1 = then_parts (drop 8 bytes) (number_bytes 8 h.number) (number_bytes 2 h.m ++ (number_bytes 2 0 ++ number_bytes 4 h.f)) (drop 16 bytes) (drop 24 bytes) number.0 p2 in
+    (tested h is number.1, then_parts bytes segment_word (number_bytes 8 h.number ++ (number_bytes 2 h.m ++ (number_bytes 2 0 ++ number_bytes 4 h.f))) (drop 8 bytes) (drop 24 bytes) front p1)
+
+-- ---- a header is read where one is spelled
+
+pub length-header : (h : Header) → length (header_bytes h) ≡ 24
+length-header h =
+    omega (arith, length-number 8 h.number, length-number 2 h.m, length-number 2 0, length-number 4 h.f,
+      length-append (number_bytes 8 h.number) (number_bytes 2 h.m ++ (number_bytes 2 0 ++ number_bytes 4 h.f)),
+      length-append (number_bytes 2 h.m) (number_bytes 2 0 ++ number_bytes 4 h.f), length-append (number_bytes 2 0) (number_bytes 4 h.f))
+
+-- what follows a number at an offset
+behind_number : (n x k j : ℕ) (bytes rest : List ℕ) → k + n ≡ j → drop k bytes ≡ number_bytes n x ++ rest → drop j bytes ≡ rest
+behind_number n x k j bytes rest at there =
+    ap (λ (i : ℕ). drop i bytes) (sym at) ∙ sym (drop-drop n k bytes) ∙ ap (λ (r : List ℕ). drop n r) there ∙ drop_at (number_bytes n x) rest n (length-number n x)
+
+header_in_is : (h : Header) (rest : List ℕ) → IsHeader h → (header_in (header_bytes h ++ rest) ≡ h) × (little_number 2 (drop 18 (header_bytes h ++ rest)) ≡ 0)
+header_in_is h rest law =
+    let bytes = header_bytes h ++ rest in
+    let r3 = number_bytes 4 h.f ++ rest in
+    let r2 = number_bytes 2 0 ++ r3 in
+    let r1 = number_bytes 2 h.m ++ r2 in
+    let d8 : drop 8 bytes ≡ number_bytes 8 h.number ++ r1 =
+    append_assoc (number_bytes 8 h.number) (number_bytes 2 h.m ++ (number_bytes 2 0 ++ number_bytes 4 h.f)) rest
+    ∙ ap (λ (r : List ℕ). number_bytes 8 h.number ++ r) (append_assoc (number_bytes 2 h.m) (number_bytes 2 0 ++ number_bytes 4 h.f) rest ∙ ap (λ (r : List ℕ). number_bytes 2 h.m ++ r) (append_assoc (number_bytes 2 0) (number_bytes 4 h.f) rest)) in
+    let d16 : drop 16 bytes ≡ r1 = behind_number 8 h.number 8 16 bytes r1 refl d8 in
+    let d18 : drop 18 bytes ≡ r2 = behind_number 2 h.m 16 18 bytes r2 refl d16 in
+    let d20 : drop 20 bytes ≡ r3 = behind_number 2 0 18 20 bytes r3 refl d18 in
+    let number : little_number 8 (drop 8 bytes) ≡ h.number = ap (λ (r : List ℕ). little_number 8 r) d8 ∙ number_reads 8 h.number r1 law.number.1 in
+    let m : little_number 2 (drop 16 bytes) ≡ h.m = ap (λ (r : List ℕ). little_number 2 r) d16 ∙ number_reads 2 h.m r2 (let b = law.m in omega arith) in
+    let f : little_number 4 (drop 20 bytes) ≡ h.f = ap (λ (r : List ℕ). little_number 4 r) d20 ∙ number_reads 4 h.f rest (let b = law.f in omega arith) in
+    let none : little_number 2 (drop 18 bytes) ≡ 0 = ap (λ (r : List ℕ). little_number 2 r) d18 ∙ number_reads 2 0 r3 (omega arith) in
+    (λ i. record { number = number i; m = m i; f = f i }, none)
+
+-- a lawful header is read, whatever follows it
+pub header_again : (h : Header) (rest : List ℕ) → IsHeader h → heading_of (header_bytes h ++ rest) ≡ heading.Whole h
+unfolding heading_of
+header_again h rest law =
+    let bytes = header_bytes h ++ rest in
+    let is = header_in_is h rest law in
+    let long : nat_lt (length bytes) 24 ≡ false = le-ltb (length bytes) 24 (omega (arith, length-header h, length-append (header_bytes h) rest)) in
+    let lawful : is_header (header_in bytes) ≡ true = ap is_header is.0 ∙ passes h law in
+    rw (long, is.1, lawful, is.0) refl
+
+part_again : (bytes : List ℕ) → IsPart bytes → heading_of bytes ≡ heading.Part
+unfolding heading_of
+part_again bytes part = rw (part.2, lt-ltb (length bytes) 24 part.1, lt-ltb 0 (length bytes) part.0) refl
+
+-- ---- all together
+
+bad_there : (bytes : List ℕ) → heading_of bytes ≡ heading.Bad → IsHeading bytes heading.Bad
+bad_there bytes e =
+    (λ h rest law parts. (let no : heading.Bad ≡ heading.Whole h = sym e ∙ ap heading_of parts ∙ header_again h rest law in cc),
+     λ part. (let no : heading.Bad ≡ heading.Part = sym e ∙ part_again bytes part in cc))
+
+-- the tests in turn, each with what it tells
+heading_there : (bytes : List ℕ) → IsBytes bytes → (read : HeaderRead) → heading_of bytes ≡ read → IsHeading bytes read
+unfolding heading_of
+heading_there bytes fits read e =
+    let bad : heading.Bad ≡ read → IsHeading bytes read = λ b. subst (IsHeading bytes) b (bad_there bytes (e ∙ sym b)) in
+    elim (agrees bytes segment_word) as (λ t. agrees bytes segment_word ≡ t → (if t then (if nat_lt (length bytes) 24 then (if nat_lt 0 (length bytes) then heading.Part else heading.Bad) else if little_number 2 (drop 18 bytes) == 0 then (if is_header (header_in bytes) then heading.Whole (header_in bytes) else heading.Bad) else heading.Bad) else heading.Bad) ≡ read → IsHeading bytes read) [
+      | false ↦ λ _ b. bad b
+      | true ↦ λ word e1. elim (nat_lt (length bytes) 24) as (λ t. nat_lt (length bytes) 24 ≡ t → (if t then (if nat_lt 0 (length bytes) then heading.Part else heading.Bad) else if little_number 2 (drop 18 bytes) == 0 then (if is_header (header_in bytes) then heading.Whole (header_in bytes) else heading.Bad) else heading.Bad) ≡ read → IsHeading bytes read) [
+        | true ↦ λ short e2. elim (nat_lt 0 (length bytes)) as (λ t. nat_lt 0 (length bytes) ≡ t → (if t then heading.Part else heading.Bad) ≡ read → IsHeading bytes read) [
+          | false ↦ λ _ b. bad b
+          | true ↦ λ some part. subst (IsHeading bytes) part (ltb-true 0 (length bytes) some, ltb-true (length bytes) 24 short, word)
+          ] refl e2
+        | false ↦ λ long e2. elim (little_number 2 (drop 18 bytes) == 0) as (λ t. (little_number 2 (drop 18 bytes) == 0) ≡ t → (if t then (if is_header (header_in bytes) then heading.Whole (header_in bytes) else heading.Bad) else heading.Bad) ≡ read → IsHeading bytes read) [
+          | false ↦ λ _ b. bad b
+          | true ↦ λ none e3. elim (is_header (header_in bytes)) as (λ t. is_header (header_in bytes) ≡ t → (if t then heading.Whole (header_in bytes) else heading.Bad) ≡ read → IsHeading bytes read) [
+            | false ↦ λ _ b. bad b
+            | true ↦ λ lawful whole. (
+              let there = header_there bytes fits (ltb-false (length bytes) 24 long) word (eqb-true (little_number 2 (drop 18 bytes)) 0 none) lawful in
+              subst (IsHeading bytes) whole (there.0, drop 24 bytes, there.1))
+            ] refl e3
+          ] refl e2
+        ] refl e1
+      ] refl e
+
+-- what a header's test finds stands there
+pub heading_is : (bytes : List ℕ) → IsBytes bytes → IsHeading bytes (heading_of bytes)
+heading_is bytes fits = heading_there bytes fits (heading_of bytes) refl
