@@ -4,3 +4,4 @@ pub mod Grammar
 pub mod Touch
 pub mod Reading
 pub mod Laws
+pub mod Writing

@@ -14,6 +14,7 @@ pub mod block;
 pub mod fault;
 mod parts;
 mod reading;
+mod writing;
 pub mod laws;
 
 pub use block::{Block, Blocks, Frame, FrameRead, Head, Header, HeaderRead, Place};
@@ -21,4 +22,7 @@ pub use fault::CodecFault;
 pub use key::{Key, LengthError, Value, is_before};
 pub use leaf::{Leaf, Low, Pairs};
 pub use reading::{read_frame, read_header};
+pub use writing::{
+    block_length, encode_block, encode_frame_head, encode_header, frame_cells, header_cells, write_block,
+};
 pub use record::{Ops, Record};
