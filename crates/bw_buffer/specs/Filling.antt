@@ -1,0 +1,23 @@
+-- What a buffer is to its callers: blocks, never bytes.
+
+use Rattle.std.specs.Prelude.{ℕ, ◌+◌, Bool, List, length}
+use Rattle.bw_codec.specs.Grammar.{body_bytes}
+use Rattle.bw_codec.specs.declared.block.Block.{Block}
+use Rattle.bw_codec.specs.declared.block.Frame.{Frame}
+
+pub record Filling : Type 0 where
+  -- the frame's number
+  pub frame : ℕ
+  -- the most bytes that the frame may have
+  pub limit : ℕ
+  -- all blocks added, in order
+  pub blocks : List Block
+  pub is_sealed : Bool
+
+-- the frame as it is if sealed now
+abbrev pub frame_of : Filling → Frame
+frame_of b = record { number = b.frame; blocks = b.blocks }
+
+-- the bytes of that frame
+abbrev pub size_of : Filling → ℕ
+size_of b = 20 + length (body_bytes b.blocks)

@@ -1,0 +1,159 @@
+//! The buffer itself.
+
+ghost use Rattle.std.specs.Prelude.{◌≡◌, ◌≤◌, ◌<◌, ◌+◌, ◌-◌, ◌++◌, ◌↔◌, [], true, false, length, slice_get, IsTrue, IfOk, OnOk, OnErr, IfSome, IsErrOf};
+ghost use Rattle.std.specs.List.{AllByRecursion};
+ghost use Rattle.bw_codec.specs.Grammar.{body_bytes, frame_bytes, IsBlock};
+ghost use Rattle.bw_buffer.specs.Filling.{frame_of, size_of};
+ghost use Rattle.bw_buffer.specs.Marks.{mark_of};
+
+use crate::fault::PutError;
+use crate::layout::{fit, lay_out, mark_all, set_head};
+use crate::mark::Mark;
+use bw_codec::{Block, Place};
+use std::alloc::{AllocError, Global};
+use std::marker::Model;
+
+/// A frame in the making.
+#[derive(Debug, Drop)]
+pub struct Buffer {
+    frame: u64,
+    /// The most bytes that the frame may have; so much room was reserved at once.
+    limit: u32,
+    count: u32,
+    is_sealed: bool,
+    /// The frame's bytes: the head is that of all blocks behind it.
+    bytes: Vec<u8>,
+    /// What each block does, so that nobody has to read the bytes again.
+    marks: Vec<Mark>,
+}
+
+impl Model for Buffer {
+    ghost use Rattle.bw_buffer.specs.Filling.{Filling};
+
+    ghost Value = { Filling };
+
+    ghost use Rattle.bw_buffer.specs.Filled.{filling_of, IsFilled};
+
+    ghost view = { filling_of };
+
+    ghost invariant = { IsFilled };
+}
+
+impl Buffer {
+    /// An empty buffer for the frame of this number, from 1, of at most `limit` bytes, 16,384 to
+    /// 65,536. The room for all of them is reserved here, so that the buffer's bytes never grow again.
+    pub fn new(alloc: Global, frame: u64, limit: u32) -> Result<Buffer, AllocError>
+        requires numbered { 1 ≤ frame }
+        requires limit { (16384 ≤ limit) × (limit ≤ 65536) }
+        ensures {
+            IfOk result (λ b. b ≡ record { frame = frame; limit = limit; blocks = []; is_sealed = false })
+        }
+    {
+        let mut bytes = Vec::with_capacity(alloc, limit as usize)?;
+        bytes.extend_from_slice(&bw_codec::frame_cells(frame, 0, 0))?;
+        Ok(Buffer {
+            frame,
+            limit,
+            count: 0,
+            is_sealed: false,
+            bytes,
+            marks: Vec::new(alloc),
+        })
+    }
+
+    /// Adds all the blocks, or none, and answers the place of the first. Time is linear in the bytes of
+    /// these blocks, whatever stands in the buffer.
+    pub fn put_all(&mut self, blocks: &[Block]) -> Result<Place, PutError>
+        requires some { 1 ≤ length blocks.now }
+        requires lawful { AllByRecursion (IsBlock 32) blocks.now }
+        ensures added {
+            OnOk result (self.new ≡ record self.old { blocks = self.old.blocks ++ blocks.now })
+        }
+        ensures place {
+            IfOk result (λ place.
+                place ≡ record { frame = self.old.frame; index = length self.old.blocks })
+        }
+
+        // The seal is looked at first, then the room, then memory.
+        ensures sealed { IsErrOf result PutError.Sealed ↔ IsTrue self.old.is_sealed }
+        ensures no_room {
+            IsErrOf result PutError.NoRoom
+            ↔ ((self.old.is_sealed ≡ false)
+               × (self.old.limit < size_of self.old + length (body_bytes blocks.now)))
+        }
+        ensures unchanged { OnErr result (self.new ≡ self.old) }
+    {
+        if self.is_sealed {
+            return Err(PutError::Sealed);
+        }
+        let room = self.limit as usize - self.bytes.as_slice().len();
+        if !fit(blocks, room) {
+            return Err(PutError::NoRoom);
+        }
+        self.marks.reserve(blocks.len())?;
+        let index = self.count;
+        lay_out(blocks, &mut self.bytes);
+        mark_all(blocks, &mut self.marks);
+        self.count = index + blocks.len() as u32;
+        let body = (self.bytes.as_slice().len() - 20) as u32;
+        set_head(&mut self.bytes, self.frame, body, self.count);
+        Ok(Place {
+            frame: self.frame,
+            index,
+        })
+    }
+
+    /// Closes the buffer: it takes no more blocks. A second seal does nothing. No memory is taken.
+    pub fn seal(&mut self)
+        ensures { self.new ≡ record self.old { is_sealed = true } }
+    {
+        self.is_sealed = true;
+    }
+
+    /// Whether the buffer was sealed.
+    pub fn is_sealed(&self) -> bool
+        ensures { result ≡ self.now.is_sealed }
+    {
+        self.is_sealed
+    }
+
+    /// How many bytes of the limit are free.
+    pub fn room(&self) -> u32
+        ensures { result + size_of self.now ≡ self.now.limit }
+    {
+        self.limit - self.bytes.as_slice().len() as u32
+    }
+
+    /// The frame's number.
+    pub fn frame(&self) -> u64
+        ensures value { result ≡ self.now.frame }
+        ensures numbered { 1 ≤ result }
+    {
+        let _ = &self.bytes;
+        self.frame
+    }
+
+    /// How many blocks were added.
+    pub fn count(&self) -> u32
+        ensures { result ≡ length self.now.blocks }
+    {
+        self.count
+    }
+
+    /// What the i-th block does, from 0.
+    pub fn mark(&self, i: u32) -> Mark
+        requires { i < length self.now.blocks }
+        ensures { IfSome (slice_get self.now.blocks i) (λ block. result ≡ mark_of block) }
+    {
+        self.marks[i as usize]
+    }
+
+    /// The bytes of the frame as it is if sealed now. Nothing is copied.
+    pub fn bytes(&self) -> &[u8]
+        ensures value { result.now ≡ frame_bytes (frame_of self.now) }
+        ensures fits { length (frame_bytes (frame_of self.now)) ≤ self.now.limit }
+        ensures lawful { AllByRecursion (IsBlock 32) self.now.blocks }
+    {
+        self.bytes.as_slice()
+    }
+}
