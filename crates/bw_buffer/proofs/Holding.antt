@@ -1,9 +1,9 @@
 -- What a buffer's bytes spell.
 
-use Rattle.std.proofs.Common.{◌≡◌, ℕ, ◌+◌, ◌-◌, ◌*◌, ◌<◌, Bool, true, false, nat_le, ◌≤◌, Some, List, [], ◌∷◌, ◌++◌, length, take, drop, map, ◌^◌, refl, sym, ap, subst, ◌∙◌, append_assoc, append-nil, arith, length-append}
+use Rattle.std.proofs.Common.{◌≡◌, ℕ, ◌+◌, ◌-◌, ◌*◌, ◌<◌, Bool, true, false, nat_le, ◌≤◌, Some, List, [], ◌∷◌, ◌++◌, length, take, drop, map, ◌^◌, sym, ap, subst, ◌∙◌, append_assoc, append-nil, arith, length-append}
 use Rattle.std.proofs.lemmas.List.{take_at, drop_at, map-append}
 use Rattle.std.proofs.lemmas.Grind.{flat_map-append}
-use Rattle.std.specs.List.{flat_map, AllByRecursion}
+use Rattle.std.specs.List.{AllByRecursion}
 use Rattle.std.specs.Vec.{vec_capacity}
 use Rattle.bw_codec.specs.Grammar.{block_bytes, body_bytes, head_bytes, IsBlock}
 use Rattle.bw_codec.specs.Reading.{many_at, block_at}
@@ -62,7 +62,7 @@ filled a blocks h =
       numbered = h.numbered;
       fits = h.fits;
       limited = h.limited;
-      room = h.room
+      room = h.room;
     }
 
 pub holds : (a : Inside) → IsFilled a → Holds a (blocks_in a.count a.bytes.items)
@@ -85,7 +85,7 @@ begun a numbered limited none bytes marks room = record {
   numbered = numbered;
   fits = (let size = ap (λ (b : List ℕ). length b) bytes in omega (arith, size, length-head a.frame 0 0));
   limited = limited;
-  room = room
+  room = room;
 }
 
 -- blocks laid out behind those that are there
@@ -117,7 +117,7 @@ grown a b blocks laid f lawful fits frame limit count laid_is bytes marks room =
       numbered = subst (λ (n : ℕ). 1 ≤ n) (sym frame) f.numbered;
       fits = omega (arith, ap (λ (x : List ℕ). length x) spelled, new_head, length-append (head_bytes b.frame (length (body_bytes (old ++ blocks))) b.count) (body_bytes (old ++ blocks)), size, ap (λ (x : List ℕ). length x) laid_is, length-append a.bytes.items (body_bytes blocks), limit, fits);
       limited = subst (λ (n : ℕ). (16384 ≤ n) × (n ≤ 65536)) (sym limit) f.limited;
-      room = room
+      room = room;
     }
 
 -- what the test for room tells
@@ -126,9 +126,10 @@ pub room_told : (a : Inside) (f : Filling) (body room : ℕ) (fits : Bool) → I
 room_told a f body room fits h view is test =
     let size : length a.bytes.items ≡ size_of f = length-held a h ∙ ap size_of view in
     let limit : a.limit ≡ f.limit = ap (λ (x : Filling). x.limit) view in
-    let within = h.fits in
-    (λ no. (let over : room < body = leb-false body room (sym test ∙ no) in omega arith),
-     λ yes. (let under : body ≤ room = leb-true body room (sym test ∙ yes) in omega arith))
+    let within = h.fits in (
+      λ no. (let over : room < body = leb-false body room (sym test ∙ no) in omega arith),
+      λ yes. (let under : body ≤ room = leb-true body room (sym test ∙ yes) in omega arith),
+    )
 
 -- a block's bytes are at least eight
 some_bytes : (block : Block) → 8 ≤ length (block_bytes block)

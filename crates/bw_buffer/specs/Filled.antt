@@ -1,6 +1,6 @@
 -- A buffer holds the bytes of its frame; the blocks are what these bytes spell.
 
-use Rattle.std.specs.Prelude.{ℕ, ◌≡◌, ◌≤◌, Option, Some, None, List, [], ◌++◌, length, drop, map}
+use Rattle.std.specs.Prelude.{ℕ, ◌≡◌, ◌≤◌, Some, None, List, [], ◌++◌, length, drop, map}
 use Rattle.std.specs.List.{AllByRecursion}
 use Rattle.std.specs.Vec.{vec_capacity}
 use Rattle.bw_codec.specs.Grammar.{body_bytes, head_bytes, IsBlock}

@@ -1,6 +1,5 @@
 -- What a block does, page by page, in short.
 
-use Rattle.bw_codec.specs.declared.leaf.Leaf.{Leaf}
 use Rattle.bw_codec.specs.declared.block.Block.{Block}
 use Rattle.bw_codec.specs.declared.block.Block.TheVariants.{Delta, Base, Split}
 use Rattle.bw_buffer.specs.declared.mark.Mark.{Mark}

@@ -16,9 +16,11 @@ use std::marker::Model;
 /// A frame in the making.
 #[derive(Debug, Drop)]
 pub struct Buffer {
+    /// The frame's number, from 1.
     frame: u64,
     /// The most bytes that the frame may have; so much room was reserved at once.
     limit: u32,
+    /// How many blocks were added.
     count: u32,
     is_sealed: bool,
     /// The frame's bytes: the head is that of all blocks behind it.
@@ -41,13 +43,13 @@ impl Model for Buffer {
 
 impl Buffer {
     /// An empty buffer for the frame of this number, from 1, of at most `limit` bytes, 16,384 to
-    /// 65,536. The room for all of them is reserved here, so that the buffer's bytes never grow again.
+    /// 65,536. The room for all of them is reserved here, so that the buffer's bytes never grow
+    /// again; a refusal of it is the only error.
     pub fn new(alloc: Global, frame: u64, limit: u32) -> Result<Buffer, AllocError>
         requires numbered { 1 ≤ frame }
         requires limit { (16384 ≤ limit) × (limit ≤ 65536) }
-        ensures {
-            IfOk result (λ b. b ≡ record { frame = frame; limit = limit; blocks = []; is_sealed = false })
-        }
+        ensures { IfOk result (λ b. b
+            ≡ record { frame = frame; limit = limit; blocks = []; is_sealed = false }) }
     {
         let mut bytes = Vec::with_capacity(alloc, limit as usize)?;
         bytes.extend_from_slice(&bw_codec::frame_cells(frame, 0, 0))?;
@@ -61,26 +63,21 @@ impl Buffer {
         })
     }
 
-    /// Adds all the blocks, or none, and answers the place of the first. Time is linear in the bytes of
-    /// these blocks, whatever stands in the buffer.
+    /// Adds all the blocks, or none, and answers the place of the first. Time is linear in the
+    /// bytes of these blocks, whatever stands in the buffer.
     pub fn put_all(&mut self, blocks: &[Block]) -> Result<Place, PutError>
         requires some { 1 ≤ length blocks.now }
         requires lawful { AllByRecursion (IsBlock 32) blocks.now }
-        ensures added {
-            OnOk result (self.new ≡ record self.old { blocks = self.old.blocks ++ blocks.now })
-        }
-        ensures place {
-            IfOk result (λ place.
-                place ≡ record { frame = self.old.frame; index = length self.old.blocks })
-        }
+        ensures added { OnOk result
+            (self.new ≡ record self.old { blocks = self.old.blocks ++ blocks.now }) }
+        ensures place { IfOk result (λ place.
+            place ≡ record { frame = self.old.frame; index = length self.old.blocks }) }
 
         // The seal is looked at first, then the room, then memory.
         ensures sealed { IsErrOf result PutError.Sealed ↔ IsTrue self.old.is_sealed }
-        ensures no_room {
-            IsErrOf result PutError.NoRoom
+        ensures no_room { IsErrOf result PutError.NoRoom
             ↔ ((self.old.is_sealed ≡ false)
-               × (self.old.limit < size_of self.old + length (body_bytes blocks.now)))
-        }
+            × (self.old.limit < size_of self.old + length (body_bytes blocks.now))) }
         ensures unchanged { OnErr result (self.new ≡ self.old) }
     {
         if self.is_sealed {
@@ -129,6 +126,7 @@ impl Buffer {
         ensures value { result ≡ self.now.frame }
         ensures numbered { 1 ≤ result }
     {
+        // The read tells the proof what holds of the fields, here that the number is not zero.
         let _ = &self.bytes;
         self.frame
     }
@@ -140,7 +138,7 @@ impl Buffer {
         self.count
     }
 
-    /// What the i-th block does, from 0.
+    /// What the block of this index does, from 0.
     pub fn mark(&self, i: u32) -> Mark
         requires { i < length self.now.blocks }
         ensures { IfSome (slice_get self.now.blocks i) (λ block. result ≡ mark_of block) }

@@ -1,6 +1,6 @@
 //! Blocks laid out behind a frame's head, where there is room for them.
 
-ghost use Rattle.std.specs.Prelude.{◌≡◌, ◌≤◌, ◌+◌, ◌++◌, ℕ, nat_le, length, map, drop, vec_len};
+ghost use Rattle.std.specs.Prelude.{◌≡◌, ◌≤◌, ◌+◌, ◌++◌, nat_le, length, map, drop, vec_len};
 ghost use Rattle.std.specs.Vec.{vec_capacity};
 ghost use Rattle.std.specs.List.{AllByRecursion};
 ghost use Rattle.bw_codec.specs.Grammar.{body_bytes, head_bytes, IsBlock};
@@ -47,6 +47,7 @@ pub fn mark_all(blocks: &[Block], marks: &mut Vec<Mark>)
     }
 }
 
+/// Writes 20 bytes over the first ones.
 fn put_front(bytes: &mut [u8], cells: &[u8; 20])
     requires { 20 ≤ length bytes.old }
     ensures { bytes.new ≡ cells.now ++ drop 20 bytes.old }

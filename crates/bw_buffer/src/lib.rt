@@ -1,15 +1,17 @@
 //! Flush buffers: all blocks of a call or none, and none after the seal.
 //!
 //! A buffer is a frame in the making. Callers see its blocks, and its bytes as the spelling of the
-//! frame of these blocks. The bytes are laid out as blocks come, behind a head that is kept true, so
-//! that `bytes` borrows and a seal is one flag. A sealed buffer gives out no more space: it is what
-//! the log appends as one unit.
+//! frame of these blocks. The bytes are laid out as blocks come, behind a head that is kept true,
+//! so that `bytes` borrows and a seal is one flag. A sealed buffer gives out no more space: it is
+//! what the log appends as one unit.
 #![tactic(auto)]
 
-pub mod mark;
+pub mod buffer;
 pub mod fault;
 mod layout;
-pub mod buffer;
+pub mod mark;
+#[cfg(test)]
+mod tests;
 
 pub use buffer::Buffer;
 pub use fault::PutError;

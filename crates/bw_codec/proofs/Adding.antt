@@ -1,10 +1,9 @@
 -- Bytes added one after the other, and a list spelled one more of its elements.
 
-use Rattle.std.proofs.Common.{◌≡◌, ℕ, ◌+◌, ◌<◌, ◌≤◌, List, [], ◌∷◌, ◌++◌, length, take, drop, get_or, vec_len, refl, sym, ap, subst, ◌∙◌, append_assoc, append-nil, arith, length-append}
+use Rattle.std.proofs.Common.{◌≡◌, ℕ, ◌+◌, ◌<◌, ◌≤◌, List, [], ◌∷◌, ◌++◌, length, take, drop, get_or, sym, ap, subst, ◌∙◌, append_assoc, append-nil, arith, length-append}
 use Rattle.std.proofs.lemmas.List.{take_more, take_all, take-append-drop, flat_map_more}
 use Rattle.std.proofs.lemmas.Grind.{flat_map-append}
 use Rattle.std.specs.List.{flat_map}
-use Rattle.std.specs.Vec.{vec_capacity}
 use Rattle.std.specs.declared.vec.Vec.{Vec}
 use Rattle.std.specs.declared.alloc.Global.{Global}
 use Rattle.bw_codec.specs.Writing.{HasRoom, Adds}
@@ -16,7 +15,7 @@ pub adds_then : (a b c : Vec ℕ Global) (x y : List ℕ) → Adds a b x → Add
 adds_then a b c x y first next = record {
   items = next.items ∙ ap (λ (l : List ℕ). l ++ y) first.items ∙ append_assoc a.items x y;
   len = (let p = first.len in let q = next.len in omega (arith, length-append x y));
-  capacity = (let p = first.capacity in let q = next.capacity in omega arith)
+  capacity = (let p = first.capacity in let q = next.capacity in omega arith);
 }
 
 pub adds_as : (a b : Vec ℕ Global) (x y : List ℕ) → x ≡ y → Adds a b x → Adds a b y

@@ -1,10 +1,10 @@
 -- The format of each part of a block, and of a block.
 
-use Rattle.std.proofs.Common.{◌≡◌, ◌≢◌, ℕ, zero, suc, ◌+◌, ◌^◌, ◌<◌, ◌≤◌, ◌==◌, ◌&&◌, Bool, true, false, if◌then◌else◌, Option, Some, None, IsTrue, List, [], ◌∷◌, ◌++◌, length, nat_lt, nat_eq, refl, sym, ap, subst, ◌∙◌, append_assoc, arith, length-append}
-use Rattle.std.proofs.lemmas.Bool.{ltb-false, ltb-true, le-ltb, eqb-true, eqb-false, eq-eqb, ne_eqb}
+use Rattle.std.proofs.Common.{◌≡◌, ℕ, zero, suc, ◌^◌, ◌<◌, ◌≤◌, ◌==◌, true, false, if◌then◌else◌, Some, None, IsTrue, List, [], ◌∷◌, ◌++◌, length, nat_lt, refl, sym, ap, subst, ◌∙◌, arith}
+use Rattle.std.proofs.lemmas.Bool.{ltb-false, le-ltb, eqb-true, eqb-false, ne_eqb}
 use Rattle.std.specs.List.{flat_map, AllByRecursion}
 use lib.Pointwise.{bytes_decides}
-use Rattle.bw_codec.specs.Bytes.{number_bytes, text, ascends, IsKey}
+use Rattle.bw_codec.specs.Bytes.{number_bytes, text, ascends}
 use Rattle.bw_codec.specs.Grammar.{op_bytes, pair_bytes, place_bytes, pairs_bytes, ops_bytes, upper_bytes, block_bytes, IsPair, IsOp, IsPage, IsPlace, IsDelta, IsBase, IsSplit, IsBlock, first_key}
 use Rattle.bw_codec.specs.Reading.{Found, ◌>>=◌, number_at, text_at, put_at, del_at, op_at, pair_at, many_at, place_at, page_at, pairs_at, delta_at, base_at, upper_at, split_at, block_at, is_led}
 use Rattle.bw_codec.specs.declared.record.Record.{Record}
@@ -13,7 +13,7 @@ use Rattle.bw_codec.specs.declared.leaf.Leaf.{Leaf}
 use Rattle.bw_codec.specs.declared.block.Place.{Place}
 use Rattle.bw_codec.specs.declared.block.Block.{Block}
 use Rattle.bw_codec.specs.declared.block.Block.TheVariants.{Delta, Base, Split}
-use Rattle.bw_codec.proofs.Format.{IsBytes, Takes, IsFormat, IsRun, bytes_after, found, takes_as, bind_some, passed, held, then_parts, again_on, number_format, text_format}
+use Rattle.bw_codec.proofs.Format.{IsBytes, Takes, IsFormat, IsRun, found, takes_as, bind_some, passed, held, then_parts, again_on, number_format, text_format}
 
 -- ---- pairs and records
 
@@ -64,9 +64,9 @@ op_takes (tag ∷ bytes) x rest fits read =
     elim (tag == 1) as (λ t. (tag == 1) ≡ t → (if t then put_at bytes else if tag == 2 then del_at bytes else None) ≡ Some (x, rest) → Takes op_bytes IsOp (tag ∷ bytes) x rest) [
       | true ↦ λ one put. tagged op_bytes IsOp tag 1 bytes x rest one (put_takes bytes x rest behind put)
       | false ↦ λ other read2. (
-        let two = held (tag == 2) (del_at bytes) (x, rest) read2 in
-        tagged op_bytes IsOp tag 2 bytes x rest two.0 (del_takes bytes x rest behind two.1))
-      ] refl read
+          let two = held (tag == 2) (del_at bytes) (x, rest) read2 in
+          tagged op_bytes IsOp tag 2 bytes x rest two.0 (del_takes bytes x rest behind two.1))
+    ] refl read
 
 op_again : (x : Record) (rest : List ℕ) → IsOp x → op_at (op_bytes x ++ rest) ≡ Some (x, rest)
 unfolding op_at
@@ -131,7 +131,7 @@ place_takes bytes x rest fits read =
     (record {
       parts = then_parts bytes (number_bytes 8 f.0.0) (number_bytes 4 i.0.0) f.0.1 i.0.1 frame.parts index.parts;
       lawful = record { frame = (ltb-false f.0.0 1 above.0, frame.lawful); index = index.lawful };
-      others = index.others
+      others = index.others;
     })
 
 place_again : (x : Place) (rest : List ℕ) → IsPlace x → place_at (place_bytes x ++ rest) ≡ Some (x, rest)
@@ -167,9 +167,9 @@ pairs_takes m bytes x rest fits read =
         count = subst (λ (k : ℕ). k ≤ m) (sym counted) (ltb-false m n.0.0 few.0);
         few = subst (λ (k : ℕ). k < 2 ^ 16) (sym counted) number.lawful;
         each = pairs.lawful.1;
-        ascends = order.0
+        ascends = order.0;
       };
-      others = pairs.others
+      others = pairs.others;
     })
 
 pairs_again : (m : ℕ) (x : List (List ℕ × List ℕ)) (rest : List ℕ) → ArePairs m x → pairs_at m (pairs_bytes x ++ rest) ≡ Some (x, rest)
@@ -206,9 +206,9 @@ delta_takes bytes x rest m fits read =
         changes = page.lawful;
         links = back.lawful;
         count = (subst (λ (k : ℕ). 1 ≤ k) (sym counted) (ltb-false n.0.0 1 some.0), subst (λ (k : ℕ). k < 2 ^ 16) (sym counted) number.lawful);
-        each = ops.lawful.1
+        each = ops.lawful.1;
       };
-      others = ops.others
+      others = ops.others;
     })
 
 delta_again : (page : ℕ) (back : Place) (ops : List Record) (rest : List ℕ) → IsDelta page back ops → delta_at ((number_bytes 4 page ++ (place_bytes back ++ ops_bytes ops)) ++ rest) ≡ Some (Delta page back ops, rest)
@@ -219,7 +219,8 @@ delta_again page back ops rest law =
       again_on place_bytes IsPlace place_at place_format back (ops_bytes ops) rest law.links,
       again_on (number_bytes 2) (λ n. n < 256 ^ 2) (number_at 2) (number_format 2) (length ops) (flat_map op_bytes ops) rest law.count.1,
       le-ltb (length ops) 1 law.count.0,
-      many_again op_bytes IsOp op_at op_format ops rest law.each) refl
+      many_again op_bytes IsOp op_at op_format ops rest law.each,
+    ) refl
 
 -- pairs of a lawful leaf
 pairs_of_base : (m : ℕ) (leaf : Leaf) → m < 2 ^ 16 → IsBase m leaf → ArePairs m leaf.pairs
@@ -241,7 +242,7 @@ base_takes m bytes x rest fits read =
     (record {
       parts = ap (λ (r : List ℕ). 2 ∷ r) parts;
       lawful = record { page = page.lawful; low = low.lawful.1; count = pairs.lawful.count; pairs = pairs.lawful.each; ascends = pairs.lawful.ascends };
-      others = pairs.others
+      others = pairs.others;
     })
 
 base_again : (m : ℕ) (leaf : Leaf) (rest : List ℕ) → m < 2 ^ 16 → IsBase m leaf → base_at m ((number_bytes 4 leaf.page ++ (text leaf.low ++ pairs_bytes leaf.pairs)) ++ rest) ≡ Some (Base leaf, rest)
@@ -250,7 +251,8 @@ base_again m leaf rest small law =
     rw (
       again_on (number_bytes 4) IsPage page_at page_format leaf.page (text leaf.low ++ pairs_bytes leaf.pairs) rest law.page,
       again_on text (IsRun 0 64) (text_at 0 64) (text_format 0 64) leaf.low (pairs_bytes leaf.pairs) rest (omega arith, law.low),
-      (pairs_format m).again leaf.pairs rest (pairs_of_base m leaf small law)) refl
+      (pairs_format m).again leaf.pairs rest (pairs_of_base m leaf small law),
+    ) refl
 
 -- ---- the new page of a Split
 
@@ -292,9 +294,9 @@ upper_takes m bytes x rest fits read =
         makes = record { page = (omega arith, page.lawful); low = low.lawful.1; count = pairs.lawful.count; pairs = pairs.lawful.each; ascends = pairs.lawful.ascends };
         low = lead.0;
         count = lead.1;
-        page = second
+        page = second;
       };
-      others = pairs.others
+      others = pairs.others;
     })
 
 upper_again : (m : ℕ) (leaf : Leaf) (rest : List ℕ) → m < 2 ^ 16 → IsUpper m leaf → upper_at m (upper_bytes leaf ++ rest) ≡ Some (leaf, rest)
@@ -305,7 +307,8 @@ upper_again m leaf rest small law =
       again_on (number_bytes 4) (λ n. n < 256 ^ 4) (number_at 4) (number_format 4) leaf.page (pairs_bytes leaf.pairs) rest law.makes.page.1,
       (pairs_format m).again leaf.pairs rest (pairs_of_base m leaf small law.makes),
       le-ltb leaf.page 2 law.page,
-      led leaf.low leaf.pairs law.low law.count) refl
+      led leaf.low leaf.pairs law.low law.count,
+    ) refl
 
 split_takes : (m : ℕ) (bytes : List ℕ) (x : Block) (rest : List ℕ) → IsBytes bytes → split_at m bytes ≡ Some (x, rest) → Takes block_bytes (IsBlock m) (3 ∷ bytes) x rest
 unfolding split_at
@@ -323,7 +326,7 @@ split_takes m bytes x rest fits read =
     (record {
       parts = ap (λ (r : List ℕ). 3 ∷ r) parts;
       lawful = record { cuts = page.lawful; links = back.lawful; makes = upper.lawful.makes; low = upper.lawful.low; count = upper.lawful.count; new = (upper.lawful.page, eqb-false u.0.0.page g.0.0 other.0) };
-      others = upper.others
+      others = upper.others;
     })
 
 split_again : (m page : ℕ) (back : Place) (upper : Leaf) (rest : List ℕ) → m < 2 ^ 16 → IsSplit m page back upper → split_at m ((number_bytes 4 page ++ (place_bytes back ++ upper_bytes upper)) ++ rest) ≡ Some (Split page back upper, rest)
@@ -333,7 +336,8 @@ split_again m page back upper rest small law =
       again_on (number_bytes 4) IsPage page_at page_format page (place_bytes back ++ upper_bytes upper) rest law.cuts,
       again_on place_bytes IsPlace place_at place_format back (upper_bytes upper) rest law.links,
       upper_again m upper rest small (record { makes = law.makes; low = law.low; count = law.count; page = law.new.0 }),
-      ne_eqb upper.page page law.new.1) refl
+      ne_eqb upper.page page law.new.1,
+    ) refl
 
 block_takes : (m : ℕ) (bytes : List ℕ) (x : Block) (rest : List ℕ) → IsBytes bytes → block_at m bytes ≡ Some (x, rest) → Takes block_bytes (IsBlock m) bytes x rest
 unfolding block_at
@@ -345,8 +349,8 @@ block_takes m (tag ∷ bytes) x rest fits read =
       | false ↦ λ _ read2. elim (tag == 2) as (λ t. (tag == 2) ≡ t → (if t then base_at m bytes else if tag == 3 then split_at m bytes else None) ≡ Some (x, rest) → Takes block_bytes (IsBlock m) (tag ∷ bytes) x rest) [
         | true ↦ λ two base. tagged block_bytes (IsBlock m) tag 2 bytes x rest two (base_takes m bytes x rest behind base)
         | false ↦ λ _ read3. (let three = held (tag == 3) (split_at m bytes) (x, rest) read3 in tagged block_bytes (IsBlock m) tag 3 bytes x rest three.0 (split_takes m bytes x rest behind three.1))
-        ] refl read2
-      ] refl read
+      ] refl read2
+    ] refl read
 
 block_again : (m : ℕ) → m < 2 ^ 16 → (x : Block) (rest : List ℕ) → IsBlock m x → block_at m (block_bytes x ++ rest) ≡ Some (x, rest)
 unfolding block_at

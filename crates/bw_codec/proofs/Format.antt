@@ -1,8 +1,8 @@
 -- A format: what is read from the front of bytes was spelled there, and what is spelled is read again.
 
-use Rattle.std.proofs.Common.{◌≡◌, ◌≢◌, ℕ, zero, suc, ◌+◌, ◌*◌, ◌/◌, ◌%◌, ◌^◌, ◌<◌, ◌≤◌, Bool, true, false, if◌then◌else◌, Option, Some, None, List, [], ◌∷◌, ◌++◌, length, take, drop, get_or, nat_lt, inl, inr, refl, sym, ap, subst, ◌∙◌, append_assoc, arith, length-append, length-take, length-drop}
+use Rattle.std.proofs.Common.{◌≡◌, ℕ, zero, suc, ◌+◌, ◌*◌, ◌/◌, ◌%◌, ◌^◌, ◌<◌, ◌≤◌, Bool, true, false, if◌then◌else◌, Option, Some, None, List, [], ◌∷◌, ◌++◌, length, take, drop, get_or, nat_lt, inl, inr, refl, sym, ap, subst, ◌∙◌, append_assoc, arith, length-append, length-take}
 use Rattle.std.proofs.lemmas.List.{take-append-drop, take_at, drop_at, get_or-append-add, get_or-take, get_or_past, length-take-le}
-use Rattle.std.proofs.lemmas.Bool.{ltb-false, le-ltb, ltb-true, cases_lt}
+use Rattle.std.proofs.lemmas.Bool.{ltb-false, le-ltb, cases_lt}
 use Rattle.std.proofs.Math.Nat.{pow-succ', div-div-eq-div-mul}
 use Rattle.std.specs.Int.{byte_at, bytes_low_first}
 use Rattle.byteorder.specs.Endian.{little_from, little_number}
@@ -37,7 +37,7 @@ bytes_before n bytes fits i =
     elim (cases_lt i n) [
       | inl inside ↦ subst (λ (b : ℕ). b < 256) (sym (get_or-take n bytes i 0 inside)) (fits i)
       | inr beyond ↦ subst (λ (b : ℕ). b < 256) (sym (get_or_past (take n bytes) i 0 (omega (arith, length-take n bytes)))) (omega arith)
-      ]
+    ]
 
 -- ---- steps of a reading
 
@@ -103,7 +103,7 @@ number_there n bytes long fits =
     record {
       parts = parts;
       lawful = little_from-lt 0 n bytes fits;
-      others = bytes_after bytes (number_bytes n (little_number n bytes)) (drop n bytes) parts fits
+      others = bytes_after bytes (number_bytes n (little_number n bytes)) (drop n bytes) parts fits;
     }
 
 number_takes : (n : ℕ) (bytes : List ℕ) (x : ℕ) (rest : List ℕ) → IsBytes bytes → number_at n bytes ≡ Some (x, rest) → Takes (number_bytes n) (λ x. x < 256 ^ n) bytes x rest

@@ -1,23 +1,22 @@
 -- What stands at the front of bytes: a whole frame, a frame cut off, or neither.
 
-use Rattle.std.proofs.Common.{◌≡◌, ◌≢◌, ℕ, zero, suc, ◌+◌, ◌-◌, ◌^◌, ◌<◌, ◌≤◌, ◌==◌, ◌&&◌, ◌⊎◌, inl, inr, Bool, true, false, if◌then◌else◌, Option, Some, None, IsTrue, List, [], ◌∷◌, ◌++◌, length, take, drop, nat_lt, nat_le, nat_eq, refl, sym, ap, subst, ◌∙◌, append_assoc, append-nil, arith, length-append, length-take, length-drop}
+use Rattle.std.proofs.Common.{◌≡◌, ℕ, zero, suc, ◌+◌, ◌-◌, ◌^◌, ◌<◌, ◌≤◌, ◌==◌, ◌&&◌, inl, inr, true, false, if◌then◌else◌, Option, Some, None, List, [], ◌∷◌, ◌++◌, length, take, drop, nat_lt, nat_le, refl, sym, ap, subst, ◌∙◌, append_assoc, append-nil, arith, length-append, length-take}
 use Rattle.std.proofs.lemmas.Bool.{ltb-false, ltb-true, le-ltb, lt-ltb, leb-true, le-leb, eqb-true, eq-eqb, and_parts, and_from, cases_lt}
-use Rattle.std.proofs.lemmas.List.{take_at, drop_at, take-append-drop, take-append-le, take-take, nil_from_length, length-take-le, append_cancel_left, drop-append-le}
+use Rattle.std.proofs.lemmas.List.{take_at, take-append-drop, nil_from_length, length-take-le, append_cancel_left}
 use Rattle.std.proofs.Math.Seq.{take-append-add}
-use Rattle.std.specs.List.{flat_map, list_all, zip, AllByRecursion}
 use Rattle.byteorder.specs.Numbers.{length-bytes_low_first}
 use Rattle.bw_codec.specs.Bytes.{number_bytes}
-use Rattle.bw_codec.specs.Grammar.{block_bytes, body_bytes, frame_word, head_bytes, frame_bytes, agrees, is_head, IsHead, IsBlock, IsFrame, IsTail, IsFront}
+use Rattle.bw_codec.specs.Grammar.{block_bytes, body_bytes, frame_word, head_bytes, frame_bytes, agrees, is_head, IsHead, IsBlock, IsFrame, IsFront}
 use Rattle.std.specs.Prelude.{Result, Ok, Err, IfOk}
 use Rattle.bw_codec.specs.declared.fault.CodecFault.{CodecFault}
-use Rattle.bw_codec.specs.Reading.{Found, ◌>>=◌, Gives, number_at, many_at, block_at, head_at, front_at}
+use Rattle.bw_codec.specs.Reading.{◌>>=◌, Gives, number_at, many_at, block_at, head_at, front_at}
 use Rattle.bw_codec.specs.Laws.{OneSpelling, BeginningsAreTails}
 use Rattle.bw_codec.specs.declared.block.Block.{Block}
 use Rattle.bw_codec.specs.declared.block.Frame.{Frame}
 use Rattle.bw_codec.specs.declared.block.Head.{Head}
 use Rattle.bw_codec.specs.declared.block.FrameRead.{FrameRead}
 use Rattle.bw_codec.specs.declared.block.FrameRead.TheVariants.{Whole, Tail}
-use Rattle.bw_codec.proofs.Format.{IsBytes, Takes, IsFormat, bytes_after, bytes_before, found, takes_as, bind_some, passed, held, then_parts, again_on, number_format}
+use Rattle.bw_codec.proofs.Format.{IsBytes, Takes, bytes_after, bytes_before, found, takes_as, bind_some, held, then_parts, again_on, number_format}
 use Rattle.bw_codec.proofs.BlockFormat.{many_takes, many_again, block_format}
 
 -- ---- the word in front
@@ -89,7 +88,7 @@ head_takes f bytes x rest long fits read =
     (record {
       parts = then_parts bytes frame_word (number_bytes 8 n.0.0 ++ (number_bytes 4 d.0.0 ++ number_bytes 4 b.0.0)) (drop 4 bytes) b.0.1 front number_parts;
       lawful = tested f head lawful.0 number.lawful blocks.lawful;
-      others = blocks.others
+      others = blocks.others;
     })
 
 head_again : (f : ℕ) (x : Head) (rest : List ℕ) → x.body < 2 ^ 32 → LawfulHead f x → head_at f (spelled_head x ++ rest) ≡ Some (x, rest)
@@ -99,7 +98,8 @@ head_again f x rest small law =
       again_on (number_bytes 8) (λ n. n < 256 ^ 8) (number_at 8) (number_format 8) x.number (number_bytes 4 x.body ++ number_bytes 4 x.blocks) rest law.numbered.1,
       again_on (number_bytes 4) (λ n. n < 256 ^ 4) (number_at 4) (number_format 4) x.body (number_bytes 4 x.blocks) rest small,
       (number_format 4).again x.blocks rest law.some.1,
-      passes f x law) refl
+      passes f x law,
+    ) refl
 
 pub length-head : (number body blocks : ℕ) → length (head_bytes number body blocks) ≡ 20
 length-head number body blocks =
@@ -124,7 +124,7 @@ frame_there m f bytes h rest blocks left small fits parts law long read none =
     let front : bytes ≡ head_bytes h.number (length (body_bytes blocks)) (length blocks) ++ rest = parts ∙ ap (λ (r : List ℕ). r ++ rest) (sym head) in
     let lawful : IsFrame m f frame = record {
       head = record { numbered = law.numbered; fits = subst (λ (n : ℕ). (8 ≤ n) × (n + 20 ≤ f)) (sym size) law.fits; some = subst (λ (n : ℕ). (1 ≤ n) × (n < 2 ^ 32)) (sym count) law.some };
-      blocks = many.lawful.1
+      blocks = many.lawful.1;
     } in
     let used : h.body + 20 ≡ length (frame_bytes frame) =
     omega (arith, size, length-head h.number (length (body_bytes blocks)) (length blocks), length-append (head_bytes h.number (length (body_bytes blocks)) (length blocks)) (body_bytes blocks)) in
@@ -136,19 +136,19 @@ unfolding front_at
 front_is m f bytes read small fits e =
     elim (nat_lt (length bytes) 20) as (λ t. nat_lt (length bytes) 20 ≡ t → (if t then (if agrees bytes frame_word then Some Tail else None) else (head_at f bytes >>= λ head. if nat_lt (length head.1) head.0.body then Some Tail else (many_at (block_at m) head.0.blocks (take head.0.body head.1) >>= λ blocks. if length blocks.1 == 0 then Some (Whole (record { number = head.0.number; blocks = blocks.0 }) (head.0.body + 20)) else None))) ≡ Some read → IsFront m f bytes read) [
       | true ↦ λ short front. (
-        let word = held (agrees bytes frame_word) (Some Tail) read front in
-        subst (IsFront m f bytes) (found word.1) (inl (ltb-true (length bytes) 20 short, word.0)))
+          let word = held (agrees bytes frame_word) (Some Tail) read front in
+          subst (IsFront m f bytes) (found word.1) (inl (ltb-true (length bytes) 20 short, word.0)))
       | false ↦ λ long front. (
-        let h = bind_some (head_at f bytes) (λ head. if nat_lt (length head.1) head.0.body then Some Tail else (many_at (block_at m) head.0.blocks (take head.0.body head.1) >>= λ blocks. if length blocks.1 == 0 then Some (Whole (record { number = head.0.number; blocks = blocks.0 }) (head.0.body + 20)) else None)) read front in
-        let head = head_takes f bytes h.0.0 h.0.1 (ltb-false (length bytes) 20 long) fits h.1 in
-        elim (nat_lt (length h.0.1) h.0.0.body) as (λ t. nat_lt (length h.0.1) h.0.0.body ≡ t → (if t then Some Tail else (many_at (block_at m) h.0.0.blocks (take h.0.0.body h.0.1) >>= λ blocks. if length blocks.1 == 0 then Some (Whole (record { number = h.0.0.number; blocks = blocks.0 }) (h.0.0.body + 20)) else None)) ≡ Some read → IsFront m f bytes read) [
-          | true ↦ λ cut tail. subst (IsFront m f bytes) (found tail) (inr (h.0.0, h.0.1, head.lawful, ltb-true (length h.0.1) h.0.0.body cut, head.parts))
-          | false ↦ λ there whole. (
-            let b = bind_some (many_at (block_at m) h.0.0.blocks (take h.0.0.body h.0.1)) (λ blocks. if length blocks.1 == 0 then Some (Whole (record { number = h.0.0.number; blocks = blocks.0 }) (h.0.0.body + 20)) else None) read whole in
-            let none = held (length b.0.1 == 0) (Some (Whole (record { number = h.0.0.number; blocks = b.0.0 }) (h.0.0.body + 20))) read b.2 in
-            subst (IsFront m f bytes) (found none.1) (frame_there m f bytes h.0.0 h.0.1 b.0.0 b.0.1 small head.others head.parts head.lawful (ltb-false (length h.0.1) h.0.0.body there) b.1 (eqb-true (length b.0.1) 0 none.0)))
+          let h = bind_some (head_at f bytes) (λ head. if nat_lt (length head.1) head.0.body then Some Tail else (many_at (block_at m) head.0.blocks (take head.0.body head.1) >>= λ blocks. if length blocks.1 == 0 then Some (Whole (record { number = head.0.number; blocks = blocks.0 }) (head.0.body + 20)) else None)) read front in
+          let head = head_takes f bytes h.0.0 h.0.1 (ltb-false (length bytes) 20 long) fits h.1 in
+          elim (nat_lt (length h.0.1) h.0.0.body) as (λ t. nat_lt (length h.0.1) h.0.0.body ≡ t → (if t then Some Tail else (many_at (block_at m) h.0.0.blocks (take h.0.0.body h.0.1) >>= λ blocks. if length blocks.1 == 0 then Some (Whole (record { number = h.0.0.number; blocks = blocks.0 }) (h.0.0.body + 20)) else None)) ≡ Some read → IsFront m f bytes read) [
+            | true ↦ λ cut tail. subst (IsFront m f bytes) (found tail) (inr (h.0.0, h.0.1, head.lawful, ltb-true (length h.0.1) h.0.0.body cut, head.parts))
+            | false ↦ λ there whole. (
+                let b = bind_some (many_at (block_at m) h.0.0.blocks (take h.0.0.body h.0.1)) (λ blocks. if length blocks.1 == 0 then Some (Whole (record { number = h.0.0.number; blocks = blocks.0 }) (h.0.0.body + 20)) else None) read whole in
+                let none = held (length b.0.1 == 0) (Some (Whole (record { number = h.0.0.number; blocks = b.0.0 }) (h.0.0.body + 20))) read b.2 in
+                subst (IsFront m f bytes) (found none.1) (frame_there m f bytes h.0.0 h.0.1 b.0.0 b.0.1 small head.others head.parts head.lawful (ltb-false (length h.0.1) h.0.0.body there) b.1 (eqb-true (length b.0.1) 0 none.0)))
           ] refl h.2)
-      ] refl e
+    ] refl e
 
 tail_read : (m f : ℕ) (h : Head) (rest : List ℕ) → f < 2 ^ 32 → LawfulHead f h → length rest < h.body → front_at m f (spelled_head h ++ rest) ≡ Some Tail
 unfolding front_at
@@ -210,10 +210,10 @@ beginnings_are_tails m f a n law short =
     elim (cases_lt n 20) [
       | inl inside ↦ inl (omega (arith, length-take n (frame_bytes a)), agrees_word a n)
       | inr beyond ↦ (
-        let cut : length (take (n - 20) body) < length body = omega (arith, length-take (n - 20) body, length-append (spelled_head h) body) in
-        let same : take n (frame_bytes a) ≡ spelled_head h ++ take (n - 20) body = take_over (spelled_head h) body n (omega arith) ∙ ap (λ (k : ℕ). spelled_head h ++ take (n - k) body) head in
-        inr (h, take (n - 20) body, law.head, cut, same))
-      ]
+          let cut : length (take (n - 20) body) < length body = omega (arith, length-take (n - 20) body, length-append (spelled_head h) body) in
+          let same : take n (frame_bytes a) ≡ spelled_head h ++ take (n - 20) body = take_over (spelled_head h) body n (omega arith) ∙ ap (λ (k : ℕ). spelled_head h ++ take (n - k) body) head in
+          inr (h, take (n - 20) body, law.head, cut, same))
+    ]
 
 -- ---- what a reader's answer tells
 

@@ -1,6 +1,6 @@
 -- What stands at the front of a segment: a header, a part of one, or neither.
 
-use Rattle.std.proofs.Common.{◌≡◌, ℕ, ◌+◌, ◌^◌, ◌<◌, ◌≤◌, ◌==◌, ◌&&◌, Bool, true, false, if◌then◌else◌, IsTrue, List, [], ◌∷◌, ◌++◌, length, take, drop, nat_lt, nat_le, refl, sym, ap, subst, ◌∙◌, append_assoc, arith, length-append, length-drop}
+use Rattle.std.proofs.Common.{◌≡◌, ℕ, ◌+◌, ◌^◌, ◌<◌, ◌≤◌, ◌==◌, ◌&&◌, true, false, if◌then◌else◌, List, ◌++◌, length, drop, nat_lt, nat_le, refl, sym, ap, subst, ◌∙◌, append_assoc, arith, length-append, length-drop}
 use Rattle.std.proofs.lemmas.Bool.{ltb-false, ltb-true, le-ltb, lt-ltb, leb-true, le-leb, eqb-true, and_parts, and_from}
 use Rattle.std.proofs.lemmas.List.{drop_at, drop-drop}
 use Rattle.byteorder.specs.Endian.{little_number}
@@ -11,7 +11,7 @@ use Rattle.bw_codec.specs.declared.block.Header.{Header}
 use Rattle.bw_codec.specs.declared.block.HeaderRead.{HeaderRead}
 use Rattle.bw_codec.specs.declared.block.HeaderRead.TheVariants as heading
 use Rattle.bw_codec.proofs.Format.{IsBytes, bytes_after, then_parts, number_there, number_reads}
-use Rattle.bw_codec.proofs.FrontFormat.{agrees_begins, agrees_whole, length-number}
+use Rattle.bw_codec.proofs.FrontFormat.{agrees_begins, length-number}
 
 -- ---- the tests
 
@@ -24,7 +24,7 @@ tested h is number =
     record {
       number = (ltb-true 0 h.number d.0, number);
       m = (leb-true 4 h.m d.1, leb-true h.m 32 c.1);
-      f = (leb-true 16384 h.f b.1, leb-true h.f 65536 a.1)
+      f = (leb-true 16384 h.f b.1, leb-true h.f 65536 a.1);
     }
 
 passes : (h : Header) → IsHeader h → is_header h ≡ true
@@ -66,9 +66,16 @@ header_there bytes fits long word zero is =
 
 pub length-header : (h : Header) → length (header_bytes h) ≡ 24
 length-header h =
-    omega (arith, length-number 8 h.number, length-number 2 h.m, length-number 2 0, length-number 4 h.f,
+    omega (
+      arith,
+      length-number 8 h.number,
+      length-number 2 h.m,
+      length-number 2 0,
+      length-number 4 h.f,
       length-append (number_bytes 8 h.number) (number_bytes 2 h.m ++ (number_bytes 2 0 ++ number_bytes 4 h.f)),
-      length-append (number_bytes 2 h.m) (number_bytes 2 0 ++ number_bytes 4 h.f), length-append (number_bytes 2 0) (number_bytes 4 h.f))
+      length-append (number_bytes 2 h.m) (number_bytes 2 0 ++ number_bytes 4 h.f),
+      length-append (number_bytes 2 0) (number_bytes 4 h.f),
+    )
 
 -- what follows a number at an offset
 behind_number : (n x k j : ℕ) (bytes rest : List ℕ) → k + n ≡ j → drop k bytes ≡ number_bytes n x ++ rest → drop j bytes ≡ rest
@@ -110,9 +117,10 @@ part_again bytes part = rw (part.2, lt-ltb (length bytes) 24 part.1, lt-ltb 0 (l
 -- ---- all together
 
 bad_there : (bytes : List ℕ) → heading_of bytes ≡ heading.Bad → IsHeading bytes heading.Bad
-bad_there bytes e =
-    (λ h rest law parts. (let no : heading.Bad ≡ heading.Whole h = sym e ∙ ap heading_of parts ∙ header_again h rest law in cc),
-     λ part. (let no : heading.Bad ≡ heading.Part = sym e ∙ part_again bytes part in cc))
+bad_there bytes e = (
+  λ h rest law parts. (let no : heading.Bad ≡ heading.Whole h = sym e ∙ ap heading_of parts ∙ header_again h rest law in cc),
+  λ part. (let no : heading.Bad ≡ heading.Part = sym e ∙ part_again bytes part in cc),
+)
 
 -- the tests in turn, each with what it tells
 heading_there : (bytes : List ℕ) → IsBytes bytes → (read : HeaderRead) → heading_of bytes ≡ read → IsHeading bytes read
@@ -125,18 +133,18 @@ heading_there bytes fits read e =
         | true ↦ λ short e2. elim (nat_lt 0 (length bytes)) as (λ t. nat_lt 0 (length bytes) ≡ t → (if t then heading.Part else heading.Bad) ≡ read → IsHeading bytes read) [
           | false ↦ λ _ b. bad b
           | true ↦ λ some part. subst (IsHeading bytes) part (ltb-true 0 (length bytes) some, ltb-true (length bytes) 24 short, word)
-          ] refl e2
+        ] refl e2
         | false ↦ λ long e2. elim (little_number 2 (drop 18 bytes) == 0) as (λ t. (little_number 2 (drop 18 bytes) == 0) ≡ t → (if t then (if is_header (header_in bytes) then heading.Whole (header_in bytes) else heading.Bad) else heading.Bad) ≡ read → IsHeading bytes read) [
           | false ↦ λ _ b. bad b
           | true ↦ λ none e3. elim (is_header (header_in bytes)) as (λ t. is_header (header_in bytes) ≡ t → (if t then heading.Whole (header_in bytes) else heading.Bad) ≡ read → IsHeading bytes read) [
             | false ↦ λ _ b. bad b
             | true ↦ λ lawful whole. (
-              let there = header_there bytes fits (ltb-false (length bytes) 24 long) word (eqb-true (little_number 2 (drop 18 bytes)) 0 none) lawful in
-              subst (IsHeading bytes) whole (there.0, drop 24 bytes, there.1))
-            ] refl e3
-          ] refl e2
-        ] refl e1
-      ] refl e
+                let there = header_there bytes fits (ltb-false (length bytes) 24 long) word (eqb-true (little_number 2 (drop 18 bytes)) 0 none) lawful in
+                subst (IsHeading bytes) whole (there.0, drop 24 bytes, there.1))
+          ] refl e3
+        ] refl e2
+      ] refl e1
+    ] refl e
 
 -- what a header's test finds stands there
 pub heading_is : (bytes : List ℕ) → IsBytes bytes → IsHeading bytes (heading_of bytes)

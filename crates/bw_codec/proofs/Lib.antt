@@ -6,3 +6,4 @@ pub mod Heading
 pub mod Adding
 pub mod Lengths
 pub mod Vectors
+pub mod Wider

@@ -1,6 +1,6 @@
 -- Loops that read many things, one after the other, and the loop that looks at keys side by side.
 
-use Rattle.std.proofs.Common.{◌≡◌, ℕ, zero, suc, ◌+◌, ◌-◌, ◌<◌, ◌&&◌, Bool, true, false, Option, Some, None, List, [], ◌∷◌, ◌++◌, refl, sym, ap, subst, ◌∙◌, append_assoc, arith}
+use Rattle.std.proofs.Common.{◌≡◌, ℕ, suc, ◌+◌, ◌-◌, ◌<◌, ◌&&◌, Bool, true, Option, Some, None, List, [], ◌∷◌, ◌++◌, refl, sym, ap, ◌∙◌, append_assoc, arith}
 use Rattle.bw_codec.specs.Bytes.{is_below, ascends}
 use Rattle.bw_codec.specs.Reading.{Found, ◌>>=◌, Says, many_at}
 use Rattle.bw_codec.specs.declared.fault.CodecFault.{CodecFault}

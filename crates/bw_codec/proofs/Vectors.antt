@@ -3,8 +3,7 @@
 use Rattle.std.proofs.Common.{◌≡◌, ℕ, Some, List, [], ◌∷◌, refl}
 use Rattle.bw_codec.specs.Bytes.{number_bytes}
 use Rattle.bw_codec.specs.Grammar.{frame_bytes, header_bytes}
-use Rattle.bw_codec.specs.Reading.{front_at, heading_of, number_at, text_at, op_at, pair_at, many_at, place_at, page_at, pairs_at, delta_at, base_at, upper_at, split_at, block_at, head_at}
-use Rattle.bw_codec.specs.declared.record.Record.{Record}
+use Rattle.bw_codec.specs.Reading.{front_at, heading_of, text_at, op_at, pair_at, many_at, place_at, page_at, pairs_at, delta_at, base_at, upper_at, split_at, block_at, head_at}
 use Rattle.bw_codec.specs.declared.record.Record.TheVariants.{Put}
 use Rattle.bw_codec.specs.declared.block.Block.TheVariants.{Delta, Base, Split}
 use Rattle.bw_codec.specs.declared.block.Frame.{Frame}
@@ -31,7 +30,7 @@ header_is_read = refl
 abbrev first_frame : Frame
 first_frame = record {
   number = 1;
-  blocks = Base (record { page = 1; low = []; pairs = [] }) ∷ Delta 1 (record { frame = 1; index = 0 }) (Put (107 ∷ []) (118 ∷ []) ∷ []) ∷ []
+  blocks = Base (record { page = 1; low = []; pairs = [] }) ∷ Delta 1 (record { frame = 1; index = 0 }) (Put (107 ∷ []) (118 ∷ []) ∷ []) ∷ [];
 }
 
 abbrev first_spelled : List ℕ
@@ -51,9 +50,9 @@ abbrev split_frame : Frame
 split_frame = record {
   number = 5;
   blocks =
-    Delta 1 (record { frame = 4; index = 0 }) (Put (101 ∷ []) (53 ∷ []) ∷ [])
-    ∷ Split 1 (record { frame = 5; index = 0 }) (record { page = 2; low = 99 ∷ []; pairs = (99 ∷ [], 51 ∷ []) ∷ (100 ∷ [], 52 ∷ []) ∷ (101 ∷ [], 53 ∷ []) ∷ [] })
-    ∷ []
+      Delta 1 (record { frame = 4; index = 0 }) (Put (101 ∷ []) (53 ∷ []) ∷ [])
+      ∷ Split 1 (record { frame = 5; index = 0 }) (record { page = 2; low = 99 ∷ []; pairs = (99 ∷ [], 51 ∷ []) ∷ (100 ∷ [], 52 ∷ []) ∷ (101 ∷ [], 53 ∷ []) ∷ [] })
+      ∷ [];
 }
 
 abbrev split_spelled : List ℕ

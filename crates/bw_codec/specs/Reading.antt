@@ -1,6 +1,6 @@
 -- What bytes say, read from left to right: the inverse of the spelling in `Grammar`.
 
-use Rattle.std.specs.Prelude.{ℕ, zero, suc, ◌+◌, ◌≡◌, ◌==◌, ◌&&◌, nat_lt, nat_eq, Bool, true, false, if◌then◌else◌, Option, Some, None, Result, Ok, Err, List, [], ◌∷◌, length, take, drop}
+use Rattle.std.specs.Prelude.{ℕ, zero, suc, ◌+◌, ◌≡◌, ◌==◌, nat_lt, nat_eq, Bool, false, if◌then◌else◌, Option, Some, None, Result, Ok, Err, List, [], ◌∷◌, length, take, drop}
 use lib.Pointwise.{pointwise}
 use Rattle.byteorder.specs.Endian.{little_number}
 use Rattle.bw_codec.specs.Bytes.{ascends}
@@ -11,7 +11,6 @@ use Rattle.bw_codec.specs.declared.leaf.Leaf.{Leaf}
 use Rattle.bw_codec.specs.declared.block.Place.{Place}
 use Rattle.bw_codec.specs.declared.block.Block.{Block}
 use Rattle.bw_codec.specs.declared.block.Block.TheVariants.{Delta, Base, Split}
-use Rattle.bw_codec.specs.declared.block.Frame.{Frame}
 use Rattle.bw_codec.specs.declared.block.Head.{Head}
 use Rattle.bw_codec.specs.declared.block.Header.{Header}
 use Rattle.bw_codec.specs.declared.block.FrameRead.{FrameRead}
@@ -131,27 +130,27 @@ split_at m bytes = do
 unfoldable pub block_at : ℕ → List ℕ → Found Block
 block_at m [] = None
 block_at m (tag ∷ bytes) =
-  if tag == 1 then delta_at bytes else if tag == 2 then base_at m bytes else if tag == 3 then split_at m bytes else None
+    if tag == 1 then delta_at bytes else if tag == 2 then base_at m bytes else if tag == 3 then split_at m bytes else None
 
 unfoldable pub head_at : ℕ → List ℕ → Found Head
 head_at f bytes =
-  if agrees bytes frame_word then (do
-    number ← number_at 8 (drop 4 bytes)
-    body ← number_at 4 number.1
-    blocks ← number_at 4 body.1
-    if is_head f (record { number = number.0; body = body.0; blocks = blocks.0 }) then Some (record { number = number.0; body = body.0; blocks = blocks.0 }, blocks.1) else None)
-  else None
+    if agrees bytes frame_word then (do
+      number ← number_at 8 (drop 4 bytes)
+      body ← number_at 4 number.1
+      blocks ← number_at 4 body.1
+      if is_head f (record { number = number.0; body = body.0; blocks = blocks.0 }) then Some (record { number = number.0; body = body.0; blocks = blocks.0 }, blocks.1) else None)
+    else None
 
 -- what stands at the front, where that is lawful
 unfoldable pub front_at : ℕ → ℕ → List ℕ → Option FrameRead
 front_at m f bytes =
-  if nat_lt (length bytes) 20 then (if agrees bytes frame_word then Some Tail else None)
-  else (do
-    head ← head_at f bytes
-    if nat_lt (length head.1) head.0.body then Some Tail
-      else (do
-        blocks ← many_at (block_at m) head.0.blocks (take head.0.body head.1)
-        if length blocks.1 == 0 then Some (Whole (record { number = head.0.number; blocks = blocks.0 }) (head.0.body + 20)) else None))
+    if nat_lt (length bytes) 20 then (if agrees bytes frame_word then Some Tail else None)
+    else (do
+      head ← head_at f bytes
+      if nat_lt (length head.1) head.0.body then Some Tail
+          else (do
+            blocks ← many_at (block_at m) head.0.blocks (take head.0.body head.1)
+            if length blocks.1 == 0 then Some (Whole (record { number = head.0.number; blocks = blocks.0 }) (head.0.body + 20)) else None))
 
 -- what a fault says of what reading gives: nothing where memory ran out, and else that it gives nothing
 abbrev pub Says : {Y : Type 0} → CodecFault → Option Y → Type 0
@@ -169,7 +168,7 @@ header_in bytes = record { number = little_number 8 (drop 8 bytes); m = little_n
 
 unfoldable pub heading_of : List ℕ → HeaderRead
 heading_of bytes =
-  if agrees bytes segment_word then (
+    if agrees bytes segment_word then (
     if nat_lt (length bytes) 24 then (if nat_lt 0 (length bytes) then heading.Part else heading.Bad)
     else if little_number 2 (drop 18 bytes) == 0 then (if is_header (header_in bytes) then heading.Whole (header_in bytes) else heading.Bad) else heading.Bad)
-  else heading.Bad
+    else heading.Bad

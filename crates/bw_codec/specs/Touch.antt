@@ -1,8 +1,6 @@
 -- Which pages a block sets, and which it touches.
 
-use Rattle.std.specs.Prelude.{ℕ, Bool, true, false, ◌==◌, ◌||◌}
-use Rattle.bw_codec.specs.declared.leaf.Leaf.{Leaf}
-use Rattle.bw_codec.specs.declared.block.Place.{Place}
+use Rattle.std.specs.Prelude.{ℕ, Bool, false, ◌==◌, ◌||◌}
 use Rattle.bw_codec.specs.declared.block.Block.{Block}
 use Rattle.bw_codec.specs.declared.block.Block.TheVariants.{Delta, Base, Split}
 

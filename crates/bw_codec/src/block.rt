@@ -7,8 +7,8 @@ use crate::leaf::Leaf;
 use crate::record::Ops;
 use std::marker::Model;
 
-/// Where a block stands: its frame's number, from 1, and its index in that frame, from 0. It does not
-/// depend on the segment.
+/// Where a block stands: its frame's number, from 1, and its index in that frame, from 0. It does
+/// not depend on the segment.
 #[derive(Debug, Clone, Copy, PartialEq, Eq)]
 pub struct Place {
     pub frame: u64,
@@ -22,13 +22,9 @@ pub enum Block {
     Delta { page: u32, back: Place, ops: Ops },
     /// The page is this leaf, whatever it was.
     Base(Leaf),
-    /// The page lost all keys from the low key of `upper` on, after the block at `back`, and `upper`
-    /// is the page that they became.
-    Split {
-        page: u32,
-        back: Place,
-        upper: Leaf,
-    },
+    /// The page lost all keys from the low key of `upper` on, after the block at `back`, and
+    /// `upper` is the page that they became.
+    Split { page: u32, back: Place, upper: Leaf },
 }
 
 /// Blocks, in the order in which they apply.

@@ -1,6 +1,6 @@
 //! A leaf: a page's low key and its pairs in the order of their keys.
 
-ghost use Rattle.std.specs.Prelude.{◌≡◌, ◌<◌, ◌≤◌, ◌+◌, length, insert, remove, take, slice_set, slice_index_or, OnOk, OnErr, IfOk};
+ghost use Rattle.std.specs.Prelude.{◌≡◌, ◌<◌, ◌≤◌, length, insert, remove, take, slice_set, OnOk, OnErr, IfOk};
 
 use crate::key::{Key, Value};
 use std::alloc::{AllocError, Global};
@@ -42,7 +42,7 @@ impl Low {
         self.bytes.as_slice()
     }
 
-    /// The same low key.
+    /// The same low key. It takes memory, whose refusal is the only error.
     pub fn copy(&self) -> Result<Low, AllocError>
         ensures { IfOk result (λ low. low ≡ self.now) }
     {
@@ -51,7 +51,7 @@ impl Low {
     }
 }
 
-/// Keys with their values, in the order of the keys where a leaf holds them.
+/// Keys with their values, in the order of the keys where a lawful leaf holds them.
 #[derive(Debug, Drop)]
 pub struct Pairs {
     items: Vec<(Key, Value)>,
@@ -93,6 +93,7 @@ impl Pairs {
         ensures ok { OnOk result (self.new ≡ insert self.old at (key, value)) }
         ensures err { OnErr result (self.new ≡ self.old) }
     {
+        // Tells the proof that the list is as long as the `Vec`; so below.
         let _ = self.items.as_slice().len();
         self.items.insert(at, (key, value))?;
         Ok(())
@@ -107,7 +108,7 @@ impl Pairs {
         self.items[at] = (key, value);
     }
 
-    /// Removes the pair at an index.
+    /// Removes the pair at an index; those behind it move up.
     pub fn remove(&mut self, at: usize)
         requires { at < length self.old }
         ensures { self.new ≡ remove self.old at }
@@ -116,14 +117,15 @@ impl Pairs {
         let _ = self.items.remove(at);
     }
 
-    /// Keeps the first pairs alone.
+    /// Keeps the first `count` pairs alone, or all where there are no more.
     pub fn truncate(&mut self, count: usize)
         ensures { self.new ≡ take count self.old }
     {
         self.items.truncate(count);
     }
 
-    /// The same pairs as these.
+    /// The same pairs as these. It takes memory, whose refusal is the only error; linear in the
+    /// pairs.
     pub fn copy_of(alloc: Global, pairs: &[(Key, Value)]) -> Result<Pairs, AllocError>
         ensures { IfOk result (λ copy. copy ≡ pairs.now) }
     {
@@ -134,7 +136,7 @@ impl Pairs {
         Ok(Pairs { items })
     }
 
-    /// The same pairs.
+    /// The same pairs, as by `copy_of`.
     pub fn copy(&self) -> Result<Pairs, AllocError>
         ensures { IfOk result (λ copy. copy ≡ self.now) }
     {
@@ -145,13 +147,14 @@ impl Pairs {
 /// A page: its number from 1, its low key, and its pairs.
 #[derive(Debug, Drop)]
 pub struct Leaf {
+    /// From 1.
     pub page: u32,
     pub low: Low,
     pub pairs: Pairs,
 }
 
 impl Leaf {
-    /// The same page.
+    /// The same page. It takes memory, whose refusal is the only error.
     pub fn copy(&self) -> Result<Leaf, AllocError>
         ensures { IfOk result (λ leaf. leaf ≡ self.now) }
     {

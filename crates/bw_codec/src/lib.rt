@@ -4,25 +4,29 @@
 //! A frame is what one flush writes: a head of 20 bytes and blocks. A block says what became of one
 //! page: it is set (`Base`), changed by records (`Delta`) or cut in two (`Split`). `docs/FORMAT.md`
 //! has the tables. The spelling is a function of the value (`specs/Grammar.antt`); reading is its
-//! inverse, and says of all other bytes whether they are a frame that was cut off or no frame at all.
+//! inverse, and says of all other bytes whether they are a frame that was cut off or no frame at
+//! all.
 #![tactic(auto)]
 
-pub mod key;
-pub mod record;
-pub mod leaf;
 pub mod block;
 pub mod fault;
+pub mod key;
+pub mod laws;
+pub mod leaf;
 mod parts;
 mod reading;
+pub mod record;
+#[cfg(test)]
+mod tests;
 mod writing;
-pub mod laws;
 
 pub use block::{Block, Blocks, Frame, FrameRead, Head, Header, HeaderRead, Place};
 pub use fault::CodecFault;
 pub use key::{Key, LengthError, Value, is_before};
 pub use leaf::{Leaf, Low, Pairs};
 pub use reading::{read_frame, read_header};
-pub use writing::{
-    block_length, encode_block, encode_frame_head, encode_header, frame_cells, header_cells, write_block,
-};
 pub use record::{Ops, Record};
+pub use writing::{
+    block_length, encode_block, encode_frame_head, encode_header, frame_cells, header_cells,
+    write_block,
+};

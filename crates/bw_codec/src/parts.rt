@@ -1,5 +1,6 @@
 //! The parts of a block, each read from the front of bytes: numbers, runs of bytes, records, pairs.
-//! What follows a part is handed on with it; nothing is reserved by a count or a length that was read.
+//! What follows a part is handed on with it; nothing is reserved by a count or a length that was
+//! read.
 
 ghost use Rattle.std.specs.Prelude.{◌≡◌};
 ghost use Rattle.bw_codec.specs.Bytes.{ascends};
@@ -13,6 +14,7 @@ use crate::record::{Ops, Record};
 use byteorder::{ByteOrder, LittleEndian};
 use std::alloc::Global;
 
+/// A number in two bytes, the lowest first.
 pub fn two_of(bytes: &[u8]) -> Result<(u16, &[u8]), CodecFault>
     ensures { Gives (λ x. (x.0, x.1.now)) result (number_at 2 bytes.now) }
 {
@@ -22,6 +24,7 @@ pub fn two_of(bytes: &[u8]) -> Result<(u16, &[u8]), CodecFault>
     Ok((LittleEndian::read_u16(bytes), &bytes[2..]))
 }
 
+/// A number in four bytes.
 pub fn four_of(bytes: &[u8]) -> Result<(u32, &[u8]), CodecFault>
     ensures { Gives (λ x. (x.0, x.1.now)) result (number_at 4 bytes.now) }
 {
@@ -31,6 +34,7 @@ pub fn four_of(bytes: &[u8]) -> Result<(u32, &[u8]), CodecFault>
     Ok((LittleEndian::read_u32(bytes), &bytes[4..]))
 }
 
+/// A number in eight bytes.
 pub fn eight_of(bytes: &[u8]) -> Result<(u64, &[u8]), CodecFault>
     ensures { Gives (λ x. (x.0, x.1.now)) result (number_at 8 bytes.now) }
 {
@@ -40,6 +44,7 @@ pub fn eight_of(bytes: &[u8]) -> Result<(u64, &[u8]), CodecFault>
     Ok((LittleEndian::read_u64(bytes), &bytes[8..]))
 }
 
+/// One byte of length, and that many bytes.
 fn run_of(bytes: &[u8]) -> Result<(&[u8], &[u8]), CodecFault>
     ensures { Gives (λ x. (x.0.now, x.1.now)) result (run_at bytes.now) }
 {
@@ -89,6 +94,7 @@ pub fn low_of(alloc: Global, bytes: &[u8]) -> Result<(Low, &[u8]), CodecFault>
     Ok((Low::of(low), rest))
 }
 
+/// One record behind its tag.
 #[tactic(auto, unfolding(crate::specs::Reading::op_at))]
 pub fn op_of(bytes: &[u8]) -> Result<(Record, &[u8]), CodecFault>
     ensures { Gives (λ x. (x.0, x.1.now)) result (op_at bytes.now) }
@@ -145,6 +151,7 @@ pub fn some_ops(alloc: Global, count: u16, bytes: &[u8]) -> Result<(Ops, &[u8]),
     Ok((Ops::of(items), rest))
 }
 
+/// Whether each key is below the next.
 pub fn ascend(pairs: &[(Key, Value)]) -> bool
     ensures { result ≡ ascends pairs.now }
 {
@@ -163,6 +170,7 @@ pub fn ascend(pairs: &[(Key, Value)]) -> bool
     true
 }
 
+/// A count of at most `m`, and that many pairs in the order of their keys.
 #[tactic(auto, unfolding(crate::specs::Reading::pairs_at))]
 pub fn pairs_of(alloc: Global, m: u16, bytes: &[u8]) -> Result<(Pairs, &[u8]), CodecFault>
     ensures { Gives (λ x. (x.0, x.1.now)) result (pairs_at m bytes.now) }
@@ -178,6 +186,7 @@ pub fn pairs_of(alloc: Global, m: u16, bytes: &[u8]) -> Result<(Pairs, &[u8]), C
     Ok((pairs, rest))
 }
 
+/// A page number, which is not zero.
 #[tactic(auto, unfolding(crate::specs::Reading::page_at))]
 pub fn page_of(bytes: &[u8]) -> Result<(u32, &[u8]), CodecFault>
     ensures { Gives (λ x. (x.0, x.1.now)) result (page_at bytes.now) }
@@ -189,6 +198,7 @@ pub fn page_of(bytes: &[u8]) -> Result<(u32, &[u8]), CodecFault>
     Ok((page, rest))
 }
 
+/// A place, whose frame is not zero.
 #[tactic(auto, unfolding(crate::specs::Reading::place_at))]
 pub fn place_of(bytes: &[u8]) -> Result<(Place, &[u8]), CodecFault>
     ensures { Gives (λ x. (x.0, x.1.now)) result (place_at bytes.now) }

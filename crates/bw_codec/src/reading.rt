@@ -36,6 +36,7 @@ fn base_of(alloc: Global, m: u16, bytes: &[u8]) -> Result<(Block, &[u8]), CodecF
     Ok((Block::Base(Leaf { page, low, pairs }), rest))
 }
 
+/// Whether the first pair's key is the low key.
 fn leads(leaf: &Leaf) -> bool
     ensures { result ≡ is_led leaf.now.low leaf.now.pairs }
 {
@@ -45,6 +46,7 @@ fn leads(leaf: &Leaf) -> bool
     }
 }
 
+/// The new page of a Split.
 #[tactic(auto, unfolding(crate::specs::Reading::upper_at))]
 fn upper_of(alloc: Global, m: u16, bytes: &[u8]) -> Result<(Leaf, &[u8]), CodecFault>
     ensures { Gives (λ x. (x.0, x.1.now)) result (upper_at m bytes.now) }
@@ -113,6 +115,7 @@ fn some_blocks(
     Ok((Blocks::of(items), rest))
 }
 
+/// Whether bytes agree with a word as far as both go.
 fn begins_as(bytes: &[u8], word: &[u8]) -> bool
     ensures { result ≡ agrees bytes.now word.now }
 {
@@ -196,39 +199,32 @@ fn heading(bytes: &[u8]) -> HeaderRead
     }
 }
 
-fn read_within(
-    alloc: Global,
-    m: u16,
-    limit: u32,
-    bytes: &[u8],
-) -> Result<FrameRead, CodecFault>
+/// `read_frame` with the header's numbers by value, whose ranges the proof needs.
+fn read_within(alloc: Global, m: u16, limit: u32, bytes: &[u8]) -> Result<FrameRead, CodecFault>
     ensures found { IfOk result (IsFront m limit bytes.now) }
-    ensures only {
-        (read : FrameRead) → IsFront m limit bytes.now read → Gives (λ x. x) result (Some read)
-    }
+    ensures only { (read : FrameRead) → IsFront m limit bytes.now read
+        → Gives (λ x. x) result (Some read) }
 {
     front_of(alloc, m, limit, bytes)
 }
 
-/// What stands at the front of the bytes behind a header or a frame: a whole frame of a segment with
-/// this header, or bytes at which one was cut off. `BadBytes` for all other bytes, `NoMemory` only
-/// where a growth was refused. Time and memory are linear in the bytes; nothing is reserved by a count
-/// or a length that was read.
+/// What stands at the front of the bytes behind a header or a frame: a whole frame of a segment
+/// with this header, or bytes at which one was cut off. `BadBytes` for all other bytes, `NoMemory`
+/// only where a growth was refused. Time and memory are linear in the bytes; nothing is reserved by
+/// a count or a length that was read.
 pub fn read_frame(alloc: Global, bytes: &[u8], header: &Header) -> Result<FrameRead, CodecFault>
     // What is answered stands there.
     ensures found { IfOk result (IsFront header.now.m header.now.f bytes.now) }
 
     // What stands there is answered, unless memory runs out.
-    ensures only {
-        (read : FrameRead) → IsFront header.now.m header.now.f bytes.now read
-        → Gives (λ x. x) result (Some read)
-    }
+    ensures only { (read : FrameRead) → IsFront header.now.m header.now.f bytes.now read
+        → Gives (λ x. x) result (Some read) }
 {
     read_within(alloc, header.m, header.f, bytes)
 }
 
-/// What a segment begins with: a header, a part of one, or neither. No bytes at all are `Bad`: such a
-/// segment is a spare, and its caller asks for its length first. No memory is taken.
+/// What a segment begins with: a header, a part of one, or neither. No bytes at all are `Bad`: such
+/// a segment is a spare, and its caller asks for its length first. No memory is taken.
 pub fn read_header(bytes: &[u8]) -> HeaderRead
     ensures { IsHeading bytes.now result }
 {

@@ -1,6 +1,6 @@
 //! A record is one change of one key; a list of records is what a Delta holds.
 
-ghost use Rattle.std.specs.Prelude.{◌≡◌, IfOk, OnErr};
+ghost use Rattle.std.specs.Prelude.{◌≡◌};
 ghost use Rattle.bw_codec.specs.Record.{key_of};
 ghost use Rattle.bw_codec.specs.Grammar.{IsOp};
 
@@ -23,6 +23,7 @@ impl Record {
         ensures lawful { IsOp self.now }
     {
         match self {
+            // The calls tell the proof that these lengths are lawful.
             Record::Put(key, value) => {
                 let _ = key.as_slice();
                 let _ = value.as_slice();

@@ -1,10 +1,10 @@
-//! The spelling of blocks, headers and frame heads. A block's length is known before it is written, so
-//! there is one growth at most, and where that is refused nothing was written.
+//! The spelling of blocks, headers and frame heads. A block's length is known before it is written,
+//! so there is one growth at most, and where that is refused nothing was written.
 
 ghost use Rattle.std.specs.Prelude.{◌≡◌, ◌≤◌, ◌<◌, ◌+◌, ◌*◌, ◌^◌, ◌++◌, length, OnOk, OnErr};
-ghost use Rattle.std.specs.List.{flat_map, AllByRecursion};
+ghost use Rattle.std.specs.List.{flat_map};
 ghost use Rattle.bw_codec.specs.Bytes.{number_bytes, text};
-ghost use Rattle.bw_codec.specs.Grammar.{op_bytes, pair_bytes, place_bytes, pairs_bytes, ops_bytes, upper_bytes, block_bytes, head_bytes, header_bytes, IsPair, IsOp, IsBlock};
+ghost use Rattle.bw_codec.specs.Grammar.{op_bytes, pair_bytes, place_bytes, pairs_bytes, ops_bytes, upper_bytes, block_bytes, head_bytes, header_bytes, IsBlock};
 ghost use Rattle.bw_codec.specs.Writing.{HasRoom, Adds};
 
 use crate::block::{Block, Header, Place};
@@ -194,8 +194,8 @@ pub fn encode_header(header: &Header, out: &mut Vec<u8>) -> Result<(), AllocErro
     out.extend_from_slice(&header_cells(header.number, header.m, header.f))
 }
 
-/// Appends a frame's first 20 bytes: its number, the length of its blocks in bytes, and their count. A
-/// refusal changes nothing.
+/// Appends a frame's first 20 bytes: its number, the length of its blocks in bytes, and their
+/// count. A refusal changes nothing.
 pub fn encode_frame_head(
     number: u64,
     body: u32,
@@ -236,7 +236,8 @@ fn push_upper(out: &mut Vec<u8>, upper: &Leaf)
     push_pairs(out, upper.pairs.as_slice());
 }
 
-/// Appends a block's bytes where there is room for them, as `block_length` tells. No memory is taken.
+/// Appends a block's bytes where there is room for them, as `block_length` tells. No memory is
+/// taken.
 pub fn write_block(block: &Block, out: &mut Vec<u8>)
     requires lawful { IsBlock 32 block.now }
     requires room { HasRoom out.old (length (block_bytes block.now)) }

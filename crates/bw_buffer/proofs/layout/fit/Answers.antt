@@ -1,4 +1,4 @@
-use Rattle.std.proofs.Common.{◌≡◌, ◌+◌, ◌≤◌, length, sym, arith, take}
+use Rattle.std.proofs.Common.{length, sym, arith}
 use Rattle.std.proofs.lemmas.Bool.{lt-leb}
 use Rattle.bw_codec.specs.Grammar.{block_bytes, body_bytes}
 use Rattle.bw_codec.proofs.Adding.{taken_within}

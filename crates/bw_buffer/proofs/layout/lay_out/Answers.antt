@@ -1,5 +1,5 @@
 use Rattle.bw_codec.specs.Grammar.{block_bytes}
-use Rattle.bw_codec.proofs.Adding.{adds_nothing, adds_next, adds_all, room_for_next}
+use Rattle.bw_codec.proofs.Adding.{room_for_next}
 use Rattle.bw_buffer.proofs.layout.lay_out.Goals as goal
 
 pub write_block-requires-clause-room : goal.write_block-requires-clause-room

@@ -1,4 +1,4 @@
-use Rattle.std.proofs.Common.{◌≡◌, ◌+◌, ◌-◌, Some, None, sym, ap, ◌∙◌, append-nil, subst, arith, refl}
+use Rattle.std.proofs.Common.{◌≡◌, ◌-◌, None, sym, ◌∙◌, append-nil, subst, arith, refl}
 use Rattle.std.proofs.lemmas.Result.{err_from_is_err_and}
 use Rattle.bw_codec.specs.Reading.{many_at, block_at}
 use Rattle.bw_codec.proofs.Many.{prefixed, many_goes_on, many_stops, many_ends, many_begins, fault_goes_on}

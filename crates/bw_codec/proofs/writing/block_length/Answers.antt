@@ -1,4 +1,4 @@
-use Rattle.std.proofs.Common.{◌≡◌, ℕ, ◌+◌, length, arith, ap, subst, sym}
+use Rattle.std.proofs.Common.{◌≡◌, ◌+◌, length, arith, ap, subst, sym}
 use Rattle.std.specs.List.{flat_map}
 use Rattle.bw_codec.specs.Grammar.{op_bytes, pair_bytes, block_bytes}
 use Rattle.bw_codec.specs.declared.block.Block.{Block}

@@ -2,7 +2,7 @@ use Rattle.std.proofs.Common.{◌++◌, arith, length-append}
 use Rattle.bw_codec.specs.Bytes.{number_bytes, text}
 use Rattle.bw_codec.specs.Grammar.{pairs_bytes}
 use Rattle.bw_codec.proofs.FrontFormat.{length-number}
-use Rattle.bw_codec.proofs.Adding.{room_after, room_first}
+use Rattle.bw_codec.proofs.Adding.{room_after}
 use Rattle.bw_codec.proofs.writing.push_upper.Goals as goal
 
 pub push_four-requires : goal.push_four-requires

@@ -1,4 +1,4 @@
-use Rattle.std.proofs.Common.{ℕ, ◌+◌, ◌≤◌, length, arith, subst}
+use Rattle.std.proofs.Common.{length, arith, subst}
 use Rattle.bw_codec.specs.Grammar.{block_bytes}
 use Rattle.bw_codec.specs.Writing.{HasRoom}
 use Rattle.bw_codec.specs.declared.block.Block.{Block}

@@ -1,11 +1,11 @@
-use Rattle.std.proofs.Common.{◌≡◌, ◌≢◌, ◌∙◌, ℕ, ◌+◌, ◌-◌, ◌<◌, ◌≤◌, ◌++◌, arith, refl, sym, ap, subst, length, drop, map, false, true, List, length-append, Fits, w32}
+use Rattle.std.proofs.Common.{◌≡◌, ◌∙◌, ℕ, ◌+◌, ◌-◌, ◌++◌, arith, refl, sym, ap, length, drop, map, false, true, List, length-append}
 use Rattle.std.proofs.lemmas.Result.{err_from_is_err_and}
 use Rattle.bw_codec.specs.Grammar.{body_bytes, head_bytes}
 use Rattle.bw_codec.specs.declared.block.Block.{Block}
-use Rattle.bw_buffer.specs.Filling.{Filling, size_of}
+use Rattle.bw_buffer.specs.Filling.{Filling}
 use Rattle.bw_buffer.specs.Marks.{mark_of}
 use Rattle.bw_buffer.specs.declared.mark.Mark.{Mark}
-use Rattle.bw_buffer.specs.Filled.{blocks_in, filling_of}
+use Rattle.bw_buffer.specs.Filled.{blocks_in}
 use Rattle.bw_buffer.specs.declared.buffer.Buffer.TheInside.{Inside}
 use Rattle.bw_buffer.proofs.Holding.{Holds, filled, held, grown, room_told, room_inside, counts, length-held}
 use Rattle.bw_buffer.proofs.buffer.Buffer.put_all.Goals as goal

@@ -5,6 +5,6 @@ use Rattle.bw_buffer.proofs.buffer.Buffer.room.Goals as goal
 pub returns : goal.returns
 returns c =
     rw (← c.self.view_is) (
-      let held = length-held c.self.inside c.self.invariant in
-      let fits = c.self.invariant.fits in
-      omega (arith, held, fits, c.as_slice.ensures.value, ap length c.as_slice.ensures.value))
+    let held = length-held c.self.inside c.self.invariant in
+    let fits = c.self.invariant.fits in
+    omega (arith, held, fits, c.as_slice.ensures.value, ap length c.as_slice.ensures.value))
