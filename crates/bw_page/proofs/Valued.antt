@@ -1,0 +1,38 @@
+-- A search in sorted pairs finds the value of a key.
+
+use Rattle.std.proofs.Common.{◌≡◌, ℕ, ◌-◌, cond, false, Option, Some, None, Result, Ok, Err, List, [], ◌∷◌, get_or, refl, sym, ap, ◌∙◌, subst, one-add}
+use Rattle.std.specs.Ordering.{is_lt, is_eq, eq_by_cmp}
+use Rattle.std.specs.FinMap.Entries.{find, by_order}
+use Rattle.std.specs.declared.cmp.Ordering.TheVariants.{Less, Equal, Greater}
+use Rattle.bw_codec.specs.declared.leaf.Leaf.{Leaf}
+use Rattle.bw_page.specs.Leaves.{Bytes, Pairs, order, home, AreLeaves}
+use Rattle.bw_page.specs.Seek.{seek_of, passed}
+use Rattle.bw_page.proofs.Order.{Below, below_apart, below-trans}
+use Rattle.bw_page.proofs.Sorted.{all-map, Rises, find-none}
+use Rattle.bw_page.proofs.Homes.{home-all, stands_at}
+
+-- the leaf of a key's home stands at its place
+pub home_stands : (m : ℕ) (q : Bytes) (leaves : List Leaf) → AreLeaves m leaves → (d : Leaf) → get_or leaves ((home q leaves).page - 1) d ≡ home q leaves
+home_stands m q leaves a d = home-all (λ l. get_or leaves (l.page - 1) d ≡ l) q leaves a.first (stands_at leaves d a.pages)
+
+-- what the end of a search says of the look-up
+abbrev pub Reads : Option Bytes → Pairs → Result ℕ ℕ → Type 0
+Reads found ps (Ok at) = (d : Bytes × Bytes) → found ≡ Some (get_or ps at d).1
+Reads found ps (Err at) = found ≡ None
+
+further : (found : Option Bytes) (p : Bytes × Bytes) (ps : Pairs) (s : Result ℕ ℕ) → Reads found ps s → Reads found (p ∷ ps) (passed 1 s)
+further found p ps (Ok at) h = λ d. h d ∙ ap (λ n. Some (get_or (p ∷ ps) n d).1) (sym (one-add at))
+further found p ps (Err at) h = h
+
+reads_all : (key : Bytes) (ps : Pairs) → Rises ps → Reads (find order key ps) ps (seek_of key ps)
+reads_all key [] r = refl
+reads_all key (p ∷ ps) r =
+    elim (order key p.0) as (λ o. order key p.0 ≡ o → Reads (cond (is_eq o) (Some p.1) (find order key ps)) (p ∷ ps) (by_order o (Err 0) (Ok 0) (passed 1 (seek_of key ps)))) [
+      | Less ↦ λ e. find-none key ps (all-map (λ q. Below p.0 q.0) (λ q. eq_by_cmp order key q.0 ≡ false) (λ q b. below_apart key q.0 (below-trans key p.0 q.0 (ap is_lt e) b)) ps r.0)
+      | Equal ↦ λ e d. refl
+      | Greater ↦ λ e. further (find order key ps) p ps (seek_of key ps) (reads_all key ps r.1)
+    ] refl
+
+-- the same at what a search answered
+pub reads : (key : Bytes) (ps : Pairs) (s : Result ℕ ℕ) → Rises ps → s ≡ seek_of key ps → Reads (find order key ps) ps s
+reads key ps s r e = subst (Reads (find order key ps) ps) (sym e) (reads_all key ps r)

@@ -1,0 +1,45 @@
+use Rattle.std.proofs.Common.{◌≡◌, ◌+◌, ap, refl, length, arith}
+use Rattle.bw_page.proofs.Closed.{same_filed, same_gets, over_at, Follows, follows_whole, follows_cut}
+use Rattle.bw_page.proofs.leaves.Leaves.apply.Goals as goal
+
+pub invariant_of-self : goal.invariant_of-self
+invariant_of-self c = same_filed c.self.inside _ c.self.invariant refl c.in_err-change_at.ensures.unchanged (λ q. refl)
+
+whole : (c : goal.In_ok-change_at) → Follows c.args.self.now c.args.change.now (record { m = c.self.inside.m; leaves = c.change_at.new.leaves; index = c.self.inside.index })
+whole c =
+    follows_whole c.self.inside c.self.invariant c.args.self.now c.self.view_is c.args.change.now c.aim-at.ensures.lawful c.aim-at.result.0 c.aim-at.result.1
+    c.aim-at.ensures.at c.aim-at.ensures.pairs _ refl (let from = c.from.ensures in omega arith) c.in_ok-change_at.ensures.ok (λ q. refl)
+
+pub invariant_of-self-then-count-from : goal.invariant_of-self-then-count-from
+invariant_of-self-then-count-from c = (whole c).filed
+
+pub returns-then-count-from-clause-ok : goal.returns-then-count-from-clause-ok
+returns-then-count-from-clause-ok c = (whole c).view
+
+pub returns-then-count-from-clause-plain : goal.returns-then-count-from-clause-plain
+returns-then-count-from-clause-plain c = (whole c).plain
+
+pub cut_at-requires-clause-over : goal.cut_at-requires-clause-over
+cut_at-requires-clause-over c =
+    over_at c.self.inside c.self.invariant c.args.self.now c.self.view_is c.args.change.now c.aim-at.ensures.lawful c.aim-at.result.0 c.aim-at.result.1
+    c.aim-at.ensures.at c.aim-at.ensures.pairs (let from = c.from.ensures in omega arith)
+
+pub invariant_of-self-in_err-cut_at : goal.invariant_of-self-in_err-cut_at
+invariant_of-self-in_err-cut_at c =
+    same_filed c.self.inside _ c.self.invariant refl c.in_err-cut_at.ensures.leaves_stay (same_gets c.self.inside.index c.cut_at.new.index c.in_err-cut_at.ensures.index_stays)
+
+cut : (c : goal.In_ok-cut_at) → Follows c.args.self.now c.args.change.now (record { m = c.self.inside.m; leaves = c.cut_at.new.leaves; index = c.cut_at.new.index })
+cut c =
+    let list : length c.as_slice-pages.result.now ≡ length c.self.inside.leaves.items = ap length c.as_slice-pages.ensures.value in
+    follows_cut c.self.inside c.self.invariant c.args.self.now c.self.view_is c.args.change.now c.aim-at.ensures.lawful c.aim-at.result.0 c.aim-at.result.1
+    c.aim-at.ensures.at c.aim-at.ensures.pairs _ (length c.as_slice-pages.result.now + 1) refl (let from = c.from.ensures in omega arith) (ap (λ n. n + 1) list) (omega arith)
+    c.in_ok-cut_at.ensures.leaves c.in_ok-cut_at.ensures.index
+
+pub invariant_of-self-2 : goal.invariant_of-self-2
+invariant_of-self-2 c = (cut c).filed
+
+pub returns-clause-ok : goal.returns-clause-ok
+returns-clause-ok c = (cut c).view
+
+pub returns-clause-plain : goal.returns-clause-plain
+returns-clause-plain c = (cut c).plain

@@ -1,0 +1,12 @@
+use Rattle.std.proofs.Common.{◌∙◌, ap, rules}
+use Rattle.std.specs.List.{filter}
+use Rattle.std.proofs.lemmas.Fn.{filter_same}
+use Rattle.bw_codec.specs.Bytes.{is_below}
+use Rattle.bw_page.specs.Leaves.{Pairs}
+use Rattle.bw_page.proofs.reading.keep_below.Goals as goal
+
+pub returns : goal.returns
+returns c =
+    let kept = filter_same _ (λ p. is_below p.0 c.args.separator.now) _ (λ x b f' h. search rules) _ _ c.retain.ensures.filtered in
+    ap (λ (ps : Pairs). record c.args.leaf { pairs = ps })
+    (c.of.ensures ∙ kept ∙ ap (filter (λ p. is_below p.0 c.args.separator.now)) c.into_vec-kept.ensures)

@@ -1,0 +1,52 @@
+-- What records displaced, one after the other, so that they can be taken back.
+
+use Rattle.std.specs.Prelude.{◌≡◌, ◌≤◌, List, [], ◌∷◌, length, take}
+use Rattle.std.specs.List.{AllByRecursion}
+use Rattle.bw_codec.specs.Grammar.{IsOp}
+use Rattle.bw_codec.specs.Record.{key_of}
+use Rattle.bw_codec.specs.declared.record.Record.{Record}
+use Rattle.bw_page.specs.declared.journal.Undo.{Undo}
+use Rattle.bw_page.specs.Leaves.{home, with_leaf, HasPage, HasPages, AreLeaves}
+use Rattle.bw_page.specs.Filed.{Filed}
+pub use Rattle.bw_page.specs.Filed.{after_record, run}
+
+-- the leaf that a record displaces, and how many pages there were
+abbrev pub undo_of : Filed → Record → Undo
+undo_of f r = record { leaf = home (key_of r) f.leaves; pages = length f.leaves }
+
+abbrev pub journal_of : Filed → List Record → List Undo
+journal_of f [] = []
+journal_of f (r ∷ rs) = undo_of f r ∷ journal_of (after_record f r) rs
+
+-- a displaced leaf in its place again, and the page behind all others gone that was not there
+abbrev pub undone : Filed → Undo → Filed
+undone f u = record f { leaves = with_leaf (take u.pages f.leaves) u.leaf }
+
+-- the newest first
+abbrev pub all_undone : Filed → List Undo → Filed
+all_undone f [] = f
+all_undone f (u ∷ us) = undone (all_undone f us) u
+
+-- leaves after records, with what these displaced
+pub record Ran (start : Filed) (records : List Record) (now : Filed) (journal : List Undo) : Type 0 where
+  pub some : 1 ≤ start.m
+  pub lawful : AreLeaves start.m start.leaves
+  pub ops : AllByRecursion IsOp records
+  pub room : HasPages start.m start.leaves records
+  pub is : now ≡ run start records
+  pub displaced : journal ≡ journal_of start records
+
+-- a journal of records that were applied
+abbrev pub IsJournal : Filed → List Undo → Type 0
+IsJournal now journal = (start : Filed) × (records : List Record) × Ran start records now journal
+
+-- what the newest record displaced
+pub record IsNewest (now : Filed) (undo : Undo) : Type 0 where
+  pub before : Filed
+  pub change : Record
+  pub some : 1 ≤ before.m
+  pub lawful : AreLeaves before.m before.leaves
+  pub op : IsOp change
+  pub room : HasPage before.m before.leaves change
+  pub is : now ≡ after_record before change
+  pub displaced : undo ≡ undo_of before change

@@ -1,0 +1,14 @@
+pub mod Leaves
+pub mod Filed
+pub mod Lows
+pub mod Paged
+pub mod Seek
+pub mod Standing
+pub mod FirstPath
+pub mod Links
+pub mod Linked
+pub mod Marks
+pub mod Journal
+pub mod Batch
+pub mod Cutting
+pub mod Laws

@@ -1,0 +1,67 @@
+//! One leaf and one record.
+
+ghost use Rattle.std.specs.Prelude.{◌≡◌, length, OnOk, OnErr};
+ghost use Rattle.bw_page.specs.Leaves.{changed, changed_pairs};
+ghost use Rattle.bw_page.specs.Seek.{seek_of, IsWithin};
+
+use bw_codec::{Key, Leaf, Pairs, Record, Value};
+use std::alloc::AllocError;
+use std::cmp::Ordering;
+
+/// The index of a key, or where it would stand. Whole keys are compared, as bytes.
+pub(crate) fn find_key(pairs: &[(Key, Value)], key: &[u8]) -> Result<usize, usize>
+    ensures found { result ≡ seek_of key.now pairs.now }
+    ensures within { IsWithin (length pairs.now) result }
+{
+    for (i, pair) in pairs.iter().enumerate() {
+        match key.cmp(pair.0.as_slice()) {
+            Ordering::Less => return Err(i),
+            Ordering::Equal => return Ok(i),
+            Ordering::Greater => {}
+        }
+    }
+    Err(pairs.len())
+}
+
+/// How many pairs there are after a record.
+pub(crate) fn count_after(pairs: &[(Key, Value)], change: &Record) -> usize
+    ensures { result ≡ length (changed_pairs change.now pairs.now) }
+{
+    let found = find_key(pairs, change.key().as_slice());
+    match change {
+        Record::Put(_, _) => match found {
+            Ok(_) => pairs.len(),
+            Err(_) => pairs.len() + 1,
+        },
+        Record::Del(_) => match found {
+            Ok(_) => pairs.len() - 1,
+            Err(_) => pairs.len(),
+        },
+    }
+}
+
+/// Changes a leaf by a record: a put sets the key's value, a delete removes the key if it is there.
+/// There is no limit on how many pairs the leaf then has. A refusal changes nothing.
+///
+/// It costs a walk over the leaf's pairs.
+pub fn change(leaf: &mut Leaf, change: &Record) -> Result<(), AllocError>
+    ensures ok { OnOk result (leaf.new ≡ changed change.now leaf.old) }
+    ensures err { OnErr result (leaf.new ≡ leaf.old) }
+{
+    let found = find_key(leaf.pairs.as_slice(), change.key().as_slice());
+    match change {
+        Record::Put(key, value) => match found {
+            Ok(at) => {
+                leaf.pairs.replace(at, key.copy(), value.copy());
+                Ok(())
+            }
+            Err(at) => leaf.pairs.insert(at, key.copy(), value.copy()),
+        },
+        Record::Del(_) => {
+            if let Ok(at) = found {
+                leaf.pairs.remove(at);
+            }
+            Ok(())
+        }
+    }
+}

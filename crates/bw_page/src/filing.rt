@@ -1,0 +1,76 @@
+//! All leaves at once: copied, and the index of their low keys.
+
+ghost use Rattle.std.specs.Prelude.{◌≡◌, ◌≤◌, ◌<◌, ◌+◌, None, drop, take, length, slice_index_or, if◌then◌else◌, IfOk};
+ghost use Rattle.std.specs.List.{AllByRecursion};
+ghost use Rattle.std.specs.BTreeMap as tree;
+ghost use Rattle.std.specs.FinMap.Entries.{find};
+ghost use Rattle.std.specs.Ordering.{eq_by_cmp};
+ghost use Rattle.bw_codec.specs.Bytes.{IsKey};
+ghost use Rattle.bw_codec.specs.declared.leaf.Leaf.{Leaf as LeafValue};
+ghost use Rattle.bw_page.specs.Leaves.{Bytes, order};
+ghost use Rattle.bw_page.specs.Lows.{lows_of};
+
+use bw_codec::{Key, Leaf};
+use std::alloc::{AllocError, Global};
+use std::collections::BTreeMap;
+
+/// The same leaves.
+pub(crate) fn copy_all(alloc: Global, leaves: &[Leaf]) -> Result<Vec<Leaf>, AllocError>
+    ensures { IfOk result (λ copy. copy.items ≡ leaves.now) }
+{
+    let mut copy = Vec::with_capacity(alloc, leaves.len())?;
+    for leaf in leaves {
+        copy.push(leaf.copy()?)?;
+    }
+    Ok(copy)
+}
+
+/// The page of each low key but that of the first leaf. It goes from the last leaf down, so that
+/// the first of equal lows would count.
+pub(crate) fn index_of(alloc: Global, leaves: &[Leaf]) -> Result<BTreeMap<Key, u32>, AllocError>
+    requires some { 1 ≤ length leaves.now }
+    requires keys { AllByRecursion (λ l. IsKey l.low) (drop 1 leaves.now) }
+    ensures { IfOk result (λ index. (q : Bytes)
+        → tree.get order index q ≡ find order q (lows_of (drop 1 leaves.now))) }
+{
+    let mut index = BTreeMap::new(alloc);
+    let mut at = leaves.len();
+    while at > 1 {
+        at -= 1;
+        let leaf = &leaves[at];
+        match Key::new(leaf.low.as_slice()) {
+            Ok(low) => {
+                let _ = index.insert(low, leaf.page)?;
+            }
+            Err(_) => unreachable!(),
+        }
+    }
+    Ok(index)
+}
+
+/// Drops the last leaf, and its low key from the index, where there are more leaves than these. No
+/// memory is taken.
+pub(crate) fn drop_above(leaves: &mut Vec<Leaf>, index: &mut BTreeMap<Key, u32>, pages: u32)
+    requires over { length leaves.old.items ≤ pages + 1 }
+    requires key { (d : LeafValue) → pages < length leaves.old.items
+        → IsKey (slice_index_or leaves.old.items pages d).low }
+    ensures leaves { leaves.new.items ≡ take pages leaves.old.items }
+    ensures kept { length leaves.old.items ≤ pages → index.new.entries ≡ index.old.entries }
+    ensures dropped { (d : LeafValue) → pages < length leaves.old.items → (q : Bytes)
+        → tree.get order index.new q
+        ≡ (if eq_by_cmp order q (slice_index_or leaves.old.items pages d).low
+        then None else tree.get order index.old q) }
+{
+    if leaves.as_slice().len() <= pages as usize {
+        return;
+    }
+    match leaves.pop() {
+        Some(upper) => match Key::new(upper.low.as_slice()) {
+            Ok(low) => {
+                let _ = index.remove(&low);
+            }
+            Err(_) => unreachable!(),
+        },
+        None => unreachable!(),
+    }
+}

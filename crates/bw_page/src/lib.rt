@@ -1,0 +1,27 @@
+//! Leaves with their split rule, and delta chains: a chain's content is its records folded over its
+//! whole page.
+//!
+//! A page has a number, a low key and its pairs in the order of their keys. A record changes the
+//! page with the greatest low key not above its own; a page that then has too many pairs is cut in
+//! two, and the upper part becomes a new page behind all others. `specs/Leaves.antt` has the rule,
+//! and the law that all pairs of all pages are one plain map. `specs/Standing.antt` has what blocks
+//! of the log say of a page, and `specs/Links.antt` what a chain in memory says of it.
+#![tactic(auto)]
+
+pub mod chain;
+pub mod changes;
+mod cutting;
+pub mod fault;
+mod filing;
+mod journal;
+pub mod laws;
+pub mod leaves;
+pub mod reading;
+#[cfg(test)]
+mod tests;
+
+pub use chain::{Chain, End, Link};
+pub use changes::change;
+pub use fault::ApplyError;
+pub use leaves::Leaves;
+pub use reading::{change_all, read_block, read_blocks};

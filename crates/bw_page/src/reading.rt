@@ -1,0 +1,89 @@
+//! One page, read forwards over blocks. The log, the cleaner and recovery all read pages so.
+
+ghost use Rattle.std.specs.Prelude.{◌≡◌, IfOk};
+ghost use Rattle.std.specs.List.{fold};
+ghost use Rattle.bw_page.specs.Leaves.{all_changed};
+ghost use Rattle.bw_page.specs.Standing.{after, kept_below};
+
+use crate::changes::change;
+use bw_codec::{Block, Leaf, Pairs, Record};
+use std::alloc::AllocError;
+
+/// The leaf after records, one after the other.
+pub fn change_all(leaf: Leaf, records: &[Record]) -> Result<Leaf, AllocError>
+    ensures { IfOk result (λ l. l ≡ all_changed records.now leaf) }
+{
+    let mut leaf = leaf;
+    for record in records {
+        change(&mut leaf, record)?;
+    }
+    Ok(leaf)
+}
+
+/// The leaf without its pairs from a key on. No memory is taken.
+fn keep_below(leaf: Leaf, separator: &[u8]) -> Leaf
+    ensures { result ≡ kept_below separator.now leaf }
+{
+    let Leaf { page, low, pairs } = leaf;
+    let mut kept = pairs.into_vec();
+    kept.retain(|pair| bw_codec::is_before(pair.0.as_slice(), separator));
+    Leaf {
+        page,
+        low,
+        pairs: Pairs::of(kept),
+    }
+}
+
+/// What a page is after one more block, where it was `was` before; `None` where it was never set. A
+/// block that does not touch the page costs a look at its numbers.
+pub fn read_block(page: u32, was: Option<Leaf>, block: Block) -> Result<Option<Leaf>, AllocError>
+    ensures { IfOk result (λ leaf. leaf ≡ after page was block) }
+{
+    match block {
+        Block::Delta {
+            page: of,
+            back: _,
+            ops,
+        } => {
+            if of != page {
+                return Ok(was);
+            }
+            match was {
+                Some(leaf) => Ok(Some(change_all(leaf, ops.as_slice())?)),
+                None => Ok(None),
+            }
+        }
+        Block::Base(leaf) => Ok(if leaf.page == page { Some(leaf) } else { was }),
+        Block::Split {
+            page: of,
+            back: _,
+            upper,
+        } => {
+            if upper.page == page {
+                return Ok(Some(upper));
+            }
+            if of != page {
+                return Ok(was);
+            }
+            match was {
+                Some(leaf) => Ok(Some(keep_below(leaf, upper.low.as_slice()))),
+                None => Ok(None),
+            }
+        }
+    }
+}
+
+/// What a page is after blocks, one after the other, where it was `was` before.
+pub fn read_blocks(
+    page: u32,
+    was: Option<Leaf>,
+    blocks: Vec<Block>,
+) -> Result<Option<Leaf>, AllocError>
+    ensures { IfOk result (λ leaf. leaf ≡ fold (after page) was blocks.items) }
+{
+    let mut leaf = was;
+    for block in blocks {
+        leaf = read_block(page, leaf, block)?;
+    }
+    Ok(leaf)
+}
