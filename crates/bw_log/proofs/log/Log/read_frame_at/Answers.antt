@@ -1,0 +1,31 @@
+use Rattle.std.proofs.Common.{◌∙◌, arith}
+use Rattle.std.proofs.lemmas.List.{length-map}
+use Rattle.bw_log.proofs.Scans.{not_bad}
+use Rattle.bw_log.proofs.Fetched.{boxed_line, line_within, line_bytes, frame_found}
+use Rattle.bw_log.proofs.log.Log.read_frame_at.Goals as goal
+
+pub overflow_sub-at : goal.overflow_sub-at
+overflow_sub-at g c =
+    let l = boxed_line _ c.args.i c.index-line.result.now c.requires.sound c.requires.inside c.index-line.ensures in
+    let first = l.from_first in
+    omega arith
+
+pub read_some-requires-clause-inside : goal.read_some-requires-clause-inside
+read_some-requires-clause-inside g c =
+    let l = boxed_line _ c.args.i c.index-line.result.now c.requires.sound c.requires.inside c.index-line.ensures in
+    let inside = l.inside in
+    simp length-map at inside
+
+pub read_some-requires-clause-within : goal.read_some-requires-clause-within
+read_some-requires-clause-within g c =
+    line_within (boxed_line _ c.args.i c.index-line.result.now c.requires.sound c.requires.inside c.index-line.ensures)
+
+pub returns-in-Ok-clause-found : goal.returns-in-Ok-clause-found
+returns-in-Ok-clause-found g c =
+    let l = boxed_line _ c.args.i c.index-line.result.now c.requires.sound c.requires.inside c.index-line.ensures in
+    frame_found l c.in-Ok.frame (c.in-Ok.ensures l.frame l.lawful (c.deref.ensures.value ∙ line_bytes l c.in_ok-bytes.bytes.items c.in_ok-bytes.ensures.bytes))
+
+pub unreachable-requires : goal.unreachable-requires
+unreachable-requires g c =
+    let l = boxed_line _ c.args.i c.index-line.result.now c.requires.sound c.requires.inside c.index-line.ensures in
+    not_bad c.in-Err-BadBytes.field-0 l.frame c.in-Err-BadBytes.field-0-is (c.in-Err-BadBytes.ensures l.frame l.lawful (c.deref.ensures.value ∙ line_bytes l c.in_ok-bytes.bytes.items c.in_ok-bytes.ensures.bytes))

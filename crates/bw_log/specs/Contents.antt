@@ -1,0 +1,129 @@
+-- What a log is to its callers.
+
+use Rattle.std.specs.Prelude.{ℕ, ◌+◌, ◌-◌, ◌^◌, ◌<◌, ◌≤◌, ◌≡◌, ◌⊎◌, ◌==◌, Bool, true, false, if◌then◌else◌, Option, Some, None, List, [], ◌++◌, length, map, slice_get}
+use Rattle.std.specs.List.{filter, AllByRecursion}
+use Rattle.bw_codec.specs.declared.leaf.Leaf.{Leaf}
+use Rattle.bw_codec.specs.declared.block.Place.{Place}
+use Rattle.bw_codec.specs.declared.block.Frame.{Frame}
+use Rattle.bw_page.specs.Standing.{Stand}
+use Rattle.bw_device.specs.Holding.{Holding}
+use Rattle.bw_log.specs.Places.{place_of, base_of, first_number, AreLinked}
+use Rattle.bw_log.specs.Segments.{frames_of, entries, AreLive, IsCleanLast, AreFrom, is_before_next, next_of}
+use Rattle.bw_log.specs.declared.places.FrameAt.{FrameAt}
+use Rattle.bw_log.specs.declared.places.PageAt.{PageAt}
+
+pub record Contents : Type 0 where
+  -- in the order of their numbers
+  pub live : List Holding
+  -- in the order in which they came
+  pub spares : List Holding
+  -- the most pairs of a page, and the most bytes of a frame
+  pub m : ℕ
+  pub f : ℕ
+  -- the oldest live segment's, or else the next segment's
+  pub number : ℕ
+  -- the newest live segment takes frames
+  pub is_open : Bool
+  pub is_failed : Bool
+  -- the next frame's
+  pub next : Option ℕ
+  pub frames : List FrameAt
+  pub pages : List PageAt
+
+-- all boxes
+abbrev pub boxes : Contents → List Holding
+boxes c = c.live ++ c.spares
+
+-- their leases
+abbrev pub roster : Contents → List ℕ
+roster c = map (λ h. h.lease) (boxes c)
+
+-- ---- the same without rooms, leases and failures
+
+pub record Image : Type 0 where
+  pub m : ℕ
+  pub f : ℕ
+  pub number : ℕ
+  pub is_open : Bool
+  pub is_failed : Bool
+  pub next : Option ℕ
+  -- of the live segments
+  pub bytes : List (List ℕ)
+  pub frames : List FrameAt
+  pub pages : List PageAt
+
+abbrev pub image : Contents → Image
+image c = record {
+  m = c.m;
+  f = c.f;
+  number = c.number;
+  is_open = c.is_open;
+  is_failed = c.is_failed;
+  next = c.next;
+  bytes = map (λ h. h.bytes) c.live;
+  frames = c.frames;
+  pages = c.pages;
+}
+
+-- the frames that the log counts: a failed append may have left one more
+abbrev pub counted_in : Image → List Frame
+counted_in i = filter (λ f. is_before_next i.next f.number) (frames_of i.bytes)
+
+abbrev pub counted : Contents → List Frame
+counted c = counted_in (image c)
+
+-- where they stand
+abbrev pub counted_at : Image → List FrameAt
+counted_at i = map (λ e. e.0) (filter (λ e. is_before_next i.next e.1.number) (entries i.number i.bytes))
+
+-- ---- the table of places
+
+-- a place of frame 0 is none
+abbrev pub some_place : Place → Option Place
+some_place p = if p.frame == 0 then None else Some p
+
+abbrev pub entry_place : (PageAt → Place) → Option PageAt → Option Place
+entry_place field None = None
+entry_place field (Some e) = some_place (field e)
+
+-- what a table says of a page, from 1
+abbrev pub place_in : (PageAt → Place) → List PageAt → ℕ → Option Place
+place_in field pages p = entry_place field (slice_get pages (p - 1))
+
+-- the table says where each page's last touching and last setting block stand
+pub record IsTable (pages : List PageAt) (frames : List Frame) : Type 0 where
+  pub places : (p : ℕ) → 1 ≤ p → place_in (λ e. e.place) pages p ≡ place_of p frames
+  pub bases : (p : ℕ) → 1 ≤ p → place_in (λ e. e.base) pages p ≡ base_of p frames
+
+-- there are no frames and no pages, or the frames are so many leaves
+abbrev pub IsStanding : ℕ → List Frame → ℕ → Type 0
+IsStanding m frames pages =
+    ((frames ≡ []) × (pages ≡ 0)) ⊎ ((leaves : List Leaf) × Stand m frames leaves × (length leaves ≡ pages))
+
+-- an empty box with room for a header and one frame
+abbrev pub IsSpare : ℕ → Holding → Type 0
+IsSpare f h = (h.bytes ≡ []) × (24 + f ≤ h.room)
+
+-- ---- what every log keeps between calls
+
+pub record IsImage (i : Image) : Type 0 where
+  pub limits : (4 ≤ i.m) × (i.m ≤ 32) × (16384 ≤ i.f) × (i.f ≤ 65536)
+  -- bytes
+  pub numbers : 1 ≤ i.number
+  pub live : AreLive i.m i.f i.number i.bytes
+  pub ends : i.is_open ≡ true → i.is_failed ≡ false → IsCleanLast i.m i.f i.number i.bytes
+  -- frames
+  pub every : i.is_failed ≡ false → counted_in i ≡ frames_of i.bytes
+  pub numbered : AreFrom (first_number (counted_in i)) (counted_in i)
+  pub follows : i.next ≡ next_of (counted_in i)
+  pub listed : i.frames ≡ counted_at i
+  -- pages
+  pub count : length i.pages < 2 ^ 32
+  pub linked : AreLinked (counted_in i)
+  pub stands : IsStanding i.m (counted_in i) (length i.pages)
+  pub table : IsTable i.pages (counted_in i)
+
+pub record IsSound (c : Contents) : Type 0 where
+  pub few : length c.live + length c.spares ≤ 4096
+  pub empty : c.is_failed ≡ false → AllByRecursion (IsSpare c.f) c.spares
+  pub holds : IsImage (image c)

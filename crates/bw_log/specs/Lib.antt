@@ -1,0 +1,12 @@
+pub mod Places
+pub mod Segments
+pub mod Contents
+pub mod Steps
+pub mod Calls
+pub mod Changes
+pub mod Walking
+pub mod Laws
+pub mod Seen
+pub mod Noting
+pub mod Appending
+pub mod Examples

@@ -1,0 +1,69 @@
+//! The oldest segment: what the cleaner asks of it, and gives up.
+
+ghost use Rattle.std.specs.Prelude.{◌≡◌, ◌+◌, ◌<◌, ◌≤◌, List, Some, None, false, length, drop, slice_get, MatchOption};
+ghost use Rattle.bw_codec.specs.declared.leaf.Leaf.{Leaf};
+ghost use Rattle.bw_page.specs.Standing.{Stand};
+ghost use Rattle.bw_log.specs.Contents.{counted};
+ghost use Rattle.bw_log.specs.Calls.{NoBaseBefore, Tells, oldest_count, last_number};
+
+use crate::log::Log;
+
+impl Log {
+    ghost use Rattle.bw_log.specs.Seen.{seen_by, IsSound};
+
+    /// The oldest segment's number, and that of its last counted frame, or 0 where it has none. It
+    /// costs a search by halves among the lines of the counted frames.
+    pub fn oldest(&self) -> Option<(u64, u64)>
+        requires { IsSound holding self.now }
+        ensures { MatchOption (slice_get (seen_by holding self.now).live 0)
+            (result ≡ None)
+            (λ h. result ≡ Some (self.now.number, last_number (seen_by holding self.now) h)) }
+    {
+        if self.live.is_empty() {
+            return None;
+        }
+        Some((self.number, self.last_of_oldest()))
+    }
+
+    // The number of the oldest segment's last counted frame, or 0.
+    fn last_of_oldest(&self) -> u64
+        requires sound { IsSound holding self.now }
+        requires some { 0 < length self.now.live.items }
+        ensures { Tells (seen_by holding self.now) (seen_by holding self.now).live result }
+    {
+        let number = self.number;
+        let lines = self.frames.as_slice();
+        let count = lines.partition_point(|line| line.segment == number);
+        if count == 0 {
+            return 0;
+        }
+        lines[count - 1].number
+    }
+
+    /// Gives up the oldest of two or more live segments, in which no page's last setting block stands,
+    /// and drops its box. What the counted frames stand for is what it was. No memory is taken; it
+    /// costs a pass over the lines of all counted frames.
+    pub fn give_up_oldest(&mut self)
+        requires sound { IsSound holding self.old }
+        requires two { 2 ≤ length self.old.live.items }
+        requires works { self.old.is_failed ≡ false }
+        requires bases { NoBaseBefore (seen_by holding self.old) }
+        ensures sound { IsSound holding self.new }
+        ensures given_up { seen_by holding self.new
+            ≡ record (seen_by holding self.old) {
+              live = drop 1 (seen_by holding self.old).live;
+              number = self.old.number + 1;
+              frames = (seen_by holding self.new).frames;
+            } }
+        ensures counted { counted (seen_by holding self.new)
+            ≡ drop (oldest_count (seen_by holding self.old).live) (counted (seen_by holding self.old)) }
+        ensures stands { (leaves : List Leaf)
+            → Stand self.old.m (counted (seen_by holding self.old)) leaves
+            → Stand self.old.m (counted (seen_by holding self.new)) leaves }
+    {
+        let number = self.number;
+        drop(self.live.remove(0));
+        self.frames.retain(|line| line.segment != number);
+        self.number = number + 1;
+    }
+}

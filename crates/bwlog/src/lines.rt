@@ -1,0 +1,72 @@
+//! A script's lines, in bounded memory and after a bounded number of reads.
+
+use std::alloc::Global;
+use std::io::{self, BufRead, BufReader, ErrorKind, Read};
+
+/// The most bytes of a line that is not skipped.
+pub const LONGEST: usize = 4096;
+
+/// So many bytes with their LF tell whether a line is too long: one more than the longest line, a CR
+/// and the LF.
+const KEPT: u64 = 4099;
+
+/// Counts the reads of a reader, and fails from the one after the last.
+#[derive(Drop)]
+pub struct Counted<R> {
+    input: R,
+    left: u64,
+}
+
+impl<R: Read> Read for Counted<R> {
+    fn read(&mut self, buf: &mut [u8]) -> io::Result<usize> {
+        if self.left == 0 {
+            return Err(io::Error::from(ErrorKind::TimedOut));
+        }
+        self.left -= 1;
+        self.input.read(buf)
+    }
+}
+
+/// Reads to the next LF, but at most so many bytes as are kept of a line.
+fn read_front<R: BufRead>(input: &mut R, line: &mut Vec<u8>) -> io::Result<usize> {
+    input.take(KEPT).read_until(b'\n', line)
+}
+
+/// A reader as lines.
+#[derive(Drop)]
+pub struct Lines<R> {
+    input: BufReader<Counted<R>>,
+    line: Vec<u8>,
+}
+
+impl<R: Read + Drop> Lines<R> {
+    /// The lines of a reader, of which at most `reads` reads may come before its end.
+    pub fn new(alloc: Global, input: R, reads: u64) -> io::Result<Lines<R>> {
+        let counted = Counted { input, left: reads };
+        Ok(Lines {
+            input: BufReader::new(alloc, counted)?,
+            line: Vec::new(alloc),
+        })
+    }
+
+    /// Reads the next line, and says whether there was one. Of a line that is too long the first bytes
+    /// are kept, one at least above `LONGEST`.
+    pub fn read_line(&mut self) -> io::Result<bool> {
+        self.line.clear();
+        let count = read_front(&mut self.input, &mut self.line)?;
+        if self.line.last() == Some(&b'\n') {
+            let _ = self.line.pop();
+            if self.line.last() == Some(&b'\r') {
+                let _ = self.line.pop();
+            }
+        } else if count as u64 == KEPT {
+            let _ = self.input.skip_until(b'\n')?;
+        }
+        Ok(count > 0)
+    }
+
+    /// The line that was read last, without its end.
+    pub fn line(&self) -> &[u8] {
+        self.line.as_slice()
+    }
+}

@@ -1,0 +1,55 @@
+//! Scripts over the page store: `bwlog replay` runs one, line by line, and prints what each line
+//! answers.
+//!
+//! The store of this stage is the first path (`first`): one page that is never split, one frame, and
+//! the page read back from the bytes of that frame. `replay::run` is the whole program over any reader
+//! and writers; `main` gives it the standard streams.
+#![tactic(auto)]
+
+mod first;
+mod lines;
+mod one_frame;
+mod options;
+mod printed;
+mod refusal;
+mod replay;
+mod script;
+#[cfg(test)]
+mod tests;
+
+use replay::run;
+use std::alloc::Global;
+use std::io::{self, BufWriter};
+use std::process::ExitCode;
+
+/// Runs the program on the system's words and streams.
+fn start(rt: &HostRuntime, alloc: Global) -> io::Result<u8> {
+    let mut words = Vec::new(alloc);
+    for word in std::env::args(rt)?.skip(1) {
+        words.push(word)?;
+    }
+    let mut texts = Vec::new(alloc);
+    for word in &words {
+        texts.push(word.as_str())?;
+    }
+    let mut output = BufWriter::new(alloc, rt.stdout())?;
+    let status = run(
+        alloc,
+        texts.as_slice(),
+        &mut rt.stdin(),
+        &mut output,
+        &mut rt.stderr(),
+    );
+    Ok(status)
+}
+
+fn main(rt: HostRuntime) -> ExitCode {
+    let alloc = rt.alloc();
+    match start(&rt, alloc) {
+        Ok(status) => ExitCode::from(status),
+        Err(_) => {
+            let _ = rt.println(refusal::Refusal::NoMemory);
+            ExitCode::from(5)
+        }
+    }
+}

@@ -1,0 +1,54 @@
+//! What is printed: words, pages and dumps. No memory is taken.
+
+use bw_codec::Leaf;
+use std::io::{self, Write};
+
+/// Bytes as lower-case hex digits.
+pub fn write_hex<W: Write>(output: &mut W, bytes: &[u8]) -> io::Result<()> {
+    for byte in bytes {
+        let mut digits = [0u8; 2];
+        if hex::encode_to_slice([*byte].as_slice(), &mut digits).is_ok() {
+            output.write_all(&digits)?;
+        }
+    }
+    Ok(())
+}
+
+/// Whether bytes are printed as they are.
+fn is_plain(bytes: &[u8]) -> bool {
+    !bytes.is_empty()
+        && !bytes.starts_with(b"0x")
+        && bytes
+            .iter()
+            .all(|byte| matches!(*byte, 0x21..=0x7e) && *byte != b'=')
+}
+
+/// A key, value or low key: its bytes where that is plain, and else `0x` and hex digits.
+pub fn write_word<W: Write>(output: &mut W, bytes: &[u8]) -> io::Result<()> {
+    if is_plain(bytes) {
+        return output.write_all(bytes);
+    }
+    output.write_all(b"0x")?;
+    write_hex(output, bytes)
+}
+
+/// A page's line.
+pub fn write_page<W: Write>(output: &mut W, leaf: &Leaf) -> io::Result<()> {
+    write!(output, "page {} low ", leaf.page)?;
+    write_word(output, leaf.low.as_slice())?;
+    write!(output, " pairs {}", leaf.pairs.as_slice().len())?;
+    for (key, value) in leaf.pairs.as_slice() {
+        output.write_all(b" ")?;
+        write_word(output, key.as_slice())?;
+        output.write_all(b"=")?;
+        write_word(output, value.as_slice())?;
+    }
+    output.write_all(b"\n")
+}
+
+/// A dump's line.
+pub fn write_dump<W: Write>(output: &mut W, bytes: &[u8]) -> io::Result<()> {
+    output.write_all(b"dump ")?;
+    write_hex(output, bytes)?;
+    output.write_all(b"\n")
+}

@@ -1,0 +1,4 @@
+mod command_line;
+mod scripts;
+mod store;
+mod streams;
