@@ -43,14 +43,16 @@ impl Model for Buffer {
 
 impl Buffer {
     /// An empty buffer for the frame of this number, from 1, of at most `limit` bytes, 16,384 to
-    /// 65,536. The room for all of them is reserved here, so that the buffer's bytes never grow
-    /// again; a refusal of it is the only error.
+    /// 65,536. The room for all of them, and for a mark of each block, is reserved here, so that a
+    /// buffer never grows again; a refusal of it is the only error.
     pub fn new(alloc: Global, frame: u64, limit: u32) -> Result<Buffer, AllocError>
         requires numbered { 1 ≤ frame }
         requires limit { (16384 ≤ limit) × (limit ≤ 65536) }
         ensures { IfOk result (λ b. b
             ≡ record { frame = frame; limit = limit; blocks = []; is_sealed = false }) }
     {
+        // No block has fewer than 8 bytes.
+        let marks = Vec::with_capacity(alloc, limit as usize / 8)?;
         let mut bytes = Vec::with_capacity(alloc, limit as usize)?;
         bytes.extend_from_slice(&bw_codec::frame_cells(frame, 0, 0))?;
         Ok(Buffer {
@@ -59,7 +61,7 @@ impl Buffer {
             count: 0,
             is_sealed: false,
             bytes,
-            marks: Vec::new(alloc),
+            marks,
         })
     }
 

@@ -12,7 +12,7 @@ pub enum CodecFault {
     /// A growth was refused. Nothing is known of the bytes.
     #[error("out of memory")]
     NoMemory,
-    /// The bytes neither begin with a lawful frame, nor are such bytes cut off.
+    /// The bytes neither begin with a lawful frame, nor are a tail.
     #[error("unlawful bytes")]
     BadBytes,
 }

@@ -33,14 +33,14 @@ first_frame_lawful : IsFrame 4 16384 first_example
 unfolding number_bytes
 first_frame_lawful = record { head = record { numbered = (lit≤ tt, lit< tt); fits = (lit≤ tt, lit≤ tt); some = (lit≤ tt, lit< tt) }; blocks = first_lawful 4 (lit≤ tt) }
 
-second_frame_lawful : IsFrame 4 16384 second_example
+pub second_frame_lawful : IsFrame 4 16384 second_example
 unfolding number_bytes
 second_frame_lawful = record { head = record { numbered = (lit≤ tt, lit< tt); fits = (lit≤ tt, lit≤ tt); some = (lit≤ tt, lit< tt) }; blocks = second_lawful 4 }
 
-only_one : (p : ℕ) → 1 ≤ p → p ≤ 1 → p ≡ 1
+pub only_one : (p : ℕ) → 1 ≤ p → p ≤ 1 → p ≡ 1
 only_one p from to = omega arith
 
-not_one : (p : ℕ) → 2 ≤ p → (1 == p) ≡ false
+pub not_one : (p : ℕ) → 2 ≤ p → (1 == p) ≡ false
 not_one p from = ne_eqb 1 p (λ e. absurd (omega arith))
 
 first_stands : Stand 4 (first_example ∷ []) (first_leaf ∷ [])

@@ -21,3 +21,4 @@ pub mod Stepped
 pub mod Torn
 pub mod Whole
 pub mod Exampled
+pub mod SplitExample

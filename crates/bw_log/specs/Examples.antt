@@ -1,10 +1,10 @@
--- The frames that the tests append: those of the first vector, and the second of the second.
+-- The frames that the tests append.
 
-use Rattle.std.specs.Prelude.{List, [], ◌∷◌}
+use Rattle.std.specs.Prelude.{ℕ, List, [], ◌∷◌}
 use Rattle.bw_codec.specs.declared.record.Record.TheVariants.{Put}
 use Rattle.bw_codec.specs.declared.leaf.Leaf.{Leaf}
 use Rattle.bw_codec.specs.declared.block.Block.{Block}
-use Rattle.bw_codec.specs.declared.block.Block.TheVariants.{Delta, Base}
+use Rattle.bw_codec.specs.declared.block.Block.TheVariants.{Delta, Base, Split}
 use Rattle.bw_codec.specs.declared.block.Frame.{Frame}
 
 -- an empty page 1, and k=v
@@ -27,3 +27,40 @@ first_leaf = record { page = 1; low = []; pairs = (107 ∷ [], 118 ∷ []) ∷ [
 
 abbrev pub second_leaf : Leaf
 second_leaf = record { page = 1; low = []; pairs = (98 ∷ [], 50 ∷ []) ∷ (107 ∷ [], 118 ∷ []) ∷ [] }
+
+-- ---- the vector of a page that is split in two
+
+-- page 1 was given this value, after the block at a place
+abbrev pub put_block : ℕ → ℕ → ℕ → ℕ → Block
+put_block frame index key value = Delta 1 (record { frame = frame; index = index }) (Put (key ∷ []) (value ∷ []) ∷ [])
+
+abbrev pub split_upper : Leaf
+split_upper = record { page = 2; low = 99 ∷ []; pairs = (99 ∷ [], 51 ∷ []) ∷ (100 ∷ [], 52 ∷ []) ∷ (101 ∷ [], 53 ∷ []) ∷ [] }
+
+abbrev pub opening_blocks : List Block
+opening_blocks = Base (record { page = 1; low = []; pairs = [] }) ∷ put_block 1 0 97 49 ∷ []
+
+abbrev pub third_blocks : List Block
+third_blocks = put_block 2 0 99 51 ∷ []
+
+abbrev pub fourth_blocks : List Block
+fourth_blocks = put_block 3 0 100 52 ∷ []
+
+abbrev pub fifth_blocks : List Block
+fifth_blocks = put_block 4 0 101 53 ∷ Split 1 (record { frame = 5; index = 0 }) split_upper ∷ []
+
+abbrev pub opening_example : Frame
+opening_example = record { number = 1; blocks = opening_blocks }
+
+abbrev pub third_example : Frame
+third_example = record { number = 3; blocks = third_blocks }
+
+abbrev pub fourth_example : Frame
+fourth_example = record { number = 4; blocks = fourth_blocks }
+
+abbrev pub fifth_example : Frame
+fifth_example = record { number = 5; blocks = fifth_blocks }
+
+-- page 1 with these pairs
+abbrev pub leaf_with : List (List ℕ × List ℕ) → Leaf
+leaf_with pairs = record { page = 1; low = []; pairs = pairs }

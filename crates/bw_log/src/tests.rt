@@ -15,6 +15,7 @@ use std::alloc::Global;
 use std::test::Fail;
 
 mod spares;
+mod splits;
 
 // A Delta of page 1 that puts one value.
 fn delta(alloc: Global, frame: u64, index: u32, key: &[u8], value: &[u8]) -> Result<Block, Fail>

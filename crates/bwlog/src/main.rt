@@ -17,9 +17,10 @@ mod script;
 #[cfg(test)]
 mod tests;
 
+use refusal::Refusal;
 use replay::run;
 use std::alloc::Global;
-use std::io::{self, BufWriter};
+use std::io::{self, BufWriter, ErrorKind};
 use std::process::ExitCode;
 
 /// Runs the program on the system's words and streams.
@@ -47,9 +48,13 @@ fn main(rt: HostRuntime) -> ExitCode {
     let alloc = rt.alloc();
     match start(&rt, alloc) {
         Ok(status) => ExitCode::from(status),
-        Err(_) => {
-            let _ = rt.println(refusal::Refusal::NoMemory);
+        Err(error) if error.kind() == ErrorKind::OutOfMemory => {
+            let _ = rt.println(Refusal::NoMemory);
             ExitCode::from(5)
+        }
+        Err(_) => {
+            let _ = rt.eprintln("a word of the command line is no text");
+            ExitCode::from(2)
         }
     }
 }

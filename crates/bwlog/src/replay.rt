@@ -144,6 +144,8 @@ fn status_of<O: Write, E: Write>(
         Ok(false) => Ok(0),
         Err(Stop::Usage) => Ok(2),
         Err(Stop::Fault(number, fault)) => {
+            // What earlier lines printed stands before the fault, wherever the two streams end.
+            output.flush()?;
             writeln!(errors, "script line {number}: {fault}")?;
             Ok(3)
         }
@@ -153,6 +155,7 @@ fn status_of<O: Write, E: Write>(
             Ok(5)
         }
         Err(Stop::Input) => {
+            output.flush()?;
             errors.write_all(b"input failed\n")?;
             Ok(6)
         }

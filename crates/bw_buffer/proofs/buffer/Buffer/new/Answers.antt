@@ -5,15 +5,15 @@ use Rattle.bw_buffer.specs.Filling.{Filling}
 use Rattle.bw_buffer.specs.declared.buffer.Buffer.TheInside.{Inside}
 use Rattle.bw_buffer.proofs.Holding.{Holds, filled, held, begun}
 use Rattle.bw_buffer.proofs.buffer.Buffer.new.Goals as goal
-use Rattle.bw_buffer.proofs.buffer.Buffer.new.Goals.{After-new}
+use Rattle.bw_buffer.proofs.buffer.Buffer.new.Goals.{In_ok-extend_from_slice}
 
-abbrev fields : After-new → Inside
-fields c = record { frame = c.args.frame; limit = c.args.limit; count = 0; is_sealed = false; bytes = c.extend_from_slice.new.self; marks = c.new.result }
+abbrev fields : In_ok-extend_from_slice → Inside
+fields c = record { frame = c.args.frame; limit = c.args.limit; count = 0; is_sealed = false; bytes = c.extend_from_slice.new.self; marks = c.in_ok-marks.marks }
 
-empty : (c : After-new) → Holds (fields c) []
+empty : (c : In_ok-extend_from_slice) → Holds (fields c) []
 empty c =
     let bytes : c.extend_from_slice.new.self.items ≡ head_bytes c.args.frame 0 0 = c.in_ok-extend_from_slice.ensures.items ∙ rw (c.in_ok-bytes.ensures.items, c.frame_cells.ensures) refl in
-    begun (fields c) c.requires.numbered c.requires.limit refl bytes c.new.ensures.items (omega (arith, c.in_ok-bytes.ensures.exact, c.in_ok-extend_from_slice.ensures.capacity))
+    begun (fields c) c.requires.numbered c.requires.limit refl bytes c.in_ok-marks.ensures.items (omega (arith, c.in_ok-bytes.ensures.exact, c.in_ok-extend_from_slice.ensures.capacity))
 
 pub invariant_of-result : goal.invariant_of-result
 invariant_of-result c = filled (fields c) [] (empty c)
