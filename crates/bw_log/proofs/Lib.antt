@@ -21,4 +21,6 @@ pub mod Stepped
 pub mod Torn
 pub mod Whole
 pub mod Exampled
+pub mod CareExample
+pub mod FilledExample
 pub mod SplitExample

@@ -178,7 +178,7 @@ five_stand = record {
 pub counts_as : (old new : Contents) (all : List Frame) (x y : Frame) → x ≡ y → Counts old all → IsSound new → Appended old x new → IsSameLog old new → Counts new (all ++ y ∷ [])
 counts_as old new all x y is counts sound added same = subst (λ (f : Frame). Counts new (all ++ f ∷ [])) is (more_counts old new all x counts sound added same)
 
-follows_as : (c : Contents) (x y : Frame) → x ≡ y → MayFollow c y → MayFollow c x
+pub follows_as : (c : Contents) (x y : Frame) → x ≡ y → MayFollow c y → MayFollow c x
 follows_as c x y is follows = subst (λ (f : Frame). MayFollow c f) (sym is) follows
 
 pub opening_on : (c : Contents) (x : Frame) → x ≡ opening_example → Counts c [] → MayFollow c x

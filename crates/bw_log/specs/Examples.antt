@@ -1,6 +1,7 @@
 -- The frames that the tests append.
 
-use Rattle.std.specs.Prelude.{ℕ, List, [], ◌∷◌}
+use Rattle.std.specs.Prelude.{ℕ, List, [], ◌∷◌, ◌++◌, replicate}
+use Rattle.bw_codec.specs.declared.record.Record.{Record}
 use Rattle.bw_codec.specs.declared.record.Record.TheVariants.{Put}
 use Rattle.bw_codec.specs.declared.leaf.Leaf.{Leaf}
 use Rattle.bw_codec.specs.declared.block.Block.{Block}
@@ -64,3 +65,47 @@ fifth_example = record { number = 5; blocks = fifth_blocks }
 -- page 1 with these pairs
 abbrev pub leaf_with : List (List ℕ × List ℕ) → Leaf
 leaf_with pairs = record { page = 1; low = []; pairs = pairs }
+
+-- ---- the vector of a page whose older places were given up
+
+abbrev pub after_first_blocks : List Block
+after_first_blocks = put_block 1 1 106 50 ∷ []
+
+abbrev pub after_second_blocks : List Block
+after_second_blocks = put_block 2 0 107 51 ∷ []
+
+-- page 1 as the cleaner writes it again
+abbrev pub rewritten_leaf : Leaf
+rewritten_leaf = leaf_with ((106 ∷ [], 50 ∷ []) ∷ (107 ∷ [], 51 ∷ []) ∷ [])
+
+abbrev pub rewritten_blocks : List Block
+rewritten_blocks = Base rewritten_leaf ∷ []
+
+abbrev pub after_first_example : Frame
+after_first_example = record { number = 2; blocks = after_first_blocks }
+
+abbrev pub after_second_example : Frame
+after_second_example = record { number = 3; blocks = after_second_blocks }
+
+abbrev pub rewritten_example : Frame
+rewritten_example = record { number = 4; blocks = rewritten_blocks }
+
+-- ---- a frame of 16,384 bytes: 8 of an empty page 1, and a Delta of 123 puts of 132 bytes and one of 101
+
+abbrev pub long_put : Record
+long_put = Put (107 ∷ []) (replicate 128 118)
+
+abbrev pub last_put : Record
+last_put = Put (107 ∷ []) (replicate 97 119)
+
+abbrev pub filling_blocks : List Block
+filling_blocks =
+    Base (record { page = 1; low = []; pairs = [] })
+    ∷ Delta 1 (record { frame = 1; index = 0 }) (replicate 123 long_put ++ last_put ∷ [])
+    ∷ []
+
+abbrev pub filling_example : Frame
+filling_example = record { number = 1; blocks = filling_blocks }
+
+abbrev pub filling_leaf : Leaf
+filling_leaf = leaf_with ((107 ∷ [], replicate 97 119) ∷ [])

@@ -14,6 +14,8 @@ use bw_device::{Desk, FuseSegment, MemSegment, Segment};
 use std::alloc::Global;
 use std::test::Fail;
 
+mod filled;
+mod given_up;
 mod spares;
 mod splits;
 
