@@ -1,6 +1,6 @@
 -- What a buffer's bytes spell.
 
-use Rattle.std.proofs.Common.{◌≡◌, ℕ, ◌+◌, ◌-◌, ◌*◌, ◌<◌, Bool, true, false, nat_le, ◌≤◌, Some, List, [], ◌∷◌, ◌++◌, length, take, drop, map, ◌^◌, sym, ap, subst, ◌∙◌, append_assoc, append-nil, arith, length-append}
+use Rattle.std.proofs.Common.{◌≡◌, ℕ, ◌+◌, ◌-◌, ◌*◌, ◌/◌, ◌<◌, Bool, true, false, nat_le, ◌≤◌, Some, List, [], ◌∷◌, ◌++◌, length, take, drop, map, ◌^◌, sym, ap, subst, ◌∙◌, append_assoc, append-nil, arith, length-append}
 use Rattle.std.proofs.lemmas.List.{take_at, drop_at, map-append}
 use Rattle.std.proofs.lemmas.Grind.{flat_map-append}
 use Rattle.std.specs.List.{AllByRecursion}
@@ -47,6 +47,7 @@ pub record Holds (a : Inside) (blocks : List Block) : Type 0 where
   pub fits : length a.bytes.items ≤ a.limit
   pub limited : (16384 ≤ a.limit) × (a.limit ≤ 65536)
   pub room : a.limit ≤ vec_capacity a.bytes
+  pub marks_room : a.limit / 8 ≤ vec_capacity a.marks
 
 pub held : (a : Inside) (blocks : List Block) → Holds a blocks → blocks_in a.count a.bytes.items ≡ blocks
 held a blocks h = blocks_there a.frame (length (body_bytes blocks)) a.count blocks a.bytes.items h.lawful h.counted h.spelled
@@ -63,10 +64,11 @@ filled a blocks h =
       fits = h.fits;
       limited = h.limited;
       room = h.room;
+      marks_room = h.marks_room;
     }
 
 pub holds : (a : Inside) → IsFilled a → Holds a (blocks_in a.count a.bytes.items)
-holds a f = record { spelled = f.spelled; counted = f.counted; lawful = f.lawful; marked = f.marked; numbered = f.numbered; fits = f.fits; limited = f.limited; room = f.room }
+holds a f = record { spelled = f.spelled; counted = f.counted; lawful = f.lawful; marked = f.marked; numbered = f.numbered; fits = f.fits; limited = f.limited; room = f.room; marks_room = f.marks_room }
 
 -- how long the bytes are
 pub length-held : (a : Inside) → IsFilled a → length a.bytes.items ≡ 20 + length (body_bytes (blocks_in a.count a.bytes.items))
@@ -76,8 +78,8 @@ length-held a f =
     omega (arith, size, length-head a.frame (length (body_bytes blocks)) a.count, length-append (head_bytes a.frame (length (body_bytes blocks)) a.count) (body_bytes blocks))
 
 -- a head alone holds no block
-pub begun : (a : Inside) → 1 ≤ a.frame → (16384 ≤ a.limit) × (a.limit ≤ 65536) → a.count ≡ 0 → a.bytes.items ≡ head_bytes a.frame 0 0 → a.marks.items ≡ [] → a.limit ≤ vec_capacity a.bytes → Holds a []
-begun a numbered limited none bytes marks room = record {
+pub begun : (a : Inside) → 1 ≤ a.frame → (16384 ≤ a.limit) × (a.limit ≤ 65536) → a.count ≡ 0 → a.bytes.items ≡ head_bytes a.frame 0 0 → a.marks.items ≡ [] → a.limit ≤ vec_capacity a.bytes → a.limit / 8 ≤ vec_capacity a.marks → Holds a []
+begun a numbered limited none bytes marks room marks_room = record {
   spelled = bytes ∙ ap (λ (n : ℕ). head_bytes a.frame 0 n) (sym none) ∙ sym (append-nil (head_bytes a.frame 0 a.count));
   counted = sym none;
   lawful = tt;
@@ -86,6 +88,7 @@ begun a numbered limited none bytes marks room = record {
   fits = (let size = ap (λ (b : List ℕ). length b) bytes in omega (arith, size, length-head a.frame 0 0));
   limited = limited;
   room = room;
+  marks_room = marks_room;
 }
 
 -- blocks laid out behind those that are there
@@ -96,8 +99,9 @@ pub grown : (a b : Inside) (blocks : List Block) (laid : List ℕ) → IsFilled 
     → b.bytes.items ≡ head_bytes a.frame (length laid - 20) b.count ++ drop 20 laid
     → b.marks.items ≡ a.marks.items ++ map mark_of blocks
     → b.limit ≤ vec_capacity b.bytes
+    → b.limit / 8 ≤ vec_capacity b.marks
     → Holds b (blocks_in a.count a.bytes.items ++ blocks)
-grown a b blocks laid f lawful fits frame limit count laid_is bytes marks room =
+grown a b blocks laid f lawful fits frame limit count laid_is bytes marks room marks_room =
     let old = blocks_in a.count a.bytes.items in
     let body : body_bytes (old ++ blocks) ≡ body_bytes old ++ body_bytes blocks = flat_map-append block_bytes old blocks in
     let head = length-head a.frame (length (body_bytes old)) a.count in
@@ -118,6 +122,7 @@ grown a b blocks laid f lawful fits frame limit count laid_is bytes marks room =
       fits = omega (arith, ap (λ (x : List ℕ). length x) spelled, new_head, length-append (head_bytes b.frame (length (body_bytes (old ++ blocks))) b.count) (body_bytes (old ++ blocks)), size, ap (λ (x : List ℕ). length x) laid_is, length-append a.bytes.items (body_bytes blocks), limit, fits);
       limited = subst (λ (n : ℕ). (16384 ≤ n) × (n ≤ 65536)) (sym limit) f.limited;
       room = room;
+      marks_room = marks_room;
     }
 
 -- what the test for room tells
@@ -154,3 +159,13 @@ counts a blocks h fits =
     let counted = h.counted in
     let limited = h.limited in
     (omega arith, omega arith)
+
+-- there is a mark's room for each block that fits
+pub room_for_marks : (a : Inside) (blocks : List Block) → IsFilled a → length a.bytes.items + length (body_bytes blocks) ≤ a.limit → a.count + length blocks ≤ vec_capacity a.marks
+room_for_marks a blocks h fits =
+    let old = few_blocks (blocks_in a.count a.bytes.items) in
+    let new = few_blocks blocks in
+    let size = length-held a h in
+    let counted = h.counted in
+    let room = h.marks_room in
+    omega arith

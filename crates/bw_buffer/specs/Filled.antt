@@ -1,6 +1,6 @@
 -- A buffer holds the bytes of its frame; the blocks are what these bytes spell.
 
-use Rattle.std.specs.Prelude.{ℕ, ◌≡◌, ◌≤◌, Some, None, List, [], ◌++◌, length, drop, map}
+use Rattle.std.specs.Prelude.{ℕ, ◌/◌, ◌≡◌, ◌≤◌, Some, None, List, [], ◌++◌, length, drop, map}
 use Rattle.std.specs.List.{AllByRecursion}
 use Rattle.std.specs.Vec.{vec_capacity}
 use Rattle.bw_codec.specs.Grammar.{body_bytes, head_bytes, IsBlock}
@@ -30,3 +30,5 @@ pub record IsFilled (a : Inside) : Type 0 where
   pub fits : length a.bytes.items ≤ a.limit
   pub limited : (16384 ≤ a.limit) × (a.limit ≤ 65536)
   pub room : a.limit ≤ vec_capacity a.bytes
+  -- no block has fewer than eight bytes
+  pub marks_room : a.limit / 8 ≤ vec_capacity a.marks

@@ -65,8 +65,8 @@ impl Buffer {
         })
     }
 
-    /// Adds all the blocks, or none, and answers the place of the first. Time is linear in the
-    /// bytes of these blocks, whatever stands in the buffer.
+    /// Adds all the blocks, or none, and answers the place of the first. No memory is taken. Time is
+    /// linear in the bytes of these blocks, whatever stands in the buffer.
     pub fn put_all(&mut self, blocks: &[Block]) -> Result<Place, PutError>
         requires some { 1 ≤ length blocks.now }
         requires lawful { AllByRecursion (IsBlock 32) blocks.now }
@@ -75,7 +75,7 @@ impl Buffer {
         ensures place { IfOk result (λ place.
             place ≡ record { frame = self.old.frame; index = length self.old.blocks }) }
 
-        // The seal is looked at first, then the room, then memory.
+        // The seal is looked at first, then the room; there is no other refusal.
         ensures sealed { IsErrOf result PutError.Sealed ↔ IsTrue self.old.is_sealed }
         ensures no_room { IsErrOf result PutError.NoRoom
             ↔ ((self.old.is_sealed ≡ false)
@@ -89,7 +89,6 @@ impl Buffer {
         if !fit(blocks, room) {
             return Err(PutError::NoRoom);
         }
-        self.marks.reserve(blocks.len())?;
         let index = self.count;
         lay_out(blocks, &mut self.bytes);
         mark_all(blocks, &mut self.marks);

@@ -40,7 +40,8 @@ pub fn lay_out(blocks: &[Block], bytes: &mut Vec<u8>)
 /// Appends what blocks do.
 pub fn mark_all(blocks: &[Block], marks: &mut Vec<Mark>)
     requires { vec_len marks.old + length blocks.now ≤ vec_capacity marks.old }
-    ensures { marks.new.items ≡ marks.old.items ++ map mark_of blocks.now }
+    ensures items { marks.new.items ≡ marks.old.items ++ map mark_of blocks.now }
+    ensures capacity { vec_capacity marks.new ≡ vec_capacity marks.old }
 {
     for block in blocks {
         marks.push_reserved(Mark::of(block));

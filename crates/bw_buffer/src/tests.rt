@@ -236,10 +236,8 @@ fn blocks_are_marked_with_their_pages(rt: HostRuntime) {
 
 #[test]
 fn the_refusals_have_texts(rt: HostRuntime) -> Result<(), Fail> {
-    let memory = format!(in rt.alloc(); "{}", PutError::NoMemory)?;
     let sealed = format!(in rt.alloc(); "{}", PutError::Sealed)?;
     let no_room = format!(in rt.alloc(); "{}", PutError::NoRoom)?;
-    assert_eq!(rt; memory.as_str(), "out of memory");
     assert_eq!(rt; sealed.as_str(), "the buffer is sealed");
     assert_eq!(rt; no_room.as_str(), "the blocks do not fit the frame");
     Ok(())

@@ -1,10 +1,10 @@
-ghost use Rattle.std.specs.Prelude.{◌≤◌};
+ghost use Rattle.std.specs.Prelude.{◌≤◌, ◌≡◌, ◌∷◌, [], IfOk};
 
 use super::{del, put, shown, shown_page};
 use crate::changes::change;
 use crate::leaves::Leaves;
 use crate::reading::{change_all, read_blocks};
-use bw_codec::{Block, Key, Leaf, Low, Ops, Pairs, Place};
+use bw_codec::{Block, Key, Leaf, Low, Ops, Pairs, Place, Value};
 use std::alloc::Global;
 use std::process::Abort;
 use std::test::Fail;
@@ -209,5 +209,46 @@ fn records_are_applied_in_their_order(rt: HostRuntime) -> Result<(), Fail> {
     records.push(del(b"b")?)?;
     let after = change_all(leaf(rt.alloc(), 1, b"")?, records.as_slice())?;
     assert_eq!(rt; shown(rt.alloc(), &after)?.as_slice(), b": a=3".as_slice());
+    Ok(())
+}
+
+/// A leaf of one pair.
+fn leaf_of(alloc: Global, page: u32, low: &[u8], key: &[u8], value: &[u8]) -> Result<Leaf, Fail>
+    ensures { IfOk result (λ l.
+        l ≡ record { page = page; low = low.now; pairs = (key.now, value.now) ∷ [] }) }
+{
+    let mut from = Vec::new(alloc);
+    from.extend_from_slice(low)?;
+    let mut pairs = Vec::new(alloc);
+    pairs.push((Key::new(key)?, Value::new(value)?))?;
+    Ok(Leaf {
+        page,
+        low: Low::of(from),
+        pairs: Pairs::of(pairs),
+    })
+}
+
+/// Page 1 with `a`, and page 2 from `c` on with `d`.
+fn two_pages(alloc: Global) -> Result<Leaves, Fail> {
+    let mut leaves = Vec::new(alloc);
+    leaves.push(leaf_of(alloc, 1, b"", b"a", b"1")?)?;
+    leaves.push(leaf_of(alloc, 2, b"c", b"d", b"4")?)?;
+    Ok(Leaves::of(leaves, 4)?)
+}
+
+#[test]
+fn leaves_are_taken_as_they_come(rt: HostRuntime) -> Result<(), Fail> {
+    let mut leaves = two_pages(rt.alloc())?;
+    for (key, page) in [("b", 1), ("bz", 1), ("c", 2), ("e", 2)] {
+        assert_eq!(rt; leaves.find(&Key::new(key.as_bytes())?), page);
+    }
+    leaves.apply(&put(b"c", b"3")?)?;
+    assert_eq!(rt; leaves.count(), 2);
+    for (page, text) in [(1, ": a=1"), (2, "c: c=3 d=4"), (3, "")] {
+        assert_eq!(rt;
+            shown_page(rt.alloc(), &leaves, page)?.as_slice(),
+            text.as_bytes()
+        );
+    }
     Ok(())
 }

@@ -13,7 +13,7 @@ fields c = record { frame = c.args.frame; limit = c.args.limit; count = 0; is_se
 empty : (c : In_ok-extend_from_slice) → Holds (fields c) []
 empty c =
     let bytes : c.extend_from_slice.new.self.items ≡ head_bytes c.args.frame 0 0 = c.in_ok-extend_from_slice.ensures.items ∙ rw (c.in_ok-bytes.ensures.items, c.frame_cells.ensures) refl in
-    begun (fields c) c.requires.numbered c.requires.limit refl bytes c.in_ok-marks.ensures.items (omega (arith, c.in_ok-bytes.ensures.exact, c.in_ok-extend_from_slice.ensures.capacity))
+    begun (fields c) c.requires.numbered c.requires.limit refl bytes c.in_ok-marks.ensures.items (omega (arith, c.in_ok-bytes.ensures.exact, c.in_ok-extend_from_slice.ensures.capacity)) (omega (arith, c.in_ok-marks.ensures.exact))
 
 pub invariant_of-result : goal.invariant_of-result
 invariant_of-result c = filled (fields c) [] (empty c)

@@ -1,5 +1,5 @@
 use Rattle.std.proofs.Common.{◌≡◌, ◌∙◌, ℕ, ◌+◌, ◌-◌, ◌++◌, arith, refl, sym, ap, length, drop, map, false, true, List, length-append}
-use Rattle.std.proofs.lemmas.Result.{err_from_is_err_and}
+use Rattle.std.proofs.lemmas.List.{length-map}
 use Rattle.bw_codec.specs.Grammar.{body_bytes, head_bytes}
 use Rattle.bw_codec.specs.declared.block.Block.{Block}
 use Rattle.bw_buffer.specs.Filling.{Filling}
@@ -7,7 +7,7 @@ use Rattle.bw_buffer.specs.Marks.{mark_of}
 use Rattle.bw_buffer.specs.declared.mark.Mark.{Mark}
 use Rattle.bw_buffer.specs.Filled.{blocks_in}
 use Rattle.bw_buffer.specs.declared.buffer.Buffer.TheInside.{Inside}
-use Rattle.bw_buffer.proofs.Holding.{Holds, filled, held, grown, room_told, room_inside, counts, length-held}
+use Rattle.bw_buffer.proofs.Holding.{Holds, filled, held, grown, room_told, room_inside, room_for_marks, counts, length-held}
 use Rattle.bw_buffer.proofs.buffer.Buffer.put_all.Goals as goal
 use Rattle.bw_buffer.proofs.buffer.Buffer.put_all.Goals.{After-set_head}
 
@@ -19,15 +19,12 @@ returns-then-not-fit-clause-no_room c =
     let no : c.fit.result ≡ false = cc in
     (λ _. (sym (ap (λ (f : Filling). f.is_sealed) c.self.view_is) ∙ c.if-self.false, told.0 no), λ _. refl)
 
-pub returns-in_err-reserve-clause-no_room : goal.returns-in_err-reserve-clause-no_room
-returns-in_err-reserve-clause-no_room c =
-    let p = err_from_is_err_and c.from_residual.result c.from_residual.ensures.1 in
-    let body = length (body_bytes c.args.blocks.now) in
-    let room = ap (λ (l : List ℕ). c.self.inside.limit - length l) c.as_slice.ensures.value in
-    let told = room_told c.self.inside c.args.self.now body (c.self.inside.limit - length c.as_slice.result.now) c.fit.result c.self.invariant c.self.view_is room c.fit.ensures in
-    let yes : c.fit.result ≡ true = cc in
-    let under = told.1 yes in
-    rw (p.1, p.2) (λ e. absurd cc, λ long. absurd (let over = long.1 in omega arith))
+pub mark_all-requires : goal.mark_all-requires
+mark_all-requires c =
+    let fits = room_inside c.self.inside (length (body_bytes c.args.blocks.now)) (c.self.inside.limit - length c.as_slice.result.now) c.self.invariant (ap (λ (l : List ℕ). c.self.inside.limit - length l) c.as_slice.ensures.value) (let yes : c.fit.result ≡ true = cc in sym yes ∙ c.fit.ensures) in
+    let few = room_for_marks c.self.inside c.args.blocks.now c.self.invariant fits in
+    let marked = ap length c.self.invariant.marked ∙ length-map (blocks_in c.self.inside.count c.self.inside.bytes.items) mark_of ∙ c.self.invariant.counted in
+    omega arith
 
 pub overflow_cast-self : goal.overflow_cast-self
 overflow_cast-self c =
@@ -57,11 +54,12 @@ now_holds c =
     let fits = room_inside c.self.inside (length (body_bytes c.args.blocks.now)) (c.self.inside.limit - length c.as_slice.result.now) c.self.invariant (ap (λ (l : List ℕ). c.self.inside.limit - length l) c.as_slice.ensures.value) (let yes : c.fit.result ≡ true = cc in sym yes ∙ c.fit.ensures) in
     let bytes = c.set_head.ensures.items ∙ ap (λ (l : List ℕ). head_bytes c.self.inside.frame (length l - 20) (c.self.inside.count + length c.args.blocks.now) ++ drop 20 c.lay_out.new.bytes.items) c.as_slice-2.ensures.value in
     grown c.self.inside (fields c) c.args.blocks.now c.lay_out.new.bytes.items c.self.invariant c.requires.lawful fits refl refl refl c.lay_out.ensures.items bytes
-    (c.mark_all.ensures ∙ ap (λ (l : List Mark). l ++ map mark_of c.args.blocks.now) c.in_ok-reserve.ensures.items)
+    c.mark_all.ensures.items
     (let room = c.self.invariant.room in omega (arith, c.set_head.ensures.capacity, c.lay_out.ensures.capacity))
+    (let room = c.self.invariant.marks_room in omega (arith, c.mark_all.ensures.capacity))
 
-pub invariant_of-self-2 : goal.invariant_of-self-2
-invariant_of-self-2 c = filled (fields c) (blocks_in c.self.inside.count c.self.inside.bytes.items ++ c.args.blocks.now) (now_holds c)
+pub invariant_of-self : goal.invariant_of-self
+invariant_of-self c = filled (fields c) (blocks_in c.self.inside.count c.self.inside.bytes.items ++ c.args.blocks.now) (now_holds c)
 
 pub returns-clause-added : goal.returns-clause-added
 returns-clause-added c =
