@@ -11,7 +11,7 @@ use crate::mark::Mark;
 use bw_codec::{Block, block_length, frame_cells, write_block};
 
 /// Whether blocks are spelled in so many bytes at most.
-pub fn fit(blocks: &[Block], room: usize) -> bool
+pub(crate) fn fit(blocks: &[Block], room: usize) -> bool
     requires { AllByRecursion (IsBlock 32) blocks.now }
     ensures { result ≡ nat_le (length (body_bytes blocks.now)) room }
 {
@@ -27,7 +27,7 @@ pub fn fit(blocks: &[Block], room: usize) -> bool
 }
 
 /// Appends the bytes of blocks.
-pub fn lay_out(blocks: &[Block], bytes: &mut Vec<u8>)
+pub(crate) fn lay_out(blocks: &[Block], bytes: &mut Vec<u8>)
     requires lawful { AllByRecursion (IsBlock 32) blocks.now }
     requires room { HasRoom bytes.old (length (body_bytes blocks.now)) }
     ensures { Adds bytes.old bytes.new (body_bytes blocks.now) }
@@ -38,7 +38,7 @@ pub fn lay_out(blocks: &[Block], bytes: &mut Vec<u8>)
 }
 
 /// Appends what blocks do.
-pub fn mark_all(blocks: &[Block], marks: &mut Vec<Mark>)
+pub(crate) fn mark_all(blocks: &[Block], marks: &mut Vec<Mark>)
     requires { vec_len marks.old + length blocks.now ≤ vec_capacity marks.old }
     ensures items { marks.new.items ≡ marks.old.items ++ map mark_of blocks.now }
     ensures capacity { vec_capacity marks.new ≡ vec_capacity marks.old }
@@ -57,7 +57,7 @@ fn put_front(bytes: &mut [u8], cells: &[u8; 20])
 }
 
 /// Makes the first 20 bytes a frame's head.
-pub fn set_head(bytes: &mut Vec<u8>, number: u64, body: u32, blocks: u32)
+pub(crate) fn set_head(bytes: &mut Vec<u8>, number: u64, body: u32, blocks: u32)
     requires { 20 ≤ length bytes.old.items }
     ensures items { bytes.new.items ≡ head_bytes number body blocks ++ drop 20 bytes.old.items }
     ensures capacity { vec_capacity bytes.new ≡ vec_capacity bytes.old }

@@ -15,7 +15,7 @@ use byteorder::{ByteOrder, LittleEndian};
 use std::alloc::Global;
 
 /// A number in two bytes, the lowest first.
-pub fn two_of(bytes: &[u8]) -> Result<(u16, &[u8]), CodecFault>
+pub(crate) fn two_of(bytes: &[u8]) -> Result<(u16, &[u8]), CodecFault>
     ensures { Gives (λ x. (x.0, x.1.now)) result (number_at 2 bytes.now) }
 {
     if bytes.len() < 2 {
@@ -25,7 +25,7 @@ pub fn two_of(bytes: &[u8]) -> Result<(u16, &[u8]), CodecFault>
 }
 
 /// A number in four bytes.
-pub fn four_of(bytes: &[u8]) -> Result<(u32, &[u8]), CodecFault>
+pub(crate) fn four_of(bytes: &[u8]) -> Result<(u32, &[u8]), CodecFault>
     ensures { Gives (λ x. (x.0, x.1.now)) result (number_at 4 bytes.now) }
 {
     if bytes.len() < 4 {
@@ -35,7 +35,7 @@ pub fn four_of(bytes: &[u8]) -> Result<(u32, &[u8]), CodecFault>
 }
 
 /// A number in eight bytes.
-pub fn eight_of(bytes: &[u8]) -> Result<(u64, &[u8]), CodecFault>
+pub(crate) fn eight_of(bytes: &[u8]) -> Result<(u64, &[u8]), CodecFault>
     ensures { Gives (λ x. (x.0, x.1.now)) result (number_at 8 bytes.now) }
 {
     if bytes.len() < 8 {
@@ -61,7 +61,7 @@ fn run_of(bytes: &[u8]) -> Result<(&[u8], &[u8]), CodecFault>
 }
 
 #[tactic(auto, unfolding(crate::specs::Reading::text_at))]
-pub fn key_at(bytes: &[u8]) -> Result<(Key, &[u8]), CodecFault>
+pub(crate) fn key_at(bytes: &[u8]) -> Result<(Key, &[u8]), CodecFault>
     ensures { Gives (λ x. (x.0, x.1.now)) result (text_at 1 64 bytes.now) }
 {
     let (run, rest) = run_of(bytes)?;
@@ -72,7 +72,7 @@ pub fn key_at(bytes: &[u8]) -> Result<(Key, &[u8]), CodecFault>
 }
 
 #[tactic(auto, unfolding(crate::specs::Reading::text_at))]
-pub fn value_at(bytes: &[u8]) -> Result<(Value, &[u8]), CodecFault>
+pub(crate) fn value_at(bytes: &[u8]) -> Result<(Value, &[u8]), CodecFault>
     ensures { Gives (λ x. (x.0, x.1.now)) result (text_at 0 128 bytes.now) }
 {
     let (run, rest) = run_of(bytes)?;
@@ -83,7 +83,7 @@ pub fn value_at(bytes: &[u8]) -> Result<(Value, &[u8]), CodecFault>
 }
 
 #[tactic(auto, unfolding(crate::specs::Reading::text_at))]
-pub fn low_of(alloc: Global, bytes: &[u8]) -> Result<(Low, &[u8]), CodecFault>
+pub(crate) fn low_of(alloc: Global, bytes: &[u8]) -> Result<(Low, &[u8]), CodecFault>
     ensures { Gives (λ x. (x.0, x.1.now)) result (text_at 0 64 bytes.now) }
 {
     let (run, rest) = run_of(bytes)?;
@@ -96,7 +96,7 @@ pub fn low_of(alloc: Global, bytes: &[u8]) -> Result<(Low, &[u8]), CodecFault>
 
 /// One record behind its tag.
 #[tactic(auto, unfolding(crate::specs::Reading::op_at))]
-pub fn op_of(bytes: &[u8]) -> Result<(Record, &[u8]), CodecFault>
+pub(crate) fn op_of(bytes: &[u8]) -> Result<(Record, &[u8]), CodecFault>
     ensures { Gives (λ x. (x.0, x.1.now)) result (op_at bytes.now) }
 {
     match bytes {
@@ -117,7 +117,7 @@ pub fn op_of(bytes: &[u8]) -> Result<(Record, &[u8]), CodecFault>
 }
 
 #[tactic(auto, unfolding(crate::specs::Reading::pair_at))]
-pub fn pair_of(bytes: &[u8]) -> Result<((Key, Value), &[u8]), CodecFault>
+pub(crate) fn pair_of(bytes: &[u8]) -> Result<((Key, Value), &[u8]), CodecFault>
     ensures { Gives (λ x. (x.0, x.1.now)) result (pair_at bytes.now) }
 {
     let (key, rest) = key_at(bytes)?;
@@ -125,7 +125,11 @@ pub fn pair_of(bytes: &[u8]) -> Result<((Key, Value), &[u8]), CodecFault>
     Ok(((key, value), rest))
 }
 
-pub fn some_pairs(alloc: Global, count: u16, bytes: &[u8]) -> Result<(Pairs, &[u8]), CodecFault>
+pub(crate) fn some_pairs(
+    alloc: Global,
+    count: u16,
+    bytes: &[u8],
+) -> Result<(Pairs, &[u8]), CodecFault>
     ensures { Gives (λ x. (x.0, x.1.now)) result (many_at pair_at count bytes.now) }
 {
     let mut items = Vec::new(alloc);
@@ -138,7 +142,7 @@ pub fn some_pairs(alloc: Global, count: u16, bytes: &[u8]) -> Result<(Pairs, &[u
     Ok((Pairs::of(items), rest))
 }
 
-pub fn some_ops(alloc: Global, count: u16, bytes: &[u8]) -> Result<(Ops, &[u8]), CodecFault>
+pub(crate) fn some_ops(alloc: Global, count: u16, bytes: &[u8]) -> Result<(Ops, &[u8]), CodecFault>
     ensures { Gives (λ x. (x.0, x.1.now)) result (many_at op_at count bytes.now) }
 {
     let mut items = Vec::new(alloc);
@@ -152,7 +156,7 @@ pub fn some_ops(alloc: Global, count: u16, bytes: &[u8]) -> Result<(Ops, &[u8]),
 }
 
 /// Whether each key is below the next.
-pub fn ascend(pairs: &[(Key, Value)]) -> bool
+pub(crate) fn ascend(pairs: &[(Key, Value)]) -> bool
     ensures { result ≡ ascends pairs.now }
 {
     let mut last: Option<&Key> = None;
@@ -172,7 +176,7 @@ pub fn ascend(pairs: &[(Key, Value)]) -> bool
 
 /// A count of at most `m`, and that many pairs in the order of their keys.
 #[tactic(auto, unfolding(crate::specs::Reading::pairs_at))]
-pub fn pairs_of(alloc: Global, m: u16, bytes: &[u8]) -> Result<(Pairs, &[u8]), CodecFault>
+pub(crate) fn pairs_of(alloc: Global, m: u16, bytes: &[u8]) -> Result<(Pairs, &[u8]), CodecFault>
     ensures { Gives (λ x. (x.0, x.1.now)) result (pairs_at m bytes.now) }
 {
     let (count, rest) = two_of(bytes)?;
@@ -188,7 +192,7 @@ pub fn pairs_of(alloc: Global, m: u16, bytes: &[u8]) -> Result<(Pairs, &[u8]), C
 
 /// A page number, which is not zero.
 #[tactic(auto, unfolding(crate::specs::Reading::page_at))]
-pub fn page_of(bytes: &[u8]) -> Result<(u32, &[u8]), CodecFault>
+pub(crate) fn page_of(bytes: &[u8]) -> Result<(u32, &[u8]), CodecFault>
     ensures { Gives (λ x. (x.0, x.1.now)) result (page_at bytes.now) }
 {
     let (page, rest) = four_of(bytes)?;
@@ -200,7 +204,7 @@ pub fn page_of(bytes: &[u8]) -> Result<(u32, &[u8]), CodecFault>
 
 /// A place, whose frame is not zero.
 #[tactic(auto, unfolding(crate::specs::Reading::place_at))]
-pub fn place_of(bytes: &[u8]) -> Result<(Place, &[u8]), CodecFault>
+pub(crate) fn place_of(bytes: &[u8]) -> Result<(Place, &[u8]), CodecFault>
     ensures { Gives (λ x. (x.0, x.1.now)) result (place_at bytes.now) }
 {
     let (frame, rest) = eight_of(bytes)?;
