@@ -1,8 +1,8 @@
 -- A frame more at the end of the newest segment.
 
-use Rattle.std.proofs.Common.{◌≡◌, ℕ, zero, suc, ◌+◌, ◌-◌, ◌^◌, ◌<◌, ◌≤◌, ◌⊎◌, inl, inr, Bool, true, false, if◌then◌else◌, nat_lt, Option, Some, None, List, [], ◌∷◌, ◌++◌, length, map, refl, sym, ap, subst, ◌∙◌, append_assoc, append-nil, arith, length-append}
+use Rattle.std.proofs.Common.{◌≡◌, ℕ, ◌+◌, ◌^◌, ◌<◌, ◌≤◌, inr, Bool, true, false, if◌then◌else◌, nat_lt, Option, Some, None, List, [], ◌∷◌, ◌++◌, length, map, refl, sym, ap, subst, ◌∙◌, append_assoc, append-nil, arith, length-append}
 use Rattle.std.proofs.lemmas.List.{map-append}
-use Rattle.std.proofs.lemmas.Bool.{lt-ltb, ltb-true}
+use Rattle.std.proofs.lemmas.Bool.{lt-ltb}
 use Rattle.std.proofs.lemmas.Grind.{flat_map-append}
 use Rattle.std.specs.List.{flat_map, filter, fold, AllByRecursion}
 use Rattle.bw_codec.specs.Grammar.{frame_bytes, IsFrame}
@@ -12,7 +12,7 @@ use Rattle.bw_codec.proofs.Format.{held, found}
 use Rattle.bw_page.specs.Standing.{Stand}
 use Rattle.bw_log.specs.Places.{first_number, AreLinked}
 use Rattle.bw_log.specs.Segments.{segment_frames, frames_of, IsLive, AreLive, IsClean, IsCleanLast, entry_of, entries_from, entries, following, next_of, is_before_next, AreFrom}
-use Rattle.bw_log.specs.Contents.{Image, IsImage, IsTable, IsStanding, counted_in, counted_at}
+use Rattle.bw_log.specs.Contents.{Image, IsImage, IsTable, counted_in, counted_at}
 use Rattle.bw_log.specs.declared.places.FrameAt.{FrameAt}
 use Rattle.bw_log.specs.declared.places.PageAt.{PageAt}
 use Rattle.bw_log.proofs.Reread.{all-push, clean_more, clean_len, clean_is_live}

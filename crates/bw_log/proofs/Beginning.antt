@@ -1,17 +1,17 @@
 -- A segment begun, and a frame torn at the end of the newest one.
 
-use Rattle.std.proofs.Common.{◌≡◌, ℕ, ◌+◌, ◌^◌, ◌<◌, ◌≤◌, ◌⊎◌, inl, inr, Bool, true, false, if◌then◌else◌, Option, Some, None, List, [], ◌∷◌, ◌++◌, length, take, map, refl, sym, ap, subst, ◌∙◌, append_assoc, append-nil, arith, length-append}
+use Rattle.std.proofs.Common.{◌≡◌, ℕ, ◌+◌, ◌^◌, ◌<◌, ◌⊎◌, inl, inr, Bool, true, false, if◌then◌else◌, Option, Some, List, [], ◌∷◌, ◌++◌, length, take, map, refl, sym, ap, subst, ◌∙◌, append_assoc, append-nil, arith}
 use Rattle.std.proofs.lemmas.Bool.{le-ltb}
-use Rattle.std.specs.List.{filter, flat_map, AllByRecursion}
-use Rattle.bw_codec.specs.Grammar.{frame_bytes, header_bytes, IsFrame, IsHeader}
+use Rattle.std.specs.List.{filter, flat_map}
+use Rattle.bw_codec.specs.Grammar.{frame_bytes, header_bytes, IsHeader}
 use Rattle.bw_codec.specs.declared.block.Frame.{Frame}
 use Rattle.bw_codec.specs.declared.block.Header.{Header}
-use Rattle.bw_log.specs.Segments.{segment_frames, frames_of, IsLive, AreLive, IsClean, IsCleanLast, entry_of, entries_from, entries, is_before_next, next_of, AreFrom}
+use Rattle.bw_log.specs.Segments.{segment_frames, frames_of, AreLive, entry_of, entries_from, entries, is_before_next, next_of, AreFrom}
 use Rattle.bw_log.specs.Places.{first_number, AreLinked}
 use Rattle.bw_log.specs.Contents.{Image, IsImage, IsStanding, IsTable, counted_in, counted_at}
 use Rattle.bw_log.specs.declared.places.FrameAt.{FrameAt}
 use Rattle.bw_log.proofs.Reread.{header_is_clean, clean_torn, clean_is_live, clean_more}
-use Rattle.bw_log.proofs.Adding.{Takes, takes_clean, frames_with, frames_last, entries_last, entries_more, live_last, live_older, clean_last, clean_of_last}
+use Rattle.bw_log.proofs.Adding.{Takes, takes_clean, frames_with, frames_last, entries_last, entries_more, live_last, live_older, clean_last}
 
 -- ---- a new current segment
 

@@ -1,6 +1,6 @@
 -- The frames of the vector of a page whose older places were given up.
 
-use Rattle.std.proofs.Common.{◌≡◌, ℕ, suc, zero, ◌+◌, ◌<◌, ◌≤◌, ◌==◌, Bool, if◌then◌else◌, lit≤, lit<, Option, Some, None, false, true, List, [], ◌∷◌, ◌++◌, length, slice_get, MatchOption, refl, sym, ap, subst, ◌∙◌, arith}
+use Rattle.std.proofs.Common.{◌≡◌, ℕ, suc, zero, ◌≤◌, ◌==◌, Bool, if◌then◌else◌, lit≤, lit<, Option, Some, None, false, List, [], ◌∷◌, slice_get, MatchOption, refl, sym, ap, subst, ◌∙◌, arith}
 use Rattle.bw_codec.specs.Bytes.{number_bytes}
 use Rattle.bw_codec.specs.Grammar.{IsFrame}
 use Rattle.bw_codec.specs.declared.leaf.Leaf.{Leaf}
@@ -12,7 +12,7 @@ use Rattle.bw_log.specs.Places.{base_of}
 use Rattle.bw_log.specs.Contents.{Contents, counted}
 use Rattle.bw_log.specs.Calls.{NoBaseBefore, IsBaseAfter, IsAfter, last_number}
 use Rattle.bw_log.specs.Steps.{MayFollow}
-use Rattle.bw_log.specs.Examples.{first_example, first_leaf, leaf_with, after_first_example, after_second_example, rewritten_example, rewritten_leaf}
+use Rattle.bw_log.specs.Examples.{first_example, leaf_with, after_first_example, after_second_example, rewritten_example, rewritten_leaf}
 use Rattle.bw_log.proofs.Exampled.{only_one, not_one, follows_of, first_follows, Counts}
 use Rattle.bw_log.proofs.SplitExample.{follows_as}
 

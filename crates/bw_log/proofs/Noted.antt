@@ -1,14 +1,13 @@
 -- The table of places after a frame's blocks.
 
-use Rattle.std.proofs.Common.{◌≡◌, ◌≢◌, ℕ, zero, suc, ◌+◌, ◌-◌, ◌<◌, ◌≤◌, ◌==◌, ◌||◌, ◌⊎◌, inl, inr, Bool, true, false, if◌then◌else◌, Option, Some, None, List, [], ◌∷◌, ◌++◌, length, drop, max, replicate, refl, sym, ap, subst, ◌∙◌, append_assoc, append-nil, arith, length-append, get_or, set}
+use Rattle.std.proofs.Common.{◌≡◌, ◌≢◌, ℕ, zero, suc, ◌+◌, ◌-◌, ◌<◌, ◌≤◌, ◌==◌, ◌||◌, inl, inr, Bool, true, false, if◌then◌else◌, Option, Some, None, List, [], ◌∷◌, ◌++◌, length, drop, max, replicate, refl, sym, ap, subst, ◌∙◌, append_assoc, append-nil, arith, get_or, set}
 use Rattle.std.proofs.lemmas.List.{length-set}
-use Rattle.std.proofs.lemmas.Option.{get_or_from_slice_get, slice_get-get_or}
-use Rattle.std.proofs.lemmas.Bool.{eqb-true, eqb-false, eq-eqb, ne_eqb, cases_Bool}
+use Rattle.std.proofs.lemmas.Option.{slice_get-get_or}
+use Rattle.std.proofs.lemmas.Bool.{eqb-true, eqb-false, ne_eqb, cases_Bool}
 use Rattle.std.proofs.lemmas.Grind.{flat_map-append}
 use Rattle.std.specs.Prelude.{IfSome}
-use Rattle.std.specs.List.{flat_map, fold, slice_get, AllByRecursion}
+use Rattle.std.specs.List.{fold, slice_get}
 use Rattle.bw_codec.specs.Touch.{touches, sets}
-use Rattle.bw_codec.specs.declared.leaf.Leaf.{Leaf}
 use Rattle.bw_codec.specs.declared.block.Place.{Place}
 use Rattle.bw_codec.specs.declared.block.Block.{Block}
 use Rattle.bw_codec.specs.declared.block.Block.TheVariants.{Delta, Base, Split}
@@ -16,7 +15,7 @@ use Rattle.bw_codec.specs.declared.block.Frame.{Frame}
 use Rattle.bw_buffer.specs.Marks.{mark_of}
 use Rattle.bw_buffer.specs.declared.mark.Mark.{Mark}
 use Rattle.bw_buffer.specs.declared.mark.Mark.TheVariants.{Changes, Sets, Splits}
-use Rattle.bw_log.specs.Places.{placed, all_placed, later, last_place, place_of, base_of}
+use Rattle.bw_log.specs.Places.{placed, all_placed, later, last_place}
 use Rattle.bw_log.specs.Contents.{some_place, entry_place, place_in, IsTable}
 use Rattle.bw_log.specs.Noting.{with_place, with_base, noted, noted_all, IsInTable, HasLines, HaveLines, top_of, top_page, no_place, empty_line}
 use Rattle.bw_log.specs.declared.places.PageAt.{PageAt}

@@ -1,15 +1,14 @@
 -- What a segment's bytes spell is read again.
 
-use Rattle.std.proofs.Common.{◌≡◌, ℕ, zero, suc, ◌+◌, ◌^◌, ◌<◌, ◌≤◌, ◌⊎◌, inl, inr, Option, Some, None, List, [], ◌∷◌, ◌++◌, length, take, drop, refl, sym, ap, subst, ◌∙◌, append_assoc, append-nil, arith, length-append}
+use Rattle.std.proofs.Common.{◌≡◌, ℕ, zero, suc, ◌+◌, ◌^◌, ◌<◌, ◌≤◌, ◌⊎◌, inl, inr, Some, List, [], ◌∷◌, ◌++◌, length, take, drop, refl, sym, ap, subst, ◌∙◌, append_assoc, append-nil, arith, length-append}
 use Rattle.std.proofs.lemmas.List.{drop_at, take_all}
 use Rattle.std.proofs.lemmas.Bool.{cases_lt}
 use Rattle.std.proofs.lemmas.Grind.{flat_map-append}
 use Rattle.std.specs.List.{flat_map, AllByRecursion}
-use Rattle.bw_codec.specs.Grammar.{block_bytes, body_bytes, head_bytes, frame_bytes, header_bytes, IsFrame, IsHeader, IsTail, IsWhole}
+use Rattle.bw_codec.specs.Grammar.{body_bytes, head_bytes, frame_bytes, header_bytes, IsFrame, IsHeader, IsTail, IsWhole}
 use Rattle.bw_codec.specs.Reading.{front_at, heading_of}
 use Rattle.bw_codec.specs.declared.block.Frame.{Frame}
 use Rattle.bw_codec.specs.declared.block.Header.{Header}
-use Rattle.bw_codec.specs.declared.block.FrameRead.{FrameRead}
 use Rattle.bw_codec.specs.declared.block.FrameRead.TheVariants.{Whole, Tail}
 use Rattle.bw_codec.specs.declared.block.HeaderRead.TheVariants as heading
 use Rattle.bw_codec.proofs.FrontFormat.{is_front, beginnings_are_tails, length-head}

@@ -1,16 +1,14 @@
 -- The frames of the vector of a page that is split in two may be appended one after the other.
 
-use Rattle.std.proofs.Common.{◌≡◌, ◌≢◌, ℕ, suc, zero, ◌+◌, ◌<◌, ◌≤◌, ◌==◌, ◌||◌, lit≤, lit<, Some, None, false, true, List, [], ◌∷◌, ◌++◌, length, refl, sym, ap, subst, ◌∙◌, arith}
+use Rattle.std.proofs.Common.{◌≡◌, ℕ, suc, zero, ◌≤◌, ◌==◌, ◌||◌, lit≤, lit<, false, List, [], ◌∷◌, ◌++◌, refl, sym, ap, subst, ◌∙◌, arith}
 use Rattle.std.proofs.lemmas.Bool.{ne_eqb}
-use Rattle.std.specs.List.{AllByRecursion}
 use Rattle.bw_codec.specs.Bytes.{number_bytes}
-use Rattle.bw_codec.specs.Grammar.{IsBlock, IsFrame}
+use Rattle.bw_codec.specs.Grammar.{IsFrame}
 use Rattle.bw_codec.specs.declared.leaf.Leaf.{Leaf}
 use Rattle.bw_codec.specs.declared.block.Frame.{Frame}
 use Rattle.bw_page.specs.Leaves.{leaf_at}
 use Rattle.bw_page.specs.Standing.{content, blocks_of, Stand}
-use Rattle.bw_log.specs.Contents.{Contents, IsSound, counted}
-use Rattle.bw_buffer.specs.Filling.{Filling, frame_of}
+use Rattle.bw_log.specs.Contents.{Contents, IsSound}
 use Rattle.bw_log.specs.Steps.{MayFollow, Appended, IsSameLog}
 use Rattle.bw_log.specs.Examples.{second_example, opening_example, third_example, fourth_example, fifth_example, leaf_with, split_upper}
 use Rattle.bw_log.proofs.Exampled.{only_one, not_one, follows_of, Counts, more_counts, second_frame_lawful}

@@ -1,24 +1,22 @@
 -- What a log keeps, after each of its two appends.
 
-use Rattle.std.proofs.Common.{◌≡◌, ℕ, zero, suc, ◌+◌, ◌-◌, ◌^◌, ◌<◌, ◌≤◌, ◌⊎◌, ◌&&◌, ◌||◌, inl, inr, Bool, true, false, not, if◌then◌else◌, nat_lt, nat_le, Option, Some, None, List, [], ◌∷◌, ◌++◌, length, take, map, replicate, refl, sym, ap, subst, ◌∙◌, append_assoc, append-nil, arith, length-append}
+use Rattle.std.proofs.Common.{◌≡◌, ℕ, suc, ◌+◌, ◌-◌, ◌^◌, ◌<◌, true, false, Some, List, [], ◌∷◌, ◌++◌, length, take, map, replicate, refl, sym, ap, subst, ◌∙◌, arith, length-append}
 use Rattle.std.proofs.lemmas.List.{map-append, length-map, length-replicate}
-use Rattle.std.specs.List.{AllByRecursion, slice_get}
-use Rattle.bw_codec.specs.Grammar.{frame_bytes, header_bytes, IsFrame, IsHeader, IsBlock}
+use Rattle.std.specs.List.{AllByRecursion}
+use Rattle.bw_codec.specs.Grammar.{frame_bytes, header_bytes, IsBlock}
 use Rattle.bw_codec.specs.declared.block.Block.{Block}
 use Rattle.bw_codec.specs.declared.block.Block.TheVariants.{Delta, Base, Split}
-use Rattle.bw_codec.specs.declared.leaf.Leaf.{Leaf}
 use Rattle.bw_codec.specs.declared.block.Frame.{Frame}
-use Rattle.bw_page.specs.Standing.{Stand}
-use Rattle.bw_device.specs.Holding.{Holding, appended, torn_at}
-use Rattle.bw_log.specs.Segments.{frames_of, entry_of}
-use Rattle.bw_log.specs.Contents.{Contents, Image, image, IsImage, IsSound, IsSpare, IsTable, counted, counted_in, boxes}
+use Rattle.bw_device.specs.Holding.{Holding, appended}
+use Rattle.bw_log.specs.Segments.{entry_of}
+use Rattle.bw_log.specs.Contents.{Contents, Image, image, IsImage, IsSound, IsSpare, IsTable, counted, counted_in}
 use Rattle.bw_log.specs.Steps.{header_of, begun, begun_with, last_of, with_last, with_first, torn, MayFollow}
 use Rattle.bw_log.specs.Appending.{with_frame, length_of}
 use Rattle.bw_log.specs.Noting.{noted_all, grown_to, top_page, empty_line, HaveLines}
 use Rattle.bw_log.specs.declared.places.FrameAt.{FrameAt}
 use Rattle.bw_log.specs.declared.places.PageAt.{PageAt}
 use Rattle.bw_log.proofs.Adding.{Takes, added, counts_more, sound_more}
-use Rattle.bw_log.proofs.Beginning.{with_segment, sound_begun, counted_begun, torn_image, sound_torn, counted_torn, failed_image, sound_failed}
+use Rattle.bw_log.proofs.Beginning.{with_segment, sound_begun, counted_begun, torn_image, sound_torn, counted_torn, sound_failed}
 use Rattle.bw_log.proofs.Noted.{table_more, table_grown_by, length-noted_all}
 use Rattle.bw_log.proofs.Lines.{NewLines, new_lines}
 

@@ -1,6 +1,6 @@
 -- What a failed append left, as the box that it changed tells it.
 
-use Rattle.std.proofs.Common.{◌≡◌, ℕ, zero, suc, ◌+◌, ◌-◌, ◌<◌, ◌≤◌, Option, Some, None, IfSome, List, [], ◌∷◌, ◌++◌, length, set, refl, sym, ap, subst, ◌∙◌, append_assoc, arith, length-append}
+use Rattle.std.proofs.Common.{◌≡◌, ℕ, ◌+◌, ◌-◌, ◌<◌, Option, Some, None, IfSome, List, [], ◌∷◌, ◌++◌, length, set, refl, sym, ap, subst, ◌∙◌, append_assoc, arith, length-append}
 use Rattle.std.specs.List.{slice_get}
 use Rattle.std.proofs.lemmas.List.{set_at}
 use Rattle.bw_device.specs.Holding.{Holding, appended, IsTorn, torn_at}
@@ -15,11 +15,10 @@ use Rattle.bw_log.specs.declared.places.PageAt.{PageAt}
 use Rattle.std.proofs.lemmas.List.{length-map}
 use Rattle.bw_codec.specs.Grammar.{header_bytes, frame_bytes}
 use Rattle.bw_codec.specs.declared.block.Frame.{Frame}
-use Rattle.bw_codec.specs.declared.block.Header.{Header}
 use Rattle.bw_log.specs.Contents.{Contents}
 use Rattle.bw_log.specs.Appending.{SpareTorn, FramePut, FrameTorn, with_frame, length_of}
 use Rattle.bw_log.specs.Steps.{header_of, with_first, with_last, torn, last_of, Rose}
-use Rattle.bw_log.proofs.Stepped.{Ends, ends, with_last_at, last_of_at}
+use Rattle.bw_log.proofs.Stepped.{ends, with_last_at, last_of_at}
 
 get_at : {X : Type 0} (xs : List X) (y : X) (ys : List X) → slice_get (xs ++ y ∷ ys) (length xs) ≡ Some y
 get_at [] y ys = refl

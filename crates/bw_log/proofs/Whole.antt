@@ -1,17 +1,17 @@
 -- An append as a whole: what it asks for, and what each of its ends leaves.
 
-use Rattle.std.proofs.Common.{◌≡◌, ◌≢◌, ℕ, zero, suc, ◌+◌, ◌-◌, ◌*◌, ◌/◌, ◌^◌, ◌<◌, ◌≤◌, ◌&&◌, ◌||◌, ◌⊎◌, inl, inr, Bool, true, false, not, if◌then◌else◌, nat_lt, nat_le, Option, Some, None, IfSome, List, [], ◌∷◌, ◌++◌, length, map, refl, sym, ap, subst, ◌∙◌, append_assoc, append-nil, arith, length-append}
+use Rattle.std.proofs.Common.{◌≡◌, ℕ, zero, suc, ◌+◌, ◌-◌, ◌/◌, ◌^◌, ◌<◌, ◌≤◌, ◌&&◌, ◌||◌, inl, inr, Bool, true, false, if◌then◌else◌, nat_lt, nat_le, Option, Some, None, IfSome, List, [], ◌∷◌, ◌++◌, length, map, refl, sym, ap, subst, ◌∙◌, append_assoc, arith, length-append}
 use Rattle.std.proofs.lemmas.List.{map-append, length-map}
-use Rattle.std.proofs.lemmas.Bool.{ltb-false, leb-true, leb-false, or_parts, and_parts, and_cases, cases_Bool, not-true, not-false}
+use Rattle.std.proofs.lemmas.Bool.{ltb-false, leb-true, leb-false, or_parts, and_parts, cases_Bool, not-false}
 use Rattle.std.specs.List.{slice_get}
-use Rattle.bw_codec.specs.Grammar.{frame_bytes, body_bytes, header_bytes}
+use Rattle.bw_codec.specs.Grammar.{frame_bytes, header_bytes}
 use Rattle.bw_codec.specs.declared.block.Frame.{Frame}
 use Rattle.bw_page.specs.Standing.{Stand}
-use Rattle.bw_device.specs.Holding.{Holding, appended, torn_at}
+use Rattle.bw_device.specs.Holding.{Holding, appended}
 use Rattle.bw_buffer.proofs.Holding.{few_blocks}
 use Rattle.bw_log.specs.Places.{AreLinked}
-use Rattle.bw_log.specs.Contents.{Contents, IsSound, IsSpare, counted, boxes, roster}
-use Rattle.bw_log.specs.Steps.{header_of, begun, begun_with, last_of, with_last, with_first, has_room, wants_segment, roomy, spares_wanted, is_worn, is_spent, refusal, torn, MayFollow, Appended, Stopped, Rose, IsSameLog, OnDevice}
+use Rattle.bw_log.specs.Contents.{Contents, IsSound, counted, boxes, roster}
+use Rattle.bw_log.specs.Steps.{header_of, begun, last_of, with_last, with_first, has_room, wants_segment, roomy, spares_wanted, is_worn, is_spent, refusal, torn, MayFollow, Appended, Stopped, Rose, IsSameLog, OnDevice}
 use Rattle.std.specs.Prelude.{Result, Ok, Err, OnOk, MatchResult}
 use Rattle.bw_codec.proofs.Heading.{length-header}
 use Rattle.bw_log.specs.Segments.{AreLive}
@@ -23,7 +23,7 @@ use Rattle.bw_log.specs.declared.fault.LogFault.{LogFault}
 use Rattle.bw_log.specs.declared.fault.LogFault.TheVariants.{NoMemory, BadConfig, NoSegment, Device, Failed, Spent, NoPage}
 use Rattle.bw_log.proofs.Reread.{length-frame}
 use Rattle.bw_log.proofs.Ends.{last_is}
-use Rattle.bw_log.proofs.Stepped.{Ends, ends, last_of_at, length-with_last, Begins, begun_is, begun_sound, begun_counts, Puts, put_counts, put_sound, torn_sound, spare_sound, put_lines, length-grown, spares_empty}
+use Rattle.bw_log.proofs.Stepped.{ends, last_of_at, Begins, begun_is, begun_sound, begun_counts, Puts, put_counts, put_sound, torn_sound, spare_sound, put_lines, length-grown, spares_empty}
 
 -- ---- what is granted
 

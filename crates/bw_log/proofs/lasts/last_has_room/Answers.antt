@@ -1,4 +1,4 @@
-use Rattle.std.proofs.Common.{◌≡◌, ◌-◌, ◌∙◌, length, nat_le, ap, arith}
+use Rattle.std.proofs.Common.{◌-◌, ◌∙◌, length, nat_le, ap}
 use Rattle.bw_log.proofs.Ends.{not_empty, room_told}
 use Rattle.bw_log.proofs.lasts.last_has_room.Goals as goal
 

@@ -1,4 +1,3 @@
-use Rattle.std.proofs.Common.{refl}
 use Rattle.bw_log.proofs.Exampled.{new_counts, more_counts, closed_counts, spare_counts, same_counts, first_on, second_on}
 use Rattle.bw_log.proofs.tests.second_segment.Goals as goal
 

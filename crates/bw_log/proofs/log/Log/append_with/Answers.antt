@@ -1,4 +1,4 @@
-use Rattle.std.proofs.Common.{◌≡◌, ◌≤◌, ◌+◌, ◌/◌, ap, sym, refl, length, vec_len, arith}
+use Rattle.std.proofs.Common.{◌≡◌, ◌≤◌, ◌+◌, ◌/◌, ap, refl, length, vec_len, arith}
 use Rattle.std.specs.Vec.{vec_capacity}
 use Rattle.std.proofs.lemmas.Result.{err_from_is_err_and}
 use Rattle.bw_codec.specs.Grammar.{frame_bytes}

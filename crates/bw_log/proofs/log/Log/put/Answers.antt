@@ -1,8 +1,5 @@
-use Rattle.std.proofs.Common.{◌≡◌, ◌-◌, ◌+◌, ◌∙◌, ◌<◌, ap, subst, sym, length, refl, arith, map, List}
-use Rattle.std.proofs.lemmas.List.{length-map}
-use Rattle.bw_codec.specs.Grammar.{frame_bytes}
+use Rattle.std.proofs.Common.{◌-◌, ap, length}
 use Rattle.bw_log.proofs.Torn.{put_done, frame_told, next_told, next_is, some_there, last_there}
-use Rattle.bw_log.specs.declared.places.FrameAt.{FrameAt}
 use Rattle.bw_log.proofs.log.Log.put.Goals as goal
 
 pub returns-in-Ok : goal.returns-in-Ok
