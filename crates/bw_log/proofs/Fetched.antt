@@ -1,14 +1,15 @@
 -- What a read of one box leaves of the log.
 
-use Rattle.std.proofs.Common.{◌≡◌, ℕ, ◌+◌, ◌-◌, ◌<◌, ◌≤◌, List, [], ◌∷◌, ◌++◌, length, take, drop, Result, Ok, Err, length-append, map, get_or, set, slice_get, Option, Some, IfSome, refl, sym, ap, subst, ◌∙◌, arith}
-use Rattle.std.proofs.lemmas.List.{get_or-set_same, length-set, length-map, take_at, drop_at}
+use Rattle.std.proofs.Common.{◌≡◌, ℕ, zero, suc, Bool, true, false, if◌then◌else◌, MatchOption, None, nat_le, le-leb, ◌+◌, ◌-◌, ◌<◌, ◌≤◌, List, [], ◌∷◌, ◌++◌, length, take, drop, Result, Ok, Err, length-append, map, get_or, set, slice_get, Option, Some, IfSome, refl, sym, ap, subst, ◌∙◌, arith}
+use Rattle.std.proofs.lemmas.List.{get_or-set_same, length-set, length-map, take_at, drop_at, take_all}
 use Rattle.std.proofs.lemmas.Option.{slice_get-get_or, slice_get_within, get_or_from_slice_get}
 use Rattle.std.proofs.Math.Seq.{map-set_same}
 use Rattle.bw_device.specs.Holding.{Holding, failed_once}
 use Rattle.bw_log.specs.Changes.{ChangedAt}
-use Rattle.bw_log.specs.Contents.{Contents, image, counted, IsImage, IsSound}
-use Rattle.bw_log.specs.Calls.{FailedRead, ReadStops}
-use Rattle.bw_log.specs.Walking.{StandsAt}
+use Rattle.bw_log.proofs.Fields.{both_fields, roomy_same}
+use Rattle.bw_log.specs.Contents.{Contents, image, boxes, counted, IsImage, IsSound}
+use Rattle.bw_log.specs.Calls.{FailedRead, StopsAt, IsLineIn, HoldsPage}
+use Rattle.bw_log.specs.Walking.{StandsAt, IsWalk}
 use Rattle.bw_log.specs.declared.places.FrameAt.{FrameAt}
 use Rattle.bw_log.specs.declared.fault.LogFault.{LogFault}
 use Rattle.bw_log.specs.declared.fault.LogFault.TheVariants.{NoMemory, BadConfig, NoSegment, Device, Failed, Spent, NoPage}
@@ -21,34 +22,26 @@ abbrev pub with_live : Contents → List Holding → Contents
 with_live c live = record c { live = live }
 
 pub failed_read : (old : Contents) (live : List Holding) (at lease : ℕ) → ChangedAt (λ h k. k ≡ failed_once h) at old.live live → IfSome (slice_get live at) (λ h. lease ≡ h.lease)
-    → FailedRead lease old (with_live old live)
+    → FailedRead (λ i. i ≡ at) lease old (with_live old live)
 failed_read old live at lease changed named =
     let inside : at < length old.live = slice_get_within old.live at changed.before changed.was in
-    let was : get_or old.live at changed.before ≡ changed.before = get_or_from_slice_get old.live at changed.before changed.before changed.was in
     let there : slice_get live at ≡ Some changed.after =
     ap (λ (l : List Holding). slice_get l at) changed.is
     ∙ slice_get-get_or (set old.live at changed.after) at changed.before (omega (arith, length-set old.live at changed.after))
     ∙ ap (λ (h : Holding). Some h) (get_or-set_same old.live at changed.after changed.before inside) in
     let lease_is : lease ≡ changed.after.lease = subst (λ (o : Option Holding). IfSome o (λ h. lease ≡ h.lease)) there named in
     record {
-      live = live;
-      is = refl;
-      rose = record {
-        at = at;
-        before = changed.before;
-        after = changed.after;
-        was = changed.was;
-        is = there;
-        named = ap (λ (h : Holding). h.lease) (sym changed.steps) ∙ sym lease_is;
-        counts = ap (λ (h : Holding). h.failed) changed.steps;
-      };
-      leases = ap (map (λ (h : Holding). h.lease)) changed.is ∙ map-set_same (λ (h : Holding). h.lease) old.live at changed.after changed.before (ap (λ (h : Holding). h.lease) changed.steps ∙ ap (λ (h : Holding). h.lease) (sym was));
-      bytes = ap (map (λ (h : Holding). h.bytes)) changed.is ∙ map-set_same (λ (h : Holding). h.bytes) old.live at changed.after changed.before (ap (λ (h : Holding). h.bytes) changed.steps ∙ ap (λ (h : Holding). h.bytes) (sym was));
+      at = at;
+      read = refl;
+      segment = changed.before;
+      was = changed.was;
+      named = ap (λ (h : Holding). h.lease) (sym changed.steps) ∙ sym lease_is;
+      is = ap (with_live old) (changed.is ∙ ap (set old.live at) changed.steps);
     }
 
 -- the same of boxes
 pub failed_box : {X : Type 0} (v : X → Holding) (old : Contents) (ys zs : List X) (at lease : ℕ) → ChangedAt (λ h k. k ≡ failed_once h) at old.live (map v ys) → zs ≡ ys
-    → IfSome (slice_get (map v zs) at) (λ h. lease ≡ h.lease) → FailedRead lease old (with_live old (map v ys))
+    → IfSome (slice_get (map v zs) at) (λ h. lease ≡ h.lease) → FailedRead (λ i. i ≡ at) lease old (with_live old (map v ys))
 failed_box {X} v old ys zs at lease changed same named =
     failed_read old (map v ys) at lease changed (subst (λ (l : List X). IfSome (slice_get (map v l) at) (λ h. lease ≡ h.lease)) same named)
 
@@ -121,30 +114,80 @@ frame_found {c} {k} {line} l frame same = let e : l.frame ≡ frame = cc in subs
 same_image : (old : Contents) (live : List Holding) → map (λ h. h.bytes) live ≡ map (λ h. h.bytes) old.live → image old ≡ image (with_live old live)
 same_image old live same = ap (λ (b : List (List ℕ)). record (image old) { bytes = b }) (sym same)
 
-sound_failed : (old new : Contents) (lease : ℕ) → IsSound old → FailedRead lease old new → IsSound new
-sound_failed old new lease sound failed =
+-- one live segment changed in a way that leaves this of it
+same_at : {A : Type 0} (g : Holding → A) (hs : List Holding) (at : ℕ) (h k : Holding) → slice_get hs at ≡ Some h → g k ≡ g h → map g (set hs at k) ≡ map g hs
+same_at g hs at h k was same = map-set_same g hs at k h (same ∙ ap g (sym (get_or_from_slice_get hs at h h was)))
+
+sound_failed : (reads : ℕ → Type 0) (old new : Contents) (lease : ℕ) → IsSound old → FailedRead reads lease old new → IsSound new
+sound_failed reads old new lease sound failed =
+    let live = set old.live failed.at (failed_once failed.segment) in
     let few = sound.few in
-    let len : length failed.live ≡ length old.live =
-    sym (length-map failed.live (λ (h : Holding). h.bytes)) ∙ ap (λ (l : List (List ℕ)). length l) failed.bytes ∙ length-map old.live (λ (h : Holding). h.bytes) in
-    let sound_live : IsSound (with_live old failed.live) = record { few = omega arith; empty = sound.empty; holds = subst IsImage (same_image old failed.live failed.bytes) sound.holds } in
+    let bytes = same_at (λ (h : Holding). h.bytes) old.live failed.at failed.segment (failed_once failed.segment) failed.was refl in
+    let rooms = same_at (λ (h : Holding). h.room) old.live failed.at failed.segment (failed_once failed.segment) failed.was refl in
+    let sound_live : IsSound (with_live old live) = record {
+      few = omega (arith, length-set old.live failed.at (failed_once failed.segment));
+      rooms = roomy_same old.f (boxes old) (live ++ old.spares) (both_fields (λ (h : Holding). h.room) old.live old.spares live old.spares rooms refl) sound.rooms;
+      empty = sound.empty;
+      holds = subst IsImage (same_image old live bytes) sound.holds;
+    } in
     subst IsSound (sym failed.is) sound_live
 
-pub sound_after : {A : Type 0} (old new : Contents) (result : Result A LogFault) → IsSound old → ReadStops old result new → IsSound new
-sound_after old new (Ok x) sound stops = subst IsSound (sym stops) sound
-sound_after old new (Err NoMemory) sound stops = subst IsSound (sym stops) sound
-sound_after old new (Err (Device lease)) sound stops = sound_failed old new lease sound stops
-sound_after old new (Err BadConfig) sound stops = absurd stops
-sound_after old new (Err NoSegment) sound stops = absurd stops
-sound_after old new (Err Failed) sound stops = absurd stops
-sound_after old new (Err Spent) sound stops = subst IsSound (sym stops.0) sound
-sound_after old new (Err NoPage) sound stops = subst IsSound (sym stops) sound
+pub sound_after : (reads : ℕ → Type 0) (old new : Contents) (fault : LogFault) → IsSound old → StopsAt reads old fault new → IsSound new
+sound_after reads old new NoMemory sound stops = subst IsSound (sym stops) sound
+sound_after reads old new (Device lease) sound stops = sound_failed reads old new lease sound stops
+sound_after reads old new BadConfig sound stops = absurd stops
+sound_after reads old new NoSegment sound stops = absurd stops
+sound_after reads old new Failed sound stops = absurd stops
+sound_after reads old new Spent sound stops = subst IsSound (sym stops.0) sound
+sound_after reads old new NoPage sound stops = subst IsSound (sym stops) sound
 
--- a refusal that is handed on, whatever the call would have given
-pub stops_as : (A B : Type 0) (old new : Contents) (fault : LogFault) → ReadStops {A = A} old (Err fault) new → ReadStops {A = B} old (Err fault) new
-stops_as A B old new NoMemory stops = stops
-stops_as A B old new (Device lease) stops = stops
-stops_as A B old new BadConfig stops = stops
-stops_as A B old new NoSegment stops = stops
-stops_as A B old new Failed stops = stops
-stops_as A B old new Spent stops = stops
-stops_as A B old new NoPage stops = stops
+-- a refusal that is handed on
+pub stops_as : (reads others : ℕ → Type 0) (old new : Contents) (fault : LogFault) → ((i : ℕ) → reads i → others i) → StopsAt reads old fault new → StopsAt others old fault new
+stops_as reads others old new NoMemory more stops = stops
+stops_as reads others old new (Device lease) more stops = record { at = stops.at; read = more stops.at stops.read; segment = stops.segment; was = stops.was; named = stops.named; is = stops.is }
+stops_as reads others old new BadConfig more stops = stops
+stops_as reads others old new NoSegment more stops = stops
+stops_as reads others old new Failed more stops = stops
+stops_as reads others old new Spent more stops = (stops.0, let worn = stops.1 in record { at = worn.at; read = more worn.at worn.read; segment = worn.segment; is = worn.is; greatest = worn.greatest })
+stops_as reads others old new NoPage more stops = stops
+
+-- the same where the log had not changed before
+pub stops_since : (reads others : ℕ → Type 0) (old now new : Contents) (fault : LogFault) → now ≡ old → ((i : ℕ) → reads i → others i) → StopsAt reads now fault new → StopsAt others old fault new
+stops_since reads others old now new fault same more stops =
+    subst (λ (c : Contents). StopsAt others c fault new) same (stops_as reads others now new fault more stops)
+
+-- ---- which segment has to be read
+
+pub in_line : (c : Contents) (k : ℕ) (line : FrameAt) → IsSound c → k < length c.frames → line ≡ get_or c.frames k line → (j : ℕ) → j ≡ line.segment - c.number → IsLineIn c k j
+in_line c k line sound inside is j at =
+    let first = (boxed_line c k line sound inside is).from_first in
+    record { line = line; told = slice_get-get_or c.frames k line inside ∙ ap (λ (l : FrameAt). Some l) (sym is); inside = omega arith }
+
+pub on_page : (c now : Contents) (p at : ℕ) (newer : List Frame) → now ≡ c → IsWalk p (counted c) at newer → (j : ℕ) → IsLineIn now at j → HoldsPage c p j
+on_page c now p at newer same walk j inside = record {
+  index = at;
+  frame = walk.frame;
+  stands = record { before = walk.before; beyond = walk.beyond; split = walk.split; index = walk.index };
+  touched = walk.touched;
+  inside = subst (λ (d : Contents). IsLineIn d at j) same inside;
+}
+
+-- ---- a segment's bytes, all of them
+
+box_there : (hs : List Holding) (i : ℕ) → i < length hs → (h : Holding) × (slice_get hs i ≡ Some h)
+box_there [] i inside = absurd (omega arith)
+box_there (h ∷ hs) zero inside = (h, refl)
+box_there (h ∷ hs) (suc i) inside = box_there hs i (omega arith)
+
+pub dumped : {X : Type 0} (v : X → Holding) (number : ℕ) (xs : List X) (segment len : ℕ) (out new bytes : List ℕ) → number ≤ segment → segment - number < length xs
+    → IfSome (slice_get (map v xs) (segment - number)) (λ h. len ≡ length h.bytes)
+    → IfSome (slice_get (map v xs) (segment - number)) (λ h. bytes ≡ take len (drop 0 h.bytes))
+    → new ≡ out ++ bytes
+    → MatchOption (if nat_le number segment then slice_get (map v xs) (segment - number) else None) ((true ≡ false) × (new ≡ out)) (λ h. (true ≡ true) × (new ≡ out ++ h.bytes))
+dumped v number xs segment len out new bytes from inside long read is =
+    let box = box_there (map v xs) (segment - number) (omega (arith, length-map xs v)) in
+    let at : (if nat_le number segment then slice_get (map v xs) (segment - number) else None) ≡ Some box.0 = ap (λ (b : Bool). if b then slice_get (map v xs) (segment - number) else None) (le-leb number segment from) ∙ box.1 in
+    let size : len ≡ length box.0.bytes = subst (λ (o : Option Holding). IfSome o (λ h. len ≡ length h.bytes)) box.1 long in
+    let all : bytes ≡ take len box.0.bytes = subst (λ (o : Option Holding). IfSome o (λ h. bytes ≡ take len (drop 0 h.bytes))) box.1 read in
+    subst (λ (o : Option Holding). MatchOption o ((true ≡ false) × (new ≡ out)) (λ h. (true ≡ true) × (new ≡ out ++ h.bytes))) (sym at)
+    (refl, is ∙ ap (λ (l : List ℕ). out ++ l) (all ∙ take_all len box.0.bytes (omega arith)))

@@ -1,6 +1,7 @@
 pub mod Boxed
 pub mod Asked
 pub mod Walk
+pub mod Fields
 pub mod Links
 pub mod LastNumber
 pub mod LogLeft

@@ -11,7 +11,7 @@ use Rattle.bw_codec.specs.declared.block.Frame.{Frame}
 use Rattle.bw_page.specs.Standing.{content, blocks_of, Stand}
 use Rattle.bw_device.specs.Holding.{Holding}
 use Rattle.bw_log.specs.Segments.{segment_frames, frames_of}
-use Rattle.bw_log.specs.Contents.{Contents, image, counted, IsStanding, IsSound}
+use Rattle.bw_log.specs.Contents.{Contents, image, counted, IsStanding, IsRoomy, IsSound}
 use Rattle.bw_log.specs.Calls.{IsBaseAfter, NoBaseBefore, oldest_count}
 use Rattle.bw_log.specs.declared.places.FrameAt.{FrameAt}
 use Rattle.bw_log.proofs.GivenUp.{MayGo, given_up, counts, kept_counts, set_kept, stand_kept}
@@ -82,6 +82,7 @@ left_of c h hs frames sound live more works bases lines =
     record {
       sound = record {
         few = omega (arith, ap (λ (l : List Holding). length l) live);
+        rooms = (subst (λ (l : List Holding). AllByRecursion (IsRoomy c.f) (l ++ c.spares)) live sound.rooms).1;
         empty = sound.empty;
         holds = given_up (image c) h.bytes bs frames go lines;
       };
@@ -105,3 +106,7 @@ pub left_boxes : {X : Type 0} (v : X → Holding) (c : Contents) (xs ys : List X
     → frames ≡ other_lines c.number c.frames → Left c (map v ys) frames
 left_boxes {X} v c xs ys frames live same sound two works bases lines =
     subst (λ (l : List X). Left c (map v l) frames) (sym same) (left_first v c xs frames live sound two works bases lines)
+
+-- as many boxes as holdings
+pub two_boxes : {X : Type 0} (v : X → Holding) (xs : List X) → 2 ≤ length (map v xs) → 2 ≤ length xs
+two_boxes v xs two = omega (arith, length-map xs v)

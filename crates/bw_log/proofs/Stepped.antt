@@ -9,7 +9,8 @@ use Rattle.bw_codec.specs.declared.block.Block.TheVariants.{Delta, Base, Split}
 use Rattle.bw_codec.specs.declared.block.Frame.{Frame}
 use Rattle.bw_device.specs.Holding.{Holding, appended}
 use Rattle.bw_log.specs.Segments.{entry_of}
-use Rattle.bw_log.specs.Contents.{Contents, Image, image, IsImage, IsSound, IsSpare, IsTable, counted, counted_in}
+use Rattle.bw_log.proofs.Fields.{field_last, field_first, both_fields, field_moved, roomy_same}
+use Rattle.bw_log.specs.Contents.{Contents, Image, image, boxes, IsImage, IsSound, IsRoomy, IsSpare, IsTable, counted, counted_in}
 use Rattle.bw_log.specs.Steps.{header_of, begun, begun_with, last_of, with_last, with_first, torn, MayFollow}
 use Rattle.bw_log.specs.Appending.{with_frame, length_of}
 use Rattle.bw_log.specs.Noting.{noted_all, grown_to, top_page, empty_line, HaveLines}
@@ -51,6 +52,16 @@ length-with_last f (h ∷ k ∷ hs) = ap suc (length-with_last f (k ∷ hs))
 bytes_with_last : (f : Holding → Holding) (older : List Holding) (h : Holding) → map (λ (x : Holding). x.bytes) (with_last f (older ++ h ∷ [])) ≡ map (λ (x : Holding). x.bytes) older ++ (f h).bytes ∷ []
 bytes_with_last f older h = ap (map (λ (x : Holding). x.bytes)) (with_last_at f older h) ∙ map-append (λ (x : Holding). x.bytes) older (f h ∷ [])
 
+-- ---- rooms
+
+roomy_last : (c : Contents) (f : Holding → Holding) → ((h : Holding) → (f h).room ≡ h.room) → AllByRecursion (IsRoomy c.f) (boxes c) → AllByRecursion (IsRoomy c.f) (with_last f c.live ++ c.spares)
+roomy_last c f keeps all =
+    roomy_same c.f (boxes c) (with_last f c.live ++ c.spares) (both_fields (λ (h : Holding). h.room) c.live c.spares (with_last f c.live) c.spares (field_last (λ (h : Holding). h.room) f keeps c.live) refl) all
+
+roomy_first : (c : Contents) (f : Holding → Holding) → ((h : Holding) → (f h).room ≡ h.room) → AllByRecursion (IsRoomy c.f) (boxes c) → AllByRecursion (IsRoomy c.f) (c.live ++ with_first f c.spares)
+roomy_first c f keeps all =
+    roomy_same c.f (boxes c) (c.live ++ with_first f c.spares) (both_fields (λ (h : Holding). h.room) c.live c.spares c.live (with_first f c.spares) refl (field_first (λ (h : Holding). h.room) f keeps c.spares)) all
+
 -- ---- a segment begun
 
 pub record Begins (c : Contents) (s : Holding) (ss : List Holding) : Type 0 where
@@ -82,6 +93,7 @@ begun_sound c s ss b =
     let size = ap (λ (l : List Holding). length l) b.first in
     let sound : IsSound (record c { live = c.live ++ appended s (header_bytes (header_of c)) ∷ []; spares = ss; is_open = true }) = record {
       few = omega (arith, length-append c.live (appended s (header_bytes (header_of c)) ∷ []));
+      rooms = roomy_same c.f (boxes c) ((c.live ++ appended s (header_bytes (header_of c)) ∷ []) ++ ss) (field_moved (λ (h : Holding). h.room) c.live ss c.spares s (appended s (header_bytes (header_of c))) refl b.first) b.sound.rooms;
       empty = λ _. (spares_empty c s ss b).1;
       holds = subst IsImage (sym (image_begun c s ss b) ∙ ap image (begun_is c s ss b)) (sound_begun (image c) b.sound.holds number);
     } in
@@ -166,6 +178,7 @@ put_sound c x older h p =
     let few = p.sound.few in
     record {
       few = omega (arith, length-with_last (λ (k : Holding). appended k (frame_bytes x)) c.live);
+      rooms = roomy_last c (λ (k : Holding). appended k (frame_bytes x)) (λ k. refl) p.sound.rooms;
       empty = p.sound.empty;
       holds = subst IsImage (sym (image_put c x older h p))
           (sound_more (image c) (map (λ (k : Holding). k.bytes) older) h.bytes x (new_pages c x) p.follows.leaves (image_takes c x older h p) p.follows.links p.follows.stands (new_table c x older h p) (sym size) few_pages);
@@ -190,6 +203,7 @@ torn_sound c x n older h p =
     let few = p.sound.few in (
       record {
         few = omega (arith, length-with_last (torn n (frame_bytes x)) c.live);
+        rooms = roomy_last c (torn n (frame_bytes x)) (λ k. refl) p.sound.rooms;
         empty = λ works. absurd cc;
         holds = subst IsImage (sym same) (sound_torn (image c) (map (λ (k : Holding). k.bytes) older) h.bytes x n takes);
       },
@@ -206,4 +220,4 @@ spare_contents c n = record c { spares = with_first (torn n (header_bytes (heade
 pub spare_sound : (c : Contents) (n : ℕ) → IsSound c → IsSound (spare_contents c n) × (counted (spare_contents c n) ≡ counted c)
 spare_sound c n s =
     let few = s.few in
-    (record { few = omega (arith, length-with_first (torn n (header_bytes (header_of c))) c.spares); empty = λ works. absurd cc; holds = sound_failed (image c) s.holds }, refl)
+    (record { few = omega (arith, length-with_first (torn n (header_bytes (header_of c))) c.spares); rooms = roomy_first c (torn n (header_bytes (header_of c))) (λ k. refl) s.rooms; empty = λ works. absurd cc; holds = sound_failed (image c) s.holds }, refl)

@@ -1,6 +1,6 @@
 -- An append as a whole: what it asks for, and what each of its ends leaves.
 
-use Rattle.std.proofs.Common.{◌≡◌, ℕ, zero, suc, ◌+◌, ◌-◌, ◌/◌, ◌^◌, ◌<◌, ◌≤◌, ◌&&◌, ◌||◌, inl, inr, Bool, true, false, if◌then◌else◌, nat_lt, nat_le, Option, Some, None, IfSome, List, [], ◌∷◌, ◌++◌, length, map, refl, sym, ap, subst, ◌∙◌, append_assoc, arith, length-append}
+use Rattle.std.proofs.Common.{is_none, ◌≡◌, ℕ, zero, suc, ◌+◌, ◌-◌, ◌/◌, ◌^◌, ◌<◌, ◌≤◌, ◌&&◌, ◌||◌, inl, inr, Bool, true, false, if◌then◌else◌, nat_lt, nat_le, Option, Some, None, IfSome, List, [], ◌∷◌, ◌++◌, length, map, refl, sym, ap, subst, ◌∙◌, append_assoc, arith, length-append}
 use Rattle.std.proofs.lemmas.List.{map-append, length-map}
 use Rattle.std.proofs.lemmas.Bool.{ltb-false, leb-true, leb-false, or_parts, and_parts, cases_Bool, not-false}
 use Rattle.std.specs.List.{slice_get}
@@ -23,6 +23,7 @@ use Rattle.bw_log.specs.declared.fault.LogFault.{LogFault}
 use Rattle.bw_log.specs.declared.fault.LogFault.TheVariants.{NoMemory, BadConfig, NoSegment, Device, Failed, Spent, NoPage}
 use Rattle.bw_log.proofs.Reread.{length-frame}
 use Rattle.bw_log.proofs.Ends.{last_is}
+use Rattle.bw_log.proofs.Fields.{field_last, field_first, both_fields, field_moved}
 use Rattle.bw_log.proofs.Stepped.{ends, last_of_at, Begins, begun_is, begun_sound, begun_counts, Puts, put_counts, put_sound, torn_sound, spare_sound, put_lines, length-grown, spares_empty}
 
 -- ---- what is granted
@@ -45,13 +46,14 @@ granted c len care e =
     let some = let_through (wants_segment c len && nat_lt (length c.spares) (spares_wanted care)) NoSegment (if is_spent c len then Some Spent else None) works.1 in
     let fresh = let_through (is_spent c len) Spent None some.1 in
     let wanted : (care : Bool) → 1 ≤ spares_wanted care = λ k. elim k as (λ b. 1 ≤ spares_wanted b) [ true ↦ omega arith | false ↦ omega arith ] in
-    let spent_if : wants_segment c len ≡ true → (nat_le (2 ^ 64) (c.number + length c.live) || is_worn (slice_get c.spares 0)) ≡ false = λ w. rw w at fresh.0 in
+    let counts = or_parts (is_none c.next) (if wants_segment c len then nat_le (2 ^ 64) (c.number + length c.live) || is_worn (slice_get c.spares 0) else is_worn (last_of c.live)) fresh.0 in
+    let spent_if : wants_segment c len ≡ true → (nat_le (2 ^ 64) (c.number + length c.live) || is_worn (slice_get c.spares 0)) ≡ false = λ w. rw w at counts.1 in
     record {
       works = works.0;
       spares = λ w. (let few : nat_lt (length c.spares) (spares_wanted care) ≡ false = rw w at some.0 in let h = ltb-false (length c.spares) (spares_wanted care) few in let k = wanted care in omega arith);
       number = λ w. leb-false (2 ^ 64) (c.number + length c.live) (or_parts (nat_le (2 ^ 64) (c.number + length c.live)) (is_worn (slice_get c.spares 0)) (spent_if w)).0;
       first = λ w. (or_parts (nat_le (2 ^ 64) (c.number + length c.live)) (is_worn (slice_get c.spares 0)) (spent_if w)).1;
-      last = λ w. rw w at fresh.0;
+      last = λ w. rw w at counts.1;
     }
 
 -- no refusal is the device's
@@ -91,7 +93,7 @@ pub begin_fits : (c : Contents) (s : Holding) (ss : List Holding) → Begins c s
 begin_fits c s ss b =
     let empty = (spares_empty c s ss b).0 in
     let none : length s.bytes ≡ 0 = ap (λ (l : List ℕ). length l) empty.0 in
-    let room = empty.1 in
+    let room = empty.1.0 in
     let limits = b.sound.holds.limits in
     subst (λ (l : List Holding). IfSome (slice_get l 0) (λ h. length h.bytes + 24 ≤ h.room)) (sym b.first) (omega arith)
 
@@ -144,28 +146,8 @@ puts_here c x care st w =
 
 -- ---- leases
 
-leases_last : (f : Holding → Holding) → ((h : Holding) → (f h).lease ≡ h.lease) → (hs : List Holding) → map (λ (h : Holding). h.lease) (with_last f hs) ≡ map (λ (h : Holding). h.lease) hs
-leases_last f keeps [] = refl
-leases_last f keeps (h ∷ []) = ap (λ (n : ℕ). n ∷ []) (keeps h)
-leases_last f keeps (h ∷ k ∷ hs) = ap (λ (l : List ℕ). h.lease ∷ l) (leases_last f keeps (k ∷ hs))
-
-leases_first : (f : Holding → Holding) → ((h : Holding) → (f h).lease ≡ h.lease) → (hs : List Holding) → map (λ (h : Holding). h.lease) (with_first f hs) ≡ map (λ (h : Holding). h.lease) hs
-leases_first f keeps [] = refl
-leases_first f keeps (h ∷ hs) = ap (λ (n : ℕ). n ∷ map (λ (k : Holding). k.lease) hs) (keeps h)
-
-both_leases : (live spares live' spares' : List Holding) → map (λ (h : Holding). h.lease) live' ≡ map (λ (h : Holding). h.lease) live → map (λ (h : Holding). h.lease) spares' ≡ map (λ (h : Holding). h.lease) spares
-    → map (λ (h : Holding). h.lease) (live' ++ spares') ≡ map (λ (h : Holding). h.lease) (live ++ spares)
-both_leases live spares live' spares' one two =
-    map-append (λ (h : Holding). h.lease) live' spares' ∙ ap (λ (l : List ℕ). l ++ map (λ (h : Holding). h.lease) spares') one ∙ ap (λ (l : List ℕ). map (λ (h : Holding). h.lease) live ++ l) two ∙ sym (map-append (λ (h : Holding). h.lease) live spares)
-
--- a new current segment was the first spare
 begun_leases : (c : Contents) (s : Holding) (ss : List Holding) → Begins c s ss → roster (begun c) ≡ roster c
-begun_leases c s ss b =
-    let t = appended s (header_bytes (header_of c)) in
-    let one : (c.live ++ t ∷ []) ++ ss ≡ c.live ++ t ∷ ss = append_assoc c.live (t ∷ []) ss in
-    ap roster (begun_is c s ss b)
-    ∙ ap (map (λ (h : Holding). h.lease)) one ∙ map-append (λ (h : Holding). h.lease) c.live (t ∷ ss) ∙ sym (map-append (λ (h : Holding). h.lease) c.live (s ∷ ss))
-    ∙ ap (λ (l : List Holding). map (λ (h : Holding). h.lease) (c.live ++ l)) (sym b.first)
+begun_leases c s ss b = ap roster (begun_is c s ss b) ∙ field_moved (λ (h : Holding). h.lease) c.live ss c.spares s (appended s (header_bytes (header_of c))) refl b.first
 
 -- ---- a box that failed, among those before a segment was begun
 
@@ -229,7 +211,7 @@ keeps_appended piece h = refl
 ended_put : (c d : Contents) (x : Frame) (older : List Holding) (h : Holding) → Puts d x older h → d.m ≡ c.m → d.f ≡ c.f → d.number ≡ c.number → roster d ≡ roster c → Ended c x (with_frame d x)
 ended_put c d x older h p m f number leases = record {
   sound = put_sound d x older h p;
-  same = record { m = m; f = f; number = number; leases = both_leases d.live d.spares (with_last (λ (k : Holding). appended k (frame_bytes x)) d.live) d.spares (leases_last (λ (k : Holding). appended k (frame_bytes x)) (keeps_appended (frame_bytes x)) d.live) refl ∙ leases };
+  same = record { m = m; f = f; number = number; leases = both_fields (λ (h : Holding). h.lease) d.live d.spares (with_last (λ (k : Holding). appended k (frame_bytes x)) d.live) d.spares (field_last (λ (h : Holding). h.lease) (λ (k : Holding). appended k (frame_bytes x)) (keeps_appended (frame_bytes x)) d.live) refl ∙ leases };
 }
 
 pub ok_here : (c : Contents) (x : Frame) (care : Bool) (new : Contents) → Starts c x care → wants_segment c (length (frame_bytes x)) ≡ false → FramePut c x new → EndedOk c x new
@@ -239,6 +221,8 @@ ok_here c x care new st w put =
     let there : EndedOk c x (with_frame c x) = record {
       ended = ended_put c c x p.0 p.1 p.2 refl refl refl refl;
       appended = record {
+        takes = p.2.takes;
+        works = p.2.works;
         live = ap (λ (d : Contents). with_last (λ (k : Holding). appended k (frame_bytes x)) d.live) room;
         spares = ap (λ (d : Contents). d.spares) room;
         frames = put_counts c x p.0 p.1 p.2;
@@ -256,6 +240,8 @@ ok_begun c x care new st w put =
     let there : EndedOk c x (with_frame d x) = record {
       ended = ended_put c d x c.live (appended b.0 (header_bytes (header_of c))) p (ap (λ (e : Contents). e.m) is) (ap (λ (e : Contents). e.f) is) (ap (λ (e : Contents). e.number) is) (begun_leases c b.0 b.1 b.2);
       appended = record {
+        takes = p.takes;
+        works = p.works;
         live = ap (λ (e : Contents). with_last (λ (k : Holding). appended k (frame_bytes x)) e.live) room;
         spares = ap (λ (e : Contents). e.spares) room;
         frames = put_counts d x c.live (appended b.0 (header_bytes (header_of c))) p ∙ ap (λ (l : List Frame). l ++ x ∷ []) (begun_counts c b.0 b.1 b.2);
@@ -271,7 +257,7 @@ torn_here lease c x care new st w t =
     record {
       ended = record {
         sound = subst IsSound (sym t.is) sound.0;
-        same = subst (IsSameLog c) (sym t.is) (record { m = refl; f = refl; number = refl; leases = both_leases c.live c.spares (with_last (torn t.kept (frame_bytes x)) c.live) c.spares (leases_last (torn t.kept (frame_bytes x)) (λ k. refl) c.live) refl });
+        same = subst (IsSameLog c) (sym t.is) (record { m = refl; f = refl; number = refl; leases = both_fields (λ (h : Holding). h.lease) c.live c.spares (with_last (torn t.kept (frame_bytes x)) c.live) c.spares (field_last (λ (h : Holding). h.lease) (torn t.kept (frame_bytes x)) (λ k. refl) c.live) refl });
       };
       rose = t.rose;
       stopped = record {
@@ -297,7 +283,7 @@ torn_begun lease c x care new st w t =
           m = ap (λ (e : Contents). e.m) is;
           f = ap (λ (e : Contents). e.f) is;
           number = ap (λ (e : Contents). e.number) is;
-          leases = both_leases d.live d.spares (with_last (torn t.kept (frame_bytes x)) d.live) d.spares (leases_last (torn t.kept (frame_bytes x)) (λ k. refl) d.live) refl ∙ begun_leases c b.0 b.1 b.2;
+          leases = both_fields (λ (h : Holding). h.lease) d.live d.spares (with_last (torn t.kept (frame_bytes x)) d.live) d.spares (field_last (λ (h : Holding). h.lease) (torn t.kept (frame_bytes x)) (λ k. refl) d.live) refl ∙ begun_leases c b.0 b.1 b.2;
         });
       };
       rose = rose_begun c b.0 b.1 lease (boxes new) b.2 t.rose;
@@ -315,7 +301,7 @@ torn_spare lease c x care new st w t =
     record {
       ended = record {
         sound = subst IsSound (sym t.is) sound.0;
-        same = subst (IsSameLog c) (sym t.is) (record { m = refl; f = refl; number = refl; leases = both_leases c.live c.spares c.live (with_first (torn t.kept (header_bytes (header_of c))) c.spares) refl (leases_first (torn t.kept (header_bytes (header_of c))) (λ k. refl) c.spares) });
+        same = subst (IsSameLog c) (sym t.is) (record { m = refl; f = refl; number = refl; leases = both_fields (λ (h : Holding). h.lease) c.live c.spares c.live (with_first (torn t.kept (header_bytes (header_of c))) c.spares) refl (field_first (λ (h : Holding). h.lease) (torn t.kept (header_bytes (header_of c))) (λ k. refl) c.spares) });
       };
       rose = t.rose;
       stopped = record {
@@ -379,7 +365,7 @@ takes_begun c x care st w =
     let d : Contents = record c { live = c.live ++ t ∷ []; spares = b.1; is_open = true } in
     let empty = (spares_empty c s b.1 b.2).0 in
     let none : length s.bytes ≡ 0 = ap (λ (l : List ℕ). length l) empty.0 in
-    let room = empty.1 in
+    let room = empty.1.0 in
     let law = st.follows.lawful.head.fits.1 in
     let fresh = not_worn s (subst (λ (l : List Holding). is_worn (slice_get l 0) ≡ false) b.2.first (st.grants.first w)) in
     let number = st.grants.number w in

@@ -1,13 +1,16 @@
 -- What the other calls say.
 
-use Rattle.std.specs.Prelude.{ℕ, ◌+◌, ◌-◌, ◌^◌, ◌<◌, ◌≤◌, ◌≡◌, ◌⊎◌, nat_le, false, if◌then◌else◌, Option, Some, None, Result, Ok, Err, List, [], ◌∷◌, length, map, slice_get, MatchOption}
-use Rattle.std.specs.List.{fold, filter, AllByRecursion}
+use Rattle.std.specs.Prelude.{ℕ, ◌+◌, ◌-◌, ◌^◌, ◌<◌, ◌≤◌, ◌≡◌, ◌⊎◌, nat_le, false, if◌then◌else◌, Option, Some, None, Result, Ok, Err, List, [], ◌∷◌, length, map, slice_get, slice_set, MatchOption, true}
+use Rattle.std.specs.List.{fold, filter, list_any, AllByRecursion}
 use Rattle.bw_codec.specs.declared.block.Place.{Place}
-use Rattle.bw_device.specs.Holding.{Holding}
+use Rattle.bw_codec.specs.declared.block.Frame.{Frame}
+use Rattle.bw_codec.specs.Touch.{touches}
+use Rattle.bw_device.specs.Holding.{Holding, failed_once}
 use Rattle.bw_log.specs.Places.{base_of}
 use Rattle.bw_log.specs.Segments.{segment_frames, is_before_next}
 use Rattle.bw_log.specs.Contents.{Contents, IsSpare, counted}
-use Rattle.bw_log.specs.Steps.{Rose}
+use Rattle.bw_log.specs.Walking.{StandsAt}
+use Rattle.bw_log.specs.declared.places.FrameAt.{FrameAt}
 use Rattle.bw_log.specs.declared.fault.LogFault.{LogFault}
 use Rattle.bw_log.specs.declared.fault.LogFault.TheVariants.{NoMemory, BadConfig, NoSegment, Device, Failed, Spent, NoPage}
 
@@ -74,28 +77,52 @@ abbrev pub oldest_count : List Holding → ℕ
 oldest_count [] = 0
 oldest_count (h ∷ hs) = length (segment_frames h.bytes)
 
--- the failure count of a live segment is at its greatest value
-pub record IsWornOut (live : List Holding) : Type 0 where
+-- the failure count of a live segment that has to be read is at its greatest value
+pub record IsWornOut (reads : ℕ → Type 0) (live : List Holding) : Type 0 where
   pub at : ℕ
+  pub read : reads at
   pub segment : Holding
   pub is : slice_get live at ≡ Some segment
   pub greatest : 2 ^ 64 - 1 ≤ segment.failed
 
--- after a failed read: the failure count of one live segment rose, and no byte changed
-pub record FailedRead (lease : ℕ) (old new : Contents) : Type 0 where
-  pub live : List Holding
-  pub is : new ≡ record old { live = live }
-  pub rose : Rose lease old.live live
-  pub leases : map (λ h. h.lease) live ≡ map (λ h. h.lease) old.live
-  pub bytes : map (λ h. h.bytes) live ≡ map (λ h. h.bytes) old.live
+-- after a failed read: the segment of that lease, which had to be read, counts one failure more
+pub record FailedRead (reads : ℕ → Type 0) (lease : ℕ) (old new : Contents) : Type 0 where
+  pub at : ℕ
+  pub read : reads at
+  pub segment : Holding
+  pub was : slice_get old.live at ≡ Some segment
+  pub named : segment.lease ≡ lease
+  pub is : new ≡ record old { live = slice_set old.live at (failed_once segment) }
+
+-- what a refused read leaves, where it may have had to read the live segments of these indices
+abbrev pub StopsAt : (ℕ → Type 0) → Contents → LogFault → Contents → Type 0
+StopsAt reads old NoMemory new = new ≡ old
+StopsAt reads old (Device lease) new = FailedRead reads lease old new
+StopsAt reads old BadConfig new = ⊥
+StopsAt reads old NoSegment new = ⊥
+StopsAt reads old Failed new = ⊥
+StopsAt reads old Spent new = (new ≡ old) × IsWornOut reads old.live
+StopsAt reads old NoPage new = new ≡ old
 
 -- what a call that only reads leaves
-abbrev pub ReadStops : {A : Type 0} → Contents → Result A LogFault → Contents → Type 0
-ReadStops old (Ok x) new = new ≡ old
-ReadStops old (Err NoMemory) new = new ≡ old
-ReadStops old (Err (Device lease)) new = FailedRead lease old new
-ReadStops old (Err BadConfig) new = ⊥
-ReadStops old (Err NoSegment) new = ⊥
-ReadStops old (Err Failed) new = ⊥
-ReadStops old (Err Spent) new = (new ≡ old) × IsWornOut old.live
-ReadStops old (Err NoPage) new = new ≡ old
+abbrev pub ReadStops : {A : Type 0} → (ℕ → Type 0) → Contents → Result A LogFault → Contents → Type 0
+ReadStops reads old (Ok x) new = new ≡ old
+ReadStops reads old (Err fault) new = StopsAt reads old fault new
+
+-- the segment of this number
+abbrev pub IsNumbered : Contents → ℕ → ℕ → Type 0
+IsNumbered c segment at = segment ≡ c.number + at
+
+-- the segment in which the counted frame of this index stands
+pub record IsLineIn (c : Contents) (index at : ℕ) : Type 0 where
+  pub line : FrameAt
+  pub told : slice_get c.frames index ≡ Some line
+  pub inside : IsNumbered c line.segment at
+
+-- a segment in which a counted frame stands that touches the page
+pub record HoldsPage (c : Contents) (page at : ℕ) : Type 0 where
+  pub index : ℕ
+  pub frame : Frame
+  pub stands : StandsAt (counted c) index frame
+  pub touched : list_any (touches page) frame.blocks ≡ true
+  pub inside : IsLineIn c index at

@@ -7,6 +7,7 @@ use Rattle.bw_codec.specs.declared.block.Place.{Place}
 use Rattle.bw_codec.specs.declared.block.Frame.{Frame}
 use Rattle.bw_page.specs.Standing.{Stand}
 use Rattle.bw_device.specs.Holding.{Holding}
+use Rattle.bw_device.specs.declared.memory.TheConstants.{MAX_CAPACITY}
 use Rattle.bw_log.specs.Places.{place_of, base_of, first_number, AreLinked}
 use Rattle.bw_log.specs.Segments.{frames_of, entries, AreLive, IsCleanLast, AreFrom, is_before_next, next_of}
 use Rattle.bw_log.specs.declared.places.FrameAt.{FrameAt}
@@ -100,9 +101,13 @@ abbrev pub IsStanding : ℕ → List Frame → ℕ → Type 0
 IsStanding m frames pages =
     ((frames ≡ []) × (pages ≡ 0)) ⊎ ((leaves : List Leaf) × Stand m frames leaves × (length leaves ≡ pages))
 
--- an empty box with room for a header and one frame
+-- room for a header and one frame at least, and no more than a box may have
+abbrev pub IsRoomy : ℕ → Holding → Type 0
+IsRoomy f h = (24 + f ≤ h.room) × (h.room ≤ MAX_CAPACITY)
+
+-- an empty box with such room
 abbrev pub IsSpare : ℕ → Holding → Type 0
-IsSpare f h = (h.bytes ≡ []) × (24 + f ≤ h.room)
+IsSpare f h = (h.bytes ≡ []) × IsRoomy f h
 
 -- ---- what every log keeps between calls
 
@@ -125,5 +130,6 @@ pub record IsImage (i : Image) : Type 0 where
 
 pub record IsSound (c : Contents) : Type 0 where
   pub few : length c.live + length c.spares ≤ 4096
+  pub rooms : AllByRecursion (IsRoomy c.f) (boxes c)
   pub empty : c.is_failed ≡ false → AllByRecursion (IsSpare c.f) c.spares
   pub holds : IsImage (image c)

@@ -1,6 +1,6 @@
 -- What an append does, and when it is refused.
 
-use Rattle.std.specs.Prelude.{ℕ, ◌+◌, ◌-◌, ◌^◌, ◌≡◌, ◌⊎◌, ◌&&◌, ◌||◌, not, nat_lt, nat_le, Bool, true, false, if◌then◌else◌, IsTrue, Option, Some, None, Result, Ok, Err, List, [], ◌∷◌, ◌++◌, length, slice_get}
+use Rattle.std.specs.Prelude.{ℕ, ◌+◌, ◌-◌, ◌^◌, ◌≡◌, ◌⊎◌, ◌&&◌, ◌||◌, not, nat_lt, nat_le, Bool, true, false, if◌then◌else◌, IsTrue, is_none, Option, Some, None, Result, Ok, Err, List, [], ◌∷◌, ◌++◌, length, slice_get}
 use Rattle.bw_codec.specs.Grammar.{frame_bytes, header_bytes, IsFrame}
 use Rattle.bw_codec.specs.declared.leaf.Leaf.{Leaf}
 use Rattle.bw_codec.specs.declared.block.Frame.{Frame}
@@ -65,8 +65,9 @@ is_worn (Some h) = nat_le (2 ^ 64 - 1) h.failed
 -- a needed number does not exist
 abbrev pub is_spent : Contents → ℕ → Bool
 is_spent c len =
-    if wants_segment c len then nat_le (2 ^ 64) (c.number + length c.live) || is_worn (slice_get c.spares 0)
-    else is_worn (last_of c.live)
+    is_none c.next
+    || (if wants_segment c len then nat_le (2 ^ 64) (c.number + length c.live) || is_worn (slice_get c.spares 0)
+    else is_worn (last_of c.live))
 
 abbrev pub refusal : Contents → ℕ → Bool → Option LogFault
 refusal c len care =
@@ -124,8 +125,10 @@ pub record MayFollow (c : Contents) (frame : Frame) : Type 0 where
   pub leaves : List Leaf
   pub stands : Stand c.m (counted c ++ frame ∷ []) leaves
 
--- the frame's bytes stand at the end of the current segment
+-- the frame's bytes stand at the end of the current segment, which takes further ones
 pub record Appended (old : Contents) (frame : Frame) (new : Contents) : Type 0 where
+  pub takes : new.is_open ≡ true
+  pub works : new.is_failed ≡ false
   pub live : new.live ≡ with_last (λ h. appended h (frame_bytes frame)) (roomy old (length (frame_bytes frame))).live
   pub spares : new.spares ≡ (roomy old (length (frame_bytes frame))).spares
   pub frames : counted new ≡ counted old ++ frame ∷ []

@@ -40,14 +40,15 @@ impl Log {
             if self.spares.as_slice().len() < wanted {
                 return Some(LogFault::NoSegment);
             }
-            if u64::MAX - self.number < self.live.as_slice().len() as u64
+            if self.next.is_none()
+                || u64::MAX - self.number < self.live.as_slice().len() as u64
                 || is_first_worn(&self.spares)
             {
                 return Some(LogFault::Spent);
             }
             return None;
         }
-        if is_last_worn(&self.live) {
+        if self.next.is_none() || is_last_worn(&self.live) {
             return Some(LogFault::Spent);
         }
         None
@@ -58,7 +59,7 @@ impl Log {
     /// one spare is enough where a segment is begun, else two.
     pub fn ready(&mut self, len: u32, care: bool) -> Result<(), LogFault>
         requires sound { IsSound holding self.old }
-        requires short { len ≤ self.old.f }
+        requires short { len ≤ (seen_by holding self.old).f }
         ensures sound { IsSound holding self.new }
         ensures same { seen_by holding self.new ≡ seen_by holding self.old }
         ensures checks { Checks (refusal (seen_by holding self.old) len care) result }
@@ -177,7 +178,7 @@ impl Log {
     fn append_with(&mut self, buffer: &Buffer, care: bool) -> Result<(), LogFault>
         requires sound { IsSound holding self.old }
         requires sealed { buffer.now.is_sealed ≡ true }
-        requires limit { buffer.now.limit ≡ self.old.f }
+        requires limit { buffer.now.limit ≡ (seen_by holding self.old).f }
         requires follows { MayFollow (seen_by holding self.old) (frame_of buffer.now) }
         ensures sound { IsSound holding self.new }
         ensures added { OnOk result
@@ -213,7 +214,7 @@ impl Log {
     pub fn append(&mut self, buffer: &Buffer) -> Result<(), LogFault>
         requires sound { IsSound holding self.old }
         requires sealed { buffer.now.is_sealed ≡ true }
-        requires limit { buffer.now.limit ≡ self.old.f }
+        requires limit { buffer.now.limit ≡ (seen_by holding self.old).f }
         requires follows { MayFollow (seen_by holding self.old) (frame_of buffer.now) }
         ensures sound { IsSound holding self.new }
         ensures added { OnOk result
@@ -241,7 +242,7 @@ impl Log {
     pub fn append_care(&mut self, buffer: &Buffer) -> Result<(), LogFault>
         requires sound { IsSound holding self.old }
         requires sealed { buffer.now.is_sealed ≡ true }
-        requires limit { buffer.now.limit ≡ self.old.f }
+        requires limit { buffer.now.limit ≡ (seen_by holding self.old).f }
         requires follows { MayFollow (seen_by holding self.old) (frame_of buffer.now) }
         ensures sound { IsSound holding self.new }
         ensures added { OnOk result

@@ -7,7 +7,7 @@ ghost use Rattle.bw_device.specs.Holding.{appended, failed_once, IsTorn};
 ghost use Rattle.bw_log.specs.Changes.{ChangedAt};
 ghost use Rattle.bw_log.specs.Contents.{IsSpare};
 
-use bw_device::{Fault, Segment};
+use bw_device::{Fault, MAX_CAPACITY, Segment};
 
 // ---- one box
 
@@ -57,13 +57,14 @@ fn failures_one(one: &Box<dyn Segment>) -> u64
     one.failures()
 }
 
-/// Whether a box is empty, and has room for a header and a frame of at most `f` bytes.
+/// Whether a box is empty, and has room for a header and a frame of at most `f` bytes, and not too
+/// much.
 pub(crate) fn is_spare(one: &Box<dyn Segment>, f: u32) -> bool
     ensures { IsTrue result ↔ IsSpare f (holding one.now) }
 {
     let len = len_one(one);
     let capacity = capacity_one(one);
-    len == 0 && 24 + u64::from(f) <= capacity
+    len == 0 && 24 + u64::from(f) <= capacity && capacity <= MAX_CAPACITY
 }
 
 // ---- one box of a `Vec`

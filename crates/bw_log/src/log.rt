@@ -145,21 +145,21 @@ impl Log {
 
     /// The most bytes that a frame may have.
     pub fn limit(&self) -> u32
-        ensures { result ≡ self.now.f }
+        ensures { result ≡ (seen_by holding self.now).f }
     {
         self.f
     }
 
     /// The next frame's number; `None` after the greatest.
     pub fn next_frame(&self) -> Option<u64>
-        ensures { result ≡ self.now.next }
+        ensures { result ≡ (seen_by holding self.now).next }
     {
         self.next
     }
 
     /// Whether an append failed. Such a log takes no more frames.
     pub fn is_failed(&self) -> bool
-        ensures { result ≡ self.now.is_failed }
+        ensures { result ≡ (seen_by holding self.now).is_failed }
     {
         self.is_failed
     }
@@ -227,7 +227,7 @@ impl Log {
         requires { IsSound holding self.now }
         ensures { MatchOption (slice_get (seen_by holding self.now).live i)
             (result ≡ None)
-            (λ h. result ≡ Some (self.now.number + i, h.lease, length h.bytes)) }
+            (λ h. result ≡ Some ((seen_by holding self.now).number + i, h.lease, length h.bytes)) }
     {
         let at = i as usize;
         if at >= self.live.len() {

@@ -17,7 +17,7 @@ impl Log {
         requires { IsSound holding self.now }
         ensures { MatchOption (slice_get (seen_by holding self.now).live 0)
             (result ≡ None)
-            (λ h. result ≡ Some (self.now.number, last_number (seen_by holding self.now) h)) }
+            (λ h. result ≡ Some ((seen_by holding self.now).number, last_number (seen_by holding self.now) h)) }
     {
         if self.live.is_empty() {
             return None;
@@ -45,21 +45,21 @@ impl Log {
     /// costs a pass over the lines of all counted frames.
     pub fn give_up_oldest(&mut self)
         requires sound { IsSound holding self.old }
-        requires two { 2 ≤ length self.old.live.items }
-        requires works { self.old.is_failed ≡ false }
+        requires two { 2 ≤ length (seen_by holding self.old).live }
+        requires works { (seen_by holding self.old).is_failed ≡ false }
         requires bases { NoBaseBefore (seen_by holding self.old) }
         ensures sound { IsSound holding self.new }
         ensures given_up { seen_by holding self.new
             ≡ record (seen_by holding self.old) {
               live = drop 1 (seen_by holding self.old).live;
-              number = self.old.number + 1;
+              number = (seen_by holding self.old).number + 1;
               frames = (seen_by holding self.new).frames;
             } }
         ensures counted { counted (seen_by holding self.new)
             ≡ drop (oldest_count (seen_by holding self.old).live) (counted (seen_by holding self.old)) }
         ensures stands { (leaves : List Leaf)
-            → Stand self.old.m (counted (seen_by holding self.old)) leaves
-            → Stand self.old.m (counted (seen_by holding self.new)) leaves }
+            → Stand (seen_by holding self.old).m (counted (seen_by holding self.old)) leaves
+            → Stand (seen_by holding self.old).m (counted (seen_by holding self.new)) leaves }
     {
         let number = self.number;
         drop(self.live.remove(0));

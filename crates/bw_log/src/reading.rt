@@ -14,7 +14,7 @@ ghost use Rattle.bw_codec.specs.Touch.{sets, touches};
 ghost use Rattle.bw_codec.specs.declared.block.Frame.{Frame};
 ghost use Rattle.bw_page.specs.Standing.{after, content, blocks_of};
 ghost use Rattle.bw_log.specs.Contents.{counted, image, IsImage};
-ghost use Rattle.bw_log.specs.Calls.{IsPage, ReadStops, segment_at};
+ghost use Rattle.bw_log.specs.Calls.{IsPage, IsNumbered, IsLineIn, HoldsPage, ReadStops, segment_at};
 ghost use Rattle.bw_log.specs.Walking.{first_back, StandsAt, IsWalk};
 
 use crate::boxes::{failures_of, lease_of, len_of, read_from};
@@ -120,7 +120,8 @@ impl Log {
         ensures bytes { IfOk result (λ bytes.
             IfSome (slice_get (map holding self.old.live.items) at)
             (λ h. bytes.items ≡ take len (drop from h.bytes))) }
-        ensures stops { ReadStops (seen_by holding self.old) result (seen_by holding self.new) }
+        ensures stops { ReadStops (λ i. i ≡ at)
+            (seen_by holding self.old) result (seen_by holding self.new) }
         ensures paged { result ≢ Err LogFault.NoPage }
     {
         if failures_of(&self.live, at) == u64::MAX {
@@ -141,7 +142,8 @@ impl Log {
         requires sound { IsSound holding self.old }
         requires inside { i < length self.old.frames.items }
         ensures found { IfOk result (StandsAt (counted (seen_by holding self.old)) i) }
-        ensures stops { ReadStops (seen_by holding self.old) result (seen_by holding self.new) }
+        ensures stops { ReadStops (λ j. IsLineIn (seen_by holding self.old) i j)
+            (seen_by holding self.old) result (seen_by holding self.new) }
         ensures paged { result ≢ Err LogFault.NoPage }
     {
         let line = self.frames[i];
@@ -162,7 +164,8 @@ impl Log {
         ensures walked { IfOk result (λ frames.
             content page (blocks_of (counted (seen_by holding self.old)))
             ≡ fold (after page) None (blocks_of (reverse frames.items))) }
-        ensures stops { ReadStops (seen_by holding self.old) result (seen_by holding self.new) }
+        ensures stops { ReadStops (HoldsPage (seen_by holding self.old) page)
+            (seen_by holding self.old) result (seen_by holding self.new) }
         ensures paged { result ≢ Err LogFault.NoPage }
     {
         let first = self.frames[0].number;
@@ -195,7 +198,8 @@ impl Log {
         ensures sound { IsSound holding self.new }
 
         ensures no_page { result ≡ Err LogFault.NoPage ↔ (IsPage (seen_by holding self.old) page → ⊥) }
-        ensures stops { ReadStops (seen_by holding self.old) result (seen_by holding self.new) }
+        ensures stops { ReadStops (HoldsPage (seen_by holding self.old) page)
+            (seen_by holding self.old) result (seen_by holding self.new) }
     {
         let Some(entry) = self.page_at(page) else {
             return Err(LogFault::NoPage);
@@ -222,7 +226,8 @@ impl Log {
         ensures sound { IsSound holding self.new }
 
         ensures unchanged { OnErr result (out.new.items ≡ out.old.items) }
-        ensures stops { ReadStops (seen_by holding self.old) result (seen_by holding self.new) }
+        ensures stops { ReadStops (IsNumbered (seen_by holding self.old) segment)
+            (seen_by holding self.old) result (seen_by holding self.new) }
         ensures no_page { result ≢ Err LogFault.NoPage }
     {
         if segment < self.number || segment - self.number >= self.live.len() as u64 {

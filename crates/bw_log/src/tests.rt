@@ -14,6 +14,7 @@ use bw_device::{Desk, FuseSegment, MemSegment, Segment};
 use std::alloc::Global;
 use std::test::Fail;
 
+mod failing;
 mod filled;
 mod given_up;
 mod spares;
@@ -105,6 +106,9 @@ fn second_segment(alloc: Global) -> Result<u8, Fail> {
     let Err(LogFault::NoSegment) = log.append(&next) else {
         return Ok(3);
     };
+    if log.live_segment(0) != Some((1, 0, 76)) || log.spare_leases(0) != Some(1) {
+        return Ok(9);
+    }
     let further = MemSegment::new(alloc, desk.take()?, 16408)?;
     let Ok(()) = log.add_segment(Box::new(alloc, further)?) else {
         return Ok(4);
@@ -148,44 +152,6 @@ fn fused(
     boxes.push(Box::new(alloc, FuseSegment::new(inner, calls, keep))?)?;
     let spare = MemSegment::new(alloc, desk.take()?, 16408)?;
     boxes.push(Box::new(alloc, spare)?)?;
-    Ok(())
-}
-
-// What stands once the first append failed: how many segments are live, and how long the first is.
-fn torn(alloc: Global, calls: u64, keep: u64) -> Result<Option<(u32, u64)>, Fail> {
-    let mut boxes: Vec<Box<dyn Segment>> = Vec::new(alloc);
-    fused(alloc, calls, keep, &mut boxes)?;
-    let Ok(mut log) = Log::new(alloc, boxes, 4, 16384) else {
-        return Ok(None);
-    };
-    let frame = first(alloc)?;
-    let Err(LogFault::Device { lease: 0 }) = log.append(&frame) else {
-        return Ok(None);
-    };
-    let Err(LogFault::Failed) = log.ready(52, false) else {
-        return Ok(None);
-    };
-    let len = match log.live_segment(0) {
-        Some((_, _, len)) => len,
-        None => 0,
-    };
-    Ok(Some((log.live(), len)))
-}
-
-#[test]
-fn a_failed_append_leaves_a_beginning(rt: HostRuntime) -> Result<(), Fail> {
-    let table = [
-        (0, 0, 0, 0),
-        (0, 10, 0, 0),
-        (0, 24, 0, 0),
-        (1, 0, 1, 24),
-        (1, 51, 1, 75),
-        (1, 52, 1, 76),
-        (1, 1000, 1, 76),
-    ];
-    for (calls, keep, live, len) in table {
-        assert_eq!(rt; torn(rt.alloc(), calls, keep)?, Some((live, len)));
-    }
     Ok(())
 }
 

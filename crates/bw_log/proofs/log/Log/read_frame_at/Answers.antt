@@ -1,7 +1,8 @@
 use Rattle.std.proofs.Common.{◌∙◌, arith}
 use Rattle.std.proofs.lemmas.List.{length-map}
+use Rattle.std.proofs.lemmas.Result.{err_from_is_err_and}
 use Rattle.bw_log.proofs.Scans.{not_bad}
-use Rattle.bw_log.proofs.Fetched.{boxed_line, line_within, line_bytes, frame_found}
+use Rattle.bw_log.proofs.Fetched.{boxed_line, line_within, line_bytes, frame_found, in_line, stops_as}
 use Rattle.bw_log.proofs.log.Log.read_frame_at.Goals as goal
 
 pub overflow_sub-at : goal.overflow_sub-at
@@ -29,3 +30,8 @@ pub unreachable-requires : goal.unreachable-requires
 unreachable-requires g c =
     let l = boxed_line _ c.args.i c.index-line.result.now c.requires.sound c.requires.inside c.index-line.ensures in
     not_bad c.in-Err-BadBytes.field-0 l.frame c.in-Err-BadBytes.field-0-is (c.in-Err-BadBytes.ensures l.frame l.lawful (c.deref.ensures.value ∙ line_bytes l c.in_ok-bytes.bytes.items c.in_ok-bytes.ensures.bytes))
+
+pub returns-in_err-bytes-clause-stops : goal.returns-in_err-bytes-clause-stops
+returns-in_err-bytes-clause-stops g c =
+    let p = err_from_is_err_and c.from_residual.result c.from_residual.ensures.1 in
+    rw (p.1, p.2) (stops_as _ _ _ _ c.in_err-bytes.field-0.0 (in_line _ c.args.i c.index-line.result.now c.requires.sound c.requires.inside c.index-line.ensures) c.in_err-bytes.ensures.stops)

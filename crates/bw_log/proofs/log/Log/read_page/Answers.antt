@@ -1,6 +1,7 @@
 use Rattle.std.proofs.Common.{Ok, Err, refl, sym, ◌∙◌, arith}
 use Rattle.std.proofs.lemmas.Result.{err_from_is_err_and}
 use Rattle.bw_log.specs.declared.fault.LogFault.TheVariants.{NoMemory}
+use Rattle.bw_log.proofs.Fetched.{sound_after}
 use Rattle.bw_log.proofs.Asked.{page_there}
 use Rattle.bw_log.proofs.Walked.{page_starts, some_frames, first_is, no_line, not_none, page_answer, other_as}
 use Rattle.bw_log.proofs.log.Log.read_page.Goals as goal
@@ -41,3 +42,6 @@ returns-in-Ok-Some-clause-no_page g c =
 pub returns-in-Err-clause-no_page : goal.returns-in-Err-clause-no_page
 returns-in-Err-clause-no_page g c =
     page_answer c.args.self.now.pages.items c.args.page (Err NoMemory) (λ e. cc) (page_there c.args.page c.args.self.now.pages.items c.in-Some.entry c.in-Some.ensures)
+
+pub returns-in_err-frames-clause-sound : goal.returns-in_err-frames-clause-sound
+returns-in_err-frames-clause-sound g c = sound_after _ _ _ c.in_err-frames.field-0.0 c.requires c.in_err-frames.ensures.stops

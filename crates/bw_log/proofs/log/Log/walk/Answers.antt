@@ -1,4 +1,6 @@
 use Rattle.std.proofs.Common.{◌∙◌, arith}
+use Rattle.std.proofs.lemmas.Result.{err_from_is_err_and}
+use Rattle.bw_log.proofs.Fetched.{on_page, stops_since}
 use Rattle.bw_log.proofs.Walked.{inside_now, some_frames, step_is, some_link, end_is}
 use Rattle.bw_log.proofs.log.Log.walk.Goals as goal
 
@@ -40,3 +42,8 @@ unreachable-requires g c =
     some_link _ _ c.args.page c.back.at c.back.frames.items c.in_ok-frame.frame c.as_slice.result.now c.as_slice-in-back.result.now
     (c.back.invariant.same, c.requires.sound, c.back.invariant.walk, c.in_ok-frame.ensures.found)
     c.as_slice.ensures c.if-ends.ensures c.as_slice-in-back.ensures c.in-None.ensures
+
+pub returns-in_err-frame-clause-stops : goal.returns-in_err-frame-clause-stops
+returns-in_err-frame-clause-stops g c =
+    let p = err_from_is_err_and c.from_residual.result c.from_residual.ensures.1 in
+    rw (p.1, p.2) (stops_since _ _ _ _ _ c.in_err-frame.field-0.0 c.back.invariant.same (on_page _ _ c.args.page c.back.at c.back.frames.items c.back.invariant.same c.back.invariant.walk) c.in_err-frame.ensures.stops)
