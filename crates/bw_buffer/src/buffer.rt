@@ -65,8 +65,10 @@ impl Buffer {
         })
     }
 
-    /// Adds all the blocks, or none, and answers the place of the first. No memory is taken. Time is
-    /// linear in the bytes of these blocks, whatever stands in the buffer.
+    /// Adds all the blocks, one or more that are lawful for 32 pairs a page, or none, and answers the
+    /// place of the first. `Sealed` after the seal, else `NoRoom` where the frame would be longer than
+    /// the limit. No memory is taken. Time is linear in the bytes of these blocks, whatever stands in
+    /// the buffer.
     pub fn put_all(&mut self, blocks: &[Block]) -> Result<Place, PutError>
         requires some { 1 ≤ length blocks.now }
         requires lawful { AllByRecursion (IsBlock 32) blocks.now }

@@ -99,7 +99,8 @@ impl Pairs {
         Ok(())
     }
 
-    /// Gives the key at an index, which is this key, another value.
+    /// Puts this pair in the place of the one at an index. That the keys still ascend is the caller's
+    /// care.
     pub fn replace(&mut self, at: usize, key: Key, value: Value)
         requires { at < length self.old }
         ensures { self.new ≡ slice_set self.old at (key, value) }

@@ -6,9 +6,9 @@ ghost use Rattle.std.specs.List.{AllByRecursion};
 ghost use Rattle.bw_codec.specs.Grammar.{IsBlock};
 
 use crate::{
-    Block, Blocks, CodecFault, Frame, FrameRead, Header, HeaderRead, Key, Leaf, LengthError, Low,
-    Ops, Pairs, Place, Record, Value, encode_block, encode_frame_head, encode_header, read_frame,
-    read_header,
+    Block, Blocks, CodecFault, Frame, FrameRead, Head, Header, HeaderRead, Key, Leaf, LengthError,
+    Low, Ops, Pairs, Place, Record, Value, block_length, encode_block, encode_frame_head,
+    encode_header, frame_cells, header_cells, is_before, read_frame, read_header, write_block,
 };
 use std::alloc::Global;
 use std::test::Fail;
@@ -452,8 +452,52 @@ fn records_go_through(alloc: Global) -> Option<bool> {
     Some(same && says(first, Kind::Put, (1, 0), b"k", b"v"))
 }
 
+/// Whether the first segment's head, its frame's, and its first block are written as they stand there
+/// by the calls that take no memory.
+fn parts_are_written(alloc: Global) -> Option<bool> {
+    let bytes = bytes_of(alloc, FIRST)?;
+    let base = Block::Base(Leaf {
+        page: 1,
+        low: Low::of(Vec::new(alloc)),
+        pairs: Pairs::of(Vec::new(alloc)),
+    });
+    let mut out = Vec::with_capacity(alloc, block_length(&base)).ok()?;
+    write_block(&base, &mut out);
+    Some(
+        bytes.get(..24)? == header_cells(1, 4, 16_384).as_slice()
+            && bytes.get(24..44)? == frame_cells(1, 32, 2).as_slice()
+            && bytes.get(44..52)? == out.as_slice(),
+    )
+}
+
+/// Whether heads and keys are told by the calls that answer yes or no.
+fn questions_are_answered() -> Option<bool> {
+    let (key, value) = pair_of(b"k", b"v")?;
+    let head = Head {
+        number: 1,
+        body: 32,
+        blocks: 2,
+    };
+    let header = Header {
+        number: 1,
+        m: 4,
+        f: 16_384,
+    };
+    Some(
+        key.copy() == key
+            && value.copy() == value
+            && is_before(b"a", b"aa")
+            && !is_before(b"b", b"b")
+            && head.is_lawful(52)
+            && !head.is_lawful(51)
+            && header.is_lawful(),
+    )
+}
+
 #[test]
 fn each_call_succeeds(rt: HostRuntime) {
+    assert_eq!(rt; parts_are_written(rt.alloc()), Some(true));
+    assert_eq!(rt; questions_are_answered(), Some(true));
     assert_eq!(rt; leaf_is_copied(rt.alloc()), Some(true));
     assert_eq!(rt; records_go_through(rt.alloc()), Some(true));
 }

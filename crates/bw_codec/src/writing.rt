@@ -158,7 +158,8 @@ fn push_ops(out: &mut Vec<u8>, ops: &[Record])
 
 // ---- heads
 
-/// A segment header's 24 bytes. No memory is taken.
+/// A segment header's 24 bytes. The numbers are not checked: see `Header::is_lawful`. No memory is
+/// taken.
 #[tactic(auto, unfolding(crate::specs::Bytes::number_bytes))]
 pub fn header_cells(number: u64, m: u16, f: u32) -> [u8; 24]
     ensures { result ≡ header_bytes (record { number = number; m = m; f = f }) }
@@ -173,7 +174,7 @@ pub fn header_cells(number: u64, m: u16, f: u32) -> [u8; 24]
     cells
 }
 
-/// A frame's first 20 bytes. No memory is taken.
+/// A frame's first 20 bytes. The numbers are not checked: see `Head::is_lawful`. No memory is taken.
 #[tactic(auto, unfolding(crate::specs::Bytes::number_bytes))]
 pub fn frame_cells(number: u64, body: u32, blocks: u32) -> [u8; 20]
     ensures { result ≡ head_bytes number body blocks }
@@ -186,7 +187,8 @@ pub fn frame_cells(number: u64, body: u32, blocks: u32) -> [u8; 20]
     cells
 }
 
-/// Appends a segment header's 24 bytes. A refusal changes nothing.
+/// Appends a segment header's 24 bytes. The numbers are not checked. A refused growth is the only
+/// error, and changes nothing.
 pub fn encode_header(header: &Header, out: &mut Vec<u8>) -> Result<(), AllocError>
     ensures ok { OnOk result (out.new.items ≡ out.old.items ++ header_bytes header.now) }
     ensures err { OnErr result (out.new.items ≡ out.old.items) }
@@ -195,7 +197,7 @@ pub fn encode_header(header: &Header, out: &mut Vec<u8>) -> Result<(), AllocErro
 }
 
 /// Appends a frame's first 20 bytes: its number, the length of its blocks in bytes, and their
-/// count. A refusal changes nothing.
+/// count. The numbers are not checked. A refused growth is the only error, and changes nothing.
 pub fn encode_frame_head(
     number: u64,
     body: u32,
@@ -210,7 +212,8 @@ pub fn encode_frame_head(
 
 // ---- blocks
 
-/// How many bytes a block is spelled in. Linear in its pairs or records, whatever their lengths.
+/// How many bytes a block, lawful for 32 pairs a page, is spelled in. Linear in its pairs or records,
+/// whatever their lengths.
 pub fn block_length(block: &Block) -> usize
     requires { IsBlock 32 block.now }
     ensures value { result ≡ length (block_bytes block.now) }
@@ -265,7 +268,8 @@ pub fn write_block(block: &Block, out: &mut Vec<u8>)
     }
 }
 
-/// Appends a block's bytes. A refusal changes nothing.
+/// Appends the bytes of a block that is lawful for 32 pairs a page. A refused growth is the only
+/// error, and changes nothing.
 pub fn encode_block(block: &Block, out: &mut Vec<u8>) -> Result<(), AllocError>
     requires { IsBlock 32 block.now }
     ensures ok { OnOk result (out.new.items ≡ out.old.items ++ block_bytes block.now) }

@@ -34,7 +34,7 @@ impl Drop for Lease {
 impl Lease {
     ghost use Rattle.bw_device.specs.Leases.{number_of};
 
-    /// The number, below that of the leases of its desk.
+    /// The lease's number: from 0, below the number of leases of its desk.
     pub fn number(&self) -> u32
         ensures { result ≡ number_of self.now }
     {

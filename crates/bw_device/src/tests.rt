@@ -119,13 +119,12 @@ fn the_lease_of_a_segment_that_is_not_made_comes_back(rt: HostRuntime) {
 #[test]
 fn a_desk_has_one_to_4096_leases(rt: HostRuntime) {
     for (n, refused) in [
-        (0, true),
-        (1, false),
-        (MAX_LEASES, false),
-        (MAX_LEASES + 1, true),
+        (0, Some(NotMade::BadConfig)),
+        (1, None),
+        (MAX_LEASES, None),
+        (MAX_LEASES + 1, Some(NotMade::BadConfig)),
     ] {
-        let cause = Desk::new(rt.alloc(), n).err();
-        assert_eq!(rt; cause == Some(NotMade::BadConfig), refused, "at {n}");
+        assert_eq!(rt; Desk::new(rt.alloc(), n).err(), refused, "at {n}");
     }
 }
 

@@ -56,7 +56,8 @@ impl Log {
 
     /// Makes the checks and growths of an append of a frame of so many bytes, and appends nothing:
     /// after an Ok the next append of that length answers Ok or a failure of the device. With `care`
-    /// one spare is enough where a segment is begun, else two.
+    /// one spare is enough where a segment is begun, else two. Refused as `append` is, but for the
+    /// device, which is not asked.
     pub fn ready(&mut self, len: u32, care: bool) -> Result<(), LogFault>
         requires sound { IsSound holding self.old }
         requires short { len ≤ (seen_by holding self.old).f }
@@ -205,12 +206,15 @@ impl Log {
         self.put(buffer)
     }
 
-    /// Appends a sealed buffer's frame whole, and leaves one spare or more. Where the current segment
-    /// is missing, closed or without room for the frame, the first spare is made the current segment
-    /// by a header in an append of its own. Refused `Failed`; then `NoSegment`, where a segment has to
-    /// be begun and fewer than two spares stand; then `Spent`; then `NoMemory`: nothing was changed.
-    /// `Device`: a beginning of the header or of the frame may stand, nothing more counts, and the
-    /// log is `Failed`. Time is linear in the frame's bytes and blocks, whatever the log's length.
+    /// Appends a sealed buffer's frame whole. The frame has to follow the counted ones: its number is
+    /// `next_frame`, its blocks are lawful for the log's limits, and its links and pages go on from
+    /// what stands. Where the current segment is missing, closed or without room for the frame, the
+    /// first spare is made the current segment by a header in an append of its own, unless it is the
+    /// last spare. Refused `Failed`; then `NoSegment`, where a segment has to be begun and fewer than
+    /// two spares stand; then `Spent`; then `NoMemory`: nothing was changed. `Device`: a beginning of
+    /// the header or of the frame may stand, nothing more counts, and the log is `Failed`. Time is
+    /// linear in the frame's bytes and blocks, whatever the log's length, but where a table grows,
+    /// which is moved then.
     pub fn append(&mut self, buffer: &Buffer) -> Result<(), LogFault>
         requires sound { IsSound holding self.old }
         requires sealed { buffer.now.is_sealed ≡ true }

@@ -13,7 +13,7 @@ pub enum LogFault {
     #[error("out of memory")]
     NoMemory,
     /// A limit is out of range, there are too many boxes, or a box is no empty spare with room for a
-    /// header and a frame.
+    /// header and a frame, and at most 1 GiB.
     #[error("limits or boxes that no log takes")]
     BadConfig,
     /// A new segment is wanted, and too few spares stand.

@@ -4,8 +4,10 @@
 //! live segment is the current one. A frame is appended to it whole; where it has no room, the first
 //! spare becomes the current segment by a header in an append of its own. A table has the last block
 //! that touches each page and the last one that sets it, and links lead from block to block back to the
-//! one that set the page, so no call but a read of a page walks over frames.
-//! No type can know what a box holds, so what a log keeps is asked and given back by each call.
+//! one that set the page, so that no append and no question walks over frames: a read of a page does,
+//! and giving up a segment passes over the lines of the table.
+//! No type can know what a box holds, so what a log keeps (`IsSound`) is asked and given back by each
+//! call that changes it.
 #![tactic(auto)]
 
 mod appending;

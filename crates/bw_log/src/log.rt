@@ -61,8 +61,8 @@ impl Log {
     ghost use Rattle.bw_log.specs.Seen.{seen_by, IsSound};
 
     /// A log of spares alone, for pages of at most `m` pairs, 4 to 32, and frames of at most `f` bytes,
-    /// 16,384 to 65,536. Each of at most 4,096 boxes is empty and has room for 24 + `f` bytes; else
-    /// all come back with `BadConfig`.
+    /// 16,384 to 65,536. Each of at most 4,096 boxes is empty and has room for 24 + `f` bytes to
+    /// 1,073,741,824; else all come back with `BadConfig`.
     pub fn new(
         alloc: Global,
         spares: Vec<Box<dyn Segment>>,
@@ -172,7 +172,7 @@ impl Log {
         self.pages.len() as u32
     }
 
-    /// The last block that touches a page.
+    /// The last block that touches a page; `None` where there is no such page.
     pub fn place_of(&self, page: u32) -> Option<Place>
         requires { IsSound holding self.now }
         ensures some { 1 ≤ page → result ≡ place_of page (counted (seen_by holding self.now)) }
@@ -184,7 +184,7 @@ impl Log {
         }
     }
 
-    /// The last block that sets a page.
+    /// The last block that sets a page; `None` where there is no such page.
     pub fn base_of(&self, page: u32) -> Option<Place>
         requires { IsSound holding self.now }
         ensures some { 1 ≤ page → result ≡ base_of page (counted (seen_by holding self.now)) }

@@ -13,6 +13,7 @@ fn note(pages: &mut Vec<PageAt>, mark: Mark, place: Place)
     requires { HasLines mark (length pages.old.items) }
     ensures { pages.new.items ≡ noted mark place pages.old.items }
 {
+    // Tells the proof that the lines are as many as the `Vec` is long.
     let _ = pages.as_slice().len();
     match mark {
         Mark::Changes(page) => {

@@ -11,8 +11,8 @@ use crate::log::Log;
 impl Log {
     ghost use Rattle.bw_log.specs.Seen.{seen_by, IsSound};
 
-    /// The oldest segment's number, and that of its last counted frame, or 0 where it has none. It
-    /// costs a search by halves among the lines of the counted frames.
+    /// The oldest segment's number, and that of its last counted frame, or 0 where it has none; `None`
+    /// where no segment is live. It costs a binary search among the lines of the counted frames.
     pub fn oldest(&self) -> Option<(u64, u64)>
         requires { IsSound holding self.now }
         ensures { MatchOption (slice_get (seen_by holding self.now).live 0)
@@ -41,8 +41,8 @@ impl Log {
     }
 
     /// Gives up the oldest of two or more live segments, in which no page's last setting block stands,
-    /// and drops its box. What the counted frames stand for is what it was. No memory is taken; it
-    /// costs a pass over the lines of all counted frames.
+    /// and drops its box. The log has not failed. What the counted frames stand for is what it was. No
+    /// memory is taken; it costs a pass over the lines of all counted frames.
     pub fn give_up_oldest(&mut self)
         requires sound { IsSound holding self.old }
         requires two { 2 ≤ length (seen_by holding self.old).live }

@@ -77,7 +77,8 @@ impl Chain {
         }
     }
 
-    /// Makes room, so that as many calls of `prepend` and `mark_flushed` cannot be refused.
+    /// Makes room for `more` links, so that as many calls of `prepend` and `mark_flushed` cannot be
+    /// refused. A refused growth is the only error, and changes nothing.
     pub fn reserve(&mut self, more: usize) -> Result<(), AllocError>
         ensures links { self.new.links ≡ self.old.links }
         ensures end { self.new.end ≡ self.old.end }
@@ -122,7 +123,7 @@ impl Chain {
     }
 
     /// The page: the records of the chain, oldest first, over its whole page, or over `below`: the
-    /// page in the log at the place that the chain ends on.
+    /// page in the log at the place that the chain ends on. A refused growth is the only error.
     pub fn content(&self, below: &Leaf) -> Result<Leaf, AllocError>
         ensures { IfOk result (λ leaf. leaf ≡ content_of self.now below.now) }
     {

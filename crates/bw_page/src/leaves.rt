@@ -49,7 +49,8 @@ impl Model for Leaves {
 }
 
 impl Leaves {
-    /// Page 1 alone, without any pair. A page holds at most `m` pairs.
+    /// Page 1 alone, without any pair. A page holds at most `m` pairs, 4 to 32. A refused growth is the
+    /// only error.
     pub fn one_empty(alloc: Global, m: u16) -> Result<Leaves, AllocError>
         requires { (4 ≤ m) × (m ≤ 32) }
         ensures { IfOk result (λ l. l ≡ record { m = m; leaves = empty_leaf ∷ [] }) }
@@ -253,7 +254,8 @@ impl Leaves {
         })
     }
 
-    /// Leaves by page, from page 1 on. It costs all pages.
+    /// Lawful leaves, of which page n stands at index n - 1, with at most `m` pairs a page, 4 to 32. A
+    /// refused growth is the only error; the leaves are then dropped. It costs all pages.
     pub fn of(leaves: Vec<Leaf>, m: u16) -> Result<Leaves, AllocError>
         requires limit { (4 ≤ m) × (m ≤ 32) }
         requires lawful { AreLeaves m leaves.items }

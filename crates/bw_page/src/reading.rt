@@ -9,7 +9,8 @@ use crate::changes::change;
 use bw_codec::{Block, Leaf, Pairs, Record};
 use std::alloc::AllocError;
 
-/// The leaf after records, one after the other.
+/// The leaf after records, one after the other. A refused growth is the only error; the leaf is then
+/// dropped.
 pub fn change_all(leaf: Leaf, records: &[Record]) -> Result<Leaf, AllocError>
     ensures { IfOk result (λ l. l ≡ all_changed records.now leaf) }
 {
@@ -35,7 +36,8 @@ fn keep_below(leaf: Leaf, separator: &[u8]) -> Leaf
 }
 
 /// What a page is after one more block, where it was `was` before; `None` where it was never set. A
-/// block that does not touch the page costs a look at its numbers.
+/// block that does not touch the page costs a look at its numbers. A refused growth is the only error;
+/// leaf and block are then dropped.
 pub fn read_block(page: u32, was: Option<Leaf>, block: Block) -> Result<Option<Leaf>, AllocError>
     ensures { IfOk result (λ leaf. leaf ≡ after page was block) }
 {
@@ -73,7 +75,8 @@ pub fn read_block(page: u32, was: Option<Leaf>, block: Block) -> Result<Option<L
     }
 }
 
-/// What a page is after blocks, one after the other, where it was `was` before.
+/// What a page is after blocks, one after the other, where it was `was` before. A refused growth is
+/// the only error; leaf and blocks are then dropped.
 pub fn read_blocks(
     page: u32,
     was: Option<Leaf>,

@@ -64,3 +64,19 @@ fn a_chain_on_the_log_is_read_over_its_page(rt: HostRuntime) -> Result<(), Fail>
     );
     Ok(())
 }
+
+#[test]
+fn a_chain_takes_as_many_links_as_it_reserved(rt: HostRuntime) -> Result<(), Fail> {
+    let mut chain = Chain::whole(rt.alloc(), empty(rt.alloc()));
+    chain.reserve(9)?;
+    for key in [b"a", b"b", b"c", b"d", b"e", b"f", b"g", b"h"] {
+        chain.prepend(put(key, b"1")?)?;
+    }
+    chain.mark_flushed(FIRST)?;
+    let content = chain.content(&empty(rt.alloc()))?;
+    assert_eq!(rt;
+        shown(rt.alloc(), &content)?.as_slice(),
+        b": a=1 b=1 c=1 d=1 e=1 f=1 g=1 h=1".as_slice()
+    );
+    Ok(())
+}
