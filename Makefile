@@ -7,12 +7,10 @@ PROGRAM = crates/bwlog
 .PHONY: run try test
 
 run:
-	@if [ -d $(PROGRAM) ]; then cat $(PROGRAM)/stdin && cd $(PROGRAM) && rt run -- $$(cat args) < stdin; \
-	else echo "there is no program yet: bwlog comes with the first path"; fi
+	@cat $(PROGRAM)/stdin && cd $(PROGRAM) && rt run -- $$(cat args) < stdin
 
 try:
-	@if [ -d $(PROGRAM) ]; then echo "(nothing is proved by this run)" && cd $(PROGRAM) && rt try -- $$(cat args) < stdin; \
-	else echo "there is no program yet: bwlog comes with the first path"; fi
+	@echo "(nothing is proved by this run)" && cd $(PROGRAM) && rt try -- $$(cat args) < stdin
 
 test:
 	rt ci

@@ -118,13 +118,13 @@ later_over test acc (b ∷ bs) =
     ∙ or_else_three (fold (later test) None bs) (later test None b) acc
     ∙ ap (λ (o : Option Place). or_else o acc) (sym (later_over test (later test None b) bs))
 
-last_of_two : (test : Block → Bool) (xs ys : List (Place × Block)) → last_place test (xs ++ ys) ≡ or_else (last_place test ys) (last_place test xs)
+pub last_of_two : (test : Block → Bool) (xs ys : List (Place × Block)) → last_place test (xs ++ ys) ≡ or_else (last_place test ys) (last_place test xs)
 last_of_two test xs ys = fold-append (later test) None xs ys ∙ later_over test (last_place test xs) ys
 
-placed_more : (xs ys : List Frame) → all_placed (xs ++ ys) ≡ all_placed xs ++ all_placed ys
+pub placed_more : (xs ys : List Frame) → all_placed (xs ++ ys) ≡ all_placed xs ++ all_placed ys
 placed_more xs ys = flat_map-append (λ (f : Frame). placed f.number 0 f.blocks) xs ys
 
-last_over_frames : (test : Block → Bool) (xs ys : List Frame) → last_place test (all_placed (xs ++ ys)) ≡ or_else (last_place test (all_placed ys)) (last_place test (all_placed xs))
+pub last_over_frames : (test : Block → Bool) (xs ys : List Frame) → last_place test (all_placed (xs ++ ys)) ≡ or_else (last_place test (all_placed ys)) (last_place test (all_placed xs))
 last_over_frames test xs ys = ap (last_place test) (placed_more xs ys) ∙ last_of_two test (all_placed xs) (all_placed ys)
 
 -- a place in frames numbered from n is in one of them
@@ -137,7 +137,7 @@ place_within_by test n fs result place (inr found) is =
     let len = ap (λ (l : List Frame). length l) last.split in
     (omega arith, omega (arith, len, length-append last.before (last.frame ∷ last.beyond)))
 
-place_within : (test : Block → Bool) (n : ℕ) (fs : List Frame) (place : Place) → AreFrom n fs → last_place test (all_placed fs) ≡ Some place → (n ≤ place.frame) × (place.frame < n + length fs)
+pub place_within : (test : Block → Bool) (n : ℕ) (fs : List Frame) (place : Place) → AreFrom n fs → last_place test (all_placed fs) ≡ Some place → (n ≤ place.frame) × (place.frame < n + length fs)
 place_within test n fs place are is = place_within_by test n fs (last_place test (all_placed fs)) place (frames_last test n None fs are) is
 
 -- a block that passes has a place
@@ -145,7 +145,7 @@ any_placed_by : (test : Block → Bool) (n : ℕ) (fs : List Frame) (result : Op
 any_placed_by test n fs result (inl nowhere) is = nowhere.0
 any_placed_by test n fs result (inr found) is = absurd cc
 
-none_placed : (test : Block → Bool) (n : ℕ) (fs : List Frame) → AreFrom n fs → last_place test (all_placed fs) ≡ None → list_any test (blocks_of fs) ≡ false
+pub none_placed : (test : Block → Bool) (n : ℕ) (fs : List Frame) → AreFrom n fs → last_place test (all_placed fs) ≡ None → list_any test (blocks_of fs) ≡ false
 none_placed test n fs are is = any_placed_by test n fs (last_place test (all_placed fs)) (frames_last test n None fs are) is
 
 some_placed_by : (test : Block → Bool) (n : ℕ) (fs : List Frame) (result : Option Place) (place : Place) → InFrames test n None fs result → result ≡ Some place → list_any test (blocks_of fs) ≡ false → ⊥

@@ -23,12 +23,18 @@ use std::alloc::Global;
 use std::io::{self, BufWriter, ErrorKind};
 use std::process::ExitCode;
 
-/// Runs the program on the system's words and streams.
-fn start(rt: &HostRuntime, alloc: Global) -> io::Result<u8> {
+/// The words after the program's name.
+fn words_of(rt: &HostRuntime, alloc: Global) -> io::Result<Vec<String>> {
     let mut words = Vec::new(alloc);
     for word in std::env::args(rt)?.skip(1) {
         words.push(word)?;
     }
+    Ok(words)
+}
+
+/// Runs the program on the system's words and streams.
+fn start(rt: &HostRuntime, alloc: Global) -> io::Result<u8> {
+    let words = words_of(rt, alloc)?;
     let mut texts = Vec::new(alloc);
     for word in &words {
         texts.push(word.as_str())?;

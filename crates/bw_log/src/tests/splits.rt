@@ -1,6 +1,7 @@
 // The vector of a page that is split in two, appended by buffers.
 
 ghost use Rattle.std.specs.Prelude.{◌≡◌, true, IfOk};
+ghost use Rattle.bw_log.specs.Seen.{IsSound};
 ghost use Rattle.bw_log.specs.Examples.{opening_blocks, third_blocks, fourth_blocks, fifth_blocks};
 
 use super::{delta, fill, has, sealed, second};
@@ -118,6 +119,13 @@ fn splits(alloc: Global) -> Result<u8, Fail> {
     let Ok(()) = log.append(&five) else {
         return Ok(6);
     };
+    stands(&mut log, alloc)
+}
+
+// The same of what stands then.
+fn stands(log: &mut Log, alloc: Global) -> Result<u8, Fail>
+    requires { IsSound holding log.old }
+{
     let mut bytes = Vec::new(alloc);
     if !log.dump(1, &mut bytes)? || bytes.as_slice() != &SPELLED[..] {
         return Ok(7);
