@@ -3,7 +3,7 @@
 use Rattle.std.proofs.Common.{◌≡◌, ℕ, List, [], ◌∷◌, ◌++◌, map, inl, refl, sym, ap, subst, ◌∙◌, append_assoc, arith}
 use Rattle.std.proofs.lemmas.List.{map-append}
 use Rattle.std.specs.List.{AllByRecursion}
-use Rattle.bw_device.specs.Holding.{Holding, appended}
+use Rattle.bw_device.specs.Holding.{Holding}
 use Rattle.bw_log.specs.Contents.{Contents, IsRoomy, IsSpare, IsSound}
 use Rattle.bw_log.specs.Calls.{fresh, IsFit}
 use Rattle.bw_log.specs.Steps.{with_last, with_first}

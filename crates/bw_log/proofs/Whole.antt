@@ -1,7 +1,7 @@
 -- An append as a whole: what it asks for, and what each of its ends leaves.
 
 use Rattle.std.proofs.Common.{is_none, ◌≡◌, ℕ, zero, suc, ◌+◌, ◌-◌, ◌/◌, ◌^◌, ◌<◌, ◌≤◌, ◌&&◌, ◌||◌, inl, inr, Bool, true, false, if◌then◌else◌, nat_lt, nat_le, Option, Some, None, IfSome, List, [], ◌∷◌, ◌++◌, length, map, refl, sym, ap, subst, ◌∙◌, append_assoc, arith, length-append}
-use Rattle.std.proofs.lemmas.List.{map-append, length-map}
+use Rattle.std.proofs.lemmas.List.{length-map}
 use Rattle.std.proofs.lemmas.Bool.{ltb-false, leb-true, leb-false, or_parts, and_parts, cases_Bool, not-false}
 use Rattle.std.specs.List.{slice_get}
 use Rattle.bw_codec.specs.Grammar.{frame_bytes, header_bytes}

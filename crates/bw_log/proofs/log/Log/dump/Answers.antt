@@ -1,4 +1,4 @@
-use Rattle.std.proofs.Common.{◌++◌, List, ℕ, refl, ap, ◌∙◌, arith}
+use Rattle.std.proofs.Common.{◌++◌, List, ℕ, ap, ◌∙◌, arith}
 use Rattle.bw_log.proofs.Fetched.{sound_after, dumped}
 use Rattle.bw_log.proofs.log.Log.dump.Goals as goal
 
