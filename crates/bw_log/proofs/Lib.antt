@@ -25,3 +25,4 @@ pub mod Exampled
 pub mod CareExample
 pub mod FilledExample
 pub mod SplitExample
+pub mod Vectors
