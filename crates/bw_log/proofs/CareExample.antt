@@ -13,7 +13,7 @@ use Rattle.bw_log.specs.Contents.{Contents, counted}
 use Rattle.bw_log.specs.Calls.{NoBaseBefore, IsBaseAfter, IsAfter, last_number}
 use Rattle.bw_log.specs.Steps.{MayFollow}
 use Rattle.bw_log.specs.Examples.{first_example, leaf_with, after_first_example, after_second_example, rewritten_example, rewritten_leaf}
-use Rattle.bw_log.proofs.Exampled.{only_one, not_one, follows_of, first_follows, Counts}
+use Rattle.bw_log.proofs.Exampled.{only_one, not_one, follows_of, Counts}
 use Rattle.bw_log.proofs.SplitExample.{follows_as}
 
 after_first_lawful : IsFrame 4 16384 after_first_example
@@ -122,6 +122,3 @@ no_base c (h ∷ hs) number told k answer one = λ p is.
 pub none_before : (c : Contents) (number a b : ℕ) (told : Option (ℕ × ℕ)) → Counts c four_frames → MatchOption (slice_get c.live 0) (told ≡ None) (λ h. told ≡ Some (number, last_number c h)) → told ≡ Some (a, b) → b ≡ 1 → NoBaseBefore c
 unfolding last_told
 none_before c number a b told k answer is one = no_base c c.live number told k answer (ap last_told is ∙ one)
-
-pub first_on : (c : Contents) (x : Frame) → x ≡ first_example → Counts c [] → MayFollow c x
-first_on c x is k = follows_as c x first_example is (first_follows c k.sound k.frames k.m k.f)

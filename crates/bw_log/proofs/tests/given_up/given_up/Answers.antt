@@ -1,14 +1,13 @@
 use Rattle.std.proofs.Common.{ap}
 use Rattle.bw_buffer.specs.Filling.{Filling, frame_of}
-use Rattle.bw_log.proofs.Exampled.{new_counts, closed_counts}
+use Rattle.bw_log.proofs.Exampled.{new_counts, closed_counts, first_on}
 use Rattle.bw_log.proofs.SplitExample.{counts_as}
-use Rattle.bw_log.proofs.CareExample.{first_on, after_first_on, after_second_on, rewritten_on, none_before}
+use Rattle.bw_log.proofs.CareExample.{after_first_on, after_second_on, rewritten_on, none_before}
 use Rattle.bw_log.proofs.tests.given_up.given_up.Goals as goal
 
 pub append-requires-clause-follows : goal.append-requires-clause-follows
 append-requires-clause-follows c =
-    let one_is = ap (λ (f : Filling). frame_of f) c.in_ok-one.ensures in
-    first_on _ _ one_is (new_counts _ _ c.in-Ok.ensures.sound c.in-Ok.ensures.made)
+    first_on _ _ (new_counts _ _ c.in-Ok.ensures.sound c.in-Ok.ensures.made) c.in_ok-one.ensures
 
 pub append-requires-2-clause-follows : goal.append-requires-2-clause-follows
 append-requires-2-clause-follows c =
