@@ -115,7 +115,7 @@ are_entries m f number live are =
 
 -- ---- counted frames are those of the counted lines
 
-frames_in : (segment at : ℕ) (fs : List Frame) → map (λ e. e.1) (entries_from segment at fs) ≡ fs
+pub frames_in : (segment at : ℕ) (fs : List Frame) → map (λ e. e.1) (entries_from segment at fs) ≡ fs
 frames_in segment at [] = refl
 frames_in segment at (f ∷ fs) = ap (λ (r : List Frame). f ∷ r) (frames_in segment (at + length (frame_bytes f)) fs)
 

@@ -1,11 +1,12 @@
 -- What a read of one box leaves of the log.
 
-use Rattle.std.proofs.Common.{◌≡◌, ℕ, zero, suc, Bool, true, false, if◌then◌else◌, MatchOption, None, nat_le, le-leb, ◌+◌, ◌-◌, ◌<◌, ◌≤◌, List, [], ◌∷◌, ◌++◌, length, take, drop, length-append, map, get_or, set, slice_get, Option, Some, IfSome, refl, sym, ap, subst, ◌∙◌, arith}
-use Rattle.std.proofs.lemmas.List.{get_or-set_same, length-set, length-map, take_at, drop_at, take_all}
+use Rattle.std.proofs.Common.{◌≡◌, ℕ, Bool, true, false, if◌then◌else◌, MatchOption, None, nat_le, le-leb, ◌+◌, ◌-◌, ◌<◌, ◌≤◌, List, [], ◌∷◌, ◌++◌, length, take, drop, length-append, map, get_or, set, slice_get, Option, Some, IfSome, refl, sym, ap, subst, ◌∙◌, arith}
+use Rattle.std.proofs.lemmas.List.{get_or-set_same, length-set, take_at, drop_at, take_all}
 use Rattle.std.proofs.lemmas.Option.{slice_get-get_or, slice_get_within, get_or_from_slice_get}
 use Rattle.std.proofs.Math.Seq.{map-set_same}
 use Rattle.bw_device.specs.Holding.{Holding, failed_once}
 use Rattle.bw_log.specs.Changes.{ChangedAt}
+use Rattle.bw_log.proofs.Asked.{found}
 use Rattle.bw_log.proofs.Fields.{both_fields, roomy_same}
 use Rattle.bw_log.specs.Contents.{Contents, image, boxes, counted, IsImage, IsSound}
 use Rattle.bw_log.specs.Calls.{FailedRead, StopsAt, IsLineIn, HoldsPage}
@@ -174,18 +175,13 @@ on_page c now p at newer same walk j inside = record {
 
 -- ---- a segment's bytes, all of them
 
-box_there : (hs : List Holding) (i : ℕ) → i < length hs → (h : Holding) × (slice_get hs i ≡ Some h)
-box_there [] i inside = absurd (omega arith)
-box_there (h ∷ hs) zero inside = (h, refl)
-box_there (h ∷ hs) (suc i) inside = box_there hs i (omega arith)
-
 pub dumped : {X : Type 0} (v : X → Holding) (number : ℕ) (xs : List X) (segment len : ℕ) (out new bytes : List ℕ) → number ≤ segment → segment - number < length xs
     → IfSome (slice_get (map v xs) (segment - number)) (λ h. len ≡ length h.bytes)
     → IfSome (slice_get (map v xs) (segment - number)) (λ h. bytes ≡ take len (drop 0 h.bytes))
     → new ≡ out ++ bytes
     → MatchOption (if nat_le number segment then slice_get (map v xs) (segment - number) else None) ((true ≡ false) × (new ≡ out)) (λ h. (true ≡ true) × (new ≡ out ++ h.bytes))
 dumped v number xs segment len out new bytes from inside long read is =
-    let box = box_there (map v xs) (segment - number) (omega (arith, length-map xs v)) in
+    let box = found v xs (segment - number) inside in
     let at : (if nat_le number segment then slice_get (map v xs) (segment - number) else None) ≡ Some box.0 = ap (λ (b : Bool). if b then slice_get (map v xs) (segment - number) else None) (le-leb number segment from) ∙ box.1 in
     let size : len ≡ length box.0.bytes = subst (λ (o : Option Holding). IfSome o (λ h. len ≡ length h.bytes)) box.1 long in
     let all : bytes ≡ take len box.0.bytes = subst (λ (o : Option Holding). IfSome o (λ h. bytes ≡ take len (drop 0 h.bytes))) box.1 read in

@@ -23,6 +23,7 @@ use Rattle.bw_log.specs.Contents.{Image, counted_in, place_in, entry_place, IsIm
 use Rattle.bw_log.specs.Calls.{IsAfter}
 use Rattle.bw_log.specs.declared.places.FrameAt.{FrameAt}
 use Rattle.bw_log.specs.declared.places.PageAt.{PageAt}
+use Rattle.bw_log.proofs.Adding.{filter_all}
 use Rattle.bw_log.proofs.Walk.{sets_touches, none_fold, forgets_fold}
 use Rattle.bw_log.proofs.Links.{InFrames, frames_last, bad_link-append, neither}
 use Rattle.bw_log.proofs.Entries.{all_append, all_filtered}
@@ -30,14 +31,6 @@ use Rattle.bw_log.proofs.Walks.{blocks_more, content_more}
 use Rattle.bw_log.proofs.Walked.{set_by}
 
 -- ---- filters
-
-kept_by : {X : Type 0} (test : X → Bool) (x : X) (xs : List X) (t : Bool) → t ≡ true → filter test xs ≡ xs → (if t then x ∷ filter test xs else filter test xs) ≡ x ∷ xs
-kept_by test x xs true is same = ap (λ l. x ∷ l) same
-kept_by test x xs false is same = absurd (false≢true is)
-
-pub filter_all : {X : Type 0} (test : X → Bool) (xs : List X) → AllByRecursion (λ x. test x ≡ true) xs → filter test xs ≡ xs
-filter_all test [] all = refl
-filter_all test (x ∷ xs) all = kept_by test x xs (test x) all.0 (filter_all test xs all.1)
 
 dropped_by : {X : Type 0} (test : X → Bool) (x : X) (xs : List X) (t : Bool) → t ≡ false → filter test xs ≡ [] → (if t then x ∷ filter test xs else filter test xs) ≡ []
 dropped_by test x xs true is same = absurd (true≢false is)

@@ -13,7 +13,7 @@ use Rattle.bw_log.specs.Segments.{segment_frames, entries_from, entries, is_befo
 use Rattle.bw_log.specs.Contents.{Contents, IsSound}
 use Rattle.bw_log.specs.Calls.{last_number, Tells}
 use Rattle.bw_log.specs.declared.places.FrameAt.{FrameAt}
-use Rattle.bw_log.proofs.Entries.{all_append, all_filtered, filter_mapped}
+use Rattle.bw_log.proofs.Entries.{frames_in, all_append, all_filtered, filter_mapped}
 use Rattle.bw_log.proofs.GivenUp.{all_map}
 
 -- ---- a list in two parts, of which a test passes the first
@@ -79,10 +79,6 @@ pub record TwoParts (segment : ℕ) (lines : List FrameAt) (last : ℕ) : Type 0
 numbers_in : (segment at : ℕ) (fs : List Frame) → AllByRecursion (λ e. e.1.number ≡ e.0.number) (entries_from segment at fs)
 numbers_in segment at [] = tt
 numbers_in segment at (f ∷ fs) = (refl, numbers_in segment (at + length (frame_bytes f)) fs)
-
-frames_in : (segment at : ℕ) (fs : List Frame) → map (λ e. e.1) (entries_from segment at fs) ≡ fs
-frames_in segment at [] = refl
-frames_in segment at (f ∷ fs) = ap (λ (r : List Frame). f ∷ r) (frames_in segment (at + length (frame_bytes f)) fs)
 
 same_last : (w : ℕ) (es : List (FrameAt × Frame)) → AllByRecursion (λ e. e.1.number ≡ e.0.number) es → fold (λ was f. f.number) w (map (λ e. e.1) es) ≡ fold (λ was e. e.number) w (map (λ e. e.0) es)
 same_last w [] all = refl

@@ -11,7 +11,6 @@ pub mod Scans
 pub mod Fetched
 pub mod Walks
 pub mod Entries
-pub mod Rows
 pub mod Reread
 pub mod Adding
 pub mod Beginning

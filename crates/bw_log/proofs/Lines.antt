@@ -15,6 +15,7 @@ use Rattle.bw_page.specs.Leaves.{leaf_at}
 use Rattle.bw_page.specs.Standing.{after, content, blocks_of, Stand}
 use Rattle.bw_log.specs.Contents.{IsStanding}
 use Rattle.bw_log.specs.Noting.{IsInTable, HasLines, HaveLines, top_of, top_page}
+use Rattle.bw_log.proofs.Noted.{fold-append}
 use Rattle.bw_log.proofs.Walk.{none_fold, same_fold}
 
 all-right : {X : Type 0} (P : X → Type 0) (xs ys : List X) → AllByRecursion P (xs ++ ys) → AllByRecursion P ys
@@ -111,10 +112,6 @@ old_pages m all n p (inr old) beyond = let same = old.2 in nothing_said p (block
 
 blocks_more : (all : List Frame) (x : Frame) → blocks_of (all ++ x ∷ []) ≡ blocks_of all ++ x.blocks
 blocks_more all x = flat_map-append (λ (f : Frame). f.blocks) all (x ∷ []) ∙ ap (λ (l : List Block). blocks_of all ++ l) (append-nil x.blocks)
-
-fold-append : {X Y : Type 0} (step : Y → X → Y) (acc : Y) (xs ys : List X) → fold step acc (xs ++ ys) ≡ fold step (fold step acc xs) ys
-fold-append step acc [] ys = refl
-fold-append step acc (x ∷ xs) ys = fold-append step (step acc x) xs ys
 
 -- a new page is set in the new frame
 new_page_set : (m : ℕ) (all : List Frame) (n : ℕ) (x : Frame) (leaves : List Leaf) (p : ℕ) → IsStanding m all n → Stand m (all ++ x ∷ []) leaves → n < p → p ≤ length leaves → list_any (sets p) x.blocks ≡ true

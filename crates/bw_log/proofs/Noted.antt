@@ -134,7 +134,7 @@ pub length-noted_all : (number i : ℕ) (bs : List Block) (pages : List PageAt) 
 length-noted_all number i [] pages = refl
 length-noted_all number i (b ∷ bs) pages = length-noted_all number (i + 1) bs (noted (mark_of b) (record { frame = number; index = i }) pages) ∙ length-noted (mark_of b) (record { frame = number; index = i }) pages
 
-fold-append : {X Y : Type 0} (step : Y → X → Y) (acc : Y) (xs ys : List X) → fold step acc (xs ++ ys) ≡ fold step (fold step acc xs) ys
+pub fold-append : {X Y : Type 0} (step : Y → X → Y) (acc : Y) (xs ys : List X) → fold step acc (xs ++ ys) ≡ fold step (fold step acc xs) ys
 fold-append step acc [] ys = refl
 fold-append step acc (x ∷ xs) ys = fold-append step (step acc x) xs ys
 

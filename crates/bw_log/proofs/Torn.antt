@@ -24,7 +24,7 @@ get_at : {X : Type 0} (xs : List X) (y : X) (ys : List X) → slice_get (xs ++ y
 get_at [] y ys = refl
 get_at (x ∷ xs) y ys = get_at xs y ys
 
-some_is : {X : Type 0} {a b : X} → Some a ≡ Some b → a ≡ b
+pub some_is : {X : Type 0} {a b : X} → Some a ≡ Some b → a ≡ b
 some_is e = cc
 
 -- one box among others failed once more

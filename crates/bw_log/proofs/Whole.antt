@@ -23,6 +23,7 @@ use Rattle.bw_log.specs.declared.fault.LogFault.{LogFault}
 use Rattle.bw_log.specs.declared.fault.LogFault.TheVariants.{NoMemory, BadConfig, NoSegment, Device, Failed, Spent, NoPage}
 use Rattle.bw_log.proofs.Reread.{length-frame}
 use Rattle.bw_log.proofs.Ends.{last_is}
+use Rattle.bw_log.proofs.Torn.{some_is}
 use Rattle.bw_log.proofs.Fields.{field_last, field_first, both_fields, field_moved}
 use Rattle.bw_log.proofs.Stepped.{ends, last_of_at, Begins, begun_is, begun_sound, begun_counts, Puts, put_counts, put_sound, torn_sound, spare_sound, put_lines, length-grown, spares_empty}
 
@@ -156,9 +157,6 @@ pub record SameAt (hs : List Holding) (at : ℕ) (h : Holding) : Type 0 where
   pub is : slice_get hs at ≡ Some box
   pub lease : box.lease ≡ h.lease
   pub failed : box.failed ≡ h.failed
-
-some_is : {X : Type 0} {a b : X} → Some a ≡ Some b → a ≡ b
-some_is e = cc
 
 same_at : (live : List Holding) (s t : Holding) (ss : List Holding) (at : ℕ) (h : Holding) → s.lease ≡ t.lease → s.failed ≡ t.failed → slice_get (live ++ t ∷ ss) at ≡ Some h → SameAt (live ++ s ∷ ss) at h
 same_at [] s t ss zero h lease failed is = let e = some_is is in record { box = s; is = refl; lease = lease ∙ ap (λ (k : Holding). k.lease) e; failed = failed ∙ ap (λ (k : Holding). k.failed) e }
