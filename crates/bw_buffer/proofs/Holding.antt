@@ -1,6 +1,7 @@
 -- What a buffer's bytes spell.
 
-use Rattle.std.proofs.Common.{◌≡◌, ℕ, ◌+◌, ◌-◌, ◌*◌, ◌/◌, ◌<◌, Bool, true, false, nat_le, ◌≤◌, Some, List, [], ◌∷◌, ◌++◌, length, take, drop, map, ◌^◌, sym, ap, subst, ◌∙◌, append_assoc, append-nil, arith, length-append}
+use Rattle.std.proofs.Common.{◌≡◌, ℕ, ◌+◌, ◌-◌, ◌*◌, ◌/◌, ◌<◌, Bool, true, false, nat_le, ◌≤◌, Some, List, [], ◌∷◌, ◌++◌, length, take, drop, map, ◌^◌, sym, ap}
+use Rattle.std.proofs.Common.{subst, ◌∙◌, append_assoc, append-nil, arith, length-append}
 use Rattle.std.proofs.lemmas.List.{take_at, drop_at, map-append}
 use Rattle.std.proofs.lemmas.Grind.{flat_map-append}
 use Rattle.std.specs.List.{AllByRecursion}
@@ -28,13 +29,16 @@ pub whole_out : {X : Type 0} (given old : List X) (n : ℕ) → length given ≡
 whole_out given old n same = take_at given (drop (length given) old) n same
 
 -- the blocks behind a head are read again
-pub blocks_there : (number : ℕ) (body count : ℕ) (blocks : List Block) (bytes : List ℕ) → AllByRecursion (IsBlock 32) blocks → length blocks ≡ count → bytes ≡ head_bytes number body count ++ body_bytes blocks → blocks_in count bytes ≡ blocks
+pub blocks_there : (number : ℕ) (body count : ℕ) (blocks : List Block) (bytes : List ℕ) → AllByRecursion (IsBlock 32) blocks → length blocks ≡ count
+    → bytes ≡ head_bytes number body count ++ body_bytes blocks → blocks_in count bytes ≡ blocks
 unfolding blocks_in
 blocks_there number body count blocks bytes lawful counted parts =
     let behind : drop 20 bytes ≡ body_bytes blocks ++ [] =
-    ap (λ (b : List ℕ). drop 20 b) parts ∙ drop_at (head_bytes number body count) (body_bytes blocks) 20 (length-head number body count) ∙ sym (append-nil (body_bytes blocks)) in
+    ap (λ (b : List ℕ). drop 20 b) parts ∙ drop_at (head_bytes number body count) (body_bytes blocks) 20 (length-head number body count)
+        ∙ sym (append-nil (body_bytes blocks)) in
     let read : many_at (block_at 32) count (drop 20 bytes) ≡ Some (blocks, []) =
-    ap (λ (n : ℕ). many_at (block_at 32) n (drop 20 bytes)) (sym counted) ∙ ap (many_at (block_at 32) (length blocks)) behind ∙ many_again block_bytes (IsBlock 32) (block_at 32) (block_format 32 (omega arith)) blocks [] lawful in
+    ap (λ (n : ℕ). many_at (block_at 32) n (drop 20 bytes)) (sym counted) ∙ ap (many_at (block_at 32) (length blocks)) behind
+        ∙ many_again block_bytes (IsBlock 32) (block_at 32) (block_format 32 (omega arith)) blocks [] lawful in
     ap first_of read
 
 -- fields that hold these blocks
@@ -68,17 +72,20 @@ filled a blocks h =
     }
 
 pub holds : (a : Inside) → IsFilled a → Holds a (blocks_in a.count a.bytes.items)
-holds a f = record { spelled = f.spelled; counted = f.counted; lawful = f.lawful; marked = f.marked; numbered = f.numbered; fits = f.fits; limited = f.limited; room = f.room; marks_room = f.marks_room }
+holds a f = record { spelled = f.spelled; counted = f.counted; lawful = f.lawful; marked = f.marked; numbered = f.numbered; fits = f.fits; limited = f.limited;
+    room = f.room; marks_room = f.marks_room }
 
 -- how long the bytes are
 pub length-held : (a : Inside) → IsFilled a → length a.bytes.items ≡ 20 + length (body_bytes (blocks_in a.count a.bytes.items))
 length-held a f =
     let blocks = blocks_in a.count a.bytes.items in
     let size = ap (λ (b : List ℕ). length b) f.spelled in
-    omega (arith, size, length-head a.frame (length (body_bytes blocks)) a.count, length-append (head_bytes a.frame (length (body_bytes blocks)) a.count) (body_bytes blocks))
+    omega (arith, size, length-head a.frame (length (body_bytes blocks)) a.count,
+        length-append (head_bytes a.frame (length (body_bytes blocks)) a.count) (body_bytes blocks))
 
 -- a head alone holds no block
-pub begun : (a : Inside) → 1 ≤ a.frame → (16384 ≤ a.limit) × (a.limit ≤ 65536) → a.count ≡ 0 → a.bytes.items ≡ head_bytes a.frame 0 0 → a.marks.items ≡ [] → a.limit ≤ vec_capacity a.bytes → a.limit / 8 ≤ vec_capacity a.marks → Holds a []
+pub begun : (a : Inside) → 1 ≤ a.frame → (16384 ≤ a.limit) × (a.limit ≤ 65536) → a.count ≡ 0 → a.bytes.items ≡ head_bytes a.frame 0 0 → a.marks.items ≡ []
+    → a.limit ≤ vec_capacity a.bytes → a.limit / 8 ≤ vec_capacity a.marks → Holds a []
 begun a numbered limited none bytes marks room marks_room = record {
   spelled = bytes ∙ ap (λ (n : ℕ). head_bytes a.frame 0 n) (sym none) ∙ sym (append-nil (head_bytes a.frame 0 a.count));
   counted = sym none;
@@ -106,12 +113,19 @@ grown a b blocks laid f lawful fits frame limit count laid_is bytes marks room m
     let body : body_bytes (old ++ blocks) ≡ body_bytes old ++ body_bytes blocks = flat_map-append block_bytes old blocks in
     let head = length-head a.frame (length (body_bytes old)) a.count in
     let parts : laid ≡ head_bytes a.frame (length (body_bytes old)) a.count ++ body_bytes (old ++ blocks) =
-    laid_is ∙ ap (λ (x : List ℕ). x ++ body_bytes blocks) f.spelled ∙ append_assoc (head_bytes a.frame (length (body_bytes old)) a.count) (body_bytes old) (body_bytes blocks) ∙ ap (λ (x : List ℕ). head_bytes a.frame (length (body_bytes old)) a.count ++ x) (sym body) in
-    let behind : drop 20 laid ≡ body_bytes (old ++ blocks) = ap (λ (x : List ℕ). drop 20 x) parts ∙ drop_at (head_bytes a.frame (length (body_bytes old)) a.count) (body_bytes (old ++ blocks)) 20 head in
-    let size : length laid ≡ 20 + length (body_bytes (old ++ blocks)) = omega (arith, ap (λ (x : List ℕ). length x) parts, head, length-append (head_bytes a.frame (length (body_bytes old)) a.count) (body_bytes (old ++ blocks))) in
+    laid_is ∙ ap (λ (x : List ℕ). x ++ body_bytes blocks) f.spelled
+        ∙ append_assoc (head_bytes a.frame (length (body_bytes old)) a.count) (body_bytes old) (body_bytes blocks)
+        ∙ ap (λ (x : List ℕ). head_bytes a.frame (length (body_bytes old)) a.count ++ x) (sym body) in
+    let behind : drop 20 laid ≡ body_bytes (old ++ blocks) =
+        ap (λ (x : List ℕ). drop 20 x) parts ∙ drop_at (head_bytes a.frame (length (body_bytes old)) a.count) (body_bytes (old ++ blocks)) 20 head in
+    let size : length laid ≡ 20 + length (body_bytes (old ++ blocks)) =
+        omega (arith, ap (λ (x : List ℕ). length x) parts, head,
+        length-append (head_bytes a.frame (length (body_bytes old)) a.count) (body_bytes (old ++ blocks))) in
     let long : length laid - 20 ≡ length (body_bytes (old ++ blocks)) = omega arith in
     let spelled : b.bytes.items ≡ head_bytes b.frame (length (body_bytes (old ++ blocks))) b.count ++ body_bytes (old ++ blocks) =
-    bytes ∙ ap (λ (x : List ℕ). head_bytes a.frame (length laid - 20) b.count ++ x) behind ∙ ap (λ (n : ℕ). head_bytes a.frame n b.count ++ body_bytes (old ++ blocks)) long ∙ ap (λ (n : ℕ). head_bytes n (length (body_bytes (old ++ blocks))) b.count ++ body_bytes (old ++ blocks)) (sym frame) in
+    bytes ∙ ap (λ (x : List ℕ). head_bytes a.frame (length laid - 20) b.count ++ x) behind
+        ∙ ap (λ (n : ℕ). head_bytes a.frame n b.count ++ body_bytes (old ++ blocks)) long
+        ∙ ap (λ (n : ℕ). head_bytes n (length (body_bytes (old ++ blocks))) b.count ++ body_bytes (old ++ blocks)) (sym frame) in
     let new_head = length-head b.frame (length (body_bytes (old ++ blocks))) b.count in
     record {
       spelled = spelled;
@@ -119,14 +133,17 @@ grown a b blocks laid f lawful fits frame limit count laid_is bytes marks room m
       lawful = all-append (IsBlock 32) old blocks f.lawful lawful;
       marked = marks ∙ ap (λ (x : List Mark). x ++ map mark_of blocks) f.marked ∙ sym (map-append mark_of old blocks);
       numbered = subst (λ (n : ℕ). 1 ≤ n) (sym frame) f.numbered;
-      fits = omega (arith, ap (λ (x : List ℕ). length x) spelled, new_head, length-append (head_bytes b.frame (length (body_bytes (old ++ blocks))) b.count) (body_bytes (old ++ blocks)), size, ap (λ (x : List ℕ). length x) laid_is, length-append a.bytes.items (body_bytes blocks), limit, fits);
+      fits = omega (arith, ap (λ (x : List ℕ). length x) spelled, new_head,
+          length-append (head_bytes b.frame (length (body_bytes (old ++ blocks))) b.count) (body_bytes (old ++ blocks)), size,
+          ap (λ (x : List ℕ). length x) laid_is, length-append a.bytes.items (body_bytes blocks), limit, fits);
       limited = subst (λ (n : ℕ). (16384 ≤ n) × (n ≤ 65536)) (sym limit) f.limited;
       room = room;
       marks_room = marks_room;
     }
 
 -- what the test for room tells
-pub room_told : (a : Inside) (f : Filling) (body room : ℕ) (fits : Bool) → IsFilled a → filling_of a ≡ f → room ≡ a.limit - length a.bytes.items → fits ≡ nat_le body room
+pub room_told : (a : Inside) (f : Filling) (body room : ℕ) (fits : Bool) → IsFilled a → filling_of a ≡ f → room ≡ a.limit - length a.bytes.items
+    → fits ≡ nat_le body room
     → (fits ≡ false → f.limit < size_of f + body) × (fits ≡ true → size_of f + body ≤ f.limit)
 room_told a f body room fits h view is test =
     let size : length a.bytes.items ≡ size_of f = length-held a h ∙ ap size_of view in
@@ -147,11 +164,13 @@ few_blocks [] = omega arith
 few_blocks (b ∷ bs) = omega (arith, some_bytes b, few_blocks bs, length-append (block_bytes b) (body_bytes bs))
 
 -- the same in fields
-pub room_inside : (a : Inside) (body room : ℕ) → IsFilled a → room ≡ a.limit - length a.bytes.items → true ≡ nat_le body room → length a.bytes.items + body ≤ a.limit
+pub room_inside : (a : Inside) (body room : ℕ) → IsFilled a → room ≡ a.limit - length a.bytes.items → true ≡ nat_le body room
+    → length a.bytes.items + body ≤ a.limit
 room_inside a body room h is test = let under : body ≤ room = leb-true body room (sym test) in let within = h.fits in omega arith
 
 -- blocks that fit are few
-pub counts : (a : Inside) (blocks : List Block) → IsFilled a → length a.bytes.items + length (body_bytes blocks) ≤ a.limit → (length blocks < 2 ^ 32) × (a.count + length blocks < 2 ^ 32)
+pub counts : (a : Inside) (blocks : List Block) → IsFilled a → length a.bytes.items + length (body_bytes blocks) ≤ a.limit
+    → (length blocks < 2 ^ 32) × (a.count + length blocks < 2 ^ 32)
 counts a blocks h fits =
     let old = few_blocks (blocks_in a.count a.bytes.items) in
     let new = few_blocks blocks in
@@ -161,7 +180,8 @@ counts a blocks h fits =
     (omega arith, omega arith)
 
 -- there is a mark's room for each block that fits
-pub room_for_marks : (a : Inside) (blocks : List Block) → IsFilled a → length a.bytes.items + length (body_bytes blocks) ≤ a.limit → a.count + length blocks ≤ vec_capacity a.marks
+pub room_for_marks : (a : Inside) (blocks : List Block) → IsFilled a → length a.bytes.items + length (body_bytes blocks) ≤ a.limit
+    → a.count + length blocks ≤ vec_capacity a.marks
 room_for_marks a blocks h fits =
     let old = few_blocks (blocks_in a.count a.bytes.items) in
     let new = few_blocks blocks in

@@ -22,7 +22,8 @@ abbrev pub filling_of : Inside → Filling
 filling_of a = record { frame = a.frame; limit = a.limit; blocks = blocks_in a.count a.bytes.items; is_sealed = a.is_sealed }
 
 pub record IsFilled (a : Inside) : Type 0 where
-  pub spelled : a.bytes.items ≡ head_bytes a.frame (length (body_bytes (blocks_in a.count a.bytes.items))) a.count ++ body_bytes (blocks_in a.count a.bytes.items)
+  pub spelled : a.bytes.items ≡ head_bytes a.frame (length (body_bytes (blocks_in a.count a.bytes.items))) a.count
+      ++ body_bytes (blocks_in a.count a.bytes.items)
   pub counted : length (blocks_in a.count a.bytes.items) ≡ a.count
   pub lawful : AllByRecursion (IsBlock 32) (blocks_in a.count a.bytes.items)
   pub marked : a.marks.items ≡ map mark_of (blocks_in a.count a.bytes.items)

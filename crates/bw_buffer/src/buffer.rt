@@ -1,6 +1,6 @@
 //! The buffer itself.
 
-ghost use Rattle.std.specs.Prelude.{◌≡◌, ◌≤◌, ◌<◌, ◌+◌, ◌-◌, ◌++◌, ◌↔◌, [], true, false, length, slice_get, IsTrue, IfOk, OnOk, OnErr, IfSome, IsErrOf};
+ghost use Rattle.std.specs.Prelude.{nat_le, ◌≡◌, ◌≤◌, ◌<◌, ◌+◌, ◌-◌, ◌++◌, ◌↔◌, [], true, false, length, slice_get, IsTrue, IfOk, OnOk, OnErr, IfSome, IsErrOf};
 ghost use Rattle.std.specs.List.{AllByRecursion};
 ghost use Rattle.bw_codec.specs.Grammar.{body_bytes, frame_bytes, IsBlock};
 ghost use Rattle.bw_buffer.specs.Filling.{frame_of, size_of};
@@ -101,6 +101,14 @@ impl Buffer {
             frame: self.frame,
             index,
         })
+    }
+
+    /// Whether the frame with these blocks would not be longer than the limit. No memory is taken.
+    pub fn has_room(&self, blocks: &[Block]) -> bool
+        requires { AllByRecursion (IsBlock 32) blocks.now }
+        ensures { IsTrue result ↔ (size_of self.now + length (body_bytes blocks.now) ≤ self.now.limit) }
+    {
+        fit(blocks, self.limit as usize - self.bytes.as_slice().len())
     }
 
     /// Closes the buffer: it takes no more blocks. A second seal does nothing. No memory is taken.

@@ -1,6 +1,7 @@
 -- A format: what is read from the front of bytes was spelled there, and what is spelled is read again.
 
-use Rattle.std.proofs.Common.{◌≡◌, ℕ, zero, suc, ◌+◌, ◌*◌, ◌/◌, ◌%◌, ◌^◌, ◌<◌, ◌≤◌, Bool, true, false, if◌then◌else◌, Option, Some, None, List, [], ◌∷◌, ◌++◌, length, take, drop, get_or, nat_lt, inl, inr, refl, sym, ap, subst, ◌∙◌, append_assoc, arith, length-append, length-take}
+use Rattle.std.proofs.Common.{◌≡◌, ℕ, zero, suc, ◌+◌, ◌*◌, ◌/◌, ◌%◌, ◌^◌, ◌<◌, ◌≤◌, Bool, true, false, if◌then◌else◌, Option, Some, None, List, [], ◌∷◌, ◌++◌}
+use Rattle.std.proofs.Common.{length, take, drop, get_or, nat_lt, inl, inr, refl, sym, ap, subst, ◌∙◌, append_assoc, arith, length-append, length-take}
 use Rattle.std.proofs.lemmas.List.{take-append-drop, take_at, drop_at, get_or-append-add, get_or-take, get_or_past, length-take-le}
 use Rattle.std.proofs.lemmas.Bool.{ltb-false, le-ltb, cases_lt}
 use Rattle.std.proofs.Math.Nat.{pow-succ', div-div-eq-div-mul}
@@ -44,7 +45,8 @@ bytes_before n bytes fits i =
 pub found : {A : Type 0} {a b : A} → Some a ≡ Some b → a ≡ b
 found e = cc
 
-pub takes_as : {X : Type 0} (spell : X → List ℕ) (Law : X → Type 0) (bytes : List ℕ) (a b : X × List ℕ) → a ≡ b → Takes spell Law bytes a.0 a.1 → Takes spell Law bytes b.0 b.1
+pub takes_as : {X : Type 0} (spell : X → List ℕ) (Law : X → Type 0) (bytes : List ℕ) (a b : X × List ℕ) → a ≡ b → Takes spell Law bytes a.0 a.1
+    → Takes spell Law bytes b.0 b.1
 takes_as {X} spell Law bytes a b e t = subst (λ (p : X × List ℕ). Takes spell Law bytes p.0 p.1) e t
 
 pub bind_some : {A B : Type 0} (m : Option A) (f : A → Option B) (y : B) → (m >>= f) ≡ Some y → (a : A) × (m ≡ Some a) × (f a ≡ Some y)
@@ -93,29 +95,35 @@ bytes_of_number (suc n) (x ∷ xs) e fits =
     let others : bytes_low_first 0 n v ≡ xs = bytes_of_number n xs (omega arith) (λ i. fits (suc i)) in
     rw (whole, low, bytes_further n 0 (x + 256 * v), high, others) refl
 
-pub number_there : (n : ℕ) (bytes : List ℕ) → n ≤ length bytes → IsBytes bytes → Takes (number_bytes n) (λ x. x < 256 ^ n) bytes (little_number n bytes) (drop n bytes)
+pub number_there : (n : ℕ) (bytes : List ℕ) → n ≤ length bytes → IsBytes bytes
+    → Takes (number_bytes n) (λ x. x < 256 ^ n) bytes (little_number n bytes) (drop n bytes)
 unfolding number_bytes
 number_there n bytes long fits =
     let front : length (take n bytes) ≡ n = length-take-le n bytes long in
     let spelled : number_bytes n (little_number n bytes) ≡ take n bytes =
-    ap (λ (x : ℕ). bytes_low_first 0 n x) (sym (little_from-take 0 n n bytes (omega arith))) ∙ bytes_of_number n (take n bytes) front (bytes_before n bytes fits) in
-    let parts : bytes ≡ number_bytes n (little_number n bytes) ++ drop n bytes = sym (take-append-drop n bytes) ∙ ap (λ (r : List ℕ). r ++ drop n bytes) (sym spelled) in
+    ap (λ (x : ℕ). bytes_low_first 0 n x) (sym (little_from-take 0 n n bytes (omega arith)))
+        ∙ bytes_of_number n (take n bytes) front (bytes_before n bytes fits) in
+    let parts : bytes ≡ number_bytes n (little_number n bytes) ++ drop n bytes =
+        sym (take-append-drop n bytes) ∙ ap (λ (r : List ℕ). r ++ drop n bytes) (sym spelled) in
     record {
       parts = parts;
       lawful = little_from-lt 0 n bytes fits;
       others = bytes_after bytes (number_bytes n (little_number n bytes)) (drop n bytes) parts fits;
     }
 
-number_takes : (n : ℕ) (bytes : List ℕ) (x : ℕ) (rest : List ℕ) → IsBytes bytes → number_at n bytes ≡ Some (x, rest) → Takes (number_bytes n) (λ x. x < 256 ^ n) bytes x rest
+number_takes : (n : ℕ) (bytes : List ℕ) (x : ℕ) (rest : List ℕ) → IsBytes bytes → number_at n bytes ≡ Some (x, rest)
+    → Takes (number_bytes n) (λ x. x < 256 ^ n) bytes x rest
 number_takes n bytes x rest fits read =
     let p = passed (nat_lt (length bytes) n) (Some (little_number n bytes, drop n bytes)) (x, rest) read in
-    takes_as (number_bytes n) (λ x. x < 256 ^ n) bytes (little_number n bytes, drop n bytes) (x, rest) (found p.1) (number_there n bytes (ltb-false (length bytes) n p.0) fits)
+    takes_as (number_bytes n) (λ x. x < 256 ^ n) bytes (little_number n bytes, drop n bytes) (x, rest) (found p.1)
+        (number_there n bytes (ltb-false (length bytes) n p.0) fits)
 
 number_again : (n x : ℕ) (rest : List ℕ) → x < 256 ^ n → number_at n (number_bytes n x ++ rest) ≡ Some (x, rest)
 unfolding number_bytes
 number_again n x rest law =
     let size = length-bytes_low_first 0 n x in
-    let long : nat_lt (length (number_bytes n x ++ rest)) n ≡ false = le-ltb (length (number_bytes n x ++ rest)) n (omega (arith, size, length-append (number_bytes n x) rest)) in
+    let long : nat_lt (length (number_bytes n x ++ rest)) n ≡ false =
+        le-ltb (length (number_bytes n x ++ rest)) n (omega (arith, size, length-append (number_bytes n x) rest)) in
     rw (long, little_number-reads_back n x rest law, drop_at (number_bytes n x) rest n size) refl
 
 pub number_reads : (n x : ℕ) (rest : List ℕ) → x < 256 ^ n → little_number n (number_bytes n x ++ rest) ≡ x
@@ -147,12 +155,14 @@ run_again x rest =
 text_takes : (low high : ℕ) (bytes x rest : List ℕ) → IsBytes bytes → text_at low high bytes ≡ Some (x, rest) → Takes text (IsRun low high) bytes x rest
 unfolding text_at
 text_takes low high bytes x rest fits read =
-    let run = bind_some (run_at bytes) (λ run. if nat_lt (length run.0) low then None else if nat_lt high (length run.0) then None else Some run) (x, rest) read in
+    let run = bind_some (run_at bytes) (λ run. if nat_lt (length run.0) low then None else if nat_lt high (length run.0) then None else Some
+        run) (x, rest) read in
     let above = passed (nat_lt (length run.0.0) low) (if nat_lt high (length run.0.0) then None else Some run.0) (x, rest) run.2 in
     let below = passed (nat_lt high (length run.0.0)) (Some run.0) (x, rest) above.1 in
     let parts = run_takes bytes run.0.0 run.0.1 run.1 in
     takes_as text (IsRun low high) bytes run.0 (x, rest) (found below.1)
-    (record { parts = parts; lawful = (ltb-false (length run.0.0) low above.0, ltb-false high (length run.0.0) below.0); others = bytes_after bytes (text run.0.0) run.0.1 parts fits })
+    (record { parts = parts; lawful = (ltb-false (length run.0.0) low above.0, ltb-false high (length run.0.0) below.0);
+        others = bytes_after bytes (text run.0.0) run.0.1 parts fits })
 
 text_again : (low high : ℕ) (x rest : List ℕ) → IsRun low high x → text_at low high (text x ++ rest) ≡ Some (x, rest)
 unfolding text_at

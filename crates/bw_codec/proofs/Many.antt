@@ -11,11 +11,13 @@ abbrev pub prefixed : {X : Type 0} → List X → Found (List X) → Found (List
 prefixed xs None = None
 prefixed xs (Some read) = Some (xs ++ read.0, read.1)
 
-prefixed_again : {X : Type 0} (xs : List X) (x : X) (read : Found (List X)) → prefixed xs (read >>= λ others. Some (x ∷ others.0, others.1)) ≡ prefixed (xs ++ x ∷ []) read
+prefixed_again : {X : Type 0} (xs : List X) (x : X) (read : Found (List X))
+    → prefixed xs (read >>= λ others. Some (x ∷ others.0, others.1)) ≡ prefixed (xs ++ x ∷ []) read
 prefixed_again xs x None = refl
 prefixed_again {X} xs x (Some read) = ap (λ (ys : List X). Some (ys, read.1)) (sym (append_assoc xs (x ∷ []) read.0))
 
-many_first : {X : Type 0} (one : List ℕ → Found X) (n : ℕ) (bytes : List ℕ) (x : X) (rest : List ℕ) → one bytes ≡ Some (x, rest) → many_at one (suc n) bytes ≡ (many_at one n rest >>= λ others. Some (x ∷ others.0, others.1))
+many_first : {X : Type 0} (one : List ℕ → Found X) (n : ℕ) (bytes : List ℕ) (x : X) (rest : List ℕ) → one bytes ≡ Some (x, rest)
+    → many_at one (suc n) bytes ≡ (many_at one n rest >>= λ others. Some (x ∷ others.0, others.1))
 unfolding many_at
 many_first one n bytes x rest e = rw e refl
 
@@ -24,11 +26,13 @@ unfolding many_at
 many_none one n bytes e = rw e refl
 
 -- one thing more was read
-pub many_goes_on : {X : Type 0} (one : List ℕ → Found X) (count i : ℕ) (xs : List X) (bytes : List ℕ) (x : X) (rest : List ℕ) → i < count → one bytes ≡ Some (x, rest)
+pub many_goes_on : {X : Type 0} (one : List ℕ → Found X) (count i : ℕ) (xs : List X) (bytes : List ℕ) (x : X) (rest : List ℕ) → i < count
+    → one bytes ≡ Some (x, rest)
     → prefixed xs (many_at one (count - i) bytes) ≡ prefixed (xs ++ x ∷ []) (many_at one (count - (i + 1)) rest)
 many_goes_on one count i xs bytes x rest h e =
     let n : count - i ≡ suc (count - (i + 1)) = omega arith in
-    ap (λ k. prefixed xs (many_at one k bytes)) n ∙ ap (prefixed xs) (many_first one (count - (i + 1)) bytes x rest e) ∙ prefixed_again xs x (many_at one (count - (i + 1)) rest)
+    ap (λ k. prefixed xs (many_at one k bytes)) n ∙ ap (prefixed xs) (many_first one (count - (i + 1)) bytes x rest e)
+        ∙ prefixed_again xs x (many_at one (count - (i + 1)) rest)
 
 -- one thing could not be read
 pub many_stops : {X : Type 0} (one : List ℕ → Found X) (count i : ℕ) (xs : List X) (bytes : List ℕ) → i < count → one bytes ≡ None
@@ -38,7 +42,8 @@ many_stops one count i xs bytes h e =
     ap (λ k. prefixed xs (many_at one k bytes)) n ∙ ap (prefixed xs) (many_none one (count - (i + 1)) bytes e)
 
 -- nothing is left to read
-pub many_ends : {X : Type 0} (one : List ℕ → Found X) (count : ℕ) (xs : List X) (bytes : List ℕ) → prefixed xs (many_at one (count - count) bytes) ≡ Some (xs ++ [], bytes)
+pub many_ends : {X : Type 0} (one : List ℕ → Found X) (count : ℕ) (xs : List X) (bytes : List ℕ)
+    → prefixed xs (many_at one (count - count) bytes) ≡ Some (xs ++ [], bytes)
 unfolding many_at
 many_ends one count xs bytes = let n : count - count ≡ 0 = omega arith in ap (λ k. prefixed xs (many_at one k bytes)) n
 
@@ -46,7 +51,9 @@ many_ends one count xs bytes = let n : count - count ≡ 0 = omega arith in ap (
 pub many_begins : {X : Type 0} (one : List ℕ → Found X) (count : ℕ) (bytes : List ℕ) → prefixed [] (many_at one (count - 0) bytes) ≡ many_at one count bytes
 many_begins {X} one count bytes =
     let n : count - 0 ≡ count = omega arith in
-    ap (λ k. prefixed [] (many_at one k bytes)) n ∙ (let all : (read : Found (List X)) → prefixed [] read ≡ read = λ read. elim read as (λ r. prefixed [] r ≡ r) [ None ↦ refl | Some x ↦ refl ] in all (many_at one count bytes))
+    ap (λ k. prefixed [] (many_at one k bytes)) n
+        ∙ (let all : (read : Found (List X)) → prefixed [] read ≡ read = λ read. elim read as (λ r. prefixed [] r ≡ r) [ None ↦ refl | Some x ↦ refl ]
+        in all (many_at one count bytes))
 
 -- ---- keys side by side
 

@@ -1,6 +1,7 @@
 -- What bytes say, read from left to right: the inverse of the spelling in `Grammar`.
 
-use Rattle.std.specs.Prelude.{ℕ, zero, suc, ◌+◌, ◌≡◌, ◌==◌, nat_lt, nat_eq, Bool, false, if◌then◌else◌, Option, Some, None, Result, Ok, Err, List, [], ◌∷◌, length, take, drop}
+use Rattle.std.specs.Prelude.{ℕ, zero, suc, ◌+◌, ◌≡◌, ◌==◌, nat_lt, nat_eq, Bool, false, if◌then◌else◌, Option, Some, None, Result, Ok, Err, List, [], ◌∷◌}
+use Rattle.std.specs.Prelude.{length, take, drop}
 use lib.Pointwise.{pointwise}
 use Rattle.byteorder.specs.Endian.{little_number}
 use Rattle.bw_codec.specs.Bytes.{ascends}
@@ -138,7 +139,8 @@ head_at f bytes =
       number ← number_at 8 (drop 4 bytes)
       body ← number_at 4 number.1
       blocks ← number_at 4 body.1
-      if is_head f (record { number = number.0; body = body.0; blocks = blocks.0 }) then Some (record { number = number.0; body = body.0; blocks = blocks.0 }, blocks.1) else None)
+      if is_head f (record { number = number.0; body = body.0; blocks = blocks.0 }) then Some
+          (record { number = number.0; body = body.0; blocks = blocks.0 }, blocks.1) else None)
     else None
 
 -- what stands at the front, where that is lawful

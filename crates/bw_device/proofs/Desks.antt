@@ -1,6 +1,7 @@
 -- What a desk's contracts rest on: its list of flags, when a place is looked for, taken or freed.
 use Prim.Native.Nat.{zero, suc}
-use Rattle.std.proofs.Common.{◌≡◌, ℕ, ◌+◌, ◌<◌, ◌≤◌, refl, sym, ap, ◌∙◌, arith, Bool, true, false, not, Option, Some, None, is_some, cond, ltb, List, [], ◌∷◌, map, length, set, get_or, All, IsTrue}
+use Rattle.std.proofs.Common.{◌≡◌, ℕ, ◌+◌, ◌<◌, ◌≤◌, refl, sym, ap, ◌∙◌, arith, Bool, true, false, not, Option, Some, None, is_some, cond, ltb, List, [], ◌∷◌}
+use Rattle.std.proofs.Common.{map, length, set, get_or, All, IsTrue}
 use Rattle.std.proofs.lemmas.List.{length-map, map-set, get_or-map}
 use Rattle.std.specs.List.{position, prefix_len}
 use Rattle.std.proofs.lemmas.List.Quantifiers.{position-Some}
@@ -14,7 +15,8 @@ out_count_le (true ∷ places) = omega (arith, out_count_le places)
 out_count_le (false ∷ places) = omega (arith, out_count_le places)
 
 -- where a number that is out becomes free, one less is out
-pub out_count-set : (places : List Bool) (i : ℕ) (d : Bool) → i < length places → get_or places i d ≡ true → out_count (set places i false) + 1 ≡ out_count places
+pub out_count-set : (places : List Bool) (i : ℕ) (d : Bool) → i < length places → get_or places i d ≡ true
+    → out_count (set places i false) + 1 ≡ out_count places
 out_count-set [] i d lt out = absurd (omega (arith, lt))
 out_count-set (true ∷ places) zero d lt out = omega arith
 out_count-set (false ∷ places) zero d lt out = cc
@@ -41,7 +43,8 @@ position_len (Some x ∷ places) = ap (λ n. 1 + n) (position_len places)
 position_len (None ∷ places) = refl
 
 -- the first free place is the first number that is not out
-pub position_is_some : {X : Type 0} (items places : List (Option X)) (flags : List Bool) → items ≡ places → map is_some places ≡ flags → position (λ p. not (is_some p)) items ≡ position not flags
+pub position_is_some : {X : Type 0} (items places : List (Option X)) (flags : List Bool) → items ≡ places → map is_some places ≡ flags
+    → position (λ p. not (is_some p)) items ≡ position not flags
 position_is_some items places flags same seen =
     let e = position_len places in let f = length-map places is_some in cc
 
@@ -54,7 +57,9 @@ all_out_len (false ∷ places) le k d lt = absurd (omega arith)
 
 -- where no number is free, all are out
 pub all_out : (places : List Bool) → position not places ≡ None → All IsTrue places
-all_out places e = elim (ltb (prefix_len (λ p. not (not p)) places) (length places)) as (λ b. ltb (prefix_len (λ p. not (not p)) places) (length places) ≡ b → cond b (Some (prefix_len (λ p. not (not p)) places)) None ≡ None → All IsTrue places) [
+all_out places e = elim (ltb (prefix_len (λ p. not (not p)) places) (length places)) as
+    (λ b. ltb (prefix_len (λ p. not (not p)) places) (length places) ≡ b → cond b (Some (prefix_len (λ p. not (not p)) places)) None ≡ None
+    → All IsTrue places) [
   | true ↦ λ t n. cc
   | false ↦ λ t n. all_out_len places (ltb-false _ _ t)
 ] refl e
@@ -68,16 +73,19 @@ not_all_out places i e all =
     let bad : not true ≡ true = ap not (sym out) ∙ no in cc
 
 -- what a search of the places found is the first number that is not out
-pub first_free : {X : Type 0} (items places : List (Option X)) (flags : List Bool) (r : Option ℕ) → items ≡ places → map is_some places ≡ flags → r ≡ position (λ p. not (is_some p)) items → position not flags ≡ r
+pub first_free : {X : Type 0} (items places : List (Option X)) (flags : List Bool) (r : Option ℕ) → items ≡ places → map is_some places ≡ flags
+    → r ≡ position (λ p. not (is_some p)) items → position not flags ≡ r
 first_free items places flags r same seen found = sym (found ∙ position_is_some items places flags same seen)
 
 -- where a place that had a lease is freed, one less is out
-pub out_count-freed : {X : Type 0} (before after : List (Option X)) (i : ℕ) (place : Option X) → i < length before → IsTrue (is_some (get_or before i place)) → after ≡ set before i None → out_count (map is_some after) + 1 ≡ out_count (map is_some before)
+pub out_count-freed : {X : Type 0} (before after : List (Option X)) (i : ℕ) (place : Option X) → i < length before → IsTrue (is_some (get_or before i place))
+    → after ≡ set before i None → out_count (map is_some after) + 1 ≡ out_count (map is_some before)
 out_count-freed before after i place lt out after_is =
     let within : i < length (map is_some before) = rw length-map lt in
     let was_out : get_or (map is_some before) i true ≡ true = get_or-map is_some before i place true lt ∙ out in
     rw (after_is, map-set) (out_count-set (map is_some before) i true within was_out)
 
 -- and no number is added
-pub only_frees-freed : {X : Type 0} (old : List Bool) (before after : List (Option X)) (i : ℕ) → OnlyFrees old (map is_some before) → after ≡ set before i None → OnlyFrees old (map is_some after)
+pub only_frees-freed : {X : Type 0} (old : List Bool) (before after : List (Option X)) (i : ℕ) → OnlyFrees old (map is_some before) → after ≡ set before i None
+    → OnlyFrees old (map is_some after)
 only_frees-freed old before after i f after_is = rw (after_is, map-set) (only_frees_one_more old (map is_some before) i f)

@@ -1,6 +1,7 @@
 -- A frame more at the end of the newest segment.
 
-use Rattle.std.proofs.Common.{◌≡◌, ℕ, ◌+◌, ◌^◌, ◌<◌, ◌≤◌, inr, Bool, true, false, if◌then◌else◌, nat_lt, Option, Some, None, List, [], ◌∷◌, ◌++◌, length, map, refl, sym, ap, subst, ◌∙◌, append_assoc, append-nil, arith, length-append}
+use Rattle.std.proofs.Common.{◌≡◌, ℕ, ◌+◌, ◌^◌, ◌<◌, ◌≤◌, inr, Bool, true, false, if◌then◌else◌, nat_lt, Option, Some, None, List, [], ◌∷◌, ◌++◌, length, map}
+use Rattle.std.proofs.Common.{refl, sym, ap, subst, ◌∙◌, append_assoc, append-nil, arith, length-append}
 use Rattle.std.proofs.lemmas.List.{map-append}
 use Rattle.std.proofs.lemmas.Bool.{lt-ltb}
 use Rattle.std.proofs.lemmas.Grind.{flat_map-append}
@@ -11,7 +12,8 @@ use Rattle.bw_codec.specs.declared.block.Frame.{Frame}
 use Rattle.bw_codec.proofs.Format.{held, found}
 use Rattle.bw_page.specs.Standing.{Stand}
 use Rattle.bw_log.specs.Places.{first_number, AreLinked}
-use Rattle.bw_log.specs.Segments.{segment_frames, frames_of, IsLive, AreLive, IsClean, IsCleanLast, entry_of, entries_from, entries, following, next_of, is_before_next, AreFrom}
+use Rattle.bw_log.specs.Segments.{segment_frames, frames_of, IsLive, AreLive, IsClean, IsCleanLast, entry_of, entries_from, entries, following, next_of}
+use Rattle.bw_log.specs.Segments.{is_before_next, AreFrom}
 use Rattle.bw_log.specs.Contents.{Image, IsImage, IsTable, counted_in, counted_at}
 use Rattle.bw_log.specs.declared.places.FrameAt.{FrameAt}
 use Rattle.bw_log.specs.declared.places.PageAt.{PageAt}
@@ -40,7 +42,8 @@ fold-push step acc (y ∷ ys) x = fold-push step (step acc y) ys x
 pub following_is : (n k : ℕ) → following n ≡ Some k → k ≡ n + 1
 following_is n k e = let h = held (nat_lt (n + 1) (2 ^ 64)) (Some (n + 1)) k e in sym (found h.1)
 
-next_from : (acc : Option ℕ) (n : ℕ) (f : Frame) (fs : List Frame) → AreFrom n (f ∷ fs) → fold (λ was g. following g.number) acc (f ∷ fs) ≡ following (n + length fs)
+next_from : (acc : Option ℕ) (n : ℕ) (f : Frame) (fs : List Frame) → AreFrom n (f ∷ fs)
+    → fold (λ was g. following g.number) acc (f ∷ fs) ≡ following (n + length fs)
 next_from acc n f [] from = ap following (from.0 ∙ omega arith)
 next_from acc n f (g ∷ gs) from = next_from (following f.number) (n + 1) g gs from.1 ∙ ap following (omega arith)
 
@@ -77,16 +80,22 @@ passes_some n k h = lt-ltb k n h
 pub frames_last : (older : List (List ℕ)) (b : List ℕ) → frames_of (older ++ b ∷ []) ≡ frames_of older ++ segment_frames b
 frames_last older b = flat_map-append segment_frames older (b ∷ []) ∙ ap (λ (l : List Frame). frames_of older ++ l) (append-nil (segment_frames b))
 
-pub entries_last : (n : ℕ) (older : List (List ℕ)) (b : List ℕ) → entries n (older ++ b ∷ []) ≡ entries n older ++ entries_from (n + length older) 24 (segment_frames b)
+pub entries_last : (n : ℕ) (older : List (List ℕ)) (b : List ℕ)
+    → entries n (older ++ b ∷ []) ≡ entries n older ++ entries_from (n + length older) 24 (segment_frames b)
 entries_last n [] b = append-nil (entries_from n 24 (segment_frames b)) ∙ ap (λ (k : ℕ). entries_from k 24 (segment_frames b)) (omega arith)
 entries_last n (o ∷ os) b =
-    ap (λ (l : List (FrameAt × Frame)). entries_from n 24 (segment_frames o) ++ l) (entries_last (n + 1) os b ∙ ap (λ (k : ℕ). entries (n + 1) os ++ entries_from k 24 (segment_frames b)) (omega arith))
+    ap (λ (l : List (FrameAt × Frame)). entries_from n 24 (segment_frames o) ++ l)
+        (entries_last (n + 1) os b ∙ ap (λ (k : ℕ). entries (n + 1) os ++ entries_from k 24 (segment_frames b)) (omega arith))
     ∙ sym (append_assoc (entries_from n 24 (segment_frames o)) (entries (n + 1) os) (entries_from (n + length (o ∷ os)) 24 (segment_frames b)))
 
-pub entries_more : (s at : ℕ) (fs : List Frame) (x : Frame) → entries_from s at (fs ++ x ∷ []) ≡ entries_from s at fs ++ (entry_of s (at + length (flat_map frame_bytes fs)) x, x) ∷ []
+pub entries_more : (s at : ℕ) (fs : List Frame) (x : Frame)
+    → entries_from s at (fs ++ x ∷ []) ≡ entries_from s at fs ++ (entry_of s (at + length (flat_map frame_bytes fs)) x, x) ∷ []
 entries_more s at [] x = ap (λ (k : ℕ). (entry_of s k x, x) ∷ []) (omega arith)
 entries_more s at (f ∷ fs) x =
-    ap (λ (l : List (FrameAt × Frame)). (entry_of s at f, f) ∷ l) (entries_more s (at + length (frame_bytes f)) fs x ∙ ap (λ (k : ℕ). entries_from s (at + length (frame_bytes f)) fs ++ (entry_of s k x, x) ∷ []) (omega (arith, length-append (frame_bytes f) (flat_map frame_bytes fs))))
+    ap (λ (l : List (FrameAt × Frame)). (entry_of s at f, f) ∷ l)
+        (entries_more s (at + length (frame_bytes f)) fs x
+        ∙ ap (λ (k : ℕ). entries_from s (at + length (frame_bytes f)) fs ++ (entry_of s k x, x) ∷ [])
+        (omega (arith, length-append (frame_bytes f) (flat_map frame_bytes fs))))
 
 from_frames : (s at : ℕ) (fs : List Frame) → map (λ (e : FrameAt × Frame). e.1) (entries_from s at fs) ≡ fs
 from_frames s at [] = refl
@@ -148,22 +157,29 @@ takes_before i older b x t =
     subst (λ (fs : List Frame). AllByRecursion (λ f. f.number < x.number) fs) (t.holds.every t.works)
     (before_next (counted_in i) x.number t.holds.numbered (sym t.holds.follows ∙ t.number))
 
-pub frames_with : (i : Image) (older : List (List ℕ)) (b : List ℕ) (x : Frame) → Takes i older b x → frames_of (older ++ (b ++ frame_bytes x) ∷ []) ≡ frames_of i.bytes ++ x ∷ []
+pub frames_with : (i : Image) (older : List (List ℕ)) (b : List ℕ) (x : Frame) → Takes i older b x
+    → frames_of (older ++ (b ++ frame_bytes x) ∷ []) ≡ frames_of i.bytes ++ x ∷ []
 frames_with i older b x t =
     let more = clean_more i.m i.f (i.number + length older) b x (takes_clean i older b x t) t.lawful in
-    frames_last older (b ++ frame_bytes x) ∙ ap (λ (l : List Frame). frames_of older ++ l) more.0 ∙ sym (append_assoc (frames_of older) (segment_frames b) (x ∷ []))
+    frames_last older (b ++ frame_bytes x) ∙ ap (λ (l : List Frame). frames_of older ++ l) more.0
+        ∙ sym (append_assoc (frames_of older) (segment_frames b) (x ∷ []))
     ∙ ap (λ (l : List Frame). l ++ x ∷ []) (sym (frames_last older b) ∙ ap frames_of (sym t.ends))
 
 -- the counted frames are one more
-pub counts_more : (i : Image) (older : List (List ℕ)) (b : List ℕ) (x : Frame) (pages : List PageAt) → Takes i older b x → counted_in (added i older b x pages) ≡ counted_in i ++ x ∷ []
+pub counts_more : (i : Image) (older : List (List ℕ)) (b : List ℕ) (x : Frame) (pages : List PageAt) → Takes i older b x
+    → counted_in (added i older b x pages) ≡ counted_in i ++ x ∷ []
 counts_more i older b x pages t =
     let test = λ (f : Frame). is_before_next (following x.number) f.number in
     let all : AllByRecursion (λ f. test f ≡ true) (frames_of i.bytes ++ x ∷ []) =
-    all-push (λ (f : Frame). test f ≡ true) (frames_of i.bytes) x (all-more (λ (f : Frame). f.number < x.number) (λ (f : Frame). test f ≡ true) (frames_of i.bytes) (λ f h. passes x.number f.number (omega arith)) (takes_before i older b x t)) (passes x.number x.number (omega arith)) in
-    ap (filter test) (frames_with i older b x t) ∙ filter_all test (frames_of i.bytes ++ x ∷ []) all ∙ ap (λ (l : List Frame). l ++ x ∷ []) (sym (t.holds.every t.works))
+    all-push (λ (f : Frame). test f ≡ true) (frames_of i.bytes) x
+        (all-more (λ (f : Frame). f.number < x.number) (λ (f : Frame). test f ≡ true) (frames_of i.bytes) (λ f h. passes x.number f.number (omega arith))
+        (takes_before i older b x t)) (passes x.number x.number (omega arith)) in
+    ap (filter test) (frames_with i older b x t) ∙ filter_all test (frames_of i.bytes ++ x ∷ []) all
+        ∙ ap (λ (l : List Frame). l ++ x ∷ []) (sym (t.holds.every t.works))
 
 -- the table of frames has a line more
-listed_more : (i : Image) (older : List (List ℕ)) (b : List ℕ) (x : Frame) (pages : List PageAt) → Takes i older b x → (added i older b x pages).frames ≡ counted_at (added i older b x pages)
+listed_more : (i : Image) (older : List (List ℕ)) (b : List ℕ) (x : Frame) (pages : List PageAt) → Takes i older b x
+    → (added i older b x pages).frames ≡ counted_at (added i older b x pages)
 listed_more i older b x pages t =
     let clean = takes_clean i older b x t in
     let more = clean_more i.m i.f (i.number + length older) b x clean t.lawful in
@@ -174,23 +190,33 @@ listed_more i older b x pages t =
     let there : entries i.number (older ++ (b ++ frame_bytes x) ∷ []) ≡ old ++ (line, x) ∷ [] =
     entries_last i.number older (b ++ frame_bytes x)
     ∙ ap (λ (fs : List Frame). entries i.number older ++ entries_from (i.number + length older) 24 fs) more.0
-    ∙ ap (λ (l : List (FrameAt × Frame)). entries i.number older ++ l) (entries_more (i.number + length older) 24 (segment_frames b) x ∙ ap (λ (k : ℕ). entries_from (i.number + length older) 24 (segment_frames b) ++ (entry_of (i.number + length older) k x, x) ∷ []) (sym (clean_len i.m i.f (i.number + length older) b clean)))
+    ∙ ap (λ (l : List (FrameAt × Frame)). entries i.number older ++ l)
+        (entries_more (i.number + length older) 24 (segment_frames b) x
+        ∙ ap (λ (k : ℕ). entries_from (i.number + length older) 24 (segment_frames b) ++ (entry_of (i.number + length older) k x, x) ∷ [])
+        (sym (clean_len i.m i.f (i.number + length older) b clean)))
     ∙ sym (append_assoc (entries i.number older) (entries_from (i.number + length older) 24 (segment_frames b)) ((line, x) ∷ []))
     ∙ ap (λ (l : List (FrameAt × Frame)). l ++ (line, x) ∷ []) (sym (entries_last i.number older b) ∙ ap (entries i.number) (sym t.ends)) in
     let below : AllByRecursion (λ (e : FrameAt × Frame). e.1.number < x.number) old =
-    all-of_map (λ (f : Frame). f.number < x.number) (λ (e : FrameAt × Frame). e.1) old (subst (λ (fs : List Frame). AllByRecursion (λ f. f.number < x.number) fs) (sym (entries_frames i.number i.bytes)) (takes_before i older b x t)) in
+    all-of_map (λ (f : Frame). f.number < x.number) (λ (e : FrameAt × Frame). e.1) old
+        (subst (λ (fs : List Frame). AllByRecursion (λ f. f.number < x.number) fs) (sym (entries_frames i.number i.bytes)) (takes_before i older b x t)) in
     let all_new : AllByRecursion (λ e. test e ≡ true) (old ++ (line, x) ∷ []) =
-    all-push (λ (e : FrameAt × Frame). test e ≡ true) old (line, x) (all-more (λ (e : FrameAt × Frame). e.1.number < x.number) (λ (e : FrameAt × Frame). test e ≡ true) old (λ e h. passes x.number e.1.number (omega arith)) below) (passes x.number x.number (omega arith)) in
+    all-push (λ (e : FrameAt × Frame). test e ≡ true) old (line, x)
+        (all-more (λ (e : FrameAt × Frame). e.1.number < x.number) (λ (e : FrameAt × Frame). test e ≡ true) old
+        (λ e h. passes x.number e.1.number (omega arith)) below) (passes x.number x.number (omega arith)) in
     let all_old : AllByRecursion (λ e. old_test e ≡ true) old =
-    subst (λ (o : Option ℕ). AllByRecursion (λ (e : FrameAt × Frame). is_before_next o e.1.number ≡ true) old) (sym t.number) (all-more (λ (e : FrameAt × Frame). e.1.number < x.number) (λ (e : FrameAt × Frame). is_before_next (Some x.number) e.1.number ≡ true) old (λ e h. passes_some x.number e.1.number h) below) in
-    let was : i.frames ≡ map (λ (e : FrameAt × Frame). e.0) old = t.holds.listed ∙ ap (λ (l : List (FrameAt × Frame)). map (λ (e : FrameAt × Frame). e.0) l) (filter_all old_test old all_old) in
+    subst (λ (o : Option ℕ). AllByRecursion (λ (e : FrameAt × Frame). is_before_next o e.1.number ≡ true) old) (sym t.number)
+        (all-more (λ (e : FrameAt × Frame). e.1.number < x.number) (λ (e : FrameAt × Frame). is_before_next (Some x.number) e.1.number ≡ true) old
+        (λ e h. passes_some x.number e.1.number h) below) in
+    let was : i.frames ≡ map (λ (e : FrameAt × Frame). e.0) old =
+        t.holds.listed ∙ ap (λ (l : List (FrameAt × Frame)). map (λ (e : FrameAt × Frame). e.0) l) (filter_all old_test old all_old) in
     ap (λ (l : List FrameAt). l ++ line ∷ []) was
     ∙ sym (map-append (λ (e : FrameAt × Frame). e.0) old ((line, x) ∷ []))
     ∙ ap (λ (l : List (FrameAt × Frame)). map (λ (e : FrameAt × Frame). e.0) l) (sym (ap (filter test) there ∙ filter_all test (old ++ (line, x) ∷ []) all_new))
 
 -- the whole invariant of an image with a frame more
 pub sound_more : (i : Image) (older : List (List ℕ)) (b : List ℕ) (x : Frame) (pages : List PageAt) (leaves : List Leaf) → Takes i older b x
-    → AreLinked (counted_in i ++ x ∷ []) → Stand i.m (counted_in i ++ x ∷ []) leaves → IsTable pages (counted_in i ++ x ∷ []) → length leaves ≡ length pages → length pages < 2 ^ 32
+    → AreLinked (counted_in i ++ x ∷ []) → Stand i.m (counted_in i ++ x ∷ []) leaves → IsTable pages (counted_in i ++ x ∷ []) → length leaves ≡ length pages
+        → length pages < 2 ^ 32
     → IsImage (added i older b x pages)
 sound_more i older b x pages leaves t linked stands table same few =
     let clean = takes_clean i older b x t in
@@ -199,10 +225,13 @@ sound_more i older b x pages leaves t linked stands table same few =
     record {
       limits = t.holds.limits;
       numbers = t.holds.numbers;
-      live = live_last i.m i.f i.number older (b ++ frame_bytes x) (live_older i.m i.f i.number older b (subst (AreLive i.m i.f i.number) t.ends t.holds.live)) (clean_is_live i.m i.f (i.number + length older) (b ++ frame_bytes x) more.1);
+      live = live_last i.m i.f i.number older (b ++ frame_bytes x) (live_older i.m i.f i.number older b (subst (AreLive i.m i.f i.number) t.ends t.holds.live))
+          (clean_is_live i.m i.f (i.number + length older) (b ++ frame_bytes x) more.1);
       ends = λ _ _. clean_last i.m i.f i.number older (b ++ frame_bytes x) more.1;
       every = λ _. counts_more i older b x pages t ∙ ap (λ (l : List Frame). l ++ x ∷ []) (t.holds.every t.works) ∙ sym (frames_with i older b x t);
-      numbered = subst (λ (fs : List Frame). AreFrom (first_number fs) fs) counts (numbered_more (counted_in i) x t.holds.numbered (sym t.holds.follows ∙ t.number));
+      left = λ failed. (let no : true ≡ false = sym failed ∙ t.works in absurd cc);
+      numbered = subst (λ (fs : List Frame). AreFrom (first_number fs) fs) counts
+          (numbered_more (counted_in i) x t.holds.numbered (sym t.holds.follows ∙ t.number));
       follows = sym (fold-push (λ (was : Option ℕ) (f : Frame). following f.number) (Some 1) (counted_in i) x) ∙ ap next_of counts;
       listed = listed_more i older b x pages t;
       count = few;

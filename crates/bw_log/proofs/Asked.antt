@@ -1,6 +1,7 @@
 -- What the questions of a log rest on.
 
-use Rattle.std.proofs.Common.{inl, inr, ◌≡◌, ℕ, zero, suc, ◌+◌, ◌-◌, ◌^◌, ◌<◌, ◌≤◌, ◌==◌, Bool, true, false, if◌then◌else◌, List, [], ◌∷◌, length, map, slice_get, Option, Some, None, IfSome, MatchOption, refl, sym, ap, subst, ◌∙◌, arith}
+use Rattle.std.proofs.Common.{inl, inr, ◌≡◌, ℕ, zero, suc, ◌+◌, ◌-◌, ◌^◌, ◌<◌, ◌≤◌, ◌==◌, Bool, true, false, if◌then◌else◌, List, [], ◌∷◌, length, map}
+use Rattle.std.proofs.Common.{slice_get, Option, Some, None, IfSome, MatchOption, refl, sym, ap, subst, ◌∙◌, arith}
 use Rattle.std.proofs.lemmas.Bool.{eq-eqb, true≢false, cases_lt}
 use Rattle.std.proofs.lemmas.List.{length-map}
 use Rattle.std.proofs.lemmas.Option.{slice_get_within}
@@ -15,11 +16,13 @@ found v [] i inside = absurd (omega arith)
 found v (x ∷ xs) zero inside = (v x, refl)
 found v (x ∷ xs) (suc i) inside = found v xs i (omega arith)
 
-pub lease_told : {X : Type 0} (v : X → Holding) (xs ys : List X) (i lease : ℕ) → ys ≡ xs → i < length xs → IfSome (slice_get (map v ys) i) (λ h. lease ≡ h.lease)
+pub lease_told : {X : Type 0} (v : X → Holding) (xs ys : List X) (i lease : ℕ) → ys ≡ xs → i < length xs
+    → IfSome (slice_get (map v ys) i) (λ h. lease ≡ h.lease)
     → MatchOption (slice_get (map v xs) i) (Some lease ≡ None) (λ h. Some lease ≡ Some h.lease)
 lease_told {X} v xs ys i lease same inside told =
     let there = found v xs i inside in
-    let all : ys ≡ xs → IfSome (slice_get (map v xs) i) (λ h. lease ≡ h.lease) = λ e. subst (λ (l : List X). IfSome (slice_get (map v l) i) (λ h. lease ≡ h.lease)) e told in
+    let all : ys ≡ xs → IfSome (slice_get (map v xs) i) (λ h. lease ≡ h.lease) =
+        λ e. subst (λ (l : List X). IfSome (slice_get (map v l) i) (λ h. lease ≡ h.lease)) e told in
     let P : Option Holding → Type 0 = λ o. IfSome o (λ h. lease ≡ h.lease) → MatchOption o (Some lease ≡ None) (λ h. Some lease ≡ Some h.lease) in
     subst P (sym there.1) (λ e. ap (λ n. Some n) e) (all same)
 
@@ -28,12 +31,17 @@ Told = ℕ × ℕ × ℕ
 
 pub segment_told : {X : Type 0} (v : X → Holding) (xs ys zs : List X) (i number k lease len : ℕ) → ys ≡ xs → zs ≡ xs → i < length xs → k ≡ i
     → IfSome (slice_get (map v ys) i) (λ h. lease ≡ h.lease) → IfSome (slice_get (map v zs) i) (λ h. len ≡ length h.bytes)
-    → MatchOption (slice_get (map v xs) i) (◌≡◌ {A = Option Told} (Some (number + k, lease, len)) None) (λ h. ◌≡◌ {A = Option Told} (Some (number + k, lease, len)) (Some (number + i, h.lease, length h.bytes)))
+    → MatchOption (slice_get (map v xs) i) (◌≡◌ {A = Option Told} (Some (number + k, lease, len)) None)
+        (λ h. ◌≡◌ {A = Option Told} (Some (number + k, lease, len)) (Some (number + i, h.lease, length h.bytes)))
 segment_told {X} v xs ys zs i number k lease len ys_same zs_same inside at lease_is len_is =
     let there = found v xs i inside in
-    let leases : IfSome (slice_get (map v xs) i) (λ h. lease ≡ h.lease) = subst (λ (l : List X). IfSome (slice_get (map v l) i) (λ h. lease ≡ h.lease)) ys_same lease_is in
-    let lens : IfSome (slice_get (map v xs) i) (λ h. len ≡ length h.bytes) = subst (λ (l : List X). IfSome (slice_get (map v l) i) (λ h. len ≡ length h.bytes)) zs_same len_is in
-    let P : Option Holding → Type 0 = λ o. IfSome o (λ h. lease ≡ h.lease) → IfSome o (λ h. len ≡ length h.bytes) → MatchOption o (◌≡◌ {A = Option Told} (Some (number + k, lease, len)) None) (λ h. ◌≡◌ {A = Option Told} (Some (number + k, lease, len)) (Some (number + i, h.lease, length h.bytes))) in
+    let leases : IfSome (slice_get (map v xs) i) (λ h. lease ≡ h.lease) =
+        subst (λ (l : List X). IfSome (slice_get (map v l) i) (λ h. lease ≡ h.lease)) ys_same lease_is in
+    let lens : IfSome (slice_get (map v xs) i) (λ h. len ≡ length h.bytes) =
+        subst (λ (l : List X). IfSome (slice_get (map v l) i) (λ h. len ≡ length h.bytes)) zs_same len_is in
+    let P : Option Holding → Type 0 = λ o. IfSome o (λ h. lease ≡ h.lease) → IfSome o (λ h. len ≡ length h.bytes)
+        → MatchOption o (◌≡◌ {A = Option Told} (Some (number + k, lease, len)) None)
+        (λ h. ◌≡◌ {A = Option Told} (Some (number + k, lease, len)) (Some (number + i, h.lease, length h.bytes))) in
     subst P (sym there.1) (λ e1 e2. rw (at, e1, e2) refl) leases lens
 
 -- each live segment has a number below the limit
@@ -43,17 +51,22 @@ live_number m f number (b ∷ bs) zero are inside = let law = are.0.whole.lawful
 live_number m f number (b ∷ bs) (suc i) are inside = let more = live_number m f (number + 1) bs i are.1 (omega arith) in omega arith
 
 -- the same of boxes
-pub box_number : {X : Type 0} (v : X → Holding) (m f number : ℕ) (xs : List X) (i : ℕ) → AreLive m f number (map (λ h. h.bytes) (map v xs)) → i < length xs → number + i < 2 ^ 64
-box_number v m f number xs i are inside = live_number m f number (map (λ h. h.bytes) (map v xs)) i are (omega (arith, length-map (map v xs) (λ (h : Holding). h.bytes), length-map xs v))
+pub box_number : {X : Type 0} (v : X → Holding) (m f number : ℕ) (xs : List X) (i : ℕ) → AreLive m f number (map (λ h. h.bytes) (map v xs)) → i < length xs
+    → number + i < 2 ^ 64
+box_number v m f number xs i are inside =
+    live_number m f number (map (λ h. h.bytes) (map v xs)) i are (omega (arith, length-map (map v xs) (λ (h : Holding). h.bytes), length-map xs v))
 
 -- ---- a line of the table
 
-there_by : (page : ℕ) (pages : List PageAt) (e : PageAt) (t : Bool) → (page == 0) ≡ t → Some e ≡ (if t then None else slice_get pages (page - 1)) → (1 ≤ page) × (page ≤ length pages)
+there_by : (page : ℕ) (pages : List PageAt) (e : PageAt) (t : Bool) → (page == 0) ≡ t → Some e ≡ (if t then None else slice_get pages (page - 1))
+    → (1 ≤ page) × (page ≤ length pages)
 there_by page pages e true is there = absurd cc
 there_by page pages e false is there =
     let inside = slice_get_within pages (page - 1) e (sym there) in
-    let some : 1 ≤ page = (elim (cases_lt 0 page) [ inl some ↦ omega arith | inr none ↦ (let z : page ≡ 0 = omega arith in absurd (true≢false (sym (eq-eqb page 0 z) ∙ is))) ]) in
+    let some : 1 ≤ page = (elim (cases_lt 0 page)
+        [ inl some ↦ omega arith | inr none ↦ (let z : page ≡ 0 = omega arith in absurd (true≢false (sym (eq-eqb page 0 z) ∙ is))) ]) in
     (some, omega arith)
 
-pub page_there : (page : ℕ) (pages : List PageAt) (e : PageAt) → Some e ≡ (if page == 0 then None else slice_get pages (page - 1)) → (1 ≤ page) × (page ≤ length pages)
+pub page_there : (page : ℕ) (pages : List PageAt) (e : PageAt) → Some e ≡ (if page == 0 then None else slice_get pages (page - 1))
+    → (1 ≤ page) × (page ≤ length pages)
 page_there page pages e there = there_by page pages e (page == 0) refl there

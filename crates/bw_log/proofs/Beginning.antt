@@ -1,6 +1,7 @@
 -- A segment begun, and a frame torn at the end of the newest one.
 
-use Rattle.std.proofs.Common.{◌≡◌, ℕ, ◌+◌, ◌^◌, ◌<◌, ◌⊎◌, inl, inr, Bool, true, false, if◌then◌else◌, Option, Some, List, [], ◌∷◌, ◌++◌, length, take, map, refl, sym, ap, subst, ◌∙◌, append_assoc, append-nil, arith}
+use Rattle.std.proofs.Common.{◌≡◌, ℕ, ◌+◌, ◌^◌, ◌<◌, ◌⊎◌, inl, inr, Bool, true, false, if◌then◌else◌, Option, Some, List, [], ◌∷◌, ◌++◌, length, take, map}
+use Rattle.std.proofs.Common.{refl, sym, ap, subst, ◌∙◌, append_assoc, append-nil, arith}
 use Rattle.std.proofs.lemmas.Bool.{le-ltb}
 use Rattle.std.specs.List.{filter, flat_map}
 use Rattle.bw_codec.specs.Grammar.{frame_bytes, header_bytes, IsHeader}
@@ -8,10 +9,27 @@ use Rattle.bw_codec.specs.declared.block.Frame.{Frame}
 use Rattle.bw_codec.specs.declared.block.Header.{Header}
 use Rattle.bw_log.specs.Segments.{segment_frames, frames_of, AreLive, entry_of, entries_from, entries, is_before_next, next_of, AreFrom}
 use Rattle.bw_log.specs.Places.{first_number, AreLinked}
-use Rattle.bw_log.specs.Contents.{Image, IsImage, IsStanding, IsTable, counted_in, counted_at}
+use Rattle.bw_page.specs.Standing.{Stand}
+use Rattle.bw_log.specs.Contents.{Image, IsImage, IsStanding, IsTable, CouldFollow, IsLeft, counted_in, counted_at}
 use Rattle.bw_log.specs.declared.places.FrameAt.{FrameAt}
 use Rattle.bw_log.proofs.Reread.{header_is_clean, clean_torn, clean_is_live, clean_more}
 use Rattle.bw_log.proofs.Adding.{Takes, takes_clean, frames_with, frames_last, entries_last, entries_more, live_last, live_older, clean_last}
+
+-- ---- what a failed append left, in another image
+
+could_same : (i j : Image) (x : Frame) → j.next ≡ i.next → j.m ≡ i.m → counted_in j ≡ counted_in i → CouldFollow i x → CouldFollow j x
+could_same i j x next m counts f = record {
+  number = next ∙ f.number;
+  links = subst (λ (fs : List Frame). AreLinked (fs ++ x ∷ [])) (sym counts) f.links;
+  leaves = f.leaves;
+  stands = subst (λ (n : ℕ). Stand n (counted_in j ++ x ∷ []) f.leaves) (sym m)
+      (subst (λ (fs : List Frame). Stand i.m (fs ++ x ∷ []) f.leaves) (sym counts) f.stands);
+}
+
+left_same : (i j : Image) → j.next ≡ i.next → j.m ≡ i.m → counted_in j ≡ counted_in i → frames_of j.bytes ≡ frames_of i.bytes → IsLeft i → IsLeft j
+left_same i j next m counts frames (inl none) = inl (frames ∙ none ∙ sym counts)
+left_same i j next m counts frames (inr one) =
+    inr (one.0, frames ∙ one.1 ∙ ap (λ (fs : List Frame). fs ++ one.0 ∷ []) (sym counts), could_same i j one.0 next m counts one.2)
 
 -- ---- a new current segment
 
@@ -47,12 +65,15 @@ sound_begun i h fits =
     record {
       limits = h.limits;
       numbers = h.numbers;
-      live = live_last i.m i.f i.number i.bytes (header_bytes (header_in i)) h.live (clean_is_live i.m i.f (i.number + length i.bytes) (header_bytes (header_in i)) clean.1);
+      live = live_last i.m i.f i.number i.bytes (header_bytes (header_in i)) h.live
+          (clean_is_live i.m i.f (i.number + length i.bytes) (header_bytes (header_in i)) clean.1);
       ends = λ _ _. clean_last i.m i.f i.number i.bytes (header_bytes (header_in i)) clean.1;
       every = λ works. counted_begun i h fits ∙ h.every works ∙ sym (frames_begun i h fits);
+      left = λ failed. left_same i (with_segment i) refl refl (counted_begun i h fits) (frames_begun i h fits) (h.left failed);
       numbered = subst (λ (fs : List Frame). AreFrom (first_number fs) fs) counts h.numbered;
       follows = h.follows ∙ ap next_of counts;
-      listed = h.listed ∙ ap (λ (l : List (FrameAt × Frame)). map (λ (e : FrameAt × Frame). e.0) (filter (λ (e : FrameAt × Frame). is_before_next i.next e.1.number) l)) (sym (entries_begun i h fits));
+      listed = h.listed ∙ ap (λ (l : List (FrameAt × Frame)). map (λ (e : FrameAt × Frame). e.0)
+          (filter (λ (e : FrameAt × Frame). is_before_next i.next e.1.number) l)) (sym (entries_begun i h fits));
       count = h.count;
       linked = subst AreLinked counts h.linked;
       stands = subst (λ (fs : List Frame). IsStanding i.m fs (length i.pages)) counts h.stands;
@@ -82,17 +103,20 @@ torn_frames : (i : Image) (older : List (List ℕ)) (b : List ℕ) (x : Frame) (
 torn_frames i older b x n t =
     let clean = takes_clean i older b x t in
     elim (clean_torn i.m i.f (i.number + length older) b x n clean t.lawful).1 [
-      | inl same ↦ inl (frames_last older (b ++ take n (frame_bytes x)) ∙ ap (λ (l : List Frame). frames_of older ++ l) same ∙ sym (frames_last older b) ∙ ap frames_of (sym t.ends))
+      | inl same ↦ inl (frames_last older (b ++ take n (frame_bytes x)) ∙ ap (λ (l : List Frame). frames_of older ++ l) same ∙ sym (frames_last older b)
+          ∙ ap frames_of (sym t.ends))
       | inr whole ↦ inr whole
     ]
 
-pub counted_torn : (i : Image) (older : List (List ℕ)) (b : List ℕ) (x : Frame) (n : ℕ) → Takes i older b x → counted_in (torn_image i older b x n) ≡ counted_in i
+pub counted_torn : (i : Image) (older : List (List ℕ)) (b : List ℕ) (x : Frame) (n : ℕ) → Takes i older b x
+    → counted_in (torn_image i older b x n) ≡ counted_in i
 counted_torn i older b x n t =
     let test = λ (f : Frame). is_before_next i.next f.number in
     let none : test x ≡ false = ap (λ (o : Option ℕ). is_before_next o x.number) t.number ∙ not_before x in
     elim (torn_frames i older b x n t) [
       | inl same ↦ ap (filter test) same
-      | inr whole ↦ ap (λ (c : List ℕ). filter test (frames_of (older ++ c ∷ []))) whole ∙ ap (filter test) (frames_with i older b x t) ∙ filter_without test (frames_of i.bytes) x none
+      | inr whole ↦ ap (λ (c : List ℕ). filter test (frames_of (older ++ c ∷ []))) whole ∙ ap (filter test) (frames_with i older b x t)
+          ∙ filter_without test (frames_of i.bytes) x none
     ]
 
 entries_torn : (i : Image) (older : List (List ℕ)) (b : List ℕ) (x : Frame) (n : ℕ) → Takes i older b x → counted_at (torn_image i older b x n) ≡ counted_at i
@@ -101,9 +125,11 @@ entries_torn i older b x n t =
     let test = λ (e : FrameAt × Frame). is_before_next i.next e.1.number in
     let number = i.number + length older in
     let now = b ++ take n (frame_bytes x) in
-    let was : entries i.number i.bytes ≡ entries i.number older ++ entries_from number 24 (segment_frames b) = ap (entries i.number) t.ends ∙ entries_last i.number older b in
+    let was : entries i.number i.bytes ≡ entries i.number older ++ entries_from number 24 (segment_frames b) =
+        ap (entries i.number) t.ends ∙ entries_last i.number older b in
     elim (clean_torn i.m i.f number b x n clean t.lawful).1 [
-      | inl same ↦ ap (λ (l : List (FrameAt × Frame)). map (λ (e : FrameAt × Frame). e.0) (filter test l)) (entries_last i.number older now ∙ ap (λ (fs : List Frame). entries i.number older ++ entries_from number 24 fs) same ∙ sym was)
+      | inl same ↦ ap (λ (l : List (FrameAt × Frame)). map (λ (e : FrameAt × Frame). e.0) (filter test l))
+          (entries_last i.number older now ∙ ap (λ (fs : List Frame). entries i.number older ++ entries_from number 24 fs) same ∙ sym was)
       | inr whole ↦ (
           let more = clean_more i.m i.f number b x clean t.lawful in
           let line : FrameAt × Frame = (entry_of number (24 + length (flat_map frame_bytes (segment_frames b))) x, x) in
@@ -115,11 +141,27 @@ entries_torn i older b x n t =
           ∙ ap (λ (l : List (FrameAt × Frame)). entries i.number older ++ l) (entries_more number 24 (segment_frames b) x)
           ∙ sym (append_assoc (entries i.number older) (entries_from number 24 (segment_frames b)) (line ∷ []))
           ∙ ap (λ (l : List (FrameAt × Frame)). l ++ line ∷ []) (sym was) in
-          ap (λ (l : List (FrameAt × Frame)). map (λ (e : FrameAt × Frame). e.0) (filter test l)) there ∙ ap (λ (l : List (FrameAt × Frame)). map (λ (e : FrameAt × Frame). e.0) l) (filter_without test (entries i.number i.bytes) line none))
+          ap (λ (l : List (FrameAt × Frame)). map (λ (e : FrameAt × Frame). e.0) (filter test l)) there
+              ∙ ap (λ (l : List (FrameAt × Frame)). map (λ (e : FrameAt × Frame). e.0) l) (filter_without test (entries i.number i.bytes) line none))
     ]
 
-pub sound_torn : (i : Image) (older : List (List ℕ)) (b : List ℕ) (x : Frame) (n : ℕ) → Takes i older b x → IsImage (torn_image i older b x n)
-sound_torn i older b x n t =
+-- the whole frames are the counted ones, or these and the one that was appended
+pub torn_left : (i : Image) (older : List (List ℕ)) (b : List ℕ) (x : Frame) (n : ℕ) → Takes i older b x
+    → (frames_of (torn_image i older b x n).bytes ≡ counted_in i) ⊎ (frames_of (torn_image i older b x n).bytes ≡ counted_in i ++ x ∷ [])
+torn_left i older b x n t =
+    let all = sym (t.holds.every t.works) in
+    elim (torn_frames i older b x n t) [
+      | inl same ↦ inl (same ∙ all)
+      | inr whole ↦ inr (ap (λ (c : List ℕ). frames_of (older ++ c ∷ [])) whole ∙ frames_with i older b x t ∙ ap (λ (fs : List Frame). fs ++ x ∷ []) all)
+    ]
+
+is_left : (i j : Image) (x : Frame) → j.next ≡ i.next → j.m ≡ i.m → counted_in j ≡ counted_in i → CouldFollow i x
+    → (frames_of j.bytes ≡ counted_in i) ⊎ (frames_of j.bytes ≡ counted_in i ++ x ∷ []) → IsLeft j
+is_left i j x next m counts f (inl none) = inl (none ∙ sym counts)
+is_left i j x next m counts f (inr one) = inr (x, one ∙ ap (λ (fs : List Frame). fs ++ x ∷ []) (sym counts), could_same i j x next m counts f)
+
+pub sound_torn : (i : Image) (older : List (List ℕ)) (b : List ℕ) (x : Frame) (n : ℕ) → Takes i older b x → CouldFollow i x → IsImage (torn_image i older b x n)
+sound_torn i older b x n t f =
     let h = t.holds in
     let clean = takes_clean i older b x t in
     let torn = clean_torn i.m i.f (i.number + length older) b x n clean t.lawful in
@@ -127,9 +169,11 @@ sound_torn i older b x n t =
     record {
       limits = h.limits;
       numbers = h.numbers;
-      live = live_last i.m i.f i.number older (b ++ take n (frame_bytes x)) (live_older i.m i.f i.number older b (subst (AreLive i.m i.f i.number) t.ends h.live)) torn.0;
+      live = live_last i.m i.f i.number older (b ++ take n (frame_bytes x))
+          (live_older i.m i.f i.number older b (subst (AreLive i.m i.f i.number) t.ends h.live)) torn.0;
       ends = λ _ works. absurd cc;
       every = λ works. absurd cc;
+      left = λ _. is_left i (torn_image i older b x n) x refl refl (counted_torn i older b x n t) f (torn_left i older b x n t);
       numbered = subst (λ (fs : List Frame). AreFrom (first_number fs) fs) counts h.numbered;
       follows = h.follows ∙ ap next_of counts;
       listed = h.listed ∙ sym (entries_torn i older b x n t);
@@ -143,13 +187,14 @@ sound_torn i older b x n t =
 abbrev pub failed_image : Image → Image
 failed_image i = record i { is_failed = true }
 
-pub sound_failed : (i : Image) → IsImage i → IsImage (failed_image i)
-sound_failed i h = record {
+pub sound_failed : (i : Image) → IsImage i → i.is_failed ≡ false → IsImage (failed_image i)
+sound_failed i h works = record {
   limits = h.limits;
   numbers = h.numbers;
   live = h.live;
   ends = λ _ works. absurd cc;
   every = λ works. absurd cc;
+  left = λ _. inl (sym (h.every works));
   numbered = h.numbered;
   follows = h.follows;
   listed = h.listed;

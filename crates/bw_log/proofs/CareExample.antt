@@ -1,6 +1,7 @@
 -- The frames of the vector of a page whose older places were given up.
 
-use Rattle.std.proofs.Common.{◌≡◌, ℕ, suc, zero, ◌≤◌, ◌==◌, Bool, if◌then◌else◌, lit≤, lit<, Option, Some, None, false, List, [], ◌∷◌, slice_get, MatchOption, refl, sym, ap, subst, ◌∙◌, arith}
+use Rattle.std.proofs.Common.{◌≡◌, ℕ, suc, zero, ◌≤◌, ◌==◌, Bool, if◌then◌else◌, lit≤, lit<, Option, Some, None, false, List, [], ◌∷◌, slice_get, MatchOption}
+use Rattle.std.proofs.Common.{refl, sym, ap, subst, ◌∙◌, arith}
 use Rattle.bw_codec.specs.Bytes.{number_bytes}
 use Rattle.bw_codec.specs.Grammar.{IsFrame}
 use Rattle.bw_codec.specs.declared.leaf.Leaf.{Leaf}
@@ -20,21 +21,24 @@ after_first_lawful : IsFrame 4 16384 after_first_example
 unfolding number_bytes
 after_first_lawful = record {
   head = record { numbered = (lit≤ tt, lit< tt); fits = (lit≤ tt, lit≤ tt); some = (lit≤ tt, lit< tt) };
-  blocks = (record { changes = (lit≤ tt, lit< tt); links = record { frame = (lit≤ tt, lit< tt); index = lit< tt }; count = (lit≤ tt, lit< tt); each = (((lit≤ tt, lit≤ tt), lit≤ tt), tt) }, tt);
+  blocks = (record { changes = (lit≤ tt, lit< tt); links = record { frame = (lit≤ tt, lit< tt); index = lit< tt }; count = (lit≤ tt, lit< tt);
+      each = (((lit≤ tt, lit≤ tt), lit≤ tt), tt) }, tt);
 }
 
 after_second_lawful : IsFrame 4 16384 after_second_example
 unfolding number_bytes
 after_second_lawful = record {
   head = record { numbered = (lit≤ tt, lit< tt); fits = (lit≤ tt, lit≤ tt); some = (lit≤ tt, lit< tt) };
-  blocks = (record { changes = (lit≤ tt, lit< tt); links = record { frame = (lit≤ tt, lit< tt); index = lit< tt }; count = (lit≤ tt, lit< tt); each = (((lit≤ tt, lit≤ tt), lit≤ tt), tt) }, tt);
+  blocks = (record { changes = (lit≤ tt, lit< tt); links = record { frame = (lit≤ tt, lit< tt); index = lit< tt }; count = (lit≤ tt, lit< tt);
+      each = (((lit≤ tt, lit≤ tt), lit≤ tt), tt) }, tt);
 }
 
 rewritten_lawful : IsFrame 4 16384 rewritten_example
 unfolding number_bytes
 rewritten_lawful = record {
   head = record { numbered = (lit≤ tt, lit< tt); fits = (lit≤ tt, lit≤ tt); some = (lit≤ tt, lit< tt) };
-  blocks = (record { page = (lit≤ tt, lit< tt); low = lit≤ tt; count = lit≤ tt; pairs = (((lit≤ tt, lit≤ tt), lit≤ tt), (((lit≤ tt, lit≤ tt), lit≤ tt), tt)); ascends = refl }, tt);
+  blocks = (record { page = (lit≤ tt, lit< tt); low = lit≤ tt; count = lit≤ tt; pairs = (((lit≤ tt, lit≤ tt), lit≤ tt), (((lit≤ tt, lit≤ tt), lit≤ tt), tt));
+      ascends = refl }, tt);
 }
 
 abbrev one_frame : List Frame
@@ -60,7 +64,8 @@ two_stand = record {
     pages = (refl, tt);
     first = refl;
     lows = ((λ _. refl, tt), tt);
-    each = (record { page = (lit≤ tt, lit< tt); low = lit≤ tt; count = lit≤ tt; pairs = (((lit≤ tt, lit≤ tt), lit≤ tt), (((lit≤ tt, lit≤ tt), lit≤ tt), tt)); ascends = refl }, tt);
+    each = (record { page = (lit≤ tt, lit< tt); low = lit≤ tt; count = lit≤ tt; pairs = (((lit≤ tt, lit≤ tt), lit≤ tt), (((lit≤ tt, lit≤ tt), lit≤ tt), tt));
+        ascends = refl }, tt);
     homes = ((refl, (refl, tt)), tt);
   };
   each = λ p l h. subst (λ n. content n (blocks_of two_frames) ≡ leaf_at n (two_leaf ∷ [])) (sym (only_one p l h)) refl;
@@ -74,7 +79,8 @@ three_stand = record {
     pages = (refl, tt);
     first = refl;
     lows = ((λ _. refl, tt), tt);
-    each = (record { page = (lit≤ tt, lit< tt); low = lit≤ tt; count = lit≤ tt; pairs = (((lit≤ tt, lit≤ tt), lit≤ tt), (((lit≤ tt, lit≤ tt), lit≤ tt), tt)); ascends = refl }, tt);
+    each = (record { page = (lit≤ tt, lit< tt); low = lit≤ tt; count = lit≤ tt; pairs = (((lit≤ tt, lit≤ tt), lit≤ tt), (((lit≤ tt, lit≤ tt), lit≤ tt), tt));
+        ascends = refl }, tt);
     homes = ((refl, (refl, tt)), tt);
   };
   each = λ p l h. subst (λ n. content n (blocks_of three_frames) ≡ leaf_at n (rewritten_leaf ∷ [])) (sym (only_one p l h)) refl;
@@ -90,16 +96,20 @@ four_stand = record {
 }
 
 pub after_first_on : (c : Contents) (x : Frame) → x ≡ after_first_example → Counts c one_frame → MayFollow c x
-after_first_on c x is k = follows_as c x after_first_example is (follows_of c one_frame after_first_example (two_leaf ∷ []) k.sound k.frames k.m k.f refl after_first_lawful refl two_stand)
+after_first_on c x is k = follows_as c x after_first_example is
+    (follows_of c one_frame after_first_example (two_leaf ∷ []) k.sound k.frames k.m k.f refl after_first_lawful refl two_stand)
 
 pub after_second_on : (c : Contents) (x : Frame) → x ≡ after_second_example → Counts c two_frames → MayFollow c x
-after_second_on c x is k = follows_as c x after_second_example is (follows_of c two_frames after_second_example (rewritten_leaf ∷ []) k.sound k.frames k.m k.f refl after_second_lawful refl three_stand)
+after_second_on c x is k = follows_as c x after_second_example is
+    (follows_of c two_frames after_second_example (rewritten_leaf ∷ []) k.sound k.frames k.m k.f refl after_second_lawful refl three_stand)
 
 pub rewritten_on : (c : Contents) (x : Frame) → x ≡ rewritten_example → Counts c three_frames → MayFollow c x
-rewritten_on c x is k = follows_as c x rewritten_example is (follows_of c three_frames rewritten_example (rewritten_leaf ∷ []) k.sound k.frames k.m k.f refl rewritten_lawful refl four_stand)
+rewritten_on c x is k = follows_as c x rewritten_example is
+    (follows_of c three_frames rewritten_example (rewritten_leaf ∷ []) k.sound k.frames k.m k.f refl rewritten_lawful refl four_stand)
 
 no_other_base : (p : ℕ) → (1 == p) ≡ false → IsAfter 1 (base_of p four_frames)
-no_other_base p other = subst (λ (b : Bool). IsAfter 1 (if b then Some (record { frame = 4; index = 0 }) else (if b then Some (record { frame = 1; index = 0 }) else None))) (sym other) tt
+no_other_base p other = subst (λ (b : Bool). IsAfter 1
+    (if b then Some (record { frame = 4; index = 0 }) else (if b then Some (record { frame = 1; index = 0 }) else None))) (sym other) tt
 
 -- page 1 is set by frame 4, and no other page is
 base_after_first : (p : ℕ) → 1 ≤ p → IsAfter 1 (base_of p four_frames)
@@ -111,14 +121,17 @@ last_told : Option (ℕ × ℕ) → ℕ
 last_told None = 0
 last_told (Some p) = p.1
 
-no_base : (c : Contents) (live : List Holding) (number : ℕ) (told : Option (ℕ × ℕ)) → Counts c four_frames → MatchOption (slice_get live 0) (told ≡ None) (λ h. told ≡ Some (number, last_number c h)) → last_told told ≡ 1 → IsBaseAfter c live
+no_base : (c : Contents) (live : List Holding) (number : ℕ) (told : Option (ℕ × ℕ)) → Counts c four_frames
+    → MatchOption (slice_get live 0) (told ≡ None) (λ h. told ≡ Some (number, last_number c h)) → last_told told ≡ 1 → IsBaseAfter c live
 unfolding last_told
 no_base c [] number told k answer one = tt
 no_base c (h ∷ hs) number told k answer one = λ p is.
     let last : last_number c h ≡ 1 = ap last_told (sym answer) ∙ one in
-    subst (λ (n : ℕ). IsAfter n (base_of p (counted c))) (sym last) (subst (λ (l : List Frame). IsAfter 1 (base_of p l)) (sym k.frames) (base_after_first p is.0))
+    subst (λ (n : ℕ). IsAfter n (base_of p (counted c))) (sym last)
+        (subst (λ (l : List Frame). IsAfter 1 (base_of p l)) (sym k.frames) (base_after_first p is.0))
 
 -- the oldest segment ends with frame 1, and page 1 is set after it
-pub none_before : (c : Contents) (number a b : ℕ) (told : Option (ℕ × ℕ)) → Counts c four_frames → MatchOption (slice_get c.live 0) (told ≡ None) (λ h. told ≡ Some (number, last_number c h)) → told ≡ Some (a, b) → b ≡ 1 → NoBaseBefore c
+pub none_before : (c : Contents) (number a b : ℕ) (told : Option (ℕ × ℕ)) → Counts c four_frames
+    → MatchOption (slice_get c.live 0) (told ≡ None) (λ h. told ≡ Some (number, last_number c h)) → told ≡ Some (a, b) → b ≡ 1 → NoBaseBefore c
 unfolding last_told
 none_before c number a b told k answer is one = no_base c c.live number told k answer (ap last_told is ∙ one)

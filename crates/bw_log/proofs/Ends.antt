@@ -1,6 +1,7 @@
 -- The last box of many, as questions tell it.
 
-use Rattle.std.proofs.Common.{◌≡◌, ℕ, zero, suc, ◌+◌, ◌-◌, ◌^◌, ◌<◌, ◌≤◌, ◌==◌, Bool, true, false, nat_le, List, [], ◌∷◌, length, map, slice_get, Option, Some, IfSome, inl, inr, refl, sym, ap, subst, ◌∙◌, arith}
+use Rattle.std.proofs.Common.{◌≡◌, ℕ, zero, suc, ◌+◌, ◌-◌, ◌^◌, ◌<◌, ◌≤◌, ◌==◌, Bool, true, false, nat_le, List, [], ◌∷◌, length, map, slice_get, Option, Some}
+use Rattle.std.proofs.Common.{IfSome, inl, inr, refl, sym, ap, subst, ◌∙◌, arith}
 use Rattle.std.proofs.lemmas.Bool.{eq-eqb, ne_eqb, le-leb, lt-leb, cases_lt}
 use Rattle.std.proofs.lemmas.List.{length-map}
 use Rattle.bw_device.specs.Holding.{Holding}
@@ -10,7 +11,8 @@ use Rattle.bw_log.proofs.Asked.{found}
 pub last_is : (hs : List Holding) → last_of hs ≡ slice_get hs (length hs - 1)
 last_is [] = refl
 last_is (h ∷ []) = refl
-last_is (h ∷ k ∷ hs) = last_is (k ∷ hs) ∙ ap (λ (i : ℕ). slice_get (h ∷ k ∷ hs) i) (let e : suc (length (k ∷ hs) - 1) ≡ length (h ∷ k ∷ hs) - 1 = omega arith in e)
+last_is (h ∷ k ∷ hs) = last_is (k ∷ hs) ∙ ap (λ (i : ℕ). slice_get (h ∷ k ∷ hs) i)
+    (let e : suc (length (k ∷ hs) - 1) ≡ length (h ∷ k ∷ hs) - 1 = omega arith in e)
 
 -- the last box, and where it stands
 pub record Last {X : Type 0} (v : X → Holding) (xs : List X) : Type 0 where
@@ -33,7 +35,8 @@ greatest n small =
       | inr top ↦ eq-eqb n (2 ^ 64 - 1) (omega arith) ∙ sym (le-leb (2 ^ 64 - 1) n top)
     ]
 
-pub worn_told : {X : Type 0} (v : X → Holding) (xs : List X) (n : ℕ) → 0 < length xs → n < 2 ^ 64 → IfSome (slice_get (map v xs) (length xs - 1)) (λ h. n ≡ h.failed)
+pub worn_told : {X : Type 0} (v : X → Holding) (xs : List X) (n : ℕ) → 0 < length xs → n < 2 ^ 64
+    → IfSome (slice_get (map v xs) (length xs - 1)) (λ h. n ≡ h.failed)
     → (n == 2 ^ 64 - 1) ≡ is_worn (last_of (map v xs))
 worn_told v xs n some small told =
     let l = the_last v xs some in
@@ -48,7 +51,8 @@ room_is len used room within =
     ]
 
 pub room_told : {X : Type 0} (v : X → Holding) (xs : List X) (len used room : ℕ) → 0 < length xs
-    → IfSome (slice_get (map v xs) (length xs - 1)) (λ h. used ≡ length h.bytes) → IfSome (slice_get (map v xs) (length xs - 1)) (λ h. used ≤ h.room) → IfSome (slice_get (map v xs) (length xs - 1)) (λ h. room ≡ h.room)
+    → IfSome (slice_get (map v xs) (length xs - 1)) (λ h. used ≡ length h.bytes) → IfSome (slice_get (map v xs) (length xs - 1)) (λ h. used ≤ h.room)
+        → IfSome (slice_get (map v xs) (length xs - 1)) (λ h. room ≡ h.room)
     → nat_le len (room - used) ≡ has_room len (last_of (map v xs))
 room_told v xs len used room some used_is within room_of =
     let l = the_last v xs some in
@@ -56,7 +60,8 @@ room_told v xs len used room some used_is within room_of =
     let u : used ≡ length l.holding.bytes = at_some (λ (h : Holding). used ≡ length h.bytes) at l.holding l.at used_is in
     let w : used ≤ l.holding.room = at_some (λ (h : Holding). used ≤ h.room) at l.holding l.at within in
     let r : room ≡ l.holding.room = at_some (λ (h : Holding). room ≡ h.room) at l.holding l.at room_of in
-    room_is len used room (omega arith) ∙ ap (λ (k : ℕ). nat_le (k + len) room) u ∙ ap (λ (k : ℕ). nat_le (length l.holding.bytes + len) k) r ∙ ap (has_room len) (sym l.last)
+    room_is len used room (omega arith) ∙ ap (λ (k : ℕ). nat_le (k + len) room) u ∙ ap (λ (k : ℕ). nat_le (length l.holding.bytes + len) k) r
+        ∙ ap (has_room len) (sym l.last)
 
 pub not_empty : (n : ℕ) (r : Bool) → r ≡ (n == 0) → r ≡ false → 0 < n
 not_empty zero r is none = absurd (let no : true ≡ false = sym is ∙ none in cc)

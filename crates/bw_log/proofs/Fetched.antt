@@ -1,15 +1,16 @@
 -- What a read of one box leaves of the log.
 
-use Rattle.std.proofs.Common.{◌≡◌, ℕ, Bool, true, false, if◌then◌else◌, MatchOption, None, nat_le, le-leb, ◌+◌, ◌-◌, ◌<◌, ◌≤◌, List, [], ◌∷◌, ◌++◌, length, take, drop, length-append, map, get_or, set, slice_get, Option, Some, IfSome, refl, sym, ap, subst, ◌∙◌, arith}
+use Rattle.std.proofs.Common.{◌≡◌, ℕ, Bool, true, false, if◌then◌else◌, MatchOption, None, nat_le, le-leb, ◌+◌, ◌-◌, ◌<◌, ◌≤◌, List, [], ◌∷◌, ◌++◌, length}
+use Rattle.std.proofs.Common.{take, drop, length-append, map, get_or, set, slice_get, Option, Some, IfSome, refl, sym, ap, subst, ◌∙◌, arith}
 use Rattle.std.proofs.lemmas.List.{get_or-set_same, length-set, take_at, drop_at, take_all}
 use Rattle.std.proofs.lemmas.Option.{slice_get-get_or, slice_get_within, get_or_from_slice_get}
 use Rattle.std.proofs.Math.Seq.{map-set_same}
 use Rattle.bw_device.specs.Holding.{Holding, failed_once}
 use Rattle.bw_log.specs.Changes.{ChangedAt}
 use Rattle.bw_log.proofs.Asked.{found}
-use Rattle.bw_log.proofs.Fields.{both_fields, roomy_same}
-use Rattle.bw_log.specs.Contents.{Contents, image, boxes, counted, IsImage, IsSound}
-use Rattle.bw_log.specs.Calls.{FailedRead, StopsAt, IsLineIn, HoldsPage}
+use Rattle.bw_log.proofs.Fields.{both_fields, bounded_same}
+use Rattle.bw_log.specs.Contents.{Contents, image, counted, AreTorn, IsImage, IsSound}
+use Rattle.bw_log.specs.Calls.{IsKept, FailedRead, StopsAt, IsLineIn, HoldsPage}
 use Rattle.bw_log.specs.Walking.{StandsAt, IsWalk}
 use Rattle.bw_log.specs.declared.places.FrameAt.{FrameAt}
 use Rattle.bw_log.specs.declared.fault.LogFault.{LogFault}
@@ -22,7 +23,8 @@ use Rattle.bw_log.proofs.Entries.{line_at}
 abbrev pub with_live : Contents → List Holding → Contents
 with_live c live = record c { live = live }
 
-pub failed_read : (old : Contents) (live : List Holding) (at lease : ℕ) → ChangedAt (λ h k. k ≡ failed_once h) at old.live live → IfSome (slice_get live at) (λ h. lease ≡ h.lease)
+pub failed_read : (old : Contents) (live : List Holding) (at lease : ℕ) → ChangedAt (λ h k. k ≡ failed_once h) at old.live live
+    → IfSome (slice_get live at) (λ h. lease ≡ h.lease)
     → FailedRead (λ i. i ≡ at) lease old (with_live old live)
 failed_read old live at lease changed named =
     let inside : at < length old.live = slice_get_within old.live at changed.before changed.was in
@@ -41,7 +43,8 @@ failed_read old live at lease changed named =
     }
 
 -- the same of boxes
-pub failed_box : {X : Type 0} (v : X → Holding) (old : Contents) (ys zs : List X) (at lease : ℕ) → ChangedAt (λ h k. k ≡ failed_once h) at old.live (map v ys) → zs ≡ ys
+pub failed_box : {X : Type 0} (v : X → Holding) (old : Contents) (ys zs : List X) (at lease : ℕ)
+    → ChangedAt (λ h k. k ≡ failed_once h) at old.live (map v ys) → zs ≡ ys
     → IfSome (slice_get (map v zs) at) (λ h. lease ≡ h.lease) → FailedRead (λ i. i ≡ at) lease old (with_live old (map v ys))
 failed_box {X} v old ys zs at lease changed same named =
     failed_read old (map v ys) at lease changed (subst (λ (l : List X). IfSome (slice_get (map v l) at) (λ h. lease ≡ h.lease)) same named)
@@ -95,15 +98,18 @@ boxed_line c k line sound inside is =
       inside = omega arith;
       box = box.1;
       there = there;
-      within = omega (arith, ap (λ (r : List ℕ). length r) parts, length-append e.front (frame_bytes l.frame ++ e.back), length-append (frame_bytes l.frame) e.back);
+      within = omega (arith, ap (λ (r : List ℕ). length r) parts, length-append e.front (frame_bytes l.frame ++ e.back),
+          length-append (frame_bytes l.frame) e.back);
       spelled = spelled;
       numbered = e.numbered;
     }
 
-pub line_within : {c : Contents} {k : ℕ} {line : FrameAt} (l : BoxedLine c k line) → IfSome (slice_get c.live (line.segment - c.number)) (λ h. line.at + line.len ≤ length h.bytes)
+pub line_within : {c : Contents} {k : ℕ} {line : FrameAt} (l : BoxedLine c k line)
+    → IfSome (slice_get c.live (line.segment - c.number)) (λ h. line.at + line.len ≤ length h.bytes)
 line_within {c} {k} {line} l = subst (λ (o : Option Holding). IfSome o (λ h. line.at + line.len ≤ length h.bytes)) (sym l.there) l.within
 
-pub line_bytes : {c : Contents} {k : ℕ} {line : FrameAt} (l : BoxedLine c k line) (bytes : List ℕ) → IfSome (slice_get c.live (line.segment - c.number)) (λ h. bytes ≡ take line.len (drop line.at h.bytes)) → bytes ≡ frame_bytes l.frame
+pub line_bytes : {c : Contents} {k : ℕ} {line : FrameAt} (l : BoxedLine c k line) (bytes : List ℕ)
+    → IfSome (slice_get c.live (line.segment - c.number)) (λ h. bytes ≡ take line.len (drop line.at h.bytes)) → bytes ≡ frame_bytes l.frame
 line_bytes {c} {k} {line} l bytes read = subst (λ (o : Option Holding). IfSome o (λ h. bytes ≡ take line.len (drop line.at h.bytes))) l.there read ∙ l.spelled
 
 -- the frame that was read
@@ -127,11 +133,40 @@ sound_failed reads old new lease sound failed =
     let rooms = same_at (λ (h : Holding). h.room) old.live failed.at failed.segment (failed_once failed.segment) failed.was refl in
     let sound_live : IsSound (with_live old live) = record {
       few = omega (arith, length-set old.live failed.at (failed_once failed.segment));
-      rooms = roomy_same old.f (boxes old) (live ++ old.spares) (both_fields (λ (h : Holding). h.room) old.live old.spares live old.spares rooms refl) sound.rooms;
+      bounds = bounded_same old.live live rooms sound.bounds;
+      rooms = sound.rooms;
       empty = sound.empty;
+      torn = λ f. subst (λ (n : ℕ). AreTorn (old.number + n) old.m old.f old.spares)
+          (sym (length-set old.live failed.at (failed_once failed.segment))) (sound.torn f);
       holds = subst IsImage (same_image old live bytes) sound.holds;
     } in
     subst IsSound (sym failed.is) sound_live
+
+pub kept_same : (old new : Contents) → new ≡ old → IsKept old new
+kept_same old new e = subst (λ (c : Contents). IsKept old c) (sym e) (record { same = refl; spares = refl; leases = refl; rooms = refl })
+
+kept_failed : (reads : ℕ → Type 0) (old new : Contents) (lease : ℕ) → FailedRead reads lease old new → IsKept old new
+kept_failed reads old new lease failed =
+    let live = set old.live failed.at (failed_once failed.segment) in
+    let bytes = same_at (λ (h : Holding). h.bytes) old.live failed.at failed.segment (failed_once failed.segment) failed.was refl in
+    let rooms = same_at (λ (h : Holding). h.room) old.live failed.at failed.segment (failed_once failed.segment) failed.was refl in
+    let leases = same_at (λ (h : Holding). h.lease) old.live failed.at failed.segment (failed_once failed.segment) failed.was refl in
+    let kept : IsKept old (with_live old live) = record {
+      same = sym (same_image old live bytes);
+      spares = refl;
+      leases = both_fields (λ (h : Holding). h.lease) old.live old.spares live old.spares leases refl;
+      rooms = rooms;
+    } in
+    subst (IsKept old) (sym failed.is) kept
+
+pub kept_after : (reads : ℕ → Type 0) (old new : Contents) (fault : LogFault) → StopsAt reads old fault new → IsKept old new
+kept_after reads old new NoMemory stops = kept_same old new stops
+kept_after reads old new (Device lease) stops = kept_failed reads old new lease stops
+kept_after reads old new BadConfig stops = absurd stops
+kept_after reads old new NoSegment stops = absurd stops
+kept_after reads old new Failed stops = absurd stops
+kept_after reads old new Spent stops = kept_same old new stops.0
+kept_after reads old new NoPage stops = kept_same old new stops
 
 pub sound_after : (reads : ℕ → Type 0) (old new : Contents) (fault : LogFault) → IsSound old → StopsAt reads old fault new → IsSound new
 sound_after reads old new NoMemory sound stops = subst IsSound (sym stops) sound
@@ -143,23 +178,28 @@ sound_after reads old new Spent sound stops = subst IsSound (sym stops.0) sound
 sound_after reads old new NoPage sound stops = subst IsSound (sym stops) sound
 
 -- a refusal that is handed on
-pub stops_as : (reads others : ℕ → Type 0) (old new : Contents) (fault : LogFault) → ((i : ℕ) → reads i → others i) → StopsAt reads old fault new → StopsAt others old fault new
+pub stops_as : (reads others : ℕ → Type 0) (old new : Contents) (fault : LogFault) → ((i : ℕ) → reads i → others i) → StopsAt reads old fault new
+    → StopsAt others old fault new
 stops_as reads others old new NoMemory more stops = stops
-stops_as reads others old new (Device lease) more stops = record { at = stops.at; read = more stops.at stops.read; segment = stops.segment; was = stops.was; named = stops.named; is = stops.is }
+stops_as reads others old new (Device lease) more stops =
+    record { at = stops.at; read = more stops.at stops.read; segment = stops.segment; was = stops.was; named = stops.named; is = stops.is }
 stops_as reads others old new BadConfig more stops = stops
 stops_as reads others old new NoSegment more stops = stops
 stops_as reads others old new Failed more stops = stops
-stops_as reads others old new Spent more stops = (stops.0, let worn = stops.1 in record { at = worn.at; read = more worn.at worn.read; segment = worn.segment; is = worn.is; greatest = worn.greatest })
+stops_as reads others old new Spent more stops =
+    (stops.0, let worn = stops.1 in record { at = worn.at; read = more worn.at worn.read; segment = worn.segment; is = worn.is; greatest = worn.greatest })
 stops_as reads others old new NoPage more stops = stops
 
 -- the same where the log had not changed before
-pub stops_since : (reads others : ℕ → Type 0) (old now new : Contents) (fault : LogFault) → now ≡ old → ((i : ℕ) → reads i → others i) → StopsAt reads now fault new → StopsAt others old fault new
+pub stops_since : (reads others : ℕ → Type 0) (old now new : Contents) (fault : LogFault) → now ≡ old → ((i : ℕ) → reads i → others i)
+    → StopsAt reads now fault new → StopsAt others old fault new
 stops_since reads others old now new fault same more stops =
     subst (λ (c : Contents). StopsAt others c fault new) same (stops_as reads others now new fault more stops)
 
 -- ---- which segment has to be read
 
-pub in_line : (c : Contents) (k : ℕ) (line : FrameAt) → IsSound c → k < length c.frames → line ≡ get_or c.frames k line → (j : ℕ) → j ≡ line.segment - c.number → IsLineIn c k j
+pub in_line : (c : Contents) (k : ℕ) (line : FrameAt) → IsSound c → k < length c.frames → line ≡ get_or c.frames k line → (j : ℕ)
+    → j ≡ line.segment - c.number → IsLineIn c k j
 in_line c k line sound inside is j at =
     let first = (boxed_line c k line sound inside is).from_first in
     record { line = line; told = slice_get-get_or c.frames k line inside ∙ ap (λ (l : FrameAt). Some l) (sym is); inside = omega arith }
@@ -175,14 +215,17 @@ on_page c now p at newer same walk j inside = record {
 
 -- ---- a segment's bytes, all of them
 
-pub dumped : {X : Type 0} (v : X → Holding) (number : ℕ) (xs : List X) (segment len : ℕ) (out new bytes : List ℕ) → number ≤ segment → segment - number < length xs
+pub dumped : {X : Type 0} (v : X → Holding) (number : ℕ) (xs : List X) (segment len : ℕ) (out new bytes : List ℕ) → number ≤ segment
+    → segment - number < length xs
     → IfSome (slice_get (map v xs) (segment - number)) (λ h. len ≡ length h.bytes)
     → IfSome (slice_get (map v xs) (segment - number)) (λ h. bytes ≡ take len (drop 0 h.bytes))
     → new ≡ out ++ bytes
-    → MatchOption (if nat_le number segment then slice_get (map v xs) (segment - number) else None) ((true ≡ false) × (new ≡ out)) (λ h. (true ≡ true) × (new ≡ out ++ h.bytes))
+    → MatchOption (if nat_le number segment then slice_get (map v xs) (segment - number) else None) ((true ≡ false) × (new ≡ out))
+        (λ h. (true ≡ true) × (new ≡ out ++ h.bytes))
 dumped v number xs segment len out new bytes from inside long read is =
     let box = found v xs (segment - number) inside in
-    let at : (if nat_le number segment then slice_get (map v xs) (segment - number) else None) ≡ Some box.0 = ap (λ (b : Bool). if b then slice_get (map v xs) (segment - number) else None) (le-leb number segment from) ∙ box.1 in
+    let at : (if nat_le number segment then slice_get (map v xs) (segment - number) else None) ≡ Some box.0 =
+        ap (λ (b : Bool). if b then slice_get (map v xs) (segment - number) else None) (le-leb number segment from) ∙ box.1 in
     let size : len ≡ length box.0.bytes = subst (λ (o : Option Holding). IfSome o (λ h. len ≡ length h.bytes)) box.1 long in
     let all : bytes ≡ take len box.0.bytes = subst (λ (o : Option Holding). IfSome o (λ h. bytes ≡ take len (drop 0 h.bytes))) box.1 read in
     subst (λ (o : Option Holding). MatchOption o ((true ≡ false) × (new ≡ out)) (λ h. (true ≡ true) × (new ≡ out ++ h.bytes))) (sym at)

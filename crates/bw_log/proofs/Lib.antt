@@ -25,3 +25,7 @@ pub mod CareExample
 pub mod FilledExample
 pub mod SplitExample
 pub mod Vectors
+pub mod Growing
+pub mod Cut
+pub mod Adopted
+pub mod SmallBox

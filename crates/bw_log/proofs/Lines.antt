@@ -1,6 +1,7 @@
 -- A frame's blocks stand in the table's lines: no more new pages than blocks, and each of them named by one.
 
-use Rattle.std.proofs.Common.{◌≡◌, ◌≢◌, ℕ, zero, suc, ◌+◌, ◌-◌, ◌<◌, ◌≤◌, ◌==◌, ◌||◌, inl, inr, Bool, true, false, Option, None, List, [], ◌∷◌, ◌++◌, length, refl, sym, ap, subst, ◌∙◌, append-nil, arith}
+use Rattle.std.proofs.Common.{◌≡◌, ◌≢◌, ℕ, zero, suc, ◌+◌, ◌-◌, ◌<◌, ◌≤◌, ◌==◌, ◌||◌, inl, inr, Bool, true, false, Option, None, List, [], ◌∷◌, ◌++◌, length}
+use Rattle.std.proofs.Common.{refl, sym, ap, subst, ◌∙◌, append-nil, arith}
 use Rattle.std.proofs.lemmas.Bool.{eqb-true, eq-eqb, cases_Bool, cases_lt}
 use Rattle.std.proofs.lemmas.Grind.{flat_map-append}
 use Rattle.std.specs.List.{fold, list_any, AllByRecursion}
@@ -44,7 +45,8 @@ block_lines m n (Delta page back ops) law beyond = in_lines n page (Delta page b
 block_lines m n (Base leaf) law beyond = in_lines n leaf.page (Base leaf) law.page.0 (eq-eqb leaf.page leaf.page refl) beyond
 block_lines m n (Split page back upper) law beyond = (
   in_lines n page (Split page back upper) law.cuts.0 (ap (λ (t : Bool). t || (upper.page == page)) (eq-eqb page page refl)) beyond,
-  in_lines n upper.page (Split page back upper) law.makes.page.0 (ap (λ (t : Bool). (page == upper.page) || t) (eq-eqb upper.page upper.page refl) ∙ or_true (page == upper.page)) beyond,
+  in_lines n upper.page (Split page back upper) law.makes.page.0
+      (ap (λ (t : Bool). (page == upper.page) || t) (eq-eqb upper.page upper.page refl) ∙ or_true (page == upper.page)) beyond,
 )
 
 all_lines : (m n : ℕ) (bs : List Block) → AllByRecursion (IsBlock m) bs → ((p : ℕ) → n + 1 ≤ p → AllByRecursion (λ b. touches p b ≡ false) bs) → HaveLines bs n
@@ -114,14 +116,16 @@ blocks_more : (all : List Frame) (x : Frame) → blocks_of (all ++ x ∷ []) ≡
 blocks_more all x = flat_map-append (λ (f : Frame). f.blocks) all (x ∷ []) ∙ ap (λ (l : List Block). blocks_of all ++ l) (append-nil x.blocks)
 
 -- a new page is set in the new frame
-new_page_set : (m : ℕ) (all : List Frame) (n : ℕ) (x : Frame) (leaves : List Leaf) (p : ℕ) → IsStanding m all n → Stand m (all ++ x ∷ []) leaves → n < p → p ≤ length leaves → list_any (sets p) x.blocks ≡ true
+new_page_set : (m : ℕ) (all : List Frame) (n : ℕ) (x : Frame) (leaves : List Leaf) (p : ℕ) → IsStanding m all n → Stand m (all ++ x ∷ []) leaves → n < p
+    → p ≤ length leaves → list_any (sets p) x.blocks ≡ true
 new_page_set m all n x leaves p old new above within =
     elim (cases_Bool (list_any (sets p) x.blocks)) [
       | inl set ↦ set
       | inr unset ↦ (
           let before = old_pages m all n p old above in
           let now : content p (blocks_of (all ++ x ∷ [])) ≡ None =
-          ap (content p) (blocks_more all x) ∙ fold-append (after p) None (blocks_of all) x.blocks ∙ ap (λ (o : Option Leaf). fold (after p) o x.blocks) before ∙ none_fold p x.blocks unset in
+          ap (content p) (blocks_more all x) ∙ fold-append (after p) None (blocks_of all) x.blocks ∙ ap (λ (o : Option Leaf). fold (after p) o x.blocks) before
+              ∙ none_fold p x.blocks unset in
           absurd (leaf_there p leaves (omega arith) within (sym (new.each p (omega arith) within) ∙ now)))
     ]
 
@@ -161,15 +165,19 @@ old_stays m all n x leaves (inr old) new =
       | inr fits ↦ fits
       | inl over ↦ (
           let same = old.2 in
-          let gone : AllByRecursion (λ b. touches n b ≡ false) (blocks_of all ++ x.blocks) = subst (λ (bs : List Block). AllByRecursion (λ b. touches n b ≡ false) bs) (blocks_more all x) (new.all n (omega arith)) in
-          let none : content n (blocks_of all) ≡ None = nothing_said n (blocks_of all) (all-left (λ (b : Block). touches n b ≡ false) (blocks_of all) x.blocks gone) in
+          let gone : AllByRecursion (λ b. touches n b ≡ false) (blocks_of all ++ x.blocks) =
+              subst (λ (bs : List Block). AllByRecursion (λ b. touches n b ≡ false) bs) (blocks_more all x) (new.all n (omega arith)) in
+          let none : content n (blocks_of all) ≡ None =
+              nothing_said n (blocks_of all) (all-left (λ (b : Block). touches n b ≡ false) (blocks_of all) x.blocks gone) in
           absurd (leaf_there n old.0 (omega arith) (omega arith) (sym (old.1.each n (omega arith) (omega arith)) ∙ none)))
     ]
 
-pub new_lines : (m : ℕ) (all : List Frame) (n : ℕ) (x : Frame) (leaves : List Leaf) → AllByRecursion (IsBlock m) x.blocks → IsStanding m all n → Stand m (all ++ x ∷ []) leaves → NewLines x.blocks n (length leaves)
+pub new_lines : (m : ℕ) (all : List Frame) (n : ℕ) (x : Frame) (leaves : List Leaf) → AllByRecursion (IsBlock m) x.blocks → IsStanding m all n
+    → Stand m (all ++ x ∷ []) leaves → NewLines x.blocks n (length leaves)
 new_lines m all n x leaves laws old new =
     let beyond : (p : ℕ) → length leaves + 1 ≤ p → AllByRecursion (λ b. touches p b ≡ false) x.blocks =
-    λ p above. all-right (λ (b : Block). touches p b ≡ false) (blocks_of all) x.blocks (subst (λ (bs : List Block). AllByRecursion (λ b. touches p b ≡ false) bs) (blocks_more all x) (new.all p above)) in
+    λ p above. all-right (λ (b : Block). touches p b ≡ false) (blocks_of all) x.blocks
+        (subst (λ (bs : List Block). AllByRecursion (λ b. touches p b ≡ false) bs) (blocks_more all x) (new.all p above)) in
     let lines = all_lines m (length leaves) x.blocks laws beyond in
     let more = old_stays m all n x leaves old new in
     let few = few_new (length leaves - n) n x.blocks (λ p above within. new_page_set m all n x leaves p old new above (omega arith)) in

@@ -1,6 +1,7 @@
 -- Frames: the last of them that a test passes, and one step back along a page's links.
 
-use Rattle.std.proofs.Common.{◌≡◌, ℕ, ◌+◌, ◌==◌, ◌||◌, ◌⊎◌, inl, inr, Bool, true, false, Option, Some, None, List, [], ◌∷◌, ◌++◌, length, if◌then◌else◌, refl, sym, ap, subst, ◌∙◌, append_assoc, append-nil, arith}
+use Rattle.std.proofs.Common.{◌≡◌, ℕ, ◌+◌, ◌==◌, ◌||◌, ◌⊎◌, inl, inr, Bool, true, false, Option, Some, None, List, [], ◌∷◌, ◌++◌, length, if◌then◌else◌, refl}
+use Rattle.std.proofs.Common.{sym, ap, subst, ◌∙◌, append_assoc, append-nil, arith}
 use Rattle.std.specs.List.{fold, list_any}
 use Rattle.std.proofs.lemmas.Bool.{or_parts, or_from, or_left, or_right, eqb-true}
 use Rattle.std.proofs.lemmas.List.Folds.{list_any-append}
@@ -25,11 +26,13 @@ InBlocks test number acc bs result =
 
 in_blocks_by : (test : Block → Bool) (number i : ℕ) (acc : Option Place) (b : Block) (bs : List Block) (t : Bool) → test b ≡ t → (result : Option Place)
     → InBlocks test number (if t then Some (record { frame = number; index = i }) else acc) bs result → InBlocks test number acc (b ∷ bs) result
-in_blocks_by test number i acc b bs true is result (inl nowhere) = inr (record { frame = number; index = i }, nowhere.1, refl, or_left (test b) (list_any test bs) is)
+in_blocks_by test number i acc b bs true is result (inl nowhere) =
+    inr (record { frame = number; index = i }, nowhere.1, refl, or_left (test b) (list_any test bs) is)
 in_blocks_by test number i acc b bs false is result (inl nowhere) = inl (or_from (test b) (list_any test bs) is nowhere.0, nowhere.1)
 in_blocks_by test number i acc b bs t is result (inr found) = inr (found.0, found.1, found.2, or_right (test b) (list_any test bs) found.3)
 
-in_blocks : (test : Block → Bool) (number i : ℕ) (acc : Option Place) (bs : List Block) → InBlocks test number acc bs (fold (later test) acc (placed number i bs))
+in_blocks : (test : Block → Bool) (number i : ℕ) (acc : Option Place) (bs : List Block)
+    → InBlocks test number acc bs (fold (later test) acc (placed number i bs))
 in_blocks test number i acc [] = inl (refl, refl)
 in_blocks test number i acc (b ∷ bs) =
     in_blocks_by test number i acc b bs (test b) refl (fold (later test) acc (placed number i (b ∷ bs)))
@@ -89,12 +92,14 @@ in_frames_by test n acc middle f fs result is (inr here) (inl later) =
       },
     )
 
-pub frames_last : (test : Block → Bool) (n : ℕ) (acc : Option Place) (fs : List Frame) → AreFrom n fs → InFrames test n acc fs (fold (later test) acc (all_placed fs))
+pub frames_last : (test : Block → Bool) (n : ℕ) (acc : Option Place) (fs : List Frame) → AreFrom n fs
+    → InFrames test n acc fs (fold (later test) acc (all_placed fs))
 frames_last test n acc [] are = inl (refl, refl)
 frames_last test n acc (f ∷ fs) are =
     let middle = fold (later test) acc (placed f.number 0 f.blocks) in
     subst (InFrames test n acc (f ∷ fs)) (sym (fold-append (later test) acc (placed f.number 0 f.blocks) (all_placed fs)))
-    (in_frames_by test n acc middle f fs (fold (later test) middle (all_placed fs)) are.0 (in_blocks test f.number 0 acc f.blocks) (frames_last test (n + 1) middle fs are.1))
+    (in_frames_by test n acc middle f fs (fold (later test) middle (all_placed fs)) are.0 (in_blocks test f.number 0 acc f.blocks)
+        (frames_last test (n + 1) middle fs are.1))
 
 -- ---- the links of one frame among all
 
@@ -102,10 +107,12 @@ or_else_assoc : {A : Type 0} (x y z : Option A) → or_else x (or_else y z) ≡ 
 or_else_assoc None y z = refl
 or_else_assoc (Some x) y z = refl
 
-pub bad_link-append : (first : ℕ) (before xs ys : List (Place × Block)) → bad_link first before (xs ++ ys) ≡ or_else (bad_link first before xs) (bad_link first (before ++ xs) ys)
+pub bad_link-append : (first : ℕ) (before xs ys : List (Place × Block))
+    → bad_link first before (xs ++ ys) ≡ or_else (bad_link first before xs) (bad_link first (before ++ xs) ys)
 bad_link-append first before [] ys = ap (λ (b : List (Place × Block)). bad_link first b ys) (sym (append-nil before))
 bad_link-append first before (x ∷ xs) ys =
-    ap (or_else (fault_of first before x.1)) (bad_link-append first (before ++ x ∷ []) xs ys ∙ ap (λ (b : List (Place × Block)). or_else (bad_link first (before ++ x ∷ []) xs) (bad_link first b ys)) (append_assoc before (x ∷ []) xs))
+    ap (or_else (fault_of first before x.1)) (bad_link-append first (before ++ x ∷ []) xs ys
+        ∙ ap (λ (b : List (Place × Block)). or_else (bad_link first (before ++ x ∷ []) xs) (bad_link first b ys)) (append_assoc before (x ∷ []) xs))
     ∙ or_else_assoc (fault_of first before x.1) (bad_link first (before ++ x ∷ []) xs) (bad_link first (before ++ (x ∷ xs)) ys)
 
 pub neither : {A : Type 0} (x y : Option A) → or_else x y ≡ None → (x ≡ None) × (y ≡ None)
@@ -117,28 +124,35 @@ pub links_in : (first : ℕ) (xs : List Frame) (frame : Frame) (ys : List Frame)
     → bad_link first (all_placed xs) (placed frame.number 0 frame.blocks) ≡ None
 links_in first xs frame ys linked =
     let here = placed frame.number 0 frame.blocks in
-    let parts : all_placed (xs ++ frame ∷ ys) ≡ all_placed xs ++ (here ++ all_placed ys) = flat_map-append (λ (f : Frame). placed f.number 0 f.blocks) xs (frame ∷ ys) in
-    let two = neither (bad_link first [] (all_placed xs)) (bad_link first (all_placed xs) (here ++ all_placed ys)) (sym (bad_link-append first [] (all_placed xs) (here ++ all_placed ys)) ∙ ap (bad_link first []) (sym parts) ∙ linked) in
-    (neither (bad_link first (all_placed xs) here) (bad_link first (all_placed xs ++ here) (all_placed ys)) (sym (bad_link-append first (all_placed xs) here (all_placed ys)) ∙ two.1)).0
+    let parts : all_placed (xs ++ frame ∷ ys) ≡ all_placed xs ++ (here ++ all_placed ys) =
+        flat_map-append (λ (f : Frame). placed f.number 0 f.blocks) xs (frame ∷ ys) in
+    let two = neither (bad_link first [] (all_placed xs)) (bad_link first (all_placed xs) (here ++ all_placed ys))
+        (sym (bad_link-append first [] (all_placed xs) (here ++ all_placed ys)) ∙ ap (bad_link first []) (sym parts) ∙ linked) in
+    (neither (bad_link first (all_placed xs) here) (bad_link first (all_placed xs ++ here) (all_placed ys))
+        (sym (bad_link-append first (all_placed xs) here (all_placed ys)) ∙ two.1)).0
 
 -- ---- the first block of a frame that touches a page, where none sets it
 
 abbrev HasBack : ℕ → ℕ → List (Place × Block) → Option Place → Type 0
 HasBack p first before result = (back : Place) × (result ≡ Some back) × (is_back first (last_place (touches p) before) back ≡ true)
 
-lawful_by : (first : ℕ) (before : List (Place × Block)) (page : ℕ) (back : Place) (t : Bool) → is_back first (last_place (touches page) before) back ≡ t → (if t then None else Some page) ≡ None
+lawful_by : (first : ℕ) (before : List (Place × Block)) (page : ℕ) (back : Place) (t : Bool) → is_back first (last_place (touches page) before) back ≡ t
+    → (if t then None else Some page) ≡ None
     → is_back first (last_place (touches page) before) back ≡ true
 lawful_by first before page back true is e = is
 lawful_by first before page back false is e = absurd cc
 
-lawful_at : (first : ℕ) (before : List (Place × Block)) (page : ℕ) (back : Place) → fault_at first before page back ≡ None → is_back first (last_place (touches page) before) back ≡ true
+lawful_at : (first : ℕ) (before : List (Place × Block)) (page : ℕ) (back : Place) → fault_at first before page back ≡ None
+    → is_back first (last_place (touches page) before) back ≡ true
 lawful_at first before page back e = lawful_by first before page back (is_back first (last_place (touches page) before) back) refl e
 
-later_same : (p : ℕ) (before : List (Place × Block)) (x : Place × Block) → touches p x.1 ≡ false → last_place (touches p) (before ++ x ∷ []) ≡ last_place (touches p) before
+later_same : (p : ℕ) (before : List (Place × Block)) (x : Place × Block) → touches p x.1 ≡ false
+    → last_place (touches p) (before ++ x ∷ []) ≡ last_place (touches p) before
 later_same p before x none = fold-append (later (touches p)) None before (x ∷ []) ∙ (rw none refl)
 
 -- a block of that page: its link
-link_by : (p first page : ℕ) (before : List (Place × Block)) (back : Place) (rest : Option Place) (t : Bool) → (page == p) ≡ t → fault_at first before page back ≡ None
+link_by : (p first page : ℕ) (before : List (Place × Block)) (back : Place) (rest : Option Place) (t : Bool) → (page == p) ≡ t
+    → fault_at first before page back ≡ None
     → ((t ≡ false) → HasBack p first before rest) → HasBack p first before (if t then Some back else rest)
 link_by p first page before back rest true is lawful others =
     (back, refl, subst (λ (q : ℕ). is_back first (last_place (touches q) before) back ≡ true) (eqb-true page p is) (lawful_at first before page back lawful))

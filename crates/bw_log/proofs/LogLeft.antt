@@ -1,6 +1,7 @@
 -- The oldest segment of a log: its last number, and the log without it.
 
-use Rattle.std.proofs.Common.{inl, inr, Some, None, ◌≡◌, ℕ, ◌+◌, ◌≤◌, ◌==◌, not, Bool, false, List, [], ◌∷◌, ◌++◌, length, map, drop, refl, sym, ap, subst, ◌∙◌, arith}
+use Rattle.std.proofs.Common.{inl, inr, Some, None, ◌≡◌, ℕ, ◌+◌, ◌≤◌, ◌==◌, not, Bool, true, false, List, [], ◌∷◌, ◌++◌, length, map, drop, refl, sym, ap}
+use Rattle.std.proofs.Common.{subst, ◌∙◌, arith}
 use Rattle.std.specs.List.{filter, remove, list_any, AllByRecursion}
 use Rattle.std.proofs.lemmas.Bool.{or_from, cases_lt}
 use Rattle.std.proofs.lemmas.List.{length-map, drop_at}
@@ -11,7 +12,7 @@ use Rattle.bw_codec.specs.declared.block.Frame.{Frame}
 use Rattle.bw_page.specs.Standing.{content, blocks_of, Stand}
 use Rattle.bw_device.specs.Holding.{Holding}
 use Rattle.bw_log.specs.Segments.{segment_frames, frames_of}
-use Rattle.bw_log.specs.Contents.{Contents, image, counted, IsStanding, IsRoomy, IsSound}
+use Rattle.bw_log.specs.Contents.{Contents, image, counted, IsStanding, IsBounded, IsSound}
 use Rattle.bw_log.specs.Calls.{IsBaseAfter, NoBaseBefore, oldest_count}
 use Rattle.bw_log.specs.declared.places.FrameAt.{FrameAt}
 use Rattle.bw_log.proofs.GivenUp.{MayGo, given_up, counts, kept_counts, set_kept, stand_kept}
@@ -32,7 +33,8 @@ no_more m frames some others a b =
           let p = length others + 1 in
           let leaf = leaf_there p some (omega arith) (omega arith) in
           let set : content p (blocks_of frames) ≡ Some leaf.0 = a.each p (omega arith) (omega arith) ∙ leaf.1 in
-          let none : content p (blocks_of frames) ≡ None = same_fold p None (blocks_of frames) (none_any (touches p) (blocks_of frames) (b.all p (omega arith))) in
+          let none : content p (blocks_of frames) ≡ None =
+              same_fold p None (blocks_of frames) (none_any (touches p) (blocks_of frames) (b.all p (omega arith))) in
           absurd (none_some (content p (blocks_of frames)) leaf.0 none set))
       | inr le ↦ le
     ]
@@ -63,7 +65,8 @@ pub record Left (c : Contents) (live : List Holding) (frames : List FrameAt) : T
   pub counts : counted (left c live frames) ≡ drop (oldest_count c.live) (counted c)
   pub stands : (leaves : List Leaf) → Stand c.m (counted c) leaves → Stand c.m (counted (left c live frames)) leaves
 
-may_go : (c : Contents) (h : Holding) (hs : List Holding) → IsSound c → c.live ≡ h ∷ hs → 1 ≤ length hs → c.is_failed ≡ false → NoBaseBefore c → MayGo (image c) h.bytes (map (λ k. k.bytes) hs)
+may_go : (c : Contents) (h : Holding) (hs : List Holding) → IsSound c → c.live ≡ h ∷ hs → 1 ≤ length hs → c.is_failed ≡ false → NoBaseBefore c
+    → MayGo (image c) h.bytes (map (λ k. k.bytes) hs)
 may_go c h hs sound live more works bases = record {
   holds = sound.holds;
   bytes = ap (map (λ (k : Holding). k.bytes)) live;
@@ -72,7 +75,8 @@ may_go c h hs sound live more works bases = record {
   bases = λ p some inside. (subst (λ (l : List Holding). IsBaseAfter c l) live bases) p (some, inside);
 }
 
-left_of : (c : Contents) (h : Holding) (hs : List Holding) (frames : List FrameAt) → IsSound c → c.live ≡ h ∷ hs → 1 ≤ length hs → c.is_failed ≡ false → NoBaseBefore c → frames ≡ other_lines c.number c.frames → Left c hs frames
+left_of : (c : Contents) (h : Holding) (hs : List Holding) (frames : List FrameAt) → IsSound c → c.live ≡ h ∷ hs → 1 ≤ length hs → c.is_failed ≡ false
+    → NoBaseBefore c → frames ≡ other_lines c.number c.frames → Left c hs frames
 left_of c h hs frames sound live more works bases lines =
     let bs = map (λ (k : Holding). k.bytes) hs in
     let go = may_go c h hs sound live more works bases in
@@ -82,8 +86,10 @@ left_of c h hs frames sound live more works bases lines =
     record {
       sound = record {
         few = omega (arith, ap (λ (l : List Holding). length l) live);
-        rooms = (subst (λ (l : List Holding). AllByRecursion (IsRoomy c.f) (l ++ c.spares)) live sound.rooms).1;
+        bounds = (subst (λ (l : List Holding). AllByRecursion IsBounded l) live sound.bounds).1;
+        rooms = sound.rooms;
         empty = sound.empty;
+        torn = λ failed. (let no : true ≡ false = sym failed ∙ works in absurd cc);
         holds = given_up (image c) h.bytes bs frames go lines;
       };
       rest = ap (drop 1) (sym live);
@@ -92,17 +98,21 @@ left_of c h hs frames sound live more works bases lines =
           ∙ ap (drop (length (segment_frames h.bytes))) (sym all)
           ∙ ap (λ (l : List Holding). drop (oldest_count l) (counted c)) (sym live);
       stands = λ leaves stand. subst (λ (fs : List Frame). Stand c.m fs leaves) (sym kept)
-          (stand_kept c.m (length c.pages) (segment_frames h.bytes) (frames_of bs) leaves (set_kept (image c) h.bytes bs go) (subst (λ (fs : List Frame). Stand c.m fs leaves) all stand)
+          (stand_kept c.m (length c.pages) (segment_frames h.bytes) (frames_of bs) leaves (set_kept (image c) h.bytes bs go)
+              (subst (λ (fs : List Frame). Stand c.m fs leaves) all stand)
           (same_count c leaves sound stand));
     }
 
 -- the same of boxes
-left_first : {X : Type 0} (v : X → Holding) (c : Contents) (xs : List X) (frames : List FrameAt) → c.live ≡ map v xs → IsSound c → 2 ≤ length xs → c.is_failed ≡ false → NoBaseBefore c → frames ≡ other_lines c.number c.frames
+left_first : {X : Type 0} (v : X → Holding) (c : Contents) (xs : List X) (frames : List FrameAt) → c.live ≡ map v xs → IsSound c → 2 ≤ length xs
+    → c.is_failed ≡ false → NoBaseBefore c → frames ≡ other_lines c.number c.frames
     → Left c (map v (remove xs 0)) frames
 left_first v c [] frames live sound two works bases lines = absurd (omega arith)
-left_first v c (x ∷ xs) frames live sound two works bases lines = left_of c (v x) (map v xs) frames sound live (omega (arith, length-map xs v)) works bases lines
+left_first v c (x ∷ xs) frames live sound two works bases lines =
+    left_of c (v x) (map v xs) frames sound live (omega (arith, length-map xs v)) works bases lines
 
-pub left_boxes : {X : Type 0} (v : X → Holding) (c : Contents) (xs ys : List X) (frames : List FrameAt) → c.live ≡ map v xs → ys ≡ remove xs 0 → IsSound c → 2 ≤ length xs → c.is_failed ≡ false → NoBaseBefore c
+pub left_boxes : {X : Type 0} (v : X → Holding) (c : Contents) (xs ys : List X) (frames : List FrameAt) → c.live ≡ map v xs → ys ≡ remove xs 0 → IsSound c
+    → 2 ≤ length xs → c.is_failed ≡ false → NoBaseBefore c
     → frames ≡ other_lines c.number c.frames → Left c (map v ys) frames
 left_boxes {X} v c xs ys frames live same sound two works bases lines =
     subst (λ (l : List X). Left c (map v l) frames) (sym same) (left_first v c xs frames live sound two works bases lines)

@@ -1,6 +1,7 @@
 -- The table of places after a frame's blocks.
 
-use Rattle.std.proofs.Common.{◌≡◌, ◌≢◌, ℕ, zero, suc, ◌+◌, ◌-◌, ◌<◌, ◌≤◌, ◌==◌, ◌||◌, inl, inr, Bool, true, false, if◌then◌else◌, Option, Some, None, List, [], ◌∷◌, ◌++◌, length, drop, max, replicate, refl, sym, ap, subst, ◌∙◌, append_assoc, append-nil, arith, get_or, set}
+use Rattle.std.proofs.Common.{◌≡◌, ◌≢◌, ℕ, zero, suc, ◌+◌, ◌-◌, ◌<◌, ◌≤◌, ◌==◌, ◌||◌, inl, inr, Bool, true, false, if◌then◌else◌, Option, Some, None, List, []}
+use Rattle.std.proofs.Common.{◌∷◌, ◌++◌, length, drop, max, replicate, refl, sym, ap, subst, ◌∙◌, append_assoc, append-nil, arith, get_or, set}
 use Rattle.std.proofs.lemmas.List.{length-set}
 use Rattle.std.proofs.lemmas.Option.{slice_get-get_or}
 use Rattle.std.proofs.lemmas.Bool.{eqb-true, eqb-false, ne_eqb, cases_Bool}
@@ -41,7 +42,8 @@ line_set field pages k p line inside from =
     elim (cases_Bool (k == p)) [
       | inl same ↦ (
           let e : k ≡ p = eqb-true k p same in
-          let here : slice_get (set pages (k - 1) line) (p - 1) ≡ Some line = ap (λ (i : ℕ). slice_get (set pages (k - 1) line) (i - 1)) (sym e) ∙ get_set_same pages (k - 1) line (omega arith) in
+          let here : slice_get (set pages (k - 1) line) (p - 1) ≡ Some line =
+              ap (λ (i : ℕ). slice_get (set pages (k - 1) line) (i - 1)) (sym e) ∙ get_set_same pages (k - 1) line (omega arith) in
           ap (entry_place field) here ∙ rw same refl)
       | inr apart ↦ (
           let other : p - 1 ≢ k - 1 = λ e. eqb-false k p apart (omega arith) in
@@ -52,7 +54,8 @@ real_place : (q : Place) → 1 ≤ q.frame → some_place q ≡ Some q
 real_place q some = rw (ne_eqb q.frame 0 (λ e. absurd (omega arith))) refl
 
 -- the base that the line had stays
-base_kept : (pages : List PageAt) (k : ℕ) (q : Place) (d : PageAt) → IsInTable k (length pages) → some_place (get_or pages (k - 1) d).base ≡ place_in (λ e. e.base) pages k
+base_kept : (pages : List PageAt) (k : ℕ) (q : Place) (d : PageAt) → IsInTable k (length pages)
+    → some_place (get_or pages (k - 1) d).base ≡ place_in (λ e. e.base) pages k
 base_kept pages k q d inside = ap (entry_place (λ (e : PageAt). e.base)) (sym (slice_get-get_or pages (k - 1) d (omega arith)))
 
 -- ---- one block
@@ -60,9 +63,11 @@ base_kept pages k q d inside = ap (entry_place (λ (e : PageAt). e.base)) (sym (
 place_with_place : (pages : List PageAt) (k p : ℕ) (q : Place) → IsInTable k (length pages) → 1 ≤ p → 1 ≤ q.frame
     → place_in (λ e. e.place) (with_place k q pages) p ≡ (if k == p then Some q else place_in (λ e. e.place) pages p)
 place_with_place pages k p q inside from some =
-    line_set (λ (e : PageAt). e.place) pages k p _ inside from ∙ ap (λ (o : Option Place). if k == p then o else place_in (λ e. e.place) pages p) (real_place q some)
+    line_set (λ (e : PageAt). e.place) pages k p _ inside from
+        ∙ ap (λ (o : Option Place). if k == p then o else place_in (λ e. e.place) pages p) (real_place q some)
 
-place_with_base : (field : PageAt → Place) (pages : List PageAt) (k p : ℕ) (q : Place) → field (record { place = q; base = q }) ≡ q → IsInTable k (length pages) → 1 ≤ p → 1 ≤ q.frame
+place_with_base : (field : PageAt → Place) (pages : List PageAt) (k p : ℕ) (q : Place) → field (record { place = q; base = q }) ≡ q → IsInTable k (length pages)
+    → 1 ≤ p → 1 ≤ q.frame
     → place_in field (with_base k q pages) p ≡ (if k == p then Some q else place_in field pages p)
 place_with_base field pages k p q same inside from some =
     let line : PageAt = record { place = q; base = q } in
@@ -119,7 +124,8 @@ places_noted : (number i : ℕ) (bs : List Block) (pages : List PageAt) (p : ℕ
 places_noted number i [] pages p lines from some = refl
 places_noted number i (b ∷ bs) pages p lines from some =
     let q : Place = record { frame = number; index = i } in
-    places_noted number (i + 1) bs (noted (mark_of b) q pages) p (lines_stay bs (length (noted (mark_of b) q pages)) (length pages) (length-noted (mark_of b) q pages) lines.1) from some
+    places_noted number (i + 1) bs (noted (mark_of b) q pages) p
+        (lines_stay bs (length (noted (mark_of b) q pages)) (length pages) (length-noted (mark_of b) q pages) lines.1) from some
     ∙ ap (λ (o : Option Place). fold (later (touches p)) o (placed number (i + 1) bs)) (place_noted b q pages p lines.0 from some)
 
 bases_noted : (number i : ℕ) (bs : List Block) (pages : List PageAt) (p : ℕ) → HaveLines bs (length pages) → 1 ≤ p → 1 ≤ number
@@ -127,22 +133,27 @@ bases_noted : (number i : ℕ) (bs : List Block) (pages : List PageAt) (p : ℕ)
 bases_noted number i [] pages p lines from some = refl
 bases_noted number i (b ∷ bs) pages p lines from some =
     let q : Place = record { frame = number; index = i } in
-    bases_noted number (i + 1) bs (noted (mark_of b) q pages) p (lines_stay bs (length (noted (mark_of b) q pages)) (length pages) (length-noted (mark_of b) q pages) lines.1) from some
+    bases_noted number (i + 1) bs (noted (mark_of b) q pages) p
+        (lines_stay bs (length (noted (mark_of b) q pages)) (length pages) (length-noted (mark_of b) q pages) lines.1) from some
     ∙ ap (λ (o : Option Place). fold (later (sets p)) o (placed number (i + 1) bs)) (base_noted b q pages p lines.0 from some)
 
 pub length-noted_all : (number i : ℕ) (bs : List Block) (pages : List PageAt) → length (noted_all number i bs pages) ≡ length pages
 length-noted_all number i [] pages = refl
-length-noted_all number i (b ∷ bs) pages = length-noted_all number (i + 1) bs (noted (mark_of b) (record { frame = number; index = i }) pages) ∙ length-noted (mark_of b) (record { frame = number; index = i }) pages
+length-noted_all number i (b ∷ bs) pages =
+    length-noted_all number (i + 1) bs (noted (mark_of b) (record { frame = number; index = i }) pages)
+    ∙ length-noted (mark_of b) (record { frame = number; index = i }) pages
 
 pub fold-append : {X Y : Type 0} (step : Y → X → Y) (acc : Y) (xs ys : List X) → fold step acc (xs ++ ys) ≡ fold step (fold step acc xs) ys
 fold-append step acc [] ys = refl
 fold-append step acc (x ∷ xs) ys = fold-append step (step acc x) xs ys
 
 placed_more : (frames : List Frame) (x : Frame) → all_placed (frames ++ x ∷ []) ≡ all_placed frames ++ placed x.number 0 x.blocks
-placed_more frames x = flat_map-append (λ (f : Frame). placed f.number 0 f.blocks) frames (x ∷ []) ∙ ap (λ (l : List (Place × Block)). all_placed frames ++ l) (append-nil (placed x.number 0 x.blocks))
+placed_more frames x = flat_map-append (λ (f : Frame). placed f.number 0 f.blocks) frames (x ∷ [])
+    ∙ ap (λ (l : List (Place × Block)). all_placed frames ++ l) (append-nil (placed x.number 0 x.blocks))
 
 -- the table after a frame more
-pub table_more : (pages : List PageAt) (all : List Frame) (x : Frame) → IsTable pages all → 1 ≤ x.number → HaveLines x.blocks (length pages) → IsTable (noted_all x.number 0 x.blocks pages) (all ++ x ∷ [])
+pub table_more : (pages : List PageAt) (all : List Frame) (x : Frame) → IsTable pages all → 1 ≤ x.number → HaveLines x.blocks (length pages)
+    → IsTable (noted_all x.number 0 x.blocks pages) (all ++ x ∷ [])
 table_more pages all x table some lines = record {
   places = λ p from.
       places_noted x.number 0 x.blocks pages p lines from some
@@ -156,7 +167,8 @@ table_more pages all x table some lines = record {
 
 -- ---- lines that say nothing
 
-grown_at : (field : PageAt → Place) (pages : List PageAt) (i : ℕ) → field empty_line ≡ no_place → entry_place field (slice_get (pages ++ empty_line ∷ []) i) ≡ entry_place field (slice_get pages i)
+grown_at : (field : PageAt → Place) (pages : List PageAt) (i : ℕ) → field empty_line ≡ no_place
+    → entry_place field (slice_get (pages ++ empty_line ∷ []) i) ≡ entry_place field (slice_get pages i)
 grown_at field [] zero none = ap some_place none
 grown_at field [] (suc i) none = refl
 grown_at field (e ∷ es) zero none = refl
@@ -171,7 +183,8 @@ table_grown pages all table = record {
 pub table_grown_by : (k : ℕ) (pages : List PageAt) (all : List Frame) → IsTable pages all → IsTable (pages ++ replicate k empty_line) all
 table_grown_by zero pages all table = subst (λ (l : List PageAt). IsTable l all) (sym (append-nil pages)) table
 table_grown_by (suc k) pages all table =
-    subst (λ (l : List PageAt). IsTable l all) (append_assoc pages (empty_line ∷ []) (replicate k empty_line)) (table_grown_by k (pages ++ empty_line ∷ []) all (table_grown pages all table))
+    subst (λ (l : List PageAt). IsTable l all) (append_assoc pages (empty_line ∷ []) (replicate k empty_line))
+        (table_grown_by k (pages ++ empty_line ∷ []) all (table_grown pages all table))
 
 -- ---- the loops over a buffer's blocks
 
@@ -189,9 +202,11 @@ block_here (b ∷ bs) (suc i) mark inside is =
     let on : drop (suc i + 1) (b ∷ bs) ≡ drop (i + 1) bs = ap (λ (k : ℕ). drop k (b ∷ bs)) same in
     record { block = h.block; marks = h.marks; split = h.split ∙ ap (λ (l : List Block). h.block ∷ l) (sym on) }
 
-pub top_goes_on : (bs : List Block) (i : ℕ) (mark : Mark) (best all : ℕ) → Here bs i mark → max best (top_page (drop i bs)) ≡ all → max (max best (top_of mark)) (top_page (drop (i + 1) bs)) ≡ all
+pub top_goes_on : (bs : List Block) (i : ℕ) (mark : Mark) (best all : ℕ) → Here bs i mark → max best (top_page (drop i bs)) ≡ all
+    → max (max best (top_of mark)) (top_page (drop (i + 1) bs)) ≡ all
 top_goes_on bs i mark best all here is =
-    let split : top_page (drop i bs) ≡ max (top_of mark) (top_page (drop (i + 1) bs)) = ap top_page here.split ∙ ap (λ (m : Mark). max (top_of m) (top_page (drop (i + 1) bs))) (sym here.marks) in
+    let split : top_page (drop i bs) ≡ max (top_of mark) (top_page (drop (i + 1) bs)) =
+        ap top_page here.split ∙ ap (λ (m : Mark). max (top_of m) (top_page (drop (i + 1) bs))) (sym here.marks) in
     omega arith
 
 pub noting_goes_on : (number i : ℕ) (bs : List Block) (mark : Mark) (pages : List PageAt) → Here bs i mark

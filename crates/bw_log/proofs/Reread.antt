@@ -1,6 +1,7 @@
 -- What a segment's bytes spell is read again.
 
-use Rattle.std.proofs.Common.{◌≡◌, ℕ, zero, suc, ◌+◌, ◌^◌, ◌<◌, ◌≤◌, ◌⊎◌, inl, inr, Some, List, [], ◌∷◌, ◌++◌, length, take, drop, refl, sym, ap, subst, ◌∙◌, append_assoc, append-nil, arith, length-append}
+use Rattle.std.proofs.Common.{◌≡◌, ℕ, zero, suc, ◌+◌, ◌^◌, ◌<◌, ◌≤◌, ◌⊎◌, inl, inr, Some, List, [], ◌∷◌, ◌++◌, length, take, drop, refl, sym, ap, subst, ◌∙◌}
+use Rattle.std.proofs.Common.{append_assoc, append-nil, arith, length-append}
 use Rattle.std.proofs.lemmas.List.{drop_at, take_all}
 use Rattle.std.proofs.lemmas.Bool.{cases_lt}
 use Rattle.std.proofs.lemmas.Grind.{flat_map-append}
@@ -66,10 +67,13 @@ pub no_bytes_are_a_tail : (f : ℕ) → IsTail f []
 no_bytes_are_a_tail f = inl (omega arith, refl)
 
 -- a header alone
-pub header_is_clean : (m f number : ℕ) → IsHeader (record { number = number; m = m; f = f }) → (segment_frames (header_bytes (record { number = number; m = m; f = f })) ≡ []) × IsClean m f number (header_bytes (record { number = number; m = m; f = f }))
+pub header_is_clean : (m f number : ℕ) → IsHeader (record { number = number; m = m; f = f })
+    → (segment_frames (header_bytes (record { number = number; m = m; f = f })) ≡ [])
+    × IsClean m f number (header_bytes (record { number = number; m = m; f = f }))
 header_is_clean m f number lawful =
     let h : Header = record { number = number; m = m; f = f } in
-    let whole : IsWhole (header_bytes h) h [] [] = record { lawful = lawful; each = tt; tail = no_bytes_are_a_tail f; parts = sym (append-nil (header_bytes h)) } in
+    let whole : IsWhole (header_bytes h) h [] [] =
+        record { lawful = lawful; each = tt; tail = no_bytes_are_a_tail f; parts = sym (append-nil (header_bytes h)) } in
     let read = segment_read (header_bytes h) h [] [] whole in
     (read, subst (λ (fs : List Frame). IsWhole (header_bytes h) h fs []) (sym read) whole)
 
@@ -81,10 +85,13 @@ clean_more m f number bytes x clean law =
     let fs = segment_frames bytes in
     let more : flat_map frame_bytes (fs ++ x ∷ []) ≡ flat_map frame_bytes fs ++ frame_bytes x =
     flat_map-append frame_bytes fs (x ∷ []) ∙ ap (λ (b : List ℕ). flat_map frame_bytes fs ++ b) (append-nil (frame_bytes x)) in
-    let old : bytes ≡ header_bytes h ++ flat_map frame_bytes fs = clean.parts ∙ ap (λ (b : List ℕ). header_bytes h ++ b) (append-nil (flat_map frame_bytes fs)) in
+    let old : bytes ≡ header_bytes h ++ flat_map frame_bytes fs =
+        clean.parts ∙ ap (λ (b : List ℕ). header_bytes h ++ b) (append-nil (flat_map frame_bytes fs)) in
     let parts : bytes ++ frame_bytes x ≡ header_bytes h ++ (flat_map frame_bytes (fs ++ x ∷ []) ++ []) =
-    ap (λ (b : List ℕ). b ++ frame_bytes x) old ∙ append_assoc (header_bytes h) (flat_map frame_bytes fs) (frame_bytes x) ∙ ap (λ (b : List ℕ). header_bytes h ++ b) (sym more ∙ sym (append-nil (flat_map frame_bytes (fs ++ x ∷ [])))) in
-    let whole : IsWhole (bytes ++ frame_bytes x) h (fs ++ x ∷ []) [] = record { lawful = clean.lawful; each = all-push (IsFrame m f) fs x clean.each law; tail = clean.tail; parts = parts } in
+    ap (λ (b : List ℕ). b ++ frame_bytes x) old ∙ append_assoc (header_bytes h) (flat_map frame_bytes fs) (frame_bytes x)
+        ∙ ap (λ (b : List ℕ). header_bytes h ++ b) (sym more ∙ sym (append-nil (flat_map frame_bytes (fs ++ x ∷ [])))) in
+    let whole : IsWhole (bytes ++ frame_bytes x) h (fs ++ x ∷ []) [] =
+        record { lawful = clean.lawful; each = all-push (IsFrame m f) fs x clean.each law; tail = clean.tail; parts = parts } in
     let read = segment_read (bytes ++ frame_bytes x) h (fs ++ x ∷ []) [] whole in
     (read, subst (λ (gs : List Frame). IsWhole (bytes ++ frame_bytes x) h gs []) (sym read) whole)
 
@@ -101,7 +108,8 @@ clean_is_live m f number bytes clean = record { cut = []; whole = clean }
 
 -- a frame cut off: the frames are those before, or one more where all of its bytes are there
 pub clean_torn : (m f number : ℕ) (bytes : List ℕ) (x : Frame) (n : ℕ) → IsClean m f number bytes → IsFrame m f x
-    → IsLive m f number (bytes ++ take n (frame_bytes x)) × ((segment_frames (bytes ++ take n (frame_bytes x)) ≡ segment_frames bytes) ⊎ (bytes ++ take n (frame_bytes x) ≡ bytes ++ frame_bytes x))
+    → IsLive m f number (bytes ++ take n (frame_bytes x))
+        × ((segment_frames (bytes ++ take n (frame_bytes x)) ≡ segment_frames bytes) ⊎ (bytes ++ take n (frame_bytes x) ≡ bytes ++ frame_bytes x))
 clean_torn m f number bytes x n clean law =
     let h : Header = record { number = number; m = m; f = f } in
     let fs = segment_frames bytes in
@@ -109,8 +117,10 @@ clean_torn m f number bytes x n clean law =
       | inl short ↦ (
           let cut = take n (frame_bytes x) in
           let parts : bytes ++ cut ≡ header_bytes h ++ (flat_map frame_bytes fs ++ cut) =
-          ap (λ (b : List ℕ). b ++ cut) (clean.parts ∙ ap (λ (b : List ℕ). header_bytes h ++ b) (append-nil (flat_map frame_bytes fs))) ∙ append_assoc (header_bytes h) (flat_map frame_bytes fs) cut in
-          let whole : IsWhole (bytes ++ cut) h fs cut = record { lawful = clean.lawful; each = clean.each; tail = beginnings_are_tails m f x n law short; parts = parts } in
+          ap (λ (b : List ℕ). b ++ cut) (clean.parts ∙ ap (λ (b : List ℕ). header_bytes h ++ b) (append-nil (flat_map frame_bytes fs)))
+              ∙ append_assoc (header_bytes h) (flat_map frame_bytes fs) cut in
+          let whole : IsWhole (bytes ++ cut) h fs cut =
+              record { lawful = clean.lawful; each = clean.each; tail = beginnings_are_tails m f x n law short; parts = parts } in
           let read = segment_read (bytes ++ cut) h fs cut whole in
           (record { cut = cut; whole = subst (λ (gs : List Frame). IsWhole (bytes ++ cut) h gs cut) (sym read) whole }, inl read))
       | inr whole ↦ (

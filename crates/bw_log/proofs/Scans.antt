@@ -1,6 +1,7 @@
 -- Loops over the blocks of one frame, and what bytes of one frame read as.
 
-use Rattle.std.proofs.Common.{◌≡◌, ℕ, ◌+◌, ◌<◌, ◌==◌, ◌||◌, Bool, true, false, if◌then◌else◌, Option, Some, None, Result, Ok, Err, List, [], ◌∷◌, length, drop, get_or, refl, sym, ap, ◌∙◌, append-nil}
+use Rattle.std.proofs.Common.{◌≡◌, ℕ, ◌+◌, ◌<◌, ◌==◌, ◌||◌, Bool, true, false, if◌then◌else◌, Option, Some, None, Result, Ok, Err, List, [], ◌∷◌, length, drop}
+use Rattle.std.proofs.Common.{get_or, refl, sym, ap, ◌∙◌, append-nil}
 use Rattle.std.specs.List.{list_any}
 use Rattle.std.proofs.lemmas.Bool.{or_parts}
 use Rattle.std.proofs.lemmas.List.{at_drop_more}
@@ -22,17 +23,20 @@ use Rattle.bw_log.specs.Walking.{first_back}
 drop_next : (bs : List Block) (i : ℕ) (b : Block) → i < length bs → b ≡ get_or bs i b → drop i bs ≡ b ∷ drop (i + 1) bs
 drop_next bs i b inside is = at_drop_more (λ (l : List Block). l) bs i b inside ∙ ap (λ (x : Block). x ∷ drop (i + 1) bs) (sym is)
 
-pub any_here : (test : Block → Bool) (bs : List Block) (i : ℕ) (b : Block) → i < length bs → b ≡ get_or bs i b → test b ≡ true → list_any test (drop i bs) ≡ true
+pub any_here : (test : Block → Bool) (bs : List Block) (i : ℕ) (b : Block) → i < length bs → b ≡ get_or bs i b → test b ≡ true
+    → list_any test (drop i bs) ≡ true
 any_here test bs i b inside is passes = ap (list_any test) (drop_next bs i b inside is) ∙ (rw passes refl)
 
-pub any_later : (test : Block → Bool) (bs : List Block) (i : ℕ) (b : Block) → i < length bs → b ≡ get_or bs i b → test b ≡ false → list_any test (drop (i + 1) bs) ≡ list_any test (drop i bs)
+pub any_later : (test : Block → Bool) (bs : List Block) (i : ℕ) (b : Block) → i < length bs → b ≡ get_or bs i b → test b ≡ false
+    → list_any test (drop (i + 1) bs) ≡ list_any test (drop i bs)
 any_later test bs i b inside is fails = sym (ap (list_any test) (drop_next bs i b inside is) ∙ (rw fails refl))
 
 here_back : (p : ℕ) (b : Block) (bs : List Block) → touches p b ≡ true → first_back p (b ∷ bs) ≡ first_back p (b ∷ [])
 here_back p (Delta page back ops) bs e = rw e refl
 here_back p (Base leaf) bs e = rw e refl
 here_back p (Split page back upper) bs e = here_by p (page == p) (upper.page == p) back (first_back p bs) e where
-  here_by : (p : ℕ) (x y : Bool) (back : Place) (rest : Option Place) → (x || y) ≡ true → (if x then Some back else if y then None else rest) ≡ (if x then Some back else if y then None else None)
+  here_by : (p : ℕ) (x y : Bool) (back : Place) (rest : Option Place) → (x || y) ≡ true
+      → (if x then Some back else if y then None else rest) ≡ (if x then Some back else if y then None else None)
   here_by p true y back rest e = refl
   here_by p false true back rest e = refl
   here_by p false false back rest e = absurd cc
@@ -42,22 +46,26 @@ later_back p (Delta page back ops) bs e = rw e refl
 later_back p (Base leaf) bs e = rw e refl
 later_back p (Split page back upper) bs e = let two = or_parts (page == p) (upper.page == p) e in rw (two.0, two.1) refl
 
-pub back_here : (p : ℕ) (bs : List Block) (i : ℕ) (b : Block) → i < length bs → b ≡ get_or bs i b → touches p b ≡ true → first_back p (drop i bs) ≡ first_back p (b ∷ [])
+pub back_here : (p : ℕ) (bs : List Block) (i : ℕ) (b : Block) → i < length bs → b ≡ get_or bs i b → touches p b ≡ true
+    → first_back p (drop i bs) ≡ first_back p (b ∷ [])
 back_here p bs i b inside is touched = ap (first_back p) (drop_next bs i b inside is) ∙ here_back p b (drop (i + 1) bs) touched
 
-pub back_later : (p : ℕ) (bs : List Block) (i : ℕ) (b : Block) → i < length bs → b ≡ get_or bs i b → touches p b ≡ false → first_back p (drop (i + 1) bs) ≡ first_back p (drop i bs)
+pub back_later : (p : ℕ) (bs : List Block) (i : ℕ) (b : Block) → i < length bs → b ≡ get_or bs i b → touches p b ≡ false
+    → first_back p (drop (i + 1) bs) ≡ first_back p (drop i bs)
 back_later p bs i b inside is untouched = sym (ap (first_back p) (drop_next bs i b inside is) ∙ later_back p b (drop (i + 1) bs) untouched)
 
 -- ---- one frame's bytes
 
-whole_front : (m f : ℕ) (bytes : List ℕ) (frame : Frame) → IsFrame m f frame → bytes ≡ frame_bytes frame → IsFront m f bytes (Whole frame (length (frame_bytes frame)))
+whole_front : (m f : ℕ) (bytes : List ℕ) (frame : Frame) → IsFrame m f frame → bytes ≡ frame_bytes frame
+    → IsFront m f bytes (Whole frame (length (frame_bytes frame)))
 whole_front m f bytes frame lawful is = (lawful, [], is ∙ sym (append-nil (frame_bytes frame)), refl)
 
 -- what reading gives where the bytes spell a frame
 abbrev pub Only : ℕ → ℕ → List ℕ → Result FrameRead CodecFault → Type 0
 Only m f bytes result = (read : FrameRead) → IsFront m f bytes read → Gives (λ (x : FrameRead). x) result (Some read)
 
-pub whole_is : (m f : ℕ) (bytes : List ℕ) (found : Frame) (used : ℕ) → Only m f bytes (Ok (Whole found used)) → (frame : Frame) → IsFrame m f frame → bytes ≡ frame_bytes frame → Some frame ≡ Some found
+pub whole_is : (m f : ℕ) (bytes : List ℕ) (found : Frame) (used : ℕ) → Only m f bytes (Ok (Whole found used)) → (frame : Frame) → IsFrame m f frame
+    → bytes ≡ frame_bytes frame → Some frame ≡ Some found
 whole_is m f bytes found used only frame lawful is =
     let same = only (Whole frame (length (frame_bytes frame))) (whole_front m f bytes frame lawful is) in
     (let e : frame ≡ found = cc in ap (λ (x : Frame). Some x) e)
@@ -66,7 +74,8 @@ pub tail_is_not : (m f : ℕ) (bytes : List ℕ) → Only m f bytes (Ok Tail) �
 tail_is_not m f bytes only frame lawful is =
     let same = only (Whole frame (length (frame_bytes frame))) (whole_front m f bytes frame lawful is) in absurd cc
 
-pub fault_is : (m f : ℕ) (bytes : List ℕ) (fault : CodecFault) → Only m f bytes (Err fault) → (frame : Frame) → IsFrame m f frame → bytes ≡ frame_bytes frame → Says fault (Some frame)
+pub fault_is : (m f : ℕ) (bytes : List ℕ) (fault : CodecFault) → Only m f bytes (Err fault) → (frame : Frame) → IsFrame m f frame → bytes ≡ frame_bytes frame
+    → Says fault (Some frame)
 fault_is m f bytes NoMemory only frame lawful is = tt
 fault_is m f bytes BadBytes only frame lawful is =
     let none = only (Whole frame (length (frame_bytes frame))) (whole_front m f bytes frame lawful is) in absurd cc

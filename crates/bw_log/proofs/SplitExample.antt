@@ -19,7 +19,8 @@ opening_lawful = record {
   head = record { numbered = (lit≤ tt, lit< tt); fits = (lit≤ tt, lit≤ tt); some = (lit≤ tt, lit< tt) };
   blocks = (
     record { page = (lit≤ tt, lit< tt); low = lit≤ tt; count = lit≤ tt; pairs = tt; ascends = refl },
-    (record { changes = (lit≤ tt, lit< tt); links = record { frame = (lit≤ tt, lit< tt); index = lit< tt }; count = (lit≤ tt, lit< tt); each = (((lit≤ tt, lit≤ tt), lit≤ tt), tt) }, tt),
+    (record { changes = (lit≤ tt, lit< tt); links = record { frame = (lit≤ tt, lit< tt); index = lit< tt }; count = (lit≤ tt, lit< tt);
+        each = (((lit≤ tt, lit≤ tt), lit≤ tt), tt) }, tt),
   );
 }
 
@@ -27,14 +28,16 @@ third_lawful : IsFrame 4 16384 third_example
 unfolding number_bytes
 third_lawful = record {
   head = record { numbered = (lit≤ tt, lit< tt); fits = (lit≤ tt, lit≤ tt); some = (lit≤ tt, lit< tt) };
-  blocks = (record { changes = (lit≤ tt, lit< tt); links = record { frame = (lit≤ tt, lit< tt); index = lit< tt }; count = (lit≤ tt, lit< tt); each = (((lit≤ tt, lit≤ tt), lit≤ tt), tt) }, tt);
+  blocks = (record { changes = (lit≤ tt, lit< tt); links = record { frame = (lit≤ tt, lit< tt); index = lit< tt }; count = (lit≤ tt, lit< tt);
+      each = (((lit≤ tt, lit≤ tt), lit≤ tt), tt) }, tt);
 }
 
 fourth_lawful : IsFrame 4 16384 fourth_example
 unfolding number_bytes
 fourth_lawful = record {
   head = record { numbered = (lit≤ tt, lit< tt); fits = (lit≤ tt, lit≤ tt); some = (lit≤ tt, lit< tt) };
-  blocks = (record { changes = (lit≤ tt, lit< tt); links = record { frame = (lit≤ tt, lit< tt); index = lit< tt }; count = (lit≤ tt, lit< tt); each = (((lit≤ tt, lit≤ tt), lit≤ tt), tt) }, tt);
+  blocks = (record { changes = (lit≤ tt, lit< tt); links = record { frame = (lit≤ tt, lit< tt); index = lit< tt }; count = (lit≤ tt, lit< tt);
+      each = (((lit≤ tt, lit≤ tt), lit≤ tt), tt) }, tt);
 }
 
 fifth_lawful : IsFrame 4 16384 fifth_example
@@ -42,12 +45,14 @@ unfolding number_bytes
 fifth_lawful = record {
   head = record { numbered = (lit≤ tt, lit< tt); fits = (lit≤ tt, lit≤ tt); some = (lit≤ tt, lit< tt) };
   blocks = (
-    record { changes = (lit≤ tt, lit< tt); links = record { frame = (lit≤ tt, lit< tt); index = lit< tt }; count = (lit≤ tt, lit< tt); each = (((lit≤ tt, lit≤ tt), lit≤ tt), tt) },
+    record { changes = (lit≤ tt, lit< tt); links = record { frame = (lit≤ tt, lit< tt); index = lit< tt }; count = (lit≤ tt, lit< tt);
+        each = (((lit≤ tt, lit≤ tt), lit≤ tt), tt) },
     (
       record {
         cuts = (lit≤ tt, lit< tt);
         links = record { frame = (lit≤ tt, lit< tt); index = lit< tt };
-        makes = record { page = (lit≤ tt, lit< tt); low = lit≤ tt; count = lit≤ tt; pairs = (((lit≤ tt, lit≤ tt), lit≤ tt), (((lit≤ tt, lit≤ tt), lit≤ tt), (((lit≤ tt, lit≤ tt), lit≤ tt), tt))); ascends = refl };
+        makes = record { page = (lit≤ tt, lit< tt); low = lit≤ tt; count = lit≤ tt;
+            pairs = (((lit≤ tt, lit≤ tt), lit≤ tt), (((lit≤ tt, lit≤ tt), lit≤ tt), (((lit≤ tt, lit≤ tt), lit≤ tt), tt))); ascends = refl };
         low = refl;
         count = lit≤ tt;
         new = (lit≤ tt, λ e. absurd (omega arith));
@@ -105,7 +110,8 @@ two_stand = record {
     pages = (refl, tt);
     first = refl;
     lows = ((λ _. refl, tt), tt);
-    each = (record { page = (lit≤ tt, lit< tt); low = lit≤ tt; count = lit≤ tt; pairs = (((lit≤ tt, lit≤ tt), lit≤ tt), (((lit≤ tt, lit≤ tt), lit≤ tt), tt)); ascends = refl }, tt);
+    each = (record { page = (lit≤ tt, lit< tt); low = lit≤ tt; count = lit≤ tt; pairs = (((lit≤ tt, lit≤ tt), lit≤ tt), (((lit≤ tt, lit≤ tt), lit≤ tt), tt));
+        ascends = refl }, tt);
     homes = ((refl, (refl, tt)), tt);
   };
   each = λ p l h. subst (λ n. content n (blocks_of two_frames) ≡ leaf_at n (two_leaf ∷ [])) (sym (only_one p l h)) refl;
@@ -119,7 +125,8 @@ three_stand = record {
     pages = (refl, tt);
     first = refl;
     lows = ((λ _. refl, tt), tt);
-    each = (record { page = (lit≤ tt, lit< tt); low = lit≤ tt; count = lit≤ tt; pairs = (((lit≤ tt, lit≤ tt), lit≤ tt), (((lit≤ tt, lit≤ tt), lit≤ tt), (((lit≤ tt, lit≤ tt), lit≤ tt), tt))); ascends = refl }, tt);
+    each = (record { page = (lit≤ tt, lit< tt); low = lit≤ tt; count = lit≤ tt;
+        pairs = (((lit≤ tt, lit≤ tt), lit≤ tt), (((lit≤ tt, lit≤ tt), lit≤ tt), (((lit≤ tt, lit≤ tt), lit≤ tt), tt))); ascends = refl }, tt);
     homes = ((refl, (refl, (refl, tt))), tt);
   };
   each = λ p l h. subst (λ n. content n (blocks_of three_frames) ≡ leaf_at n (three_leaf ∷ [])) (sym (only_one p l h)) refl;
@@ -133,7 +140,9 @@ four_stand = record {
     pages = (refl, tt);
     first = refl;
     lows = ((λ _. refl, tt), tt);
-    each = (record { page = (lit≤ tt, lit< tt); low = lit≤ tt; count = lit≤ tt; pairs = (((lit≤ tt, lit≤ tt), lit≤ tt), (((lit≤ tt, lit≤ tt), lit≤ tt), (((lit≤ tt, lit≤ tt), lit≤ tt), (((lit≤ tt, lit≤ tt), lit≤ tt), tt)))); ascends = refl }, tt);
+    each = (record { page = (lit≤ tt, lit< tt); low = lit≤ tt; count = lit≤ tt;
+        pairs = (((lit≤ tt, lit≤ tt), lit≤ tt), (((lit≤ tt, lit≤ tt), lit≤ tt), (((lit≤ tt, lit≤ tt), lit≤ tt), (((lit≤ tt, lit≤ tt), lit≤ tt), tt))));
+        ascends = refl }, tt);
     homes = ((refl, (refl, (refl, (refl, tt)))), tt);
   };
   each = λ p l h. subst (λ n. content n (blocks_of four_frames) ≡ leaf_at n (four_leaf ∷ [])) (sym (only_one p l h)) refl;
@@ -163,8 +172,10 @@ five_stand = record {
     first = refl;
     lows = ((λ _. refl, (λ e. cc, tt)), ((λ e. cc, (λ _. refl, tt)), tt));
     each = (
-      record { page = (lit≤ tt, lit< tt); low = lit≤ tt; count = lit≤ tt; pairs = (((lit≤ tt, lit≤ tt), lit≤ tt), (((lit≤ tt, lit≤ tt), lit≤ tt), tt)); ascends = refl },
-      (record { page = (lit≤ tt, lit< tt); low = lit≤ tt; count = lit≤ tt; pairs = (((lit≤ tt, lit≤ tt), lit≤ tt), (((lit≤ tt, lit≤ tt), lit≤ tt), (((lit≤ tt, lit≤ tt), lit≤ tt), tt))); ascends = refl }, tt),
+      record { page = (lit≤ tt, lit< tt); low = lit≤ tt; count = lit≤ tt;
+          pairs = (((lit≤ tt, lit≤ tt), lit≤ tt), (((lit≤ tt, lit≤ tt), lit≤ tt), tt)); ascends = refl },
+      (record { page = (lit≤ tt, lit< tt); low = lit≤ tt; count = lit≤ tt;
+          pairs = (((lit≤ tt, lit≤ tt), lit≤ tt), (((lit≤ tt, lit≤ tt), lit≤ tt), (((lit≤ tt, lit≤ tt), lit≤ tt), tt))); ascends = refl }, tt),
     );
     homes = ((refl, (refl, tt)), ((refl, (refl, (refl, tt))), tt));
   };
@@ -173,23 +184,29 @@ five_stand = record {
 }
 
 -- a frame that was appended is counted
-pub counts_as : (old new : Contents) (all : List Frame) (x y : Frame) → x ≡ y → Counts old all → IsSound new → Appended old x new → IsSameLog old new → Counts new (all ++ y ∷ [])
+pub counts_as : (old new : Contents) (all : List Frame) (x y : Frame) → x ≡ y → Counts old all → IsSound new → Appended old x new → IsSameLog old new
+    → Counts new (all ++ y ∷ [])
 counts_as old new all x y is counts sound added same = subst (λ (f : Frame). Counts new (all ++ f ∷ [])) is (more_counts old new all x counts sound added same)
 
 pub follows_as : (c : Contents) (x y : Frame) → x ≡ y → MayFollow c y → MayFollow c x
 follows_as c x y is follows = subst (λ (f : Frame). MayFollow c f) (sym is) follows
 
 pub opening_on : (c : Contents) (x : Frame) → x ≡ opening_example → Counts c [] → MayFollow c x
-opening_on c x is k = follows_as c x opening_example is (follows_of c [] opening_example (one_leaf ∷ []) k.sound k.frames k.m k.f refl opening_lawful refl one_stands)
+opening_on c x is k = follows_as c x opening_example is
+    (follows_of c [] opening_example (one_leaf ∷ []) k.sound k.frames k.m k.f refl opening_lawful refl one_stands)
 
 pub then_second : (c : Contents) (x : Frame) → x ≡ second_example → Counts c one_frame → MayFollow c x
-then_second c x is k = follows_as c x second_example is (follows_of c one_frame second_example (two_leaf ∷ []) k.sound k.frames k.m k.f refl second_frame_lawful refl two_stand)
+then_second c x is k = follows_as c x second_example is
+    (follows_of c one_frame second_example (two_leaf ∷ []) k.sound k.frames k.m k.f refl second_frame_lawful refl two_stand)
 
 pub then_third : (c : Contents) (x : Frame) → x ≡ third_example → Counts c two_frames → MayFollow c x
-then_third c x is k = follows_as c x third_example is (follows_of c two_frames third_example (three_leaf ∷ []) k.sound k.frames k.m k.f refl third_lawful refl three_stand)
+then_third c x is k = follows_as c x third_example is
+    (follows_of c two_frames third_example (three_leaf ∷ []) k.sound k.frames k.m k.f refl third_lawful refl three_stand)
 
 pub then_fourth : (c : Contents) (x : Frame) → x ≡ fourth_example → Counts c three_frames → MayFollow c x
-then_fourth c x is k = follows_as c x fourth_example is (follows_of c three_frames fourth_example (four_leaf ∷ []) k.sound k.frames k.m k.f refl fourth_lawful refl four_stand)
+then_fourth c x is k = follows_as c x fourth_example is
+    (follows_of c three_frames fourth_example (four_leaf ∷ []) k.sound k.frames k.m k.f refl fourth_lawful refl four_stand)
 
 pub then_fifth : (c : Contents) (x : Frame) → x ≡ fifth_example → Counts c four_frames → MayFollow c x
-then_fifth c x is k = follows_as c x fifth_example is (follows_of c four_frames fifth_example two_leaves k.sound k.frames k.m k.f refl fifth_lawful refl five_stand)
+then_fifth c x is k = follows_as c x fifth_example is
+    (follows_of c four_frames fifth_example two_leaves k.sound k.frames k.m k.f refl fifth_lawful refl five_stand)

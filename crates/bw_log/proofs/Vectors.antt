@@ -3,7 +3,8 @@
 
 use Rattle.std.proofs.Common.{◌≡◌, ℕ, Some, None, true, false, List, [], ◌∷◌, ◌++◌, length, take, refl}
 use Rattle.bw_codec.specs.Bytes.{number_bytes}
-use Rattle.bw_codec.specs.Reading.{front_at, heading_of, text_at, op_at, pair_at, many_at, place_at, page_at, pairs_at, delta_at, base_at, upper_at, split_at, block_at, head_at}
+use Rattle.bw_codec.specs.Reading.{front_at, heading_of, text_at, op_at, pair_at, many_at, place_at, page_at, pairs_at, delta_at, base_at, upper_at, split_at}
+use Rattle.bw_codec.specs.Reading.{block_at, head_at}
 use Rattle.bw_codec.specs.declared.block.Block.TheVariants.{Delta}
 use Rattle.bw_codec.specs.declared.block.Frame.{Frame}
 use Rattle.bw_device.specs.Holding.{Holding}
@@ -11,26 +12,30 @@ use Rattle.bw_log.specs.Places.{place_of, base_of, bad_link, all_placed, first_n
 use Rattle.bw_log.specs.Segments.{segment_frames, frames_at, frames_of, next_of}
 use Rattle.bw_log.specs.Contents.{Image, roster, counted_in, counted_at}
 use Rattle.bw_log.specs.Calls.{fresh}
-use Rattle.bw_log.specs.Examples.{first_example, opening_example, second_example, third_example, fourth_example, fifth_example, after_first_example, after_second_example, rewritten_example}
+use Rattle.bw_log.specs.Examples.{first_example, opening_example, second_example, third_example, fourth_example, fifth_example, after_first_example}
+use Rattle.bw_log.specs.Examples.{after_second_example, rewritten_example}
 
 -- one segment: frame 1 sets page 1, and then gives it k=v
-abbrev first_segment : List ℕ
+abbrev pub first_segment : List ℕ
 first_segment =
     66 ∷ 87 ∷ 76 ∷ 79 ∷ 71 ∷ 83 ∷ 71 ∷ 49 ∷ 1 ∷ 0 ∷ 0 ∷ 0 ∷ 0 ∷ 0 ∷ 0 ∷ 0 ∷ 4 ∷ 0 ∷ 0 ∷ 0 ∷ 0 ∷ 64 ∷ 0 ∷ 0 ∷
     70 ∷ 82 ∷ 77 ∷ 49 ∷ 1 ∷ 0 ∷ 0 ∷ 0 ∷ 0 ∷ 0 ∷ 0 ∷ 0 ∷ 32 ∷ 0 ∷ 0 ∷ 0 ∷ 2 ∷ 0 ∷ 0 ∷ 0 ∷ 2 ∷ 1 ∷ 0 ∷ 0 ∷ 0 ∷
     0 ∷ 0 ∷ 0 ∷ 1 ∷ 1 ∷ 0 ∷ 0 ∷ 0 ∷ 1 ∷ 0 ∷ 0 ∷ 0 ∷ 0 ∷ 0 ∷ 0 ∷ 0 ∷ 0 ∷ 0 ∷ 0 ∷ 0 ∷ 1 ∷ 0 ∷ 1 ∷ 1 ∷ 107 ∷
     1 ∷ 118 ∷ []
 
-first_is_read : segment_frames first_segment ≡ first_example ∷ []
-unfolding segment_frames frames_at heading_of front_at text_at op_at pair_at many_at place_at page_at pairs_at delta_at base_at upper_at split_at block_at head_at number_bytes
+pub first_is_read : segment_frames first_segment ≡ first_example ∷ []
+unfolding segment_frames frames_at heading_of front_at text_at op_at pair_at many_at place_at page_at pairs_at delta_at base_at upper_at split_at block_at
+    head_at number_bytes
 first_is_read = refl
 
 -- cut by one byte it holds no whole frame, and cut in its header none either
 first_is_cut : segment_frames (take 75 first_segment) ++ segment_frames (take 23 first_segment) ≡ []
-unfolding segment_frames frames_at heading_of front_at text_at op_at pair_at many_at place_at page_at pairs_at delta_at base_at upper_at split_at block_at head_at number_bytes
+unfolding segment_frames frames_at heading_of front_at text_at op_at pair_at many_at place_at page_at pairs_at delta_at base_at upper_at split_at block_at
+    head_at number_bytes
 first_is_cut = refl
 
-first_places : (place_of 1 (first_example ∷ []) ≡ Some (record { frame = 1; index = 1 })) × (base_of 1 (first_example ∷ []) ≡ Some (record { frame = 1; index = 0 })) × (place_of 2 (first_example ∷ []) ≡ None)
+first_places : (place_of 1 (first_example ∷ []) ≡ Some (record { frame = 1; index = 1 }))
+    × (base_of 1 (first_example ∷ []) ≡ Some (record { frame = 1; index = 0 })) × (place_of 2 (first_example ∷ []) ≡ None)
 first_places = (refl, refl, refl)
 
 first_links : (bad_link 1 [] (all_placed (first_example ∷ [])) ≡ None) × (next_of (first_example ∷ []) ≡ Some 2)
@@ -65,19 +70,25 @@ cleaned = record {
 }
 
 cleaned_frames : counted_in cleaned ≡ after_first_example ∷ after_second_example ∷ rewritten_example ∷ []
-unfolding segment_frames frames_at heading_of front_at text_at op_at pair_at many_at place_at page_at pairs_at delta_at base_at upper_at split_at block_at head_at number_bytes
+unfolding segment_frames frames_at heading_of front_at text_at op_at pair_at many_at place_at page_at pairs_at delta_at base_at upper_at split_at block_at
+    head_at number_bytes
 cleaned_frames = refl
 
-cleaned_at : counted_at cleaned ≡ record { number = 2; segment = 2; at = 24; len = 44 } ∷ record { number = 3; segment = 3; at = 24; len = 44 } ∷ record { number = 4; segment = 3; at = 68; len = 36 } ∷ []
-unfolding segment_frames frames_at heading_of front_at text_at op_at pair_at many_at place_at page_at pairs_at delta_at base_at upper_at split_at block_at head_at number_bytes
+cleaned_at : counted_at cleaned ≡ record { number = 2; segment = 2; at = 24; len = 44 } ∷ record { number = 3; segment = 3; at = 24; len = 44 } ∷ record
+    { number = 4; segment = 3; at = 68; len = 36 } ∷ []
+unfolding segment_frames frames_at heading_of front_at text_at op_at pair_at many_at place_at page_at pairs_at delta_at base_at upper_at split_at block_at
+    head_at number_bytes
 cleaned_at = refl
 
-cleaned_places : (place_of 1 (counted_in cleaned) ≡ Some (record { frame = 4; index = 0 })) × (base_of 1 (counted_in cleaned) ≡ Some (record { frame = 4; index = 0 }))
-unfolding segment_frames frames_at heading_of front_at text_at op_at pair_at many_at place_at page_at pairs_at delta_at base_at upper_at split_at block_at head_at number_bytes
+cleaned_places : (place_of 1 (counted_in cleaned) ≡ Some (record { frame = 4; index = 0 }))
+    × (base_of 1 (counted_in cleaned) ≡ Some (record { frame = 4; index = 0 }))
+unfolding segment_frames frames_at heading_of front_at text_at op_at pair_at many_at place_at page_at pairs_at delta_at base_at upper_at split_at block_at
+    head_at number_bytes
 cleaned_places = (refl, refl)
 
 cleaned_links : (first_number (counted_in cleaned) ≡ 2) × (bad_link 2 [] (all_placed (counted_in cleaned)) ≡ None)
-unfolding segment_frames frames_at heading_of front_at text_at op_at pair_at many_at place_at page_at pairs_at delta_at base_at upper_at split_at block_at head_at number_bytes
+unfolding segment_frames frames_at heading_of front_at text_at op_at pair_at many_at place_at page_at pairs_at delta_at base_at upper_at split_at block_at
+    head_at number_bytes
 cleaned_links = (refl, refl)
 
 -- a log whose append of frame 4 failed does not count that frame, though all its bytes are there
@@ -85,7 +96,8 @@ abbrev failed : Image
 failed = record cleaned { is_failed = true; next = Some 4 }
 
 failed_count : (length (counted_in failed) ≡ 2) × (length (frames_of failed.bytes) ≡ 3) × (base_of 1 (counted_in failed) ≡ None)
-unfolding segment_frames frames_at heading_of front_at text_at op_at pair_at many_at place_at page_at pairs_at delta_at base_at upper_at split_at block_at head_at number_bytes
+unfolding segment_frames frames_at heading_of front_at text_at op_at pair_at many_at place_at page_at pairs_at delta_at base_at upper_at split_at block_at
+    head_at number_bytes
 failed_count = (refl, refl, refl)
 
 -- a link to an earlier block than the last one of its page is wrong, and so is one to a frame that is not there

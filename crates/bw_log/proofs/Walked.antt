@@ -1,6 +1,7 @@
 -- A walk and the table of places, on a log.
 
-use Rattle.std.proofs.Common.{inl, inr, ◌≡◌, ℕ, zero, suc, ◌-◌, ◌<◌, ◌≤◌, ◌==◌, Bool, true, false, if◌then◌else◌, Option, Some, None, Result, Err, List, [], ◌∷◌, ◌++◌, length, get_or, slice_get, reverse, refl, sym, ap, subst, ◌∙◌, arith}
+use Rattle.std.proofs.Common.{inl, inr, ◌≡◌, ℕ, zero, suc, ◌-◌, ◌<◌, ◌≤◌, ◌==◌, Bool, true, false, if◌then◌else◌, Option, Some, None, Result, Err, List, []}
+use Rattle.std.proofs.Common.{◌∷◌, ◌++◌, length, get_or, slice_get, reverse, refl, sym, ap, subst, ◌∙◌, arith}
 use Rattle.std.specs.List.{fold, list_any}
 use Rattle.std.proofs.lemmas.Bool.{eqb-true}
 use Rattle.bw_codec.specs.Touch.{sets}
@@ -42,7 +43,8 @@ inside_of {c} {p} {at} {newer} sound walk = omega (arith, walk_inside walk, list
 pub some_frames : {c : Contents} {p at : ℕ} {newer : List Frame} → IsSound c → IsWalk p (counted c) at newer → 0 < length c.frames
 some_frames {c} {p} {at} {newer} sound walk = omega (arith, inside_of sound walk)
 
-pub goes_on : {c : Contents} {p at : ℕ} {newer : List Frame} {frame : Frame} → IsSound c → IsWalk p (counted c) at newer → StandsAt (counted c) at frame → list_any (sets p) frame.blocks ≡ false
+pub goes_on : {c : Contents} {p at : ℕ} {newer : List Frame} {frame : Frame} → IsSound c → IsWalk p (counted c) at newer → StandsAt (counted c) at frame
+    → list_any (sets p) frame.blocks ≡ false
     → WalksOn p (counted c) at newer frame (first_back p frame.blocks)
 goes_on sound walk stands unset = walk_on walk stands sound.holds.numbered sound.holds.linked unset
 
@@ -53,7 +55,8 @@ some_by place true there e = absurd cc
 some_by place false there e = cc
 
 -- what a line of the table says of its page
-line_says : (field : PageAt → Place) (pages : List PageAt) (p : ℕ) (e : PageAt) (there : Place) → slice_get pages (p - 1) ≡ Some e → place_in field pages p ≡ Some there → field e ≡ there
+line_says : (field : PageAt → Place) (pages : List PageAt) (p : ℕ) (e : PageAt) (there : Place) → slice_get pages (p - 1) ≡ Some e
+    → place_in field pages p ≡ Some there → field e ≡ there
 line_says field pages p e there at says =
     some_by (field e) ((field e).frame == 0) there (ap (entry_place field) (sym at) ∙ says)
 
@@ -67,7 +70,8 @@ leaf_there zero leaves some inside = absurd (omega arith)
 leaf_there (suc n) leaves some inside = page_leaf n leaves (omega arith)
 
 -- each page of the table is set
-pub set_by : (m : ℕ) (frames : List Frame) (pages p : ℕ) → IsStanding m frames pages → 1 ≤ p → p ≤ pages → (leaf : Leaf) × (content p (blocks_of frames) ≡ Some leaf)
+pub set_by : (m : ℕ) (frames : List Frame) (pages p : ℕ) → IsStanding m frames pages → 1 ≤ p → p ≤ pages
+    → (leaf : Leaf) × (content p (blocks_of frames) ≡ Some leaf)
 set_by m frames pages p (inl none) some inside = let zero_pages = none.1 in absurd (omega arith)
 set_by m frames pages p (inr stands) some inside =
     let len = stands.2 in
@@ -99,10 +103,12 @@ page_starts c p e sound is =
     line_at_page p pages e is = line_by p pages e (p == 0) is
 
 -- what was replayed is the page
-pub page_is : (o : Option Leaf) (c : Contents) (p : ℕ) (replayed : Option Leaf) → o ≡ replayed → content p (blocks_of (counted c)) ≡ replayed → content p (blocks_of (counted c)) ≡ o
+pub page_is : (o : Option Leaf) (c : Contents) (p : ℕ) (replayed : Option Leaf) → o ≡ replayed → content p (blocks_of (counted c)) ≡ replayed
+    → content p (blocks_of (counted c)) ≡ o
 page_is o c p replayed a b = b ∙ sym a
 
-pub not_none : (c : Contents) (p : ℕ) (replayed : Option Leaf) → IsSound c → 1 ≤ p → p ≤ length c.pages → None ≡ replayed → content p (blocks_of (counted c)) ≡ replayed → ⊥
+pub not_none : (c : Contents) (p : ℕ) (replayed : Option Leaf) → IsSound c → 1 ≤ p → p ≤ length c.pages → None ≡ replayed
+    → content p (blocks_of (counted c)) ≡ replayed → ⊥
 not_none c p replayed sound some inside a b = let set = page_set c p sound some inside in (let e : None ≡ Some set.0 = a ∙ sym b ∙ set.1 in cc)
 
 -- ---- one step of the loop that walks
@@ -119,21 +125,26 @@ pub record Step (old : Contents) (p at : ℕ) (newer : List Frame) (frame : Fram
   pub older : place.frame - first < at
   pub walk : IsWalk p (counted old) (place.frame - first) (newer ++ frame ∷ [])
 
-on_by : {old : Contents} {p at : ℕ} {newer : List Frame} {frame : Frame} (first : ℕ) (place : Place) (link : Option Place) → WalksOn p (counted old) at newer frame link → Some place ≡ link → first ≡ first_number (counted old)
+on_by : {old : Contents} {p at : ℕ} {newer : List Frame} {frame : Frame} (first : ℕ) (place : Place) (link : Option Place)
+    → WalksOn p (counted old) at newer frame link → Some place ≡ link → first ≡ first_number (counted old)
     → Step old p at newer frame first place
 on_by {old} {p} {at} {newer} {frame} first place link on is number =
     let same : on.back ≡ place = (let e : Some on.back ≡ Some place = sym on.is ∙ sym is in cc) in
     let step : Step old p at newer frame (first_number (counted old)) on.back = record { from_first = on.from_first; older = on.older; walk = on.walk } in
-    subst (λ (n : ℕ). Step old p at newer frame n place) (sym number) (subst (λ (x : Place). Step old p at newer frame (first_number (counted old)) x) same step)
+    subst (λ (n : ℕ). Step old p at newer frame n place) (sym number)
+        (subst (λ (x : Place). Step old p at newer frame (first_number (counted old)) x) same step)
 
-walks_on : {old now : Contents} {p at : ℕ} {newer : List Frame} {frame : Frame} (sets_in link_in : List Block) → Reads old now p at newer frame → sets_in ≡ frame.blocks → false ≡ list_any (sets p) sets_in → link_in ≡ frame.blocks
+walks_on : {old now : Contents} {p at : ℕ} {newer : List Frame} {frame : Frame} (sets_in link_in : List Block) → Reads old now p at newer frame
+    → sets_in ≡ frame.blocks → false ≡ list_any (sets p) sets_in → link_in ≡ frame.blocks
     → WalksOn p (counted old) at newer frame (first_back p link_in)
 walks_on {old} {now} {p} {at} {newer} {frame} sets_in link_in r sets_same unset link_same =
     let none : list_any (sets p) frame.blocks ≡ false = ap (list_any (sets p)) (sym sets_same) ∙ sym unset in
     subst (λ (bs : List Block). WalksOn p (counted old) at newer frame (first_back p bs)) (sym link_same) (goes_on r.1 r.2 (stands_then r) none)
 
-pub step_is : (old now : Contents) (p at : ℕ) (newer : List Frame) (frame : Frame) (line : FrameAt) (sets_in link_in : List Block) (place : Place) → Reads old now p at newer frame → line ≡ get_or old.frames 0 line
-    → sets_in ≡ frame.blocks → false ≡ list_any (sets p) sets_in → link_in ≡ frame.blocks → Some place ≡ first_back p link_in → Step old p at newer frame line.number place
+pub step_is : (old now : Contents) (p at : ℕ) (newer : List Frame) (frame : Frame) (line : FrameAt) (sets_in link_in : List Block) (place : Place)
+    → Reads old now p at newer frame → line ≡ get_or old.frames 0 line
+    → sets_in ≡ frame.blocks → false ≡ list_any (sets p) sets_in → link_in ≡ frame.blocks → Some place ≡ first_back p link_in
+        → Step old p at newer frame line.number place
 step_is old now p at newer frame line sets_in link_in place r is sets_same unset link_same link =
     on_by line.number place (first_back p link_in) (walks_on sets_in link_in r sets_same unset link_same) link (first_is old line r.1 (some_frames r.1 r.2) is)
 
@@ -143,7 +154,8 @@ some_link old now p at newer frame sets_in link_in r sets_same unset link_same n
     let on = walks_on sets_in link_in r sets_same unset link_same in
     (let e : None ≡ Some on.back = none ∙ on.is in cc)
 
-pub end_is : (old now : Contents) (p at : ℕ) (newer pushed : List Frame) (frame : Frame) (sets_in : List Block) → Reads old now p at newer frame → sets_in ≡ frame.blocks → true ≡ list_any (sets p) sets_in
+pub end_is : (old now : Contents) (p at : ℕ) (newer pushed : List Frame) (frame : Frame) (sets_in : List Block) → Reads old now p at newer frame
+    → sets_in ≡ frame.blocks → true ≡ list_any (sets p) sets_in
     → pushed ≡ newer ++ frame ∷ [] → content p (blocks_of (counted old)) ≡ fold (after p) None (blocks_of (reverse pushed))
 end_is old now p at newer pushed frame sets_in r sets_same set push =
     walk_ends r.2 (stands_then r) (ap (list_any (sets p)) (sym sets_same) ∙ sym set)
@@ -154,7 +166,8 @@ inside_now {c} {p} {at} {newer} now same sound walk = subst (λ (x : Contents). 
 
 -- ---- when a page is not there
 
-no_line_by : (page : ℕ) (pages : List PageAt) (t : Bool) → (page == 0) ≡ t → None ≡ (if t then None else slice_get pages (page - 1)) → (1 ≤ page) × (page ≤ length pages) → ⊥
+no_line_by : (page : ℕ) (pages : List PageAt) (t : Bool) → (page == 0) ≡ t → None ≡ (if t then None else slice_get pages (page - 1))
+    → (1 ≤ page) × (page ≤ length pages) → ⊥
 no_line_by page pages true is none there = let none_page : page ≡ 0 = eqb-true page 0 is in (let some = there.0 in absurd (omega arith))
 no_line_by page pages false is none there =
     let one = page_there_at (page - 1) pages (omega (arith, there)) in
@@ -174,6 +187,7 @@ pub page_answer : {A : Type 0} (pages : List PageAt) (page : ℕ) (result : Resu
 page_answer pages page result other there = (λ e. absurd (other e), λ none. absurd (none there))
 
 -- a refusal that is handed on
-pub other_as : {A B : Type 0} (result : Result A LogFault) (x y : LogFault) → result ≡ Err x → x ≡ y → (◌≡◌ {A = Result B LogFault} (Err y) (Err NoPage) → ⊥) → result ≡ Err NoPage → ⊥
+pub other_as : {A B : Type 0} (result : Result A LogFault) (x y : LogFault) → result ≡ Err x → x ≡ y → (◌≡◌ {A = Result B LogFault} (Err y) (Err NoPage) → ⊥)
+    → result ≡ Err NoPage → ⊥
 other_as {A} {B} result x y is same other e =
     let faults : y ≡ NoPage = cc in other (ap (λ (z : LogFault). Err z) faults)

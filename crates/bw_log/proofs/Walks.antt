@@ -1,6 +1,7 @@
 -- The steps of a walk back over frames: where it starts, goes on and ends.
 
-use Rattle.std.proofs.Common.{inl, inr, ◌≡◌, ℕ, ◌+◌, ◌-◌, ◌<◌, ◌≤◌, ◌==◌, true, false, Option, Some, None, List, [], ◌∷◌, ◌++◌, length, reverse, refl, sym, ap, subst, ◌∙◌, append_assoc, append-nil, arith, length-append}
+use Rattle.std.proofs.Common.{inl, inr, ◌≡◌, ℕ, ◌+◌, ◌-◌, ◌<◌, ◌≤◌, ◌==◌, true, false, Option, Some, None, List, [], ◌∷◌, ◌++◌, length, reverse, refl, sym, ap}
+use Rattle.std.proofs.Common.{subst, ◌∙◌, append_assoc, append-nil, arith, length-append}
 use Rattle.std.specs.List.{fold, list_any}
 use Rattle.std.proofs.lemmas.List.{reverse-append}
 use Rattle.std.proofs.lemmas.Bool.{and_parts, eqb-true}
@@ -47,7 +48,8 @@ from_front n [] ys are = tt
 from_front n (x ∷ xs) ys are = (are.0, from_front (n + 1) xs ys are.1)
 
 -- two splits at one index
-pub same_before : {A : Type 0} (xs ys : List A) (x y : A) (xs' ys' : List A) → xs ++ x ∷ xs' ≡ ys ++ y ∷ ys' → length xs ≡ length ys → (xs ≡ ys) × (x ≡ y) × (xs' ≡ ys')
+pub same_before : {A : Type 0} (xs ys : List A) (x y : A) (xs' ys' : List A) → xs ++ x ∷ xs' ≡ ys ++ y ∷ ys' → length xs ≡ length ys
+    → (xs ≡ ys) × (x ≡ y) × (xs' ≡ ys')
 same_before [] [] x y xs' ys' same len = (refl, cc, cc)
 same_before [] (b ∷ ys) x y xs' ys' same len = absurd (omega arith)
 same_before (a ∷ xs) [] x y xs' ys' same len = absurd (omega arith)
@@ -65,10 +67,12 @@ walk_inside {p} {all} {at} {newer} w =
     omega (arith, ap (λ (l : List Frame). length l) w.split, length-append w.before (w.frame ∷ w.beyond))
 
 pub walk_frame : {p : ℕ} {all : List Frame} {at : ℕ} {newer : List Frame} {frame : Frame} (w : IsWalk p all at newer) → StandsAt all at frame → w.frame ≡ frame
-walk_frame {p} {all} {at} {newer} {frame} w s = (same_before w.before s.before w.frame frame w.beyond s.beyond (sym w.split ∙ s.split) (w.index ∙ sym s.index)).1
+walk_frame {p} {all} {at} {newer} {frame} w s =
+    (same_before w.before s.before w.frame frame w.beyond s.beyond (sym w.split ∙ s.split) (w.index ∙ sym s.index)).1
 
 -- what was read, once one frame more is read
-read_more : (p : ℕ) (w : Option Leaf) (frame : Frame) (newer : List Frame) → fold (after p) (fold (after p) w frame.blocks) (blocks_of (reverse newer)) ≡ fold (after p) w (blocks_of (reverse (newer ++ frame ∷ [])))
+read_more : (p : ℕ) (w : Option Leaf) (frame : Frame) (newer : List Frame)
+    → fold (after p) (fold (after p) w frame.blocks) (blocks_of (reverse newer)) ≡ fold (after p) w (blocks_of (reverse (newer ++ frame ∷ [])))
 read_more p w frame newer =
     sym (fold-append (after p) w frame.blocks (blocks_of (reverse newer)))
     ∙ ap (λ (fs : List Frame). fold (after p) w (blocks_of fs)) (sym (reverse-append newer (frame ∷ [])))
@@ -85,7 +89,8 @@ ends_at_own {p} {all} {at} {newer} w set =
     ∙ read_more p None w.frame newer
 
 -- a frame that sets the page ends the walk
-pub walk_ends : {p : ℕ} {all : List Frame} {at : ℕ} {newer : List Frame} {frame : Frame} → IsWalk p all at newer → StandsAt all at frame → list_any (sets p) frame.blocks ≡ true
+pub walk_ends : {p : ℕ} {all : List Frame} {at : ℕ} {newer : List Frame} {frame : Frame} → IsWalk p all at newer → StandsAt all at frame
+    → list_any (sets p) frame.blocks ≡ true
     → content p (blocks_of all) ≡ fold (after p) None (blocks_of (reverse (newer ++ frame ∷ [])))
 walk_ends {p} {all} {at} {newer} {frame} w s set =
     let same = walk_frame w s in
@@ -100,16 +105,21 @@ pub record WalksOn (p : ℕ) (all : List Frame) (at : ℕ) (newer : List Frame) 
   pub older : back.frame - first_number all < at
   pub walk : IsWalk p all (back.frame - first_number all) (newer ++ frame ∷ [])
 
-goes_on_to : {p : ℕ} {all : List Frame} {at : ℕ} {newer : List Frame} (w : IsWalk p all at newer) (back : Place) → first_back p w.frame.blocks ≡ Some back → (place : Place)
-    → place.frame ≡ back.frame → LastIn (touches p) (first_number all) w.before place → list_any (sets p) w.frame.blocks ≡ false → WalksOn p all at newer w.frame (first_back p w.frame.blocks)
+goes_on_to : {p : ℕ} {all : List Frame} {at : ℕ} {newer : List Frame} (w : IsWalk p all at newer) (back : Place)
+    → first_back p w.frame.blocks ≡ Some back → (place : Place)
+    → place.frame ≡ back.frame → LastIn (touches p) (first_number all) w.before place → list_any (sets p) w.frame.blocks ≡ false
+        → WalksOn p all at newer w.frame (first_back p w.frame.blocks)
 goes_on_to {p} {all} {at} {newer} w back is place same last unset =
     let first = first_number all in
     let number = last.number in
     let index = w.index in
     let parts : w.before ≡ (last.before ++ last.frame ∷ []) ++ last.beyond = last.split ∙ sym (push_then last.before last.frame last.beyond) in
-    let older : content p (blocks_of w.before) ≡ content p (blocks_of (last.before ++ last.frame ∷ [])) = ap (λ (fs : List Frame). content p (blocks_of fs)) parts ∙ content_same p (last.before ++ last.frame ∷ []) last.beyond last.none in
+    let older : content p (blocks_of w.before) ≡ content p (blocks_of (last.before ++ last.frame ∷ [])) =
+        ap (λ (fs : List Frame). content p (blocks_of fs)) parts ∙ content_same p (last.before ++ last.frame ∷ []) last.beyond last.none in
     let whole : fold (after p) (content p (blocks_of w.before)) w.frame.blocks ≡ Some w.leaf = sym (content_push p w.before w.frame) ∙ w.set in
-    let there = some_leaf (content p (blocks_of w.before)) (λ none. none_some (fold (after p) (content p (blocks_of w.before)) w.frame.blocks) w.leaf (ap (λ (o : Option Leaf). fold (after p) o w.frame.blocks) none ∙ none_fold p w.frame.blocks unset) whole) in
+    let there = some_leaf (content p (blocks_of w.before))
+        (λ none. none_some (fold (after p) (content p (blocks_of w.before)) w.frame.blocks) w.leaf
+        (ap (λ (o : Option Leaf). fold (after p) o w.frame.blocks) none ∙ none_fold p w.frame.blocks unset) whole) in
     record {
       back = back;
       is = is;
@@ -119,30 +129,36 @@ goes_on_to {p} {all} {at} {newer} w back is place same last unset =
         before = last.before;
         frame = last.frame;
         beyond = last.beyond ++ w.frame ∷ w.beyond;
-        split = w.split ∙ ap (λ (l : List Frame). l ++ w.frame ∷ w.beyond) last.split ∙ append_assoc last.before (last.frame ∷ last.beyond) (w.frame ∷ w.beyond);
+        split = w.split ∙ ap (λ (l : List Frame). l ++ w.frame ∷ w.beyond) last.split
+            ∙ append_assoc last.before (last.frame ∷ last.beyond) (w.frame ∷ w.beyond);
         index = omega arith;
         touched = last.passes;
         leaf = there.0;
         set = sym older ∙ there.1;
-        reads = reads_more w ∙ read_more p (content p (blocks_of w.before)) w.frame newer ∙ ap (λ (o : Option Leaf). fold (after p) o (blocks_of (reverse (newer ++ w.frame ∷ [])))) older;
+        reads = reads_more w ∙ read_more p (content p (blocks_of w.before)) w.frame newer
+            ∙ ap (λ (o : Option Leaf). fold (after p) o (blocks_of (reverse (newer ++ w.frame ∷ [])))) older;
       };
     }
 
 goes_on_by : {p : ℕ} {all : List Frame} {at : ℕ} {newer : List Frame} (w : IsWalk p all at newer) → AreLinked all → list_any (sets p) w.frame.blocks ≡ false
-    → InFrames (touches p) (first_number all) None w.before (last_place (touches p) (all_placed w.before)) → WalksOn p all at newer w.frame (first_back p w.frame.blocks)
+    → InFrames (touches p) (first_number all) None w.before (last_place (touches p) (all_placed w.before))
+        → WalksOn p all at newer w.frame (first_back p w.frame.blocks)
 goes_on_by {p} {all} {at} {newer} w linked unset (inl nowhere) =
     let none : content p (blocks_of (w.before ++ w.frame ∷ [])) ≡ None =
-    content_push p w.before w.frame ∙ ap (λ (o : Option Leaf). fold (after p) o w.frame.blocks) (same_fold p None (blocks_of w.before) nowhere.0) ∙ none_fold p w.frame.blocks unset in
+    content_push p w.before w.frame ∙ ap (λ (o : Option Leaf). fold (after p) o w.frame.blocks) (same_fold p None (blocks_of w.before) nowhere.0)
+        ∙ none_fold p w.frame.blocks unset in
     absurd (none_some (content p (blocks_of (w.before ++ w.frame ∷ []))) w.leaf none w.set)
 goes_on_by {p} {all} {at} {newer} w linked unset (inr found) =
     let first = first_number all in
-    let links : bad_link first [] (all_placed (w.before ++ w.frame ∷ w.beyond)) ≡ None = ap (λ (l : List Frame). bad_link first [] (all_placed l)) (sym w.split) ∙ linked in
+    let links : bad_link first [] (all_placed (w.before ++ w.frame ∷ w.beyond)) ≡ None =
+        ap (λ (l : List Frame). bad_link first [] (all_placed l)) (sym w.split) ∙ linked in
     let link = frame_link p first w.frame.number 0 (all_placed w.before) w.frame.blocks (links_in first w.before w.frame w.beyond links) w.touched unset in
     let back = subst (λ (o : Option Place). is_back first o link.0 ≡ true) found.1 link.2 in
     let both = and_parts (found.0.frame == link.0.frame) (found.0.index == link.0.index) back in
     goes_on_to w link.0 link.1 found.0 (eqb-true found.0.frame link.0.frame both.0) found.2 unset
 
-goes_on_own : {p : ℕ} {all : List Frame} {at : ℕ} {newer : List Frame} (w : IsWalk p all at newer) → AreFrom (first_number all) all → AreLinked all → list_any (sets p) w.frame.blocks ≡ false
+goes_on_own : {p : ℕ} {all : List Frame} {at : ℕ} {newer : List Frame} (w : IsWalk p all at newer) → AreFrom (first_number all) all → AreLinked all
+    → list_any (sets p) w.frame.blocks ≡ false
     → WalksOn p all at newer w.frame (first_back p w.frame.blocks)
 goes_on_own {p} {all} {at} {newer} w from linked unset =
     let first = first_number all in
@@ -150,7 +166,8 @@ goes_on_own {p} {all} {at} {newer} w from linked unset =
     goes_on_by w linked unset (frames_last (touches p) first None w.before before)
 
 -- a frame that does not set the page links back to the frame with the block before
-pub walk_on : {p : ℕ} {all : List Frame} {at : ℕ} {newer : List Frame} {frame : Frame} → IsWalk p all at newer → StandsAt all at frame → AreFrom (first_number all) all → AreLinked all
+pub walk_on : {p : ℕ} {all : List Frame} {at : ℕ} {newer : List Frame} {frame : Frame} → IsWalk p all at newer → StandsAt all at frame
+    → AreFrom (first_number all) all → AreLinked all
     → list_any (sets p) frame.blocks ≡ false → WalksOn p all at newer frame (first_back p frame.blocks)
 walk_on {p} {all} {at} {newer} {frame} w s from linked unset =
     let P : Frame → Type 0 = λ f. list_any (sets p) f.blocks ≡ false → WalksOn p all at newer f (first_back p f.blocks) in
@@ -158,14 +175,16 @@ walk_on {p} {all} {at} {newer} {frame} w s from linked unset =
 
 -- ---- where a walk starts
 
-starts_by : (p : ℕ) (all : List Frame) (leaf : Leaf) (result : Option Place) → content p (blocks_of all) ≡ Some leaf → InFrames (touches p) (first_number all) None all result
+starts_by : (p : ℕ) (all : List Frame) (leaf : Leaf) (result : Option Place) → content p (blocks_of all) ≡ Some leaf
+    → InFrames (touches p) (first_number all) None all result
     → (place : Place) × (result ≡ Some place) × (first_number all ≤ place.frame) × IsWalk p all (place.frame - first_number all) []
 starts_by p all leaf result set (inl nowhere) = absurd (none_some (content p (blocks_of all)) leaf (same_fold p None (blocks_of all) nowhere.0) set)
 starts_by p all leaf result set (inr found) =
     let last = found.2 in
     let number = last.number in
     let parts : all ≡ (last.before ++ last.frame ∷ []) ++ last.beyond = last.split ∙ sym (push_then last.before last.frame last.beyond) in
-    let same : content p (blocks_of all) ≡ content p (blocks_of (last.before ++ last.frame ∷ [])) = ap (λ (fs : List Frame). content p (blocks_of fs)) parts ∙ content_same p (last.before ++ last.frame ∷ []) last.beyond last.none in (
+    let same : content p (blocks_of all) ≡ content p (blocks_of (last.before ++ last.frame ∷ [])) =
+        ap (λ (fs : List Frame). content p (blocks_of fs)) parts ∙ content_same p (last.before ++ last.frame ∷ []) last.beyond last.none in (
       found.0,
       found.1,
       omega arith,

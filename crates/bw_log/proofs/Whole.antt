@@ -1,6 +1,8 @@
 -- An append as a whole: what it asks for, and what each of its ends leaves.
 
-use Rattle.std.proofs.Common.{is_none, ◌≡◌, ℕ, zero, suc, ◌+◌, ◌-◌, ◌/◌, ◌^◌, ◌<◌, ◌≤◌, ◌&&◌, ◌||◌, inl, inr, Bool, true, false, if◌then◌else◌, nat_lt, nat_le, Option, Some, None, IfSome, List, [], ◌∷◌, ◌++◌, length, map, refl, sym, ap, subst, ◌∙◌, append_assoc, arith, length-append}
+use Rattle.std.proofs.Common.{is_none, ◌≡◌, ◌⊎◌, ℕ, zero, suc, ◌+◌, ◌-◌, ◌/◌, ◌^◌, ◌<◌, ◌≤◌, ◌&&◌, ◌||◌, inl, inr, Bool, true, false, if◌then◌else◌, nat_lt}
+use Rattle.std.proofs.Common.{nat_le, Option, Some, None, IfSome, List, [], ◌∷◌, ◌++◌, length, map, refl, sym, ap, subst, ◌∙◌, append_assoc, arith}
+use Rattle.std.proofs.Common.{length-append}
 use Rattle.std.proofs.lemmas.List.{length-map}
 use Rattle.std.proofs.lemmas.Bool.{ltb-false, leb-true, leb-false, or_parts, and_parts, cases_Bool, not-false}
 use Rattle.std.specs.List.{slice_get}
@@ -10,11 +12,12 @@ use Rattle.bw_page.specs.Standing.{Stand}
 use Rattle.bw_device.specs.Holding.{Holding, appended}
 use Rattle.bw_buffer.proofs.Holding.{few_blocks}
 use Rattle.bw_log.specs.Places.{AreLinked}
-use Rattle.bw_log.specs.Contents.{Contents, IsSound, counted, boxes, roster}
-use Rattle.bw_log.specs.Steps.{header_of, begun, last_of, with_last, with_first, has_room, wants_segment, roomy, spares_wanted, is_worn, is_spent, refusal, torn, MayFollow, Appended, Stopped, Rose, IsSameLog, OnDevice}
+use Rattle.bw_log.specs.Contents.{Contents, image, IsSound, counted, boxes, roster}
+use Rattle.bw_log.specs.Steps.{header_of, begun, last_of, with_last, with_first, has_room, wants_segment, roomy, spares_wanted, is_worn, is_spent, refusal}
+use Rattle.bw_log.specs.Steps.{torn, MayFollow, LeftBehind, Appended, Stopped, Rose, IsSameLog, OnDevice}
 use Rattle.std.specs.Prelude.{Result, Ok, Err, OnOk, MatchResult}
 use Rattle.bw_codec.proofs.Heading.{length-header}
-use Rattle.bw_log.specs.Segments.{AreLive}
+use Rattle.bw_log.specs.Segments.{AreLive, frames_of}
 use Rattle.bw_log.specs.Noting.{HaveLines, grown_to, top_page}
 use Rattle.bw_log.specs.declared.places.PageAt.{PageAt}
 use Rattle.bw_log.specs.Appending.{OfDevice, Beginnable, SpareTorn, FramePut, FrameTorn, with_frame}
@@ -25,7 +28,8 @@ use Rattle.bw_log.proofs.Reread.{length-frame}
 use Rattle.bw_log.proofs.Ends.{last_is}
 use Rattle.bw_log.proofs.Torn.{some_is}
 use Rattle.bw_log.proofs.Fields.{field_last, field_first, both_fields, field_moved}
-use Rattle.bw_log.proofs.Stepped.{ends, last_of_at, Begins, begun_is, begun_sound, begun_counts, Puts, put_counts, put_sound, torn_sound, spare_sound, put_lines, length-grown, spares_empty}
+use Rattle.bw_log.proofs.Stepped.{ends, torn_contents, last_of_at, Begins, begun_is, begun_sound, begun_counts, Puts, put_counts, put_sound, torn_sound}
+use Rattle.bw_log.proofs.Stepped.{spare_sound, put_lines, length-grown, spares_empty}
 
 -- ---- what is granted
 
@@ -43,16 +47,22 @@ pub record Granted (c : Contents) (len : ℕ) (care : Bool) : Type 0 where
 
 pub granted : (c : Contents) (len : ℕ) (care : Bool) → refusal c len care ≡ None → Granted c len care
 granted c len care e =
-    let works = let_through c.is_failed Failed (if wants_segment c len && nat_lt (length c.spares) (spares_wanted care) then Some NoSegment else if is_spent c len then Some Spent else None) e in
-    let some = let_through (wants_segment c len && nat_lt (length c.spares) (spares_wanted care)) NoSegment (if is_spent c len then Some Spent else None) works.1 in
+    let works = let_through c.is_failed Failed
+        (if wants_segment c len && nat_lt (length c.spares) (spares_wanted care) then Some NoSegment else if is_spent c len then Some Spent else None) e in
+    let some = let_through (wants_segment c len && nat_lt (length c.spares) (spares_wanted care)) NoSegment
+        (if is_spent c len then Some Spent else None) works.1 in
     let fresh = let_through (is_spent c len) Spent None some.1 in
     let wanted : (care : Bool) → 1 ≤ spares_wanted care = λ k. elim k as (λ b. 1 ≤ spares_wanted b) [ true ↦ omega arith | false ↦ omega arith ] in
-    let counts = or_parts (is_none c.next) (if wants_segment c len then nat_le (2 ^ 64) (c.number + length c.live) || is_worn (slice_get c.spares 0) else is_worn (last_of c.live)) fresh.0 in
-    let spent_if : wants_segment c len ≡ true → (nat_le (2 ^ 64) (c.number + length c.live) || is_worn (slice_get c.spares 0)) ≡ false = λ w. rw w at counts.1 in
+    let counts = or_parts (is_none c.next) (if wants_segment c len then nat_le (2 ^ 64) (c.number + length c.live) || is_worn (slice_get c.spares 0) else
+        is_worn (last_of c.live)) fresh.0 in
+    let spent_if : wants_segment c len ≡ true → (nat_le (2 ^ 64) (c.number + length c.live) || is_worn (slice_get c.spares 0)) ≡ false =
+        λ w. rw w at counts.1 in
     record {
       works = works.0;
-      spares = λ w. (let few : nat_lt (length c.spares) (spares_wanted care) ≡ false = rw w at some.0 in let h = ltb-false (length c.spares) (spares_wanted care) few in let k = wanted care in omega arith);
-      number = λ w. leb-false (2 ^ 64) (c.number + length c.live) (or_parts (nat_le (2 ^ 64) (c.number + length c.live)) (is_worn (slice_get c.spares 0)) (spent_if w)).0;
+      spares = λ w. (let few : nat_lt (length c.spares) (spares_wanted care) ≡ false = rw w at some.0
+          in let h = ltb-false (length c.spares) (spares_wanted care) few in let k = wanted care in omega arith);
+      number = λ w. leb-false (2 ^ 64) (c.number + length c.live)
+          (or_parts (nat_le (2 ^ 64) (c.number + length c.live)) (is_worn (slice_get c.spares 0)) (spent_if w)).0;
       first = λ w. (or_parts (nat_le (2 ^ 64) (c.number + length c.live)) (is_worn (slice_get c.spares 0)) (spent_if w)).1;
       last = λ w. rw w at counts.1;
     }
@@ -60,9 +70,11 @@ granted c len care e =
 -- no refusal is the device's
 pub refusals : (c : Contents) (len lease : ℕ) (care : Bool) → refusal c len care ≡ Some (Device lease) → ⊥
 refusals c len lease care e =
-    elim c.is_failed as (λ t. (if t then Some Failed else if wants_segment c len && nat_lt (length c.spares) (spares_wanted care) then Some NoSegment else if is_spent c len then Some Spent else None) ≡ Some (Device lease) → ⊥) [
+    elim c.is_failed as (λ t. (if t then Some Failed else if wants_segment c len && nat_lt (length c.spares) (spares_wanted care) then Some NoSegment else if
+        is_spent c len then Some Spent else None) ≡ Some (Device lease) → ⊥) [
       | true ↦ λ h. cc
-      | false ↦ λ h. elim (wants_segment c len && nat_lt (length c.spares) (spares_wanted care)) as (λ t. (if t then Some NoSegment else if is_spent c len then Some Spent else None) ≡ Some (Device lease) → ⊥) [
+      | false ↦ λ h. elim (wants_segment c len && nat_lt (length c.spares) (spares_wanted care)) as
+          (λ t. (if t then Some NoSegment else if is_spent c len then Some Spent else None) ≡ Some (Device lease) → ⊥) [
         | true ↦ λ k. cc
         | false ↦ λ k. elim (is_spent c len) as (λ t. (if t then Some Spent else None) ≡ Some (Device lease) → ⊥) [ true ↦ λ j. cc | false ↦ λ j. cc ] k
       ] h
@@ -85,7 +97,8 @@ front : (spares : List Holding) → 0 < length spares → (s : Holding) × (ss :
 front [] some = absurd (omega arith)
 front (s ∷ ss) some = (s, ss, refl)
 
-pub begins : (c : Contents) (x : Frame) (care : Bool) → Starts c x care → wants_segment c (length (frame_bytes x)) ≡ true → (s : Holding) × (ss : List Holding) × Begins c s ss
+pub begins : (c : Contents) (x : Frame) (care : Bool) → Starts c x care → wants_segment c (length (frame_bytes x)) ≡ true
+    → (s : Holding) × (ss : List Holding) × Begins c s ss
 begins c x care st w =
     let f = front c.spares (st.grants.spares w) in
     (f.0, f.1, record { sound = st.sound; works = st.grants.works; first = f.2; number = st.grants.number w })
@@ -101,9 +114,11 @@ begin_fits c s ss b =
 not_worn : (h : Holding) → is_worn (Some h) ≡ false → h.failed < 2 ^ 64 - 1
 not_worn h fresh = leb-false (2 ^ 64 - 1) h.failed fresh
 
-pub begin_countable : (c : Contents) (s : Holding) (ss : List Holding) → Begins c s ss → is_worn (slice_get c.spares 0) ≡ false → IfSome (slice_get c.spares 0) (λ h. h.failed < 2 ^ 64 - 1)
+pub begin_countable : (c : Contents) (s : Holding) (ss : List Holding) → Begins c s ss → is_worn (slice_get c.spares 0) ≡ false
+    → IfSome (slice_get c.spares 0) (λ h. h.failed < 2 ^ 64 - 1)
 begin_countable c s ss b fresh =
-    subst (λ (l : List Holding). IfSome (slice_get l 0) (λ h. h.failed < 2 ^ 64 - 1)) (sym b.first) (not_worn s (subst (λ (l : List Holding). is_worn (slice_get l 0) ≡ false) b.first fresh))
+    subst (λ (l : List Holding). IfSome (slice_get l 0) (λ h. h.failed < 2 ^ 64 - 1)) (sym b.first)
+        (not_worn s (subst (λ (l : List Holding). is_worn (slice_get l 0) ≡ false) b.first fresh))
 
 -- the same frame may follow once a segment was begun
 follows_begun : (c : Contents) (x : Frame) (s : Holding) (ss : List Holding) → Begins c s ss → MayFollow c x → MayFollow (begun c) x
@@ -120,7 +135,8 @@ follows_begun c x s ss b f =
     } in
     subst (λ (e : Contents). MayFollow e x) (sym same) there
 
-pub puts_begun : (c : Contents) (x : Frame) (s : Holding) (ss : List Holding) → Begins c s ss → MayFollow c x → Puts (begun c) x c.live (appended s (header_bytes (header_of c)))
+pub puts_begun : (c : Contents) (x : Frame) (s : Holding) (ss : List Holding) → Begins c s ss → MayFollow c x
+    → Puts (begun c) x c.live (appended s (header_bytes (header_of c)))
 puts_begun c x s ss b f =
     let same = sym (begun_is c s ss b) in
     record {
@@ -139,7 +155,8 @@ live_some : (len : ℕ) (live : List Holding) → has_room len (last_of live) �
 live_some len [] room = absurd cc
 live_some len (h ∷ hs) room = omega arith
 
-pub puts_here : (c : Contents) (x : Frame) (care : Bool) → Starts c x care → wants_segment c (length (frame_bytes x)) ≡ false → (older : List Holding) × (h : Holding) × Puts c x older h
+pub puts_here : (c : Contents) (x : Frame) (care : Bool) → Starts c x care → wants_segment c (length (frame_bytes x)) ≡ false
+    → (older : List Holding) × (h : Holding) × Puts c x older h
 puts_here c x care st w =
     let room = open_with_room c (length (frame_bytes x)) w in
     let e = ends c.live (live_some (length (frame_bytes x)) c.live room.1) in
@@ -148,7 +165,8 @@ puts_here c x care st w =
 -- ---- leases
 
 begun_leases : (c : Contents) (s : Holding) (ss : List Holding) → Begins c s ss → roster (begun c) ≡ roster c
-begun_leases c s ss b = ap roster (begun_is c s ss b) ∙ field_moved (λ (h : Holding). h.lease) c.live ss c.spares s (appended s (header_bytes (header_of c))) refl b.first
+begun_leases c s ss b = ap roster (begun_is c s ss b)
+    ∙ field_moved (λ (h : Holding). h.lease) c.live ss c.spares s (appended s (header_bytes (header_of c))) refl b.first
 
 -- ---- a box that failed, among those before a segment was begun
 
@@ -158,13 +176,17 @@ pub record SameAt (hs : List Holding) (at : ℕ) (h : Holding) : Type 0 where
   pub lease : box.lease ≡ h.lease
   pub failed : box.failed ≡ h.failed
 
-same_at : (live : List Holding) (s t : Holding) (ss : List Holding) (at : ℕ) (h : Holding) → s.lease ≡ t.lease → s.failed ≡ t.failed → slice_get (live ++ t ∷ ss) at ≡ Some h → SameAt (live ++ s ∷ ss) at h
-same_at [] s t ss zero h lease failed is = let e = some_is is in record { box = s; is = refl; lease = lease ∙ ap (λ (k : Holding). k.lease) e; failed = failed ∙ ap (λ (k : Holding). k.failed) e }
+same_at : (live : List Holding) (s t : Holding) (ss : List Holding) (at : ℕ) (h : Holding) → s.lease ≡ t.lease → s.failed ≡ t.failed
+    → slice_get (live ++ t ∷ ss) at ≡ Some h → SameAt (live ++ s ∷ ss) at h
+same_at [] s t ss zero h lease failed is = let e =
+    some_is is in record { box = s; is = refl; lease = lease ∙ ap (λ (k : Holding). k.lease) e; failed = failed ∙ ap (λ (k : Holding). k.failed) e }
 same_at [] s t ss (suc i) h lease failed is = record { box = h; is = is; lease = refl; failed = refl }
 same_at (l ∷ ls) s t ss zero h lease failed is = record { box = h; is = is; lease = refl; failed = refl }
-same_at (l ∷ ls) s t ss (suc i) h lease failed is = let r = same_at ls s t ss i h lease failed is in record { box = r.box; is = r.is; lease = r.lease; failed = r.failed }
+same_at (l ∷ ls) s t ss (suc i) h lease failed is = let r =
+    same_at ls s t ss i h lease failed is in record { box = r.box; is = r.is; lease = r.lease; failed = r.failed }
 
-rose_begun : (c : Contents) (s : Holding) (ss : List Holding) (lease : ℕ) (new : List Holding) → Begins c s ss → Rose lease (boxes (begun c)) new → Rose lease (boxes c) new
+rose_begun : (c : Contents) (s : Holding) (ss : List Holding) (lease : ℕ) (new : List Holding) → Begins c s ss → Rose lease (boxes (begun c)) new
+    → Rose lease (boxes c) new
 rose_begun c s ss lease new b rose =
     let t = appended s (header_bytes (header_of c)) in
     let was : slice_get (c.live ++ t ∷ ss) rose.at ≡ Some rose.before =
@@ -206,13 +228,17 @@ roomy_begun c len w = rw w refl
 keeps_appended : (piece : List ℕ) (h : Holding) → (appended h piece).lease ≡ h.lease
 keeps_appended piece h = refl
 
-ended_put : (c d : Contents) (x : Frame) (older : List Holding) (h : Holding) → Puts d x older h → d.m ≡ c.m → d.f ≡ c.f → d.number ≡ c.number → roster d ≡ roster c → Ended c x (with_frame d x)
+ended_put : (c d : Contents) (x : Frame) (older : List Holding) (h : Holding) → Puts d x older h → d.m ≡ c.m → d.f ≡ c.f → d.number ≡ c.number
+    → roster d ≡ roster c → Ended c x (with_frame d x)
 ended_put c d x older h p m f number leases = record {
   sound = put_sound d x older h p;
-  same = record { m = m; f = f; number = number; leases = both_fields (λ (h : Holding). h.lease) d.live d.spares (with_last (λ (k : Holding). appended k (frame_bytes x)) d.live) d.spares (field_last (λ (h : Holding). h.lease) (λ (k : Holding). appended k (frame_bytes x)) (keeps_appended (frame_bytes x)) d.live) refl ∙ leases };
+  same = record { m = m; f = f; number = number;
+      leases = both_fields (λ (h : Holding). h.lease) d.live d.spares (with_last (λ (k : Holding). appended k (frame_bytes x)) d.live) d.spares
+      (field_last (λ (h : Holding). h.lease) (λ (k : Holding). appended k (frame_bytes x)) (keeps_appended (frame_bytes x)) d.live) refl ∙ leases };
 }
 
-pub ok_here : (c : Contents) (x : Frame) (care : Bool) (new : Contents) → Starts c x care → wants_segment c (length (frame_bytes x)) ≡ false → FramePut c x new → EndedOk c x new
+pub ok_here : (c : Contents) (x : Frame) (care : Bool) (new : Contents) → Starts c x care → wants_segment c (length (frame_bytes x)) ≡ false
+    → FramePut c x new → EndedOk c x new
 ok_here c x care new st w put =
     let p = puts_here c x care st w in
     let room = sym (roomy_here c (length (frame_bytes x)) w) in
@@ -221,6 +247,7 @@ ok_here c x care new st w put =
       appended = record {
         takes = p.2.takes;
         works = p.2.works;
+        next = refl;
         live = ap (λ (d : Contents). with_last (λ (k : Holding). appended k (frame_bytes x)) d.live) room;
         spares = ap (λ (d : Contents). d.spares) room;
         frames = put_counts c x p.0 p.1 p.2;
@@ -228,7 +255,8 @@ ok_here c x care new st w put =
     } in
     subst (EndedOk c x) (sym put.is) there
 
-pub ok_begun : (c : Contents) (x : Frame) (care : Bool) (new : Contents) → Starts c x care → wants_segment c (length (frame_bytes x)) ≡ true → FramePut (begun c) x new → EndedOk c x new
+pub ok_begun : (c : Contents) (x : Frame) (care : Bool) (new : Contents) → Starts c x care → wants_segment c (length (frame_bytes x)) ≡ true
+    → FramePut (begun c) x new → EndedOk c x new
 ok_begun c x care new st w put =
     let b = begins c x care st w in
     let d = begun c in
@@ -236,10 +264,12 @@ ok_begun c x care new st w put =
     let p = puts_begun c x b.0 b.1 b.2 st.follows in
     let room = sym (roomy_begun c (length (frame_bytes x)) w) in
     let there : EndedOk c x (with_frame d x) = record {
-      ended = ended_put c d x c.live (appended b.0 (header_bytes (header_of c))) p (ap (λ (e : Contents). e.m) is) (ap (λ (e : Contents). e.f) is) (ap (λ (e : Contents). e.number) is) (begun_leases c b.0 b.1 b.2);
+      ended = ended_put c d x c.live (appended b.0 (header_bytes (header_of c))) p (ap (λ (e : Contents). e.m) is) (ap (λ (e : Contents). e.f) is)
+          (ap (λ (e : Contents). e.number) is) (begun_leases c b.0 b.1 b.2);
       appended = record {
         takes = p.takes;
         works = p.works;
+        next = refl;
         live = ap (λ (e : Contents). with_last (λ (k : Holding). appended k (frame_bytes x)) e.live) room;
         spares = ap (λ (e : Contents). e.spares) room;
         frames = put_counts d x c.live (appended b.0 (header_bytes (header_of c))) p ∙ ap (λ (l : List Frame). l ++ x ∷ []) (begun_counts c b.0 b.1 b.2);
@@ -247,7 +277,8 @@ ok_begun c x care new st w put =
     } in
     subst (EndedOk c x) (sym put.is) there
 
-pub torn_here : (lease : ℕ) (c : Contents) (x : Frame) (care : Bool) (new : Contents) → Starts c x care → wants_segment c (length (frame_bytes x)) ≡ false → FrameTorn lease c x new → EndedBadly lease c x new
+pub torn_here : (lease : ℕ) (c : Contents) (x : Frame) (care : Bool) (new : Contents) → Starts c x care → wants_segment c (length (frame_bytes x)) ≡ false
+    → FrameTorn lease c x new → EndedBadly lease c x new
 torn_here lease c x care new st w t =
     let p = puts_here c x care st w in
     let sound = torn_sound c x t.kept p.0 p.1 p.2 in
@@ -255,18 +286,25 @@ torn_here lease c x care new st w t =
     record {
       ended = record {
         sound = subst IsSound (sym t.is) sound.0;
-        same = subst (IsSameLog c) (sym t.is) (record { m = refl; f = refl; number = refl; leases = both_fields (λ (h : Holding). h.lease) c.live c.spares (with_last (torn t.kept (frame_bytes x)) c.live) c.spares (field_last (λ (h : Holding). h.lease) (torn t.kept (frame_bytes x)) (λ k. refl) c.live) refl });
+        same = subst (IsSameLog c) (sym t.is) (record
+            { m = refl; f = refl; number = refl; leases = both_fields (λ (h : Holding). h.lease) c.live c.spares
+            (with_last (torn t.kept (frame_bytes x)) c.live) c.spares
+            (field_last (λ (h : Holding). h.lease) (torn t.kept (frame_bytes x)) (λ k. refl) c.live) refl });
       };
       rose = t.rose;
       stopped = record {
         kept = t.kept;
-        where_it_stands = inr (ap (λ (e : Contents). e.live) t.is ∙ ap (λ (d : Contents). with_last (torn t.kept (frame_bytes x)) d.live) room, ap (λ (e : Contents). e.spares) t.is ∙ ap (λ (d : Contents). d.spares) room);
+        where_it_stands = inr (ap (λ (e : Contents). e.live) t.is
+            ∙ ap (λ (d : Contents). with_last (torn t.kept (frame_bytes x)) d.live) room, ap (λ (e : Contents). e.spares) t.is
+            ∙ ap (λ (d : Contents). d.spares) room);
         frames = ap counted t.is ∙ sound.1;
+        left = subst (LeftBehind c x) (sym t.is) sound.2;
         failed = ap (λ (e : Contents). e.is_failed) t.is;
       };
     }
 
-pub torn_begun : (lease : ℕ) (c : Contents) (x : Frame) (care : Bool) (new : Contents) → Starts c x care → wants_segment c (length (frame_bytes x)) ≡ true → FrameTorn lease (begun c) x new → EndedBadly lease c x new
+pub torn_begun : (lease : ℕ) (c : Contents) (x : Frame) (care : Bool) (new : Contents) → Starts c x care → wants_segment c (length (frame_bytes x)) ≡ true
+    → FrameTorn lease (begun c) x new → EndedBadly lease c x new
 torn_begun lease c x care new st w t =
     let b = begins c x care st w in
     let d = begun c in
@@ -281,31 +319,42 @@ torn_begun lease c x care new st w t =
           m = ap (λ (e : Contents). e.m) is;
           f = ap (λ (e : Contents). e.f) is;
           number = ap (λ (e : Contents). e.number) is;
-          leases = both_fields (λ (h : Holding). h.lease) d.live d.spares (with_last (torn t.kept (frame_bytes x)) d.live) d.spares (field_last (λ (h : Holding). h.lease) (torn t.kept (frame_bytes x)) (λ k. refl) d.live) refl ∙ begun_leases c b.0 b.1 b.2;
+          leases = both_fields (λ (h : Holding). h.lease) d.live d.spares (with_last (torn t.kept (frame_bytes x)) d.live) d.spares
+              (field_last (λ (h : Holding). h.lease) (torn t.kept (frame_bytes x)) (λ k. refl) d.live) refl ∙ begun_leases c b.0 b.1 b.2;
         });
       };
       rose = rose_begun c b.0 b.1 lease (boxes new) b.2 t.rose;
       stopped = record {
         kept = t.kept;
-        where_it_stands = inr (ap (λ (e : Contents). e.live) t.is ∙ ap (λ (e : Contents). with_last (torn t.kept (frame_bytes x)) e.live) room, ap (λ (e : Contents). e.spares) t.is ∙ ap (λ (e : Contents). e.spares) room);
+        where_it_stands = inr (ap (λ (e : Contents). e.live) t.is
+            ∙ ap (λ (e : Contents). with_last (torn t.kept (frame_bytes x)) e.live) room, ap (λ (e : Contents). e.spares) t.is
+            ∙ ap (λ (e : Contents). e.spares) room);
         frames = ap counted t.is ∙ sound.1 ∙ begun_counts c b.0 b.1 b.2;
+        left = subst (LeftBehind c x) (sym t.is) (subst
+            (λ (fs : List Frame). (frames_of (image (torn_contents d x t.kept)).bytes ≡ fs)
+            ⊎ (frames_of (image (torn_contents d x t.kept)).bytes ≡ fs ++ x ∷ [])) (begun_counts c b.0 b.1 b.2) sound.2);
         failed = ap (λ (e : Contents). e.is_failed) t.is;
       };
     }
 
-pub torn_spare : (lease : ℕ) (c : Contents) (x : Frame) (care : Bool) (new : Contents) → Starts c x care → wants_segment c (length (frame_bytes x)) ≡ true → SpareTorn lease c new → EndedBadly lease c x new
+pub torn_spare : (lease : ℕ) (c : Contents) (x : Frame) (care : Bool) (new : Contents) → Starts c x care → wants_segment c (length (frame_bytes x)) ≡ true
+    → SpareTorn lease c new → EndedBadly lease c x new
 torn_spare lease c x care new st w t =
-    let sound = spare_sound c t.kept st.sound in
+    let sound = spare_sound c t.kept st.sound st.grants.works (st.grants.number w) in
     record {
       ended = record {
         sound = subst IsSound (sym t.is) sound.0;
-        same = subst (IsSameLog c) (sym t.is) (record { m = refl; f = refl; number = refl; leases = both_fields (λ (h : Holding). h.lease) c.live c.spares c.live (with_first (torn t.kept (header_bytes (header_of c))) c.spares) refl (field_first (λ (h : Holding). h.lease) (torn t.kept (header_bytes (header_of c))) (λ k. refl) c.spares) });
+        same = subst (IsSameLog c) (sym t.is) (record
+            { m = refl; f = refl; number = refl; leases = both_fields (λ (h : Holding). h.lease) c.live c.spares c.live
+            (with_first (torn t.kept (header_bytes (header_of c))) c.spares) refl
+            (field_first (λ (h : Holding). h.lease) (torn t.kept (header_bytes (header_of c))) (λ k. refl) c.spares) });
       };
       rose = t.rose;
       stopped = record {
         kept = t.kept;
         where_it_stands = inl (w, ap (λ (e : Contents). e.live) t.is, ap (λ (e : Contents). e.spares) t.is);
         frames = ap counted t.is ∙ sound.1;
+        left = subst (LeftBehind c x) (sym t.is) (inl (sym (st.sound.holds.every st.grants.works)));
         failed = ap (λ (e : Contents). e.is_failed) t.is;
       };
     }
@@ -315,12 +364,15 @@ torn_spare lease c x care new st w t =
 live_limit : (m f number : ℕ) (bytes : List (List ℕ)) → AreLive m f number bytes → 0 < length bytes → number + length bytes ≤ 2 ^ 64
 live_limit m f number bytes live some = let last = live_number m f number bytes (length bytes - 1) live (omega arith) in omega arith
 
-pub puts_roomy : (c : Contents) (x : Frame) (care : Bool) → Starts c x care → (older : List Holding) × (h : Holding) × Puts (roomy c (length (frame_bytes x))) x older h
+pub puts_roomy : (c : Contents) (x : Frame) (care : Bool) → Starts c x care
+    → (older : List Holding) × (h : Holding) × Puts (roomy c (length (frame_bytes x))) x older h
 puts_roomy c x care st =
     elim (cases_Bool (wants_segment c (length (frame_bytes x)))) [
       | inl w ↦ (
           let b = begins c x care st w in
-          (c.live, appended b.0 (header_bytes (header_of c)), subst (λ (d : Contents). Puts d x c.live (appended b.0 (header_bytes (header_of c)))) (sym (roomy_begun c (length (frame_bytes x)) w)) (puts_begun c x b.0 b.1 b.2 st.follows)))
+          (c.live, appended b.0 (header_bytes (header_of c)),
+              subst (λ (d : Contents). Puts d x c.live (appended b.0 (header_bytes (header_of c)))) (sym (roomy_begun c (length (frame_bytes x)) w))
+              (puts_begun c x b.0 b.1 b.2 st.follows)))
       | inr w ↦ (
           let p = puts_here c x care st w in
           (p.0, p.1, subst (λ (d : Contents). Puts d x p.0 p.1) (sym (roomy_here c (length (frame_bytes x)) w)) p.2))
@@ -333,7 +385,8 @@ pub record Takes (d : Contents) (len : ℕ) : Type 0 where
   pub countable : IfSome (slice_get d.live (length d.live - 1)) (λ h. h.failed < 2 ^ 64 - 1)
   pub number : d.number + length d.live ≤ 2 ^ 64
 
-takes_of : (d : Contents) (len : ℕ) (older : List Holding) (h : Holding) → d.live ≡ older ++ h ∷ [] → length h.bytes + len ≤ h.room → h.failed < 2 ^ 64 - 1 → d.number + length d.live ≤ 2 ^ 64 → Takes d len
+takes_of : (d : Contents) (len : ℕ) (older : List Holding) (h : Holding) → d.live ≡ older ++ h ∷ [] → length h.bytes + len ≤ h.room → h.failed < 2 ^ 64 - 1
+    → d.number + length d.live ≤ 2 ^ 64 → Takes d len
 takes_of d len older h split fits fresh number =
     let last : slice_get d.live (length d.live - 1) ≡ Some h = sym (last_is d.live) ∙ ap last_of split ∙ last_of_at older h in
     record {
@@ -347,7 +400,8 @@ takes_here : (c : Contents) (x : Frame) (care : Bool) → Starts c x care → wa
 takes_here c x care st w =
     let p = puts_here c x care st w in
     let last : last_of c.live ≡ Some p.1 = ap last_of p.2.last ∙ last_of_at p.0 p.1 in
-    let room : has_room (length (frame_bytes x)) (Some p.1) ≡ true = ap (has_room (length (frame_bytes x))) (sym last) ∙ (open_with_room c (length (frame_bytes x)) w).1 in
+    let room : has_room (length (frame_bytes x)) (Some p.1) ≡ true =
+        ap (has_room (length (frame_bytes x))) (sym last) ∙ (open_with_room c (length (frame_bytes x)) w).1 in
     let fresh : is_worn (Some p.1) ≡ false = ap is_worn (sym last) ∙ st.grants.last w in
     let bytes = map (λ (h : Holding). h.bytes) c.live in
     let size = length-map c.live (λ (h : Holding). h.bytes) in
@@ -355,7 +409,8 @@ takes_here c x care st w =
     let limit = live_limit c.m c.f c.number bytes st.sound.holds.live (omega arith) in
     takes_of c (length (frame_bytes x)) p.0 p.1 p.2.last (leb-true (length p.1.bytes + length (frame_bytes x)) p.1.room room) (not_worn p.1 fresh) (omega arith)
 
-takes_begun : (c : Contents) (x : Frame) (care : Bool) → Starts c x care → wants_segment c (length (frame_bytes x)) ≡ true → Takes (begun c) (length (frame_bytes x))
+takes_begun : (c : Contents) (x : Frame) (care : Bool) → Starts c x care → wants_segment c (length (frame_bytes x)) ≡ true
+    → Takes (begun c) (length (frame_bytes x))
 takes_begun c x care st w =
     let b = begins c x care st w in
     let s = b.0 in
@@ -367,8 +422,10 @@ takes_begun c x care st w =
     let law = st.follows.lawful.head.fits.1 in
     let fresh = not_worn s (subst (λ (l : List Holding). is_worn (slice_get l 0) ≡ false) b.2.first (st.grants.first w)) in
     let number = st.grants.number w in
-    let fits : length t.bytes + length (frame_bytes x) ≤ t.room = omega (arith, length-header (header_of c), length-append s.bytes (header_bytes (header_of c)), length-frame x) in
-    subst (λ (e : Contents). Takes e (length (frame_bytes x))) (sym (begun_is c s b.1 b.2)) (takes_of d (length (frame_bytes x)) c.live t refl fits fresh (omega (arith, length-append c.live (t ∷ []))))
+    let fits : length t.bytes + length (frame_bytes x) ≤ t.room =
+        omega (arith, length-header (header_of c), length-append s.bytes (header_bytes (header_of c)), length-frame x) in
+    subst (λ (e : Contents). Takes e (length (frame_bytes x))) (sym (begun_is c s b.1 b.2))
+        (takes_of d (length (frame_bytes x)) c.live t refl fits fresh (omega (arith, length-append c.live (t ∷ []))))
 
 pub takes_roomy : (c : Contents) (x : Frame) (care : Bool) → Starts c x care → Takes (roomy c (length (frame_bytes x))) (length (frame_bytes x))
 takes_roomy c x care st =
@@ -409,7 +466,8 @@ put_ok c x care new st put =
       | inr w ↦ ok_here c x care new st w (subst (λ (d : Contents). FramePut d x new) (roomy_here c (length (frame_bytes x)) w) put)
     ]
 
-put_torn : (lease : ℕ) (c : Contents) (x : Frame) (care : Bool) (new : Contents) → Starts c x care → FrameTorn lease (roomy c (length (frame_bytes x))) x new → EndedBadly lease c x new
+put_torn : (lease : ℕ) (c : Contents) (x : Frame) (care : Bool) (new : Contents) → Starts c x care → FrameTorn lease (roomy c (length (frame_bytes x))) x new
+    → EndedBadly lease c x new
 put_torn lease c x care new st torn =
     elim (cases_Bool (wants_segment c (length (frame_bytes x)))) [
       | inl w ↦ torn_begun lease c x care new st w (subst (λ (d : Contents). FrameTorn lease d x new) (roomy_begun c (length (frame_bytes x)) w) torn)
@@ -419,7 +477,8 @@ put_torn lease c x care new st torn =
 bad_ends : (lease : ℕ) (c : Contents) (x : Frame) (new : Contents) → EndedBadly lease c x new → AllEnds c x new (Err (Device lease))
 bad_ends lease c x new e = record { sound = e.ended.sound; added = tt; log = e.ended.same; device = (e.rose, e.stopped) }
 
-pub put_ends : (c d : Contents) (x : Frame) (care : Bool) (new : Contents) (r : Result (Unit {0}) LogFault) → Starts c x care → d ≡ roomy c (length (frame_bytes x))
+pub put_ends : (c d : Contents) (x : Frame) (care : Bool) (new : Contents) (r : Result (Unit {0}) LogFault) → Starts c x care
+    → d ≡ roomy c (length (frame_bytes x))
     → MatchResult r (λ _. FramePut d x new) (λ fault. OfDevice fault (λ lease. FrameTorn lease d x new)) → AllEnds c x new r
 put_ends c d x care new (Ok u) st same end =
     let e = put_ok c x care new st (subst (λ (k : Contents). FramePut k x new) same end) in
@@ -427,18 +486,21 @@ put_ends c d x care new (Ok u) st same end =
 put_ends c d x care new (Err NoMemory) st same end = absurd end
 put_ends c d x care new (Err BadConfig) st same end = absurd end
 put_ends c d x care new (Err NoSegment) st same end = absurd end
-put_ends c d x care new (Err (Device lease)) st same end = bad_ends lease c x new (put_torn lease c x care new st (subst (λ (k : Contents). FrameTorn lease k x new) same end))
+put_ends c d x care new (Err (Device lease)) st same end =
+    bad_ends lease c x new (put_torn lease c x care new st (subst (λ (k : Contents). FrameTorn lease k x new) same end))
 put_ends c d x care new (Err Failed) st same end = absurd end
 put_ends c d x care new (Err Spent) st same end = absurd end
 put_ends c d x care new (Err NoPage) st same end = absurd end
 
 -- a header that could not be appended
-pub begin_ends : (c d : Contents) (x : Frame) (care : Bool) (new : Contents) (fault : LogFault) → Starts c x care → d ≡ c → OfDevice fault (λ lease. (wants_segment d (length (frame_bytes x)) ≡ true) × SpareTorn lease d new) → AllEnds c x new (Err fault)
+pub begin_ends : (c d : Contents) (x : Frame) (care : Bool) (new : Contents) (fault : LogFault) → Starts c x care → d ≡ c
+    → OfDevice fault (λ lease. (wants_segment d (length (frame_bytes x)) ≡ true) × SpareTorn lease d new) → AllEnds c x new (Err fault)
 begin_ends c d x care new NoMemory st same end = absurd end
 begin_ends c d x care new BadConfig st same end = absurd end
 begin_ends c d x care new NoSegment st same end = absurd end
 begin_ends c d x care new (Device lease) st same end =
-    let here : (wants_segment c (length (frame_bytes x)) ≡ true) × SpareTorn lease c new = subst (λ (k : Contents). (wants_segment k (length (frame_bytes x)) ≡ true) × SpareTorn lease k new) same end in
+    let here : (wants_segment c (length (frame_bytes x)) ≡ true) × SpareTorn lease c new =
+        subst (λ (k : Contents). (wants_segment k (length (frame_bytes x)) ≡ true) × SpareTorn lease k new) same end in
     bad_ends lease c x new (torn_spare lease c x care new st here.0 here.1)
 begin_ends c d x care new Failed st same end = absurd end
 begin_ends c d x care new Spent st same end = absurd end
@@ -446,37 +508,54 @@ begin_ends c d x care new NoPage st same end = absurd end
 
 -- ---- as the code finds them: the log as it was, after the growths, and with room
 
-pub starts_of : (old now : Contents) (x : Frame) (care : Bool) (len : ℕ) → IsSound old → MayFollow old x → now ≡ old → len ≡ length (frame_bytes x) → refusal now len care ≡ None → Starts old x care
+pub starts_of : (old now : Contents) (x : Frame) (care : Bool) (len : ℕ) → IsSound old → MayFollow old x → now ≡ old → len ≡ length (frame_bytes x)
+    → refusal now len care ≡ None → Starts old x care
 starts_of old now x care len sound follows same size none = record {
   sound = sound;
   follows = follows;
-  grants = granted old (length (frame_bytes x)) care (subst (λ (c : Contents). refusal c (length (frame_bytes x)) care ≡ None) same (subst (λ (n : ℕ). refusal now n care ≡ None) size none));
+  grants = granted old (length (frame_bytes x)) care
+      (subst (λ (c : Contents). refusal c (length (frame_bytes x)) care ≡ None) same (subst (λ (n : ℕ). refusal now n care ≡ None) size none));
 }
 
-pub beginnable_of : (old now : Contents) (x : Frame) (care : Bool) (len : ℕ) → Starts old x care → now ≡ old → len ≡ length (frame_bytes x) → wants_segment now len ≡ true → Beginnable now
+pub beginnable_of : (old now : Contents) (x : Frame) (care : Bool) (len : ℕ) → Starts old x care → now ≡ old → len ≡ length (frame_bytes x)
+    → wants_segment now len ≡ true → Beginnable now
 beginnable_of old now x care len st same size wants =
-    let w : wants_segment old (length (frame_bytes x)) ≡ true = subst (λ (c : Contents). wants_segment c (length (frame_bytes x)) ≡ true) same (subst (λ (n : ℕ). wants_segment now n ≡ true) size wants) in
+    let w : wants_segment old (length (frame_bytes x)) ≡ true =
+        subst (λ (c : Contents). wants_segment c (length (frame_bytes x)) ≡ true) same (subst (λ (n : ℕ). wants_segment now n ≡ true) size wants) in
     let b = begins old x care st w in
-    let there : Beginnable old = record { some = st.grants.spares w; fits = begin_fits old b.0 b.1 b.2; countable = begin_countable old b.0 b.1 b.2 (st.grants.first w); number = st.grants.number w } in
+    let there : Beginnable old = record { some = st.grants.spares w; fits = begin_fits old b.0 b.1 b.2;
+        countable = begin_countable old b.0 b.1 b.2 (st.grants.first w); number = st.grants.number w } in
     subst Beginnable (sym same) there
 
-pub roomy_of : (old now d : Contents) (x : Frame) (len : ℕ) → now ≡ old → len ≡ length (frame_bytes x) → d ≡ roomy now len → d ≡ roomy old (length (frame_bytes x))
+pub roomy_of : (old now d : Contents) (x : Frame) (len : ℕ) → now ≡ old → len ≡ length (frame_bytes x) → d ≡ roomy now len
+    → d ≡ roomy old (length (frame_bytes x))
 roomy_of old now d x len same size is = is ∙ ap (λ (n : ℕ). roomy now n) size ∙ ap (λ (c : Contents). roomy c (length (frame_bytes x))) same
 
-pub takes_there : {X : Type 0} (v : X → Holding) (xs : List X) (old d : Contents) (x : Frame) (care : Bool) → Starts old x care → d ≡ roomy old (length (frame_bytes x)) → d.live ≡ map v xs
-    → IfSome (slice_get (map v xs) (length xs - 1)) (λ h. length h.bytes + length (frame_bytes x) ≤ h.room) × IfSome (slice_get (map v xs) (length xs - 1)) (λ h. h.failed < 2 ^ 64 - 1) × (d.number + length xs ≤ 2 ^ 64)
+-- the frame may be appended, and there is room for it
+pub room_made : (old now d : Contents) (x : Frame) (care : Bool) (len : ℕ) → IsSound old → MayFollow old x → now ≡ old → len ≡ length (frame_bytes x)
+    → refusal now len care ≡ None → d ≡ roomy now len → Starts old x care × (d ≡ roomy old (length (frame_bytes x)))
+room_made old now d x care len sound follows same size none is =
+    (starts_of old now x care len sound follows same size none, roomy_of old now d x len same size is)
+
+pub takes_there : {X : Type 0} (v : X → Holding) (xs : List X) (old d : Contents) (x : Frame) (care : Bool) → Starts old x care
+    → d ≡ roomy old (length (frame_bytes x)) → d.live ≡ map v xs
+    → IfSome (slice_get (map v xs) (length xs - 1)) (λ h. length h.bytes + length (frame_bytes x) ≤ h.room)
+        × IfSome (slice_get (map v xs) (length xs - 1)) (λ h. h.failed < 2 ^ 64 - 1) × (d.number + length xs ≤ 2 ^ 64)
 takes_there v xs old d x care st is live =
     let t = subst (λ (c : Contents). Takes c (length (frame_bytes x))) (sym is) (takes_roomy old x care st) in
     let size : length d.live ≡ length xs = ap (λ (l : List Holding). length l) live ∙ length-map xs v in
-    let at : slice_get d.live (length d.live - 1) ≡ slice_get (map v xs) (length xs - 1) = ap (λ (l : List Holding). slice_get l (length d.live - 1)) live ∙ ap (λ (n : ℕ). slice_get (map v xs) (n - 1)) size in
+    let at : slice_get d.live (length d.live - 1) ≡ slice_get (map v xs) (length xs - 1) =
+        ap (λ (l : List Holding). slice_get l (length d.live - 1)) live ∙ ap (λ (n : ℕ). slice_get (map v xs) (n - 1)) size in
     let number = t.number in
-    (subst (λ (o : Option Holding). IfSome o (λ h. length h.bytes + length (frame_bytes x) ≤ h.room)) at t.fits, subst (λ (o : Option Holding). IfSome o (λ h. h.failed < 2 ^ 64 - 1)) at t.countable, omega arith)
+    (subst (λ (o : Option Holding). IfSome o (λ h. length h.bytes + length (frame_bytes x) ≤ h.room)) at t.fits,
+        subst (λ (o : Option Holding). IfSome o (λ h. h.failed < 2 ^ 64 - 1)) at t.countable, omega arith)
 
 pub tables_there : (old d : Contents) (x : Frame) (care : Bool) → Starts old x care → d ≡ roomy old (length (frame_bytes x)) → Tables d.pages x
 tables_there old d x care st is =
     let p = puts_roomy old x care st in
     subst (λ (c : Contents). Tables c.pages x) (sym is) (tables_of (roomy old (length (frame_bytes x))) x p.0 p.1 p.2)
 
-pub begin_ends_at : (old now : Contents) (x : Frame) (care : Bool) (new : Contents) (fault : LogFault) (len : ℕ) → Starts old x care → now ≡ old → len ≡ length (frame_bytes x) → OfDevice fault (λ lease. (wants_segment now len ≡ true) × SpareTorn lease now new) → AllEnds old x new (Err fault)
+pub begin_ends_at : (old now : Contents) (x : Frame) (care : Bool) (new : Contents) (fault : LogFault) (len : ℕ) → Starts old x care → now ≡ old
+    → len ≡ length (frame_bytes x) → OfDevice fault (λ lease. (wants_segment now len ≡ true) × SpareTorn lease now new) → AllEnds old x new (Err fault)
 begin_ends_at old now x care new fault len st same size end =
     begin_ends old now x care new fault st same (subst (λ (n : ℕ). OfDevice fault (λ lease. (wants_segment now n ≡ true) × SpareTorn lease now new)) size end)

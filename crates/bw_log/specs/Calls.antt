@@ -1,6 +1,7 @@
 -- What the other calls say.
 
-use Rattle.std.specs.Prelude.{ℕ, ◌+◌, ◌-◌, ◌^◌, ◌<◌, ◌≤◌, ◌≡◌, ◌⊎◌, nat_le, false, if◌then◌else◌, Option, Some, None, Result, Ok, Err, List, [], ◌∷◌, length, slice_get, slice_set, MatchOption, true}
+use Rattle.std.specs.Prelude.{ℕ, ◌+◌, ◌-◌, ◌^◌, ◌<◌, ◌≤◌, ◌≡◌, ◌⊎◌, nat_le, false, if◌then◌else◌, Option, Some, None, Result, Ok, Err, List, [], ◌∷◌, length}
+use Rattle.std.specs.Prelude.{map, slice_get, slice_set, MatchOption, true}
 use Rattle.std.specs.List.{fold, filter, list_any, AllByRecursion}
 use Rattle.bw_codec.specs.declared.block.Place.{Place}
 use Rattle.bw_codec.specs.declared.block.Frame.{Frame}
@@ -8,7 +9,7 @@ use Rattle.bw_codec.specs.Touch.{touches}
 use Rattle.bw_device.specs.Holding.{Holding, failed_once}
 use Rattle.bw_log.specs.Places.{base_of}
 use Rattle.bw_log.specs.Segments.{segment_frames, is_before_next}
-use Rattle.bw_log.specs.Contents.{Contents, IsSpare, counted}
+use Rattle.bw_log.specs.Contents.{Contents, IsSpare, image, roster, counted}
 use Rattle.bw_log.specs.Walking.{StandsAt}
 use Rattle.bw_log.specs.declared.places.FrameAt.{FrameAt}
 use Rattle.bw_log.specs.declared.fault.LogFault.{LogFault}
@@ -93,6 +94,13 @@ pub record FailedRead (reads : ℕ → Type 0) (lease : ℕ) (old new : Contents
   pub was : slice_get old.live at ≡ Some segment
   pub named : segment.lease ≡ lease
   pub is : new ≡ record old { live = slice_set old.live at (failed_once segment) }
+
+-- what no read changes
+pub record IsKept (old new : Contents) : Type 0 where
+  pub same : image new ≡ image old
+  pub spares : new.spares ≡ old.spares
+  pub leases : roster new ≡ roster old
+  pub rooms : map (λ h. h.room) new.live ≡ map (λ h. h.room) old.live
 
 -- what a refused read leaves, where it may have had to read the live segments of these indices
 abbrev pub StopsAt : (ℕ → Type 0) → Contents → LogFault → Contents → Type 0

@@ -1,7 +1,9 @@
 -- What a log is to its callers.
 
-use Rattle.std.specs.Prelude.{ℕ, ◌+◌, ◌-◌, ◌^◌, ◌<◌, ◌≤◌, ◌≡◌, ◌⊎◌, ◌==◌, Bool, true, false, if◌then◌else◌, Option, Some, None, List, [], ◌++◌, length, map, slice_get}
+use Rattle.std.specs.Prelude.{ℕ, ◌+◌, ◌-◌, ◌^◌, ◌<◌, ◌≤◌, ◌≡◌, ◌⊎◌, ◌==◌, Bool, true, false, if◌then◌else◌, Option, Some, None, List, [], ◌∷◌, ◌++◌, length}
+use Rattle.std.specs.Prelude.{map, take, slice_get}
 use Rattle.std.specs.List.{filter, AllByRecursion}
+use Rattle.bw_codec.specs.Grammar.{header_bytes}
 use Rattle.bw_codec.specs.declared.leaf.Leaf.{Leaf}
 use Rattle.bw_codec.specs.declared.block.Place.{Place}
 use Rattle.bw_codec.specs.declared.block.Frame.{Frame}
@@ -101,6 +103,10 @@ abbrev pub IsStanding : ℕ → List Frame → ℕ → Type 0
 IsStanding m frames pages =
     ((frames ≡ []) × (pages ≡ 0)) ⊎ ((leaves : List Leaf) × Stand m frames leaves × (length leaves ≡ pages))
 
+-- no more room than a box may have
+abbrev pub IsBounded : Holding → Type 0
+IsBounded h = h.room ≤ MAX_CAPACITY
+
 -- room for a header and one frame at least, and no more than a box may have
 abbrev pub IsRoomy : ℕ → Holding → Type 0
 IsRoomy f h = (24 + f ≤ h.room) × (h.room ≤ MAX_CAPACITY)
@@ -108,6 +114,32 @@ IsRoomy f h = (24 + f ≤ h.room) × (h.room ≤ MAX_CAPACITY)
 -- an empty box with such room
 abbrev pub IsSpare : ℕ → Holding → Type 0
 IsSpare f h = (h.bytes ≡ []) × IsRoomy f h
+
+-- ---- what a failed append may have left
+
+-- a frame that could have followed the counted ones
+pub record CouldFollow (i : Image) (frame : Frame) : Type 0 where
+  pub number : i.next ≡ Some frame.number
+  pub links : AreLinked (counted_in i ++ frame ∷ [])
+  pub leaves : List Leaf
+  pub stands : Stand i.m (counted_in i ++ frame ∷ []) leaves
+
+-- behind the counted frames no whole frame stands, or one that could have followed them
+abbrev pub IsLeft : Image → Type 0
+IsLeft i =
+    (frames_of i.bytes ≡ counted_in i)
+    ⊎ ((frame : Frame) × (frames_of i.bytes ≡ counted_in i ++ frame ∷ []) × CouldFollow i frame)
+
+-- a spare is empty, or has a beginning of the header of this segment
+abbrev pub HasBeginning : ℕ → ℕ → ℕ → Holding → Type 0
+HasBeginning number m f h =
+    (h.bytes ≡ [])
+    ⊎ ((number < 2 ^ 64) × (kept : ℕ) × (h.bytes ≡ take kept (header_bytes (record { number = number; m = m; f = f }))))
+
+-- the first spare does, and the others are empty
+abbrev pub AreTorn : ℕ → ℕ → ℕ → List Holding → Type 0
+AreTorn number m f [] = Unit {0}
+AreTorn number m f (s ∷ ss) = HasBeginning number m f s × AllByRecursion (IsSpare f) ss
 
 -- ---- what every log keeps between calls
 
@@ -119,6 +151,7 @@ pub record IsImage (i : Image) : Type 0 where
   pub ends : i.is_open ≡ true → i.is_failed ≡ false → IsCleanLast i.m i.f i.number i.bytes
   -- frames
   pub every : i.is_failed ≡ false → counted_in i ≡ frames_of i.bytes
+  pub left : i.is_failed ≡ true → IsLeft i
   pub numbered : AreFrom (first_number (counted_in i)) (counted_in i)
   pub follows : i.next ≡ next_of (counted_in i)
   pub listed : i.frames ≡ counted_at i
@@ -130,6 +163,8 @@ pub record IsImage (i : Image) : Type 0 where
 
 pub record IsSound (c : Contents) : Type 0 where
   pub few : length c.live + length c.spares ≤ 4096
-  pub rooms : AllByRecursion (IsRoomy c.f) (boxes c)
+  pub bounds : AllByRecursion IsBounded c.live
+  pub rooms : AllByRecursion (IsRoomy c.f) c.spares
   pub empty : c.is_failed ≡ false → AllByRecursion (IsSpare c.f) c.spares
+  pub torn : c.is_failed ≡ true → AreTorn (c.number + length c.live) c.m c.f c.spares
   pub holds : IsImage (image c)

@@ -10,3 +10,4 @@ pub mod Seen
 pub mod Noting
 pub mod Appending
 pub mod Examples
+pub mod Adopting

@@ -1,6 +1,7 @@
 -- What an append does, and when it is refused.
 
-use Rattle.std.specs.Prelude.{ℕ, ◌+◌, ◌-◌, ◌^◌, ◌≡◌, ◌⊎◌, ◌&&◌, ◌||◌, not, nat_lt, nat_le, Bool, true, false, if◌then◌else◌, IsTrue, is_none, Option, Some, None, Result, Ok, Err, List, [], ◌∷◌, ◌++◌, length, slice_get}
+use Rattle.std.specs.Prelude.{ℕ, ◌+◌, ◌-◌, ◌^◌, ◌≡◌, ◌⊎◌, ◌&&◌, ◌||◌, not, nat_lt, nat_le, Bool, true, false, if◌then◌else◌, IsTrue, is_none, Option, Some}
+use Rattle.std.specs.Prelude.{None, Result, Ok, Err, List, [], ◌∷◌, ◌++◌, length, slice_get}
 use Rattle.bw_codec.specs.Grammar.{frame_bytes, header_bytes, IsFrame}
 use Rattle.bw_codec.specs.declared.leaf.Leaf.{Leaf}
 use Rattle.bw_codec.specs.declared.block.Frame.{Frame}
@@ -8,7 +9,8 @@ use Rattle.bw_codec.specs.declared.block.Header.{Header}
 use Rattle.bw_page.specs.Standing.{Stand}
 use Rattle.bw_device.specs.Holding.{Holding, appended, torn_at}
 use Rattle.bw_log.specs.Places.{AreLinked}
-use Rattle.bw_log.specs.Contents.{Contents, roster, counted}
+use Rattle.bw_log.specs.Segments.{following, frames_of}
+use Rattle.bw_log.specs.Contents.{Contents, image, roster, counted}
 use Rattle.bw_log.specs.declared.fault.LogFault.{LogFault}
 use Rattle.bw_log.specs.declared.fault.LogFault.TheVariants.{NoMemory, BadConfig, NoSegment, Device, Failed, Spent, NoPage}
 
@@ -129,6 +131,7 @@ pub record MayFollow (c : Contents) (frame : Frame) : Type 0 where
 pub record Appended (old : Contents) (frame : Frame) (new : Contents) : Type 0 where
   pub takes : new.is_open ≡ true
   pub works : new.is_failed ≡ false
+  pub next : new.next ≡ following frame.number
   pub live : new.live ≡ with_last (λ h. appended h (frame_bytes frame)) (roomy old (length (frame_bytes frame))).live
   pub spares : new.spares ≡ (roomy old (length (frame_bytes frame))).spares
   pub frames : counted new ≡ counted old ++ frame ∷ []
@@ -141,6 +144,11 @@ abbrev pub with_first : (Holding → Holding) → List Holding → List Holding
 with_first change [] = []
 with_first change (h ∷ hs) = change h ∷ hs
 
+-- the whole frames of the live segments are the counted ones, or these and the one that was appended
+abbrev pub LeftBehind : Contents → Frame → Contents → Type 0
+LeftBehind old frame new =
+    (frames_of (image new).bytes ≡ counted old) ⊎ (frames_of (image new).bytes ≡ counted old ++ frame ∷ [])
+
 -- a beginning of the header stands in the first spare, or a beginning of the frame in the current segment
 pub record Stopped (old : Contents) (frame : Frame) (new : Contents) : Type 0 where
   pub kept : ℕ
@@ -151,6 +159,7 @@ pub record Stopped (old : Contents) (frame : Frame) (new : Contents) : Type 0 wh
       ⊎ ((new.live ≡ with_last (torn kept (frame_bytes frame)) (roomy old (length (frame_bytes frame))).live)
       × (new.spares ≡ (roomy old (length (frame_bytes frame))).spares))
   pub frames : counted new ≡ counted old
+  pub left : LeftBehind old frame new
   pub failed : new.is_failed ≡ true
 
 -- the failure count of that lease's segment rose by one

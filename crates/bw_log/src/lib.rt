@@ -10,6 +10,7 @@
 //! call that changes it.
 #![tactic(auto)]
 
+mod adopting;
 mod appending;
 mod boxes;
 pub mod fault;
@@ -25,4 +26,4 @@ mod tests;
 
 pub use fault::LogFault;
 pub use log::Log;
-pub use places::{FrameAt, PageAt};
+pub use places::{FrameAt, PageAt, Tables};

@@ -23,3 +23,15 @@ pub struct PageAt {
     /// The last block that sets it.
     pub base: Place,
 }
+
+/// What a scan found: limits, the oldest live segment's number, whether the newest takes frames, where
+/// each whole frame stands (its segment by position among the live ones), and where each page does.
+#[derive(Debug, Drop)]
+pub struct Tables {
+    pub m: u16,
+    pub f: u32,
+    pub number: u64,
+    pub is_open: bool,
+    pub frames: Vec<FrameAt>,
+    pub pages: Vec<PageAt>,
+}

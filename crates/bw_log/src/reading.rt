@@ -14,7 +14,7 @@ ghost use Rattle.bw_codec.specs.Touch.{sets, touches};
 ghost use Rattle.bw_codec.specs.declared.block.Frame.{Frame};
 ghost use Rattle.bw_page.specs.Standing.{after, content, blocks_of};
 ghost use Rattle.bw_log.specs.Contents.{counted, image, IsImage};
-ghost use Rattle.bw_log.specs.Calls.{IsPage, IsNumbered, IsLineIn, HoldsPage, ReadStops, segment_at};
+ghost use Rattle.bw_log.specs.Calls.{IsPage, IsKept, IsNumbered, IsLineIn, HoldsPage, ReadStops, segment_at};
 ghost use Rattle.bw_log.specs.Walking.{first_back, StandsAt, IsWalk};
 
 use crate::boxes::{failures_of, lease_of, len_of, read_from};
@@ -196,6 +196,7 @@ impl Log {
         ensures page { IfOk result (λ leaf.
             content page (blocks_of (counted (seen_by holding self.old))) ≡ Some leaf) }
         ensures sound { IsSound holding self.new }
+        ensures kept { IsKept (seen_by holding self.old) (seen_by holding self.new) }
 
         ensures no_page { result ≡ Err LogFault.NoPage ↔ (IsPage (seen_by holding self.old) page → ⊥) }
         ensures stops { ReadStops (HoldsPage (seen_by holding self.old) page)
@@ -224,6 +225,7 @@ impl Log {
             ((found ≡ false) × (out.new.items ≡ out.old.items))
             (λ h. (found ≡ true) × (out.new.items ≡ out.old.items ++ h.bytes))) }
         ensures sound { IsSound holding self.new }
+        ensures kept { IsKept (seen_by holding self.old) (seen_by holding self.new) }
 
         ensures unchanged { OnErr result (out.new.items ≡ out.old.items) }
         ensures stops { ReadStops (IsNumbered (seen_by holding self.old) segment)

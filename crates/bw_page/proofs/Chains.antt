@@ -1,6 +1,7 @@
 -- Chains: the newest mark, what stands above it, and what an eviction and a consolidation leave.
 
-use Rattle.std.proofs.Common.{◌≡◌, ℕ, ◌+◌, ◌<◌, true, false, Option, Some, None, is_some, List, [], ◌∷◌, ◌++◌, length, drop, refl, sym, ap, ◌∙◌, subst, arith, append-nil, append_assoc, length-append}
+use Rattle.std.proofs.Common.{◌≡◌, ℕ, ◌+◌, ◌<◌, true, false, Option, Some, None, is_some, List, [], ◌∷◌, ◌++◌, length, drop, refl, sym, ap, ◌∙◌, subst, arith}
+use Rattle.std.proofs.Common.{append-nil, append_assoc, length-append}
 use Rattle.std.specs.Prelude.{reverse}
 use Rattle.std.specs.List.{list_any}
 use Rattle.std.specs.Option.{option_map, IfSome}
@@ -19,10 +20,12 @@ use Rattle.bw_page.specs.Marks.{mark_after}
 abbrev pub above : List Link → Option (ℕ × Place) → Option (List Link × Place)
 above links found = option_map (λ x. (reverse (drop (x.0 + 1) links), x.1)) found
 
-above-more : (links : List Link) (r : Record) (found : Option (ℕ × Place)) → IfSome found (λ x. x.0 < length links) → under (Delta r) (above links found) ≡ above (links ++ Delta r ∷ []) found
+above-more : (links : List Link) (r : Record) (found : Option (ℕ × Place)) → IfSome found (λ x. x.0 < length links)
+    → under (Delta r) (above links found) ≡ above (links ++ Delta r ∷ []) found
 above-more links r None h = refl
 above-more links r (Some x) h =
-    ap (λ ls. Some (ls, x.1)) (sym (ap reverse (drop-append-le (x.0 + 1) links (Delta r ∷ []) (omega arith)) ∙ reverse-append (drop (x.0 + 1) links) (Delta r ∷ [])))
+    ap (λ ls. Some (ls, x.1)) (sym (ap reverse (drop-append-le (x.0 + 1) links (Delta r ∷ []) (omega arith))
+        ∙ reverse-append (drop (x.0 + 1) links) (Delta r ∷ [])))
 
 lasts : (n : ℕ) (found : Option (ℕ × Place)) → IfSome found (λ x. x.0 < n) → IfSome found (λ x. x.0 < n + 1)
 lasts n None h = h
@@ -31,7 +34,8 @@ lasts n (Some x) h = omega arith
 pushed : (links : List Link) (x : Link) (n : ℕ) → length links ≡ n → length (links ++ x ∷ []) ≡ n + 1
 pushed links x n e = let l = length-append links (x ∷ []) in omega arith
 
-marked : (n : ℕ) (front rest : List Link) (found : Option (ℕ × Place)) → length front ≡ n → IfSome found (λ x. x.0 < n) → cut (reverse front) ≡ above front found
+marked : (n : ℕ) (front rest : List Link) (found : Option (ℕ × Place)) → length front ≡ n → IfSome found (λ x. x.0 < n)
+    → cut (reverse front) ≡ above front found
     → cut (reverse (front ++ rest)) ≡ above (front ++ rest) (mark_after n found rest)
 marked n front [] found e h is = subst (λ (ls : List Link). cut (reverse ls) ≡ above ls found) (sym (append-nil front)) is
 marked n front (Delta r ∷ rest) found e h is =
@@ -42,7 +46,8 @@ marked n front (Flushed place ∷ rest) found e h is =
     subst (λ (ls : List Link). cut (reverse ls) ≡ above ls (mark_after (n + 1) (Some (n, place)) rest)) (append_assoc front (Flushed place ∷ []) rest)
     (marked (n + 1) (front ++ Flushed place ∷ []) rest (Some (n, place)) (pushed front (Flushed place) n e) (omega arith)
     (ap cut (reverse-append front (Flushed place ∷ []))
-    ∙ ap (λ ls. Some (ls, place)) (sym (ap reverse (drop_all (n + 1) (front ++ Flushed place ∷ []) (let l = pushed front (Flushed place) n e in omega arith))))))
+    ∙ ap (λ ls. Some (ls, place)) (sym (ap reverse
+        (drop_all (n + 1) (front ++ Flushed place ∷ []) (let l = pushed front (Flushed place) n e in omega arith))))))
 
 -- the newest mark of links that stand oldest first, and of the same links newest first
 pub cut-reverse : (links : List Link) → cut (reverse links) ≡ above links (mark_after 0 None links)
@@ -59,7 +64,8 @@ flushed-cut (Delta r ∷ links) = flushed-cut links ∙ sym (flushed-under r (cu
 flushed-cut (Flushed place ∷ links) = refl
 
 told-under : (r : Record) (links : List Link) (x : Option (List Link × Place)) (leaf : Leaf)
-    → IfSome x (λ c. told c.0 (told (from_mark links) leaf) ≡ told links leaf) → IfSome (under (Delta r) x) (λ c. told c.0 (told (from_mark links) leaf) ≡ changed r (told links leaf))
+    → IfSome x (λ c. told c.0 (told (from_mark links) leaf) ≡ told links leaf)
+        → IfSome (under (Delta r) x) (λ c. told c.0 (told (from_mark links) leaf) ≡ changed r (told links leaf))
 told-under r links None leaf h = tt
 told-under r links (Some x) leaf h = ap (changed r) h
 
@@ -71,7 +77,8 @@ told-cut (Flushed place ∷ links) leaf = refl
 
 -- ---- at the end of the search for a mark
 
-pub cut_at : (c : Chained) (links : List Link) (at : ℕ) (place : Place) → c.links ≡ reverse links → Some (at, place) ≡ mark_after 0 None links → cut c.links ≡ Some (reverse (drop (at + 1) links), place)
+pub cut_at : (c : Chained) (links : List Link) (at : ℕ) (place : Place) → c.links ≡ reverse links → Some (at, place) ≡ mark_after 0 None links
+    → cut c.links ≡ Some (reverse (drop (at + 1) links), place)
 cut_at c links at place e is = ap cut e ∙ cut-reverse links ∙ ap (above links) (sym is)
 
 pub no_cut : (c : Chained) (links : List Link) → c.links ≡ reverse links → None ≡ mark_after 0 None links → cut c.links ≡ None
@@ -87,7 +94,8 @@ pub evicts : (c : Chained) (links : List Link) (place : Place) → cut c.links �
 evicts c links place e = record {
   flushed = sym (flushed-cut c.links ∙ ap is_some e);
   acts = ap (option_map (λ x. record c { links = x.0; end = OnLog x.1 })) e;
-  content = λ below. subst (λ (x : Option (List Link × Place)). IfSome x (λ y. told y.0 (told (from_mark c.links) (ground_of c.end below)) ≡ content_of c below)) e (told-cut c.links (ground_of c.end below));
+  content = λ below. subst (λ (x : Option (List Link × Place)). IfSome x
+      (λ y. told y.0 (told (from_mark c.links) (ground_of c.end below)) ≡ content_of c below)) e (told-cut c.links (ground_of c.end below));
 }
 
 pub stays : (c : Chained) → cut c.links ≡ None → (false ≡ list_any is_flushed c.links) × (evicted c ≡ None)

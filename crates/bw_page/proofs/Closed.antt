@@ -1,12 +1,14 @@
 -- What a change of the leaves and of the index leaves: both stay in step.
 
-use Rattle.std.proofs.Common.{◌≡◌, ◌≢◌, ℕ, ◌+◌, ◌-◌, ◌<◌, ◌≤◌, ◌^◌, cond, Some, None, List, [], ◌∷◌, ◌++◌, map, length, drop, get_or, refl, sym, ap, ◌∙◌, subst, arith, length-append}
+use Rattle.std.proofs.Common.{◌≡◌, ◌≢◌, ℕ, ◌+◌, ◌-◌, ◌<◌, ◌≤◌, ◌^◌, cond, Some, None, List, [], ◌∷◌, ◌++◌, map, length, drop, get_or, refl, sym, ap, ◌∙◌, subst}
+use Rattle.std.proofs.Common.{arith, length-append}
 use Rattle.std.specs.Prelude.{slice_set}
 use Rattle.std.specs.List.{AllByRecursion as All}
 use Rattle.std.specs.Ordering.{eq_by_cmp}
 use Rattle.std.specs.Map.{lookup}
 use Rattle.std.specs.BTreeMap as tree
 use Rattle.std.specs.FinMap.Entries.{find, find-append}
+use Rattle.std.proofs.lemmas.Bool.{le-leb, lt-leb}
 use Rattle.std.proofs.lemmas.List.{length-map}
 use Rattle.bw_codec.specs.Grammar.{IsOp}
 use Rattle.bw_codec.specs.Record.{key_of}
@@ -14,12 +16,12 @@ use Rattle.bw_codec.specs.declared.leaf.Leaf.{Leaf}
 use Rattle.bw_codec.specs.declared.record.Record.{Record}
 use Rattle.bw_page.specs.declared.leaves.Leaves.TheInside.{Inside}
 use Rattle.bw_page.specs.Leaves.{Bytes, order, empty_leaf, home, changed, AreLeaves, BeginsEmpty, HasPage, lower_of, upper_of, applied, union, changed_map}
-use Rattle.bw_page.specs.Filed.{Filed}
+use Rattle.bw_page.specs.Filed.{Filed, applied_by}
 use Rattle.bw_page.specs.Lows.{lows_of}
 use Rattle.bw_page.specs.Paged.{view_of, IsFiled}
 use Rattle.bw_page.proofs.Order.{order-total, apart}
 use Rattle.bw_page.proofs.Homes.{put_in, set_is_put}
-use Rattle.bw_page.proofs.Applied.{put_in-page, same_lows, put_leaves, new_low}
+use Rattle.bw_page.proofs.Applying.{put_in-page, same_lows, put_leaves, new_low}
 use Rattle.bw_page.proofs.Law.{directed, whole_in, lower_in, upper_in, applied-whole, applied-cut, applied-lawful, applied-plain}
 use Rattle.bw_page.proofs.Valued.{home_stands}
 
@@ -50,21 +52,23 @@ not_among_others low [] h = refl
 not_among_others low (l ∷ ls) h = not_among low ls h.1
 
 -- a look-up among lows after a push of a new one
-pub find-push : (q : Bytes) (leaves : List Leaf) (u : Leaf) → BeginsEmpty leaves → All (λ l. l.low ≢ u.low) leaves → find order q (lows_of (drop 1 (leaves ++ u ∷ []))) ≡ cond (eq_by_cmp order q u.low) (Some u.page) (find order q (lows_of (drop 1 leaves)))
+pub find-push : (q : Bytes) (leaves : List Leaf) (u : Leaf) → BeginsEmpty leaves → All (λ l. l.low ≢ u.low) leaves
+    → find order q (lows_of (drop 1 (leaves ++ u ∷ []))) ≡ cond (eq_by_cmp order q u.low) (Some u.page) (find order q (lows_of (drop 1 leaves)))
 find-push q leaves u b new =
     ap (find order q) (lows-push leaves u b) ∙ find-append order order-total (lows_of (drop 1 leaves)) u.low u.page q (not_among_others u.low leaves new)
 
 -- ---- closed again
 
-filed_at : (a b : Inside) → b.m ≡ a.m → b.leaves.items ≡ a.leaves.items → view_of a ≡ view_of b
-filed_at a b em el = λ i. record { m = sym em i; leaves = sym el i }
+lawful_at : (a b : Inside) → b.m ≡ a.m → b.leaves.items ≡ a.leaves.items → AreLeaves a.m a.leaves.items → AreLeaves b.m b.leaves.items
+lawful_at a b em el h = subst (λ (p : ℕ × List Leaf). AreLeaves p.0 p.1) (λ i. (sym em i, sym el i)) h
 
 -- nothing was changed
-pub same_filed : (a b : Inside) → IsFiled a → b.m ≡ a.m → b.leaves.items ≡ a.leaves.items → ((q : Bytes) → tree.get order b.index q ≡ tree.get order a.index q) → IsFiled b
+pub same_filed : (a b : Inside) → IsFiled a → b.m ≡ a.m → b.leaves.items ≡ a.leaves.items
+    → ((q : Bytes) → tree.get order b.index q ≡ tree.get order a.index q) → IsFiled b
 same_filed a b h em el same = record {
   limit = subst (λ (n : ℕ). (4 ≤ n) × (n ≤ 32)) (sym em) h.limit;
   count = subst (λ (ls : List Leaf). length ls < 2 ^ 32) (sym el) h.count;
-  lawful = subst (λ (f : Filed). AreLeaves f.m f.leaves) (filed_at a b em el) h.lawful;
+  lawful = lawful_at a b em el h.lawful;
   index = λ q. same q ∙ h.index q ∙ ap (λ (ls : List Leaf). find order q (lows_of (drop 1 ls))) (sym el);
 }
 
@@ -85,29 +89,40 @@ module _ (a : Inside) (h : IsFiled a) (r : Record) (op : IsOp r) (at : ℕ) (her
       ap (λ n. slice_set a.leaves.items n x) i ∙ set_is_put x a.leaves.items h.lawful.pages p
 
   -- one leaf was changed, and it has no more pairs than it may
-  pub whole_is : length (changed r (home (key_of r) a.leaves.items)).pairs ≤ a.m → slice_set a.leaves.items at (changed r (home (key_of r) a.leaves.items)) ≡ applied a.m a.leaves.items r
+  pub whole_is : length (changed r (home (key_of r) a.leaves.items)).pairs ≤ a.m
+      → slice_set a.leaves.items at (changed r (home (key_of r) a.leaves.items)) ≡ applied a.m a.leaves.items r
   whole_is fits = in_place (changed r (home (key_of r) a.leaves.items)) refl ∙ sym (applied-whole a.m a.leaves.items r some h.lawful op fits)
 
-  pub whole_filed : (b : Inside) → b.m ≡ a.m → length (changed r (home (key_of r) a.leaves.items)).pairs ≤ a.m → b.leaves.items ≡ applied a.m a.leaves.items r → ((q : Bytes) → tree.get order b.index q ≡ tree.get order a.index q) → IsFiled b
+  pub whole_filed : (b : Inside) → b.m ≡ a.m → length (changed r (home (key_of r) a.leaves.items)).pairs ≤ a.m → b.leaves.items ≡ applied a.m a.leaves.items r
+      → ((q : Bytes) → tree.get order b.index q ≡ tree.get order a.index q) → IsFiled b
   whole_filed b em fits el same =
       let into = whole_in a.m a.leaves.items (key_of r) _ (directed a.m a.leaves.items r h.lawful op) fits in
       let form = applied-whole a.m a.leaves.items r some h.lawful op fits in
       record {
         limit = subst (λ (n : ℕ). (4 ≤ n) × (n ≤ 32)) (sym em) h.limit;
-        count = subst (λ (ls : List Leaf). length ls < 2 ^ 32) (sym (el ∙ form)) (subst (λ n. n < 2 ^ 32) (sym (length-map a.leaves.items (put_in (changed r (home (key_of r) a.leaves.items))))) h.count);
-        lawful = subst (λ (f : Filed). AreLeaves f.m f.leaves) (λ i. record { m = sym em i; leaves = sym el i }) (applied-lawful a.m a.leaves.items r some (λ over. absurd (omega arith)) h.lawful op);
-        index = λ q. same q ∙ h.index q ∙ ap (find order q) (sym (ap (λ (ls : List Leaf). lows_of (drop 1 ls)) (el ∙ form) ∙ lows-put _ a.leaves.items (same_lows a.m a.leaves.items (key_of r) _ h.lawful into)));
+        count = subst (λ (ls : List Leaf). length ls < 2 ^ 32) (sym (el ∙ form))
+            (subst (λ n. n < 2 ^ 32) (sym (length-map a.leaves.items (put_in (changed r (home (key_of r) a.leaves.items))))) h.count);
+        lawful = subst (λ (p : ℕ × List Leaf). AreLeaves p.0 p.1) (λ i. (sym em i, sym el i))
+            (applied-lawful a.m a.leaves.items r some (λ over. absurd (omega arith)) h.lawful op);
+        index = λ q. same q ∙ h.index q ∙ ap (find order q)
+            (sym (ap (λ (ls : List Leaf). lows_of (drop 1 ls)) (el ∙ form)
+            ∙ lows-put _ a.leaves.items (same_lows a.m a.leaves.items (key_of r) _ h.lawful into)));
       }
 
   -- one leaf was cut in two, and its upper part stands behind the others
   pub cut_is : a.m < length (changed r (home (key_of r) a.leaves.items)).pairs
-      → slice_set a.leaves.items at (lower_of a.m (changed r (home (key_of r) a.leaves.items))) ++ upper_of a.m (length a.leaves.items + 1) (changed r (home (key_of r) a.leaves.items)) ∷ [] ≡ applied a.m a.leaves.items r
+      → slice_set a.leaves.items at (lower_of a.m (changed r (home (key_of r) a.leaves.items)))
+          ++ upper_of a.m (length a.leaves.items + 1) (changed r (home (key_of r) a.leaves.items)) ∷ [] ≡ applied a.m a.leaves.items r
   cut_is over =
-      ap (λ (ls : List Leaf). ls ++ upper_of a.m (length a.leaves.items + 1) (changed r (home (key_of r) a.leaves.items)) ∷ []) (in_place (lower_of a.m (changed r (home (key_of r) a.leaves.items))) refl)
+      ap (λ (ls : List Leaf). ls ++ upper_of a.m (length a.leaves.items + 1) (changed r (home (key_of r) a.leaves.items)) ∷ [])
+          (in_place (lower_of a.m (changed r (home (key_of r) a.leaves.items))) refl)
       ∙ sym (applied-cut a.m a.leaves.items r some h.lawful op over)
 
-  pub cut_filed : (b : Inside) → b.m ≡ a.m → a.m < length (changed r (home (key_of r) a.leaves.items)).pairs → length a.leaves.items + 1 < 2 ^ 32 → b.leaves.items ≡ applied a.m a.leaves.items r
-      → ((q : Bytes) → tree.get order b.index q ≡ cond (eq_by_cmp order q (upper_of a.m (length a.leaves.items + 1) (changed r (home (key_of r) a.leaves.items))).low) (Some (length a.leaves.items + 1)) (tree.get order a.index q))
+  pub cut_filed : (b : Inside) → b.m ≡ a.m → a.m < length (changed r (home (key_of r) a.leaves.items)).pairs → length a.leaves.items + 1 < 2 ^ 32
+      → b.leaves.items ≡ applied a.m a.leaves.items r
+      → ((q : Bytes) → tree.get order b.index q
+          ≡ cond (eq_by_cmp order q (upper_of a.m (length a.leaves.items + 1) (changed r (home (key_of r) a.leaves.items))).low)
+          (Some (length a.leaves.items + 1)) (tree.get order a.index q))
       → IsFiled b
   cut_filed b em over room el got =
       let x = changed r (home (key_of r) a.leaves.items) in
@@ -123,9 +138,11 @@ module _ (a : Inside) (h : IsFiled a) (r : Record) (op : IsOp r) (at : ℕ) (her
       record {
         limit = subst (λ (n : ℕ). (4 ≤ n) × (n ≤ 32)) (sym em) h.limit;
         count = subst (λ (ls : List Leaf). length ls < 2 ^ 32) (sym (el ∙ form)) (let fits : length (parts ++ u ∷ []) < 2 ^ 32 = omega arith in fits);
-        lawful = subst (λ (f : Filed). AreLeaves f.m f.leaves) (λ i. record { m = sym em i; leaves = sym el i }) (applied-lawful a.m a.leaves.items r some (λ o. room) h.lawful op);
+        lawful = subst (λ (p : ℕ × List Leaf). AreLeaves p.0 p.1) (λ i. (sym em i, sym el i))
+            (applied-lawful a.m a.leaves.items r some (λ o. room) h.lawful op);
         index = λ q. got q
-            ∙ ap (λ v. cond (eq_by_cmp order q u.low) (Some u.page) v) (h.index q ∙ ap (find order q) (sym (lows-put _ a.leaves.items (same_lows a.m a.leaves.items (key_of r) _ h.lawful into))))
+            ∙ ap (λ v. cond (eq_by_cmp order q u.low) (Some u.page) v)
+                (h.index q ∙ ap (find order q) (sym (lows-put _ a.leaves.items (same_lows a.m a.leaves.items (key_of r) _ h.lawful into))))
             ∙ sym (find-push q parts u lowers.first (new_low a.m parts u lowers up))
             ∙ ap (λ (ls : List Leaf). find order q (lows_of (drop 1 ls))) (sym (el ∙ form));
       }
@@ -139,7 +156,7 @@ module _ (a : Inside) (h : IsFiled a) (r : Record) (op : IsOp r) (at : ℕ) (her
 -- leaves after a record, with their index
 pub record Follows (now : Filed) (r : Record) (b : Inside) : Type 0 where
   pub filed : IsFiled b
-  pub view : view_of b ≡ record { m = now.m; leaves = applied now.m now.leaves r }
+  pub view : view_of b ≡ record { m = now.m; leaves = applied now.m now.leaves r; away = now.away }
   pub plain : union b.leaves.items ≡ changed_map (union now.leaves) r
 
 module _ (a : Inside) (h : IsFiled a) (now : Filed) (v : view_of a ≡ now) (r : Record) (op : IsOp r) (at count : ℕ)
@@ -155,43 +172,69 @@ module _ (a : Inside) (h : IsFiled a) (now : Filed) (v : view_of a ≡ now) (r :
   over_at over d =
       subst (λ (l : Leaf). a.m < length (changed r l).pairs) (sym (leaf_is a h r op at here_inside d)) (let c = count_inside in omega arith)
 
-  viewed : (b : Inside) → b.m ≡ a.m → b.leaves.items ≡ applied a.m a.leaves.items r → view_of b ≡ record { m = now.m; leaves = applied now.m now.leaves r }
-  viewed b em el =
-      let to : view_of b ≡ record { m = a.m; leaves = applied a.m a.leaves.items r } = λ i. record { m = em i; leaves = el i } in
-      to ∙ ap (λ (f : Filed). let g : Filed = record { m = f.m; leaves = applied f.m f.leaves r } in g) v
+  viewed : (b : Inside) → b.m ≡ a.m → b.leaves.away ≡ a.leaves.away → b.leaves.items ≡ applied a.m a.leaves.items r
+      → view_of b ≡ record { m = now.m; leaves = applied now.m now.leaves r; away = now.away }
+  viewed b em ea el =
+      let to : view_of b ≡ record { m = a.m; leaves = applied a.m a.leaves.items r; away = a.leaves.away } =
+          λ i. record { m = em i; leaves = el i; away = ea i } in
+      to ∙ ap (λ (f : Filed). let g : Filed = record { m = f.m; leaves = applied f.m f.leaves r; away = f.away } in g) v
 
-  pub follows_whole : (b : Inside) → b.m ≡ a.m → count ≤ a.m → ((d : Leaf) → b.leaves.items ≡ slice_set a.leaves.items at (changed r (get_or a.leaves.items at d)))
+  pub follows_whole : (b : Inside) → b.m ≡ a.m → b.leaves.away ≡ a.leaves.away → count ≤ a.m
+      → ((d : Leaf) → b.leaves.items ≡ slice_set a.leaves.items at (changed r (get_or a.leaves.items at d)))
       → ((q : Bytes) → tree.get order b.index q ≡ tree.get order a.index q) → Follows now r b
-  follows_whole b em few set same =
+  follows_whole b em ea few set same =
       let fits : length (changed r (home (key_of r) a.leaves.items)).pairs ≤ a.m = (let c = count_inside in omega arith) in
       let el : b.leaves.items ≡ applied a.m a.leaves.items r =
-      set empty_leaf ∙ ap (λ (l : Leaf). slice_set a.leaves.items at (changed r l)) (leaf_is a h r op at here_inside empty_leaf) ∙ whole_is a h r op at here_inside fits in
+      set empty_leaf ∙ ap (λ (l : Leaf). slice_set a.leaves.items at (changed r l)) (leaf_is a h r op at here_inside empty_leaf)
+          ∙ whole_is a h r op at here_inside fits in
       record {
         filed = whole_filed a h r op at here_inside b em fits el same;
-        view = viewed b em el;
+        view = viewed b em ea el;
         plain = plain_is a h r op at here_inside b.leaves.items (λ over. absurd (omega arith)) el ∙ ap (λ (f : Filed). changed_map (union f.leaves) r) v;
       }
 
-  pub follows_cut : (b : Inside) (page : ℕ) → b.m ≡ a.m → a.m < count → page ≡ length a.leaves.items + 1 → page < 2 ^ 32
-      → ((d : Leaf) → b.leaves.items ≡ slice_set a.leaves.items at (lower_of a.m (changed r (get_or a.leaves.items at d))) ++ upper_of a.m page (changed r (get_or a.leaves.items at d)) ∷ [])
-      → ((d : Leaf) (q : Bytes) → tree.get order b.index q ≡ cond (eq_by_cmp order q (upper_of a.m page (changed r (get_or a.leaves.items at d))).low) (Some page) (tree.get order a.index q))
+  pub follows_cut : (b : Inside) (page : ℕ) → b.m ≡ a.m → b.leaves.away ≡ a.leaves.away → a.m < count → page ≡ length a.leaves.items + 1 → page < 2 ^ 32
+      → ((d : Leaf) → b.leaves.items ≡ slice_set a.leaves.items at (lower_of a.m (changed r (get_or a.leaves.items at d)))
+          ++ upper_of a.m page (changed r (get_or a.leaves.items at d)) ∷ [])
+      → ((d : Leaf) (q : Bytes) → tree.get order b.index q
+          ≡ cond (eq_by_cmp order q (upper_of a.m page (changed r (get_or a.leaves.items at d))).low) (Some page) (tree.get order a.index q))
       → Follows now r b
-  follows_cut b page em many e room set got =
+  follows_cut b page em ea many e room set got =
       let over : a.m < length (changed r (home (key_of r) a.leaves.items)).pairs = (let c = count_inside in omega arith) in
       let fits : length a.leaves.items + 1 < 2 ^ 32 = subst (λ n. n < 2 ^ 32) e room in
       let el : b.leaves.items ≡ applied a.m a.leaves.items r =
       set empty_leaf
-      ∙ ap (λ (l : Leaf). slice_set a.leaves.items at (lower_of a.m (changed r l)) ++ upper_of a.m page (changed r l) ∷ []) (leaf_is a h r op at here_inside empty_leaf)
-      ∙ ap (λ n. slice_set a.leaves.items at (lower_of a.m (changed r (home (key_of r) a.leaves.items))) ++ upper_of a.m n (changed r (home (key_of r) a.leaves.items)) ∷ []) e
+      ∙ ap (λ (l : Leaf). slice_set a.leaves.items at (lower_of a.m (changed r l)) ++ upper_of a.m page (changed r l) ∷ [])
+          (leaf_is a h r op at here_inside empty_leaf)
+      ∙ ap (λ n. slice_set a.leaves.items at (lower_of a.m (changed r (home (key_of r) a.leaves.items)))
+          ++ upper_of a.m n (changed r (home (key_of r) a.leaves.items)) ∷ []) e
       ∙ cut_is a h r op at here_inside over in
       record {
         filed = cut_filed a h r op at here_inside b em over fits el (λ q. got empty_leaf q
-            ∙ ap (λ (l : Leaf). cond (eq_by_cmp order q (upper_of a.m page (changed r l)).low) (Some page) (tree.get order a.index q)) (leaf_is a h r op at here_inside empty_leaf)
+            ∙ ap (λ (l : Leaf). cond (eq_by_cmp order q (upper_of a.m page (changed r l)).low) (Some page) (tree.get order a.index q))
+                (leaf_is a h r op at here_inside empty_leaf)
             ∙ ap (λ n. cond (eq_by_cmp order q (upper_of a.m n (changed r (home (key_of r) a.leaves.items))).low) (Some n) (tree.get order a.index q)) e);
-        view = viewed b em el;
+        view = viewed b em ea el;
         plain = plain_is a h r op at here_inside b.leaves.items (λ o. fits) el ∙ ap (λ (f : Filed). changed_map (union f.leaves) r) v;
       }
 
 -- the same entries give the same look-ups
 pub same_gets : (x y : tree.BTreeMap Bytes ℕ) → y.entries ≡ x.entries → (q : Bytes) → tree.get order y q ≡ tree.get order x q
 same_gets x y e q = ap (λ es. lookup (tree.is_at (order q)) es) e
+
+-- ---- what a record did
+
+pub whole_by : (f : Filed) (r : Record) (page count m : ℕ) → page ≡ (home (key_of r) f.leaves).page
+    → count ≡ length (changed r (home (key_of r) f.leaves)).pairs → m ≡ f.m → count ≤ m → (record { page = page; made = None }) ≡ applied_by f r
+whole_by f r page count m e c k few =
+    let made : None ≡ (applied_by f r).made =
+        ap (λ b. cond b None (Some (length f.leaves + 1))) (sym (le-leb (length (changed r (home (key_of r) f.leaves)).pairs) f.m (omega arith))) in
+    λ i. record { page = e i; made = made i }
+
+pub cut_by : (f : Filed) (r : Record) (page count m made : ℕ) → page ≡ (home (key_of r) f.leaves).page
+    → count ≡ length (changed r (home (key_of r) f.leaves)).pairs → m ≡ f.m → m < count → made ≡ length f.leaves + 1
+    → (record { page = page; made = Some made }) ≡ applied_by f r
+cut_by f r page count m made e c k many n =
+    let made_is : Some made ≡ (applied_by f r).made =
+    ap Some n ∙ ap (λ b. cond b None (Some (length f.leaves + 1))) (sym (lt-leb (length (changed r (home (key_of r) f.leaves)).pairs) f.m (omega arith))) in
+    λ i. record { page = e i; made = made_is i }

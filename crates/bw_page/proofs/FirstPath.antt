@@ -20,7 +20,8 @@ pub pages-one : (m : ℕ) (leaf : Leaf) (rs : List Record) → leaf.page ≡ 1 �
 pages-one m leaf [] one h = refl
 pages-one m leaf (r ∷ rs) one h = ap (λ ls. pages m ls rs) (one_step m leaf (changed r leaf) one h.0) ∙ pages-one m (changed r leaf) rs one h.1
 
-one_delta : (p page : ℕ) (back : Place) (ops : List Record) (r : Record) (leaf : Leaf) → page ≡ p → ops ≡ r ∷ [] → after p (Some leaf) (Delta page back ops) ≡ Some (changed r leaf)
+one_delta : (p page : ℕ) (back : Place) (ops : List Record) (r : Record) (leaf : Leaf) → page ≡ p → ops ≡ r ∷ []
+    → after p (Some leaf) (Delta page back ops) ≡ Some (changed r leaf)
 one_delta p page back ops r leaf at is = rw (eq-eqb page p at, is)
 
 -- a page's Deltas, read forwards, are its records one after the other
@@ -28,6 +29,7 @@ pub content-deltas : (p : ℕ) (rs : List Record) (bs : List Block) (leaf : Leaf
 content-deltas p [] [] leaf h = refl
 content-deltas p [] (b ∷ bs) leaf h = absurd h
 content-deltas p (r ∷ rs) [] leaf h = absurd h
-content-deltas p (r ∷ rs) (Delta page back ops ∷ bs) leaf h = ap (λ was. fold (after p) was bs) (one_delta p page back ops r leaf h.0 h.1) ∙ content-deltas p rs bs (changed r leaf) h.2
+content-deltas p (r ∷ rs) (Delta page back ops ∷ bs) leaf h =
+    ap (λ was. fold (after p) was bs) (one_delta p page back ops r leaf h.0 h.1) ∙ content-deltas p rs bs (changed r leaf) h.2
 content-deltas p (r ∷ rs) (Base l ∷ bs) leaf h = absurd h
 content-deltas p (r ∷ rs) (Split page back upper ∷ bs) leaf h = absurd h

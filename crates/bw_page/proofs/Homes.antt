@@ -1,6 +1,7 @@
 -- The home of a key: the leaf with the greatest low not above it.
 
-use Rattle.std.proofs.Common.{◌≡◌, ◌≢◌, ℕ, suc, ◌+◌, ◌-◌, ◌<◌, ◌≤◌, Bool, true, false, cond, Option, Some, None, List, [], ◌∷◌, ◌++◌, map, length, get_or, refl, sym, ap, ◌∙◌, subst, arith, ◌⊎◌, inl, inr, if◌then◌else◌}
+use Rattle.std.proofs.Common.{◌≡◌, ◌≢◌, ℕ, suc, ◌+◌, ◌-◌, ◌<◌, ◌≤◌, Bool, true, false, cond, Option, Some, None, List, [], ◌∷◌, ◌++◌, map, length, get_or, refl}
+use Rattle.std.proofs.Common.{sym, ap, ◌∙◌, subst, arith, ◌⊎◌, inl, inr, if◌then◌else◌}
 use Rattle.std.specs.Prelude.{slice_set, ◌==◌}
 use Rattle.std.specs.List.{AllByRecursion as All, flat_map}
 use Rattle.std.specs.Ordering.{eq_by_cmp}
@@ -92,14 +93,16 @@ pick-map f q x l h k =
     let same : is_better q (f x) (f l) ≡ is_better q x l = rw (h, k) in
     ap (λ b. if b then f l else f x) same ∙ elim (is_better q x l) as (λ b. (if b then f l else f x) ≡ f (if b then l else x)) [ true ↦ refl | false ↦ refl ]
 
-best-map : (f : Leaf → Leaf) (q : Bytes) (x : Leaf) (ls : List Leaf) → (f x).low ≡ x.low → All (λ l. (f l).low ≡ l.low) ls → best q (f x) (map f ls) ≡ f (best q x ls)
+best-map : (f : Leaf → Leaf) (q : Bytes) (x : Leaf) (ls : List Leaf) → (f x).low ≡ x.low → All (λ l. (f l).low ≡ l.low) ls
+    → best q (f x) (map f ls) ≡ f (best q x ls)
 best-map f q x [] h k = refl
 best-map f q x (l ∷ ls) h k =
     ap (λ y. best q y (map f ls)) (pick-map f q x l h k.0)
     ∙ best-map f q (pick q x l) ls (pick-all (λ y. (f y).low ≡ y.low) q x l h k.0) k.1
 
 -- a change of leaves that keeps their lows changes the home of no key
-pub home-map : (f : Leaf → Leaf) (q : Bytes) (leaves : List Leaf) → BeginsEmpty leaves → All (λ l. (f l).low ≡ l.low) leaves → home q (map f leaves) ≡ f (home q leaves)
+pub home-map : (f : Leaf → Leaf) (q : Bytes) (leaves : List Leaf) → BeginsEmpty leaves → All (λ l. (f l).low ≡ l.low) leaves
+    → home q (map f leaves) ≡ f (home q leaves)
 home-map f q [] b h = absurd b
 home-map f q (l ∷ ls) b h = best-map f q l ls h.0 h.1
 
@@ -113,7 +116,8 @@ pages_from n (l ∷ ls) h =
 pages_below : (n : ℕ) (ls : List Leaf) → AreNumbered n ls → All (λ l. l.page < n + length ls) ls
 pages_below n [] h = tt
 pages_below n (l ∷ ls) h =
-    (let e = h.0 in omega arith, all-map (λ k. k.page < (n + 1) + length ls) (λ k. k.page < n + length (l ∷ ls)) (λ k lt. omega arith) ls (pages_below (n + 1) ls h.1))
+    (let e = h.0 in omega arith, all-map (λ k. k.page < (n + 1) + length ls) (λ k. k.page < n + length (l ∷ ls)) (λ k lt. omega arith) ls
+        (pages_below (n + 1) ls h.1))
 
 stands : (n : ℕ) (ls : List Leaf) (d : Leaf) → AreNumbered n ls → All (λ l. get_or ls (l.page - n) d ≡ l) ls
 stands n [] d h = tt
@@ -139,7 +143,8 @@ pub one_leaf : (leaves : List Leaf) (a b : Leaf) → get_or leaves (a.page - 1) 
 one_leaf leaves a b h k e = sym h ∙ ap (λ p. get_or leaves (p - 1) a) e ∙ k
 
 -- keys whose homes are one page have one home
-pub same_home : (leaves : List Leaf) (q k : Bytes) → BeginsEmpty leaves → AreNumbered 1 leaves → (home q leaves).page ≡ (home k leaves).page → home q leaves ≡ home k leaves
+pub same_home : (leaves : List Leaf) (q k : Bytes) → BeginsEmpty leaves → AreNumbered 1 leaves → (home q leaves).page ≡ (home k leaves).page
+    → home q leaves ≡ home k leaves
 same_home leaves q k b h e =
     one_leaf leaves (home q leaves) (home k leaves)
     (home-all (λ l. get_or leaves (l.page - 1) (home q leaves) ≡ l) q leaves b (stands_at leaves (home q leaves) h))
@@ -149,7 +154,8 @@ same_home leaves q k b h e =
 pub is_home : (leaves : List Leaf) (q : Bytes) → BeginsEmpty leaves → AreNumbered 1 leaves → All (λ l. l.page ≡ (home q leaves).page → l ≡ home q leaves) leaves
 is_home leaves q b h =
     all-map (λ l. get_or leaves (l.page - 1) (home q leaves) ≡ l) (λ l. l.page ≡ (home q leaves).page → l ≡ home q leaves)
-    (λ l at e. sym at ∙ ap (λ p. get_or leaves (p - 1) (home q leaves)) e ∙ home-all (λ x. get_or leaves (x.page - 1) (home q leaves) ≡ x) q leaves b (stands_at leaves (home q leaves) h))
+    (λ l at e. sym at ∙ ap (λ p. get_or leaves (p - 1) (home q leaves)) e
+        ∙ home-all (λ x. get_or leaves (x.page - 1) (home q leaves) ≡ x) q leaves b (stands_at leaves (home q leaves) h))
     leaves (stands_at leaves (home q leaves) h)
 
 -- ---- a leaf written in its place
@@ -163,7 +169,8 @@ map-others d (l ∷ ls) n h k =
     let ne : (l.page == d.page) ≡ false = ne_eqb l.page d.page (λ e. let le = k.0 in absurd (omega arith)) in
     rw ne (ap (λ xs. l ∷ xs) (map-others d ls n h k.1))
 
-set_is_put_by : (d : Leaf) (n : ℕ) (ls : List Leaf) (b : Bool) → (n == d.page) ≡ b → AreNumbered n ls → n ≤ d.page → slice_set ls (d.page - n) d ≡ map (put_in d) ls
+set_is_put_by : (d : Leaf) (n : ℕ) (ls : List Leaf) (b : Bool) → (n == d.page) ≡ b → AreNumbered n ls → n ≤ d.page
+    → slice_set ls (d.page - n) d ≡ map (put_in d) ls
 set_is_put_by d n [] b e h k = refl
 set_is_put_by d n (l ∷ ls) true e h k =
     let same : n ≡ d.page = eqb-true n d.page e in
@@ -217,15 +224,19 @@ among q (Some v) (l ∷ ls) h =
       ]
     ]
 
-absent : (q : Bytes) (ps : Pairs) (leaves : List Leaf) (page : ℕ) → All (λ p. (home p.0 leaves).page ≡ page) ps → (home q leaves).page ≢ page → find order q ps ≡ None
+absent : (q : Bytes) (ps : Pairs) (leaves : List Leaf) (page : ℕ) → All (λ p. (home p.0 leaves).page ≡ page) ps → (home q leaves).page ≢ page
+    → find order q ps ≡ None
 absent q ps leaves page h ne =
     find-none q ps (all-map (λ p. (home p.0 leaves).page ≡ page) (λ p. eq_by_cmp order q p.0 ≡ false)
     (λ p at. apart q p.0 (λ same. ne (ap (λ k. (home k leaves).page) same ∙ at))) ps h)
 
-here_or_none : (m : ℕ) (q : Bytes) (leaves : List Leaf) → AreLeaves m leaves → All (λ l. (find order q l.pairs ≡ find order q (home q leaves).pairs) ⊎ (find order q l.pairs ≡ None)) leaves
+here_or_none : (m : ℕ) (q : Bytes) (leaves : List Leaf) → AreLeaves m leaves
+    → All (λ l. (find order q l.pairs ≡ find order q (home q leaves).pairs) ⊎ (find order q l.pairs ≡ None)) leaves
 here_or_none m q leaves a =
-    all-zip (AtHome leaves) (λ l. l.page ≡ (home q leaves).page → l ≡ home q leaves) (λ l. (find order q l.pairs ≡ find order q (home q leaves).pairs) ⊎ (find order q l.pairs ≡ None))
-    (λ l at is. elim ((home q leaves).page == l.page) as (λ b. ((home q leaves).page == l.page) ≡ b → (find order q l.pairs ≡ find order q (home q leaves).pairs) ⊎ (find order q l.pairs ≡ None)) [
+    all-zip (AtHome leaves) (λ l. l.page ≡ (home q leaves).page → l ≡ home q leaves)
+        (λ l. (find order q l.pairs ≡ find order q (home q leaves).pairs) ⊎ (find order q l.pairs ≡ None))
+    (λ l at is. elim ((home q leaves).page == l.page) as
+        (λ b. ((home q leaves).page == l.page) ≡ b → (find order q l.pairs ≡ find order q (home q leaves).pairs) ⊎ (find order q l.pairs ≡ None)) [
       | true ↦ λ e. inl (ap (λ (x : Leaf). find order q x.pairs) (is (sym (eqb-true _ _ e))))
       | false ↦ λ e. inr (absent q l.pairs leaves l.page at (eqb-false _ _ e))
     ] refl)

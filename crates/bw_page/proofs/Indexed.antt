@@ -1,6 +1,7 @@
 -- The index of lows tells a key's home.
 
-use Rattle.std.proofs.Common.{◌≡◌, ℕ, zero, suc, ◌-◌, ◌<◌, ◌≤◌, arith, Bool, true, false, cond, Option, Some, None, IsSome, List, [], ◌∷◌, length, drop, get_or, refl, sym, ap, ◌∙◌, subst}
+use Rattle.std.proofs.Common.{◌≡◌, ℕ, zero, suc, ◌-◌, ◌<◌, ◌≤◌, arith, Bool, true, false, cond, Option, Some, None, IsSome, List, [], ◌∷◌, length, drop, get_or}
+use Rattle.std.proofs.Common.{refl, sym, ap, ◌∙◌, subst}
 use Rattle.std.specs.List.{AllByRecursion as All, slice_get}
 use Rattle.std.specs.Option.{IsSomeAnd}
 use Rattle.std.specs.Ordering.{eq_by_cmp, is_eq, is_gt}
@@ -46,14 +47,18 @@ best-stays q x [] h = refl
 best-stays q x (l ∷ ls) h = elim (picks q x l) [ second u b e ↦ absurd (h.0 u) | first f e ↦ ap (λ y. best q y ls) e ∙ best-stays q x ls h.1 ]
 
 -- where no low of another page is up to the key, its home is page 1
-pub none_below_is_first : (m : ℕ) (q : Bytes) (leaves : List Leaf) → AreLeaves m leaves → ((low : Bytes) → UpTo low q → find order low (lows_of (drop 1 leaves)) ≡ None) → 1 ≡ (home q leaves).page
+pub none_below_is_first : (m : ℕ) (q : Bytes) (leaves : List Leaf) → AreLeaves m leaves
+    → ((low : Bytes) → UpTo low q → find order low (lows_of (drop 1 leaves)) ≡ None) → 1 ≡ (home q leaves).page
 none_below_is_first m q [] a h = absurd a.first
 none_below_is_first m q (x ∷ xs) a h =
     sym (ap (λ (l : Leaf). l.page) (best-stays q x xs
-    (all-map (λ l. IsSome (find order l.low (lows_of xs))) (λ l. UpTo l.low q → ⊥) (λ l some u. let none = h l.low u in let some_none : IsSome {T = ℕ} None = subst (λ (o : Option ℕ). IsSome o) none some in absurd (cc)) xs (lows_found xs))) ∙ a.pages.0)
+    (all-map (λ l. IsSome (find order l.low (lows_of xs))) (λ l. UpTo l.low q → ⊥)
+        (λ l some u. let none = h l.low u in let some_none : IsSome {T = ℕ} None = subst (λ (o : Option ℕ). IsSome o) none some in absurd (cc)) xs
+        (lows_found xs))) ∙ a.pages.0)
 
 -- the greatest low up to the key is that of its home
-pub last_below : (m : ℕ) (q low : Bytes) (page : ℕ) (leaves : List Leaf) → AreLeaves m leaves → UpTo low q → find order low (lows_of (drop 1 leaves)) ≡ Some page
+pub last_below : (m : ℕ) (q low : Bytes) (page : ℕ) (leaves : List Leaf) → AreLeaves m leaves → UpTo low q
+    → find order low (lows_of (drop 1 leaves)) ≡ Some page
     → ((k : Bytes) → UpTo k q → IsSome (find order k (lows_of (drop 1 leaves))) → UpTo k low) → page ≡ (home q leaves).page
 last_below m q low page [] a u e h = absurd a.first
 last_below m q low page (x ∷ xs) a u e h =
@@ -88,12 +93,14 @@ each_at leaves h =
 
 pub home_takes : (m : ℕ) (q : Bytes) (leaves : List Leaf) → AreLeaves m leaves → TakesKey q leaves (home q leaves).page
 home_takes m q leaves a =
-    subst (λ (o : Option Leaf). IsSomeAnd o (HasGreatestLow q leaves)) (sym (home-all (λ l. leaf_at l.page leaves ≡ Some l) q leaves a.first (each_at leaves a.pages)))
+    subst (λ (o : Option Leaf). IsSomeAnd o (HasGreatestLow q leaves))
+        (sym (home-all (λ l. leaf_at l.page leaves ≡ Some l) q leaves a.first (each_at leaves a.pages)))
     (home-low q leaves a.first, home-max q leaves)
 
 -- ---- what a range of the index tells
 
-module _ (m : ℕ) (q : Bytes) (leaves : List Leaf) (a : AreLeaves m leaves) (got : Bytes → Option ℕ) (index : (k : Bytes) → got k ≡ find order k (lows_of (drop 1 leaves))) where
+module _ (m : ℕ) (q : Bytes) (leaves : List Leaf) (a : AreLeaves m leaves) (got : Bytes → Option ℕ)
+    (index : (k : Bytes) → got k ≡ find order k (lows_of (drop 1 leaves))) where
   pub empty_range : ((k : Bytes) → Unit {0} × (is_gt (order k q) ≡ false) → got k ≡ None) → 1 ≡ (home q leaves).page
   empty_range h = none_below_is_first m q leaves a (λ low u. sym (index low) ∙ h low (tt, greater_is_below low q ∙ u))
 

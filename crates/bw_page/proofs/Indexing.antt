@@ -1,6 +1,7 @@
 -- The index of lows is built from the last leaf down.
 
-use Rattle.std.proofs.Common.{◌≡◌, ℕ, zero, suc, ◌+◌, ◌-◌, ◌<◌, ◌≤◌, ◌^◌, cond, Option, Some, List, [], ◌∷◌, length, drop, get_or, refl, sym, ap, ◌∙◌, arith, drop-cons, lit<}
+use Rattle.std.proofs.Common.{◌≡◌, ℕ, zero, suc, ◌+◌, ◌-◌, ◌<◌, ◌≤◌, ◌^◌, cond, Option, Some, List, [], ◌∷◌, length, drop, get_or, refl, sym, ap, ◌∙◌, arith}
+use Rattle.std.proofs.Common.{drop-cons, lit<}
 use Rattle.std.specs.List.{AllByRecursion as All}
 use Rattle.std.specs.Ordering.{is_eq}
 use Rattle.std.specs.Cmp.{eq_by_cmp_equiv}
@@ -28,7 +29,8 @@ lows_are_keys m (x ∷ xs) a =
     all-zip (λ l. (2 ≤ l.page) × (x.low ≡ l.low → x.page ≡ l.page)) (IsBase m) (λ l. IsKey l.low)
     (λ l own base. (some_length l.low (λ e. let same = own.1 (a.first ∙ sym e) in let one = a.pages.0 in let two = own.0 in absurd (omega arith)), base.low))
     xs
-    (all-zip (λ l. 2 ≤ l.page) (λ l. x.low ≡ l.low → x.page ≡ l.page) (λ l. (2 ≤ l.page) × (x.low ≡ l.low → x.page ≡ l.page)) (λ l p q. (p, q)) xs (pages_from 2 xs a.pages.1) a.lows.0.1)
+    (all-zip (λ l. 2 ≤ l.page) (λ l. x.low ≡ l.low → x.page ≡ l.page) (λ l. (2 ≤ l.page) × (x.low ≡ l.low → x.page ≡ l.page)) (λ l p q. (p, q)) xs
+        (pages_from 2 xs a.pages.1) a.lows.0.1)
     a.each.1
 
 nth-all : (P : Leaf → Type 0) (i : ℕ) (ls : List Leaf) (d : Leaf) → All P ls → i < length ls → P (get_or ls i d)
@@ -50,7 +52,8 @@ pub index-step : (leaves : List Leaf) (n : ℕ) (leaf : Leaf) (got new : Bytes �
 index-step leaves n leaf got new more within is h k q =
     let next : suc (n - 1) ≡ n = omega arith in
     let inside : n - 1 < length leaves = omega arith in
-    let split : drop (n - 1) leaves ≡ leaf ∷ drop n leaves = drop-cons leaves (n - 1) leaf inside ∙ ap (λ (l : Leaf). l ∷ drop (suc (n - 1)) leaves) (sym is) ∙ ap (λ i. leaf ∷ drop i leaves) next in
+    let split : drop (n - 1) leaves ≡ leaf ∷ drop n leaves =
+        drop-cons leaves (n - 1) leaf inside ∙ ap (λ (l : Leaf). l ∷ drop (suc (n - 1)) leaves) (sym is) ∙ ap (λ i. leaf ∷ drop i leaves) next in
     k q ∙ ap (λ v. cond (is_eq (order leaf.low q)) (Some leaf.page) v) (h q)
     ∙ ap (λ b. cond b (Some leaf.page) (find order q (lows_of (drop n leaves)))) ((eq_by_cmp_equiv order-total).symm leaf.low q)
     ∙ ap (λ (ls : List Leaf). find order q (lows_of ls)) (sym split)
@@ -69,5 +72,6 @@ some_leaf m [] a = absurd a.first
 some_leaf m (l ∷ ls) a = omega arith
 
 -- leaves with the index of their lows
-pub filed_new : (b : Inside) → (4 ≤ b.m) × (b.m ≤ 32) → AreLeaves b.m b.leaves.items → ((q : Bytes) → tree.get order b.index q ≡ find order q (lows_of (drop 1 b.leaves.items))) → IsFiled b
+pub filed_new : (b : Inside) → (4 ≤ b.m) × (b.m ≤ 32) → AreLeaves b.m b.leaves.items
+    → ((q : Bytes) → tree.get order b.index q ≡ find order q (lows_of (drop 1 b.leaves.items))) → IsFiled b
 filed_new b limit lawful index = record { limit = limit; count = count_fits b.m b.leaves.items lawful; lawful = lawful; index = index }

@@ -1,6 +1,7 @@
 -- What a record displaced puts back what there was; and a journal does so for a list of records.
 
-use Rattle.std.proofs.Common.{◌≡◌, ℕ, ◌+◌, ◌-◌, ◌<◌, ◌≤◌, true, false, cond, Option, Some, None, List, [], ◌∷◌, ◌++◌, map, length, take, drop, get_or, refl, sym, ap, ◌∙◌, subst, arith, length-append, nat_le}
+use Rattle.std.proofs.Common.{◌≡◌, ℕ, ◌+◌, ◌-◌, ◌<◌, ◌≤◌, true, false, cond, Option, Some, None, List, [], ◌∷◌, ◌++◌, map, length, take, drop, get_or, refl}
+use Rattle.std.proofs.Common.{sym, ap, ◌∙◌, subst, arith, length-append, nat_le}
 use Rattle.std.specs.Prelude.{slice_set}
 use Rattle.std.specs.Ordering.{eq_by_cmp}
 use Rattle.std.specs.FinMap.Entries.{find}
@@ -16,7 +17,7 @@ use Rattle.bw_page.specs.Leaves.{Bytes, order, home, changed, with_leaf, lower_o
 use Rattle.bw_page.specs.Lows.{lows_of}
 use Rattle.bw_page.proofs.Order.{Below, not_both, upto_empty, tied}
 use Rattle.bw_page.proofs.Homes.{put_in, set_is_put}
-use Rattle.bw_page.proofs.Applied.{Replaces, same_lows, put_leaves, Splits, new_low}
+use Rattle.bw_page.proofs.Applying.{Replaces, same_lows, put_leaves, Splits, new_low}
 use Rattle.bw_page.proofs.Law.{directed, home_base, whole_in, lower_in, upper_in, applied-whole, applied-cut}
 use Rattle.bw_page.proofs.Valued.{home_stands}
 use Rattle.bw_page.proofs.Closed.{lows-put, find-push, not_among_others}
@@ -27,14 +28,16 @@ pub data Stepped (m : ℕ) (leaves : List Leaf) (k : Bytes) (next : List Leaf) :
   whole : (x : Leaf) → Replaces m leaves k x → next ≡ map (put_in x) leaves → Stepped m leaves k next
   split : (x u : Leaf) → Replaces m leaves k x → Splits m (map (put_in x) leaves) u → next ≡ map (put_in x) leaves ++ u ∷ [] → Stepped m leaves k next
 
-pub stepped : (m : ℕ) (leaves : List Leaf) (r : Record) → 1 ≤ m → HasPage m leaves r → AreLeaves m leaves → IsOp r → Stepped m leaves (key_of r) (applied m leaves r)
+pub stepped : (m : ℕ) (leaves : List Leaf) (r : Record) → 1 ≤ m → HasPage m leaves r → AreLeaves m leaves → IsOp r
+    → Stepped m leaves (key_of r) (applied m leaves r)
 stepped m leaves r some room a op =
     let x : Leaf = changed r (home (key_of r) leaves) in
     let t = directed m leaves r a op in
     elim (nat_le (length x.pairs) m) as (λ b. nat_le (length x.pairs) m ≡ b → Stepped m leaves (key_of r) (applied m leaves r)) [
       | true ↦ λ e. let fits = leb-true _ _ e in whole x (whole_in m leaves (key_of r) x t fits) (applied-whole m leaves r some a op fits)
       | false ↦ λ e. let over = leb-false _ _ e in
-          split (lower_of m x) (upper_of m (length leaves + 1) x) (lower_in m leaves (key_of r) x some t) (upper_in m leaves (key_of r) x some a t over (room over)) (applied-cut m leaves r some a op over)
+          split (lower_of m x) (upper_of m (length leaves + 1) x) (lower_in m leaves (key_of r) x some t)
+              (upper_in m leaves (key_of r) x some a t over (room over)) (applied-cut m leaves r some a op over)
     ] refl
 
 -- ---- put back
@@ -86,11 +89,14 @@ module _ (m : ℕ) (leaves : List Leaf) (k : Bytes) (a : AreLeaves m leaves) whe
   pub new_key : (next : List Leaf) (d : Leaf) → Stepped m leaves k next → length leaves < length next → IsKey (get_or next (length leaves) d).low
   new_key next d (whole x h e) more = let l = same-length x leaves in let n : length next ≡ length (map (put_in x) leaves) = ap length e in absurd (omega arith)
   new_key next d (split x u h s e) more =
-      subst (λ (y : Leaf). IsKey y.low) (sym (ap (λ ls. get_or ls (length leaves) d) e ∙ last_is x u d)) (low_some u.low (home u.low (map (put_in x) leaves)).low s.above, s.base.low)
+      subst (λ (y : Leaf). IsKey y.low) (sym (ap (λ ls. get_or ls (length leaves) d) e ∙ last_is x u d))
+          (low_some u.low (home u.low (map (put_in x) leaves)).low s.above, s.base.low)
 
-  forgotten : (q low : Bytes) (page : ℕ) (found : Option ℕ) → (q ≡ low → found ≡ None) → cond (eq_by_cmp order q low) None (cond (eq_by_cmp order q low) (Some page) found) ≡ found
+  forgotten : (q low : Bytes) (page : ℕ) (found : Option ℕ) → (q ≡ low → found ≡ None)
+      → cond (eq_by_cmp order q low) None (cond (eq_by_cmp order q low) (Some page) found) ≡ found
   forgotten q low page found h =
-      elim (eq_by_cmp order q low) as (λ b. eq_by_cmp order q low ≡ b → cond b None (cond b (Some page) found) ≡ found) [ true ↦ λ e. sym (h (tied q low e)) | false ↦ λ e. refl ] refl
+      elim (eq_by_cmp order q low) as (λ b. eq_by_cmp order q low ≡ b → cond b None (cond b (Some page) found) ≡ found)
+          [ true ↦ λ e. sym (h (tied q low e)) | false ↦ λ e. refl ] refl
 
   -- the index without the new low is that of the old leaves
   pub index_back : (next : List Leaf) (d : Leaf) (old new : Bytes → Option ℕ) → Stepped m leaves k next
@@ -112,6 +118,8 @@ module _ (m : ℕ) (leaves : List Leaf) (k : Bytes) (a : AreLeaves m leaves) whe
       let kept = lows-put x leaves (same_lows m leaves k x a h) in
       less (omega arith) q
       ∙ ap (λ (y : Leaf). cond (eq_by_cmp order q y.low) None (old q)) (ap (λ ls. get_or ls (length leaves) d) e ∙ last_is x u d)
-      ∙ ap (λ v. cond (eq_by_cmp order q u.low) None v) (is q ∙ ap (λ (ls : List Leaf). find order q (lows_of (drop 1 ls))) e ∙ find-push q (map (put_in x) leaves) u lowers.first new_one)
-      ∙ forgotten q u.low u.page (find order q (lows_of (drop 1 (map (put_in x) leaves)))) (λ is_low. ap (λ b. find order b (lows_of (drop 1 (map (put_in x) leaves)))) is_low ∙ not_among_others u.low (map (put_in x) leaves) new_one)
+      ∙ ap (λ v. cond (eq_by_cmp order q u.low) None v)
+          (is q ∙ ap (λ (ls : List Leaf). find order q (lows_of (drop 1 ls))) e ∙ find-push q (map (put_in x) leaves) u lowers.first new_one)
+      ∙ forgotten q u.low u.page (find order q (lows_of (drop 1 (map (put_in x) leaves))))
+          (λ is_low. ap (λ b. find order b (lows_of (drop 1 (map (put_in x) leaves)))) is_low ∙ not_among_others u.low (map (put_in x) leaves) new_one)
       ∙ ap (find order q) kept

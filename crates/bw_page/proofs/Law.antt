@@ -1,6 +1,7 @@
 -- The law of the split rule: leaves stay lawful, and all pairs of all pages are the plain map.
 
-use Rattle.std.proofs.Common.{◌≡◌, ◌≢◌, ℕ, ◌+◌, ◌/◌, ◌<◌, ◌≤◌, ◌^◌, true, false, cond, List, [], ◌∷◌, ◌++◌, map, length, take, drop, refl, sym, ap, ◌∙◌, subst, arith, nat_le, lit≤, lit<}
+use Rattle.std.proofs.Common.{◌≡◌, ◌≢◌, ℕ, ◌+◌, ◌/◌, ◌<◌, ◌≤◌, ◌^◌, true, false, cond, List, [], ◌∷◌, ◌++◌, map, length, take, drop, refl, sym, ap, ◌∙◌, subst}
+use Rattle.std.proofs.Common.{arith, nat_le, lit≤, lit<}
 use Rattle.std.proofs.Common.{length-take, length-drop}
 use Rattle.std.proofs.lemmas.List.{length-map}
 use Rattle.std.specs.Prelude.{◌==◌}
@@ -16,11 +17,15 @@ use Rattle.bw_codec.specs.Record.{key_of}
 use Rattle.bw_codec.specs.declared.leaf.Leaf.{Leaf}
 use Rattle.bw_codec.specs.declared.record.Record.{Record}
 use Rattle.bw_codec.specs.declared.record.Record.TheVariants.{Put, Del}
-use Rattle.bw_page.specs.Leaves.{Bytes, order, empty_leaf, home, changed, changed_map, AtHome, AreLeaves, HasPage, HasPages, lower_of, upper_of, applied, pages, union, plain}
+use Rattle.bw_page.specs.Leaves.{Bytes, order, empty_leaf, home, changed, changed_map, AtHome, AreLeaves, HasPage, HasPages, lower_of, upper_of, applied, pages}
+use Rattle.bw_page.specs.Leaves.{union, plain}
 use Rattle.bw_page.proofs.Order.{Below, UpTo, order-total, upto-below, apart}
-use Rattle.bw_page.proofs.Sorted.{all-map, all-zip, all-take, all-drop, Rises, ascends_rises, rises_ascends, rises-take, rises-drop, first-all, lower_below, upper_from, find-lower, find-upper, rises-changed, value_of, find-changed, get-changed, HoldsOfNew, all-changed, length-changed}
+use Rattle.bw_page.proofs.Sorted.{all-map, all-zip, all-take, all-drop, Rises, ascends_rises, rises_ascends, rises-take, rises-drop, first-all, lower_below}
+use Rattle.bw_page.proofs.Sorted.{upper_from, find-lower, find-upper, rises-changed, value_of, find-changed, get-changed, HoldsOfNew, all-changed}
+use Rattle.bw_page.proofs.Sorted.{length-changed}
 use Rattle.bw_page.proofs.Homes.{home-all, home-low, same_home, put_in, set_is_put, pairs_of, find-home}
-use Rattle.bw_page.proofs.Applied.{Replaces, home-put_here, home-put_elsewhere, put_leaves, Splits, home-push_lower, home-push_upper, home-push_elsewhere, push_leaves}
+use Rattle.bw_page.proofs.Applying.{Replaces, home-put_here, home-put_elsewhere, put_leaves, Splits, home-push_lower, home-push_upper, home-push_elsewhere}
+use Rattle.bw_page.proofs.Applying.{push_leaves}
 
 -- a leaf that was changed at the home of k
 pub record Directed (m : ℕ) (leaves : List Leaf) (k : Bytes) (d : Leaf) : Type 0 where
@@ -89,7 +94,8 @@ lower_in m leaves k d some t = record {
   homes = all-take (λ p. home p.0 leaves ≡ home k leaves) ((m + 1) / 2) d.pairs t.keys;
 }
 
-module _ (m : ℕ) (leaves : List Leaf) (k : Bytes) (d : Leaf) (some : 1 ≤ m) (a : AreLeaves m leaves) (t : Directed m leaves k d) (over : m < length d.pairs) where
+module _ (m : ℕ) (leaves : List Leaf) (k : Bytes) (d : Leaf) (some : 1 ≤ m) (a : AreLeaves m leaves) (t : Directed m leaves k d)
+    (over : m < length d.pairs) where
   pub cut_within : (m + 1) / 2 < length d.pairs
   cut_within = let lies = half_lies m some in omega arith
 
@@ -100,13 +106,15 @@ module _ (m : ℕ) (leaves : List Leaf) (k : Bytes) (d : Leaf) (some : 1 ≤ m) 
   lower_some = let long = length-take ((m + 1) / 2) d.pairs in let lies = half_lies m some in let within = cut_within in omega arith
 
   low_home : home (first_key (drop ((m + 1) / 2) d.pairs)) leaves ≡ home k leaves
-  low_home = first-all (λ q. home q leaves ≡ home k leaves) (drop ((m + 1) / 2) d.pairs) upper_some (all-drop (λ p. home p.0 leaves ≡ home k leaves) ((m + 1) / 2) d.pairs t.keys)
+  low_home = first-all (λ q. home q leaves ≡ home k leaves) (drop ((m + 1) / 2) d.pairs) upper_some
+      (all-drop (λ p. home p.0 leaves ≡ home k leaves) ((m + 1) / 2) d.pairs t.keys)
 
   -- the low of the upper part is above that of the lower part, which has a pair
   pub cut_over : Below d.low (first_key (drop ((m + 1) / 2) d.pairs))
   cut_over =
       first-all (λ q. Below d.low (first_key (drop ((m + 1) / 2) d.pairs))) (take ((m + 1) / 2) d.pairs) lower_some
-      (all-zip (λ p. home p.0 leaves ≡ home k leaves) (λ p. Below p.0 (first_key (drop ((m + 1) / 2) d.pairs))) (λ p. Below d.low (first_key (drop ((m + 1) / 2) d.pairs)))
+      (all-zip (λ p. home p.0 leaves ≡ home k leaves) (λ p. Below p.0 (first_key (drop ((m + 1) / 2) d.pairs)))
+          (λ p. Below d.low (first_key (drop ((m + 1) / 2) d.pairs)))
       (λ p is below. upto-below d.low p.0 (first_key (drop ((m + 1) / 2) d.pairs))
       (subst (λ (low : Bytes). UpTo low p.0) (ap (λ (x : Leaf). x.low) is ∙ sym t.low) (home-low p.0 leaves a.first)) below)
       (take ((m + 1) / 2) d.pairs)
@@ -124,15 +132,18 @@ module _ (m : ℕ) (leaves : List Leaf) (k : Bytes) (d : Leaf) (some : 1 ≤ m) 
     page = ap (λ n. n + 1) (sym (length-map leaves (put_in (lower_of m d))));
     base = record {
       page = (omega arith, room);
-      low = first-all (λ q. length q ≤ 64) (drop ((m + 1) / 2) d.pairs) upper_some (all-map IsPair (λ p. length p.0 ≤ 64) (λ p is. is.0.1) (drop ((m + 1) / 2) d.pairs) (all-drop IsPair ((m + 1) / 2) d.pairs t.pairs));
+      low = first-all (λ q. length q ≤ 64) (drop ((m + 1) / 2) d.pairs) upper_some
+          (all-map IsPair (λ p. length p.0 ≤ 64) (λ p is. is.0.1) (drop ((m + 1) / 2) d.pairs) (all-drop IsPair ((m + 1) / 2) d.pairs t.pairs));
       count = (let long = length-drop ((m + 1) / 2) d.pairs in let lies = half_lies m some in let few = t.few in omega arith);
       pairs = all-drop IsPair ((m + 1) / 2) d.pairs t.pairs;
       ascends = rises_ascends (drop ((m + 1) / 2) d.pairs) (rises-drop ((m + 1) / 2) d.pairs t.rises);
     };
     above = subst (λ (x : Leaf). Below x.low (first_key (drop ((m + 1) / 2) d.pairs))) (sym cut_here) cut_over;
-    lower = subst (λ (x : Leaf). All (λ p. Below p.0 (first_key (drop ((m + 1) / 2) d.pairs))) x.pairs) (sym cut_here) (lower_below ((m + 1) / 2) d.pairs cut_within t.rises);
+    lower = subst (λ (x : Leaf). All (λ p. Below p.0 (first_key (drop ((m + 1) / 2) d.pairs))) x.pairs) (sym cut_here)
+        (lower_below ((m + 1) / 2) d.pairs cut_within t.rises);
     from = upper_from ((m + 1) / 2) d.pairs t.rises;
-    homes = all-map (λ p. home p.0 leaves ≡ home k leaves) (λ p. home p.0 (map (put_in (lower_of m d)) leaves) ≡ home (first_key (drop ((m + 1) / 2) d.pairs)) (map (put_in (lower_of m d)) leaves))
+    homes = all-map (λ p. home p.0 leaves ≡ home k leaves)
+        (λ p. home p.0 (map (put_in (lower_of m d)) leaves) ≡ home (first_key (drop ((m + 1) / 2) d.pairs)) (map (put_in (lower_of m d)) leaves))
         (λ p is. lower_here p.0 is ∙ sym cut_here) (drop ((m + 1) / 2) d.pairs) (all-drop (λ p. home p.0 leaves ≡ home k leaves) ((m + 1) / 2) d.pairs t.keys);
   }
 
@@ -144,13 +155,15 @@ pub record Tells (m : ℕ) (leaves : List Leaf) (r : Record) (next : List Leaf) 
   pub finds : (q : Bytes) → find order q (home q next).pairs ≡ cond (eq_by_cmp order q (key_of r)) (value_of r) (find order q (home q leaves).pairs)
 
 -- where a key has another home, nothing is found otherwise
-elsewhere : (leaves next : List Leaf) (r : Record) (q : Bytes) → (home q leaves).page ≢ (home (key_of r) leaves).page → home q next ≡ home q leaves → find order q (home q next).pairs ≡ cond (eq_by_cmp order q (key_of r)) (value_of r) (find order q (home q leaves).pairs)
+elsewhere : (leaves next : List Leaf) (r : Record) (q : Bytes) → (home q leaves).page ≢ (home (key_of r) leaves).page → home q next ≡ home q leaves
+    → find order q (home q next).pairs ≡ cond (eq_by_cmp order q (key_of r)) (value_of r) (find order q (home q leaves).pairs)
 elsewhere leaves next r q ne same =
     ap (λ (l : Leaf). find order q l.pairs) same
     ∙ ap (λ b. cond b (value_of r) (find order q (home q leaves).pairs)) (sym (apart q (key_of r) (λ e. ne (ap (λ k. (home k leaves).page) e))))
 
 -- where it has the same home, the changed leaf tells
-at_home : (m : ℕ) (leaves : List Leaf) (r : Record) (q : Bytes) → AreLeaves m leaves → home q leaves ≡ home (key_of r) leaves → find order q (changed r (home (key_of r) leaves)).pairs ≡ cond (eq_by_cmp order q (key_of r)) (value_of r) (find order q (home q leaves).pairs)
+at_home : (m : ℕ) (leaves : List Leaf) (r : Record) (q : Bytes) → AreLeaves m leaves → home q leaves ≡ home (key_of r) leaves
+    → find order q (changed r (home (key_of r) leaves)).pairs ≡ cond (eq_by_cmp order q (key_of r)) (value_of r) (find order q (home q leaves).pairs)
 at_home m leaves r q a same =
     find-changed q r (home (key_of r) leaves).pairs (ascends_rises (home (key_of r) leaves).pairs (home_base m leaves (key_of r) a).ascends)
     ∙ ap (λ (l : Leaf). cond (eq_by_cmp order q (key_of r)) (value_of r) (find order q l.pairs)) (sym same)
@@ -161,7 +174,9 @@ module _ (m : ℕ) (leaves : List Leaf) (r : Record) (some : 1 ≤ m) (a : AreLe
       → ((home q leaves).page ≢ (home (key_of r) leaves).page → home q next ≡ home q leaves)
       → find order q (home q next).pairs ≡ cond (eq_by_cmp order q (key_of r)) (value_of r) (find order q (home q leaves).pairs)
   here q next f g =
-      elim ((home q leaves).page == (home (key_of r) leaves).page) as (λ b. ((home q leaves).page == (home (key_of r) leaves).page) ≡ b → find order q (home q next).pairs ≡ cond (eq_by_cmp order q (key_of r)) (value_of r) (find order q (home q leaves).pairs)) [
+      elim ((home q leaves).page == (home (key_of r) leaves).page) as
+          (λ b. ((home q leaves).page == (home (key_of r) leaves).page) ≡ b
+          → find order q (home q next).pairs ≡ cond (eq_by_cmp order q (key_of r)) (value_of r) (find order q (home q leaves).pairs)) [
         | true ↦ λ e. let same = same_home leaves q (key_of r) a.first a.pages (eqb-true _ _ e) in f same ∙ at_home m leaves r q a same
         | false ↦ λ e. elsewhere leaves next r q (eqb-false _ _ e) (g (eqb-false _ _ e))
       ] refl
@@ -177,7 +192,8 @@ module _ (m : ℕ) (leaves : List Leaf) (r : Record) (some : 1 ≤ m) (a : AreLe
       }
 
   cut-tells : m < length (changed r (home (key_of r) leaves)).pairs → length leaves + 1 < 2 ^ 32
-      → Tells m leaves r (map (put_in (lower_of m (changed r (home (key_of r) leaves)))) leaves ++ upper_of m (length leaves + 1) (changed r (home (key_of r) leaves)) ∷ [])
+      → Tells m leaves r (map (put_in (lower_of m (changed r (home (key_of r) leaves)))) leaves
+          ++ upper_of m (length leaves + 1) (changed r (home (key_of r) leaves)) ∷ [])
   cut-tells over room =
       let x : Leaf = changed r (home (key_of r) leaves) in
       let t = directed m leaves r a op in
@@ -194,13 +210,15 @@ module _ (m : ℕ) (leaves : List Leaf) (r : Record) (some : 1 ≤ m) (a : AreLe
             (λ same.
             let lower = lower_here m leaves (key_of r) x some a t over q same in
             elim (is_below q low) as (λ b. is_below q low ≡ b → find order q (home q (parts ++ u ∷ [])).pairs ≡ find order q x.pairs) [
-              | true ↦ λ e. ap (λ (l : Leaf). find order q l.pairs) (home-push_lower m parts u lowers up q e ∙ lower) ∙ find-lower q ((m + 1) / 2) x.pairs t.rises e
+              | true ↦ λ e. ap (λ (l : Leaf). find order q l.pairs) (home-push_lower m parts u lowers up q e ∙ lower)
+                  ∙ find-lower q ((m + 1) / 2) x.pairs t.rises e
               | false ↦ λ e. ap (λ (l : Leaf). find order q l.pairs) (home-push_upper m parts u lowers up q e (lower ∙ sym cut_at))
                   ∙ find-upper q ((m + 1) / 2) x.pairs (cut_within m leaves (key_of r) x some a t over) t.rises e
             ] refl)
             (λ ne.
             let other = home-put_elsewhere m leaves (key_of r) (lower_of m x) a into q ne in
-            home-push_elsewhere m parts u lowers up q (λ e. ne (sym (ap (λ (l : Leaf). l.page) other) ∙ e ∙ ap (λ (l : Leaf). l.page) cut_at ∙ t.page)) ∙ other);
+            home-push_elsewhere m parts u lowers up q
+                (λ e. ne (sym (ap (λ (l : Leaf). l.page) other) ∙ e ∙ ap (λ (l : Leaf). l.page) cut_at ∙ t.page)) ∙ other);
       }
 
   -- the two forms that leaves take after a record
@@ -209,14 +227,16 @@ module _ (m : ℕ) (leaves : List Leaf) (r : Record) (some : 1 ≤ m) (a : AreLe
       rw (le-leb _ m fits) (set_is_put (changed r (home (key_of r) leaves)) leaves a.pages (directed m leaves r a op).number.0)
 
   pub applied-cut : m < length (changed r (home (key_of r) leaves)).pairs
-      → applied m leaves r ≡ map (put_in (lower_of m (changed r (home (key_of r) leaves)))) leaves ++ upper_of m (length leaves + 1) (changed r (home (key_of r) leaves)) ∷ []
+      → applied m leaves r ≡ map (put_in (lower_of m (changed r (home (key_of r) leaves)))) leaves
+          ++ upper_of m (length leaves + 1) (changed r (home (key_of r) leaves)) ∷ []
   applied-cut over =
       rw (lt-leb _ m over) (ap (λ ls. ls ++ upper_of m (length leaves + 1) (changed r (home (key_of r) leaves)) ∷ [])
       (set_is_put (lower_of m (changed r (home (key_of r) leaves))) leaves a.pages (directed m leaves r a op).number.0))
 
   applied-tells : HasPage m leaves r → Tells m leaves r (applied m leaves r)
   applied-tells room =
-      elim (nat_le (length (changed r (home (key_of r) leaves)).pairs) m) as (λ b. nat_le (length (changed r (home (key_of r) leaves)).pairs) m ≡ b → Tells m leaves r (applied m leaves r)) [
+      elim (nat_le (length (changed r (home (key_of r) leaves)).pairs) m) as
+          (λ b. nat_le (length (changed r (home (key_of r) leaves)).pairs) m ≡ b → Tells m leaves r (applied m leaves r)) [
         | true ↦ λ e. let fits = leb-true _ _ e in subst (Tells m leaves r) (sym (applied-whole fits)) (whole-tells fits)
         | false ↦ λ e. let over = leb-false _ _ e in subst (Tells m leaves r) (sym (applied-cut over)) (cut-tells over (room over))
       ] refl
@@ -232,9 +252,11 @@ module _ (m : ℕ) (leaves : List Leaf) (r : Record) (some : 1 ≤ m) (room : Ha
       get-from_entries order-total (pairs_of (applied m leaves r)) q
       ∙ find-home m q (applied m leaves r) applied-lawful
       ∙ (applied-tells m leaves r some a op room).finds q
-      ∙ sym (get-changed (union leaves) r q ∙ ap (λ v. cond (eq_by_cmp order q (key_of r)) (value_of r) v) (get-from_entries order-total (pairs_of leaves) q ∙ find-home m q leaves a)))
+      ∙ sym (get-changed (union leaves) r q ∙ ap (λ v. cond (eq_by_cmp order q (key_of r)) (value_of r) v)
+          (get-from_entries order-total (pairs_of leaves) q ∙ find-home m q leaves a)))
 
-pub pages-plain : (m : ℕ) (leaves : List Leaf) (rs : List Record) → 1 ≤ m → HasPages m leaves rs → AreLeaves m leaves → All IsOp rs → AreLeaves m (pages m leaves rs) × (union (pages m leaves rs) ≡ plain leaves rs)
+pub pages-plain : (m : ℕ) (leaves : List Leaf) (rs : List Record) → 1 ≤ m → HasPages m leaves rs → AreLeaves m leaves → All IsOp rs
+    → AreLeaves m (pages m leaves rs) × (union (pages m leaves rs) ≡ plain leaves rs)
 pages-plain m leaves [] some room a ops = (a, refl)
 pages-plain m leaves (r ∷ rs) some room a ops =
     let rest = pages-plain m (applied m leaves r) rs some room.1 (applied-lawful m leaves r some room.0 a ops.0) ops.1 in

@@ -4,7 +4,7 @@ pub mod Rows
 pub mod Order
 pub mod Sorted
 pub mod Homes
-pub mod Applied
+pub mod Applying
 pub mod Law
 pub mod Indexed
 pub mod Valued
@@ -17,3 +17,4 @@ pub mod Journals
 pub mod Runs
 pub mod PutBack
 pub mod Steps
+pub mod Seating

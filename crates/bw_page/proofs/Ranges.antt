@@ -35,13 +35,15 @@ homes_ranges m leaves a = record {
 }
 
 -- a key in a leaf's range has it as its home
-between_home : (leaves : List Leaf) (l : Leaf) (q : Bytes) → BeginsEmpty leaves → LiesBetween leaves l q → (UpTo l.low q → UpTo l.low (home q leaves).low) → All (λ y. l.low ≡ y.low → l.page ≡ y.page) leaves
+between_home : (leaves : List Leaf) (l : Leaf) (q : Bytes) → BeginsEmpty leaves → LiesBetween leaves l q → (UpTo l.low q → UpTo l.low (home q leaves).low)
+    → All (λ y. l.low ≡ y.low → l.page ≡ y.page) leaves
     → (home q leaves).page ≡ l.page
 between_home leaves l q b between max own =
     let over : UpTo l.low (home q leaves).low = max between.0 in
     let under : UpTo (home q leaves).low l.low =
     must_not (is_below l.low (home q leaves).low) (λ more.
-    not_both (is_below q (home q leaves).low) (home-all (λ y. IsTrue (is_below l.low y.low) → IsTrue (is_below q y.low)) q leaves b between.1 more) (home-low q leaves b)) in
+    not_both (is_below q (home q leaves).low) (home-all (λ y. IsTrue (is_below l.low y.low) → IsTrue (is_below q y.low)) q leaves b between.1 more)
+        (home-low q leaves b)) in
     sym (home-all (λ y. l.low ≡ y.low → l.page ≡ y.page) q leaves b own (upto-antisymm l.low (home q leaves).low over under))
 
 pub ranges_homes : (m : ℕ) (leaves : List Leaf) → AreRanged m leaves → AreLeaves m leaves
@@ -50,7 +52,8 @@ ranges_homes m leaves a = record {
   first = a.first;
   lows = a.lows;
   each = a.each;
-  homes = all-zip (λ l. All (λ p. LiesBetween leaves l p.0) l.pairs) (λ l. ((q : Bytes) → UpTo l.low q → UpTo l.low (home q leaves).low) × All (λ y. l.low ≡ y.low → l.page ≡ y.page) leaves) (AtHome leaves)
+  homes = all-zip (λ l. All (λ p. LiesBetween leaves l p.0) l.pairs)
+      (λ l. ((q : Bytes) → UpTo l.low q → UpTo l.low (home q leaves).low) × All (λ y. l.low ≡ y.low → l.page ≡ y.page) leaves) (AtHome leaves)
       (λ l between known. all-map (λ p. LiesBetween leaves l p.0) (λ p. (home p.0 leaves).page ≡ l.page)
       (λ p h. between_home leaves l p.0 a.first h (known.0 p.0) known.1) l.pairs between)
       leaves a.ranges

@@ -28,11 +28,13 @@ journal-push : (f : Filed) (rs : List Record) (r : Record) → journal_of f (rs 
 journal-push f [] r = refl
 journal-push f (x ∷ rs) r = ap (λ us. undo_of f x ∷ us) (journal-push (after_record f x) rs r)
 
-has-push : (m : ℕ) (leaves : List Leaf) (rs : List Record) (r : Record) → HasPages m leaves rs → HasPage m (pages m leaves rs) r → HasPages m leaves (rs ++ r ∷ [])
+has-push : (m : ℕ) (leaves : List Leaf) (rs : List Record) (r : Record) → HasPages m leaves rs → HasPage m (pages m leaves rs) r
+    → HasPages m leaves (rs ++ r ∷ [])
 has-push m leaves [] r h k = (k, tt)
 has-push m leaves (x ∷ rs) r h k = (h.0, has-push m (applied m leaves x) rs r h.1 k)
 
-has-front : (m : ℕ) (leaves : List Leaf) (rs : List Record) (r : Record) → HasPages m leaves (rs ++ r ∷ []) → HasPages m leaves rs × HasPage m (pages m leaves rs) r
+has-front : (m : ℕ) (leaves : List Leaf) (rs : List Record) (r : Record) → HasPages m leaves (rs ++ r ∷ [])
+    → HasPages m leaves rs × HasPage m (pages m leaves rs) r
 has-front m leaves [] r h = (tt, h.0)
 has-front m leaves (x ∷ rs) r h = let rest = has-front m (applied m leaves x) rs r h.1 in ((h.0, rest.0), rest.1)
 
@@ -40,10 +42,12 @@ all-front : {X : Type 0} (P : X → Type 0) (xs : List X) (x : X) → All P (xs 
 all-front P [] x h = (tt, h.0)
 all-front P (y ∷ ys) x h = let rest = all-front P ys x h.1 in ((h.0, rest.0), rest.1)
 
-pub ran_more : (start now next : Filed) (rs : List Record) (r : Record) (us : List Undo) (u : Undo) → Ran start rs now us → IsOp r → HasPage now.m now.leaves r → next ≡ after_record now r → u ≡ undo_of now r
+pub ran_more : (start now next : Filed) (rs : List Record) (r : Record) (us : List Undo) (u : Undo) → Ran start rs now us → IsOp r → HasPage now.m now.leaves r
+    → next ≡ after_record now r → u ≡ undo_of now r
     → Ran start (rs ++ r ∷ []) next (us ++ u ∷ [])
 ran_more start now next rs r us u h op room e d = record {
   some = h.some;
+  here = h.here;
   lawful = h.lawful;
   ops = all-push IsOp rs r h.ops op;
   room = has-push start.m start.leaves rs r h.room (subst (λ (f : Filed). HasPage f.m f.leaves r) h.is room);
@@ -58,7 +62,8 @@ back_one now u n =
     ap (λ f. undone f u) n.is
     ∙ ap (undone (after_record n.before n.change)) n.displaced
     ∙ ap (λ (ls : List Leaf). let g : Filed = record n.before { leaves = ls } in g)
-    (goes_back n.before.m n.before.leaves (key_of n.change) n.lawful (applied n.before.m n.before.leaves n.change) (stepped n.before.m n.before.leaves n.change n.some n.room n.lawful n.op))
+    (goes_back n.before.m n.before.leaves (key_of n.change) n.lawful (applied n.before.m n.before.leaves n.change)
+        (stepped n.before.m n.before.leaves n.change n.some n.room n.lawful n.op))
 
 -- the newest record of a journal
 pub record Last (f : Filed) (rs : List Record) (us : List Undo) (u : Undo) : Type 0 where
@@ -68,7 +73,8 @@ pub record Last (f : Filed) (rs : List Record) (us : List Undo) (u : Undo) : Typ
   older : us ≡ journal_of f front
   newest : u ≡ undo_of (run f front) change
 
-last-more : (f : Filed) (r : Record) (rs : List Record) (us : List Undo) (v u : Undo) → v ≡ undo_of f r → Last (after_record f r) rs us u → Last f (r ∷ rs) (v ∷ us) u
+last-more : (f : Filed) (r : Record) (rs : List Record) (us : List Undo) (v u : Undo) → v ≡ undo_of f r → Last (after_record f r) rs us u
+    → Last f (r ∷ rs) (v ∷ us) u
 last-more f r rs us v u e l = record {
   front = r ∷ l.front;
   change = l.change;
@@ -87,13 +93,15 @@ last f (r ∷ rs) (v ∷ us) u e =
     let tail : us ++ u ∷ [] ≡ journal_of (after_record f r) rs = cc in
     last-more f r rs us v u head (last (after_record f r) rs us u tail)
 
-ran_front : (start : Filed) (rs : List Record) (now : Filed) (us : List Undo) (u : Undo) → Ran start rs now (us ++ u ∷ []) → (l : Last start rs us u) → Ran start l.front (run start l.front) us
+ran_front : (start : Filed) (rs : List Record) (now : Filed) (us : List Undo) (u : Undo) → Ran start rs now (us ++ u ∷ []) → (l : Last start rs us u)
+    → Ran start l.front (run start l.front) us
 ran_front start rs now us u h l =
     let ops = all-front IsOp l.front l.change (subst (All IsOp) l.all h.ops) in
     let room = has-front start.m start.leaves l.front l.change (subst (HasPages start.m start.leaves) l.all h.room) in
-    record { some = h.some; lawful = h.lawful; ops = ops.0; room = room.0; is = refl; displaced = l.older }
+    record { some = h.some; here = h.here; lawful = h.lawful; ops = ops.0; room = room.0; is = refl; displaced = l.older }
 
-pub newest_is : (start : Filed) (rs : List Record) (now : Filed) (us : List Undo) (u : Undo) → Ran start rs now (us ++ u ∷ []) → (l : Last start rs us u) → IsNewest now u
+pub newest_is : (start : Filed) (rs : List Record) (now : Filed) (us : List Undo) (u : Undo) → Ran start rs now (us ++ u ∷ [])
+    → (l : Last start rs us u) → IsNewest now u
 newest_is start rs now us u h l =
     let ops = all-front IsOp l.front l.change (subst (All IsOp) l.all h.ops) in
     let room = has-front start.m start.leaves l.front l.change (subst (HasPages start.m start.leaves) l.all h.room) in
@@ -101,6 +109,7 @@ newest_is start rs now us u h l =
       before = run start l.front;
       change = l.change;
       some = h.some;
+      here = h.here;
       lawful = (pages-plain start.m start.leaves l.front h.some room.0 h.lawful ops.0).0;
       op = ops.1;
       room = room.1;
@@ -120,22 +129,25 @@ pub all_undone-push : (f : Filed) (us : List Undo) (u : Undo) → all_undone f (
 all_undone-push f [] u = refl
 all_undone-push f (v ∷ us) u = ap (λ x. undone x v) (all_undone-push f us u)
 
-all_back_by : (start : Filed) (rs : List Record) → 1 ≤ start.m → AreLeaves start.m start.leaves → All IsOp rs → HasPages start.m start.leaves rs → all_undone (run start rs) (journal_of start rs) ≡ start
-all_back_by start [] some a ops room = refl
-all_back_by start (r ∷ rs) some a ops room =
+all_back_by : (start : Filed) (rs : List Record) → 1 ≤ start.m → start.away ≡ [] → AreLeaves start.m start.leaves → All IsOp rs
+    → HasPages start.m start.leaves rs → all_undone (run start rs) (journal_of start rs) ≡ start
+all_back_by start [] some here a ops room = refl
+all_back_by start (r ∷ rs) some here a ops room =
     let lawful = applied-lawful start.m start.leaves r some room.0 a ops.0 in
-    ap (λ f. undone f (undo_of start r)) (all_back_by (after_record start r) rs some lawful ops.1 room.1)
-    ∙ back_one (after_record start r) (undo_of start r) (record { before = start; change = r; some = some; lawful = a; op = ops.0; room = room.0; is = refl; displaced = refl })
+    ap (λ f. undone f (undo_of start r)) (all_back_by (after_record start r) rs some here lawful ops.1 room.1)
+    ∙ back_one (after_record start r) (undo_of start r)
+        (record { before = start; change = r; some = some; here = here; lawful = a; op = ops.0; room = room.0; is = refl; displaced = refl })
 
 -- all records taken back
 pub all_back : (start : Filed) (rs : List Record) (now : Filed) (us : List Undo) → Ran start rs now us → all_undone now us ≡ start
 all_back start rs now us h =
-    (λ i. all_undone (h.is i) (h.displaced i)) ∙ all_back_by start rs h.some h.lawful h.ops h.room
+    (λ i. all_undone (h.is i) (h.displaced i)) ∙ all_back_by start rs h.some h.here h.lawful h.ops h.room
 
 pub run-plain : (start : Filed) (rs : List Record) (now : Filed) (us : List Undo) → Ran start rs now us → union now.leaves ≡ plain start.leaves rs
 run-plain start rs now us h = ap (λ (f : Filed). union f.leaves) h.is ∙ (pages-plain start.m start.leaves rs h.some h.room h.lawful h.ops).1
 
-has_at : (m : ℕ) (leaves : List Leaf) (rs : List Record) (k : ℕ) (r : Record) → HasPages m leaves rs → slice_get rs k ≡ Some r → HasPage m (pages m leaves (take k rs)) r
+has_at : (m : ℕ) (leaves : List Leaf) (rs : List Record) (k : ℕ) (r : Record) → HasPages m leaves rs → slice_get rs k ≡ Some r
+    → HasPage m (pages m leaves (take k rs)) r
 has_at m leaves [] k r h e = absurd (cc)
 has_at m leaves (x ∷ rs) zero r h e = let same : x ≡ r = cc in subst (HasPage m leaves) same h.0
 has_at m leaves (x ∷ rs) (suc k) r h e = has_at m (applied m leaves x) rs k r h.1 e

@@ -1,6 +1,7 @@
 -- Pairs in the order of their keys: cut, searched and changed.
 
-use Rattle.std.proofs.Common.{◌≡◌, ℕ, zero, suc, ◌+◌, ◌<◌, ◌≤◌, Bool, true, false, cond, not, ◌&&◌, Option, Some, None, List, [], ◌∷◌, ◌++◌, length, take, drop, IsTrue, refl, sym, ap, ◌∙◌, subst, arith, T}
+use Rattle.std.proofs.Common.{◌≡◌, ℕ, zero, suc, ◌+◌, ◌<◌, ◌≤◌, Bool, true, false, cond, not, ◌&&◌, Option, Some, None, List, [], ◌∷◌, ◌++◌, length, take, drop}
+use Rattle.std.proofs.Common.{IsTrue, refl, sym, ap, ◌∙◌, subst, arith, T}
 use Rattle.std.specs.List.{AllByRecursion as All}
 use Rattle.std.specs.Ordering.{is_lt, is_eq, eq_by_cmp}
 use Rattle.std.specs.Cmp.{eq_by_cmp_equiv}
@@ -161,11 +162,13 @@ find-back q (suc n) (p ∷ ps) h = find-back q n ps h.1 ∙ sym (ap (λ b. cond 
 
 pub find-lower : (q : Bytes) (n : ℕ) (ps : Pairs) → Rises ps → Below q (first_key (drop n ps)) → find order q (take n ps) ≡ find order q ps
 find-lower q n ps r b =
-    find-front q n ps (all-map (λ p. UpTo (first_key (drop n ps)) p.0) (λ p. eq_by_cmp order q p.0 ≡ false) (λ p u. below_apart q p.0 (below-upto q _ p.0 b u)) (drop n ps) (upper_from n ps r))
+    find-front q n ps (all-map (λ p. UpTo (first_key (drop n ps)) p.0) (λ p. eq_by_cmp order q p.0 ≡ false) (λ p u. below_apart q p.0 (below-upto q _ p.0 b u))
+        (drop n ps) (upper_from n ps r))
 
 pub find-upper : (q : Bytes) (n : ℕ) (ps : Pairs) → n < length ps → Rises ps → UpTo (first_key (drop n ps)) q → find order q (drop n ps) ≡ find order q ps
 find-upper q n ps h r u =
-    find-back q n ps (all-map (λ p. Below p.0 (first_key (drop n ps))) (λ p. eq_by_cmp order q p.0 ≡ false) (λ p b. above_apart q p.0 (below-upto p.0 _ q b u)) (take n ps) (lower_below n ps h r))
+    find-back q n ps (all-map (λ p. Below p.0 (first_key (drop n ps))) (λ p. eq_by_cmp order q p.0 ≡ false) (λ p b. above_apart q p.0 (below-upto p.0 _ q b u))
+        (take n ps) (lower_below n ps h r))
 
 -- ---- changed
 
@@ -180,7 +183,8 @@ kept_above key (p ∷ ps) h = rw (below_apart key p.0 h.0) (ap (λ xs. p ∷ xs)
 without_is : (key : Bytes) (ps : Pairs) → Rises ps → without key ps ≡ where_key order (other key) ps
 without_is key [] r = refl
 without_is key (p ∷ ps) r =
-    elim (order key p.0) as (λ o. order key p.0 ≡ o → by_order o (p ∷ ps) ps (p ∷ without key ps) ≡ cond (not (is_eq o)) (p ∷ where_key order (other key) ps) (where_key order (other key) ps)) [
+    elim (order key p.0) as (λ o. order key p.0 ≡ o
+        → by_order o (p ∷ ps) ps (p ∷ without key ps) ≡ cond (not (is_eq o)) (p ∷ where_key order (other key) ps) (where_key order (other key) ps)) [
       | Less ↦ λ e. ap (λ xs. p ∷ xs) (sym (kept_above key ps (below_next key p ps (ap is_lt e) r.0)))
       | Equal ↦ λ e. sym (subst (λ k. where_key order (other k) ps ≡ ps) (sym (order-same key p.0 e)) (kept_above p.0 ps r.0))
       | Greater ↦ λ e. ap (λ xs. p ∷ xs) (without_is key ps r.1)
@@ -202,7 +206,8 @@ turned false x y = refl
 same_test : (key q : Bytes) → eq_by_cmp order key q ≡ eq_by_cmp order q key
 same_test key q = (eq_by_cmp_equiv order-total).symm key q
 
-pub find-changed : (q : Bytes) (r : Record) (ps : Pairs) → Rises ps → find order q (changed_pairs r ps) ≡ cond (eq_by_cmp order q (key_of r)) (value_of r) (find order q ps)
+pub find-changed : (q : Bytes) (r : Record) (ps : Pairs) → Rises ps
+    → find order q (changed_pairs r ps) ≡ cond (eq_by_cmp order q (key_of r)) (value_of r) (find order q ps)
 find-changed q (Put key value) ps h = find-put order order-total q key value ps
 find-changed q (Del key) ps h =
     ap (find order q) (without_is key ps h)

@@ -15,7 +15,8 @@ filter-none : (s : Bytes) (ps : Pairs) → All (λ p. UpTo s p.0) ps → filter 
 filter-none s [] h = refl
 filter-none s (p ∷ ps) h = rw h.0 (filter-none s ps h.1)
 
-filter-take : (s : Bytes) (n : ℕ) (ps : Pairs) → All (λ p. Below p.0 s) (take n ps) → All (λ p. UpTo s p.0) (drop n ps) → filter (λ p. is_below p.0 s) ps ≡ take n ps
+filter-take : (s : Bytes) (n : ℕ) (ps : Pairs) → All (λ p. Below p.0 s) (take n ps) → All (λ p. UpTo s p.0) (drop n ps)
+    → filter (λ p. is_below p.0 s) ps ≡ take n ps
 filter-take s zero ps h k = filter-none s ps k
 filter-take s (suc n) [] h k = refl
 filter-take s (suc n) (p ∷ ps) h k = rw h.0 (ap (λ xs. p ∷ xs) (filter-take s n ps h.1 k))
@@ -24,7 +25,8 @@ filter-take s (suc n) (p ∷ ps) h k = rw h.0 (ap (λ xs. p ∷ xs) (filter-take
 pub kept-lower : (m page : ℕ) (leaf : Leaf) → (m + 1) / 2 < length leaf.pairs → Rises leaf.pairs → kept_below (upper_of m page leaf).low leaf ≡ lower_of m leaf
 kept-lower m page leaf within r =
     ap (λ (ps : Pairs). record leaf { pairs = ps })
-    (filter-take (first_key (drop ((m + 1) / 2) leaf.pairs)) ((m + 1) / 2) leaf.pairs (lower_below ((m + 1) / 2) leaf.pairs within r) (upper_from ((m + 1) / 2) leaf.pairs r))
+    (filter-take (first_key (drop ((m + 1) / 2) leaf.pairs)) ((m + 1) / 2) leaf.pairs (lower_below ((m + 1) / 2) leaf.pairs within r)
+        (upper_from ((m + 1) / 2) leaf.pairs r))
 
 slice_get-map : (f : Leaf → Leaf) (ls : List Leaf) (n : ℕ) → slice_get (map f ls) n ≡ option_map f (slice_get ls n)
 slice_get-map f [] n = refl

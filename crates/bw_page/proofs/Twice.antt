@@ -39,12 +39,15 @@ find-after q [] ps h = refl
 find-after q (r ∷ rs) ps h = find-after q rs (changed_pairs r ps) (rises-changed r ps h) ∙ ap (told_of q rs) (find-changed q r ps h)
 
 -- records say nothing of a key, or one word whatever was there
-one_word : (q : Bytes) (records : List Record) → ((v : Option Bytes) → told_of q records v ≡ v) ⊎ ((w : Option Bytes) × ((v : Option Bytes) → told_of q records v ≡ w))
+one_word : (q : Bytes) (records : List Record)
+    → ((v : Option Bytes) → told_of q records v ≡ v) ⊎ ((w : Option Bytes) × ((v : Option Bytes) → told_of q records v ≡ w))
 one_word q [] = inl (λ v. refl)
 one_word q (r ∷ rs) =
     elim (one_word q rs) [
       | inr word ↦ inr (word.0, λ v. word.1 (cond (eq_by_cmp order q (key_of r)) (value_of r) v))
-      | inl none ↦ elim (eq_by_cmp order q (key_of r)) as (λ b. eq_by_cmp order q (key_of r) ≡ b → ((v : Option Bytes) → told_of q (r ∷ rs) v ≡ v) ⊎ ((w : Option Bytes) × ((v : Option Bytes) → told_of q (r ∷ rs) v ≡ w))) [
+      | inl none ↦ elim (eq_by_cmp order q (key_of r)) as
+          (λ b. eq_by_cmp order q (key_of r) ≡ b → ((v : Option Bytes) → told_of q (r ∷ rs) v ≡ v)
+          ⊎ ((w : Option Bytes) × ((v : Option Bytes) → told_of q (r ∷ rs) v ≡ w))) [
         | true ↦ λ e. inr (value_of r, λ v. none (cond (eq_by_cmp order q (key_of r)) (value_of r) v) ∙ ap (λ b. cond b (value_of r) v) e)
         | false ↦ λ e. inl (λ v. none (cond (eq_by_cmp order q (key_of r)) (value_of r) v) ∙ ap (λ b. cond b (value_of r) v) e)
       ] refl

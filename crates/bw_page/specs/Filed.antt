@@ -1,18 +1,34 @@
 -- What callers see of `Leaves`, and what its calls say.
 
-use Rattle.std.specs.Prelude.{ℕ, ◌+◌, ◌^◌, ◌<◌, ◌≡◌, false, List, length}
+use Rattle.std.specs.Prelude.{ℕ, ◌+◌, ◌^◌, ◌<◌, ◌≡◌, Bool, false, if◌then◌else◌, nat_le, Option, None, Some, List, length}
 use Rattle.std.specs.List.{AllByRecursion}
 use Rattle.std.specs.Option.{IsSomeAnd}
 use Rattle.bw_codec.specs.Bytes.{is_below}
 use Rattle.bw_codec.specs.Record.{key_of}
 use Rattle.bw_codec.specs.declared.leaf.Leaf.{Leaf}
 use Rattle.bw_codec.specs.declared.record.Record.{Record}
+use Rattle.bw_page.specs.declared.leaves.Applied.{Applied}
 use Rattle.bw_page.specs.Leaves.{Bytes, home, changed, leaf_at, applied, pages}
+use Rattle.bw_page.specs.Seats.{is_among}
 
 -- leaves of at most m pairs each
 pub record Filed : Type 0 where
   pub m : ℕ
   pub leaves : List Leaf
+  -- the pages that are not in memory, ascending
+  pub away : List ℕ
+
+-- a page is not in memory; a page that there is not is not away
+abbrev pub is_away : ℕ → Filed → Bool
+is_away page f = is_among page f.away
+
+-- the leaf of a page, if there is one in memory
+abbrev pub leaf_here : ℕ → Filed → Option Leaf
+leaf_here page f = if is_away page f then None else leaf_at page f.leaves
+
+-- the page at which a record of a key is directed is in memory
+abbrev pub IsHere : Bytes → Filed → Type 0
+IsHere key f = is_away (home key f.leaves).page f ≡ false
 
 -- after one record, and after several
 abbrev pub after_record : Filed → Record → Filed
@@ -20,6 +36,13 @@ after_record f r = record f { leaves = applied f.m f.leaves r }
 
 abbrev pub run : Filed → List Record → Filed
 run f records = record f { leaves = pages f.m f.leaves records }
+
+-- the page that a record is directed at, and the one that it makes, if it does
+abbrev pub applied_by : Filed → Record → Applied
+applied_by f r = record {
+  page = (home (key_of r) f.leaves).page;
+  made = if nat_le (length (changed r (home (key_of r) f.leaves)).pairs) f.m then None else Some (length f.leaves + 1);
+}
 
 -- the record makes a page for which there is no number
 abbrev pub IsSpent : Filed → Record → Type 0

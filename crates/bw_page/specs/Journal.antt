@@ -30,6 +30,7 @@ all_undone f (u ∷ us) = undone (all_undone f us) u
 -- leaves after records, with what these displaced
 pub record Ran (start : Filed) (records : List Record) (now : Filed) (journal : List Undo) : Type 0 where
   pub some : 1 ≤ start.m
+  pub here : start.away ≡ []
   pub lawful : AreLeaves start.m start.leaves
   pub ops : AllByRecursion IsOp records
   pub room : HasPages start.m start.leaves records
@@ -45,6 +46,7 @@ pub record IsNewest (now : Filed) (undo : Undo) : Type 0 where
   pub before : Filed
   pub change : Record
   pub some : 1 ≤ before.m
+  pub here : before.away ≡ []
   pub lawful : AreLeaves before.m before.leaves
   pub op : IsOp change
   pub room : HasPage before.m before.leaves change

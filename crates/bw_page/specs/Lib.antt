@@ -12,3 +12,5 @@ pub mod Journal
 pub mod Batch
 pub mod Cutting
 pub mod Laws
+pub mod Seats
+pub mod Seating

@@ -1,6 +1,6 @@
 -- A page in memory: links of a chain, newest first, over a whole page or over a place in the log.
 
-use Rattle.std.specs.Prelude.{ℕ, Bool, true, false, Option, Some, None, List, [], ◌∷◌}
+use Rattle.std.specs.Prelude.{ℕ, ◌+◌, Bool, true, false, Option, Some, None, List, [], ◌∷◌}
 use Rattle.std.specs.Option.{option_map, unwrap_or}
 use Rattle.bw_codec.specs.declared.block.Place.{Place}
 use Rattle.bw_codec.specs.declared.leaf.Leaf.{Leaf}
@@ -28,6 +28,12 @@ abbrev pub told : List Link → Leaf → Leaf
 told [] leaf = leaf
 told (Delta r ∷ links) leaf = changed r (told links leaf)
 told (Flushed place ∷ links) leaf = told links leaf
+
+-- how many records there are
+abbrev pub count_deltas : List Link → ℕ
+count_deltas [] = 0
+count_deltas (Delta r ∷ links) = count_deltas links + 1
+count_deltas (Flushed place ∷ links) = count_deltas links
 
 -- the page, where the log has `below`
 abbrev pub content_of : Chained → Leaf → Leaf

@@ -9,7 +9,7 @@ use Rattle.bw_page.specs.Filed.{Filed}
 use Rattle.bw_page.specs.Lows.{lows_of}
 
 abbrev pub view_of : Inside → Filed
-view_of a = record { m = a.m; leaves = a.leaves.items }
+view_of a = record { m = a.m; leaves = a.leaves.items; away = a.leaves.away }
 
 pub record IsFiled (a : Inside) : Type 0 where
   pub limit : (4 ≤ a.m) × (a.m ≤ 32)

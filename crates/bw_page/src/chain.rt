@@ -3,7 +3,7 @@
 ghost use Rattle.std.specs.Prelude.{◌≡◌, ◌<◌, ◌≤◌, ◌-◌, true, [], ◌∷◌, None, length, is_some, IsTrue, IsOk, IfOk, IfSome, OnOk, OnErr};
 ghost use Rattle.std.specs.List.{list_any};
 ghost use Rattle.bw_codec.specs.declared.leaf.Leaf.{Leaf as LeafValue};
-ghost use Rattle.bw_page.specs.Links.{content_of, log_end, is_flushed, evicted, consolidated, after_evict, after_consolidate, marked_content};
+ghost use Rattle.bw_page.specs.Links.{count_deltas, content_of, log_end, is_flushed, evicted, consolidated, after_evict, after_consolidate, marked_content};
 ghost use Rattle.bw_page.specs.Marks.{mark_after};
 
 use crate::changes::change;
@@ -59,6 +59,7 @@ impl Chain {
     pub fn whole(alloc: Global, leaf: Leaf) -> Chain
         ensures links { result.links ≡ [] }
         ensures end { result.end ≡ End.Whole leaf }
+        ensures room { result.room ≡ 2 }
     {
         Chain {
             links: SmallVec::new(alloc),
@@ -70,6 +71,7 @@ impl Chain {
     pub fn on_log(alloc: Global, place: Place) -> Chain
         ensures links { result.links ≡ [] }
         ensures end { result.end ≡ End.OnLog place }
+        ensures room { result.room ≡ 2 }
     {
         Chain {
             links: SmallVec::new(alloc),
@@ -110,6 +112,19 @@ impl Chain {
     {
         self.links.push(Link::Flushed(place))?;
         Ok(())
+    }
+
+    /// How many records stand in the chain.
+    pub fn deltas(&self) -> usize
+        ensures { result ≡ count_deltas self.now.links }
+    {
+        let mut count = 0;
+        for link in self.links.as_slice() {
+            if let Link::Delta(_) = link {
+                count += 1;
+            }
+        }
+        count
     }
 
     /// The place in the log that the chain ends on, if it does not end in a whole page.
@@ -161,6 +176,16 @@ impl Chain {
             }
             None => false,
         }
+    }
+
+    /// The log has the page at this place: no link stands above it any longer. No memory is taken.
+    pub fn rest_on(&mut self, place: Place)
+        ensures links { self.new.links ≡ [] }
+        ensures end { self.new.end ≡ End.OnLog place }
+        ensures room { self.old.room ≤ self.new.room }
+    {
+        self.links.clear();
+        self.end = End::OnLog(place);
     }
 
     /// Puts the whole page in the place of what stands below the newest link, where that is a

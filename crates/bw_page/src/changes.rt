@@ -1,11 +1,13 @@
 //! One leaf and one record.
 
-ghost use Rattle.std.specs.Prelude.{◌≡◌, length, OnOk, OnErr};
-ghost use Rattle.bw_page.specs.Leaves.{changed, changed_pairs};
+ghost use Rattle.std.specs.Prelude.{◌≡◌, length, OnOk, OnErr, IsTrue};
+ghost use Rattle.std.specs.FinMap.Entries.{find};
+ghost use Rattle.bw_codec.specs.Bytes.{ascends};
+ghost use Rattle.bw_page.specs.Leaves.{order, empty_leaf, changed, changed_pairs};
 ghost use Rattle.bw_page.specs.Seek.{seek_of, IsWithin};
 
-use bw_codec::{Key, Leaf, Pairs, Record, Value};
-use std::alloc::AllocError;
+use bw_codec::{Key, Leaf, Low, Pairs, Record, Value};
+use std::alloc::{AllocError, Global};
 use std::cmp::Ordering;
 
 /// The index of a key, or where it would stand. Whole keys are compared, as bytes.
@@ -23,8 +25,15 @@ pub(crate) fn find_key(pairs: &[(Key, Value)], key: &[u8]) -> Result<usize, usiz
     Err(pairs.len())
 }
 
+/// How many pairs a leaf has after a record, found without changing it.
+pub fn count_after(leaf: &Leaf, change: &Record) -> usize
+    ensures { result ≡ length (changed change.now leaf.now).pairs }
+{
+    count_in(leaf.pairs.as_slice(), change)
+}
+
 /// How many pairs there are after a record.
-pub(crate) fn count_after(pairs: &[(Key, Value)], change: &Record) -> usize
+fn count_in(pairs: &[(Key, Value)], change: &Record) -> usize
     ensures { result ≡ length (changed_pairs change.now pairs.now) }
 {
     let found = find_key(pairs, change.key().as_slice());
@@ -63,5 +72,28 @@ pub fn change(leaf: &mut Leaf, change: &Record) -> Result<(), AllocError>
             }
             Ok(())
         }
+    }
+}
+
+/// The value of a key on a page, if it has one there. No memory is taken.
+pub fn value_in(leaf: &Leaf, key: &Key) -> Option<Value>
+    requires { IsTrue (ascends leaf.now.pairs) }
+    ensures { result ≡ find order key.now leaf.now.pairs }
+{
+    let pairs = leaf.pairs.as_slice();
+    match find_key(pairs, key.as_slice()) {
+        Ok(at) => Some(pairs[at].1.copy()),
+        Err(_) => None,
+    }
+}
+
+/// Page 1 without any pair. No memory is taken.
+pub fn empty_page(alloc: Global) -> Leaf
+    ensures { result ≡ empty_leaf }
+{
+    Leaf {
+        page: 1,
+        low: Low::of(Vec::new(alloc)),
+        pairs: Pairs::of(Vec::new(alloc)),
     }
 }

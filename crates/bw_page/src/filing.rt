@@ -1,6 +1,6 @@
 //! All leaves at once: copied, and the index of their low keys.
 
-ghost use Rattle.std.specs.Prelude.{◌≡◌, ◌≤◌, ◌<◌, ◌+◌, None, drop, take, length, slice_index_or, if◌then◌else◌, IfOk};
+ghost use Rattle.std.specs.Prelude.{◌≡◌, ◌≤◌, ◌<◌, ◌+◌, false, [], None, drop, take, length, slice_index_or, if◌then◌else◌, IfOk};
 ghost use Rattle.std.specs.List.{AllByRecursion};
 ghost use Rattle.std.specs.BTreeMap as tree;
 ghost use Rattle.std.specs.FinMap.Entries.{find};
@@ -9,18 +9,22 @@ ghost use Rattle.bw_codec.specs.Bytes.{IsKey};
 ghost use Rattle.bw_codec.specs.declared.leaf.Leaf.{Leaf as LeafValue};
 ghost use Rattle.bw_page.specs.Leaves.{Bytes, order};
 ghost use Rattle.bw_page.specs.Lows.{lows_of};
+ghost use Rattle.bw_page.specs.Seats.{is_among};
 
+use crate::seats::Seats;
 use bw_codec::{Key, Leaf};
 use std::alloc::{AllocError, Global};
 use std::collections::BTreeMap;
 
 /// The same leaves.
-pub(crate) fn copy_all(alloc: Global, leaves: &[Leaf]) -> Result<Vec<Leaf>, AllocError>
-    ensures { IfOk result (λ copy. copy.items ≡ leaves.now) }
+pub(crate) fn copy_all(alloc: Global, leaves: &Seats) -> Result<Vec<Leaf>, AllocError>
+    requires { leaves.now.away ≡ [] }
+    ensures { IfOk result (λ copy. copy.items ≡ leaves.now.items) }
 {
-    let mut copy = Vec::with_capacity(alloc, leaves.len())?;
-    for leaf in leaves {
-        copy.push(leaf.copy()?)?;
+    let count = leaves.len();
+    let mut copy = Vec::with_capacity(alloc, count)?;
+    for at in 0..count {
+        copy.push(leaves.get(at).copy()?)?;
     }
     Ok(copy)
 }
@@ -50,27 +54,27 @@ pub(crate) fn index_of(alloc: Global, leaves: &[Leaf]) -> Result<BTreeMap<Key, u
 
 /// Drops the last leaf, and its low key from the index, where there are more leaves than these. No
 /// memory is taken.
-pub(crate) fn drop_above(leaves: &mut Vec<Leaf>, index: &mut BTreeMap<Key, u32>, pages: u32)
+pub(crate) fn drop_above(leaves: &mut Seats, index: &mut BTreeMap<Key, u32>, pages: u32)
     requires over { length leaves.old.items ≤ pages + 1 }
     requires key { (d : LeafValue) → pages < length leaves.old.items
         → IsKey (slice_index_or leaves.old.items pages d).low }
+    requires here { is_among (pages + 1) leaves.old.away ≡ false }
     ensures leaves { leaves.new.items ≡ take pages leaves.old.items }
+    ensures away { leaves.new.away ≡ leaves.old.away }
     ensures kept { length leaves.old.items ≤ pages → index.new.entries ≡ index.old.entries }
     ensures dropped { (d : LeafValue) → pages < length leaves.old.items → (q : Bytes)
         → tree.get order index.new q
         ≡ (if eq_by_cmp order q (slice_index_or leaves.old.items pages d).low
         then None else tree.get order index.old q) }
 {
-    if leaves.as_slice().len() <= pages as usize {
+    if leaves.len() <= pages as usize {
         return;
     }
-    match leaves.pop() {
-        Some(upper) => match Key::new(upper.low.as_slice()) {
-            Ok(low) => {
-                let _ = index.remove(&low);
-            }
-            Err(_) => unreachable!(),
-        },
-        None => unreachable!(),
+    let upper = leaves.pop();
+    match Key::new(upper.low.as_slice()) {
+        Ok(low) => {
+            let _ = index.remove(&low);
+        }
+        Err(_) => unreachable!(),
     }
 }

@@ -3,7 +3,7 @@
 //! A record changes the page with the greatest low key not above its key. A page that then has too
 //! many pairs is cut in two, and its upper part is a new page behind all others, so no page moves.
 
-ghost use Rattle.std.specs.Prelude.{◌≡◌, ◌<◌, ◌≤◌, ◌+◌, ◌-◌, ◌^◌, [], ◌∷◌, length, IfOk, IsErr, OnOk, OnErr, IsTrue};
+ghost use Rattle.std.specs.Prelude.{ℕ, ◌≡◌, ◌==◌, ◌<◌, ◌≤◌, ◌+◌, ◌-◌, ◌^◌, [], ◌∷◌, length, true, false, Some, is_some, if◌then◌else◌, IfOk, IsErr, OnOk, OnErr, IsTrue};
 ghost use Rattle.std.specs.Option.{option_copied};
 ghost use Rattle.std.specs.FinMap as finite;
 ghost use Rattle.std.specs.FinMap.Entries.{find};
@@ -11,16 +11,17 @@ ghost use Rattle.bw_codec.specs.Bytes.{ascends};
 ghost use Rattle.bw_codec.specs.Grammar.{IsOp};
 ghost use Rattle.bw_codec.specs.Record.{key_of};
 ghost use Rattle.bw_page.specs.Leaves.{order, empty_leaf, home, leaf_at, AreLeaves, changed, HasPage, changed_map, union, plain};
-ghost use Rattle.bw_page.specs.Filed.{TakesKey, IsSpent, after_record, run};
+ghost use Rattle.bw_page.specs.Filed.{TakesKey, IsSpent, after_record, run, is_away, leaf_here, IsHere, applied_by};
 ghost use Rattle.bw_page.specs.Journal.{undo_of, undone, all_undone, IsJournal, IsNewest};
 ghost use Rattle.bw_page.specs.Batch.{SomeIsSpent};
 
-use crate::changes::{count_after, find_key};
-use crate::cutting::{change_at, cut_at};
+use crate::changes::{count_after, empty_page, find_key};
+use crate::cutting::cut_at;
 use crate::fault::ApplyError;
 use crate::filing::{copy_all, drop_above, index_of};
 use crate::journal::Undo;
-use bw_codec::{Key, Leaf, Low, Pairs, Record, Value};
+use crate::seats::Seats;
+use bw_codec::{Key, Leaf, Record, Value};
 use std::alloc::{AllocError, Global};
 use std::collections::BTreeMap;
 use std::marker::Model;
@@ -31,7 +32,7 @@ pub struct Leaves {
     /// The most pairs that a page holds.
     m: u16,
     /// Page n at index n - 1.
-    leaves: Vec<Leaf>,
+    leaves: Seats,
     /// The page of each low key but the empty one, which is that of page 1.
     index: BTreeMap<Key, u32>,
 }
@@ -48,19 +49,24 @@ impl Model for Leaves {
     ghost invariant = { IsFiled };
 }
 
+/// What a record did to the pages.
+#[derive(Debug, Drop, PartialEq, Eq)]
+pub struct Applied {
+    /// The page at which it was directed.
+    pub page: u32,
+    /// The page that it made, if that one was cut in two.
+    pub made: Option<u32>,
+}
+
 impl Leaves {
     /// Page 1 alone, without any pair. A page holds at most `m` pairs, 4 to 32. A refused growth is the
     /// only error.
     pub fn one_empty(alloc: Global, m: u16) -> Result<Leaves, AllocError>
         requires { (4 ≤ m) × (m ≤ 32) }
-        ensures { IfOk result (λ l. l ≡ record { m = m; leaves = empty_leaf ∷ [] }) }
+        ensures { IfOk result (λ l. l ≡ record { m = m; leaves = empty_leaf ∷ []; away = [] }) }
     {
-        let mut leaves = Vec::new(alloc);
-        leaves.push(Leaf {
-            page: 1,
-            low: Low::of(Vec::new(alloc)),
-            pairs: Pairs::of(Vec::new(alloc)),
-        })?;
+        let mut leaves = Seats::new(alloc);
+        leaves.push(empty_page(alloc))?;
         Ok(Leaves {
             m,
             leaves,
@@ -73,18 +79,55 @@ impl Leaves {
         ensures value { result ≡ length self.now.leaves }
         ensures lawful { AreLeaves self.now.m self.now.leaves }
         ensures limit { (4 ≤ self.now.m) × (self.now.m ≤ 32) }
+        ensures beyond { (p : ℕ) → length self.now.leaves < p → is_away p self.now ≡ false }
     {
-        self.leaves.as_slice().len() as u32
+        self.leaves.len() as u32
     }
 
-    /// The leaf of a page, if there is such a page.
+    /// The most pairs that a page holds.
+    pub fn limit(&self) -> u16
+        ensures { result ≡ self.now.m }
+    {
+        self.m
+    }
+
+    /// The leaf of a page, if there is such a page and it is not away.
     pub fn page(&self, page: u32) -> Option<&Leaf>
-        ensures { option_copied result ≡ leaf_at page self.now.leaves }
+        ensures { option_copied result ≡ leaf_here page self.now }
     {
         if page == 0 {
             return None;
         }
-        self.leaves.as_slice().get(page as usize - 1)
+        self.leaves.look(page as usize - 1)
+    }
+
+    /// Whether there is such a page and it is not away.
+    pub fn is_here(&self, page: u32) -> bool
+        ensures { result ≡ is_some (leaf_here page self.now) }
+    {
+        self.page(page).is_some()
+    }
+
+    /// Drops a page's leaf from memory. The page stays.
+    pub fn put_away(&mut self, page: u32)
+        requires { (1 ≤ page) × (page ≤ length self.old.leaves) }
+        ensures m { self.new.m ≡ self.old.m }
+        ensures leaves { self.new.leaves ≡ self.old.leaves }
+        ensures away { (p : ℕ) → is_away p self.new
+            ≡ (if p == page then true else is_away p self.old) }
+    {
+        self.leaves.put_away(page as usize - 1);
+    }
+
+    /// Takes back a page's leaf, which it has to be.
+    pub fn bring_back(&mut self, page: u32, leaf: Leaf)
+        requires { leaf_at page self.old.leaves ≡ Some leaf }
+        ensures m { self.new.m ≡ self.old.m }
+        ensures leaves { self.new.leaves ≡ self.old.leaves }
+        ensures away { (p : ℕ) → is_away p self.new
+            ≡ (if p == page then false else is_away p self.old) }
+    {
+        self.leaves.set(page as usize - 1, leaf);
     }
 
     /// The page at which a record of this key is directed.
@@ -101,6 +144,7 @@ impl Leaves {
 
     /// The value of a key, if it has one.
     pub fn get(&self, key: &Key) -> Option<Value>
+        requires { IsHere key.now self.now }
         ensures { result ≡ finite.get (union self.now.leaves) key.now }
     {
         let pairs = self.home_of(key).pairs.as_slice();
@@ -112,6 +156,7 @@ impl Leaves {
 
     /// The leaf at whose page a record of this key is directed.
     fn home_of(&self, key: &Key) -> &Leaf
+        requires { IsHere key.now self.now }
         ensures home { result.now ≡ home key.now self.now.leaves }
         ensures ascends { IsTrue (ascends result.now.pairs) }
         ensures value { finite.get (union self.now.leaves) key.now
@@ -119,8 +164,7 @@ impl Leaves {
         ensures within { (1 ≤ result.now.page) × (result.now.page ≤ length self.now.leaves) }
     {
         let page = self.find(key);
-        let leaves = self.leaves.as_slice();
-        &leaves[page as usize - 1]
+        self.leaves.get(page as usize - 1)
     }
 
     /// Changes the leaf at whose page the record is directed, and cuts it in two where it then has
@@ -128,10 +172,14 @@ impl Leaves {
     ///
     /// It costs a search among the pages and work within one page; a new page also costs what a
     /// push on a `Vec` does. A refusal changes nothing.
-    pub fn apply(&mut self, change: &Record) -> Result<(), ApplyError>
+    pub fn apply(&mut self, change: &Record) -> Result<Applied, ApplyError>
+        requires { IsHere (key_of change.now) self.old }
         ensures ok { OnOk result (self.new ≡ after_record self.old change.now) }
         ensures plain { OnOk result (union self.new.leaves
             ≡ changed_map (union self.old.leaves) change.now) }
+
+        ensures applied { IfOk result (λ a. a ≡ applied_by self.old change.now) }
+        ensures away { self.new.away ≡ self.old.away }
 
         // The page number is looked for before memory is.
         ensures spent { IsSpent self.old change.now → result ≡ Err ApplyError.Spent }
@@ -140,10 +188,13 @@ impl Leaves {
     {
         let (at, count) = self.aim(change);
         if count <= usize::from(self.m) {
-            change_at(&mut self.leaves, at, change)?;
-            return Ok(());
+            self.leaves.change(at, change)?;
+            return Ok(Applied {
+                page: at as u32 + 1,
+                made: None,
+            });
         }
-        let pages = self.leaves.as_slice().len();
+        let pages = self.leaves.len();
         if pages >= u32::MAX as usize {
             return Err(ApplyError::Spent);
         }
@@ -155,11 +206,15 @@ impl Leaves {
             change,
             pages as u32 + 1,
         )?;
-        Ok(())
+        Ok(Applied {
+            page: at as u32 + 1,
+            made: Some(pages as u32 + 1),
+        })
     }
 
     /// Where the leaf stands that the record changes, and how many pairs it would have.
     fn aim(&self, change: &Record) -> (usize, usize)
+        requires { IsHere (key_of change.now) self.now }
         ensures at { result.0 + 1 ≡ (home (key_of change.now) self.now.leaves).page }
         ensures within { result.0 < length self.now.leaves }
         ensures lawful { IsOp change.now }
@@ -167,16 +222,14 @@ impl Leaves {
             ≡ length (changed change.now (home (key_of change.now) self.now.leaves)).pairs }
     {
         let leaf = self.home_of(change.key());
-        (
-            leaf.page as usize - 1,
-            count_after(leaf.pairs.as_slice(), change),
-        )
+        (leaf.page as usize - 1, count_after(leaf, change))
     }
 
     /// Applies records one after the other, all or none: a refusal changes nothing.
     ///
     /// Beside what `apply` costs, it costs a copy of one page for each record, held until the end.
     pub fn apply_all(&mut self, records: &[Record]) -> Result<(), ApplyError>
+        requires { self.old.away ≡ [] }
         ensures ok { OnOk result (self.new ≡ run self.old records.now) }
         ensures plain { OnOk result (union self.new.leaves ≡ plain self.old.leaves records.now) }
 
@@ -186,7 +239,7 @@ impl Leaves {
         ensures only_spent { result ≡ Err ApplyError.Spent → SomeIsSpent self.old records.now }
         ensures unchanged { OnErr result (self.new ≡ self.old) }
     {
-        let mut journal = Vec::with_capacity(*self.leaves.allocator(), records.len())?;
+        let mut journal = Vec::with_capacity(self.leaves.allocator(), records.len())?;
         for record in records {
             match self.displace(record) {
                 Ok(undo) => match journal.push(undo) {
@@ -204,6 +257,7 @@ impl Leaves {
 
     /// Applies a record, and gives what takes it back. A refusal changes nothing.
     fn displace(&mut self, change: &Record) -> Result<Undo, ApplyError>
+        requires { IsHere (key_of change.now) self.old }
         ensures undo { IfOk result (λ undo. undo ≡ undo_of self.old change.now) }
         ensures ok { OnOk result (self.new ≡ after_record self.old change.now) }
         ensures lawful { IsOp change.now }
@@ -236,22 +290,15 @@ impl Leaves {
         let Undo { leaf, pages } = undo;
         drop_above(&mut self.leaves, &mut self.index, pages);
         let at = leaf.page as usize - 1;
-        let _ = self.leaves.as_slice().len();
-        self.leaves[at] = leaf;
+        self.leaves.set(at, leaf);
     }
 
     /// The same leaves. It costs all pages.
     pub fn copy(&self) -> Result<Leaves, AllocError>
+        requires { self.now.away ≡ [] }
         ensures { IfOk result (λ l. l ≡ self.now) }
     {
-        let alloc = *self.leaves.allocator();
-        let leaves = copy_all(alloc, self.leaves.as_slice())?;
-        let index = index_of(alloc, leaves.as_slice())?;
-        Ok(Leaves {
-            m: self.m,
-            leaves,
-            index,
-        })
+        Leaves::of(copy_all(self.leaves.allocator(), &self.leaves)?, self.m)
     }
 
     /// Lawful leaves, of which page n stands at index n - 1, with at most `m` pairs a page, 4 to 32. A
@@ -259,9 +306,13 @@ impl Leaves {
     pub fn of(leaves: Vec<Leaf>, m: u16) -> Result<Leaves, AllocError>
         requires limit { (4 ≤ m) × (m ≤ 32) }
         requires lawful { AreLeaves m leaves.items }
-        ensures { IfOk result (λ l. l ≡ record { m = m; leaves = leaves.items }) }
+        ensures { IfOk result (λ l. l ≡ record { m = m; leaves = leaves.items; away = [] }) }
     {
         let index = index_of(*leaves.allocator(), leaves.as_slice())?;
-        Ok(Leaves { m, leaves, index })
+        Ok(Leaves {
+            m,
+            leaves: Seats::of(leaves)?,
+            index,
+        })
     }
 }

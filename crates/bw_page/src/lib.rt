@@ -10,18 +10,20 @@
 
 pub mod chain;
 pub mod changes;
-mod cutting;
+pub mod cutting;
 pub mod fault;
 mod filing;
 mod journal;
 pub mod laws;
 pub mod leaves;
 pub mod reading;
+mod seats;
 #[cfg(test)]
 mod tests;
 
 pub use chain::{Chain, End, Link};
-pub use changes::change;
+pub use changes::{change, count_after, empty_page, value_in};
+pub use cutting::{Cut, cut_in_two};
 pub use fault::ApplyError;
-pub use leaves::Leaves;
-pub use reading::{change_all, read_block, read_blocks};
+pub use leaves::{Applied, Leaves};
+pub use reading::{change_all, keep_below, read_block, read_blocks};

@@ -22,7 +22,7 @@ pub fn change_all(leaf: Leaf, records: &[Record]) -> Result<Leaf, AllocError>
 }
 
 /// The leaf without its pairs from a key on. No memory is taken.
-fn keep_below(leaf: Leaf, separator: &[u8]) -> Leaf
+pub fn keep_below(leaf: Leaf, separator: &[u8]) -> Leaf
     ensures { result ≡ kept_below separator.now leaf }
 {
     let Leaf { page, low, pairs } = leaf;

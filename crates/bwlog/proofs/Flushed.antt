@@ -1,6 +1,7 @@
 -- What a flush writes is a segment of one frame, and that frame stands for the pages of what waited.
 
-use Rattle.std.proofs.Common.{◌≡◌, ℕ, suc, ◌+◌, ◌≤◌, ◌==◌, Some, None, true, false, List, [], ◌∷◌, ◌++◌, length, refl, sym, ap, subst, ◌∙◌, append-nil, arith, length-append, inl, lit<, lit≤}
+use Rattle.std.proofs.Common.{◌≡◌, ℕ, suc, ◌+◌, ◌≤◌, ◌==◌, Some, None, true, false, List, [], ◌∷◌, ◌++◌, length, refl, sym, ap, subst, ◌∙◌, append-nil, arith}
+use Rattle.std.proofs.Common.{length-append, inl, lit<, lit≤}
 use Rattle.std.proofs.lemmas.Bool.{le-leb, ne_eqb, eqb-true}
 use Rattle.std.specs.List.{flat_map, fold, AllByRecursion}
 use Rattle.bw_codec.specs.Grammar.{block_bytes, body_bytes, frame_bytes, header_bytes, head_bytes, IsOp, IsBlock, IsFrame, IsWhole}
@@ -45,7 +46,8 @@ length-frame frame =
     length-append (head_bytes frame.number (length (body_bytes frame.blocks)) (length frame.blocks)) (body_bytes frame.blocks)
     ∙ ap (λ n. n + length (body_bytes frame.blocks)) (length-head frame.number (length (body_bytes frame.blocks)) (length frame.blocks))
 
-lawful-frame : (m f : ℕ) (rs : List Record) → length rs ≤ 4096 → AllByRecursion IsOp rs → length (body_bytes (first_frame rs).blocks) + 20 ≤ f → IsFrame m f (first_frame rs)
+lawful-frame : (m f : ℕ) (rs : List Record) → length rs ≤ 4096 → AllByRecursion IsOp rs → length (body_bytes (first_frame rs).blocks) + 20 ≤ f
+    → IsFrame m f (first_frame rs)
 lawful-frame m f rs few each room = record {
   head = record {
     numbered = (lit≤ tt, lit< tt);
@@ -88,7 +90,8 @@ one_step m leaf d one h = rw (le-leb (length d.pairs) m h, one)
 has_pages : (m : ℕ) (leaf : Leaf) (rs : List Record) → leaf.page ≡ 1 → NeverOver m leaf rs → HasPages m (leaf ∷ []) rs
 has_pages m leaf [] one h = tt
 has_pages m leaf (r ∷ rs) one h =
-    (λ over. absurd (omega (arith, h.0)), subst (λ (ls : List Leaf). HasPages m ls rs) (sym (one_step m leaf (changed r leaf) one h.0)) (has_pages m (changed r leaf) rs one h.1))
+    (λ over. absurd (omega (arith, h.0)), subst (λ (ls : List Leaf). HasPages m ls rs) (sym (one_step m leaf (changed r leaf) one h.0))
+        (has_pages m (changed r leaf) rs one h.1))
 
 are_deltas : (i : ℕ) (rs : List Record) → AreDeltas 1 rs (deltas_from i rs)
 are_deltas i [] = tt
@@ -114,10 +117,12 @@ stands_one m rs lawful = record {
       subst (AllByRecursion (λ b. touches p b ≡ false)) (sym (blocks_alone rs)) (ne_eqb 1 p ne, untouched-deltas p 0 rs (ne_eqb 1 p ne));
 }
 
-pub stands : (m : ℕ) (rs : List Record) → 1 ≤ m → AllByRecursion IsOp rs → NeverOver m empty_leaf rs → Stand m (first_frame rs ∷ []) (pages m (empty_leaf ∷ []) rs)
+pub stands : (m : ℕ) (rs : List Record) → 1 ≤ m → AllByRecursion IsOp rs → NeverOver m empty_leaf rs
+    → Stand m (first_frame rs ∷ []) (pages m (empty_leaf ∷ []) rs)
 stands m rs some each never =
     let is = pages-one m empty_leaf rs refl never in
-    let lawful : AreLeaves m (pages m (empty_leaf ∷ []) rs) = (pages-plain m (empty_leaf ∷ []) rs some (has_pages m empty_leaf rs refl never) (one_empty-lawful m) each).0 in
+    let lawful : AreLeaves m (pages m (empty_leaf ∷ []) rs) =
+        (pages-plain m (empty_leaf ∷ []) rs some (has_pages m empty_leaf rs refl never) (one_empty-lawful m) each).0 in
     subst (Stand m (first_frame rs ∷ [])) (sym is) (stands_one m rs (subst (AreLeaves m) is lawful))
 
 -- ---- a flush
@@ -125,7 +130,8 @@ stands m rs some each never =
 pub writes_first : (m f places : ℕ) (rs left : List Record) (before body bytes : List ℕ) → AreLimits m f places → length rs ≤ places → AllByRecursion IsOp rs
     → NeverOver m empty_leaf rs → before ≡ [] → left ≡ [] → body ≡ body_bytes (first_frame rs).blocks → length body + 20 ≤ f
     → bytes ≡ header_bytes (header_of m f) ++ (head_bytes 1 (length body) (length rs + 1) ++ body)
-    → WritesFirst (record { m = m; f = f; places = places; waiting = rs; bytes = before }) (record { m = m; f = f; places = places; waiting = left; bytes = bytes })
+    → WritesFirst (record { m = m; f = f; places = places; waiting = rs; bytes = before })
+        (record { m = m; f = f; places = places; waiting = left; bytes = bytes })
 writes_first m f places rs left before body bytes limits few each never none taken e room is = record {
   first = none;
   whole = whole_segment m f places rs body bytes limits few each e room is;
@@ -149,7 +155,8 @@ is_store_after m f places rs left body bytes limits few each taken e room is = r
   };
 }
 
-pub fits_one : (m f : ℕ) (rs : List Record) (body : List ℕ) → NeverOver m empty_leaf rs → body ≡ body_bytes (first_frame rs).blocks → length body + 20 ≤ f → FitsOne m f rs
+pub fits_one : (m f : ℕ) (rs : List Record) (body : List ℕ) → NeverOver m empty_leaf rs → body ≡ body_bytes (first_frame rs).blocks
+    → length body + 20 ≤ f → FitsOne m f rs
 fits_one m f rs body never e room = record { page = never; room = omega (arith, length-frame (first_frame rs), ap length e, room) }
 
 -- ---- page 1 is there
@@ -162,10 +169,12 @@ pub something : (xs : List ℕ) → (length xs == 0) ≡ false → xs ≡ [] →
 something [] e is = cc
 something (x ∷ xs) e is = cc
 
-pub page_is_there : (m f : ℕ) (bytes : List ℕ) (frame : Frame) (blocks : List Block) → (page : IsOnePage m f bytes) → frame ≡ page.frame → blocks ≡ frame.blocks → fold (after 1) None blocks ≡ None → ⊥
+pub page_is_there : (m f : ℕ) (bytes : List ℕ) (frame : Frame) (blocks : List Block) → (page : IsOnePage m f bytes) → frame ≡ page.frame → blocks ≡ frame.blocks
+    → fold (after 1) None blocks ≡ None → ⊥
 page_is_there m f bytes frame blocks page same e none =
     let whole : content 1 (page.frame.blocks ++ []) ≡ Some page.leaf = page.read in
-    let alone : content 1 page.frame.blocks ≡ Some page.leaf = subst (λ (bs : List Block). content 1 bs ≡ Some page.leaf) (append-nil page.frame.blocks) whole in
+    let alone : content 1 page.frame.blocks ≡ Some page.leaf =
+        subst (λ (bs : List Block). content 1 bs ≡ Some page.leaf) (append-nil page.frame.blocks) whole in
     let both : blocks ≡ page.frame.blocks = e ∙ ap (λ (fr : Frame). fr.blocks) same in
     let there : content 1 blocks ≡ Some page.leaf = ap (content 1) both ∙ alone in
     cc

@@ -1,6 +1,7 @@
 -- Frame 1 of the first path: its blocks one after the other, its pages, and its bytes read back.
 
-use Rattle.std.proofs.Common.{◌≡◌, ℕ, suc, ◌+◌, ◌-◌, ◌<◌, ◌≤◌, Some, List, [], ◌∷◌, ◌++◌, length, get_or, take, drop, refl, sym, ap, subst, ◌∙◌, append_assoc, append-nil, add-one, drop-cons, arith, length-append, length-drop}
+use Rattle.std.proofs.Common.{◌≡◌, ℕ, suc, ◌+◌, ◌-◌, ◌<◌, ◌≤◌, Some, List, [], ◌∷◌, ◌++◌, length, get_or, take, drop, refl, sym, ap, subst, ◌∙◌, append_assoc}
+use Rattle.std.proofs.Common.{append-nil, add-one, drop-cons, arith, length-append, length-drop}
 use Rattle.std.proofs.Math.Seq.{drop-append_seam, take-length}
 use Rattle.std.specs.List.{flat_map}
 use Rattle.std.specs.Prelude.{Result, Ok, Err}
@@ -84,7 +85,8 @@ frame_there bytes h g frame whole same =
     (whole.each.0, [], part_is bytes 24 ∙ behind_header bytes h frame whole, refl)
 
 -- what reading answers is what stands there
-pub gives_it : (result : Result FrameRead CodecFault) (read : FrameRead) → Gives (λ (x : FrameRead). x) result (Some read) → (found : FrameRead) → result ≡ Ok found → found ≡ read
+pub gives_it : (result : Result FrameRead CodecFault) (read : FrameRead) → Gives (λ (x : FrameRead). x) result (Some read) → (found : FrameRead)
+    → result ≡ Ok found → found ≡ read
 gives_it (Ok x) read g found e = cc
 gives_it (Err fault) read g found e = cc
 

@@ -11,6 +11,7 @@ use std::test::Fail;
 
 fn of_keys(alloc: Global, m: u16, keys: &[&str]) -> Result<Leaves, Fail>
     requires { (4 ≤ m) × (m ≤ 32) }
+    ensures { IfOk result (λ l. l.away ≡ []) }
 {
     let mut leaves = Leaves::one_empty(alloc, m)?;
     for key in keys {
@@ -229,7 +230,9 @@ fn leaf_of(alloc: Global, page: u32, low: &[u8], key: &[u8], value: &[u8]) -> Re
 }
 
 /// Page 1 with `a`, and page 2 from `c` on with `d`.
-fn two_pages(alloc: Global) -> Result<Leaves, Fail> {
+fn two_pages(alloc: Global) -> Result<Leaves, Fail>
+    ensures { IfOk result (λ l. l.away ≡ []) }
+{
     let mut leaves = Vec::new(alloc);
     leaves.push(leaf_of(alloc, 1, b"", b"a", b"1")?)?;
     leaves.push(leaf_of(alloc, 2, b"c", b"d", b"4")?)?;
@@ -250,5 +253,27 @@ fn leaves_are_taken_as_they_come(rt: HostRuntime) -> Result<(), Fail> {
             text.as_bytes()
         );
     }
+    Ok(())
+}
+
+#[test]
+fn a_page_leaves_memory_and_comes_back(rt: HostRuntime) -> Result<(), Fail> {
+    let mut leaves = two_pages(rt.alloc())?;
+    assert_eq!(rt; leaves.count(), 2);
+    let leaf = match leaves.page(2) {
+        Some(leaf) => leaf.copy()?,
+        None => return Ok(()),
+    };
+    leaves.put_away(2);
+    assert!(rt; !leaves.is_here(2));
+    assert!(rt; leaves.is_here(1));
+    assert!(rt; leaves.page(2).is_none());
+    assert_eq!(rt; leaves.find(&Key::new(b"d")?), 2);
+    leaves.bring_back(2, leaf);
+    assert!(rt; leaves.is_here(2));
+    assert_eq!(rt;
+        shown_page(rt.alloc(), &leaves, 2)?.as_slice(),
+        b"c: d=4".as_slice()
+    );
     Ok(())
 }

@@ -13,7 +13,8 @@ overflow_add-freed c = omega (arith, out_count_le (map is_some c.args.places.now
 pub loop-i-preserved : goal.loop-i-preserved
 loop-i-preserved c = elim c.if-came_back.branch [
   | then-came_back w ↦ (
-    omega (arith, w.freed-is, c.loop-i.invariant.0, out_count-freed c.loop-i.places c.if-came_back.places c.loop-i.i _ (omega arith) (w.if-came_back.ensures refl) w.places-is),
+    omega (arith, w.freed-is, c.loop-i.invariant.0,
+        out_count-freed c.loop-i.places c.if-came_back.places c.loop-i.i _ (omega arith) (w.if-came_back.ensures refl) w.places-is),
     only_frees-freed _ c.loop-i.places c.if-came_back.places c.loop-i.i c.loop-i.invariant.1 w.places-is,
   )
   | else-came_back w ↦ rw (w.places-is, w.freed-is) c.loop-i.invariant

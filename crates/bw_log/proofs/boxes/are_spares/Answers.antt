@@ -9,7 +9,8 @@ returns-then-not-is_spare g c =
 
 pub loop-one-preserved : goal.loop-one-preserved
 loop-one-preserved g c =
-    goes_on_at _ (IsSpare c.args.f) c.args.all.now c.loop-one.one-index c.one-item.result c.loop-one-test.true c.one-item.is c.loop-one.invariant (c.if-not-is_spare.ensures.0 refl)
+    goes_on_at _ (IsSpare c.args.f) c.args.all.now c.loop-one.one-index c.one-item.result c.loop-one-test.true c.one-item.is c.loop-one.invariant
+        (c.if-not-is_spare.ensures.0 refl)
 
 pub returns : goal.returns
 returns g c = (λ _. all_taken _ (IsSpare c.args.f) c.args.all.now c.loop-one.one-index (omega arith) c.loop-one.invariant, λ _. refl)

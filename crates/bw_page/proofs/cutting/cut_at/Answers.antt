@@ -10,9 +10,10 @@ use Rattle.bw_page.proofs.cutting.cut_at.Goals as goal
 
 pub returns-clause-index : goal.returns-clause-index
 returns-clause-index c d q =
-    let leaf : c.index.result.now ≡ _ = c.index.ensures ∙ get_or_default c.args.leaves.now.items c.args.at c.index.result.now d c.requires.within in
-    let low : c.in_ok-lower.field-0.low ≡ (upper_of c.args.m c.args.page (changed c.args.item.now c.index.result.now)).low =
+    let leaf : c.get.result.now ≡ _ = c.get.ensures ∙ get_or_default c.args.leaves.now.items c.args.at c.get.result.now d c.requires.within in
+    let low : c.in_ok-lower.field-0.low ≡ (upper_of c.args.m c.args.page (changed c.args.item.now c.get.result.now)).low =
     c.in_ok-lower.ensures.low ∙ ap (λ (l : Leaf). l.low) c.in_ok-lower.ensures.upper in
     c.in_ok-insert.ensures.updates.0 q
     ∙ ap (λ b. cond b (Some c.args.page) (tree.get order c.args.index.now q)) ((eq_by_cmp_equiv order-total).symm c.in_ok-lower.field-0.low q)
-    ∙ ap (λ k. cond (eq_by_cmp order q k) (Some c.args.page) (tree.get order c.args.index.now q)) (low ∙ ap (λ (l : Leaf). (upper_of c.args.m c.args.page (changed c.args.item.now l)).low) leaf)
+    ∙ ap (λ k. cond (eq_by_cmp order q k) (Some c.args.page) (tree.get order c.args.index.now q))
+        (low ∙ ap (λ (l : Leaf). (upper_of c.args.m c.args.page (changed c.args.item.now l)).low) leaf)

@@ -1,5 +1,5 @@
 use Rattle.std.proofs.Common.{◌≡◌, take}
 use Rattle.bw_page.proofs.filing.copy_all.Given as goal
 
-abbrev pub invariant-loop-leaf : goal.invariant-loop-leaf
-invariant-loop-leaf l = l.copy.items ≡ take l.leaf-index l.leaves
+abbrev pub invariant-loop-at : goal.invariant-loop-at
+invariant-loop-at l = l.copy.items ≡ take l.at l.leaves.items

@@ -22,7 +22,9 @@ unreachable-requires-in-Ok-Tail c =
     let read = header_there c.args.bytes.now c.requires.0 c.requires.1 c.read_header.result c.requires.2 c.read_header.ensures in
     let same : c.in-Whole.header ≡ c.requires.0 = cc in
     let stands = frame_there c.args.bytes.now c.requires.0 c.in-Whole.header c.requires.1 c.requires.2 same in
-    let found : c.in-Ok-Tail.field-0 ≡ Whole c.requires.1 (length (frame_bytes c.requires.1)) = gives_it c.read_frame.result (Whole c.requires.1 (length (frame_bytes c.requires.1))) (c.read_frame.ensures.only (Whole c.requires.1 (length (frame_bytes c.requires.1))) stands) c.in-Ok-Tail.field-0 c.in-Ok-Tail.is in
+    let found : c.in-Ok-Tail.field-0 ≡ Whole c.requires.1 (length (frame_bytes c.requires.1)) =
+        gives_it c.read_frame.result (Whole c.requires.1 (length (frame_bytes c.requires.1)))
+        (c.read_frame.ensures.only (Whole c.requires.1 (length (frame_bytes c.requires.1))) stands) c.in-Ok-Tail.field-0 c.in-Ok-Tail.is in
     let no : ⊥ = cc in
     no
 
@@ -32,13 +34,16 @@ unreachable-requires-in-Err-BadBytes c =
     let same : c.in-Whole.header ≡ c.requires.0 = cc in
     let stands = frame_there c.args.bytes.now c.requires.0 c.in-Whole.header c.requires.1 c.requires.2 same in
     let bad : c.read_frame.result ≡ Err BadBytes = cc in
-    gives_no_fault c.read_frame.result (Whole c.requires.1 (length (frame_bytes c.requires.1))) (c.read_frame.ensures.only (Whole c.requires.1 (length (frame_bytes c.requires.1))) stands) bad
+    gives_no_fault c.read_frame.result (Whole c.requires.1 (length (frame_bytes c.requires.1)))
+        (c.read_frame.ensures.only (Whole c.requires.1 (length (frame_bytes c.requires.1))) stands) bad
 
 pub returns-in-Ok-Whole : goal.returns-in-Ok-Whole
 returns-in-Ok-Whole c header frame whole =
     let read = header_there c.args.bytes.now header frame c.read_header.result whole c.read_header.ensures in
     let same : c.in-Whole.header ≡ header = cc in
     let stands = frame_there c.args.bytes.now header c.in-Whole.header frame whole same in
-    let found : c.in-Ok-Whole.field-0 ≡ Whole frame (length (frame_bytes frame)) = gives_it c.read_frame.result (Whole frame (length (frame_bytes frame))) (c.read_frame.ensures.only (Whole frame (length (frame_bytes frame))) stands) c.in-Ok-Whole.field-0 c.in-Ok-Whole.is in
+    let found : c.in-Ok-Whole.field-0 ≡ Whole frame (length (frame_bytes frame)) =
+        gives_it c.read_frame.result (Whole frame (length (frame_bytes frame))) (c.read_frame.ensures.only (Whole frame (length (frame_bytes frame))) stands)
+        c.in-Ok-Whole.field-0 c.in-Ok-Whole.is in
     let is : c.in-Ok-Whole.field-0 ≡ Whole c.in-Ok-Whole.frame c.in-Ok-Whole.field-0-1 = c.in-Ok-Whole.field-0-is in
     cc

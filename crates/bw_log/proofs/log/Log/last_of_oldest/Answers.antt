@@ -9,7 +9,8 @@ returns-then-count-eq0 g c =
     let n = c.partition_point-count.result in
     let found : Found s.number c.as_slice-lines.result.now n = record {
       inside = c.partition_point-count.ensures.bound;
-      point = λ parted. IsPartitionPoint-from_clause (λ e. e.segment == s.number) c.as_slice-lines.result.now n c.partition_point-count.ensures.partitioned parted (λ a r f' h. search rules);
+      point = λ parted. IsPartitionPoint-from_clause (λ e. e.segment == s.number) c.as_slice-lines.result.now n c.partition_point-count.ensures.partitioned
+          parted (λ a r f' h. search rules);
     } in
     none_told _ _ s.live.items c.as_slice-lines.result.now n refl c.requires.some c.requires.sound c.as_slice-lines.ensures.value found c.if-count-eq0.true
 
@@ -19,7 +20,9 @@ returns g c =
     let n = c.partition_point-count.result in
     let found : Found s.number c.as_slice-lines.result.now n = record {
       inside = c.partition_point-count.ensures.bound;
-      point = λ parted. IsPartitionPoint-from_clause (λ e. e.segment == s.number) c.as_slice-lines.result.now n c.partition_point-count.ensures.partitioned parted (λ a r f' h. search rules);
+      point = λ parted. IsPartitionPoint-from_clause (λ e. e.segment == s.number) c.as_slice-lines.result.now n c.partition_point-count.ensures.partitioned
+          parted (λ a r f' h. search rules);
     } in
     let some : 0 < n = omega arith in
-    some_told _ _ s.live.items c.as_slice-lines.result.now n (record { number = 0; segment = 0; at = 0; len = 0 }) refl c.requires.some c.requires.sound c.as_slice-lines.ensures.value found some
+    some_told _ _ s.live.items c.as_slice-lines.result.now n (record { number = 0; segment = 0; at = 0; len = 0 }) refl c.requires.some c.requires.sound
+        c.as_slice-lines.ensures.value found some

@@ -1,7 +1,7 @@
 use Rattle.std.proofs.Common.{Ok, Err, refl, sym, ◌∙◌, arith}
 use Rattle.std.proofs.lemmas.Result.{err_from_is_err_and}
 use Rattle.bw_log.specs.declared.fault.LogFault.TheVariants.{NoMemory}
-use Rattle.bw_log.proofs.Fetched.{sound_after}
+use Rattle.bw_log.proofs.Fetched.{sound_after, kept_after}
 use Rattle.bw_log.proofs.Asked.{page_there}
 use Rattle.bw_log.proofs.Walked.{page_starts, some_frames, first_is, no_line, not_none, page_answer, other_as}
 use Rattle.bw_log.proofs.log.Log.read_page.Goals as goal
@@ -28,7 +28,9 @@ walk-requires-clause-starts g c =
 pub returns-in_err-frames-clause-no_page : goal.returns-in_err-frames-clause-no_page
 returns-in_err-frames-clause-no_page g c =
     let p = err_from_is_err_and c.from_residual.result c.from_residual.ensures.1 in
-    page_answer c.args.self.now.pages.items c.args.page c.from_residual.result (other_as c.from_residual.result p.0 c.in_err-frames.field-0.0 p.1 p.2 c.in_err-frames.ensures.paged) (page_there c.args.page c.args.self.now.pages.items c.in-Some.entry c.in-Some.ensures)
+    page_answer c.args.self.now.pages.items c.args.page c.from_residual.result
+        (other_as c.from_residual.result p.0 c.in_err-frames.field-0.0 p.1 p.2 c.in_err-frames.ensures.paged)
+        (page_there c.args.page c.args.self.now.pages.items c.in-Some.entry c.in-Some.ensures)
 
 pub unreachable-requires : goal.unreachable-requires
 unreachable-requires g c =
@@ -37,11 +39,16 @@ unreachable-requires g c =
 
 pub returns-in-Ok-Some-clause-no_page : goal.returns-in-Ok-Some-clause-no_page
 returns-in-Ok-Some-clause-no_page g c =
-    page_answer c.args.self.now.pages.items c.args.page (Ok c.in-Ok-Some.leaf) (λ e. cc) (page_there c.args.page c.args.self.now.pages.items c.in-Some.entry c.in-Some.ensures)
+    page_answer c.args.self.now.pages.items c.args.page (Ok c.in-Ok-Some.leaf) (λ e. cc)
+        (page_there c.args.page c.args.self.now.pages.items c.in-Some.entry c.in-Some.ensures)
 
 pub returns-in-Err-clause-no_page : goal.returns-in-Err-clause-no_page
 returns-in-Err-clause-no_page g c =
-    page_answer c.args.self.now.pages.items c.args.page (Err NoMemory) (λ e. cc) (page_there c.args.page c.args.self.now.pages.items c.in-Some.entry c.in-Some.ensures)
+    page_answer c.args.self.now.pages.items c.args.page (Err NoMemory) (λ e. cc)
+        (page_there c.args.page c.args.self.now.pages.items c.in-Some.entry c.in-Some.ensures)
 
 pub returns-in_err-frames-clause-sound : goal.returns-in_err-frames-clause-sound
 returns-in_err-frames-clause-sound g c = sound_after _ _ _ c.in_err-frames.field-0.0 c.requires c.in_err-frames.ensures.stops
+
+pub returns-in_err-frames-clause-kept : goal.returns-in_err-frames-clause-kept
+returns-in_err-frames-clause-kept g c = kept_after _ _ _ c.in_err-frames.field-0.0 c.in_err-frames.ensures.stops

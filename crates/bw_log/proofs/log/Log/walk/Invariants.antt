@@ -6,7 +6,8 @@ use Rattle.bw_log.proofs.log.Log.walk.Given as goal
 
 abbrev pub invariant-back : goal.invariant-back
 invariant-back g l = record {
-  same : seen_by (λ b. (goal.Segment-dyn g (b.vtable, b.value)).holding b.value) l.self ≡ seen_by (λ b. (goal.Segment-dyn g (b.vtable, b.value)).holding b.value) l.initial.self;
+  same : seen_by (λ b. (goal.Segment-dyn g (b.vtable, b.value)).holding b.value) l.self
+      ≡ seen_by (λ b. (goal.Segment-dyn g (b.vtable, b.value)).holding b.value) l.initial.self;
   walk : IsWalk l.page (counted (seen_by (λ b. (goal.Segment-dyn g (b.vtable, b.value)).holding b.value) l.initial.self)) l.at l.frames.items;
 }
 

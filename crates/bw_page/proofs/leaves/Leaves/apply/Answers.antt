@@ -1,14 +1,16 @@
-use Rattle.std.proofs.Common.{◌≡◌, ◌+◌, ap, refl, length, arith}
-use Rattle.bw_page.proofs.Closed.{same_filed, same_gets, over_at, Follows, follows_whole, follows_cut}
+use Rattle.std.proofs.Common.{◌+◌, ◌∙◌, ap, refl, length, arith}
+use Rattle.bw_page.specs.Filed.{Filed}
+use Rattle.bw_page.proofs.Closed.{same_filed, same_gets, over_at, Follows, follows_whole, follows_cut, whole_by, cut_by}
 use Rattle.bw_page.proofs.leaves.Leaves.apply.Goals as goal
 
 pub invariant_of-self : goal.invariant_of-self
-invariant_of-self c = same_filed c.self.inside _ c.self.invariant refl c.in_err-change_at.ensures.unchanged (λ q. refl)
+invariant_of-self c = same_filed c.self.inside _ c.self.invariant refl c.in_err-change.ensures.unchanged (λ q. refl)
 
-whole : (c : goal.In_ok-change_at) → Follows c.args.self.now c.args.change.now (record { m = c.self.inside.m; leaves = c.change_at.new.leaves; index = c.self.inside.index })
+whole : (c : goal.In_ok-change) → Follows c.args.self.now c.args.change.now
+    (record { m = c.self.inside.m; leaves = c.change.new.self; index = c.self.inside.index })
 whole c =
     follows_whole c.self.inside c.self.invariant c.args.self.now c.self.view_is c.args.change.now c.aim-at.ensures.lawful c.aim-at.result.0 c.aim-at.result.1
-    c.aim-at.ensures.at c.aim-at.ensures.pairs _ refl (let from = c.from.ensures in omega arith) c.in_ok-change_at.ensures.ok (λ q. refl)
+    c.aim-at.ensures.at c.aim-at.ensures.pairs _ refl c.change.ensures.away (let from = c.from.ensures in omega arith) c.in_ok-change.ensures.ok (λ q. refl)
 
 pub invariant_of-self-then-count-from : goal.invariant_of-self-then-count-from
 invariant_of-self-then-count-from c = (whole c).filed
@@ -26,13 +28,15 @@ cut_at-requires-clause-over c =
 
 pub invariant_of-self-in_err-cut_at : goal.invariant_of-self-in_err-cut_at
 invariant_of-self-in_err-cut_at c =
-    same_filed c.self.inside _ c.self.invariant refl c.in_err-cut_at.ensures.leaves_stay (same_gets c.self.inside.index c.cut_at.new.index c.in_err-cut_at.ensures.index_stays)
+    same_filed c.self.inside _ c.self.invariant refl c.in_err-cut_at.ensures.leaves_stay
+        (same_gets c.self.inside.index c.cut_at.new.index c.in_err-cut_at.ensures.index_stays)
 
-cut : (c : goal.In_ok-cut_at) → Follows c.args.self.now c.args.change.now (record { m = c.self.inside.m; leaves = c.cut_at.new.leaves; index = c.cut_at.new.index })
+cut : (c : goal.In_ok-cut_at) → Follows c.args.self.now c.args.change.now
+    (record { m = c.self.inside.m; leaves = c.cut_at.new.leaves; index = c.cut_at.new.index })
 cut c =
-    let list : length c.as_slice-pages.result.now ≡ length c.self.inside.leaves.items = ap length c.as_slice-pages.ensures.value in
     follows_cut c.self.inside c.self.invariant c.args.self.now c.self.view_is c.args.change.now c.aim-at.ensures.lawful c.aim-at.result.0 c.aim-at.result.1
-    c.aim-at.ensures.at c.aim-at.ensures.pairs _ (length c.as_slice-pages.result.now + 1) refl (let from = c.from.ensures in omega arith) (ap (λ n. n + 1) list) (omega arith)
+    c.aim-at.ensures.at c.aim-at.ensures.pairs _ (c.len-pages.result + 1) refl c.in_ok-cut_at.ensures.away (let from = c.from.ensures in omega arith)
+        (ap (λ n. n + 1) c.len-pages.ensures.value) (omega arith)
     c.in_ok-cut_at.ensures.leaves c.in_ok-cut_at.ensures.index
 
 pub invariant_of-self-2 : goal.invariant_of-self-2
@@ -43,3 +47,15 @@ returns-clause-ok c = (cut c).view
 
 pub returns-clause-plain : goal.returns-clause-plain
 returns-clause-plain c = (cut c).plain
+
+pub returns-then-count-from-clause-applied : goal.returns-then-count-from-clause-applied
+returns-then-count-from-clause-applied c =
+    whole_by c.args.self.now c.args.change.now (c.aim-at.result.0 + 1) c.aim-at.result.1 c.self.inside.m c.aim-at.ensures.at c.aim-at.ensures.pairs
+    (ap (λ (f : Filed). f.m) c.self.view_is) (let from = c.from.ensures in omega arith)
+
+pub returns-clause-applied : goal.returns-clause-applied
+returns-clause-applied c =
+    cut_by c.args.self.now c.args.change.now (c.aim-at.result.0 + 1) c.aim-at.result.1 c.self.inside.m (c.len-pages.result + 1) c.aim-at.ensures.at
+        c.aim-at.ensures.pairs
+    (ap (λ (f : Filed). f.m) c.self.view_is) (let from = c.from.ensures in omega arith)
+    (ap (λ n. n + 1) c.len-pages.ensures.value ∙ ap (λ (f : Filed). length f.leaves + 1) c.self.view_is)

@@ -11,16 +11,18 @@ use Rattle.bw_page.proofs.leaves.Leaves.home_of.Goals as goal
 pub returns-clause-home : goal.returns-clause-home
 returns-clause-home c =
     let lawful = subst (λ (f : Filed). AreLeaves f.m f.leaves) c.self.view_is c.self.invariant.lawful in
-    let stands = home_stands c.args.self.now.m c.args.key.now c.args.self.now.leaves lawful c.index-leaves-page.result in
-    let list : c.as_slice-leaves.result.now ≡ c.args.self.now.leaves = c.as_slice-leaves.ensures.value ∙ ap (λ (f : Filed). f.leaves) c.self.view_is in
-    cc (c.index-leaves-page.is, stands, c.find-page.ensures.directed, list)
+    let stands = home_stands c.args.self.now.m c.args.key.now c.args.self.now.leaves lawful c.get.result.now in
+    let list : c.self.inside.leaves.items ≡ c.args.self.now.leaves = ap (λ (f : Filed). f.leaves) c.self.view_is in
+    cc (c.get.ensures, stands, c.find-page.ensures.directed, list)
 
 pub returns-clause-value : goal.returns-clause-value
 returns-clause-value c =
     let lawful = subst (λ (f : Filed). AreLeaves f.m f.leaves) c.self.view_is c.self.invariant.lawful in
-    get-union c.args.self.now.m c.args.key.now c.args.self.now.leaves lawful ∙ ap (λ (l : Leaf). find order c.args.key.now l.pairs) (sym (returns-clause-home c))
+    get-union c.args.self.now.m c.args.key.now c.args.self.now.leaves lawful
+        ∙ ap (λ (l : Leaf). find order c.args.key.now l.pairs) (sym (returns-clause-home c))
 
 pub returns-clause-within : goal.returns-clause-within
 returns-clause-within c =
     let lawful = subst (λ (f : Filed). AreLeaves f.m f.leaves) c.self.view_is c.self.invariant.lawful in
-    subst (λ (l : Leaf). (1 ≤ l.page) × (l.page ≤ length c.args.self.now.leaves)) (sym (returns-clause-home c)) (home_within c.args.self.now.m c.args.key.now c.args.self.now.leaves lawful)
+    subst (λ (l : Leaf). (1 ≤ l.page) × (l.page ≤ length c.args.self.now.leaves)) (sym (returns-clause-home c))
+        (home_within c.args.self.now.m c.args.key.now c.args.self.now.leaves lawful)

@@ -1,0 +1,57 @@
+//! A log over segments that a scan found.
+
+ghost use Rattle.std.specs.Prelude.{◌≡◌, ◌+◌, ◌^◌, ◌<◌, Some, map};
+ghost use Rattle.std.specs.List.{AllByRecursion};
+ghost use Rattle.bw_log.specs.Adopting.{next_in, in_segments, adopted, IsAdoptable};
+
+use crate::log::Log;
+use crate::places::{FrameAt, Tables};
+use bw_device::Segment;
+
+// Names each line's segment by its number, and answers the number after the last line's.
+fn number_lines(lines: &mut Vec<FrameAt>, number: u64) -> Option<u64>
+    requires { AllByRecursion (λ e. number + e.segment < 2 ^ 64) lines.old.items }
+    ensures lines { lines.new.items ≡ in_segments number lines.old.items }
+    ensures next { result ≡ next_in lines.old.items }
+{
+    let mut next = Some(1);
+    for i in 0..lines.as_slice().len() {
+        let line = &mut lines[i];
+        next = line.number.checked_add(1);
+        line.segment = number + line.segment;
+    }
+    next
+}
+
+impl Log {
+    ghost use Rattle.bw_log.specs.Seen.{seen_by, IsSound};
+
+    /// A log over live segments in the order of their numbers, which a scan found whole and linked, with
+    /// tables that say where each whole frame and each page's last blocks stand. No memory is taken.
+    pub fn adopt(
+        live: Vec<Box<dyn Segment>>,
+        spares: Vec<Box<dyn Segment>>,
+        tables: Tables,
+    ) -> Log
+        requires { IsAdoptable (map holding live.items) (map holding spares.items) tables }
+        ensures made { seen_by holding result
+            ≡ adopted (map holding live.items) (map holding spares.items) tables }
+        ensures sound { IsSound holding result }
+    {
+        let Tables { m, f, number, is_open, frames, pages } = tables;
+        let mut frames = frames;
+        let next = number_lines(&mut frames, number);
+        Log {
+            live,
+            spares,
+            m,
+            f,
+            number,
+            is_open,
+            is_failed: false,
+            next,
+            frames,
+            pages,
+        }
+    }
+}

@@ -1,0 +1,26 @@
+-- Seats as they stand in memory. Page n stands at index n - 1.
+
+use Rattle.std.specs.Prelude.{ℕ, ◌+◌, ◌-◌, ◌≡◌, List, [], ◌∷◌, map, not, is_some, IfSome, if◌then◌else◌}
+use Rattle.std.specs.Vec.{vec_len, vec_capacity}
+use Rattle.bw_codec.specs.declared.leaf.Leaf.{Leaf}
+use Rattle.bw_page.specs.declared.seats.Seat.TheInside.{Inside as SeatInside}
+use Rattle.bw_page.specs.declared.seats.Seats.TheInside.{Inside as SeatsInside}
+use Rattle.bw_page.specs.Seats.{Seated, Seating}
+
+abbrev pub seat_view : SeatInside → Seated
+seat_view a = record { leaf = a.was.value; is_away = not (is_some a.leaf) }
+
+-- a leaf in memory is the one known
+abbrev pub IsSeat : SeatInside → Type 0
+IsSeat a = IfSome a.leaf (λ l. l ≡ a.was.value)
+
+abbrev pub leaves_of : List Seated → List Leaf
+leaves_of seats = map (λ s. s.leaf) seats
+
+-- the pages that are away, of seats from page n on
+abbrev pub away_from : ℕ → List Seated → List ℕ
+away_from n [] = []
+away_from n (s ∷ ss) = if s.is_away then n ∷ away_from (n + 1) ss else away_from (n + 1) ss
+
+abbrev pub seats_view : SeatsInside → Seating
+seats_view a = record { items = leaves_of a.seats.items; away = away_from 1 a.seats.items; room = vec_capacity a.seats - vec_len a.seats }

@@ -1,0 +1,242 @@
+//! Leaves of which each is in memory or away.
+//!
+//! What a leaf that is away holds is known to the proof alone: a snapshot has no bytes.
+
+ghost use Rattle.std.specs.Prelude.{ℕ, ◌≡◌, ◌==◌, ◌<◌, ◌≤◌, ◌+◌, ◌-◌, ◌++◌, [], ◌∷◌, true, false, None, Some, length, take, slice_get, slice_set, slice_index_or, if◌then◌else◌, IsOk, IfOk, OnOk, OnErr};
+ghost use Rattle.std.specs.Option.{option_copied};
+ghost use Rattle.bw_codec.specs.declared.leaf.Leaf.{Leaf as LeafValue};
+ghost use Rattle.bw_page.specs.Leaves.{changed};
+ghost use Rattle.bw_page.specs.Cutting.{changed_at};
+ghost use Rattle.bw_page.specs.Seats.{is_among};
+
+use crate::changes;
+use bw_codec::{Leaf, Record};
+use std::alloc::{AllocError, Global};
+use std::marker::Model;
+use std::snapshot::Snapshot;
+
+/// One leaf, in memory or away.
+#[derive(Drop)]
+pub(crate) struct Seat {
+    leaf: Option<Leaf>,
+    was: Snapshot<Leaf>,
+}
+
+impl Model for Seat {
+    ghost use Rattle.bw_page.specs.Seats.{Seated};
+
+    ghost Value = { Seated };
+
+    ghost use Rattle.bw_page.specs.Seating.{seat_view, IsSeat};
+
+    ghost view = { seat_view };
+
+    ghost invariant = { IsSeat };
+}
+
+impl Seat {
+    /// A leaf in memory.
+    fn of(leaf: Leaf) -> Seat
+        ensures { result ≡ record { leaf = leaf; is_away = false } }
+    {
+        let was = Snapshot::of(&leaf);
+        Seat {
+            leaf: Some(leaf),
+            was,
+        }
+    }
+
+    /// The leaf, if it is in memory.
+    fn leaf(&self) -> Option<&Leaf>
+        ensures { option_copied result
+            ≡ (if self.now.is_away then None else Some self.now.leaf) }
+    {
+        self.leaf.as_ref()
+    }
+
+    /// Drops the leaf.
+    fn put_away(&mut self)
+        ensures { self.new ≡ record self.old { is_away = true } }
+    {
+        self.leaf = None;
+    }
+
+    /// Changes the leaf. A refusal changes nothing.
+    fn change(&mut self, item: &Record) -> Result<(), AllocError>
+        requires { self.old.is_away ≡ false }
+        ensures ok { OnOk result (self.new ≡ record self.old { leaf = changed item.now self.old.leaf }) }
+        ensures here { self.new.is_away ≡ false }
+        ensures unchanged { OnErr result (self.new ≡ self.old) }
+    {
+        match &mut self.leaf {
+            Some(leaf) => {
+                changes::change(leaf, item)?;
+                self.was = Snapshot::of(leaf);
+                Ok(())
+            }
+            None => unreachable!(),
+        }
+    }
+
+    /// The leaf, which is in memory.
+    fn into_leaf(self) -> Leaf
+        requires { self.is_away ≡ false }
+        ensures { result ≡ self.leaf }
+    {
+        let Seat { leaf, was: _ } = self;
+        match leaf {
+            Some(leaf) => leaf,
+            None => unreachable!(),
+        }
+    }
+}
+
+/// Leaves, each in memory or away.
+#[derive(Drop)]
+pub(crate) struct Seats {
+    seats: Vec<Seat>,
+}
+
+impl Model for Seats {
+    ghost use Rattle.bw_page.specs.Seats.{Seating};
+
+    ghost Value = { Seating };
+
+    ghost use Rattle.bw_page.specs.Seating.{seats_view};
+
+    ghost view = { seats_view };
+}
+
+impl Seats {
+    /// No leaf.
+    pub(crate) fn new(alloc: Global) -> Seats
+        ensures items { result.items ≡ [] }
+        ensures away { result.away ≡ [] }
+    {
+        Seats {
+            seats: Vec::new(alloc),
+        }
+    }
+
+    /// These leaves, all in memory.
+    pub(crate) fn of(leaves: Vec<Leaf>) -> Result<Seats, AllocError>
+        ensures items { IfOk result (λ s. s.items ≡ leaves.items) }
+        ensures away { IfOk result (λ s. s.away ≡ []) }
+    {
+        let mut seats = Seats::new(*leaves.allocator());
+        seats.reserve(leaves.len())?;
+        for leaf in leaves {
+            seats.push(leaf)?;
+        }
+        Ok(seats)
+    }
+
+    pub(crate) fn allocator(&self) -> Global {
+        *self.seats.allocator()
+    }
+
+    /// How many there are.
+    pub(crate) fn len(&self) -> usize
+        ensures value { result ≡ length self.now.items }
+        ensures beyond { (p : ℕ) → length self.now.items < p → is_among p self.now.away ≡ false }
+    {
+        self.seats.as_slice().len()
+    }
+
+    /// The leaf at an index, if there is one in memory.
+    pub(crate) fn look(&self, at: usize) -> Option<&Leaf>
+        ensures { option_copied result
+            ≡ (if is_among (at + 1) self.now.away then None else slice_get self.now.items at) }
+    {
+        let seats = self.seats.as_slice();
+        if at < seats.len() {
+            return seats[at].leaf();
+        }
+        None
+    }
+
+    /// The leaf at an index, which is in memory.
+    pub(crate) fn get(&self, at: usize) -> &Leaf
+        requires within { at < length self.now.items }
+        requires here { is_among (at + 1) self.now.away ≡ false }
+        ensures { result.now ≡ slice_index_or self.now.items at result.now }
+    {
+        match self.look(at) {
+            Some(leaf) => leaf,
+            None => unreachable!(),
+        }
+    }
+
+    /// Room for more. It changes nothing else.
+    pub(crate) fn reserve(&mut self, more: usize) -> Result<(), AllocError>
+        ensures items { self.new.items ≡ self.old.items }
+        ensures away { self.new.away ≡ self.old.away }
+        ensures room { OnOk result (more ≤ self.new.room) }
+    {
+        self.seats.reserve(more)
+    }
+
+    /// A further leaf, in memory. A refusal changes nothing.
+    pub(crate) fn push(&mut self, leaf: Leaf) -> Result<(), AllocError>
+        ensures items { OnOk result (self.new.items ≡ self.old.items ++ leaf ∷ []) }
+        ensures away { self.new.away ≡ self.old.away }
+        ensures room { OnOk result (self.old.room ≤ self.new.room + 1) }
+        ensures succeeds { 1 ≤ self.old.room → IsOk result }
+        ensures unchanged { OnErr result (self.new.items ≡ self.old.items) }
+    {
+        self.seats.push(Seat::of(leaf))?;
+        Ok(())
+    }
+
+    /// Takes the last leaf, which is in memory.
+    pub(crate) fn pop(&mut self) -> Leaf
+        requires some { 1 ≤ length self.old.items }
+        requires here { is_among (length self.old.items) self.old.away ≡ false }
+        ensures items { self.new.items ≡ take (length self.old.items - 1) self.old.items }
+        ensures value { (d : LeafValue)
+            → result ≡ slice_index_or self.old.items (length self.old.items - 1) d }
+        ensures away { self.new.away ≡ self.old.away }
+    {
+        match self.seats.pop() {
+            Some(seat) => seat.into_leaf(),
+            None => unreachable!(),
+        }
+    }
+
+    /// Sets the leaf at an index: it is then in memory.
+    pub(crate) fn set(&mut self, at: usize, leaf: Leaf)
+        requires { at < length self.old.items }
+        ensures items { self.new.items ≡ slice_set self.old.items at leaf }
+        ensures away { (p : ℕ) → is_among p self.new.away
+            ≡ (if p == at + 1 then false else is_among p self.old.away) }
+        ensures kept { is_among (at + 1) self.old.away ≡ false → self.new.away ≡ self.old.away }
+        ensures room { self.new.room ≡ self.old.room }
+    {
+        let _ = self.seats.as_slice().len();
+        self.seats[at] = Seat::of(leaf);
+    }
+
+    /// Changes a leaf, which is in memory. A refusal changes nothing.
+    pub(crate) fn change(&mut self, at: usize, item: &Record) -> Result<(), AllocError>
+        requires within { at < length self.old.items }
+        requires here { is_among (at + 1) self.old.away ≡ false }
+        ensures ok { (d : LeafValue) → OnOk result (self.new.items
+            ≡ slice_set self.old.items at (changed_at item.now self.old.items at d)) }
+        ensures away { self.new.away ≡ self.old.away }
+        ensures unchanged { OnErr result (self.new.items ≡ self.old.items) }
+    {
+        let _ = self.seats.as_slice().len();
+        self.seats[at].change(item)
+    }
+
+    /// Drops the leaf at an index from memory.
+    pub(crate) fn put_away(&mut self, at: usize)
+        requires { at < length self.old.items }
+        ensures items { self.new.items ≡ self.old.items }
+        ensures away { (p : ℕ) → is_among p self.new.away
+            ≡ (if p == at + 1 then true else is_among p self.old.away) }
+    {
+        let _ = self.seats.as_slice().len();
+        self.seats[at].put_away();
+    }
+}
