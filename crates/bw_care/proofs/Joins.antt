@@ -1,0 +1,377 @@
+-- What the functions hand on.
+
+use Rattle.std.proofs.Common.{inl, inr, ◌≡◌, ◌≢◌, ◌⊎◌, ℕ, zero, suc, ◌+◌, ◌-◌, ◌<◌, ◌≤◌, ◌&&◌, nat_lt, Bool, true, false, if◌then◌else◌, Option, Some, None}
+use Rattle.std.proofs.Common.{Result, Ok, Err, List, [], ◌∷◌, ◌++◌, length, map, take, drop, get_or, refl, sym, ap, subst, ◌∙◌, append_assoc, append-nil}
+use Rattle.std.proofs.Common.{length-append, arith}
+use Rattle.std.specs.List.{AllByRecursion}
+use Rattle.std.proofs.lemmas.List.{map-append}
+use Rattle.std.proofs.lemmas.Bool.{cases_lt}
+use Rattle.bw_codec.specs.Grammar.{block_bytes, body_bytes, frame_bytes, IsBase, IsBlock}
+use Rattle.bw_codec.specs.declared.leaf.Leaf.{Leaf}
+use Rattle.bw_codec.specs.declared.block.Block.{Block}
+use Rattle.bw_codec.specs.declared.block.Block.TheVariants.{Delta, Base, Split}
+use Rattle.bw_codec.specs.declared.block.Frame.{Frame}
+use Rattle.bw_codec.proofs.Wider.{block_wider}
+use Rattle.bw_page.specs.Standing.{content, blocks_of, Stand}
+use Rattle.bw_buffer.specs.Filling.{Filling, frame_of}
+use Rattle.bw_log.specs.Places.{base_of}
+use Rattle.bw_log.specs.Contents.{Contents, boxes, counted, IsSound}
+use Rattle.bw_log.specs.Calls.{IsPage, StopsAt}
+use Rattle.bw_log.specs.Steps.{MayFollow, Appended, IsSameLog, Answers, OnDevice, Rose, refusal, wants_segment, spares_wanted, is_spent}
+use Rattle.bw_log.specs.Steps as steps
+use Rattle.bw_log.specs.declared.fault.LogFault.{LogFault}
+use Rattle.bw_log.specs.declared.fault.LogFault.TheVariants.{NoMemory, BadConfig, NoSegment, Device, Failed, Spent, NoPage}
+use Rattle.bw_log.proofs.Entries.{all_append, all_mapped}
+use Rattle.bw_log.proofs.GivenUp.{all_behind}
+use Rattle.bw_log.proofs.LogLeft.{same_count}
+use Rattle.bw_log.proofs.Reread.{length-frame}
+use Rattle.bw_care.specs.Cleaning.{is_old, old_from, old_pages, IsRewritten, page_of}
+use Rattle.bw_care.specs.Moving.{AreBases, IsFull, Moved, DeviceFailed, Refused, Stopped}
+use Rattle.bw_care.proofs.Bases.{PageRead, page_read, largest_base, may_follow, frames_leave, stand_more}
+use Rattle.bw_care.proofs.Boxes.{read_failed}
+use Rattle.bw_care.proofs.Olds.{old_step, old_are_pages}
+use Rattle.bw_care.proofs.Moves.{frame_lawful, moved_one, moved_none, moved_then, take_more, take_drop_all, two_left, drop_twice, drop_at_length}
+
+-- ---- the pages that are old
+
+pub old_starts : (items : List ℕ) (last : ℕ) (fs : List Frame) (n : ℕ) → items ≡ [] → items ++ old_from last fs 1 (n - 0) ≡ old_from last fs 1 n
+old_starts items last fs n none = ap (λ (l : List ℕ). l ++ old_from last fs 1 (n - 0)) none ∙ ap (old_from last fs 1) (omega arith)
+
+pub old_pushed : (items now all : List ℕ) (last : ℕ) (fs : List Frame) (i n : ℕ) → items ++ old_from last fs (i + 1) (n - i) ≡ all → i < n
+    → is_old last (base_of (i + 1) fs) ≡ true → now ≡ items ++ (i + 1) ∷ []
+    → now ++ old_from last fs (i + 1 + 1) (n - (i + 1)) ≡ all
+old_pushed items now all last fs i n kept inside is push =
+    ap (λ (l : List ℕ). l ++ old_from last fs (i + 1 + 1) (n - (i + 1))) push
+    ∙ append_assoc items ((i + 1) ∷ []) (old_from last fs (i + 1 + 1) (n - (i + 1)))
+    ∙ ap (λ (l : List ℕ). items ++ l) (sym (old_step last fs i n true inside is)) ∙ kept
+
+pub old_skipped : (items now all : List ℕ) (last : ℕ) (fs : List Frame) (i n : ℕ) → items ++ old_from last fs (i + 1) (n - i) ≡ all → i < n
+    → is_old last (base_of (i + 1) fs) ≡ false → now ≡ items
+    → now ++ old_from last fs (i + 1 + 1) (n - (i + 1)) ≡ all
+old_skipped items now all last fs i n kept inside is push =
+    ap (λ (l : List ℕ). l ++ old_from last fs (i + 1 + 1) (n - (i + 1))) push
+    ∙ ap (λ (l : List ℕ). items ++ l) (sym (old_step last fs i n false inside is)) ∙ kept
+
+-- ---- one more page in the buffer
+
+each_of : {A : Type 0} (P : A → Type 0) (xs : List A) (i : ℕ) (d : A) → AllByRecursion P xs → i < length xs → P (get_or xs i d)
+each_of P [] i d are inside = absurd (omega arith)
+each_of P (x ∷ xs) zero d are inside = are.0
+each_of P (x ∷ xs) (suc i) d are inside = each_of P xs i d are.1 (omega arith)
+
+take_next : (xs : List ℕ) (i d : ℕ) → i < length xs → take (i + 1) xs ≡ take i xs ++ get_or xs i d ∷ []
+take_next [] i d inside = absurd (omega arith)
+take_next (x ∷ xs) zero d inside = refl
+take_next (x ∷ xs) (suc i) d inside =
+    let e : suc i + 1 ≡ suc (i + 1) = omega arith in
+    ap (λ (k : ℕ). take k (x ∷ xs)) e ∙ ap (λ (l : List ℕ). x ∷ l) (take_next xs i d (omega arith))
+
+pub read_here : (old now : Contents) (pages : List ℕ) (i d : ℕ) (leaf : Leaf) → now ≡ old → IsSound old → AllByRecursion (IsPage old) pages → i < length pages
+    → content (get_or pages i d) (blocks_of (counted now)) ≡ Some leaf
+    → PageRead old (get_or pages i d) leaf
+read_here old now pages i d leaf same sound are inside is =
+    let there = each_of (IsPage old) pages i d are inside in
+    page_read old (get_or pages i d) leaf sound there.0 there.1
+    (subst (λ (c : Contents). content (get_or pages i d) (blocks_of (counted c)) ≡ Some leaf) same is)
+
+pub read_lawful : (c : Contents) (p : ℕ) (leaf : Leaf) → IsSound c → PageRead c p leaf → IsBase 32 leaf
+read_lawful c p leaf sound r = block_wider c.m 32 (Base leaf) (let few = sound.holds.limits.1 in omega arith) r.lawful
+
+pub bases_more : (c : Contents) (blocks now : List Block) (pages : List ℕ) (i d : ℕ) (leaf : Leaf) → AreBases c blocks (take i pages) → i < length pages
+    → PageRead c (get_or pages i d) leaf → now ≡ blocks ++ Base leaf ∷ []
+    → AreBases c now (take (i + 1) pages)
+bases_more c blocks now pages i d leaf bs inside r push = subst (λ (l : List Block). AreBases c l (take (i + 1) pages)) (sym push) (record {
+  bases = all_append (IsRewritten (blocks_of (counted c))) blocks (Base leaf ∷ []) bs.bases (r.stands, tt);
+  lawful = all_append (IsBlock c.m) blocks (Base leaf ∷ []) bs.lawful (r.lawful, tt);
+  told = map-append page_of blocks (Base leaf ∷ []) ∙ ap (λ (l : List ℕ). l ++ leaf.page ∷ []) bs.told ∙ ap (λ (p : ℕ). take i pages ++ p ∷ []) r.page
+      ∙ sym (take_next pages i d inside);
+})
+
+-- a page that does not fit is not the first
+not_first_by : (blocks : List Block) (pages : List ℕ) (i limit : ℕ) (leaf : Leaf) → map page_of blocks ≡ take i pages → i ≡ 0 → 16384 ≤ limit → IsBase 32 leaf
+    → limit < 20 + length (body_bytes blocks) + length (body_bytes (Base leaf ∷ [])) → ⊥
+not_first_by [] pages i limit leaf told none most is over =
+    let size = ap (λ (l : List ℕ). length l) (append-nil (block_bytes (Base leaf))) in
+    let small = largest_base 32 leaf (omega arith) is in
+    let empty : length (body_bytes []) ≡ 0 = refl in
+    absurd (omega arith)
+not_first_by (b ∷ bs) pages i limit leaf told none most is over =
+    let e = ap (λ (l : List ℕ). length l) (told ∙ ap (λ (k : ℕ). take k pages) none) in absurd (omega arith)
+
+pub not_first : (c : Contents) (blocks : List Block) (pages : List ℕ) (i limit : ℕ) (leaf : Leaf) → IsSound c → limit ≡ c.f → AreBases c blocks (take i pages)
+    → IsBase 32 leaf
+    → limit < 20 + length (body_bytes blocks) + length (body_bytes (Base leaf ∷ [])) → 0 < i
+not_first c blocks pages i limit leaf sound same bs is over =
+    elim (cases_lt 0 i) [
+      | inl some ↦ some
+      | inr none ↦ absurd (not_first_by blocks pages i limit leaf bs.told (omega arith) (let most = sound.holds.limits.2 in omega arith) is over)
+    ]
+
+-- ---- refusals
+
+pub fill_refused : (old new : Contents) (fault : LogFault) → StopsAt (λ _. Unit {0}) old fault new → (fault ≡ NoPage → ⊥) → Refused fault old new
+fill_refused old new NoMemory stops other = stops
+fill_refused old new BadConfig stops other = stops
+fill_refused old new NoSegment stops other = absurd stops
+fill_refused old new (Device lease) stops other = read_failed (λ _. Unit {0}) lease old new stops
+fill_refused old new Failed stops other = stops
+fill_refused old new Spent stops other = (stops.0, inr (inl stops.1))
+fill_refused old new NoPage stops other = absurd (other refl)
+
+IsKind : LogFault → Type 0
+IsKind fault = (fault ≡ Failed) ⊎ ((fault ≡ NoSegment) ⊎ (fault ≡ Spent))
+
+kind_by : (a b c : Bool) (fault : LogFault) → (if a then Some Failed else if b then Some NoSegment else if c then Some Spent else None) ≡ Some fault
+    → IsKind fault
+unfolding IsKind
+kind_by true b c fault is = inl cc
+kind_by false true c fault is = inr (inl cc)
+kind_by false false true fault is = inr (inr cc)
+kind_by false false false fault is = absurd cc
+
+kind_of : (c : Contents) (len : ℕ) (fault : LogFault) → refusal c len true ≡ Some fault → IsKind fault
+kind_of c len fault is = kind_by c.is_failed (wants_segment c len && nat_lt (length c.spares) (spares_wanted true)) (is_spent c len) fault is
+
+not_failed_by : (t b c : Bool) → t ≡ false → (if t then Some Failed else if b then Some NoSegment else if c then Some Spent else None) ≡ Some Failed → ⊥
+not_failed_by true b c works is = cc
+not_failed_by false true c works is = cc
+not_failed_by false false true works is = cc
+not_failed_by false false false works is = cc
+
+not_bad : (c : Contents) (len : ℕ) → refusal c len true ≡ Some BadConfig → ⊥
+unfolding IsKind
+not_bad c len is = elim (kind_of c len BadConfig is) [ inl a ↦ cc | inr b ↦ elim b [ inl x ↦ cc | inr y ↦ cc ] ]
+
+not_page : (c : Contents) (len : ℕ) → refusal c len true ≡ Some NoPage → ⊥
+unfolding IsKind
+not_page c len is = elim (kind_of c len NoPage is) [ inl a ↦ cc | inr b ↦ elim b [ inl x ↦ cc | inr y ↦ cc ] ]
+
+err_same : (a b : LogFault) → ◌≡◌ {A = Result (Unit {0}) LogFault} (Err a) (Err b) → Some b ≡ Some a
+err_same a b e = cc
+
+asked : (o : Option LogFault) (fault : LogFault) → Answers o (Err fault) → (o ≡ Some fault) ⊎ ((o ≡ None) × Answers None (Err fault))
+asked None fault answers = inr (refl, answers)
+asked (Some f) fault answers = inl (err_same fault f answers)
+
+same_since : (old now new : Contents) → now ≡ old → new ≡ now → new ≡ old
+same_since old now new a b = b ∙ a
+
+append_refused_by : (old : Contents) (x : Frame) (ps : List ℕ) (new : Contents) (fault : LogFault) → AreBases old x.blocks ps → old.is_failed ≡ false
+    → length (frame_bytes x) ≤ old.f
+    → (refusal old (length (frame_bytes x)) true ≡ Some fault) ⊎ ((refusal old (length (frame_bytes x)) true ≡ None) × Answers None (Err fault))
+    → OnDevice {A = Unit {0}} (Err fault) (λ lease. Rose lease (boxes old) (boxes new) × steps.Stopped old x new) (new ≡ old) → IsSameLog old new
+    → Refused fault old new
+append_refused_by old x ps new NoMemory bs works short answers device same = device
+append_refused_by old x ps new BadConfig bs works short (inl a) device same = not_bad old (length (frame_bytes x)) a
+append_refused_by old x ps new BadConfig bs works short (inr a) device same = a.1
+append_refused_by old x ps new NoSegment bs works short (inl a) device same = (device, record { len = length (frame_bytes x); short = short; told = a })
+append_refused_by old x ps new NoSegment bs works short (inr a) device same = absurd a.1
+append_refused_by old x ps new (Device lease) bs works short answers device same =
+    record { left = inr (record { frame = x; pages = ps; holds = bs; stopped = device.1 }); rose = device.0; counts = device.1.frames; same = same }
+append_refused_by old x ps new Failed bs works short (inl a) device same =
+    not_failed_by old.is_failed (wants_segment old (length (frame_bytes x)) && nat_lt (length old.spares) (spares_wanted true))
+    (is_spent old (length (frame_bytes x))) works a
+append_refused_by old x ps new Failed bs works short (inr a) device same = a.1
+append_refused_by old x ps new Spent bs works short (inl a) device same = (device, inr (inr (record { len = length (frame_bytes x); short = short; told = a })))
+append_refused_by old x ps new Spent bs works short (inr a) device same = absurd a.1
+append_refused_by old x ps new NoPage bs works short (inl a) device same = not_page old (length (frame_bytes x)) a
+append_refused_by old x ps new NoPage bs works short (inr a) device same = a.1
+
+pub append_refused : (old now : Contents) (x : Frame) (ps : List ℕ) (new : Contents) (fault : LogFault) → AreBases old x.blocks ps → now ≡ old
+    → old.is_failed ≡ false → length (frame_bytes x) ≤ old.f
+    → Answers (refusal now (length (frame_bytes x)) true) (Err fault)
+    → OnDevice {A = Unit {0}} (Err fault) (λ lease. Rose lease (boxes now) (boxes new) × steps.Stopped now x new) (new ≡ now) → IsSameLog now new
+    → Refused fault old new
+append_refused old now x ps new fault bs same works short answers device log =
+    subst (λ (c : Contents). Refused fault c new) same
+    (append_refused_by now x ps new fault (subst (λ (c : Contents). AreBases c x.blocks ps) (sym same) bs) (ap (λ (c : Contents). c.is_failed) same ∙ works)
+    (subst (λ (c : Contents). length (frame_bytes x) ≤ c.f) (sym same) short) (asked (refusal now (length (frame_bytes x)) true) fault answers) device log)
+
+-- ---- a frame of them
+
+some_blocks : (c : Contents) (blocks : List Block) (pages : List ℕ) (n : ℕ) → AreBases c blocks (take n pages) → 0 < n → n ≤ length pages → 1 ≤ length blocks
+some_blocks c [] pages n bs some inside = absurd (none pages n bs.told some inside)
+  where
+    none : (pages : List ℕ) (n : ℕ) → [] ≡ take n pages → 0 < n → n ≤ length pages → ⊥
+    none [] n is some inside = omega arith
+    none (p ∷ ps) zero is some inside = omega arith
+    none (p ∷ ps) (suc n) is some inside = cc
+some_blocks c (b ∷ bs) pages n are some inside = omega arith
+
+some_page : (c : Contents) (pages : List ℕ) → AllByRecursion (IsPage c) pages → 0 < length pages → 1 ≤ length c.pages
+some_page c [] are some = absurd (omega arith)
+some_page c (p ∷ ps) are some = let low = are.0.0 in let high = are.0.1 in omega arith
+
+pub follows_filled : (old now : Contents) (x : Frame) (pages : List ℕ) (n : ℕ) → IsSound old → now ≡ old → AllByRecursion (IsPage old) pages → 0 < length pages
+    → AreBases old x.blocks (take n pages) → 0 < n → n ≤ length pages
+    → old.next ≡ Some x.number → length (frame_bytes x) ≤ old.f → MayFollow now x
+follows_filled old now x pages n sound same are some bs more inside number short =
+    subst (λ (c : Contents). MayFollow c x) (sym same)
+    (may_follow old x sound (some_page old pages are some) number
+    (frame_lawful old x sound number bs.lawful (some_blocks old x.blocks pages n bs more inside) short) bs.bases)
+
+long_taken : (n : ℕ) (xs : List ℕ) → 0 < n → n ≤ length xs → 1 ≤ length (take n xs)
+long_taken zero xs some inside = absurd (omega arith)
+long_taken (suc n) [] some inside = absurd (omega arith)
+long_taken (suc n) (x ∷ xs) some inside = omega arith
+
+pub moved_filled : (old now new : Contents) (x : Frame) (pages : List ℕ) (n : ℕ) → 0 < n → n ≤ length pages → IsSound old → IsSound new → now ≡ old
+    → AllByRecursion (IsPage old) pages → 0 < length pages → AreBases old x.blocks (take n pages)
+    → old.next ≡ Some x.number → Appended now x new → IsFull old x (drop n pages) → IsSameLog now new → Moved old new (take n pages) (drop n pages) 1
+moved_filled old now new x pages n more inside sound after same are some bs number added full log =
+    moved_one old new x (take n pages) (drop n pages) full (long_taken n pages more inside) sound after (some_page old pages are some) bs number
+    (subst (λ (c : Contents). Appended c x new) same added) (subst (λ (c : Contents). IsSameLog c new) same log)
+
+-- ---- all frames
+
+take_whole : (xs : List ℕ) (n : ℕ) → n ≡ length xs → take n xs ≡ xs
+take_whole [] zero is = refl
+take_whole [] (suc n) is = absurd (omega arith)
+take_whole (x ∷ xs) zero is = absurd (omega arith)
+take_whole (x ∷ xs) (suc n) is = ap (λ (l : List ℕ). x ∷ l) (take_whole xs n (omega arith))
+
+drop_long : (xs : List ℕ) (i : ℕ) → length (drop i xs) ≡ length xs - i
+drop_long xs zero = omega arith
+drop_long [] (suc i) = omega arith
+drop_long (x ∷ xs) (suc i) = let e = drop_long xs i in omega arith
+
+-- the rest of a list, as it is handed on
+pub rest_is : (xs : List ℕ) (i : ℕ) → take (length xs - i) (drop i xs) ≡ drop i xs
+rest_is xs i = take_whole (drop i xs) (length xs - i) (sym (drop_long xs i))
+
+pub rest_pages : (old now : Contents) (pages : List ℕ) (i : ℕ) (ps : List ℕ) (n : ℕ) → pages ≡ old_pages old → Moved old now ps (drop i pages) n
+    → AllByRecursion (IsPage now) (take (length pages - i) (drop i pages))
+rest_pages old now pages i ps n is moved =
+    subst (AllByRecursion (IsPage now)) (sym (rest_is pages i))
+    (all_behind (IsPage now) (take i pages) (drop i pages) (subst (AllByRecursion (IsPage now)) (take_drop_all pages i)
+    (all_mapped (IsPage old) (IsPage now) pages (λ p there. (there.0, let high = there.1 in let table = moved.table in omega arith))
+    (subst (AllByRecursion (IsPage old)) (sym is) (old_are_pages old)))))
+
+pub moved_more : (old now new : Contents) (pages : List ℕ) (i k n : ℕ) → IsSound old → IsSound now → 2 ≤ length old.live → old.is_failed ≡ false
+    → Moved old now (take i pages) (drop i pages) n
+    → Moved now new (take k (take (length pages - i) (drop i pages))) (drop k (take (length pages - i) (drop i pages))) 1
+    → Moved old new (take (i + k) pages) (drop (i + k) pages) (n + 1)
+moved_more old now new pages i k n a b two works x y =
+    subst (λ (l : List ℕ). Moved old new l (drop (i + k) pages) (n + 1)) (take_more pages i k)
+    (subst (λ (l : List ℕ). Moved old new (take i pages ++ take k (drop i pages)) l (n + 1)) (drop_twice k i pages)
+    (moved_then old now new (take i pages) (take k (drop i pages)) (drop k (drop i pages)) n 1 a b two works
+    (subst (λ (l : List ℕ). Moved old now (take i pages) l n) (take_drop_all (drop i pages) k) x)
+    (subst (λ (l : List ℕ). Moved now new (take k l) (drop k l) 1) (rest_is pages i) y)))
+
+pub stopped_at : (old now new : Contents) (pages : List ℕ) (i n : ℕ) (fault : LogFault) → pages ≡ old_pages old → Moved old now (take i pages) (drop i pages) n
+    → Refused fault now new → Stopped old fault new
+stopped_at old now new pages i n fault is moved refused = record {
+  then_log = now;
+  frames = n;
+  done = take i pages;
+  rest = drop i pages;
+  pages = sym is ∙ take_drop_all pages i;
+  moved = moved;
+  refused = refused;
+}
+
+pub stopped_first : (old new : Contents) (fault : LogFault) → old.is_failed ≡ false → Refused fault old new → Stopped old fault new
+stopped_first old new fault works refused =
+    record { then_log = old; frames = 0; done = []; rest = old_pages old; pages = refl; moved = moved_none old (old_pages old) works; refused = refused }
+
+-- ---- what stands
+
+moved_stands : (old now : Contents) (ps rs : List ℕ) (n : ℕ) (leaves : List Leaf) → Moved old now ps rs n → Stand old.m (counted old) leaves
+    → Stand old.m (counted now) leaves
+moved_stands old now ps rs n leaves moved stand =
+    subst (λ (fs : List Frame). Stand old.m fs leaves) (sym moved.counts) (stand_more old.m (counted old) moved.written leaves stand moved.holds.bases)
+
+pub moved_stand : (old now : Contents) (ps rs : List ℕ) (n : ℕ) (leaves : List Leaf) → Moved old now ps rs n → Stand old.m (counted old) leaves
+    → Stand now.m (counted now) leaves
+moved_stand old now ps rs n leaves moved stand = subst (λ (m : ℕ). Stand m (counted now) leaves) (sym moved.m) (moved_stands old now ps rs n leaves moved stand)
+
+same_counts : (old new : Contents) (fault : LogFault) → Refused fault old new → counted new ≡ counted old
+same_counts old new NoMemory refused = ap counted refused
+same_counts old new BadConfig refused = absurd refused
+same_counts old new NoSegment refused = ap counted refused.0
+same_counts old new (Device lease) refused = refused.counts
+same_counts old new Failed refused = absurd refused
+same_counts old new Spent refused = ap counted refused.0
+same_counts old new NoPage refused = absurd refused
+
+pub stopped_stands : (old new : Contents) (fault : LogFault) → Stopped old fault new → (leaves : List Leaf) → Stand old.m (counted old) leaves
+    → Stand old.m (counted new) leaves
+stopped_stands old new fault s leaves stand =
+    subst (λ (fs : List Frame). Stand old.m fs leaves) (sym (same_counts s.then_log new fault s.refused))
+    (moved_stands old s.then_log s.done s.rest s.frames leaves s.moved stand)
+
+pub same_m : (old now : Contents) (fs : List Frame) (ps rs : List ℕ) (n : ℕ) (leaves : List Leaf) → Moved old now ps rs n → Stand now.m fs leaves
+    → Stand old.m fs leaves
+same_m old now fs ps rs n leaves moved stand = subst (λ (m : ℕ). Stand m fs leaves) moved.m stand
+
+-- ---- the buffer of one frame
+
+pub record Sends (old : Contents) (pages : List ℕ) (n first : ℕ) (x : Filling) : Type 0 where
+  pub holds : AreBases old x.blocks (take n pages)
+  pub number : x.frame ≡ first
+  pub limit : x.limit ≡ old.f
+
+pub sends_of : (old : Contents) (made filled sent : Filling) (pages : List ℕ) (n first most : ℕ)
+    → made ≡ record { frame = first; limit = most; blocks = []; is_sealed = false } → most ≡ old.f
+    → filled ≡ record made { blocks = filled.blocks } → AreBases old filled.blocks (take n pages) → sent ≡ record filled { is_sealed = true }
+    → Sends old pages n first sent
+sends_of old made filled sent pages n first most a same b holds d = record {
+  holds = subst (λ (bs : List Block). AreBases old bs (take n pages)) (sym (ap (λ (x : Filling). x.blocks) d)) holds;
+  number = ap (λ (x : Filling). x.frame) d ∙ ap (λ (x : Filling). x.frame) b ∙ ap (λ (x : Filling). x.frame) a;
+  limit = ap (λ (x : Filling). x.limit) d ∙ ap (λ (x : Filling). x.limit) b ∙ ap (λ (x : Filling). x.limit) a ∙ same;
+}
+
+pub short_enough : {old : Contents} {pages : List ℕ} {n first : ℕ} {x : Filling} → Sends old pages n first x → length (frame_bytes (frame_of x)) ≤ x.limit
+    → length (frame_bytes (frame_of x)) ≤ old.f
+short_enough {old} {pages} {n} {first} {x} s fits = subst (λ (k : ℕ). length (frame_bytes (frame_of x)) ≤ k) s.limit fits
+
+pub follows_sent : (old now : Contents) (x : Filling) (pages : List ℕ) (n first : ℕ) → IsSound old → now ≡ old → AllByRecursion (IsPage old) pages
+    → 0 < length pages → Sends old pages n first x → 0 < n → n ≤ length pages
+    → old.next ≡ Some first → length (frame_bytes (frame_of x)) ≤ x.limit → MayFollow now (frame_of x)
+follows_sent old now x pages n first sound same are some s more inside next fits =
+    follows_filled old now (frame_of x) pages n sound same are some s.holds more inside (next ∙ ap (λ (k : ℕ). Some k) (sym s.number)) (short_enough s fits)
+
+pub moved_sent : (old now new : Contents) (x : Filling) (pages : List ℕ) (n first : ℕ) → 0 < n → n ≤ length pages → IsSound old → IsSound new → now ≡ old
+    → AllByRecursion (IsPage old) pages → 0 < length pages → Sends old pages n first x
+    → old.next ≡ Some first → Appended now (frame_of x) new → IsFull old (frame_of x) (drop n pages) → IsSameLog now new
+    → Moved old new (take n pages) (drop n pages) 1
+moved_sent old now new x pages n first more inside sound after same are some s next added full log =
+    moved_filled old now new (frame_of x) pages n more inside sound after same are some s.holds (next ∙ ap (λ (k : ℕ). Some k) (sym s.number)) added full log
+
+pub other_fault : (fault : LogFault) → (◌≡◌ {A = Result ℕ LogFault} (Err fault) (Err NoPage) → ⊥) → fault ≡ NoPage → ⊥
+other_fault fault other is = other (ap (λ (f : LogFault). Err f) is)
+
+pub rest_inside : (xs : List ℕ) (i k : ℕ) → k ≤ length (take (length xs - i) (drop i xs)) → i ≤ length xs → i + k ≤ length xs
+rest_inside xs i k le inside = let e = ap (λ (l : List ℕ). length l) (rest_is xs i) in omega (arith, drop_long xs i)
+
+-- ---- frames that are full
+
+drop_here : (xs : List ℕ) (i d : ℕ) → i < length xs → drop i xs ≡ get_or xs i d ∷ drop (i + 1) xs
+drop_here [] i d inside = absurd (omega arith)
+drop_here (x ∷ xs) zero d inside = refl
+drop_here (x ∷ xs) (suc i) d inside = let e : suc i + 1 ≡ suc (i + 1) =
+    omega arith in drop_here xs i d (omega arith) ∙ ap (λ (k : ℕ). get_or xs i d ∷ drop k (x ∷ xs)) (sym e)
+
+same_leaf : (o : Option Leaf) (a b : Leaf) → o ≡ Some a → o ≡ Some b → a ≡ b
+same_leaf o a b x y = cc
+
+pub full_here : (c : Contents) (x : Filling) (pages : List ℕ) (i d limit : ℕ) (leaf : Leaf) → i < length pages → PageRead c (get_or pages i d) leaf
+    → limit ≡ c.f
+    → limit < 20 + length (body_bytes x.blocks) + length (body_bytes (Base leaf ∷ [])) → IsFull c (frame_of x) (drop i pages)
+full_here c x pages i d limit leaf inside r same over = subst (IsFull c (frame_of x)) (sym (drop_here pages i d inside))
+    (λ other there.
+    (let e : leaf ≡ other = same_leaf (content (get_or pages i d) (blocks_of (counted c))) leaf other
+    (ap (λ (p : ℕ). content p (blocks_of (counted c))) (sym r.page) ∙ r.stands) there in
+    let size = ap (λ (l : List ℕ). length l) (append-nil (block_bytes (Base leaf))) in
+    subst (λ (l : Leaf). c.f < length (frame_bytes (frame_of x)) + length (block_bytes (Base l))) e (omega (arith, length-frame (frame_of x)))))
+
+pub full_end : (c : Contents) (x : Filling) (pages : List ℕ) (i : ℕ) → i ≡ length pages → IsFull c (frame_of x) (drop i pages)
+full_end c x pages i is = subst (IsFull c (frame_of x)) (sym (ap (λ (k : ℕ). drop k pages) is ∙ drop_end pages)) tt
+  where
+    drop_end : (xs : List ℕ) → drop (length xs) xs ≡ []
+    drop_end [] = refl
+    drop_end (x ∷ xs) = drop_end xs
+
+pub full_sent : (c : Contents) (filled sent : Filling) (ps : List ℕ) → sent ≡ record filled { is_sealed = true } → IsFull c (frame_of filled) ps
+    → IsFull c (frame_of sent) ps
+full_sent c filled sent ps is full = subst (λ (x : Frame). IsFull c x ps) (sym (ap frame_of is)) full

@@ -1,0 +1,34 @@
+use Rattle.std.proofs.Common.{◌≡◌, ◌≤◌, ◌<◌, ◌∙◌, ℕ, List, false, Some, refl, sym, ap, length, arith}
+use Rattle.bw_log.specs.declared.fault.LogFault.TheVariants.{NoMemory}
+use Rattle.bw_care.specs.Cleaning.{old_pages}
+use Rattle.bw_care.specs.Seen.{seen}
+use Rattle.bw_care.proofs.Moves.{no_base_before, two_left, all_cleaned}
+use Rattle.bw_care.proofs.Joins.{stopped_first, stopped_stands, moved_stand, same_m}
+use Rattle.bw_care.proofs.cleaning.clean.Goals as goal
+
+pub returns-in-Err-clause-refused : goal.returns-in-Err-clause-refused
+returns-in-Err-clause-refused g c =
+    let two : 2 ≤ length (seen c.args.log.now (λ b. (goal.Segment-dyn g b).holding b.1)).live = omega (arith, c.if-live-lt2.false, c.live.ensures) in
+    (two, sym c.if-is_failed.ensures, stopped_first _ _ NoMemory (sym c.if-is_failed.ensures) refl)
+
+pub returns-in-Err-move_pages-clause-stands : goal.returns-in-Err-move_pages-clause-stands
+returns-in-Err-move_pages-clause-stands g c = λ leaves stand. stopped_stands _ _ c.in-Err-move_pages.fault c.in-Err-move_pages.ensures.refused leaves stand
+
+pub give_up_oldest-requires-clause-bases : goal.give_up_oldest-requires-clause-bases
+give_up_oldest-requires-clause-bases g c =
+    let two : 2 ≤ length (seen c.args.log.now (λ b. (goal.Segment-dyn g b).holding b.1)).live = omega (arith, c.if-live-lt2.false, c.live.ensures) in
+    no_base_before _ _ c.in-Ok-move_pages.frames c.requires c.in-Ok-move_pages.ensures.sound two (sym c.if-is_failed.ensures) c.in-Ok-move_pages.ensures.moved
+
+pub returns-clause-cleaned : goal.returns-clause-cleaned
+returns-clause-cleaned g c =
+    let two : 2 ≤ length (seen c.args.log.now (λ b. (goal.Segment-dyn g b).holding b.1)).live = omega (arith, c.if-live-lt2.false, c.live.ensures) in
+    let many : c.len.result ≡ length (old_pages (seen c.args.log.now (λ b. (goal.Segment-dyn g b).holding b.1))) =
+    omega (arith, c.len.ensures, c.in-Ok.pages.ok.0, ap (λ (l : List ℕ). length l) c.in-Ok.ensures) in
+    all_cleaned _ _ _ _ (Some (c.in-Some.segment, c.in-Some.lease, c.in-Some.field-0-2)) c.in-Some.field-0-2 c.requires two (sym c.if-is_failed.ensures)
+    c.in-Ok-move_pages.ensures.moved
+    c.give_up_oldest.ensures.given_up c.give_up_oldest.ensures.counted c.in-Some.ensures refl many
+
+pub returns-clause-stands : goal.returns-clause-stands
+returns-clause-stands g c = λ leaves stand.
+    same_m _ _ _ _ _ c.in-Ok-move_pages.frames leaves c.in-Ok-move_pages.ensures.moved
+    (c.give_up_oldest.ensures.stands leaves (moved_stand _ _ _ _ c.in-Ok-move_pages.frames leaves c.in-Ok-move_pages.ensures.moved stand))

@@ -1,0 +1,143 @@
+-- A cleaning under way, and what stops it.
+
+use Rattle.std.specs.Prelude.{ℕ, ◌+◌, ◌-◌, ◌^◌, ◌<◌, ◌≤◌, ◌≡◌, ◌⊎◌, Bool, true, false, Option, Some, None, List, [], ◌∷◌, ◌++◌, length, map, take, drop}
+use Rattle.std.specs.Prelude.{slice_get}
+use Rattle.std.specs.List.{AllByRecursion}
+use Rattle.bw_codec.specs.Grammar.{IsBlock, block_bytes, frame_bytes}
+use Rattle.bw_codec.specs.declared.leaf.Leaf.{Leaf}
+use Rattle.bw_codec.specs.declared.block.Block.TheVariants.{Base}
+use Rattle.bw_codec.specs.declared.block.Block.{Block}
+use Rattle.bw_codec.specs.declared.block.Frame.{Frame}
+use Rattle.bw_page.specs.Standing.{content, blocks_of}
+use Rattle.bw_device.specs.Holding.{Holding, appended}
+use Rattle.bw_log.specs.Contents.{Contents, image, boxes, counted, roster, IsSound}
+use Rattle.bw_log.specs.Calls.{IsWornOut, oldest_count}
+use Rattle.bw_log.specs.Steps as steps
+use Rattle.bw_log.specs.Steps.{refusal, Rose, IsSameLog}
+use Rattle.bw_log.specs.declared.fault.LogFault.{LogFault}
+use Rattle.bw_log.specs.declared.fault.LogFault.TheVariants.{NoMemory, BadConfig, NoSegment, Device, Failed, Spent, NoPage}
+use Rattle.bw_care.specs.Cleaning.{IsRewritten, page_of, old_pages, oldest_last}
+use Rattle.bw_care.specs.declared.fault.CleanFault.{CleanFault}
+use Rattle.bw_care.specs.declared.fault.CleanFault.TheVariants.{NothingOld, Log}
+use Rattle.bw_care.specs.declared.cleaning.Cleaned.{Cleaned}
+
+-- ---- boxes
+
+-- nothing but bytes at the end was added
+abbrev pub IsLonger : Holding → Holding → Type 0
+IsLonger old new = (piece : List ℕ) × (new ≡ appended old piece)
+
+abbrev pub AreLonger : List Holding → List Holding → Type 0
+AreLonger [] [] = Unit {0}
+AreLonger [] (k ∷ ks) = ⊥
+AreLonger (h ∷ hs) [] = ⊥
+AreLonger (h ∷ hs) (k ∷ ks) = IsLonger h k × AreLonger hs ks
+
+-- the live segments before the newest are what they were
+pub record KeepsOlder (old new : List Holding) : Type 0 where
+  pub many : length old ≤ length new
+  pub same : (i : ℕ) → i + 1 < length old → slice_get new i ≡ slice_get old i
+
+-- ---- pages written again
+
+-- these blocks are these pages, each in a Base as it stands
+pub record AreBases (c : Contents) (blocks : List Block) (pages : List ℕ) : Type 0 where
+  pub bases : AllByRecursion (IsRewritten (blocks_of (counted c))) blocks
+  pub lawful : AllByRecursion (IsBlock c.m) blocks
+  pub told : map page_of blocks ≡ pages
+
+-- a Base of the first of these pages would not fit behind the frame
+abbrev pub IsFull : Contents → Frame → List ℕ → Type 0
+IsFull c x [] = Unit {0}
+IsFull c x (p ∷ ps) =
+    (leaf : Leaf) → content p (blocks_of (counted c)) ≡ Some leaf → c.f < length (frame_bytes x) + length (block_bytes (Base leaf))
+
+-- each frame holds as many of these pages as fit, from the first on
+abbrev pub AreFull : Contents → List Frame → List ℕ → Type 0
+AreFull c [] ps = Unit {0}
+AreFull c (x ∷ xs) ps = IsFull c x (drop (length x.blocks) ps) × AreFull c xs (drop (length x.blocks) ps)
+
+-- so many frames were added, which hold these pages and nothing else; the rest is still to come
+pub record Moved (old now : Contents) (pages rest : List ℕ) (frames : ℕ) : Type 0 where
+  pub written : List Frame
+  pub counts : counted now ≡ counted old ++ written
+  pub count : length written ≡ frames
+  pub few : frames ≤ length pages
+  pub holds : AreBases old (blocks_of written) pages
+  pub full : AreFull old written (pages ++ rest)
+  pub later : AllByRecursion (λ f. oldest_last old old.live < f.number) written
+  pub boxes_grew : AreLonger (boxes old) (boxes now)
+  pub older : KeepsOlder old.live now.live
+  pub works : now.is_failed ≡ false
+  pub table : length now.pages ≡ length old.pages
+  pub m : now.m ≡ old.m
+  pub f : now.f ≡ old.f
+  pub number : now.number ≡ old.number
+
+-- ---- refusals
+
+-- no frame of some length could be appended, for this fault
+pub record IsRefused (c : Contents) (fault : LogFault) : Type 0 where
+  pub len : ℕ
+  pub short : len ≤ c.f
+  pub told : refusal c len true ≡ Some fault
+
+-- what a failed call left: nothing, or a beginning of a header or of a frame of Bases, maybe all of it
+pub record IsTornBase (old new : Contents) : Type 0 where
+  pub frame : Frame
+  pub pages : List ℕ
+  pub holds : AreBases old frame.blocks pages
+  pub stopped : steps.Stopped old frame new
+
+-- a read or an append failed, and nothing more counts
+pub record DeviceFailed (lease : ℕ) (old new : Contents) : Type 0 where
+  pub left : (image new ≡ image old) ⊎ IsTornBase old new
+  pub rose : Rose lease (boxes old) (boxes new)
+  pub counts : counted new ≡ counted old
+  pub same : IsSameLog old new
+
+-- one step refused
+abbrev pub Refused : LogFault → Contents → Contents → Type 0
+Refused NoMemory old new = new ≡ old
+Refused BadConfig old new = ⊥
+Refused NoSegment old new = (new ≡ old) × IsRefused old NoSegment
+Refused (Device lease) old new = DeviceFailed lease old new
+Refused Failed old new = ⊥
+Refused Spent old new = (new ≡ old) × ((old.next ≡ None) ⊎ (IsWornOut (λ _. Unit {0}) old.live ⊎ IsRefused old Spent))
+Refused NoPage old new = ⊥
+
+-- some of the pages were written again, then a step was refused
+pub record Stopped (old : Contents) (fault : LogFault) (new : Contents) : Type 0 where
+  pub then_log : Contents
+  pub frames : ℕ
+  pub done : List ℕ
+  pub rest : List ℕ
+  pub pages : old_pages old ≡ done ++ rest
+  pub moved : Moved old then_log done rest frames
+  pub refused : Refused fault then_log new
+
+-- what a refused cleaning leaves
+abbrev pub Refuses : CleanFault → Contents → Contents → Type 0
+Refuses NothingOld old new = (new ≡ old) × (length old.live < 2)
+Refuses (Log NoMemory) old new = (2 ≤ length old.live) × (old.is_failed ≡ false) × Stopped old NoMemory new
+Refuses (Log BadConfig) old new = ⊥
+Refuses (Log NoSegment) old new = (2 ≤ length old.live) × (old.is_failed ≡ false) × Stopped old NoSegment new
+Refuses (Log (Device lease)) old new = (2 ≤ length old.live) × (old.is_failed ≡ false) × Stopped old (Device lease) new
+Refuses (Log Failed) old new = (new ≡ old) × (2 ≤ length old.live) × (old.is_failed ≡ true)
+Refuses (Log Spent) old new = (2 ≤ length old.live) × (old.is_failed ≡ false) × Stopped old Spent new
+Refuses (Log NoPage) old new = ⊥
+
+-- ---- the end
+
+-- all of them were written again, and the oldest segment was given up
+pub record IsCleaned (old : Contents) (cleaned : Cleaned) (new : Contents) : Type 0 where
+  pub two : 2 ≤ length old.live
+  pub worked : old.is_failed ≡ false
+  pub then_log : Contents
+  pub moved : Moved old then_log (old_pages old) [] cleaned.frames
+  pub given_up : new ≡ record then_log { live = drop 1 then_log.live; number = then_log.number + 1; frames = new.frames }
+  pub counts : counted new ≡ drop (oldest_count old.live) (counted then_log)
+  pub segment : cleaned.segment ≡ old.number
+  pub lease : map (λ h. h.lease) (take 1 old.live) ≡ cleaned.lease ∷ []
+  pub pages : cleaned.pages ≡ length (old_pages old)
+  pub leases : roster new ≡ drop 1 (roster old)

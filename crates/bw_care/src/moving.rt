@@ -1,0 +1,119 @@
+//! The steps of a cleaning.
+
+ghost use Rattle.std.specs.Prelude.{◌≡◌, ◌≢◌, ◌+◌, ◌<◌, ◌≤◌, [], take, drop, length, false, Err, IfOk, IfErr};
+ghost use Rattle.std.specs.List.{AllByRecursion};
+ghost use Rattle.bw_buffer.specs.Filling.{frame_of};
+ghost use Rattle.bw_log.specs.Calls.{IsPage, ReadStops};
+ghost use Rattle.bw_care.specs.Cleaning.{is_old, old_pages};
+ghost use Rattle.bw_care.specs.Moving.{AreBases, IsFull, Moved, Refused, Stopped};
+ghost use Rattle.bw_care.specs.Seen.{seen, IsSound};
+
+use bw_buffer::{Buffer, PutError};
+use bw_codec::{Block, Place};
+use bw_device::Segment;
+use bw_log::{Log, LogFault};
+use std::alloc::{AllocError, Global};
+
+// Whether a place, if there is one, stands in the frames up to this one.
+fn is_old(last: u64, place: Option<Place>) -> bool
+    ensures { result ≡ is_old last place }
+{
+    match place {
+        Some(place) => place.frame <= last,
+        None => false,
+    }
+}
+
+/// The pages whose last setting block stands in the oldest segment, ascending. It looks at each
+/// page once, in memory.
+pub(crate) fn old_pages(alloc: Global, log: &Log) -> Result<Vec<u32>, AllocError>
+    requires sound { IsSound log.now holding }
+    requires some { 0 < length (seen log.now holding).live }
+    ensures { IfOk result (λ pages. pages.items ≡ old_pages (seen log.now holding)) }
+{
+    let last = match log.oldest() {
+        Some((_, last)) => last,
+        None => 0,
+    };
+    let mut pages = Vec::new(alloc);
+    for index in 0..log.pages() {
+        let page = index + 1;
+        if is_old(last, log.base_of(page)) {
+            pages.push(page)?;
+        }
+    }
+    Ok(pages)
+}
+
+/// Puts pages, one or more, into an empty buffer as Bases, as many as fit, and answers how many.
+fn fill(log: &mut Log, buffer: &mut Buffer, pages: &[u32]) -> Result<usize, LogFault>
+    requires sound { IsSound log.old holding }
+    requires some { 0 < length pages.now }
+    requires pages { AllByRecursion (IsPage (seen log.old holding)) pages.now }
+    requires limit { buffer.old.limit ≡ (seen log.old holding).f }
+    requires empty { buffer.old.blocks ≡ [] }
+    requires unsealed { buffer.old.is_sealed ≡ false }
+    ensures sound { IsSound log.new holding }
+    ensures filled { IfOk result (λ n. (0 < n) × (n ≤ length pages.now)
+        × (buffer.new ≡ record buffer.old { blocks = buffer.new.blocks })
+        × AreBases (seen log.old holding) buffer.new.blocks (take n pages.now)
+        × IsFull (seen log.old holding) (frame_of buffer.new) (drop n pages.now)) }
+    ensures stops { ReadStops (λ _. Unit {0}) (seen log.old holding) result (seen log.new holding) }
+    ensures paged { result ≢ Err LogFault.NoPage }
+{
+    for at in 0..pages.len() {
+        let leaf = log.read_page(pages[at])?;
+        let block = [Block::Base(leaf)];
+        match buffer.put_all(&block) {
+            Ok(_) => {}
+            Err(PutError::NoRoom) => return Ok(at),
+            Err(PutError::Sealed) => unreachable!(),
+        }
+    }
+    Ok(pages.len())
+}
+
+/// Writes one frame of as many of the pages as fit, and answers how many.
+fn move_some(alloc: Global, log: &mut Log, pages: &[u32]) -> Result<usize, LogFault>
+    requires sound { IsSound log.old holding }
+    requires works { (seen log.old holding).is_failed ≡ false }
+    requires some { 0 < length pages.now }
+    requires pages { AllByRecursion (IsPage (seen log.old holding)) pages.now }
+    ensures sound { IsSound log.new holding }
+    ensures moved { IfOk result (λ n. (0 < n) × (n ≤ length pages.now)
+        × Moved (seen log.old holding) (seen log.new holding) (take n pages.now) (drop n pages.now) 1) }
+    ensures refused { IfErr result (λ fault.
+        Refused fault (seen log.old holding) (seen log.new holding)) }
+{
+    let Some(number) = log.next_frame() else {
+        return Err(LogFault::Spent);
+    };
+    let mut buffer = Buffer::new(alloc, number, log.limit())?;
+    let count = fill(log, &mut buffer, pages)?;
+    buffer.seal();
+    // The bytes tell the proof that the frame is no longer than the limit.
+    let _ = buffer.bytes();
+    log.append_care(&buffer)?;
+    Ok(count)
+}
+
+/// Writes all the pages again, in frames of as many as fit, and answers how many frames.
+pub(crate) fn move_pages(alloc: Global, log: &mut Log, pages: &[u32]) -> Result<u64, LogFault>
+    requires sound { IsSound log.old holding }
+    requires works { (seen log.old holding).is_failed ≡ false }
+    requires two { 2 ≤ length (seen log.old holding).live }
+    requires pages { pages.now ≡ old_pages (seen log.old holding) }
+    ensures sound { IsSound log.new holding }
+    ensures moved { IfOk result (λ frames. Moved (seen log.old holding) (seen log.new holding)
+        (old_pages (seen log.old holding)) [] frames) }
+    ensures refused { IfErr result (λ fault.
+        Stopped (seen log.old holding) fault (seen log.new holding)) }
+{
+    let mut frames = 0;
+    let mut at = 0;
+    while at < pages.len() {
+        at += move_some(alloc, log, &pages[at..])?;
+        frames += 1;
+    }
+    Ok(frames)
+}
