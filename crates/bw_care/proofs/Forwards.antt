@@ -1,0 +1,147 @@
+-- The second pass, as far as it went.
+
+use Rattle.std.proofs.Common.{◌≡◌, ℕ, zero, suc, ◌+◌, ◌-◌, ◌<◌, ◌≤◌, Option, Some, None, Result, Ok, Err, IfErr, OnOk, List, [], ◌∷◌, ◌++◌, length, drop, map}
+use Rattle.std.proofs.Common.{slice_get, get_or, IfSome, refl, sym, ap, subst, ◌∙◌, append_assoc, append-nil, arith}
+use Rattle.std.proofs.lemmas.List.{length-map}
+use Rattle.bw_codec.specs.Reading.{front_at}
+use Rattle.bw_codec.specs.declared.block.Place.{Place}
+use Rattle.bw_codec.specs.declared.block.Block.{Block}
+use Rattle.bw_codec.specs.declared.block.Frame.{Frame}
+use Rattle.bw_device.specs.Holding.{Holding}
+use Rattle.bw_log.specs.Places.{placed, all_placed, bad_link}
+use Rattle.bw_log.specs.Segments.{frames_at, segment_frames, frames_of}
+use Rattle.bw_log.specs.declared.places.FrameAt.{FrameAt}
+use Rattle.bw_care.specs.Scanning.{fault_by}
+use Rattle.bw_care.specs.Behind.{frames_behind, EndsInTail}
+use Rattle.bw_care.specs.Forward.{IsFramed, AreReady, ForwardStops}
+use Rattle.bw_care.specs.Planned.{as_cause}
+use Rattle.bw_care.specs.Reading.{IsRead, LinkFaultIs}
+use Rattle.bw_care.specs.Passing.{Fails, ReadStops}
+use Rattle.bw_care.specs.declared.reading.ReadFault.{ReadFault}
+use Rattle.bw_care.specs.declared.reading.ReadFault.TheVariants as read
+use Rattle.bw_care.specs.declared.fault.RecoverCause.{RecoverCause}
+use Rattle.bw_care.specs.declared.fault.RecoverCause.TheVariants.{NoMemory, BadConfig, Device, Spent, Empty, BadBytes, Gap, Mixed, BadLink, Unlawful}
+use Rattle.bw_care.proofs.Fronts.{IsReadTo, ends_bad, bad_there}
+use Rattle.bw_care.proofs.Framed.{placed_join, frames_wrong}
+
+-- ---- one segment
+
+-- the frames that were read, one more, and the rest
+pub frames_around : (m f : ℕ) (bytes : List ℕ) (at : ℕ) (seen : List Frame) (told : List FrameAt) (frame : Frame)
+    → IsReadTo m f bytes at (seen ++ frame ∷ []) told → (more : List Frame) × (seen ++ frame ∷ more ≡ frames_behind m f bytes)
+frames_around m f bytes at seen told frame r =
+    let more = (frames_at (length bytes - length (seen ++ frame ∷ [])) m f (drop at bytes)).0 in
+    (more, sym (append_assoc seen (frame ∷ []) more) ∙ sym (ap (λ (x : List Frame × List ℕ). x.0) r.read))
+
+-- bytes that end in a tail have nothing else behind their frames
+pub never_bad : (m f : ℕ) (bytes : List ℕ) (at : ℕ) (seen : List Frame) (told : List FrameAt) → EndsInTail m f bytes → IsReadTo m f bytes at seen told
+    → front_at m f (drop at bytes) ≡ None → ⊥
+never_bad m f bytes at seen told ends r none =
+    let bad = bad_there m f bytes at seen (ends_bad m f bytes at seen told r none) none in
+    (let e : Some at ≡ None = sym bad ∙ ends in absurd cc)
+
+-- ---- one box
+
+stops_by : (first at : ℕ) (blocks : List (Place × Block)) (old new : List Holding) (cause : RecoverCause) → ReadStops at old cause new
+    → ForwardStops first blocks old cause new
+stops_by first at blocks old new NoMemory s = s
+stops_by first at blocks old new (Device lease) s = (at, s)
+stops_by first at blocks old new Spent s = (s.0, at, s.1)
+stops_by first at blocks old new BadConfig s = absurd s
+stops_by first at blocks old new Empty s = absurd s
+stops_by first at blocks old new (BadBytes segment offset) s = absurd s
+stops_by first at blocks old new Gap s = absurd s
+stops_by first at blocks old new Mixed s = absurd s
+stops_by first at blocks old new (BadLink page) s = absurd s
+stops_by first at blocks old new (Unlawful page) s = absurd s
+
+-- a box that cannot be read stops the pass
+pub box_stops : (first at : ℕ) (blocks : List (Place × Block)) (old new : List Holding) (cause : RecoverCause) → ReadStops at old cause new
+    → ForwardStops first blocks old cause new
+box_stops first at blocks old new cause s = stops_by first at blocks old new cause s
+
+-- a wrong link stops it, and no box has changed
+pub link_stops_here : (first : ℕ) (blocks : List (Place × Block)) (old new : List Holding) (fault : ReadFault) (cause : RecoverCause) → new ≡ old
+    → LinkFaultIs (bad_link first [] blocks) fault → cause ≡ as_cause fault → ForwardStops first blocks old cause new
+link_stops_here first blocks old new read.NoMemory cause same wrong is = subst (λ (c : RecoverCause). ForwardStops first blocks old c new) (sym is) same
+link_stops_here first blocks old new (read.BadLink p) cause same wrong is =
+    subst (λ (c : RecoverCause). ForwardStops first blocks old c new) (sym is) (same, wrong)
+
+some_told : (P : Holding → Type 0) (o : Option Holding) (h : Holding) → o ≡ Some h → IfSome o P → P h
+some_told P (Some k) h is told = (let same : k ≡ h = cc in subst P same told)
+some_told P None h is told = absurd cc
+
+-- the blocks behind the bytes that were read are those of the box
+pub box_frames : (m f : ℕ) (items bytes : List ℕ) (o : Option Holding) (h : Holding) → o ≡ Some h → IfSome o (λ k. IsFramed m f k.bytes)
+    → IfSome o (λ k. items ≡ k.bytes) → bytes ≡ items → frames_behind m f bytes ≡ segment_frames h.bytes
+box_frames m f items bytes o h there framed told same =
+    ap (frames_behind m f) (same ∙ some_told (λ k. items ≡ k.bytes) o h there told) ∙ sym (some_told (λ k. IsFramed m f k.bytes) o h there framed).frames
+
+pub box_wrong : (first : ℕ) (done rest : List (Place × Block)) (fs gs : List Frame) (old new : List Holding) (fault : ReadFault) (cause : RecoverCause)
+    → fs ≡ gs → new ≡ old → LinkFaultIs (bad_link first [] (done ++ (all_placed fs ++ rest))) fault → cause ≡ as_cause fault
+    → ForwardStops first (done ++ (all_placed gs ++ rest)) old cause new
+box_wrong first done rest fs gs old new fault cause frames same wrong is =
+    link_stops_here first (done ++ (all_placed gs ++ rest)) old new fault cause same
+    (subst (λ (l : List Frame). LinkFaultIs (bad_link first [] (done ++ (all_placed l ++ rest))) fault) frames wrong) is
+
+pub stops_there : (first : ℕ) (blocks all : List (Place × Block)) (old now new : List Holding) (cause : RecoverCause) → blocks ≡ all → now ≡ old
+    → ForwardStops first blocks now cause new → ForwardStops first all old cause new
+stops_there first blocks all old now new cause same boxes s =
+    subst (λ (l : List Holding). ForwardStops first all l cause new) boxes (subst (λ (l : List (Place × Block)). ForwardStops first l now cause new) same s)
+
+-- ---- all boxes
+
+got_inside : (hs : List Holding) (i : ℕ) (h : Holding) → slice_get hs i ≡ Some h → i < length hs
+got_inside [] i h is = absurd cc
+got_inside (k ∷ hs) zero h is = omega arith
+got_inside (k ∷ hs) (suc i) h is = (let less = got_inside hs i h is in omega arith)
+
+pub place_inside : {X : Type 0} (v : X → Holding) (xs : List X) (old : List Holding) (place : ℕ) (h : Holding) → map v xs ≡ old
+    → slice_get old place ≡ Some h → place < length xs
+place_inside v xs old place h same there =
+    let less = got_inside old place h there in
+    omega (arith, ap (λ (l : List Holding). length l) same, length-map xs v)
+
+-- the next segment that is ready
+pub record Next (m f : ℕ) (boxes : List Holding) (place : ℕ) (places : List ℕ) (hs : List Holding) : Type 0 where
+  pub here : Holding
+  pub rest : List Holding
+  pub is : hs ≡ here ∷ rest
+  pub at : slice_get boxes place ≡ Some here
+  pub framed : IsFramed m f here.bytes
+  pub ready : AreReady m f boxes places rest
+
+pub next_ready : (m f : ℕ) (boxes : List Holding) (places : List ℕ) (n : ℕ) (hs : List Holding) → n < length places
+    → AreReady m f boxes (drop n places) hs → Next m f boxes (get_or places n 0) (drop (n + 1) places) hs
+next_ready m f boxes [] n hs inside ready = absurd (omega arith)
+next_ready m f boxes (p ∷ ps) zero [] inside ready = absurd ready
+next_ready m f boxes (p ∷ ps) zero (h ∷ hs) inside ready =
+    record { here = h; rest = hs; is = refl; at = ready.0; framed = ready.1; ready = ready.2 }
+next_ready m f boxes (p ∷ ps) (suc n) hs inside ready =
+    let next : suc (n + 1) ≡ suc n + 1 = omega arith in
+    subst (λ (k : ℕ). Next m f boxes (get_or ps n 0) (drop k (p ∷ ps)) hs) next (next_ready m f boxes ps n hs (omega arith) ready)
+
+-- one more segment was read
+pub segment_more : (seen : List Holding) (h : Holding)
+    → all_placed (frames_of (map (λ x. x.bytes) seen)) ++ all_placed (segment_frames h.bytes)
+    ≡ all_placed (frames_of (map (λ x. x.bytes) (seen ++ h ∷ [])))
+segment_more [] h = sym (placed_join (segment_frames h.bytes) [] ∙ append-nil (all_placed (segment_frames h.bytes)))
+segment_more (k ∷ seen) h =
+    ap (λ (l : List (Place × Block)). l ++ all_placed (segment_frames h.bytes))
+    (placed_join (segment_frames k.bytes) (frames_of (map (λ x. x.bytes) seen)))
+    ∙ append_assoc (all_placed (segment_frames k.bytes)) (all_placed (frames_of (map (λ x. x.bytes) seen))) (all_placed (segment_frames h.bytes))
+    ∙ ap (λ (l : List (Place × Block)). all_placed (segment_frames k.bytes) ++ l) (segment_more seen h)
+    ∙ sym (placed_join (segment_frames k.bytes) (frames_of (map (λ x. x.bytes) (seen ++ h ∷ []))))
+
+-- the blocks of all, around one segment
+pub segments_around : (seen : List Holding) (h : Holding) (rest : List Holding)
+    → all_placed (frames_of (map (λ x. x.bytes) seen)) ++ (all_placed (segment_frames h.bytes) ++ all_placed (frames_of (map (λ x. x.bytes) rest)))
+    ≡ all_placed (frames_of (map (λ x. x.bytes) (seen ++ h ∷ rest)))
+segments_around [] h rest = sym (placed_join (segment_frames h.bytes) (frames_of (map (λ x. x.bytes) rest)))
+segments_around (k ∷ seen) h rest =
+    ap (λ (l : List (Place × Block)). l ++ (all_placed (segment_frames h.bytes) ++ all_placed (frames_of (map (λ x. x.bytes) rest))))
+    (placed_join (segment_frames k.bytes) (frames_of (map (λ x. x.bytes) seen)))
+    ∙ append_assoc (all_placed (segment_frames k.bytes)) (all_placed (frames_of (map (λ x. x.bytes) seen)))
+    (all_placed (segment_frames h.bytes) ++ all_placed (frames_of (map (λ x. x.bytes) rest)))
+    ∙ ap (λ (l : List (Place × Block)). all_placed (segment_frames k.bytes) ++ l) (segments_around seen h rest)
+    ∙ sym (placed_join (segment_frames k.bytes) (frames_of (map (λ x. x.bytes) (seen ++ h ∷ rest))))

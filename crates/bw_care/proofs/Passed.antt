@@ -1,0 +1,112 @@
+-- A pass over boxes, as far as it went.
+
+use Rattle.std.proofs.Common.{◌≡◌, ◌≢◌, ℕ, zero, suc, ◌+◌, ◌<◌, ◌≤◌, Option, Some, None, List, [], ◌∷◌, ◌++◌, length, take, map, slice_get, slice_set, IfSome}
+use Rattle.std.proofs.Common.{Result, Ok, Err, IfOk, refl, sym, ap, subst, ◌∙◌, arith}
+use Rattle.bw_device.specs.Holding.{Holding, failed_once}
+use Rattle.std.proofs.lemmas.List.{length-map}
+use Rattle.bw_care.specs.Scanning.{fault_in, FaultIs}
+use Rattle.bw_care.specs.declared.scanning.ScanFault.{ScanFault}
+use Rattle.bw_care.specs.declared.scanning.ScanFault.TheVariants.{BadBytes as scan_bad}
+use Rattle.bw_care.specs.Scanned.{IsScan, AreScans}
+use Rattle.bw_care.specs.Recovery.{bytes_fault, bytes_fault_by}
+use Rattle.bw_care.specs.Passing.{Fails, IsWorn, ReadStops, PassStops}
+use Rattle.bw_care.specs.declared.scanning.Scan.{Scan}
+use Rattle.bw_care.specs.declared.scanning.Scan.TheVariants.{Bare, Part, Live}
+use Rattle.bw_care.specs.declared.fault.RecoverCause.{RecoverCause}
+use Rattle.bw_care.specs.declared.fault.RecoverCause.TheVariants.{NoMemory, BadConfig, Device, Spent, Empty, BadBytes, Gap, Mixed, BadLink, Unlawful}
+
+pub scans_more : (hs : List Holding) (ss : List Scan) (i : ℕ) (h : Holding) (s : Scan) → slice_get hs i ≡ Some h → IsScan h.bytes s → AreScans (take i hs) ss
+    → AreScans (take (suc i) hs) (ss ++ s ∷ [])
+scans_more [] ss i h s there one all = absurd cc
+scans_more (k ∷ hs) [] zero h s there one all = (let same : k ≡ h = cc in (subst (λ (x : Holding). IsScan x.bytes s) (sym same) one, tt))
+scans_more (k ∷ hs) (t ∷ ss) zero h s there one all = absurd all
+scans_more (k ∷ hs) [] (suc i) h s there one all = absurd all
+scans_more (k ∷ hs) (t ∷ ss) (suc i) h s there one all = (all.0, scans_more hs ss i h s there one all.1)
+
+pub scans_end : (hs : List Holding) (ss : List Scan) (i : ℕ) → length hs ≤ i → AreScans (take i hs) ss → AreScans hs ss
+scans_end [] [] zero end all = tt
+scans_end [] (t ∷ ss) zero end all = absurd all
+scans_end [] [] (suc i) end all = tt
+scans_end [] (t ∷ ss) (suc i) end all = absurd all
+scans_end (k ∷ hs) ss zero end all = absurd (omega arith)
+scans_end (k ∷ hs) [] (suc i) end all = absurd all
+scans_end (k ∷ hs) (t ∷ ss) (suc i) end all = (all.0, scans_end hs ss i (omega arith) all.1)
+
+-- a box that was read has no fault
+pub no_fault : (bytes : List ℕ) (s : Scan) → IsScan bytes s → fault_in bytes ≡ None
+no_fault bytes Bare is = ap fault_in is
+no_fault bytes Part is = is.1
+no_fault bytes (Live header b) is = is.1
+
+-- the first fault is the one at this box
+pub fault_here : (hs : List Holding) (ss : List Scan) (k i at : ℕ) (h : Holding) → AreScans (take i hs) ss → slice_get hs i ≡ Some h
+    → fault_in h.bytes ≡ Some at → bytes_fault k hs ≡ Some (BadBytes (k + i) at)
+fault_here [] ss k i at h all there fault = absurd cc
+fault_here (x ∷ hs) ss k zero at h all there fault =
+    let same : x ≡ h = cc in
+    let here : fault_in x.bytes ≡ Some at = ap (λ (y : Holding). fault_in y.bytes) same ∙ fault in
+    let number : k ≡ k + 0 = omega arith in
+    ap (λ (o : Option ℕ). bytes_fault_by k o (bytes_fault (k + 1) hs)) here ∙ ap (λ (n : ℕ). Some (BadBytes n at)) number
+fault_here (x ∷ hs) [] k (suc i) at h all there fault = absurd all
+fault_here (x ∷ hs) (t ∷ ss) k (suc i) at h all there fault =
+    let number : k + 1 + i ≡ k + suc i = omega arith in
+    ap (λ (o : Option ℕ). bytes_fault_by k o (bytes_fault (k + 1) hs)) (no_fault x.bytes t all.0) ∙ fault_here hs ss (k + 1) i at h all.1 there fault
+    ∙ ap (λ (n : ℕ). Some (BadBytes n at)) number
+
+-- a read that stops ends the pass
+pub pass_stops : (at : ℕ) (old now : List Holding) (new : List Holding) (cause : RecoverCause) → now ≡ old → ReadStops at now cause new
+    → PassStops old cause new
+pass_stops at old now new cause same stops = as_pass cause (subst (λ (hs : List Holding). ReadStops at hs cause new) same stops) where
+  as_pass : (cause : RecoverCause) → ReadStops at old cause new → PassStops old cause new
+  as_pass NoMemory s = s
+  as_pass (Device lease) s = (at, s)
+  as_pass Spent s = (s.0, at, s.1)
+  as_pass BadConfig s = absurd s
+  as_pass Empty s = absurd s
+  as_pass (BadBytes segment offset) s = absurd s
+  as_pass Gap s = absurd s
+  as_pass Mixed s = absurd s
+  as_pass (BadLink page) s = absurd s
+  as_pass (Unlawful page) s = absurd s
+
+-- the box at an index that is inside
+pub there_is : (hs : List Holding) (i : ℕ) → i < length hs → (h : Holding) × (slice_get hs i ≡ Some h)
+there_is [] i inside = absurd (omega arith)
+there_is (h ∷ hs) zero inside = (h, refl)
+there_is (h ∷ hs) (suc i) inside = there_is hs i (omega arith)
+
+bytes_told : (o : Option Holding) (h : Holding) (bytes : List ℕ) → o ≡ Some h → IfSome o (λ k. bytes ≡ k.bytes) → bytes ≡ h.bytes
+bytes_told (Some k) h bytes is told = (let same : k ≡ h = cc in told ∙ ap (λ (x : Holding). x.bytes) same)
+bytes_told None h bytes is told = absurd cc
+
+-- its bytes, as they were read
+pub read_bytes : (old now : List Holding) (i : ℕ) (h : Holding) (bytes : List ℕ) → now ≡ old → slice_get old i ≡ Some h
+    → IfSome (slice_get now i) (λ k. bytes ≡ k.bytes) → bytes ≡ h.bytes
+read_bytes old now i h bytes same is told = bytes_told (slice_get now i) h bytes (ap (λ (hs : List Holding). slice_get hs i) same ∙ is) told
+
+-- ---- as the code goes
+
+pub inside_map : {X : Type 0} (v : X → Holding) (xs : List X) (i : ℕ) → i < length xs → i < length (map v xs)
+inside_map v xs i inside = omega (arith, length-map xs v)
+
+pub scan_step : (old now : List Holding) (ss more : List Scan) (i : ℕ) (bytes slice : List ℕ) (s : Scan) → now ≡ old → i < length old → AreScans (take i old) ss
+    → IfSome (slice_get now i) (λ k. bytes ≡ k.bytes) → slice ≡ bytes → IsScan slice s → more ≡ ss ++ s ∷ []
+    → AreScans (take (i + 1) old) more
+scan_step old now ss more i bytes slice s same inside all told as_slice one pushed =
+    let there = there_is old i inside in
+    let here : IsScan there.0.bytes s = subst (λ (b : List ℕ). IsScan b s) (as_slice ∙ read_bytes old now i there.0 bytes same there.1 told) one in
+    let number : suc i ≡ i + 1 = omega arith in
+    subst (λ (n : ℕ). AreScans (take n old) more) number (subst (AreScans (take (suc i) old)) (sym pushed) (scans_more old ss i there.0 s there.1 here all))
+
+fault_as : (o : Option ℕ) (fault : ScanFault) (at : ℕ) → FaultIs o fault → fault ≡ scan_bad at → o ≡ Some at
+fault_as o fault at is same = subst (FaultIs o) same is
+
+pub fault_step : (old now : List Holding) (ss : List Scan) (i at : ℕ) (bytes slice : List ℕ) (fault : ScanFault) → now ≡ old → i < length old
+    → AreScans (take i old) ss → IfSome (slice_get now i) (λ k. bytes ≡ k.bytes) → slice ≡ bytes → FaultIs (fault_in slice) fault → fault ≡ scan_bad at
+    → bytes_fault 0 old ≡ Some (BadBytes i at)
+fault_step old now ss i at bytes slice fault same inside all told as_slice one is =
+    let there = there_is old i inside in
+    let here : fault_in there.0.bytes ≡ Some at =
+    ap fault_in (sym (as_slice ∙ read_bytes old now i there.0 bytes same there.1 told)) ∙ fault_as (fault_in slice) fault at one is in
+    let number : 0 + i ≡ i = omega arith in
+    fault_here old ss 0 i at there.0 all there.1 here ∙ ap (λ (n : ℕ). Some (BadBytes n at)) number

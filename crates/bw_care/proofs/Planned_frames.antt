@@ -1,0 +1,76 @@
+-- Frames in order, as a log has them.
+
+use Rattle.std.proofs.Common.{◌≡◌, ℕ, zero, suc, ◌+◌, ◌==◌, ◌&&◌, ◌≤◌, Bool, true, false, Option, Some, None, List, [], ◌∷◌, ◌++◌, length, map, refl, sym, ap}
+use Rattle.std.proofs.Common.{◌∙◌, subst, arith}
+use Rattle.std.specs.List.{fold, flat_map, AllByRecursion}
+use Rattle.std.proofs.lemmas.Bool.{and_parts, eqb-true}
+use Rattle.std.proofs.lemmas.List.{map-append}
+use Rattle.bw_codec.specs.Grammar.{IsFrame, frame_bytes}
+use Rattle.bw_codec.specs.declared.block.Frame.{Frame}
+use Rattle.bw_device.specs.Holding.{Holding}
+use Rattle.bw_log.specs.Places.{first_number}
+use Rattle.bw_log.specs.Segments.{segment_frames, frames_of, AreFrom, following, next_of}
+use Rattle.bw_log.specs.Adopting.{next_in}
+use Rattle.bw_log.specs.declared.places.FrameAt.{FrameAt}
+use Rattle.bw_care.specs.Behind.{frames_behind}
+use Rattle.bw_care.specs.Scanned.{IsScan}
+use Rattle.bw_care.specs.Ordering.{follow_from, AreFound, lines_found, line_number}
+use Rattle.bw_care.specs.declared.scanning.Scan.TheVariants.{Live}
+use Rattle.bw_care.proofs.Sorting.{frames_here, all_numbers}
+use Rattle.bw_care.specs.declared.ordering.Found.{Found}
+use Rattle.bw_care.proofs.Planned_live.{IsLike}
+
+abbrev number : Frame → ℕ
+number f = f.number
+
+from_some : (k : ℕ) (fs : List Frame) → follow_from (Some k) (map number fs) ≡ true → AreFrom (k + 1) fs
+from_some k [] e = tt
+from_some k (f ∷ fs) e =
+    let two = and_parts (k + 1 == f.number) (follow_from (Some f.number) (map number fs)) e in
+    let same : k + 1 ≡ f.number = eqb-true (k + 1) f.number two.0 in
+    (sym same, subst (λ (n : ℕ). AreFrom (n + 1) fs) (sym same) (from_some f.number fs two.1))
+
+-- frames without a gap
+pub frames_from : (fs : List Frame) → follow_from None (map (λ f. f.number) fs) ≡ true → AreFrom (first_number fs) fs
+frames_from [] e = tt
+frames_from (f ∷ fs) e = (refl, from_some f.number fs e)
+
+-- ---- the next number
+
+abbrev next_number : Option ℕ → List ℕ → Option ℕ
+next_number was ns = fold (λ o n. following n) was ns
+
+lines_next : (was : Option ℕ) (es : List FrameAt) → fold (λ o e. following e.number) was es ≡ next_number was (map (λ e. e.number) es)
+lines_next was [] = refl
+lines_next was (e ∷ es) = lines_next (following e.number) es
+
+frames_next : (was : Option ℕ) (fs : List Frame) → fold (λ o f. following f.number) was fs ≡ next_number was (map number fs)
+frames_next was [] = refl
+frames_next was (f ∷ fs) = frames_next (following f.number) fs
+
+pub next_same : (k : ℕ) (boxes hs : List Holding) (rs : List Found) → AreFound boxes hs rs
+    → next_in (lines_found k rs) ≡ next_of (frames_of (map (λ h. h.bytes) hs))
+next_same k boxes hs rs all = lines_next (Some 1) (lines_found k rs) ∙ ap (next_number (Some 1)) (all_numbers k boxes hs rs all)
+    ∙ sym (frames_next (Some 1) (frames_of (map (λ h. h.bytes) hs)))
+
+-- ---- lawful
+
+all_join : {X : Type 0} (P : X → Type 0) (xs ys : List X) → AllByRecursion P xs → AllByRecursion P ys → AllByRecursion P (xs ++ ys)
+all_join P [] ys a b = b
+all_join P (x ∷ xs) ys a b = (a.0, all_join P xs ys a.1 b)
+
+here_lawful : (m f : ℕ) (h : Holding) (r : Found) → IsLike m f r → IsScan h.bytes (Live r.header r.behind)
+    → AllByRecursion (IsFrame m f) (segment_frames h.bytes)
+here_lawful m f h r like is =
+    subst (AllByRecursion (IsFrame m f)) (sym (frames_here h r is))
+    (subst (λ (k : ℕ). AllByRecursion (IsFrame k f) (frames_behind r.header.m r.header.f h.bytes)) like.0
+    (subst (λ (k : ℕ). AllByRecursion (IsFrame r.header.m k) (frames_behind r.header.m r.header.f h.bytes)) like.1 is.2.laws))
+
+pub all_lawful : (m f : ℕ) (boxes hs : List Holding) (rs : List Found) → AreFound boxes hs rs → AllByRecursion (IsLike m f) rs
+    → AllByRecursion (IsFrame m f) (frames_of (map (λ h. h.bytes) hs))
+all_lawful m f boxes [] [] all like = tt
+all_lawful m f boxes [] (r ∷ rs) all like = absurd all
+all_lawful m f boxes (h ∷ hs) [] all like = absurd all
+all_lawful m f boxes (h ∷ hs) (r ∷ rs) all like =
+    all_join (IsFrame m f) (segment_frames h.bytes) (frames_of (map (λ x. x.bytes) hs)) (here_lawful m f h r like.0 all.0)
+    (all_lawful m f boxes hs rs all.1 like.1)

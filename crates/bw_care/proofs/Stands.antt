@@ -1,0 +1,99 @@
+-- What recovery finds stands: and what stands, recovery finds.
+
+use Rattle.std.proofs.Common.{inl, inr, ◌⊎◌, ◌≡◌, ℕ, zero, suc, ◌+◌, ◌-◌, ◌^◌, ◌<◌, ◌≤◌, ◌==◌, ◌&&◌, ◌||◌, not, nat_lt, Bool, true, false, if◌then◌else◌, max}
+use Rattle.std.proofs.Common.{Option, Some, None, List, [], ◌∷◌, ◌++◌, length, slice_get, IsTrue, refl, sym, ap, ◌∙◌, subst, arith, length-append}
+use Rattle.std.specs.List.{fold, flat_map, list_any, AllByRecursion}
+use Rattle.std.proofs.lemmas.Bool.{or_parts, eqb-true, eq-eqb, ltb-true, ltb-false, lt-ltb, le-ltb, true≢false, cases_lt}
+use lib.Pointwise.{bytes_decides}
+use Rattle.bw_codec.specs.Bytes.{is_below}
+use Rattle.bw_codec.specs.Grammar.{IsPage, IsBase, IsBlock, IsFrame}
+use Rattle.bw_codec.specs.Touch.{sets, touches}
+use Rattle.bw_codec.specs.declared.leaf.Leaf.{Leaf}
+use Rattle.bw_codec.specs.declared.block.Block.{Block}
+use Rattle.bw_codec.specs.declared.block.Block.TheVariants.{Delta, Base, Split}
+use Rattle.bw_codec.specs.declared.block.Frame.{Frame}
+use Rattle.bw_buffer.specs.Marks.{mark_of}
+use Rattle.bw_page.specs.Leaves.{Bytes, leaf_at, AreNumbered, BeginsEmpty, HaveOwnLows, AreLeaves}
+use Rattle.bw_page.specs.Laws.{LiesBetween, AreRanged}
+use Rattle.bw_page.specs.Standing.{after, content, blocks_of, Stand}
+use Rattle.bw_page.proofs.Order.{must_not}
+use Rattle.bw_log.specs.Noting.{top_of, top_page}
+use Rattle.bw_care.specs.Lawful.{as_list, page_set, set_by, leaves_set, is_same, has_low_before, is_astray, has_wrong_low, is_bad_leaf, is_bad_page}
+use Rattle.bw_care.specs.Lawful.{is_at_fault, first_such, contents}
+use Rattle.bw_care.proofs.Lawfully.{NoneAtFault, all_set, contents_at, contents_length, leaves_lawful}
+
+-- ---- pages that are touched
+
+no_page : (p page top : ℕ) → page ≤ top → top < p → (page == p) ≡ false
+no_page p page top within beyond = must_not (page == p) (λ e. (let same = eqb-true page p e in omega arith))
+
+neither : (a b : Bool) → a ≡ false → b ≡ false → (a || b) ≡ false
+neither false false x y = refl
+neither true b x y = absurd cc
+neither false true x y = absurd cc
+
+untouched : (p : ℕ) (b : Block) → top_of (mark_of b) < p → touches p b ≡ false
+untouched p (Delta page back ops) beyond = no_page p page page (omega arith) beyond
+untouched p (Base leaf) beyond = no_page p leaf.page leaf.page (omega arith) beyond
+untouched p (Split page back upper) beyond =
+    neither (page == p) (upper.page == p) (no_page p page (max page upper.page) (omega arith) beyond)
+    (no_page p upper.page (max page upper.page) (omega arith) beyond)
+
+pub all_untouched : (p : ℕ) (bs : List Block) → top_page bs < p → AllByRecursion (λ b. touches p b ≡ false) bs
+all_untouched p [] beyond = tt
+all_untouched p (b ∷ bs) beyond = (untouched p b (omega arith), all_untouched p bs (omega arith))
+
+block_page : (m : ℕ) (b : Block) → IsBlock m b → (1 ≤ top_of (mark_of b)) × (top_of (mark_of b) < 2 ^ 32)
+block_page m (Delta page back ops) law = law.changes
+block_page m (Base leaf) law = law.page
+block_page m (Split page back upper) law = let a = law.cuts in let b = law.makes.page in (omega arith, omega arith)
+
+pub top_small : (m : ℕ) (bs : List Block) → AllByRecursion (IsBlock m) bs → top_page bs < 2 ^ 32
+top_small m [] laws = omega arith
+top_small m (b ∷ bs) laws = let one = block_page m b laws.0 in let more = top_small m bs laws.1 in omega arith
+
+pub top_some : (m : ℕ) (bs : List Block) → AllByRecursion (IsBlock m) bs → 1 ≤ length bs → 1 ≤ top_page bs
+top_some m [] laws some = absurd (omega arith)
+top_some m (b ∷ bs) laws some = let one = block_page m b laws.0 in omega arith
+
+-- ---- frames
+
+all_join : {X : Type 0} (P : X → Type 0) (xs ys : List X) → AllByRecursion P xs → AllByRecursion P ys → AllByRecursion P (xs ++ ys)
+all_join P [] ys a b = b
+all_join P (x ∷ xs) ys a b = (a.0, all_join P xs ys a.1 b)
+
+pub blocks_lawful : (m f : ℕ) (fs : List Frame) → AllByRecursion (IsFrame m f) fs → AllByRecursion (IsBlock m) (blocks_of fs)
+blocks_lawful m f [] laws = tt
+blocks_lawful m f (x ∷ xs) laws = all_join (IsBlock m) x.blocks (blocks_of xs) laws.0.blocks (blocks_lawful m f xs laws.1)
+
+pub blocks_some : (m f : ℕ) (fs : List Frame) → AllByRecursion (IsFrame m f) fs → 1 ≤ length fs → 1 ≤ length (blocks_of fs)
+blocks_some m f [] laws some = absurd (omega arith)
+blocks_some m f (x ∷ xs) laws some = let head = laws.0.head.some in omega (arith, length-append x.blocks (blocks_of xs))
+
+-- ---- what is found stands
+
+page_here : (blocks : List Block) (n p : ℕ) → 1 ≤ p → p ≤ n → ((i : ℕ) → i < n → content (1 + i) blocks ≡ slice_get (contents blocks 1 n) i)
+    → content p blocks ≡ leaf_at p (contents blocks 1 n)
+page_here blocks n zero from to at = absurd (omega arith)
+page_here blocks n (suc i) from to at = (let same : suc i ≡ 1 + i = omega arith in ap (λ (k : ℕ). content k blocks) same) ∙ at i (omega arith)
+
+pub found_stands : (m f : ℕ) (frames : List Frame) → AllByRecursion (IsFrame m f) frames → 1 ≤ length frames
+    → NoneAtFault m (blocks_of frames) (top_page (blocks_of frames))
+    → Stand m frames (contents (blocks_of frames) 1 (top_page (blocks_of frames)))
+found_stands m f frames laws some none = by_top (top_page (blocks_of frames)) refl
+    (top_some m (blocks_of frames) (blocks_lawful m f frames laws) (blocks_some m f frames laws some)) where
+      by_top : (n : ℕ) → top_page (blocks_of frames) ≡ n → 1 ≤ n → Stand m frames (contents (blocks_of frames) 1 (top_page (blocks_of frames)))
+      by_top zero is one = absurd (omega arith)
+      by_top (suc n) is one =
+          let blocks = blocks_of frames in
+          let blocks_law = blocks_lawful m f frames laws in
+          let none_here : NoneAtFault m blocks (suc n) = subst (NoneAtFault m blocks) is none in
+          let set = all_set m blocks (suc n) none_here in
+          let small = top_small m blocks blocks_law in
+          let len = contents_length blocks 1 (suc n) set in
+          subst (λ (k : ℕ). Stand m frames (contents blocks 1 k)) (sym is) (record {
+            some = some;
+            lawful = leaves_lawful m blocks n (omega arith) blocks_law none_here;
+            each = λ p from to. page_here blocks (suc n) p from (omega arith) (λ i inside. contents_at blocks 1 (suc n) i set inside);
+            all = λ p beyond. all_untouched p blocks (omega arith);
+          })

@@ -1,0 +1,5 @@
+use Rattle.bw_care.proofs.Stands.{found_stands}
+use Rattle.bw_care.proofs.laws.found_leaves_stand.Goals as goal
+
+pub returns : goal.returns
+returns c = λ m f frames. found_stands m f frames

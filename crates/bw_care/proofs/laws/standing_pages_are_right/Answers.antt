@@ -1,0 +1,8 @@
+use Rattle.bw_page.specs.Standing.{blocks_of}
+use Rattle.bw_care.proofs.Stands.{blocks_lawful}
+use Rattle.bw_care.proofs.Again.{stands_again}
+use Rattle.bw_care.proofs.laws.standing_pages_are_right.Goals as goal
+
+pub returns : goal.returns
+returns c = λ m f frames leaves laws stand.
+    stands_again m (blocks_of frames) leaves (record { lawful = stand.lawful; each = stand.each; all = stand.all }) (blocks_lawful m f frames laws)

@@ -1,0 +1,38 @@
+-- The forward reading of all segments: a second pass over their boxes.
+
+use Rattle.std.specs.Prelude.{ℕ, ◌≤◌, ◌≡◌, Some, List, [], ◌∷◌, length, slice_get}
+use Rattle.bw_codec.specs.declared.block.Place.{Place}
+use Rattle.bw_codec.specs.declared.block.Block.{Block}
+use Rattle.bw_device.specs.Holding.{Holding}
+use Rattle.bw_log.specs.Places.{bad_link}
+use Rattle.bw_log.specs.Segments.{segment_frames}
+use Rattle.bw_care.specs.Behind.{frames_behind, EndsInTail}
+use Rattle.bw_care.specs.Passing.{Fails, IsWorn}
+use Rattle.bw_care.specs.declared.fault.RecoverCause.{RecoverCause}
+use Rattle.bw_care.specs.declared.fault.RecoverCause.TheVariants.{NoMemory, BadConfig, Device, Spent, Empty, BadBytes, Gap, Mixed, BadLink, Unlawful}
+
+-- a segment's frames stand behind its header, and a tail behind them
+pub record IsFramed (m f : ℕ) (bytes : List ℕ) : Type 0 where
+  pub long : 24 ≤ length bytes
+  pub frames : segment_frames bytes ≡ frames_behind m f bytes
+  pub lawful : EndsInTail m f bytes
+
+-- these segments stand among the boxes at these positions
+abbrev pub AreReady : ℕ → ℕ → List Holding → List ℕ → List Holding → Type 0
+AreReady m f boxes [] [] = Unit {0}
+AreReady m f boxes [] (h ∷ hs) = ⊥
+AreReady m f boxes (i ∷ is) [] = ⊥
+AreReady m f boxes (i ∷ is) (h ∷ hs) = (slice_get boxes i ≡ Some h) × IsFramed m f h.bytes × AreReady m f boxes is hs
+
+-- why the pass over these blocks stops
+abbrev pub ForwardStops : ℕ → List (Place × Block) → List Holding → RecoverCause → List Holding → Type 0
+ForwardStops first blocks old NoMemory new = new ≡ old
+ForwardStops first blocks old (Device lease) new = (at : ℕ) × Fails at lease old new
+ForwardStops first blocks old Spent new = (new ≡ old) × (at : ℕ) × IsWorn at old
+ForwardStops first blocks old (BadLink page) new = (new ≡ old) × (bad_link first [] blocks ≡ Some page)
+ForwardStops first blocks old BadConfig new = ⊥
+ForwardStops first blocks old Empty new = ⊥
+ForwardStops first blocks old (BadBytes segment at) new = ⊥
+ForwardStops first blocks old Gap new = ⊥
+ForwardStops first blocks old Mixed new = ⊥
+ForwardStops first blocks old (Unlawful page) new = ⊥

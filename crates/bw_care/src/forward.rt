@@ -1,0 +1,125 @@
+//! The forward reading of all segments: a second pass over their boxes, of which one frame is held
+//! at a time.
+
+ghost use Rattle.std.specs.Prelude.{◌≡◌, ◌≤◌, ◌<◌, ◌++◌, [], Some, List, length, map, slice_get, IfOk, IfErr, OnOk, IfSome};
+ghost use Rattle.bw_codec.specs.declared.block.Place.{Place as PlaceValue};
+ghost use Rattle.bw_codec.specs.declared.block.Block.{Block as BlockValue};
+ghost use Rattle.bw_device.specs.Holding.{Holding};
+ghost use Rattle.bw_log.specs.Places.{all_placed, bad_link};
+ghost use Rattle.bw_log.specs.Segments.{segment_frames, frames_of};
+ghost use Rattle.bw_care.specs.Behind.{frames_behind, EndsInTail};
+ghost use Rattle.bw_care.specs.Forward.{IsFramed, AreReady, ForwardStops};
+ghost use Rattle.bw_care.specs.Planned.{as_cause};
+ghost use Rattle.bw_care.specs.Reading.{IsRead, LinkFaultIs};
+
+use crate::fault::RecoverCause;
+use crate::passing::read_box;
+use crate::reading::{Line, ReadFault, read_blocks_linked};
+use crate::scanning::front;
+use bw_codec::{CodecFault, Frame, FrameRead};
+use bw_device::Segment;
+use std::alloc::Global;
+use std::collections::BTreeMap;
+
+/// The blocks of one segment's frames, which a scan has found lawful.
+pub fn read_segment(
+    alloc: Global,
+    lines: &mut BTreeMap<u32, Line>,
+    first: u64,
+    bytes: &[u8],
+    m: u16,
+    f: u32,
+) -> Result<(), ReadFault>
+    requires long { 24 ≤ length bytes.now }
+    requires lawful { EndsInTail m f bytes.now }
+    ensures ok { (done : List (PlaceValue × BlockValue)) → IsRead first done lines.old
+        → OnOk result (IsRead first (done ++ all_placed (frames_behind m f bytes.now)) lines.new) }
+    ensures fault { (done rest : List (PlaceValue × BlockValue)) → IsRead first done lines.old
+        → IfErr result (LinkFaultIs
+        (bad_link first [] (done ++ (all_placed (frames_behind m f bytes.now) ++ rest)))) }
+{
+    let mut at = 24;
+    'frames: loop {
+        match front(alloc, &bytes[at..], m, f) {
+            Ok(FrameRead::Whole(frame, used)) => {
+                let Frame { number, blocks } = frame;
+                read_blocks_linked(lines, first, number, blocks.into_vec())?;
+                at += used;
+            }
+            Ok(FrameRead::Tail) => return Ok(()),
+            Err(CodecFault::NoMemory) => return Err(ReadFault::NoMemory),
+            Err(CodecFault::BadBytes) => unreachable!(),
+        }
+    }
+}
+
+// The cause that a fault of a reading is.
+fn cause_of(fault: ReadFault) -> RecoverCause
+    ensures { result ≡ as_cause fault }
+{
+    match fault {
+        ReadFault::NoMemory => RecoverCause::NoMemory,
+        ReadFault::BadLink(page) => RecoverCause::BadLink { page },
+    }
+}
+
+// The blocks of the segment in the box at a position.
+fn read_box_forward(
+    alloc: Global,
+    lines: &mut BTreeMap<u32, Line>,
+    boxes: &mut Vec<Box<dyn Segment>>,
+    at: usize,
+    first: u64,
+    m: u16,
+    f: u32,
+) -> Result<(), RecoverCause>
+    requires inside { at < length boxes.old.items }
+    requires framed { IfSome (slice_get (map holding boxes.old.items) at)
+        (λ h. IsFramed m f h.bytes) }
+    ensures ok { (h : Holding) (done : List (PlaceValue × BlockValue))
+        → slice_get (map holding boxes.old.items) at ≡ Some h → IsRead first done lines.old
+        → OnOk result (IsRead first (done ++ all_placed (segment_frames h.bytes)) lines.new) }
+    ensures same { OnOk result (map holding boxes.new.items ≡ map holding boxes.old.items) }
+    ensures stops { (h : Holding) (done rest : List (PlaceValue × BlockValue))
+        → slice_get (map holding boxes.old.items) at ≡ Some h → IsRead first done lines.old
+        → IfErr result (λ cause. ForwardStops first
+        (done ++ (all_placed (segment_frames h.bytes) ++ rest))
+        (map holding boxes.old.items) cause (map holding boxes.new.items)) }
+    ensures len { length boxes.new.items ≡ length boxes.old.items }
+{
+    let bytes = read_box(alloc, boxes, at)?;
+    match read_segment(alloc, lines, first, &bytes, m, f) {
+        Ok(()) => Ok(()),
+        Err(fault) => Err(cause_of(fault)),
+    }
+}
+
+/// What the frames of all segments say of each page that they touch, or the page of the first wrong
+/// link. The segments' boxes stand at these positions, in the order of the segments' numbers; each
+/// is read once.
+pub fn read_forward(
+    alloc: Global,
+    boxes: &mut Vec<Box<dyn Segment>>,
+    places: &[usize],
+    first: u64,
+    m: u16,
+    f: u32,
+) -> Result<BTreeMap<u32, Line>, RecoverCause>
+    requires { (hs : List Holding) × AreReady m f (map holding boxes.old.items) places.now hs }
+    ensures read { (hs : List Holding) → AreReady m f (map holding boxes.old.items) places.now hs
+        → IfOk result (IsRead first (all_placed (frames_of (map (λ h. h.bytes) hs)))) }
+    ensures same { OnOk result (map holding boxes.new.items ≡ map holding boxes.old.items) }
+    ensures stops { (hs : List Holding) → AreReady m f (map holding boxes.old.items) places.now hs
+        → IfErr result (λ cause. ForwardStops first
+        (all_placed (frames_of (map (λ h. h.bytes) hs)))
+        (map holding boxes.old.items) cause (map holding boxes.new.items)) }
+{
+    let mut lines = BTreeMap::new(alloc);
+    let mut next = 0;
+    'segments: while next < places.len() {
+        let place = places[next];
+        read_box_forward(alloc, &mut lines, boxes, place, first, m, f)?;
+        next += 1;
+    }
+    Ok(lines)
+}

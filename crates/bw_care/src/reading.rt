@@ -1,0 +1,217 @@
+//! All pages, read forwards over the blocks of all frames, and the links checked on the way.
+//!
+//! A map has a line for each page that was touched, so it grows by the blocks that are there,
+//! whatever page numbers stand in them.
+
+ghost use Rattle.std.specs.Prelude.{◌≡◌, ◌∷◌, ◌++◌, [], Some, None, ◌<◌, ◌^◌, length, OnOk, IfOk, IfErr, if◌then◌else◌, nat_eq, List, ℕ};
+ghost use Rattle.std.specs.Option.{option_map};
+ghost use Rattle.std.specs.List.{AllByRecursion};
+ghost use Rattle.std.specs.BTreeMap as tree;
+ghost use Rattle.std.specs.Ordering.{nat_cmp};
+ghost use Rattle.bw_page.specs.Leaves.{all_changed};
+ghost use Rattle.bw_page.specs.Standing.{kept_below};
+ghost use Rattle.bw_log.specs.Places.{is_back, fault_at, fault_of, placed, all_placed, bad_link};
+ghost use Rattle.bw_care.specs.Reading.{place_in, base_in, leaf_in, line_after, AreLines, IsRead, LinkFaultIs};
+ghost use Rattle.bw_codec.specs.declared.block.Place.{Place as PlaceValue};
+ghost use Rattle.bw_codec.specs.declared.block.Block.{Block as BlockValue};
+
+use bw_codec::{Block, Leaf, Place, Record};
+use bw_page::{change_all, keep_below};
+use std::alloc::{AllocError, Global};
+use std::collections::BTreeMap;
+
+/// A page that was touched: where its last blocks stand, and what it is if it was set.
+#[derive(Debug, Drop)]
+pub struct Line {
+    pub place: Place,
+    /// The last block that sets it; frame 0 where none did.
+    pub base: Place,
+    pub leaf: Option<Leaf>,
+}
+
+// The records of a Delta, where the page was set.
+fn change_some(leaf: Option<Leaf>, records: &[Record]) -> Result<Option<Leaf>, AllocError>
+    ensures { IfOk result (λ l. l ≡ option_map (all_changed records.now) leaf) }
+{
+    match leaf {
+        Some(leaf) => Ok(Some(change_all(leaf, records)?)),
+        None => Ok(None),
+    }
+}
+
+fn keep_some(leaf: Option<Leaf>, separator: &[u8]) -> Option<Leaf>
+    ensures { result ≡ option_map (kept_below separator.now) leaf }
+{
+    match leaf {
+        Some(leaf) => Some(keep_below(leaf, separator)),
+        None => None,
+    }
+}
+
+// What the map had of a page, taken out of it.
+fn take_line(lines: &mut BTreeMap<u32, Line>, page: u32) -> (Place, Option<Leaf>)
+    ensures base { result.0 ≡ base_in (tree.get nat_cmp lines.old page) }
+    ensures leaf { result.1 ≡ leaf_in (tree.get nat_cmp lines.old page) }
+    ensures others { (p : ℕ) → tree.get nat_cmp lines.new p
+        ≡ (if nat_eq page p then None else tree.get nat_cmp lines.old p) }
+{
+    match lines.remove(&page) {
+        Some(line) => (line.base, line.leaf),
+        None => (Place { frame: 0, index: 0 }, None),
+    }
+}
+
+// Puts a line into the map.
+fn put_line(lines: &mut BTreeMap<u32, Line>, page: u32, line: Line) -> Result<(), AllocError>
+    ensures { (p : ℕ) → OnOk result (tree.get nat_cmp lines.new p
+        ≡ (if nat_eq page p then Some line else tree.get nat_cmp lines.old p)) }
+{
+    let _ = lines.insert(page, line)?;
+    Ok(())
+}
+
+/// One more block. A refused growth is the only error.
+pub fn read_one(
+    lines: &mut BTreeMap<u32, Line>,
+    place: Place,
+    block: Block,
+) -> Result<(), AllocError>
+    ensures { OnOk result (AreLines lines.old ((place, block) ∷ []) lines.new) }
+{
+    match block {
+        Block::Delta { page, back: _, ops } => {
+            let (base, leaf) = take_line(lines, page);
+            let leaf = change_some(leaf, ops.as_slice())?;
+            put_line(lines, page, Line { place, base, leaf })
+        }
+        Block::Base(leaf) => {
+            let page = leaf.page;
+            let line = Line {
+                place,
+                base: place,
+                leaf: Some(leaf),
+            };
+            put_line(lines, page, line)
+        }
+        Block::Split {
+            page,
+            back: _,
+            upper,
+        } => {
+            let (base, leaf) = take_line(lines, page);
+            let leaf = keep_some(leaf, upper.low.as_slice());
+            put_line(lines, page, Line { place, base, leaf })?;
+            let made = upper.page;
+            let line = Line {
+                place,
+                base: place,
+                leaf: Some(upper),
+            };
+            put_line(lines, made, line)
+        }
+    }
+}
+
+/// Whether a block of this page may link back so.
+pub fn links_back(lines: &BTreeMap<u32, Line>, first: u64, page: u32, back: Place) -> bool
+    ensures { result ≡ is_back first (place_in (tree.get nat_cmp lines.now page)) back }
+{
+    match lines.get(&page) {
+        Some(line) => line.place.frame == back.frame && line.place.index == back.index,
+        None => 0 < back.frame && back.frame < first,
+    }
+}
+
+/// Why blocks cannot be read.
+#[derive(Debug, Clone, Copy, PartialEq, Eq)]
+pub enum ReadFault {
+    NoMemory,
+    /// A block of this page does not link back to the one before it.
+    BadLink(u32),
+}
+
+impl From<AllocError> for ReadFault {
+    ghost use Rattle.bw_care.specs.declared.reading.ReadFault.TheVariants.{NoMemory};
+
+    ghost from_gives = { λ _ fault. fault ≡ NoMemory };
+
+    fn from(_error: AllocError) -> ReadFault {
+        ReadFault::NoMemory
+    }
+}
+
+// The page, where a block of it may not link back so.
+fn wrong_back(lines: &BTreeMap<u32, Line>, first: u64, page: u32, back: Place) -> Option<u32>
+    ensures { (done : List (PlaceValue × BlockValue)) → IsRead first done lines.now
+        → result ≡ fault_at first done page back }
+{
+    if links_back(lines, first, page, back) {
+        None
+    } else {
+        Some(page)
+    }
+}
+
+// The page of a block that links back wrongly.
+fn wrong_link(lines: &BTreeMap<u32, Line>, first: u64, block: &Block) -> Option<u32>
+    ensures { (done : List (PlaceValue × BlockValue)) → IsRead first done lines.now
+        → result ≡ fault_of first done block.now }
+{
+    match block {
+        Block::Delta { page, back, .. } => wrong_back(lines, first, *page, *back),
+        Block::Base(_) => None,
+        Block::Split { page, back, .. } => wrong_back(lines, first, *page, *back),
+    }
+}
+
+/// One more block, whose link is looked at first.
+pub fn read_linked(
+    lines: &mut BTreeMap<u32, Line>,
+    first: u64,
+    place: Place,
+    block: Block,
+) -> Result<(), ReadFault>
+    ensures ok { (done : List (PlaceValue × BlockValue)) → IsRead first done lines.old
+        → OnOk result (IsRead first (done ++ (place, block) ∷ []) lines.new) }
+    ensures fault { (done : List (PlaceValue × BlockValue)) → IsRead first done lines.old
+        → IfErr result (LinkFaultIs (fault_of first done block)) }
+{
+    match wrong_link(lines, first, &block) {
+        Some(page) => Err(ReadFault::BadLink(page)),
+        None => {
+            read_one(lines, place, block)?;
+            Ok(())
+        }
+    }
+}
+
+/// The blocks of one more frame.
+pub fn read_blocks_linked(
+    lines: &mut BTreeMap<u32, Line>,
+    first: u64,
+    number: u64,
+    blocks: Vec<Block>,
+) -> Result<(), ReadFault>
+    requires { length blocks.items < 2 ^ 32 }
+    ensures ok { (done : List (PlaceValue × BlockValue)) → IsRead first done lines.old
+        → OnOk result (IsRead first (done ++ placed number 0 blocks.items) lines.new) }
+    ensures fault { (done rest : List (PlaceValue × BlockValue)) → IsRead first done lines.old
+        → IfErr result (LinkFaultIs (bad_link first [] (done ++ (placed number 0 blocks.items ++ rest)))) }
+{
+    let mut blocks = blocks;
+    blocks.reverse();
+    let mut index: u32 = 0;
+    'next: while let Some(block) = blocks.pop() {
+        read_linked(
+            lines,
+            first,
+            Place {
+                frame: number,
+                index,
+            },
+            block,
+        )?;
+        index += 1;
+    }
+    Ok(())
+}
