@@ -1,0 +1,111 @@
+//! A cleaning whose pages need more frames than one.
+
+use super::boxes::add_box;
+use bw_care::{Cleaned, clean, recover};
+use bw_codec::{Header, encode_frame_head, encode_header};
+use bw_device::{Desk, Segment};
+use std::alloc::Global;
+use std::test::Fail;
+
+// A key of 64 bytes: the last two tell the page and the pair.
+fn put_key(out: &mut Vec<u8>, page: u8, pair: u8) -> Result<(), Fail> {
+    out.extend_from_slice(&[b'k'; 62])?;
+    out.extend_from_slice(&[page, pair])?;
+    Ok(())
+}
+
+// Four pairs with values of 128 bytes: 776 bytes.
+fn put_pairs(out: &mut Vec<u8>, page: u8) -> Result<(), Fail> {
+    for pair in 0..4 {
+        out.push(64)?;
+        put_key(out, page, pair)?;
+        out.push(128)?;
+        out.extend_from_slice(&[b'v'; 128])?;
+    }
+    Ok(())
+}
+
+// A page in a Base of 848 bytes, its low key the first of its pairs; that of page 1 has none.
+fn put_base(out: &mut Vec<u8>, page: u8) -> Result<(), Fail> {
+    out.extend_from_slice(&[2, page, 0, 0, 0])?;
+    if page == 1 {
+        out.push(0)?;
+    } else {
+        out.push(64)?;
+        put_key(out, page, 0)?;
+    }
+    out.extend_from_slice(&[4, 0])?;
+    put_pairs(out, page)
+}
+
+// A frame of ten such pages, from the page behind this one on, with so many bytes of blocks.
+fn put_frame(out: &mut Vec<u8>, number: u64, behind: u8, body: u32) -> Result<(), Fail> {
+    encode_frame_head(number, body, 10, out)?;
+    for page in 1..21 {
+        if behind < page && page - behind <= 10 {
+            put_base(out, page)?;
+        }
+    }
+    Ok(())
+}
+
+fn put_header(out: &mut Vec<u8>, number: u64) -> Result<(), Fail> {
+    let header = Header {
+        number,
+        m: 4,
+        f: 16_384,
+    };
+    encode_header(&header, out)?;
+    Ok(())
+}
+
+// Twenty full pages in two frames of one segment, and a segment begun behind it.
+fn add_segments(
+    alloc: Global,
+    desk: &mut Desk,
+    boxes: &mut Vec<Box<dyn Segment>>,
+) -> Result<(), Fail> {
+    let mut oldest = Vec::new(alloc);
+    put_header(&mut oldest, 1)?;
+    put_frame(&mut oldest, 1, 0, 8_416)?;
+    put_frame(&mut oldest, 2, 10, 8_480)?;
+    add_box(alloc, desk, &oldest, 65_560, 99, 0, boxes)?;
+    let mut newest = Vec::new(alloc);
+    put_header(&mut newest, 2)?;
+    add_box(alloc, desk, &newest, 65_560, 99, 0, boxes)?;
+    add_box(alloc, desk, &[], 65_560, 99, 0, boxes)
+}
+
+// Whether they are cleaned as told, and then recovered again with twenty pages.
+fn is_cleaned(alloc: Global) -> Result<u8, Fail> {
+    let mut desk = Desk::new(alloc, 8)?;
+    let mut boxes: Vec<Box<dyn Segment>> = Vec::new(alloc);
+    add_segments(alloc, &mut desk, &mut boxes)?;
+    let Ok(found) = recover(alloc, boxes) else {
+        return Ok(1);
+    };
+    let mut log = found.log;
+    let told = Cleaned {
+        segment: 1,
+        lease: 0,
+        pages: 20,
+        frames: 2,
+    };
+    if clean(alloc, &mut log) != Ok(told) {
+        return Ok(2);
+    }
+    let (live, _) = log.into_segments();
+    let Ok(again) = recover(alloc, live) else {
+        return Ok(3);
+    };
+    if again.leaves.count() != 20 || again.first != 3 || again.last != 4 {
+        return Ok(4);
+    }
+    Ok(0)
+}
+
+#[test]
+fn twenty_full_pages_are_cleaned_into_two_frames(rt: HostRuntime) -> Result<(), Fail> {
+    assert_eq!(rt; is_cleaned(rt.alloc())?, 0);
+    Ok(())
+}
