@@ -35,10 +35,10 @@ unfolding blocks_in
 blocks_there number body count blocks bytes lawful counted parts =
     let behind : drop 20 bytes ≡ body_bytes blocks ++ [] =
     ap (λ (b : List ℕ). drop 20 b) parts ∙ drop_at (head_bytes number body count) (body_bytes blocks) 20 (length-head number body count)
-        ∙ sym (append-nil (body_bytes blocks)) in
+    ∙ sym (append-nil (body_bytes blocks)) in
     let read : many_at (block_at 32) count (drop 20 bytes) ≡ Some (blocks, []) =
     ap (λ (n : ℕ). many_at (block_at 32) n (drop 20 bytes)) (sym counted) ∙ ap (many_at (block_at 32) (length blocks)) behind
-        ∙ many_again block_bytes (IsBlock 32) (block_at 32) (block_format 32 (omega arith)) blocks [] lawful in
+    ∙ many_again block_bytes (IsBlock 32) (block_at 32) (block_format 32 (omega arith)) blocks [] lawful in
     ap first_of read
 
 -- fields that hold these blocks
@@ -51,7 +51,7 @@ pub record Holds (a : Inside) (blocks : List Block) : Type 0 where
   pub fits : length a.bytes.items ≤ a.limit
   pub limited : (16384 ≤ a.limit) × (a.limit ≤ 65536)
   pub room : a.limit ≤ vec_capacity a.bytes
-  pub marks_room : a.limit / 8 ≤ vec_capacity a.marks
+  pub marks_room : vec_capacity a.marks ≡ a.limit / 8
 
 pub held : (a : Inside) (blocks : List Block) → Holds a blocks → blocks_in a.count a.bytes.items ≡ blocks
 held a blocks h = blocks_there a.frame (length (body_bytes blocks)) a.count blocks a.bytes.items h.lawful h.counted h.spelled
@@ -72,20 +72,33 @@ filled a blocks h =
     }
 
 pub holds : (a : Inside) → IsFilled a → Holds a (blocks_in a.count a.bytes.items)
-holds a f = record { spelled = f.spelled; counted = f.counted; lawful = f.lawful; marked = f.marked; numbered = f.numbered; fits = f.fits; limited = f.limited;
-    room = f.room; marks_room = f.marks_room }
+holds a f = record {
+  spelled = f.spelled;
+  counted = f.counted;
+  lawful = f.lawful;
+  marked = f.marked;
+  numbered = f.numbered;
+  fits = f.fits;
+  limited = f.limited;
+  room = f.room;
+  marks_room = f.marks_room;
+}
 
 -- how long the bytes are
 pub length-held : (a : Inside) → IsFilled a → length a.bytes.items ≡ 20 + length (body_bytes (blocks_in a.count a.bytes.items))
 length-held a f =
     let blocks = blocks_in a.count a.bytes.items in
     let size = ap (λ (b : List ℕ). length b) f.spelled in
-    omega (arith, size, length-head a.frame (length (body_bytes blocks)) a.count,
-        length-append (head_bytes a.frame (length (body_bytes blocks)) a.count) (body_bytes blocks))
+    omega (
+      arith,
+      size,
+      length-head a.frame (length (body_bytes blocks)) a.count,
+      length-append (head_bytes a.frame (length (body_bytes blocks)) a.count) (body_bytes blocks),
+    )
 
 -- a head alone holds no block
 pub begun : (a : Inside) → 1 ≤ a.frame → (16384 ≤ a.limit) × (a.limit ≤ 65536) → a.count ≡ 0 → a.bytes.items ≡ head_bytes a.frame 0 0 → a.marks.items ≡ []
-    → a.limit ≤ vec_capacity a.bytes → a.limit / 8 ≤ vec_capacity a.marks → Holds a []
+    → a.limit ≤ vec_capacity a.bytes → vec_capacity a.marks ≡ a.limit / 8 → Holds a []
 begun a numbered limited none bytes marks room marks_room = record {
   spelled = bytes ∙ ap (λ (n : ℕ). head_bytes a.frame 0 n) (sym none) ∙ sym (append-nil (head_bytes a.frame 0 a.count));
   counted = sym none;
@@ -106,7 +119,7 @@ pub grown : (a b : Inside) (blocks : List Block) (laid : List ℕ) → IsFilled 
     → b.bytes.items ≡ head_bytes a.frame (length laid - 20) b.count ++ drop 20 laid
     → b.marks.items ≡ a.marks.items ++ map mark_of blocks
     → b.limit ≤ vec_capacity b.bytes
-    → b.limit / 8 ≤ vec_capacity b.marks
+    → vec_capacity b.marks ≡ b.limit / 8
     → Holds b (blocks_in a.count a.bytes.items ++ blocks)
 grown a b blocks laid f lawful fits frame limit count laid_is bytes marks room marks_room =
     let old = blocks_in a.count a.bytes.items in
@@ -114,18 +127,22 @@ grown a b blocks laid f lawful fits frame limit count laid_is bytes marks room m
     let head = length-head a.frame (length (body_bytes old)) a.count in
     let parts : laid ≡ head_bytes a.frame (length (body_bytes old)) a.count ++ body_bytes (old ++ blocks) =
     laid_is ∙ ap (λ (x : List ℕ). x ++ body_bytes blocks) f.spelled
-        ∙ append_assoc (head_bytes a.frame (length (body_bytes old)) a.count) (body_bytes old) (body_bytes blocks)
-        ∙ ap (λ (x : List ℕ). head_bytes a.frame (length (body_bytes old)) a.count ++ x) (sym body) in
+    ∙ append_assoc (head_bytes a.frame (length (body_bytes old)) a.count) (body_bytes old) (body_bytes blocks)
+    ∙ ap (λ (x : List ℕ). head_bytes a.frame (length (body_bytes old)) a.count ++ x) (sym body) in
     let behind : drop 20 laid ≡ body_bytes (old ++ blocks) =
-        ap (λ (x : List ℕ). drop 20 x) parts ∙ drop_at (head_bytes a.frame (length (body_bytes old)) a.count) (body_bytes (old ++ blocks)) 20 head in
+    ap (λ (x : List ℕ). drop 20 x) parts ∙ drop_at (head_bytes a.frame (length (body_bytes old)) a.count) (body_bytes (old ++ blocks)) 20 head in
     let size : length laid ≡ 20 + length (body_bytes (old ++ blocks)) =
-        omega (arith, ap (λ (x : List ℕ). length x) parts, head,
-        length-append (head_bytes a.frame (length (body_bytes old)) a.count) (body_bytes (old ++ blocks))) in
+    omega (
+      arith,
+      ap (λ (x : List ℕ). length x) parts,
+      head,
+      length-append (head_bytes a.frame (length (body_bytes old)) a.count) (body_bytes (old ++ blocks)),
+    ) in
     let long : length laid - 20 ≡ length (body_bytes (old ++ blocks)) = omega arith in
     let spelled : b.bytes.items ≡ head_bytes b.frame (length (body_bytes (old ++ blocks))) b.count ++ body_bytes (old ++ blocks) =
     bytes ∙ ap (λ (x : List ℕ). head_bytes a.frame (length laid - 20) b.count ++ x) behind
-        ∙ ap (λ (n : ℕ). head_bytes a.frame n b.count ++ body_bytes (old ++ blocks)) long
-        ∙ ap (λ (n : ℕ). head_bytes n (length (body_bytes (old ++ blocks))) b.count ++ body_bytes (old ++ blocks)) (sym frame) in
+    ∙ ap (λ (n : ℕ). head_bytes a.frame n b.count ++ body_bytes (old ++ blocks)) long
+    ∙ ap (λ (n : ℕ). head_bytes n (length (body_bytes (old ++ blocks))) b.count ++ body_bytes (old ++ blocks)) (sym frame) in
     let new_head = length-head b.frame (length (body_bytes (old ++ blocks))) b.count in
     record {
       spelled = spelled;
@@ -133,9 +150,17 @@ grown a b blocks laid f lawful fits frame limit count laid_is bytes marks room m
       lawful = all-append (IsBlock 32) old blocks f.lawful lawful;
       marked = marks ∙ ap (λ (x : List Mark). x ++ map mark_of blocks) f.marked ∙ sym (map-append mark_of old blocks);
       numbered = subst (λ (n : ℕ). 1 ≤ n) (sym frame) f.numbered;
-      fits = omega (arith, ap (λ (x : List ℕ). length x) spelled, new_head,
-          length-append (head_bytes b.frame (length (body_bytes (old ++ blocks))) b.count) (body_bytes (old ++ blocks)), size,
-          ap (λ (x : List ℕ). length x) laid_is, length-append a.bytes.items (body_bytes blocks), limit, fits);
+      fits = omega (
+        arith,
+        ap (λ (x : List ℕ). length x) spelled,
+        new_head,
+        length-append (head_bytes b.frame (length (body_bytes (old ++ blocks))) b.count) (body_bytes (old ++ blocks)),
+        size,
+        ap (λ (x : List ℕ). length x) laid_is,
+        length-append a.bytes.items (body_bytes blocks),
+        limit,
+        fits,
+      );
       limited = subst (λ (n : ℕ). (16384 ≤ n) × (n ≤ 65536)) (sym limit) f.limited;
       room = room;
       marks_room = marks_room;

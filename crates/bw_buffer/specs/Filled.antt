@@ -32,4 +32,4 @@ pub record IsFilled (a : Inside) : Type 0 where
   pub limited : (16384 ≤ a.limit) × (a.limit ≤ 65536)
   pub room : a.limit ≤ vec_capacity a.bytes
   -- no block has fewer than eight bytes
-  pub marks_room : a.limit / 8 ≤ vec_capacity a.marks
+  pub marks_room : vec_capacity a.marks ≡ a.limit / 8

@@ -1,7 +1,8 @@
 -- What a buffer is to its callers: blocks, never bytes.
 
-use Rattle.std.specs.Prelude.{ℕ, ◌+◌, Bool, List, length}
-use Rattle.bw_codec.specs.Grammar.{body_bytes}
+use Rattle.std.specs.Prelude.{ℕ, ◌+◌, ◌≤◌, Bool, List, length}
+use Rattle.std.specs.List.{AllByRecursion}
+use Rattle.bw_codec.specs.Grammar.{body_bytes, IsBlock, IsFrame}
 use Rattle.bw_codec.specs.declared.block.Block.{Block}
 use Rattle.bw_codec.specs.declared.block.Frame.{Frame}
 
@@ -21,3 +22,7 @@ frame_of b = record { number = b.frame; blocks = b.blocks }
 -- the bytes of that frame
 abbrev pub size_of : Filling → ℕ
 size_of b = 20 + length (body_bytes b.blocks)
+
+-- one or more blocks that are lawful where pages have at most m pairs are a frame that is lawful there
+abbrev pub IsLawfulFrame : Filling → Type 0
+IsLawfulFrame b = (m : ℕ) → 1 ≤ length b.blocks → AllByRecursion (IsBlock m) b.blocks → IsFrame m b.limit (frame_of b)

@@ -1,14 +1,15 @@
 //! The buffer itself.
 
-ghost use Rattle.std.specs.Prelude.{nat_le, ◌≡◌, ◌≤◌, ◌<◌, ◌+◌, ◌-◌, ◌++◌, ◌↔◌, [], true, false, length, slice_get, IsTrue, IfOk, OnOk, OnErr, IfSome, IsErrOf};
+ghost use Rattle.std.specs.Prelude.{nat_le, ◌≡◌, ◌≤◌, ◌<◌, ◌+◌, ◌-◌, ◌++◌, ◌↔◌, ◌⊎◌, [], true, false, length, slice_get, IsTrue, IfOk, OnOk, OnErr, IfSome, IsErrOf};
 ghost use Rattle.std.specs.List.{AllByRecursion};
 ghost use Rattle.bw_codec.specs.Grammar.{body_bytes, frame_bytes, IsBlock};
-ghost use Rattle.bw_buffer.specs.Filling.{frame_of, size_of};
+ghost use Rattle.bw_buffer.specs.Filling.{frame_of, size_of, IsLawfulFrame};
 ghost use Rattle.bw_buffer.specs.Marks.{mark_of};
 
 use crate::fault::PutError;
 use crate::layout::{fit, lay_out, mark_all, set_head};
 use crate::mark::Mark;
+use bw_codec::limits::{HEAD_LEN, MIN_BLOCK};
 use bw_codec::{Block, Place};
 use std::alloc::{AllocError, Global};
 use std::marker::Model;
@@ -51,8 +52,7 @@ impl Buffer {
         ensures { IfOk result (λ b. b
             ≡ record { frame = frame; limit = limit; blocks = []; is_sealed = false }) }
     {
-        // No block has fewer than 8 bytes.
-        let marks = Vec::with_capacity(alloc, limit as usize / 8)?;
+        let marks = Vec::with_capacity(alloc, (limit / MIN_BLOCK) as usize)?;
         let mut bytes = Vec::with_capacity(alloc, limit as usize)?;
         bytes.extend_from_slice(&bw_codec::frame_cells(frame, 0, 0))?;
         Ok(Buffer {
@@ -63,6 +63,22 @@ impl Buffer {
             bytes,
             marks,
         })
+    }
+
+    /// The same buffer for another frame, from 1: empty, and not sealed. No memory is taken, so that a
+    /// buffer whose frame was appended serves the next one.
+    pub fn restart(&mut self, frame: u64)
+        requires numbered { 1 ≤ frame }
+        requires done { (self.old.is_sealed ≡ true) ⊎ (self.old.blocks ≡ []) }
+        ensures { self.new
+            ≡ record { frame = frame; limit = self.old.limit; blocks = []; is_sealed = false } }
+    {
+        self.frame = frame;
+        self.count = 0;
+        self.is_sealed = false;
+        self.marks.clear();
+        self.bytes.truncate(HEAD_LEN);
+        set_head(&mut self.bytes, frame, 0, 0);
     }
 
     /// Adds all the blocks, one or more that are lawful for 32 pairs a page, or none, and answers the
@@ -95,7 +111,7 @@ impl Buffer {
         lay_out(blocks, &mut self.bytes);
         mark_all(blocks, &mut self.marks);
         self.count = index + blocks.len() as u32;
-        let body = (self.bytes.as_slice().len() - 20) as u32;
+        let body = (self.bytes.as_slice().len() - HEAD_LEN) as u32;
         set_head(&mut self.bytes, self.frame, body, self.count);
         Ok(Place {
             frame: self.frame,
@@ -123,6 +139,16 @@ impl Buffer {
         ensures { result ≡ self.now.is_sealed }
     {
         self.is_sealed
+    }
+
+    /// The most bytes that the frame may have, 16,384 to 65,536.
+    pub fn limit(&self) -> u32
+        ensures value { result ≡ self.now.limit }
+        ensures range { (16384 ≤ result) × (result ≤ 65536) }
+    {
+        // The read tells the proof what holds of the fields, here the range of the limit.
+        let _ = &self.bytes;
+        self.limit
     }
 
     /// How many bytes of the limit are free.
@@ -162,7 +188,10 @@ impl Buffer {
         ensures value { result.now ≡ frame_bytes (frame_of self.now) }
         ensures fits { length (frame_bytes (frame_of self.now)) ≤ self.now.limit }
         ensures lawful { AllByRecursion (IsBlock 32) self.now.blocks }
+        ensures frame { IsLawfulFrame self.now }
     {
+        // The call tells the proof that the number has a range.
+        let _ = self.frame();
         self.bytes.as_slice()
     }
 }

@@ -8,6 +8,7 @@ ghost use Rattle.bw_codec.specs.Writing.{HasRoom, Adds};
 ghost use Rattle.bw_buffer.specs.Marks.{mark_of};
 
 use crate::mark::Mark;
+use bw_codec::limits::HEAD_LEN;
 use bw_codec::{Block, block_length, frame_cells, write_block};
 
 /// Whether blocks are spelled in so many bytes at most.
@@ -48,12 +49,12 @@ pub(crate) fn mark_all(blocks: &[Block], marks: &mut Vec<Mark>)
     }
 }
 
-/// Writes 20 bytes over the first ones.
-fn put_front(bytes: &mut [u8], cells: &[u8; 20])
+/// Writes a head over the first bytes.
+fn put_front(bytes: &mut [u8], cells: &[u8; HEAD_LEN])
     requires { 20 ≤ length bytes.old }
     ensures { bytes.new ≡ cells.now ++ drop 20 bytes.old }
 {
-    bytes[..20].copy_from_slice(cells);
+    bytes[..HEAD_LEN].copy_from_slice(cells);
 }
 
 /// Makes the first 20 bytes a frame's head.

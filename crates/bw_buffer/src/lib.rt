@@ -6,12 +6,10 @@
 //! what the log appends as one unit.
 #![tactic(auto)]
 
-pub mod buffer;
-pub mod fault;
+mod buffer;
+mod fault;
 mod layout;
-pub mod mark;
-#[cfg(test)]
-mod tests;
+mod mark;
 
 pub use buffer::Buffer;
 pub use fault::PutError;

@@ -2,7 +2,6 @@
 //! recovery by one scan, from any bytes to the leaves, or to the first fault.
 #![tactic(auto)]
 
-mod boxes;
 mod cleaning;
 mod fault;
 mod forward;

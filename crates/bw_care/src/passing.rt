@@ -4,10 +4,9 @@ ghost use Rattle.std.specs.Prelude.{◌≡◌, ◌<◌, ◌^◌, length, map, sl
 ghost use Rattle.bw_care.specs.Passing.{ReadStops, PassStops};
 ghost use Rattle.bw_care.specs.Scanned.{AreScans};
 
-use crate::boxes::{failures_of, lease_of, len_of, read_from};
 use crate::fault::RecoverCause;
 use crate::scanning::{Scan, ScanFault, scan_bytes};
-use bw_device::Segment;
+use bw_device::{Segment, failures_of, lease_of, len_of, read_from};
 use std::alloc::Global;
 
 /// All bytes of a box; one of no bytes is not asked.

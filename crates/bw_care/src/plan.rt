@@ -5,7 +5,6 @@ ghost use Rattle.std.specs.Vec.{vec_capacity};
 ghost use Rattle.bw_care.specs.Planned.{HasRoom, AreRooms, RoomsStop, IsSurvey, IsPlan, first_line, last_line};
 ghost use Rattle.bw_care.specs.Found.{Refuses};
 
-use crate::boxes::{capacity_of, len_of};
 use crate::fault::RecoverCause;
 use crate::forward::read_forward;
 use crate::lawful::{Pages, pages_of};
@@ -13,7 +12,7 @@ use crate::ordering::{Order, order_of};
 use crate::parting::{Kind, Numbered};
 use crate::passing::scan_all;
 use crate::surveying::{kinds_of, parts_of};
-use bw_device::{MAX_CAPACITY, Segment};
+use bw_device::{MAX_CAPACITY, Segment, capacity_of, len_of};
 use bw_log::{FrameAt, Tables};
 use bw_page::Leaves;
 use std::alloc::Global;

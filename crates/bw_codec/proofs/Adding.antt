@@ -39,10 +39,15 @@ pub taken_within : {X : Type 0} (f : X → List ℕ) (xs : List X) (i : ℕ) (x 
     → length (flat_map f (take i xs)) + length (f x) ≤ length (flat_map f xs)
 taken_within {X} f xs i x inside is =
     let all : flat_map f (take (i + 1) xs) ++ flat_map f (drop (i + 1) xs) ≡ flat_map f xs =
-        sym (flat_map-append f (take (i + 1) xs) (drop (i + 1) xs)) ∙ ap (flat_map f) (take-append-drop (i + 1) xs) in
+    sym (flat_map-append f (take (i + 1) xs) (drop (i + 1) xs)) ∙ ap (flat_map f) (take-append-drop (i + 1) xs) in
     let more = taken_more f xs i x inside is in
-    omega (arith, ap (λ (l : List ℕ). length l) all, ap (λ (l : List ℕ). length l) more,
-        length-append (flat_map f (take (i + 1) xs)) (flat_map f (drop (i + 1) xs)), length-append (flat_map f (take i xs)) (f x))
+    omega (
+      arith,
+      ap (λ (l : List ℕ). length l) all,
+      ap (λ (l : List ℕ). length l) more,
+      length-append (flat_map f (take (i + 1) xs)) (flat_map f (drop (i + 1) xs)),
+      length-append (flat_map f (take i xs)) (f x),
+    )
 
 -- room for all is room for the next one, once those before it are written
 pub room_for_next : {X : Type 0} (f : X → List ℕ) (a b : Vec ℕ Global) (xs : List X) (i : ℕ) (x : X) → i < length xs → x ≡ get_or xs i x
@@ -55,7 +60,7 @@ pub adds_next : {X : Type 0} (f : X → List ℕ) (a b c : Vec ℕ Global) (xs :
     → Adds a b (flat_map f (take i xs)) → Adds b c (f x) → Adds a c (flat_map f (take (i + 1) xs))
 adds_next f a b c xs i x inside is first next =
     adds_as a c (flat_map f (take i xs) ++ f x) (flat_map f (take (i + 1) xs)) (sym (taken_more f xs i x inside is))
-        (adds_then a b c (flat_map f (take i xs)) (f x) first next)
+    (adds_then a b c (flat_map f (take i xs)) (f x) first next)
 
 -- all are written
 pub adds_all : {X : Type 0} (f : X → List ℕ) (a b : Vec ℕ Global) (xs : List X) (i : ℕ) → length xs ≤ i → Adds a b (flat_map f (take i xs))

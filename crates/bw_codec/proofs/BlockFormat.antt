@@ -28,8 +28,11 @@ pair_takes bytes x rest fits read =
     let v = bind_some (text_at 0 128 k.0.1) (λ value. Some ((k.0.0, value.0), value.1)) (x, rest) k.2 in
     let value = (text_format 0 128).takes k.0.1 v.0.0 v.0.1 key.others v.1 in
     takes_as pair_bytes IsPair bytes ((k.0.0, v.0.0), v.0.1) (x, rest) (found v.2)
-    (record { parts = then_parts bytes (text k.0.0) (text v.0.0) k.0.1 v.0.1 key.parts value.parts; lawful = (key.lawful, value.lawful.1);
-        others = value.others })
+    (record {
+      parts = then_parts bytes (text k.0.0) (text v.0.0) k.0.1 v.0.1 key.parts value.parts;
+      lawful = (key.lawful, value.lawful.1);
+      others = value.others;
+    })
 
 pair_again : (x : List ℕ × List ℕ) (rest : List ℕ) → IsPair x → pair_at (pair_bytes x ++ rest) ≡ Some (x, rest)
 unfolding pair_at
@@ -67,7 +70,7 @@ op_takes [] x rest fits read = absurd cc
 op_takes (tag ∷ bytes) x rest fits read =
     let behind : IsBytes bytes = λ i. fits (suc i) in
     elim (tag == 1) as (λ t. (tag == 1) ≡ t → (if t then put_at bytes else if tag == 2 then del_at bytes else None) ≡ Some (x, rest)
-        → Takes op_bytes IsOp (tag ∷ bytes) x rest) [
+    → Takes op_bytes IsOp (tag ∷ bytes) x rest) [
       | true ↦ λ one put. tagged op_bytes IsOp tag 1 bytes x rest one (put_takes bytes x rest behind put)
       | false ↦ λ other read2. (
           let two = held (tag == 2) (del_at bytes) (x, rest) read2 in
@@ -77,8 +80,10 @@ op_takes (tag ∷ bytes) x rest fits read =
 op_again : (x : Record) (rest : List ℕ) → IsOp x → op_at (op_bytes x ++ rest) ≡ Some (x, rest)
 unfolding op_at
 op_again (Put key value) rest law =
-    rw (again_on text (IsRun 1 64) (text_at 1 64) (text_format 1 64) key (text value) rest law.0,
-        (text_format 0 128).again value rest (omega arith, law.1)) refl
+    rw (
+      again_on text (IsRun 1 64) (text_at 1 64) (text_format 1 64) key (text value) rest law.0,
+      (text_format 0 128).again value rest (omega arith, law.1),
+    ) refl
 op_again (Del key) rest law = rw ((text_format 1 64).again key rest law) refl
 
 pub op_format : IsFormat op_bytes IsOp op_at
@@ -99,8 +104,11 @@ many_takes {X} spell Law read format (suc n) bytes xs rest fits e =
     let o = bind_some (many_at read n f.0.1) (λ others. Some (f.0.0 ∷ others.0, others.1)) (xs, rest) f.2 in
     let others = many_takes spell Law read format n f.0.1 o.0.0 o.0.1 first.others o.1 in
     takes_as (flat_map spell) (λ ys. (length ys ≡ suc n) × AllByRecursion Law ys) bytes (f.0.0 ∷ o.0.0, o.0.1) (xs, rest) (found o.2)
-    (record { parts = then_parts bytes (spell f.0.0) (flat_map spell o.0.0) f.0.1 o.0.1 first.parts others.parts;
-        lawful = (ap suc others.lawful.0, (first.lawful, others.lawful.1)); others = others.others })
+    (record {
+      parts = then_parts bytes (spell f.0.0) (flat_map spell o.0.0) f.0.1 o.0.1 first.parts others.parts;
+      lawful = (ap suc others.lawful.0, (first.lawful, others.lawful.1));
+      others = others.others;
+    })
 
 pub many_again : {X : Type 0} (spell : X → List ℕ) (Law : X → Type 0) (read : List ℕ → Found X) → IsFormat spell Law read → (xs : List X) (rest : List ℕ)
     → AllByRecursion Law xs
@@ -132,7 +140,7 @@ place_takes : (bytes : List ℕ) (x : Place) (rest : List ℕ) → IsBytes bytes
 unfolding place_at
 place_takes bytes x rest fits read =
     let f = bind_some (number_at 8 bytes) (λ frame. number_at 4 frame.1 >>= λ index. if nat_lt frame.0 1 then None else Some
-        (record { frame = frame.0; index = index.0 }, index.1)) (x, rest) read in
+    (record { frame = frame.0; index = index.0 }, index.1)) (x, rest) read in
     let frame = (number_format 8).takes bytes f.0.0 f.0.1 fits f.1 in
     let i = bind_some (number_at 4 f.0.1) (λ index. if nat_lt f.0.0 1 then None else Some (record { frame = f.0.0; index = index.0 }, index.1)) (x, rest) f.2 in
     let index = (number_format 4).takes f.0.1 i.0.0 i.0.1 frame.others i.1 in
@@ -148,8 +156,11 @@ place_takes bytes x rest fits read =
 place_again : (x : Place) (rest : List ℕ) → IsPlace x → place_at (place_bytes x ++ rest) ≡ Some (x, rest)
 unfolding place_at
 place_again x rest law =
-    rw (again_on (number_bytes 8) (λ n. n < 256 ^ 8) (number_at 8) (number_format 8) x.frame (number_bytes 4 x.index) rest law.frame.1,
-        (number_format 4).again x.index rest law.index, le-ltb x.frame 1 law.frame.0) refl
+    rw (
+      again_on (number_bytes 8) (λ n. n < 256 ^ 8) (number_at 8) (number_format 8) x.frame (number_bytes 4 x.index) rest law.frame.1,
+      (number_format 4).again x.index rest law.index,
+      le-ltb x.frame 1 law.frame.0,
+    ) refl
 
 pub place_format : IsFormat place_bytes IsPlace place_at
 place_format = record { takes = place_takes; again = place_again }
@@ -166,7 +177,7 @@ pairs_takes : (m : ℕ) (bytes : List ℕ) (x : List (List ℕ × List ℕ)) (re
 unfolding pairs_at
 pairs_takes m bytes x rest fits read =
     let n = bind_some (number_at 2 bytes) (λ count. if nat_lt m count.0 then None else
-        (many_at pair_at count.0 count.1 >>= λ pairs. if ascends pairs.0 then Some pairs else None)) (x, rest) read in
+    (many_at pair_at count.0 count.1 >>= λ pairs. if ascends pairs.0 then Some pairs else None)) (x, rest) read in
     let number = (number_format 2).takes bytes n.0.0 n.0.1 fits n.1 in
     let few = passed (nat_lt m n.0.0) (many_at pair_at n.0.0 n.0.1 >>= λ pairs. if ascends pairs.0 then Some pairs else None) (x, rest) n.2 in
     let p = bind_some (many_at pair_at n.0.0 n.0.1) (λ pairs. if ascends pairs.0 then Some pairs else None) (x, rest) few.1 in
@@ -189,8 +200,12 @@ pairs_takes m bytes x rest fits read =
 pairs_again : (m : ℕ) (x : List (List ℕ × List ℕ)) (rest : List ℕ) → ArePairs m x → pairs_at m (pairs_bytes x ++ rest) ≡ Some (x, rest)
 unfolding pairs_at
 pairs_again m x rest law =
-    rw (again_on (number_bytes 2) (λ n. n < 256 ^ 2) (number_at 2) (number_format 2) (length x) (flat_map pair_bytes x) rest law.few,
-        le-ltb m (length x) law.count, many_again pair_bytes IsPair pair_at pair_format x rest law.each, law.ascends) refl
+    rw (
+      again_on (number_bytes 2) (λ n. n < 256 ^ 2) (number_at 2) (number_format 2) (length x) (flat_map pair_bytes x) rest law.few,
+      le-ltb m (length x) law.count,
+      many_again pair_bytes IsPair pair_at pair_format x rest law.each,
+      law.ascends,
+    ) refl
 
 pub pairs_format : (m : ℕ) → IsFormat pairs_bytes (ArePairs m) (pairs_at m)
 pairs_format m = record { takes = pairs_takes m; again = pairs_again m }
@@ -202,13 +217,13 @@ delta_takes : (bytes : List ℕ) (x : Block) (rest : List ℕ) (m : ℕ) → IsB
 unfolding delta_at
 delta_takes bytes x rest m fits read =
     let g = bind_some (page_at bytes) (λ page. place_at page.1 >>= λ back. number_at 2 back.1 >>= λ count. if nat_lt count.0 1 then None else
-        (many_at op_at count.0 count.1 >>= λ ops. Some (Delta page.0 back.0 ops.0, ops.1))) (x, rest) read in
+    (many_at op_at count.0 count.1 >>= λ ops. Some (Delta page.0 back.0 ops.0, ops.1))) (x, rest) read in
     let page = page_format.takes bytes g.0.0 g.0.1 fits g.1 in
     let b = bind_some (place_at g.0.1) (λ back. number_at 2 back.1 >>= λ count. if nat_lt count.0 1 then None else
-        (many_at op_at count.0 count.1 >>= λ ops. Some (Delta g.0.0 back.0 ops.0, ops.1))) (x, rest) g.2 in
+    (many_at op_at count.0 count.1 >>= λ ops. Some (Delta g.0.0 back.0 ops.0, ops.1))) (x, rest) g.2 in
     let back = place_format.takes g.0.1 b.0.0 b.0.1 page.others b.1 in
     let n = bind_some (number_at 2 b.0.1) (λ count. if nat_lt count.0 1 then None else
-        (many_at op_at count.0 count.1 >>= λ ops. Some (Delta g.0.0 b.0.0 ops.0, ops.1))) (x, rest) b.2 in
+    (many_at op_at count.0 count.1 >>= λ ops. Some (Delta g.0.0 b.0.0 ops.0, ops.1))) (x, rest) b.2 in
     let number = (number_format 2).takes b.0.1 n.0.0 n.0.1 back.others n.1 in
     let some = passed (nat_lt n.0.0 1) (many_at op_at n.0.0 n.0.1 >>= λ ops. Some (Delta g.0.0 b.0.0 ops.0, ops.1)) (x, rest) n.2 in
     let o = bind_some (many_at op_at n.0.0 n.0.1) (λ ops. Some (Delta g.0.0 b.0.0 ops.0, ops.1)) (x, rest) some.1 in
@@ -251,10 +266,10 @@ base_takes : (m : ℕ) (bytes : List ℕ) (x : Block) (rest : List ℕ) → IsBy
 unfolding base_at
 base_takes m bytes x rest fits read =
     let g = bind_some (page_at bytes) (λ page. text_at 0 64 page.1 >>= λ low. pairs_at m low.1 >>= λ pairs. Some
-        (Base (record { page = page.0; low = low.0; pairs = pairs.0 }), pairs.1)) (x, rest) read in
+    (Base (record { page = page.0; low = low.0; pairs = pairs.0 }), pairs.1)) (x, rest) read in
     let page = page_format.takes bytes g.0.0 g.0.1 fits g.1 in
     let l = bind_some (text_at 0 64 g.0.1) (λ low. pairs_at m low.1 >>= λ pairs. Some
-        (Base (record { page = g.0.0; low = low.0; pairs = pairs.0 }), pairs.1)) (x, rest) g.2 in
+    (Base (record { page = g.0.0; low = low.0; pairs = pairs.0 }), pairs.1)) (x, rest) g.2 in
     let low = (text_format 0 64).takes g.0.1 l.0.0 l.0.1 page.others l.1 in
     let p = bind_some (pairs_at m l.0.1) (λ pairs. Some (Base (record { page = g.0.0; low = l.0.0; pairs = pairs.0 }), pairs.1)) (x, rest) l.2 in
     let pairs = (pairs_format m).takes l.0.1 p.0.0 p.0.1 low.others p.1 in
@@ -300,13 +315,13 @@ upper_takes : (m : ℕ) (bytes : List ℕ) (x : Leaf) (rest : List ℕ) → IsBy
 unfolding upper_at
 upper_takes m bytes x rest fits read =
     let l = bind_some (text_at 0 64 bytes) (λ low. number_at 4 low.1 >>= λ page. pairs_at m page.1 >>= λ pairs. if nat_lt page.0 2 then None else if is_led
-        low.0 pairs.0 then Some (record { page = page.0; low = low.0; pairs = pairs.0 }, pairs.1) else None) (x, rest) read in
+    low.0 pairs.0 then Some (record { page = page.0; low = low.0; pairs = pairs.0 }, pairs.1) else None) (x, rest) read in
     let low = (text_format 0 64).takes bytes l.0.0 l.0.1 fits l.1 in
     let g = bind_some (number_at 4 l.0.1) (λ page. pairs_at m page.1 >>= λ pairs. if nat_lt page.0 2 then None else if is_led l.0.0 pairs.0 then Some
-        (record { page = page.0; low = l.0.0; pairs = pairs.0 }, pairs.1) else None) (x, rest) l.2 in
+    (record { page = page.0; low = l.0.0; pairs = pairs.0 }, pairs.1) else None) (x, rest) l.2 in
     let page = (number_format 4).takes l.0.1 g.0.0 g.0.1 low.others g.1 in
     let p = bind_some (pairs_at m g.0.1) (λ pairs. if nat_lt g.0.0 2 then None else if is_led l.0.0 pairs.0 then Some
-        (record { page = g.0.0; low = l.0.0; pairs = pairs.0 }, pairs.1) else None) (x, rest) g.2 in
+    (record { page = g.0.0; low = l.0.0; pairs = pairs.0 }, pairs.1) else None) (x, rest) g.2 in
     let pairs = (pairs_format m).takes g.0.1 p.0.0 p.0.1 page.others p.1 in
     let leaf : Leaf = record { page = g.0.0; low = l.0.0; pairs = p.0.0 } in
     let two = passed (nat_lt g.0.0 2) (if is_led l.0.0 p.0.0 then Some (leaf, p.0.1) else None) (x, rest) p.2 in
@@ -319,8 +334,13 @@ upper_takes m bytes x rest fits read =
     (record {
       parts = parts;
       lawful = record {
-        makes = record { page = (omega arith, page.lawful); low = low.lawful.1; count = pairs.lawful.count; pairs = pairs.lawful.each;
-            ascends = pairs.lawful.ascends };
+        makes = record {
+          page = (omega arith, page.lawful);
+          low = low.lawful.1;
+          count = pairs.lawful.count;
+          pairs = pairs.lawful.each;
+          ascends = pairs.lawful.ascends;
+        };
         low = lead.0;
         count = lead.1;
         page = second;
@@ -345,10 +365,10 @@ split_takes : (m : ℕ) (bytes : List ℕ) (x : Block) (rest : List ℕ) → IsB
 unfolding split_at
 split_takes m bytes x rest fits read =
     let g = bind_some (page_at bytes) (λ page. place_at page.1 >>= λ back. upper_at m back.1 >>= λ upper. if upper.0.page == page.0 then None else Some
-        (Split page.0 back.0 upper.0, upper.1)) (x, rest) read in
+    (Split page.0 back.0 upper.0, upper.1)) (x, rest) read in
     let page = page_format.takes bytes g.0.0 g.0.1 fits g.1 in
     let b = bind_some (place_at g.0.1) (λ back. upper_at m back.1 >>= λ upper. if upper.0.page == g.0.0 then None else Some
-        (Split g.0.0 back.0 upper.0, upper.1)) (x, rest) g.2 in
+    (Split g.0.0 back.0 upper.0, upper.1)) (x, rest) g.2 in
     let back = place_format.takes g.0.1 b.0.0 b.0.1 page.others b.1 in
     let u = bind_some (upper_at m b.0.1) (λ upper. if upper.0.page == g.0.0 then None else Some (Split g.0.0 b.0.0 upper.0, upper.1)) (x, rest) b.2 in
     let upper = upper_takes m b.0.1 u.0.0 u.0.1 back.others u.1 in
@@ -358,8 +378,14 @@ split_takes m bytes x rest fits read =
     takes_as block_bytes (IsBlock m) (3 ∷ bytes) (Split g.0.0 b.0.0 u.0.0, u.0.1) (x, rest) (found other.1)
     (record {
       parts = ap (λ (r : List ℕ). 3 ∷ r) parts;
-      lawful = record { cuts = page.lawful; links = back.lawful; makes = upper.lawful.makes; low = upper.lawful.low; count = upper.lawful.count;
-          new = (upper.lawful.page, eqb-false u.0.0.page g.0.0 other.0) };
+      lawful = record {
+        cuts = page.lawful;
+        links = back.lawful;
+        makes = upper.lawful.makes;
+        low = upper.lawful.low;
+        count = upper.lawful.count;
+        new = (upper.lawful.page, eqb-false u.0.0.page g.0.0 other.0);
+      };
       others = upper.others;
     })
 
@@ -381,15 +407,15 @@ block_takes m [] x rest fits read = absurd cc
 block_takes m (tag ∷ bytes) x rest fits read =
     let behind : IsBytes bytes = λ i. fits (suc i) in
     elim (tag == 1) as (λ t. (tag == 1) ≡ t → (if t then delta_at bytes else if tag == 2 then base_at m bytes else if tag == 3 then split_at m bytes else None)
-        ≡ Some (x, rest) → Takes block_bytes (IsBlock m) (tag ∷ bytes) x rest) [
+    ≡ Some (x, rest) → Takes block_bytes (IsBlock m) (tag ∷ bytes) x rest) [
       | true ↦ λ one delta. tagged block_bytes (IsBlock m) tag 1 bytes x rest one (delta_takes bytes x rest m behind delta)
       | false ↦ λ _ read2. elim (tag == 2) as (λ t. (tag == 2) ≡ t
           → (if t then base_at m bytes else if tag == 3 then split_at m bytes else None) ≡ Some (x, rest)
           → Takes block_bytes (IsBlock m) (tag ∷ bytes) x rest) [
-        | true ↦ λ two base. tagged block_bytes (IsBlock m) tag 2 bytes x rest two (base_takes m bytes x rest behind base)
-        | false ↦ λ _ read3. (let three = held (tag == 3) (split_at m bytes) (x, rest) read3
-            in tagged block_bytes (IsBlock m) tag 3 bytes x rest three.0 (split_takes m bytes x rest behind three.1))
-      ] refl read2
+            | true ↦ λ two base. tagged block_bytes (IsBlock m) tag 2 bytes x rest two (base_takes m bytes x rest behind base)
+            | false ↦ λ _ read3. (let three = held (tag == 3) (split_at m bytes) (x, rest) read3
+                in tagged block_bytes (IsBlock m) tag 3 bytes x rest three.0 (split_takes m bytes x rest behind three.1))
+          ] refl read2
     ] refl read
 
 block_again : (m : ℕ) → m < 2 ^ 16 → (x : Block) (rest : List ℕ) → IsBlock m x → block_at m (block_bytes x ++ rest) ≡ Some (x, rest)

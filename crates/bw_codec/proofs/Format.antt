@@ -102,9 +102,9 @@ number_there n bytes long fits =
     let front : length (take n bytes) ≡ n = length-take-le n bytes long in
     let spelled : number_bytes n (little_number n bytes) ≡ take n bytes =
     ap (λ (x : ℕ). bytes_low_first 0 n x) (sym (little_from-take 0 n n bytes (omega arith)))
-        ∙ bytes_of_number n (take n bytes) front (bytes_before n bytes fits) in
+    ∙ bytes_of_number n (take n bytes) front (bytes_before n bytes fits) in
     let parts : bytes ≡ number_bytes n (little_number n bytes) ++ drop n bytes =
-        sym (take-append-drop n bytes) ∙ ap (λ (r : List ℕ). r ++ drop n bytes) (sym spelled) in
+    sym (take-append-drop n bytes) ∙ ap (λ (r : List ℕ). r ++ drop n bytes) (sym spelled) in
     record {
       parts = parts;
       lawful = little_from-lt 0 n bytes fits;
@@ -116,14 +116,14 @@ number_takes : (n : ℕ) (bytes : List ℕ) (x : ℕ) (rest : List ℕ) → IsBy
 number_takes n bytes x rest fits read =
     let p = passed (nat_lt (length bytes) n) (Some (little_number n bytes, drop n bytes)) (x, rest) read in
     takes_as (number_bytes n) (λ x. x < 256 ^ n) bytes (little_number n bytes, drop n bytes) (x, rest) (found p.1)
-        (number_there n bytes (ltb-false (length bytes) n p.0) fits)
+    (number_there n bytes (ltb-false (length bytes) n p.0) fits)
 
 number_again : (n x : ℕ) (rest : List ℕ) → x < 256 ^ n → number_at n (number_bytes n x ++ rest) ≡ Some (x, rest)
 unfolding number_bytes
 number_again n x rest law =
     let size = length-bytes_low_first 0 n x in
     let long : nat_lt (length (number_bytes n x ++ rest)) n ≡ false =
-        le-ltb (length (number_bytes n x ++ rest)) n (omega (arith, size, length-append (number_bytes n x) rest)) in
+    le-ltb (length (number_bytes n x ++ rest)) n (omega (arith, size, length-append (number_bytes n x) rest)) in
     rw (long, little_number-reads_back n x rest law, drop_at (number_bytes n x) rest n size) refl
 
 pub number_reads : (n x : ℕ) (rest : List ℕ) → x < 256 ^ n → little_number n (number_bytes n x ++ rest) ≡ x
@@ -147,7 +147,7 @@ run_takes (n ∷ bytes) x rest read =
     let there : n ∷ bytes ≡ text (take n bytes) ++ drop n bytes = rw (length-take-le n bytes long, take-append-drop n bytes) refl in
     subst (λ (r : List ℕ × List ℕ). n ∷ bytes ≡ text r.0 ++ r.1) (found p.1) there
 
-run_again : (x rest : List ℕ) → run_at (text x ++ rest) ≡ Some (x, rest)
+pub run_again : (x rest : List ℕ) → run_at (text x ++ rest) ≡ Some (x, rest)
 run_again x rest =
     let long : nat_lt (length (x ++ rest)) (length x) ≡ false = le-ltb (length (x ++ rest)) (length x) (omega (arith, length-append x rest)) in
     rw (long, take_at x rest (length x) refl, drop_at x rest (length x) refl) refl
@@ -156,13 +156,16 @@ text_takes : (low high : ℕ) (bytes x rest : List ℕ) → IsBytes bytes → te
 unfolding text_at
 text_takes low high bytes x rest fits read =
     let run = bind_some (run_at bytes) (λ run. if nat_lt (length run.0) low then None else if nat_lt high (length run.0) then None else Some
-        run) (x, rest) read in
+    run) (x, rest) read in
     let above = passed (nat_lt (length run.0.0) low) (if nat_lt high (length run.0.0) then None else Some run.0) (x, rest) run.2 in
     let below = passed (nat_lt high (length run.0.0)) (Some run.0) (x, rest) above.1 in
     let parts = run_takes bytes run.0.0 run.0.1 run.1 in
     takes_as text (IsRun low high) bytes run.0 (x, rest) (found below.1)
-    (record { parts = parts; lawful = (ltb-false (length run.0.0) low above.0, ltb-false high (length run.0.0) below.0);
-        others = bytes_after bytes (text run.0.0) run.0.1 parts fits })
+    (record {
+      parts = parts;
+      lawful = (ltb-false (length run.0.0) low above.0, ltb-false high (length run.0.0) below.0);
+      others = bytes_after bytes (text run.0.0) run.0.1 parts fits;
+    })
 
 text_again : (low high : ℕ) (x rest : List ℕ) → IsRun low high x → text_at low high (text x ++ rest) ≡ Some (x, rest)
 unfolding text_at

@@ -53,8 +53,11 @@ tested f h is number blocks =
     let a = and_parts (nat_lt 0 h.number && nat_le 8 h.body && nat_le (h.body + 20) f) (nat_lt 0 h.blocks) is in
     let b = and_parts (nat_lt 0 h.number && nat_le 8 h.body) (nat_le (h.body + 20) f) a.0 in
     let c = and_parts (nat_lt 0 h.number) (nat_le 8 h.body) b.0 in
-    record { numbered = (ltb-true 0 h.number c.0, number); fits = (leb-true 8 h.body c.1, leb-true (h.body + 20) f b.1);
-        some = (ltb-true 0 h.blocks a.1, blocks) }
+    record {
+      numbered = (ltb-true 0 h.number c.0, number);
+      fits = (leb-true 8 h.body c.1, leb-true (h.body + 20) f b.1);
+      some = (ltb-true 0 h.blocks a.1, blocks);
+    }
 
 passes : (f : ℕ) (h : Head) → IsHead f h.number h.body h.blocks → is_head f h ≡ true
 passes f h law =
@@ -76,20 +79,20 @@ head_takes : (f : ℕ) (bytes : List ℕ) (x : Head) (rest : List ℕ) → 20 �
 unfolding head_at
 head_takes f bytes x rest long fits read =
     let word = held (agrees bytes frame_word)
-        (number_at 8 (drop 4 bytes) >>= λ number. number_at 4 number.1 >>= λ body. number_at 4 body.1 >>= λ blocks. if is_head f
-        (record { number = number.0; body = body.0; blocks = blocks.0 }) then Some (record { number = number.0; body = body.0; blocks = blocks.0 }, blocks.1)
-        else None) (x, rest) read in
+    (number_at 8 (drop 4 bytes) >>= λ number. number_at 4 number.1 >>= λ body. number_at 4 body.1 >>= λ blocks. if is_head f
+    (record { number = number.0; body = body.0; blocks = blocks.0 }) then Some (record { number = number.0; body = body.0; blocks = blocks.0 }, blocks.1)
+    else None) (x, rest) read in
     let front : bytes ≡ frame_word ++ drop 4 bytes = agrees_begins frame_word bytes (omega arith) word.0 in
     let n = bind_some (number_at 8 (drop 4 bytes))
-        (λ number. number_at 4 number.1 >>= λ body. number_at 4 body.1 >>= λ blocks. if is_head f
-        (record { number = number.0; body = body.0; blocks = blocks.0 }) then Some (record { number = number.0; body = body.0; blocks = blocks.0 }, blocks.1)
-        else None) (x, rest) word.1 in
+    (λ number. number_at 4 number.1 >>= λ body. number_at 4 body.1 >>= λ blocks. if is_head f
+    (record { number = number.0; body = body.0; blocks = blocks.0 }) then Some (record { number = number.0; body = body.0; blocks = blocks.0 }, blocks.1)
+    else None) (x, rest) word.1 in
     let number = (number_format 8).takes (drop 4 bytes) n.0.0 n.0.1 (bytes_after bytes frame_word (drop 4 bytes) front fits) n.1 in
     let d = bind_some (number_at 4 n.0.1) (λ body. number_at 4 body.1 >>= λ blocks. if is_head f (record { number = n.0.0; body = body.0; blocks = blocks.0 })
-        then Some (record { number = n.0.0; body = body.0; blocks = blocks.0 }, blocks.1) else None) (x, rest) n.2 in
+    then Some (record { number = n.0.0; body = body.0; blocks = blocks.0 }, blocks.1) else None) (x, rest) n.2 in
     let body = (number_format 4).takes n.0.1 d.0.0 d.0.1 number.others d.1 in
     let b = bind_some (number_at 4 d.0.1) (λ blocks. if is_head f (record { number = n.0.0; body = d.0.0; blocks = blocks.0 }) then Some
-        (record { number = n.0.0; body = d.0.0; blocks = blocks.0 }, blocks.1) else None) (x, rest) d.2 in
+    (record { number = n.0.0; body = d.0.0; blocks = blocks.0 }, blocks.1) else None) (x, rest) d.2 in
     let blocks = (number_format 4).takes d.0.1 b.0.0 b.0.1 body.others b.1 in
     let head : Head = record { number = n.0.0; body = d.0.0; blocks = b.0.0 } in
     let lawful = held (is_head f head) (Some (head, b.0.1)) (x, rest) b.2 in
@@ -118,8 +121,14 @@ length-head number body blocks =
     let a = length-number 8 number in
     let b = length-number 4 body in
     let c = length-number 4 blocks in
-    omega (arith, a, b, c, length-append (number_bytes 8 number) (number_bytes 4 body ++ number_bytes 4 blocks),
-        length-append (number_bytes 4 body) (number_bytes 4 blocks))
+    omega (
+      arith,
+      a,
+      b,
+      c,
+      length-append (number_bytes 8 number) (number_bytes 4 body ++ number_bytes 4 blocks),
+      length-append (number_bytes 4 body) (number_bytes 4 blocks),
+    )
 
 -- ---- the front
 
@@ -129,56 +138,67 @@ frame_there : (m f : ℕ) (bytes : List ℕ) (h : Head) (rest : List ℕ) (block
     → IsFront m f bytes (Whole (record { number = h.number; blocks = blocks }) (h.body + 20))
 frame_there m f bytes h rest blocks left small fits parts law long read none =
     let many = many_takes block_bytes (IsBlock m) (block_at m) (block_format m small) h.blocks (take h.body rest) blocks left
-        (bytes_before h.body rest fits) read in
+    (bytes_before h.body rest fits) read in
     let spelled : take h.body rest ≡ body_bytes blocks =
-        many.parts ∙ ap (λ (r : List ℕ). body_bytes blocks ++ r) (nil_from_length left none) ∙ append-nil (body_bytes blocks) in
+    many.parts ∙ ap (λ (r : List ℕ). body_bytes blocks ++ r) (nil_from_length left none) ∙ append-nil (body_bytes blocks) in
     let size : length (body_bytes blocks) ≡ h.body = ap (λ (r : List ℕ). length r) (sym spelled) ∙ length-take-le h.body rest long in
     let count : length blocks ≡ h.blocks = many.lawful.0 in
     let frame : Frame = record { number = h.number; blocks = blocks } in
     let head : head_bytes h.number (length (body_bytes blocks)) (length blocks) ≡ spelled_head h =
-        ap (λ (n : ℕ). head_bytes h.number n (length blocks)) size ∙ ap (λ (n : ℕ). head_bytes h.number h.body n) count in
+    ap (λ (n : ℕ). head_bytes h.number n (length blocks)) size ∙ ap (λ (n : ℕ). head_bytes h.number h.body n) count in
     let tail : rest ≡ body_bytes blocks ++ drop h.body rest = sym (take-append-drop h.body rest) ∙ ap (λ (r : List ℕ). r ++ drop h.body rest) spelled in
     let front : bytes ≡ head_bytes h.number (length (body_bytes blocks)) (length blocks) ++ rest = parts ∙ ap (λ (r : List ℕ). r ++ rest) (sym head) in
     let lawful : IsFrame m f frame = record {
-      head = record { numbered = law.numbered; fits = subst (λ (n : ℕ). (8 ≤ n) × (n + 20 ≤ f)) (sym size) law.fits;
-          some = subst (λ (n : ℕ). (1 ≤ n) × (n < 2 ^ 32)) (sym count) law.some };
+      head = record {
+        numbered = law.numbered;
+        fits = subst (λ (n : ℕ). (8 ≤ n) × (n + 20 ≤ f)) (sym size) law.fits;
+        some = subst (λ (n : ℕ). (1 ≤ n) × (n < 2 ^ 32)) (sym count) law.some;
+      };
       blocks = many.lawful.1;
     } in
     let used : h.body + 20 ≡ length (frame_bytes frame) =
-    omega (arith, size, length-head h.number (length (body_bytes blocks)) (length blocks),
-        length-append (head_bytes h.number (length (body_bytes blocks)) (length blocks)) (body_bytes blocks)) in
-    (lawful, drop h.body rest, then_parts bytes (head_bytes h.number (length (body_bytes blocks)) (length blocks)) (body_bytes blocks) rest
-        (drop h.body rest) front tail, used)
+    omega (
+      arith,
+      size,
+      length-head h.number (length (body_bytes blocks)) (length blocks),
+      length-append (head_bytes h.number (length (body_bytes blocks)) (length blocks)) (body_bytes blocks),
+    ) in (
+      lawful,
+      drop h.body rest,
+      then_parts bytes (head_bytes h.number (length (body_bytes blocks)) (length blocks)) (body_bytes blocks) rest
+          (drop h.body rest) front tail,
+      used,
+    )
 
 -- what is read at the front stands there
 pub front_is : (m f : ℕ) (bytes : List ℕ) (read : FrameRead) → m < 2 ^ 16 → IsBytes bytes → front_at m f bytes ≡ Some read → IsFront m f bytes read
 unfolding front_at
 front_is m f bytes read small fits e =
     elim (nat_lt (length bytes) 20) as (λ t. nat_lt (length bytes) 20 ≡ t
-        → (if t then (if agrees bytes frame_word then Some Tail else None) else
-        (head_at f bytes >>= λ head. if nat_lt (length head.1) head.0.body then Some Tail else
-        (many_at (block_at m) head.0.blocks (take head.0.body head.1) >>= λ blocks. if length blocks.1 == 0 then Some
-        (Whole (record { number = head.0.number; blocks = blocks.0 }) (head.0.body + 20)) else None))) ≡ Some read → IsFront m f bytes read) [
+    → (if t then (if agrees bytes frame_word then Some Tail else None) else
+    (head_at f bytes >>= λ head. if nat_lt (length head.1) head.0.body then Some Tail else
+    (many_at (block_at m) head.0.blocks (take head.0.body head.1) >>= λ blocks. if length blocks.1 == 0 then Some
+    (Whole (record { number = head.0.number; blocks = blocks.0 }) (head.0.body + 20)) else None))) ≡ Some read → IsFront m f bytes read) [
       | true ↦ λ short front. (
           let word = held (agrees bytes frame_word) (Some Tail) read front in
           subst (IsFront m f bytes) (found word.1) (inl (ltb-true (length bytes) 20 short, word.0)))
       | false ↦ λ long front. (
           let h = bind_some (head_at f bytes) (λ head. if nat_lt (length head.1) head.0.body then Some Tail else
-              (many_at (block_at m) head.0.blocks (take head.0.body head.1) >>= λ blocks. if length blocks.1 == 0 then Some
-              (Whole (record { number = head.0.number; blocks = blocks.0 }) (head.0.body + 20)) else None)) read front in
+          (many_at (block_at m) head.0.blocks (take head.0.body head.1) >>= λ blocks. if length blocks.1 == 0 then Some
+          (Whole (record { number = head.0.number; blocks = blocks.0 }) (head.0.body + 20)) else None)) read front in
           let head = head_takes f bytes h.0.0 h.0.1 (ltb-false (length bytes) 20 long) fits h.1 in
           elim (nat_lt (length h.0.1) h.0.0.body) as
-              (λ t. nat_lt (length h.0.1) h.0.0.body ≡ t
-              → (if t then Some Tail else (many_at (block_at m) h.0.0.blocks (take h.0.0.body h.0.1) >>= λ blocks. if length blocks.1 == 0 then Some
-              (Whole (record { number = h.0.0.number; blocks = blocks.0 }) (h.0.0.body + 20)) else None)) ≡ Some read → IsFront m f bytes read) [
+          (λ t. nat_lt (length h.0.1) h.0.0.body ≡ t
+          → (if t then Some Tail else (many_at (block_at m) h.0.0.blocks (take h.0.0.body h.0.1) >>= λ blocks. if length blocks.1 == 0 then Some
+          (Whole (record { number = h.0.0.number; blocks = blocks.0 }) (h.0.0.body + 20)) else None)) ≡ Some read → IsFront m f bytes read) [
             | true ↦ λ cut tail. subst (IsFront m f bytes) (found tail) (inr (h.0.0, h.0.1, head.lawful, ltb-true (length h.0.1) h.0.0.body cut, head.parts))
             | false ↦ λ there whole. (
                 let b = bind_some (many_at (block_at m) h.0.0.blocks (take h.0.0.body h.0.1))
-                    (λ blocks. if length blocks.1 == 0 then Some (Whole (record { number = h.0.0.number; blocks = blocks.0 }) (h.0.0.body + 20)) else
-                    None) read whole in
+                (λ blocks. if length blocks.1 == 0 then Some (Whole (record { number = h.0.0.number; blocks = blocks.0 }) (h.0.0.body + 20)) else
+                None) read whole in
                 let none = held (length b.0.1 == 0) (Some (Whole (record { number = h.0.0.number; blocks = b.0.0 }) (h.0.0.body + 20))) read b.2 in
                 subst (IsFront m f bytes) (found none.1) (frame_there m f bytes h.0.0 h.0.1 b.0.0 b.0.1 small head.others head.parts head.lawful
-                    (ltb-false (length h.0.1) h.0.0.body there) b.1 (eqb-true (length b.0.1) 0 none.0)))
+                (ltb-false (length h.0.1) h.0.0.body there) b.1 (eqb-true (length b.0.1) 0 none.0)))
           ] refl h.2)
     ] refl e
 
@@ -187,7 +207,7 @@ unfolding front_at
 tail_read m f h rest limit law cut =
     let fits = law.fits in
     let long : nat_lt (length (spelled_head h ++ rest)) 20 ≡ false =
-        le-ltb (length (spelled_head h ++ rest)) 20 (omega (arith, length-head h.number h.body h.blocks, length-append (spelled_head h) rest)) in
+    le-ltb (length (spelled_head h ++ rest)) 20 (omega (arith, length-head h.number h.body h.blocks, length-append (spelled_head h) rest)) in
     rw (long, head_again f h rest (omega arith) law, lt-ltb (length rest) h.body cut) refl
 
 frame_read : (m f : ℕ) (frame : Frame) (rest : List ℕ) → m < 2 ^ 16 → f < 2 ^ 32 → IsFrame m f frame
@@ -197,19 +217,19 @@ frame_read m f frame rest small limit law =
     let h : Head = record { number = frame.number; body = length (body_bytes frame.blocks); blocks = length frame.blocks } in
     let fits = law.head.fits in
     let size : length (frame_bytes frame ++ rest) ≡ length (spelled_head h) + length (body_bytes frame.blocks) + length rest =
-        omega (arith, length-append (frame_bytes frame) rest, length-append (spelled_head h) (body_bytes frame.blocks)) in
+    omega (arith, length-append (frame_bytes frame) rest, length-append (spelled_head h) (body_bytes frame.blocks)) in
     let long : nat_lt (length (frame_bytes frame ++ rest)) 20 ≡ false =
-        le-ltb (length (frame_bytes frame ++ rest)) 20 (omega (arith, size, length-head h.number h.body h.blocks)) in
+    le-ltb (length (frame_bytes frame ++ rest)) 20 (omega (arith, size, length-head h.number h.body h.blocks)) in
     let assoc : frame_bytes frame ++ rest ≡ spelled_head h ++ (body_bytes frame.blocks ++ rest) =
-        append_assoc (spelled_head h) (body_bytes frame.blocks) rest in
+    append_assoc (spelled_head h) (body_bytes frame.blocks) rest in
     let head : head_at f (frame_bytes frame ++ rest) ≡ Some (h, body_bytes frame.blocks ++ rest) =
-        ap (head_at f) assoc ∙ head_again f h (body_bytes frame.blocks ++ rest) (omega arith) law.head in
+    ap (head_at f) assoc ∙ head_again f h (body_bytes frame.blocks ++ rest) (omega arith) law.head in
     let there : nat_lt (length (body_bytes frame.blocks ++ rest)) h.body ≡ false =
-        le-ltb (length (body_bytes frame.blocks ++ rest)) h.body (omega (arith, length-append (body_bytes frame.blocks) rest)) in
+    le-ltb (length (body_bytes frame.blocks ++ rest)) h.body (omega (arith, length-append (body_bytes frame.blocks) rest)) in
     let body : take h.body (body_bytes frame.blocks ++ rest) ≡ body_bytes frame.blocks ++ [] =
-        take_at (body_bytes frame.blocks) rest h.body refl ∙ sym (append-nil (body_bytes frame.blocks)) in
+    take_at (body_bytes frame.blocks) rest h.body refl ∙ sym (append-nil (body_bytes frame.blocks)) in
     let blocks : many_at (block_at m) h.blocks (take h.body (body_bytes frame.blocks ++ rest)) ≡ Some (frame.blocks, []) =
-        ap (many_at (block_at m) h.blocks) body ∙ many_again block_bytes (IsBlock m) (block_at m) (block_format m small) frame.blocks [] law.blocks in
+    ap (many_at (block_at m) h.blocks) body ∙ many_again block_bytes (IsBlock m) (block_at m) (block_format m small) frame.blocks [] law.blocks in
     rw (long, head, there, blocks) refl
 
 short_read : (m f : ℕ) (bytes : List ℕ) → length bytes < 20 → agrees bytes frame_word ≡ true → front_at m f bytes ≡ Some Tail
@@ -220,8 +240,12 @@ short_read m f bytes short word = rw (lt-ltb (length bytes) 20 short, word) refl
 pub is_front : (m f : ℕ) (bytes : List ℕ) (read : FrameRead) → m < 2 ^ 16 → f < 2 ^ 32 → IsFront m f bytes read → front_at m f bytes ≡ Some read
 is_front m f bytes (Whole frame used) small limit front =
     let size : length (body_bytes frame.blocks) + 20 ≡ used =
-    omega (arith, front.3, length-head frame.number (length (body_bytes frame.blocks)) (length frame.blocks),
-        length-append (head_bytes frame.number (length (body_bytes frame.blocks)) (length frame.blocks)) (body_bytes frame.blocks)) in
+    omega (
+      arith,
+      front.3,
+      length-head frame.number (length (body_bytes frame.blocks)) (length frame.blocks),
+      length-append (head_bytes frame.number (length (body_bytes frame.blocks)) (length frame.blocks)) (body_bytes frame.blocks),
+    ) in
     ap (front_at m f) front.2 ∙ frame_read m f frame front.1 small limit front.0 ∙ ap (λ (n : ℕ). Some (Whole frame n)) size
 is_front m f bytes Tail small limit (inl short) = short_read m f bytes short.0 short.1
 is_front m f bytes Tail small limit (inr cut) = ap (front_at m f) cut.4 ∙ tail_read m f cut.0 cut.1 limit cut.2 cut.3
@@ -233,7 +257,7 @@ one_spelling m f small limit a b x y law_a law_b same =
     let read_a = frame_read m f a x small limit law_a in
     let read_b = frame_read m f b y small limit law_b in
     let reads : Some (Whole a (length (body_bytes a.blocks) + 20)) ≡ Some (Whole b (length (body_bytes b.blocks) + 20)) =
-        sym read_a ∙ ap (front_at m f) same ∙ read_b in
+    sym read_a ∙ ap (front_at m f) same ∙ read_b in
     let frames : a ≡ b = cc in
     (frames, append_cancel_left (frame_bytes b) x y (ap (λ (c : Frame). frame_bytes c ++ x) (sym frames) ∙ same))
 
@@ -255,7 +279,7 @@ beginnings_are_tails m f a n law short =
       | inr beyond ↦ (
           let cut : length (take (n - 20) body) < length body = omega (arith, length-take (n - 20) body, length-append (spelled_head h) body) in
           let same : take n (frame_bytes a) ≡ spelled_head h ++ take (n - 20) body =
-              take_over (spelled_head h) body n (omega arith) ∙ ap (λ (k : ℕ). spelled_head h ++ take (n - k) body) head in
+          take_over (spelled_head h) body n (omega arith) ∙ ap (λ (k : ℕ). spelled_head h ++ take (n - k) body) head in
           inr (h, take (n - 20) body, law.head, cut, same))
     ]
 

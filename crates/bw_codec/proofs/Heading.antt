@@ -3,10 +3,11 @@
 use Rattle.std.proofs.Common.{◌≡◌, ℕ, ◌+◌, ◌^◌, ◌<◌, ◌≤◌, ◌==◌, ◌&&◌, true, false, if◌then◌else◌, List, ◌++◌, length, drop, nat_lt, nat_le, refl, sym, ap}
 use Rattle.std.proofs.Common.{subst, ◌∙◌, append_assoc, arith, length-append, length-drop}
 use Rattle.std.proofs.lemmas.Bool.{ltb-false, ltb-true, le-ltb, lt-ltb, leb-true, le-leb, eqb-true, and_parts, and_from}
-use Rattle.std.proofs.lemmas.List.{drop_at, drop-drop}
+use Rattle.std.proofs.lemmas.List.{drop_at, drop-drop, append_cancel_left}
 use Rattle.byteorder.specs.Endian.{little_number}
 use Rattle.bw_codec.specs.Bytes.{number_bytes}
 use Rattle.bw_codec.specs.Grammar.{segment_word, header_bytes, agrees, is_header, IsHeader, IsPart, IsHeading}
+use Rattle.bw_codec.specs.Laws.{OneHeaderSpelling}
 use Rattle.bw_codec.specs.Reading.{header_in, heading_of}
 use Rattle.bw_codec.specs.declared.block.Header.{Header}
 use Rattle.bw_codec.specs.declared.block.HeaderRead.{HeaderRead}
@@ -62,9 +63,11 @@ header_there bytes fits long word zero is =
     let p3 = then_parts (drop 18 bytes) (number_bytes 2 0) (number_bytes 4 h.f) (drop 20 bytes) (drop 24 bytes) none_parts f.0 in
     let p2 = then_parts (drop 16 bytes) (number_bytes 2 h.m) (number_bytes 2 0 ++ number_bytes 4 h.f) (drop 18 bytes) (drop 24 bytes) m.0 p3 in
     let p1 = then_parts (drop 8 bytes) (number_bytes 8 h.number) (number_bytes 2 h.m ++ (number_bytes 2 0 ++ number_bytes 4 h.f)) (drop 16 bytes)
-        (drop 24 bytes) number.0 p2 in
-    (tested h is number.1, then_parts bytes segment_word (number_bytes 8 h.number ++ (number_bytes 2 h.m ++ (number_bytes 2 0 ++ number_bytes 4 h.f)))
-        (drop 8 bytes) (drop 24 bytes) front p1)
+    (drop 24 bytes) number.0 p2 in (
+      tested h is number.1,
+      then_parts bytes segment_word (number_bytes 8 h.number ++ (number_bytes 2 h.m ++ (number_bytes 2 0 ++ number_bytes 4 h.f)))
+          (drop 8 bytes) (drop 24 bytes) front p1,
+    )
 
 -- ---- a header is read where one is spelled
 
@@ -85,7 +88,7 @@ length-header h =
 behind_number : (n x k j : ℕ) (bytes rest : List ℕ) → k + n ≡ j → drop k bytes ≡ number_bytes n x ++ rest → drop j bytes ≡ rest
 behind_number n x k j bytes rest at there =
     ap (λ (i : ℕ). drop i bytes) (sym at) ∙ sym (drop-drop n k bytes) ∙ ap (λ (r : List ℕ). drop n r) there
-        ∙ drop_at (number_bytes n x) rest n (length-number n x)
+    ∙ drop_at (number_bytes n x) rest n (length-number n x)
 
 header_in_is : (h : Header) (rest : List ℕ) → IsHeader h → (header_in (header_bytes h ++ rest) ≡ h) × (little_number 2 (drop 18 (header_bytes h ++ rest)) ≡ 0)
 header_in_is h rest law =
@@ -96,8 +99,8 @@ header_in_is h rest law =
     let d8 : drop 8 bytes ≡ number_bytes 8 h.number ++ r1 =
     append_assoc (number_bytes 8 h.number) (number_bytes 2 h.m ++ (number_bytes 2 0 ++ number_bytes 4 h.f)) rest
     ∙ ap (λ (r : List ℕ). number_bytes 8 h.number ++ r)
-        (append_assoc (number_bytes 2 h.m) (number_bytes 2 0 ++ number_bytes 4 h.f) rest
-        ∙ ap (λ (r : List ℕ). number_bytes 2 h.m ++ r) (append_assoc (number_bytes 2 0) (number_bytes 4 h.f) rest)) in
+    (append_assoc (number_bytes 2 h.m) (number_bytes 2 0 ++ number_bytes 4 h.f) rest
+    ∙ ap (λ (r : List ℕ). number_bytes 2 h.m ++ r) (append_assoc (number_bytes 2 0) (number_bytes 4 h.f) rest)) in
     let d16 : drop 16 bytes ≡ r1 = behind_number 8 h.number 8 16 bytes r1 refl d8 in
     let d18 : drop 18 bytes ≡ r2 = behind_number 2 h.m 16 18 bytes r2 refl d16 in
     let d20 : drop 20 bytes ≡ r3 = behind_number 2 0 18 20 bytes r3 refl d18 in
@@ -117,6 +120,12 @@ header_again h rest law =
     let lawful : is_header (header_in bytes) ≡ true = ap is_header is.0 ∙ passes h law in
     rw (long, is.1, lawful, is.0) refl
 
+pub one_header_spelling : OneHeaderSpelling
+one_header_spelling a b x y law_a law_b same =
+    let reads : heading.Whole a ≡ heading.Whole b = sym (header_again a x law_a) ∙ ap heading_of same ∙ header_again b y law_b in
+    let headers : a ≡ b = cc in
+    (headers, append_cancel_left (header_bytes b) x y (ap (λ (h : Header). header_bytes h ++ x) (sym headers) ∙ same))
+
 part_again : (bytes : List ℕ) → IsPart bytes → heading_of bytes ≡ heading.Part
 unfolding heading_of
 part_again bytes part = rw (part.2, lt-ltb (length bytes) 24 part.1, lt-ltb 0 (length bytes) part.0) refl
@@ -135,33 +144,33 @@ unfolding heading_of
 heading_there bytes fits read e =
     let bad : heading.Bad ≡ read → IsHeading bytes read = λ b. subst (IsHeading bytes) b (bad_there bytes (e ∙ sym b)) in
     elim (agrees bytes segment_word) as (λ t. agrees bytes segment_word ≡ t
-        → (if t then (if nat_lt (length bytes) 24 then (if nat_lt 0 (length bytes) then heading.Part else heading.Bad) else if little_number 2 (drop 18 bytes)
-        == 0 then (if is_header (header_in bytes) then heading.Whole (header_in bytes) else heading.Bad) else heading.Bad) else heading.Bad) ≡ read
-        → IsHeading bytes read) [
+    → (if t then (if nat_lt (length bytes) 24 then (if nat_lt 0 (length bytes) then heading.Part else heading.Bad) else if little_number 2 (drop 18 bytes)
+    == 0 then (if is_header (header_in bytes) then heading.Whole (header_in bytes) else heading.Bad) else heading.Bad) else heading.Bad) ≡ read
+    → IsHeading bytes read) [
       | false ↦ λ _ b. bad b
       | true ↦ λ word e1. elim (nat_lt (length bytes) 24) as
           (λ t. nat_lt (length bytes) 24 ≡ t → (if t then (if nat_lt 0 (length bytes) then heading.Part else heading.Bad) else if little_number 2
           (drop 18 bytes) == 0 then (if is_header (header_in bytes) then heading.Whole (header_in bytes) else heading.Bad) else heading.Bad) ≡ read
           → IsHeading bytes read) [
-        | true ↦ λ short e2. elim (nat_lt 0 (length bytes)) as
-            (λ t. nat_lt 0 (length bytes) ≡ t → (if t then heading.Part else heading.Bad) ≡ read → IsHeading bytes read) [
-          | false ↦ λ _ b. bad b
-          | true ↦ λ some part. subst (IsHeading bytes) part (ltb-true 0 (length bytes) some, ltb-true (length bytes) 24 short, word)
-        ] refl e2
-        | false ↦ λ long e2. elim (little_number 2 (drop 18 bytes) == 0) as
-            (λ t. (little_number 2 (drop 18 bytes) == 0) ≡ t
-            → (if t then (if is_header (header_in bytes) then heading.Whole (header_in bytes) else heading.Bad) else heading.Bad) ≡ read
-            → IsHeading bytes read) [
-          | false ↦ λ _ b. bad b
-          | true ↦ λ none e3. elim (is_header (header_in bytes)) as
-              (λ t. is_header (header_in bytes) ≡ t → (if t then heading.Whole (header_in bytes) else heading.Bad) ≡ read → IsHeading bytes read) [
-            | false ↦ λ _ b. bad b
-            | true ↦ λ lawful whole. (
-                let there = header_there bytes fits (ltb-false (length bytes) 24 long) word (eqb-true (little_number 2 (drop 18 bytes)) 0 none) lawful in
-                subst (IsHeading bytes) whole (there.0, drop 24 bytes, there.1))
-          ] refl e3
-        ] refl e2
-      ] refl e1
+            | true ↦ λ short e2. elim (nat_lt 0 (length bytes)) as
+                (λ t. nat_lt 0 (length bytes) ≡ t → (if t then heading.Part else heading.Bad) ≡ read → IsHeading bytes read) [
+                  | false ↦ λ _ b. bad b
+                  | true ↦ λ some part. subst (IsHeading bytes) part (ltb-true 0 (length bytes) some, ltb-true (length bytes) 24 short, word)
+                ] refl e2
+            | false ↦ λ long e2. elim (little_number 2 (drop 18 bytes) == 0) as
+                (λ t. (little_number 2 (drop 18 bytes) == 0) ≡ t
+                → (if t then (if is_header (header_in bytes) then heading.Whole (header_in bytes) else heading.Bad) else heading.Bad) ≡ read
+                → IsHeading bytes read) [
+                  | false ↦ λ _ b. bad b
+                  | true ↦ λ none e3. elim (is_header (header_in bytes)) as
+                      (λ t. is_header (header_in bytes) ≡ t → (if t then heading.Whole (header_in bytes) else heading.Bad) ≡ read → IsHeading bytes read) [
+                        | false ↦ λ _ b. bad b
+                        | true ↦ λ lawful whole. (
+                            let there = header_there bytes fits (ltb-false (length bytes) 24 long) word (eqb-true (little_number 2 (drop 18 bytes)) 0 none) lawful in
+                            subst (IsHeading bytes) whole (there.0, drop 24 bytes, there.1))
+                      ] refl e3
+                ] refl e2
+          ] refl e1
     ] refl e
 
 -- what a header's test finds stands there

@@ -11,30 +11,56 @@ use Rattle.bw_codec.specs.declared.block.Block.TheVariants.{Delta, Base, Split}
 use Rattle.bw_codec.proofs.FrontFormat.{length-number}
 
 length-place : (place : Place) → length (place_bytes place) ≡ 12
-length-place place = omega (arith, length-number 8 place.frame, length-number 4 place.index,
-    length-append (number_bytes 8 place.frame) (number_bytes 4 place.index))
+length-place place = omega (
+  arith,
+  length-number 8 place.frame,
+  length-number 4 place.index,
+  length-append (number_bytes 8 place.frame) (number_bytes 4 place.index),
+)
 
 length-pairs : (pairs : List (List ℕ × List ℕ)) → length (pairs_bytes pairs) ≡ 2 + length (flat_map pair_bytes pairs)
 length-pairs pairs = omega (arith, length-number 2 (length pairs), length-append (number_bytes 2 (length pairs)) (flat_map pair_bytes pairs))
 
 length-upper : (leaf : Leaf) → length (upper_bytes leaf) ≡ 7 + length leaf.low + length (flat_map pair_bytes leaf.pairs)
 length-upper leaf =
-    omega (arith, length-pairs leaf.pairs, length-number 4 leaf.page, length-append (text leaf.low) (number_bytes 4 leaf.page ++ pairs_bytes leaf.pairs),
-        length-append (number_bytes 4 leaf.page) (pairs_bytes leaf.pairs))
+    omega (
+      arith,
+      length-pairs leaf.pairs,
+      length-number 4 leaf.page,
+      length-append (text leaf.low) (number_bytes 4 leaf.page ++ pairs_bytes leaf.pairs),
+      length-append (number_bytes 4 leaf.page) (pairs_bytes leaf.pairs),
+    )
 
 pub length-delta : (page : ℕ) (back : Place) (ops : List Record) → length (block_bytes (Delta page back ops)) ≡ 19 + length (flat_map op_bytes ops)
 length-delta page back ops =
-    omega (arith, length-place back, length-number 4 page, length-number 2 (length ops),
-        length-append (number_bytes 4 page) (place_bytes back ++ ops_bytes ops), length-append (place_bytes back) (ops_bytes ops),
-        length-append (number_bytes 2 (length ops)) (flat_map op_bytes ops))
+    omega (
+      arith,
+      length-place back,
+      length-number 4 page,
+      length-number 2 (length ops),
+      length-append (number_bytes 4 page) (place_bytes back ++ ops_bytes ops),
+      length-append (place_bytes back) (ops_bytes ops),
+      length-append (number_bytes 2 (length ops)) (flat_map op_bytes ops),
+    )
 
 pub length-base : (leaf : Leaf) → length (block_bytes (Base leaf)) ≡ 8 + length leaf.low + length (flat_map pair_bytes leaf.pairs)
 length-base leaf =
-    omega (arith, length-pairs leaf.pairs, length-number 4 leaf.page, length-append (number_bytes 4 leaf.page) (text leaf.low ++ pairs_bytes leaf.pairs),
-        length-append (text leaf.low) (pairs_bytes leaf.pairs))
+    omega (
+      arith,
+      length-pairs leaf.pairs,
+      length-number 4 leaf.page,
+      length-append (number_bytes 4 leaf.page) (text leaf.low ++ pairs_bytes leaf.pairs),
+      length-append (text leaf.low) (pairs_bytes leaf.pairs),
+    )
 
 pub length-split : (page : ℕ) (back : Place) (upper : Leaf)
     → length (block_bytes (Split page back upper)) ≡ 24 + length upper.low + length (flat_map pair_bytes upper.pairs)
 length-split page back upper =
-    omega (arith, length-place back, length-upper upper, length-number 4 page, length-append (number_bytes 4 page) (place_bytes back ++ upper_bytes upper),
-        length-append (place_bytes back) (upper_bytes upper))
+    omega (
+      arith,
+      length-place back,
+      length-upper upper,
+      length-number 4 page,
+      length-append (number_bytes 4 page) (place_bytes back ++ upper_bytes upper),
+      length-append (place_bytes back) (upper_bytes upper),
+    )

@@ -5,5 +5,7 @@ pub mod FrontFormat
 pub mod Heading
 pub mod Adding
 pub mod Lengths
+pub mod Sizing
+pub mod Stepping
 pub mod Vectors
 pub mod Wider

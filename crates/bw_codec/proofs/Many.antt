@@ -32,7 +32,7 @@ pub many_goes_on : {X : Type 0} (one : List ℕ → Found X) (count i : ℕ) (xs
 many_goes_on one count i xs bytes x rest h e =
     let n : count - i ≡ suc (count - (i + 1)) = omega arith in
     ap (λ k. prefixed xs (many_at one k bytes)) n ∙ ap (prefixed xs) (many_first one (count - (i + 1)) bytes x rest e)
-        ∙ prefixed_again xs x (many_at one (count - (i + 1)) rest)
+    ∙ prefixed_again xs x (many_at one (count - (i + 1)) rest)
 
 -- one thing could not be read
 pub many_stops : {X : Type 0} (one : List ℕ → Found X) (count i : ℕ) (xs : List X) (bytes : List ℕ) → i < count → one bytes ≡ None
@@ -52,8 +52,8 @@ pub many_begins : {X : Type 0} (one : List ℕ → Found X) (count : ℕ) (bytes
 many_begins {X} one count bytes =
     let n : count - 0 ≡ count = omega arith in
     ap (λ k. prefixed [] (many_at one k bytes)) n
-        ∙ (let all : (read : Found (List X)) → prefixed [] read ≡ read = λ read. elim read as (λ r. prefixed [] r ≡ r) [ None ↦ refl | Some x ↦ refl ]
-        in all (many_at one count bytes))
+    ∙ (let all : (read : Found (List X)) → prefixed [] read ≡ read = λ read. elim read as (λ r. prefixed [] r ≡ r) [ None ↦ refl | Some x ↦ refl ]
+    in all (many_at one count bytes))
 
 -- ---- keys side by side
 

@@ -37,7 +37,7 @@ first_frame = record {
 abbrev first_spelled : List ℕ
 first_spelled =
     70 ∷ 82 ∷ 77 ∷ 49 ∷ 1 ∷ 0 ∷ 0 ∷ 0 ∷ 0 ∷ 0 ∷ 0 ∷ 0 ∷ 32 ∷ 0 ∷ 0 ∷ 0 ∷ 2 ∷ 0 ∷ 0 ∷ 0 ∷ 2 ∷ 1 ∷ 0 ∷ 0 ∷ 0 ∷ 0 ∷ 0 ∷ 0 ∷ 1 ∷ 1 ∷ 0 ∷ 0 ∷ 0 ∷ 1 ∷ 0 ∷ 0 ∷ 0 ∷ 0 ∷
-        0 ∷ 0 ∷ 0 ∷ 0 ∷ 0 ∷ 0 ∷ 0 ∷ 1 ∷ 0 ∷ 1 ∷ 1 ∷ 107 ∷ 1 ∷ 118 ∷ []
+    0 ∷ 0 ∷ 0 ∷ 0 ∷ 0 ∷ 0 ∷ 0 ∷ 1 ∷ 0 ∷ 1 ∷ 1 ∷ 107 ∷ 1 ∷ 118 ∷ []
 
 first_is_spelled : frame_bytes first_frame ≡ first_spelled
 unfolding number_bytes
@@ -54,15 +54,15 @@ split_frame = record {
   blocks =
       Delta 1 (record { frame = 4; index = 0 }) (Put (101 ∷ []) (53 ∷ []) ∷ [])
       ∷ Split 1 (record { frame = 5; index = 0 })
-          (record { page = 2; low = 99 ∷ []; pairs = (99 ∷ [], 51 ∷ []) ∷ (100 ∷ [], 52 ∷ []) ∷ (101 ∷ [], 53 ∷ []) ∷ [] })
+      (record { page = 2; low = 99 ∷ []; pairs = (99 ∷ [], 51 ∷ []) ∷ (100 ∷ [], 52 ∷ []) ∷ (101 ∷ [], 53 ∷ []) ∷ [] })
       ∷ [];
 }
 
 abbrev split_spelled : List ℕ
 split_spelled =
     70 ∷ 82 ∷ 77 ∷ 49 ∷ 5 ∷ 0 ∷ 0 ∷ 0 ∷ 0 ∷ 0 ∷ 0 ∷ 0 ∷ 61 ∷ 0 ∷ 0 ∷ 0 ∷ 2 ∷ 0 ∷ 0 ∷ 0 ∷ 1 ∷ 1 ∷ 0 ∷ 0 ∷ 0 ∷ 4 ∷ 0 ∷ 0 ∷ 0 ∷ 0 ∷ 0 ∷ 0 ∷ 0 ∷ 0 ∷ 0 ∷ 0 ∷ 0 ∷ 1 ∷
-        0 ∷ 1 ∷ 1 ∷ 101 ∷ 1 ∷ 53 ∷ 3 ∷ 1 ∷ 0 ∷ 0 ∷ 0 ∷ 5 ∷ 0 ∷ 0 ∷ 0 ∷ 0 ∷ 0 ∷ 0 ∷ 0 ∷ 0 ∷ 0 ∷ 0 ∷ 0 ∷ 1 ∷ 99 ∷ 2 ∷ 0 ∷ 0 ∷ 0 ∷ 3 ∷ 0 ∷ 1 ∷ 99 ∷ 1 ∷ 51 ∷ 1 ∷
-        100 ∷ 1 ∷ 52 ∷ 1 ∷ 101 ∷ 1 ∷ 53 ∷ []
+    0 ∷ 1 ∷ 1 ∷ 101 ∷ 1 ∷ 53 ∷ 3 ∷ 1 ∷ 0 ∷ 0 ∷ 0 ∷ 5 ∷ 0 ∷ 0 ∷ 0 ∷ 0 ∷ 0 ∷ 0 ∷ 0 ∷ 0 ∷ 0 ∷ 0 ∷ 0 ∷ 1 ∷ 99 ∷ 2 ∷ 0 ∷ 0 ∷ 0 ∷ 3 ∷ 0 ∷ 1 ∷ 99 ∷ 1 ∷ 51 ∷ 1 ∷
+    100 ∷ 1 ∷ 52 ∷ 1 ∷ 101 ∷ 1 ∷ 53 ∷ []
 
 split_is_spelled : frame_bytes split_frame ≡ split_spelled
 unfolding number_bytes

@@ -142,7 +142,7 @@ abbrev pub IsTail : ℕ → List ℕ → Type 0
 IsTail f bytes =
     ((length bytes < 20) × IsTrue (agrees bytes frame_word))
     ⊎ ((head : Head) × (rest : List ℕ) × IsHead f head.number head.body head.blocks × (length rest < head.body)
-        × (bytes ≡ head_bytes head.number head.body head.blocks ++ rest))
+    × (bytes ≡ head_bytes head.number head.body head.blocks ++ rest))
 
 -- bytes at which a header was cut off
 abbrev pub IsPart : List ℕ → Type 0

@@ -1,7 +1,12 @@
+-- what callers see, in reading order
 pub mod Bytes
 pub mod Record
 pub mod Grammar
 pub mod Touch
-pub mod Reading
-pub mod Laws
+pub mod Outline
 pub mod Writing
+pub mod Sizes
+pub mod Laws
+-- what private functions say; of `Reading` callers see what a fault says of bytes
+pub mod Reading
+pub mod Skipping

@@ -2,8 +2,10 @@
 
 ghost use Rattle.std.specs.Prelude.{◌≡◌};
 ghost use Rattle.bw_codec.specs.Grammar.{is_head, is_header};
+ghost use Rattle.bw_codec.specs.Touch.{sets, touches, back_of};
 
 use crate::leaf::Leaf;
+use crate::limits::{HEAD_LEN, MAX_FRAME, MAX_PAIRS, MIN_BLOCK, MIN_FRAME, MIN_PAIRS};
 use crate::record::Ops;
 use std::marker::Model;
 
@@ -25,6 +27,47 @@ pub enum Block {
     /// The page lost all keys from the low key of `upper` on, after the block at `back`, and
     /// `upper` is the page that they became.
     Split { page: u32, back: Place, upper: Leaf },
+}
+
+impl Block {
+    /// Whether the block tells what a page is, whatever it was before.
+    pub fn sets(&self, page: u32) -> bool
+        ensures { result ≡ sets page self.now }
+    {
+        match self {
+            Block::Delta { .. } => false,
+            Block::Base(leaf) => leaf.page == page,
+            Block::Split { upper, .. } => upper.page == page,
+        }
+    }
+
+    /// Whether the block tells anything of a page.
+    pub fn touches(&self, page: u32) -> bool
+        ensures { result ≡ touches page self.now }
+    {
+        match self {
+            Block::Delta { page: of, .. } => *of == page,
+            Block::Base(leaf) => leaf.page == page,
+            Block::Split {
+                page: of,
+                upper,
+                ..
+            } => *of == page || upper.page == page,
+        }
+    }
+
+    /// Where the block of a page before this one stands, if this one changes or cuts that page. A
+    /// block that sets the page has none.
+    pub fn back(&self, page: u32) -> Option<Place>
+        ensures { result ≡ back_of page self.now }
+    {
+        match self {
+            Block::Base(_) => None,
+            Block::Delta { page: of, back, .. } | Block::Split { page: of, back, .. } => {
+                if *of == page { Some(*back) } else { None }
+            }
+        }
+    }
 }
 
 /// Blocks, in the order in which they apply.
@@ -90,8 +133,8 @@ impl Head {
         ensures { result ≡ is_head limit self.now }
     {
         0 < self.number
-            && 8 <= self.body
-            && u64::from(self.body) + 20 <= u64::from(limit)
+            && MIN_BLOCK <= self.body
+            && u64::from(self.body) + HEAD_LEN as u64 <= u64::from(limit)
             && 0 < self.blocks
     }
 }
@@ -112,7 +155,11 @@ impl Header {
     pub fn is_lawful(&self) -> bool
         ensures { result ≡ is_header self.now }
     {
-        0 < self.number && 4 <= self.m && self.m <= 32 && 16384 <= self.f && self.f <= 65536
+        0 < self.number
+            && MIN_PAIRS <= self.m
+            && self.m <= MAX_PAIRS
+            && MIN_FRAME <= self.f
+            && self.f <= MAX_FRAME
     }
 }
 

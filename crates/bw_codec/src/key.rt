@@ -3,6 +3,7 @@
 ghost use Rattle.std.specs.Prelude.{◌≡◌, ◌≤◌, ◌↔◌, length, IsOk, IfOk, IfErr};
 ghost use Rattle.bw_codec.specs.Bytes.{is_below};
 
+use crate::limits::{MAX_KEY, MAX_VALUE};
 use arrayvec::ArrayVec;
 use std::cmp::Ordering;
 use std::marker::Model;
@@ -19,7 +20,7 @@ pub struct LengthError {
 /// A key of 1 to 64 bytes. Keys are ordered by their bytes, a beginning before its continuation.
 #[derive(Debug, PartialEq, Eq, PartialOrd, Ord, Hash, Drop)]
 pub struct Key {
-    bytes: ArrayVec<u8, 64>,
+    bytes: ArrayVec<u8, MAX_KEY>,
 }
 
 impl Model for Key {
@@ -72,7 +73,7 @@ impl Key {
 /// A value of 0 to 128 bytes.
 #[derive(Debug, PartialEq, Eq, PartialOrd, Ord, Hash, Drop)]
 pub struct Value {
-    bytes: ArrayVec<u8, 128>,
+    bytes: ArrayVec<u8, MAX_VALUE>,
 }
 
 impl Model for Value {

@@ -8,22 +8,23 @@
 //! all.
 #![tactic(auto)]
 
-pub mod block;
-pub mod fault;
-pub mod key;
+mod block;
+mod fault;
+mod key;
 pub mod laws;
-pub mod leaf;
+mod leaf;
+pub mod limits;
+mod outline;
 mod parts;
 mod reading;
-pub mod record;
-#[cfg(test)]
-mod tests;
+mod record;
 mod writing;
 
 pub use block::{Block, Blocks, Frame, FrameRead, Head, Header, HeaderRead, Place};
 pub use fault::CodecFault;
 pub use key::{Key, LengthError, Value, is_before};
 pub use leaf::{Leaf, Low, Pairs};
+pub use outline::Outline;
 pub use reading::{read_frame, read_header};
 pub use record::{Ops, Record};
 pub use writing::{

@@ -1,8 +1,9 @@
 //! The parts of a block, each read from the front of bytes: numbers, runs of bytes, records, pairs.
-//! What follows a part is handed on with it; nothing is reserved by a count or a length that was
-//! read.
+//! What follows a part is handed on with it. A count that was read is no reason to take memory: room
+//! is made for no more than the bytes behind it can hold.
 
-ghost use Rattle.std.specs.Prelude.{◌≡◌};
+ghost use Rattle.std.specs.Prelude.{◌≡◌, ◌≤◌, ◌/◌, [], length, min, IfOk, IfErr};
+ghost use Rattle.std.specs.Vec.{vec_capacity};
 ghost use Rattle.bw_codec.specs.Bytes.{ascends};
 ghost use Rattle.bw_codec.specs.Reading.{Gives, number_at, run_at, text_at, op_at, pair_at, many_at, place_at, page_at, pairs_at};
 
@@ -10,13 +11,15 @@ use crate::block::Place;
 use crate::fault::CodecFault;
 use crate::key::{Key, Value, is_before};
 use crate::leaf::{Low, Pairs};
+use crate::limits::{MAX_KEY, MIN_OP, MIN_PAIR};
 use crate::record::{Ops, Record};
 use byteorder::{ByteOrder, LittleEndian};
-use std::alloc::Global;
+use std::alloc::{AllocError, Global};
 
 /// A number in two bytes, the lowest first.
 pub(crate) fn two_of(bytes: &[u8]) -> Result<(u16, &[u8]), CodecFault>
-    ensures { Gives (λ x. (x.0, x.1.now)) result (number_at 2 bytes.now) }
+    ensures gives { Gives (λ x. (x.0, x.1.now)) result (number_at 2 bytes.now) }
+    ensures bad { IfErr result (λ fault. fault ≡ CodecFault.BadBytes) }
 {
     if bytes.len() < 2 {
         return Err(CodecFault::BadBytes);
@@ -26,7 +29,8 @@ pub(crate) fn two_of(bytes: &[u8]) -> Result<(u16, &[u8]), CodecFault>
 
 /// A number in four bytes.
 pub(crate) fn four_of(bytes: &[u8]) -> Result<(u32, &[u8]), CodecFault>
-    ensures { Gives (λ x. (x.0, x.1.now)) result (number_at 4 bytes.now) }
+    ensures gives { Gives (λ x. (x.0, x.1.now)) result (number_at 4 bytes.now) }
+    ensures bad { IfErr result (λ fault. fault ≡ CodecFault.BadBytes) }
 {
     if bytes.len() < 4 {
         return Err(CodecFault::BadBytes);
@@ -36,7 +40,8 @@ pub(crate) fn four_of(bytes: &[u8]) -> Result<(u32, &[u8]), CodecFault>
 
 /// A number in eight bytes.
 pub(crate) fn eight_of(bytes: &[u8]) -> Result<(u64, &[u8]), CodecFault>
-    ensures { Gives (λ x. (x.0, x.1.now)) result (number_at 8 bytes.now) }
+    ensures gives { Gives (λ x. (x.0, x.1.now)) result (number_at 8 bytes.now) }
+    ensures bad { IfErr result (λ fault. fault ≡ CodecFault.BadBytes) }
 {
     if bytes.len() < 8 {
         return Err(CodecFault::BadBytes);
@@ -45,8 +50,9 @@ pub(crate) fn eight_of(bytes: &[u8]) -> Result<(u64, &[u8]), CodecFault>
 }
 
 /// One byte of length, and that many bytes.
-fn run_of(bytes: &[u8]) -> Result<(&[u8], &[u8]), CodecFault>
-    ensures { Gives (λ x. (x.0.now, x.1.now)) result (run_at bytes.now) }
+pub(crate) fn run_of(bytes: &[u8]) -> Result<(&[u8], &[u8]), CodecFault>
+    ensures gives { Gives (λ x. (x.0.now, x.1.now)) result (run_at bytes.now) }
+    ensures bad { IfErr result (λ fault. fault ≡ CodecFault.BadBytes) }
 {
     match bytes {
         [] => Err(CodecFault::BadBytes),
@@ -62,7 +68,8 @@ fn run_of(bytes: &[u8]) -> Result<(&[u8], &[u8]), CodecFault>
 
 #[tactic(auto, unfolding(crate::specs::Reading::text_at))]
 pub(crate) fn key_at(bytes: &[u8]) -> Result<(Key, &[u8]), CodecFault>
-    ensures { Gives (λ x. (x.0, x.1.now)) result (text_at 1 64 bytes.now) }
+    ensures gives { Gives (λ x. (x.0, x.1.now)) result (text_at 1 64 bytes.now) }
+    ensures bad { IfErr result (λ fault. fault ≡ CodecFault.BadBytes) }
 {
     let (run, rest) = run_of(bytes)?;
     match Key::new(run) {
@@ -73,7 +80,8 @@ pub(crate) fn key_at(bytes: &[u8]) -> Result<(Key, &[u8]), CodecFault>
 
 #[tactic(auto, unfolding(crate::specs::Reading::text_at))]
 pub(crate) fn value_at(bytes: &[u8]) -> Result<(Value, &[u8]), CodecFault>
-    ensures { Gives (λ x. (x.0, x.1.now)) result (text_at 0 128 bytes.now) }
+    ensures gives { Gives (λ x. (x.0, x.1.now)) result (text_at 0 128 bytes.now) }
+    ensures bad { IfErr result (λ fault. fault ≡ CodecFault.BadBytes) }
 {
     let (run, rest) = run_of(bytes)?;
     match Value::new(run) {
@@ -87,7 +95,7 @@ pub(crate) fn low_of(alloc: Global, bytes: &[u8]) -> Result<(Low, &[u8]), CodecF
     ensures { Gives (λ x. (x.0, x.1.now)) result (text_at 0 64 bytes.now) }
 {
     let (run, rest) = run_of(bytes)?;
-    if 64 < run.len() {
+    if MAX_KEY < run.len() {
         return Err(CodecFault::BadBytes);
     }
     let low = Vec::from_slice(alloc, run)?;
@@ -97,7 +105,8 @@ pub(crate) fn low_of(alloc: Global, bytes: &[u8]) -> Result<(Low, &[u8]), CodecF
 /// One record behind its tag.
 #[tactic(auto, unfolding(crate::specs::Reading::op_at))]
 pub(crate) fn op_of(bytes: &[u8]) -> Result<(Record, &[u8]), CodecFault>
-    ensures { Gives (λ x. (x.0, x.1.now)) result (op_at bytes.now) }
+    ensures gives { Gives (λ x. (x.0, x.1.now)) result (op_at bytes.now) }
+    ensures bad { IfErr result (λ fault. fault ≡ CodecFault.BadBytes) }
 {
     match bytes {
         [] => Err(CodecFault::BadBytes),
@@ -118,11 +127,27 @@ pub(crate) fn op_of(bytes: &[u8]) -> Result<(Record, &[u8]), CodecFault>
 
 #[tactic(auto, unfolding(crate::specs::Reading::pair_at))]
 pub(crate) fn pair_of(bytes: &[u8]) -> Result<((Key, Value), &[u8]), CodecFault>
-    ensures { Gives (λ x. (x.0, x.1.now)) result (pair_at bytes.now) }
+    ensures gives { Gives (λ x. (x.0, x.1.now)) result (pair_at bytes.now) }
+    ensures bad { IfErr result (λ fault. fault ≡ CodecFault.BadBytes) }
 {
     let (key, rest) = key_at(bytes)?;
     let (value, rest) = value_at(rest)?;
     Ok(((key, value), rest))
+}
+
+/// Room for so many things, or for as many as can stand in the bytes where these are fewer: each has
+/// `least` bytes or more.
+pub(crate) fn room_for<T>(
+    alloc: Global,
+    count: usize,
+    bytes: &[u8],
+    least: usize,
+) -> Result<Vec<T>, AllocError>
+    requires { 1 ≤ least }
+    ensures items { IfOk result (λ things. things.items ≡ []) }
+    ensures exact { IfOk result (λ things. vec_capacity things ≡ min count (length bytes.now / least)) }
+{
+    Vec::with_capacity(alloc, count.min(bytes.len() / least))
 }
 
 pub(crate) fn some_pairs(
@@ -132,7 +157,7 @@ pub(crate) fn some_pairs(
 ) -> Result<(Pairs, &[u8]), CodecFault>
     ensures { Gives (λ x. (x.0, x.1.now)) result (many_at pair_at count bytes.now) }
 {
-    let mut items = Vec::new(alloc);
+    let mut items = room_for(alloc, count as usize, bytes, MIN_PAIR)?;
     let mut rest = bytes;
     for _i in 0..count {
         let (pair, others) = pair_of(rest)?;
@@ -145,7 +170,7 @@ pub(crate) fn some_pairs(
 pub(crate) fn some_ops(alloc: Global, count: u16, bytes: &[u8]) -> Result<(Ops, &[u8]), CodecFault>
     ensures { Gives (λ x. (x.0, x.1.now)) result (many_at op_at count bytes.now) }
 {
-    let mut items = Vec::new(alloc);
+    let mut items = room_for(alloc, count as usize, bytes, MIN_OP)?;
     let mut rest = bytes;
     for _i in 0..count {
         let (op, others) = op_of(rest)?;
@@ -193,7 +218,8 @@ pub(crate) fn pairs_of(alloc: Global, m: u16, bytes: &[u8]) -> Result<(Pairs, &[
 /// A page number, which is not zero.
 #[tactic(auto, unfolding(crate::specs::Reading::page_at))]
 pub(crate) fn page_of(bytes: &[u8]) -> Result<(u32, &[u8]), CodecFault>
-    ensures { Gives (λ x. (x.0, x.1.now)) result (page_at bytes.now) }
+    ensures gives { Gives (λ x. (x.0, x.1.now)) result (page_at bytes.now) }
+    ensures bad { IfErr result (λ fault. fault ≡ CodecFault.BadBytes) }
 {
     let (page, rest) = four_of(bytes)?;
     if page < 1 {
@@ -205,7 +231,8 @@ pub(crate) fn page_of(bytes: &[u8]) -> Result<(u32, &[u8]), CodecFault>
 /// A place, whose frame is not zero.
 #[tactic(auto, unfolding(crate::specs::Reading::place_at))]
 pub(crate) fn place_of(bytes: &[u8]) -> Result<(Place, &[u8]), CodecFault>
-    ensures { Gives (λ x. (x.0, x.1.now)) result (place_at bytes.now) }
+    ensures gives { Gives (λ x. (x.0, x.1.now)) result (place_at bytes.now) }
+    ensures bad { IfErr result (λ fault. fault ≡ CodecFault.BadBytes) }
 {
     let (frame, rest) = eight_of(bytes)?;
     let (index, rest) = four_of(rest)?;

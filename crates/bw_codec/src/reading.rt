@@ -1,6 +1,6 @@
 //! Blocks, frames and headers, read from the front of bytes.
 
-ghost use Rattle.std.specs.Prelude.{◌≡◌, ◌≤◌, IfOk, Some, length};
+ghost use Rattle.std.specs.Prelude.{◌≡◌, ◌≤◌, IfOk, IfErr, Some, length};
 ghost use Rattle.bw_codec.specs.declared.block.FrameRead.{FrameRead};
 ghost use Rattle.bw_codec.specs.Grammar.{agrees, IsFront, IsHeading};
 ghost use Rattle.bw_codec.specs.Reading.{Gives, delta_at, base_at, upper_at, split_at, block_at, many_at, head_at, front_at, heading_of, is_led};
@@ -8,7 +8,10 @@ ghost use Rattle.bw_codec.specs.Reading.{Gives, delta_at, base_at, upper_at, spl
 use crate::block::{Block, Blocks, Frame, FrameRead, Head, Header, HeaderRead};
 use crate::fault::CodecFault;
 use crate::leaf::Leaf;
-use crate::parts::{eight_of, four_of, low_of, page_of, pairs_of, place_of, some_ops, two_of};
+use crate::limits::{HEAD_LEN, HEADER_LEN, MIN_BLOCK};
+use crate::parts::{
+    eight_of, four_of, low_of, page_of, pairs_of, place_of, room_for, some_ops, two_of,
+};
 use byteorder::{ByteOrder, LittleEndian};
 use std::alloc::Global;
 
@@ -105,7 +108,7 @@ fn some_blocks(
 ) -> Result<(Blocks, &[u8]), CodecFault>
     ensures { Gives (λ x. (x.0, x.1.now)) result (many_at (block_at m) count bytes.now) }
 {
-    let mut items = Vec::new(alloc);
+    let mut items = room_for(alloc, count as usize, bytes, MIN_BLOCK as usize)?;
     let mut rest = bytes;
     for _i in 0..count {
         let (block, others) = block_of(alloc, m, rest)?;
@@ -125,7 +128,8 @@ fn begins_as(bytes: &[u8], word: &[u8]) -> bool
 #[tactic(auto, unfolding(crate::specs::Reading::head_at))]
 fn head_of(limit: u32, bytes: &[u8]) -> Result<(Head, &[u8]), CodecFault>
     requires { 20 ≤ length bytes.now }
-    ensures { Gives (λ x. (x.0, x.1.now)) result (head_at limit bytes.now) }
+    ensures gives { Gives (λ x. (x.0, x.1.now)) result (head_at limit bytes.now) }
+    ensures bad { IfErr result (λ fault. fault ≡ CodecFault.BadBytes) }
 {
     if !begins_as(bytes, b"FRM1") {
         return Err(CodecFault::BadBytes);
@@ -148,7 +152,7 @@ fn head_of(limit: u32, bytes: &[u8]) -> Result<(Head, &[u8]), CodecFault>
 fn front_of(alloc: Global, m: u16, limit: u32, bytes: &[u8]) -> Result<FrameRead, CodecFault>
     ensures { Gives (λ x. x) result (front_at m limit bytes.now) }
 {
-    if bytes.len() < 20 {
+    if bytes.len() < HEAD_LEN {
         if begins_as(bytes, b"FRM1") {
             return Ok(FrameRead::Tail);
         }
@@ -167,7 +171,7 @@ fn front_of(alloc: Global, m: u16, limit: u32, bytes: &[u8]) -> Result<FrameRead
         number: head.number,
         blocks,
     };
-    Ok(FrameRead::Whole(frame, body + 20))
+    Ok(FrameRead::Whole(frame, body + HEAD_LEN))
 }
 
 #[tactic(auto, unfolding(crate::specs::Reading::heading_of))]
@@ -177,7 +181,7 @@ fn heading(bytes: &[u8]) -> HeaderRead
     if !begins_as(bytes, b"BWLOGSG1") {
         return HeaderRead::Bad;
     }
-    if bytes.len() < 24 {
+    if bytes.len() < HEADER_LEN {
         return if bytes.is_empty() {
             HeaderRead::Bad
         } else {
@@ -210,8 +214,8 @@ fn read_within(alloc: Global, m: u16, limit: u32, bytes: &[u8]) -> Result<FrameR
 
 /// What stands at the front of the bytes behind a header or a frame: a whole frame of a segment
 /// with this header, or bytes at which one was cut off. `BadBytes` for all other bytes, `NoMemory`
-/// only where a growth was refused. Time and memory are linear in the bytes; nothing is reserved by
-/// a count or a length that was read.
+/// only where a growth was refused. Time and memory are linear in the bytes: room is made for no more
+/// blocks, records and pairs than the bytes can hold, whatever counts were read.
 pub fn read_frame(alloc: Global, bytes: &[u8], header: &Header) -> Result<FrameRead, CodecFault>
     // What is answered stands there.
     ensures found { IfOk result (IsFront header.now.m header.now.f bytes.now) }

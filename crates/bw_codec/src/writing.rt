@@ -10,6 +10,7 @@ ghost use Rattle.bw_codec.specs.Writing.{HasRoom, Adds};
 use crate::block::{Block, Header, Place};
 use crate::key::{Key, Value};
 use crate::leaf::Leaf;
+use crate::limits::{HEAD_LEN, HEADER_LEN};
 use crate::record::Record;
 use byteorder::{ByteOrder, LittleEndian};
 use std::alloc::AllocError;
@@ -161,11 +162,11 @@ fn push_ops(out: &mut Vec<u8>, ops: &[Record])
 /// A segment header's 24 bytes. The numbers are not checked: see `Header::is_lawful`. No memory is
 /// taken.
 #[tactic(auto, unfolding(crate::specs::Bytes::number_bytes))]
-pub fn header_cells(number: u64, m: u16, f: u32) -> [u8; 24]
+pub fn header_cells(number: u64, m: u16, f: u32) -> [u8; HEADER_LEN]
     ensures { result ≡ header_bytes (record { number = number; m = m; f = f }) }
 {
     // From the back, so that what stands behind each number is known when it is written.
-    let mut cells = [0u8; 24];
+    let mut cells = [0u8; HEADER_LEN];
     LittleEndian::write_u32(&mut cells[20..], f);
     LittleEndian::write_u16(&mut cells[18..], 0);
     LittleEndian::write_u16(&mut cells[16..], m);
@@ -176,10 +177,10 @@ pub fn header_cells(number: u64, m: u16, f: u32) -> [u8; 24]
 
 /// A frame's first 20 bytes. The numbers are not checked: see `Head::is_lawful`. No memory is taken.
 #[tactic(auto, unfolding(crate::specs::Bytes::number_bytes))]
-pub fn frame_cells(number: u64, body: u32, blocks: u32) -> [u8; 20]
+pub fn frame_cells(number: u64, body: u32, blocks: u32) -> [u8; HEAD_LEN]
     ensures { result ≡ head_bytes number body blocks }
 {
-    let mut cells = [0u8; 20];
+    let mut cells = [0u8; HEAD_LEN];
     LittleEndian::write_u32(&mut cells[16..], blocks);
     LittleEndian::write_u32(&mut cells[12..], body);
     LittleEndian::write_u64(&mut cells[4..], number);

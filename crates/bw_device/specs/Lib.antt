@@ -1,5 +1,7 @@
+-- What callers see, in the order in which to read it.
 pub mod Holding
-pub mod Places
+pub mod Boxes
 pub mod Leases
+pub mod Slots
 pub mod Memory
 pub mod Fuse

@@ -1,6 +1,6 @@
 // The right to a number, and the desk that gives it out.
 ghost use Rattle.std.specs.Prelude.{◌≡◌, ◌+◌, ◌<◌, ◌≤◌, ◌↔◌, ◌⊎◌, length, map, All, IsTrue, IfOk, OnErr, IsErrOf, Some, true, false, not, is_some, replicate, position, slice_get, slice_set};
-ghost use Rattle.bw_device.specs.Places.{out_count, OnlyFrees};
+ghost use Rattle.bw_device.specs.Slots.{out_count, OnlyFrees};
 ghost use Rattle.bw_device.specs.declared.leases.TheConstants.{MAX_LEASES};
 
 use crate::refusals::{NotMade, NotTaken};
@@ -43,7 +43,7 @@ impl Lease {
 }
 
 // The flag of a lease that is out, by which it comes back.
-type Place = Option<Arc<AtomicBool>>;
+type Slot = Option<Arc<AtomicBool>>;
 
 /// Leases 0, 1, .., each of which is out or free.
 ///
@@ -51,7 +51,7 @@ type Place = Option<Arc<AtomicBool>>;
 /// dropped is out until the next `collect`.
 #[derive(Debug, Drop)]
 pub struct Desk {
-    places: Vec<Place>,
+    slots: Vec<Slot>,
 }
 
 impl Model for Desk {
@@ -60,9 +60,9 @@ impl Model for Desk {
 
     ghost Value = { List Bool };
 
-    ghost view = { λ d. map is_some d.places.items };
+    ghost view = { λ d. map is_some d.slots.items };
 
-    ghost invariant = { λ d. length d.places.items ≤ MAX_LEASES };
+    ghost invariant = { λ d. length d.slots.items ≤ MAX_LEASES };
 }
 
 impl Desk {
@@ -77,13 +77,13 @@ impl Desk {
         if n == 0 || n > MAX_LEASES {
             return Err(NotMade::BadConfig);
         }
-        let Ok(mut places) = Vec::with_capacity(alloc, n as usize) else {
+        let Ok(mut slots) = Vec::with_capacity(alloc, n as usize) else {
             return Err(NotMade::NoMemory);
         };
         for _ in 0..n {
-            places.push_reserved(None);
+            slots.push_reserved(None);
         }
-        Ok(Desk { places })
+        Ok(Desk { slots })
     }
 
     /// Takes the lease of the least number that is not out.
@@ -98,16 +98,16 @@ impl Desk {
         ensures no_lease { IsErrOf result NotTaken.NoLease ↔ All IsTrue self.old }
         ensures unchanged { OnErr result (self.new ≡ self.old) }
     {
-        let Some(number) = least_free(&self.places) else {
+        let Some(number) = least_free(&self.slots) else {
             return Err(NotTaken::NoLease);
         };
-        let Ok(flag) = Arc::new(*self.places.allocator(), AtomicBool::new(false)) else {
+        let Ok(flag) = Arc::new(*self.slots.allocator(), AtomicBool::new(false)) else {
             return Err(NotTaken::NoMemory);
         };
         let Ok(returned) = flag.clone() else {
             return Err(NotTaken::NoMemory);
         };
-        self.places[number] = Some(flag);
+        self.slots[number] = Some(flag);
         Ok(Lease {
             number: number as u32,
             returned,
@@ -120,48 +120,48 @@ impl Desk {
         ensures only_frees { OnlyFrees self.old self.new }
         ensures answer { out_count self.new + result ≡ out_count self.old }
     {
-        take_in(&mut self.places)
+        take_in(&mut self.slots)
     }
 
     /// Whether lease n is out. A number beyond the desk's is not.
     pub fn is_out(&self, n: u32) -> bool
         ensures { IsTrue result ↔ (slice_get self.now n ≡ Some true) }
     {
-        match self.places.get(n as usize) {
-            Some(place) => place.is_some(),
+        match self.slots.get(n as usize) {
+            Some(slot) => slot.is_some(),
             None => false,
         }
     }
 }
 
 // The least number that is free.
-fn least_free(places: &[Place]) -> Option<usize>
-    ensures { result ≡ position (λ place. not (is_some place)) places.now }
+fn least_free(slots: &[Slot]) -> Option<usize>
+    ensures { result ≡ position (λ slot. not (is_some slot)) slots.now }
 {
-    places.iter().position(|place| place.is_none())
+    slots.iter().position(|slot| slot.is_none())
 }
 
-// Whether the lease of the place is out and came back.
-fn came_back(place: &Place) -> bool
-    ensures { IsTrue result → IsTrue (is_some place.now) }
+// Whether the lease of this slot is out and came back.
+fn came_back(slot: &Slot) -> bool
+    ensures { IsTrue result → IsTrue (is_some slot.now) }
 {
-    match place {
+    match slot {
         Some(returned) => returned.load(Ordering::SeqCst),
         None => false,
     }
 }
 
-// Frees the places whose lease came back, and answers how many.
-fn take_in(places: &mut [Place]) -> u32
-    requires { length places.old ≤ MAX_LEASES }
-    ensures only_frees { OnlyFrees (map is_some places.old) (map is_some places.new) }
-    ensures answer { out_count (map is_some places.new) + result ≡
-        out_count (map is_some places.old) }
+// Frees the slots whose lease came back, and answers how many.
+fn take_in(slots: &mut [Slot]) -> u32
+    requires { length slots.old ≤ MAX_LEASES }
+    ensures only_frees { OnlyFrees (map is_some slots.old) (map is_some slots.new) }
+    ensures answer { out_count (map is_some slots.new) + result ≡
+        out_count (map is_some slots.old) }
 {
     let mut freed = 0;
-    for i in 0..places.len() {
-        if came_back(&places[i]) {
-            places[i] = None;
+    for i in 0..slots.len() {
+        if came_back(&slots[i]) {
+            slots[i] = None;
             freed += 1;
         }
     }

@@ -9,14 +9,16 @@
 //! next `collect` on.
 #![tactic(auto)]
 
+mod boxes;
 mod fuse;
 mod leases;
 mod memory;
 mod refusals;
 mod segments;
-#[cfg(test)]
-mod tests;
 
+pub use boxes::{
+    append_to, are_spares, capacity_of, failures_of, is_spare, lease_of, len_of, read_from,
+};
 pub use fuse::FuseSegment;
 pub use leases::{Desk, Lease, MAX_LEASES};
 pub use memory::{MAX_CAPACITY, MemSegment};

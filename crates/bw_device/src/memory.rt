@@ -1,5 +1,5 @@
 // A segment in memory.
-ghost use Rattle.std.specs.Prelude.{◌≡◌, ◌+◌, ◌<◌, ◌≤◌, ◌↔◌, ◌⊎◌, length, take, drop, [], vec_len, IsOk, IfOk, OnOk, IfErr, IsErrAnd, IsErrOf};
+ghost use Rattle.std.specs.Prelude.{◌≡◌, ◌+◌, ◌<◌, ◌≤◌, ◌↔◌, ◌⊎◌, ◌++◌, length, take, drop, [], vec_len, IsOk, IfOk, OnOk, IfErr, IsErrAnd, IsErrOf};
 ghost use Rattle.std.specs.Vec.{vec_capacity};
 ghost use Rattle.bw_device.specs.declared.memory.TheConstants.{MAX_CAPACITY};
 
@@ -11,17 +11,27 @@ use std::alloc::Global;
 /// The greatest capacity of a segment, in bytes: one gibibyte.
 pub const MAX_CAPACITY: u64 = 1_073_741_824;
 
+/// What a new segment's memory is filled with. It is not zero, since a compiler may make one
+/// request for memory of zeros out of a request and a filling with them, and that touches none of
+/// it.
+const FILLER: u8 = 0xff;
+
 /// A segment in memory, which never fails. When it is dropped, its lease comes back.
 #[derive(Debug, Drop)]
 pub struct MemSegment {
     lease: Lease,
     /// In bytes.
     capacity: u64,
+    /// How many of the bytes are held, from the front on.
+    held: u64,
+    /// As many as the capacity, written when the segment is made: so no append takes memory, and
+    /// none waits for memory that is touched for the first time.
     bytes: Vec<u8>,
     ghost in_range: { (1 ≤ capacity) × (capacity ≤ MAX_CAPACITY) },
-    ghost within_capacity: { vec_len bytes ≤ capacity },
-    // So no append takes memory.
-    ghost reserved: { capacity ≤ vec_capacity bytes },
+    ghost within_capacity: { held ≤ capacity },
+    ghost touched: { vec_len bytes ≡ capacity },
+    // And no more memory than that.
+    ghost exact: { vec_capacity bytes ≡ capacity },
 }
 
 impl MemSegment {
@@ -31,7 +41,7 @@ impl MemSegment {
 
     /// A segment of this capacity, in bytes, that holds nothing yet.
     ///
-    /// All its memory is reserved here. `BadConfig` is looked at before `NoMemory`.
+    /// All its memory is taken and touched here. `BadConfig` is looked at before `NoMemory`.
     pub fn new(alloc: Global, lease: Lease, capacity: u64) -> Result<MemSegment, Refused>
         ensures made { IfOk result
             (λ s. memory_holding s ≡ fresh_holding (number_of lease) capacity []) }
@@ -45,7 +55,7 @@ impl MemSegment {
 
     /// A segment of this capacity, in bytes, that holds a copy of the bytes.
     ///
-    /// All its memory is reserved here. `BadConfig` is looked at before `NoMemory`.
+    /// All its memory is taken and touched here. `BadConfig` is looked at before `NoMemory`.
     pub fn with_bytes(
         alloc: Global,
         lease: Lease,
@@ -59,11 +69,12 @@ impl MemSegment {
             ((capacity ≡ 0) ⊎ (MAX_CAPACITY < capacity) ⊎ (capacity < length bytes.now)) }
         ensures lease { IfErr result (λ e. e.lease ≡ lease) }
     {
-        match reserved(alloc, capacity, bytes) {
-            Ok(bytes) => Ok(MemSegment {
+        match filled(alloc, capacity, bytes) {
+            Ok(filled) => Ok(MemSegment {
                 lease,
                 capacity,
-                bytes,
+                held: bytes.len() as u64,
+                bytes: filled,
             }),
             Err(cause) => Err(Refused { lease, cause }),
         }
@@ -75,10 +86,9 @@ impl MemSegment {
             (memory_holding self.old).room }
         ensures { memory_holding self.new ≡ appended (memory_holding self.old) piece.now }
     {
-        match self.bytes.extend_from_slice(piece) {
-            Ok(()) => {}
-            Err(_) => unreachable!(),
-        }
+        let from = self.held as usize;
+        write_at(&mut self.bytes, from, piece);
+        self.held += piece.len() as u64;
     }
 
     // Fills the slice with the held bytes from `at` on.
@@ -91,25 +101,37 @@ impl MemSegment {
     }
 }
 
-// A copy of the bytes, with room for as many as the capacity says.
-fn reserved(alloc: Global, capacity: u64, bytes: &[u8]) -> Result<Vec<u8>, NotMade>
-    ensures bytes { IfOk result (λ held. held.items ≡ bytes.now) }
-    ensures room { IfOk result (λ held. capacity ≤ vec_capacity held) }
-    ensures in_range { OnOk result ((1 ≤ capacity) × (capacity ≤ MAX_CAPACITY)) }
-    ensures within_capacity { IfOk result (λ held. vec_len held ≤ capacity) }
+// Writes the piece over the bytes from `at` on.
+fn write_at(bytes: &mut [u8], at: usize, piece: &[u8])
+    requires { at + length piece.now ≤ length bytes.old }
+    ensures { bytes.new
+        ≡ take at bytes.old ++ piece.now ++ drop (at + length piece.now) bytes.old }
+{
+    bytes[at..at + piece.len()].copy_from_slice(piece);
+}
+
+// As many bytes as the capacity says, of which the first are these.
+fn filled(alloc: Global, capacity: u64, bytes: &[u8]) -> Result<Vec<u8>, NotMade>
+    ensures held { IfOk result (λ v. take (length bytes.now) v.items ≡ bytes.now) }
+    ensures touched { IfOk result (λ v. vec_len v ≡ capacity) }
+    ensures exact { IfOk result (λ v. vec_capacity v ≡ capacity) }
+    ensures fits { IsOk result → (1 ≤ capacity) × (capacity ≤ MAX_CAPACITY)
+        × (length bytes.now ≤ capacity) }
+
     ensures bad_config { IsErrOf result NotMade.BadConfig ↔
         ((capacity ≡ 0) ⊎ (MAX_CAPACITY < capacity) ⊎ (capacity < length bytes.now)) }
 {
     if capacity == 0 || capacity > MAX_CAPACITY || bytes.len() as u64 > capacity {
         return Err(NotMade::BadConfig);
     }
-    let Ok(mut held) = Vec::with_capacity(alloc, capacity as usize) else {
+    let Ok(mut all) = Vec::with_capacity(alloc, capacity as usize) else {
         return Err(NotMade::NoMemory);
     };
-    match held.extend_from_slice(bytes) {
-        Ok(()) => Ok(held),
-        Err(_) => unreachable!(),
+    for _ in 0..capacity {
+        all.push_reserved(FILLER);
     }
+    write_at(&mut all, 0, bytes);
+    Ok(all)
 }
 
 impl Segment for MemSegment {
@@ -141,7 +163,7 @@ impl Segment for MemSegment {
     }
 
     fn len(&self) -> u64 {
-        self.bytes.len() as u64
+        self.held
     }
 
     fn capacity(&self) -> u64 {

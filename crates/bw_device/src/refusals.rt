@@ -5,10 +5,11 @@ use thiserror::Error;
 /// Why a segment or a desk was not made.
 #[derive(Clone, Copy, Debug, PartialEq, Eq, Error)]
 pub enum NotMade {
-    /// There was no memory for it.
+    /// E1: there was no memory for it.
     #[error("no memory")]
     NoMemory,
-    /// A number is outside its limits: the capacity of a segment, or how many leases a desk has.
+    /// E10: a number is outside its limits: the capacity of a segment, or how many leases a desk
+    /// has.
     #[error("a number is outside its limits")]
     BadConfig,
 }
@@ -24,10 +25,10 @@ pub struct Refused {
 /// Why no lease was taken.
 #[derive(Clone, Copy, Debug, PartialEq, Eq, Error)]
 pub enum NotTaken {
-    /// There was no memory for the flag by which the lease comes back.
+    /// E1: there was no memory for the flag by which the lease comes back.
     #[error("no memory")]
     NoMemory,
-    /// All leases of the desk are out.
+    /// E20: all leases of the desk are out.
     #[error("all leases are out")]
     NoLease,
 }

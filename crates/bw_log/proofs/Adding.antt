@@ -85,7 +85,7 @@ pub entries_last : (n : ℕ) (older : List (List ℕ)) (b : List ℕ)
 entries_last n [] b = append-nil (entries_from n 24 (segment_frames b)) ∙ ap (λ (k : ℕ). entries_from k 24 (segment_frames b)) (omega arith)
 entries_last n (o ∷ os) b =
     ap (λ (l : List (FrameAt × Frame)). entries_from n 24 (segment_frames o) ++ l)
-        (entries_last (n + 1) os b ∙ ap (λ (k : ℕ). entries (n + 1) os ++ entries_from k 24 (segment_frames b)) (omega arith))
+    (entries_last (n + 1) os b ∙ ap (λ (k : ℕ). entries (n + 1) os ++ entries_from k 24 (segment_frames b)) (omega arith))
     ∙ sym (append_assoc (entries_from n 24 (segment_frames o)) (entries (n + 1) os) (entries_from (n + length (o ∷ os)) 24 (segment_frames b)))
 
 pub entries_more : (s at : ℕ) (fs : List Frame) (x : Frame)
@@ -93,9 +93,9 @@ pub entries_more : (s at : ℕ) (fs : List Frame) (x : Frame)
 entries_more s at [] x = ap (λ (k : ℕ). (entry_of s k x, x) ∷ []) (omega arith)
 entries_more s at (f ∷ fs) x =
     ap (λ (l : List (FrameAt × Frame)). (entry_of s at f, f) ∷ l)
-        (entries_more s (at + length (frame_bytes f)) fs x
-        ∙ ap (λ (k : ℕ). entries_from s (at + length (frame_bytes f)) fs ++ (entry_of s k x, x) ∷ [])
-        (omega (arith, length-append (frame_bytes f) (flat_map frame_bytes fs))))
+    (entries_more s (at + length (frame_bytes f)) fs x
+    ∙ ap (λ (k : ℕ). entries_from s (at + length (frame_bytes f)) fs ++ (entry_of s k x, x) ∷ [])
+    (omega (arith, length-append (frame_bytes f) (flat_map frame_bytes fs))))
 
 from_frames : (s at : ℕ) (fs : List Frame) → map (λ (e : FrameAt × Frame). e.1) (entries_from s at fs) ≡ fs
 from_frames s at [] = refl
@@ -162,7 +162,7 @@ pub frames_with : (i : Image) (older : List (List ℕ)) (b : List ℕ) (x : Fram
 frames_with i older b x t =
     let more = clean_more i.m i.f (i.number + length older) b x (takes_clean i older b x t) t.lawful in
     frames_last older (b ++ frame_bytes x) ∙ ap (λ (l : List Frame). frames_of older ++ l) more.0
-        ∙ sym (append_assoc (frames_of older) (segment_frames b) (x ∷ []))
+    ∙ sym (append_assoc (frames_of older) (segment_frames b) (x ∷ []))
     ∙ ap (λ (l : List Frame). l ++ x ∷ []) (sym (frames_last older b) ∙ ap frames_of (sym t.ends))
 
 -- the counted frames are one more
@@ -172,10 +172,10 @@ counts_more i older b x pages t =
     let test = λ (f : Frame). is_before_next (following x.number) f.number in
     let all : AllByRecursion (λ f. test f ≡ true) (frames_of i.bytes ++ x ∷ []) =
     all-push (λ (f : Frame). test f ≡ true) (frames_of i.bytes) x
-        (all-more (λ (f : Frame). f.number < x.number) (λ (f : Frame). test f ≡ true) (frames_of i.bytes) (λ f h. passes x.number f.number (omega arith))
-        (takes_before i older b x t)) (passes x.number x.number (omega arith)) in
+    (all-more (λ (f : Frame). f.number < x.number) (λ (f : Frame). test f ≡ true) (frames_of i.bytes) (λ f h. passes x.number f.number (omega arith))
+    (takes_before i older b x t)) (passes x.number x.number (omega arith)) in
     ap (filter test) (frames_with i older b x t) ∙ filter_all test (frames_of i.bytes ++ x ∷ []) all
-        ∙ ap (λ (l : List Frame). l ++ x ∷ []) (sym (t.holds.every t.works))
+    ∙ ap (λ (l : List Frame). l ++ x ∷ []) (sym (t.holds.every t.works))
 
 -- the table of frames has a line more
 listed_more : (i : Image) (older : List (List ℕ)) (b : List ℕ) (x : Frame) (pages : List PageAt) → Takes i older b x
@@ -191,24 +191,24 @@ listed_more i older b x pages t =
     entries_last i.number older (b ++ frame_bytes x)
     ∙ ap (λ (fs : List Frame). entries i.number older ++ entries_from (i.number + length older) 24 fs) more.0
     ∙ ap (λ (l : List (FrameAt × Frame)). entries i.number older ++ l)
-        (entries_more (i.number + length older) 24 (segment_frames b) x
-        ∙ ap (λ (k : ℕ). entries_from (i.number + length older) 24 (segment_frames b) ++ (entry_of (i.number + length older) k x, x) ∷ [])
-        (sym (clean_len i.m i.f (i.number + length older) b clean)))
+    (entries_more (i.number + length older) 24 (segment_frames b) x
+    ∙ ap (λ (k : ℕ). entries_from (i.number + length older) 24 (segment_frames b) ++ (entry_of (i.number + length older) k x, x) ∷ [])
+    (sym (clean_len i.m i.f (i.number + length older) b clean)))
     ∙ sym (append_assoc (entries i.number older) (entries_from (i.number + length older) 24 (segment_frames b)) ((line, x) ∷ []))
     ∙ ap (λ (l : List (FrameAt × Frame)). l ++ (line, x) ∷ []) (sym (entries_last i.number older b) ∙ ap (entries i.number) (sym t.ends)) in
     let below : AllByRecursion (λ (e : FrameAt × Frame). e.1.number < x.number) old =
     all-of_map (λ (f : Frame). f.number < x.number) (λ (e : FrameAt × Frame). e.1) old
-        (subst (λ (fs : List Frame). AllByRecursion (λ f. f.number < x.number) fs) (sym (entries_frames i.number i.bytes)) (takes_before i older b x t)) in
+    (subst (λ (fs : List Frame). AllByRecursion (λ f. f.number < x.number) fs) (sym (entries_frames i.number i.bytes)) (takes_before i older b x t)) in
     let all_new : AllByRecursion (λ e. test e ≡ true) (old ++ (line, x) ∷ []) =
     all-push (λ (e : FrameAt × Frame). test e ≡ true) old (line, x)
-        (all-more (λ (e : FrameAt × Frame). e.1.number < x.number) (λ (e : FrameAt × Frame). test e ≡ true) old
-        (λ e h. passes x.number e.1.number (omega arith)) below) (passes x.number x.number (omega arith)) in
+    (all-more (λ (e : FrameAt × Frame). e.1.number < x.number) (λ (e : FrameAt × Frame). test e ≡ true) old
+    (λ e h. passes x.number e.1.number (omega arith)) below) (passes x.number x.number (omega arith)) in
     let all_old : AllByRecursion (λ e. old_test e ≡ true) old =
     subst (λ (o : Option ℕ). AllByRecursion (λ (e : FrameAt × Frame). is_before_next o e.1.number ≡ true) old) (sym t.number)
-        (all-more (λ (e : FrameAt × Frame). e.1.number < x.number) (λ (e : FrameAt × Frame). is_before_next (Some x.number) e.1.number ≡ true) old
-        (λ e h. passes_some x.number e.1.number h) below) in
+    (all-more (λ (e : FrameAt × Frame). e.1.number < x.number) (λ (e : FrameAt × Frame). is_before_next (Some x.number) e.1.number ≡ true) old
+    (λ e h. passes_some x.number e.1.number h) below) in
     let was : i.frames ≡ map (λ (e : FrameAt × Frame). e.0) old =
-        t.holds.listed ∙ ap (λ (l : List (FrameAt × Frame)). map (λ (e : FrameAt × Frame). e.0) l) (filter_all old_test old all_old) in
+    t.holds.listed ∙ ap (λ (l : List (FrameAt × Frame)). map (λ (e : FrameAt × Frame). e.0) l) (filter_all old_test old all_old) in
     ap (λ (l : List FrameAt). l ++ line ∷ []) was
     ∙ sym (map-append (λ (e : FrameAt × Frame). e.0) old ((line, x) ∷ []))
     ∙ ap (λ (l : List (FrameAt × Frame)). map (λ (e : FrameAt × Frame). e.0) l) (sym (ap (filter test) there ∙ filter_all test (old ++ (line, x) ∷ []) all_new))
@@ -216,7 +216,7 @@ listed_more i older b x pages t =
 -- the whole invariant of an image with a frame more
 pub sound_more : (i : Image) (older : List (List ℕ)) (b : List ℕ) (x : Frame) (pages : List PageAt) (leaves : List Leaf) → Takes i older b x
     → AreLinked (counted_in i ++ x ∷ []) → Stand i.m (counted_in i ++ x ∷ []) leaves → IsTable pages (counted_in i ++ x ∷ []) → length leaves ≡ length pages
-        → length pages < 2 ^ 32
+    → length pages < 2 ^ 32
     → IsImage (added i older b x pages)
 sound_more i older b x pages leaves t linked stands table same few =
     let clean = takes_clean i older b x t in

@@ -1,10 +1,10 @@
 -- Lines that name their segments by number, one after the other.
 
-use Rattle.std.proofs.Common.{◌≡◌, ℕ, zero, suc, ◌+◌, ◌^◌, ◌<◌, ◌≤◌, Bool, true, false, Option, Some, List, [], ◌∷◌, ◌++◌, length, map, get_or, set, refl, sym}
+use Rattle.std.proofs.Common.{◌≡◌, ℕ, ◌+◌, ◌^◌, ◌<◌, ◌≤◌, Bool, Option, Some, List, [], ◌∷◌, ◌++◌, length, map, get_or, set, refl, sym}
 use Rattle.std.proofs.Common.{ap, subst, ◌∙◌, append_assoc, append-nil, arith, length-append}
 use Rattle.std.proofs.lemmas.List.{map-append, length-map}
 use Rattle.std.proofs.lemmas.Grind.{fold-append}
-use Rattle.std.specs.List.{fold, filter, AllByRecursion}
+use Rattle.std.specs.List.{filter, AllByRecursion}
 use Rattle.bw_codec.specs.Grammar.{frame_bytes}
 use Rattle.bw_codec.specs.declared.block.Frame.{Frame}
 use Rattle.bw_log.specs.Segments.{segment_frames, entries_from, entries, following, AreLive, is_before_next}
@@ -47,14 +47,14 @@ line_small number old i now next line n inside read all =
     let parts = line_by old i n.done n.rest n.split n.count inside in
     let same = read_at number i now n.done parts.1 parts.0 line n.count (n.is ∙ ap (λ (l : List FrameAt). in_segments number n.done ++ l) parts.2) read in
     let there : AllByRecursion (λ e. number + e.segment < 2 ^ 64) (n.done ++ parts.0 ∷ parts.1) =
-        subst (λ (l : List FrameAt). AllByRecursion (λ e. number + e.segment < 2 ^ 64) l) (n.split ∙ ap (λ (l : List FrameAt). n.done ++ l) parts.2) all in
+    subst (λ (l : List FrameAt). AllByRecursion (λ e. number + e.segment < 2 ^ 64) l) (n.split ∙ ap (λ (l : List FrameAt). n.done ++ l) parts.2) all in
     subst (λ (x : FrameAt). number + x.segment < 2 ^ 64) (sym same)
-        (all_behind (λ (e : FrameAt). number + e.segment < 2 ^ 64) n.done (parts.0 ∷ parts.1) there).0
+    (all_behind (λ (e : FrameAt). number + e.segment < 2 ^ 64) n.done (parts.0 ∷ parts.1) there).0
 
 pub numbering_on : (number : ℕ) (old : List FrameAt) (i : ℕ) (now : List FrameAt) (next : Option ℕ) (line : FrameAt) (new : List FrameAt) (told : Option ℕ)
     → Numbering number old i now next → i < length old
     → line ≡ get_or now i line → new ≡ set now i (record line { segment = number + line.segment }) → told ≡ following line.number
-        → Numbering number old (i + 1) new told
+    → Numbering number old (i + 1) new told
 numbering_on number old i now next line new told n inside read written follows =
     let parts = line_by old i n.done n.rest n.split n.count inside in
     let e = parts.0 in
@@ -63,7 +63,7 @@ numbering_on number old i now next line new told n inside read written follows =
     let size : length before ≡ i = length-map n.done (λ (x : FrameAt). record x { segment = number + x.segment }) ∙ n.count in
     let all : now ≡ before ++ e ∷ others = n.is ∙ ap (λ (l : List FrameAt). before ++ l) parts.2 in
     let same : line ≡ e = read ∙ ap (λ (l : List FrameAt). get_or l i line) all ∙ ap (λ (k : ℕ). get_or (before ++ e ∷ others) k line) (sym size)
-        ∙ get_at before e line others in
+    ∙ get_at before e line others in
     let d : FrameAt = record line { segment = number + line.segment } in
     record {
       done = n.done ++ e ∷ [];
@@ -114,4 +114,4 @@ small_lines m f number next bs lines live is =
     let line : FrameAt × Frame → FrameAt = λ e. e.0 in
     unmapped number lines (subst (λ (l : List FrameAt). AllByRecursion (λ e. e.segment < 2 ^ 64) l) (sym is)
     (all_map line (λ (e : FrameAt). e.segment < 2 ^ 64) (filter test (entries number bs))
-        (all_filtered (λ (e : FrameAt × Frame). e.0.segment < 2 ^ 64) test (entries number bs) (small_entries m f number bs live))))
+    (all_filtered (λ (e : FrameAt × Frame). e.0.segment < 2 ^ 64) test (entries number bs) (small_entries m f number bs live))))

@@ -126,7 +126,7 @@ entries_torn i older b x n t =
     let number = i.number + length older in
     let now = b ++ take n (frame_bytes x) in
     let was : entries i.number i.bytes ≡ entries i.number older ++ entries_from number 24 (segment_frames b) =
-        ap (entries i.number) t.ends ∙ entries_last i.number older b in
+    ap (entries i.number) t.ends ∙ entries_last i.number older b in
     elim (clean_torn i.m i.f number b x n clean t.lawful).1 [
       | inl same ↦ ap (λ (l : List (FrameAt × Frame)). map (λ (e : FrameAt × Frame). e.0) (filter test l))
           (entries_last i.number older now ∙ ap (λ (fs : List Frame). entries i.number older ++ entries_from number 24 fs) same ∙ sym was)
@@ -142,7 +142,7 @@ entries_torn i older b x n t =
           ∙ sym (append_assoc (entries i.number older) (entries_from number 24 (segment_frames b)) (line ∷ []))
           ∙ ap (λ (l : List (FrameAt × Frame)). l ++ line ∷ []) (sym was) in
           ap (λ (l : List (FrameAt × Frame)). map (λ (e : FrameAt × Frame). e.0) (filter test l)) there
-              ∙ ap (λ (l : List (FrameAt × Frame)). map (λ (e : FrameAt × Frame). e.0) l) (filter_without test (entries i.number i.bytes) line none))
+          ∙ ap (λ (l : List (FrameAt × Frame)). map (λ (e : FrameAt × Frame). e.0) l) (filter_without test (entries i.number i.bytes) line none))
     ]
 
 -- the whole frames are the counted ones, or these and the one that was appended

@@ -1,13 +1,13 @@
 -- A segment that is cut at some length.
 
-use Rattle.std.proofs.Common.{◌≡◌, ℕ, zero, suc, ◌+◌, ◌-◌, ◌^◌, ◌<◌, ◌≤◌, ◌⊎◌, inl, inr, ◌==◌, ◌&&◌, Bool, true, false, List, [], ◌∷◌, ◌++◌, length, take, drop}
-use Rattle.std.proofs.Common.{refl, sym, ap, subst, ◌∙◌, append_assoc, append-nil, arith, length-append}
-use Rattle.std.specs.List.{flat_map, list_all, zip, AllByRecursion}
+use Rattle.std.proofs.Common.{◌≡◌, ℕ, zero, suc, ◌-◌, ◌≤◌, inl, inr, ◌==◌, true, List, [], ◌∷◌, ◌++◌, length, take}
+use Rattle.std.proofs.Common.{refl, sym, ap, subst, ◌∙◌, append_assoc, arith}
+use Rattle.std.specs.List.{flat_map, AllByRecursion}
 use Rattle.std.proofs.lemmas.Bool.{and_parts, and_from, cases_lt}
 use Rattle.bw_codec.specs.Grammar.{agrees, frame_word, frame_bytes, head_bytes, header_bytes, IsFrame, IsTail, IsWhole}
 use Rattle.bw_codec.specs.declared.block.Frame.{Frame}
 use Rattle.bw_codec.specs.declared.block.Header.{Header}
-use Rattle.bw_codec.proofs.FrontFormat.{agrees_cut, beginnings_are_tails, length-head}
+use Rattle.bw_codec.proofs.FrontFormat.{beginnings_are_tails, length-head}
 use Rattle.bw_codec.proofs.Heading.{length-header}
 use Rattle.bw_log.specs.Segments.{segment_frames, IsLive}
 use Rattle.bw_log.proofs.Reread.{segment_read}
@@ -49,10 +49,17 @@ tail_cut f cut n (inr t) =
     let spelled = head_bytes head.number head.body head.blocks in
     let size : length spelled ≡ 20 = length-head head.number head.body head.blocks in
     elim (cases_lt n 20) [
-      | inl less ↦ inl (omega (arith, take_short cut n),
-          ap (λ (b : List ℕ). agrees (take n b) frame_word) (t.4) ∙ agrees_shorter frame_word (spelled ++ rest) n refl)
-      | inr more ↦ inr (head, take (n - 20) rest, t.2, omega (arith, take_less rest (n - 20), t.3),
-          ap (take n) t.4 ∙ take_past spelled rest n (omega arith) ∙ ap (λ (k : ℕ). spelled ++ take (n - k) rest) size)
+      | inl less ↦ inl (
+        omega (arith, take_short cut n),
+        ap (λ (b : List ℕ). agrees (take n b) frame_word) (t.4) ∙ agrees_shorter frame_word (spelled ++ rest) n refl,
+      )
+      | inr more ↦ inr (
+        head,
+        take (n - 20) rest,
+        t.2,
+        omega (arith, take_less rest (n - 20), t.3),
+        ap (take n) t.4 ∙ take_past spelled rest n (omega arith) ∙ ap (λ (k : ℕ). spelled ++ take (n - k) rest) size,
+      )
     ]
 
 -- so many whole frames, and a tail
@@ -71,11 +78,11 @@ frames_cut m f (x ∷ fs) cut n laws tail =
     let parts : flat_map frame_bytes (x ∷ fs) ++ cut ≡ spelled ++ others = append_assoc spelled (flat_map frame_bytes fs) cut in
     elim (cases_lt n (length spelled)) [
       | inl less ↦ record {
-          count = 0;
-          rest = take n spelled;
-          tail = beginnings_are_tails m f x n laws.0 less;
-          parts = ap (take n) parts ∙ take_part spelled others n (omega arith);
-        }
+        count = 0;
+        rest = take n spelled;
+        tail = beginnings_are_tails m f x n laws.0 less;
+        parts = ap (take n) parts ∙ take_part spelled others n (omega arith);
+      }
       | inr more ↦ (
           let c = frames_cut m f fs cut (n - length spelled) laws.1 tail in
           record {
@@ -103,8 +110,8 @@ live_cut m f number bytes n live some =
     let c = frames_cut m f fs live.cut (n - 24) w.each w.tail in
     let parts : take n bytes ≡ header_bytes h ++ (flat_map frame_bytes (take c.count fs) ++ c.rest) =
     ap (take n) w.parts ∙ take_past (header_bytes h) (flat_map frame_bytes fs ++ live.cut) n (omega arith)
-        ∙ ap (λ (k : ℕ). header_bytes h ++ take (n - k) (flat_map frame_bytes fs ++ live.cut)) size ∙ ap (λ (l : List ℕ). header_bytes h ++ l) c.parts in
+    ∙ ap (λ (k : ℕ). header_bytes h ++ take (n - k) (flat_map frame_bytes fs ++ live.cut)) size ∙ ap (λ (l : List ℕ). header_bytes h ++ l) c.parts in
     let whole : IsWhole (take n bytes) h (take c.count fs) c.rest =
-        record { lawful = w.lawful; each = all_taken (IsFrame m f) c.count fs w.each; tail = c.tail; parts = parts } in
+    record { lawful = w.lawful; each = all_taken (IsFrame m f) c.count fs w.each; tail = c.tail; parts = parts } in
     let read = segment_read (take n bytes) h (take c.count fs) c.rest whole in
     (c.count, read, record { cut = c.rest; whole = subst (λ (gs : List Frame). IsWhole (take n bytes) h gs c.rest) (sym read) whole })

@@ -52,7 +52,7 @@ room_is len used room within =
 
 pub room_told : {X : Type 0} (v : X → Holding) (xs : List X) (len used room : ℕ) → 0 < length xs
     → IfSome (slice_get (map v xs) (length xs - 1)) (λ h. used ≡ length h.bytes) → IfSome (slice_get (map v xs) (length xs - 1)) (λ h. used ≤ h.room)
-        → IfSome (slice_get (map v xs) (length xs - 1)) (λ h. room ≡ h.room)
+    → IfSome (slice_get (map v xs) (length xs - 1)) (λ h. room ≡ h.room)
     → nat_le len (room - used) ≡ has_room len (last_of (map v xs))
 room_told v xs len used room some used_is within room_of =
     let l = the_last v xs some in
@@ -61,7 +61,7 @@ room_told v xs len used room some used_is within room_of =
     let w : used ≤ l.holding.room = at_some (λ (h : Holding). used ≤ h.room) at l.holding l.at within in
     let r : room ≡ l.holding.room = at_some (λ (h : Holding). room ≡ h.room) at l.holding l.at room_of in
     room_is len used room (omega arith) ∙ ap (λ (k : ℕ). nat_le (k + len) room) u ∙ ap (λ (k : ℕ). nat_le (length l.holding.bytes + len) k) r
-        ∙ ap (has_room len) (sym l.last)
+    ∙ ap (has_room len) (sym l.last)
 
 pub not_empty : (n : ℕ) (r : Bool) → r ≡ (n == 0) → r ≡ false → 0 < n
 not_empty zero r is none = absurd (let no : true ≡ false = sym is ∙ none in cc)

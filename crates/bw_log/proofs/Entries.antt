@@ -79,9 +79,9 @@ in_segment : (m f segment : ℕ) (bytes front : List ℕ) (fs : List Frame) (cut
 in_segment m f segment bytes front [] cut parts lawful = tt
 in_segment m f segment bytes front (x ∷ xs) cut parts lawful =
     let here : bytes ≡ front ++ (frame_bytes x ++ (flat_map frame_bytes xs ++ cut)) =
-        parts ∙ ap (λ (r : List ℕ). front ++ r) (append_assoc (frame_bytes x) (flat_map frame_bytes xs) cut) in
+    parts ∙ ap (λ (r : List ℕ). front ++ r) (append_assoc (frame_bytes x) (flat_map frame_bytes xs) cut) in
     let next : bytes ≡ (front ++ frame_bytes x) ++ (flat_map frame_bytes xs ++ cut) =
-        here ∙ sym (append_assoc front (frame_bytes x) (flat_map frame_bytes xs ++ cut)) in (
+    here ∙ sym (append_assoc front (frame_bytes x) (flat_map frame_bytes xs ++ cut)) in (
       record { names = refl; front = front; back = flat_map frame_bytes xs ++ cut; parts = here; at = refl; len = refl; lawful = lawful.0; numbered = refl },
       subst (λ (n : ℕ). AllByRecursion (InSegment m f segment bytes) (entries_from segment n xs)) (length-append front (frame_bytes x))
           (in_segment m f segment bytes (front ++ frame_bytes x) xs cut next lawful.1),
@@ -112,15 +112,15 @@ entries_behind m f number older (b ∷ bs) all split are =
     let next : all ≡ (older ++ b ∷ []) ++ bs = split ∙ sym (append_assoc older (b ∷ []) bs) in
     all_append (IsEntry m f number all) (entries_from n 24 (segment_frames b)) (entries (n + 1) bs)
     (all_mapped (InSegment m f n b) (IsEntry m f number all) (entries_from n 24 (segment_frames b))
-        (λ e here. record { older = older; bytes = b; newer = bs; split = split; stands = here }) (live_segment m f n b are.0))
+    (λ e here. record { older = older; bytes = b; newer = bs; split = split; stands = here }) (live_segment m f n b are.0))
     (subst (λ (k : ℕ). AllByRecursion (IsEntry m f number all) (entries k bs)) more
-        (entries_behind m f number (older ++ b ∷ []) bs all next (subst (λ (k : ℕ). AreLive m f k bs) (sym more) are.1)))
+    (entries_behind m f number (older ++ b ∷ []) bs all next (subst (λ (k : ℕ). AreLive m f k bs) (sym more) are.1)))
 
 pub are_entries : (m f number : ℕ) (live : List (List ℕ)) → AreLive m f number live → AllByRecursion (IsEntry m f number live) (entries number live)
 are_entries m f number live are =
     let same : number + length {A = List ℕ} [] ≡ number = omega arith in
     subst (λ (k : ℕ). AllByRecursion (IsEntry m f number live) (entries k live)) same
-        (entries_behind m f number [] live live refl (subst (λ (k : ℕ). AreLive m f k live) (sym same) are))
+    (entries_behind m f number [] live live refl (subst (λ (k : ℕ). AreLive m f k live) (sym same) are))
 
 -- ---- counted frames are those of the counted lines
 
@@ -159,15 +159,15 @@ line_at i k line holds inside is =
     let es = counted_entries i in
     let s = split_at es k (omega (arith, ap (λ (l : List FrameAt). length l) holds.listed, length-map es first)) in
     let lines : i.frames ≡ map first s.before ++ s.item.0 ∷ map first s.beyond =
-        holds.listed ∙ ap (map first) s.split ∙ map-append first s.before (s.item ∷ s.beyond) in
+    holds.listed ∙ ap (map first) s.split ∙ map-append first s.before (s.item ∷ s.beyond) in
     let same : line ≡ s.item.0 = is ∙ ap (λ (l : List FrameAt). get_or l k line) lines
-        ∙ get_or_at (map first s.before) s.item.0 (map first s.beyond) line k (length-map s.before first ∙ s.index) in
+    ∙ get_or_at (map first s.before) s.item.0 (map first s.beyond) line k (length-map s.before first ∙ s.index) in
     let frames : counted_in i ≡ map second s.before ++ s.item.1 ∷ map second s.beyond =
-        counted_is i ∙ ap (map second) s.split ∙ map-append second s.before (s.item ∷ s.beyond) in
+    counted_is i ∙ ap (map second) s.split ∙ map-append second s.before (s.item ∷ s.beyond) in
     let all = all_filtered (IsEntry i.m i.f i.number i.bytes) (λ e. is_before_next i.next e.1.number) (entries i.number i.bytes)
-        (are_entries i.m i.f i.number i.bytes holds.live) in
+    (are_entries i.m i.f i.number i.bytes holds.live) in
     let one : IsEntry i.m i.f i.number i.bytes s.item =
-        all_between (IsEntry i.m i.f i.number i.bytes) s.before s.item s.beyond (subst (AllByRecursion (IsEntry i.m i.f i.number i.bytes)) s.split all) in
+    all_between (IsEntry i.m i.f i.number i.bytes) s.before s.item s.beyond (subst (AllByRecursion (IsEntry i.m i.f i.number i.bytes)) s.split all) in
     record {
       frame = s.item.1;
       stands = record { before = map second s.before; beyond = map second s.beyond; split = frames; index = length-map s.before second ∙ s.index };
@@ -178,4 +178,4 @@ pub listed_length : (i : Image) → IsImage i → length i.frames ≡ length (co
 listed_length i holds =
     let es = counted_entries i in
     ap (λ (l : List FrameAt). length l) holds.listed ∙ length-map es (λ (e : FrameAt × Frame). e.0) ∙ sym (length-map es (λ (e : FrameAt × Frame). e.1))
-        ∙ ap (λ (l : List Frame). length l) (sym (counted_is i))
+    ∙ ap (λ (l : List Frame). length l) (sym (counted_is i))

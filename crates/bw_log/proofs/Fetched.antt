@@ -6,10 +6,10 @@ use Rattle.std.proofs.lemmas.List.{get_or-set_same, length-set, take_at, drop_at
 use Rattle.std.proofs.lemmas.Option.{slice_get-get_or, slice_get_within, get_or_from_slice_get}
 use Rattle.std.proofs.Math.Seq.{map-set_same}
 use Rattle.bw_device.specs.Holding.{Holding, failed_once}
-use Rattle.bw_log.specs.Changes.{ChangedAt}
+use Rattle.bw_device.specs.Boxes.{ChangedAt}
 use Rattle.bw_log.proofs.Asked.{found}
 use Rattle.bw_log.proofs.Fields.{both_fields, bounded_same}
-use Rattle.bw_log.specs.Contents.{Contents, image, counted, AreTorn, IsImage, IsSound}
+use Rattle.bw_log.specs.Contents.{Contents, image, counted, counted_in, AreTorn, IsImage, IsSound}
 use Rattle.bw_log.specs.Calls.{IsKept, FailedRead, StopsAt, IsLineIn, HoldsPage}
 use Rattle.bw_log.specs.Walking.{StandsAt, IsWalk}
 use Rattle.bw_log.specs.declared.places.FrameAt.{FrameAt}
@@ -98,8 +98,12 @@ boxed_line c k line sound inside is =
       inside = omega arith;
       box = box.1;
       there = there;
-      within = omega (arith, ap (λ (r : List ℕ). length r) parts, length-append e.front (frame_bytes l.frame ++ e.back),
-          length-append (frame_bytes l.frame) e.back);
+      within = omega (
+        arith,
+        ap (λ (r : List ℕ). length r) parts,
+        length-append e.front (frame_bytes l.frame ++ e.back),
+        length-append (frame_bytes l.frame) e.back,
+      );
       spelled = spelled;
       numbered = e.numbered;
     }
@@ -143,7 +147,7 @@ sound_failed reads old new lease sound failed =
     subst IsSound (sym failed.is) sound_live
 
 pub kept_same : (old new : Contents) → new ≡ old → IsKept old new
-kept_same old new e = subst (λ (c : Contents). IsKept old c) (sym e) (record { same = refl; spares = refl; leases = refl; rooms = refl })
+kept_same old new e = subst (λ (c : Contents). IsKept old c) (sym e) (record { same = refl; counts = refl; spares = refl; leases = refl; rooms = refl })
 
 kept_failed : (reads : ℕ → Type 0) (old new : Contents) (lease : ℕ) → FailedRead reads lease old new → IsKept old new
 kept_failed reads old new lease failed =
@@ -151,8 +155,10 @@ kept_failed reads old new lease failed =
     let bytes = same_at (λ (h : Holding). h.bytes) old.live failed.at failed.segment (failed_once failed.segment) failed.was refl in
     let rooms = same_at (λ (h : Holding). h.room) old.live failed.at failed.segment (failed_once failed.segment) failed.was refl in
     let leases = same_at (λ (h : Holding). h.lease) old.live failed.at failed.segment (failed_once failed.segment) failed.was refl in
+    let same = same_image old live bytes in
     let kept : IsKept old (with_live old live) = record {
-      same = sym (same_image old live bytes);
+      same = sym same;
+      counts = ap counted_in (sym same);
       spares = refl;
       leases = both_fields (λ (h : Holding). h.lease) old.live old.spares live old.spares leases refl;
       rooms = rooms;
@@ -221,11 +227,11 @@ pub dumped : {X : Type 0} (v : X → Holding) (number : ℕ) (xs : List X) (segm
     → IfSome (slice_get (map v xs) (segment - number)) (λ h. bytes ≡ take len (drop 0 h.bytes))
     → new ≡ out ++ bytes
     → MatchOption (if nat_le number segment then slice_get (map v xs) (segment - number) else None) ((true ≡ false) × (new ≡ out))
-        (λ h. (true ≡ true) × (new ≡ out ++ h.bytes))
+    (λ h. (true ≡ true) × (new ≡ out ++ h.bytes))
 dumped v number xs segment len out new bytes from inside long read is =
     let box = found v xs (segment - number) inside in
     let at : (if nat_le number segment then slice_get (map v xs) (segment - number) else None) ≡ Some box.0 =
-        ap (λ (b : Bool). if b then slice_get (map v xs) (segment - number) else None) (le-leb number segment from) ∙ box.1 in
+    ap (λ (b : Bool). if b then slice_get (map v xs) (segment - number) else None) (le-leb number segment from) ∙ box.1 in
     let size : len ≡ length box.0.bytes = subst (λ (o : Option Holding). IfSome o (λ h. len ≡ length h.bytes)) box.1 long in
     let all : bytes ≡ take len box.0.bytes = subst (λ (o : Option Holding). IfSome o (λ h. bytes ≡ take len (drop 0 h.bytes))) box.1 read in
     subst (λ (o : Option Holding). MatchOption o ((true ≡ false) × (new ≡ out)) (λ h. (true ≡ true) × (new ≡ out ++ h.bytes))) (sym at)

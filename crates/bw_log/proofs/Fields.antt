@@ -1,11 +1,11 @@
 -- What no append changes of the boxes: their leases and their rooms.
 
-use Rattle.std.proofs.Common.{◌≡◌, ℕ, ◌+◌, ◌^◌, ◌<◌, List, [], ◌∷◌, ◌++◌, length, take, map, inl, inr, refl, sym, ap, subst, ◌∙◌, append_assoc, arith}
+use Rattle.std.proofs.Common.{◌≡◌, ℕ, ◌^◌, ◌<◌, List, [], ◌∷◌, ◌++◌, take, map, inl, inr, refl, sym, ap, subst, ◌∙◌, append_assoc, arith}
 use Rattle.std.proofs.lemmas.List.{map-append}
 use Rattle.std.specs.List.{AllByRecursion}
 use Rattle.bw_device.specs.Holding.{Holding}
 use Rattle.bw_codec.specs.Grammar.{header_bytes}
-use Rattle.bw_log.specs.Contents.{Contents, IsBounded, IsRoomy, IsSpare, HasBeginning, AreTorn, IsSound}
+use Rattle.bw_log.specs.Contents.{Contents, IsBounded, IsRoomy, IsSpare, AreTorn, IsSound}
 use Rattle.bw_log.specs.Calls.{fresh, IsFit}
 use Rattle.bw_log.specs.Steps.{with_last, with_first, torn}
 

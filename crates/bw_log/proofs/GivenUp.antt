@@ -158,11 +158,11 @@ some_placed_by test n fs result place (inl nowhere) is none = cc
 some_placed_by test n fs result place (inr found) is none =
     let last = found.2 in
     let all : list_any test (blocks_of last.before ++ (last.frame.blocks ++ blocks_of last.beyond)) ≡ false =
-        ap (list_any test) (sym (ap blocks_of last.split ∙ blocks_more last.before (last.frame ∷ last.beyond))) ∙ none in
+    ap (list_any test) (sym (ap blocks_of last.split ∙ blocks_more last.before (last.frame ∷ last.beyond))) ∙ none in
     let behind = or_parts (list_any test (blocks_of last.before)) (list_any test (last.frame.blocks ++ blocks_of last.beyond))
-        (sym (list_any-append test (blocks_of last.before) (last.frame.blocks ++ blocks_of last.beyond)) ∙ all) in
+    (sym (list_any-append test (blocks_of last.before) (last.frame.blocks ++ blocks_of last.beyond)) ∙ all) in
     let here = or_parts (list_any test last.frame.blocks) (list_any test (blocks_of last.beyond))
-        (sym (list_any-append test last.frame.blocks (blocks_of last.beyond)) ∙ behind.1) in
+    (sym (list_any-append test last.frame.blocks (blocks_of last.beyond)) ∙ behind.1) in
     true≢false (sym last.passes ∙ here.0)
 
 -- ---- links of what is left
@@ -199,11 +199,11 @@ refault_at : (first next : ℕ) (gone before : List (Place × Block)) (page : �
     → fault_at first (gone ++ before) page back ≡ None → fault_at next before page back ≡ None
 refault_at first next gone before page back within le none =
     let was : is_back first (last_place (touches page) (gone ++ before)) back ≡ true =
-        true_by (is_back first (last_place (touches page) (gone ++ before)) back) page none in
+    true_by (is_back first (last_place (touches page) (gone ++ before)) back) page none in
     let cut : is_back first (or_else (last_place (touches page) before) (last_place (touches page) gone)) back ≡ true =
-        ap (λ (o : Option Place). is_back first o back) (sym (last_of_two (touches page) gone before)) ∙ was in
+    ap (λ (o : Option Place). is_back first o back) (sym (last_of_two (touches page) gone before)) ∙ was in
     none_by (is_back next (last_place (touches page) before) back) page
-        (relink_by first next (last_place (touches page) before) (last_place (touches page) gone) back (within page) le cut)
+    (relink_by first next (last_place (touches page) before) (last_place (touches page) gone) back (within page) le cut)
 
 refault : (first next : ℕ) (gone before : List (Place × Block)) (b : Block) → Within next gone → first ≤ next → fault_of first (gone ++ before) b ≡ None
     → fault_of next before b ≡ None
@@ -223,7 +223,7 @@ relink first next gone before (x ∷ xs) within le none =
     or_none (fault_of next before x.1) (bad_link next (before ++ x ∷ []) xs)
     (refault first next gone before x.1 within le two.0)
     (relink first next gone (before ++ x ∷ []) xs within le
-        (ap (λ (l : List (Place × Block)). bad_link first l xs) (sym (append_assoc gone before (x ∷ []))) ∙ two.1))
+    (ap (λ (l : List (Place × Block)). bad_link first l xs) (sym (append_assoc gone before (x ∷ []))) ∙ two.1))
 
 -- ---- a log whose oldest segment may go
 
@@ -266,7 +266,7 @@ module _ (i : Image) (b : List ℕ) (bs : List (List ℕ)) (go : MayGo i b bs) w
   after_last p some inside =
       subst (λ (fs : List Frame). IsAfter (fold (λ was f. f.number) 0 fs) (base_of p (segment_frames b ++ frames_of bs))) gone_counts
       (subst (λ (fs : List Frame). IsAfter (fold (λ was f. f.number) 0 (filter (λ f. is_before_next i.next f.number) (segment_frames b))) (base_of p fs)) counts
-          (go.bases p some inside))
+      (go.bases p some inside))
 
 -- ---- each page is set in what is left
 
@@ -283,7 +283,7 @@ base_by p n gone kept (Some place) all are here is some after = (place, refl)
 base_by p n gone kept None None are here is some after = absurd (some refl)
 base_by p n gone kept None (Some place) are here is some after =
     let there : last_place (sets p) (all_placed gone) ≡ Some place =
-        ap (λ (o : Option Place). or_else o (last_place (sets p) (all_placed gone))) (sym here) ∙ sym (last_over_frames (sets p) gone kept) ∙ is in
+    ap (λ (o : Option Place). or_else o (last_place (sets p) (all_placed gone))) (sym here) ∙ sym (last_over_frames (sets p) gone kept) ∙ is in
     absurd (not_after n gone place are (place_within (sets p) n gone place are there) after)
 
 set_kept_by : (p n : ℕ) (gone kept : List Frame) (leaf : Leaf) → AreFrom n (gone ++ kept) → content p (blocks_of (gone ++ kept)) ≡ Some leaf
@@ -291,12 +291,12 @@ set_kept_by : (p n : ℕ) (gone kept : List Frame) (leaf : Leaf) → AreFrom n (
     → list_any (sets p) (blocks_of kept) ≡ true
 set_kept_by p n gone kept leaf are set after =
     let some : base_of p (gone ++ kept) ≡ None → ⊥ =
-        λ none. (let e : None ≡ Some leaf = sym (none_fold p (blocks_of (gone ++ kept)) (none_placed (sets p) n (gone ++ kept) are none)) ∙ set in cc) in
+    λ none. (let e : None ≡ Some leaf = sym (none_fold p (blocks_of (gone ++ kept)) (none_placed (sets p) n (gone ++ kept) are none)) ∙ set in cc) in
     let kept_are = from_behind n gone kept are in
     let base = base_by p n gone kept (last_place (sets p) (all_placed kept)) (base_of p (gone ++ kept)) (from_before n gone kept are) refl refl some after in
     true_from_ne_false (list_any (sets p) (blocks_of kept))
-        (some_placed_by (sets p) (n + length gone) kept (last_place (sets p) (all_placed kept)) base.0
-        (frames_last (sets p) (n + length gone) None kept kept_are) base.1)
+    (some_placed_by (sets p) (n + length gone) kept (last_place (sets p) (all_placed kept)) base.0
+    (frames_last (sets p) (n + length gone) None kept kept_are) base.1)
 
 any_touched : (p : ℕ) (bs : List Block) → list_any (touches p) bs ≡ false → list_any (sets p) bs ≡ false
 any_touched p [] none = refl
@@ -308,7 +308,7 @@ any_touched p (b ∷ bs) none =
 table_by : (field : PageAt → Place) (test : Block → Bool) (pages : List PageAt) (p n : ℕ) (gone kept : List Frame) (in_kept : Option Place) → 1 ≤ p
     → AreFrom n kept → last_place test (all_placed kept) ≡ in_kept
     → (p ≤ length pages → list_any test (blocks_of kept) ≡ true) → place_in field pages p ≡ last_place test (all_placed (gone ++ kept))
-        → place_in field pages p ≡ in_kept
+    → place_in field pages p ≡ in_kept
 table_by field test pages p n gone kept (Some place) some are here passes says =
     says ∙ last_over_frames test gone kept ∙ ap (λ (o : Option Place). or_else o (last_place test (all_placed gone))) here
 table_by field test pages p n gone kept None some are here passes says =
@@ -346,7 +346,7 @@ pub set_kept : (i : Image) (b : List ℕ) (bs : List (List ℕ)) → MayGo i b b
 set_kept i b bs go p some inside =
     let set = set_by i.m (segment_frames b ++ frames_of bs) (length i.pages) p (stood i b bs go) some inside in
     set_kept_by p (first_number (segment_frames b ++ frames_of bs)) (segment_frames b) (frames_of bs) set.0 (numbers i b bs go) set.1
-        (after_last i b bs go p some inside)
+    (after_last i b bs go p some inside)
 
 pub stand_kept : (m pages : ℕ) (gone kept : List Frame) (leaves : List Leaf) → ((p : ℕ) → 1 ≤ p → p ≤ pages → list_any (sets p) (blocks_of kept) ≡ true)
     → Stand m (gone ++ kept) leaves → length leaves ≡ pages → Stand m kept leaves
@@ -378,7 +378,7 @@ links_by : (n : ℕ) (gone kept : List Frame) → 1 ≤ n ⊎ (gone ≡ []) → 
 links_by n gone kept low are linked =
     let before = from_before n gone kept are in
     let two = neither (bad_link n [] (all_placed gone)) (bad_link n (all_placed gone) (all_placed kept))
-        (sym (bad_link-append n [] (all_placed gone) (all_placed kept)) ∙ ap (bad_link n []) (sym (placed_more gone kept)) ∙ linked) in
+    (sym (bad_link-append n [] (all_placed gone) (all_placed kept)) ∙ ap (bad_link n []) (sym (placed_more gone kept)) ∙ linked) in
     relink n (n + length gone) (all_placed gone) [] (all_placed kept)
     (λ page place is. (let w = place_within (touches page) n gone place before is in let l = w.0 in let h = w.1 in (at_least place l h low, h)))
     (omega arith)
@@ -428,12 +428,12 @@ lines_kept number next b bs =
     let rest = filter test (entries (number + 1) bs) in
     let gone : filter other (map line own) ≡ [] =
     filter_none other (map line own) (all_map line (λ (e : FrameAt). other e ≡ false) own
-        (all_filtered (λ (e : FrameAt × Frame). not (e.0.segment == number) ≡ false) test (entries_from number 24 (segment_frames b))
-        (own_segment number 24 (segment_frames b)))) in
+    (all_filtered (λ (e : FrameAt × Frame). not (e.0.segment == number) ≡ false) test (entries_from number 24 (segment_frames b))
+    (own_segment number 24 (segment_frames b)))) in
     let kept : filter other (map line rest) ≡ map line rest =
     filter_all other (map line rest) (all_map line (λ (e : FrameAt). other e ≡ true) rest
-        (all_filtered (λ (e : FrameAt × Frame). not (e.0.segment == number) ≡ true) test (entries (number + 1) bs)
-        (later_segments number (number + 1) bs (omega arith)))) in
+    (all_filtered (λ (e : FrameAt × Frame). not (e.0.segment == number) ≡ true) test (entries (number + 1) bs)
+    (later_segments number (number + 1) bs (omega arith)))) in
     ap (λ (l : List (FrameAt × Frame)). filter other (map line l)) (filter-append test (entries_from number 24 (segment_frames b)) (entries (number + 1) bs))
     ∙ ap (filter other) (map-append line own rest)
     ∙ filter-append other (map line own) (map line rest)
@@ -461,8 +461,8 @@ given_up i b bs frames go lines =
     let live : AreLive i.m i.f i.number (b ∷ bs) = subst (AreLive i.m i.f i.number) go.bytes go.holds.live in
     let was : bad_link n [] (all_placed (gone ++ kept)) ≡ None = subst (λ (fs : List Frame). AreLinked fs) (counts i b bs go) go.holds.linked in
     let touched : (p : ℕ) → 1 ≤ p → p ≤ pages → list_any (touches p) (blocks_of kept) ≡ true =
-        λ p some inside. true_from_ne_false (list_any (touches p) (blocks_of kept))
-        (λ none. true≢false (sym (set p some inside) ∙ any_touched p (blocks_of kept) none)) in
+    λ p some inside. true_from_ne_false (list_any (touches p) (blocks_of kept))
+    (λ none. true≢false (sym (set p some inside) ∙ any_touched p (blocks_of kept) none)) in
     let numbers_low = go.holds.numbers in
     record {
       limits = go.holds.limits;

@@ -1,7 +1,6 @@
 -- A frame in the making, behind those that stand: one block more.
 
-use Rattle.std.proofs.Common.{◌≡◌, ℕ, ◌+◌, Bool, Option, None, List, [], ◌∷◌, ◌++◌, length, refl, sym, ap, subst, ◌∙◌, append_assoc, append-nil, arith}
-use Rattle.std.specs.List.{fold}
+use Rattle.std.proofs.Common.{◌≡◌, ℕ, ◌+◌, Bool, Option, None, List, [], ◌∷◌, ◌++◌, length, refl, sym, ap, ◌∙◌, append_assoc, append-nil, arith}
 use Rattle.std.proofs.lemmas.Grind.{fold-append}
 use Rattle.bw_codec.specs.declared.block.Place.{Place}
 use Rattle.bw_codec.specs.declared.block.Block.{Block}
@@ -21,7 +20,7 @@ placed_push n i [] b = let e : i ≡ i + length {A = Block} [] = omega arith in 
 placed_push n i (c ∷ bs) b =
     let e : i + 1 + length bs ≡ i + length (c ∷ bs) = omega arith in
     ap (λ (l : List (Place × Block)). (record { frame = n; index = i }, c) ∷ l)
-        (placed_push n (i + 1) bs b ∙ ap (λ (k : ℕ). placed n (i + 1) bs ++ at_end n k b) e)
+    (placed_push n (i + 1) bs b ∙ ap (λ (k : ℕ). placed n (i + 1) bs ++ at_end n k b) e)
 
 one_frame : (fs : List Frame) (n : ℕ) (bs : List Block) → all_placed (fs ++ frame_with n bs ∷ []) ≡ all_placed fs ++ placed n 0 bs
 one_frame fs n bs = placed_more fs (frame_with n bs ∷ []) ∙ ap (λ (l : List (Place × Block)). all_placed fs ++ l) (append-nil (placed n 0 bs))
@@ -31,14 +30,14 @@ pub all_push : (fs : List Frame) (n : ℕ) (bs : List Block) (b : Block)
 all_push fs n bs b =
     one_frame fs n (bs ++ b ∷ [])
     ∙ ap (λ (l : List (Place × Block)). all_placed fs ++ l)
-        (placed_push n 0 bs b ∙ (let e : 0 + length bs ≡ length bs = omega arith in ap (λ (k : ℕ). placed n 0 bs ++ at_end n k b) e))
+    (placed_push n 0 bs b ∙ (let e : 0 + length bs ≡ length bs = omega arith in ap (λ (k : ℕ). placed n 0 bs ++ at_end n k b) e))
     ∙ sym (append_assoc (all_placed fs) (placed n 0 bs) (at_end n (length bs) b))
     ∙ ap (λ (l : List (Place × Block)). l ++ at_end n (length bs) b) (sym (one_frame fs n bs))
 
 -- the last block that passes a test: this one, or the one before
 pub place_push : (test : Block → Bool) (fs : List Frame) (n : ℕ) (bs : List Block) (b : Block)
     → last_place test (all_placed (fs ++ frame_with n (bs ++ b ∷ []) ∷ []))
-        ≡ later test (last_place test (all_placed (fs ++ frame_with n bs ∷ []))) (record { frame = n; index = length bs }, b)
+    ≡ later test (last_place test (all_placed (fs ++ frame_with n bs ∷ []))) (record { frame = n; index = length bs }, b)
 place_push test fs n bs b = ap (last_place test) (all_push fs n bs b)
     ∙ fold-append (later test) None (all_placed (fs ++ frame_with n bs ∷ [])) (at_end n (length bs) b)
 
@@ -52,7 +51,7 @@ both_none x y a b = rw a b
 -- links stay lawful where the new block's is
 pub linked_push : (fs : List Frame) (n : ℕ) (bs : List Block) (b : Block) → AreLinked (fs ++ frame_with n bs ∷ [])
     → fault_of (first_number (fs ++ frame_with n bs ∷ [])) (all_placed (fs ++ frame_with n bs ∷ [])) b ≡ None
-        → AreLinked (fs ++ frame_with n (bs ++ b ∷ []) ∷ [])
+    → AreLinked (fs ++ frame_with n (bs ++ b ∷ []) ∷ [])
 linked_push fs n bs b linked lawful =
     let all = all_placed (fs ++ frame_with n bs ∷ []) in
     let first = first_number (fs ++ frame_with n bs ∷ []) in

@@ -32,7 +32,7 @@ at_back : {X : Type 0} (P : X → Type 0) (xs ys : List X) (k : ℕ) (d : X) →
 at_back {X} P xs ys k d all beyond inside =
     let at : length xs + (k - length xs) ≡ k = omega arith in
     subst (λ (n : ℕ). P (get_or (xs ++ ys) n d)) at
-        (subst P (sym (get_or-append-add xs ys (k - length xs) d)) (all_get P ys (k - length xs) d all (omega (arith, length-append xs ys))))
+    (subst P (sym (get_or-append-add xs ys (k - length xs) d)) (all_get P ys (k - length xs) d all (omega (arith, length-append xs ys))))
 
 parted : {X : Type 0} (p : X → Bool) (xs ys : List X) → AllByRecursion (λ x. p x ≡ true) xs → AllByRecursion (λ x. p x ≡ false) ys
     → IsPartitionedBy p (xs ++ ys)
@@ -93,7 +93,7 @@ same_last w (e ∷ es) all = ap (λ (n : ℕ). fold (λ was (f : Frame). f.numbe
 
 two_parts : (number : ℕ) (next : Option ℕ) (b : List ℕ) (bs : List (List ℕ))
     → TwoParts number (map (λ e. e.0) (filter (λ e. is_before_next next e.1.number) (entries number (b ∷ bs))))
-        (fold (λ was f. f.number) 0 (filter (λ f. is_before_next next f.number) (segment_frames b)))
+    (fold (λ was f. f.number) 0 (filter (λ f. is_before_next next f.number) (segment_frames b)))
 two_parts number next b bs =
     let line : FrameAt × Frame → FrameAt = λ e. e.0 in
     let frame : FrameAt × Frame → Frame = λ e. e.1 in
@@ -103,7 +103,7 @@ two_parts number next b bs =
     let rest = filter test (entries (number + 1) bs) in
     let frames : filter (λ (f : Frame). is_before_next next f.number) (segment_frames b) ≡ map frame own =
     ap (filter (λ (f : Frame). is_before_next next f.number)) (sym (frames_in number 24 (segment_frames b)))
-        ∙ filter_mapped (λ (f : Frame). is_before_next next f.number) frame all in
+    ∙ filter_mapped (λ (f : Frame). is_before_next next f.number) frame all in
     record {
       own = map line own;
       others = map line rest;
@@ -121,7 +121,7 @@ parts_of : (c : Contents) (h : Holding) (hs : List Holding) → IsSound c → c.
 parts_of c h hs sound live =
     let is : c.frames ≡ map (λ e. e.0) (filter (λ e. is_before_next c.next e.1.number) (entries c.number (h.bytes ∷ map (λ k. k.bytes) hs))) =
     sound.holds.listed ∙ ap (λ (l : List Holding). map (λ e. e.0)
-        (filter (λ e. is_before_next c.next e.1.number) (entries c.number (map (λ k. k.bytes) l)))) live in
+    (filter (λ e. is_before_next c.next e.1.number) (entries c.number (map (λ k. k.bytes) l)))) live in
     subst (λ (lines : List FrameAt). TwoParts c.number lines (last_number c h)) (sym is) (two_parts c.number c.next h.bytes (map (λ k. k.bytes) hs))
 
 -- ---- the last of them
@@ -136,7 +136,7 @@ own_last [] others n d same some = absurd (omega arith)
 own_last (x ∷ xs) others n d same some =
     let at : n - 1 ≡ length xs = omega arith in
     fold_last 0 x xs d ∙ ap (λ (e : FrameAt). e.number) (sym (get_or_append_left (x ∷ xs) others d (length xs) (omega arith)))
-        ∙ ap (λ (k : ℕ). (get_or ((x ∷ xs) ++ others) k d).number) (sym at)
+    ∙ ap (λ (k : ℕ). (get_or ((x ∷ xs) ++ others) k d).number) (sym at)
 
 none_last : (own : List FrameAt) (n : ℕ) → n ≡ length own → n ≡ 0 → fold (λ was e. e.number) 0 own ≡ 0
 none_last [] n same none = refl
@@ -170,7 +170,7 @@ pub some_told : {X : Type 0} (v : X → Holding) (c : Contents) (xs : List X) (l
 some_told v c [] lines n d live boxes sound same found some = absurd (omega arith)
 some_told v c (x ∷ xs) lines n d live boxes sound same found some =
     let t : TwoParts c.number lines (last_number c (v x)) =
-        subst (λ (l : List FrameAt). TwoParts c.number l (last_number c (v x))) (sym same) (parts_of c (v x) (map v xs) sound live) in
+    subst (λ (l : List FrameAt). TwoParts c.number l (last_number c (v x))) (sym same) (parts_of c (v x) (map v xs) sound live) in
     sym (some_last t found d some)
 
 pub none_told : {X : Type 0} (v : X → Holding) (c : Contents) (xs : List X) (lines : List FrameAt) (n : ℕ) → c.live ≡ map v xs → 0 < length xs → IsSound c
@@ -178,5 +178,5 @@ pub none_told : {X : Type 0} (v : X → Holding) (c : Contents) (xs : List X) (l
 none_told v c [] lines n live boxes sound same found none = absurd (omega arith)
 none_told v c (x ∷ xs) lines n live boxes sound same found none =
     let t : TwoParts c.number lines (last_number c (v x)) =
-        subst (λ (l : List FrameAt). TwoParts c.number l (last_number c (v x))) (sym same) (parts_of c (v x) (map v xs) sound live) in
+    subst (λ (l : List FrameAt). TwoParts c.number l (last_number c (v x))) (sym same) (parts_of c (v x) (map v xs) sound live) in
     sym (no_last t found (record { number = 0; segment = 0; at = 0; len = 0 }) none)

@@ -1,4 +1,3 @@
-pub mod Boxed
 pub mod Asked
 pub mod Walk
 pub mod Fields
@@ -20,12 +19,6 @@ pub mod Ends
 pub mod Stepped
 pub mod Torn
 pub mod Whole
-pub mod Exampled
-pub mod CareExample
-pub mod FilledExample
-pub mod SplitExample
-pub mod Vectors
 pub mod Growing
 pub mod Cut
 pub mod Adopted
-pub mod SmallBox

@@ -125,7 +125,7 @@ new_page_set m all n x leaves p old new above within =
           let before = old_pages m all n p old above in
           let now : content p (blocks_of (all ++ x ∷ [])) ≡ None =
           ap (content p) (blocks_more all x) ∙ fold-append (after p) None (blocks_of all) x.blocks ∙ ap (λ (o : Option Leaf). fold (after p) o x.blocks) before
-              ∙ none_fold p x.blocks unset in
+          ∙ none_fold p x.blocks unset in
           absurd (leaf_there p leaves (omega arith) within (sym (new.each p (omega arith) within) ∙ now)))
     ]
 
@@ -166,9 +166,9 @@ old_stays m all n x leaves (inr old) new =
       | inl over ↦ (
           let same = old.2 in
           let gone : AllByRecursion (λ b. touches n b ≡ false) (blocks_of all ++ x.blocks) =
-              subst (λ (bs : List Block). AllByRecursion (λ b. touches n b ≡ false) bs) (blocks_more all x) (new.all n (omega arith)) in
+          subst (λ (bs : List Block). AllByRecursion (λ b. touches n b ≡ false) bs) (blocks_more all x) (new.all n (omega arith)) in
           let none : content n (blocks_of all) ≡ None =
-              nothing_said n (blocks_of all) (all-left (λ (b : Block). touches n b ≡ false) (blocks_of all) x.blocks gone) in
+          nothing_said n (blocks_of all) (all-left (λ (b : Block). touches n b ≡ false) (blocks_of all) x.blocks gone) in
           absurd (leaf_there n old.0 (omega arith) (omega arith) (sym (old.1.each n (omega arith) (omega arith)) ∙ none)))
     ]
 
@@ -177,7 +177,7 @@ pub new_lines : (m : ℕ) (all : List Frame) (n : ℕ) (x : Frame) (leaves : Lis
 new_lines m all n x leaves laws old new =
     let beyond : (p : ℕ) → length leaves + 1 ≤ p → AllByRecursion (λ b. touches p b ≡ false) x.blocks =
     λ p above. all-right (λ (b : Block). touches p b ≡ false) (blocks_of all) x.blocks
-        (subst (λ (bs : List Block). AllByRecursion (λ b. touches p b ≡ false) bs) (blocks_more all x) (new.all p above)) in
+    (subst (λ (bs : List Block). AllByRecursion (λ b. touches p b ≡ false) bs) (blocks_more all x) (new.all p above)) in
     let lines = all_lines m (length leaves) x.blocks laws beyond in
     let more = old_stays m all n x leaves old new in
     let few = few_new (length leaves - n) n x.blocks (λ p above within. new_page_set m all n x leaves p old new above (omega arith)) in

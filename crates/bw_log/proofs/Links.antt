@@ -99,7 +99,7 @@ frames_last test n acc (f ∷ fs) are =
     let middle = fold (later test) acc (placed f.number 0 f.blocks) in
     subst (InFrames test n acc (f ∷ fs)) (sym (fold-append (later test) acc (placed f.number 0 f.blocks) (all_placed fs)))
     (in_frames_by test n acc middle f fs (fold (later test) middle (all_placed fs)) are.0 (in_blocks test f.number 0 acc f.blocks)
-        (frames_last test (n + 1) middle fs are.1))
+    (frames_last test (n + 1) middle fs are.1))
 
 -- ---- the links of one frame among all
 
@@ -112,7 +112,7 @@ pub bad_link-append : (first : ℕ) (before xs ys : List (Place × Block))
 bad_link-append first before [] ys = ap (λ (b : List (Place × Block)). bad_link first b ys) (sym (append-nil before))
 bad_link-append first before (x ∷ xs) ys =
     ap (or_else (fault_of first before x.1)) (bad_link-append first (before ++ x ∷ []) xs ys
-        ∙ ap (λ (b : List (Place × Block)). or_else (bad_link first (before ++ x ∷ []) xs) (bad_link first b ys)) (append_assoc before (x ∷ []) xs))
+    ∙ ap (λ (b : List (Place × Block)). or_else (bad_link first (before ++ x ∷ []) xs) (bad_link first b ys)) (append_assoc before (x ∷ []) xs))
     ∙ or_else_assoc (fault_of first before x.1) (bad_link first (before ++ x ∷ []) xs) (bad_link first (before ++ (x ∷ xs)) ys)
 
 pub neither : {A : Type 0} (x y : Option A) → or_else x y ≡ None → (x ≡ None) × (y ≡ None)
@@ -125,11 +125,11 @@ pub links_in : (first : ℕ) (xs : List Frame) (frame : Frame) (ys : List Frame)
 links_in first xs frame ys linked =
     let here = placed frame.number 0 frame.blocks in
     let parts : all_placed (xs ++ frame ∷ ys) ≡ all_placed xs ++ (here ++ all_placed ys) =
-        flat_map-append (λ (f : Frame). placed f.number 0 f.blocks) xs (frame ∷ ys) in
+    flat_map-append (λ (f : Frame). placed f.number 0 f.blocks) xs (frame ∷ ys) in
     let two = neither (bad_link first [] (all_placed xs)) (bad_link first (all_placed xs) (here ++ all_placed ys))
-        (sym (bad_link-append first [] (all_placed xs) (here ++ all_placed ys)) ∙ ap (bad_link first []) (sym parts) ∙ linked) in
+    (sym (bad_link-append first [] (all_placed xs) (here ++ all_placed ys)) ∙ ap (bad_link first []) (sym parts) ∙ linked) in
     (neither (bad_link first (all_placed xs) here) (bad_link first (all_placed xs ++ here) (all_placed ys))
-        (sym (bad_link-append first (all_placed xs) here (all_placed ys)) ∙ two.1)).0
+    (sym (bad_link-append first (all_placed xs) here (all_placed ys)) ∙ two.1)).0
 
 -- ---- the first block of a frame that touches a page, where none sets it
 

@@ -34,7 +34,7 @@ no_more m frames some others a b =
           let leaf = leaf_there p some (omega arith) (omega arith) in
           let set : content p (blocks_of frames) ≡ Some leaf.0 = a.each p (omega arith) (omega arith) ∙ leaf.1 in
           let none : content p (blocks_of frames) ≡ None =
-              same_fold p None (blocks_of frames) (none_any (touches p) (blocks_of frames) (b.all p (omega arith))) in
+          same_fold p None (blocks_of frames) (none_any (touches p) (blocks_of frames) (b.all p (omega arith))) in
           absurd (none_some (content p (blocks_of frames)) leaf.0 none set))
       | inr le ↦ le
     ]
@@ -99,7 +99,7 @@ left_of c h hs frames sound live more works bases lines =
           ∙ ap (λ (l : List Holding). drop (oldest_count l) (counted c)) (sym live);
       stands = λ leaves stand. subst (λ (fs : List Frame). Stand c.m fs leaves) (sym kept)
           (stand_kept c.m (length c.pages) (segment_frames h.bytes) (frames_of bs) leaves (set_kept (image c) h.bytes bs go)
-              (subst (λ (fs : List Frame). Stand c.m fs leaves) all stand)
+          (subst (λ (fs : List Frame). Stand c.m fs leaves) all stand)
           (same_count c leaves sound stand));
     }
 

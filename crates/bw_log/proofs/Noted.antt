@@ -43,7 +43,7 @@ line_set field pages k p line inside from =
       | inl same ↦ (
           let e : k ≡ p = eqb-true k p same in
           let here : slice_get (set pages (k - 1) line) (p - 1) ≡ Some line =
-              ap (λ (i : ℕ). slice_get (set pages (k - 1) line) (i - 1)) (sym e) ∙ get_set_same pages (k - 1) line (omega arith) in
+          ap (λ (i : ℕ). slice_get (set pages (k - 1) line) (i - 1)) (sym e) ∙ get_set_same pages (k - 1) line (omega arith) in
           ap (entry_place field) here ∙ rw same refl)
       | inr apart ↦ (
           let other : p - 1 ≢ k - 1 = λ e. eqb-false k p apart (omega arith) in
@@ -64,7 +64,7 @@ place_with_place : (pages : List PageAt) (k p : ℕ) (q : Place) → IsInTable k
     → place_in (λ e. e.place) (with_place k q pages) p ≡ (if k == p then Some q else place_in (λ e. e.place) pages p)
 place_with_place pages k p q inside from some =
     line_set (λ (e : PageAt). e.place) pages k p _ inside from
-        ∙ ap (λ (o : Option Place). if k == p then o else place_in (λ e. e.place) pages p) (real_place q some)
+    ∙ ap (λ (o : Option Place). if k == p then o else place_in (λ e. e.place) pages p) (real_place q some)
 
 place_with_base : (field : PageAt → Place) (pages : List PageAt) (k p : ℕ) (q : Place) → field (record { place = q; base = q }) ≡ q → IsInTable k (length pages)
     → 1 ≤ p → 1 ≤ q.frame
@@ -125,7 +125,7 @@ places_noted number i [] pages p lines from some = refl
 places_noted number i (b ∷ bs) pages p lines from some =
     let q : Place = record { frame = number; index = i } in
     places_noted number (i + 1) bs (noted (mark_of b) q pages) p
-        (lines_stay bs (length (noted (mark_of b) q pages)) (length pages) (length-noted (mark_of b) q pages) lines.1) from some
+    (lines_stay bs (length (noted (mark_of b) q pages)) (length pages) (length-noted (mark_of b) q pages) lines.1) from some
     ∙ ap (λ (o : Option Place). fold (later (touches p)) o (placed number (i + 1) bs)) (place_noted b q pages p lines.0 from some)
 
 bases_noted : (number i : ℕ) (bs : List Block) (pages : List PageAt) (p : ℕ) → HaveLines bs (length pages) → 1 ≤ p → 1 ≤ number
@@ -134,7 +134,7 @@ bases_noted number i [] pages p lines from some = refl
 bases_noted number i (b ∷ bs) pages p lines from some =
     let q : Place = record { frame = number; index = i } in
     bases_noted number (i + 1) bs (noted (mark_of b) q pages) p
-        (lines_stay bs (length (noted (mark_of b) q pages)) (length pages) (length-noted (mark_of b) q pages) lines.1) from some
+    (lines_stay bs (length (noted (mark_of b) q pages)) (length pages) (length-noted (mark_of b) q pages) lines.1) from some
     ∙ ap (λ (o : Option Place). fold (later (sets p)) o (placed number (i + 1) bs)) (base_noted b q pages p lines.0 from some)
 
 pub length-noted_all : (number i : ℕ) (bs : List Block) (pages : List PageAt) → length (noted_all number i bs pages) ≡ length pages
@@ -184,7 +184,7 @@ pub table_grown_by : (k : ℕ) (pages : List PageAt) (all : List Frame) → IsTa
 table_grown_by zero pages all table = subst (λ (l : List PageAt). IsTable l all) (sym (append-nil pages)) table
 table_grown_by (suc k) pages all table =
     subst (λ (l : List PageAt). IsTable l all) (append_assoc pages (empty_line ∷ []) (replicate k empty_line))
-        (table_grown_by k (pages ++ empty_line ∷ []) all (table_grown pages all table))
+    (table_grown_by k (pages ++ empty_line ∷ []) all (table_grown pages all table))
 
 -- ---- the loops over a buffer's blocks
 
@@ -206,7 +206,7 @@ pub top_goes_on : (bs : List Block) (i : ℕ) (mark : Mark) (best all : ℕ) →
     → max (max best (top_of mark)) (top_page (drop (i + 1) bs)) ≡ all
 top_goes_on bs i mark best all here is =
     let split : top_page (drop i bs) ≡ max (top_of mark) (top_page (drop (i + 1) bs)) =
-        ap top_page here.split ∙ ap (λ (m : Mark). max (top_of m) (top_page (drop (i + 1) bs))) (sym here.marks) in
+    ap top_page here.split ∙ ap (λ (m : Mark). max (top_of m) (top_page (drop (i + 1) bs))) (sym here.marks) in
     omega arith
 
 pub noting_goes_on : (number i : ℕ) (bs : List Block) (mark : Mark) (pages : List PageAt) → Here bs i mark

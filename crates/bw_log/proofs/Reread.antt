@@ -32,7 +32,8 @@ frames_few : (fs : List Frame) → length fs ≤ length (flat_map frame_bytes fs
 frames_few [] = omega arith
 frames_few (x ∷ fs) = omega (arith, frames_few fs, length-frame x, length-append (frame_bytes x) (flat_map frame_bytes fs))
 
-frames_read : (n m f : ℕ) (fs : List Frame) (cut : List ℕ) → m < 2 ^ 16 → f < 2 ^ 32 → AllByRecursion (IsFrame m f) fs → IsTail f cut → length fs ≤ n
+-- frames spelled one after the other, and a tail, are read as they are
+pub frames_read : (n m f : ℕ) (fs : List Frame) (cut : List ℕ) → m < 2 ^ 16 → f < 2 ^ 32 → AllByRecursion (IsFrame m f) fs → IsTail f cut → length fs ≤ n
     → frames_at n m f (flat_map frame_bytes fs ++ cut) ≡ (fs, cut)
 unfolding frames_at
 frames_read zero m f [] cut small limit laws tail few = refl
@@ -73,7 +74,7 @@ pub header_is_clean : (m f number : ℕ) → IsHeader (record { number = number;
 header_is_clean m f number lawful =
     let h : Header = record { number = number; m = m; f = f } in
     let whole : IsWhole (header_bytes h) h [] [] =
-        record { lawful = lawful; each = tt; tail = no_bytes_are_a_tail f; parts = sym (append-nil (header_bytes h)) } in
+    record { lawful = lawful; each = tt; tail = no_bytes_are_a_tail f; parts = sym (append-nil (header_bytes h)) } in
     let read = segment_read (header_bytes h) h [] [] whole in
     (read, subst (λ (fs : List Frame). IsWhole (header_bytes h) h fs []) (sym read) whole)
 
@@ -86,12 +87,12 @@ clean_more m f number bytes x clean law =
     let more : flat_map frame_bytes (fs ++ x ∷ []) ≡ flat_map frame_bytes fs ++ frame_bytes x =
     flat_map-append frame_bytes fs (x ∷ []) ∙ ap (λ (b : List ℕ). flat_map frame_bytes fs ++ b) (append-nil (frame_bytes x)) in
     let old : bytes ≡ header_bytes h ++ flat_map frame_bytes fs =
-        clean.parts ∙ ap (λ (b : List ℕ). header_bytes h ++ b) (append-nil (flat_map frame_bytes fs)) in
+    clean.parts ∙ ap (λ (b : List ℕ). header_bytes h ++ b) (append-nil (flat_map frame_bytes fs)) in
     let parts : bytes ++ frame_bytes x ≡ header_bytes h ++ (flat_map frame_bytes (fs ++ x ∷ []) ++ []) =
     ap (λ (b : List ℕ). b ++ frame_bytes x) old ∙ append_assoc (header_bytes h) (flat_map frame_bytes fs) (frame_bytes x)
-        ∙ ap (λ (b : List ℕ). header_bytes h ++ b) (sym more ∙ sym (append-nil (flat_map frame_bytes (fs ++ x ∷ [])))) in
+    ∙ ap (λ (b : List ℕ). header_bytes h ++ b) (sym more ∙ sym (append-nil (flat_map frame_bytes (fs ++ x ∷ [])))) in
     let whole : IsWhole (bytes ++ frame_bytes x) h (fs ++ x ∷ []) [] =
-        record { lawful = clean.lawful; each = all-push (IsFrame m f) fs x clean.each law; tail = clean.tail; parts = parts } in
+    record { lawful = clean.lawful; each = all-push (IsFrame m f) fs x clean.each law; tail = clean.tail; parts = parts } in
     let read = segment_read (bytes ++ frame_bytes x) h (fs ++ x ∷ []) [] whole in
     (read, subst (λ (gs : List Frame). IsWhole (bytes ++ frame_bytes x) h gs []) (sym read) whole)
 
@@ -109,7 +110,7 @@ clean_is_live m f number bytes clean = record { cut = []; whole = clean }
 -- a frame cut off: the frames are those before, or one more where all of its bytes are there
 pub clean_torn : (m f number : ℕ) (bytes : List ℕ) (x : Frame) (n : ℕ) → IsClean m f number bytes → IsFrame m f x
     → IsLive m f number (bytes ++ take n (frame_bytes x))
-        × ((segment_frames (bytes ++ take n (frame_bytes x)) ≡ segment_frames bytes) ⊎ (bytes ++ take n (frame_bytes x) ≡ bytes ++ frame_bytes x))
+    × ((segment_frames (bytes ++ take n (frame_bytes x)) ≡ segment_frames bytes) ⊎ (bytes ++ take n (frame_bytes x) ≡ bytes ++ frame_bytes x))
 clean_torn m f number bytes x n clean law =
     let h : Header = record { number = number; m = m; f = f } in
     let fs = segment_frames bytes in
@@ -118,9 +119,9 @@ clean_torn m f number bytes x n clean law =
           let cut = take n (frame_bytes x) in
           let parts : bytes ++ cut ≡ header_bytes h ++ (flat_map frame_bytes fs ++ cut) =
           ap (λ (b : List ℕ). b ++ cut) (clean.parts ∙ ap (λ (b : List ℕ). header_bytes h ++ b) (append-nil (flat_map frame_bytes fs)))
-              ∙ append_assoc (header_bytes h) (flat_map frame_bytes fs) cut in
+          ∙ append_assoc (header_bytes h) (flat_map frame_bytes fs) cut in
           let whole : IsWhole (bytes ++ cut) h fs cut =
-              record { lawful = clean.lawful; each = clean.each; tail = beginnings_are_tails m f x n law short; parts = parts } in
+          record { lawful = clean.lawful; each = clean.each; tail = beginnings_are_tails m f x n law short; parts = parts } in
           let read = segment_read (bytes ++ cut) h fs cut whole in
           (record { cut = cut; whole = subst (λ (gs : List Frame). IsWhole (bytes ++ cut) h gs cut) (sym read) whole }, inl read))
       | inr whole ↦ (

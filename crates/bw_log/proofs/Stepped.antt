@@ -89,18 +89,26 @@ image_begun c s ss b =
     let empty = (spares_empty c s ss b).0 in
     let number : length (map (λ (h : Holding). h.bytes) c.live) ≡ length c.live = length-map c.live (λ (h : Holding). h.bytes) in
     let bytes : map (λ (h : Holding). h.bytes) (c.live ++ appended s (header_bytes (header_of c)) ∷ []) ≡ map (λ (h : Holding). h.bytes) c.live
-        ++ header_bytes (record { number = c.number + length (map (λ (h : Holding). h.bytes) c.live); m = c.m; f = c.f }) ∷ [] =
+    ++ header_bytes (record { number = c.number + length (map (λ (h : Holding). h.bytes) c.live); m = c.m; f = c.f }) ∷ [] =
     map-append (λ (h : Holding). h.bytes) c.live (appended s (header_bytes (header_of c)) ∷ [])
     ∙ ap (λ (l : List ℕ). map (λ (h : Holding). h.bytes) c.live ++ (l ++ header_bytes (header_of c)) ∷ []) empty.0
     ∙ ap (λ (n : ℕ). map (λ (h : Holding). h.bytes) c.live ++ header_bytes (record { number = c.number + n; m = c.m; f = c.f }) ∷ []) (sym number) in
-    ap image (begun_is c s ss b) ∙ ap (λ (l : List (List ℕ)). let i : Image = record
-        { m = c.m; f = c.f; number = c.number; is_open = true; is_failed = c.is_failed; next = c.next; bytes = l; frames = c.frames;
-        pages = c.pages } in i) bytes
+    ap image (begun_is c s ss b) ∙ ap (λ (l : List (List ℕ)). let i : Image = record {
+      m = c.m;
+      f = c.f;
+      number = c.number;
+      is_open = true;
+      is_failed = c.is_failed;
+      next = c.next;
+      bytes = l;
+      frames = c.frames;
+      pages = c.pages;
+    } in i) bytes
 
 pub begun_sound : (c : Contents) (s : Holding) (ss : List Holding) → Begins c s ss → IsSound (begun c)
 begun_sound c s ss b =
     let number : c.number + length (map (λ (h : Holding). h.bytes) c.live) < 2 ^ 64 =
-        (let n = b.number in omega (arith, length-map c.live (λ (h : Holding). h.bytes))) in
+    (let n = b.number in omega (arith, length-map c.live (λ (h : Holding). h.bytes))) in
     let few = b.sound.few in
     let size = ap (λ (l : List Holding). length l) b.first in
     let sound : IsSound (record c { live = c.live ++ appended s (header_bytes (header_of c)) ∷ []; spares = ss; is_open = true }) = record {
@@ -116,7 +124,7 @@ begun_sound c s ss b =
 pub begun_counts : (c : Contents) (s : Holding) (ss : List Holding) → Begins c s ss → counted (begun c) ≡ counted c
 begun_counts c s ss b =
     let number : c.number + length (map (λ (h : Holding). h.bytes) c.live) < 2 ^ 64 =
-        (let n = b.number in omega (arith, length-map c.live (λ (h : Holding). h.bytes))) in
+    (let n = b.number in omega (arith, length-map c.live (λ (h : Holding). h.bytes))) in
     ap counted_in (image_begun c s ss b) ∙ counted_begun (image c) b.sound.holds number
 
 -- ---- a frame put
@@ -170,8 +178,8 @@ new_table c x older h p =
     let lines = put_lines c x older h p in
     let room : length p.follows.leaves ≡ length (grown_to (top_page x.blocks) c.pages) = sym (length-grown (top_page x.blocks) c.pages ∙ lines.reach) in
     table_more (grown_to (top_page x.blocks) c.pages) (counted c) x
-        (table_grown_by (top_page x.blocks - length c.pages) c.pages (counted c) p.sound.holds.table) p.follows.lawful.head.numbered.0
-        (subst (HaveLines x.blocks) room lines.lines)
+    (table_grown_by (top_page x.blocks - length c.pages) c.pages (counted c) p.sound.holds.table) p.follows.lawful.head.numbered.0
+    (subst (HaveLines x.blocks) room lines.lines)
 
 image_put : (c : Contents) (x : Frame) (older : List Holding) (h : Holding) → Puts c x older h
     → image (with_frame c x) ≡ added (image c) (map (λ (k : Holding). k.bytes) older) h.bytes x (new_pages c x)
@@ -183,12 +191,12 @@ image_put c x older h p =
     (let size = ap (λ (l : List Holding). length l) p.last in omega (arith, size, length-append older (h ∷ []), length-map older (λ (k : Holding). k.bytes))) in
     let at : length_of (last_of c.live) ≡ length h.bytes = ap (λ (l : List Holding). length_of (last_of l)) p.last ∙ ap length_of (last_of_at older h) in
     let line : entry_of (c.number + (length c.live - 1)) (length_of (last_of c.live)) x
-        ≡ entry_of (c.number + length (map (λ (k : Holding). k.bytes) older)) (length h.bytes) x =
+    ≡ entry_of (c.number + length (map (λ (k : Holding). k.bytes) older)) (length h.bytes) x =
     ap (λ (n : ℕ). entry_of (c.number + n) (length_of (last_of c.live)) x) place
-        ∙ ap (λ (n : ℕ). entry_of (c.number + length (map (λ (k : Holding). k.bytes) older)) n x) at in
+    ∙ ap (λ (n : ℕ). entry_of (c.number + length (map (λ (k : Holding). k.bytes) older)) n x) at in
     ap (λ (l : List (List ℕ)). let i : Image = record (image (with_frame c x)) { bytes = l } in i) bytes
     ∙ ap (λ (e : FrameAt). let i : Image = record (image (with_frame c x))
-        { bytes = map (λ (k : Holding). k.bytes) older ++ (h.bytes ++ frame_bytes x) ∷ []; frames = c.frames ++ e ∷ [] } in i) line
+    { bytes = map (λ (k : Holding). k.bytes) older ++ (h.bytes ++ frame_bytes x) ∷ []; frames = c.frames ++ e ∷ [] } in i) line
 
 pub put_counts : (c : Contents) (x : Frame) (older : List Holding) (h : Holding) → Puts c x older h → counted (with_frame c x) ≡ counted c ++ x ∷ []
 put_counts c x older h p = ap counted_in (image_put c x older h p)
@@ -211,7 +219,7 @@ put_sound c x older h p =
       torn = λ failed. (let no : true ≡ false = sym failed ∙ p.works in absurd cc);
       holds = subst IsImage (sym (image_put c x older h p))
           (sound_more (image c) (map (λ (k : Holding). k.bytes) older) h.bytes x (new_pages c x) p.follows.leaves (image_takes c x older h p) p.follows.links
-              p.follows.stands (new_table c x older h p) (sym size) few_pages);
+          p.follows.stands (new_table c x older h p) (sym size) few_pages);
     }
 
 -- ---- a frame torn, and a header
@@ -257,7 +265,15 @@ spare_contents c n = record c { spares = with_first (torn n (header_bytes (heade
 pub spare_sound : (c : Contents) (n : ℕ) → IsSound c → c.is_failed ≡ false → c.number + length c.live < 2 ^ 64
     → IsSound (spare_contents c n) × (counted (spare_contents c n) ≡ counted c)
 spare_sound c n s works small =
-    let few = s.few in
-    (record { few = omega (arith, length-with_first (torn n (header_bytes (header_of c))) c.spares); bounds = s.bounds;
-        rooms = roomy_first c.f (torn n (header_bytes (header_of c))) (λ k. refl) c.spares s.rooms; empty = λ works. absurd cc; torn =
-        λ _. first_torn (c.number + length c.live) c.m c.f n c.spares small (s.empty works); holds = sound_failed (image c) s.holds works }, refl)
+    let few = s.few in (
+      record {
+        few = omega (arith, length-with_first (torn n (header_bytes (header_of c))) c.spares);
+        bounds = s.bounds;
+        rooms = roomy_first c.f (torn n (header_bytes (header_of c))) (λ k. refl) c.spares s.rooms;
+        empty = λ works. absurd cc;
+        torn =
+            λ _. first_torn (c.number + length c.live) c.m c.f n c.spares small (s.empty works);
+        holds = sound_failed (image c) s.holds works;
+      },
+      refl,
+    )

@@ -5,7 +5,7 @@ use Rattle.std.proofs.Common.{arith, length-append}
 use Rattle.std.specs.List.{slice_get}
 use Rattle.std.proofs.lemmas.List.{set_at}
 use Rattle.bw_device.specs.Holding.{Holding, appended, IsTorn, torn_at}
-use Rattle.bw_log.specs.Changes.{ChangedAt}
+use Rattle.bw_device.specs.Boxes.{ChangedAt}
 use Rattle.std.specs.Prelude.{map, true, nat_lt, ◌^◌}
 use Rattle.std.specs.Option.{SomeIff}
 use Rattle.std.proofs.lemmas.Bool.{cond-true, cond-false, le-ltb, lt-ltb}
@@ -48,8 +48,12 @@ first_torn live (s ∷ ss) new piece lease c told =
     let after : c.after ≡ torn_at n s piece = c.steps.1 ∙ ap (λ (h : Holding). torn_at n h piece) (sym before) in
     let is : new ≡ torn_at n s piece ∷ ss = c.is ∙ ap (λ (h : Holding). h ∷ ss) after in
     let named : lease ≡ s.lease = subst (λ (hs : List Holding). IfSome (slice_get hs 0) (λ h. lease ≡ h.lease)) is told in
-    record { kept = n; is = is; rose = subst (λ (hs : List Holding). Rose lease (live ++ s ∷ ss) (live ++ hs)) (sym is)
-        (rose_at live ss s (torn_at n s piece) lease (sym named) refl) }
+    record {
+      kept = n;
+      is = is;
+      rose = subst (λ (hs : List Holding). Rose lease (live ++ s ∷ ss) (live ++ hs)) (sym is)
+          (rose_at live ss s (torn_at n s piece) lease (sym named) refl);
+    }
 
 -- the last live segment has a beginning of a piece
 pub record LastTorn (live spares new : List Holding) (piece : List ℕ) (lease : ℕ) : Type 0 where
@@ -63,7 +67,7 @@ last_changed : (step : Holding → Holding → Type 0) (live new older : List Ho
 last_changed step live new older h i split at c =
     let place : i ≡ length older = (let size = ap (λ (l : List Holding). length l) split in omega (arith, size, length-append older (h ∷ []))) in
     let there : slice_get live i ≡ Some h = ap (λ (l : List Holding). slice_get l i) split ∙ ap (λ (n : ℕ). slice_get (older ++ h ∷ []) n) place
-        ∙ get_at older h [] in
+    ∙ get_at older h [] in
     let before : h ≡ c.before = some_is (sym there ∙ c.was) in
     let is : new ≡ older ++ c.after ∷ [] = c.is ∙ ap (λ (l : List Holding). set l i c.after) split ∙ set_at older h [] c.after i (sym place) in
     (c.after, is, subst (λ (x : Holding). step x c.after) (sym before) c.steps)
@@ -74,7 +78,7 @@ last_appended live new piece i some at c =
     let e = ends live some in
     let l = last_changed (λ h k. k ≡ appended h piece) live new e.older e.newest i e.split at c in
     l.1 ∙ ap (λ (k : Holding). e.older ++ k ∷ []) l.2
-        ∙ sym (ap (with_last (λ h. appended h piece)) e.split ∙ with_last_at (λ h. appended h piece) e.older e.newest)
+    ∙ sym (ap (with_last (λ h. appended h piece)) e.split ∙ with_last_at (λ h. appended h piece) e.older e.newest)
 
 pub last_torn : (live spares new : List Holding) (piece : List ℕ) (lease i : ℕ) → 0 < length live → i ≡ length live - 1
     → ChangedAt (λ h k. IsTorn h piece k) i live new → IfSome (slice_get new i) (λ h. lease ≡ h.lease) → LastTorn live spares new piece lease
@@ -86,12 +90,12 @@ last_torn live spares new piece lease i some at c told =
     let is : new ≡ e.older ++ torn_one ∷ [] = l.1 ∙ ap (λ (k : Holding). e.older ++ k ∷ []) l.2.1 in
     let place : i ≡ length e.older = (let size = ap (λ (x : List Holding). length x) e.split in omega (arith, size, length-append e.older (e.newest ∷ []))) in
     let there : slice_get new i ≡ Some torn_one =
-        ap (λ (x : List Holding). slice_get x i) is ∙ ap (λ (k : ℕ). slice_get (e.older ++ torn_one ∷ []) k) place ∙ get_at e.older torn_one [] in
+    ap (λ (x : List Holding). slice_get x i) is ∙ ap (λ (k : ℕ). slice_get (e.older ++ torn_one ∷ []) k) place ∙ get_at e.older torn_one [] in
     let named : lease ≡ e.newest.lease = subst (λ (o : Option Holding). IfSome o (λ h. lease ≡ h.lease)) there told in
     let rose : Rose lease ((e.older ++ e.newest ∷ []) ++ spares) ((e.older ++ torn_one ∷ []) ++ spares) =
     subst (λ (x : List Holding). Rose lease x ((e.older ++ torn_one ∷ []) ++ spares)) (sym (append_assoc e.older (e.newest ∷ []) spares))
     (subst (λ (x : List Holding). Rose lease (e.older ++ e.newest ∷ spares) x) (sym (append_assoc e.older (torn_one ∷ []) spares))
-        (rose_at e.older spares e.newest torn_one lease (sym named) refl)) in
+    (rose_at e.older spares e.newest torn_one lease (sym named) refl)) in
     record {
       kept = n;
       is = is ∙ sym (ap (with_last (torn n piece)) e.split ∙ with_last_at (torn n piece) e.older e.newest);
@@ -130,13 +134,13 @@ pub header_is : {X : Type 0} (v : X → Holding) (old : Contents) (xs : List X) 
     → number ≡ old.number + count → cells ≡ header_bytes (record { number = number; m = old.m; f = old.f }) → cells ≡ header_bytes (header_of old)
 header_is v old xs number count cells live size at is =
     let same : number ≡ old.number + length old.live =
-        at ∙ ap (λ (n : ℕ). old.number + n) (size ∙ sym (length-map xs v) ∙ ap (λ (l : List Holding). length l) (sym live)) in
+    at ∙ ap (λ (n : ℕ). old.number + n) (size ∙ sym (length-map xs v) ∙ ap (λ (l : List Holding). length l) (sym live)) in
     is ∙ ap (λ (n : ℕ). header_bytes (record { number = n; m = old.m; f = old.f })) same
 
 pub begin_told : {X : Type 0} (v : X → Holding) (old : Contents) (xs : List X) (spares : List Holding) (number count : ℕ) (cells : List ℕ) (lease : ℕ)
     → old.live ≡ map v xs → count ≡ length xs → number ≡ old.number + count → cells ≡ header_bytes (record { number = number; m = old.m; f = old.f })
     → ChangedAt (λ h k. IsTorn h cells k) 0 old.spares spares → IfSome (slice_get spares 0) (λ h. lease ≡ h.lease)
-        → SpareTorn lease old (record old { spares = spares; is_failed = true })
+    → SpareTorn lease old (record old { spares = spares; is_failed = true })
 begin_told v old xs spares number count cells lease live size at is changed told =
     spare_told old spares cells lease (header_is v old xs number count cells live size at is) changed told
 
@@ -149,7 +153,7 @@ next_told n (Some y) iff = ap (λ (k : ℕ). Some k) iff.1 ∙ sym (cond-true (n
 pub put_done : (old : Contents) (live : List Holding) (x : Frame) (piece : List ℕ) (i at : ℕ) (next : Option ℕ) (frames : List FrameAt)
     (grown pages : List PageAt)
     → 0 < length old.live → i ≡ length old.live - 1 → piece ≡ frame_bytes x → ChangedAt (λ h k. k ≡ appended h piece) i old.live live
-        → IfSome (slice_get old.live i) (λ h. at ≡ length h.bytes)
+    → IfSome (slice_get old.live i) (λ h. at ≡ length h.bytes)
     → frames ≡ old.frames ++ (record { number = x.number; segment = old.number + i; at = at; len = length piece }) ∷ []
     → grown ≡ grown_to (top_page x.blocks) old.pages → pages ≡ noted_all x.number 0 x.blocks grown → next ≡ following x.number
     → FramePut old x (record old { live = live; next = next; frames = frames; pages = pages })
@@ -157,15 +161,15 @@ put_done old live x piece i at next frames grown pages some place is changed tol
     let e = ends old.live some in
     let spot : i ≡ length e.older = (let size = ap (λ (l : List Holding). length l) e.split in omega (arith, size, length-append e.older (e.newest ∷ []))) in
     let there : slice_get old.live i ≡ Some e.newest =
-        ap (λ (l : List Holding). slice_get l i) e.split ∙ ap (λ (n : ℕ). slice_get (e.older ++ e.newest ∷ []) n) spot ∙ get_at e.older e.newest [] in
+    ap (λ (l : List Holding). slice_get l i) e.split ∙ ap (λ (n : ℕ). slice_get (e.older ++ e.newest ∷ []) n) spot ∙ get_at e.older e.newest [] in
     let at_is : at ≡ length_of (last_of old.live) =
     subst (λ (o : Option Holding). IfSome o (λ h. at ≡ length h.bytes)) there told
-        ∙ sym (ap (λ (l : List Holding). length_of (last_of l)) e.split ∙ ap length_of (last_of_at e.older e.newest)) in
+    ∙ sym (ap (λ (l : List Holding). length_of (last_of l)) e.split ∙ ap length_of (last_of_at e.older e.newest)) in
     let line : ◌≡◌ {A = FrameAt} (record { number = x.number; segment = old.number + i; at = at; len = length piece })
-        (entry_of (old.number + (length old.live - 1)) (length_of (last_of old.live)) x) =
+    (entry_of (old.number + (length old.live - 1)) (length_of (last_of old.live)) x) =
     λ k. record { number = x.number; segment = old.number + place k; at = at_is k; len = length (is k) } in
     let live_is : live ≡ with_last (λ h. appended h (frame_bytes x)) old.live =
-        last_appended old.live live piece i some place changed ∙ ap (λ (b : List ℕ). with_last (λ h. appended h b) old.live) is in
+    last_appended old.live live piece i some place changed ∙ ap (λ (b : List ℕ). with_last (λ h. appended h b) old.live) is in
     let frames_all : frames ≡ (with_frame old x).frames = frames_is ∙ ap (λ (l : FrameAt). old.frames ++ l ∷ []) line in
     let pages_all : pages ≡ (with_frame old x).pages = pages_is ∙ ap (noted_all x.number 0 x.blocks) grown_is in
     record { is = λ k. record old { live = live_is k; next = next_is k; frames = frames_all k; pages = pages_all k } }

@@ -132,7 +132,7 @@ on_by {old} {p} {at} {newer} {frame} first place link on is number =
     let same : on.back ≡ place = (let e : Some on.back ≡ Some place = sym on.is ∙ sym is in cc) in
     let step : Step old p at newer frame (first_number (counted old)) on.back = record { from_first = on.from_first; older = on.older; walk = on.walk } in
     subst (λ (n : ℕ). Step old p at newer frame n place) (sym number)
-        (subst (λ (x : Place). Step old p at newer frame (first_number (counted old)) x) same step)
+    (subst (λ (x : Place). Step old p at newer frame (first_number (counted old)) x) same step)
 
 walks_on : {old now : Contents} {p at : ℕ} {newer : List Frame} {frame : Frame} (sets_in link_in : List Block) → Reads old now p at newer frame
     → sets_in ≡ frame.blocks → false ≡ list_any (sets p) sets_in → link_in ≡ frame.blocks
@@ -144,7 +144,7 @@ walks_on {old} {now} {p} {at} {newer} {frame} sets_in link_in r sets_same unset 
 pub step_is : (old now : Contents) (p at : ℕ) (newer : List Frame) (frame : Frame) (line : FrameAt) (sets_in link_in : List Block) (place : Place)
     → Reads old now p at newer frame → line ≡ get_or old.frames 0 line
     → sets_in ≡ frame.blocks → false ≡ list_any (sets p) sets_in → link_in ≡ frame.blocks → Some place ≡ first_back p link_in
-        → Step old p at newer frame line.number place
+    → Step old p at newer frame line.number place
 step_is old now p at newer frame line sets_in link_in place r is sets_same unset link_same link =
     on_by line.number place (first_back p link_in) (walks_on sets_in link_in r sets_same unset link_same) link (first_is old line r.1 (some_frames r.1 r.2) is)
 

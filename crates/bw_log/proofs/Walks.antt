@@ -108,18 +108,18 @@ pub record WalksOn (p : ℕ) (all : List Frame) (at : ℕ) (newer : List Frame) 
 goes_on_to : {p : ℕ} {all : List Frame} {at : ℕ} {newer : List Frame} (w : IsWalk p all at newer) (back : Place)
     → first_back p w.frame.blocks ≡ Some back → (place : Place)
     → place.frame ≡ back.frame → LastIn (touches p) (first_number all) w.before place → list_any (sets p) w.frame.blocks ≡ false
-        → WalksOn p all at newer w.frame (first_back p w.frame.blocks)
+    → WalksOn p all at newer w.frame (first_back p w.frame.blocks)
 goes_on_to {p} {all} {at} {newer} w back is place same last unset =
     let first = first_number all in
     let number = last.number in
     let index = w.index in
     let parts : w.before ≡ (last.before ++ last.frame ∷ []) ++ last.beyond = last.split ∙ sym (push_then last.before last.frame last.beyond) in
     let older : content p (blocks_of w.before) ≡ content p (blocks_of (last.before ++ last.frame ∷ [])) =
-        ap (λ (fs : List Frame). content p (blocks_of fs)) parts ∙ content_same p (last.before ++ last.frame ∷ []) last.beyond last.none in
+    ap (λ (fs : List Frame). content p (blocks_of fs)) parts ∙ content_same p (last.before ++ last.frame ∷ []) last.beyond last.none in
     let whole : fold (after p) (content p (blocks_of w.before)) w.frame.blocks ≡ Some w.leaf = sym (content_push p w.before w.frame) ∙ w.set in
     let there = some_leaf (content p (blocks_of w.before))
-        (λ none. none_some (fold (after p) (content p (blocks_of w.before)) w.frame.blocks) w.leaf
-        (ap (λ (o : Option Leaf). fold (after p) o w.frame.blocks) none ∙ none_fold p w.frame.blocks unset) whole) in
+    (λ none. none_some (fold (after p) (content p (blocks_of w.before)) w.frame.blocks) w.leaf
+    (ap (λ (o : Option Leaf). fold (after p) o w.frame.blocks) none ∙ none_fold p w.frame.blocks unset) whole) in
     record {
       back = back;
       is = is;
@@ -142,16 +142,16 @@ goes_on_to {p} {all} {at} {newer} w back is place same last unset =
 
 goes_on_by : {p : ℕ} {all : List Frame} {at : ℕ} {newer : List Frame} (w : IsWalk p all at newer) → AreLinked all → list_any (sets p) w.frame.blocks ≡ false
     → InFrames (touches p) (first_number all) None w.before (last_place (touches p) (all_placed w.before))
-        → WalksOn p all at newer w.frame (first_back p w.frame.blocks)
+    → WalksOn p all at newer w.frame (first_back p w.frame.blocks)
 goes_on_by {p} {all} {at} {newer} w linked unset (inl nowhere) =
     let none : content p (blocks_of (w.before ++ w.frame ∷ [])) ≡ None =
     content_push p w.before w.frame ∙ ap (λ (o : Option Leaf). fold (after p) o w.frame.blocks) (same_fold p None (blocks_of w.before) nowhere.0)
-        ∙ none_fold p w.frame.blocks unset in
+    ∙ none_fold p w.frame.blocks unset in
     absurd (none_some (content p (blocks_of (w.before ++ w.frame ∷ []))) w.leaf none w.set)
 goes_on_by {p} {all} {at} {newer} w linked unset (inr found) =
     let first = first_number all in
     let links : bad_link first [] (all_placed (w.before ++ w.frame ∷ w.beyond)) ≡ None =
-        ap (λ (l : List Frame). bad_link first [] (all_placed l)) (sym w.split) ∙ linked in
+    ap (λ (l : List Frame). bad_link first [] (all_placed l)) (sym w.split) ∙ linked in
     let link = frame_link p first w.frame.number 0 (all_placed w.before) w.frame.blocks (links_in first w.before w.frame w.beyond links) w.touched unset in
     let back = subst (λ (o : Option Place). is_back first o link.0 ≡ true) found.1 link.2 in
     let both = and_parts (found.0.frame == link.0.frame) (found.0.index == link.0.index) back in
@@ -184,7 +184,7 @@ starts_by p all leaf result set (inr found) =
     let number = last.number in
     let parts : all ≡ (last.before ++ last.frame ∷ []) ++ last.beyond = last.split ∙ sym (push_then last.before last.frame last.beyond) in
     let same : content p (blocks_of all) ≡ content p (blocks_of (last.before ++ last.frame ∷ [])) =
-        ap (λ (fs : List Frame). content p (blocks_of fs)) parts ∙ content_same p (last.before ++ last.frame ∷ []) last.beyond last.none in (
+    ap (λ (fs : List Frame). content p (blocks_of fs)) parts ∙ content_same p (last.before ++ last.frame ∷ []) last.beyond last.none in (
       found.0,
       found.1,
       omega arith,

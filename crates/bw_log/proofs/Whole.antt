@@ -14,8 +14,8 @@ use Rattle.bw_buffer.proofs.Holding.{few_blocks}
 use Rattle.bw_log.specs.Places.{AreLinked}
 use Rattle.bw_log.specs.Contents.{Contents, image, IsSound, counted, boxes, roster}
 use Rattle.bw_log.specs.Steps.{header_of, begun, last_of, with_last, with_first, has_room, wants_segment, roomy, spares_wanted, is_worn, is_spent, refusal}
-use Rattle.bw_log.specs.Steps.{torn, MayFollow, LeftBehind, Appended, Stopped, Rose, IsSameLog, OnDevice}
-use Rattle.std.specs.Prelude.{Result, Ok, Err, OnOk, MatchResult}
+use Rattle.bw_log.specs.Steps.{torn, MayFollow, LeftBehind, Appended, Stopped, Rose, IsSameLog, Answers, Checks, OnDevice, AfterAppend}
+use Rattle.std.specs.Prelude.{Result, Ok, Err, MatchResult}
 use Rattle.bw_codec.proofs.Heading.{length-header}
 use Rattle.bw_log.specs.Segments.{AreLive, frames_of}
 use Rattle.bw_log.specs.Noting.{HaveLines, grown_to, top_page}
@@ -48,15 +48,15 @@ pub record Granted (c : Contents) (len : ℕ) (care : Bool) : Type 0 where
 pub granted : (c : Contents) (len : ℕ) (care : Bool) → refusal c len care ≡ None → Granted c len care
 granted c len care e =
     let works = let_through c.is_failed Failed
-        (if wants_segment c len && nat_lt (length c.spares) (spares_wanted care) then Some NoSegment else if is_spent c len then Some Spent else None) e in
+    (if wants_segment c len && nat_lt (length c.spares) (spares_wanted care) then Some NoSegment else if is_spent c len then Some Spent else None) e in
     let some = let_through (wants_segment c len && nat_lt (length c.spares) (spares_wanted care)) NoSegment
-        (if is_spent c len then Some Spent else None) works.1 in
+    (if is_spent c len then Some Spent else None) works.1 in
     let fresh = let_through (is_spent c len) Spent None some.1 in
     let wanted : (care : Bool) → 1 ≤ spares_wanted care = λ k. elim k as (λ b. 1 ≤ spares_wanted b) [ true ↦ omega arith | false ↦ omega arith ] in
     let counts = or_parts (is_none c.next) (if wants_segment c len then nat_le (2 ^ 64) (c.number + length c.live) || is_worn (slice_get c.spares 0) else
-        is_worn (last_of c.live)) fresh.0 in
+    is_worn (last_of c.live)) fresh.0 in
     let spent_if : wants_segment c len ≡ true → (nat_le (2 ^ 64) (c.number + length c.live) || is_worn (slice_get c.spares 0)) ≡ false =
-        λ w. rw w at counts.1 in
+    λ w. rw w at counts.1 in
     record {
       works = works.0;
       spares = λ w. (let few : nat_lt (length c.spares) (spares_wanted care) ≡ false = rw w at some.0
@@ -71,13 +71,13 @@ granted c len care e =
 pub refusals : (c : Contents) (len lease : ℕ) (care : Bool) → refusal c len care ≡ Some (Device lease) → ⊥
 refusals c len lease care e =
     elim c.is_failed as (λ t. (if t then Some Failed else if wants_segment c len && nat_lt (length c.spares) (spares_wanted care) then Some NoSegment else if
-        is_spent c len then Some Spent else None) ≡ Some (Device lease) → ⊥) [
+    is_spent c len then Some Spent else None) ≡ Some (Device lease) → ⊥) [
       | true ↦ λ h. cc
       | false ↦ λ h. elim (wants_segment c len && nat_lt (length c.spares) (spares_wanted care)) as
           (λ t. (if t then Some NoSegment else if is_spent c len then Some Spent else None) ≡ Some (Device lease) → ⊥) [
-        | true ↦ λ k. cc
-        | false ↦ λ k. elim (is_spent c len) as (λ t. (if t then Some Spent else None) ≡ Some (Device lease) → ⊥) [ true ↦ λ j. cc | false ↦ λ j. cc ] k
-      ] h
+            | true ↦ λ k. cc
+            | false ↦ λ k. elim (is_spent c len) as (λ t. (if t then Some Spent else None) ≡ Some (Device lease) → ⊥) [ true ↦ λ j. cc | false ↦ λ j. cc ] k
+          ] h
     ] e
 
 -- ---- the two ways
@@ -85,6 +85,7 @@ refusals c len lease care e =
 pub record Starts (c : Contents) (x : Frame) (care : Bool) : Type 0 where
   pub sound : IsSound c
   pub follows : MayFollow c x
+  pub none : refusal c (length (frame_bytes x)) care ≡ None
   pub grants : Granted c (length (frame_bytes x)) care
 
 -- the first spare, and the others
@@ -118,7 +119,7 @@ pub begin_countable : (c : Contents) (s : Holding) (ss : List Holding) → Begin
     → IfSome (slice_get c.spares 0) (λ h. h.failed < 2 ^ 64 - 1)
 begin_countable c s ss b fresh =
     subst (λ (l : List Holding). IfSome (slice_get l 0) (λ h. h.failed < 2 ^ 64 - 1)) (sym b.first)
-        (not_worn s (subst (λ (l : List Holding). is_worn (slice_get l 0) ≡ false) b.first fresh))
+    (not_worn s (subst (λ (l : List Holding). is_worn (slice_get l 0) ≡ false) b.first fresh))
 
 -- the same frame may follow once a segment was begun
 follows_begun : (c : Contents) (x : Frame) (s : Holding) (ss : List Holding) → Begins c s ss → MayFollow c x → MayFollow (begun c) x
@@ -232,9 +233,13 @@ ended_put : (c d : Contents) (x : Frame) (older : List Holding) (h : Holding) �
     → roster d ≡ roster c → Ended c x (with_frame d x)
 ended_put c d x older h p m f number leases = record {
   sound = put_sound d x older h p;
-  same = record { m = m; f = f; number = number;
-      leases = both_fields (λ (h : Holding). h.lease) d.live d.spares (with_last (λ (k : Holding). appended k (frame_bytes x)) d.live) d.spares
-      (field_last (λ (h : Holding). h.lease) (λ (k : Holding). appended k (frame_bytes x)) (keeps_appended (frame_bytes x)) d.live) refl ∙ leases };
+  same = record {
+    m = m;
+    f = f;
+    number = number;
+    leases = both_fields (λ (h : Holding). h.lease) d.live d.spares (with_last (λ (k : Holding). appended k (frame_bytes x)) d.live) d.spares
+        (field_last (λ (h : Holding). h.lease) (λ (k : Holding). appended k (frame_bytes x)) (keeps_appended (frame_bytes x)) d.live) refl ∙ leases;
+  };
 }
 
 pub ok_here : (c : Contents) (x : Frame) (care : Bool) (new : Contents) → Starts c x care → wants_segment c (length (frame_bytes x)) ≡ false
@@ -286,17 +291,24 @@ torn_here lease c x care new st w t =
     record {
       ended = record {
         sound = subst IsSound (sym t.is) sound.0;
-        same = subst (IsSameLog c) (sym t.is) (record
-            { m = refl; f = refl; number = refl; leases = both_fields (λ (h : Holding). h.lease) c.live c.spares
-            (with_last (torn t.kept (frame_bytes x)) c.live) c.spares
-            (field_last (λ (h : Holding). h.lease) (torn t.kept (frame_bytes x)) (λ k. refl) c.live) refl });
+        same = subst (IsSameLog c) (sym t.is) (record {
+          m = refl;
+          f = refl;
+          number = refl;
+          leases = both_fields (λ (h : Holding). h.lease) c.live c.spares
+              (with_last (torn t.kept (frame_bytes x)) c.live) c.spares
+              (field_last (λ (h : Holding). h.lease) (torn t.kept (frame_bytes x)) (λ k. refl) c.live) refl;
+        });
       };
       rose = t.rose;
       stopped = record {
         kept = t.kept;
-        where_it_stands = inr (ap (λ (e : Contents). e.live) t.is
-            ∙ ap (λ (d : Contents). with_last (torn t.kept (frame_bytes x)) d.live) room, ap (λ (e : Contents). e.spares) t.is
-            ∙ ap (λ (d : Contents). d.spares) room);
+        where_it_stands = inr (
+          ap (λ (e : Contents). e.live) t.is
+              ∙ ap (λ (d : Contents). with_last (torn t.kept (frame_bytes x)) d.live) room,
+          ap (λ (e : Contents). e.spares) t.is
+              ∙ ap (λ (d : Contents). d.spares) room,
+        );
         frames = ap counted t.is ∙ sound.1;
         left = subst (LeftBehind c x) (sym t.is) sound.2;
         failed = ap (λ (e : Contents). e.is_failed) t.is;
@@ -326,9 +338,12 @@ torn_begun lease c x care new st w t =
       rose = rose_begun c b.0 b.1 lease (boxes new) b.2 t.rose;
       stopped = record {
         kept = t.kept;
-        where_it_stands = inr (ap (λ (e : Contents). e.live) t.is
-            ∙ ap (λ (e : Contents). with_last (torn t.kept (frame_bytes x)) e.live) room, ap (λ (e : Contents). e.spares) t.is
-            ∙ ap (λ (e : Contents). e.spares) room);
+        where_it_stands = inr (
+          ap (λ (e : Contents). e.live) t.is
+              ∙ ap (λ (e : Contents). with_last (torn t.kept (frame_bytes x)) e.live) room,
+          ap (λ (e : Contents). e.spares) t.is
+              ∙ ap (λ (e : Contents). e.spares) room,
+        );
         frames = ap counted t.is ∙ sound.1 ∙ begun_counts c b.0 b.1 b.2;
         left = subst (LeftBehind c x) (sym t.is) (subst
             (λ (fs : List Frame). (frames_of (image (torn_contents d x t.kept)).bytes ≡ fs)
@@ -344,10 +359,14 @@ torn_spare lease c x care new st w t =
     record {
       ended = record {
         sound = subst IsSound (sym t.is) sound.0;
-        same = subst (IsSameLog c) (sym t.is) (record
-            { m = refl; f = refl; number = refl; leases = both_fields (λ (h : Holding). h.lease) c.live c.spares c.live
-            (with_first (torn t.kept (header_bytes (header_of c))) c.spares) refl
-            (field_first (λ (h : Holding). h.lease) (torn t.kept (header_bytes (header_of c))) (λ k. refl) c.spares) });
+        same = subst (IsSameLog c) (sym t.is) (record {
+          m = refl;
+          f = refl;
+          number = refl;
+          leases = both_fields (λ (h : Holding). h.lease) c.live c.spares c.live
+              (with_first (torn t.kept (header_bytes (header_of c))) c.spares) refl
+              (field_first (λ (h : Holding). h.lease) (torn t.kept (header_bytes (header_of c))) (λ k. refl) c.spares);
+        });
       };
       rose = t.rose;
       stopped = record {
@@ -369,10 +388,12 @@ pub puts_roomy : (c : Contents) (x : Frame) (care : Bool) → Starts c x care
 puts_roomy c x care st =
     elim (cases_Bool (wants_segment c (length (frame_bytes x)))) [
       | inl w ↦ (
-          let b = begins c x care st w in
-          (c.live, appended b.0 (header_bytes (header_of c)),
-              subst (λ (d : Contents). Puts d x c.live (appended b.0 (header_bytes (header_of c)))) (sym (roomy_begun c (length (frame_bytes x)) w))
-              (puts_begun c x b.0 b.1 b.2 st.follows)))
+          let b = begins c x care st w in (
+            c.live,
+            appended b.0 (header_bytes (header_of c)),
+            subst (λ (d : Contents). Puts d x c.live (appended b.0 (header_bytes (header_of c)))) (sym (roomy_begun c (length (frame_bytes x)) w))
+                (puts_begun c x b.0 b.1 b.2 st.follows),
+          ))
       | inr w ↦ (
           let p = puts_here c x care st w in
           (p.0, p.1, subst (λ (d : Contents). Puts d x p.0 p.1) (sym (roomy_here c (length (frame_bytes x)) w)) p.2))
@@ -401,7 +422,7 @@ takes_here c x care st w =
     let p = puts_here c x care st w in
     let last : last_of c.live ≡ Some p.1 = ap last_of p.2.last ∙ last_of_at p.0 p.1 in
     let room : has_room (length (frame_bytes x)) (Some p.1) ≡ true =
-        ap (has_room (length (frame_bytes x))) (sym last) ∙ (open_with_room c (length (frame_bytes x)) w).1 in
+    ap (has_room (length (frame_bytes x))) (sym last) ∙ (open_with_room c (length (frame_bytes x)) w).1 in
     let fresh : is_worn (Some p.1) ≡ false = ap is_worn (sym last) ∙ st.grants.last w in
     let bytes = map (λ (h : Holding). h.bytes) c.live in
     let size = length-map c.live (λ (h : Holding). h.bytes) in
@@ -423,9 +444,9 @@ takes_begun c x care st w =
     let fresh = not_worn s (subst (λ (l : List Holding). is_worn (slice_get l 0) ≡ false) b.2.first (st.grants.first w)) in
     let number = st.grants.number w in
     let fits : length t.bytes + length (frame_bytes x) ≤ t.room =
-        omega (arith, length-header (header_of c), length-append s.bytes (header_bytes (header_of c)), length-frame x) in
+    omega (arith, length-header (header_of c), length-append s.bytes (header_bytes (header_of c)), length-frame x) in
     subst (λ (e : Contents). Takes e (length (frame_bytes x))) (sym (begun_is c s b.1 b.2))
-        (takes_of d (length (frame_bytes x)) c.live t refl fits fresh (omega (arith, length-append c.live (t ∷ []))))
+    (takes_of d (length (frame_bytes x)) c.live t refl fits fresh (omega (arith, length-append c.live (t ∷ []))))
 
 pub takes_roomy : (c : Contents) (x : Frame) (care : Bool) → Starts c x care → Takes (roomy c (length (frame_bytes x))) (length (frame_bytes x))
 takes_roomy c x care st =
@@ -453,11 +474,10 @@ tables_of d x older h p =
 
 -- ---- all ends at once
 
-pub record AllEnds (c : Contents) (x : Frame) (new : Contents) (r : Result (Unit {0}) LogFault) : Type 0 where
-  pub sound : IsSound new
-  pub added : OnOk r (Appended c x new)
-  pub log : IsSameLog c new
-  pub device : OnDevice r (λ lease. Rose lease (boxes c) (boxes new) × Stopped c x new) (new ≡ c)
+-- where nothing was to be refused, these answers are lawful
+unrefused : (c : Contents) (x : Frame) (care : Bool) (r : Result (Unit {0}) LogFault) → Starts c x care → Answers None r
+    → Answers (refusal c (length (frame_bytes x)) care) r
+unrefused c x care r st told = subst (λ (o : Option LogFault). Answers o r) (sym st.none) told
 
 put_ok : (c : Contents) (x : Frame) (care : Bool) (new : Contents) → Starts c x care → FramePut (roomy c (length (frame_bytes x))) x new → EndedOk c x new
 put_ok c x care new st put =
@@ -474,34 +494,41 @@ put_torn lease c x care new st torn =
       | inr w ↦ torn_here lease c x care new st w (subst (λ (d : Contents). FrameTorn lease d x new) (roomy_here c (length (frame_bytes x)) w) torn)
     ]
 
-bad_ends : (lease : ℕ) (c : Contents) (x : Frame) (new : Contents) → EndedBadly lease c x new → AllEnds c x new (Err (Device lease))
-bad_ends lease c x new e = record { sound = e.ended.sound; added = tt; log = e.ended.same; device = (e.rose, e.stopped) }
+bad_ends : (lease : ℕ) (c : Contents) (x : Frame) (care : Bool) (new : Contents) → Starts c x care → EndedBadly lease c x new
+    → AfterAppend c x care (Err (Device lease)) new
+bad_ends lease c x care new st e = record {
+  sound = e.ended.sound;
+  added = tt;
+  log = e.ended.same;
+  answers = unrefused c x care (Err (Device lease)) st tt;
+  device = (e.rose, e.stopped);
+}
 
 pub put_ends : (c d : Contents) (x : Frame) (care : Bool) (new : Contents) (r : Result (Unit {0}) LogFault) → Starts c x care
     → d ≡ roomy c (length (frame_bytes x))
-    → MatchResult r (λ _. FramePut d x new) (λ fault. OfDevice fault (λ lease. FrameTorn lease d x new)) → AllEnds c x new r
+    → MatchResult r (λ _. FramePut d x new) (λ fault. OfDevice fault (λ lease. FrameTorn lease d x new)) → AfterAppend c x care r new
 put_ends c d x care new (Ok u) st same end =
     let e = put_ok c x care new st (subst (λ (k : Contents). FramePut k x new) same end) in
-    record { sound = e.ended.sound; added = e.appended; log = e.ended.same; device = tt }
+    record { sound = e.ended.sound; added = e.appended; log = e.ended.same; answers = unrefused c x care (Ok u) st tt; device = tt }
 put_ends c d x care new (Err NoMemory) st same end = absurd end
 put_ends c d x care new (Err BadConfig) st same end = absurd end
 put_ends c d x care new (Err NoSegment) st same end = absurd end
 put_ends c d x care new (Err (Device lease)) st same end =
-    bad_ends lease c x new (put_torn lease c x care new st (subst (λ (k : Contents). FrameTorn lease k x new) same end))
+    bad_ends lease c x care new st (put_torn lease c x care new st (subst (λ (k : Contents). FrameTorn lease k x new) same end))
 put_ends c d x care new (Err Failed) st same end = absurd end
 put_ends c d x care new (Err Spent) st same end = absurd end
 put_ends c d x care new (Err NoPage) st same end = absurd end
 
 -- a header that could not be appended
 pub begin_ends : (c d : Contents) (x : Frame) (care : Bool) (new : Contents) (fault : LogFault) → Starts c x care → d ≡ c
-    → OfDevice fault (λ lease. (wants_segment d (length (frame_bytes x)) ≡ true) × SpareTorn lease d new) → AllEnds c x new (Err fault)
+    → OfDevice fault (λ lease. (wants_segment d (length (frame_bytes x)) ≡ true) × SpareTorn lease d new) → AfterAppend c x care (Err fault) new
 begin_ends c d x care new NoMemory st same end = absurd end
 begin_ends c d x care new BadConfig st same end = absurd end
 begin_ends c d x care new NoSegment st same end = absurd end
 begin_ends c d x care new (Device lease) st same end =
     let here : (wants_segment c (length (frame_bytes x)) ≡ true) × SpareTorn lease c new =
-        subst (λ (k : Contents). (wants_segment k (length (frame_bytes x)) ≡ true) × SpareTorn lease k new) same end in
-    bad_ends lease c x new (torn_spare lease c x care new st here.0 here.1)
+    subst (λ (k : Contents). (wants_segment k (length (frame_bytes x)) ≡ true) × SpareTorn lease k new) same end in
+    bad_ends lease c x care new st (torn_spare lease c x care new st here.0 here.1)
 begin_ends c d x care new Failed st same end = absurd end
 begin_ends c d x care new Spent st same end = absurd end
 begin_ends c d x care new NoPage st same end = absurd end
@@ -510,21 +537,23 @@ begin_ends c d x care new NoPage st same end = absurd end
 
 pub starts_of : (old now : Contents) (x : Frame) (care : Bool) (len : ℕ) → IsSound old → MayFollow old x → now ≡ old → len ≡ length (frame_bytes x)
     → refusal now len care ≡ None → Starts old x care
-starts_of old now x care len sound follows same size none = record {
-  sound = sound;
-  follows = follows;
-  grants = granted old (length (frame_bytes x)) care
-      (subst (λ (c : Contents). refusal c (length (frame_bytes x)) care ≡ None) same (subst (λ (n : ℕ). refusal now n care ≡ None) size none));
-}
+starts_of old now x care len sound follows same size none =
+    let here : refusal old (length (frame_bytes x)) care ≡ None =
+    subst (λ (c : Contents). refusal c (length (frame_bytes x)) care ≡ None) same (subst (λ (n : ℕ). refusal now n care ≡ None) size none) in
+    record { sound = sound; follows = follows; none = here; grants = granted old (length (frame_bytes x)) care here }
 
 pub beginnable_of : (old now : Contents) (x : Frame) (care : Bool) (len : ℕ) → Starts old x care → now ≡ old → len ≡ length (frame_bytes x)
     → wants_segment now len ≡ true → Beginnable now
 beginnable_of old now x care len st same size wants =
     let w : wants_segment old (length (frame_bytes x)) ≡ true =
-        subst (λ (c : Contents). wants_segment c (length (frame_bytes x)) ≡ true) same (subst (λ (n : ℕ). wants_segment now n ≡ true) size wants) in
+    subst (λ (c : Contents). wants_segment c (length (frame_bytes x)) ≡ true) same (subst (λ (n : ℕ). wants_segment now n ≡ true) size wants) in
     let b = begins old x care st w in
-    let there : Beginnable old = record { some = st.grants.spares w; fits = begin_fits old b.0 b.1 b.2;
-        countable = begin_countable old b.0 b.1 b.2 (st.grants.first w); number = st.grants.number w } in
+    let there : Beginnable old = record {
+      some = st.grants.spares w;
+      fits = begin_fits old b.0 b.1 b.2;
+      countable = begin_countable old b.0 b.1 b.2 (st.grants.first w);
+      number = st.grants.number w;
+    } in
     subst Beginnable (sym same) there
 
 pub roomy_of : (old now d : Contents) (x : Frame) (len : ℕ) → now ≡ old → len ≡ length (frame_bytes x) → d ≡ roomy now len
@@ -540,15 +569,17 @@ room_made old now d x care len sound follows same size none is =
 pub takes_there : {X : Type 0} (v : X → Holding) (xs : List X) (old d : Contents) (x : Frame) (care : Bool) → Starts old x care
     → d ≡ roomy old (length (frame_bytes x)) → d.live ≡ map v xs
     → IfSome (slice_get (map v xs) (length xs - 1)) (λ h. length h.bytes + length (frame_bytes x) ≤ h.room)
-        × IfSome (slice_get (map v xs) (length xs - 1)) (λ h. h.failed < 2 ^ 64 - 1) × (d.number + length xs ≤ 2 ^ 64)
+    × IfSome (slice_get (map v xs) (length xs - 1)) (λ h. h.failed < 2 ^ 64 - 1) × (d.number + length xs ≤ 2 ^ 64)
 takes_there v xs old d x care st is live =
     let t = subst (λ (c : Contents). Takes c (length (frame_bytes x))) (sym is) (takes_roomy old x care st) in
     let size : length d.live ≡ length xs = ap (λ (l : List Holding). length l) live ∙ length-map xs v in
     let at : slice_get d.live (length d.live - 1) ≡ slice_get (map v xs) (length xs - 1) =
-        ap (λ (l : List Holding). slice_get l (length d.live - 1)) live ∙ ap (λ (n : ℕ). slice_get (map v xs) (n - 1)) size in
-    let number = t.number in
-    (subst (λ (o : Option Holding). IfSome o (λ h. length h.bytes + length (frame_bytes x) ≤ h.room)) at t.fits,
-        subst (λ (o : Option Holding). IfSome o (λ h. h.failed < 2 ^ 64 - 1)) at t.countable, omega arith)
+    ap (λ (l : List Holding). slice_get l (length d.live - 1)) live ∙ ap (λ (n : ℕ). slice_get (map v xs) (n - 1)) size in
+    let number = t.number in (
+      subst (λ (o : Option Holding). IfSome o (λ h. length h.bytes + length (frame_bytes x) ≤ h.room)) at t.fits,
+      subst (λ (o : Option Holding). IfSome o (λ h. h.failed < 2 ^ 64 - 1)) at t.countable,
+      omega arith,
+    )
 
 pub tables_there : (old d : Contents) (x : Frame) (care : Bool) → Starts old x care → d ≡ roomy old (length (frame_bytes x)) → Tables d.pages x
 tables_there old d x care st is =
@@ -556,6 +587,37 @@ tables_there old d x care st is =
     subst (λ (c : Contents). Tables c.pages x) (sym is) (tables_of (roomy old (length (frame_bytes x))) x p.0 p.1 p.2)
 
 pub begin_ends_at : (old now : Contents) (x : Frame) (care : Bool) (new : Contents) (fault : LogFault) (len : ℕ) → Starts old x care → now ≡ old
-    → len ≡ length (frame_bytes x) → OfDevice fault (λ lease. (wants_segment now len ≡ true) × SpareTorn lease now new) → AllEnds old x new (Err fault)
+    → len ≡ length (frame_bytes x) → OfDevice fault (λ lease. (wants_segment now len ≡ true) × SpareTorn lease now new) → AfterAppend old x care (Err fault) new
 begin_ends_at old now x care new fault len st same size end =
     begin_ends old now x care new fault st same (subst (λ (n : ℕ). OfDevice fault (λ lease. (wants_segment now n ≡ true) × SpareTorn lease now new)) size end)
+
+-- ---- a refusal before the device is asked
+
+-- the log is what it was, whatever the fault
+unasked : (o : Option LogFault) (P : ℕ → Type 0) (Q : Type 0) (fault : LogFault) → ((lease : ℕ) → o ≡ Some (Device lease) → ⊥) → Checks o (Err fault) → Q
+    → OnDevice {A = Unit {0}} (Err fault) P Q
+unasked o P Q NoMemory never told q = q
+unasked o P Q BadConfig never told q = q
+unasked o P Q NoSegment never told q = q
+unasked None P Q (Device lease) never told q = elim told [ inl e ↦ absurd cc | inr e ↦ absurd cc ]
+unasked (Some fault) P Q (Device lease) never told q = let e : Device lease ≡ fault = cc in absurd (never lease (ap (λ (x : LogFault). Some x) (sym e)))
+unasked o P Q Failed never told q = q
+unasked o P Q Spent never told q = q
+unasked o P Q NoPage never told q = q
+
+told_of : (o : Option LogFault) (fault : LogFault) → Checks o (Err fault) → Answers o (Err fault)
+told_of (Some first) fault told = told
+told_of None fault told = elim told [ inl e ↦ absurd cc | inr e ↦ subst (λ (r : Result (Unit {0}) LogFault). Answers None r) (sym e) tt ]
+
+pub refused_ends : (old now : Contents) (x : Frame) (care : Bool) (fault : LogFault) (len : ℕ) → IsSound now → now ≡ old → len ≡ length (frame_bytes x)
+    → Checks (refusal old len care) (Err fault) → AfterAppend old x care (Err fault) now
+refused_ends old now x care fault len sound same size checks =
+    let told = subst (λ (n : ℕ). Checks (refusal old n care) (Err fault)) size checks in
+    record {
+      sound = sound;
+      added = tt;
+      log = subst (IsSameLog old) (sym same) (record { m = refl; f = refl; number = refl; leases = refl });
+      answers = told_of (refusal old (length (frame_bytes x)) care) fault told;
+      device = unasked (refusal old (length (frame_bytes x)) care) (λ lease. Rose lease (boxes old) (boxes now) × Stopped old x now) (now ≡ old) fault
+          (λ lease. refusals old (length (frame_bytes x)) lease care) told same;
+    }

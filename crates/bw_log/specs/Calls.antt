@@ -98,6 +98,7 @@ pub record FailedRead (reads : ℕ → Type 0) (lease : ℕ) (old new : Contents
 -- what no read changes
 pub record IsKept (old new : Contents) : Type 0 where
   pub same : image new ≡ image old
+  pub counts : counted new ≡ counted old
   pub spares : new.spares ≡ old.spares
   pub leases : roster new ≡ roster old
   pub rooms : map (λ h. h.room) new.live ≡ map (λ h. h.room) old.live

@@ -8,6 +8,7 @@ use Rattle.bw_codec.specs.declared.leaf.Leaf.{Leaf}
 use Rattle.bw_codec.specs.declared.block.Place.{Place}
 use Rattle.bw_codec.specs.declared.block.Frame.{Frame}
 use Rattle.bw_page.specs.Standing.{Stand}
+use Rattle.bw_device.specs.Boxes.{HasRoomOf, IsSpareOf}
 use Rattle.bw_device.specs.Holding.{Holding}
 use Rattle.bw_device.specs.declared.memory.TheConstants.{MAX_CAPACITY}
 use Rattle.bw_log.specs.Places.{place_of, base_of, first_number, AreLinked}
@@ -109,11 +110,11 @@ IsBounded h = h.room ≤ MAX_CAPACITY
 
 -- room for a header and one frame at least, and no more than a box may have
 abbrev pub IsRoomy : ℕ → Holding → Type 0
-IsRoomy f h = (24 + f ≤ h.room) × (h.room ≤ MAX_CAPACITY)
+IsRoomy f h = HasRoomOf (24 + f) h
 
 -- an empty box with such room
 abbrev pub IsSpare : ℕ → Holding → Type 0
-IsSpare f h = (h.bytes ≡ []) × IsRoomy f h
+IsSpare f h = IsSpareOf (24 + f) h
 
 -- ---- what a failed append may have left
 
@@ -143,28 +144,46 @@ AreTorn number m f (s ∷ ss) = HasBeginning number m f s × AllByRecursion (IsS
 
 -- ---- what every log keeps between calls
 
+-- of its image
 pub record IsImage (i : Image) : Type 0 where
+  -- 1. the limits are those that a log may have
   pub limits : (4 ≤ i.m) × (i.m ≤ 32) × (16384 ≤ i.f) × (i.f ≤ 65536)
-  -- bytes
+  -- 2. segments are numbered from 1
   pub numbers : 1 ≤ i.number
+  -- 3. each live segment is a header with its number, whole frames and a tail, and the numbers follow one another
   pub live : AreLive i.m i.f i.number i.bytes
+  -- 4. a newest segment that takes frames has no tail
   pub ends : i.is_open ≡ true → i.is_failed ≡ false → IsCleanLast i.m i.f i.number i.bytes
-  -- frames
+  -- 5. unless an append failed, all whole frames count
   pub every : i.is_failed ≡ false → counted_in i ≡ frames_of i.bytes
+  -- 6. if one failed, all whole frames count, or all but a last one that could have followed
   pub left : i.is_failed ≡ true → IsLeft i
+  -- 7. the counted frames are numbered one after the other
   pub numbered : AreFrom (first_number (counted_in i)) (counted_in i)
+  -- 8. the next frame's number is the one after the last of them, or 1
   pub follows : i.next ≡ next_of (counted_in i)
+  -- 9. the lines of the frames say where each counted one stands, and how long it is
   pub listed : i.frames ≡ counted_at i
-  -- pages
+  -- 10. pages have numbers of 32 bits
   pub count : length i.pages < 2 ^ 32
+  -- 11. each link back leads to the last earlier block of its page, or before the first counted frame
   pub linked : AreLinked (counted_in i)
+  -- 12. the counted frames are the lawful leaves of so many pages
   pub stands : IsStanding i.m (counted_in i) (length i.pages)
+  -- 13. the lines of the pages say where each page's last touching and last setting block stand
   pub table : IsTable i.pages (counted_in i)
 
+-- of the boxes, beside the image
 pub record IsSound (c : Contents) : Type 0 where
+  -- 14. there are 4,096 boxes at most
   pub few : length c.live + length c.spares ≤ 4096
+  -- 15. no live segment has more room than a box may have; it may have room for its bytes alone
   pub bounds : AllByRecursion IsBounded c.live
+  -- 16. each spare has room for a header and a frame
   pub rooms : AllByRecursion (IsRoomy c.f) c.spares
+  -- 17. unless an append failed, each spare is empty
   pub empty : c.is_failed ≡ false → AllByRecursion (IsSpare c.f) c.spares
+  -- 18. if one failed, the first spare is empty or has a beginning of the next segment's header, and the others are empty
   pub torn : c.is_failed ≡ true → AreTorn (c.number + length c.live) c.m c.f c.spares
+  -- 19. what the image keeps
   pub holds : IsImage (image c)

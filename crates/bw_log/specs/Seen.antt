@@ -30,8 +30,8 @@ module _ {I : Type 0} {H : I → Type 0} where
   IsSound v l = contents.IsSound (seen_by v l)
 
   -- nothing but the device can refuse a frame of this length
-  pub record IsReady (v : DynBox I Global H → Holding) (l : Log I H) (len : ℕ) (care : Bool) : Type 0 where
-    pub granted : refusal (seen_by v l) len care ≡ None
+  pub record IsReady (v : DynBox I Global H → Holding) (l : Log I H) (len : ℕ) (takes_last : Bool) : Type 0 where
+    pub granted : refusal (seen_by v l) len takes_last ≡ None
     pub live : vec_len l.live + 1 ≤ vec_capacity l.live
     pub frames : vec_len l.frames + 1 ≤ vec_capacity l.frames
     pub pages : vec_len l.pages + len / 8 ≤ vec_capacity l.pages

@@ -1,6 +1,6 @@
 -- What an append does, and when it is refused.
 
-use Rattle.std.specs.Prelude.{ℕ, ◌+◌, ◌-◌, ◌^◌, ◌≡◌, ◌⊎◌, ◌&&◌, ◌||◌, not, nat_lt, nat_le, Bool, true, false, if◌then◌else◌, IsTrue, is_none, Option, Some}
+use Rattle.std.specs.Prelude.{ℕ, ◌+◌, ◌-◌, ◌^◌, ◌≡◌, ◌⊎◌, ◌&&◌, ◌||◌, not, nat_lt, nat_le, Bool, true, false, if◌then◌else◌, IsTrue, OnOk, is_none, Option, Some}
 use Rattle.std.specs.Prelude.{None, Result, Ok, Err, List, [], ◌∷◌, ◌++◌, length, slice_get}
 use Rattle.bw_codec.specs.Grammar.{frame_bytes, header_bytes, IsFrame}
 use Rattle.bw_codec.specs.declared.leaf.Leaf.{Leaf}
@@ -10,7 +10,7 @@ use Rattle.bw_page.specs.Standing.{Stand}
 use Rattle.bw_device.specs.Holding.{Holding, appended, torn_at}
 use Rattle.bw_log.specs.Places.{AreLinked}
 use Rattle.bw_log.specs.Segments.{following, frames_of}
-use Rattle.bw_log.specs.Contents.{Contents, image, roster, counted}
+use Rattle.bw_log.specs.Contents.{Contents, image, boxes, roster, counted, IsSound}
 use Rattle.bw_log.specs.declared.fault.LogFault.{LogFault}
 use Rattle.bw_log.specs.declared.fault.LogFault.TheVariants.{NoMemory, BadConfig, NoSegment, Device, Failed, Spent, NoPage}
 
@@ -54,7 +54,7 @@ roomy c len = if wants_segment c len then begun c else c
 
 -- ---- refusals, in their order
 
--- how many spares have to stand where a segment is begun: the cleaner may take the last
+-- how many spares have to stand where a segment is begun, by whether the last one may be taken
 abbrev pub spares_wanted : Bool → ℕ
 spares_wanted false = 2
 spares_wanted true = 1
@@ -72,9 +72,9 @@ is_spent c len =
     else is_worn (last_of c.live))
 
 abbrev pub refusal : Contents → ℕ → Bool → Option LogFault
-refusal c len care =
+refusal c len takes_last =
     if c.is_failed then Some Failed
-    else if wants_segment c len && nat_lt (length c.spares) (spares_wanted care) then Some NoSegment
+    else if wants_segment c len && nat_lt (length c.spares) (spares_wanted takes_last) then Some NoSegment
     else if is_spent c len then Some Spent
     else None
 
@@ -149,15 +149,23 @@ abbrev pub LeftBehind : Contents → Frame → Contents → Type 0
 LeftBehind old frame new =
     (frames_of (image new).bytes ≡ counted old) ⊎ (frames_of (image new).bytes ≡ counted old ++ frame ∷ [])
 
--- a beginning of the header stands in the first spare, or a beginning of the frame in the current segment
+-- a segment was to be begun, and a beginning of its header stands in the first spare
+abbrev pub HasHeaderPart : ℕ → Contents → Frame → Contents → Type 0
+HasHeaderPart kept old frame new =
+    IsTrue (wants_segment old (length (frame_bytes frame)))
+    × (new.live ≡ old.live)
+    × (new.spares ≡ with_first (torn kept (header_bytes (header_of old))) old.spares)
+
+-- a beginning of the frame, maybe all of it, stands in the current segment
+abbrev pub HasFramePart : ℕ → Contents → Frame → Contents → Type 0
+HasFramePart kept old frame new =
+    (new.live ≡ with_last (torn kept (frame_bytes frame)) (roomy old (length (frame_bytes frame))).live)
+    × (new.spares ≡ (roomy old (length (frame_bytes frame))).spares)
+
+-- after a failed append: which of the two appends failed, and that nothing more counts
 pub record Stopped (old : Contents) (frame : Frame) (new : Contents) : Type 0 where
   pub kept : ℕ
-  pub where_it_stands :
-      (IsTrue (wants_segment old (length (frame_bytes frame)))
-      × (new.live ≡ old.live)
-      × (new.spares ≡ with_first (torn kept (header_bytes (header_of old))) old.spares))
-      ⊎ ((new.live ≡ with_last (torn kept (frame_bytes frame)) (roomy old (length (frame_bytes frame))).live)
-      × (new.spares ≡ (roomy old (length (frame_bytes frame))).spares))
+  pub where_it_stands : HasHeaderPart kept old frame new ⊎ HasFramePart kept old frame new
   pub frames : counted new ≡ counted old
   pub left : LeftBehind old frame new
   pub failed : new.is_failed ≡ true
@@ -178,3 +186,14 @@ pub record IsSameLog (old new : Contents) : Type 0 where
   pub f : new.f ≡ old.f
   pub number : new.number ≡ old.number
   pub leases : roster new ≡ roster old
+
+-- what an append of a frame leaves, by its answer and by whether it may take the last spare
+pub record AfterAppend (old : Contents) (frame : Frame) (takes_last : Bool) (result : Result (Unit {0}) LogFault) (new : Contents) : Type 0 where
+  pub sound : IsSound new
+  -- after Ok
+  pub added : OnOk result (Appended old frame new)
+  pub log : IsSameLog old new
+  -- what can be told without the device comes first, in the order of `refusal`
+  pub answers : Answers (refusal old (length (frame_bytes frame)) takes_last) result
+  -- after any other refusal the log is what it was
+  pub device : OnDevice result (λ lease. Rose lease (boxes old) (boxes new) × Stopped old frame new) (new ≡ old)

@@ -26,19 +26,23 @@ fn number_lines(lines: &mut Vec<FrameAt>, number: u64) -> Option<u64>
 impl Log {
     ghost use Rattle.bw_log.specs.Seen.{seen_by, IsSound};
 
-    /// A log over live segments in the order of their numbers, which a scan found whole and linked, with
-    /// tables that say where each whole frame and each page's last blocks stand. No memory is taken.
-    pub fn adopt(
-        live: Vec<Box<dyn Segment>>,
-        spares: Vec<Box<dyn Segment>>,
-        tables: Tables,
-    ) -> Log
+    /// A log over live segments in the order of their numbers, which a scan found whole and linked,
+    /// with tables that say where each whole frame and each page's last blocks stand. No memory is
+    /// taken.
+    pub fn adopt(live: Vec<Box<dyn Segment>>, spares: Vec<Box<dyn Segment>>, tables: Tables) -> Log
         requires { IsAdoptable (map holding live.items) (map holding spares.items) tables }
         ensures made { seen_by holding result
             ≡ adopted (map holding live.items) (map holding spares.items) tables }
         ensures sound { IsSound holding result }
     {
-        let Tables { m, f, number, is_open, frames, pages } = tables;
+        let Tables {
+            m,
+            f,
+            number,
+            is_open,
+            frames,
+            pages,
+        } = tables;
         let mut frames = frames;
         let next = number_lines(&mut frames, number);
         Log {

@@ -1,22 +1,22 @@
-//! Appending: a frame goes whole to the end of the current segment, or another segment is begun for it.
+//! Appending: a frame goes whole to the end of the current segment, or another segment is begun for
+//! it.
 
 ghost use Rattle.std.specs.Prelude.{◌≡◌, ◌+◌, ◌-◌, ◌^◌, ◌/◌, ◌<◌, ◌≤◌, ◌∷◌, ◌++◌, Some, None, Ok, Err, true, false, length, map, slice_get, IfSome, OnOk, MatchResult, vec_len};
 ghost use Rattle.std.specs.Vec.{vec_capacity};
 ghost use Rattle.bw_codec.specs.Grammar.{frame_bytes};
 ghost use Rattle.bw_buffer.specs.Filling.{frame_of};
-ghost use Rattle.bw_log.specs.Contents.{boxes};
-ghost use Rattle.bw_log.specs.Steps.{wants_segment, refusal, begun, roomy, Answers, Checks, IsOkOrDevice, OnDevice, MayFollow, Appended, Stopped, Rose, IsSameLog};
+ghost use Rattle.bw_log.specs.Steps.{wants_segment, refusal, begun, roomy, Checks, IsOkOrDevice, MayFollow, AfterAppend};
 ghost use Rattle.bw_log.specs.Appending.{OfDevice, Beginnable, SpareTorn, FramePut, FrameTorn};
 ghost use Rattle.bw_log.specs.Noting.{HaveLines, top_page, grown_to};
 
-use crate::boxes::{append_to, lease_of, len_of};
+use crate::current::{is_first_worn, is_last_worn, last_has_room};
 use crate::fault::LogFault;
-use crate::lasts::{is_first_worn, is_last_worn, last_has_room};
 use crate::log::Log;
 use crate::noting::{grow, note_all, top};
 use crate::places::FrameAt;
 use bw_buffer::Buffer;
 use bw_codec::header_cells;
+use bw_device::{append_to, lease_of, len_of};
 
 impl Log {
     ghost use Rattle.bw_log.specs.Seen.{seen_by, IsSound, IsReady};
@@ -29,13 +29,13 @@ impl Log {
     }
 
     // Why no frame of this length can be appended, memory and the device aside.
-    fn refusal(&self, len: u32, care: bool) -> Option<LogFault>
-        ensures { result ≡ refusal (seen_by holding self.now) len care }
+    fn refusal(&self, len: u32, takes_last: bool) -> Option<LogFault>
+        ensures { result ≡ refusal (seen_by holding self.now) len takes_last }
     {
         if self.is_failed {
             return Some(LogFault::Failed);
         }
-        let wanted = if care { 1 } else { 2 };
+        let wanted = if takes_last { 1 } else { 2 };
         if self.wants_segment(len) {
             if self.spares.as_slice().len() < wanted {
                 return Some(LogFault::NoSegment);
@@ -55,19 +55,19 @@ impl Log {
     }
 
     /// Makes the checks and growths of an append of a frame of so many bytes, and appends nothing:
-    /// after an Ok the next append of that length answers Ok or a failure of the device. With `care`
-    /// one spare is enough where a segment is begun, else two. Refused as `append` is, but for the
-    /// device, which is not asked.
-    pub fn ready(&mut self, len: u32, care: bool) -> Result<(), LogFault>
+    /// after an Ok the next append of that length answers Ok or a failure of the device. With
+    /// `takes_last` one spare is enough where a segment is begun, else two. Refused as `append` is,
+    /// but for the device, which is not asked.
+    pub fn ready(&mut self, len: u32, takes_last: bool) -> Result<(), LogFault>
         requires sound { IsSound holding self.old }
         requires short { len ≤ (seen_by holding self.old).f }
         ensures sound { IsSound holding self.new }
         ensures same { seen_by holding self.new ≡ seen_by holding self.old }
-        ensures checks { Checks (refusal (seen_by holding self.old) len care) result }
-        ensures ready { OnOk result (IsReady holding self.new len care) }
-        ensures still { IsReady holding self.old len care → result ≡ Ok tt }
+        ensures checks { Checks (refusal (seen_by holding self.old) len takes_last) result }
+        ensures ready { OnOk result (IsReady holding self.new len takes_last) }
+        ensures still { IsReady holding self.old len takes_last → result ≡ Ok tt }
     {
-        if let Some(fault) = self.refusal(len, care) {
+        if let Some(fault) = self.refusal(len, takes_last) {
             return Err(fault);
         }
         self.live.reserve(1)?;
@@ -82,7 +82,8 @@ impl Log {
         requires some { 0 < length self.old.spares.items }
         requires fits { IfSome (slice_get (map holding self.old.spares.items) 0)
             (λ h. length h.bytes + 24 ≤ h.room) }
-        requires countable { IfSome (slice_get (map holding self.old.spares.items) 0) (λ h. h.failed < u64.MAX) }
+        requires countable { IfSome (slice_get (map holding self.old.spares.items) 0)
+            (λ h. h.failed < u64.MAX) }
         requires number { self.old.number + length self.old.live.items < 2 ^ 64 }
         requires room { vec_len self.old.live + 1 ≤ vec_capacity self.old.live }
         ensures outcome { MatchResult result
@@ -133,9 +134,11 @@ impl Log {
     // tables change once the device has answered.
     fn put(&mut self, buffer: &Buffer) -> Result<(), LogFault>
         requires some { 0 < length self.old.live.items }
-        requires fits { IfSome (slice_get (map holding self.old.live.items) (length self.old.live.items - 1))
+        requires fits { IfSome
+            (slice_get (map holding self.old.live.items) (length self.old.live.items - 1))
             (λ h. length h.bytes + length (frame_bytes (frame_of buffer.now)) ≤ h.room) }
-        requires countable { IfSome (slice_get (map holding self.old.live.items) (length self.old.live.items - 1))
+        requires countable { IfSome
+            (slice_get (map holding self.old.live.items) (length self.old.live.items - 1))
             (λ h. h.failed < u64.MAX) }
         requires number { self.old.number + length self.old.live.items ≤ 2 ^ 64 }
         requires short { length (frame_bytes (frame_of buffer.now)) < 2 ^ 32 }
@@ -176,68 +179,40 @@ impl Log {
         }
     }
 
-    fn append_with(&mut self, buffer: &Buffer, care: bool) -> Result<(), LogFault>
+    fn append_with(&mut self, buffer: &Buffer, takes_last: bool) -> Result<(), LogFault>
         requires sound { IsSound holding self.old }
         requires sealed { buffer.now.is_sealed ≡ true }
         requires limit { buffer.now.limit ≡ (seen_by holding self.old).f }
         requires follows { MayFollow (seen_by holding self.old) (frame_of buffer.now) }
-        ensures sound { IsSound holding self.new }
-        ensures added { OnOk result
-            (Appended (seen_by holding self.old) (frame_of buffer.now)
-            (seen_by holding self.new)) }
-        ensures log { IsSameLog (seen_by holding self.old) (seen_by holding self.new) }
-
-        // What can be told without the device comes first, in the order of `refusal`.
-        ensures answers { Answers
-            (refusal (seen_by holding self.old) (length (frame_bytes (frame_of buffer.now))) care)
-            result }
-        ensures prepared { IsReady holding self.old (length (frame_bytes (frame_of buffer.now))) care
+        ensures leaves { AfterAppend (seen_by holding self.old) (frame_of buffer.now) takes_last
+            result (seen_by holding self.new) }
+        ensures prepared { IsReady holding self.old (length (frame_bytes (frame_of buffer.now))) takes_last
             → IsOkOrDevice result }
-        ensures device { OnDevice result
-            (λ lease.
-            Rose lease (boxes (seen_by holding self.old)) (boxes (seen_by holding self.new))
-            × Stopped (seen_by holding self.old) (frame_of buffer.now)
-            (seen_by holding self.new))
-            (seen_by holding self.new ≡ seen_by holding self.old) }
     {
         let len = buffer.bytes().len() as u32;
-        self.ready(len, care)?;
+        self.ready(len, takes_last)?;
         self.make_room(len)?;
         self.put(buffer)
     }
 
-    /// Appends a sealed buffer's frame whole. The frame has to follow the counted ones: its number is
-    /// `next_frame`, its blocks are lawful for the log's limits, and its links and pages go on from
-    /// what stands. Where the current segment is missing, closed or without room for the frame, the
-    /// first spare is made the current segment by a header in an append of its own, unless it is the
-    /// last spare. Refused `Failed`; then `NoSegment`, where a segment has to be begun and fewer than
-    /// two spares stand; then `Spent`; then `NoMemory`: nothing was changed. `Device`: a beginning of
-    /// the header or of the frame may stand, nothing more counts, and the log is `Failed`. Time is
-    /// linear in the frame's bytes and blocks, whatever the log's length, but where a table grows,
-    /// which is moved then.
+    /// Appends a sealed buffer's frame whole. The frame has to follow the counted ones: its number
+    /// is `next_frame`, its blocks are lawful for the log's limits, and its links and pages go on
+    /// from what stands. Where the current segment is missing, closed or without room for the
+    /// frame, the first spare is made the current segment by a header in an append of its own,
+    /// unless it is the last spare. Refused `Failed`; then `NoSegment`, where a segment has to be
+    /// begun and fewer than two spares stand; then `Spent`; then `NoMemory`: nothing was changed.
+    /// `Device`: a beginning of the header or of the frame may stand, nothing more counts, and the
+    /// log is `Failed`. Time is linear in the frame's bytes and blocks, whatever the log's length,
+    /// but where a table grows, which is moved then.
     pub fn append(&mut self, buffer: &Buffer) -> Result<(), LogFault>
         requires sound { IsSound holding self.old }
         requires sealed { buffer.now.is_sealed ≡ true }
         requires limit { buffer.now.limit ≡ (seen_by holding self.old).f }
         requires follows { MayFollow (seen_by holding self.old) (frame_of buffer.now) }
-        ensures sound { IsSound holding self.new }
-        ensures added { OnOk result
-            (Appended (seen_by holding self.old) (frame_of buffer.now)
-            (seen_by holding self.new)) }
-        ensures log { IsSameLog (seen_by holding self.old) (seen_by holding self.new) }
-
-        // What can be told without the device comes first, in the order of `refusal`.
-        ensures answers { Answers
-            (refusal (seen_by holding self.old) (length (frame_bytes (frame_of buffer.now))) false)
-            result }
+        ensures leaves { AfterAppend (seen_by holding self.old) (frame_of buffer.now) false result
+            (seen_by holding self.new) }
         ensures prepared { IsReady holding self.old (length (frame_bytes (frame_of buffer.now))) false
             → IsOkOrDevice result }
-        ensures device { OnDevice result
-            (λ lease.
-            Rose lease (boxes (seen_by holding self.old)) (boxes (seen_by holding self.new))
-            × Stopped (seen_by holding self.old) (frame_of buffer.now)
-            (seen_by holding self.new))
-            (seen_by holding self.new ≡ seen_by holding self.old) }
     {
         self.append_with(buffer, false)
     }
@@ -248,24 +223,10 @@ impl Log {
         requires sealed { buffer.now.is_sealed ≡ true }
         requires limit { buffer.now.limit ≡ (seen_by holding self.old).f }
         requires follows { MayFollow (seen_by holding self.old) (frame_of buffer.now) }
-        ensures sound { IsSound holding self.new }
-        ensures added { OnOk result
-            (Appended (seen_by holding self.old) (frame_of buffer.now)
-            (seen_by holding self.new)) }
-        ensures log { IsSameLog (seen_by holding self.old) (seen_by holding self.new) }
-
-        // What can be told without the device comes first, in the order of `refusal`.
-        ensures answers { Answers
-            (refusal (seen_by holding self.old) (length (frame_bytes (frame_of buffer.now))) true)
-            result }
+        ensures leaves { AfterAppend (seen_by holding self.old) (frame_of buffer.now) true result
+            (seen_by holding self.new) }
         ensures prepared { IsReady holding self.old (length (frame_bytes (frame_of buffer.now))) true
             → IsOkOrDevice result }
-        ensures device { OnDevice result
-            (λ lease.
-            Rose lease (boxes (seen_by holding self.old)) (boxes (seen_by holding self.new))
-            × Stopped (seen_by holding self.old) (frame_of buffer.now)
-            (seen_by holding self.new))
-            (seen_by holding self.new ≡ seen_by holding self.old) }
     {
         self.append_with(buffer, true)
     }

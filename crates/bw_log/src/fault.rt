@@ -9,27 +9,29 @@ use thiserror::Error;
 /// Why a call on a log was refused. Where nothing else is said, the log is as it was.
 #[derive(Debug, Clone, Copy, PartialEq, Eq, Error)]
 pub enum LogFault {
-    /// A growth was refused.
+    /// E1: a growth was refused.
     #[error("out of memory")]
     NoMemory,
-    /// A limit is out of range, there are too many boxes, or a box is no empty spare with room for a
-    /// header and a frame, and at most 1 GiB.
+    /// E10: a limit is out of range, there are too many boxes, or a box is no empty spare with room
+    /// for a header and a frame, and for 1 GiB at most.
     #[error("limits or boxes that no log takes")]
     BadConfig,
-    /// A new segment is wanted, and too few spares stand.
+    /// E5: a new segment is wanted, and too few spares stand.
     #[error("no segment")]
     NoSegment,
-    /// The segment with this lease failed in this call, and counts it. After a failed append the log
-    /// is `Failed`; a failed read changes nothing else.
+    /// E6: the segment with this lease failed in this call, and counts it. After a failed append
+    /// the log is `Failed`; a failed read changes nothing else.
     #[error("the segment of lease {lease} failed")]
     Device { lease: u32 },
-    /// An append failed before: what it left behind the counted frames is not known.
+    /// E7: an append failed before: behind the counted frames a part of what it appended may stand,
+    /// or all of it.
     #[error("an append failed before")]
     Failed,
-    /// A needed number does not exist: a segment's number, or one more failure of a segment.
+    /// E8: a needed number does not exist: a segment's, a frame's, or one more failure of a
+    /// segment.
     #[error("a counter is at its greatest value")]
     Spent,
-    /// No page has this number.
+    /// E9: no page has this number.
     #[error("no such page")]
     NoPage,
 }

@@ -1,4 +1,5 @@
-//! What holds of the forward reading: the function's contract is a law, and there is nothing to run.
+//! What holds of the forward reading: the function's contract is a law, and there is nothing to
+//! run.
 
 ghost use Rattle.bw_log.specs.Laws.{Locality};
 

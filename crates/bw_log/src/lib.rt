@@ -1,29 +1,27 @@
 //! Segments in order, the place of each page, frames appended whole, and pages read back.
 //!
-//! A log owns boxes with segments: the live ones in the order of their numbers, and spares. The newest
-//! live segment is the current one. A frame is appended to it whole; where it has no room, the first
-//! spare becomes the current segment by a header in an append of its own. A table has the last block
-//! that touches each page and the last one that sets it, and links lead from block to block back to the
-//! one that set the page, so that no append and no question walks over frames: a read of a page does,
-//! and giving up a segment passes over the lines of the table.
-//! No type can know what a box holds, so what a log keeps (`IsSound`) is asked and given back by each
-//! call that changes it.
+//! A log owns boxes with segments: the live ones in the order of their numbers, and spares. The
+//! newest live segment is the current one. A frame is appended to it whole; where it has no room,
+//! the first spare becomes the current segment by a header in an append of its own. A table has the
+//! last block that touches each page and the last one that sets it, and links lead from block to
+//! block back to the one that set the page, so that no append and no question walks over frames: a
+//! read of a page does, and giving up a segment passes over the lines of the table. No type can
+//! know what a box holds, so what a log keeps (`IsSound`) is asked and given back by each call that
+//! changes it.
 #![tactic(auto)]
 
 mod adopting;
 mod appending;
-mod boxes;
-pub mod fault;
-mod lasts;
-pub mod laws;
-pub mod log;
+mod current;
+mod fault;
+mod laws;
+mod log;
 mod noting;
 mod oldest;
-pub mod places;
+mod places;
 mod reading;
-#[cfg(test)]
-mod tests;
 
 pub use fault::LogFault;
+pub use laws::locality;
 pub use log::Log;
 pub use places::{FrameAt, PageAt, Tables};

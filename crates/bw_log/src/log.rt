@@ -6,11 +6,10 @@ ghost use Rattle.bw_log.specs.Contents.{IsSpare, counted, some_place};
 ghost use Rattle.bw_log.specs.Calls.{fresh, AreLimits, IsFit, IsNotTaken, IsPage, last_number};
 ghost use Rattle.bw_log.specs.Places.{place_of, base_of};
 
-use crate::boxes::{are_spares, is_spare, lease_of, len_of};
 use crate::fault::LogFault;
 use crate::places::{FrameAt, PageAt};
 use bw_codec::Place;
-use bw_device::Segment;
+use bw_device::{Segment, are_spares, is_spare, lease_of, len_of};
 use std::alloc::Global;
 
 /// How many boxes a log has at most.
@@ -45,10 +44,17 @@ fn are_limits(m: u16, f: u32) -> bool
     4 <= m && m <= 32 && 16384 <= f && f <= 65536
 }
 
+// How many bytes a spare has room for at least: a header and one frame.
+fn least_room(f: u32) -> u64
+    ensures { result ≡ 24 + f }
+{
+    24 + u64::from(f)
+}
+
 fn are_fit(m: u16, f: u32, spares: &[Box<dyn Segment>]) -> bool
     ensures { IsTrue result ↔ IsFit m f (map holding spares.now) }
 {
-    are_limits(m, f) && spares.len() <= MAX_BOXES && are_spares(spares, f)
+    are_limits(m, f) && spares.len() <= MAX_BOXES && are_spares(spares, least_room(f))
 }
 
 fn place_or_none(place: Place) -> Option<Place>
@@ -60,9 +66,9 @@ fn place_or_none(place: Place) -> Option<Place>
 impl Log {
     ghost use Rattle.bw_log.specs.Seen.{seen_by, IsSound};
 
-    /// A log of spares alone, for pages of at most `m` pairs, 4 to 32, and frames of at most `f` bytes,
-    /// 16,384 to 65,536. Each of at most 4,096 boxes is empty and has room for 24 + `f` bytes to
-    /// 1,073,741,824; else all come back with `BadConfig`.
+    /// A log of spares alone, for pages of at most `m` pairs, 4 to 32, and frames of at most `f`
+    /// bytes, 16,384 to 65,536. Each of at most 4,096 boxes is empty and has room for 24 + `f`
+    /// bytes to 1,073,741,824; else all come back with `BadConfig`.
     pub fn new(
         alloc: Global,
         spares: Vec<Box<dyn Segment>>,
@@ -96,7 +102,8 @@ impl Log {
     }
 
     /// A further spare, which goes last. A box that is no spare, or one too many, comes back with
-    /// `BadConfig`, and any box with `NoMemory` where a growth is refused; the log is then as it was.
+    /// `BadConfig`, and any box with `NoMemory` where a growth is refused; the log is then as it
+    /// was.
     pub fn add_segment(&mut self, one: Box<dyn Segment>) -> Result<(), (Box<dyn Segment>, LogFault)>
         requires { IsSound holding self.old }
         ensures sound { IsSound holding self.new }
@@ -114,9 +121,10 @@ impl Log {
             ⊎ ((e.1 ≡ LogFault.NoMemory)
             × (vec_capacity self.old.spares ≤ vec_len self.old.spares))) }
         ensures back { IfErr result (λ e. e.0 ≡ one) }
-        ensures unchanged { IfErr result (λ _. seen_by holding self.new ≡ seen_by holding self.old) }
+        ensures unchanged { IfErr result
+            (λ _. seen_by holding self.new ≡ seen_by holding self.old) }
     {
-        if self.live.len() + self.spares.len() >= MAX_BOXES || !is_spare(&one, self.f) {
+        if self.live.len() + self.spares.len() >= MAX_BOXES || !is_spare(&one, least_room(self.f)) {
             return Err((one, LogFault::BadConfig));
         }
         match self.spares.push(one) {
@@ -138,9 +146,17 @@ impl Log {
     pub fn roll(&mut self)
         requires { IsSound holding self.old }
         ensures sound { IsSound holding self.new }
-        ensures closed { seen_by holding self.new ≡ record (seen_by holding self.old) { is_open = false } }
+        ensures closed { seen_by holding self.new
+            ≡ record (seen_by holding self.old) { is_open = false } }
     {
         self.is_open = false;
+    }
+
+    /// The most pairs that a page may have.
+    pub fn m(&self) -> u16
+        ensures { result ≡ (seen_by holding self.now).m }
+    {
+        self.m
     }
 
     /// The most bytes that a frame may have.

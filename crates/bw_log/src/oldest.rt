@@ -11,13 +11,15 @@ use crate::log::Log;
 impl Log {
     ghost use Rattle.bw_log.specs.Seen.{seen_by, IsSound};
 
-    /// The oldest segment's number, and that of its last counted frame, or 0 where it has none; `None`
-    /// where no segment is live. It costs a binary search among the lines of the counted frames.
+    /// The oldest segment's number, and that of its last counted frame, or 0 where it has none;
+    /// `None` where no segment is live. It costs a binary search among the lines of the counted
+    /// frames.
     pub fn oldest(&self) -> Option<(u64, u64)>
         requires { IsSound holding self.now }
         ensures { MatchOption (slice_get (seen_by holding self.now).live 0)
             (result ≡ None)
-            (λ h. result ≡ Some ((seen_by holding self.now).number, last_number (seen_by holding self.now) h)) }
+            (λ h. result
+            ≡ Some ((seen_by holding self.now).number, last_number (seen_by holding self.now) h)) }
     {
         if self.live.is_empty() {
             return None;
@@ -40,9 +42,9 @@ impl Log {
         lines[count - 1].number
     }
 
-    /// Gives up the oldest of two or more live segments, in which no page's last setting block stands,
-    /// and drops its box. The log has not failed. What the counted frames stand for is what it was. No
-    /// memory is taken; it costs a pass over the lines of all counted frames.
+    /// Gives up the oldest of two or more live segments, in which no page's last setting block
+    /// stands, and drops its box. The log has not failed. What the counted frames stand for is what
+    /// it was. No memory is taken; it costs a pass over the lines of all counted frames.
     pub fn give_up_oldest(&mut self)
         requires sound { IsSound holding self.old }
         requires two { 2 ≤ length (seen_by holding self.old).live }
@@ -56,7 +58,8 @@ impl Log {
               frames = (seen_by holding self.new).frames;
             } }
         ensures counted { counted (seen_by holding self.new)
-            ≡ drop (oldest_count (seen_by holding self.old).live) (counted (seen_by holding self.old)) }
+            ≡ drop (oldest_count (seen_by holding self.old).live)
+            (counted (seen_by holding self.old)) }
         ensures stands { (leaves : List Leaf)
             → Stand (seen_by holding self.old).m (counted (seen_by holding self.old)) leaves
             → Stand (seen_by holding self.old).m (counted (seen_by holding self.new)) leaves }

@@ -24,8 +24,9 @@ pub struct PageAt {
     pub base: Place,
 }
 
-/// What a scan found: limits, the oldest live segment's number, whether the newest takes frames, where
-/// each whole frame stands (its segment by position among the live ones), and where each page does.
+/// What a scan found: limits, the oldest live segment's number, whether the newest takes frames,
+/// where each whole frame stands (its segment by position among the live ones), and where each page
+/// does.
 #[derive(Debug, Drop)]
 pub struct Tables {
     pub m: u16,

@@ -1,10 +1,10 @@
 //! Reading back: segments as they are, frames by their lines, and pages by the links from block to
 //! block.
 //!
-//! The blocks of a page lie scattered over the log. Each Delta and Split tells where the block before
-//! it stands, so a page is read from its last block back to the one that sets it, frame by frame, and
-//! the blocks read are then applied forwards. By the law of locality that is what a reading of the
-//! whole log gives.
+//! The blocks of a page lie scattered over the log. Each Delta and Split tells where the block
+//! before it stands, so a page is read from its last block back to the one that sets it, frame by
+//! frame, and the blocks read are then applied forwards. By the law of locality that is what a
+//! reading of the whole log gives.
 
 ghost use Rattle.std.specs.Prelude.{◌≡◌, ◌≢◌, ◌+◌, ◌-◌, ◌<◌, ◌≤◌, ◌↔◌, ◌∷◌, ◌++◌, [], Some, None, true, false, length, map, take, drop, reverse, slice_get, IfOk, OnErr, IfSome, MatchOption};
 ghost use Rattle.std.specs.List.{fold, list_any};
@@ -17,10 +17,10 @@ ghost use Rattle.bw_log.specs.Contents.{counted, image, IsImage};
 ghost use Rattle.bw_log.specs.Calls.{IsPage, IsKept, IsNumbered, IsLineIn, HoldsPage, ReadStops, segment_at};
 ghost use Rattle.bw_log.specs.Walking.{first_back, StandsAt, IsWalk};
 
-use crate::boxes::{failures_of, lease_of, len_of, read_from};
 use crate::fault::LogFault;
 use crate::log::Log;
 use bw_codec::{Block, CodecFault, Frame, FrameRead, Header, Leaf, Place, read_frame};
+use bw_device::{failures_of, lease_of, len_of, read_from};
 use bw_page::read_blocks;
 use std::alloc::{AllocError, Global};
 
@@ -99,7 +99,8 @@ fn frame_in(alloc: Global, bytes: &[u8], m: u16, f: u32) -> Result<Frame, CodecF
 
 // What a page is after these frames, of which the first is the newest.
 fn replay(frames: Vec<Frame>, page: u32) -> Result<Option<Leaf>, AllocError>
-    ensures { IfOk result (λ leaf. leaf ≡ fold (after page) None (blocks_of (reverse frames.items))) }
+    ensures { IfOk result
+        (λ leaf. leaf ≡ fold (after page) None (blocks_of (reverse frames.items))) }
 {
     let mut frames = frames;
     let mut leaf = None;
@@ -187,10 +188,10 @@ impl Log {
     }
 
     /// A page as the counted frames leave it, by the links back from its last block. It reads the
-    /// frames with a block of the page, from the newest to the one that sets it last, and holds them in
-    /// memory together. A page that is not there is `NoPage`; `Device` names the segment that failed
-    /// and does not make the log `Failed`; `Spent` comes where no more failure of a segment that has to
-    /// be read could be counted.
+    /// frames with a block of the page, from the newest to the one that sets it last, and holds
+    /// them in memory together. A page that is not there is `NoPage`; `Device` names the segment
+    /// that failed and does not make the log `Failed`; `Spent` comes where no more failure of a
+    /// segment that has to be read could be counted.
     pub fn read_page(&mut self, page: u32) -> Result<Leaf, LogFault>
         requires { IsSound holding self.old }
         ensures page { IfOk result (λ leaf.
@@ -198,7 +199,8 @@ impl Log {
         ensures sound { IsSound holding self.new }
         ensures kept { IsKept (seen_by holding self.old) (seen_by holding self.new) }
 
-        ensures no_page { result ≡ Err LogFault.NoPage ↔ (IsPage (seen_by holding self.old) page → ⊥) }
+        ensures no_page { result ≡ Err LogFault.NoPage
+            ↔ (IsPage (seen_by holding self.old) page → ⊥) }
         ensures stops { ReadStops (HoldsPage (seen_by holding self.old) page)
             (seen_by holding self.old) result (seen_by holding self.new) }
     {
@@ -216,8 +218,8 @@ impl Log {
     }
 
     /// Appends the bytes of the live segment with this number to a `Vec`; answers `false` where no
-    /// live segment has it. A refusal leaves the `Vec` as it was. It holds the segment in memory once
-    /// more while it reads.
+    /// live segment has it. A refusal leaves the `Vec` as it was. It holds the segment in memory
+    /// once more while it reads.
     pub fn dump(&mut self, segment: u64, out: &mut Vec<u8>) -> Result<bool, LogFault>
         requires { IsSound holding self.old }
         ensures found { IfOk result (λ found.

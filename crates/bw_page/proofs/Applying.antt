@@ -69,10 +69,10 @@ lows-put : (d : Leaf) (ls : List Leaf) → HaveOwnLows ls → All (λ l. (put_in
 lows-put d ls h k =
     all-over (λ x. All (λ y. x.low ≡ y.low → x.page ≡ y.page) (map (put_in d) ls)) (put_in d) ls
     (all-zip (λ x. All (λ y. x.low ≡ y.low → x.page ≡ y.page) ls) (λ x. (put_in d x).low ≡ x.low)
-        (λ x. All (λ y. (put_in d x).low ≡ y.low → (put_in d x).page ≡ y.page) (map (put_in d) ls))
+    (λ x. All (λ y. (put_in d x).low ≡ y.low → (put_in d x).page ≡ y.page) (map (put_in d) ls))
     (λ x each low. all-over (λ y. (put_in d x).low ≡ y.low → (put_in d x).page ≡ y.page) (put_in d) ls
     (all-zip (λ y. x.low ≡ y.low → x.page ≡ y.page) (λ y. (put_in d y).low ≡ y.low)
-        (λ y. (put_in d x).low ≡ (put_in d y).low → (put_in d x).page ≡ (put_in d y).page)
+    (λ y. (put_in d x).low ≡ (put_in d y).low → (put_in d x).page ≡ (put_in d y).page)
     (λ y own lower e. put_in-page d x ∙ own (sym low ∙ e ∙ lower) ∙ sym (put_in-page d y)) ls each k))
     ls h k)
 
@@ -118,10 +118,10 @@ module _ (m : ℕ) (leaves : List Leaf) (u : Leaf) (a : AreLeaves m leaves) (s :
   better_is_cut q from below =
       let cut_low : UpTo (home u.low leaves).low (home q leaves).low =
       home-all (λ l. UpTo l.low q → UpTo l.low (home q leaves).low) u.low leaves a.first (home-max q leaves)
-          (upto-trans (home u.low leaves).low u.low q (below_upto (home u.low leaves).low u.low s.above) from) in
+      (upto-trans (home u.low leaves).low u.low q (below_upto (home u.low leaves).low u.low s.above) from) in
       let home_low : UpTo (home q leaves).low (home u.low leaves).low =
       home-all (λ l. UpTo l.low u.low → UpTo l.low (home u.low leaves).low) q leaves a.first (home-max u.low leaves)
-          (below_upto (home q leaves).low u.low below) in
+      (below_upto (home q leaves).low u.low below) in
       home-all (λ y. (home q leaves).low ≡ y.low → (home q leaves).page ≡ y.page) u.low leaves a.first
       (home-all (λ x. All (λ y. x.low ≡ y.low → x.page ≡ y.page) leaves) q leaves a.first a.lows)
       (upto-antisymm _ _ home_low cut_low)
@@ -146,14 +146,14 @@ module _ (m : ℕ) (leaves : List Leaf) (u : Leaf) (a : AreLeaves m leaves) (s :
   new_low =
       all-map (λ l. UpTo l.low u.low → UpTo l.low (home u.low leaves).low) (λ l. l.low ≢ u.low)
       (λ l max e. not_both _ s.above (subst (λ (low : Bytes). UpTo low (home u.low leaves).low) e
-          (max (subst (λ (low : Bytes). UpTo low u.low) (sym e) (upto-refl u.low)))))
+      (max (subst (λ (low : Bytes). UpTo low u.low) (sym e) (upto-refl u.low)))))
       leaves (home-max u.low leaves)
 
   push_lows : HaveOwnLows (leaves ++ u ∷ [])
   push_lows =
       all-push (λ x. All (λ y. x.low ≡ y.low → x.page ≡ y.page) (leaves ++ u ∷ [])) leaves u
       (all-zip (λ x. All (λ y. x.low ≡ y.low → x.page ≡ y.page) leaves) (λ x. x.low ≢ u.low)
-          (λ x. All (λ y. x.low ≡ y.low → x.page ≡ y.page) (leaves ++ u ∷ []))
+      (λ x. All (λ y. x.low ≡ y.low → x.page ≡ y.page) (leaves ++ u ∷ []))
       (λ x own new. all-push (λ y. x.low ≡ y.low → x.page ≡ y.page) leaves u own (λ e. absurd (new e))) leaves a.lows new_low)
       (all-push (λ y. u.low ≡ y.low → u.page ≡ y.page) leaves u
       (all-map (λ y. y.low ≢ u.low) (λ y. u.low ≡ y.low → u.page ≡ y.page) (λ y new e. absurd (new (sym e))) leaves new_low) (λ e. refl))
@@ -177,7 +177,7 @@ module _ (m : ℕ) (leaves : List Leaf) (u : Leaf) (a : AreLeaves m leaves) (s :
     each = all-push (IsBase m) leaves u a.each s.base;
     homes = all-push (AtHome (leaves ++ u ∷ [])) leaves u
         (all-zip (AtHome leaves) (λ l. l.page ≡ (home u.low leaves).page → l ≡ home u.low leaves) (AtHome (leaves ++ u ∷ [])) old_homes leaves a.homes
-            (is_home leaves u.low a.first a.pages))
+        (is_home leaves u.low a.first a.pages))
         (all-zip (λ p. UpTo u.low p.0) (λ p. home p.0 leaves ≡ home u.low leaves) (λ p. (home p.0 (leaves ++ u ∷ [])).page ≡ u.page)
         (λ p from same. ap (λ (x : Leaf). x.page) (home-push_upper p.0 from same)) u.pairs s.from s.homes);
   }

@@ -25,7 +25,7 @@ above-more : (links : List Link) (r : Record) (found : Option (ℕ × Place)) �
 above-more links r None h = refl
 above-more links r (Some x) h =
     ap (λ ls. Some (ls, x.1)) (sym (ap reverse (drop-append-le (x.0 + 1) links (Delta r ∷ []) (omega arith))
-        ∙ reverse-append (drop (x.0 + 1) links) (Delta r ∷ [])))
+    ∙ reverse-append (drop (x.0 + 1) links) (Delta r ∷ [])))
 
 lasts : (n : ℕ) (found : Option (ℕ × Place)) → IfSome found (λ x. x.0 < n) → IfSome found (λ x. x.0 < n + 1)
 lasts n None h = h
@@ -47,7 +47,7 @@ marked n front (Flushed place ∷ rest) found e h is =
     (marked (n + 1) (front ++ Flushed place ∷ []) rest (Some (n, place)) (pushed front (Flushed place) n e) (omega arith)
     (ap cut (reverse-append front (Flushed place ∷ []))
     ∙ ap (λ ls. Some (ls, place)) (sym (ap reverse
-        (drop_all (n + 1) (front ++ Flushed place ∷ []) (let l = pushed front (Flushed place) n e in omega arith))))))
+    (drop_all (n + 1) (front ++ Flushed place ∷ []) (let l = pushed front (Flushed place) n e in omega arith))))))
 
 -- the newest mark of links that stand oldest first, and of the same links newest first
 pub cut-reverse : (links : List Link) → cut (reverse links) ≡ above links (mark_after 0 None links)
@@ -65,7 +65,7 @@ flushed-cut (Flushed place ∷ links) = refl
 
 told-under : (r : Record) (links : List Link) (x : Option (List Link × Place)) (leaf : Leaf)
     → IfSome x (λ c. told c.0 (told (from_mark links) leaf) ≡ told links leaf)
-        → IfSome (under (Delta r) x) (λ c. told c.0 (told (from_mark links) leaf) ≡ changed r (told links leaf))
+    → IfSome (under (Delta r) x) (λ c. told c.0 (told (from_mark links) leaf) ≡ changed r (told links leaf))
 told-under r links None leaf h = tt
 told-under r links (Some x) leaf h = ap (changed r) h
 

@@ -1,6 +1,7 @@
 -- What a change of the leaves and of the index leaves: both stay in step.
 
-use Rattle.std.proofs.Common.{◌≡◌, ◌≢◌, ℕ, ◌+◌, ◌-◌, ◌<◌, ◌≤◌, ◌^◌, cond, Some, None, List, [], ◌∷◌, ◌++◌, map, length, drop, get_or, refl, sym, ap, ◌∙◌, subst}
+use Rattle.std.proofs.Common.{Result, ◌≡◌, ◌≢◌, ℕ, ◌+◌, ◌-◌, ◌<◌, ◌≤◌, ◌^◌, cond, Some, None, List, [], ◌∷◌, ◌++◌}
+use Rattle.std.proofs.Common.{map, length, drop, get_or, refl, sym, ap, ◌∙◌, subst}
 use Rattle.std.proofs.Common.{arith, length-append}
 use Rattle.std.specs.Prelude.{slice_set}
 use Rattle.std.specs.List.{AllByRecursion as All}
@@ -17,6 +18,7 @@ use Rattle.bw_codec.specs.declared.record.Record.{Record}
 use Rattle.bw_page.specs.declared.leaves.Leaves.TheInside.{Inside}
 use Rattle.bw_page.specs.Leaves.{Bytes, order, empty_leaf, home, changed, AreLeaves, BeginsEmpty, HasPage, lower_of, upper_of, applied, union, changed_map}
 use Rattle.bw_page.specs.Filed.{Filed, applied_by}
+use Rattle.bw_page.specs.Seek.{seek_of, IsWithin}
 use Rattle.bw_page.specs.Lows.{lows_of}
 use Rattle.bw_page.specs.Paged.{view_of, IsFiled}
 use Rattle.bw_page.proofs.Order.{order-total, apart}
@@ -112,17 +114,17 @@ module _ (a : Inside) (h : IsFiled a) (r : Record) (op : IsOp r) (at : ℕ) (her
   -- one leaf was cut in two, and its upper part stands behind the others
   pub cut_is : a.m < length (changed r (home (key_of r) a.leaves.items)).pairs
       → slice_set a.leaves.items at (lower_of a.m (changed r (home (key_of r) a.leaves.items)))
-          ++ upper_of a.m (length a.leaves.items + 1) (changed r (home (key_of r) a.leaves.items)) ∷ [] ≡ applied a.m a.leaves.items r
+      ++ upper_of a.m (length a.leaves.items + 1) (changed r (home (key_of r) a.leaves.items)) ∷ [] ≡ applied a.m a.leaves.items r
   cut_is over =
       ap (λ (ls : List Leaf). ls ++ upper_of a.m (length a.leaves.items + 1) (changed r (home (key_of r) a.leaves.items)) ∷ [])
-          (in_place (lower_of a.m (changed r (home (key_of r) a.leaves.items))) refl)
+      (in_place (lower_of a.m (changed r (home (key_of r) a.leaves.items))) refl)
       ∙ sym (applied-cut a.m a.leaves.items r some h.lawful op over)
 
   pub cut_filed : (b : Inside) → b.m ≡ a.m → a.m < length (changed r (home (key_of r) a.leaves.items)).pairs → length a.leaves.items + 1 < 2 ^ 32
       → b.leaves.items ≡ applied a.m a.leaves.items r
       → ((q : Bytes) → tree.get order b.index q
-          ≡ cond (eq_by_cmp order q (upper_of a.m (length a.leaves.items + 1) (changed r (home (key_of r) a.leaves.items))).low)
-          (Some (length a.leaves.items + 1)) (tree.get order a.index q))
+      ≡ cond (eq_by_cmp order q (upper_of a.m (length a.leaves.items + 1) (changed r (home (key_of r) a.leaves.items))).low)
+      (Some (length a.leaves.items + 1)) (tree.get order a.index q))
       → IsFiled b
   cut_filed b em over room el got =
       let x = changed r (home (key_of r) a.leaves.items) in
@@ -142,7 +144,7 @@ module _ (a : Inside) (h : IsFiled a) (r : Record) (op : IsOp r) (at : ℕ) (her
             (applied-lawful a.m a.leaves.items r some (λ o. room) h.lawful op);
         index = λ q. got q
             ∙ ap (λ v. cond (eq_by_cmp order q u.low) (Some u.page) v)
-                (h.index q ∙ ap (find order q) (sym (lows-put _ a.leaves.items (same_lows a.m a.leaves.items (key_of r) _ h.lawful into))))
+            (h.index q ∙ ap (find order q) (sym (lows-put _ a.leaves.items (same_lows a.m a.leaves.items (key_of r) _ h.lawful into))))
             ∙ sym (find-push q parts u lowers.first (new_low a.m parts u lowers up))
             ∙ ap (λ (ls : List Leaf). find order q (lows_of (drop 1 ls))) (sym (el ∙ form));
       }
@@ -172,11 +174,28 @@ module _ (a : Inside) (h : IsFiled a) (now : Filed) (v : view_of a ≡ now) (r :
   over_at over d =
       subst (λ (l : Leaf). a.m < length (changed r l).pairs) (sym (leaf_is a h r op at here_inside d)) (let c = count_inside in omega arith)
 
+  -- the search for the record's key ended in that leaf
+  pub found_at : (found : Result ℕ ℕ) → found ≡ seek_of (key_of r) (home (key_of r) now.leaves).pairs
+      → (d : Leaf) → found ≡ seek_of (key_of r) (get_or a.leaves.items at d).pairs
+  found_at found e d =
+      e ∙ ap (λ (f : Filed). seek_of (key_of r) (home (key_of r) f.leaves).pairs) (sym v)
+      ∙ ap (λ (l : Leaf). seek_of (key_of r) l.pairs) (sym (leaf_is a h r op at here_inside d))
+
+  pub within_at : (found : Result ℕ ℕ) → IsWithin (length (home (key_of r) now.leaves).pairs) found
+      → (d : Leaf) → IsWithin (length (get_or a.leaves.items at d).pairs) found
+  within_at found w d =
+      subst (λ (l : Leaf). IsWithin (length l.pairs) found)
+      (ap (λ (f : Filed). home (key_of r) f.leaves) (sym v) ∙ sym (leaf_is a h r op at here_inside d)) w
+
+  -- that leaf, as it is read in its place
+  pub home_at : (leaf : Leaf) → leaf ≡ get_or a.leaves.items at leaf → leaf ≡ home (key_of r) now.leaves
+  home_at leaf e = e ∙ leaf_is a h r op at here_inside leaf ∙ ap (λ (f : Filed). home (key_of r) f.leaves) v
+
   viewed : (b : Inside) → b.m ≡ a.m → b.leaves.away ≡ a.leaves.away → b.leaves.items ≡ applied a.m a.leaves.items r
       → view_of b ≡ record { m = now.m; leaves = applied now.m now.leaves r; away = now.away }
   viewed b em ea el =
       let to : view_of b ≡ record { m = a.m; leaves = applied a.m a.leaves.items r; away = a.leaves.away } =
-          λ i. record { m = em i; leaves = el i; away = ea i } in
+      λ i. record { m = em i; leaves = el i; away = ea i } in
       to ∙ ap (λ (f : Filed). let g : Filed = record { m = f.m; leaves = applied f.m f.leaves r; away = f.away } in g) v
 
   pub follows_whole : (b : Inside) → b.m ≡ a.m → b.leaves.away ≡ a.leaves.away → count ≤ a.m
@@ -186,7 +205,7 @@ module _ (a : Inside) (h : IsFiled a) (now : Filed) (v : view_of a ≡ now) (r :
       let fits : length (changed r (home (key_of r) a.leaves.items)).pairs ≤ a.m = (let c = count_inside in omega arith) in
       let el : b.leaves.items ≡ applied a.m a.leaves.items r =
       set empty_leaf ∙ ap (λ (l : Leaf). slice_set a.leaves.items at (changed r l)) (leaf_is a h r op at here_inside empty_leaf)
-          ∙ whole_is a h r op at here_inside fits in
+      ∙ whole_is a h r op at here_inside fits in
       record {
         filed = whole_filed a h r op at here_inside b em fits el same;
         view = viewed b em ea el;
@@ -195,9 +214,9 @@ module _ (a : Inside) (h : IsFiled a) (now : Filed) (v : view_of a ≡ now) (r :
 
   pub follows_cut : (b : Inside) (page : ℕ) → b.m ≡ a.m → b.leaves.away ≡ a.leaves.away → a.m < count → page ≡ length a.leaves.items + 1 → page < 2 ^ 32
       → ((d : Leaf) → b.leaves.items ≡ slice_set a.leaves.items at (lower_of a.m (changed r (get_or a.leaves.items at d)))
-          ++ upper_of a.m page (changed r (get_or a.leaves.items at d)) ∷ [])
+      ++ upper_of a.m page (changed r (get_or a.leaves.items at d)) ∷ [])
       → ((d : Leaf) (q : Bytes) → tree.get order b.index q
-          ≡ cond (eq_by_cmp order q (upper_of a.m page (changed r (get_or a.leaves.items at d))).low) (Some page) (tree.get order a.index q))
+      ≡ cond (eq_by_cmp order q (upper_of a.m page (changed r (get_or a.leaves.items at d))).low) (Some page) (tree.get order a.index q))
       → Follows now r b
   follows_cut b page em ea many e room set got =
       let over : a.m < length (changed r (home (key_of r) a.leaves.items)).pairs = (let c = count_inside in omega arith) in
@@ -205,14 +224,14 @@ module _ (a : Inside) (h : IsFiled a) (now : Filed) (v : view_of a ≡ now) (r :
       let el : b.leaves.items ≡ applied a.m a.leaves.items r =
       set empty_leaf
       ∙ ap (λ (l : Leaf). slice_set a.leaves.items at (lower_of a.m (changed r l)) ++ upper_of a.m page (changed r l) ∷ [])
-          (leaf_is a h r op at here_inside empty_leaf)
+      (leaf_is a h r op at here_inside empty_leaf)
       ∙ ap (λ n. slice_set a.leaves.items at (lower_of a.m (changed r (home (key_of r) a.leaves.items)))
-          ++ upper_of a.m n (changed r (home (key_of r) a.leaves.items)) ∷ []) e
+      ++ upper_of a.m n (changed r (home (key_of r) a.leaves.items)) ∷ []) e
       ∙ cut_is a h r op at here_inside over in
       record {
         filed = cut_filed a h r op at here_inside b em over fits el (λ q. got empty_leaf q
             ∙ ap (λ (l : Leaf). cond (eq_by_cmp order q (upper_of a.m page (changed r l)).low) (Some page) (tree.get order a.index q))
-                (leaf_is a h r op at here_inside empty_leaf)
+            (leaf_is a h r op at here_inside empty_leaf)
             ∙ ap (λ n. cond (eq_by_cmp order q (upper_of a.m n (changed r (home (key_of r) a.leaves.items))).low) (Some n) (tree.get order a.index q)) e);
         view = viewed b em ea el;
         plain = plain_is a h r op at here_inside b.leaves.items (λ o. fits) el ∙ ap (λ (f : Filed). changed_map (union f.leaves) r) v;
@@ -228,7 +247,7 @@ pub whole_by : (f : Filed) (r : Record) (page count m : ℕ) → page ≡ (home 
     → count ≡ length (changed r (home (key_of r) f.leaves)).pairs → m ≡ f.m → count ≤ m → (record { page = page; made = None }) ≡ applied_by f r
 whole_by f r page count m e c k few =
     let made : None ≡ (applied_by f r).made =
-        ap (λ b. cond b None (Some (length f.leaves + 1))) (sym (le-leb (length (changed r (home (key_of r) f.leaves)).pairs) f.m (omega arith))) in
+    ap (λ b. cond b None (Some (length f.leaves + 1))) (sym (le-leb (length (changed r (home (key_of r) f.leaves)).pairs) f.m (omega arith))) in
     λ i. record { page = e i; made = made i }
 
 pub cut_by : (f : Filed) (r : Record) (page count m made : ℕ) → page ≡ (home (key_of r) f.leaves).page

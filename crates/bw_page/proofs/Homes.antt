@@ -115,9 +115,11 @@ pages_from n (l ∷ ls) h =
 
 pages_below : (n : ℕ) (ls : List Leaf) → AreNumbered n ls → All (λ l. l.page < n + length ls) ls
 pages_below n [] h = tt
-pages_below n (l ∷ ls) h =
-    (let e = h.0 in omega arith, all-map (λ k. k.page < (n + 1) + length ls) (λ k. k.page < n + length (l ∷ ls)) (λ k lt. omega arith) ls
-        (pages_below (n + 1) ls h.1))
+pages_below n (l ∷ ls) h = (
+  let e = h.0 in omega arith,
+  all-map (λ k. k.page < (n + 1) + length ls) (λ k. k.page < n + length (l ∷ ls)) (λ k lt. omega arith) ls
+      (pages_below (n + 1) ls h.1),
+)
 
 stands : (n : ℕ) (ls : List Leaf) (d : Leaf) → AreNumbered n ls → All (λ l. get_or ls (l.page - n) d ≡ l) ls
 stands n [] d h = tt
@@ -155,7 +157,7 @@ pub is_home : (leaves : List Leaf) (q : Bytes) → BeginsEmpty leaves → AreNum
 is_home leaves q b h =
     all-map (λ l. get_or leaves (l.page - 1) (home q leaves) ≡ l) (λ l. l.page ≡ (home q leaves).page → l ≡ home q leaves)
     (λ l at e. sym at ∙ ap (λ p. get_or leaves (p - 1) (home q leaves)) e
-        ∙ home-all (λ x. get_or leaves (x.page - 1) (home q leaves) ≡ x) q leaves b (stands_at leaves (home q leaves) h))
+    ∙ home-all (λ x. get_or leaves (x.page - 1) (home q leaves) ≡ x) q leaves b (stands_at leaves (home q leaves) h))
     leaves (stands_at leaves (home q leaves) h)
 
 -- ---- a leaf written in its place
@@ -234,9 +236,9 @@ here_or_none : (m : ℕ) (q : Bytes) (leaves : List Leaf) → AreLeaves m leaves
     → All (λ l. (find order q l.pairs ≡ find order q (home q leaves).pairs) ⊎ (find order q l.pairs ≡ None)) leaves
 here_or_none m q leaves a =
     all-zip (AtHome leaves) (λ l. l.page ≡ (home q leaves).page → l ≡ home q leaves)
-        (λ l. (find order q l.pairs ≡ find order q (home q leaves).pairs) ⊎ (find order q l.pairs ≡ None))
+    (λ l. (find order q l.pairs ≡ find order q (home q leaves).pairs) ⊎ (find order q l.pairs ≡ None))
     (λ l at is. elim ((home q leaves).page == l.page) as
-        (λ b. ((home q leaves).page == l.page) ≡ b → (find order q l.pairs ≡ find order q (home q leaves).pairs) ⊎ (find order q l.pairs ≡ None)) [
+    (λ b. ((home q leaves).page == l.page) ≡ b → (find order q l.pairs ≡ find order q (home q leaves).pairs) ⊎ (find order q l.pairs ≡ None)) [
       | true ↦ λ e. inl (ap (λ (x : Leaf). find order q x.pairs) (is (sym (eqb-true _ _ e))))
       | false ↦ λ e. inr (absent q l.pairs leaves l.page at (eqb-false _ _ e))
     ] refl)

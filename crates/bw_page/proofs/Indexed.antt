@@ -17,7 +17,7 @@ use Rattle.bw_page.proofs.Order.{UpTo, order-total, greater_is_below, upto_empty
 use Rattle.bw_page.proofs.Sorted.{all-map, all-zip}
 use Rattle.bw_page.proofs.Homes.{picks, second, first, home-all, home-low, home-max, stands_at, pages_within}
 
-itself : (a : Bytes) → eq_by_cmp order a a ≡ true
+pub itself : (a : Bytes) → eq_by_cmp order a a ≡ true
 itself a = ap is_eq (tied_itself order-total a)
 
 -- a page that the lows give a low has that low
@@ -53,8 +53,8 @@ none_below_is_first m q [] a h = absurd a.first
 none_below_is_first m q (x ∷ xs) a h =
     sym (ap (λ (l : Leaf). l.page) (best-stays q x xs
     (all-map (λ l. IsSome (find order l.low (lows_of xs))) (λ l. UpTo l.low q → ⊥)
-        (λ l some u. let none = h l.low u in let some_none : IsSome {T = ℕ} None = subst (λ (o : Option ℕ). IsSome o) none some in absurd (cc)) xs
-        (lows_found xs))) ∙ a.pages.0)
+    (λ l some u. let none = h l.low u in let some_none : IsSome {T = ℕ} None = subst (λ (o : Option ℕ). IsSome o) none some in absurd (cc)) xs
+    (lows_found xs))) ∙ a.pages.0)
 
 -- the greatest low up to the key is that of its home
 pub last_below : (m : ℕ) (q low : Bytes) (page : ℕ) (leaves : List Leaf) → AreLeaves m leaves → UpTo low q
@@ -94,7 +94,7 @@ each_at leaves h =
 pub home_takes : (m : ℕ) (q : Bytes) (leaves : List Leaf) → AreLeaves m leaves → TakesKey q leaves (home q leaves).page
 home_takes m q leaves a =
     subst (λ (o : Option Leaf). IsSomeAnd o (HasGreatestLow q leaves))
-        (sym (home-all (λ l. leaf_at l.page leaves ≡ Some l) q leaves a.first (each_at leaves a.pages)))
+    (sym (home-all (λ l. leaf_at l.page leaves ≡ Some l) q leaves a.first (each_at leaves a.pages)))
     (home-low q leaves a.first, home-max q leaves)
 
 -- ---- what a range of the index tells

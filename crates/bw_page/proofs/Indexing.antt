@@ -30,7 +30,7 @@ lows_are_keys m (x ∷ xs) a =
     (λ l own base. (some_length l.low (λ e. let same = own.1 (a.first ∙ sym e) in let one = a.pages.0 in let two = own.0 in absurd (omega arith)), base.low))
     xs
     (all-zip (λ l. 2 ≤ l.page) (λ l. x.low ≡ l.low → x.page ≡ l.page) (λ l. (2 ≤ l.page) × (x.low ≡ l.low → x.page ≡ l.page)) (λ l p q. (p, q)) xs
-        (pages_from 2 xs a.pages.1) a.lows.0.1)
+    (pages_from 2 xs a.pages.1) a.lows.0.1)
     a.each.1
 
 nth-all : (P : Leaf → Type 0) (i : ℕ) (ls : List Leaf) (d : Leaf) → All P ls → i < length ls → P (get_or ls i d)
@@ -53,7 +53,7 @@ index-step leaves n leaf got new more within is h k q =
     let next : suc (n - 1) ≡ n = omega arith in
     let inside : n - 1 < length leaves = omega arith in
     let split : drop (n - 1) leaves ≡ leaf ∷ drop n leaves =
-        drop-cons leaves (n - 1) leaf inside ∙ ap (λ (l : Leaf). l ∷ drop (suc (n - 1)) leaves) (sym is) ∙ ap (λ i. leaf ∷ drop i leaves) next in
+    drop-cons leaves (n - 1) leaf inside ∙ ap (λ (l : Leaf). l ∷ drop (suc (n - 1)) leaves) (sym is) ∙ ap (λ i. leaf ∷ drop i leaves) next in
     k q ∙ ap (λ v. cond (is_eq (order leaf.low q)) (Some leaf.page) v) (h q)
     ∙ ap (λ b. cond b (Some leaf.page) (find order q (lows_of (drop n leaves)))) ((eq_by_cmp_equiv order-total).symm leaf.low q)
     ∙ ap (λ (ls : List Leaf). find order q (lows_of ls)) (sym split)

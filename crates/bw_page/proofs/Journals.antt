@@ -37,7 +37,7 @@ stepped m leaves r some room a op =
       | true ↦ λ e. let fits = leb-true _ _ e in whole x (whole_in m leaves (key_of r) x t fits) (applied-whole m leaves r some a op fits)
       | false ↦ λ e. let over = leb-false _ _ e in
           split (lower_of m x) (upper_of m (length leaves + 1) x) (lower_in m leaves (key_of r) x some t)
-              (upper_in m leaves (key_of r) x some a t over (room over)) (applied-cut m leaves r some a op over)
+          (upper_in m leaves (key_of r) x some a t over (room over)) (applied-cut m leaves r some a op over)
     ] refl
 
 -- ---- put back
@@ -47,7 +47,7 @@ same-length x leaves = length-map leaves (put_in x)
 
 module _ (m : ℕ) (leaves : List Leaf) (k : Bytes) (a : AreLeaves m leaves) where
   -- the old leaf written over the new one
-  written_back : (x : Leaf) → Replaces m leaves k x → slice_set (map (put_in x) leaves) ((home k leaves).page - 1) (home k leaves) ≡ leaves
+  pub written_back : (x : Leaf) → Replaces m leaves k x → slice_set (map (put_in x) leaves) ((home k leaves).page - 1) (home k leaves) ≡ leaves
   written_back x h =
       let base = home_base m leaves k a in
       let some : 1 ≤ x.page = let e = h.page in let p = base.page.0 in omega arith in
@@ -90,13 +90,13 @@ module _ (m : ℕ) (leaves : List Leaf) (k : Bytes) (a : AreLeaves m leaves) whe
   new_key next d (whole x h e) more = let l = same-length x leaves in let n : length next ≡ length (map (put_in x) leaves) = ap length e in absurd (omega arith)
   new_key next d (split x u h s e) more =
       subst (λ (y : Leaf). IsKey y.low) (sym (ap (λ ls. get_or ls (length leaves) d) e ∙ last_is x u d))
-          (low_some u.low (home u.low (map (put_in x) leaves)).low s.above, s.base.low)
+      (low_some u.low (home u.low (map (put_in x) leaves)).low s.above, s.base.low)
 
   forgotten : (q low : Bytes) (page : ℕ) (found : Option ℕ) → (q ≡ low → found ≡ None)
       → cond (eq_by_cmp order q low) None (cond (eq_by_cmp order q low) (Some page) found) ≡ found
   forgotten q low page found h =
       elim (eq_by_cmp order q low) as (λ b. eq_by_cmp order q low ≡ b → cond b None (cond b (Some page) found) ≡ found)
-          [ true ↦ λ e. sym (h (tied q low e)) | false ↦ λ e. refl ] refl
+      [ true ↦ λ e. sym (h (tied q low e)) | false ↦ λ e. refl ] refl
 
   -- the index without the new low is that of the old leaves
   pub index_back : (next : List Leaf) (d : Leaf) (old new : Bytes → Option ℕ) → Stepped m leaves k next
@@ -119,7 +119,7 @@ module _ (m : ℕ) (leaves : List Leaf) (k : Bytes) (a : AreLeaves m leaves) whe
       less (omega arith) q
       ∙ ap (λ (y : Leaf). cond (eq_by_cmp order q y.low) None (old q)) (ap (λ ls. get_or ls (length leaves) d) e ∙ last_is x u d)
       ∙ ap (λ v. cond (eq_by_cmp order q u.low) None v)
-          (is q ∙ ap (λ (ls : List Leaf). find order q (lows_of (drop 1 ls))) e ∙ find-push q (map (put_in x) leaves) u lowers.first new_one)
+      (is q ∙ ap (λ (ls : List Leaf). find order q (lows_of (drop 1 ls))) e ∙ find-push q (map (put_in x) leaves) u lowers.first new_one)
       ∙ forgotten q u.low u.page (find order q (lows_of (drop 1 (map (put_in x) leaves))))
-          (λ is_low. ap (λ b. find order b (lows_of (drop 1 (map (put_in x) leaves)))) is_low ∙ not_among_others u.low (map (put_in x) leaves) new_one)
+      (λ is_low. ap (λ b. find order b (lows_of (drop 1 (map (put_in x) leaves)))) is_low ∙ not_among_others u.low (map (put_in x) leaves) new_one)
       ∙ ap (find order q) kept

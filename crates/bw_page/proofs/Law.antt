@@ -114,7 +114,7 @@ module _ (m : ℕ) (leaves : List Leaf) (k : Bytes) (d : Leaf) (some : 1 ≤ m) 
   cut_over =
       first-all (λ q. Below d.low (first_key (drop ((m + 1) / 2) d.pairs))) (take ((m + 1) / 2) d.pairs) lower_some
       (all-zip (λ p. home p.0 leaves ≡ home k leaves) (λ p. Below p.0 (first_key (drop ((m + 1) / 2) d.pairs)))
-          (λ p. Below d.low (first_key (drop ((m + 1) / 2) d.pairs)))
+      (λ p. Below d.low (first_key (drop ((m + 1) / 2) d.pairs)))
       (λ p is below. upto-below d.low p.0 (first_key (drop ((m + 1) / 2) d.pairs))
       (subst (λ (low : Bytes). UpTo low p.0) (ap (λ (x : Leaf). x.low) is ∙ sym t.low) (home-low p.0 leaves a.first)) below)
       (take ((m + 1) / 2) d.pairs)
@@ -175,8 +175,8 @@ module _ (m : ℕ) (leaves : List Leaf) (r : Record) (some : 1 ≤ m) (a : AreLe
       → find order q (home q next).pairs ≡ cond (eq_by_cmp order q (key_of r)) (value_of r) (find order q (home q leaves).pairs)
   here q next f g =
       elim ((home q leaves).page == (home (key_of r) leaves).page) as
-          (λ b. ((home q leaves).page == (home (key_of r) leaves).page) ≡ b
-          → find order q (home q next).pairs ≡ cond (eq_by_cmp order q (key_of r)) (value_of r) (find order q (home q leaves).pairs)) [
+      (λ b. ((home q leaves).page == (home (key_of r) leaves).page) ≡ b
+      → find order q (home q next).pairs ≡ cond (eq_by_cmp order q (key_of r)) (value_of r) (find order q (home q leaves).pairs)) [
         | true ↦ λ e. let same = same_home leaves q (key_of r) a.first a.pages (eqb-true _ _ e) in f same ∙ at_home m leaves r q a same
         | false ↦ λ e. elsewhere leaves next r q (eqb-false _ _ e) (g (eqb-false _ _ e))
       ] refl
@@ -193,7 +193,7 @@ module _ (m : ℕ) (leaves : List Leaf) (r : Record) (some : 1 ≤ m) (a : AreLe
 
   cut-tells : m < length (changed r (home (key_of r) leaves)).pairs → length leaves + 1 < 2 ^ 32
       → Tells m leaves r (map (put_in (lower_of m (changed r (home (key_of r) leaves)))) leaves
-          ++ upper_of m (length leaves + 1) (changed r (home (key_of r) leaves)) ∷ [])
+      ++ upper_of m (length leaves + 1) (changed r (home (key_of r) leaves)) ∷ [])
   cut-tells over room =
       let x : Leaf = changed r (home (key_of r) leaves) in
       let t = directed m leaves r a op in
@@ -218,7 +218,7 @@ module _ (m : ℕ) (leaves : List Leaf) (r : Record) (some : 1 ≤ m) (a : AreLe
             (λ ne.
             let other = home-put_elsewhere m leaves (key_of r) (lower_of m x) a into q ne in
             home-push_elsewhere m parts u lowers up q
-                (λ e. ne (sym (ap (λ (l : Leaf). l.page) other) ∙ e ∙ ap (λ (l : Leaf). l.page) cut_at ∙ t.page)) ∙ other);
+            (λ e. ne (sym (ap (λ (l : Leaf). l.page) other) ∙ e ∙ ap (λ (l : Leaf). l.page) cut_at ∙ t.page)) ∙ other);
       }
 
   -- the two forms that leaves take after a record
@@ -228,7 +228,7 @@ module _ (m : ℕ) (leaves : List Leaf) (r : Record) (some : 1 ≤ m) (a : AreLe
 
   pub applied-cut : m < length (changed r (home (key_of r) leaves)).pairs
       → applied m leaves r ≡ map (put_in (lower_of m (changed r (home (key_of r) leaves)))) leaves
-          ++ upper_of m (length leaves + 1) (changed r (home (key_of r) leaves)) ∷ []
+      ++ upper_of m (length leaves + 1) (changed r (home (key_of r) leaves)) ∷ []
   applied-cut over =
       rw (lt-leb _ m over) (ap (λ ls. ls ++ upper_of m (length leaves + 1) (changed r (home (key_of r) leaves)) ∷ [])
       (set_is_put (lower_of m (changed r (home (key_of r) leaves))) leaves a.pages (directed m leaves r a op).number.0))
@@ -236,7 +236,7 @@ module _ (m : ℕ) (leaves : List Leaf) (r : Record) (some : 1 ≤ m) (a : AreLe
   applied-tells : HasPage m leaves r → Tells m leaves r (applied m leaves r)
   applied-tells room =
       elim (nat_le (length (changed r (home (key_of r) leaves)).pairs) m) as
-          (λ b. nat_le (length (changed r (home (key_of r) leaves)).pairs) m ≡ b → Tells m leaves r (applied m leaves r)) [
+      (λ b. nat_le (length (changed r (home (key_of r) leaves)).pairs) m ≡ b → Tells m leaves r (applied m leaves r)) [
         | true ↦ λ e. let fits = leb-true _ _ e in subst (Tells m leaves r) (sym (applied-whole fits)) (whole-tells fits)
         | false ↦ λ e. let over = leb-false _ _ e in subst (Tells m leaves r) (sym (applied-cut over)) (cut-tells over (room over))
       ] refl
@@ -253,7 +253,7 @@ module _ (m : ℕ) (leaves : List Leaf) (r : Record) (some : 1 ≤ m) (room : Ha
       ∙ find-home m q (applied m leaves r) applied-lawful
       ∙ (applied-tells m leaves r some a op room).finds q
       ∙ sym (get-changed (union leaves) r q ∙ ap (λ v. cond (eq_by_cmp order q (key_of r)) (value_of r) v)
-          (get-from_entries order-total (pairs_of leaves) q ∙ find-home m q leaves a)))
+      (get-from_entries order-total (pairs_of leaves) q ∙ find-home m q leaves a)))
 
 pub pages-plain : (m : ℕ) (leaves : List Leaf) (rs : List Record) → 1 ≤ m → HasPages m leaves rs → AreLeaves m leaves → All IsOp rs
     → AreLeaves m (pages m leaves rs) × (union (pages m leaves rs) ≡ plain leaves rs)

@@ -14,7 +14,12 @@ pub mod Chains
 pub mod Ranges
 pub mod Twice
 pub mod Journals
+pub mod TakenBack
 pub mod Runs
 pub mod PutBack
 pub mod Steps
 pub mod Seating
+pub mod PageByPage
+pub mod NewerPages
+pub mod OneStanding
+pub mod LowsAlone

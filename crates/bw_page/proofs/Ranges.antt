@@ -43,7 +43,7 @@ between_home leaves l q b between max own =
     let under : UpTo (home q leaves).low l.low =
     must_not (is_below l.low (home q leaves).low) (λ more.
     not_both (is_below q (home q leaves).low) (home-all (λ y. IsTrue (is_below l.low y.low) → IsTrue (is_below q y.low)) q leaves b between.1 more)
-        (home-low q leaves b)) in
+    (home-low q leaves b)) in
     sym (home-all (λ y. l.low ≡ y.low → l.page ≡ y.page) q leaves b own (upto-antisymm l.low (home q leaves).low over under))
 
 pub ranges_homes : (m : ℕ) (leaves : List Leaf) → AreRanged m leaves → AreLeaves m leaves

@@ -1,20 +1,27 @@
 -- A journal of records that were applied takes them back, the newest first.
 
-use Rattle.std.proofs.Common.{◌≡◌, ℕ, zero, suc, ◌≤◌, arith, Some, List, [], ◌∷◌, ◌++◌, take, refl, sym, ap, ◌∙◌, subst}
+use Rattle.std.proofs.Common.{◌≡◌, ℕ, zero, suc, ◌<◌, ◌≤◌, arith, true, false, Some, None, nat_le, length, if◌then◌else◌, List, []}
+use Rattle.std.proofs.Common.{◌∷◌, ◌++◌, take, refl, sym, ap, ◌∙◌, subst}
 use Rattle.std.specs.List.{AllByRecursion as All, slice_get}
+use Rattle.std.specs.FinMap.Entries.{find}
+use Rattle.std.proofs.lemmas.Bool.{leb-true, le-leb, lt-leb}
 use Rattle.std.proofs.lemmas.List.Sums.{fold_push}
 use Rattle.bw_codec.specs.Grammar.{IsOp}
 use Rattle.bw_codec.specs.Record.{key_of}
 use Rattle.bw_codec.specs.declared.leaf.Leaf.{Leaf}
 use Rattle.bw_codec.specs.declared.record.Record.{Record}
 use Rattle.bw_page.specs.declared.journal.Undo.{Undo}
-use Rattle.bw_page.specs.Leaves.{applied, pages, HasPage, HasPages, AreLeaves, union, plain}
+use Rattle.bw_page.specs.declared.journal.Undo.TheVariants.{Back, Page}
+use Rattle.bw_page.specs.declared.journal.Displaced.{Displaced}
+use Rattle.bw_page.specs.Leaves.{order, home, result_of, applied, pages, HasPage, HasPages, AreLeaves, union, plain}
+use Rattle.bw_page.specs.Seek.{back_of}
 use Rattle.bw_page.specs.Filed.{Filed}
 use Rattle.bw_page.specs.Batch.{SomeIsSpent}
-use Rattle.bw_page.specs.Journal.{after_record, run, undo_of, journal_of, undone, all_undone, Ran, IsJournal, IsNewest}
+use Rattle.bw_page.specs.Journal.{after_record, run, displaced_by, undo_by, undo_of, journal_of, undone, all_undone, Ran, IsJournal, IsNewest}
 use Rattle.bw_page.proofs.Sorted.{all-push}
 use Rattle.bw_page.proofs.Law.{applied-lawful, pages-plain}
 use Rattle.bw_page.proofs.Journals.{stepped, goes_back}
+use Rattle.bw_page.proofs.TakenBack.{leaves_back}
 
 -- ---- one record more
 
@@ -57,13 +64,76 @@ ran_more start now next rs r us u h op room e d = record {
 
 -- ---- one record back
 
+pub undone_of : (f : Filed) (r : Record) → 1 ≤ f.m → HasPage f.m f.leaves r → AreLeaves f.m f.leaves → IsOp r
+    → undone (after_record f r) (undo_of f r) ≡ f
+undone_of f r some room a op =
+    let old = find order (key_of r) (home (key_of r) f.leaves).pairs in
+    let page : undone (after_record f r) (Page (displaced_by f r)) ≡ f =
+    ap (λ (ls : List Leaf). let g : Filed = record f { leaves = ls } in g)
+    (goes_back f.m f.leaves (key_of r) a (applied f.m f.leaves r) (stepped f.m f.leaves r some room a op)) in
+    elim (nat_le (length (result_of f.leaves r).pairs) f.m) as (λ b. nat_le (length (result_of f.leaves r).pairs) f.m ≡ b
+    → undone (after_record f r) (if b then undo_by (back_of r old) (displaced_by f r) else Page (displaced_by f r)) ≡ f) [
+      | true ↦ λ e. elim (back_of r old) as (λ o. back_of r old ≡ o → undone (after_record f r) (undo_by o (displaced_by f r)) ≡ f) [
+        | Some back ↦ λ is. ap (λ (ls : List Leaf). let g : Filed = record f { leaves = ls } in g)
+            (leaves_back f.m f.leaves r back some a op (leb-true _ _ e) is)
+        | None ↦ λ is. page
+      ] refl
+      | false ↦ λ e. page
+    ] refl
+
 pub back_one : (now : Filed) (u : Undo) → (n : IsNewest now u) → undone now u ≡ n.before
 back_one now u n =
     ap (λ f. undone f u) n.is
     ∙ ap (undone (after_record n.before n.change)) n.displaced
-    ∙ ap (λ (ls : List Leaf). let g : Filed = record n.before { leaves = ls } in g)
-    (goes_back n.before.m n.before.leaves (key_of n.change) n.lawful (applied n.before.m n.before.leaves n.change)
-        (stepped n.before.m n.before.leaves n.change n.some n.room n.lawful n.op))
+    ∙ undone_of n.before n.change n.some n.room n.lawful n.op
+
+-- what is kept of a record: one that takes it back, or the displaced leaf
+pub undo_back : (f : Filed) (r back : Record) → length (result_of f.leaves r).pairs ≤ f.m
+    → Some back ≡ back_of r (find order (key_of r) (home (key_of r) f.leaves).pairs) → Back back ≡ undo_of f r
+undo_back f r back fits is =
+    let few = le-leb (length (result_of f.leaves r).pairs) f.m fits in
+    λ i. if sym few i then undo_by (is i) (displaced_by f r) else Page (displaced_by f r)
+
+pub undo_cut : (f : Filed) (r : Record) (d : Displaced) → d ≡ displaced_by f r → f.m < length (result_of f.leaves r).pairs → Page d ≡ undo_of f r
+undo_cut f r d e over =
+    let many = lt-leb (length (result_of f.leaves r).pairs) f.m over in
+    λ i. if sym many i then undo_by (back_of r (find order (key_of r) (home (key_of r) f.leaves).pairs)) (displaced_by f r) else Page (e i)
+
+pub undo_lost : (f : Filed) (r : Record) (d : Displaced) → d ≡ displaced_by f r
+    → None ≡ back_of r (find order (key_of r) (home (key_of r) f.leaves).pairs) → Page d ≡ undo_of f r
+undo_lost f r d e is =
+    elim (nat_le (length (result_of f.leaves r).pairs) f.m) as (λ b. Page d ≡ (if b
+    then undo_by (back_of r (find order (key_of r) (home (key_of r) f.leaves).pairs)) (displaced_by f r) else Page (displaced_by f r))) [
+      | true ↦ λ i. undo_by (is i) (e i)
+      | false ↦ ap Page e
+    ]
+
+-- what takes a record back, where it is the displaced leaf
+pub page_of : (f : Filed) (r : Record) (d : Displaced) → Page d ≡ undo_of f r → d ≡ displaced_by f r
+page_of f r d e =
+    let old = find order (key_of r) (home (key_of r) f.leaves).pairs in
+    elim (nat_le (length (result_of f.leaves r).pairs) f.m) as
+    (λ b. Page d ≡ (if b then undo_by (back_of r old) (displaced_by f r) else Page (displaced_by f r)) → d ≡ displaced_by f r) [
+      | true ↦ elim (back_of r old) as (λ o. Page d ≡ undo_by o (displaced_by f r) → d ≡ displaced_by f r)
+          [ Some back ↦ λ h. absurd (cc) | None ↦ λ h. (cc) ]
+      | false ↦ λ h. (cc)
+    ] e
+
+-- where it is a record
+pub back_is : (f : Filed) (r back : Record) → Back back ≡ undo_of f r
+    → (length (result_of f.leaves r).pairs ≤ f.m) × (back_of r (find order (key_of r) (home (key_of r) f.leaves).pairs) ≡ Some back)
+back_is f r back e =
+    let old = find order (key_of r) (home (key_of r) f.leaves).pairs in
+    elim (nat_le (length (result_of f.leaves r).pairs) f.m) as (λ b. nat_le (length (result_of f.leaves r).pairs) f.m ≡ b
+    → Back back ≡ (if b then undo_by (back_of r old) (displaced_by f r) else Page (displaced_by f r))
+    → (length (result_of f.leaves r).pairs ≤ f.m) × (back_of r old ≡ Some back)) [
+      | true ↦ λ t h. (
+        leb-true _ _ t,
+        elim (back_of r old) as (λ o. Back back ≡ undo_by o (displaced_by f r) → o ≡ Some back)
+            [ Some b ↦ λ k. (let same : back ≡ b = cc in ap Some (sym same)) | None ↦ λ k. absurd (cc) ] h,
+      )
+      | false ↦ λ t h. absurd (cc)
+    ] refl e
 
 -- the newest record of a journal
 pub record Last (f : Filed) (rs : List Record) (us : List Undo) (u : Undo) : Type 0 where
@@ -136,7 +206,7 @@ all_back_by start (r ∷ rs) some here a ops room =
     let lawful = applied-lawful start.m start.leaves r some room.0 a ops.0 in
     ap (λ f. undone f (undo_of start r)) (all_back_by (after_record start r) rs some here lawful ops.1 room.1)
     ∙ back_one (after_record start r) (undo_of start r)
-        (record { before = start; change = r; some = some; here = here; lawful = a; op = ops.0; room = room.0; is = refl; displaced = refl })
+    (record { before = start; change = r; some = some; here = here; lawful = a; op = ops.0; room = room.0; is = refl; displaced = refl })
 
 -- all records taken back
 pub all_back : (start : Filed) (rs : List Record) (now : Filed) (us : List Undo) → Ran start rs now us → all_undone now us ≡ start

@@ -4,7 +4,7 @@ use Rattle.std.proofs.Common.{◌≡◌, ◌≢◌, ℕ, zero, suc, ◌+◌, ◌
 use Rattle.std.proofs.Common.{sym, ap, ◌∙◌, arith, length-append}
 use Rattle.std.specs.Prelude.{slice_set}
 use Rattle.std.specs.List.{slice_get}
-use Rattle.std.proofs.lemmas.List.{length-map}
+use Rattle.std.proofs.lemmas.List.{length-map, get_or-map}
 use Rattle.std.proofs.lemmas.Bool.{eqb-true, eqb-false, eq-eqb, ne_eqb}
 use Rattle.bw_codec.specs.declared.leaf.Leaf.{Leaf}
 use Rattle.bw_page.specs.declared.seats.Seats.TheInside.{Inside}
@@ -71,7 +71,7 @@ away-kept n (suc at) s (x ∷ ss) h = ap (λ (ps : List ℕ). cond x.is_away (n 
 same_cond : (a b : ℕ) (c d : ℕ) → (a ≡ b → c ≡ d) → (c ≡ d → a ≡ b) → (a == b) ≡ (c == d)
 same_cond a b c d f g =
     elim (a == b) as (λ x. (a == b) ≡ x → x ≡ (c == d))
-        [ true ↦ λ e. sym (eq-eqb _ _ (f (eqb-true _ _ e))) | false ↦ λ e. sym (ne_eqb _ _ (λ h. eqb-false _ _ e (g h))) ] refl
+    [ true ↦ λ e. sym (eq-eqb _ _ (f (eqb-true _ _ e))) | false ↦ λ e. sym (ne_eqb _ _ (λ h. eqb-false _ _ e (g h))) ] refl
 
 in-set : (ss : List Seated) (at i : ℕ) (s : Seated) → at < length ss → away_in (slice_set ss at s) i ≡ cond (i == at) s.is_away (away_in ss i)
 in-set [] at i s h = absurd (omega arith)
@@ -130,6 +130,14 @@ count_is a v e = sym (length-map a.seats.items (λ (s : Seated). s.leaf)) ∙ ap
 pub away_is : (a : Inside) (v : Seating) → seats_view a ≡ v → (at : ℕ) → is_among (at + 1) v.away ≡ away_in a.seats.items at
 away_is a v e at = ap (λ (x : Seating). is_among (at + 1) x.away) (sym e) ∙ is_away_at at a.seats.items
 
+-- the leaf of a seat
+pub leaf_got : (a : Inside) (v : Seating) → seats_view a ≡ v → (at : ℕ) (s : Seated) (d : Leaf) → at < length a.seats.items
+    → s ≡ get_or a.seats.items at s → get_or v.items at d ≡ s.leaf
+leaf_got a v e at s d h is =
+    ap (λ (x : Seating). get_or x.items at d) (sym e)
+    ∙ get_or-map (λ (x : Seated). x.leaf) a.seats.items at s d h
+    ∙ ap (λ (x : Seated). x.leaf) (sym is)
+
 -- the last seat, where the last page is here
 pub last_here : (a : Inside) (v : Seating) → seats_view a ≡ v → (ss : List Seated) (s : Seated) → a.seats.items ≡ ss ++ s ∷ []
     → is_among (length v.items) v.away ≡ false → s.is_away ≡ false
@@ -139,7 +147,7 @@ last_here a v e ss s is here =
     let all : length a.seats.items ≡ length (ss ++ s ∷ []) = ap length is in
     let last : length v.items ≡ length ss + 1 = omega arith in
     sym (in-last s ss) ∙ ap (λ (xs : List Seated). away_in xs (length ss)) (sym is) ∙ sym (away_is a v e (length ss))
-        ∙ ap (λ n. is_among n v.away) (sym last) ∙ here
+    ∙ ap (λ n. is_among n v.away) (sym last) ∙ here
 
 -- ---- a page's leaf written over itself
 

@@ -23,16 +23,19 @@ Sought key ps puts less (Err at) = ((value : Bytes) → insert ps at (key, value
 
 further : (key : Bytes) (p : Bytes × Bytes) (ps : Pairs) (puts : Bytes → Pairs) (less : Pairs) (s : Result ℕ ℕ) → Sought key ps puts less s
     → Sought key (p ∷ ps) (λ v. p ∷ puts v) (p ∷ less) (passed 1 s)
-further key p ps puts less (Ok at) h = (λ v. ap (λ n. slice_set (p ∷ ps) n (key, v)) (one-add at)
-    ∙ ap (λ xs. p ∷ xs) (h.0 v), ap (λ n. remove (p ∷ ps) n) (one-add at) ∙ ap (λ xs. p ∷ xs) h.1)
+further key p ps puts less (Ok at) h = (
+  λ v. ap (λ n. slice_set (p ∷ ps) n (key, v)) (one-add at)
+      ∙ ap (λ xs. p ∷ xs) (h.0 v),
+  ap (λ n. remove (p ∷ ps) n) (one-add at) ∙ ap (λ xs. p ∷ xs) h.1,
+)
 further key p ps puts less (Err at) h = (λ v. ap (λ n. insert (p ∷ ps) n (key, v)) (one-add at) ∙ ap (λ xs. p ∷ xs) (h.0 v), ap (λ xs. p ∷ xs) h.1)
 
 pub sought : (key : Bytes) (ps : Pairs) → Sought key ps (λ v. put order key v ps) (without key ps) (seek_of key ps)
 sought key [] = (λ v. refl, refl)
 sought key (p ∷ ps) =
     elim (order key p.0) as (λ o. order key p.0 ≡ o
-        → Sought key (p ∷ ps) (λ v. by_order o ((key, v) ∷ p ∷ ps) ((p.0, v) ∷ ps) (p ∷ put order key v ps)) (by_order o (p ∷ ps) ps (p ∷ without key ps))
-        (by_order o (Err 0) (Ok 0) (passed 1 (seek_of key ps)))) [
+    → Sought key (p ∷ ps) (λ v. by_order o ((key, v) ∷ p ∷ ps) ((p.0, v) ∷ ps) (p ∷ put order key v ps)) (by_order o (p ∷ ps) ps (p ∷ without key ps))
+    (by_order o (Err 0) (Ok 0) (passed 1 (seek_of key ps)))) [
       | Less ↦ λ e. (λ v. refl, refl)
       | Equal ↦ λ e. (λ v. ap (λ (k : Bytes). (k, v) ∷ ps) (order-same key p.0 e), refl)
       | Greater ↦ λ e. further key p ps (λ v. put order key v ps) (without key ps) (seek_of key ps) (sought key ps)
@@ -46,14 +49,20 @@ sought_at key ps s e = subst (λ (t : Result ℕ ℕ). Sought key ps (λ v. put 
 pub put_there : (leaf : Leaf) (r : Record) (key value : Bytes) (s : Result ℕ ℕ) → r ≡ Put key value → s ≡ seek_of key leaf.pairs
     → ((ps : Pairs) → ps ≡ put order key value leaf.pairs → record leaf { pairs = ps } ≡ changed r leaf)
     × Sought key leaf.pairs (λ v. put order key v leaf.pairs) (without key leaf.pairs) s
-put_there leaf r key value s is e = (λ ps same. let to : changed (Put key value) leaf ≡ changed r leaf = ap (λ (x : Record). changed x leaf) (sym is)
-    in ap (λ (x : Pairs). record leaf { pairs = x }) same ∙ to, sought_at key leaf.pairs s e)
+put_there leaf r key value s is e = (
+  λ ps same. let to : changed (Put key value) leaf ≡ changed r leaf = ap (λ (x : Record). changed x leaf) (sym is)
+      in ap (λ (x : Pairs). record leaf { pairs = x }) same ∙ to,
+  sought_at key leaf.pairs s e,
+)
 
 pub gone_there : (leaf : Leaf) (r : Record) (key : Bytes) (s : Result ℕ ℕ) → r ≡ Del key → s ≡ seek_of key leaf.pairs
     → ((ps : Pairs) → ps ≡ without key leaf.pairs → record leaf { pairs = ps } ≡ changed r leaf)
     × Sought key leaf.pairs (λ v. put order key v leaf.pairs) (without key leaf.pairs) s
-gone_there leaf r key s is e = (λ ps same. let to : changed (Del key) leaf ≡ changed r leaf = ap (λ (x : Record). changed x leaf) (sym is)
-    in ap (λ (x : Pairs). record leaf { pairs = x }) same ∙ to, sought_at key leaf.pairs s e)
+gone_there leaf r key s is e = (
+  λ ps same. let to : changed (Del key) leaf ≡ changed r leaf = ap (λ (x : Record). changed x leaf) (sym is)
+      in ap (λ (x : Pairs). record leaf { pairs = x }) same ∙ to,
+  sought_at key leaf.pairs s e,
+)
 
 -- how many pairs a put and a delete make there
 abbrev pub Counted : Bytes → Pairs → Result ℕ ℕ → Type 0

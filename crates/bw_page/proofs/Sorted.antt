@@ -163,12 +163,12 @@ find-back q (suc n) (p ∷ ps) h = find-back q n ps h.1 ∙ sym (ap (λ b. cond 
 pub find-lower : (q : Bytes) (n : ℕ) (ps : Pairs) → Rises ps → Below q (first_key (drop n ps)) → find order q (take n ps) ≡ find order q ps
 find-lower q n ps r b =
     find-front q n ps (all-map (λ p. UpTo (first_key (drop n ps)) p.0) (λ p. eq_by_cmp order q p.0 ≡ false) (λ p u. below_apart q p.0 (below-upto q _ p.0 b u))
-        (drop n ps) (upper_from n ps r))
+    (drop n ps) (upper_from n ps r))
 
 pub find-upper : (q : Bytes) (n : ℕ) (ps : Pairs) → n < length ps → Rises ps → UpTo (first_key (drop n ps)) q → find order q (drop n ps) ≡ find order q ps
 find-upper q n ps h r u =
     find-back q n ps (all-map (λ p. Below p.0 (first_key (drop n ps))) (λ p. eq_by_cmp order q p.0 ≡ false) (λ p b. above_apart q p.0 (below-upto p.0 _ q b u))
-        (take n ps) (lower_below n ps h r))
+    (take n ps) (lower_below n ps h r))
 
 -- ---- changed
 
@@ -184,7 +184,7 @@ without_is : (key : Bytes) (ps : Pairs) → Rises ps → without key ps ≡ wher
 without_is key [] r = refl
 without_is key (p ∷ ps) r =
     elim (order key p.0) as (λ o. order key p.0 ≡ o
-        → by_order o (p ∷ ps) ps (p ∷ without key ps) ≡ cond (not (is_eq o)) (p ∷ where_key order (other key) ps) (where_key order (other key) ps)) [
+    → by_order o (p ∷ ps) ps (p ∷ without key ps) ≡ cond (not (is_eq o)) (p ∷ where_key order (other key) ps) (where_key order (other key) ps)) [
       | Less ↦ λ e. ap (λ xs. p ∷ xs) (sym (kept_above key ps (below_next key p ps (ap is_lt e) r.0)))
       | Equal ↦ λ e. sym (subst (λ k. where_key order (other k) ps ≡ ps) (sym (order-same key p.0 e)) (kept_above p.0 ps r.0))
       | Greater ↦ λ e. ap (λ xs. p ∷ xs) (without_is key ps r.1)

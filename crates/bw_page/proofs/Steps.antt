@@ -26,7 +26,7 @@ pub kept-lower : (m page : ℕ) (leaf : Leaf) → (m + 1) / 2 < length leaf.pair
 kept-lower m page leaf within r =
     ap (λ (ps : Pairs). record leaf { pairs = ps })
     (filter-take (first_key (drop ((m + 1) / 2) leaf.pairs)) ((m + 1) / 2) leaf.pairs (lower_below ((m + 1) / 2) leaf.pairs within r)
-        (upper_from ((m + 1) / 2) leaf.pairs r))
+    (upper_from ((m + 1) / 2) leaf.pairs r))
 
 slice_get-map : (f : Leaf → Leaf) (ls : List Leaf) (n : ℕ) → slice_get (map f ls) n ≡ option_map f (slice_get ls n)
 slice_get-map f [] n = refl

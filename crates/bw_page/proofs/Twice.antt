@@ -48,9 +48,9 @@ one_word q (r ∷ rs) =
       | inl none ↦ elim (eq_by_cmp order q (key_of r)) as
           (λ b. eq_by_cmp order q (key_of r) ≡ b → ((v : Option Bytes) → told_of q (r ∷ rs) v ≡ v)
           ⊎ ((w : Option Bytes) × ((v : Option Bytes) → told_of q (r ∷ rs) v ≡ w))) [
-        | true ↦ λ e. inr (value_of r, λ v. none (cond (eq_by_cmp order q (key_of r)) (value_of r) v) ∙ ap (λ b. cond b (value_of r) v) e)
-        | false ↦ λ e. inl (λ v. none (cond (eq_by_cmp order q (key_of r)) (value_of r) v) ∙ ap (λ b. cond b (value_of r) v) e)
-      ] refl
+            | true ↦ λ e. inr (value_of r, λ v. none (cond (eq_by_cmp order q (key_of r)) (value_of r) v) ∙ ap (λ b. cond b (value_of r) v) e)
+            | false ↦ λ e. inl (λ v. none (cond (eq_by_cmp order q (key_of r)) (value_of r) v) ∙ ap (λ b. cond b (value_of r) v) e)
+          ] refl
     ]
 
 words-twice : (q : Bytes) (records : List Record) (v : Option Bytes) → told_of q records (told_of q records v) ≡ told_of q records v

@@ -28,7 +28,7 @@ reads_all : (key : Bytes) (ps : Pairs) → Rises ps → Reads (find order key ps
 reads_all key [] r = refl
 reads_all key (p ∷ ps) r =
     elim (order key p.0) as (λ o. order key p.0 ≡ o
-        → Reads (cond (is_eq o) (Some p.1) (find order key ps)) (p ∷ ps) (by_order o (Err 0) (Ok 0) (passed 1 (seek_of key ps)))) [
+    → Reads (cond (is_eq o) (Some p.1) (find order key ps)) (p ∷ ps) (by_order o (Err 0) (Ok 0) (passed 1 (seek_of key ps)))) [
       | Less ↦ λ e. find-none key ps (all-map (λ q. Below p.0 q.0) (λ q. eq_by_cmp order key q.0 ≡ false)
           (λ q b. below_apart key q.0 (below-trans key p.0 q.0 (ap is_lt e) b)) ps r.0)
       | Equal ↦ λ e d. refl

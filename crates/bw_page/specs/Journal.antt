@@ -1,26 +1,43 @@
--- What records displaced, one after the other, so that they can be taken back.
+-- What takes records back, one after the other.
 
-use Rattle.std.specs.Prelude.{◌≡◌, ◌≤◌, List, [], ◌∷◌, length, take}
+use Rattle.std.specs.Prelude.{◌≡◌, ◌≤◌, nat_le, if◌then◌else◌, Option, Some, None, List, [], ◌∷◌, length, take}
 use Rattle.std.specs.List.{AllByRecursion}
+use Rattle.std.specs.FinMap.Entries.{find}
 use Rattle.bw_codec.specs.Grammar.{IsOp}
 use Rattle.bw_codec.specs.Record.{key_of}
 use Rattle.bw_codec.specs.declared.record.Record.{Record}
 use Rattle.bw_page.specs.declared.journal.Undo.{Undo}
-use Rattle.bw_page.specs.Leaves.{home, with_leaf, HasPage, HasPages, AreLeaves}
+use Rattle.bw_page.specs.declared.journal.Undo.TheVariants.{Back, Page}
+use Rattle.bw_page.specs.declared.journal.Displaced.{Displaced}
+use Rattle.bw_page.specs.Leaves.{order, home, result_of, with_leaf, HasPage, HasPages, AreLeaves}
+use Rattle.bw_page.specs.Seek.{back_of}
 use Rattle.bw_page.specs.Filed.{Filed}
 pub use Rattle.bw_page.specs.Filed.{after_record, run}
 
 -- the leaf that a record displaces, and how many pages there were
+abbrev pub displaced_by : Filed → Record → Displaced
+displaced_by f r = record { leaf = home (key_of r) f.leaves; pages = length f.leaves }
+
+abbrev pub undo_by : Option Record → Displaced → Undo
+undo_by (Some back) d = Back back
+undo_by None d = Page d
+
+-- what takes a record back: a record that adds no pair, if there is one and the page is not cut; else the displaced leaf
 abbrev pub undo_of : Filed → Record → Undo
-undo_of f r = record { leaf = home (key_of r) f.leaves; pages = length f.leaves }
+undo_of f r =
+    if nat_le (length (result_of f.leaves r).pairs) f.m
+    then undo_by (back_of r (find order (key_of r) (home (key_of r) f.leaves).pairs)) (displaced_by f r)
+    else Page (displaced_by f r)
 
 abbrev pub journal_of : Filed → List Record → List Undo
 journal_of f [] = []
 journal_of f (r ∷ rs) = undo_of f r ∷ journal_of (after_record f r) rs
 
--- a displaced leaf in its place again, and the page behind all others gone that was not there
+-- a record's leaf changed once more; or a displaced leaf in its place again, and the page behind all others gone that
+-- was not there
 abbrev pub undone : Filed → Undo → Filed
-undone f u = record f { leaves = with_leaf (take u.pages f.leaves) u.leaf }
+undone f (Back back) = record f { leaves = with_leaf f.leaves (result_of f.leaves back) }
+undone f (Page d) = record f { leaves = with_leaf (take d.pages f.leaves) d.leaf }
 
 -- the newest first
 abbrev pub all_undone : Filed → List Undo → Filed

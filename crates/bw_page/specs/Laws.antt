@@ -1,12 +1,20 @@
--- What holds of leaves and of chains over the definitions alone.
+-- What holds of leaves, of chains and of frames over the definitions alone.
 
-use Rattle.std.specs.Prelude.{ℕ, ◌≡◌, ◌↔◌, false, IsTrue, List, ◌++◌}
+use Rattle.std.specs.Prelude.{ℕ, ◌+◌, ◌<◌, ◌≤◌, ◌≡◌, ◌↔◌, ◌==◌, false, IsTrue, if◌then◌else◌, Some, List, ◌++◌, map, length}
 use Rattle.std.specs.List.{AllByRecursion}
 use Rattle.bw_codec.specs.Bytes.{is_below, ascends}
-use Rattle.bw_codec.specs.Grammar.{IsBase}
+use Rattle.bw_codec.specs.Grammar.{IsBase, IsOp}
+use Rattle.bw_codec.specs.declared.block.Frame.{Frame}
 use Rattle.bw_codec.specs.declared.leaf.Leaf.{Leaf}
 use Rattle.bw_codec.specs.declared.record.Record.{Record}
-use Rattle.bw_page.specs.Leaves.{Bytes, all_changed, AreNumbered, BeginsEmpty, HaveOwnLows, AreLeaves}
+use Rattle.bw_page.specs.declared.chain.Link.{Link}
+use Rattle.bw_page.specs.Leaves.{Bytes, all_changed, home, directed_at, result_of, leaf_at, AreNumbered, BeginsEmpty, HaveOwnLows, AreLeaves}
+use Rattle.bw_page.specs.Leaves.{lower_of, upper_of, applied}
+use Rattle.bw_page.specs.Links.{told}
+use Rattle.bw_page.specs.Lows.{home_page}
+use Rattle.bw_page.specs.Standing.{Stand}
+
+-- ---- leaves
 
 -- a key lies at or above a leaf's low, and below each greater low, so below the next one
 abbrev pub LiesBetween : List Leaf → Leaf → Bytes → Type 0
@@ -26,11 +34,44 @@ pub record AreRanged (m : ℕ) (leaves : List Leaf) : Type 0 where
 abbrev pub HomesAreRanges : Type 0
 HomesAreRanges = (m : ℕ) (leaves : List Leaf) → AreLeaves m leaves ↔ AreRanged m leaves
 
+-- the lows alone tell at which page a record is directed
+abbrev pub LowsTell : Type 0
+LowsTell = (m : ℕ) (leaves : List Leaf) (key : Bytes) → AreLeaves m leaves → home_page key (map (λ l. l.low) leaves) ≡ (home key leaves).page
+
+-- leaves after a record, page by page: the page that it changes, or the lower part of that page; the new page; and all
+-- others as before
+pub record ChangesOnePage (m : ℕ) (leaves : List Leaf) (r : Record) : Type 0 where
+  pub whole : length (result_of leaves r).pairs ≤ m → (p : ℕ)
+      → leaf_at p (applied m leaves r) ≡ (if directed_at leaves r == p then Some (result_of leaves r) else leaf_at p leaves)
+  pub as_many : length (result_of leaves r).pairs ≤ m → length (applied m leaves r) ≡ length leaves
+  pub lower : m < length (result_of leaves r).pairs → (p : ℕ) → p ≤ length leaves
+      → leaf_at p (applied m leaves r) ≡ (if directed_at leaves r == p then Some (lower_of m (result_of leaves r)) else leaf_at p leaves)
+  pub upper : m < length (result_of leaves r).pairs
+      → leaf_at (length leaves + 1) (applied m leaves r) ≡ Some (upper_of m (length leaves + 1) (result_of leaves r))
+  pub one_more : m < length (result_of leaves r).pairs → length (applied m leaves r) ≡ length leaves + 1
+
+-- a record does to lawful leaves what it does page by page
+abbrev pub AppliesPageByPage : Type 0
+AppliesPageByPage = (m : ℕ) (leaves : List Leaf) (r : Record) → 1 ≤ m → AreLeaves m leaves → IsOp r → ChangesOnePage m leaves r
+
+-- ---- chains
+
 -- records applied twice in a row do what they do once
 abbrev pub TwiceIsOnce : Type 0
 TwiceIsOnce = (leaf : Leaf) (records : List Record) → IsTrue (ascends leaf.pairs) → all_changed records (all_changed records leaf) ≡ all_changed records leaf
 
--- so a chain may be read over a newer page of the log, in which its oldest records stand already
+-- so records may be read over a newer page of the log, in which the oldest of them stand already
 abbrev pub ReadsOverNewer : Type 0
 ReadsOverNewer =
     (leaf : Leaf) (old new : List Record) → IsTrue (ascends leaf.pairs) → all_changed (old ++ new) (all_changed old leaf) ≡ all_changed (old ++ new) leaf
+
+-- and so may the links of a chain
+abbrev pub ChainsReadOverNewer : Type 0
+ChainsReadOverNewer =
+    (leaf : Leaf) (new old : List Link) → IsTrue (ascends leaf.pairs) → told (new ++ old) (told old leaf) ≡ told (new ++ old) leaf
+
+-- ---- frames
+
+-- frames stand for one list of leaves only
+abbrev pub StandsAsOne : Type 0
+StandsAsOne = (m : ℕ) (frames : List Frame) (a b : List Leaf) → Stand m frames a → Stand m frames b → a ≡ b

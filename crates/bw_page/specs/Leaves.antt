@@ -69,6 +69,10 @@ home key (l ∷ ls) = best key l ls
 abbrev pub directed_at : List Leaf → Record → ℕ
 directed_at leaves r = (home (key_of r) leaves).page
 
+-- the leaf at whose page a record is directed, after the record, however many pairs it then has
+abbrev pub result_of : List Leaf → Record → Leaf
+result_of leaves r = changed r (home (key_of r) leaves)
+
 -- the leaf of a page
 abbrev pub leaf_at : ℕ → List Leaf → Option Leaf
 leaf_at zero leaves = None

@@ -1,16 +1,21 @@
+-- what callers see, in reading order
+
 pub mod Leaves
 pub mod Filed
-pub mod Lows
-pub mod Paged
-pub mod Seek
+pub mod Batch
 pub mod Standing
-pub mod FirstPath
 pub mod Links
+pub mod Lows
+pub mod Laws
+pub mod FirstPath
+-- what private functions say, and how values stand in memory
+
+pub mod Paged
 pub mod Linked
 pub mod Marks
-pub mod Journal
-pub mod Batch
-pub mod Cutting
-pub mod Laws
 pub mod Seats
 pub mod Seating
+pub mod Seek
+pub mod Aim
+pub mod Cutting
+pub mod Journal

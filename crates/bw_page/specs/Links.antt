@@ -1,9 +1,10 @@
 -- A page in memory: links of a chain, newest first, over a whole page or over a place in the log.
 
-use Rattle.std.specs.Prelude.{ℕ, ◌+◌, Bool, true, false, Option, Some, None, List, [], ◌∷◌}
+use Rattle.std.specs.Prelude.{ℕ, ◌+◌, Bool, true, false, Option, Some, None, List, [], ◌∷◌, ◌++◌}
 use Rattle.std.specs.Option.{option_map, unwrap_or}
 use Rattle.bw_codec.specs.declared.block.Place.{Place}
 use Rattle.bw_codec.specs.declared.leaf.Leaf.{Leaf}
+use Rattle.bw_codec.specs.declared.record.Record.{Record}
 use Rattle.bw_page.specs.declared.chain.Link.{Link}
 use Rattle.bw_page.specs.declared.chain.Link.TheVariants.{Delta, Flushed}
 use Rattle.bw_page.specs.declared.chain.End.{End}
@@ -28,6 +29,12 @@ abbrev pub told : List Link → Leaf → Leaf
 told [] leaf = leaf
 told (Delta r ∷ links) leaf = changed r (told links leaf)
 told (Flushed place ∷ links) leaf = told links leaf
+
+-- the records of links, oldest first
+abbrev pub records_of : List Link → List Record
+records_of [] = []
+records_of (Delta r ∷ links) = records_of links ++ r ∷ []
+records_of (Flushed place ∷ links) = records_of links
 
 -- how many records there are
 abbrev pub count_deltas : List Link → ℕ

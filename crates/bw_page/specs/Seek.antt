@@ -1,7 +1,9 @@
--- A search among pairs from the front.
+-- A search among pairs from the front, and what a record does where it ended.
 
-use Rattle.std.specs.Prelude.{ℕ, ◌+◌, ◌<◌, ◌≤◌, Result, Ok, Err, [], ◌∷◌}
+use Rattle.std.specs.Prelude.{ℕ, ◌+◌, ◌<◌, ◌≤◌, Option, Some, None, Result, Ok, Err, [], ◌∷◌}
 use Rattle.std.specs.FinMap.Entries.{by_order}
+use Rattle.bw_codec.specs.declared.record.Record.{Record}
+use Rattle.bw_codec.specs.declared.record.Record.TheVariants.{Put, Del}
 use Rattle.bw_page.specs.Leaves.{Bytes, Pairs, order}
 
 -- the end of a search behind n other pairs
@@ -18,3 +20,16 @@ seek_of key (p ∷ ps) = by_order (order key p.0) (Err 0) (Ok 0) (passed 1 (seek
 abbrev pub IsWithin : ℕ → Result ℕ ℕ → Type 0
 IsWithin n (Ok at) = at < n
 IsWithin n (Err at) = at ≤ n
+
+-- a record adds no pair where the search for its key ended so
+abbrev pub AddsNone : Record → Result ℕ ℕ → Type 0
+AddsNone (Put key value) (Ok at) = Unit {0}
+AddsNone (Put key value) (Err at) = ⊥
+AddsNone (Del key) found = Unit {0}
+
+-- the record that takes a record back, where its key had this value; there is none that would add a pair
+abbrev pub back_of : Record → Option Bytes → Option Record
+back_of (Put key value) (Some old) = Some (Put key old)
+back_of (Put key value) None = Some (Del key)
+back_of (Del key) (Some old) = None
+back_of (Del key) None = Some (Del key)

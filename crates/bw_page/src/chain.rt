@@ -39,8 +39,9 @@ impl Default for Link {
 /// The links of a page over a whole page or over the log.
 #[derive(Drop)]
 pub struct Chain {
-    /// Oldest first, so that the newest is a push.
-    links: SmallVec<Link, 2>,
+    /// Oldest first, so that the newest is a push. None stands in the chain itself: there is one a
+    /// page, most have no link, and a link has some 220 bytes.
+    links: SmallVec<Link, 0>,
     end: End,
 }
 
@@ -55,11 +56,11 @@ impl Model for Chain {
 }
 
 impl Chain {
-    /// A whole page without any link.
+    /// A whole page without any link, nor room for one. No memory is taken.
     pub fn whole(alloc: Global, leaf: Leaf) -> Chain
         ensures links { result.links ≡ [] }
         ensures end { result.end ≡ End.Whole leaf }
-        ensures room { result.room ≡ 2 }
+        ensures room { result.room ≡ 0 }
     {
         Chain {
             links: SmallVec::new(alloc),
@@ -67,11 +68,11 @@ impl Chain {
         }
     }
 
-    /// A page in the log without any link.
+    /// A page in the log without any link, nor room for one. No memory is taken.
     pub fn on_log(alloc: Global, place: Place) -> Chain
         ensures links { result.links ≡ [] }
         ensures end { result.end ≡ End.OnLog place }
-        ensures room { result.room ≡ 2 }
+        ensures room { result.room ≡ 0 }
     {
         Chain {
             links: SmallVec::new(alloc),

@@ -1,10 +1,11 @@
 //! One leaf and one record.
 
-ghost use Rattle.std.specs.Prelude.{◌≡◌, length, OnOk, OnErr, IsTrue};
+ghost use Rattle.std.specs.Prelude.{◌≡◌, length, IsOk, OnOk, OnErr, IsTrue};
 ghost use Rattle.std.specs.FinMap.Entries.{find};
 ghost use Rattle.bw_codec.specs.Bytes.{ascends};
 ghost use Rattle.bw_page.specs.Leaves.{order, empty_leaf, changed, changed_pairs};
-ghost use Rattle.bw_page.specs.Seek.{seek_of, IsWithin};
+ghost use Rattle.bw_codec.specs.Record.{key_of};
+ghost use Rattle.bw_page.specs.Seek.{seek_of, IsWithin, AddsNone, back_of};
 
 use bw_codec::{Key, Leaf, Low, Pairs, Record, Value};
 use std::alloc::{AllocError, Global};
@@ -29,14 +30,20 @@ pub(crate) fn find_key(pairs: &[(Key, Value)], key: &[u8]) -> Result<usize, usiz
 pub fn count_after(leaf: &Leaf, change: &Record) -> usize
     ensures { result ≡ length (changed change.now leaf.now).pairs }
 {
-    count_in(leaf.pairs.as_slice(), change)
+    let pairs = leaf.pairs.as_slice();
+    count_found(pairs, find_key(pairs, change.key().as_slice()), change)
 }
 
-/// How many pairs there are after a record.
-fn count_in(pairs: &[(Key, Value)], change: &Record) -> usize
+/// How many pairs there are after a record, where the search for its key ended so.
+pub(crate) fn count_found(
+    pairs: &[(Key, Value)],
+    found: Result<usize, usize>,
+    change: &Record,
+) -> usize
+    requires found { found ≡ seek_of (key_of change.now) pairs.now }
+    requires within { IsWithin (length pairs.now) found }
     ensures { result ≡ length (changed_pairs change.now pairs.now) }
 {
-    let found = find_key(pairs, change.key().as_slice());
     match change {
         Record::Put(_, _) => match found {
             Ok(_) => pairs.len(),
@@ -55,9 +62,25 @@ fn count_in(pairs: &[(Key, Value)], change: &Record) -> usize
 /// It costs a walk over the leaf's pairs.
 pub fn change(leaf: &mut Leaf, change: &Record) -> Result<(), AllocError>
     ensures ok { OnOk result (leaf.new ≡ changed change.now leaf.old) }
-    ensures err { OnErr result (leaf.new ≡ leaf.old) }
+    ensures unchanged { OnErr result (leaf.new ≡ leaf.old) }
 {
     let found = find_key(leaf.pairs.as_slice(), change.key().as_slice());
+    change_found(leaf, found, change)
+}
+
+/// The same, where the search for the record's key ended so. A record that adds no pair is never
+/// refused.
+pub(crate) fn change_found(
+    leaf: &mut Leaf,
+    found: Result<usize, usize>,
+    change: &Record,
+) -> Result<(), AllocError>
+    requires found { found ≡ seek_of (key_of change.now) leaf.old.pairs }
+    requires within { IsWithin (length leaf.old.pairs) found }
+    ensures ok { OnOk result (leaf.new ≡ changed change.now leaf.old) }
+    ensures succeeds { AddsNone change.now found → IsOk result }
+    ensures unchanged { OnErr result (leaf.new ≡ leaf.old) }
+{
     match change {
         Record::Put(key, value) => match found {
             Ok(at) => {
@@ -72,6 +95,30 @@ pub fn change(leaf: &mut Leaf, change: &Record) -> Result<(), AllocError>
             }
             Ok(())
         }
+    }
+}
+
+/// The record that takes a record back from these pairs, where the search for its key ended so.
+/// There is none for a record that removes a pair: to put that one back may take memory.
+pub(crate) fn back_from(
+    pairs: &[(Key, Value)],
+    found: Result<usize, usize>,
+    change: &Record,
+) -> Option<Record>
+    requires found { found ≡ seek_of (key_of change.now) pairs.now }
+    requires within { IsWithin (length pairs.now) found }
+    requires ascends { IsTrue (ascends pairs.now) }
+    ensures { result ≡ back_of change.now (find order (key_of change.now) pairs.now) }
+{
+    match change {
+        Record::Put(key, _) => match found {
+            Ok(at) => Some(Record::Put(key.copy(), pairs[at].1.copy())),
+            Err(_) => Some(Record::Del(key.copy())),
+        },
+        Record::Del(key) => match found {
+            Ok(_) => None,
+            Err(_) => Some(Record::Del(key.copy())),
+        },
     }
 }
 

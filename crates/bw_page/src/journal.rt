@@ -1,10 +1,19 @@
-//! What a record displaced: enough to take it back without memory.
+//! What takes a record back without memory.
 
-use bw_codec::Leaf;
+use bw_codec::{Leaf, Record};
 
-/// The leaf that a record changed, as it was before.
+/// What takes a record back.
 #[derive(Drop)]
-pub(crate) struct Undo {
+pub(crate) enum Undo {
+    /// This record does, which adds no pair.
+    Back(Record),
+    /// The page was cut, or lost a pair: it is put back whole.
+    Page(Displaced),
+}
+
+/// A leaf that a record changed, as it was before.
+#[derive(Drop)]
+pub(crate) struct Displaced {
     pub(crate) leaf: Leaf,
     /// How many pages there were before.
     pub(crate) pages: u32,

@@ -3,23 +3,22 @@
 //! A record changes the page with the greatest low key not above its key. A page that then has too
 //! many pairs is cut in two, and its upper part is a new page behind all others, so no page moves.
 
-ghost use Rattle.std.specs.Prelude.{ℕ, ◌≡◌, ◌==◌, ◌<◌, ◌≤◌, ◌+◌, ◌-◌, ◌^◌, [], ◌∷◌, length, true, false, Some, is_some, if◌then◌else◌, IfOk, IsErr, OnOk, OnErr, IsTrue};
+ghost use Rattle.std.specs.Prelude.{ℕ, ◌≡◌, ◌==◌, ◌<◌, ◌≤◌, ◌+◌, ◌-◌, ◌^◌, [], ◌∷◌, length, true, false, Some, is_some, if◌then◌else◌, IfOk, OnOk, OnErr, IsTrue};
 ghost use Rattle.std.specs.Option.{option_copied};
 ghost use Rattle.std.specs.FinMap as finite;
 ghost use Rattle.std.specs.FinMap.Entries.{find};
 ghost use Rattle.bw_codec.specs.Bytes.{ascends};
-ghost use Rattle.bw_codec.specs.Grammar.{IsOp};
 ghost use Rattle.bw_codec.specs.Record.{key_of};
-ghost use Rattle.bw_page.specs.Leaves.{order, empty_leaf, home, leaf_at, AreLeaves, changed, HasPage, changed_map, union, plain};
-ghost use Rattle.bw_page.specs.Filed.{TakesKey, IsSpent, after_record, run, is_away, leaf_here, IsHere, applied_by};
-ghost use Rattle.bw_page.specs.Journal.{undo_of, undone, all_undone, IsJournal, IsNewest};
-ghost use Rattle.bw_page.specs.Batch.{SomeIsSpent};
+ghost use Rattle.bw_page.specs.Leaves.{order, empty_leaf, home, leaf_at, AreLeaves, changed_map, union};
+ghost use Rattle.bw_page.specs.Filed.{TakesKey, IsSpent, after_record, is_away, leaf_here, IsHere, applied_by};
+ghost use Rattle.bw_page.specs.Aim.{IsAim};
 
-use crate::changes::{count_after, empty_page, find_key};
+mod batch;
+
+use crate::changes::{count_found, empty_page, find_key};
 use crate::cutting::cut_at;
 use crate::fault::ApplyError;
-use crate::filing::{copy_all, drop_above, index_of};
-use crate::journal::Undo;
+use crate::filing::{copy_all, index_of};
 use crate::seats::Seats;
 use bw_codec::{Key, Leaf, Record, Value};
 use std::alloc::{AllocError, Global};
@@ -59,8 +58,8 @@ pub struct Applied {
 }
 
 impl Leaves {
-    /// Page 1 alone, without any pair. A page holds at most `m` pairs, 4 to 32. A refused growth is the
-    /// only error.
+    /// Page 1 alone, without any pair. A page holds at most `m` pairs, 4 to 32. A refused growth is
+    /// the only error.
     pub fn one_empty(alloc: Global, m: u16) -> Result<Leaves, AllocError>
         requires { (4 ≤ m) × (m ≤ 32) }
         ensures { IfOk result (λ l. l ≡ record { m = m; leaves = empty_leaf ∷ []; away = [] }) }
@@ -186,9 +185,43 @@ impl Leaves {
         ensures only_spent { result ≡ Err ApplyError.Spent → IsSpent self.old change.now }
         ensures unchanged { OnErr result (self.new ≡ self.old) }
     {
-        let (at, count) = self.aim(change);
+        let (at, count, found) = self.aim(change);
+        self.apply_at(at, count, found, change)
+    }
+
+    /// Where the leaf stands that the record changes, how many pairs it would have, and where the
+    /// search in it for the record's key ended.
+    fn aim(&self, change: &Record) -> (usize, usize, Result<usize, usize>)
+        requires { IsHere (key_of change.now) self.now }
+        ensures { IsAim self.now change.now result.0 result.1 result.2 }
+    {
+        let leaf = self.home_of(change.key());
+        let pairs = leaf.pairs.as_slice();
+        let found = find_key(pairs, change.key().as_slice());
+        let count = count_found(pairs, found, change);
+        (leaf.page as usize - 1, count, found)
+    }
+
+    /// Applies a record where `aim` says.
+    fn apply_at(
+        &mut self,
+        at: usize,
+        count: usize,
+        found: Result<usize, usize>,
+        change: &Record,
+    ) -> Result<Applied, ApplyError>
+        requires { IsAim self.old change.now at count found }
+        ensures ok { OnOk result (self.new ≡ after_record self.old change.now) }
+        ensures plain { OnOk result (union self.new.leaves
+            ≡ changed_map (union self.old.leaves) change.now) }
+        ensures applied { IfOk result (λ a. a ≡ applied_by self.old change.now) }
+        ensures away { self.new.away ≡ self.old.away }
+        ensures spent { IsSpent self.old change.now → result ≡ Err ApplyError.Spent }
+        ensures only_spent { result ≡ Err ApplyError.Spent → IsSpent self.old change.now }
+        ensures unchanged { OnErr result (self.new ≡ self.old) }
+    {
         if count <= usize::from(self.m) {
-            self.leaves.change(at, change)?;
+            self.leaves.change(at, found, change)?;
             return Ok(Applied {
                 page: at as u32 + 1,
                 made: None,
@@ -212,87 +245,6 @@ impl Leaves {
         })
     }
 
-    /// Where the leaf stands that the record changes, and how many pairs it would have.
-    fn aim(&self, change: &Record) -> (usize, usize)
-        requires { IsHere (key_of change.now) self.now }
-        ensures at { result.0 + 1 ≡ (home (key_of change.now) self.now.leaves).page }
-        ensures within { result.0 < length self.now.leaves }
-        ensures lawful { IsOp change.now }
-        ensures pairs { result.1
-            ≡ length (changed change.now (home (key_of change.now) self.now.leaves)).pairs }
-    {
-        let leaf = self.home_of(change.key());
-        (leaf.page as usize - 1, count_after(leaf, change))
-    }
-
-    /// Applies records one after the other, all or none: a refusal changes nothing.
-    ///
-    /// Beside what `apply` costs, it costs a copy of one page for each record, held until the end.
-    pub fn apply_all(&mut self, records: &[Record]) -> Result<(), ApplyError>
-        requires { self.old.away ≡ [] }
-        ensures ok { OnOk result (self.new ≡ run self.old records.now) }
-        ensures plain { OnOk result (union self.new.leaves ≡ plain self.old.leaves records.now) }
-
-        // It answers `Spent` only where one of the records needs a page number that does not exist,
-        // and is refused wherever one does: perhaps for want of memory before that record.
-        ensures spent { SomeIsSpent self.old records.now → IsErr result }
-        ensures only_spent { result ≡ Err ApplyError.Spent → SomeIsSpent self.old records.now }
-        ensures unchanged { OnErr result (self.new ≡ self.old) }
-    {
-        let mut journal = Vec::with_capacity(self.leaves.allocator(), records.len())?;
-        for record in records {
-            match self.displace(record) {
-                Ok(undo) => match journal.push(undo) {
-                    Ok(()) => {}
-                    Err(_) => unreachable!(),
-                },
-                Err(error) => {
-                    self.take_back(journal);
-                    return Err(error);
-                }
-            }
-        }
-        Ok(())
-    }
-
-    /// Applies a record, and gives what takes it back. A refusal changes nothing.
-    fn displace(&mut self, change: &Record) -> Result<Undo, ApplyError>
-        requires { IsHere (key_of change.now) self.old }
-        ensures undo { IfOk result (λ undo. undo ≡ undo_of self.old change.now) }
-        ensures ok { OnOk result (self.new ≡ after_record self.old change.now) }
-        ensures lawful { IsOp change.now }
-        ensures room { OnOk result (HasPage self.old.m self.old.leaves change.now) }
-        ensures only_spent { result ≡ Err ApplyError.Spent → IsSpent self.old change.now }
-        ensures unchanged { OnErr result (self.new ≡ self.old) }
-    {
-        let pages = self.count();
-        let leaf = self.home_of(change.key()).copy()?;
-        self.apply(change)?;
-        Ok(Undo { leaf, pages })
-    }
-
-    /// Takes records back, the newest first. No memory is taken.
-    fn take_back(&mut self, journal: Vec<Undo>)
-        requires { IsJournal self.old journal.items }
-        ensures { self.new ≡ all_undone self.old journal.items }
-    {
-        let mut journal = journal;
-        while let Some(undo) = journal.pop() {
-            self.put_back(undo);
-        }
-    }
-
-    /// Takes the newest record back. No memory is taken.
-    fn put_back(&mut self, undo: Undo)
-        requires { IsNewest self.old undo }
-        ensures { self.new ≡ undone self.old undo }
-    {
-        let Undo { leaf, pages } = undo;
-        drop_above(&mut self.leaves, &mut self.index, pages);
-        let at = leaf.page as usize - 1;
-        self.leaves.set(at, leaf);
-    }
-
     /// The same leaves. It costs all pages.
     pub fn copy(&self) -> Result<Leaves, AllocError>
         requires { self.now.away ≡ [] }
@@ -301,8 +253,8 @@ impl Leaves {
         Leaves::of(copy_all(self.leaves.allocator(), &self.leaves)?, self.m)
     }
 
-    /// Lawful leaves, of which page n stands at index n - 1, with at most `m` pairs a page, 4 to 32. A
-    /// refused growth is the only error; the leaves are then dropped. It costs all pages.
+    /// Lawful leaves, of which page n stands at index n - 1, with at most `m` pairs a page, 4 to
+    /// 32. A refused growth is the only error; the leaves are then dropped. It costs all pages.
     pub fn of(leaves: Vec<Leaf>, m: u16) -> Result<Leaves, AllocError>
         requires limit { (4 ≤ m) × (m ≤ 32) }
         requires lawful { AreLeaves m leaves.items }

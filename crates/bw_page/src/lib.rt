@@ -8,22 +8,24 @@
 //! of the log say of a page, and `specs/Links.antt` what a chain in memory says of it.
 #![tactic(auto)]
 
-pub mod chain;
-pub mod changes;
-pub mod cutting;
-pub mod fault;
+mod chain;
+mod changes;
+mod cutting;
+mod fault;
 mod filing;
 mod journal;
-pub mod laws;
-pub mod leaves;
-pub mod reading;
+mod laws;
+mod leaves;
+mod reading;
 mod seats;
-#[cfg(test)]
-mod tests;
 
 pub use chain::{Chain, End, Link};
 pub use changes::{change, count_after, empty_page, value_in};
 pub use cutting::{Cut, cut_in_two};
 pub use fault::ApplyError;
+pub use laws::{
+    applies_page_by_page, chains_read_over_newer, homes_are_ranges, lows_tell, reads_over_newer,
+    stands_as_one, twice_is_once,
+};
 pub use leaves::{Applied, Leaves};
 pub use reading::{change_all, keep_below, read_block, read_blocks};

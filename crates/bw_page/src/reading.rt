@@ -9,8 +9,8 @@ use crate::changes::change;
 use bw_codec::{Block, Leaf, Pairs, Record};
 use std::alloc::AllocError;
 
-/// The leaf after records, one after the other. A refused growth is the only error; the leaf is then
-/// dropped.
+/// The leaf after records, one after the other. A refused growth is the only error; the leaf is
+/// then dropped.
 pub fn change_all(leaf: Leaf, records: &[Record]) -> Result<Leaf, AllocError>
     ensures { IfOk result (λ l. l ≡ all_changed records.now leaf) }
 {
@@ -35,9 +35,9 @@ pub fn keep_below(leaf: Leaf, separator: &[u8]) -> Leaf
     }
 }
 
-/// What a page is after one more block, where it was `was` before; `None` where it was never set. A
-/// block that does not touch the page costs a look at its numbers. A refused growth is the only error;
-/// leaf and block are then dropped.
+/// What a page is after one more block, where it was `was` before; `None` where it was never set.
+/// A block that does not touch the page costs a look at its numbers. A refused growth is the only
+/// error; leaf and block are then dropped.
 pub fn read_block(page: u32, was: Option<Leaf>, block: Block) -> Result<Option<Leaf>, AllocError>
     ensures { IfOk result (λ leaf. leaf ≡ after page was block) }
 {

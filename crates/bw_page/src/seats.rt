@@ -8,6 +8,8 @@ ghost use Rattle.bw_codec.specs.declared.leaf.Leaf.{Leaf as LeafValue};
 ghost use Rattle.bw_page.specs.Leaves.{changed};
 ghost use Rattle.bw_page.specs.Cutting.{changed_at};
 ghost use Rattle.bw_page.specs.Seats.{is_among};
+ghost use Rattle.bw_page.specs.Seek.{seek_of, IsWithin, AddsNone};
+ghost use Rattle.bw_codec.specs.Record.{key_of};
 
 use crate::changes;
 use bw_codec::{Leaf, Record};
@@ -61,16 +63,21 @@ impl Seat {
         self.leaf = None;
     }
 
-    /// Changes the leaf. A refusal changes nothing.
-    fn change(&mut self, item: &Record) -> Result<(), AllocError>
-        requires { self.old.is_away ≡ false }
-        ensures ok { OnOk result (self.new ≡ record self.old { leaf = changed item.now self.old.leaf }) }
+    /// Changes the leaf, in which the search for the record's key ended so. A refusal changes
+    /// nothing.
+    fn change(&mut self, found: Result<usize, usize>, item: &Record) -> Result<(), AllocError>
+        requires here { self.old.is_away ≡ false }
+        requires found { found ≡ seek_of (key_of item.now) self.old.leaf.pairs }
+        requires within { IsWithin (length self.old.leaf.pairs) found }
+        ensures ok { OnOk result (self.new
+            ≡ record self.old { leaf = changed item.now self.old.leaf }) }
         ensures here { self.new.is_away ≡ false }
+        ensures succeeds { AddsNone item.now found → IsOk result }
         ensures unchanged { OnErr result (self.new ≡ self.old) }
     {
         match &mut self.leaf {
             Some(leaf) => {
-                changes::change(leaf, item)?;
+                changes::change_found(leaf, found, item)?;
                 self.was = Snapshot::of(leaf);
                 Ok(())
             }
@@ -216,17 +223,28 @@ impl Seats {
         self.seats[at] = Seat::of(leaf);
     }
 
-    /// Changes a leaf, which is in memory. A refusal changes nothing.
-    pub(crate) fn change(&mut self, at: usize, item: &Record) -> Result<(), AllocError>
+    /// Changes a leaf, which is in memory, and in which the search for the record's key ended so. A
+    /// refusal changes nothing.
+    pub(crate) fn change(
+        &mut self,
+        at: usize,
+        found: Result<usize, usize>,
+        item: &Record,
+    ) -> Result<(), AllocError>
         requires within { at < length self.old.items }
         requires here { is_among (at + 1) self.old.away ≡ false }
+        requires found { (d : LeafValue)
+            → found ≡ seek_of (key_of item.now) (slice_index_or self.old.items at d).pairs }
+        requires found_within { (d : LeafValue)
+            → IsWithin (length (slice_index_or self.old.items at d).pairs) found }
         ensures ok { (d : LeafValue) → OnOk result (self.new.items
             ≡ slice_set self.old.items at (changed_at item.now self.old.items at d)) }
         ensures away { self.new.away ≡ self.old.away }
+        ensures succeeds { AddsNone item.now found → IsOk result }
         ensures unchanged { OnErr result (self.new.items ≡ self.old.items) }
     {
         let _ = self.seats.as_slice().len();
-        self.seats[at].change(item)
+        self.seats[at].change(found, item)
     }
 
     /// Drops the leaf at an index from memory.

@@ -1,5 +1,5 @@
 -- What a contract sees of a `Feed` and of a `Lane`, the two ends of one ring.
-use Rattle.std.specs.Prelude.{◌≡◌, ℕ, ◌≤◌, List, map}
+use Rattle.std.specs.Prelude.{◌≡◌, ℕ, ◌<◌, ◌≤◌, List, ◌++◌, length, map}
 use Rattle.std.specs.declared.alloc.Global.{Global}
 use mathlib.Core.List.{IsPrefix}
 use denote.RawPtr.{Ptr}
@@ -24,6 +24,10 @@ taken l = received l.consumer
 -- the records after those taken that the lane's end knows of: the next takes give them
 abbrev pub known : Lane → List Record
 known l = known_items l.consumer
+
+-- every record that was taken or will be by the next takes: a take of what is known adds none
+abbrev pub given : Lane → List Record
+given l = taken l ++ known l
 
 -- which ring an end is of
 abbrev pub Ring : Type 0
@@ -59,3 +63,7 @@ Looked a b =
 abbrev pub Peeked : Lane → Lane → Type 0
 Peeked a b =
     (ring_of_lane b ≡ ring_of_lane a) × (taken b ≡ taken a) × IsPrefix (known a) (known b)
+
+-- where some records were known, these and no others are known
+abbrev pub KeepsKnown : Lane → Lane → Type 0
+KeepsKnown a b = 0 < length (known a) → known b ≡ known a

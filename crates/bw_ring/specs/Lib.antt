@@ -1,2 +1,3 @@
+-- what callers see, in reading order
 pub mod Limits
 pub mod Ends

@@ -7,13 +7,10 @@
 //! holds both: see `Lane::rest_beside`.
 #![tactic(auto)]
 
-pub mod feed;
-pub mod lane;
-pub mod pairs;
+mod feed;
+mod lane;
+mod pairs;
 
 pub use feed::{Feed, Full};
 pub use lane::Lane;
 pub use pairs::{LanesError, MAX_PLACES, MAX_WRITERS, lanes};
-
-#[cfg(test)]
-mod tests;

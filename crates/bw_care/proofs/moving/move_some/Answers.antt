@@ -29,7 +29,7 @@ returns-in_err-append_care-clause-refused g c =
     let s = sends_of _ c.in_ok-buffer.buffer c.fill.new.buffer c.seal.new.self c.args.pages.now c.in_ok-count.count c.in-Some.number c.limit.result
     c.in_ok-buffer.ensures c.limit.ensures filled.2 filled.3 c.seal.ensures in
     rw (p.1, p.2) (append_refused _ _ (frame_of c.seal.new.self) _ _ c.in_err-append_care.field-0.0 s.holds c.in_ok-count.ensures.stops c.requires.works
-    (short_enough s c.bytes.ensures.fits) c.in_err-append_care.ensures.answers c.in_err-append_care.ensures.device c.in_err-append_care.ensures.log)
+    (short_enough s c.bytes.ensures.fits) c.in_err-append_care.ensures.leaves.answers c.in_err-append_care.ensures.leaves.device c.in_err-append_care.ensures.leaves.log)
 
 pub returns-clause-moved : goal.returns-clause-moved
 returns-clause-moved g c =
@@ -39,8 +39,8 @@ returns-clause-moved g c =
       filled.0,
       filled.1,
       moved_sent _ _ _ c.seal.new.self c.args.pages.now c.in_ok-count.count c.in-Some.number filled.0 filled.1 c.requires.sound
-          c.in_ok-append_care.ensures.sound c.in_ok-count.ensures.stops c.requires.pages c.requires.some s (sym c.in-Some.ensures)
-          c.in_ok-append_care.ensures.added
+          c.in_ok-append_care.ensures.leaves.sound c.in_ok-count.ensures.stops c.requires.pages c.requires.some s (sym c.in-Some.ensures)
+          c.in_ok-append_care.ensures.leaves.added
           (full_sent (seen c.args.log.now (λ b. (goal.Segment-dyn g b).holding b.1)) c.fill.new.buffer c.seal.new.self _ c.seal.ensures filled.4)
-          c.in_ok-append_care.ensures.log,
+          c.in_ok-append_care.ensures.leaves.log,
     )

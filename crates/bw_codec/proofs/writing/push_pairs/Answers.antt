@@ -8,12 +8,16 @@ use Rattle.bw_codec.proofs.writing.push_pairs.Goals as goal
 
 pub push_two-requires : goal.push_two-requires
 push_two-requires c =
-    omega (arith, c.requires.room, length-number 2 (length c.args.pairs.now),
-        length-append (number_bytes 2 (length c.args.pairs.now)) (flat_map pair_bytes c.args.pairs.now))
+    omega (
+      arith,
+      c.requires.room,
+      length-number 2 (length c.args.pairs.now),
+      length-append (number_bytes 2 (length c.args.pairs.now)) (flat_map pair_bytes c.args.pairs.now),
+    )
 
 pub push_pair-requires : goal.push_pair-requires
 push_pair-requires c =
     let room = room_after c.args.out.now c.push_two.new.out (number_bytes 2 (length c.args.pairs.now)) (flat_map pair_bytes c.args.pairs.now) c.requires.room
-        c.push_two.ensures in
+    c.push_two.ensures in
     room_for_next pair_bytes c.push_two.new.out c.loop-key.out c.args.pairs.now c.loop-key.key-index c.loop-key-item.result c.loop-key-test.true
-        c.loop-key-item.is room c.loop-key.invariant
+    c.loop-key-item.is room c.loop-key.invariant

@@ -12,7 +12,7 @@ loop-index-preserved c =
     let here = block_here bs i c.mark.result inside c.mark.ensures in
     let lines = lines_go_on i (length c.loop-index.pages.items) bs c.mark.result here c.loop-index.invariant.lines in
     let same : length c.note.new.pages.items ≡ length c.loop-index.pages.items =
-        ap length c.note.ensures ∙ length-noted c.mark.result (record { frame = c.frame-frame.result; index = i }) c.loop-index.pages.items in
+    ap length c.note.ensures ∙ length-noted c.mark.result (record { frame = c.frame-frame.result; index = i }) c.loop-index.pages.items in
     record {
       noted = ap (λ (pages : List PageAt). noted_all c.frame-frame.result (i + 1) (drop (i + 1) bs) pages) c.note.ensures
           ∙ noting_goes_on c.frame-frame.result i bs c.mark.result c.loop-index.pages.items here ∙ c.loop-index.invariant.noted;

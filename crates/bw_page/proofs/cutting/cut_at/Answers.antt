@@ -16,4 +16,4 @@ returns-clause-index c d q =
     c.in_ok-insert.ensures.updates.0 q
     ∙ ap (λ b. cond b (Some c.args.page) (tree.get order c.args.index.now q)) ((eq_by_cmp_equiv order-total).symm c.in_ok-lower.field-0.low q)
     ∙ ap (λ k. cond (eq_by_cmp order q k) (Some c.args.page) (tree.get order c.args.index.now q))
-        (low ∙ ap (λ (l : Leaf). (upper_of c.args.m c.args.page (changed c.args.item.now l)).low) leaf)
+    (low ∙ ap (λ (l : Leaf). (upper_of c.args.m c.args.page (changed c.args.item.now l)).low) leaf)

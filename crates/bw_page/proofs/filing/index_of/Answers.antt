@@ -17,7 +17,7 @@ loop-at-preserved c =
       index-step c.args.leaves.now c.loop-at.at c.index-leaves-at.result (tree.get order c.loop-at.index) (tree.get order c.insert.new.self) more within
           c.index-leaves-at.is c.loop-at.invariant.2
           (λ q. c.in_ok-insert-in-Ok.ensures.updates.0 q
-              ∙ ap (λ (k : Bytes). cond (is_eq (order k q)) (Some c.index-leaves-at.result.page) (tree.get order c.loop-at.index q)) low),
+          ∙ ap (λ (k : Bytes). cond (is_eq (order k q)) (Some c.index-leaves-at.result.page) (tree.get order c.loop-at.index q)) low),
     )
 
 pub unreachable-requires : goal.unreachable-requires
@@ -26,6 +26,6 @@ unreachable-requires c =
     let within : c.loop-at.at ≤ length c.args.leaves.now = c.loop-at.invariant.1 in
     let key : IsKey c.index-leaves-at.result.low =
     subst (λ (l : Leaf). IsKey l.low) (sym c.index-leaves-at.is)
-        (low_key c.args.leaves.now (c.loop-at.at - 1) c.index-leaves-at.result c.requires.keys (omega arith) (omega arith)) in
+    (low_key c.args.leaves.now (c.loop-at.at - 1) c.index-leaves-at.result c.requires.keys (omega arith) (omega arith)) in
     let same : IsKey c.as_slice.result.now = subst IsKey (sym c.as_slice.ensures) key in
     absurd (cc (c.in-Err.ensures.variant.1 same))

@@ -12,5 +12,5 @@ returns c =
     let body = length (body_bytes c.args.blocks.now) in
     let room = ap (λ (l : List ℕ). c.self.inside.limit - length l) c.as_slice.ensures.value in
     let told = room_told c.self.inside c.args.self.now body (c.self.inside.limit - length c.as_slice.result.now) c.fit.result c.self.invariant c.self.view_is
-        room c.fit.ensures in
+    room c.fit.ensures in
     (λ t. told.1 t, λ fits. must_be c.fit.result (λ f. let over = told.0 f in omega arith))

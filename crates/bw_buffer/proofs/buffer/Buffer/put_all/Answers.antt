@@ -15,14 +15,14 @@ returns-then-not-fit-clause-no_room c =
     let body = length (body_bytes c.args.blocks.now) in
     let room = ap (λ (l : List ℕ). c.self.inside.limit - length l) c.as_slice.ensures.value in
     let told = room_told c.self.inside c.args.self.now body (c.self.inside.limit - length c.as_slice.result.now) c.fit.result c.self.invariant c.self.view_is
-        room c.fit.ensures in
+    room c.fit.ensures in
     let no : c.fit.result ≡ false = cc in
     (λ _. (sym (ap (λ (f : Filling). f.is_sealed) c.self.view_is) ∙ c.if-self.false, told.0 no), λ _. refl)
 
 pub mark_all-requires : goal.mark_all-requires
 mark_all-requires c =
     let fits = room_inside c.self.inside (length (body_bytes c.args.blocks.now)) (c.self.inside.limit - length c.as_slice.result.now) c.self.invariant
-        (ap (λ (l : List ℕ). c.self.inside.limit - length l) c.as_slice.ensures.value) (let yes : c.fit.result ≡ true = cc in sym yes ∙ c.fit.ensures) in
+    (ap (λ (l : List ℕ). c.self.inside.limit - length l) c.as_slice.ensures.value) (let yes : c.fit.result ≡ true = cc in sym yes ∙ c.fit.ensures) in
     let few = room_for_marks c.self.inside c.args.blocks.now c.self.invariant fits in
     let marked = ap length c.self.invariant.marked ∙ length-map (blocks_in c.self.inside.count c.self.inside.bytes.items) mark_of ∙ c.self.invariant.counted in
     omega arith
@@ -30,20 +30,25 @@ mark_all-requires c =
 pub overflow_cast-self : goal.overflow_cast-self
 overflow_cast-self c =
     let fits = room_inside c.self.inside (length (body_bytes c.args.blocks.now)) (c.self.inside.limit - length c.as_slice.result.now) c.self.invariant
-        (ap (λ (l : List ℕ). c.self.inside.limit - length l) c.as_slice.ensures.value) (let yes : c.fit.result ≡ true = cc in sym yes ∙ c.fit.ensures) in
+    (ap (λ (l : List ℕ). c.self.inside.limit - length l) c.as_slice.ensures.value) (let yes : c.fit.result ≡ true = cc in sym yes ∙ c.fit.ensures) in
     let few = counts c.self.inside c.args.blocks.now c.self.invariant fits in record { fits = few.0 }
 
 pub overflow_add-self : goal.overflow_add-self
 overflow_add-self c =
     let fits = room_inside c.self.inside (length (body_bytes c.args.blocks.now)) (c.self.inside.limit - length c.as_slice.result.now) c.self.invariant
-        (ap (λ (l : List ℕ). c.self.inside.limit - length l) c.as_slice.ensures.value) (let yes : c.fit.result ≡ true = cc in sym yes ∙ c.fit.ensures) in
+    (ap (λ (l : List ℕ). c.self.inside.limit - length l) c.as_slice.ensures.value) (let yes : c.fit.result ≡ true = cc in sym yes ∙ c.fit.ensures) in
     let few = counts c.self.inside c.args.blocks.now c.self.invariant fits in record { fits = few.1 }
 
 pub overflow_sub-body : goal.overflow_sub-body
 overflow_sub-body c =
     let laid = ap length c.lay_out.ensures.items in
-    omega (arith, laid, length-held c.self.inside c.self.invariant, length-append c.self.inside.bytes.items (body_bytes c.args.blocks.now),
-        ap length c.as_slice-2.ensures.value)
+    omega (
+      arith,
+      laid,
+      length-held c.self.inside c.self.invariant,
+      length-append c.self.inside.bytes.items (body_bytes c.args.blocks.now),
+      ap length c.as_slice-2.ensures.value,
+    )
 
 pub set_head-requires : goal.set_head-requires
 set_head-requires c =
@@ -51,18 +56,24 @@ set_head-requires c =
     omega (arith, laid, length-held c.self.inside c.self.invariant, length-append c.self.inside.bytes.items (body_bytes c.args.blocks.now))
 
 abbrev fields : After-set_head → Inside
-fields c = record { frame = c.self.inside.frame; limit = c.self.inside.limit; count = c.self.inside.count + length c.args.blocks.now;
-    is_sealed = c.self.inside.is_sealed; bytes = c.set_head.new.bytes; marks = c.mark_all.new.marks }
+fields c = record {
+  frame = c.self.inside.frame;
+  limit = c.self.inside.limit;
+  count = c.self.inside.count + length c.args.blocks.now;
+  is_sealed = c.self.inside.is_sealed;
+  bytes = c.set_head.new.bytes;
+  marks = c.mark_all.new.marks;
+}
 
 now_holds : (c : After-set_head) → Holds (fields c) (blocks_in c.self.inside.count c.self.inside.bytes.items ++ c.args.blocks.now)
 now_holds c =
     let fits = room_inside c.self.inside (length (body_bytes c.args.blocks.now)) (c.self.inside.limit - length c.as_slice.result.now) c.self.invariant
-        (ap (λ (l : List ℕ). c.self.inside.limit - length l) c.as_slice.ensures.value) (let yes : c.fit.result ≡ true = cc in sym yes ∙ c.fit.ensures) in
+    (ap (λ (l : List ℕ). c.self.inside.limit - length l) c.as_slice.ensures.value) (let yes : c.fit.result ≡ true = cc in sym yes ∙ c.fit.ensures) in
     let bytes = c.set_head.ensures.items ∙ ap
-        (λ (l : List ℕ). head_bytes c.self.inside.frame (length l - 20) (c.self.inside.count + length c.args.blocks.now) ++ drop 20 c.lay_out.new.bytes.items)
-        c.as_slice-2.ensures.value in
+    (λ (l : List ℕ). head_bytes c.self.inside.frame (length l - 20) (c.self.inside.count + length c.args.blocks.now) ++ drop 20 c.lay_out.new.bytes.items)
+    c.as_slice-2.ensures.value in
     grown c.self.inside (fields c) c.args.blocks.now c.lay_out.new.bytes.items c.self.invariant c.requires.lawful fits refl refl refl
-        c.lay_out.ensures.items bytes
+    c.lay_out.ensures.items bytes
     c.mark_all.ensures.items
     (let room = c.self.invariant.room in omega (arith, c.set_head.ensures.capacity, c.lay_out.ensures.capacity))
     (let room = c.self.invariant.marks_room in omega (arith, c.mark_all.ensures.capacity))
@@ -73,7 +84,7 @@ invariant_of-self c = filled (fields c) (blocks_in c.self.inside.count c.self.in
 pub returns-clause-added : goal.returns-clause-added
 returns-clause-added c =
     ap (λ (blocks : List Block). let f : Filling = record
-        { frame = c.self.inside.frame; limit = c.self.inside.limit; blocks = blocks; is_sealed = c.self.inside.is_sealed } in f)
+    { frame = c.self.inside.frame; limit = c.self.inside.limit; blocks = blocks; is_sealed = c.self.inside.is_sealed } in f)
     (held (fields c) (blocks_in c.self.inside.count c.self.inside.bytes.items ++ c.args.blocks.now) (now_holds c))
     ∙ ap (λ (f : Filling). let g : Filling = record f { blocks = f.blocks ++ c.args.blocks.now } in g) c.self.view_is
 
@@ -82,7 +93,7 @@ returns-clause-no_room c =
     let body = length (body_bytes c.args.blocks.now) in
     let room = ap (λ (l : List ℕ). c.self.inside.limit - length l) c.as_slice.ensures.value in
     let told = room_told c.self.inside c.args.self.now body (c.self.inside.limit - length c.as_slice.result.now) c.fit.result c.self.invariant c.self.view_is
-        room c.fit.ensures in
+    room c.fit.ensures in
     let yes : c.fit.result ≡ true = cc in
     let under = told.1 yes in
     (λ e. absurd cc, λ long. absurd (let over = long.1 in omega arith))

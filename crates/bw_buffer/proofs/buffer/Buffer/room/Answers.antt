@@ -7,4 +7,4 @@ returns c =
     rw (← c.self.view_is) (
     let held = length-held c.self.inside c.self.invariant in
     let fits = c.self.invariant.fits in
-    omega (arith, held, fits, c.as_slice.ensures.value, ap length c.as_slice.ensures.value))
+    omega (arith, held, fits, ap length c.as_slice.ensures.value))

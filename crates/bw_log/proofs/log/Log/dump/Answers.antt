@@ -8,7 +8,7 @@ returns-in_err-bytes-clause-sound g c = sound_after _ _ _ c.in_err-bytes.field-0
 pub returns-clause-found : goal.returns-clause-found
 returns-clause-found g c =
     dumped _ _ c.args.self.now.live.items c.args.segment c.len_of-len.result c.args.out.now.items c.extend_from_slice.new.self.items c.in_ok-bytes.bytes.items
-        (omega arith) (omega (arith, c.len.ensures))
+    (omega arith) (omega (arith, c.len.ensures))
     (rw c.deref.ensures.value at c.len_of-len.ensures.value) c.in_ok-bytes.ensures.bytes
     (c.in_ok-extend_from_slice.ensures.items ∙ ap (λ (l : List ℕ). c.args.out.now.items ++ l) c.deref-2.ensures.value)
 

@@ -14,8 +14,8 @@ returns-in-Ok g c =
       outcome = put_done _ _ _ c.bytes-bytes.result.now (length c.as_slice.result.now - 1) c.len_of-at.result c.checked_add-self.result
           c.push_reserved.new.self.items c.grow.new.pages.items c.note_all.new.pages.items
           (some_there _ c.args.self.now.live.items c.requires.some) (last_there _ c.args.self.now.live.items (length c.as_slice.result.now) count)
-              c.bytes-bytes.ensures.value c.in-Ok.ensures.changed told line grown c.note_all.ensures
-              (next_is c.frame-in-Ok.result c.args.buffer.now.frame c.checked_add-self.result number next);
+          c.bytes-bytes.ensures.value c.in-Ok.ensures.changed told line grown c.note_all.ensures
+          (next_is c.frame-in-Ok.result c.args.buffer.now.frame c.checked_add-self.result number next);
     }
 
 pub returns-in-Err : goal.returns-in-Err
@@ -25,5 +25,5 @@ returns-in-Err g c =
     record {
       outcome = frame_told _ _ _ c.bytes-bytes.result.now c.lease_of-lease.result (length c.as_slice.result.now - 1)
           (some_there _ c.args.self.now.live.items c.requires.some) (last_there _ c.args.self.now.live.items (length c.as_slice.result.now) count)
-              c.bytes-bytes.ensures.value c.in-Err.ensures.changed told;
+          c.bytes-bytes.ensures.value c.in-Err.ensures.changed told;
     }

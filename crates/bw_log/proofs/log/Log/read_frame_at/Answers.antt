@@ -30,10 +30,10 @@ pub unreachable-requires : goal.unreachable-requires
 unreachable-requires g c =
     let l = boxed_line _ c.args.i c.index-line.result.now c.requires.sound c.requires.inside c.index-line.ensures in
     not_bad c.in-Err-BadBytes.field-0 l.frame c.in-Err-BadBytes.field-0-is
-        (c.in-Err-BadBytes.ensures l.frame l.lawful (c.deref.ensures.value ∙ line_bytes l c.in_ok-bytes.bytes.items c.in_ok-bytes.ensures.bytes))
+    (c.in-Err-BadBytes.ensures l.frame l.lawful (c.deref.ensures.value ∙ line_bytes l c.in_ok-bytes.bytes.items c.in_ok-bytes.ensures.bytes))
 
 pub returns-in_err-bytes-clause-stops : goal.returns-in_err-bytes-clause-stops
 returns-in_err-bytes-clause-stops g c =
     let p = err_from_is_err_and c.from_residual.result c.from_residual.ensures.1 in
     rw (p.1, p.2) (stops_as _ _ _ _ c.in_err-bytes.field-0.0
-        (in_line _ c.args.i c.index-line.result.now c.requires.sound c.requires.inside c.index-line.ensures) c.in_err-bytes.ensures.stops)
+    (in_line _ c.args.i c.index-line.result.now c.requires.sound c.requires.inside c.index-line.ensures) c.in_err-bytes.ensures.stops)

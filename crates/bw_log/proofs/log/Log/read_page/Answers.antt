@@ -29,8 +29,8 @@ pub returns-in_err-frames-clause-no_page : goal.returns-in_err-frames-clause-no_
 returns-in_err-frames-clause-no_page g c =
     let p = err_from_is_err_and c.from_residual.result c.from_residual.ensures.1 in
     page_answer c.args.self.now.pages.items c.args.page c.from_residual.result
-        (other_as c.from_residual.result p.0 c.in_err-frames.field-0.0 p.1 p.2 c.in_err-frames.ensures.paged)
-        (page_there c.args.page c.args.self.now.pages.items c.in-Some.entry c.in-Some.ensures)
+    (other_as c.from_residual.result p.0 c.in_err-frames.field-0.0 p.1 p.2 c.in_err-frames.ensures.paged)
+    (page_there c.args.page c.args.self.now.pages.items c.in-Some.entry c.in-Some.ensures)
 
 pub unreachable-requires : goal.unreachable-requires
 unreachable-requires g c =
@@ -40,12 +40,12 @@ unreachable-requires g c =
 pub returns-in-Ok-Some-clause-no_page : goal.returns-in-Ok-Some-clause-no_page
 returns-in-Ok-Some-clause-no_page g c =
     page_answer c.args.self.now.pages.items c.args.page (Ok c.in-Ok-Some.leaf) (λ e. cc)
-        (page_there c.args.page c.args.self.now.pages.items c.in-Some.entry c.in-Some.ensures)
+    (page_there c.args.page c.args.self.now.pages.items c.in-Some.entry c.in-Some.ensures)
 
 pub returns-in-Err-clause-no_page : goal.returns-in-Err-clause-no_page
 returns-in-Err-clause-no_page g c =
     page_answer c.args.self.now.pages.items c.args.page (Err NoMemory) (λ e. cc)
-        (page_there c.args.page c.args.self.now.pages.items c.in-Some.entry c.in-Some.ensures)
+    (page_there c.args.page c.args.self.now.pages.items c.in-Some.entry c.in-Some.ensures)
 
 pub returns-in_err-frames-clause-sound : goal.returns-in_err-frames-clause-sound
 returns-in_err-frames-clause-sound g c = sound_after _ _ _ c.in_err-frames.field-0.0 c.requires c.in_err-frames.ensures.stops

@@ -35,7 +35,7 @@ returns-in-Some-clause-content c acts below =
 none : (c : goal.In-None) → cut c.args.self.now.links ≡ None
 none c =
     no_cut c.args.self.now c.self.inside.links.items (ap (λ (x : Chained). x.links) (sym c.self.view_is))
-        (c.in-None.ensures.mark ∙ ap (mark_after 0 None) c.as_slice.ensures)
+    (c.in-None.ensures.mark ∙ ap (mark_after 0 None) c.as_slice.ensures)
 
 pub returns-in-None-clause-flushed : goal.returns-in-None-clause-flushed
 returns-in-None-clause-flushed c = (stays c.args.self.now (none c)).0

@@ -19,7 +19,7 @@ loop-record-preserved c =
     take_more c.args.records.now c.loop-record.record-index c.record-item.result c.loop-record-test.true
     ∙ ap (λ (r : Record). take c.loop-record.record-index c.args.records.now ++ r ∷ []) (sym c.record-item.is) in
     let ran = ran_more _ c.loop-record.self c.displace.new.self _ c.record-item.result _ c.in-Ok.undo c.loop-record.invariant.ran c.in-Ok.ensures.lawful
-        c.in-Ok.ensures.room c.in-Ok.ensures.ok c.in-Ok.ensures.undo in
+    c.in-Ok.ensures.room c.in-Ok.ensures.ok c.in-Ok.ensures.undo in
     let count = c.in-Ok-push.ensures.len in
     let before = c.loop-record.invariant.count in
     let grown = c.in-Ok-push.ensures.capacity in
@@ -27,7 +27,7 @@ loop-record-preserved c =
     record {
       ran = subst (λ (rs : List Record). Ran c.args.self.now rs c.displace.new.self c.push.new.self.items) (sym more)
           (subst (λ (us : List Undo). Ran c.args.self.now (take c.loop-record.record-index c.args.records.now ++ c.record-item.result ∷ []) c.displace.new.self
-              us) (sym c.in-Ok-push.ensures.items) ran);
+          us) (sym c.in-Ok-push.ensures.items) ran);
       count = omega arith;
       capacity = omega arith;
     }

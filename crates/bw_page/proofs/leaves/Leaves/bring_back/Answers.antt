@@ -10,7 +10,7 @@ pub invariant_of-self : goal.invariant_of-self
 invariant_of-self c =
     same_filed c.self.inside _ c.self.invariant refl
     (c.set.ensures.items ∙ set_itself c.self.inside.leaves.items c.args.page c.args.leaf
-        (ap (λ (f : Filed). leaf_at c.args.page f.leaves) c.self.view_is ∙ c.requires))
+    (ap (λ (f : Filed). leaf_at c.args.page f.leaves) c.self.view_is ∙ c.requires))
     (λ q. refl)
 
 pub returns-clause-leaves : goal.returns-clause-leaves

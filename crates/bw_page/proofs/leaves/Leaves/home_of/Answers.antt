@@ -19,10 +19,10 @@ pub returns-clause-value : goal.returns-clause-value
 returns-clause-value c =
     let lawful = subst (λ (f : Filed). AreLeaves f.m f.leaves) c.self.view_is c.self.invariant.lawful in
     get-union c.args.self.now.m c.args.key.now c.args.self.now.leaves lawful
-        ∙ ap (λ (l : Leaf). find order c.args.key.now l.pairs) (sym (returns-clause-home c))
+    ∙ ap (λ (l : Leaf). find order c.args.key.now l.pairs) (sym (returns-clause-home c))
 
 pub returns-clause-within : goal.returns-clause-within
 returns-clause-within c =
     let lawful = subst (λ (f : Filed). AreLeaves f.m f.leaves) c.self.view_is c.self.invariant.lawful in
     subst (λ (l : Leaf). (1 ≤ l.page) × (l.page ≤ length c.args.self.now.leaves)) (sym (returns-clause-home c))
-        (home_within c.args.self.now.m c.args.key.now c.args.self.now.leaves lawful)
+    (home_within c.args.self.now.m c.args.key.now c.args.self.now.leaves lawful)

@@ -11,7 +11,7 @@ put_back-requires c = (step_back c.loop-undo.self c.pop.new.self.items c.in-Some
 pub loop-undo-preserved : goal.loop-undo-preserved
 loop-undo-preserved c =
     let back = step_back c.loop-undo.self c.pop.new.self.items c.in-Some.undo
-        (subst (IsJournal c.loop-undo.self) c.in-Some.ensures.items c.loop-undo.invariant.0) in (
+    (subst (IsJournal c.loop-undo.self) c.in-Some.ensures.items c.loop-undo.invariant.0) in (
       subst (λ (f : Filed). IsJournal f c.pop.new.self.items) (sym c.put_back.ensures) back.1,
       ap (λ (f : Filed). all_undone f c.pop.new.self.items) c.put_back.ensures
           ∙ sym (all_undone-push c.loop-undo.self c.pop.new.self.items c.in-Some.undo)

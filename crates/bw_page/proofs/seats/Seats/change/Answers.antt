@@ -1,33 +1,41 @@
-use Rattle.std.proofs.Common.{◌≡◌, ◌∙◌, get_or, ap, sym, arith}
+use Rattle.std.proofs.Common.{◌≡◌, ◌∙◌, get_or, length, ap, sym, subst, arith}
 use Rattle.std.specs.Prelude.{slice_set}
-use Rattle.std.proofs.lemmas.List.{map-set, get_or-map}
+use Rattle.std.proofs.lemmas.List.{map-set}
 use Rattle.std.proofs.lemmas.Result.{on_ok_weaker}
+use Rattle.bw_codec.specs.Record.{key_of}
 use Rattle.bw_codec.specs.declared.leaf.Leaf.{Leaf}
 use Rattle.bw_page.specs.Leaves.{changed}
+use Rattle.bw_page.specs.Seek.{seek_of, IsWithin}
 use Rattle.bw_page.specs.Seats.{Seated, Seating}
 use Rattle.bw_page.specs.Seating.{leaves_of}
-use Rattle.bw_page.proofs.Seating.{away-kept, away_get, count_is, away_is}
+use Rattle.bw_page.proofs.Seating.{away-kept, away_get, count_is, away_is, leaf_got}
 use Rattle.bw_page.proofs.seats.Seats.change.Goals as goal
 
 pub change-requires : goal.change-requires
 change-requires c =
     let long = count_is c.self.inside c.args.self.now c.self.view_is in
     let within = c.requires.within in
-    ap (λ (s : Seated). s.is_away) c.index_mut.ensures.value ∙ sym (away_get c.self.inside.seats.items c.args.at _ (omega arith))
-    ∙ sym (away_is c.self.inside c.args.self.now c.self.view_is c.args.at) ∙ c.requires.here
+    let seat = c.index_mut.result.now in
+    let leaf : get_or c.args.self.now.items c.args.at seat.leaf ≡ seat.leaf =
+    leaf_got c.self.inside c.args.self.now c.self.view_is c.args.at seat seat.leaf (omega arith) c.index_mut.ensures.value in
+    record {
+      here = ap (λ (s : Seated). s.is_away) c.index_mut.ensures.value ∙ sym (away_get c.self.inside.seats.items c.args.at _ (omega arith))
+          ∙ sym (away_is c.self.inside c.args.self.now c.self.view_is c.args.at) ∙ c.requires.here;
+      found = c.requires.found seat.leaf ∙ ap (λ (l : Leaf). seek_of (key_of c.args.item.now) l.pairs) leaf;
+      within = subst (λ (l : Leaf). IsWithin (length l.pairs) c.args.found) leaf (c.requires.found_within seat.leaf);
+    }
 
 pub returns-clause-ok : goal.returns-clause-ok
 returns-clause-ok c d =
     let long = count_is c.self.inside c.args.self.now c.self.view_is in
     let within = c.requires.within in
     let old : get_or c.args.self.now.items c.args.at d ≡ c.index_mut.result.now.leaf =
-    ap (λ (v : Seating). get_or v.items c.args.at d) (sym c.self.view_is)
-    ∙ get_or-map (λ (s : Seated). s.leaf) c.self.inside.seats.items c.args.at c.index_mut.result.now d (omega arith)
-    ∙ ap (λ (s : Seated). s.leaf) (sym c.index_mut.ensures.value) in
+    leaf_got c.self.inside c.args.self.now c.self.view_is c.args.at c.index_mut.result.now d (omega arith) c.index_mut.ensures.value in
     on_ok_weaker _ (λ w. map-set (λ (s : Seated). s.leaf) c.self.inside.seats.items c.args.at c.change.new.self
     ∙ ap (λ (s : Seated). slice_set (leaves_of c.self.inside.seats.items) c.args.at s.leaf) w
     ∙ ap (λ (l : Leaf). slice_set (leaves_of c.self.inside.seats.items) c.args.at (changed c.args.item.now l)) (sym old)
-    ∙ ap (λ (v : Seating). slice_set v.items c.args.at (changed c.args.item.now (get_or c.args.self.now.items c.args.at d))) c.self.view_is) c.change.ensures.ok
+    ∙ ap (λ (v : Seating). slice_set v.items c.args.at (changed c.args.item.now (get_or c.args.self.now.items c.args.at d))) c.self.view_is)
+    c.change.ensures.ok
 
 pub returns-clause-away : goal.returns-clause-away
 returns-clause-away c =

@@ -10,5 +10,5 @@ into_leaf-requires c = last_here c.self.inside c.args.self.now c.self.view_is c.
 pub returns-clause-away : goal.returns-clause-away
 returns-clause-away c =
     sym (away-push 1 c.in-Some.seat c.pop.new.self.items
-        (last_here c.self.inside c.args.self.now c.self.view_is c.pop.new.self.items c.in-Some.seat c.in-Some.ensures.items c.requires.here))
+    (last_here c.self.inside c.args.self.now c.self.view_is c.pop.new.self.items c.in-Some.seat c.in-Some.ensures.items c.requires.here))
     ∙ ap (away_from 1) (sym c.in-Some.ensures.items) ∙ ap (λ (v : Seating). v.away) c.self.view_is

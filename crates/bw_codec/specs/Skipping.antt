@@ -1,0 +1,63 @@
+-- What stands behind a block and each part of it, found by their lengths alone.
+
+use Rattle.std.specs.Prelude.{ℕ, zero, suc, ◌==◌, if◌then◌else◌, Option, Some, None, List, [], ◌∷◌}
+use Rattle.bw_codec.specs.Reading.{Found, ◌>>=◌, number_at, run_at, place_at, page_at}
+
+-- the bytes after a run of bytes and its length
+abbrev pub run_after : List ℕ → Option (List ℕ)
+run_after bytes = run_at bytes >>= λ run. Some run.1
+
+-- the bytes after a pair
+unfoldable pub pair_after : List ℕ → Option (List ℕ)
+pair_after bytes = run_after bytes >>= λ rest. run_after rest
+
+-- the bytes after a record
+unfoldable pub op_after : List ℕ → Option (List ℕ)
+op_after [] = None
+op_after (tag ∷ bytes) = run_after bytes >>= λ rest. if tag == 1 then run_after rest else Some rest
+
+-- the bytes after n things
+unfoldable pub many_after : (List ℕ → Option (List ℕ)) → ℕ → List ℕ → Option (List ℕ)
+many_after one zero bytes = Some bytes
+many_after one (suc n) bytes = one bytes >>= λ rest. many_after one n rest
+
+-- the bytes after a count and that many things
+unfoldable pub counted_after : (List ℕ → Option (List ℕ)) → List ℕ → Option (List ℕ)
+counted_after one bytes = number_at 2 bytes >>= λ count. many_after one count.0 count.1
+
+-- a block's pages, and the bytes after it
+abbrev pub Pages : Type 0
+Pages = ℕ × Option ℕ
+
+unfoldable pub delta_after : List ℕ → Found Pages
+delta_after bytes = do
+  page ← page_at bytes
+  back ← place_at page.1
+  rest ← counted_after op_after back.1
+  Some ((page.0, None), rest)
+
+unfoldable pub base_after : List ℕ → Found Pages
+base_after bytes = do
+  page ← page_at bytes
+  low ← run_after page.1
+  rest ← counted_after pair_after low
+  Some ((page.0, None), rest)
+
+-- the page that a Split makes
+unfoldable pub upper_after : List ℕ → Found ℕ
+upper_after bytes = do
+  low ← run_after bytes
+  page ← number_at 4 low
+  rest ← counted_after pair_after page.1
+  Some (page.0, rest)
+
+unfoldable pub split_after : List ℕ → Found Pages
+split_after bytes = do
+  page ← page_at bytes
+  back ← place_at page.1
+  upper ← upper_after back.1
+  Some ((page.0, Some upper.0), upper.1)
+
+unfoldable pub block_after : List ℕ → Found Pages
+block_after [] = None
+block_after (tag ∷ bytes) = if tag == 1 then delta_after bytes else if tag == 2 then base_after bytes else if tag == 3 then split_after bytes else None

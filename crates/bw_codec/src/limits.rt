@@ -1,0 +1,36 @@
+//! The numbers of the format, each defined once. `docs/FORMAT.md` has them in its tables, and the
+//! contracts of `Key::new`, `Value::new`, `Header::is_lawful` and `Head::is_lawful` tie them to the
+//! grammar.
+
+/// The greatest length of a key, in bytes; the least is 1.
+pub const MAX_KEY: usize = 64;
+
+/// The greatest length of a value, in bytes; the least is 0.
+pub const MAX_VALUE: usize = 128;
+
+/// The least page limit that a segment may have, in pairs.
+pub const MIN_PAIRS: u16 = 4;
+
+/// The greatest page limit that a segment may have, in pairs.
+pub const MAX_PAIRS: u16 = 32;
+
+/// The least frame limit that a segment may have, in bytes of the whole frame.
+pub const MIN_FRAME: u32 = 16_384;
+
+/// The greatest frame limit that a segment may have, in bytes of the whole frame.
+pub const MAX_FRAME: u32 = 65_536;
+
+/// The length of a segment's header, in bytes.
+pub const HEADER_LEN: usize = 24;
+
+/// The length of a frame's head, in bytes.
+pub const HEAD_LEN: usize = 20;
+
+/// The fewest bytes of a block: an empty Base with an empty low key.
+pub const MIN_BLOCK: u32 = 8;
+
+/// The fewest bytes of a record in a Delta: a delete of a key of one byte.
+pub const MIN_OP: usize = 3;
+
+/// The fewest bytes of a pair: a key of one byte with an empty value.
+pub const MIN_PAIR: usize = 3;

@@ -1,0 +1,189 @@
+//! What is told of a block without its records and pairs: a reader that looks for the blocks of one
+//! page steps over all others.
+
+ghost use Rattle.std.specs.Prelude.{◌≡◌, ◌+◌, ◌^◌, ◌<◌, ◌++◌, ℕ, List, Some, IfErr};
+ghost use Rattle.bw_codec.specs.Grammar.{block_bytes, IsBlock};
+ghost use Rattle.bw_codec.specs.Reading.{Gives};
+ghost use Rattle.bw_codec.specs.declared.block.Block.{Block};
+ghost use Rattle.bw_codec.specs.Outline.{outline_of, outline_touches};
+ghost use Rattle.bw_codec.specs.Skipping.{run_after, pair_after, op_after, many_after, counted_after, delta_after, base_after, upper_after, split_after, block_after};
+
+use crate::fault::CodecFault;
+use crate::parts::{four_of, page_of, place_of, run_of, two_of};
+
+/// A block in short.
+#[derive(Debug, Clone, Copy, PartialEq, Eq)]
+pub struct Outline {
+    /// How many bytes spell the block.
+    pub len: usize,
+    /// The page that it changes, sets or cuts.
+    pub page: u32,
+    /// The page that it makes, if it is a Split.
+    pub made: Option<u32>,
+}
+
+impl Outline {
+    /// The outline of the block at the front of bytes. Of bytes that begin with no lawful block it may
+    /// tell anything or `None`. No memory is taken, and no record or pair is looked at but for its
+    /// lengths.
+    pub fn read(bytes: &[u8]) -> Option<Outline>
+        ensures { (m : ℕ) (block : Block) (rest : List ℕ) → m < 2 ^ 16 → IsBlock m block
+            → bytes.now ≡ block_bytes block ++ rest → result ≡ Some (outline_of block) }
+    {
+        match skip_block(bytes) {
+            Ok(((page, made), rest)) => Some(Outline {
+                len: bytes.len().saturating_sub(rest.len()),
+                page,
+                made,
+            }),
+            Err(_) => None,
+        }
+    }
+
+    /// Whether a block with this outline tells anything of a page.
+    pub fn touches(&self, page: u32) -> bool
+        ensures { result ≡ outline_touches page self.now }
+    {
+        self.page == page
+            || match self.made {
+                None => false,
+                Some(made) => made == page,
+            }
+    }
+}
+
+/// The bytes after a run of bytes.
+fn skip_run(bytes: &[u8]) -> Result<&[u8], CodecFault>
+    ensures gives { Gives (λ x. x.now) result (run_after bytes.now) }
+    ensures bad { IfErr result (λ fault. fault ≡ CodecFault.BadBytes) }
+{
+    let (_, rest) = run_of(bytes)?;
+    Ok(rest)
+}
+
+#[tactic(auto, unfolding(crate::specs::Skipping::pair_after))]
+fn skip_pair(bytes: &[u8]) -> Result<&[u8], CodecFault>
+    ensures gives { Gives (λ x. x.now) result (pair_after bytes.now) }
+    ensures bad { IfErr result (λ fault. fault ≡ CodecFault.BadBytes) }
+{
+    skip_run(skip_run(bytes)?)
+}
+
+#[tactic(auto, unfolding(crate::specs::Skipping::op_after))]
+fn skip_op(bytes: &[u8]) -> Result<&[u8], CodecFault>
+    ensures gives { Gives (λ x. x.now) result (op_after bytes.now) }
+    ensures bad { IfErr result (λ fault. fault ≡ CodecFault.BadBytes) }
+{
+    match bytes {
+        [] => Err(CodecFault::BadBytes),
+        [tag, rest @ ..] => {
+            let rest = skip_run(rest)?;
+            if *tag == 1 { skip_run(rest) } else { Ok(rest) }
+        }
+    }
+}
+
+fn skip_pairs(count: u16, bytes: &[u8]) -> Result<&[u8], CodecFault>
+    ensures gives { Gives (λ x. x.now) result (many_after pair_after count bytes.now) }
+    ensures bad { IfErr result (λ fault. fault ≡ CodecFault.BadBytes) }
+{
+    let mut rest = bytes;
+    for _i in 0..count {
+        rest = skip_pair(rest)?;
+    }
+    Ok(rest)
+}
+
+fn skip_ops(count: u16, bytes: &[u8]) -> Result<&[u8], CodecFault>
+    ensures gives { Gives (λ x. x.now) result (many_after op_after count bytes.now) }
+    ensures bad { IfErr result (λ fault. fault ≡ CodecFault.BadBytes) }
+{
+    let mut rest = bytes;
+    for _i in 0..count {
+        rest = skip_op(rest)?;
+    }
+    Ok(rest)
+}
+
+#[tactic(auto, unfolding(crate::specs::Skipping::counted_after))]
+fn after_pairs(bytes: &[u8]) -> Result<&[u8], CodecFault>
+    ensures gives { Gives (λ x. x.now) result (counted_after pair_after bytes.now) }
+    ensures bad { IfErr result (λ fault. fault ≡ CodecFault.BadBytes) }
+{
+    let (count, rest) = two_of(bytes)?;
+    skip_pairs(count, rest)
+}
+
+#[tactic(auto, unfolding(crate::specs::Skipping::counted_after))]
+fn after_ops(bytes: &[u8]) -> Result<&[u8], CodecFault>
+    ensures gives { Gives (λ x. x.now) result (counted_after op_after bytes.now) }
+    ensures bad { IfErr result (λ fault. fault ≡ CodecFault.BadBytes) }
+{
+    let (count, rest) = two_of(bytes)?;
+    skip_ops(count, rest)
+}
+
+#[tactic(auto, unfolding(crate::specs::Skipping::delta_after))]
+fn skip_delta(bytes: &[u8]) -> Result<((u32, Option<u32>), &[u8]), CodecFault>
+    ensures gives { Gives (λ x. (x.0, x.1.now)) result (delta_after bytes.now) }
+    ensures bad { IfErr result (λ fault. fault ≡ CodecFault.BadBytes) }
+{
+    let (page, rest) = page_of(bytes)?;
+    let (_, rest) = place_of(rest)?;
+    let rest = after_ops(rest)?;
+    Ok(((page, None), rest))
+}
+
+#[tactic(auto, unfolding(crate::specs::Skipping::base_after))]
+fn skip_base(bytes: &[u8]) -> Result<((u32, Option<u32>), &[u8]), CodecFault>
+    ensures gives { Gives (λ x. (x.0, x.1.now)) result (base_after bytes.now) }
+    ensures bad { IfErr result (λ fault. fault ≡ CodecFault.BadBytes) }
+{
+    let (page, rest) = page_of(bytes)?;
+    let rest = skip_run(rest)?;
+    let rest = after_pairs(rest)?;
+    Ok(((page, None), rest))
+}
+
+#[tactic(auto, unfolding(crate::specs::Skipping::upper_after))]
+fn skip_upper(bytes: &[u8]) -> Result<(u32, &[u8]), CodecFault>
+    ensures gives { Gives (λ x. (x.0, x.1.now)) result (upper_after bytes.now) }
+    ensures bad { IfErr result (λ fault. fault ≡ CodecFault.BadBytes) }
+{
+    let rest = skip_run(bytes)?;
+    let (page, rest) = four_of(rest)?;
+    let rest = after_pairs(rest)?;
+    Ok((page, rest))
+}
+
+#[tactic(auto, unfolding(crate::specs::Skipping::split_after))]
+fn skip_split(bytes: &[u8]) -> Result<((u32, Option<u32>), &[u8]), CodecFault>
+    ensures gives { Gives (λ x. (x.0, x.1.now)) result (split_after bytes.now) }
+    ensures bad { IfErr result (λ fault. fault ≡ CodecFault.BadBytes) }
+{
+    let (page, rest) = page_of(bytes)?;
+    let (_, rest) = place_of(rest)?;
+    let (made, rest) = skip_upper(rest)?;
+    Ok(((page, Some(made)), rest))
+}
+
+#[tactic(auto, unfolding(crate::specs::Skipping::block_after))]
+fn skip_block(bytes: &[u8]) -> Result<((u32, Option<u32>), &[u8]), CodecFault>
+    ensures gives { Gives (λ x. (x.0, x.1.now)) result (block_after bytes.now) }
+    ensures bad { IfErr result (λ fault. fault ≡ CodecFault.BadBytes) }
+{
+    match bytes {
+        [] => Err(CodecFault::BadBytes),
+        [tag, rest @ ..] => {
+            if *tag == 1 {
+                skip_delta(rest)
+            } else if *tag == 2 {
+                skip_base(rest)
+            } else if *tag == 3 {
+                skip_split(rest)
+            } else {
+                Err(CodecFault::BadBytes)
+            }
+        }
+    }
+}

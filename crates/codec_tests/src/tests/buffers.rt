@@ -1,0 +1,250 @@
+// Buffers, step by step.
+
+ghost use Rattle.std.specs.Prelude.{◌≤◌, length, IfSome};
+ghost use Rattle.std.specs.List.{AllByRecursion};
+ghost use Rattle.bw_codec.specs.Grammar.{IsBlock};
+
+use super::hex::{bytes_of, framed};
+use bw_buffer::{Buffer, Mark, PutError};
+use bw_codec::{Blocks, FrameRead, Header, Place, read_frame};
+use std::alloc::Global;
+
+/// An empty page 1.
+const EMPTY: &str = "46524d31 0100000000000000 08000000 01000000 \
+    02 01000000 00 0000";
+
+/// The frames of five flushes of one put each; the last one splits page 1.
+const PUT_A: &str = "46524d31 0100000000000000 20000000 02000000 \
+    02 01000000 00 0000 \
+    01 01000000 0100000000000000 00000000 0100 01 01 61 01 31";
+
+const PUT_B: &str = "46524d31 0200000000000000 18000000 01000000 \
+    01 01000000 0100000000000000 01000000 0100 01 01 62 01 32";
+
+const PUT_C: &str = "46524d31 0300000000000000 18000000 01000000 \
+    01 01000000 0200000000000000 00000000 0100 01 01 63 01 33";
+
+const PUT_D: &str = "46524d31 0400000000000000 18000000 01000000 \
+    01 01000000 0300000000000000 00000000 0100 01 01 64 01 34";
+
+const SPLIT: &str = "46524d31 0500000000000000 3d000000 02000000 \
+    01 01000000 0400000000000000 00000000 0100 01 01 65 01 35 \
+    03 01000000 0500000000000000 00000000 01 63 02000000 0300 \
+    01 63 01 33 01 64 01 34 01 65 01 35";
+
+/// A head without blocks.
+const NONE: &str = "46524d31 0200000000000000 00000000 00000000";
+
+/// One call, with what it has to answer.
+#[derive(Drop)]
+enum Step {
+    /// The blocks of a frame are put: the first one's place, or the refusal.
+    Put(&'static str, Result<(u64, u32), PutError>),
+    /// Deltas of one put, of a key and a value of so many bytes, so often.
+    Fill(u8, u8, u32),
+    /// Whether there is room for the blocks of a frame.
+    HasRoom(&'static str, bool),
+    Seal,
+    Restart(u64),
+    /// The frame's number, the count of blocks, the free bytes, and the seal.
+    Is(u64, u32, u32, bool),
+    /// The bytes.
+    Gives(&'static str),
+    Mark(u32, Mark),
+}
+
+/// The blocks of the frame at the front of bytes, which a buffer takes.
+fn blocks_in(alloc: Global, bytes: &[u8]) -> Option<Blocks>
+    ensures some { IfSome result (λ blocks. 1 ≤ length blocks) }
+    ensures lawful { IfSome result (λ blocks. AllByRecursion (IsBlock 32) blocks) }
+{
+    let header = Header {
+        number: 1,
+        m: 32,
+        f: 16384,
+    };
+    match read_frame(alloc, bytes, &header).ok()? {
+        FrameRead::Whole(frame, _) => Some(frame.blocks),
+        FrameRead::Tail => None,
+    }
+}
+
+fn puts(
+    alloc: Global,
+    buffer: &mut Buffer,
+    hex: &str,
+    told: Result<(u64, u32), PutError>,
+) -> Option<bool> {
+    let bytes = bytes_of(alloc, hex)?;
+    let blocks = blocks_in(alloc, &bytes)?;
+    let before = Vec::from_slice(alloc, buffer.bytes()).ok()?;
+    match buffer.put_all(blocks.as_slice()) {
+        Ok(Place { frame, index }) => Some(told == Ok((frame, index))),
+        Err(error) => Some(told == Err(error) && before.as_slice() == buffer.bytes()),
+    }
+}
+
+/// The frame of one Delta that puts a key and a value of so many bytes.
+fn delta_of(alloc: Global, key: u8, value: u8) -> Option<Vec<u8>> {
+    let mut body = bytes_of(alloc, "01 01000000 0100000000000000 00000000 0100 01")?;
+    for length in [key, value] {
+        body.push(length).ok()?;
+        for _ in 0..length {
+            body.push(b'a').ok()?;
+        }
+    }
+    framed(alloc, 1, &body)
+}
+
+fn fills(alloc: Global, buffer: &mut Buffer, lengths: (u8, u8), times: u32) -> Option<bool> {
+    let bytes = delta_of(alloc, lengths.0, lengths.1)?;
+    let blocks = blocks_in(alloc, &bytes)?;
+    for _ in 0..times {
+        let _ = buffer.put_all(blocks.as_slice()).ok()?;
+    }
+    Some(true)
+}
+
+fn tells_room(alloc: Global, buffer: &Buffer, hex: &str, told: bool) -> Option<bool> {
+    let bytes = bytes_of(alloc, hex)?;
+    let blocks = blocks_in(alloc, &bytes)?;
+    Some(buffer.has_room(blocks.as_slice()) == told)
+}
+
+fn restarts(buffer: &mut Buffer, frame: u64) -> bool {
+    if frame == 0 {
+        return false;
+    }
+    if !buffer.is_sealed() {
+        buffer.seal();
+    }
+    buffer.restart(frame);
+    true
+}
+
+fn gives(alloc: Global, buffer: &Buffer, hex: &str) -> Option<bool> {
+    let bytes = bytes_of(alloc, hex)?;
+    Some(buffer.bytes() == bytes.as_slice())
+}
+
+/// Whether the step went as told.
+fn goes(alloc: Global, buffer: &mut Buffer, step: &Step) -> Option<bool> {
+    match step {
+        Step::Put(hex, told) => puts(alloc, buffer, hex, *told),
+        Step::Fill(key, value, times) => fills(alloc, buffer, (*key, *value), *times),
+        Step::HasRoom(hex, told) => tells_room(alloc, buffer, hex, *told),
+        Step::Seal => {
+            buffer.seal();
+            Some(true)
+        }
+        Step::Restart(frame) => Some(restarts(buffer, *frame)),
+        Step::Is(frame, count, room, sealed) => Some(
+            buffer.frame() == *frame
+                && buffer.count() == *count
+                && buffer.room() == *room
+                && buffer.is_sealed() == *sealed
+                && buffer.limit() == 16384,
+        ),
+        Step::Gives(hex) => gives(alloc, buffer, hex),
+        Step::Mark(i, mark) => Some(*i < buffer.count() && buffer.mark(*i) == *mark),
+    }
+}
+
+/// How many of the steps went as told before one did not.
+fn walked(alloc: Global, number: u64, steps: &[Step]) -> Option<usize> {
+    if number == 0 {
+        return None;
+    }
+    let mut buffer = Buffer::new(alloc, number, 16384).ok()?;
+    for (i, step) in steps.iter().enumerate() {
+        if goes(alloc, &mut buffer, step) != Some(true) {
+            return Some(i);
+        }
+    }
+    Some(steps.len())
+}
+
+const SEALED: [Step; 9] = [
+    Step::Put(EMPTY, Ok((1, 0))),
+    Step::Is(1, 1, 16356, false),
+    Step::Gives(EMPTY),
+    Step::Seal,
+    Step::Is(1, 1, 16356, true),
+    Step::Put(EMPTY, Err(PutError::Sealed)),
+    Step::Is(1, 1, 16356, true),
+    Step::HasRoom(EMPTY, true),
+    Step::Gives(EMPTY),
+];
+
+/// 76 Deltas of the greatest length, 214 bytes, and one of 60: 40 bytes are free, where a Delta of 24
+/// bytes and its Split of 37 do not fit together.
+const FULL: [Step; 9] = [
+    Step::Fill(64, 128, 76),
+    Step::Fill(1, 37, 1),
+    Step::Is(1, 77, 40, false),
+    Step::HasRoom(SPLIT, false),
+    Step::Put(SPLIT, Err(PutError::NoRoom)),
+    Step::Is(1, 77, 40, false),
+    Step::HasRoom(PUT_D, true),
+    Step::Restart(2),
+    Step::Put(SPLIT, Ok((2, 0))),
+];
+
+/// The worked frames, made one after the other by one buffer.
+const WORKED: [Step; 19] = [
+    Step::Put(PUT_A, Ok((1, 0))),
+    Step::Mark(0, Mark::Sets(1)),
+    Step::Mark(1, Mark::Changes(1)),
+    Step::Gives(PUT_A),
+    Step::Restart(2),
+    Step::Is(2, 0, 16364, false),
+    Step::Gives(NONE),
+    Step::Put(PUT_B, Ok((2, 0))),
+    Step::Gives(PUT_B),
+    Step::Restart(3),
+    Step::Put(PUT_C, Ok((3, 0))),
+    Step::Gives(PUT_C),
+    Step::Restart(4),
+    Step::Put(PUT_D, Ok((4, 0))),
+    Step::Restart(5),
+    Step::Put(SPLIT, Ok((5, 0))),
+    Step::Mark(0, Mark::Changes(1)),
+    Step::Mark(1, Mark::Splits(1, 2)),
+    Step::Gives(SPLIT),
+];
+
+#[test]
+fn buffers_go_as_told(rt: HostRuntime) {
+    assert_eq!(rt;
+        walked(rt.alloc(), 1, &SEALED),
+        Some(SEALED.len()),
+        "sealed"
+    );
+    assert_eq!(rt; walked(rt.alloc(), 1, &FULL), Some(FULL.len()), "full");
+    assert_eq!(rt;
+        walked(rt.alloc(), 1, &WORKED),
+        Some(WORKED.len()),
+        "worked"
+    );
+}
+
+/// Whether a new buffer of this number gives the bytes whose blocks it takes, before and after the
+/// seal.
+fn gives_again(alloc: Global, number: u64, hex: &'static str) -> Option<bool> {
+    let steps = [
+        Step::Put(hex, Ok((number, 0))),
+        Step::Gives(hex),
+        Step::Seal,
+        Step::Gives(hex),
+    ];
+    Some(walked(alloc, number, &steps)? == 4)
+}
+
+#[test]
+fn frames_made_by_buffers_are_the_worked_bytes(rt: HostRuntime) {
+    assert!(rt; gives_again(rt.alloc(), 1, EMPTY) == Some(true));
+    for (i, hex) in [PUT_A, PUT_B, PUT_C, PUT_D, SPLIT].iter().enumerate() {
+        let answer = gives_again(rt.alloc(), i as u64 + 1, hex);
+        assert!(rt; answer == Some(true), "at {hex}");
+    }
+}

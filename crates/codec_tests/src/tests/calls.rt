@@ -1,0 +1,153 @@
+// Each call once, where memory is there.
+
+use super::told::{Kind, are_pairs, is_one, says};
+use bw_buffer::PutError;
+use bw_codec::{
+    Block, Blocks, CodecFault, Head, Header, Key, Leaf, LengthError, Low, Ops, Pairs, Place,
+    Record, Value, is_before,
+};
+use std::alloc::Global;
+use std::test::Fail;
+
+#[test]
+fn keys_have_1_to_64_bytes_and_values_0_to_128(rt: HostRuntime) {
+    let bytes = [0x61; 129];
+    for (count, is_key, is_value) in [
+        (0, false, true),
+        (1, true, true),
+        (64, true, true),
+        (65, false, true),
+        (128, false, true),
+        (129, false, false),
+    ] {
+        assert!(rt; Key::new(&bytes[..count]).is_ok() == is_key, "at {count}");
+        assert!(rt;
+            Value::new(&bytes[..count]).is_ok() == is_value,
+            "at {count}"
+        );
+    }
+}
+
+/// A key and a value of these bytes.
+fn pair_of(key: &[u8], value: &[u8]) -> Option<(Key, Value)> {
+    Some((Key::new(key).ok()?, Value::new(value).ok()?))
+}
+
+/// The pairs a=1 and c=3, built and changed by each call that does so.
+fn changed_pairs(alloc: Global) -> Option<Pairs> {
+    let mut pairs = Pairs::of(Vec::new(alloc));
+    for (at, key, value) in [
+        (0, b"c", b"3"),
+        (0, b"a", b"0"),
+        (1, b"b", b"2"),
+        (3, b"d", b"4"),
+    ] {
+        if pairs.as_slice().len() < at {
+            return None;
+        }
+        let pair = pair_of(key, value)?;
+        pairs.insert(at, pair.0, pair.1).ok()?;
+    }
+    if pairs.as_slice().len() != 4 {
+        return None;
+    }
+    let pair = pair_of(b"a", b"1")?;
+    pairs.replace(0, pair.0, pair.1);
+    pairs.remove(1);
+    pairs.truncate(2);
+    Some(pairs)
+}
+
+/// A leaf of page 7 with these pairs, each part copied once.
+fn copied_leaf(alloc: Global) -> Option<Leaf> {
+    let low = Low::of(Vec::from_slice(alloc, b"a").ok()?);
+    let pairs = changed_pairs(alloc)?;
+    Some(Leaf {
+        page: 7,
+        low: Low::of(low.copy().ok()?.into_vec()),
+        pairs: Pairs::of(pairs.copy().ok()?.into_vec()),
+    })
+}
+
+/// Whether a leaf of these pairs is copied by each call that does so.
+fn leaf_is_copied(alloc: Global) -> Option<bool> {
+    let copy = copied_leaf(alloc)?.copy().ok()?;
+    let pairs = Pairs::copy_of(alloc, copy.pairs.as_slice()).ok()?;
+    Some(
+        copy.page == 7
+            && is_one(copy.low.as_slice(), b'a')
+            && are_pairs(pairs.as_slice(), b"ac", b"13"),
+    )
+}
+
+/// The blocks of one Delta that holds this record.
+fn delta_of(alloc: Global, put: Record) -> Option<Blocks> {
+    let mut items = Vec::new(alloc);
+    items.push(put).ok()?;
+    let ops = Ops::of(Ops::of(items).into_vec());
+    let back = Place { frame: 1, index: 0 };
+    let mut blocks = Vec::new(alloc);
+    blocks.push(Block::Delta { page: 1, back, ops }).ok()?;
+    Some(Blocks::of(Blocks::of(blocks).into_vec()))
+}
+
+/// Whether records and the blocks that hold them are handed in and out.
+fn records_go_through(alloc: Global) -> Option<bool> {
+    let (key, value) = pair_of(b"k", b"v")?;
+    let put = Record::Put(key, value);
+    let same = put.copy() == put && is_one(put.key().as_slice(), b'k');
+    let blocks = delta_of(alloc, put)?;
+    let first = blocks.as_slice().get(0)?;
+    Some(same && says(first, Kind::Put, (1, 0), b"k", b"v"))
+}
+
+/// Whether heads and keys are told by the calls that answer yes or no.
+fn questions_are_answered() -> Option<bool> {
+    let (key, value) = pair_of(b"k", b"v")?;
+    let head = Head {
+        number: 1,
+        body: 32,
+        blocks: 2,
+    };
+    let header = Header {
+        number: 1,
+        m: 4,
+        f: 16_384,
+    };
+    Some(
+        key.copy() == key
+            && value.copy() == value
+            && is_before(b"a", b"aa")
+            && !is_before(b"b", b"b")
+            && head.is_lawful(52)
+            && !head.is_lawful(51)
+            && header.is_lawful(),
+    )
+}
+
+#[test]
+fn each_call_succeeds(rt: HostRuntime) {
+    assert!(rt; questions_are_answered() == Some(true));
+    assert!(rt; leaf_is_copied(rt.alloc()) == Some(true));
+    assert!(rt; records_go_through(rt.alloc()) == Some(true));
+}
+
+#[test]
+fn the_refusals_of_bytes_have_texts(rt: HostRuntime) -> Result<(), Fail> {
+    let length = format!(in rt.alloc(); "{}", LengthError { given: 65 })?;
+    let memory = format!(in rt.alloc(); "{}", CodecFault::NoMemory)?;
+    let bytes = format!(in rt.alloc(); "{}", CodecFault::BadBytes)?;
+    assert!(rt; length.as_str() == "a length of 65 bytes is out of range");
+    assert!(rt; memory.as_str() == "out of memory");
+    assert!(rt; bytes.as_str() == "unlawful bytes");
+    Ok(())
+}
+
+#[test]
+fn the_refusals_of_blocks_have_texts(rt: HostRuntime) -> Result<(), Fail> {
+    let sealed = format!(in rt.alloc(); "{}", PutError::Sealed)?;
+    let no_room = format!(in rt.alloc(); "{}", PutError::NoRoom)?;
+    assert!(rt; sealed.as_str() == "the buffer is sealed");
+    assert!(rt; no_room.as_str() == "the blocks do not fit the frame");
+    Ok(())
+}

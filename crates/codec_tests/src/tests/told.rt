@@ -1,0 +1,174 @@
+// What the worked bytes tell, block by block.
+
+use super::hex::{FIRST, NEWER, OLDER, SECOND, bytes_of};
+use bw_codec::{
+    Block, FrameRead, HeaderRead, Key, Outline, Place, Record, Value, read_frame, read_header,
+};
+use std::alloc::Global;
+
+/// The kinds of blocks; a Delta here has one put.
+#[derive(Debug, Clone, Copy, PartialEq, Eq)]
+pub(crate) enum Kind {
+    Base,
+    Put,
+    Split,
+}
+
+/// Whether bytes are this one alone.
+pub(crate) fn is_one(bytes: &[u8], one: u8) -> bool {
+    match bytes {
+        [byte] => *byte == one,
+        _ => false,
+    }
+}
+
+/// Whether pairs have these keys and values, of one byte each.
+pub(crate) fn are_pairs(pairs: &[(Key, Value)], keys: &[u8], values: &[u8]) -> bool {
+    pairs.len() == keys.len()
+        && pairs.len() == values.len()
+        && pairs
+            .iter()
+            .zip(keys)
+            .all(|(pair, key)| is_one(pair.0.as_slice(), *key))
+        && pairs
+            .iter()
+            .zip(values)
+            .all(|(pair, value)| is_one(pair.1.as_slice(), *value))
+}
+
+/// Whether records are one put of this key and value, of one byte each.
+fn are_put(ops: &[Record], keys: &[u8], values: &[u8]) -> bool {
+    match (ops, keys, values) {
+        ([Record::Put(key, value)], [k], [v]) => {
+            is_one(key.as_slice(), *k) && is_one(value.as_slice(), *v)
+        }
+        _ => false,
+    }
+}
+
+/// Whether a block of page 1 is of this kind, with this back place, these keys and these values.
+/// The new page of a Split is 2.
+pub(crate) fn says(
+    block: &Block,
+    kind: Kind,
+    told: (u64, u32),
+    keys: &[u8],
+    values: &[u8],
+) -> bool {
+    match block {
+        Block::Base(leaf) => {
+            kind == Kind::Base
+                && leaf.page == 1
+                && leaf.low.as_slice().is_empty()
+                && are_pairs(leaf.pairs.as_slice(), keys, values)
+        }
+        Block::Delta { page, back, ops } => {
+            kind == Kind::Put
+                && *page == 1
+                && (back.frame, back.index) == told
+                && are_put(ops.as_slice(), keys, values)
+        }
+        Block::Split { page, back, upper } => {
+            kind == Kind::Split
+                && *page == 1
+                && (back.frame, back.index) == told
+                && upper.page == 2
+                && Some(upper.low.as_slice()) == keys.get(..1)
+                && are_pairs(upper.pairs.as_slice(), keys, values)
+        }
+    }
+}
+
+/// Whether a block tells by its calls what its kind does to pages 1, 2 and 3.
+fn does(block: &Block, kind: Kind, told: (u64, u32)) -> bool {
+    let back = Place {
+        frame: told.0,
+        index: told.1,
+    };
+    let link = if kind == Kind::Base { None } else { Some(back) };
+    block.touches(1)
+        && block.touches(2) == (kind == Kind::Split)
+        && !block.touches(3)
+        && block.sets(1) == (kind == Kind::Base)
+        && block.sets(2) == (kind == Kind::Split)
+        && !block.sets(3)
+        && block.back(1) == link
+        && block.back(2).is_none()
+}
+
+/// Whether the outline of the block of this index in a body tells what its kind does to pages 1, 2
+/// and 3, where the blocks before it are stepped over.
+fn is_outlined(body: &[u8], index: usize, kind: Kind) -> Option<bool> {
+    let mut rest = body;
+    for _ in 0..index {
+        rest = rest.get(Outline::read(rest)?.len..)?;
+    }
+    let outline = Outline::read(rest)?;
+    let made = if kind == Kind::Split { Some(2) } else { None };
+    Some(
+        outline.page == 1
+            && outline.made == made
+            && outline.touches(1)
+            && outline.touches(2) == (kind == Kind::Split)
+            && !outline.touches(3),
+    )
+}
+
+/// A block: its segment, place, kind, back place, keys and values.
+type Row = (
+    &'static str,
+    (u64, usize),
+    Kind,
+    (u64, u32),
+    &'static str,
+    &'static str,
+);
+
+const BLOCKS: [Row; 12] = [
+    (FIRST, (1, 0), Kind::Base, (0, 0), "", ""),
+    (FIRST, (1, 1), Kind::Put, (1, 0), "k", "v"),
+    (SECOND, (1, 0), Kind::Base, (0, 0), "", ""),
+    (SECOND, (1, 1), Kind::Put, (1, 0), "a", "1"),
+    (SECOND, (2, 0), Kind::Put, (1, 1), "b", "2"),
+    (SECOND, (3, 0), Kind::Put, (2, 0), "c", "3"),
+    (SECOND, (4, 0), Kind::Put, (3, 0), "d", "4"),
+    (SECOND, (5, 0), Kind::Put, (4, 0), "e", "5"),
+    (SECOND, (5, 1), Kind::Split, (5, 0), "cde", "345"),
+    (OLDER, (2, 0), Kind::Put, (1, 1), "j", "2"),
+    (NEWER, (3, 0), Kind::Put, (2, 0), "k", "3"),
+    (NEWER, (4, 0), Kind::Base, (0, 0), "jk", "23"),
+];
+
+/// Whether the block of a row says what the row tells.
+fn holds(alloc: Global, row: &Row) -> Option<bool> {
+    let (hex, place, kind, told, keys, values) = *row;
+    let bytes = bytes_of(alloc, hex)?;
+    let HeaderRead::Whole(header) = read_header(&bytes) else {
+        return None;
+    };
+    let mut rest = bytes.get(24..)?;
+    for _ in 0..5 {
+        match read_frame(alloc, rest, &header).ok()? {
+            FrameRead::Whole(frame, used) => {
+                if frame.number == place.0 {
+                    let block = frame.blocks.as_slice().get(place.1)?;
+                    return Some(
+                        is_outlined(rest.get(20..used)?, place.1, kind)?
+                            && does(block, kind, told)
+                            && says(block, kind, told, keys.as_bytes(), values.as_bytes()),
+                    );
+                }
+                rest = rest.get(used..)?;
+            }
+            FrameRead::Tail => return None,
+        }
+    }
+    None
+}
+
+#[test]
+fn the_worked_bytes_hold_what_they_tell(rt: HostRuntime) {
+    for (i, row) in BLOCKS.iter().enumerate() {
+        assert!(rt; holds(rt.alloc(), row) == Some(true), "row {i}");
+    }
+}

@@ -1,0 +1,93 @@
+// What was read is written again.
+
+ghost use Rattle.std.specs.List.{AllByRecursion};
+ghost use Rattle.bw_codec.specs.Grammar.{IsBlock};
+
+use super::hex::{FIRST, LAST, NEWER, OLDER, SECOND, bytes_of};
+use bw_codec::limits::{HEAD_LEN, HEADER_LEN};
+use bw_codec::{
+    Block, Frame, FrameRead, Header, HeaderRead, Leaf, Low, Pairs, block_length, encode_block,
+    encode_frame_head, encode_header, frame_cells, header_cells, read_frame, read_header,
+    write_block,
+};
+use std::alloc::Global;
+
+/// Whether a frame could be written.
+fn write_frame(frame: &Frame, body: u32, out: &mut Vec<u8>) -> Option<()>
+    requires { AllByRecursion (IsBlock 32) frame.now.blocks }
+{
+    let count = u32::try_from(frame.blocks.as_slice().len()).ok()?;
+    encode_frame_head(frame.number, body, count, out).ok()?;
+    for block in frame.blocks.as_slice() {
+        encode_block(block, out).ok()?;
+    }
+    Some(())
+}
+
+/// Writes the frame at the front of bytes again, and tells its length: 0 where there is none.
+#[tactic(auto, using(bw_codec::proofs::Wider::blocks_wider))]
+fn copy_frame(alloc: Global, bytes: &[u8], header: &Header, out: &mut Vec<u8>) -> Option<usize> {
+    if 32 < header.m {
+        return None;
+    }
+    match read_frame(alloc, bytes, header).ok()? {
+        FrameRead::Whole(frame, used) => {
+            let body = u32::try_from(used.checked_sub(HEAD_LEN)?).ok()?;
+            write_frame(&frame, body, out)?;
+            Some(used)
+        }
+        FrameRead::Tail => Some(0),
+    }
+}
+
+/// A segment's header and whole frames, written again from what was read of them.
+fn rewritten(alloc: Global, bytes: &[u8]) -> Option<Vec<u8>> {
+    let HeaderRead::Whole(header) = read_header(bytes) else {
+        return None;
+    };
+    let mut out = Vec::new(alloc);
+    encode_header(&header, &mut out).ok()?;
+    let mut rest = bytes.get(HEADER_LEN..)?;
+    for _ in 0..5 {
+        let used = copy_frame(alloc, rest, &header, &mut out)?;
+        rest = rest.get(used..)?;
+    }
+    Some(out)
+}
+
+/// Whether a segment is written again as it stands.
+fn is_rewritten(alloc: Global, hex: &str) -> Option<bool> {
+    let bytes = bytes_of(alloc, hex)?;
+    let again = rewritten(alloc, bytes.as_slice())?;
+    Some(again.as_slice() == bytes.as_slice())
+}
+
+#[test]
+fn the_worked_bytes_are_read_and_written_again(rt: HostRuntime) {
+    for hex in [FIRST, SECOND, OLDER, NEWER, LAST] {
+        assert!(rt; is_rewritten(rt.alloc(), hex) == Some(true), "at {hex}");
+    }
+}
+
+/// Whether the first segment's head, its frame's, and its first block are written as they stand there
+/// by the calls that take no memory.
+fn parts_are_written(alloc: Global) -> Option<bool> {
+    let bytes = bytes_of(alloc, FIRST)?;
+    let base = Block::Base(Leaf {
+        page: 1,
+        low: Low::of(Vec::new(alloc)),
+        pairs: Pairs::of(Vec::new(alloc)),
+    });
+    let mut out = Vec::with_capacity(alloc, block_length(&base)).ok()?;
+    write_block(&base, &mut out);
+    Some(
+        bytes.get(..24)? == header_cells(1, 4, 16_384).as_slice()
+            && bytes.get(24..44)? == frame_cells(1, 32, 2).as_slice()
+            && bytes.get(44..52)? == out.as_slice(),
+    )
+}
+
+#[test]
+fn parts_are_written_without_memory(rt: HostRuntime) {
+    assert!(rt; parts_are_written(rt.alloc()) == Some(true));
+}

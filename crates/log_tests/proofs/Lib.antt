@@ -1,0 +1,6 @@
+pub mod Exampled
+pub mod FilledExample
+pub mod SplitExample
+pub mod Vectors
+pub mod SmallBox
+pub mod OnePage

@@ -1,0 +1,108 @@
+-- A log over one live box that has room for its bytes alone.
+
+use Rattle.std.proofs.Common.{◌≡◌, ℕ, ◌≤◌, ◌-◌, inl, true, false, inr, Some, None, List, [], ◌∷◌, slice_get}
+use Rattle.std.proofs.Common.{refl, sym, ap, subst, ◌∙◌, lit≤, lit<, arith, zero, suc}
+use Rattle.std.proofs.lemmas.Option.{slice_get_past}
+use Rattle.bw_codec.specs.Bytes.{number_bytes}
+use Rattle.bw_codec.specs.Grammar.{IsWhole}
+use Rattle.bw_codec.specs.declared.block.Frame.{Frame}
+use Rattle.bw_device.specs.Holding.{Holding}
+use Rattle.bw_page.specs.Standing.{Stand}
+use Rattle.bw_log.specs.Places.{place_of, base_of}
+use Rattle.bw_log.specs.Segments.{segment_frames, entry_of}
+use Rattle.bw_log.specs.Contents.{Contents, counted, place_in, entry_place, IsSound}
+use Rattle.log_tests.specs.Examples.{first_example, first_leaf}
+use Rattle.bw_codec.specs.declared.leaf.Leaf.{Leaf}
+use Rattle.bw_log.specs.Adopting.{adopted}
+use Rattle.bw_log.specs.declared.places.PageAt.{PageAt}
+use Rattle.bw_log.specs.declared.places.Tables.{Tables}
+use Rattle.log_tests.specs.OnePage.{HoldsOne}
+use Rattle.log_tests.proofs.Exampled.{first_frame_lawful, first_stands, not_one}
+use Rattle.log_tests.proofs.Vectors.{first_segment, first_is_read}
+
+abbrev pub small : ℕ → Contents
+small lease = record {
+  live = record { bytes = first_segment; room = 76; lease = lease; failed = 0 } ∷ [];
+  spares = [];
+  m = 4;
+  f = 16384;
+  number = 1;
+  is_open = true;
+  is_failed = false;
+  next = Some 2;
+  frames = entry_of 1 24 first_example ∷ [];
+  pages = record { place = record { frame = 1; index = 1 }; base = record { frame = 1; index = 0 } } ∷ [];
+}
+
+first_whole : IsWhole first_segment (record { number = 1; m = 4; f = 16384 }) (first_example ∷ []) []
+unfolding number_bytes
+first_whole = record {
+  lawful = record { number = (lit≤ tt, lit< tt); m = (lit≤ tt, lit≤ tt); f = (lit≤ tt, lit≤ tt) };
+  each = (first_frame_lawful, tt);
+  tail = inl (lit< tt, refl);
+  parts = refl;
+}
+
+whole : IsWhole first_segment (record { number = 1; m = 4; f = 16384 }) (segment_frames first_segment) []
+whole = subst (λ (fs : List Frame). IsWhole first_segment (record { number = 1; m = 4; f = 16384 }) fs []) (sym first_is_read) first_whole
+
+abbrev pub small_pages : List PageAt
+small_pages = record { place = record { frame = 1; index = 1 }; base = record { frame = 1; index = 0 } } ∷ []
+
+pages_are : (p : ℕ) → 1 ≤ p → (place_in (λ e. e.place) small_pages p ≡ place_of p (first_example ∷ []))
+    × (place_in (λ e. e.base) small_pages p ≡ base_of p (first_example ∷ []))
+pages_are zero h = absurd (omega arith)
+pages_are (suc zero) h = (refl, refl)
+pages_are (suc (suc n)) h =
+    let no = not_one (suc (suc n)) (omega arith) in
+    let past : slice_get small_pages (suc (suc n) - 1) ≡ None = slice_get_past small_pages (suc (suc n) - 1) (omega arith) in
+    let places : None ≡ place_of (suc (suc n)) (first_example ∷ []) = rw no refl in
+    let bases : None ≡ base_of (suc (suc n)) (first_example ∷ []) = rw no refl in
+    (ap (entry_place (λ e. e.place)) past ∙ places, ap (entry_place (λ e. e.base)) past ∙ bases)
+
+first_counts : counted (small 0) ≡ first_example ∷ []
+first_counts = rw first_is_read refl
+
+pub small_is_sound : (lease : ℕ) → IsSound (small lease)
+small_is_sound lease = record {
+  few = lit≤ tt;
+  bounds = (lit≤ tt, tt);
+  rooms = tt;
+  empty = λ _. tt;
+  torn = λ e. absurd cc;
+  holds = record {
+    limits = (lit≤ tt, lit≤ tt, lit≤ tt, lit≤ tt);
+    numbers = lit≤ tt;
+    live = (record { cut = []; whole = whole }, tt);
+    ends = λ _ _. whole;
+    every = λ _. rw first_is_read refl;
+    left = λ e. absurd cc;
+    numbered = rw first_is_read (refl, tt);
+    follows = rw first_is_read refl;
+    listed = rw first_is_read refl;
+    count = lit< tt;
+    linked = rw first_is_read refl;
+    stands = rw first_is_read (inr (first_leaf ∷ [], first_stands, refl));
+    table = rw first_is_read (record { places = λ p h. (pages_are p h).0; bases = λ p h. (pages_are p h).1 });
+  };
+}
+
+-- the log that is adopted from the box and its tables
+pub small_is : (live spares : List Holding) (t : Tables) (lease : ℕ) → live ≡ record { bytes = first_segment; room = 76; lease = lease; failed = 0 } ∷ []
+    → spares ≡ [] → t.m ≡ 4 → t.f ≡ 16384 → t.number ≡ 1 → t.is_open ≡ true → t.frames.items ≡ record { number = 1; segment = 0; at = 24; len = 52 } ∷ []
+    → t.pages.items ≡ small_pages → adopted live spares t ≡ small lease
+unfolding number_bytes
+small_is live spares t lease boxes none m f number takes frames pages = rw (boxes, none, m, f, number, takes, frames, pages) refl
+
+pub small_holds : (c : Contents) (lease : ℕ) (leaf : Leaf) → IsSound c → c ≡ small lease → leaf ≡ first_leaf → HoldsOne c leaf
+small_holds c lease leaf sound is page = record {
+  sound = sound;
+  m = ap (λ (d : Contents). d.m) is;
+  f = ap (λ (d : Contents). d.f) is;
+  is = rw page refl;
+  stands = rw page (subst (λ (fs : List Frame). Stand 4 fs (first_leaf ∷ [])) (sym (ap counted is ∙ first_counts)) first_stands);
+}
+
+-- its tables are what `adopt` asks for
+pub small_adoptable : (live spares : List Holding) (t : Tables) (lease : ℕ) → adopted live spares t ≡ small lease → IsSound (adopted live spares t)
+small_adoptable live spares t lease is = subst IsSound (sym is) (small_is_sound lease)

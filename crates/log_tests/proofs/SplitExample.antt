@@ -1,0 +1,278 @@
+-- The frames of the vector of a page that is split in two may be appended one after the other.
+
+use Rattle.std.proofs.Common.{◌≡◌, ℕ, suc, zero, ◌≤◌, ◌==◌, ◌||◌, lit≤, lit<, false, List, [], ◌∷◌, ◌++◌, refl, sym, ap, subst, ◌∙◌, arith}
+use Rattle.std.proofs.lemmas.Bool.{ne_eqb}
+use Rattle.bw_codec.specs.Bytes.{number_bytes}
+use Rattle.bw_codec.specs.Grammar.{IsFrame}
+use Rattle.bw_codec.specs.declared.leaf.Leaf.{Leaf}
+use Rattle.bw_codec.specs.declared.block.Frame.{Frame}
+use Rattle.bw_page.specs.Leaves.{leaf_at}
+use Rattle.bw_page.specs.Standing.{content, blocks_of, Stand}
+use Rattle.bw_log.specs.Contents.{Contents, IsSound}
+use Rattle.bw_log.specs.Steps.{MayFollow, Appended, IsSameLog}
+use Rattle.log_tests.specs.Examples.{second_example, opening_example, third_example, fourth_example, fifth_example, leaf_with, split_upper}
+use Rattle.log_tests.proofs.Exampled.{only_one, not_one, follows_of, Counts, more_counts, second_frame_lawful}
+
+opening_lawful : IsFrame 4 16384 opening_example
+unfolding number_bytes
+opening_lawful = record {
+  head = record { numbered = (lit≤ tt, lit< tt); fits = (lit≤ tt, lit≤ tt); some = (lit≤ tt, lit< tt) };
+  blocks = (
+    record { page = (lit≤ tt, lit< tt); low = lit≤ tt; count = lit≤ tt; pairs = tt; ascends = refl },
+    (
+      record {
+        changes = (lit≤ tt, lit< tt);
+        links = record { frame = (lit≤ tt, lit< tt); index = lit< tt };
+        count = (lit≤ tt, lit< tt);
+        each = (((lit≤ tt, lit≤ tt), lit≤ tt), tt);
+      },
+      tt,
+    ),
+  );
+}
+
+third_lawful : IsFrame 4 16384 third_example
+unfolding number_bytes
+third_lawful = record {
+  head = record { numbered = (lit≤ tt, lit< tt); fits = (lit≤ tt, lit≤ tt); some = (lit≤ tt, lit< tt) };
+  blocks = (
+    record {
+      changes = (lit≤ tt, lit< tt);
+      links = record { frame = (lit≤ tt, lit< tt); index = lit< tt };
+      count = (lit≤ tt, lit< tt);
+      each = (((lit≤ tt, lit≤ tt), lit≤ tt), tt);
+    },
+    tt,
+  );
+}
+
+fourth_lawful : IsFrame 4 16384 fourth_example
+unfolding number_bytes
+fourth_lawful = record {
+  head = record { numbered = (lit≤ tt, lit< tt); fits = (lit≤ tt, lit≤ tt); some = (lit≤ tt, lit< tt) };
+  blocks = (
+    record {
+      changes = (lit≤ tt, lit< tt);
+      links = record { frame = (lit≤ tt, lit< tt); index = lit< tt };
+      count = (lit≤ tt, lit< tt);
+      each = (((lit≤ tt, lit≤ tt), lit≤ tt), tt);
+    },
+    tt,
+  );
+}
+
+fifth_lawful : IsFrame 4 16384 fifth_example
+unfolding number_bytes
+fifth_lawful = record {
+  head = record { numbered = (lit≤ tt, lit< tt); fits = (lit≤ tt, lit≤ tt); some = (lit≤ tt, lit< tt) };
+  blocks = (
+    record {
+      changes = (lit≤ tt, lit< tt);
+      links = record { frame = (lit≤ tt, lit< tt); index = lit< tt };
+      count = (lit≤ tt, lit< tt);
+      each = (((lit≤ tt, lit≤ tt), lit≤ tt), tt);
+    },
+    (
+      record {
+        cuts = (lit≤ tt, lit< tt);
+        links = record { frame = (lit≤ tt, lit< tt); index = lit< tt };
+        makes = record {
+          page = (lit≤ tt, lit< tt);
+          low = lit≤ tt;
+          count = lit≤ tt;
+          pairs = (((lit≤ tt, lit≤ tt), lit≤ tt), (((lit≤ tt, lit≤ tt), lit≤ tt), (((lit≤ tt, lit≤ tt), lit≤ tt), tt)));
+          ascends = refl;
+        };
+        low = refl;
+        count = lit≤ tt;
+        new = (lit≤ tt, λ e. absurd (omega arith));
+      },
+      tt,
+    ),
+  );
+}
+
+abbrev one_frame : List Frame
+one_frame = opening_example ∷ []
+
+abbrev two_frames : List Frame
+two_frames = opening_example ∷ second_example ∷ []
+
+abbrev three_frames : List Frame
+three_frames = opening_example ∷ second_example ∷ third_example ∷ []
+
+abbrev four_frames : List Frame
+four_frames = opening_example ∷ second_example ∷ third_example ∷ fourth_example ∷ []
+
+abbrev five_frames : List Frame
+five_frames = opening_example ∷ second_example ∷ third_example ∷ fourth_example ∷ fifth_example ∷ []
+
+abbrev one_leaf : Leaf
+one_leaf = leaf_with ((97 ∷ [], 49 ∷ []) ∷ [])
+
+abbrev two_leaf : Leaf
+two_leaf = leaf_with ((97 ∷ [], 49 ∷ []) ∷ (98 ∷ [], 50 ∷ []) ∷ [])
+
+abbrev three_leaf : Leaf
+three_leaf = leaf_with ((97 ∷ [], 49 ∷ []) ∷ (98 ∷ [], 50 ∷ []) ∷ (99 ∷ [], 51 ∷ []) ∷ [])
+
+abbrev four_leaf : Leaf
+four_leaf = leaf_with ((97 ∷ [], 49 ∷ []) ∷ (98 ∷ [], 50 ∷ []) ∷ (99 ∷ [], 51 ∷ []) ∷ (100 ∷ [], 52 ∷ []) ∷ [])
+
+one_stands : Stand 4 one_frame (one_leaf ∷ [])
+one_stands = record {
+  some = omega arith;
+  lawful = record {
+    pages = (refl, tt);
+    first = refl;
+    lows = ((λ _. refl, tt), tt);
+    each = (record { page = (lit≤ tt, lit< tt); low = lit≤ tt; count = lit≤ tt; pairs = (((lit≤ tt, lit≤ tt), lit≤ tt), tt); ascends = refl }, tt);
+    homes = ((refl, tt), tt);
+  };
+  each = λ p l h. subst (λ n. content n (blocks_of one_frame) ≡ leaf_at n (one_leaf ∷ [])) (sym (only_one p l h)) refl;
+  all = λ p h. (not_one p h, (not_one p h, tt));
+}
+
+two_stand : Stand 4 two_frames (two_leaf ∷ [])
+two_stand = record {
+  some = omega arith;
+  lawful = record {
+    pages = (refl, tt);
+    first = refl;
+    lows = ((λ _. refl, tt), tt);
+    each = (
+      record {
+        page = (lit≤ tt, lit< tt);
+        low = lit≤ tt;
+        count = lit≤ tt;
+        pairs = (((lit≤ tt, lit≤ tt), lit≤ tt), (((lit≤ tt, lit≤ tt), lit≤ tt), tt));
+        ascends = refl;
+      },
+      tt,
+    );
+    homes = ((refl, (refl, tt)), tt);
+  };
+  each = λ p l h. subst (λ n. content n (blocks_of two_frames) ≡ leaf_at n (two_leaf ∷ [])) (sym (only_one p l h)) refl;
+  all = λ p h. (not_one p h, (not_one p h, (not_one p h, tt)));
+}
+
+three_stand : Stand 4 three_frames (three_leaf ∷ [])
+three_stand = record {
+  some = omega arith;
+  lawful = record {
+    pages = (refl, tt);
+    first = refl;
+    lows = ((λ _. refl, tt), tt);
+    each = (
+      record {
+        page = (lit≤ tt, lit< tt);
+        low = lit≤ tt;
+        count = lit≤ tt;
+        pairs = (((lit≤ tt, lit≤ tt), lit≤ tt), (((lit≤ tt, lit≤ tt), lit≤ tt), (((lit≤ tt, lit≤ tt), lit≤ tt), tt)));
+        ascends = refl;
+      },
+      tt,
+    );
+    homes = ((refl, (refl, (refl, tt))), tt);
+  };
+  each = λ p l h. subst (λ n. content n (blocks_of three_frames) ≡ leaf_at n (three_leaf ∷ [])) (sym (only_one p l h)) refl;
+  all = λ p h. (not_one p h, (not_one p h, (not_one p h, (not_one p h, tt))));
+}
+
+four_stand : Stand 4 four_frames (four_leaf ∷ [])
+four_stand = record {
+  some = omega arith;
+  lawful = record {
+    pages = (refl, tt);
+    first = refl;
+    lows = ((λ _. refl, tt), tt);
+    each = (
+      record {
+        page = (lit≤ tt, lit< tt);
+        low = lit≤ tt;
+        count = lit≤ tt;
+        pairs = (((lit≤ tt, lit≤ tt), lit≤ tt), (((lit≤ tt, lit≤ tt), lit≤ tt), (((lit≤ tt, lit≤ tt), lit≤ tt), (((lit≤ tt, lit≤ tt), lit≤ tt), tt))));
+        ascends = refl;
+      },
+      tt,
+    );
+    homes = ((refl, (refl, (refl, (refl, tt)))), tt);
+  };
+  each = λ p l h. subst (λ n. content n (blocks_of four_frames) ≡ leaf_at n (four_leaf ∷ [])) (sym (only_one p l h)) refl;
+  all = λ p h. (not_one p h, (not_one p h, (not_one p h, (not_one p h, (not_one p h, tt)))));
+}
+
+abbrev two_leaves : List Leaf
+two_leaves = two_leaf ∷ split_upper ∷ []
+
+two_pages : (p : ℕ) → 1 ≤ p → p ≤ 2 → content p (blocks_of five_frames) ≡ leaf_at p two_leaves
+two_pages zero l h = absurd (omega arith)
+two_pages (suc zero) l h = refl
+two_pages (suc (suc zero)) l h = refl
+two_pages (suc (suc (suc n))) l h = absurd (omega arith)
+
+untouched : (p : ℕ) → 3 ≤ p → (1 == p) ≡ false
+untouched p h = not_one p (omega arith)
+
+unsplit : (p : ℕ) → 3 ≤ p → ((1 == p) || (2 == p)) ≡ false
+unsplit p h = ap (λ b. b || (2 == p)) (untouched p h) ∙ ne_eqb 2 p (λ e. absurd (omega arith))
+
+five_stand : Stand 4 five_frames two_leaves
+five_stand = record {
+  some = omega arith;
+  lawful = record {
+    pages = (refl, (refl, tt));
+    first = refl;
+    lows = ((λ _. refl, (λ e. cc, tt)), ((λ e. cc, (λ _. refl, tt)), tt));
+    each = (
+      record {
+        page = (lit≤ tt, lit< tt);
+        low = lit≤ tt;
+        count = lit≤ tt;
+        pairs = (((lit≤ tt, lit≤ tt), lit≤ tt), (((lit≤ tt, lit≤ tt), lit≤ tt), tt));
+        ascends = refl;
+      },
+      (
+        record {
+          page = (lit≤ tt, lit< tt);
+          low = lit≤ tt;
+          count = lit≤ tt;
+          pairs = (((lit≤ tt, lit≤ tt), lit≤ tt), (((lit≤ tt, lit≤ tt), lit≤ tt), (((lit≤ tt, lit≤ tt), lit≤ tt), tt)));
+          ascends = refl;
+        },
+        tt,
+      ),
+    );
+    homes = ((refl, (refl, tt)), ((refl, (refl, (refl, tt))), tt));
+  };
+  each = two_pages;
+  all = λ p h. (untouched p h, (untouched p h, (untouched p h, (untouched p h, (untouched p h, (untouched p h, (unsplit p h, tt)))))));
+}
+
+-- a frame that was appended is counted
+pub counts_as : (old new : Contents) (all : List Frame) (x y : Frame) → x ≡ y → Counts old all → IsSound new → Appended old x new → IsSameLog old new
+    → Counts new (all ++ y ∷ [])
+counts_as old new all x y is counts sound added same = subst (λ (f : Frame). Counts new (all ++ f ∷ [])) is (more_counts old new all x counts sound added same)
+
+pub follows_as : (c : Contents) (x y : Frame) → x ≡ y → MayFollow c y → MayFollow c x
+follows_as c x y is follows = subst (λ (f : Frame). MayFollow c f) (sym is) follows
+
+pub opening_on : (c : Contents) (x : Frame) → x ≡ opening_example → Counts c [] → MayFollow c x
+opening_on c x is k = follows_as c x opening_example is
+    (follows_of c [] opening_example (one_leaf ∷ []) k.sound k.frames k.m k.f refl opening_lawful refl one_stands)
+
+pub then_second : (c : Contents) (x : Frame) → x ≡ second_example → Counts c one_frame → MayFollow c x
+then_second c x is k = follows_as c x second_example is
+    (follows_of c one_frame second_example (two_leaf ∷ []) k.sound k.frames k.m k.f refl second_frame_lawful refl two_stand)
+
+pub then_third : (c : Contents) (x : Frame) → x ≡ third_example → Counts c two_frames → MayFollow c x
+then_third c x is k = follows_as c x third_example is
+    (follows_of c two_frames third_example (three_leaf ∷ []) k.sound k.frames k.m k.f refl third_lawful refl three_stand)
+
+pub then_fourth : (c : Contents) (x : Frame) → x ≡ fourth_example → Counts c three_frames → MayFollow c x
+then_fourth c x is k = follows_as c x fourth_example is
+    (follows_of c three_frames fourth_example (four_leaf ∷ []) k.sound k.frames k.m k.f refl fourth_lawful refl four_stand)
+
+pub then_fifth : (c : Contents) (x : Frame) → x ≡ fifth_example → Counts c four_frames → MayFollow c x
+then_fifth c x is k = follows_as c x fifth_example is
+    (follows_of c four_frames fifth_example two_leaves k.sound k.frames k.m k.f refl fifth_lawful refl five_stand)

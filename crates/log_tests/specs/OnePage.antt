@@ -1,0 +1,41 @@
+-- A log of one page, as the walker keeps it beside the page that it has to be.
+
+use Rattle.std.specs.Prelude.{ℕ, ◌≡◌, List, [], ◌∷◌}
+use Rattle.bw_codec.specs.declared.block.Block.{Block}
+use Rattle.bw_codec.specs.declared.block.Block.TheVariants.{Delta, Base}
+use Rattle.bw_codec.specs.declared.block.Frame.{Frame}
+use Rattle.bw_codec.specs.declared.block.Place.{Place}
+use Rattle.bw_codec.specs.declared.record.Record.{Record}
+use Rattle.bw_codec.specs.declared.record.Record.TheVariants.{Put}
+use Rattle.bw_codec.specs.declared.leaf.Leaf.{Leaf}
+use Rattle.bw_page.specs.Leaves.{Pairs}
+use Rattle.bw_page.specs.Standing.{Stand}
+use Rattle.bw_log.specs.Contents.{Contents, IsSound, counted}
+
+-- page 1 with these pairs
+abbrev pub leaf_with : Pairs → Leaf
+leaf_with pairs = record { page = 1; low = []; pairs = pairs }
+
+-- a put of one byte at one byte
+abbrev pub put_of : ℕ → ℕ → Record
+put_of key value = Put (key ∷ []) (value ∷ [])
+
+-- the frames' first blocks: an empty page 1, and its first pair
+abbrev pub first_of : ℕ → ℕ → List Block
+first_of key value = Base (leaf_with []) ∷ Delta 1 (record { frame = 1; index = 0 }) (put_of key value ∷ []) ∷ []
+
+-- a frame of one block
+abbrev pub frame_of_one : ℕ → Block → Frame
+frame_of_one n block = record { number = n; blocks = block ∷ [] }
+
+-- page 1 was given a value, after the block at a place
+abbrev pub put_after : Place → ℕ → ℕ → Block
+put_after back key value = Delta 1 back (put_of key value ∷ [])
+
+-- the counted frames are this page and no other
+pub record HoldsOne (c : Contents) (leaf : Leaf) : Type 0 where
+  pub sound : IsSound c
+  pub m : c.m ≡ 4
+  pub f : c.f ≡ 16384
+  pub is : leaf ≡ leaf_with leaf.pairs
+  pub stands : Stand 4 (counted c) (leaf ∷ [])

@@ -1,0 +1,173 @@
+// A log of one page: each call on it leaves one page, which is known.
+
+ghost use Rattle.std.specs.Prelude.{◌≡◌, ◌≤◌, ◌∷◌, [], true, IfOk, IfSome, OnOk};
+ghost use Rattle.bw_buffer.specs.Filling.{frame_of};
+ghost use Rattle.bw_log.specs.Steps.{MayFollow, AfterAppend};
+ghost use Rattle.bw_log.specs.Seen.{seen_by};
+ghost use Rattle.log_tests.specs.Seen.{seen, IsSound};
+ghost use Rattle.log_tests.specs.OnePage.{HoldsOne, first_of, put_after, put_of};
+
+use super::sealed;
+use bw_buffer::Buffer;
+use bw_codec::{Block, Key, Leaf, Ops, Place, Record, Value};
+use bw_device::Segment;
+use bw_log::{Log, LogFault};
+use bw_page::{change, count_after, empty_page};
+use std::alloc::Global;
+use std::test::Fail;
+
+fn one_put(key: u8, value: u8) -> Result<Record, Fail>
+    ensures { IfOk result (λ r. r ≡ put_of key value) }
+{
+    Ok(Record::Put(Key::new(&[key])?, Value::new(&[value])?))
+}
+
+fn ops_of(alloc: Global, key: u8, value: u8) -> Result<Ops, Fail>
+    ensures { IfOk result (λ ops. ops ≡ put_of key value ∷ []) }
+{
+    let mut ops = Vec::new(alloc);
+    ops.push(one_put(key, value)?)?;
+    Ok(Ops::of(ops))
+}
+
+// A sealed frame of one Delta of page 1.
+fn put_frame(alloc: Global, number: u64, back: Place, key: u8, value: u8) -> Result<Buffer, Fail>
+    requires number { 1 ≤ number }
+    requires back { 1 ≤ back.frame }
+    ensures made { IfOk result (λ b. b ≡ record {
+      frame = number;
+      limit = 16384;
+      blocks = put_after back key value ∷ [];
+      is_sealed = true;
+    }) }
+{
+    let mut blocks = Vec::new(alloc);
+    blocks.push(Block::Delta {
+        page: 1,
+        back,
+        ops: ops_of(alloc, key, value)?,
+    })?;
+    sealed(alloc, number, blocks.as_slice())
+}
+
+// The first frame: page 1 empty, then with one pair.
+fn first_frame(alloc: Global, key: u8, value: u8) -> Result<Buffer, Fail>
+    ensures { IfOk result (λ b.
+        b ≡ record { frame = 1; limit = 16384; blocks = first_of key value; is_sealed = true }) }
+{
+    let mut blocks = Vec::new(alloc);
+    blocks.push(Block::Base(empty_page(alloc)))?;
+    blocks.push(Block::Delta {
+        page: 1,
+        back: Place { frame: 1, index: 0 },
+        ops: ops_of(alloc, key, value)?,
+    })?;
+    sealed(alloc, 1, blocks.as_slice())
+}
+
+// As an ordinary append, or as the cleaner's.
+fn append(log: &mut Log, buffer: &Buffer, takes_last: bool) -> Result<(), LogFault>
+    requires sound { IsSound log.old holding }
+    requires sealed { buffer.now.is_sealed ≡ true }
+    requires limit { buffer.now.limit ≡ (seen log.old holding).f }
+    requires follows { MayFollow (seen log.old holding) (frame_of buffer.now) }
+    ensures { AfterAppend (seen log.old holding) (frame_of buffer.now) takes_last result
+        (seen log.new holding) }
+{
+    if takes_last {
+        log.append_care(buffer)
+    } else {
+        log.append(buffer)
+    }
+}
+
+/// Puts one pair, if that leaves four pairs at most; what refused it, if anything did.
+pub(crate) fn put(
+    alloc: Global,
+    log: &mut Log,
+    leaf: &mut Leaf,
+    key: u8,
+    value: u8,
+) -> Result<Option<LogFault>, Fail>
+    requires { HoldsOne (seen log.old holding) leaf.old }
+    ensures { OnOk result (HoldsOne (seen log.new holding) leaf.new) }
+{
+    let change_of = one_put(key, value)?;
+    let Some(back) = log.place_of(1) else {
+        return Ok(Some(LogFault::NoPage));
+    };
+    let Some(number) = log.next_frame() else {
+        return Ok(Some(LogFault::Spent));
+    };
+    if back.frame == 0 || number == 0 || count_after(leaf, &change_of) > 4 {
+        return Ok(Some(LogFault::BadConfig));
+    }
+    let buffer = put_frame(alloc, number, back, key, value)?;
+    // Tells the proof that the frame is within its limit.
+    let _ = buffer.bytes();
+    match append(log, &buffer, false) {
+        Ok(()) => {
+            change(leaf, &change_of)?;
+            Ok(None)
+        }
+        Err(fault) => Ok(Some(fault)),
+    }
+}
+
+/// Writes the page again as it stands, as the cleaner does.
+pub(crate) fn rewrite(alloc: Global, log: &mut Log, leaf: &Leaf) -> Result<Option<LogFault>, Fail>
+    requires { HoldsOne (seen log.old holding) leaf.now }
+    ensures { OnOk result (HoldsOne (seen log.new holding) leaf.now) }
+{
+    let Some(number) = log.next_frame() else {
+        return Ok(Some(LogFault::Spent));
+    };
+    if number == 0 {
+        return Ok(Some(LogFault::BadConfig));
+    }
+    let mut blocks = Vec::new(alloc);
+    blocks.push(Block::Base(leaf.copy()?))?;
+    let buffer = sealed(alloc, number, blocks.as_slice())?;
+    let _ = buffer.bytes();
+    match append(log, &buffer, true) {
+        Ok(()) => Ok(None),
+        Err(fault) => Ok(Some(fault)),
+    }
+}
+
+/// Gives up the oldest segment, if the page does not need it.
+pub(crate) fn give_up(log: &mut Log, leaf: &Leaf) -> bool
+    requires { HoldsOne (seen log.old holding) leaf.now }
+    ensures { HoldsOne (seen log.new holding) leaf.now }
+{
+    let (Some(base), Some((_, last))) = (log.base_of(1), log.oldest()) else {
+        return false;
+    };
+    if log.pages() != 1 || log.live() < 2 || log.is_failed() || base.frame <= last {
+        return false;
+    }
+    log.give_up_oldest();
+    true
+}
+
+/// A log over these boxes, with its first frame.
+pub(crate) fn start(
+    alloc: Global,
+    boxes: Vec<Box<dyn Segment>>,
+    key: u8,
+    value: u8,
+) -> Result<Option<(Log, Leaf)>, Fail>
+    requires { Unit {0} }
+    ensures { IfOk result (λ r. IfSome r (λ s. HoldsOne (seen_by holding s.0) s.1)) }
+{
+    let Ok(mut log) = Log::new(alloc, boxes, 4, 16384) else {
+        return Ok(None);
+    };
+    let buffer = first_frame(alloc, key, value)?;
+    let Ok(()) = append(&mut log, &buffer, false) else {
+        return Ok(None);
+    };
+    let mut leaf = empty_page(alloc);
+    change(&mut leaf, &one_put(key, value)?)?;
+    Ok(Some((log, leaf)))
+}

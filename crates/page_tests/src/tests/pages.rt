@@ -1,0 +1,272 @@
+//! Calls on all leaves, of which each is in memory.
+
+ghost use Rattle.std.specs.Prelude.{◌≤◌, ◌≡◌, [], OnOk};
+
+use super::{del, leads, page_is, put};
+use bw_codec::{Key, Record};
+use bw_page::{Applied, Leaves};
+use std::alloc::Global;
+use std::test::Fail;
+
+/// One call on leaves, with what it has to answer.
+#[derive(Drop)]
+pub(super) enum Step {
+    /// Puts a value: the page at which it is directed, and the one that it makes, or 0.
+    Put(&'static str, &'static str, u32, u32),
+    /// Deletes a key: the page at which it is directed.
+    Del(&'static str, u32),
+    /// Puts so many keys of two digits.
+    Fill(u16),
+    /// As many pages.
+    Count(u32),
+    /// A page as `shown`; no text where there is none.
+    Page(u32, &'static str),
+    /// How many pairs a page has.
+    Pairs(u32, usize),
+    /// The page of a key.
+    Find(&'static str, u32),
+    /// The value of a key; no text where there is none.
+    Get(&'static str, &'static str),
+    /// All keys of `TEN`, by one batch.
+    Batch,
+    /// Goes on with a copy.
+    Copy,
+}
+
+use Step::{Batch, Copy, Count, Del, Fill, Find, Get, Page, Put};
+
+fn applied(leaves: &mut Leaves, change: Record, page: u32, made: u32) -> Result<bool, Fail>
+    requires { leaves.old.away ≡ [] }
+    ensures { OnOk result (leaves.new.away ≡ []) }
+{
+    let made = if made == 0 { None } else { Some(made) };
+    Ok(leaves.apply(&change)? == Applied { page, made })
+}
+
+fn filled(leaves: &mut Leaves, count: u16) -> Result<bool, Fail>
+    requires { leaves.old.away ≡ [] }
+    ensures { OnOk result (leaves.new.away ≡ []) }
+{
+    for i in 0..count {
+        leaves.apply(&put(&[b'0' + (i / 10 % 10) as u8, b'0' + (i % 10) as u8], b"")?)?;
+    }
+    Ok(true)
+}
+
+fn batch(alloc: Global, leaves: &mut Leaves) -> Result<bool, Fail>
+    requires { leaves.old.away ≡ [] }
+    ensures { OnOk result (leaves.new.away ≡ []) }
+{
+    let mut batch = Vec::new(alloc);
+    for key in TEN {
+        batch.push(put(key.as_bytes(), b"1")?)?;
+    }
+    leaves.apply_all(batch.as_slice())?;
+    Ok(true)
+}
+
+fn has(leaves: &Leaves, key: &str, text: &str) -> Result<bool, Fail>
+    requires { leaves.now.away ≡ [] }
+{
+    match leaves.get(&Key::new(key.as_bytes())?) {
+        Some(found) => Ok(found.as_slice() == text.as_bytes()),
+        None => Ok(text.len() == 0),
+    }
+}
+
+fn pairs(leaves: &Leaves, page: u32) -> usize {
+    match leaves.page(page) {
+        Some(leaf) => leaf.pairs.as_slice().len(),
+        None => 99,
+    }
+}
+
+fn copied(leaves: &mut Leaves) -> Result<bool, Fail>
+    requires { leaves.old.away ≡ [] }
+    ensures { OnOk result (leaves.new.away ≡ []) }
+{
+    *leaves = leaves.copy()?;
+    Ok(true)
+}
+
+/// Whether the step went as told.
+fn goes(alloc: Global, leaves: &mut Leaves, step: &Step) -> Result<bool, Fail>
+    requires { leaves.old.away ≡ [] }
+    ensures { OnOk result (leaves.new.away ≡ []) }
+{
+    match step {
+        Step::Put(key, value, page, made) => {
+            applied(leaves, put(key.as_bytes(), value.as_bytes())?, *page, *made)
+        }
+        Step::Del(key, page) => applied(leaves, del(key.as_bytes())?, *page, 0),
+        Step::Fill(count) => filled(leaves, *count),
+        Step::Count(count) => Ok(leaves.count() == *count),
+        Step::Page(page, text) => page_is(alloc, leaves, *page, text),
+        Step::Pairs(page, count) => Ok(pairs(leaves, *page) == *count),
+        Step::Find(key, page) => leads(leaves, key, *page),
+        Step::Get(key, text) => has(leaves, key, text),
+        Step::Batch => batch(alloc, leaves),
+        Step::Copy => copied(leaves),
+    }
+}
+
+/// How many of the steps went as told before one did not.
+fn walked(alloc: Global, from: Leaves, steps: &[Step]) -> Result<usize, Fail>
+    requires { from.away ≡ [] }
+{
+    let mut leaves = from;
+    for (i, step) in steps.iter().enumerate() {
+        if !goes(alloc, &mut leaves, step)? {
+            return Ok(i);
+        }
+    }
+    Ok(steps.len())
+}
+
+const TEN: [&str; 10] = ["a", "b", "c", "d", "e", "f", "g", "aa", "ab", "ac"];
+
+const FOUR: [Step; 27] = [
+    Batch,
+    Count(4),
+    Page(1, ": a=1 aa=1"),
+    Page(2, "c: c=1 d=1"),
+    Page(3, "e: e=1 f=1 g=1"),
+    Page(4, "ab: ab=1 ac=1 b=1"),
+    Copy,
+    Page(1, ": a=1 aa=1"),
+    Page(2, "c: c=1 d=1"),
+    Page(3, "e: e=1 f=1 g=1"),
+    Page(4, "ab: ab=1 ac=1 b=1"),
+    Page(5, ""),
+    Page(0, ""),
+    Find("abz", 4),
+    Find("dz", 2),
+    Find("e", 3),
+    Find("ab", 4),
+    Find("aaz", 1),
+    Find("0", 1),
+    Find("zz", 3),
+    Put("a", "2", 1, 0),
+    Del("ab", 4),
+    Get("a", "2"),
+    Get("aa", "1"),
+    Get("ab", ""),
+    Get("abc", ""),
+    Get("b", "1"),
+];
+
+const SINGLE: [Step; 15] = [
+    Put("a", "1", 1, 0),
+    Put("b", "1", 1, 0),
+    Put("c", "1", 1, 0),
+    Put("d", "1", 1, 0),
+    Put("e", "1", 1, 2),
+    Put("f", "1", 2, 0),
+    Put("g", "1", 2, 3),
+    Put("aa", "1", 1, 0),
+    Put("ab", "1", 1, 0),
+    Put("ac", "1", 1, 4),
+    Count(4),
+    Page(1, ": a=1 aa=1"),
+    Page(2, "c: c=1 d=1"),
+    Page(3, "e: e=1 f=1 g=1"),
+    Page(4, "ab: ab=1 ac=1 b=1"),
+];
+
+const FIVE: [Step; 19] = [
+    Put("a", "1", 1, 0),
+    Put("b", "1", 1, 0),
+    Put("c", "1", 1, 0),
+    Put("d", "1", 1, 0),
+    Put("e", "1", 1, 0),
+    Put("f", "1", 1, 2),
+    Count(2),
+    Page(1, ": a=1 b=1 c=1"),
+    Page(2, "d: d=1 e=1 f=1"),
+    Del("d", 2),
+    Del("e", 2),
+    Del("f", 2),
+    Del("f", 2),
+    Page(2, "d:"),
+    Put("cz", "1", 1, 0),
+    Put("d", "2", 2, 0),
+    Put("zz", "3", 2, 0),
+    Page(1, ": a=1 b=1 c=1 cz=1"),
+    Page(2, "d: d=2 zz=3"),
+];
+
+const FILLS_4: [Step; 6] = [
+    Fill(4),
+    Count(1),
+    Put("z", "", 1, 2),
+    Count(2),
+    Step::Pairs(1, 2),
+    Step::Pairs(2, 3),
+];
+
+const FILLS_5: [Step; 6] = [
+    Fill(5),
+    Count(1),
+    Put("z", "", 1, 2),
+    Count(2),
+    Step::Pairs(1, 3),
+    Step::Pairs(2, 3),
+];
+
+const FILLS_32: [Step; 6] = [
+    Fill(32),
+    Count(1),
+    Put("z", "", 1, 2),
+    Count(2),
+    Step::Pairs(1, 16),
+    Step::Pairs(2, 17),
+];
+
+/// The same over new leaves.
+fn told(alloc: Global, m: u16, steps: &[Step]) -> Result<bool, Fail>
+    requires { (4 ≤ m) × (m ≤ 32) }
+{
+    let leaves = Leaves::one_empty(alloc, m)?;
+    let limit = leaves.limit() == m;
+    Ok(limit && walked(alloc, leaves, steps)? == steps.len())
+}
+
+#[test]
+fn leaves_of_four_go_as_told(rt: HostRuntime) -> Result<(), Fail> {
+    assert!(rt; told(rt.alloc(), 4, &FOUR)?);
+    assert!(rt; told(rt.alloc(), 4, &SINGLE)?);
+    Ok(())
+}
+
+#[test]
+fn leaves_of_five_go_as_told(rt: HostRuntime) -> Result<(), Fail> {
+    assert!(rt; told(rt.alloc(), 5, &FIVE)?);
+    Ok(())
+}
+
+#[test]
+fn a_page_is_cut_where_it_has_one_pair_too_many(rt: HostRuntime) -> Result<(), Fail> {
+    assert!(rt; told(rt.alloc(), 4, &FILLS_4)?);
+    assert!(rt; told(rt.alloc(), 5, &FILLS_5)?);
+    assert!(rt; told(rt.alloc(), 32, &FILLS_32)?);
+    Ok(())
+}
+
+const TAKEN: [Step; 9] = [
+    Find("b", 1),
+    Find("bz", 1),
+    Find("c", 2),
+    Find("e", 2),
+    Put("c", "3", 2, 0),
+    Count(2),
+    Page(1, ": a=1"),
+    Page(2, "c: c=3 d=4"),
+    Page(3, ""),
+];
+
+#[test]
+fn leaves_are_taken_as_they_come(rt: HostRuntime) -> Result<(), Fail> {
+    let leaves = super::away::two_pages(rt.alloc())?;
+    assert_eq!(rt; walked(rt.alloc(), leaves, &TAKEN)?, TAKEN.len());
+    Ok(())
+}

@@ -1,0 +1,68 @@
+// Rings of one writer, and how many rings there may be.
+
+ghost use Rattle.std.specs.Prelude.{IfOk};
+ghost use Rattle.bw_ring.specs.Ends.{IsFeedOf};
+
+use bw_codec::{Key, Record};
+use bw_ring::{Feed, Full, Lane, LanesError, lanes};
+use std::alloc::Global;
+use std::test::Fail;
+
+/// A record that tells its number.
+pub(crate) fn numbered(number: u32) -> Record {
+    match Key::new(&number.to_be_bytes()) {
+        Ok(key) => Record::Del(key),
+        Err(_) => unreachable!(),
+    }
+}
+
+/// The two ends of one ring.
+pub(crate) fn one_ring(alloc: Global, places: usize) -> Result<(Feed, Lane), LanesError>
+    ensures { IfOk result (λ ends. IsFeedOf ends.0 ends.1) }
+{
+    let (mut feeds, mut ends) = lanes(alloc, 1, places)?;
+    match (feeds.pop(), ends.pop()) {
+        (Some(feed), Some(lane)) => Ok((feed, lane)),
+        _ => Err(LanesError::BadConfig),
+    }
+}
+
+/// Writers and places, and whether there may be so many.
+const CONFIGS: [(usize, usize, bool); 9] = [
+    (0, 1, false),
+    (65, 1, false),
+    (1, 0, false),
+    (1, 4097, false),
+    (0, 0, false),
+    (1, 1, true),
+    (64, 1, true),
+    (1, 4096, true),
+    (3, 8, true),
+];
+
+/// Whether rings are made, or refused, as told.
+fn is_made(alloc: Global, writers: usize, places: usize, told: bool) -> bool {
+    match lanes(alloc, writers, places) {
+        Ok((feeds, ends)) => told && feeds.len() == writers && ends.len() == writers,
+        Err(error) => !told && error == LanesError::BadConfig,
+    }
+}
+
+#[test]
+fn the_ranges_are_exact(rt: HostRuntime) {
+    for (writers, places, told) in CONFIGS {
+        let made = is_made(rt.alloc(), writers, places, told);
+        assert!(rt; made, "{writers} writers, {places} places");
+    }
+}
+
+#[test]
+fn the_refusals_have_texts(rt: HostRuntime) -> Result<(), Fail> {
+    let full = format!(in rt.alloc(); "{}", Full(numbered(0)))?;
+    let config = format!(in rt.alloc(); "{}", LanesError::BadConfig)?;
+    let memory = format!(in rt.alloc(); "{}", LanesError::NoMemory)?;
+    assert!(rt; full.as_str() == "the ring is full");
+    assert!(rt; config.as_str() == "the number of writers or of places is out of range");
+    assert!(rt; memory.as_str() == "memory ran out");
+    Ok(())
+}
