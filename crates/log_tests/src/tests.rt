@@ -16,6 +16,7 @@ use std::test::Fail;
 mod failing;
 mod filled;
 mod page;
+mod readme;
 mod spares;
 mod splits;
 mod walking;

@@ -1,0 +1,45 @@
+#!/usr/bin/env python3
+"""The example of README.md stands to the letter in the test that runs it, and the dumps of FORMAT.md have the bytes that
+the tests read: so neither can go stale. It prints nothing where both hold."""
+
+import re
+import sys
+
+EXAMPLE = "crates/log_tests/src/tests/readme.rt"
+VECTORS = "crates/care_tests/src/tests/vectors.rt"
+
+
+def text(path):
+    with open(path, encoding="utf-8") as file:
+        return file.read()
+
+
+def blocks(page, kind):
+    return re.findall(r"^```" + kind + r"\n(.*?)^```$", page, re.M | re.S)
+
+
+def dumps(page):
+    """The bytes of each dump, in hex: of each line the groups before three spaces and words."""
+    for block in blocks(page, ""):
+        for part in block.split("\n\n"):
+            lines = [re.split(r"\s{3,}", line.strip())[0] for line in part.splitlines()]
+            yield "".join(re.sub(r"\s", "", line) for line in lines)
+
+
+def main():
+    wrong = []
+    [example] = blocks(text("README.md"), "rust")
+    lines = [line.strip() for line in example.strip().splitlines()]
+    if "\n".join(lines) not in "\n".join(line.strip() for line in text(EXAMPLE).splitlines()):
+        wrong.append("README.md's example is not that of " + EXAMPLE)
+    vectors = re.sub(r"\\\n\s*", "", text(VECTORS))
+    found = [dump for dump in dumps(text("docs/FORMAT.md")) if dump.startswith("42574c4f")]
+    if len(found) != 4:
+        wrong.append("FORMAT.md has %d dumps in place of 4" % len(found))
+    wrong += ["FORMAT.md: no test has " + dump for dump in found if '"%s"' % dump not in vectors]
+    for line in wrong:
+        print(line)
+    return 1 if wrong else 0
+
+
+sys.exit(main())
