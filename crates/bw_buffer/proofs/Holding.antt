@@ -14,7 +14,7 @@ use Rattle.bw_codec.proofs.Lengths.{length-delta, length-base, length-split}
 use Rattle.std.proofs.lemmas.Bool.{leb-true, leb-false}
 use Rattle.bw_codec.proofs.BlockFormat.{many_again, block_format}
 use Rattle.bw_codec.proofs.FrontFormat.{length-head}
-use Rattle.bw_buffer.specs.Filled.{first_of, blocks_in, filling_of, IsFilled}
+use Rattle.bw_buffer.specs.Laid.{first_of, blocks_in, filling_of, IsLaid}
 use Rattle.bw_buffer.specs.Marks.{mark_of}
 use Rattle.bw_buffer.specs.Filling.{Filling, size_of}
 use Rattle.bw_buffer.specs.declared.mark.Mark.{Mark}
@@ -56,7 +56,7 @@ pub record Holds (a : Inside) (blocks : List Block) : Type 0 where
 pub held : (a : Inside) (blocks : List Block) → Holds a blocks → blocks_in a.count a.bytes.items ≡ blocks
 held a blocks h = blocks_there a.frame (length (body_bytes blocks)) a.count blocks a.bytes.items h.lawful h.counted h.spelled
 
-pub filled : (a : Inside) (blocks : List Block) → Holds a blocks → IsFilled a
+pub filled : (a : Inside) (blocks : List Block) → Holds a blocks → IsLaid a
 filled a blocks h =
     let same = sym (held a blocks h) in
     record {
@@ -71,7 +71,7 @@ filled a blocks h =
       marks_room = h.marks_room;
     }
 
-pub holds : (a : Inside) → IsFilled a → Holds a (blocks_in a.count a.bytes.items)
+pub holds : (a : Inside) → IsLaid a → Holds a (blocks_in a.count a.bytes.items)
 holds a f = record {
   spelled = f.spelled;
   counted = f.counted;
@@ -85,7 +85,7 @@ holds a f = record {
 }
 
 -- how long the bytes are
-pub length-held : (a : Inside) → IsFilled a → length a.bytes.items ≡ 20 + length (body_bytes (blocks_in a.count a.bytes.items))
+pub length-held : (a : Inside) → IsLaid a → length a.bytes.items ≡ 20 + length (body_bytes (blocks_in a.count a.bytes.items))
 length-held a f =
     let blocks = blocks_in a.count a.bytes.items in
     let size = ap (λ (b : List ℕ). length b) f.spelled in
@@ -112,7 +112,7 @@ begun a numbered limited none bytes marks room marks_room = record {
 }
 
 -- blocks laid out behind those that are there
-pub grown : (a b : Inside) (blocks : List Block) (laid : List ℕ) → IsFilled a → AllByRecursion (IsBlock 32) blocks
+pub grown : (a b : Inside) (blocks : List Block) (laid : List ℕ) → IsLaid a → AllByRecursion (IsBlock 32) blocks
     → length a.bytes.items + length (body_bytes blocks) ≤ a.limit
     → b.frame ≡ a.frame → b.limit ≡ a.limit → b.count ≡ a.count + length blocks
     → laid ≡ a.bytes.items ++ body_bytes blocks
@@ -167,7 +167,7 @@ grown a b blocks laid f lawful fits frame limit count laid_is bytes marks room m
     }
 
 -- what the test for room tells
-pub room_told : (a : Inside) (f : Filling) (body room : ℕ) (fits : Bool) → IsFilled a → filling_of a ≡ f → room ≡ a.limit - length a.bytes.items
+pub room_told : (a : Inside) (f : Filling) (body room : ℕ) (fits : Bool) → IsLaid a → filling_of a ≡ f → room ≡ a.limit - length a.bytes.items
     → fits ≡ nat_le body room
     → (fits ≡ false → f.limit < size_of f + body) × (fits ≡ true → size_of f + body ≤ f.limit)
 room_told a f body room fits h view is test =
@@ -189,12 +189,12 @@ few_blocks [] = omega arith
 few_blocks (b ∷ bs) = omega (arith, some_bytes b, few_blocks bs, length-append (block_bytes b) (body_bytes bs))
 
 -- the same in fields
-pub room_inside : (a : Inside) (body room : ℕ) → IsFilled a → room ≡ a.limit - length a.bytes.items → true ≡ nat_le body room
+pub room_inside : (a : Inside) (body room : ℕ) → IsLaid a → room ≡ a.limit - length a.bytes.items → true ≡ nat_le body room
     → length a.bytes.items + body ≤ a.limit
 room_inside a body room h is test = let under : body ≤ room = leb-true body room (sym test) in let within = h.fits in omega arith
 
 -- blocks that fit are few
-pub counts : (a : Inside) (blocks : List Block) → IsFilled a → length a.bytes.items + length (body_bytes blocks) ≤ a.limit
+pub counts : (a : Inside) (blocks : List Block) → IsLaid a → length a.bytes.items + length (body_bytes blocks) ≤ a.limit
     → (length blocks < 2 ^ 32) × (a.count + length blocks < 2 ^ 32)
 counts a blocks h fits =
     let old = few_blocks (blocks_in a.count a.bytes.items) in
@@ -205,7 +205,7 @@ counts a blocks h fits =
     (omega arith, omega arith)
 
 -- there is a mark's room for each block that fits
-pub room_for_marks : (a : Inside) (blocks : List Block) → IsFilled a → length a.bytes.items + length (body_bytes blocks) ≤ a.limit
+pub room_for_marks : (a : Inside) (blocks : List Block) → IsLaid a → length a.bytes.items + length (body_bytes blocks) ≤ a.limit
     → a.count + length blocks ≤ vec_capacity a.marks
 room_for_marks a blocks h fits =
     let old = few_blocks (blocks_in a.count a.bytes.items) in

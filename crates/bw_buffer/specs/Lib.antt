@@ -2,4 +2,4 @@
 pub mod Filling
 pub mod Marks
 -- what private functions say
-pub mod Filled
+pub mod Laid

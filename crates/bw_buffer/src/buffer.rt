@@ -35,11 +35,11 @@ impl Model for Buffer {
 
     ghost Value = { Filling };
 
-    ghost use Rattle.bw_buffer.specs.Filled.{filling_of, IsFilled};
+    ghost use Rattle.bw_buffer.specs.Laid.{filling_of, IsLaid};
 
     ghost view = { filling_of };
 
-    ghost invariant = { IsFilled };
+    ghost invariant = { IsLaid };
 }
 
 impl Buffer {

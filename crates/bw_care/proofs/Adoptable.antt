@@ -10,7 +10,7 @@ use Rattle.bw_codec.specs.declared.block.Frame.{Frame}
 use Rattle.bw_codec.specs.declared.block.Header.{Header}
 use Rattle.bw_device.specs.Holding.{Holding}
 use Rattle.bw_page.specs.Standing.{blocks_of, Stand}
-use Rattle.bw_log.specs.Noting.{top_page}
+use Rattle.bw_log.specs.PageTable.{top_page}
 use Rattle.bw_log.specs.Places.{or_else, bad_link, first_number, all_placed, AreLinked}
 use Rattle.bw_log.specs.Segments.{frames_of, entries, AreLive, IsCleanLast, following, next_of}
 use Rattle.bw_log.specs.Contents.{image, counted, IsSound}

@@ -18,7 +18,7 @@ use Rattle.bw_page.specs.Laws.{LiesBetween, AreRanged}
 use Rattle.bw_page.specs.Standing.{after, content, blocks_of, Stand}
 use Rattle.bw_page.proofs.Order.{must_not, must_be}
 use Rattle.bw_page.proofs.Ranges.{homes_ranges}
-use Rattle.bw_log.specs.Noting.{top_of, top_page}
+use Rattle.bw_log.specs.PageTable.{top_of, top_page}
 use Rattle.bw_log.proofs.Walk.{same_fold}
 use Rattle.bw_care.specs.Lawful.{as_list, page_set, set_by, leaves_set, is_same, has_low_before, is_astray, has_wrong_low, is_bad_leaf, is_bad_page}
 use Rattle.bw_care.specs.Lawful.{is_at_fault, first_such, contents}

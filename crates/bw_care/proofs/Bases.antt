@@ -18,7 +18,7 @@ use Rattle.bw_page.specs.Standing.{after, content, blocks_of, Stand}
 use Rattle.bw_log.specs.Places.{placed, all_placed, or_else, bad_link, first_number, AreLinked}
 use Rattle.bw_log.specs.Segments.{following, next_of}
 use Rattle.bw_log.specs.Contents.{Contents, counted, IsStanding, IsSound}
-use Rattle.bw_log.specs.Steps.{MayFollow}
+use Rattle.bw_log.specs.Appends.{MayFollow}
 use Rattle.bw_log.proofs.Walk.{same_after}
 use Rattle.bw_log.proofs.Walks.{blocks_more}
 use Rattle.bw_log.proofs.Links.{bad_link-append}

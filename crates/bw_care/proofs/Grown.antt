@@ -8,8 +8,8 @@ use Rattle.bw_codec.specs.declared.block.Frame.{Frame}
 use Rattle.bw_device.specs.Holding.{Holding, appended, failed_once}
 use Rattle.bw_log.specs.Contents.{Contents, Image, image, boxes, roster, counted, counted_in}
 use Rattle.std.proofs.lemmas.List.{map-append}
-use Rattle.bw_log.specs.Calls.{FailedRead}
-use Rattle.bw_log.specs.Steps.{header_of, begun, begun_with, with_last, wants_segment, roomy, Appended, Rose, IsSameLog}
+use Rattle.bw_log.specs.Reads.{FailedRead}
+use Rattle.bw_log.specs.Appends.{header_of, begun, begun_with, with_last, wants_segment, roomy, Appended, Rose, IsSameLog}
 use Rattle.bw_care.specs.Moving.{IsLonger, AreLonger, KeepsOlder, DeviceFailed}
 
 -- ---- only bytes were added

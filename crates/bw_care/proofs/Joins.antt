@@ -16,9 +16,9 @@ use Rattle.bw_page.specs.Standing.{content, blocks_of, Stand}
 use Rattle.bw_buffer.specs.Filling.{Filling, frame_of}
 use Rattle.bw_log.specs.Places.{base_of}
 use Rattle.bw_log.specs.Contents.{Contents, boxes, counted, IsSound}
-use Rattle.bw_log.specs.Calls.{IsPage, StopsAt}
-use Rattle.bw_log.specs.Steps.{MayFollow, Appended, IsSameLog, Answers, OnDevice, Rose, refusal, wants_segment, spares_wanted, is_spent}
-use Rattle.bw_log.specs.Steps as steps
+use Rattle.bw_log.specs.Reads.{IsPage, StopsAt}
+use Rattle.bw_log.specs.Appends.{MayFollow, Appended, IsSameLog, Answers, OnDevice, Rose, refusal, wants_segment, spares_wanted, is_spent}
+use Rattle.bw_log.specs.Appends as appends
 use Rattle.bw_log.specs.declared.fault.LogFault.{LogFault}
 use Rattle.bw_log.specs.declared.fault.LogFault.TheVariants.{NoMemory, BadConfig, NoSegment, Device, Failed, Spent, NoPage}
 use Rattle.bw_log.proofs.Entries.{all_append, all_mapped}
@@ -159,7 +159,7 @@ same_since old now new a b = b ∙ a
 append_refused_by : (old : Contents) (x : Frame) (ps : List ℕ) (new : Contents) (fault : LogFault) → AreBases old x.blocks ps → old.is_failed ≡ false
     → length (frame_bytes x) ≤ old.f
     → (refusal old (length (frame_bytes x)) true ≡ Some fault) ⊎ ((refusal old (length (frame_bytes x)) true ≡ None) × Answers None (Err fault))
-    → OnDevice {A = Unit {0}} (Err fault) (λ lease. Rose lease (boxes old) (boxes new) × steps.Stopped old x new) (new ≡ old) → IsSameLog old new
+    → OnDevice {A = Unit {0}} (Err fault) (λ lease. Rose lease (boxes old) (boxes new) × appends.Stopped old x new) (new ≡ old) → IsSameLog old new
     → Refused fault old new
 append_refused_by old x ps new NoMemory bs works short answers device same = device
 append_refused_by old x ps new BadConfig bs works short (inl a) device same = not_bad old (length (frame_bytes x)) a
@@ -180,7 +180,7 @@ append_refused_by old x ps new NoPage bs works short (inr a) device same = a.1
 pub append_refused : (old now : Contents) (x : Frame) (ps : List ℕ) (new : Contents) (fault : LogFault) → AreBases old x.blocks ps → now ≡ old
     → old.is_failed ≡ false → length (frame_bytes x) ≤ old.f
     → Answers (refusal now (length (frame_bytes x)) true) (Err fault)
-    → OnDevice {A = Unit {0}} (Err fault) (λ lease. Rose lease (boxes now) (boxes new) × steps.Stopped now x new) (new ≡ now) → IsSameLog now new
+    → OnDevice {A = Unit {0}} (Err fault) (λ lease. Rose lease (boxes now) (boxes new) × appends.Stopped now x new) (new ≡ now) → IsSameLog now new
     → Refused fault old new
 append_refused old now x ps new fault bs same works short answers device log =
     subst (λ (c : Contents). Refused fault c new) same

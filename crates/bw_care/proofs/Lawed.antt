@@ -20,7 +20,7 @@ use Rattle.bw_codec.specs.declared.block.Frame.{Frame}
 use Rattle.bw_page.specs.Leaves.{Bytes}
 use Rattle.bw_page.specs.Standing.{content, blocks_of}
 use Rattle.bw_page.proofs.Order.{must_be, must_not, not_both}
-use Rattle.bw_log.specs.Noting.{top_page}
+use Rattle.bw_log.specs.PageTable.{top_page}
 use Rattle.bw_log.specs.Places.{all_placed, place_of, base_of}
 use Rattle.bw_log.specs.Contents.{IsTable, some_place, entry_place}
 use Rattle.bw_log.specs.Contents as log

@@ -16,8 +16,9 @@ use Rattle.bw_log.specs.Places.{base_of, first_number}
 use Rattle.bw_log.specs.Segments.{AreFrom, next_of}
 use Rattle.bw_log.proofs.Adding.{next_is}
 use Rattle.bw_log.specs.Contents.{Contents, boxes, roster, counted, IsSound}
-use Rattle.bw_log.specs.Calls.{IsPage, IsAfter, IsBaseAfter, NoBaseBefore, last_number, oldest_count}
-use Rattle.bw_log.specs.Steps.{Appended, IsSameLog}
+use Rattle.bw_log.specs.Reads.{IsPage}
+use Rattle.bw_log.specs.Oldest.{IsAfter, IsBaseAfter, NoBaseBefore, last_number, oldest_count}
+use Rattle.bw_log.specs.Appends.{Appended, IsSameLog}
 use Rattle.bw_log.specs.declared.fault.LogFault.{LogFault}
 use Rattle.bw_log.proofs.Entries.{all_append, all_mapped}
 use Rattle.bw_log.proofs.Reread.{length-frame}

@@ -18,7 +18,8 @@ use Rattle.bw_device.specs.Holding.{Holding}
 use Rattle.bw_log.specs.Places.{placed, all_placed, later, last_place, base_of}
 use Rattle.bw_log.specs.Segments.{segment_frames, frames_of, is_before_next}
 use Rattle.bw_log.specs.Contents.{Contents, image, counted, IsSound}
-use Rattle.bw_log.specs.Calls.{IsPage, IsAfter, IsBaseAfter, NoBaseBefore, last_number}
+use Rattle.bw_log.specs.Reads.{IsPage}
+use Rattle.bw_log.specs.Oldest.{IsAfter, IsBaseAfter, NoBaseBefore, last_number}
 use Rattle.bw_log.proofs.Adding.{filter_all}
 use Rattle.bw_log.proofs.Entries.{all_append}
 use Rattle.bw_log.proofs.GivenUp.{all_pass, all_before, placed_more}

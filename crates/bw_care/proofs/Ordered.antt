@@ -25,7 +25,7 @@ use Rattle.bw_buffer.specs.Marks.{mark_of}
 use Rattle.bw_page.specs.Leaves.{Bytes, order}
 use Rattle.bw_page.specs.Standing.{after, content, blocks_of}
 use Rattle.bw_page.proofs.Order.{must_be, must_not}
-use Rattle.bw_log.specs.Noting.{top_of, top_page}
+use Rattle.bw_log.specs.PageTable.{top_of, top_page}
 use Rattle.bw_log.specs.Places.{all_placed}
 use Rattle.bw_log.proofs.Walk.{same_fold}
 use Rattle.bw_care.specs.Lawful.{as_list, page_set, set_by, leaves_set, is_same, is_bad_page, is_at_fault, first_such, contents}

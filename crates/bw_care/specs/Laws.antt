@@ -6,7 +6,7 @@ use Rattle.bw_codec.specs.Grammar.{IsFrame}
 use Rattle.bw_codec.specs.declared.block.Frame.{Frame}
 use Rattle.bw_codec.specs.declared.leaf.Leaf.{Leaf}
 use Rattle.bw_page.specs.Standing.{blocks_of, Stand}
-use Rattle.bw_log.specs.Noting.{top_page}
+use Rattle.bw_log.specs.PageTable.{top_page}
 use Rattle.bw_care.specs.Lawful.{is_at_fault, first_such, contents}
 
 -- where no page is at fault, the frames stand for the leaves found

@@ -11,9 +11,10 @@ use Rattle.bw_codec.specs.declared.block.Frame.{Frame}
 use Rattle.bw_page.specs.Standing.{content, blocks_of}
 use Rattle.bw_device.specs.Holding.{Holding, appended}
 use Rattle.bw_log.specs.Contents.{Contents, image, boxes, counted, roster, IsSound}
-use Rattle.bw_log.specs.Calls.{IsWornOut, oldest_count}
-use Rattle.bw_log.specs.Steps as steps
-use Rattle.bw_log.specs.Steps.{refusal, Rose, IsSameLog}
+use Rattle.bw_log.specs.Reads.{IsWornOut}
+use Rattle.bw_log.specs.Oldest.{oldest_count}
+use Rattle.bw_log.specs.Appends as appends
+use Rattle.bw_log.specs.Appends.{refusal, Rose, IsSameLog}
 use Rattle.bw_log.specs.declared.fault.LogFault.{LogFault}
 use Rattle.bw_log.specs.declared.fault.LogFault.TheVariants.{NoMemory, BadConfig, NoSegment, Device, Failed, Spent, NoPage}
 use Rattle.bw_care.specs.Cleaning.{IsRewritten, page_of, old_pages, oldest_last}
@@ -87,7 +88,7 @@ pub record IsTornBase (old new : Contents) : Type 0 where
   pub frame : Frame
   pub pages : List ℕ
   pub holds : AreBases old frame.blocks pages
-  pub stopped : steps.Stopped old frame new
+  pub stopped : appends.Stopped old frame new
 
 -- a read or an append failed, and nothing more counts
 pub record DeviceFailed (lease : ℕ) (old new : Contents) : Type 0 where

@@ -11,7 +11,7 @@ use Rattle.std.specs.Ordering.{nat_cmp}
 use Rattle.bw_codec.specs.Grammar.{IsFrame}
 use Rattle.bw_codec.specs.declared.block.Frame.{Frame}
 use Rattle.bw_page.specs.Standing.{blocks_of}
-use Rattle.bw_log.specs.Noting.{top_page}
+use Rattle.bw_log.specs.PageTable.{top_page}
 use Rattle.bw_log.specs.Places.{all_placed, first_number}
 use Rattle.bw_log.specs.Contents.{IsTable}
 use Rattle.bw_log.specs.declared.places.PageAt.{PageAt}

@@ -12,7 +12,7 @@ use Rattle.bw_page.specs.Standing.{blocks_of}
 use Rattle.bw_device.specs.Holding.{Holding}
 use Rattle.bw_log.specs.Places.{or_else, all_placed, bad_link, first_number}
 use Rattle.bw_log.specs.Segments.{frames_of}
-use Rattle.bw_log.specs.Noting.{top_page}
+use Rattle.bw_log.specs.PageTable.{top_page}
 use Rattle.bw_care.specs.Scanning.{has_header, has_part, is_bare, rest_in, fault_in}
 use Rattle.bw_care.specs.Lawful.{is_at_fault, first_such, contents}
 use Rattle.bw_care.specs.declared.fault.RecoverCause.{RecoverCause}

@@ -6,7 +6,7 @@ ghost use Rattle.bw_codec.specs.declared.leaf.Leaf.{Leaf};
 ghost use Rattle.bw_page.specs.Standing.{Stand};
 ghost use Rattle.bw_log.specs.Contents.{counted};
 ghost use Rattle.bw_care.specs.Moving.{IsCleaned, Refuses};
-ghost use Rattle.bw_care.specs.Seen.{seen, IsSound};
+ghost use Rattle.bw_care.specs.Views.{seen, IsSound};
 
 use crate::fault::CleanFault;
 use crate::moving::{move_pages, old_pages};

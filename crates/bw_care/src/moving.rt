@@ -3,10 +3,10 @@
 ghost use Rattle.std.specs.Prelude.{◌≡◌, ◌≢◌, ◌+◌, ◌<◌, ◌≤◌, [], take, drop, length, false, Err, IfOk, IfErr};
 ghost use Rattle.std.specs.List.{AllByRecursion};
 ghost use Rattle.bw_buffer.specs.Filling.{frame_of};
-ghost use Rattle.bw_log.specs.Calls.{IsPage, ReadStops};
+ghost use Rattle.bw_log.specs.Reads.{IsPage, ReadStops};
 ghost use Rattle.bw_care.specs.Cleaning.{is_old, old_pages};
 ghost use Rattle.bw_care.specs.Moving.{AreBases, IsFull, Moved, Refused, Stopped};
-ghost use Rattle.bw_care.specs.Seen.{seen, IsSound};
+ghost use Rattle.bw_care.specs.Views.{seen, IsSound};
 
 use bw_buffer::{Buffer, PutError};
 use bw_codec::{Block, Place};

@@ -3,7 +3,7 @@
 ghost use Rattle.std.specs.Prelude.{◌≡◌, Ok, IfOk, IfErr, map};
 ghost use Rattle.bw_care.specs.Recovery.{recovery, live_in, spares_in, ends_whole};
 ghost use Rattle.bw_care.specs.Found.{finding_of, IsRecovered, Refuses};
-ghost use Rattle.bw_log.specs.Seen.{seen_by};
+ghost use Rattle.bw_log.specs.Views.{seen_by};
 
 use crate::fault::RecoverCause;
 use crate::parting::{Parts, part};

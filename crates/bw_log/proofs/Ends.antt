@@ -5,7 +5,7 @@ use Rattle.std.proofs.Common.{IfSome, inl, inr, refl, sym, ap, subst, ◌∙◌,
 use Rattle.std.proofs.lemmas.Bool.{eq-eqb, ne_eqb, le-leb, lt-leb, cases_lt}
 use Rattle.std.proofs.lemmas.List.{length-map}
 use Rattle.bw_device.specs.Holding.{Holding}
-use Rattle.bw_log.specs.Steps.{last_of, has_room, is_worn}
+use Rattle.bw_log.specs.Appends.{last_of, has_room, is_worn}
 use Rattle.bw_log.proofs.Asked.{found}
 
 pub last_is : (hs : List Holding) → last_of hs ≡ slice_get hs (length hs - 1)

@@ -10,7 +10,7 @@ use Rattle.bw_device.specs.Boxes.{ChangedAt}
 use Rattle.bw_log.proofs.Asked.{found}
 use Rattle.bw_log.proofs.Fields.{both_fields, bounded_same}
 use Rattle.bw_log.specs.Contents.{Contents, image, counted, counted_in, AreTorn, IsImage, IsSound}
-use Rattle.bw_log.specs.Calls.{IsKept, FailedRead, StopsAt, IsLineIn, HoldsPage}
+use Rattle.bw_log.specs.Reads.{IsKept, FailedRead, StopsAt, IsLineIn, HoldsPage}
 use Rattle.bw_log.specs.Walking.{StandsAt, IsWalk}
 use Rattle.bw_log.specs.declared.places.FrameAt.{FrameAt}
 use Rattle.bw_log.specs.declared.fault.LogFault.{LogFault}

@@ -6,8 +6,8 @@ use Rattle.std.specs.List.{AllByRecursion}
 use Rattle.bw_device.specs.Holding.{Holding}
 use Rattle.bw_codec.specs.Grammar.{header_bytes}
 use Rattle.bw_log.specs.Contents.{Contents, IsBounded, IsRoomy, IsSpare, AreTorn, IsSound}
-use Rattle.bw_log.specs.Calls.{fresh, IsFit}
-use Rattle.bw_log.specs.Steps.{with_last, with_first, torn}
+use Rattle.bw_log.specs.Limits.{fresh, IsFit}
+use Rattle.bw_log.specs.Appends.{with_last, with_first, torn}
 
 -- ---- a number of each box
 

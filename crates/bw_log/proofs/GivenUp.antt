@@ -23,7 +23,7 @@ use Rattle.bw_log.specs.Places.{placed, all_placed, later, last_place, is_back, 
 use Rattle.bw_log.specs.Places.{AreLinked}
 use Rattle.bw_log.specs.Segments.{segment_frames, frames_of, entries_from, entries, AreLive, IsCleanLast, AreFrom, following, next_of, is_before_next}
 use Rattle.bw_log.specs.Contents.{Image, counted_in, place_in, entry_place, IsImage, IsStanding}
-use Rattle.bw_log.specs.Calls.{IsAfter}
+use Rattle.bw_log.specs.Oldest.{IsAfter}
 use Rattle.bw_log.specs.declared.places.FrameAt.{FrameAt}
 use Rattle.bw_log.specs.declared.places.PageAt.{PageAt}
 use Rattle.bw_log.proofs.Adding.{filter_all}

@@ -12,7 +12,7 @@ use Rattle.bw_codec.specs.declared.block.Frame.{Frame}
 use Rattle.bw_device.specs.Holding.{Holding}
 use Rattle.bw_log.specs.Segments.{segment_frames, entries_from, entries, is_before_next}
 use Rattle.bw_log.specs.Contents.{Contents, IsSound}
-use Rattle.bw_log.specs.Calls.{last_number, Tells}
+use Rattle.bw_log.specs.Oldest.{last_number, Tells}
 use Rattle.bw_log.specs.declared.places.FrameAt.{FrameAt}
 use Rattle.bw_log.proofs.Entries.{frames_in, all_append, all_filtered, filter_mapped}
 use Rattle.bw_log.proofs.GivenUp.{all_map}

@@ -15,7 +15,7 @@ use Rattle.bw_buffer.specs.Marks.{mark_of}
 use Rattle.bw_page.specs.Leaves.{leaf_at}
 use Rattle.bw_page.specs.Standing.{after, content, blocks_of, Stand}
 use Rattle.bw_log.specs.Contents.{IsStanding}
-use Rattle.bw_log.specs.Noting.{IsInTable, HasLines, HaveLines, top_of, top_page}
+use Rattle.bw_log.specs.PageTable.{IsInTable, HasLines, HaveLines, top_of, top_page}
 use Rattle.bw_log.proofs.Noted.{fold-append}
 use Rattle.bw_log.proofs.Walk.{none_fold, same_fold}
 

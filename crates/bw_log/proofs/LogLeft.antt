@@ -13,7 +13,7 @@ use Rattle.bw_page.specs.Standing.{content, blocks_of, Stand}
 use Rattle.bw_device.specs.Holding.{Holding}
 use Rattle.bw_log.specs.Segments.{segment_frames, frames_of}
 use Rattle.bw_log.specs.Contents.{Contents, image, counted, IsStanding, IsBounded, IsSound}
-use Rattle.bw_log.specs.Calls.{IsBaseAfter, NoBaseBefore, oldest_count}
+use Rattle.bw_log.specs.Oldest.{IsBaseAfter, NoBaseBefore, oldest_count}
 use Rattle.bw_log.specs.declared.places.FrameAt.{FrameAt}
 use Rattle.bw_log.proofs.GivenUp.{MayGo, given_up, counts, kept_counts, set_kept, stand_kept}
 use Rattle.bw_log.proofs.Walk.{same_fold}

@@ -18,7 +18,7 @@ use Rattle.bw_buffer.specs.declared.mark.Mark.{Mark}
 use Rattle.bw_buffer.specs.declared.mark.Mark.TheVariants.{Changes, Sets, Splits}
 use Rattle.bw_log.specs.Places.{placed, all_placed, later, last_place}
 use Rattle.bw_log.specs.Contents.{some_place, entry_place, place_in, IsTable}
-use Rattle.bw_log.specs.Noting.{with_place, with_base, noted, noted_all, IsInTable, HasLines, HaveLines, top_of, top_page, no_place, empty_line}
+use Rattle.bw_log.specs.PageTable.{with_place, with_base, noted, noted_all, IsInTable, HasLines, HaveLines, top_of, top_page, no_place, empty_line}
 use Rattle.bw_log.specs.declared.places.PageAt.{PageAt}
 
 -- ---- one line

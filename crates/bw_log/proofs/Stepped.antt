@@ -12,9 +12,9 @@ use Rattle.bw_device.specs.Holding.{Holding, appended}
 use Rattle.bw_log.specs.Segments.{entry_of, frames_of}
 use Rattle.bw_log.proofs.Fields.{field_last, field_first, bounded_same, roomy_same, spares_roomy, empty_torn, first_torn}
 use Rattle.bw_log.specs.Contents.{Contents, Image, image, IsImage, IsSound, IsBounded, IsRoomy, IsSpare, IsTable, counted, counted_in}
-use Rattle.bw_log.specs.Steps.{header_of, begun, begun_with, last_of, with_last, with_first, torn, MayFollow, LeftBehind}
+use Rattle.bw_log.specs.Appends.{header_of, begun, begun_with, last_of, with_last, with_first, torn, MayFollow, LeftBehind}
 use Rattle.bw_log.specs.Appending.{with_frame, length_of}
-use Rattle.bw_log.specs.Noting.{noted_all, grown_to, top_page, empty_line, HaveLines}
+use Rattle.bw_log.specs.PageTable.{noted_all, grown_to, top_page, empty_line, HaveLines}
 use Rattle.bw_log.specs.declared.places.FrameAt.{FrameAt}
 use Rattle.bw_log.specs.declared.places.PageAt.{PageAt}
 use Rattle.bw_log.proofs.Adding.{Takes, added, counts_more, sound_more}

@@ -10,7 +10,7 @@ use Rattle.std.specs.Prelude.{map, true, nat_lt, ◌^◌}
 use Rattle.std.specs.Option.{SomeIff}
 use Rattle.std.proofs.lemmas.Bool.{cond-true, cond-false, le-ltb, lt-ltb}
 use Rattle.bw_log.specs.Segments.{following, entry_of}
-use Rattle.bw_log.specs.Noting.{noted_all, grown_to, top_page}
+use Rattle.bw_log.specs.PageTable.{noted_all, grown_to, top_page}
 use Rattle.bw_log.specs.declared.places.FrameAt.{FrameAt}
 use Rattle.bw_log.specs.declared.places.PageAt.{PageAt}
 use Rattle.std.proofs.lemmas.List.{length-map}
@@ -18,7 +18,7 @@ use Rattle.bw_codec.specs.Grammar.{header_bytes, frame_bytes}
 use Rattle.bw_codec.specs.declared.block.Frame.{Frame}
 use Rattle.bw_log.specs.Contents.{Contents}
 use Rattle.bw_log.specs.Appending.{SpareTorn, FramePut, FrameTorn, with_frame, length_of}
-use Rattle.bw_log.specs.Steps.{header_of, with_first, with_last, torn, last_of, Rose}
+use Rattle.bw_log.specs.Appends.{header_of, with_first, with_last, torn, last_of, Rose}
 use Rattle.bw_log.proofs.Stepped.{ends, with_last_at, last_of_at}
 
 get_at : {X : Type 0} (xs : List X) (y : X) (ys : List X) → slice_get (xs ++ y ∷ ys) (length xs) ≡ Some y

@@ -13,12 +13,12 @@ use Rattle.bw_device.specs.Holding.{Holding, appended}
 use Rattle.bw_buffer.proofs.Holding.{few_blocks}
 use Rattle.bw_log.specs.Places.{AreLinked}
 use Rattle.bw_log.specs.Contents.{Contents, image, IsSound, counted, boxes, roster}
-use Rattle.bw_log.specs.Steps.{header_of, begun, last_of, with_last, with_first, has_room, wants_segment, roomy, spares_wanted, is_worn, is_spent, refusal}
-use Rattle.bw_log.specs.Steps.{torn, MayFollow, LeftBehind, Appended, Stopped, Rose, IsSameLog, Answers, Checks, OnDevice, AfterAppend}
+use Rattle.bw_log.specs.Appends.{header_of, begun, last_of, with_last, with_first, has_room, wants_segment, roomy, spares_wanted, is_worn, is_spent, refusal}
+use Rattle.bw_log.specs.Appends.{torn, MayFollow, LeftBehind, Appended, Stopped, Rose, IsSameLog, Answers, Checks, OnDevice, AfterAppend}
 use Rattle.std.specs.Prelude.{Result, Ok, Err, MatchResult}
 use Rattle.bw_codec.proofs.Heading.{length-header}
 use Rattle.bw_log.specs.Segments.{AreLive, frames_of}
-use Rattle.bw_log.specs.Noting.{HaveLines, grown_to, top_page}
+use Rattle.bw_log.specs.PageTable.{HaveLines, grown_to, top_page}
 use Rattle.bw_log.specs.declared.places.PageAt.{PageAt}
 use Rattle.bw_log.specs.Appending.{OfDevice, Beginnable, SpareTorn, FramePut, FrameTorn, with_frame}
 use Rattle.bw_log.proofs.Asked.{live_number}

@@ -6,8 +6,8 @@ use Rattle.bw_codec.specs.declared.block.Frame.{Frame}
 use Rattle.bw_device.specs.Holding.{Holding, appended}
 use Rattle.bw_log.specs.Segments.{following, entry_of}
 use Rattle.bw_log.specs.Contents.{Contents, boxes}
-use Rattle.bw_log.specs.Steps.{header_of, with_first, with_last, torn, last_of, Rose}
-use Rattle.bw_log.specs.Noting.{noted_all, grown_to, top_page}
+use Rattle.bw_log.specs.Appends.{header_of, with_first, with_last, torn, last_of, Rose}
+use Rattle.bw_log.specs.PageTable.{noted_all, grown_to, top_page}
 use Rattle.bw_log.specs.declared.fault.LogFault.{LogFault}
 use Rattle.bw_log.specs.declared.fault.LogFault.TheVariants.{NoMemory, BadConfig, NoSegment, Device, Failed, Spent, NoPage}
 

@@ -2,12 +2,14 @@
 pub mod Places
 pub mod Segments
 pub mod Contents
-pub mod Steps
-pub mod Calls
+pub mod Appends
+pub mod Limits
+pub mod Reads
+pub mod Oldest
 pub mod Adopting
-pub mod Seen
+pub mod Views
 pub mod Laws
 -- What private functions say.
 pub mod Walking
-pub mod Noting
+pub mod PageTable
 pub mod Appending

@@ -24,7 +24,7 @@ fn number_lines(lines: &mut Vec<FrameAt>, number: u64) -> Option<u64>
 }
 
 impl Log {
-    ghost use Rattle.bw_log.specs.Seen.{seen_by, IsSound};
+    ghost use Rattle.bw_log.specs.Views.{seen_by, IsSound};
 
     /// A log over live segments in the order of their numbers, which a scan found whole and linked,
     /// with tables that say where each whole frame and each page's last blocks stand. No memory is

@@ -5,9 +5,9 @@ ghost use Rattle.std.specs.Prelude.{◌≡◌, ◌+◌, ◌-◌, ◌^◌, ◌/�
 ghost use Rattle.std.specs.Vec.{vec_capacity};
 ghost use Rattle.bw_codec.specs.Grammar.{frame_bytes};
 ghost use Rattle.bw_buffer.specs.Filling.{frame_of};
-ghost use Rattle.bw_log.specs.Steps.{wants_segment, refusal, begun, roomy, Checks, IsOkOrDevice, MayFollow, AfterAppend};
+ghost use Rattle.bw_log.specs.Appends.{wants_segment, refusal, begun, roomy, Checks, IsOkOrDevice, MayFollow, AfterAppend};
 ghost use Rattle.bw_log.specs.Appending.{OfDevice, Beginnable, SpareTorn, FramePut, FrameTorn};
-ghost use Rattle.bw_log.specs.Noting.{HaveLines, top_page, grown_to};
+ghost use Rattle.bw_log.specs.PageTable.{HaveLines, top_page, grown_to};
 
 use crate::current::{is_first_worn, is_last_worn, last_has_room};
 use crate::fault::LogFault;
@@ -19,7 +19,7 @@ use bw_codec::header_cells;
 use bw_device::{append_to, lease_of, len_of};
 
 impl Log {
-    ghost use Rattle.bw_log.specs.Seen.{seen_by, IsSound, IsReady};
+    ghost use Rattle.bw_log.specs.Views.{seen_by, IsSound, IsReady};
 
     // Whether the current segment is missing, closed, or without room for so many bytes.
     fn wants_segment(&self, len: u32) -> bool

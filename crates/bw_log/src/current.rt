@@ -1,7 +1,7 @@
 //! Questions of the current segment, and of the spare that would follow it.
 
 ghost use Rattle.std.specs.Prelude.{◌≡◌, ◌<◌, length, map, slice_get};
-ghost use Rattle.bw_log.specs.Steps.{has_room, is_worn, last_of};
+ghost use Rattle.bw_log.specs.Appends.{has_room, is_worn, last_of};
 
 use bw_device::{Segment, capacity_of, failures_of, len_of};
 

@@ -3,7 +3,9 @@
 ghost use Rattle.std.specs.Prelude.{◌≡◌, ◌+◌, ◌-◌, ◌<◌, ◌≤◌, ◌==◌, ◌↔◌, ◌⊎◌, ◌∷◌, ◌++◌, [], length, map, Some, None, false, slice_get, if◌then◌else◌, IsTrue, IfOk, IfErr, OnOk, IfSome, MatchOption, MatchResult, IsErrAnd, vec_len};
 ghost use Rattle.std.specs.Vec.{vec_capacity};
 ghost use Rattle.bw_log.specs.Contents.{IsSpare, counted, some_place};
-ghost use Rattle.bw_log.specs.Calls.{fresh, AreLimits, IsFit, IsNotTaken, IsPage, last_number};
+ghost use Rattle.bw_log.specs.Limits.{fresh, AreLimits, IsFit, IsNotTaken};
+ghost use Rattle.bw_log.specs.Reads.{IsPage};
+ghost use Rattle.bw_log.specs.Oldest.{last_number};
 ghost use Rattle.bw_log.specs.Places.{place_of, base_of};
 
 use crate::fault::LogFault;
@@ -64,7 +66,7 @@ fn place_or_none(place: Place) -> Option<Place>
 }
 
 impl Log {
-    ghost use Rattle.bw_log.specs.Seen.{seen_by, IsSound};
+    ghost use Rattle.bw_log.specs.Views.{seen_by, IsSound};
 
     /// A log of spares alone, for pages of at most `m` pairs, 4 to 32, and frames of at most `f`
     /// bytes, 16,384 to 65,536. Each of at most 4,096 boxes is empty and has room for 24 + `f`

@@ -2,7 +2,7 @@
 
 ghost use Rattle.std.specs.Prelude.{◌≡◌, ◌+◌, ◌-◌, ◌≤◌, length, vec_len};
 ghost use Rattle.std.specs.Vec.{vec_capacity};
-ghost use Rattle.bw_log.specs.Noting.{noted, noted_all, HasLines, HaveLines, top_of, top_page, grown_to};
+ghost use Rattle.bw_log.specs.PageTable.{noted, noted_all, HasLines, HaveLines, top_of, top_page, grown_to};
 
 use crate::places::PageAt;
 use bw_buffer::{Buffer, Mark};

@@ -4,12 +4,12 @@ ghost use Rattle.std.specs.Prelude.{◌≡◌, ◌+◌, ◌<◌, ◌≤◌, List
 ghost use Rattle.bw_codec.specs.declared.leaf.Leaf.{Leaf};
 ghost use Rattle.bw_page.specs.Standing.{Stand};
 ghost use Rattle.bw_log.specs.Contents.{counted};
-ghost use Rattle.bw_log.specs.Calls.{NoBaseBefore, Tells, oldest_count, last_number};
+ghost use Rattle.bw_log.specs.Oldest.{NoBaseBefore, Tells, oldest_count, last_number};
 
 use crate::log::Log;
 
 impl Log {
-    ghost use Rattle.bw_log.specs.Seen.{seen_by, IsSound};
+    ghost use Rattle.bw_log.specs.Views.{seen_by, IsSound};
 
     /// The oldest segment's number, and that of its last counted frame, or 0 where it has none;
     /// `None` where no segment is live. It costs a binary search among the lines of the counted

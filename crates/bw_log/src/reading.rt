@@ -14,7 +14,7 @@ ghost use Rattle.bw_codec.specs.Touch.{sets, touches};
 ghost use Rattle.bw_codec.specs.declared.block.Frame.{Frame};
 ghost use Rattle.bw_page.specs.Standing.{after, content, blocks_of};
 ghost use Rattle.bw_log.specs.Contents.{counted, image, IsImage};
-ghost use Rattle.bw_log.specs.Calls.{IsPage, IsKept, IsNumbered, IsLineIn, HoldsPage, ReadStops, segment_at};
+ghost use Rattle.bw_log.specs.Reads.{IsPage, IsKept, IsNumbered, IsLineIn, HoldsPage, ReadStops, segment_at};
 ghost use Rattle.bw_log.specs.Walking.{first_back, StandsAt, IsWalk};
 
 use crate::fault::LogFault;
@@ -111,7 +111,7 @@ fn replay(frames: Vec<Frame>, page: u32) -> Result<Option<Leaf>, AllocError>
 }
 
 impl Log {
-    ghost use Rattle.bw_log.specs.Seen.{seen_by, IsSound};
+    ghost use Rattle.bw_log.specs.Views.{seen_by, IsSound};
 
     // Reads bytes of the live segment at an index.
     fn read_some(&mut self, at: usize, from: u64, len: usize) -> Result<Vec<u8>, LogFault>

@@ -17,10 +17,10 @@ use Rattle.bw_codec.specs.declared.leaf.Leaf.{Leaf}
 use Rattle.bw_codec.specs.declared.record.Record.{Record}
 use Rattle.bw_page.specs.declared.leaves.Leaves.TheInside.{Inside}
 use Rattle.bw_page.specs.Leaves.{Bytes, order, empty_leaf, home, changed, AreLeaves, BeginsEmpty, HasPage, lower_of, upper_of, applied, union, changed_map}
-use Rattle.bw_page.specs.Filed.{Filed, applied_by}
+use Rattle.bw_page.specs.Shown.{Shown, applied_by}
 use Rattle.bw_page.specs.Seek.{seek_of, IsWithin}
 use Rattle.bw_page.specs.Lows.{lows_of}
-use Rattle.bw_page.specs.Paged.{view_of, IsFiled}
+use Rattle.bw_page.specs.Index.{view_of, IsIndexed}
 use Rattle.bw_page.proofs.Order.{order-total, apart}
 use Rattle.bw_page.proofs.Homes.{put_in, set_is_put}
 use Rattle.bw_page.proofs.Applying.{put_in-page, same_lows, put_leaves, new_low}
@@ -65,8 +65,8 @@ lawful_at : (a b : Inside) → b.m ≡ a.m → b.leaves.items ≡ a.leaves.items
 lawful_at a b em el h = subst (λ (p : ℕ × List Leaf). AreLeaves p.0 p.1) (λ i. (sym em i, sym el i)) h
 
 -- nothing was changed
-pub same_filed : (a b : Inside) → IsFiled a → b.m ≡ a.m → b.leaves.items ≡ a.leaves.items
-    → ((q : Bytes) → tree.get order b.index q ≡ tree.get order a.index q) → IsFiled b
+pub same_filed : (a b : Inside) → IsIndexed a → b.m ≡ a.m → b.leaves.items ≡ a.leaves.items
+    → ((q : Bytes) → tree.get order b.index q ≡ tree.get order a.index q) → IsIndexed b
 same_filed a b h em el same = record {
   limit = subst (λ (n : ℕ). (4 ≤ n) × (n ≤ 32)) (sym em) h.limit;
   count = subst (λ (ls : List Leaf). length ls < 2 ^ 32) (sym el) h.count;
@@ -74,7 +74,7 @@ same_filed a b h em el same = record {
   index = λ q. same q ∙ h.index q ∙ ap (λ (ls : List Leaf). find order q (lows_of (drop 1 ls))) (sym el);
 }
 
-module _ (a : Inside) (h : IsFiled a) (r : Record) (op : IsOp r) (at : ℕ) (here : at + 1 ≡ (home (key_of r) a.leaves.items).page) where
+module _ (a : Inside) (h : IsIndexed a) (r : Record) (op : IsOp r) (at : ℕ) (here : at + 1 ≡ (home (key_of r) a.leaves.items).page) where
   -- the leaf that is changed
   pub leaf_is : (d : Leaf) → get_or a.leaves.items at d ≡ home (key_of r) a.leaves.items
   leaf_is d =
@@ -96,7 +96,7 @@ module _ (a : Inside) (h : IsFiled a) (r : Record) (op : IsOp r) (at : ℕ) (her
   whole_is fits = in_place (changed r (home (key_of r) a.leaves.items)) refl ∙ sym (applied-whole a.m a.leaves.items r some h.lawful op fits)
 
   pub whole_filed : (b : Inside) → b.m ≡ a.m → length (changed r (home (key_of r) a.leaves.items)).pairs ≤ a.m → b.leaves.items ≡ applied a.m a.leaves.items r
-      → ((q : Bytes) → tree.get order b.index q ≡ tree.get order a.index q) → IsFiled b
+      → ((q : Bytes) → tree.get order b.index q ≡ tree.get order a.index q) → IsIndexed b
   whole_filed b em fits el same =
       let into = whole_in a.m a.leaves.items (key_of r) _ (directed a.m a.leaves.items r h.lawful op) fits in
       let form = applied-whole a.m a.leaves.items r some h.lawful op fits in
@@ -125,7 +125,7 @@ module _ (a : Inside) (h : IsFiled a) (r : Record) (op : IsOp r) (at : ℕ) (her
       → ((q : Bytes) → tree.get order b.index q
       ≡ cond (eq_by_cmp order q (upper_of a.m (length a.leaves.items + 1) (changed r (home (key_of r) a.leaves.items))).low)
       (Some (length a.leaves.items + 1)) (tree.get order a.index q))
-      → IsFiled b
+      → IsIndexed b
   cut_filed b em over room el got =
       let x = changed r (home (key_of r) a.leaves.items) in
       let u = upper_of a.m (length a.leaves.items + 1) x in
@@ -156,18 +156,18 @@ module _ (a : Inside) (h : IsFiled a) (r : Record) (op : IsOp r) (at : ℕ) (her
 -- ---- what a call leaves, said of the value that it began with
 
 -- leaves after a record, with their index
-pub record Follows (now : Filed) (r : Record) (b : Inside) : Type 0 where
-  pub filed : IsFiled b
+pub record Follows (now : Shown) (r : Record) (b : Inside) : Type 0 where
+  pub filed : IsIndexed b
   pub view : view_of b ≡ record { m = now.m; leaves = applied now.m now.leaves r; away = now.away }
   pub plain : union b.leaves.items ≡ changed_map (union now.leaves) r
 
-module _ (a : Inside) (h : IsFiled a) (now : Filed) (v : view_of a ≡ now) (r : Record) (op : IsOp r) (at count : ℕ)
+module _ (a : Inside) (h : IsIndexed a) (now : Shown) (v : view_of a ≡ now) (r : Record) (op : IsOp r) (at count : ℕ)
     (here : at + 1 ≡ (home (key_of r) now.leaves).page) (pairs : count ≡ length (changed r (home (key_of r) now.leaves)).pairs) where
   here_inside : at + 1 ≡ (home (key_of r) a.leaves.items).page
-  here_inside = subst (λ (f : Filed). at + 1 ≡ (home (key_of r) f.leaves).page) (sym v) here
+  here_inside = subst (λ (f : Shown). at + 1 ≡ (home (key_of r) f.leaves).page) (sym v) here
 
   count_inside : count ≡ length (changed r (home (key_of r) a.leaves.items)).pairs
-  count_inside = subst (λ (f : Filed). count ≡ length (changed r (home (key_of r) f.leaves)).pairs) (sym v) pairs
+  count_inside = subst (λ (f : Shown). count ≡ length (changed r (home (key_of r) f.leaves)).pairs) (sym v) pairs
 
   -- the leaf that is cut has too many pairs, whatever a read past the end gives
   pub over_at : a.m < count → (d : Leaf) → a.m < length (changed r (get_or a.leaves.items at d)).pairs
@@ -178,25 +178,25 @@ module _ (a : Inside) (h : IsFiled a) (now : Filed) (v : view_of a ≡ now) (r :
   pub found_at : (found : Result ℕ ℕ) → found ≡ seek_of (key_of r) (home (key_of r) now.leaves).pairs
       → (d : Leaf) → found ≡ seek_of (key_of r) (get_or a.leaves.items at d).pairs
   found_at found e d =
-      e ∙ ap (λ (f : Filed). seek_of (key_of r) (home (key_of r) f.leaves).pairs) (sym v)
+      e ∙ ap (λ (f : Shown). seek_of (key_of r) (home (key_of r) f.leaves).pairs) (sym v)
       ∙ ap (λ (l : Leaf). seek_of (key_of r) l.pairs) (sym (leaf_is a h r op at here_inside d))
 
   pub within_at : (found : Result ℕ ℕ) → IsWithin (length (home (key_of r) now.leaves).pairs) found
       → (d : Leaf) → IsWithin (length (get_or a.leaves.items at d).pairs) found
   within_at found w d =
       subst (λ (l : Leaf). IsWithin (length l.pairs) found)
-      (ap (λ (f : Filed). home (key_of r) f.leaves) (sym v) ∙ sym (leaf_is a h r op at here_inside d)) w
+      (ap (λ (f : Shown). home (key_of r) f.leaves) (sym v) ∙ sym (leaf_is a h r op at here_inside d)) w
 
   -- that leaf, as it is read in its place
   pub home_at : (leaf : Leaf) → leaf ≡ get_or a.leaves.items at leaf → leaf ≡ home (key_of r) now.leaves
-  home_at leaf e = e ∙ leaf_is a h r op at here_inside leaf ∙ ap (λ (f : Filed). home (key_of r) f.leaves) v
+  home_at leaf e = e ∙ leaf_is a h r op at here_inside leaf ∙ ap (λ (f : Shown). home (key_of r) f.leaves) v
 
   viewed : (b : Inside) → b.m ≡ a.m → b.leaves.away ≡ a.leaves.away → b.leaves.items ≡ applied a.m a.leaves.items r
       → view_of b ≡ record { m = now.m; leaves = applied now.m now.leaves r; away = now.away }
   viewed b em ea el =
       let to : view_of b ≡ record { m = a.m; leaves = applied a.m a.leaves.items r; away = a.leaves.away } =
       λ i. record { m = em i; leaves = el i; away = ea i } in
-      to ∙ ap (λ (f : Filed). let g : Filed = record { m = f.m; leaves = applied f.m f.leaves r; away = f.away } in g) v
+      to ∙ ap (λ (f : Shown). let g : Shown = record { m = f.m; leaves = applied f.m f.leaves r; away = f.away } in g) v
 
   pub follows_whole : (b : Inside) → b.m ≡ a.m → b.leaves.away ≡ a.leaves.away → count ≤ a.m
       → ((d : Leaf) → b.leaves.items ≡ slice_set a.leaves.items at (changed r (get_or a.leaves.items at d)))
@@ -209,7 +209,7 @@ module _ (a : Inside) (h : IsFiled a) (now : Filed) (v : view_of a ≡ now) (r :
       record {
         filed = whole_filed a h r op at here_inside b em fits el same;
         view = viewed b em ea el;
-        plain = plain_is a h r op at here_inside b.leaves.items (λ over. absurd (omega arith)) el ∙ ap (λ (f : Filed). changed_map (union f.leaves) r) v;
+        plain = plain_is a h r op at here_inside b.leaves.items (λ over. absurd (omega arith)) el ∙ ap (λ (f : Shown). changed_map (union f.leaves) r) v;
       }
 
   pub follows_cut : (b : Inside) (page : ℕ) → b.m ≡ a.m → b.leaves.away ≡ a.leaves.away → a.m < count → page ≡ length a.leaves.items + 1 → page < 2 ^ 32
@@ -234,7 +234,7 @@ module _ (a : Inside) (h : IsFiled a) (now : Filed) (v : view_of a ≡ now) (r :
             (leaf_is a h r op at here_inside empty_leaf)
             ∙ ap (λ n. cond (eq_by_cmp order q (upper_of a.m n (changed r (home (key_of r) a.leaves.items))).low) (Some n) (tree.get order a.index q)) e);
         view = viewed b em ea el;
-        plain = plain_is a h r op at here_inside b.leaves.items (λ o. fits) el ∙ ap (λ (f : Filed). changed_map (union f.leaves) r) v;
+        plain = plain_is a h r op at here_inside b.leaves.items (λ o. fits) el ∙ ap (λ (f : Shown). changed_map (union f.leaves) r) v;
       }
 
 -- the same entries give the same look-ups
@@ -243,14 +243,14 @@ same_gets x y e q = ap (λ es. lookup (tree.is_at (order q)) es) e
 
 -- ---- what a record did
 
-pub whole_by : (f : Filed) (r : Record) (page count m : ℕ) → page ≡ (home (key_of r) f.leaves).page
+pub whole_by : (f : Shown) (r : Record) (page count m : ℕ) → page ≡ (home (key_of r) f.leaves).page
     → count ≡ length (changed r (home (key_of r) f.leaves)).pairs → m ≡ f.m → count ≤ m → (record { page = page; made = None }) ≡ applied_by f r
 whole_by f r page count m e c k few =
     let made : None ≡ (applied_by f r).made =
     ap (λ b. cond b None (Some (length f.leaves + 1))) (sym (le-leb (length (changed r (home (key_of r) f.leaves)).pairs) f.m (omega arith))) in
     λ i. record { page = e i; made = made i }
 
-pub cut_by : (f : Filed) (r : Record) (page count m made : ℕ) → page ≡ (home (key_of r) f.leaves).page
+pub cut_by : (f : Shown) (r : Record) (page count m made : ℕ) → page ≡ (home (key_of r) f.leaves).page
     → count ≡ length (changed r (home (key_of r) f.leaves)).pairs → m ≡ f.m → m < count → made ≡ length f.leaves + 1
     → (record { page = page; made = Some made }) ≡ applied_by f r
 cut_by f r page count m made e c k many n =

@@ -12,7 +12,7 @@ use Rattle.bw_codec.specs.Bytes.{is_below}
 use Rattle.bw_codec.specs.declared.leaf.Leaf.{Leaf}
 use Rattle.bw_page.specs.Leaves.{Bytes, order, empty_leaf, best, home, leaf_at, AreNumbered, AreLeaves}
 use Rattle.bw_page.specs.Lows.{lows_of}
-use Rattle.bw_page.specs.Filed.{HasGreatestLow, TakesKey}
+use Rattle.bw_page.specs.Shown.{HasGreatestLow, TakesKey}
 use Rattle.bw_page.proofs.Order.{UpTo, order-total, greater_is_below, upto_empty, upto-antisymm, tied}
 use Rattle.bw_page.proofs.Sorted.{all-map, all-zip}
 use Rattle.bw_page.proofs.Homes.{picks, second, first, home-all, home-low, home-max, stands_at, pages_within}

@@ -13,7 +13,7 @@ use Rattle.bw_codec.specs.declared.leaf.Leaf.{Leaf}
 use Rattle.bw_page.specs.declared.leaves.Leaves.TheInside.{Inside}
 use Rattle.bw_page.specs.Leaves.{Bytes, order, AreNumbered, AreLeaves}
 use Rattle.bw_page.specs.Lows.{lows_of}
-use Rattle.bw_page.specs.Paged.{IsFiled}
+use Rattle.bw_page.specs.Index.{IsIndexed}
 use Rattle.bw_page.proofs.Order.{order-total}
 use Rattle.bw_page.proofs.Sorted.{all-map, all-zip}
 use Rattle.bw_page.proofs.Homes.{pages_from}
@@ -73,5 +73,5 @@ some_leaf m (l ∷ ls) a = omega arith
 
 -- leaves with the index of their lows
 pub filed_new : (b : Inside) → (4 ≤ b.m) × (b.m ≤ 32) → AreLeaves b.m b.leaves.items
-    → ((q : Bytes) → tree.get order b.index q ≡ find order q (lows_of (drop 1 b.leaves.items))) → IsFiled b
+    → ((q : Bytes) → tree.get order b.index q ≡ find order q (lows_of (drop 1 b.leaves.items))) → IsIndexed b
 filed_new b limit lawful index = record { limit = limit; count = count_fits b.m b.leaves.items lawful; lawful = lawful; index = index }

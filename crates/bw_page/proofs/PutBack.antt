@@ -17,10 +17,10 @@ use Rattle.bw_page.specs.declared.journal.Displaced.{Displaced}
 use Rattle.bw_page.specs.Leaves.{Bytes, order, empty_leaf, changed, home, result_of, with_leaf, applied, AreLeaves}
 use Rattle.bw_page.specs.Seats.{is_among}
 use Rattle.bw_page.specs.Seek.{seek_of, AddsNone, back_of}
-use Rattle.bw_page.specs.Filed.{Filed, IsHere}
+use Rattle.bw_page.specs.Shown.{Shown, IsHere}
 use Rattle.bw_page.specs.Lows.{lows_of}
 use Rattle.bw_page.specs.Journal.{undone, IsNewest}
-use Rattle.bw_page.specs.Paged.{view_of, IsFiled}
+use Rattle.bw_page.specs.Index.{view_of, IsIndexed}
 use Rattle.bw_page.proofs.Journals.{Stepped, stepped, one_more, new_key, index_back}
 use Rattle.bw_page.proofs.Indexed.{home_within}
 use Rattle.bw_page.proofs.Indexing.{filed_new}
@@ -31,12 +31,12 @@ use Rattle.bw_page.proofs.Closed.{leaf_is, lows-put}
 use Rattle.bw_page.proofs.TakenBack.{into, back_adds}
 use Rattle.bw_page.proofs.Runs.{back_one, page_of, back_is}
 
-module _ (a : Inside) (h : IsFiled a) (now : Filed) (v : view_of a ≡ now) (u : Displaced) (n : IsNewest now (Page u)) where
+module _ (a : Inside) (h : IsIndexed a) (now : Shown) (v : view_of a ≡ now) (u : Displaced) (n : IsNewest now (Page u)) where
   pages_are : u.pages ≡ length n.before.leaves
   pages_are = ap (λ (x : Displaced). x.pages) (page_of n.before n.change u n.displaced)
 
   leaves_are : a.leaves.items ≡ applied n.before.m n.before.leaves n.change
-  leaves_are = ap (λ (f : Filed). f.leaves) (v ∙ n.is)
+  leaves_are = ap (λ (f : Shown). f.leaves) (v ∙ n.is)
 
   steps : Stepped n.before.m n.before.leaves (key_of n.change) a.leaves.items
   steps = subst (Stepped n.before.m n.before.leaves (key_of n.change)) (sym leaves_are)
@@ -54,7 +54,7 @@ module _ (a : Inside) (h : IsFiled a) (now : Filed) (v : view_of a ≡ now) (u :
   page_is = ap (λ (x : Displaced). x.leaf.page) (page_of n.before n.change u n.displaced)
 
   pub put_here : a.leaves.away ≡ []
-  put_here = ap (λ (f : Filed). f.away) (v ∙ n.is) ∙ n.here
+  put_here = ap (λ (f : Shown). f.away) (v ∙ n.is) ∙ n.here
 
   pub put_within : u.leaf.page - 1 < length (take u.pages a.leaves.items)
   put_within =
@@ -73,22 +73,22 @@ module _ (a : Inside) (h : IsFiled a) (now : Filed) (v : view_of a ≡ now) (u :
       → (length a.leaves.items ≤ u.pages → (q : Bytes) → tree.get order b.index q ≡ tree.get order a.index q)
       → ((d : Leaf) → u.pages < length a.leaves.items → (q : Bytes)
       → tree.get order b.index q ≡ cond (eq_by_cmp order q (get_or a.leaves.items u.pages d).low) None (tree.get order a.index q))
-      → IsFiled b
+      → IsIndexed b
   put_back_filed b em ea el same less =
       let to : view_of b ≡ undone (view_of a) (Page u) = λ i. record { m = em i; leaves = el i; away = ea i } in
       let all : view_of b ≡ n.before = to ∙ ap (λ f. undone f (Page u)) v ∙ back_one now (Page u) n in
       let e = pages_are in
       filed_new b (subst (λ (k : ℕ). (4 ≤ k) × (k ≤ 32)) (sym em) h.limit)
-      (subst (λ (f : Filed). AreLeaves f.m f.leaves) (sym all) n.lawful)
+      (subst (λ (f : Shown). AreLeaves f.m f.leaves) (sym all) n.lawful)
       (λ q. index_back n.before.m n.before.leaves (key_of n.change) n.lawful a.leaves.items u.leaf (tree.get order a.index)
       (tree.get order b.index) steps h.index
       (λ few. same (omega arith))
       (λ more k. less u.leaf (omega arith) k ∙ ap (λ p. cond (eq_by_cmp order k (get_or a.leaves.items p u.leaf).low) None (tree.get order a.index k)) e) q
-      ∙ ap (λ (f : Filed). find order q (lows_of (drop 1 f.leaves))) (sym all))
+      ∙ ap (λ (f : Shown). find order q (lows_of (drop 1 f.leaves))) (sym all))
 
 -- ---- the same by a record
 
-module _ (a : Inside) (h : IsFiled a) (now : Filed) (v : view_of a ≡ now) (back : Record) (n : IsNewest now (Back back)) where
+module _ (a : Inside) (h : IsIndexed a) (now : Shown) (v : view_of a ≡ now) (back : Record) (n : IsNewest now (Back back)) where
   fits : length (result_of n.before.leaves n.change).pairs ≤ n.before.m
   fits = (back_is n.before n.change back n.displaced).0
 
@@ -96,19 +96,19 @@ module _ (a : Inside) (h : IsFiled a) (now : Filed) (v : view_of a ≡ now) (bac
   takes = (back_is n.before n.change back n.displaced).1
 
   pub back_here : IsHere (key_of back) now
-  back_here = subst (λ (ps : List ℕ). is_among (home (key_of back) now.leaves).page ps ≡ false) (sym (ap (λ (f : Filed). f.away) n.is ∙ n.here)) refl
+  back_here = subst (λ (ps : List ℕ). is_among (home (key_of back) now.leaves).page ps ≡ false) (sym (ap (λ (f : Shown). f.away) n.is ∙ n.here)) refl
 
   pub back_stays : (s : Result ℕ ℕ) → s ≡ seek_of (key_of back) (home (key_of back) now.leaves).pairs → AddsNone back s
   back_stays s e =
       back_adds n.before.m n.before.leaves n.change back n.some n.lawful n.op fits takes s
-      (e ∙ ap (λ (f : Filed). seek_of (key_of back) (home (key_of back) f.leaves).pairs) n.is)
+      (e ∙ ap (λ (f : Shown). seek_of (key_of back) (home (key_of back) f.leaves).pairs) n.is)
 
   -- leaves after the record that takes the newest one back
   pub view_back : (op : IsOp back) (at : ℕ) → at + 1 ≡ (home (key_of back) now.leaves).page → (b : Inside) → b.m ≡ a.m → b.leaves.away ≡ a.leaves.away
       → ((d : Leaf) → b.leaves.items ≡ slice_set a.leaves.items at (changed back (get_or a.leaves.items at d)))
       → view_of b ≡ undone now (Back back)
   view_back op at here b em ea set =
-      let inside : at + 1 ≡ (home (key_of back) a.leaves.items).page = subst (λ (f : Filed). at + 1 ≡ (home (key_of back) f.leaves).page) (sym v) here in
+      let inside : at + 1 ≡ (home (key_of back) a.leaves.items).page = subst (λ (f : Shown). at + 1 ≡ (home (key_of back) f.leaves).page) (sym v) here in
       let place : at ≡ (home (key_of back) a.leaves.items).page - 1 = omega arith in
       let el : b.leaves.items ≡ with_leaf a.leaves.items (result_of a.leaves.items back) =
       set empty_leaf
@@ -118,16 +118,16 @@ module _ (a : Inside) (h : IsFiled a) (now : Filed) (v : view_of a ≡ now) (bac
       to ∙ ap (λ f. undone f (Back back)) v
 
   pub filed_back : (b : Inside) → b.m ≡ a.m → view_of b ≡ undone now (Back back)
-      → ((q : Bytes) → tree.get order b.index q ≡ tree.get order a.index q) → IsFiled b
+      → ((q : Bytes) → tree.get order b.index q ≡ tree.get order a.index q) → IsIndexed b
   filed_back b em to same =
       let all : view_of b ≡ n.before = to ∙ back_one now (Back back) n in
       let x : Leaf = result_of n.before.leaves n.change in
-      let old : a.leaves.items ≡ map (put_in x) n.before.leaves = ap (λ (f : Filed). f.leaves) (v ∙ n.is)
+      let old : a.leaves.items ≡ map (put_in x) n.before.leaves = ap (λ (f : Shown). f.leaves) (v ∙ n.is)
       ∙ applied-whole n.before.m n.before.leaves n.change n.some n.lawful n.op fits in
       filed_new b (subst (λ (k : ℕ). (4 ≤ k) × (k ≤ 32)) (sym em) h.limit)
-      (subst (λ (f : Filed). AreLeaves f.m f.leaves) (sym all) n.lawful)
+      (subst (λ (f : Shown). AreLeaves f.m f.leaves) (sym all) n.lawful)
       (λ q. same q ∙ h.index q
       ∙ ap (λ (ls : List Leaf). find order q (lows_of (drop 1 ls))) old
       ∙ ap (find order q) (lows-put x n.before.leaves (same_lows n.before.m n.before.leaves (key_of n.change) x n.lawful
       (into n.before.m n.before.leaves n.change back n.some n.lawful n.op fits takes)))
-      ∙ ap (λ (f : Filed). find order q (lows_of (drop 1 f.leaves))) (sym all))
+      ∙ ap (λ (f : Shown). find order q (lows_of (drop 1 f.leaves))) (sym all))

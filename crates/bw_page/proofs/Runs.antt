@@ -15,7 +15,7 @@ use Rattle.bw_page.specs.declared.journal.Undo.TheVariants.{Back, Page}
 use Rattle.bw_page.specs.declared.journal.Displaced.{Displaced}
 use Rattle.bw_page.specs.Leaves.{order, home, result_of, applied, pages, HasPage, HasPages, AreLeaves, union, plain}
 use Rattle.bw_page.specs.Seek.{back_of}
-use Rattle.bw_page.specs.Filed.{Filed}
+use Rattle.bw_page.specs.Shown.{Shown}
 use Rattle.bw_page.specs.Batch.{SomeIsSpent}
 use Rattle.bw_page.specs.Journal.{after_record, run, displaced_by, undo_by, undo_of, journal_of, undone, all_undone, Ran, IsJournal, IsNewest}
 use Rattle.bw_page.proofs.Sorted.{all-push}
@@ -28,10 +28,10 @@ use Rattle.bw_page.proofs.TakenBack.{leaves_back}
 pages-push : (m : ℕ) (leaves : List Leaf) (rs : List Record) (r : Record) → pages m leaves (rs ++ r ∷ []) ≡ applied m (pages m leaves rs) r
 pages-push m leaves rs r = fold_push (applied m) leaves rs r
 
-run-push : (f : Filed) (rs : List Record) (r : Record) → run f (rs ++ r ∷ []) ≡ after_record (run f rs) r
-run-push f rs r = ap (λ (ls : List Leaf). let g : Filed = record f { leaves = ls } in g) (pages-push f.m f.leaves rs r)
+run-push : (f : Shown) (rs : List Record) (r : Record) → run f (rs ++ r ∷ []) ≡ after_record (run f rs) r
+run-push f rs r = ap (λ (ls : List Leaf). let g : Shown = record f { leaves = ls } in g) (pages-push f.m f.leaves rs r)
 
-journal-push : (f : Filed) (rs : List Record) (r : Record) → journal_of f (rs ++ r ∷ []) ≡ journal_of f rs ++ undo_of (run f rs) r ∷ []
+journal-push : (f : Shown) (rs : List Record) (r : Record) → journal_of f (rs ++ r ∷ []) ≡ journal_of f rs ++ undo_of (run f rs) r ∷ []
 journal-push f [] r = refl
 journal-push f (x ∷ rs) r = ap (λ us. undo_of f x ∷ us) (journal-push (after_record f x) rs r)
 
@@ -49,7 +49,7 @@ all-front : {X : Type 0} (P : X → Type 0) (xs : List X) (x : X) → All P (xs 
 all-front P [] x h = (tt, h.0)
 all-front P (y ∷ ys) x h = let rest = all-front P ys x h.1 in ((h.0, rest.0), rest.1)
 
-pub ran_more : (start now next : Filed) (rs : List Record) (r : Record) (us : List Undo) (u : Undo) → Ran start rs now us → IsOp r → HasPage now.m now.leaves r
+pub ran_more : (start now next : Shown) (rs : List Record) (r : Record) (us : List Undo) (u : Undo) → Ran start rs now us → IsOp r → HasPage now.m now.leaves r
     → next ≡ after_record now r → u ≡ undo_of now r
     → Ran start (rs ++ r ∷ []) next (us ++ u ∷ [])
 ran_more start now next rs r us u h op room e d = record {
@@ -57,49 +57,49 @@ ran_more start now next rs r us u h op room e d = record {
   here = h.here;
   lawful = h.lawful;
   ops = all-push IsOp rs r h.ops op;
-  room = has-push start.m start.leaves rs r h.room (subst (λ (f : Filed). HasPage f.m f.leaves r) h.is room);
+  room = has-push start.m start.leaves rs r h.room (subst (λ (f : Shown). HasPage f.m f.leaves r) h.is room);
   is = e ∙ ap (λ f. after_record f r) h.is ∙ sym (run-push start rs r);
   displaced = ap (λ xs. xs ++ u ∷ []) h.displaced ∙ ap (λ x. journal_of start rs ++ x ∷ []) (d ∙ ap (λ f. undo_of f r) h.is) ∙ sym (journal-push start rs r);
 }
 
 -- ---- one record back
 
-pub undone_of : (f : Filed) (r : Record) → 1 ≤ f.m → HasPage f.m f.leaves r → AreLeaves f.m f.leaves → IsOp r
+pub undone_of : (f : Shown) (r : Record) → 1 ≤ f.m → HasPage f.m f.leaves r → AreLeaves f.m f.leaves → IsOp r
     → undone (after_record f r) (undo_of f r) ≡ f
 undone_of f r some room a op =
     let old = find order (key_of r) (home (key_of r) f.leaves).pairs in
     let page : undone (after_record f r) (Page (displaced_by f r)) ≡ f =
-    ap (λ (ls : List Leaf). let g : Filed = record f { leaves = ls } in g)
+    ap (λ (ls : List Leaf). let g : Shown = record f { leaves = ls } in g)
     (goes_back f.m f.leaves (key_of r) a (applied f.m f.leaves r) (stepped f.m f.leaves r some room a op)) in
     elim (nat_le (length (result_of f.leaves r).pairs) f.m) as (λ b. nat_le (length (result_of f.leaves r).pairs) f.m ≡ b
     → undone (after_record f r) (if b then undo_by (back_of r old) (displaced_by f r) else Page (displaced_by f r)) ≡ f) [
       | true ↦ λ e. elim (back_of r old) as (λ o. back_of r old ≡ o → undone (after_record f r) (undo_by o (displaced_by f r)) ≡ f) [
-        | Some back ↦ λ is. ap (λ (ls : List Leaf). let g : Filed = record f { leaves = ls } in g)
+        | Some back ↦ λ is. ap (λ (ls : List Leaf). let g : Shown = record f { leaves = ls } in g)
             (leaves_back f.m f.leaves r back some a op (leb-true _ _ e) is)
         | None ↦ λ is. page
       ] refl
       | false ↦ λ e. page
     ] refl
 
-pub back_one : (now : Filed) (u : Undo) → (n : IsNewest now u) → undone now u ≡ n.before
+pub back_one : (now : Shown) (u : Undo) → (n : IsNewest now u) → undone now u ≡ n.before
 back_one now u n =
     ap (λ f. undone f u) n.is
     ∙ ap (undone (after_record n.before n.change)) n.displaced
     ∙ undone_of n.before n.change n.some n.room n.lawful n.op
 
 -- what is kept of a record: one that takes it back, or the displaced leaf
-pub undo_back : (f : Filed) (r back : Record) → length (result_of f.leaves r).pairs ≤ f.m
+pub undo_back : (f : Shown) (r back : Record) → length (result_of f.leaves r).pairs ≤ f.m
     → Some back ≡ back_of r (find order (key_of r) (home (key_of r) f.leaves).pairs) → Back back ≡ undo_of f r
 undo_back f r back fits is =
     let few = le-leb (length (result_of f.leaves r).pairs) f.m fits in
     λ i. if sym few i then undo_by (is i) (displaced_by f r) else Page (displaced_by f r)
 
-pub undo_cut : (f : Filed) (r : Record) (d : Displaced) → d ≡ displaced_by f r → f.m < length (result_of f.leaves r).pairs → Page d ≡ undo_of f r
+pub undo_cut : (f : Shown) (r : Record) (d : Displaced) → d ≡ displaced_by f r → f.m < length (result_of f.leaves r).pairs → Page d ≡ undo_of f r
 undo_cut f r d e over =
     let many = lt-leb (length (result_of f.leaves r).pairs) f.m over in
     λ i. if sym many i then undo_by (back_of r (find order (key_of r) (home (key_of r) f.leaves).pairs)) (displaced_by f r) else Page (e i)
 
-pub undo_lost : (f : Filed) (r : Record) (d : Displaced) → d ≡ displaced_by f r
+pub undo_lost : (f : Shown) (r : Record) (d : Displaced) → d ≡ displaced_by f r
     → None ≡ back_of r (find order (key_of r) (home (key_of r) f.leaves).pairs) → Page d ≡ undo_of f r
 undo_lost f r d e is =
     elim (nat_le (length (result_of f.leaves r).pairs) f.m) as (λ b. Page d ≡ (if b
@@ -109,7 +109,7 @@ undo_lost f r d e is =
     ]
 
 -- what takes a record back, where it is the displaced leaf
-pub page_of : (f : Filed) (r : Record) (d : Displaced) → Page d ≡ undo_of f r → d ≡ displaced_by f r
+pub page_of : (f : Shown) (r : Record) (d : Displaced) → Page d ≡ undo_of f r → d ≡ displaced_by f r
 page_of f r d e =
     let old = find order (key_of r) (home (key_of r) f.leaves).pairs in
     elim (nat_le (length (result_of f.leaves r).pairs) f.m) as
@@ -120,7 +120,7 @@ page_of f r d e =
     ] e
 
 -- where it is a record
-pub back_is : (f : Filed) (r back : Record) → Back back ≡ undo_of f r
+pub back_is : (f : Shown) (r back : Record) → Back back ≡ undo_of f r
     → (length (result_of f.leaves r).pairs ≤ f.m) × (back_of r (find order (key_of r) (home (key_of r) f.leaves).pairs) ≡ Some back)
 back_is f r back e =
     let old = find order (key_of r) (home (key_of r) f.leaves).pairs in
@@ -136,14 +136,14 @@ back_is f r back e =
     ] refl e
 
 -- the newest record of a journal
-pub record Last (f : Filed) (rs : List Record) (us : List Undo) (u : Undo) : Type 0 where
+pub record Last (f : Shown) (rs : List Record) (us : List Undo) (u : Undo) : Type 0 where
   front : List Record
   change : Record
   all : rs ≡ front ++ change ∷ []
   older : us ≡ journal_of f front
   newest : u ≡ undo_of (run f front) change
 
-last-more : (f : Filed) (r : Record) (rs : List Record) (us : List Undo) (v u : Undo) → v ≡ undo_of f r → Last (after_record f r) rs us u
+last-more : (f : Shown) (r : Record) (rs : List Record) (us : List Undo) (v u : Undo) → v ≡ undo_of f r → Last (after_record f r) rs us u
     → Last f (r ∷ rs) (v ∷ us) u
 last-more f r rs us v u e l = record {
   front = r ∷ l.front;
@@ -153,7 +153,7 @@ last-more f r rs us v u e l = record {
   newest = l.newest;
 }
 
-pub last : (f : Filed) (rs : List Record) (us : List Undo) (u : Undo) → us ++ u ∷ [] ≡ journal_of f rs → Last f rs us u
+pub last : (f : Shown) (rs : List Record) (us : List Undo) (u : Undo) → us ++ u ∷ [] ≡ journal_of f rs → Last f rs us u
 last f [] [] u e = absurd (cc)
 last f [] (v ∷ us) u e = absurd (cc)
 last f (r ∷ []) [] u e = record { front = []; change = r; all = refl; older = refl; newest = (let h : u ≡ undo_of f r = cc in h) }
@@ -163,14 +163,14 @@ last f (r ∷ rs) (v ∷ us) u e =
     let tail : us ++ u ∷ [] ≡ journal_of (after_record f r) rs = cc in
     last-more f r rs us v u head (last (after_record f r) rs us u tail)
 
-ran_front : (start : Filed) (rs : List Record) (now : Filed) (us : List Undo) (u : Undo) → Ran start rs now (us ++ u ∷ []) → (l : Last start rs us u)
+ran_front : (start : Shown) (rs : List Record) (now : Shown) (us : List Undo) (u : Undo) → Ran start rs now (us ++ u ∷ []) → (l : Last start rs us u)
     → Ran start l.front (run start l.front) us
 ran_front start rs now us u h l =
     let ops = all-front IsOp l.front l.change (subst (All IsOp) l.all h.ops) in
     let room = has-front start.m start.leaves l.front l.change (subst (HasPages start.m start.leaves) l.all h.room) in
     record { some = h.some; here = h.here; lawful = h.lawful; ops = ops.0; room = room.0; is = refl; displaced = l.older }
 
-pub newest_is : (start : Filed) (rs : List Record) (now : Filed) (us : List Undo) (u : Undo) → Ran start rs now (us ++ u ∷ [])
+pub newest_is : (start : Shown) (rs : List Record) (now : Shown) (us : List Undo) (u : Undo) → Ran start rs now (us ++ u ∷ [])
     → (l : Last start rs us u) → IsNewest now u
 newest_is start rs now us u h l =
     let ops = all-front IsOp l.front l.change (subst (All IsOp) l.all h.ops) in
@@ -188,18 +188,18 @@ newest_is start rs now us u h l =
     }
 
 -- a journal without its newest record, over the leaves without it
-pub step_back : (now : Filed) (us : List Undo) (u : Undo) → IsJournal now (us ++ u ∷ []) → IsNewest now u × IsJournal (undone now u) us
+pub step_back : (now : Shown) (us : List Undo) (u : Undo) → IsJournal now (us ++ u ∷ []) → IsNewest now u × IsJournal (undone now u) us
 unfolding newest_is
 step_back now us u j =
     let l = last j.0 j.1 us u j.2.displaced in
     let n = newest_is j.0 j.1 now us u j.2 l in
-    (n, (j.0, l.front, subst (λ (f : Filed). Ran j.0 l.front f us) (sym (back_one now u n)) (ran_front j.0 j.1 now us u j.2 l)))
+    (n, (j.0, l.front, subst (λ (f : Shown). Ran j.0 l.front f us) (sym (back_one now u n)) (ran_front j.0 j.1 now us u j.2 l)))
 
-pub all_undone-push : (f : Filed) (us : List Undo) (u : Undo) → all_undone f (us ++ u ∷ []) ≡ all_undone (undone f u) us
+pub all_undone-push : (f : Shown) (us : List Undo) (u : Undo) → all_undone f (us ++ u ∷ []) ≡ all_undone (undone f u) us
 all_undone-push f [] u = refl
 all_undone-push f (v ∷ us) u = ap (λ x. undone x v) (all_undone-push f us u)
 
-all_back_by : (start : Filed) (rs : List Record) → 1 ≤ start.m → start.away ≡ [] → AreLeaves start.m start.leaves → All IsOp rs
+all_back_by : (start : Shown) (rs : List Record) → 1 ≤ start.m → start.away ≡ [] → AreLeaves start.m start.leaves → All IsOp rs
     → HasPages start.m start.leaves rs → all_undone (run start rs) (journal_of start rs) ≡ start
 all_back_by start [] some here a ops room = refl
 all_back_by start (r ∷ rs) some here a ops room =
@@ -209,12 +209,12 @@ all_back_by start (r ∷ rs) some here a ops room =
     (record { before = start; change = r; some = some; here = here; lawful = a; op = ops.0; room = room.0; is = refl; displaced = refl })
 
 -- all records taken back
-pub all_back : (start : Filed) (rs : List Record) (now : Filed) (us : List Undo) → Ran start rs now us → all_undone now us ≡ start
+pub all_back : (start : Shown) (rs : List Record) (now : Shown) (us : List Undo) → Ran start rs now us → all_undone now us ≡ start
 all_back start rs now us h =
     (λ i. all_undone (h.is i) (h.displaced i)) ∙ all_back_by start rs h.some h.here h.lawful h.ops h.room
 
-pub run-plain : (start : Filed) (rs : List Record) (now : Filed) (us : List Undo) → Ran start rs now us → union now.leaves ≡ plain start.leaves rs
-run-plain start rs now us h = ap (λ (f : Filed). union f.leaves) h.is ∙ (pages-plain start.m start.leaves rs h.some h.room h.lawful h.ops).1
+pub run-plain : (start : Shown) (rs : List Record) (now : Shown) (us : List Undo) → Ran start rs now us → union now.leaves ≡ plain start.leaves rs
+run-plain start rs now us h = ap (λ (f : Shown). union f.leaves) h.is ∙ (pages-plain start.m start.leaves rs h.some h.room h.lawful h.ops).1
 
 has_at : (m : ℕ) (leaves : List Leaf) (rs : List Record) (k : ℕ) (r : Record) → HasPages m leaves rs → slice_get rs k ≡ Some r
     → HasPage m (pages m leaves (take k rs)) r
@@ -223,7 +223,7 @@ has_at m leaves (x ∷ rs) zero r h e = let same : x ≡ r = cc in subst (HasPag
 has_at m leaves (x ∷ rs) (suc k) r h e = has_at m (applied m leaves x) rs k r h.1 e
 
 -- no page number was wanting for records that were applied
-pub none_spent : (start : Filed) (rs : List Record) (now : Filed) (us : List Undo) → Ran start rs now us → SomeIsSpent start rs → ⊥
+pub none_spent : (start : Shown) (rs : List Record) (now : Shown) (us : List Undo) → Ran start rs now us → SomeIsSpent start rs → ⊥
 none_spent start rs now us h s =
     let fits = has_at start.m start.leaves rs s.0 s.1 h.room s.2 s.3.0 in
     let full = s.3.1 in

@@ -5,12 +5,12 @@ use Rattle.bw_codec.specs.Grammar.{IsOp}
 use Rattle.bw_codec.specs.Record.{key_of}
 use Rattle.bw_codec.specs.declared.record.Record.{Record}
 use Rattle.bw_page.specs.Leaves.{home, result_of}
-use Rattle.bw_page.specs.Filed.{Filed, IsHere}
+use Rattle.bw_page.specs.Shown.{Shown, IsHere}
 use Rattle.bw_page.specs.Seek.{seek_of, IsWithin}
 
 -- the leaf that a record changes is in memory, at this index; it would have so many pairs, and the search for the
 -- record's key ended so in it
-pub record IsAim (f : Filed) (r : Record) (at count : ℕ) (found : Result ℕ ℕ) : Type 0 where
+pub record IsAim (f : Shown) (r : Record) (at count : ℕ) (found : Result ℕ ℕ) : Type 0 where
   pub here : IsHere (key_of r) f
   pub page : at + 1 ≡ (home (key_of r) f.leaves).page
   pub within : at < length f.leaves

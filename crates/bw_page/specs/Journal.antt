@@ -11,11 +11,11 @@ use Rattle.bw_page.specs.declared.journal.Undo.TheVariants.{Back, Page}
 use Rattle.bw_page.specs.declared.journal.Displaced.{Displaced}
 use Rattle.bw_page.specs.Leaves.{order, home, result_of, with_leaf, HasPage, HasPages, AreLeaves}
 use Rattle.bw_page.specs.Seek.{back_of}
-use Rattle.bw_page.specs.Filed.{Filed}
-pub use Rattle.bw_page.specs.Filed.{after_record, run}
+use Rattle.bw_page.specs.Shown.{Shown}
+pub use Rattle.bw_page.specs.Shown.{after_record, run}
 
 -- the leaf that a record displaces, and how many pages there were
-abbrev pub displaced_by : Filed → Record → Displaced
+abbrev pub displaced_by : Shown → Record → Displaced
 displaced_by f r = record { leaf = home (key_of r) f.leaves; pages = length f.leaves }
 
 abbrev pub undo_by : Option Record → Displaced → Undo
@@ -23,29 +23,29 @@ undo_by (Some back) d = Back back
 undo_by None d = Page d
 
 -- what takes a record back: a record that adds no pair, if there is one and the page is not cut; else the displaced leaf
-abbrev pub undo_of : Filed → Record → Undo
+abbrev pub undo_of : Shown → Record → Undo
 undo_of f r =
     if nat_le (length (result_of f.leaves r).pairs) f.m
     then undo_by (back_of r (find order (key_of r) (home (key_of r) f.leaves).pairs)) (displaced_by f r)
     else Page (displaced_by f r)
 
-abbrev pub journal_of : Filed → List Record → List Undo
+abbrev pub journal_of : Shown → List Record → List Undo
 journal_of f [] = []
 journal_of f (r ∷ rs) = undo_of f r ∷ journal_of (after_record f r) rs
 
 -- a record's leaf changed once more; or a displaced leaf in its place again, and the page behind all others gone that
 -- was not there
-abbrev pub undone : Filed → Undo → Filed
+abbrev pub undone : Shown → Undo → Shown
 undone f (Back back) = record f { leaves = with_leaf f.leaves (result_of f.leaves back) }
 undone f (Page d) = record f { leaves = with_leaf (take d.pages f.leaves) d.leaf }
 
 -- the newest first
-abbrev pub all_undone : Filed → List Undo → Filed
+abbrev pub all_undone : Shown → List Undo → Shown
 all_undone f [] = f
 all_undone f (u ∷ us) = undone (all_undone f us) u
 
 -- leaves after records, with what these displaced
-pub record Ran (start : Filed) (records : List Record) (now : Filed) (journal : List Undo) : Type 0 where
+pub record Ran (start : Shown) (records : List Record) (now : Shown) (journal : List Undo) : Type 0 where
   pub some : 1 ≤ start.m
   pub here : start.away ≡ []
   pub lawful : AreLeaves start.m start.leaves
@@ -55,12 +55,12 @@ pub record Ran (start : Filed) (records : List Record) (now : Filed) (journal : 
   pub displaced : journal ≡ journal_of start records
 
 -- a journal of records that were applied
-abbrev pub IsJournal : Filed → List Undo → Type 0
-IsJournal now journal = (start : Filed) × (records : List Record) × Ran start records now journal
+abbrev pub IsJournal : Shown → List Undo → Type 0
+IsJournal now journal = (start : Shown) × (records : List Record) × Ran start records now journal
 
 -- what the newest record displaced
-pub record IsNewest (now : Filed) (undo : Undo) : Type 0 where
-  pub before : Filed
+pub record IsNewest (now : Shown) (undo : Undo) : Type 0 where
+  pub before : Shown
   pub change : Record
   pub some : 1 ≤ before.m
   pub here : before.away ≡ []

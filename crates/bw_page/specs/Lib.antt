@@ -1,7 +1,7 @@
 -- what callers see, in reading order
 
 pub mod Leaves
-pub mod Filed
+pub mod Shown
 pub mod Batch
 pub mod Standing
 pub mod Links
@@ -10,7 +10,7 @@ pub mod Laws
 pub mod FirstPath
 -- what private functions say, and how values stand in memory
 
-pub mod Paged
+pub mod Index
 pub mod Linked
 pub mod Marks
 pub mod Seats

@@ -10,7 +10,7 @@ ghost use Rattle.std.specs.FinMap.Entries.{find};
 ghost use Rattle.bw_codec.specs.Bytes.{ascends};
 ghost use Rattle.bw_codec.specs.Record.{key_of};
 ghost use Rattle.bw_page.specs.Leaves.{order, empty_leaf, home, leaf_at, AreLeaves, changed_map, union};
-ghost use Rattle.bw_page.specs.Filed.{TakesKey, IsSpent, after_record, is_away, leaf_here, IsHere, applied_by};
+ghost use Rattle.bw_page.specs.Shown.{TakesKey, IsSpent, after_record, is_away, leaf_here, IsHere, applied_by};
 ghost use Rattle.bw_page.specs.Aim.{IsAim};
 
 mod batch;
@@ -18,7 +18,7 @@ mod batch;
 use crate::changes::{count_found, empty_page, find_key};
 use crate::cutting::cut_at;
 use crate::fault::ApplyError;
-use crate::filing::{copy_all, index_of};
+use crate::index::{copy_all, index_of};
 use crate::seats::Seats;
 use bw_codec::{Key, Leaf, Record, Value};
 use std::alloc::{AllocError, Global};
@@ -37,15 +37,15 @@ pub struct Leaves {
 }
 
 impl Model for Leaves {
-    ghost use Rattle.bw_page.specs.Filed.{Filed};
+    ghost use Rattle.bw_page.specs.Shown.{Shown};
 
-    ghost Value = { Filed };
+    ghost Value = { Shown };
 
-    ghost use Rattle.bw_page.specs.Paged.{view_of, IsFiled};
+    ghost use Rattle.bw_page.specs.Index.{view_of, IsIndexed};
 
     ghost view = { view_of };
 
-    ghost invariant = { IsFiled };
+    ghost invariant = { IsIndexed };
 }
 
 /// What a record did to the pages.

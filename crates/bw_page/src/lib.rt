@@ -12,7 +12,7 @@ mod chain;
 mod changes;
 mod cutting;
 mod fault;
-mod filing;
+mod index;
 mod journal;
 mod laws;
 mod leaves;

@@ -14,9 +14,9 @@ use Rattle.bw_log.specs.Segments.{next_of}
 use Rattle.bw_log.specs.Contents.{Contents, IsSound, counted}
 use Rattle.bw_device.specs.Holding.{Holding}
 use Rattle.bw_buffer.specs.Filling.{Filling, frame_of}
-use Rattle.bw_log.specs.Calls.{fresh}
-use Rattle.bw_log.specs.Steps.{MayFollow, Appended, IsSameLog}
-use Rattle.log_tests.specs.Examples.{first_blocks, first_example, second_blocks, second_example, first_leaf, second_leaf}
+use Rattle.bw_log.specs.Limits.{fresh}
+use Rattle.bw_log.specs.Appends.{MayFollow, Appended, IsSameLog}
+use Rattle.log_tests.specs.Examples.{first_blocks, first_example, second_blocks, split_frame_2, first_leaf, second_leaf}
 
 pub first_lawful : (m : ℕ) → 1 ≤ m → AllByRecursion (IsBlock m) first_blocks
 first_lawful m some = (
@@ -50,7 +50,7 @@ first_frame_lawful = record {
   blocks = first_lawful 4 (lit≤ tt);
 }
 
-pub second_frame_lawful : IsFrame 4 16384 second_example
+pub second_frame_lawful : IsFrame 4 16384 split_frame_2
 unfolding number_bytes
 second_frame_lawful = record { head = record { numbered = (lit≤ tt, lit< tt); fits = (lit≤ tt, lit≤ tt); some = (lit≤ tt, lit< tt) }; blocks = second_lawful 4 }
 
@@ -74,7 +74,7 @@ first_stands = record {
   all = λ p h. (not_one p h, (not_one p h, tt));
 }
 
-second_stands : Stand 4 (first_example ∷ second_example ∷ []) (second_leaf ∷ [])
+second_stands : Stand 4 (first_example ∷ split_frame_2 ∷ []) (second_leaf ∷ [])
 second_stands = record {
   some = omega arith;
   lawful = record {
@@ -93,7 +93,7 @@ second_stands = record {
     );
     homes = ((refl, (refl, tt)), tt);
   };
-  each = λ p l h. subst (λ n. content n (blocks_of (first_example ∷ second_example ∷ [])) ≡ leaf_at n (second_leaf ∷ [])) (sym (only_one p l h)) refl;
+  each = λ p l h. subst (λ n. content n (blocks_of (first_example ∷ split_frame_2 ∷ [])) ≡ leaf_at n (second_leaf ∷ [])) (sym (only_one p l h)) refl;
   all = λ p h. (not_one p h, (not_one p h, (not_one p h, tt)));
 }
 
@@ -113,8 +113,8 @@ follows_of c all x leaves sound counts m f next lawful links stands =
 pub first_follows : (c : Contents) → IsSound c → counted c ≡ [] → c.m ≡ 4 → c.f ≡ 16384 → MayFollow c first_example
 first_follows c sound counts m f = follows_of c [] first_example (first_leaf ∷ []) sound counts m f refl first_frame_lawful refl first_stands
 
-pub second_follows : (c : Contents) → IsSound c → counted c ≡ first_example ∷ [] → c.m ≡ 4 → c.f ≡ 16384 → MayFollow c second_example
-second_follows c sound counts m f = follows_of c (first_example ∷ []) second_example (second_leaf ∷ []) sound counts m f refl second_frame_lawful
+pub second_follows : (c : Contents) → IsSound c → counted c ≡ first_example ∷ [] → c.m ≡ 4 → c.f ≡ 16384 → MayFollow c split_frame_2
+second_follows c sound counts m f = follows_of c (first_example ∷ []) split_frame_2 (second_leaf ∷ []) sound counts m f refl second_frame_lawful
     refl second_stands
 
 -- ---- as the tests find a log

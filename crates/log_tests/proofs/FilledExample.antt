@@ -13,7 +13,7 @@ use Rattle.bw_codec.specs.declared.block.Frame.{Frame}
 use Rattle.bw_page.specs.Leaves.{leaf_at}
 use Rattle.bw_page.specs.Standing.{content, blocks_of, Stand}
 use Rattle.bw_log.specs.Contents.{Contents}
-use Rattle.bw_log.specs.Steps.{MayFollow}
+use Rattle.bw_log.specs.Appends.{MayFollow}
 use Rattle.log_tests.specs.Examples.{long_put, last_put, filling_blocks, filling_example, filling_leaf}
 use Rattle.log_tests.proofs.Exampled.{only_one, not_one, follows_of, Counts}
 use Rattle.log_tests.proofs.SplitExample.{follows_as}

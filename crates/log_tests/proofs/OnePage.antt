@@ -19,11 +19,12 @@ use Rattle.bw_page.proofs.Law.{applied-lawful, applied-whole}
 use Rattle.bw_buffer.specs.Filling.{Filling, frame_of}
 use Rattle.bw_buffer.proofs.Holding.{few_blocks}
 use Rattle.bw_codec.specs.Bytes.{number_bytes}
-use Rattle.bw_log.specs.Calls.{fresh}
+use Rattle.bw_log.specs.Limits.{fresh}
 use Rattle.bw_log.specs.Places.{all_placed, place_of, base_of, fault_of, bad_link, first_number, AreLinked}
 use Rattle.bw_log.specs.Contents.{Contents, Image, counted, IsSound}
-use Rattle.bw_log.specs.Steps.{MayFollow, AfterAppend}
-use Rattle.bw_log.specs.Calls.{IsKept, IsPage, IsAfter, NoBaseBefore, IsBaseAfter, last_number}
+use Rattle.bw_log.specs.Appends.{MayFollow, AfterAppend}
+use Rattle.bw_log.specs.Reads.{IsKept, IsPage}
+use Rattle.bw_log.specs.Oldest.{IsAfter, NoBaseBefore, IsBaseAfter, last_number}
 use Rattle.bw_log.specs.declared.fault.LogFault.{LogFault}
 use Rattle.bw_log.specs.declared.fault.LogFault.TheVariants.{NoMemory, BadConfig, NoSegment, Device, Failed, Spent, NoPage}
 use Rattle.bw_log.proofs.Entries.{all_append}

@@ -9,11 +9,11 @@ use Rattle.bw_codec.specs.declared.block.Frame.{Frame}
 use Rattle.bw_page.specs.Leaves.{leaf_at}
 use Rattle.bw_page.specs.Standing.{content, blocks_of, Stand}
 use Rattle.bw_log.specs.Contents.{Contents, IsSound}
-use Rattle.bw_log.specs.Steps.{MayFollow, Appended, IsSameLog}
-use Rattle.log_tests.specs.Examples.{second_example, opening_example, third_example, fourth_example, fifth_example, leaf_with, split_upper}
+use Rattle.bw_log.specs.Appends.{MayFollow, Appended, IsSameLog}
+use Rattle.log_tests.specs.Examples.{split_frame_2, split_frame_1, split_frame_3, split_frame_4, split_frame_5, leaf_with, split_upper}
 use Rattle.log_tests.proofs.Exampled.{only_one, not_one, follows_of, Counts, more_counts, second_frame_lawful}
 
-opening_lawful : IsFrame 4 16384 opening_example
+opening_lawful : IsFrame 4 16384 split_frame_1
 unfolding number_bytes
 opening_lawful = record {
   head = record { numbered = (lit≤ tt, lit< tt); fits = (lit≤ tt, lit≤ tt); some = (lit≤ tt, lit< tt) };
@@ -31,7 +31,7 @@ opening_lawful = record {
   );
 }
 
-third_lawful : IsFrame 4 16384 third_example
+third_lawful : IsFrame 4 16384 split_frame_3
 unfolding number_bytes
 third_lawful = record {
   head = record { numbered = (lit≤ tt, lit< tt); fits = (lit≤ tt, lit≤ tt); some = (lit≤ tt, lit< tt) };
@@ -46,7 +46,7 @@ third_lawful = record {
   );
 }
 
-fourth_lawful : IsFrame 4 16384 fourth_example
+fourth_lawful : IsFrame 4 16384 split_frame_4
 unfolding number_bytes
 fourth_lawful = record {
   head = record { numbered = (lit≤ tt, lit< tt); fits = (lit≤ tt, lit≤ tt); some = (lit≤ tt, lit< tt) };
@@ -61,7 +61,7 @@ fourth_lawful = record {
   );
 }
 
-fifth_lawful : IsFrame 4 16384 fifth_example
+fifth_lawful : IsFrame 4 16384 split_frame_5
 unfolding number_bytes
 fifth_lawful = record {
   head = record { numbered = (lit≤ tt, lit< tt); fits = (lit≤ tt, lit≤ tt); some = (lit≤ tt, lit< tt) };
@@ -93,19 +93,19 @@ fifth_lawful = record {
 }
 
 abbrev one_frame : List Frame
-one_frame = opening_example ∷ []
+one_frame = split_frame_1 ∷ []
 
 abbrev two_frames : List Frame
-two_frames = opening_example ∷ second_example ∷ []
+two_frames = split_frame_1 ∷ split_frame_2 ∷ []
 
 abbrev three_frames : List Frame
-three_frames = opening_example ∷ second_example ∷ third_example ∷ []
+three_frames = split_frame_1 ∷ split_frame_2 ∷ split_frame_3 ∷ []
 
 abbrev four_frames : List Frame
-four_frames = opening_example ∷ second_example ∷ third_example ∷ fourth_example ∷ []
+four_frames = split_frame_1 ∷ split_frame_2 ∷ split_frame_3 ∷ split_frame_4 ∷ []
 
 abbrev five_frames : List Frame
-five_frames = opening_example ∷ second_example ∷ third_example ∷ fourth_example ∷ fifth_example ∷ []
+five_frames = split_frame_1 ∷ split_frame_2 ∷ split_frame_3 ∷ split_frame_4 ∷ split_frame_5 ∷ []
 
 abbrev one_leaf : Leaf
 one_leaf = leaf_with ((97 ∷ [], 49 ∷ []) ∷ [])
@@ -257,22 +257,22 @@ counts_as old new all x y is counts sound added same = subst (λ (f : Frame). Co
 pub follows_as : (c : Contents) (x y : Frame) → x ≡ y → MayFollow c y → MayFollow c x
 follows_as c x y is follows = subst (λ (f : Frame). MayFollow c f) (sym is) follows
 
-pub opening_on : (c : Contents) (x : Frame) → x ≡ opening_example → Counts c [] → MayFollow c x
-opening_on c x is k = follows_as c x opening_example is
-    (follows_of c [] opening_example (one_leaf ∷ []) k.sound k.frames k.m k.f refl opening_lawful refl one_stands)
+pub opening_on : (c : Contents) (x : Frame) → x ≡ split_frame_1 → Counts c [] → MayFollow c x
+opening_on c x is k = follows_as c x split_frame_1 is
+    (follows_of c [] split_frame_1 (one_leaf ∷ []) k.sound k.frames k.m k.f refl opening_lawful refl one_stands)
 
-pub then_second : (c : Contents) (x : Frame) → x ≡ second_example → Counts c one_frame → MayFollow c x
-then_second c x is k = follows_as c x second_example is
-    (follows_of c one_frame second_example (two_leaf ∷ []) k.sound k.frames k.m k.f refl second_frame_lawful refl two_stand)
+pub then_second : (c : Contents) (x : Frame) → x ≡ split_frame_2 → Counts c one_frame → MayFollow c x
+then_second c x is k = follows_as c x split_frame_2 is
+    (follows_of c one_frame split_frame_2 (two_leaf ∷ []) k.sound k.frames k.m k.f refl second_frame_lawful refl two_stand)
 
-pub then_third : (c : Contents) (x : Frame) → x ≡ third_example → Counts c two_frames → MayFollow c x
-then_third c x is k = follows_as c x third_example is
-    (follows_of c two_frames third_example (three_leaf ∷ []) k.sound k.frames k.m k.f refl third_lawful refl three_stand)
+pub then_third : (c : Contents) (x : Frame) → x ≡ split_frame_3 → Counts c two_frames → MayFollow c x
+then_third c x is k = follows_as c x split_frame_3 is
+    (follows_of c two_frames split_frame_3 (three_leaf ∷ []) k.sound k.frames k.m k.f refl third_lawful refl three_stand)
 
-pub then_fourth : (c : Contents) (x : Frame) → x ≡ fourth_example → Counts c three_frames → MayFollow c x
-then_fourth c x is k = follows_as c x fourth_example is
-    (follows_of c three_frames fourth_example (four_leaf ∷ []) k.sound k.frames k.m k.f refl fourth_lawful refl four_stand)
+pub then_fourth : (c : Contents) (x : Frame) → x ≡ split_frame_4 → Counts c three_frames → MayFollow c x
+then_fourth c x is k = follows_as c x split_frame_4 is
+    (follows_of c three_frames split_frame_4 (four_leaf ∷ []) k.sound k.frames k.m k.f refl fourth_lawful refl four_stand)
 
-pub then_fifth : (c : Contents) (x : Frame) → x ≡ fifth_example → Counts c four_frames → MayFollow c x
-then_fifth c x is k = follows_as c x fifth_example is
-    (follows_of c four_frames fifth_example two_leaves k.sound k.frames k.m k.f refl fifth_lawful refl five_stand)
+pub then_fifth : (c : Contents) (x : Frame) → x ≡ split_frame_5 → Counts c four_frames → MayFollow c x
+then_fifth c x is k = follows_as c x split_frame_5 is
+    (follows_of c four_frames split_frame_5 two_leaves k.sound k.frames k.m k.f refl fifth_lawful refl five_stand)

@@ -11,8 +11,8 @@ use Rattle.bw_device.specs.Holding.{Holding}
 use Rattle.bw_log.specs.Places.{place_of, base_of, bad_link, all_placed, first_number, AreLinked}
 use Rattle.bw_log.specs.Segments.{segment_frames, frames_at, frames_of, next_of}
 use Rattle.bw_log.specs.Contents.{Image, roster, counted_in, counted_at}
-use Rattle.bw_log.specs.Calls.{fresh}
-use Rattle.log_tests.specs.Examples.{first_example, opening_example, second_example, third_example, fourth_example, fifth_example, after_first_example}
+use Rattle.bw_log.specs.Limits.{fresh}
+use Rattle.log_tests.specs.Examples.{first_example, split_frame_1, split_frame_2, split_frame_3, split_frame_4, split_frame_5, after_first_example}
 use Rattle.log_tests.specs.Examples.{after_second_example, rewritten_example}
 
 -- one segment: frame 1 sets page 1, and then gives it k=v
@@ -106,7 +106,7 @@ wrong_link = refl
 
 -- page 1 is split in two by the second block of frame 5
 abbrev split_frames : List Frame
-split_frames = opening_example ∷ second_example ∷ third_example ∷ fourth_example ∷ fifth_example ∷ []
+split_frames = split_frame_1 ∷ split_frame_2 ∷ split_frame_3 ∷ split_frame_4 ∷ split_frame_5 ∷ []
 
 lower_places : (place_of 1 split_frames ≡ Some (record { frame = 5; index = 1 })) × (base_of 1 split_frames ≡ Some (record { frame = 1; index = 0 }))
 lower_places = (refl, refl)

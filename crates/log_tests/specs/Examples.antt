@@ -19,8 +19,8 @@ first_example = record { number = 1; blocks = first_blocks }
 abbrev pub second_blocks : List Block
 second_blocks = Delta 1 (record { frame = 1; index = 1 }) (Put (98 ∷ []) (50 ∷ []) ∷ []) ∷ []
 
-abbrev pub second_example : Frame
-second_example = record { number = 2; blocks = second_blocks }
+abbrev pub split_frame_2 : Frame
+split_frame_2 = record { number = 2; blocks = second_blocks }
 
 -- page 1 after each
 abbrev pub first_leaf : Leaf
@@ -50,17 +50,17 @@ fourth_blocks = put_block 3 0 100 52 ∷ []
 abbrev pub fifth_blocks : List Block
 fifth_blocks = put_block 4 0 101 53 ∷ Split 1 (record { frame = 5; index = 0 }) split_upper ∷ []
 
-abbrev pub opening_example : Frame
-opening_example = record { number = 1; blocks = opening_blocks }
+abbrev pub split_frame_1 : Frame
+split_frame_1 = record { number = 1; blocks = opening_blocks }
 
-abbrev pub third_example : Frame
-third_example = record { number = 3; blocks = third_blocks }
+abbrev pub split_frame_3 : Frame
+split_frame_3 = record { number = 3; blocks = third_blocks }
 
-abbrev pub fourth_example : Frame
-fourth_example = record { number = 4; blocks = fourth_blocks }
+abbrev pub split_frame_4 : Frame
+split_frame_4 = record { number = 4; blocks = fourth_blocks }
 
-abbrev pub fifth_example : Frame
-fifth_example = record { number = 5; blocks = fifth_blocks }
+abbrev pub split_frame_5 : Frame
+split_frame_5 = record { number = 5; blocks = fifth_blocks }
 
 -- page 1 with these pairs
 abbrev pub leaf_with : List (List ℕ × List ℕ) → Leaf

@@ -1,4 +1,4 @@
 -- What the tests append and find.
-pub mod Seen
+pub mod Views
 pub mod OnePage
 pub mod Examples

@@ -1,8 +1,8 @@
 //! Cleanings of logs that were recovered from worked segments.
 
 ghost use Rattle.std.specs.Prelude.{OnOk};
-ghost use Rattle.bw_care.specs.Seen.{IsSound};
-ghost use Rattle.bw_log.specs.Seen.{IsSound as IsSoundBeside};
+ghost use Rattle.bw_care.specs.Views.{IsSound};
+ghost use Rattle.bw_log.specs.Views.{IsSound as IsSoundBeside};
 
 use super::boxes::{Piece, add_all, add_box, bytes_of, is_shown};
 use super::vectors::{BEHIND_SECOND, SECOND, THIRD_LOST, THIRD_NEWER, THIRD_OLDER};

@@ -1,6 +1,6 @@
 //! What recovery says of worked boxes.
 
-ghost use Rattle.bw_care.specs.Seen.{IsSound};
+ghost use Rattle.bw_care.specs.Views.{IsSound};
 
 use super::boxes::{Piece, add_all, add_box, are_shown, bytes_of};
 use super::vectors::{FIRST, GREATEST, SECOND, THIRD_NEWER, THIRD_OLDER};

@@ -1,6 +1,6 @@
 // What stands behind an append that failed, whatever beginning of its piece the box kept.
 
-ghost use Rattle.log_tests.specs.Seen.{IsSound};
+ghost use Rattle.log_tests.specs.Views.{IsSound};
 
 use super::{first, fused, has, second};
 use bw_device::Segment;

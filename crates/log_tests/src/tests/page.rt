@@ -2,9 +2,9 @@
 
 ghost use Rattle.std.specs.Prelude.{◌≡◌, ◌≤◌, ◌∷◌, [], true, IfOk, IfSome, OnOk};
 ghost use Rattle.bw_buffer.specs.Filling.{frame_of};
-ghost use Rattle.bw_log.specs.Steps.{MayFollow, AfterAppend};
-ghost use Rattle.bw_log.specs.Seen.{seen_by};
-ghost use Rattle.log_tests.specs.Seen.{seen, IsSound};
+ghost use Rattle.bw_log.specs.Appends.{MayFollow, AfterAppend};
+ghost use Rattle.bw_log.specs.Views.{seen_by};
+ghost use Rattle.log_tests.specs.Views.{seen, IsSound};
 ghost use Rattle.log_tests.specs.OnePage.{HoldsOne, first_of, put_after, put_of};
 
 use super::sealed;

@@ -1,7 +1,7 @@
 // The vector of a page that is split in two, appended by buffers.
 
 ghost use Rattle.std.specs.Prelude.{◌≡◌, true, IfOk};
-ghost use Rattle.log_tests.specs.Seen.{IsSound};
+ghost use Rattle.log_tests.specs.Views.{IsSound};
 ghost use Rattle.log_tests.specs.Examples.{opening_blocks, third_blocks, fourth_blocks, fifth_blocks};
 
 use super::{delta, fill, has, sealed, second};

@@ -1,8 +1,8 @@
 // The walker: steps on a log of one page, each with what it has to answer.
 
 ghost use Rattle.std.specs.Prelude.{OnOk, IfSome};
-ghost use Rattle.bw_log.specs.Seen.{seen_by};
-ghost use Rattle.log_tests.specs.Seen.{seen};
+ghost use Rattle.bw_log.specs.Views.{seen_by};
+ghost use Rattle.log_tests.specs.Views.{seen};
 ghost use Rattle.log_tests.specs.OnePage.{HoldsOne};
 
 use super::page::{give_up, put, rewrite, start};

@@ -1,6 +1,6 @@
 use Rattle.std.proofs.Common.{◌≡◌, ◌≤◌, ◌-◌, length, take, drop}
 use Rattle.bw_care.specs.Moving.{Moved}
-use Rattle.bw_care.specs.Seen.{seen, IsSound}
+use Rattle.bw_care.specs.Views.{seen, IsSound}
 use Rattle.bw_care.proofs.moving.move_pages.Given as goal
 
 abbrev pub invariant-loop-at : goal.invariant-loop-at

@@ -1,7 +1,7 @@
 use Rattle.std.proofs.Common.{◌≡◌, ◌≤◌, ◌∙◌, refl, sym, ap, length, arith}
 use Rattle.std.proofs.lemmas.Result.{err_from_is_err_and}
 use Rattle.bw_buffer.specs.Filling.{frame_of}
-use Rattle.bw_care.specs.Seen.{seen}
+use Rattle.bw_care.specs.Views.{seen}
 use Rattle.bw_care.proofs.Bases.{next_range}
 use Rattle.bw_care.proofs.Joins.{fill_refused, append_refused, sends_of, short_enough, follows_sent, moved_sent, other_fault, full_sent}
 use Rattle.bw_care.proofs.moving.move_some.Goals as goal
@@ -29,7 +29,8 @@ returns-in_err-append_care-clause-refused g c =
     let s = sends_of _ c.in_ok-buffer.buffer c.fill.new.buffer c.seal.new.self c.args.pages.now c.in_ok-count.count c.in-Some.number c.limit.result
     c.in_ok-buffer.ensures c.limit.ensures filled.2 filled.3 c.seal.ensures in
     rw (p.1, p.2) (append_refused _ _ (frame_of c.seal.new.self) _ _ c.in_err-append_care.field-0.0 s.holds c.in_ok-count.ensures.stops c.requires.works
-    (short_enough s c.bytes.ensures.fits) c.in_err-append_care.ensures.leaves.answers c.in_err-append_care.ensures.leaves.device c.in_err-append_care.ensures.leaves.log)
+    (short_enough s c.bytes.ensures.fits) c.in_err-append_care.ensures.leaves.answers c.in_err-append_care.ensures.leaves.device
+        c.in_err-append_care.ensures.leaves.log)
 
 pub returns-clause-moved : goal.returns-clause-moved
 returns-clause-moved g c =

@@ -1,7 +1,7 @@
 use Rattle.std.proofs.Common.{◌≡◌, ◌+◌, ◌-◌, ◌++◌, length}
 use Rattle.bw_log.specs.Contents.{counted}
 use Rattle.bw_care.specs.Cleaning.{old_from}
-use Rattle.bw_care.specs.Seen.{seen}
+use Rattle.bw_care.specs.Views.{seen}
 use Rattle.bw_care.proofs.moving.old_pages.Given as goal
 
 abbrev pub invariant-loop-index : goal.invariant-loop-index

@@ -1,6 +1,6 @@
 use Rattle.std.proofs.Common.{◌≡◌, ◌+◌, ◌++◌, replicate, vec_len}
 use Rattle.std.specs.Vec.{vec_capacity}
-use Rattle.bw_log.specs.Noting.{empty_line}
+use Rattle.bw_log.specs.PageTable.{empty_line}
 use Rattle.bw_log.proofs.noting.grow.Given as goal
 
 abbrev pub invariant-loop-i : goal.invariant-loop-i

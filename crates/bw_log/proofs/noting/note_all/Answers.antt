@@ -1,5 +1,5 @@
 use Rattle.std.proofs.Common.{◌≡◌, ◌<◌, ◌+◌, ◌∙◌, sym, ap, subst, length, drop, List, arith}
-use Rattle.bw_log.specs.Noting.{noted_all, HaveLines}
+use Rattle.bw_log.specs.PageTable.{noted_all, HaveLines}
 use Rattle.bw_log.specs.declared.places.PageAt.{PageAt}
 use Rattle.bw_log.proofs.Noted.{block_here, noting_goes_on, lines_go_on, length-noted}
 use Rattle.bw_log.proofs.noting.note_all.Goals as goal

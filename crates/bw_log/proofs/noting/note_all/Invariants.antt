@@ -1,5 +1,5 @@
 use Rattle.std.proofs.Common.{◌≡◌, length, drop}
-use Rattle.bw_log.specs.Noting.{noted_all, HaveLines}
+use Rattle.bw_log.specs.PageTable.{noted_all, HaveLines}
 use Rattle.bw_log.proofs.noting.note_all.Given as goal
 
 abbrev pub invariant-loop-index : goal.invariant-loop-index

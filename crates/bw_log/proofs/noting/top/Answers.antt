@@ -1,5 +1,5 @@
 use Rattle.std.proofs.Common.{◌≡◌, ◌<◌, ◌+◌, ◌∙◌, ap, max, length, drop, arith}
-use Rattle.bw_log.specs.Noting.{top_of, top_page}
+use Rattle.bw_log.specs.PageTable.{top_of, top_page}
 use Rattle.bw_log.proofs.Noted.{block_here, top_goes_on}
 use Rattle.bw_log.proofs.noting.top.Goals as goal
 

@@ -1,5 +1,5 @@
 use Rattle.std.proofs.Common.{◌≡◌, max, drop}
-use Rattle.bw_log.specs.Noting.{top_page}
+use Rattle.bw_log.specs.PageTable.{top_page}
 use Rattle.bw_log.proofs.noting.top.Given as goal
 
 abbrev pub invariant-loop-index : goal.invariant-loop-index

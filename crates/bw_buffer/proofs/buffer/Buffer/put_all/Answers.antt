@@ -4,7 +4,7 @@ use Rattle.bw_codec.specs.Grammar.{body_bytes, head_bytes}
 use Rattle.bw_codec.specs.declared.block.Block.{Block}
 use Rattle.bw_buffer.specs.Filling.{Filling}
 use Rattle.bw_buffer.specs.Marks.{mark_of}
-use Rattle.bw_buffer.specs.Filled.{blocks_in}
+use Rattle.bw_buffer.specs.Laid.{blocks_in}
 use Rattle.bw_buffer.specs.declared.buffer.Buffer.TheInside.{Inside}
 use Rattle.bw_buffer.proofs.Holding.{Holds, filled, held, grown, room_told, room_inside, room_for_marks, counts, length-held}
 use Rattle.bw_buffer.proofs.buffer.Buffer.put_all.Goals as goal

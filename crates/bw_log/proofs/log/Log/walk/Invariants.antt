@@ -1,6 +1,6 @@
 use Rattle.std.proofs.Common.{◌≡◌}
 use Rattle.bw_log.specs.Contents.{counted}
-use Rattle.bw_log.specs.Seen.{seen_by}
+use Rattle.bw_log.specs.Views.{seen_by}
 use Rattle.bw_log.specs.Walking.{IsWalk}
 use Rattle.bw_log.proofs.log.Log.walk.Given as goal
 

@@ -3,14 +3,14 @@ use Rattle.std.proofs.lemmas.List.{take_more, take_all}
 use Rattle.bw_codec.specs.declared.record.Record.{Record}
 use Rattle.bw_page.specs.declared.journal.Undo.{Undo}
 use Rattle.bw_page.specs.Leaves.{plain}
-use Rattle.bw_page.specs.Filed.{Filed}
+use Rattle.bw_page.specs.Shown.{Shown}
 use Rattle.bw_page.specs.Journal.{Ran, all_undone}
 use Rattle.bw_page.proofs.Runs.{ran_more, all_back, run-plain, none_spent}
 use Rattle.bw_page.proofs.leaves.Leaves.apply_all.Goals as goal
 
 pub returns-in-Err-clause-unchanged : goal.returns-in-Err-clause-unchanged
 returns-in-Err-clause-unchanged c =
-    c.take_back.ensures ∙ ap (λ (f : Filed). all_undone f c.loop-record.journal.items) c.in-Err.ensures.unchanged
+    c.take_back.ensures ∙ ap (λ (f : Shown). all_undone f c.loop-record.journal.items) c.in-Err.ensures.unchanged
     ∙ all_back _ _ _ _ c.loop-record.invariant.ran
 
 pub loop-record-preserved : goal.loop-record-preserved

@@ -1,5 +1,5 @@
 use Rattle.std.proofs.Common.{◌+◌, ◌∙◌, ap, refl, length, arith}
-use Rattle.bw_page.specs.Filed.{Filed}
+use Rattle.bw_page.specs.Shown.{Shown}
 use Rattle.bw_page.proofs.Closed.{same_filed, same_gets, over_at, found_at, within_at, Follows, follows_whole, follows_cut, whole_by, cut_by}
 use Rattle.bw_page.proofs.leaves.Leaves.apply_at.Goals as goal
 
@@ -51,14 +51,14 @@ returns-clause-plain c = (cut c).plain
 pub returns-then-count-from-clause-applied : goal.returns-then-count-from-clause-applied
 returns-then-count-from-clause-applied c =
     whole_by c.args.self.now c.args.change.now (c.args.at + 1) c.args.count c.self.inside.m c.requires.page c.requires.pairs
-    (ap (λ (f : Filed). f.m) c.self.view_is) (let from = c.from.ensures in omega arith)
+    (ap (λ (f : Shown). f.m) c.self.view_is) (let from = c.from.ensures in omega arith)
 
 pub returns-clause-applied : goal.returns-clause-applied
 returns-clause-applied c =
     cut_by c.args.self.now c.args.change.now (c.args.at + 1) c.args.count c.self.inside.m (c.len-pages.result + 1) c.requires.page
     c.requires.pairs
-    (ap (λ (f : Filed). f.m) c.self.view_is) (let from = c.from.ensures in omega arith)
-    (ap (λ n. n + 1) c.len-pages.ensures.value ∙ ap (λ (f : Filed). length f.leaves + 1) c.self.view_is)
+    (ap (λ (f : Shown). f.m) c.self.view_is) (let from = c.from.ensures in omega arith)
+    (ap (λ n. n + 1) c.len-pages.ensures.value ∙ ap (λ (f : Shown). length f.leaves + 1) c.self.view_is)
 
 pub change-requires-clause-found : goal.change-requires-clause-found
 change-requires-clause-found c =

@@ -5,7 +5,7 @@ use Rattle.bw_codec.specs.declared.leaf.Leaf.{Leaf}
 use Rattle.bw_page.specs.declared.journal.Displaced.{Displaced}
 use Rattle.bw_page.specs.Leaves.{Pairs, order}
 use Rattle.bw_page.specs.Seek.{seek_of, IsWithin, back_of}
-use Rattle.bw_page.specs.Filed.{Filed}
+use Rattle.bw_page.specs.Shown.{Shown}
 use Rattle.bw_page.specs.Journal.{displaced_by}
 use Rattle.bw_page.proofs.Closed.{home_at}
 use Rattle.bw_page.proofs.Runs.{undo_back, undo_cut, undo_lost}
@@ -28,7 +28,7 @@ pub returns-in-Some : goal.returns-in-Some
 returns-in-Some c =
     let leaf = home_at c.self.inside c.self.invariant c.args.self.now c.self.view_is c.args.change.now c.requires.lawful c.args.at c.args.count
     c.requires.page c.requires.pairs c.get-leaf.result.now c.get-leaf.ensures in
-    let m = ap (λ (f : Filed). f.m) c.self.view_is in
+    let m = ap (λ (f : Shown). f.m) c.self.view_is in
     let from = c.from.ensures in
     undo_back c.args.self.now c.args.change.now c.in-Some.back (let e = c.requires.pairs in omega arith)
     (c.in-Some.ensures ∙ ap (λ (ps : Pairs). back_of c.args.change.now (find order (key_of c.args.change.now) ps))
@@ -38,7 +38,7 @@ pub returns : goal.returns
 returns c =
     let leaf = home_at c.self.inside c.self.invariant c.args.self.now c.self.view_is c.args.change.now c.requires.lawful c.args.at c.args.count
     c.requires.page c.requires.pairs c.get-leaf.result.now c.get-leaf.ensures in
-    let m = ap (λ (f : Filed). f.m) c.self.view_is in
+    let m = ap (λ (f : Shown). f.m) c.self.view_is in
     let from = c.from.ensures in
     let is : Displaced = record { leaf = c.in_ok-leaf.leaf; pages = c.count-pages.result } in
     let same : is ≡ displaced_by c.args.self.now c.args.change.now =

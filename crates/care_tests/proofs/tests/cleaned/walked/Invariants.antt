@@ -1,4 +1,4 @@
-use Rattle.bw_log.specs.Seen.{IsSound}
+use Rattle.bw_log.specs.Views.{IsSound}
 use Rattle.care_tests.proofs.tests.cleaned.walked.Given as goal
 
 abbrev pub invariant-loop-i : goal.invariant-loop-i

@@ -1,4 +1,4 @@
-use Rattle.log_tests.specs.Seen.{seen}
+use Rattle.log_tests.specs.Views.{seen}
 use Rattle.log_tests.specs.OnePage.{HoldsOne}
 use Rattle.log_tests.proofs.tests.walking.walked.Given as goal
 

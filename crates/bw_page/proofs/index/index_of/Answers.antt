@@ -5,7 +5,7 @@ use Rattle.bw_codec.specs.Bytes.{IsKey}
 use Rattle.bw_codec.specs.declared.leaf.Leaf.{Leaf}
 use Rattle.bw_page.specs.Leaves.{Bytes, order}
 use Rattle.bw_page.proofs.Indexing.{low_key, index-step}
-use Rattle.bw_page.proofs.filing.index_of.Goals as goal
+use Rattle.bw_page.proofs.index.index_of.Goals as goal
 
 pub loop-at-preserved : goal.loop-at-preserved
 loop-at-preserved c =

@@ -5,13 +5,13 @@ use Rattle.std.specs.BTreeMap as tree
 use Rattle.std.specs.FinMap.Entries.{find}
 use Rattle.bw_page.specs.declared.leaves.Leaves.TheInside.{Inside}
 use Rattle.bw_page.specs.Leaves.{Bytes, order, AreLeaves}
-use Rattle.bw_page.specs.Filed.{Filed}
+use Rattle.bw_page.specs.Shown.{Shown}
 use Rattle.bw_page.specs.Lows.{lows_of}
 
-abbrev pub view_of : Inside → Filed
+abbrev pub view_of : Inside → Shown
 view_of a = record { m = a.m; leaves = a.leaves.items; away = a.leaves.away }
 
-pub record IsFiled (a : Inside) : Type 0 where
+pub record IsIndexed (a : Inside) : Type 0 where
   pub limit : (4 ≤ a.m) × (a.m ≤ 32)
   pub count : length a.leaves.items < 2 ^ 32
   pub lawful : AreLeaves a.m a.leaves.items

@@ -12,40 +12,40 @@ use Rattle.bw_page.specs.Leaves.{Bytes, home, changed, leaf_at, applied, pages}
 use Rattle.bw_page.specs.Seats.{is_among}
 
 -- leaves of at most m pairs each
-pub record Filed : Type 0 where
+pub record Shown : Type 0 where
   pub m : ℕ
   pub leaves : List Leaf
   -- the pages that are not in memory, ascending
   pub away : List ℕ
 
 -- a page is not in memory; a page that there is not is not away
-abbrev pub is_away : ℕ → Filed → Bool
+abbrev pub is_away : ℕ → Shown → Bool
 is_away page f = is_among page f.away
 
 -- the leaf of a page, if there is one in memory
-abbrev pub leaf_here : ℕ → Filed → Option Leaf
+abbrev pub leaf_here : ℕ → Shown → Option Leaf
 leaf_here page f = if is_away page f then None else leaf_at page f.leaves
 
 -- the page at which a record of a key is directed is in memory
-abbrev pub IsHere : Bytes → Filed → Type 0
+abbrev pub IsHere : Bytes → Shown → Type 0
 IsHere key f = is_away (home key f.leaves).page f ≡ false
 
 -- after one record, and after several
-abbrev pub after_record : Filed → Record → Filed
+abbrev pub after_record : Shown → Record → Shown
 after_record f r = record f { leaves = applied f.m f.leaves r }
 
-abbrev pub run : Filed → List Record → Filed
+abbrev pub run : Shown → List Record → Shown
 run f records = record f { leaves = pages f.m f.leaves records }
 
 -- the page that a record is directed at, and the one that it makes, if it does
-abbrev pub applied_by : Filed → Record → Applied
+abbrev pub applied_by : Shown → Record → Applied
 applied_by f r = record {
   page = (home (key_of r) f.leaves).page;
   made = if nat_le (length (changed r (home (key_of r) f.leaves)).pairs) f.m then None else Some (length f.leaves + 1);
 }
 
 -- the record makes a page for which there is no number
-abbrev pub IsSpent : Filed → Record → Type 0
+abbrev pub IsSpent : Shown → Record → Type 0
 IsSpent f r = (f.m < length (changed r (home (key_of r) f.leaves)).pairs) × (length f.leaves + 1 ≡ 2 ^ 32)
 
 -- a leaf's low is not above the key, and is the greatest such low

@@ -6,7 +6,7 @@ use Rattle.bw_codec.specs.Bytes.{IsKey}
 use Rattle.bw_codec.specs.declared.leaf.Leaf.{Leaf}
 use Rattle.bw_page.specs.Leaves.{order}
 use Rattle.bw_page.proofs.Order.{order-total}
-use Rattle.bw_page.proofs.filing.drop_above.Goals as goal
+use Rattle.bw_page.proofs.index.drop_above.Goals as goal
 
 -- the leaf that goes is that of the page above
 gone : (items : List Leaf) (pages : ℕ) (upper : Leaf) → length items ≤ pages + 1 → pages < length items

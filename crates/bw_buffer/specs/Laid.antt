@@ -21,7 +21,7 @@ blocks_in count bytes = first_of (many_at (block_at 32) count (drop 20 bytes))
 abbrev pub filling_of : Inside → Filling
 filling_of a = record { frame = a.frame; limit = a.limit; blocks = blocks_in a.count a.bytes.items; is_sealed = a.is_sealed }
 
-pub record IsFilled (a : Inside) : Type 0 where
+pub record IsLaid (a : Inside) : Type 0 where
   pub spelled : a.bytes.items ≡ head_bytes a.frame (length (body_bytes (blocks_in a.count a.bytes.items))) a.count
       ++ body_bytes (blocks_in a.count a.bytes.items)
   pub counted : length (blocks_in a.count a.bytes.items) ≡ a.count

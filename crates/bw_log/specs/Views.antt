@@ -7,7 +7,7 @@ use Rattle.std.specs.declared.alloc.Global.{Global}
 use Rattle.bw_device.specs.Holding.{Holding}
 use Rattle.bw_log.specs.Contents.{Contents}
 use Rattle.bw_log.specs.Contents as contents
-use Rattle.bw_log.specs.Steps.{refusal}
+use Rattle.bw_log.specs.Appends.{refusal}
 use Rattle.bw_log.specs.declared.log.Log.{Log}
 
 module _ {I : Type 0} {H : I → Type 0} where

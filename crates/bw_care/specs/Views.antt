@@ -1,9 +1,11 @@
 -- What a log is, read from a crate above.
 
+use Rattle.std.specs.declared.dyn_box.DynBox.{DynBox}
+use Rattle.std.specs.declared.alloc.Global.{Global}
 use Rattle.bw_device.specs.Holding.{Holding}
 use Rattle.bw_log.specs.Contents.{Contents}
 use Rattle.bw_log.specs.Contents as contents
-use Rattle.bw_log.specs.Seen.{seen_by}
+use Rattle.bw_log.specs.Views.{seen_by}
 use Rattle.bw_log.specs.declared.log.Log.{Log}
 
 module _ {I : Type 0} {H : I → Type 0} where
