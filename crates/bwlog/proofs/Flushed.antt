@@ -89,9 +89,11 @@ one_step m leaf d one h = rw (le-leb (length d.pairs) m h, one)
 
 has_pages : (m : ℕ) (leaf : Leaf) (rs : List Record) → leaf.page ≡ 1 → NeverOver m leaf rs → HasPages m (leaf ∷ []) rs
 has_pages m leaf [] one h = tt
-has_pages m leaf (r ∷ rs) one h =
-    (λ over. absurd (omega (arith, h.0)), subst (λ (ls : List Leaf). HasPages m ls rs) (sym (one_step m leaf (changed r leaf) one h.0))
-        (has_pages m (changed r leaf) rs one h.1))
+has_pages m leaf (r ∷ rs) one h = (
+  λ over. absurd (omega (arith, h.0)),
+  subst (λ (ls : List Leaf). HasPages m ls rs) (sym (one_step m leaf (changed r leaf) one h.0))
+      (has_pages m (changed r leaf) rs one h.1),
+)
 
 are_deltas : (i : ℕ) (rs : List Record) → AreDeltas 1 rs (deltas_from i rs)
 are_deltas i [] = tt
@@ -122,7 +124,7 @@ pub stands : (m : ℕ) (rs : List Record) → 1 ≤ m → AllByRecursion IsOp rs
 stands m rs some each never =
     let is = pages-one m empty_leaf rs refl never in
     let lawful : AreLeaves m (pages m (empty_leaf ∷ []) rs) =
-        (pages-plain m (empty_leaf ∷ []) rs some (has_pages m empty_leaf rs refl never) (one_empty-lawful m) each).0 in
+    (pages-plain m (empty_leaf ∷ []) rs some (has_pages m empty_leaf rs refl never) (one_empty-lawful m) each).0 in
     subst (Stand m (first_frame rs ∷ [])) (sym is) (stands_one m rs (subst (AreLeaves m) is lawful))
 
 -- ---- a flush
@@ -131,7 +133,7 @@ pub writes_first : (m f places : ℕ) (rs left : List Record) (before body bytes
     → NeverOver m empty_leaf rs → before ≡ [] → left ≡ [] → body ≡ body_bytes (first_frame rs).blocks → length body + 20 ≤ f
     → bytes ≡ header_bytes (header_of m f) ++ (head_bytes 1 (length body) (length rs + 1) ++ body)
     → WritesFirst (record { m = m; f = f; places = places; waiting = rs; bytes = before })
-        (record { m = m; f = f; places = places; waiting = left; bytes = bytes })
+    (record { m = m; f = f; places = places; waiting = left; bytes = bytes })
 writes_first m f places rs left before body bytes limits few each never none taken e room is = record {
   first = none;
   whole = whole_segment m f places rs body bytes limits few each e room is;
@@ -174,7 +176,7 @@ pub page_is_there : (m f : ℕ) (bytes : List ℕ) (frame : Frame) (blocks : Lis
 page_is_there m f bytes frame blocks page same e none =
     let whole : content 1 (page.frame.blocks ++ []) ≡ Some page.leaf = page.read in
     let alone : content 1 page.frame.blocks ≡ Some page.leaf =
-        subst (λ (bs : List Block). content 1 bs ≡ Some page.leaf) (append-nil page.frame.blocks) whole in
+    subst (λ (bs : List Block). content 1 bs ≡ Some page.leaf) (append-nil page.frame.blocks) whole in
     let both : blocks ≡ page.frame.blocks = e ∙ ap (λ (fr : Frame). fr.blocks) same in
     let there : content 1 blocks ≡ Some page.leaf = ap (content 1) both ∙ alone in
     cc

@@ -30,7 +30,7 @@ returns-in_err-append_care-clause-refused g c =
     c.in_ok-buffer.ensures c.limit.ensures filled.2 filled.3 c.seal.ensures in
     rw (p.1, p.2) (append_refused _ _ (frame_of c.seal.new.self) _ _ c.in_err-append_care.field-0.0 s.holds c.in_ok-count.ensures.stops c.requires.works
     (short_enough s c.bytes.ensures.fits) c.in_err-append_care.ensures.leaves.answers c.in_err-append_care.ensures.leaves.device
-        c.in_err-append_care.ensures.leaves.log)
+    c.in_err-append_care.ensures.leaves.log)
 
 pub returns-clause-moved : goal.returns-clause-moved
 returns-clause-moved g c =

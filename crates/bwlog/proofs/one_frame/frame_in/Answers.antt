@@ -23,8 +23,8 @@ unreachable-requires-in-Ok-Tail c =
     let same : c.in-Whole.header ≡ c.requires.0 = cc in
     let stands = frame_there c.args.bytes.now c.requires.0 c.in-Whole.header c.requires.1 c.requires.2 same in
     let found : c.in-Ok-Tail.field-0 ≡ Whole c.requires.1 (length (frame_bytes c.requires.1)) =
-        gives_it c.read_frame.result (Whole c.requires.1 (length (frame_bytes c.requires.1)))
-        (c.read_frame.ensures.only (Whole c.requires.1 (length (frame_bytes c.requires.1))) stands) c.in-Ok-Tail.field-0 c.in-Ok-Tail.is in
+    gives_it c.read_frame.result (Whole c.requires.1 (length (frame_bytes c.requires.1)))
+    (c.read_frame.ensures.only (Whole c.requires.1 (length (frame_bytes c.requires.1))) stands) c.in-Ok-Tail.field-0 c.in-Ok-Tail.is in
     let no : ⊥ = cc in
     no
 
@@ -35,7 +35,7 @@ unreachable-requires-in-Err-BadBytes c =
     let stands = frame_there c.args.bytes.now c.requires.0 c.in-Whole.header c.requires.1 c.requires.2 same in
     let bad : c.read_frame.result ≡ Err BadBytes = cc in
     gives_no_fault c.read_frame.result (Whole c.requires.1 (length (frame_bytes c.requires.1)))
-        (c.read_frame.ensures.only (Whole c.requires.1 (length (frame_bytes c.requires.1))) stands) bad
+    (c.read_frame.ensures.only (Whole c.requires.1 (length (frame_bytes c.requires.1))) stands) bad
 
 pub returns-in-Ok-Whole : goal.returns-in-Ok-Whole
 returns-in-Ok-Whole c header frame whole =
@@ -43,7 +43,7 @@ returns-in-Ok-Whole c header frame whole =
     let same : c.in-Whole.header ≡ header = cc in
     let stands = frame_there c.args.bytes.now header c.in-Whole.header frame whole same in
     let found : c.in-Ok-Whole.field-0 ≡ Whole frame (length (frame_bytes frame)) =
-        gives_it c.read_frame.result (Whole frame (length (frame_bytes frame))) (c.read_frame.ensures.only (Whole frame (length (frame_bytes frame))) stands)
-        c.in-Ok-Whole.field-0 c.in-Ok-Whole.is in
+    gives_it c.read_frame.result (Whole frame (length (frame_bytes frame))) (c.read_frame.ensures.only (Whole frame (length (frame_bytes frame))) stands)
+    c.in-Ok-Whole.field-0 c.in-Ok-Whole.is in
     let is : c.in-Ok-Whole.field-0 ≡ Whole c.in-Ok-Whole.frame c.in-Ok-Whole.field-0-1 = c.in-Ok-Whole.field-0-is in
     cc
