@@ -140,20 +140,3 @@ PageFaultIs page (BadBytes segment at) = ⊥
 PageFaultIs page Gap = ⊥
 PageFaultIs page Mixed = ⊥
 PageFaultIs page (BadLink p) = ⊥
-
--- frames that may be read: lawful, at least one, and this is the first one's number
-abbrev pub MayRead : ℕ → ℕ → List Frame → Type 0
-MayRead m first frames = (f : ℕ) × AllByRecursion (IsFrame m f) frames × (1 ≤ length frames) × (first ≡ first_number frames)
-
--- this is the fault of frames, unless memory ran out
-abbrev pub FramesFaultIs : Option RecoverCause → RecoverCause → Type 0
-FramesFaultIs fault NoMemory = Unit {0}
-FramesFaultIs fault (BadLink p) = fault ≡ Some (BadLink p)
-FramesFaultIs fault (Unlawful p) = fault ≡ Some (Unlawful p)
-FramesFaultIs fault (Device lease) = ⊥
-FramesFaultIs fault Spent = ⊥
-FramesFaultIs fault BadConfig = ⊥
-FramesFaultIs fault Empty = ⊥
-FramesFaultIs fault (BadBytes segment at) = ⊥
-FramesFaultIs fault Gap = ⊥
-FramesFaultIs fault Mixed = ⊥

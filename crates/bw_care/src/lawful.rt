@@ -99,8 +99,8 @@ fn has_bad_pairs(m: u16, leaf: &Leaf, next: Option<Key>) -> bool
 
 // Whether a page that was set is at fault.
 fn is_wrong_leaf(m: u16, leaf: &Leaf, lows: &BTreeMap<Key, u32>) -> bool
-    ensures { (set : List LeafValue) → IsLows set (tree.get order lows.now) → length leaf.now.low ≤ 64
-        → result ≡ is_bad_leaf m set leaf.now }
+    ensures { (set : List LeafValue) → IsLows set (tree.get order lows.now)
+        → length leaf.now.low ≤ 64 → result ≡ is_bad_leaf m set leaf.now }
 {
     match Key::new(leaf.low.as_slice()) {
         Err(_) => leaf.page != 1 || has_bad_pairs(m, leaf, least_low(lows)),
@@ -112,8 +112,8 @@ fn is_wrong_leaf(m: u16, leaf: &Leaf, lows: &BTreeMap<Key, u32>) -> bool
 
 // Whether a page is at fault; one that was only touched is.
 fn is_wrong_line(m: u16, line: &Line, lows: &BTreeMap<Key, u32>) -> bool
-    ensures { (set : List LeafValue) → IsLows set (tree.get order lows.now) → IsShortIf line.now.leaf
-        → result ≡ is_bad_page m set line.now.leaf }
+    ensures { (set : List LeafValue) → IsLows set (tree.get order lows.now)
+        → IsShortIf line.now.leaf → result ≡ is_bad_page m set line.now.leaf }
 {
     match &line.leaf {
         Some(leaf) => is_wrong_leaf(m, leaf, lows),
@@ -198,7 +198,8 @@ pub struct Pages {
 // The least page at fault.
 fn wrong_among(alloc: Global, m: u16, pages: &[(u32, Line)]) -> Result<Option<u32>, AllocError>
     requires { Rise 0 pages.now }
-    ensures { (f : ℕ) (frames : List FrameValue) → AllByRecursion (IsFrame m f) frames → AreOf frames pages.now
+    ensures { (f : ℕ) (frames : List FrameValue) → AllByRecursion (IsFrame m f) frames
+        → AreOf frames pages.now
         → IfOk result (λ page. page ≡ fault_among m frames) }
 {
     let lows = lows_of(alloc, pages)?;
@@ -233,9 +234,11 @@ fn take_apart(
 pub fn pages_of(alloc: Global, m: u16, lines: BTreeMap<u32, Line>) -> Result<Pages, RecoverCause>
     requires limit { (4 ≤ m) × (m ≤ 32) }
     requires read { HasFrames m lines }
-    ensures right { (f : ℕ) (frames : List FrameValue) → AllByRecursion (IsFrame m f) frames → IsMapOf frames lines
+    ensures right { (f : ℕ) (frames : List FrameValue) → AllByRecursion (IsFrame m f) frames
+        → IsMapOf frames lines
         → IfOk result (IsRight m frames) }
-    ensures fault { (f : ℕ) (frames : List FrameValue) → AllByRecursion (IsFrame m f) frames → IsMapOf frames lines
+    ensures fault { (f : ℕ) (frames : List FrameValue) → AllByRecursion (IsFrame m f) frames
+        → IsMapOf frames lines
         → IfErr result (PageFaultIs (fault_among m frames)) }
 {
     let pages = in_page_order(alloc, lines)?;

@@ -81,7 +81,8 @@ fn move_some(alloc: Global, log: &mut Log, pages: &[u32]) -> Result<usize, LogFa
     requires pages { AllByRecursion (IsPage (seen log.old holding)) pages.now }
     ensures sound { IsSound log.new holding }
     ensures moved { IfOk result (λ n. (0 < n) × (n ≤ length pages.now)
-        × Moved (seen log.old holding) (seen log.new holding) (take n pages.now) (drop n pages.now) 1) }
+        × Moved (seen log.old holding) (seen log.new holding)
+        (take n pages.now) (drop n pages.now) 1) }
     ensures refused { IfErr result (λ fault.
         Refused fault (seen log.old holding) (seen log.new holding)) }
 {

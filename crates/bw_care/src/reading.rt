@@ -196,7 +196,8 @@ pub fn read_blocks_linked(
     ensures ok { (done : List (PlaceValue × BlockValue)) → IsRead first done lines.old
         → OnOk result (IsRead first (done ++ placed number 0 blocks.items) lines.new) }
     ensures fault { (done rest : List (PlaceValue × BlockValue)) → IsRead first done lines.old
-        → IfErr result (LinkFaultIs (bad_link first [] (done ++ (placed number 0 blocks.items ++ rest)))) }
+        → IfErr result (LinkFaultIs
+        (bad_link first [] (done ++ (placed number 0 blocks.items ++ rest)))) }
 {
     let mut blocks = blocks;
     blocks.reverse();

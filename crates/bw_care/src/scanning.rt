@@ -61,7 +61,8 @@ pub(crate) fn front(alloc: Global, bytes: &[u8], m: u16, f: u32) -> Result<Frame
 pub fn read_behind(alloc: Global, bytes: &[u8], m: u16, f: u32) -> Result<Behind, ScanFault>
     requires { 24 ≤ length bytes.now }
     ensures found { IfOk result (IsBehind m f bytes.now) }
-    ensures fault { IfErr result (FaultIs (fault_by (length bytes.now - length (rest_of m f bytes.now))
+    ensures fault { IfErr result (FaultIs
+        (fault_by (length bytes.now - length (rest_of m f bytes.now))
         (front_at m f (rest_of m f bytes.now)))) }
 {
     let mut lines = Vec::new(alloc);

@@ -2,8 +2,8 @@ use Rattle.std.proofs.Common.{◌≡◌, ◌≤◌, ◌<◌, ◌∙◌, ℕ, Lis
 use Rattle.bw_log.specs.declared.fault.LogFault.TheVariants.{NoMemory}
 use Rattle.bw_care.specs.Cleaning.{old_pages}
 use Rattle.bw_care.specs.Views.{seen}
-use Rattle.bw_care.proofs.Moves.{no_base_before, two_left, all_cleaned}
-use Rattle.bw_care.proofs.Joins.{stopped_first, stopped_stands, moved_stand, same_m}
+use Rattle.bw_care.proofs.PagesMoved.{no_base_before, two_left, all_cleaned}
+use Rattle.bw_care.proofs.CleaningSteps.{stopped_first, stopped_stands, moved_stand, same_m}
 use Rattle.bw_care.proofs.cleaning.clean.Goals as goal
 
 pub returns-in-Err-clause-refused : goal.returns-in-Err-clause-refused

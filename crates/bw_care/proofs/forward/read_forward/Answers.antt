@@ -6,7 +6,7 @@ use Rattle.bw_device.specs.Holding.{Holding}
 use Rattle.bw_log.specs.Places.{all_placed}
 use Rattle.bw_log.specs.Segments.{frames_of}
 use Rattle.bw_care.specs.Reading.{IsRead}
-use Rattle.bw_care.proofs.Forwards.{stops_there, place_inside, next_ready, segment_more, segments_around}
+use Rattle.bw_care.proofs.SecondPass.{stops_there, place_inside, next_ready, segment_more, segments_around}
 use Rattle.bw_care.proofs.forward.read_forward.Goals as goal
 
 pub read_box_forward-requires-clause-inside : goal.read_box_forward-requires-clause-inside

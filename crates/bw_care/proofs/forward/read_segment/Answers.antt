@@ -5,9 +5,9 @@ use Rattle.bw_codec.specs.declared.block.Frame.{Frame}
 use Rattle.bw_log.specs.Places.{placed, all_placed, bad_link}
 use Rattle.bw_care.specs.Behind.{frames_behind}
 use Rattle.bw_care.specs.Reading.{IsRead, LinkFaultIs}
-use Rattle.bw_care.proofs.Fronts.{front_from, there_from, none_from, read_more, ends_tail}
-use Rattle.bw_care.proofs.Framed.{frames_step, frames_wrong}
-use Rattle.bw_care.proofs.Forwards.{frames_around, never_bad}
+use Rattle.bw_care.proofs.FrontsRead.{front_from, there_from, none_from, read_more, ends_tail}
+use Rattle.bw_care.proofs.FramesJoined.{frames_step, frames_wrong}
+use Rattle.bw_care.proofs.SecondPass.{frames_around, never_bad}
 use Rattle.bw_care.proofs.forward.read_segment.Goals as goal
 
 pub frames-preserved : goal.frames-preserved
@@ -21,7 +21,8 @@ frames-preserved c =
             (front_from c.args.m c.args.f c.args.bytes.now c.frames.at c.in-Ok-Whole.field-0 _ c.in-Ok-Whole.ensures.gives c.in-Ok-Whole.field-0-is)
             (there_from c.args.m c.args.f c.args.bytes.now c.frames.at c.in-Ok-Whole.field-0 _ c.in-Ok-Whole.ensures.found c.in-Ok-Whole.field-0-is),
         λ done read. frames_step c.args.first done seen.0 c.in-Ok-Whole.frame c.read_blocks_linked.new.lines
-            (subst (λ (bs : List Block). IsRead c.args.first ((done ++ all_placed seen.0) ++ placed c.in-Ok-Whole.frame.number 0 bs) c.read_blocks_linked.new.lines)
+            (subst (λ (bs : List Block). IsRead c.args.first ((done ++ all_placed seen.0) ++ placed c.in-Ok-Whole.frame.number 0 bs)
+            c.read_blocks_linked.new.lines)
             c.into_vec.ensures ((c.in_ok-read_blocks_linked-in-Ok-Whole).ensures.ok (done ++ all_placed seen.0) (seen.3 done read))),
       );
     }

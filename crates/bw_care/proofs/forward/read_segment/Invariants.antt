@@ -5,7 +5,7 @@ use Rattle.bw_codec.specs.declared.block.Frame.{Frame}
 use Rattle.bw_log.specs.Places.{all_placed}
 use Rattle.bw_log.specs.declared.places.FrameAt.{FrameAt}
 use Rattle.bw_care.specs.Reading.{IsRead}
-use Rattle.bw_care.proofs.Fronts.{IsReadTo}
+use Rattle.bw_care.proofs.FrontsRead.{IsReadTo}
 use Rattle.bw_care.proofs.forward.read_segment.Given as goal
 
 -- some frames were read, and their blocks are in the map

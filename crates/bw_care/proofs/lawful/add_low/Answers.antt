@@ -3,7 +3,7 @@ use Rattle.std.specs.BTreeMap as tree
 use Rattle.bw_codec.specs.declared.leaf.Leaf.{Leaf}
 use Rattle.bw_page.specs.Leaves.{Bytes, order}
 use Rattle.bw_care.specs.Paging.{has_low}
-use Rattle.bw_care.proofs.Paged.{low_more}
+use Rattle.bw_care.proofs.LowIndex.{low_more}
 use Rattle.bw_care.proofs.lawful.add_low.Goals as goal
 
 pub returns : goal.returns

@@ -4,7 +4,7 @@ use Rattle.std.specs.BTreeMap as tree
 use Rattle.bw_codec.specs.Bytes.{is_below, IsKey}
 use Rattle.bw_page.specs.Leaves.{Bytes, order}
 use Rattle.bw_care.specs.Paging.{IsNext, is_past, taken_before}
-use Rattle.bw_care.proofs.Lows.{empty_is, keyed_is}
+use Rattle.bw_care.proofs.LowsTold.{empty_is, keyed_is}
 use Rattle.bw_care.proofs.lawful.is_wrong_leaf.Goals as goal
 
 pub returns-else-leaf-ne1 : goal.returns-else-leaf-ne1

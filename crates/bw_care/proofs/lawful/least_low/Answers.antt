@@ -3,7 +3,7 @@ use Rattle.std.specs.BTreeMap as tree
 use Rattle.bw_codec.specs.Bytes.{IsKey}
 use Rattle.bw_page.specs.Leaves.{Bytes, order}
 use Rattle.bw_care.specs.Paging.{IsNext}
-use Rattle.bw_care.proofs.Lows.{least_is}
+use Rattle.bw_care.proofs.LowsTold.{least_is}
 use Rattle.bw_care.proofs.lawful.least_low.Goals as goal
 
 pub returns-in-Some : goal.returns-in-Some

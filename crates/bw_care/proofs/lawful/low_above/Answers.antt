@@ -8,7 +8,7 @@ use Rattle.std.specs.declared.cmp.Ordering.TheVariants.{Less}
 use Rattle.bw_codec.specs.Bytes.{IsKey}
 use Rattle.bw_page.specs.Leaves.{Bytes, order}
 use Rattle.bw_care.specs.Paging.{IsNext}
-use Rattle.bw_care.proofs.Lows.{next_is}
+use Rattle.bw_care.proofs.LowsTold.{next_is}
 use Rattle.bw_care.proofs.lawful.low_above.Goals as goal
 
 pub returns-in-Some : goal.returns-in-Some

@@ -1,6 +1,6 @@
 use Rattle.std.specs.BTreeMap as tree
 use Rattle.bw_page.specs.Leaves.{order}
-use Rattle.bw_care.proofs.Lawed.{wrong_among}
+use Rattle.bw_care.proofs.PagesRight.{wrong_among}
 use Rattle.bw_care.proofs.lawful.wrong_among.Goals as goal
 
 pub returns : goal.returns

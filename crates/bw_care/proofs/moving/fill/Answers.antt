@@ -1,5 +1,5 @@
 use Rattle.std.proofs.Common.{◌≡◌, ◌<◌, ◌∙◌, Err, refl, sym, ap, length, arith}
-use Rattle.bw_care.proofs.Joins.{read_here, read_lawful, bases_more, not_first, full_here, full_end}
+use Rattle.bw_care.proofs.CleaningSteps.{read_here, read_lawful, bases_more, not_first, full_here, full_end}
 use Rattle.bw_care.proofs.moving.fill.Goals as goal
 
 pub put_all-requires-clause-lawful : goal.put_all-requires-clause-lawful

@@ -1,7 +1,7 @@
 use Rattle.std.proofs.Common.{◌≡◌, ◌≤◌, ◌<◌, ◌+◌, ◌∙◌, refl, sym, ap, length, arith}
 use Rattle.std.proofs.lemmas.Result.{err_from_is_err_and}
-use Rattle.bw_care.proofs.Moves.{moved_none}
-use Rattle.bw_care.proofs.Joins.{rest_pages, moved_more, stopped_at, rest_inside}
+use Rattle.bw_care.proofs.PagesMoved.{moved_none}
+use Rattle.bw_care.proofs.CleaningSteps.{rest_pages, moved_more, stopped_at, rest_inside}
 use Rattle.bw_care.proofs.moving.move_pages.Goals as goal
 
 pub loop-at-init : goal.loop-at-init

@@ -2,7 +2,7 @@ use Rattle.std.proofs.Common.{◌≡◌, ◌<◌, ◌∙◌, sym, ap, length, ar
 use Rattle.bw_log.specs.Contents.{counted}
 use Rattle.bw_care.specs.Cleaning.{is_old}
 use Rattle.bw_care.specs.Views.{seen}
-use Rattle.bw_care.proofs.Joins.{old_starts, old_pushed, old_skipped}
+use Rattle.bw_care.proofs.CleaningSteps.{old_starts, old_pushed, old_skipped}
 use Rattle.bw_care.proofs.moving.old_pages.Goals.{then-is_old+in_ok-push, else-is_old}
 use Rattle.bw_care.proofs.moving.old_pages.Goals as goal
 

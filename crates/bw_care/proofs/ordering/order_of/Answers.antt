@@ -1,5 +1,5 @@
 use Rattle.std.proofs.Common.{◌∙◌, ap}
-use Rattle.bw_care.proofs.Tails.{sorted_few, sorted_short}
+use Rattle.bw_care.proofs.TailsFit.{sorted_few, sorted_short}
 use Rattle.bw_care.proofs.ordering.order_of.Goals as goal
 
 pub tail_of-tail-requires-clause-few : goal.tail_of-tail-requires-clause-few

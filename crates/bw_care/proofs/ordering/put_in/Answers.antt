@@ -2,7 +2,7 @@ use Rattle.std.proofs.Common.{◌≡◌, ◌∙◌, sym, ap, insert, map, List}
 use Rattle.bw_care.specs.Parting.{place_among}
 use Rattle.bw_care.specs.Ordering.{number_found}
 use Rattle.bw_care.specs.declared.ordering.Found.{Found}
-use Rattle.bw_care.proofs.Parted.{placed_is}
+use Rattle.bw_care.proofs.PartedByKind.{placed_is}
 use Rattle.bw_care.proofs.ordering.put_in.Goals as goal
 
 pub returns : goal.returns

@@ -1,5 +1,5 @@
 use Rattle.std.proofs.Common.{refl}
-use Rattle.bw_care.proofs.Parted.{put_there}
+use Rattle.bw_care.proofs.PartedByKind.{put_there}
 use Rattle.bw_care.proofs.parting.part_one.Goals as goal
 
 pub returns-in-Ok-clause-parted : goal.returns-in-Ok-clause-parted

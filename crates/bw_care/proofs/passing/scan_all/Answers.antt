@@ -1,7 +1,7 @@
 use Rattle.std.proofs.Common.{◌≡◌, sym, ap, ◌∙◌, arith, length, ℕ, Some}
 use Rattle.bw_care.specs.declared.fault.RecoverCause.TheVariants.{BadBytes}
 use Rattle.std.proofs.lemmas.Result.{err_from_is_err_and}
-use Rattle.bw_care.proofs.Passed.{pass_stops, scan_step, fault_step, inside_map}
+use Rattle.bw_care.proofs.PassSoFar.{pass_stops, scan_step, fault_step, inside_map}
 use Rattle.bw_care.proofs.passing.scan_all.Goals as goal
 
 pub returns-in_err-bytes-clause-stops : goal.returns-in_err-bytes-clause-stops

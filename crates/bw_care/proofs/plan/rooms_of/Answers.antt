@@ -1,6 +1,6 @@
 use Rattle.std.proofs.Common.{ℕ, List, [], ◌∷◌, length, ap, arith, length-append}
-use Rattle.bw_care.proofs.Passed.{inside_map}
-use Rattle.bw_care.proofs.Prepared.{rooms_more, one_large}
+use Rattle.bw_care.proofs.PassSoFar.{inside_map}
+use Rattle.bw_care.proofs.SurveyFacts.{rooms_more, one_large}
 use Rattle.bw_care.proofs.plan.rooms_of.Goals as goal
 
 pub returns-in-None-clause-stops : goal.returns-in-None-clause-stops

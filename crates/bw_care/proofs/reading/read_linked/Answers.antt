@@ -1,5 +1,5 @@
 use Rattle.std.proofs.Common.{sym, ◌∙◌}
-use Rattle.bw_care.proofs.Linked.{read_more}
+use Rattle.bw_care.proofs.LinksRead.{read_more}
 use Rattle.bw_care.proofs.reading.read_linked.Goals as goal
 
 pub returns-in_ok-read_one-in-None-clause-ok : goal.returns-in_ok-read_one-in-None-clause-ok

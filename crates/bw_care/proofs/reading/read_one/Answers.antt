@@ -1,4 +1,4 @@
-use Rattle.bw_care.proofs.Lines.{delta_told, base_told, split_told}
+use Rattle.bw_care.proofs.LinesAfter.{delta_told, base_told, split_told}
 use Rattle.bw_care.proofs.reading.read_one.Goals as goal
 
 pub returns-in_ok-leaf-in-Delta : goal.returns-in_ok-leaf-in-Delta

@@ -4,7 +4,7 @@ use Rattle.bw_page.specs.Standing.{Stand}
 use Rattle.bw_log.specs.Contents.{Contents, counted, IsSound}
 use Rattle.bw_log.specs.Places.{first_number}
 use Rattle.bw_care.specs.Recovery.{last_number}
-use Rattle.bw_care.proofs.Moved.{moved, few_moved, adopted_moved}
+use Rattle.bw_care.proofs.BoxesMoved.{moved, few_moved, adopted_moved}
 use Rattle.bw_care.proofs.recovering.recover.Goals as goal
 
 pub boxes_of-live-requires-clause-room : goal.boxes_of-live-requires-clause-room

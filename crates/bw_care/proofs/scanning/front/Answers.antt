@@ -1,4 +1,4 @@
-use Rattle.bw_care.proofs.Fronts.{front_told}
+use Rattle.bw_care.proofs.FrontsRead.{front_told}
 use Rattle.bw_care.proofs.scanning.front.Goals as goal
 
 pub returns-clause-gives : goal.returns-clause-gives

@@ -6,8 +6,9 @@ use Rattle.bw_log.specs.Segments.{entries_from}
 use Rattle.bw_care.specs.Scanning.{rest_of}
 use Rattle.bw_codec.specs.declared.block.FrameRead.{FrameRead}
 use Rattle.bw_care.specs.Behind.{IsBehind}
-use Rattle.bw_care.proofs.Fronts.{ends_parts, ends_cut, front_from, there_from, none_from, fits_there, read_more, ends_tail, ends_bad, tail_lawful, bad_there}
-use Rattle.bw_care.proofs.Fronts.{tail_len}
+use Rattle.bw_care.proofs.FrontsRead.{ends_parts, ends_cut, front_from, there_from, none_from, fits_there, read_more, ends_tail, ends_bad, tail_lawful}
+use Rattle.bw_care.proofs.FrontsRead.{bad_there}
+use Rattle.bw_care.proofs.FrontsRead.{tail_len}
 use Rattle.bw_care.proofs.scanning.read_behind.Goals as goal
 
 pub overflow_cast-used : goal.overflow_cast-used

@@ -1,6 +1,6 @@
 use Rattle.std.proofs.Common.{◌-◌, List, length}
 use Rattle.bw_codec.specs.declared.block.Frame.{Frame}
-use Rattle.bw_care.proofs.Fronts.{IsReadTo}
+use Rattle.bw_care.proofs.FrontsRead.{IsReadTo}
 use Rattle.bw_care.proofs.scanning.read_behind.Given as goal
 
 -- some frames were read, and no one holds them

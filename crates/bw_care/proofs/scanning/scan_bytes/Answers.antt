@@ -4,7 +4,7 @@ use Rattle.std.proofs.lemmas.Result.{err_from_is_err_and}
 use Rattle.bw_codec.specs.Grammar.{IsHeading}
 use Rattle.bw_codec.specs.declared.block.HeaderRead.{HeaderRead}
 use Rattle.bw_codec.specs.declared.block.HeaderRead.TheVariants as heading
-use Rattle.bw_care.proofs.Headed.{header_long, heading_told, fault_told, fault_whole, fault_part, fault_same}
+use Rattle.bw_care.proofs.HeadersRead.{header_long, heading_told, fault_told, fault_whole, fault_part, fault_same}
 use Rattle.bw_care.proofs.scanning.scan_bytes.Goals as goal
 
 pub read_behind-requires : goal.read_behind-requires

@@ -32,13 +32,13 @@ use Rattle.bw_care.specs.Reading.{place_in, base_in, leaf_in, line_of}
 use Rattle.bw_care.specs.declared.reading.Line.{Line}
 use Rattle.bw_page.specs.Leaves.{AreLeaves}
 use Rattle.bw_care.specs.declared.lawful.Pages.{Pages}
-use Rattle.bw_care.proofs.Kept.{content_shaped}
-use Rattle.bw_care.proofs.Lawfully.{in_set}
-use Rattle.bw_care.proofs.Lined.{all_from, base_is, place_of_is}
-use Rattle.bw_care.proofs.Stands.{blocks_lawful, found_stands}
-use Rattle.bw_care.proofs.Again.{set_all_by}
-use Rattle.bw_care.proofs.Ordered.{AreFrom, IsFirst, IsUpTo, first_found, up_to, from_of, rise_by, all_less, here_is, from_next, line_none, line_untouched}
-use Rattle.bw_care.proofs.Ordered.{wrong_is, last_is, leaves_are, leaves_count, stands_here}
+use Rattle.bw_care.proofs.PageShape.{content_shaped}
+use Rattle.bw_care.proofs.PagesAtFault.{in_set}
+use Rattle.bw_care.proofs.LinesTaken.{all_from, base_is, place_of_is}
+use Rattle.bw_care.proofs.FoundStand.{blocks_lawful, found_stands}
+use Rattle.bw_care.proofs.StandingAgain.{set_all_by}
+use Rattle.bw_care.proofs.PageLines.{AreFrom, IsFirst, IsUpTo, first_found, up_to, from_of, rise_by, all_less, here_is, from_next, line_none, line_untouched}
+use Rattle.bw_care.proofs.PageLines.{wrong_is, last_is, leaves_are, leaves_count, stands_here}
 
 -- ---- the index
 

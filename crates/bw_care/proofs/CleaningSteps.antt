@@ -27,10 +27,10 @@ use Rattle.bw_log.proofs.LogLeft.{same_count}
 use Rattle.bw_log.proofs.Reread.{length-frame}
 use Rattle.bw_care.specs.Cleaning.{is_old, old_from, old_pages, IsRewritten, page_of}
 use Rattle.bw_care.specs.Moving.{AreBases, IsFull, Moved, DeviceFailed, Refused, Stopped}
-use Rattle.bw_care.proofs.Bases.{PageRead, page_read, largest_base, may_follow, frames_leave, stand_more}
-use Rattle.bw_care.proofs.Grown.{read_failed}
-use Rattle.bw_care.proofs.Olds.{old_step, old_are_pages}
-use Rattle.bw_care.proofs.Moves.{frame_lawful, moved_one, moved_none, moved_then, take_more, take_drop_all, two_left, drop_twice, drop_at_length}
+use Rattle.bw_care.proofs.BasesLeave.{PageRead, page_read, largest_base, may_follow, frames_leave, stand_more}
+use Rattle.bw_care.proofs.BoxesGrown.{read_failed}
+use Rattle.bw_care.proofs.OldPages.{old_step, old_are_pages}
+use Rattle.bw_care.proofs.PagesMoved.{frame_lawful, moved_one, moved_none, moved_then, take_more, take_drop_all, two_left, drop_twice, drop_at_length}
 
 -- ---- the pages that are old
 

@@ -13,9 +13,9 @@ use Rattle.bw_care.specs.Scanned.{IsScan}
 use Rattle.bw_care.specs.Ordering.{AreFound, is_clean_from}
 use Rattle.bw_care.specs.declared.scanning.Scan.TheVariants.{Live}
 use Rattle.bw_care.specs.declared.ordering.Found.{Found}
-use Rattle.bw_care.proofs.Headed.{live_is}
-use Rattle.bw_care.proofs.Sorting.{frames_here}
-use Rattle.bw_care.proofs.Planned_live.{AreNumbers, IsLike, header_eq}
+use Rattle.bw_care.proofs.HeadersRead.{live_is}
+use Rattle.bw_care.proofs.NumberOrder.{frames_here}
+use Rattle.bw_care.proofs.LiveRow.{AreNumbers, IsLike, header_eq}
 
 none_of : (xs : List ℕ) → length xs ≡ 0 → xs ≡ []
 none_of [] e = refl

@@ -27,7 +27,7 @@ use Rattle.bw_care.specs.Ordering.{follow_from, AreFound}
 use Rattle.bw_care.specs.declared.scanning.Scan.{Scan}
 use Rattle.bw_care.specs.declared.scanning.Scan.TheVariants.{Bare, Part, Live}
 use Rattle.bw_care.specs.declared.ordering.Found.{Found}
-use Rattle.bw_care.proofs.Sorted_out.{header_is, bare_none, not_bare, part_not_bare, keeps, drops, number_at}
+use Rattle.bw_care.proofs.SortedOut.{header_is, bare_none, not_bare, part_not_bare, keeps, drops, number_at}
 
 -- ---- segments
 

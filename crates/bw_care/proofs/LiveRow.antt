@@ -20,9 +20,9 @@ use Rattle.bw_care.specs.Ordering.{lives_from, lives, number_found, sorted, is_o
 use Rattle.bw_care.specs.declared.scanning.Scan.{Scan}
 use Rattle.bw_care.specs.declared.scanning.Scan.TheVariants.{Bare, Part, Live}
 use Rattle.bw_care.specs.declared.ordering.Found.{Found}
-use Rattle.bw_care.proofs.Headed.{live_is}
-use Rattle.bw_care.proofs.Sorting.{frames_here}
-use Rattle.bw_care.proofs.Surveyed.{fold_all}
+use Rattle.bw_care.proofs.HeadersRead.{live_is}
+use Rattle.bw_care.proofs.NumberOrder.{frames_here}
+use Rattle.bw_care.proofs.RoomsParted.{fold_all}
 
 -- ---- numbers
 

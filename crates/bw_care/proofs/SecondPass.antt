@@ -21,8 +21,8 @@ use Rattle.bw_care.specs.declared.reading.ReadFault.{ReadFault}
 use Rattle.bw_care.specs.declared.reading.ReadFault.TheVariants as read
 use Rattle.bw_care.specs.declared.fault.RecoverCause.{RecoverCause}
 use Rattle.bw_care.specs.declared.fault.RecoverCause.TheVariants.{NoMemory, BadConfig, Device, Spent, Empty, BadBytes, Gap, Mixed, BadLink, Unlawful}
-use Rattle.bw_care.proofs.Fronts.{IsReadTo, ends_bad, bad_there}
-use Rattle.bw_care.proofs.Framed.{placed_join, frames_wrong}
+use Rattle.bw_care.proofs.FrontsRead.{IsReadTo, ends_bad, bad_there}
+use Rattle.bw_care.proofs.FramesJoined.{placed_join, frames_wrong}
 
 -- ---- one segment
 
@@ -41,24 +41,6 @@ never_bad m f bytes at seen told ends r none =
     (let e : Some at ≡ None = sym bad ∙ ends in absurd cc)
 
 -- ---- one box
-
-stops_by : (first at : ℕ) (blocks : List (Place × Block)) (old new : List Holding) (cause : RecoverCause) → ReadStops at old cause new
-    → ForwardStops first blocks old cause new
-stops_by first at blocks old new NoMemory s = s
-stops_by first at blocks old new (Device lease) s = (at, s)
-stops_by first at blocks old new Spent s = (s.0, at, s.1)
-stops_by first at blocks old new BadConfig s = absurd s
-stops_by first at blocks old new Empty s = absurd s
-stops_by first at blocks old new (BadBytes segment offset) s = absurd s
-stops_by first at blocks old new Gap s = absurd s
-stops_by first at blocks old new Mixed s = absurd s
-stops_by first at blocks old new (BadLink page) s = absurd s
-stops_by first at blocks old new (Unlawful page) s = absurd s
-
--- a box that cannot be read stops the pass
-pub box_stops : (first at : ℕ) (blocks : List (Place × Block)) (old new : List Holding) (cause : RecoverCause) → ReadStops at old cause new
-    → ForwardStops first blocks old cause new
-box_stops first at blocks old new cause s = stops_by first at blocks old new cause s
 
 -- a wrong link stops it, and no box has changed
 pub link_stops_here : (first : ℕ) (blocks : List (Place × Block)) (old new : List Holding) (fault : ReadFault) (cause : RecoverCause) → new ≡ old

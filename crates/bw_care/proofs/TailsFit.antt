@@ -7,7 +7,7 @@ use Rattle.bw_care.specs.Surveying.{IsShortFound, HasShortTail}
 use Rattle.bw_care.specs.declared.scanning.Scan.{Scan}
 use Rattle.bw_care.specs.declared.scanning.Scan.TheVariants.{Bare, Part, Live}
 use Rattle.bw_care.specs.declared.ordering.Found.{Found}
-use Rattle.bw_care.proofs.Surveyed.{fold_all, fold_count}
+use Rattle.bw_care.proofs.RoomsParted.{fold_all, fold_count}
 
 lives_few : (n : ℕ) (ss : List Scan) → length (lives_from n ss) ≤ length ss
 lives_few n [] = omega arith

@@ -10,7 +10,7 @@ use Rattle.bw_device.specs.Holding.{Holding}
 use Rattle.bw_codec.specs.declared.leaf.Leaf.{Leaf}
 use Rattle.bw_log.specs.Adopting.{adopted}
 use Rattle.bw_log.specs.declared.places.Tables.{Tables}
-use Rattle.bw_care.proofs.Adopts.{IsScanned, scanned_image}
+use Rattle.bw_care.proofs.ScannedLog.{IsScanned, scanned_image}
 use Rattle.bw_log.specs.Contents.{image, IsSound, IsBounded, IsRoomy, IsSpare}
 use Rattle.bw_care.specs.Scanning.{has_header, is_bare, rest_in, has_part, has_part_by}
 use Rattle.bw_care.specs.Scanned.{IsScan, AreScans}
@@ -18,7 +18,7 @@ use Rattle.bw_care.specs.Recovery.{placed_by, number_in, segments_in, live_in, s
 use Rattle.bw_care.specs.declared.scanning.Scan.{Scan}
 use Rattle.bw_care.specs.declared.scanning.Scan.TheVariants.{Bare, Part, Live}
 use Rattle.bw_care.specs.Surveying.{parts_seen}
-use Rattle.bw_care.proofs.Sorted_out.{bare_none, not_bare, keeps, drops, number_at}
+use Rattle.bw_care.proofs.SortedOut.{bare_none, not_bare, keeps, drops, number_at}
 
 any_none : {X : Type 0} (test : X → Bool) (xs : List X) → list_any test xs ≡ false → AllByRecursion (λ x. test x ≡ false) xs
 any_none test [] e = tt

@@ -35,12 +35,12 @@ use Rattle.bw_care.specs.declared.scanning.Scan.{Scan}
 use Rattle.bw_care.specs.declared.scanning.Scan.TheVariants.{Bare, Part, Live}
 use Rattle.bw_care.specs.declared.ordering.Found.{Found}
 use Rattle.bw_care.specs.declared.plan.Survey.{Survey}
-use Rattle.bw_care.proofs.Headed.{header_long}
-use Rattle.bw_care.proofs.Passed.{there_is}
-use Rattle.bw_care.proofs.Counted.{no_bytes_fault}
-use Rattle.bw_care.proofs.Sorting.{joined, header_first, live_found, all_numbers, order_is, frames_here, none_by}
-use Rattle.bw_care.proofs.Planned_live.{IsLike, sorted_like}
-use Rattle.bw_care.proofs.Planned_frames.{all_lawful}
+use Rattle.bw_care.proofs.HeadersRead.{header_long}
+use Rattle.bw_care.proofs.PassSoFar.{there_is}
+use Rattle.bw_care.proofs.TailsCounted.{no_bytes_fault}
+use Rattle.bw_care.proofs.NumberOrder.{joined, header_first, live_found, all_numbers, order_is, frames_here, none_by}
+use Rattle.bw_care.proofs.LiveRow.{IsLike, sorted_like}
+use Rattle.bw_care.proofs.FrameRow.{all_lawful}
 
 -- ---- rooms
 

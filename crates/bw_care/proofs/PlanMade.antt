@@ -33,16 +33,16 @@ use Rattle.bw_care.specs.declared.lawful.Pages.{Pages}
 use Rattle.bw_care.specs.declared.parting.Kind.{Kind}
 use Rattle.bw_care.specs.declared.plan.Survey.{Survey}
 use Rattle.bw_care.specs.declared.plan.Plan.{Plan}
-use Rattle.bw_care.proofs.Adopts.{IsScanned, counts_all}
-use Rattle.bw_care.proofs.Counted.{tails_are, ends_are, parts_are}
-use Rattle.bw_care.proofs.Lawfully.{contents_length, all_set}
-use Rattle.bw_care.proofs.Newest.{clean_last}
-use Rattle.bw_care.proofs.Planned_frames.{frames_from, next_same}
-use Rattle.bw_care.proofs.Planned_live.{IsLike, numbers_are, all_live, lines_are}
-use Rattle.bw_care.proofs.Prepared.{Facts, facts, or_none, when_none, scans_count, all_answer}
-use Rattle.bw_care.proofs.Sorted_out.{parted_is}
-use Rattle.bw_care.proofs.Stands.{top_small, blocks_lawful, found_stands}
-use Rattle.bw_care.proofs.Surveyed.{few_live, sound_is}
+use Rattle.bw_care.proofs.ScannedLog.{IsScanned, counts_all}
+use Rattle.bw_care.proofs.TailsCounted.{tails_are, ends_are, parts_are}
+use Rattle.bw_care.proofs.PagesAtFault.{contents_length, all_set}
+use Rattle.bw_care.proofs.NewestWhole.{clean_last}
+use Rattle.bw_care.proofs.FrameRow.{frames_from, next_same}
+use Rattle.bw_care.proofs.LiveRow.{IsLike, numbers_are, all_live, lines_are}
+use Rattle.bw_care.proofs.SurveyFacts.{Facts, facts, or_none, when_none, scans_count, all_answer}
+use Rattle.bw_care.proofs.SortedOut.{parted_is}
+use Rattle.bw_care.proofs.FoundStand.{top_small, blocks_lawful, found_stands}
+use Rattle.bw_care.proofs.RoomsParted.{few_live, sound_is}
 
 -- ---- live segments
 

@@ -16,8 +16,8 @@ use Rattle.bw_care.specs.declared.fault.RecoverCause.{RecoverCause}
 use Rattle.bw_care.specs.declared.scanning.Scan.{Scan}
 use Rattle.bw_care.specs.declared.scanning.Scan.TheVariants.{Bare, Part, Live}
 use Rattle.bw_care.specs.declared.ordering.Found.{Found}
-use Rattle.bw_care.proofs.Sorted_out.{header_is, keeps, drops}
-use Rattle.bw_care.proofs.Passed.{no_fault}
+use Rattle.bw_care.proofs.SortedOut.{header_is, keeps, drops}
+use Rattle.bw_care.proofs.PassSoFar.{no_fault}
 
 -- ---- tails
 

@@ -26,9 +26,9 @@ use Rattle.bw_log.proofs.Walks.{blocks_more}
 use Rattle.bw_log.proofs.LogLeft.{same_count}
 use Rattle.bw_care.specs.Cleaning.{IsRewritten, page_of, old_pages, oldest_last}
 use Rattle.bw_care.specs.Moving.{AreBases, IsFull, AreFull, Moved, KeepsOlder, Refused, Stopped, IsCleaned}
-use Rattle.bw_care.proofs.Bases.{frames_leave, all_rewritten, one_frame, some_stand, stand_more, next_range}
-use Rattle.bw_care.proofs.Grown.{longer_same, longer_all, appended_longer, appended_older, older_same, older_all, same_roster}
-use Rattle.bw_care.proofs.Olds.{oldest_below, same_last, base_moved}
+use Rattle.bw_care.proofs.BasesLeave.{frames_leave, all_rewritten, one_frame, some_stand, stand_more, next_range}
+use Rattle.bw_care.proofs.BoxesGrown.{longer_same, longer_all, appended_longer, appended_older, older_same, older_all, same_roster}
+use Rattle.bw_care.proofs.OldPages.{oldest_below, same_last, base_moved}
 use Rattle.bw_care.specs.declared.cleaning.Cleaned.{Cleaned}
 
 -- ---- one frame

@@ -16,9 +16,9 @@ use Rattle.bw_care.specs.Behind.{frames_behind}
 use Rattle.bw_care.specs.Scanned.{IsScan}
 use Rattle.bw_care.specs.Ordering.{follow_from, AreFound, lines_found, line_number}
 use Rattle.bw_care.specs.declared.scanning.Scan.TheVariants.{Live}
-use Rattle.bw_care.proofs.Sorting.{frames_here, all_numbers}
+use Rattle.bw_care.proofs.NumberOrder.{frames_here, all_numbers}
 use Rattle.bw_care.specs.declared.ordering.Found.{Found}
-use Rattle.bw_care.proofs.Planned_live.{IsLike}
+use Rattle.bw_care.proofs.LiveRow.{IsLike}
 
 abbrev number : Frame → ℕ
 number f = f.number

@@ -32,10 +32,10 @@ use Rattle.bw_care.specs.Lawful.{as_list, page_set, set_by, leaves_set, is_same,
 use Rattle.bw_care.specs.Paging.{Paged, Rise, has_low, first_with, IsIndex, IsLows, IsShortIf, first_wrong, leaves_in, last_page, line_at, AreOf, IsMapOf}
 use Rattle.bw_care.specs.Reading.{leaf_in, line_after, line_of}
 use Rattle.bw_care.specs.declared.reading.Line.{Line}
-use Rattle.bw_care.proofs.Kept.{IsShaped, IsShapedIf, content_shaped}
-use Rattle.bw_care.proofs.Lawfully.{in_set}
-use Rattle.bw_care.proofs.Lined.{leaf_is, blocks_all}
-use Rattle.bw_care.proofs.Stands.{all_untouched}
+use Rattle.bw_care.proofs.PageShape.{IsShaped, IsShapedIf, content_shaped}
+use Rattle.bw_care.proofs.PagesAtFault.{in_set}
+use Rattle.bw_care.proofs.LinesTaken.{leaf_is, blocks_all}
+use Rattle.bw_care.proofs.FoundStand.{all_untouched}
 
 -- ---- a list of lines, looked at by page
 

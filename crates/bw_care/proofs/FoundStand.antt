@@ -20,7 +20,7 @@ use Rattle.bw_page.proofs.Order.{must_not}
 use Rattle.bw_log.specs.PageTable.{top_of, top_page}
 use Rattle.bw_care.specs.Lawful.{as_list, page_set, set_by, leaves_set, is_same, has_low_before, is_astray, has_wrong_low, is_bad_leaf, is_bad_page}
 use Rattle.bw_care.specs.Lawful.{is_at_fault, first_such, contents}
-use Rattle.bw_care.proofs.Lawfully.{NoneAtFault, all_set, contents_at, contents_length, leaves_lawful}
+use Rattle.bw_care.proofs.PagesAtFault.{NoneAtFault, all_set, contents_at, contents_length, leaves_lawful}
 
 -- ---- pages that are touched
 

@@ -21,7 +21,7 @@ use Rattle.bw_log.proofs.Walk.{none_fold}
 use Rattle.bw_log.specs.PageTable.{top_of, top_page}
 use Rattle.bw_care.specs.Lawful.{as_list, page_set, set_by, leaves_set, is_same, has_low_before, is_astray, has_wrong_low, is_bad_leaf, is_bad_page}
 use Rattle.bw_care.specs.Lawful.{is_at_fault, first_such, contents}
-use Rattle.bw_care.proofs.Kept.{IsShaped, content_shaped, shaped_base}
+use Rattle.bw_care.proofs.PageShape.{IsShaped, content_shaped, shaped_base}
 
 -- ---- lists
 
