@@ -6,6 +6,7 @@ pub mod Heading
 pub mod Adding
 pub mod Lengths
 pub mod Sizing
+pub mod FirstBlock
 pub mod Stepping
 pub mod Vectors
 pub mod Wider

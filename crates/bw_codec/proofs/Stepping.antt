@@ -133,7 +133,7 @@ block_over m (Delta page back ops) rest small law = delta_over page back ops res
 block_over m (Base leaf) rest small law = base_over m leaf rest small law
 block_over m (Split page back upper) rest small law = split_over m page back upper rest small law
 
-length-outlined : (block : Block) → (outline_of block).len ≡ length (block_bytes block)
+pub length-outlined : (block : Block) → (outline_of block).len ≡ length (block_bytes block)
 length-outlined (Delta page back ops) = refl
 length-outlined (Base leaf) = refl
 length-outlined (Split page back upper) = refl
@@ -150,7 +150,7 @@ outlined m block bytes rest pages behind small law parts read =
     ap (λ (r : Pages × List ℕ). let o : Outline = record { len = length bytes - length behind; page = r.0.0; made = r.0.1 } in o) same
     ∙ ap (λ (n : ℕ). let o : Outline = record { len = n; page = (outline_of block).page; made = (outline_of block).made } in o) size
 
-no_both : {A : Type 0} (o : Option A) (x : A) → o ≡ None → o ≡ Some x → ⊥
+pub no_both : {A : Type 0} (o : Option A) (x : A) → o ≡ None → o ≡ Some x → ⊥
 no_both None x none some = cc
 no_both (Some y) x none some = cc
 

@@ -154,6 +154,10 @@ IsFront m f bytes (Whole frame used) =
     IsFrame m f frame × (rest : List ℕ) × (bytes ≡ frame_bytes frame ++ rest) × (used ≡ length (frame_bytes frame))
 IsFront m f bytes Tail = IsTail f bytes
 
+-- the block that stands at the front of bytes
+abbrev pub IsFirst : ℕ → List ℕ → Block → Type 0
+IsFirst m bytes block = IsBlock m block × (rest : List ℕ) × (bytes ≡ block_bytes block ++ rest)
+
 -- whether a segment may begin so
 abbrev pub is_header : Header → Bool
 is_header h = nat_lt 0 h.number && nat_le 4 h.m && nat_le h.m 32 && nat_le 16384 h.f && nat_le h.f 65536

@@ -25,7 +25,7 @@ pub use fault::CodecFault;
 pub use key::{Key, LengthError, Value, is_before};
 pub use leaf::{Leaf, Low, Pairs};
 pub use outline::Outline;
-pub use reading::{read_frame, read_header};
+pub use reading::{read_block, read_frame, read_header};
 pub use record::{Ops, Record};
 pub use writing::{
     block_length, encode_block, encode_frame_head, encode_header, frame_cells, header_cells,

@@ -26,6 +26,7 @@ impl Outline {
     /// The outline of the block at the front of bytes. Of bytes that begin with no lawful block it may
     /// tell anything or `None`. No memory is taken, and no record or pair is looked at but for its
     /// lengths.
+    #[inline(always)]
     pub fn read(bytes: &[u8]) -> Option<Outline>
         ensures { (m : ℕ) (block : Block) (rest : List ℕ) → m < 2 ^ 16 → IsBlock m block
             → bytes.now ≡ block_bytes block ++ rest → result ≡ Some (outline_of block) }

@@ -2,7 +2,8 @@
 
 ghost use Rattle.std.specs.Prelude.{◌≡◌, ◌≤◌, IfOk, IfErr, Some, length};
 ghost use Rattle.bw_codec.specs.declared.block.FrameRead.{FrameRead};
-ghost use Rattle.bw_codec.specs.Grammar.{agrees, IsFront, IsHeading};
+ghost use Rattle.bw_codec.specs.declared.block.Block.{Block};
+ghost use Rattle.bw_codec.specs.Grammar.{agrees, IsFirst, IsFront, IsHeading};
 ghost use Rattle.bw_codec.specs.Reading.{Gives, delta_at, base_at, upper_at, split_at, block_at, many_at, head_at, front_at, heading_of, is_led};
 
 use crate::block::{Block, Blocks, Frame, FrameRead, Head, Header, HeaderRead};
@@ -225,6 +226,21 @@ pub fn read_frame(alloc: Global, bytes: &[u8], header: &Header) -> Result<FrameR
         → Gives (λ x. x) result (Some read) }
 {
     read_within(alloc, header.m, header.f, bytes)
+}
+
+/// The block at the front of the bytes, in a segment whose pages have at most `m` pairs, whatever
+/// follows it. `BadBytes` where no lawful block stands there, `NoMemory` only where a growth was
+/// refused. Time and memory are linear in the block.
+pub fn read_block(alloc: Global, bytes: &[u8], m: u16) -> Result<Block, CodecFault>
+    // What is answered stands there.
+    ensures found { IfOk result (IsFirst m bytes.now) }
+
+    // What stands there is answered, unless memory runs out.
+    ensures only { (block : Block) → IsFirst m bytes.now block
+        → Gives (λ x. x) result (Some block) }
+{
+    let (block, _) = block_of(alloc, m, bytes)?;
+    Ok(block)
 }
 
 /// What a segment begins with: a header, a part of one, or neither. No bytes at all are `Bad`: such

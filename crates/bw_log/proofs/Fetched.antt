@@ -11,7 +11,7 @@ use Rattle.bw_log.proofs.Asked.{found}
 use Rattle.bw_log.proofs.Fields.{both_fields, bounded_same}
 use Rattle.bw_log.specs.Contents.{Contents, image, counted, counted_in, AreTorn, IsImage, IsSound}
 use Rattle.bw_log.specs.Reads.{IsKept, FailedRead, StopsAt, IsLineIn, HoldsPage}
-use Rattle.bw_log.specs.Walking.{StandsAt, IsWalk}
+use Rattle.bw_log.specs.Walking.{thinned, StandsAt, ThinnedAt, IsWalk}
 use Rattle.bw_log.specs.declared.places.FrameAt.{FrameAt}
 use Rattle.bw_log.specs.declared.fault.LogFault.{LogFault}
 use Rattle.bw_log.specs.declared.fault.LogFault.TheVariants.{NoMemory, BadConfig, NoSegment, Device, Failed, Spent, NoPage}
@@ -116,9 +116,10 @@ pub line_bytes : {c : Contents} {k : ℕ} {line : FrameAt} (l : BoxedLine c k li
     → IfSome (slice_get c.live (line.segment - c.number)) (λ h. bytes ≡ take line.len (drop line.at h.bytes)) → bytes ≡ frame_bytes l.frame
 line_bytes {c} {k} {line} l bytes read = subst (λ (o : Option Holding). IfSome o (λ h. bytes ≡ take line.len (drop line.at h.bytes))) l.there read ∙ l.spelled
 
--- the frame that was read
-pub frame_found : {c : Contents} {k : ℕ} {line : FrameAt} (l : BoxedLine c k line) (frame : Frame) → Some l.frame ≡ Some frame → StandsAt (counted c) k frame
-frame_found {c} {k} {line} l frame same = let e : l.frame ≡ frame = cc in subst (StandsAt (counted c) k) e l.stands
+-- what was kept of the frame that was read
+pub frame_found : (p : ℕ) {c : Contents} {k : ℕ} {line : FrameAt} (l : BoxedLine c k line) (kept : Frame) → Some (thinned p l.frame) ≡ Some kept
+    → ThinnedAt p (counted c) k kept
+frame_found p {c} {k} {line} l kept same = record { frame = l.frame; stands = l.stands; is = (let e : thinned p l.frame ≡ kept = cc in e) }
 
 -- ---- reads leave a sound log
 

@@ -8,6 +8,8 @@ pub mod GivenUp
 pub mod Walked
 pub mod Scans
 pub mod Fetched
+pub mod Thinned
+pub mod Picked
 pub mod Walks
 pub mod Entries
 pub mod Reread

@@ -1,4 +1,4 @@
--- Loops over the blocks of one frame, and what bytes of one frame read as.
+-- Loops over the blocks of one frame.
 
 use Rattle.std.proofs.Common.{◌≡◌, ℕ, ◌+◌, ◌<◌, ◌==◌, ◌||◌, Bool, true, false, if◌then◌else◌, Option, Some, None, Result, Ok, Err, List, [], ◌∷◌, length, drop}
 use Rattle.std.proofs.Common.{get_or, refl, sym, ap, ◌∙◌, append-nil}
@@ -31,7 +31,7 @@ pub any_later : (test : Block → Bool) (bs : List Block) (i : ℕ) (b : Block) 
     → list_any test (drop (i + 1) bs) ≡ list_any test (drop i bs)
 any_later test bs i b inside is fails = sym (ap (list_any test) (drop_next bs i b inside is) ∙ (rw fails refl))
 
-here_back : (p : ℕ) (b : Block) (bs : List Block) → touches p b ≡ true → first_back p (b ∷ bs) ≡ first_back p (b ∷ [])
+pub here_back : (p : ℕ) (b : Block) (bs : List Block) → touches p b ≡ true → first_back p (b ∷ bs) ≡ first_back p (b ∷ [])
 here_back p (Delta page back ops) bs e = rw e refl
 here_back p (Base leaf) bs e = rw e refl
 here_back p (Split page back upper) bs e = here_by p (page == p) (upper.page == p) back (first_back p bs) e where
@@ -41,7 +41,7 @@ here_back p (Split page back upper) bs e = here_by p (page == p) (upper.page == 
   here_by p false true back rest e = refl
   here_by p false false back rest e = absurd cc
 
-later_back : (p : ℕ) (b : Block) (bs : List Block) → touches p b ≡ false → first_back p (b ∷ bs) ≡ first_back p bs
+pub later_back : (p : ℕ) (b : Block) (bs : List Block) → touches p b ≡ false → first_back p (b ∷ bs) ≡ first_back p bs
 later_back p (Delta page back ops) bs e = rw e refl
 later_back p (Base leaf) bs e = rw e refl
 later_back p (Split page back upper) bs e = let two = or_parts (page == p) (upper.page == p) e in rw (two.0, two.1) refl
@@ -53,32 +53,6 @@ back_here p bs i b inside is touched = ap (first_back p) (drop_next bs i b insid
 pub back_later : (p : ℕ) (bs : List Block) (i : ℕ) (b : Block) → i < length bs → b ≡ get_or bs i b → touches p b ≡ false
     → first_back p (drop (i + 1) bs) ≡ first_back p (drop i bs)
 back_later p bs i b inside is untouched = sym (ap (first_back p) (drop_next bs i b inside is) ∙ later_back p b (drop (i + 1) bs) untouched)
-
--- ---- one frame's bytes
-
-whole_front : (m f : ℕ) (bytes : List ℕ) (frame : Frame) → IsFrame m f frame → bytes ≡ frame_bytes frame
-    → IsFront m f bytes (Whole frame (length (frame_bytes frame)))
-whole_front m f bytes frame lawful is = (lawful, [], is ∙ sym (append-nil (frame_bytes frame)), refl)
-
--- what reading gives where the bytes spell a frame
-abbrev pub Only : ℕ → ℕ → List ℕ → Result FrameRead CodecFault → Type 0
-Only m f bytes result = (read : FrameRead) → IsFront m f bytes read → Gives (λ (x : FrameRead). x) result (Some read)
-
-pub whole_is : (m f : ℕ) (bytes : List ℕ) (found : Frame) (used : ℕ) → Only m f bytes (Ok (Whole found used)) → (frame : Frame) → IsFrame m f frame
-    → bytes ≡ frame_bytes frame → Some frame ≡ Some found
-whole_is m f bytes found used only frame lawful is =
-    let same = only (Whole frame (length (frame_bytes frame))) (whole_front m f bytes frame lawful is) in
-    (let e : frame ≡ found = cc in ap (λ (x : Frame). Some x) e)
-
-pub tail_is_not : (m f : ℕ) (bytes : List ℕ) → Only m f bytes (Ok Tail) → (frame : Frame) → IsFrame m f frame → bytes ≡ frame_bytes frame → Some frame ≡ None
-tail_is_not m f bytes only frame lawful is =
-    let same = only (Whole frame (length (frame_bytes frame))) (whole_front m f bytes frame lawful is) in absurd cc
-
-pub fault_is : (m f : ℕ) (bytes : List ℕ) (fault : CodecFault) → Only m f bytes (Err fault) → (frame : Frame) → IsFrame m f frame → bytes ≡ frame_bytes frame
-    → Says fault (Some frame)
-fault_is m f bytes NoMemory only frame lawful is = tt
-fault_is m f bytes BadBytes only frame lawful is =
-    let none = only (Whole frame (length (frame_bytes frame))) (whole_front m f bytes frame lawful is) in absurd cc
 
 -- such bytes are not bad
 pub not_bad : {Y : Type 0} (fault : CodecFault) (y : Y) → fault ≡ BadBytes → Says fault (Some y) → ⊥

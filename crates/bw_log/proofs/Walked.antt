@@ -13,7 +13,7 @@ use Rattle.bw_page.specs.Leaves.{leaf_at}
 use Rattle.bw_page.specs.Standing.{after, content, blocks_of}
 use Rattle.bw_log.specs.Places.{first_number}
 use Rattle.bw_log.specs.Contents.{Contents, image, counted, entry_place, place_in, IsSound, IsStanding}
-use Rattle.bw_log.specs.Walking.{first_back, StandsAt, IsWalk}
+use Rattle.bw_log.specs.Walking.{first_back, ThinnedAt, IsWalk}
 use Rattle.bw_log.specs.declared.fault.LogFault.{LogFault}
 use Rattle.bw_log.specs.declared.fault.LogFault.TheVariants.{NoPage}
 use Rattle.bw_log.specs.declared.places.FrameAt.{FrameAt}
@@ -43,10 +43,10 @@ inside_of {c} {p} {at} {newer} sound walk = omega (arith, walk_inside walk, list
 pub some_frames : {c : Contents} {p at : ℕ} {newer : List Frame} → IsSound c → IsWalk p (counted c) at newer → 0 < length c.frames
 some_frames {c} {p} {at} {newer} sound walk = omega (arith, inside_of sound walk)
 
-pub goes_on : {c : Contents} {p at : ℕ} {newer : List Frame} {frame : Frame} → IsSound c → IsWalk p (counted c) at newer → StandsAt (counted c) at frame
+pub goes_on : {c : Contents} {p at : ℕ} {newer : List Frame} {frame : Frame} → IsSound c → IsWalk p (counted c) at newer → ThinnedAt p (counted c) at frame
     → list_any (sets p) frame.blocks ≡ false
     → WalksOn p (counted c) at newer frame (first_back p frame.blocks)
-goes_on sound walk stands unset = walk_on walk stands sound.holds.numbered sound.holds.linked unset
+goes_on sound walk kept unset = walk_on walk kept sound.holds.numbered sound.holds.linked unset
 
 -- ---- the table
 
@@ -113,12 +113,12 @@ not_none c p replayed sound some inside a b = let set = page_set c p sound some 
 
 -- ---- one step of the loop that walks
 
--- the frame that was read, on a log that is as it was when the walk began
+-- what was kept of a frame that was read, on a log that is as it was when the walk began
 abbrev pub Reads : Contents → Contents → ℕ → ℕ → List Frame → Frame → Type 0
-Reads old now p at newer frame = (now ≡ old) × IsSound old × IsWalk p (counted old) at newer × StandsAt (counted now) at frame
+Reads old now p at newer frame = (now ≡ old) × IsSound old × IsWalk p (counted old) at newer × ThinnedAt p (counted now) at frame
 
-stands_then : {old now : Contents} {p at : ℕ} {newer : List Frame} {frame : Frame} → Reads old now p at newer frame → StandsAt (counted old) at frame
-stands_then {old} {now} {p} {at} {newer} {frame} r = subst (λ (c : Contents). StandsAt (counted c) at frame) r.0 r.3
+kept_then : {old now : Contents} {p at : ℕ} {newer : List Frame} {frame : Frame} → Reads old now p at newer frame → ThinnedAt p (counted old) at frame
+kept_then {old} {now} {p} {at} {newer} {frame} r = subst (λ (c : Contents). ThinnedAt p (counted c) at frame) r.0 r.3
 
 pub record Step (old : Contents) (p at : ℕ) (newer : List Frame) (frame : Frame) (first : ℕ) (place : Place) : Type 0 where
   pub from_first : first ≤ place.frame
@@ -139,7 +139,7 @@ walks_on : {old now : Contents} {p at : ℕ} {newer : List Frame} {frame : Frame
     → WalksOn p (counted old) at newer frame (first_back p link_in)
 walks_on {old} {now} {p} {at} {newer} {frame} sets_in link_in r sets_same unset link_same =
     let none : list_any (sets p) frame.blocks ≡ false = ap (list_any (sets p)) (sym sets_same) ∙ sym unset in
-    subst (λ (bs : List Block). WalksOn p (counted old) at newer frame (first_back p bs)) (sym link_same) (goes_on r.1 r.2 (stands_then r) none)
+    subst (λ (bs : List Block). WalksOn p (counted old) at newer frame (first_back p bs)) (sym link_same) (goes_on r.1 r.2 (kept_then r) none)
 
 pub step_is : (old now : Contents) (p at : ℕ) (newer : List Frame) (frame : Frame) (line : FrameAt) (sets_in link_in : List Block) (place : Place)
     → Reads old now p at newer frame → line ≡ get_or old.frames 0 line
@@ -158,7 +158,7 @@ pub end_is : (old now : Contents) (p at : ℕ) (newer pushed : List Frame) (fram
     → sets_in ≡ frame.blocks → true ≡ list_any (sets p) sets_in
     → pushed ≡ newer ++ frame ∷ [] → content p (blocks_of (counted old)) ≡ fold (after p) None (blocks_of (reverse pushed))
 end_is old now p at newer pushed frame sets_in r sets_same set push =
-    walk_ends r.2 (stands_then r) (ap (list_any (sets p)) (sym sets_same) ∙ sym set)
+    walk_ends r.2 (kept_then r) (ap (list_any (sets p)) (sym sets_same) ∙ sym set)
     ∙ ap (λ (fs : List Frame). fold (after p) None (blocks_of (reverse fs))) (sym push)
 
 pub inside_now : {c : Contents} {p at : ℕ} {newer : List Frame} (now : Contents) → now ≡ c → IsSound c → IsWalk p (counted c) at newer → at < length now.frames

@@ -13,8 +13,9 @@ use Rattle.bw_codec.specs.declared.block.Frame.{Frame}
 use Rattle.bw_page.specs.Standing.{after, content, blocks_of}
 use Rattle.bw_log.specs.Places.{all_placed, last_place, is_back, bad_link, first_number, AreLinked, place_of}
 use Rattle.bw_log.specs.Segments.{AreFrom}
-use Rattle.bw_log.specs.Walking.{first_back, StandsAt, IsWalk}
+use Rattle.bw_log.specs.Walking.{first_back, thinned, StandsAt, ThinnedAt, IsWalk}
 use Rattle.bw_log.proofs.Walk.{same_fold, none_fold, forgets_fold}
+use Rattle.bw_log.proofs.Thinned.{thin_fold, thin_sets, thin_back}
 use Rattle.bw_log.proofs.Links.{LastIn, InFrames, frames_last, links_in, frame_link}
 
 -- ---- frames and their blocks
@@ -70,45 +71,51 @@ pub walk_frame : {p : ℕ} {all : List Frame} {at : ℕ} {newer : List Frame} {f
 walk_frame {p} {all} {at} {newer} {frame} w s =
     (same_before w.before s.before w.frame frame w.beyond s.beyond (sym w.split ∙ s.split) (w.index ∙ sym s.index)).1
 
+-- the same of what is kept of that frame
+kept_is : {p : ℕ} {all : List Frame} {at : ℕ} {newer : List Frame} {kept : Frame} (w : IsWalk p all at newer) → ThinnedAt p all at kept
+    → thinned p w.frame ≡ kept
+kept_is {p} {all} {at} {newer} {kept} w t = ap (thinned p) (walk_frame w t.stands) ∙ t.is
+
 -- what was read, once one frame more is read
 read_more : (p : ℕ) (w : Option Leaf) (frame : Frame) (newer : List Frame)
-    → fold (after p) (fold (after p) w frame.blocks) (blocks_of (reverse newer)) ≡ fold (after p) w (blocks_of (reverse (newer ++ frame ∷ [])))
+    → fold (after p) (fold (after p) w frame.blocks) (blocks_of (reverse newer)) ≡ fold (after p) w (blocks_of (reverse (newer ++ thinned p frame ∷ [])))
 read_more p w frame newer =
-    sym (fold-append (after p) w frame.blocks (blocks_of (reverse newer)))
-    ∙ ap (λ (fs : List Frame). fold (after p) w (blocks_of fs)) (sym (reverse-append newer (frame ∷ [])))
+    ap (λ (o : Option Leaf). fold (after p) o (blocks_of (reverse newer))) (sym (thin_fold p w frame.blocks))
+    ∙ sym (fold-append (after p) w (thinned p frame).blocks (blocks_of (reverse newer)))
+    ∙ ap (λ (fs : List Frame). fold (after p) w (blocks_of fs)) (sym (reverse-append newer (thinned p frame ∷ [])))
 
 reads_more : {p : ℕ} {all : List Frame} {at : ℕ} {newer : List Frame} (w : IsWalk p all at newer)
     → content p (blocks_of all) ≡ fold (after p) (fold (after p) (content p (blocks_of w.before)) w.frame.blocks) (blocks_of (reverse newer))
 reads_more {p} {all} {at} {newer} w = w.reads ∙ ap (λ (o : Option Leaf). fold (after p) o (blocks_of (reverse newer))) (content_push p w.before w.frame)
 
 ends_at_own : {p : ℕ} {all : List Frame} {at : ℕ} {newer : List Frame} (w : IsWalk p all at newer) → list_any (sets p) w.frame.blocks ≡ true
-    → content p (blocks_of all) ≡ fold (after p) None (blocks_of (reverse (newer ++ w.frame ∷ [])))
+    → content p (blocks_of all) ≡ fold (after p) None (blocks_of (reverse (newer ++ thinned p w.frame ∷ [])))
 ends_at_own {p} {all} {at} {newer} w set =
     reads_more w
     ∙ ap (λ (o : Option Leaf). fold (after p) o (blocks_of (reverse newer))) (forgets_fold p (content p (blocks_of w.before)) None w.frame.blocks set)
     ∙ read_more p None w.frame newer
 
 -- a frame that sets the page ends the walk
-pub walk_ends : {p : ℕ} {all : List Frame} {at : ℕ} {newer : List Frame} {frame : Frame} → IsWalk p all at newer → StandsAt all at frame
-    → list_any (sets p) frame.blocks ≡ true
-    → content p (blocks_of all) ≡ fold (after p) None (blocks_of (reverse (newer ++ frame ∷ [])))
-walk_ends {p} {all} {at} {newer} {frame} w s set =
-    let same = walk_frame w s in
+pub walk_ends : {p : ℕ} {all : List Frame} {at : ℕ} {newer : List Frame} {kept : Frame} → IsWalk p all at newer → ThinnedAt p all at kept
+    → list_any (sets p) kept.blocks ≡ true
+    → content p (blocks_of all) ≡ fold (after p) None (blocks_of (reverse (newer ++ kept ∷ [])))
+walk_ends {p} {all} {at} {newer} {kept} w t set =
     let P : Frame → Type 0 = λ f. list_any (sets p) f.blocks ≡ true → content p (blocks_of all) ≡ fold (after p) None (blocks_of (reverse (newer ++ f ∷ []))) in
-    subst P same (ends_at_own w) set
+    let own : P (thinned p w.frame) = λ is. ends_at_own w (sym (thin_sets p w.frame.blocks) ∙ is) in
+    subst P (kept_is w t) own set
 
 -- where a frame's link leads
-pub record WalksOn (p : ℕ) (all : List Frame) (at : ℕ) (newer : List Frame) (frame : Frame) (result : Option Place) : Type 0 where
+pub record WalksOn (p : ℕ) (all : List Frame) (at : ℕ) (newer : List Frame) (kept : Frame) (result : Option Place) : Type 0 where
   pub back : Place
   pub is : result ≡ Some back
   pub from_first : first_number all ≤ back.frame
   pub older : back.frame - first_number all < at
-  pub walk : IsWalk p all (back.frame - first_number all) (newer ++ frame ∷ [])
+  pub walk : IsWalk p all (back.frame - first_number all) (newer ++ kept ∷ [])
 
 goes_on_to : {p : ℕ} {all : List Frame} {at : ℕ} {newer : List Frame} (w : IsWalk p all at newer) (back : Place)
     → first_back p w.frame.blocks ≡ Some back → (place : Place)
     → place.frame ≡ back.frame → LastIn (touches p) (first_number all) w.before place → list_any (sets p) w.frame.blocks ≡ false
-    → WalksOn p all at newer w.frame (first_back p w.frame.blocks)
+    → WalksOn p all at newer (thinned p w.frame) (first_back p w.frame.blocks)
 goes_on_to {p} {all} {at} {newer} w back is place same last unset =
     let first = first_number all in
     let number = last.number in
@@ -136,13 +143,13 @@ goes_on_to {p} {all} {at} {newer} w back is place same last unset =
         leaf = there.0;
         set = sym older ∙ there.1;
         reads = reads_more w ∙ read_more p (content p (blocks_of w.before)) w.frame newer
-            ∙ ap (λ (o : Option Leaf). fold (after p) o (blocks_of (reverse (newer ++ w.frame ∷ [])))) older;
+            ∙ ap (λ (o : Option Leaf). fold (after p) o (blocks_of (reverse (newer ++ thinned p w.frame ∷ [])))) older;
       };
     }
 
 goes_on_by : {p : ℕ} {all : List Frame} {at : ℕ} {newer : List Frame} (w : IsWalk p all at newer) → AreLinked all → list_any (sets p) w.frame.blocks ≡ false
     → InFrames (touches p) (first_number all) None w.before (last_place (touches p) (all_placed w.before))
-    → WalksOn p all at newer w.frame (first_back p w.frame.blocks)
+    → WalksOn p all at newer (thinned p w.frame) (first_back p w.frame.blocks)
 goes_on_by {p} {all} {at} {newer} w linked unset (inl nowhere) =
     let none : content p (blocks_of (w.before ++ w.frame ∷ [])) ≡ None =
     content_push p w.before w.frame ∙ ap (λ (o : Option Leaf). fold (after p) o w.frame.blocks) (same_fold p None (blocks_of w.before) nowhere.0)
@@ -159,19 +166,22 @@ goes_on_by {p} {all} {at} {newer} w linked unset (inr found) =
 
 goes_on_own : {p : ℕ} {all : List Frame} {at : ℕ} {newer : List Frame} (w : IsWalk p all at newer) → AreFrom (first_number all) all → AreLinked all
     → list_any (sets p) w.frame.blocks ≡ false
-    → WalksOn p all at newer w.frame (first_back p w.frame.blocks)
+    → WalksOn p all at newer (thinned p w.frame) (first_back p w.frame.blocks)
 goes_on_own {p} {all} {at} {newer} w from linked unset =
     let first = first_number all in
     let before : AreFrom first w.before = from_front first w.before (w.frame ∷ w.beyond) (subst (AreFrom first) w.split from) in
     goes_on_by w linked unset (frames_last (touches p) first None w.before before)
 
 -- a frame that does not set the page links back to the frame with the block before
-pub walk_on : {p : ℕ} {all : List Frame} {at : ℕ} {newer : List Frame} {frame : Frame} → IsWalk p all at newer → StandsAt all at frame
+pub walk_on : {p : ℕ} {all : List Frame} {at : ℕ} {newer : List Frame} {kept : Frame} → IsWalk p all at newer → ThinnedAt p all at kept
     → AreFrom (first_number all) all → AreLinked all
-    → list_any (sets p) frame.blocks ≡ false → WalksOn p all at newer frame (first_back p frame.blocks)
-walk_on {p} {all} {at} {newer} {frame} w s from linked unset =
+    → list_any (sets p) kept.blocks ≡ false → WalksOn p all at newer kept (first_back p kept.blocks)
+walk_on {p} {all} {at} {newer} {kept} w t from linked unset =
     let P : Frame → Type 0 = λ f. list_any (sets p) f.blocks ≡ false → WalksOn p all at newer f (first_back p f.blocks) in
-    subst P (walk_frame w s) (goes_on_own w from linked) unset
+    let own : P (thinned p w.frame) =
+    λ is. subst (λ (o : Option Place). WalksOn p all at newer (thinned p w.frame) o) (sym (thin_back p w.frame.blocks))
+    (goes_on_own w from linked (sym (thin_sets p w.frame.blocks) ∙ is)) in
+    subst P (kept_is w t) own unset
 
 -- ---- where a walk starts
 

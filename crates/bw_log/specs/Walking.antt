@@ -1,7 +1,7 @@
 -- Walking back over frames.
 
 use Rattle.std.specs.Prelude.{ℕ, ◌≡◌, ◌==◌, true, if◌then◌else◌, Option, Some, None, List, [], ◌∷◌, ◌++◌, length, reverse}
-use Rattle.std.specs.List.{fold, list_any}
+use Rattle.std.specs.List.{fold, filter, list_any}
 use Rattle.bw_codec.specs.Touch.{touches}
 use Rattle.bw_codec.specs.declared.leaf.Leaf.{Leaf}
 use Rattle.bw_codec.specs.declared.block.Place.{Place}
@@ -25,7 +25,17 @@ pub record StandsAt (frames : List Frame) (i : ℕ) (frame : Frame) : Type 0 whe
   pub split : frames ≡ before ++ frame ∷ beyond
   pub index : length before ≡ i
 
--- a walk back over frames: these were read, the newest first, and this one is next
+-- a frame without the blocks that do not touch a page
+abbrev pub thinned : ℕ → Frame → Frame
+thinned p f = record { number = f.number; blocks = filter (touches p) f.blocks }
+
+-- such a frame, of the one at an index of a list
+pub record ThinnedAt (p : ℕ) (frames : List Frame) (i : ℕ) (kept : Frame) : Type 0 where
+  pub frame : Frame
+  pub stands : StandsAt frames i frame
+  pub is : thinned p frame ≡ kept
+
+-- a walk back over frames: of these what touches the page was read, the newest first, and this one is next
 pub record IsWalk (p : ℕ) (all : List Frame) (at : ℕ) (newer : List Frame) : Type 0 where
   pub before : List Frame
   pub frame : Frame

@@ -18,6 +18,7 @@ mod laws;
 mod log;
 mod noting;
 mod oldest;
+mod picking;
 mod places;
 mod reading;
 

@@ -8,18 +8,17 @@
 
 ghost use Rattle.std.specs.Prelude.{◌≡◌, ◌≢◌, ◌+◌, ◌-◌, ◌<◌, ◌≤◌, ◌↔◌, ◌∷◌, ◌++◌, [], Some, None, true, false, length, map, take, drop, reverse, slice_get, IfOk, OnErr, IfSome, MatchOption};
 ghost use Rattle.std.specs.List.{fold, list_any};
-ghost use Rattle.bw_codec.specs.Grammar.{frame_bytes, IsFrame};
-ghost use Rattle.bw_codec.specs.Reading.{Gives};
 ghost use Rattle.bw_codec.specs.Touch.{sets, touches};
 ghost use Rattle.bw_codec.specs.declared.block.Frame.{Frame};
 ghost use Rattle.bw_page.specs.Standing.{after, content, blocks_of};
 ghost use Rattle.bw_log.specs.Contents.{counted, image, IsImage};
 ghost use Rattle.bw_log.specs.Reads.{IsPage, IsKept, IsNumbered, IsLineIn, HoldsPage, ReadStops, segment_at};
-ghost use Rattle.bw_log.specs.Walking.{first_back, StandsAt, IsWalk};
+ghost use Rattle.bw_log.specs.Walking.{first_back, ThinnedAt, IsWalk};
 
 use crate::fault::LogFault;
 use crate::log::Log;
-use bw_codec::{Block, CodecFault, Frame, FrameRead, Header, Leaf, Place, read_frame};
+use crate::picking::frame_of_page;
+use bw_codec::{Block, CodecFault, Frame, Leaf, Place};
 use bw_device::{failures_of, lease_of, len_of, read_from};
 use bw_page::read_blocks;
 use std::alloc::{AllocError, Global};
@@ -85,18 +84,6 @@ fn link_back(page: u32, blocks: &[Block]) -> Option<Place>
     None
 }
 
-// The frame that the bytes spell.
-fn frame_in(alloc: Global, bytes: &[u8], m: u16, f: u32) -> Result<Frame, CodecFault>
-    ensures { (frame : Frame) → IsFrame m f frame → bytes.now ≡ frame_bytes frame
-        → Gives (λ x. x) result (Some frame) }
-{
-    let header = Header { number: 1, m, f };
-    match read_frame(alloc, bytes, &header)? {
-        FrameRead::Whole(frame, _) => Ok(frame),
-        FrameRead::Tail => Err(CodecFault::BadBytes),
-    }
-}
-
 // What a page is after these frames, of which the first is the newest.
 fn replay(frames: Vec<Frame>, page: u32) -> Result<Option<Leaf>, AllocError>
     ensures { IfOk result
@@ -138,27 +125,28 @@ impl Log {
         }
     }
 
-    // Reads a counted frame by its line.
-    fn read_frame_at(&mut self, i: usize) -> Result<Frame, LogFault>
+    // Reads a counted frame by its line, without the blocks that do not touch a page.
+    fn read_frame_at(&mut self, i: usize, page: u32) -> Result<Frame, LogFault>
         requires sound { IsSound holding self.old }
         requires inside { i < length self.old.frames.items }
-        ensures found { IfOk result (StandsAt (counted (seen_by holding self.old)) i) }
+        ensures found { IfOk result (ThinnedAt page (counted (seen_by holding self.old)) i) }
         ensures stops { ReadStops (λ j. IsLineIn (seen_by holding self.old) i j)
             (seen_by holding self.old) result (seen_by holding self.new) }
         ensures paged { result ≢ Err LogFault.NoPage }
     {
         let line = self.frames[i];
-        let (m, f) = (self.m, self.f);
+        let m = self.m;
         let at = (line.segment - self.number) as usize;
         let bytes = self.read_some(at, line.at, line.len as usize)?;
-        match frame_in(*self.frames.allocator(), &bytes, m, f) {
+        match frame_of_page(*self.frames.allocator(), &bytes, line.number, m, page) {
             Ok(frame) => Ok(frame),
             Err(CodecFault::NoMemory) => Err(LogFault::NoMemory),
             Err(CodecFault::BadBytes) => unreachable!(),
         }
     }
 
-    // The frames of a page, from the newest back to the one that sets it last.
+    // The frames of a page, from the newest back to the one that sets it last, each without the
+    // blocks that do not touch the page.
     fn walk(&mut self, page: u32, start: usize) -> Result<Vec<Frame>, LogFault>
         requires sound { IsSound holding self.old }
         requires starts { IsWalk page (counted (seen_by holding self.old)) start [] }
@@ -173,7 +161,7 @@ impl Log {
         let mut frames = Vec::new(*self.frames.allocator());
         let mut at = start;
         'back: loop {
-            let frame = self.read_frame_at(at)?;
+            let frame = self.read_frame_at(at, page)?;
             let ends = set_page(page, frame.blocks.as_slice());
             let link = link_back(page, frame.blocks.as_slice());
             frames.push(frame)?;
@@ -188,10 +176,11 @@ impl Log {
     }
 
     /// A page as the counted frames leave it, by the links back from its last block. It reads the
-    /// frames with a block of the page, from the newest to the one that sets it last, and holds
-    /// them in memory together. A page that is not there is `NoPage`; `Device` names the segment
-    /// that failed and does not make the log `Failed`; `Spent` comes where no more failure of a
-    /// segment that has to be read could be counted.
+    /// frames with a block of the page, from the newest to the one that sets it last, steps over
+    /// all blocks that do not touch the page, and holds in memory together those that do, and the
+    /// bytes of one frame. A page that is not there is `NoPage`; `Device` names the segment that
+    /// failed and does not make the log `Failed`; `Spent` comes where no more failure of a segment
+    /// that has to be read could be counted.
     pub fn read_page(&mut self, page: u32) -> Result<Leaf, LogFault>
         requires { IsSound holding self.old }
         ensures page { IfOk result (λ leaf.

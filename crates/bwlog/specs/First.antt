@@ -13,7 +13,7 @@ use Rattle.bw_page.specs.Leaves.{empty_leaf, pages}
 use Rattle.bw_page.specs.Standing.{content, blocks_of, Stand}
 use Rattle.bw_page.specs.FirstPath.{NeverOver}
 
--- what a contract sees of a `FirstStore`: its limits, the records that wait, and the segment's bytes
+-- what a contract sees of a `FirstStore`: its limits, the records that wait, the segment's bytes
 pub record First : Type 0 where
   pub m : ℕ
   pub f : ℕ
@@ -52,7 +52,8 @@ pub record IsOnPath (s : First) : Type 0 where
 pub record WritesFirst (old new : First) : Type 0 where
   pub first : old.bytes ≡ []
   pub whole : IsWhole new.bytes (header_of old.m old.f) (first_frame old.waiting ∷ []) []
-  pub stands : Stand old.m (first_frame old.waiting ∷ []) (pages old.m (empty_leaf ∷ []) old.waiting)
+  pub stands : Stand old.m (first_frame old.waiting ∷ [])
+      (pages old.m (empty_leaf ∷ []) old.waiting)
   pub rest : new ≡ record old { waiting = []; bytes = new.bytes }
 
 -- bytes are a segment of one frame, which says what page 1 is

@@ -1,7 +1,8 @@
-//! The first path: records wait in a list, one flush writes them as one frame, and page 1 is read back
-//! from that frame's bytes. No thread, lock or box.
+//! The first path: records wait in a list, one flush writes them as one frame, and page 1 is read
+//! back from that frame's bytes. No thread, lock or box.
 
-ghost use Rattle.std.specs.Prelude.{◌≡◌, ◌≢◌, ◌≤◌, ◌<◌, ◌↔◌, ◌++◌, ◌⊎◌, [], ◌∷◌, length, IsTrue, IsOk, IsErrOf, IfOk, IfErr, IfSome, IfNone, OnOk, OnErr};
+ghost use Rattle.std.specs.Prelude.{◌≡◌, ◌≢◌, ◌≤◌, ◌<◌, ◌↔◌, ◌++◌, ◌⊎◌, [], ◌∷◌, length, IsTrue};
+ghost use Rattle.std.specs.Prelude.{IsOk, IsErrOf, IfOk, IfErr, IfSome, IfNone, OnOk, OnErr};
 ghost use Rattle.bw_codec.specs.Grammar.{IsWhole};
 ghost use Rattle.bw_codec.specs.declared.block.Header.{Header};
 ghost use Rattle.bw_codec.specs.declared.block.Frame.{Frame};
@@ -9,10 +10,10 @@ ghost use Rattle.bw_page.specs.Leaves.{empty_leaf};
 ghost use Rattle.bw_page.specs.Standing.{content, blocks_of};
 ghost use Rattle.bwlog.specs.First.{AreLimits, IsOnPath, WritesFirst};
 
-use crate::one_frame::{empty_page, frame_in, is_never_over, one_body, one_segment};
+use crate::one_frame::{frame_in, is_never_over, one_body, one_segment};
 use crate::refusal::Refusal;
 use bw_codec::{Leaf, Record};
-use bw_page::read_blocks;
+use bw_page::{empty_page, read_blocks};
 use std::alloc::Global;
 use std::marker::Model;
 
@@ -65,8 +66,9 @@ impl Model for FirstStore {
 }
 
 impl FirstStore {
-    /// An empty store of pages of at most `m` pairs (4 to 32) and a frame of at most `f` bytes (16,384
-    /// to 65,536), in which at most `places` records wait (1 to 4,096). `BadConfig` outside these.
+    /// An empty store of pages of at most `m` pairs (4 to 32) and a frame of at most `f` bytes
+    /// (16,384 to 65,536), in which at most `places` records wait (1 to 4,096). `BadConfig` outside
+    /// these.
     pub fn new(alloc: Global, m: u16, f: u32, places: usize) -> Result<FirstStore, Refusal>
         ensures variant { IsOk result ↔ AreLimits m f places }
         ensures ok { IfOk result (λ s. s ≡ record {
@@ -147,7 +149,8 @@ impl FirstStore {
         Ok(Some(1))
     }
 
-    /// Page 1, read forwards from `bytes`; before the flush it is empty. `NoPage` for another number.
+    /// Page 1, read forwards from `bytes`; before the flush it is empty. `NoPage` for another
+    /// number.
     pub fn page(&self, number: u32) -> Result<Leaf, Refusal>
         ensures empty { self.now.bytes ≡ [] → IfOk result (λ leaf. leaf ≡ empty_leaf) }
         ensures read { (header : Header) (frame : Frame)

@@ -6,8 +6,8 @@ use std::io::{self, BufRead, BufReader, ErrorKind, Read};
 /// The most bytes of a line that is not skipped.
 pub const LONGEST: usize = 4096;
 
-/// So many bytes with their LF tell whether a line is too long: one more than the longest line, a CR
-/// and the LF.
+/// So many bytes with their LF tell whether a line is too long: one more than the longest line, a
+/// CR and the LF.
 const KEPT: u64 = 4099;
 
 /// Counts the reads of a reader, and fails from the one after the last.
@@ -49,8 +49,8 @@ impl<R: Read + Drop> Lines<R> {
         })
     }
 
-    /// Reads the next line, and says whether there was one. Of a line that is too long the first bytes
-    /// are kept, one at least above `LONGEST`.
+    /// Reads the next line, and says whether there was one. Of a line that is too long the first
+    /// bytes are kept, one at least above `LONGEST`.
     pub fn read_line(&mut self) -> io::Result<bool> {
         self.line.clear();
         let count = read_front(&mut self.input, &mut self.line)?;

@@ -1,9 +1,9 @@
 //! Scripts over the page store: `bwlog replay` runs one, line by line, and prints what each line
 //! answers.
 //!
-//! The store of this stage is the first path (`first`): one page that is never split, one frame, and
-//! the page read back from the bytes of that frame. `replay::run` is the whole program over any reader
-//! and writers; `main` gives it the standard streams.
+//! The store of this stage is the first path (`first`): one page that is never split, one frame,
+//! and the page read back from the bytes of that frame. `replay::run` is the whole program over any
+//! reader and writers; `main` gives it the standard streams.
 #![tactic(auto)]
 
 mod first;

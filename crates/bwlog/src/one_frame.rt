@@ -10,22 +10,11 @@ ghost use Rattle.bw_page.specs.FirstPath.{NeverOver};
 ghost use Rattle.bwlog.specs.First.{delta_of, first_frame, header_of};
 
 use bw_codec::{
-    Block, CodecFault, Frame, FrameRead, Header, HeaderRead, Leaf, Low, Ops, Pairs, Place, Record,
-    encode_block, encode_frame_head, encode_header, read_frame, read_header,
+    Block, CodecFault, Frame, FrameRead, Header, HeaderRead, Ops, Place, Record, encode_block,
+    encode_frame_head, encode_header, read_frame, read_header,
 };
-use bw_page::change;
+use bw_page::{change, empty_page};
 use std::alloc::{AllocError, Global};
-
-/// Page 1 without any pair.
-pub fn empty_page(alloc: Global) -> Leaf
-    ensures { result ≡ empty_leaf }
-{
-    Leaf {
-        page: 1,
-        low: Low::of(Vec::new(alloc)),
-        pairs: Pairs::of(Vec::new(alloc)),
-    }
-}
 
 /// Whether page 1 never has more than `m` pairs while records apply to it, one after the other.
 pub fn is_never_over(alloc: Global, m: u16, records: &[Record]) -> Result<bool, AllocError>

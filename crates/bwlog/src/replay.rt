@@ -163,9 +163,10 @@ fn status_of<O: Write, E: Write>(
     }
 }
 
-/// Runs the program on the words after its name, and answers its exit status: 0; 2 where the words are
-/// no command line; 3 at a fault of the script; 4 where something was refused; 5 at once where a growth
-/// was refused; 6 where a read or a write failed. The outputs are flushed before it answers.
+/// Runs the program on the words after its name, and answers its exit status: 0; 2 where the words
+/// are no command line; 3 at a fault of the script; 4 where something was refused; 5 at once where
+/// a growth was refused; 6 where a read or a write failed. The outputs are flushed before it
+/// answers.
 pub fn run<I: Read, O: Write, E: Write>(
     alloc: Global,
     words: &[&str],

@@ -60,8 +60,8 @@ fn check_writer(word: &str) -> Result<(), Fault> {
     }
 }
 
-/// The bytes that a word stands for, at the front of `room`: those of its hex digits after `0x`, or its
-/// own.
+/// The bytes that a word stands for, at the front of `room`: those of its hex digits after `0x`, or
+/// its own.
 fn bytes_of<'a>(word: &'a [u8], room: &'a mut [u8; 128]) -> Result<&'a [u8], Fault> {
     if !word.starts_with(b"0x") {
         return Ok(word);

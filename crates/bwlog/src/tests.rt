@@ -1,4 +1,140 @@
+//! Scripts and what they print, in rows that are walked to the first that goes otherwise than told.
+
 mod command_line;
+mod lengths;
 mod scripts;
 mod store;
 mod streams;
+
+use crate::replay::run;
+use std::alloc::{AllocError, Global};
+use std::io::Read;
+
+/// One run of the program, with what it has to answer.
+#[derive(Drop)]
+enum Row {
+    /// A script, its exit status, and what it prints. Nothing is told.
+    Prints(&'static str, u8, &'static str),
+    /// A script that ends at a fault: what it prints before, and what is told.
+    Fault(&'static str, &'static str, &'static str),
+    /// So many times a byte between two texts, and what this script prints.
+    Long(&'static str, u8, usize, &'static str, &'static str),
+    /// So many times a byte between two texts, a script of one fault, and what is told.
+    LongFault(&'static str, u8, usize, &'static str, &'static str),
+    /// So many records of a value of 128 bytes, and the exit status of their flush.
+    Records(usize, u8),
+    /// The words of a command line, a script, and what it prints.
+    Under(&'static [&'static str], &'static str, &'static str),
+    /// Words that are no command line.
+    NoParse(&'static [&'static str]),
+}
+
+const PLAIN: [&str; 1] = ["replay"];
+
+const MANY: [&str; 3] = ["replay", "--places", "200"];
+
+/// Whether what was written is as told.
+fn are_so(printed: &[u8], output: &str, told: &[u8], errors: &str) -> bool {
+    printed == output.as_bytes() && told == errors.as_bytes()
+}
+
+/// Whether a run ends with this status, prints this and tells that.
+fn ends<I: Read>(
+    alloc: Global,
+    words: &[&str],
+    input: &mut I,
+    status: u8,
+    output: &str,
+    errors: &str,
+) -> bool {
+    let mut printed = Vec::new(alloc);
+    let mut told = Vec::new(alloc);
+    let answer = run(alloc, words, input, &mut printed, &mut told);
+    let are_so = are_so(printed.as_slice(), output, told.as_slice(), errors);
+    are_so & (answer == status)
+}
+
+/// Whether words are answered with status 2, nothing printed and something told.
+fn is_no_parse(alloc: Global, words: &[&str]) -> bool {
+    let mut input = b"flush\n".as_slice();
+    let mut printed = Vec::new(alloc);
+    let mut told = Vec::new(alloc);
+    let answer = run(alloc, words, &mut input, &mut printed, &mut told);
+    (answer == 2) & printed.is_empty() & !told.is_empty()
+}
+
+/// So many times a byte between two texts.
+fn around(
+    alloc: Global,
+    before: &str,
+    byte: u8,
+    count: usize,
+    after: &str,
+) -> Result<Vec<u8>, AllocError> {
+    let mut script = Vec::from_slice(alloc, before.as_bytes())?;
+    for _ in 0..count {
+        script.push(byte)?;
+    }
+    script.extend_from_slice(after.as_bytes())?;
+    Ok(script)
+}
+
+/// So many times a line, and a flush.
+fn flushed(alloc: Global, line: &[u8], count: usize) -> Result<Vec<u8>, AllocError> {
+    let mut script = Vec::new(alloc);
+    for _ in 0..count {
+        script.extend_from_slice(line)?;
+    }
+    script.extend_from_slice(b"flush\n")?;
+    Ok(script)
+}
+
+/// Whether a script ends with this status, whatever it prints.
+fn has_status(alloc: Global, words: &[&str], script: &[u8], status: u8) -> bool {
+    let mut input = script;
+    let mut printed = Vec::new(alloc);
+    let mut told = Vec::new(alloc);
+    run(alloc, words, &mut input, &mut printed, &mut told) == status
+}
+
+/// Whether so many records are flushed with this status.
+fn flush_answers(alloc: Global, count: usize, status: u8) -> Result<bool, AllocError> {
+    let line = around(alloc, "put 0 k ", b'v', 128, "\n")?;
+    let script = flushed(alloc, line.as_slice(), count)?;
+    Ok(has_status(alloc, &MANY, script.as_slice(), status))
+}
+
+/// Whether the row goes as told.
+fn goes(alloc: Global, row: &Row) -> Result<bool, AllocError> {
+    match row {
+        Row::Prints(script, status, output) => {
+            Ok(ends(alloc, &PLAIN, &mut script.as_bytes(), *status, output, ""))
+        }
+        Row::Fault(script, output, errors) => {
+            Ok(ends(alloc, &PLAIN, &mut script.as_bytes(), 3, output, errors))
+        }
+        Row::Long(before, byte, count, after, output) => {
+            let script = around(alloc, before, *byte, *count, after)?;
+            Ok(ends(alloc, &PLAIN, &mut script.as_slice(), 0, output, ""))
+        }
+        Row::LongFault(before, byte, count, after, errors) => {
+            let script = around(alloc, before, *byte, *count, after)?;
+            Ok(ends(alloc, &PLAIN, &mut script.as_slice(), 3, "", errors))
+        }
+        Row::Records(count, status) => flush_answers(alloc, *count, *status),
+        Row::Under(words, script, output) => {
+            Ok(ends(alloc, words, &mut script.as_bytes(), 0, output, ""))
+        }
+        Row::NoParse(words) => Ok(is_no_parse(alloc, words)),
+    }
+}
+
+/// How many of the rows went as told before one did not.
+fn walked(alloc: Global, rows: &[Row]) -> Result<usize, AllocError> {
+    for (i, row) in rows.iter().enumerate() {
+        if !goes(alloc, row)? {
+            return Ok(i);
+        }
+    }
+    Ok(rows.len())
+}

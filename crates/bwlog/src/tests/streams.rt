@@ -1,15 +1,20 @@
+//! Streams that fail, once a row, and where the run ends then.
+
+use super::{PLAIN, ends};
 use crate::lines::Lines;
 use crate::replay::run;
+use std::alloc::Global;
 use std::io::{self, ErrorKind, Read, Write};
 use std::test::*;
 
-// Gives its text a byte a read, and fails each time at `cut`; the first read of each byte is
-// interrupted.
+/// Gives its text a byte a read, and fails each time at `cut`. With interruptions the first read of
+/// each byte is one.
 #[derive(Drop)]
 struct Failing<'a> {
     text: &'a [u8],
     at: usize,
     cut: usize,
+    has_interruptions: bool,
     is_interrupted: bool,
 }
 
@@ -18,7 +23,7 @@ impl Read for Failing<'_> {
         if self.at >= self.cut {
             return Err(io::Error::from(ErrorKind::BrokenPipe));
         }
-        self.is_interrupted = !self.is_interrupted;
+        self.is_interrupted = self.has_interruptions && !self.is_interrupted;
         if self.is_interrupted {
             return Err(io::Error::from(ErrorKind::Interrupted));
         }
@@ -33,7 +38,7 @@ impl Read for Failing<'_> {
     }
 }
 
-// Takes so many bytes and then fails; a flush fails where it is told so.
+/// Takes so many bytes and then fails; a flush fails where it is told so.
 #[derive(Drop)]
 struct Short {
     left: usize,
@@ -59,118 +64,131 @@ impl Write for Short {
     }
 }
 
-#[test]
-fn a_failed_read_ends_the_run(rt: HostRuntime) {
-    let text = b"put 0 k v\nflush\npage 1\n";
-    let table = [
-        (0, 6, "", "input failed\n"),
-        (10, 6, "ok\n", "input failed\n"),
-        (12, 6, "ok\n", "input failed\n"),
-        (16, 6, "ok\nframe 1\n", "input failed\n"),
-        (
-            23,
-            6,
-            "ok\nframe 1\npage 1 low 0x pairs 1 k=v\n",
-            "input failed\n",
-        ),
-        (24, 0, "ok\nframe 1\npage 1 low 0x pairs 1 k=v\n", ""),
-    ];
-    for (cut, status, printed, told) in table {
-        let mut input = Failing {
-            text,
-            at: 0,
-            cut,
-            is_interrupted: false,
-        };
-        let mut output = Vec::new(rt.alloc());
-        let mut errors = Vec::new(rt.alloc());
-        let answer = run(
-            rt.alloc(),
-            &["replay"],
-            &mut input,
-            &mut output,
-            &mut errors,
-        );
-        assert_eq!(rt; answer, status, "{cut}");
-        assert!(rt; output.as_slice() == printed.as_bytes(), "{cut}");
-        assert!(rt; errors.as_slice() == told.as_bytes(), "{cut}");
+/// One stream, with what a run over it has to answer.
+#[derive(Drop)]
+enum Row {
+    /// The input of `TEXT` fails from this byte on: the exit status, what is printed, what is told.
+    Input(usize, u8, &'static str, &'static str),
+    /// A script, whose output takes so many bytes and can or cannot be flushed: the exit status.
+    Output(&'static str, usize, bool, u8),
+    /// A word and a script, of whose fault three bytes are taken: the exit status.
+    Errors(&'static str, &'static str, u8),
+    /// Two lines of three bytes are read in so many reads, a byte each: whether that is enough.
+    Reads(u64, bool),
+}
+
+const TEXT: &str = "put 0 k v\nflush\npage 1\n";
+
+fn input_ends(alloc: Global, cut: usize, status: u8, output: &str, errors: &str) -> bool {
+    let mut input = Failing {
+        text: TEXT.as_bytes(),
+        at: 0,
+        cut,
+        has_interruptions: true,
+        is_interrupted: false,
+    };
+    ends(alloc, &PLAIN, &mut input, status, output, errors)
+}
+
+fn output_ends(alloc: Global, script: &str, left: usize, can_flush: bool, status: u8) -> bool {
+    let mut input = script.as_bytes();
+    let mut printed = Short { left, can_flush };
+    let mut told = Vec::new(alloc);
+    run(alloc, &PLAIN, &mut input, &mut printed, &mut told) == status
+}
+
+fn errors_end(alloc: Global, word: &str, script: &str, status: u8) -> bool {
+    let mut input = script.as_bytes();
+    let mut printed = Vec::new(alloc);
+    let mut told = Short {
+        left: 3,
+        can_flush: true,
+    };
+    run(alloc, &[word], &mut input, &mut printed, &mut told) == status
+}
+
+fn is_read<R: Read + Drop>(lines: &mut Lines<R>, text: &str) -> io::Result<bool> {
+    Ok(lines.read_line()? && lines.line() == text.as_bytes())
+}
+
+fn are_read<R: Read + Drop>(lines: &mut Lines<R>, is_enough: bool) -> io::Result<bool> {
+    if !is_read(lines, "a")? {
+        return Ok(false);
+    }
+    match is_read(lines, "b") {
+        Ok(is_last) => Ok(is_enough && is_last),
+        Err(_) => Ok(!is_enough),
     }
 }
 
-#[test]
-fn a_failed_write_ends_the_run(rt: HostRuntime) {
-    let table = [
-        ("put 0 k v\nflush\npage 1\ndump 1\n", 195, true, 0),
-        ("put 0 k v\nflush\npage 1\ndump 1\n", 195, false, 6),
-        ("put 0 k v\nflush\npage 1\ndump 1\n", 194, true, 6),
-        ("put 0 k v\nflush\npage 1\ndump 1\n", 60, true, 6),
-        ("put 0 k v\nflush\npage 1\ndump 1\n", 30, true, 6),
-        ("put 0 k v\nflush\npage 1\ndump 1\n", 5, true, 6),
-        ("put 0 k v\nflush\npage 1\ndump 1\n", 0, true, 6),
-        ("page 2\n", 0, true, 6),
-        ("page 2\nfail\n", 0, true, 6),
-        ("fail\n", 0, true, 3),
-        ("fail\n", 0, false, 6),
-    ];
-    for (script, left, can_flush, status) in table {
-        let mut input = script.as_bytes();
-        let mut output = Short { left, can_flush };
-        let mut errors = Vec::new(rt.alloc());
-        let answer = run(
-            rt.alloc(),
-            &["replay"],
-            &mut input,
-            &mut output,
-            &mut errors,
-        );
-        assert_eq!(rt; answer, status, "{script} {left}");
+fn reads_end(alloc: Global, reads: u64, is_enough: bool) -> io::Result<bool> {
+    let mut input = Failing {
+        text: b"a\nb",
+        at: 0,
+        cut: 9,
+        has_interruptions: false,
+        is_interrupted: false,
+    };
+    let mut lines = Lines::new(alloc, &mut input, reads)?;
+    are_read(&mut lines, is_enough)
+}
+
+/// Whether the row goes as told.
+fn goes(alloc: Global, row: &Row) -> io::Result<bool> {
+    match row {
+        Row::Input(cut, status, output, errors) => {
+            Ok(input_ends(alloc, *cut, *status, output, errors))
+        }
+        Row::Output(script, left, can_flush, status) => {
+            Ok(output_ends(alloc, script, *left, *can_flush, *status))
+        }
+        Row::Errors(word, script, status) => Ok(errors_end(alloc, word, script, *status)),
+        Row::Reads(reads, is_enough) => reads_end(alloc, *reads, *is_enough),
     }
 }
 
-#[test]
-fn a_failed_write_of_a_fault_ends_the_run(rt: HostRuntime) {
-    for (words, script) in [("replay", "fail\n"), ("nothing", "")] {
-        let mut input = script.as_bytes();
-        let mut output = Vec::new(rt.alloc());
-        let mut errors = Short {
-            left: 3,
-            can_flush: true,
-        };
-        let answer = run(rt.alloc(), &[words], &mut input, &mut output, &mut errors);
-        assert_eq!(rt; answer, 6, "{words}");
-    }
-}
-
-// Four reads give three bytes and the end.
-#[test]
-fn reads_are_counted(rt: HostRuntime) -> Result<(), Fail> {
-    for (reads, is_ended) in [(4, true), (3, false)] {
-        let mut text = Failing {
-            text: b"a\nb",
-            at: 0,
-            cut: 9,
-            is_interrupted: true,
-        };
-        let mut input = Steady { inner: &mut text };
-        let mut lines = Lines::new(rt.alloc(), &mut input, reads)?;
-        assert!(rt; lines.read_line()? && lines.line() == b"a".as_slice());
-        match lines.read_line() {
-            Ok(is_line) => assert!(rt; is_ended && is_line && lines.line() == b"b".as_slice()),
-            Err(_) => assert!(rt; !is_ended),
+/// How many of the rows went as told before one did not.
+fn walked(alloc: Global, rows: &[Row]) -> io::Result<usize> {
+    for (i, row) in rows.iter().enumerate() {
+        if !goes(alloc, row)? {
+            return Ok(i);
         }
     }
+    Ok(rows.len())
+}
+
+const STREAMS: [Row; 21] = [
+    Row::Input(0, 6, "", "input failed\n"),
+    Row::Input(10, 6, "ok\n", "input failed\n"),
+    Row::Input(12, 6, "ok\n", "input failed\n"),
+    Row::Input(16, 6, "ok\nframe 1\n", "input failed\n"),
+    Row::Input(
+        23,
+        6,
+        "ok\nframe 1\npage 1 low 0x pairs 1 k=v\n",
+        "input failed\n",
+    ),
+    Row::Input(24, 0, "ok\nframe 1\npage 1 low 0x pairs 1 k=v\n", ""),
+    Row::Output("put 0 k v\nflush\npage 1\ndump 1\n", 195, true, 0),
+    Row::Output("put 0 k v\nflush\npage 1\ndump 1\n", 195, false, 6),
+    Row::Output("put 0 k v\nflush\npage 1\ndump 1\n", 194, true, 6),
+    Row::Output("put 0 k v\nflush\npage 1\ndump 1\n", 60, true, 6),
+    Row::Output("put 0 k v\nflush\npage 1\ndump 1\n", 30, true, 6),
+    Row::Output("put 0 k v\nflush\npage 1\ndump 1\n", 5, true, 6),
+    Row::Output("put 0 k v\nflush\npage 1\ndump 1\n", 0, true, 6),
+    Row::Output("page 2\n", 0, true, 6),
+    Row::Output("page 2\nfail\n", 0, true, 6),
+    Row::Output("fail\n", 0, true, 3),
+    Row::Output("fail\n", 0, false, 6),
+    Row::Errors("replay", "fail\n", 6),
+    Row::Errors("nothing", "", 6),
+    // Three bytes and the end.
+    Row::Reads(4, true),
+    Row::Reads(3, false),
+];
+
+#[test]
+fn a_failed_stream_ends_the_run(rt: HostRuntime) -> Result<(), Fail> {
+    assert_eq!(rt; walked(rt.alloc(), &STREAMS)?, STREAMS.len());
     Ok(())
-}
-
-// The same reader without its interruptions.
-#[derive(Drop)]
-struct Steady<'a, 'b> {
-    inner: &'a mut Failing<'b>,
-}
-
-impl Read for Steady<'_, '_> {
-    fn read(&mut self, buf: &mut [u8]) -> io::Result<usize> {
-        self.inner.is_interrupted = true;
-        self.inner.read(buf)
-    }
 }

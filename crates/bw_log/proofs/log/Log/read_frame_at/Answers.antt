@@ -2,6 +2,7 @@ use Rattle.std.proofs.Common.{◌∙◌, arith}
 use Rattle.std.proofs.lemmas.List.{length-map}
 use Rattle.std.proofs.lemmas.Result.{err_from_is_err_and}
 use Rattle.bw_log.proofs.Scans.{not_bad}
+use Rattle.bw_log.specs.Walking.{thinned}
 use Rattle.bw_log.proofs.Fetched.{boxed_line, line_within, line_bytes, frame_found, in_line, stops_as}
 use Rattle.bw_log.proofs.log.Log.read_frame_at.Goals as goal
 
@@ -24,13 +25,15 @@ read_some-requires-clause-within g c =
 pub returns-in-Ok-clause-found : goal.returns-in-Ok-clause-found
 returns-in-Ok-clause-found g c =
     let l = boxed_line _ c.args.i c.index-line.result.now c.requires.sound c.requires.inside c.index-line.ensures in
-    frame_found l c.in-Ok.frame (c.in-Ok.ensures l.frame l.lawful (c.deref.ensures.value ∙ line_bytes l c.in_ok-bytes.bytes.items c.in_ok-bytes.ensures.bytes))
+    frame_found c.args.page l c.in-Ok.frame
+    (c.in-Ok.ensures _ l.frame l.lawful (c.deref.ensures.value ∙ line_bytes l c.in_ok-bytes.bytes.items c.in_ok-bytes.ensures.bytes) l.numbered)
 
 pub unreachable-requires : goal.unreachable-requires
 unreachable-requires g c =
     let l = boxed_line _ c.args.i c.index-line.result.now c.requires.sound c.requires.inside c.index-line.ensures in
-    not_bad c.in-Err-BadBytes.field-0 l.frame c.in-Err-BadBytes.field-0-is
-    (c.in-Err-BadBytes.ensures l.frame l.lawful (c.deref.ensures.value ∙ line_bytes l c.in_ok-bytes.bytes.items c.in_ok-bytes.ensures.bytes))
+    not_bad c.in-Err-BadBytes.field-0 (thinned c.args.page l.frame) c.in-Err-BadBytes.field-0-is
+    (c.in-Err-BadBytes.ensures _ l.frame l.lawful
+    (c.deref.ensures.value ∙ line_bytes l c.in_ok-bytes.bytes.items c.in_ok-bytes.ensures.bytes) l.numbered)
 
 pub returns-in_err-bytes-clause-stops : goal.returns-in_err-bytes-clause-stops
 returns-in_err-bytes-clause-stops g c =

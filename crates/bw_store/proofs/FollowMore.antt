@@ -1,0 +1,167 @@
+-- Each step follows, and so do several.
+
+use Rattle.std.proofs.Common.{◌≡◌, ℕ, ◌+◌, ◌≤◌, inl, inr, true, false, Result, Ok, Err, Option, Some, None, Bool, List, [], ◌∷◌, ◌++◌, length, refl, sym, ap}
+use Rattle.std.proofs.Common.{◌∙◌, subst}
+use Rattle.std.proofs.Common.{append_assoc, append-nil, arith, length-append}
+use Rattle.bw_codec.specs.declared.record.Record.{Record}
+use Rattle.bw_codec.specs.declared.block.Place.{Place}
+use Rattle.std.specs.Prelude.{◌==◌, nat_le}
+use Rattle.std.proofs.lemmas.Bool.{eqb-false, leb-true, leb-false}
+use Rattle.bw_log.specs.Contents.{roster}
+use Rattle.bw_store.specs.declared.entry.Entry.{Entry}
+use Rattle.bw_store.specs.declared.fault.StoreFault.{StoreFault}
+use Rattle.bw_store.specs.Kept.{Kept, with_frame, with_stop}
+use Rattle.bw_store.specs.Taken.{taken}
+use Rattle.bw_store.specs.Taking.{MayFlush, Took, TakeLeaves}
+use Rattle.bw_store.specs.declared.fault.StoreFault.TheVariants.{NoMemory, BadConfig, NoSegment, Device, Failed, Spent, NoPage}
+use Rattle.bw_store.specs.Faults.{Flushed, Broken, FlushLeaves}
+use Rattle.bw_store.specs.Following.{Follows, Turned}
+
+pub follows_as : (old new : Kept) → new ≡ old → Turned 0 old new
+follows_as old new e = record {
+  follows = record {
+    rings = ap (λ (s : Kept). s.rings) e;
+    start = ap (λ (s : Kept). s.start) e;
+    before = ap (λ (s : Kept). s.before) e;
+    edge = ap (λ (s : Kept). s.edge) e;
+    entries_more = [];
+    history = ap (λ (s : Kept). s.entries) e ∙ sym (append-nil old.entries);
+    cuts_more = [];
+    cuts = ap (λ (s : Kept). s.cuts) e ∙ sym (append-nil old.cuts);
+    appended = (let k = ap (λ (s : Kept). s.durable) e in omega arith);
+    floor = (let k = ap (λ (s : Kept). s.floor) e in omega arith);
+  };
+  boxes = record { same = ap (λ (s : Kept). roster s.log) e };
+  grew = ap (λ (s : Kept). length s.entries) e ∙ omega arith;
+}
+
+pub follows_then : {n k : ℕ} (a b c : Kept) → Turned n a b → Turned k b c → Turned (n + k) a c
+follows_then {n} {k} a b c x y =
+    let f = x.follows in
+    let g = y.follows in
+    let low = f.appended in
+    let high = g.appended in
+    let low_floor = f.floor in
+    let high_floor = g.floor in
+    let one = x.grew in
+    let two = y.grew in
+    record {
+      follows = record {
+        rings = g.rings ∙ f.rings;
+        start = g.start ∙ f.start;
+        before = g.before ∙ f.before;
+        edge = g.edge ∙ f.edge;
+        entries_more = f.entries_more ++ g.entries_more;
+        history = g.history ∙ ap (λ (es : List Entry). es ++ g.entries_more) f.history ∙ append_assoc a.entries f.entries_more g.entries_more;
+        cuts_more = f.cuts_more ++ g.cuts_more;
+        cuts = g.cuts ∙ ap (λ (cs : List ℕ). cs ++ g.cuts_more) f.cuts ∙ append_assoc a.cuts f.cuts_more g.cuts_more;
+        appended = omega arith;
+        floor = omega arith;
+      };
+      boxes = record { same = y.boxes.same ∙ x.boxes.same };
+      grew = omega arith;
+    }
+
+follows_flushed : (old new : Kept) (number : ℕ) → Flushed old number new → Turned 0 old new
+follows_flushed old new number f =
+    let step : Turned 0 old (with_frame old f.fresh f.log) = record {
+      follows = record {
+        rings = refl;
+        start = refl;
+        before = refl;
+        edge = refl;
+        floor = omega arith;
+        entries_more = [];
+        history = sym (append-nil old.entries);
+        cuts_more = length old.entries ∷ [];
+        cuts = refl;
+        appended = omega arith;
+      };
+      boxes = record { same = f.same.leases };
+      grew = omega arith;
+    } in
+    follows_then old (with_frame old f.fresh f.log) new step (follows_as (with_frame old f.fresh f.log) new f.is)
+
+follows_broken : (old new : Kept) (lease : ℕ) → Broken lease old new → Turned 0 old new
+follows_broken old new lease b =
+    let step : Turned 0 old (with_stop old b.log) = record {
+      follows = record {
+        rings = refl;
+        start = refl;
+        before = refl;
+        edge = refl;
+        floor = omega arith;
+        entries_more = [];
+        history = sym (append-nil old.entries);
+        cuts_more = length old.entries ∷ [];
+        cuts = refl;
+        appended = omega arith;
+      };
+      boxes = record { same = b.same.leases };
+      grew = omega arith;
+    } in
+    follows_then old (with_stop old b.log) new step (follows_as (with_stop old b.log) new b.is)
+
+follows_may : (old new : Kept) → MayFlush old new → Turned 0 old new
+follows_may old new (inl e) = follows_as old new e
+follows_may old new (inr f) = follows_flushed old new f.0 f.1
+
+follows_took : (lane : ℕ) (old new : Kept) → Took lane old new → Turned 1 old new
+follows_took lane old new t =
+    let step : Turned 1 t.middle (taken t.middle lane t.item t.back) = record {
+      follows = record {
+        rings = refl;
+        start = refl;
+        before = refl;
+        edge = refl;
+        floor = omega arith;
+        entries_more = record { writer = lane; item = t.item } ∷ [];
+        history = refl;
+        cuts_more = [];
+        cuts = sym (append-nil t.middle.cuts);
+        appended = omega arith;
+      };
+      boxes = record { same = refl };
+      grew = length-append t.middle.entries (record { writer = lane; item = t.item } ∷ []);
+    } in
+    let last : Turned (1 + 0) t.middle new = follows_then t.middle (taken t.middle lane t.item t.back) new step
+    (follows_as (taken t.middle lane t.item t.back) new t.is) in
+    follows_then old t.middle new (follows_may old t.middle t.flushes) last
+
+-- a flush, whatever its answer
+pub follows_left : (old new : Kept) (r : Result (Option ℕ) StoreFault) → FlushLeaves old r new → Turned 0 old new
+follows_left old new (Ok None) left = follows_as old new left.0
+follows_left old new (Ok (Some number)) left = follows_flushed old new number left
+follows_left old new (Err (Device lease)) left = follows_broken old new lease left
+follows_left old new (Err NoMemory) left = follows_as old new left
+follows_left old new (Err BadConfig) left = follows_as old new left
+follows_left old new (Err NoSegment) left = follows_as old new left
+follows_left old new (Err Failed) left = follows_as old new left
+follows_left old new (Err Spent) left = follows_as old new left
+follows_left old new (Err NoPage) left = follows_as old new left
+
+-- ---- a take behind others
+
+pub took_more : {n : ℕ} (lane : ℕ) (a b c : Kept) → Turned n a b → TakeLeaves lane b (Ok true) c → Turned (n + 1) a c
+took_more lane a b c x t = follows_then a b c x (follows_took _ b c t)
+
+pub took_none : {n : ℕ} (lane : ℕ) (a b c : Kept) → Turned n a b → TakeLeaves lane b (Ok false) c → Turned n a c
+took_none {n} lane a b c x e = (let y = follows_then a b c x (follows_as b c e)
+    in record { follows = y.follows; boxes = y.boxes; grew = (let g = y.grew in omega arith) })
+
+pub took_fault : {n : ℕ} (lane : ℕ) (a b c : Kept) (fault : StoreFault) → Turned n a b → TakeLeaves lane b (Err fault) c → Turned n a c
+took_fault {n} lane a b c fault x (inl m) =
+    (let y = follows_then a b c x (follows_may b c m) in record { follows = y.follows; boxes = y.boxes; grew = (let g = y.grew in omega arith) })
+took_fault {n} lane a b c fault x (inr s) =
+    (let y = follows_then a b c x (follows_broken b c s.0 s.1) in record { follows = y.follows; boxes = y.boxes; grew = (let g = y.grew in omega arith) })
+
+pub took_more_by : {n : ℕ} (lane : ℕ) (a b c : Kept) (r : Result Bool StoreFault) (took : Bool) → r ≡ Ok took → took ≡ true → Turned n a b
+    → TakeLeaves lane b r c → Turned (n + 1) a c
+took_more_by lane a b c r took is sure x t =
+    took_more lane a b c x (subst (λ (o : Result Bool StoreFault). TakeLeaves lane b o c) (is ∙ ap (λ (v : Bool). Ok v) sure) t)
+
+pub still_within : (n k limit : ℕ) → (n ≡ limit → ⊥) → n ≤ limit → k ≤ n + 1 → k ≤ limit
+still_within n k limit ne le more = (elim (nat_le (n + 1) limit) as (λ b. nat_le (n + 1) limit ≡ b → k ≤ limit) [
+  | true ↦ λ e. (let h = leb-true _ _ e in omega arith)
+  | false ↦ λ e. (let h = leb-false _ _ e in absurd (ne (omega arith)))
+] refl)

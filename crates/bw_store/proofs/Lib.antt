@@ -1,0 +1,15 @@
+pub mod Stepping
+pub mod Placing
+pub mod Telling
+pub mod Growing
+pub mod RecordMore
+pub mod FrameMore
+pub mod MayAppend
+pub mod MayEnter
+pub mod SettledMore
+pub mod Laned
+pub mod Planned
+pub mod Shares
+pub mod Fresh
+pub mod FollowMore
+pub mod Logs

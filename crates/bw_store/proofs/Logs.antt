@@ -1,0 +1,105 @@
+-- A store whose log changed, but not in what it counts.
+
+use Rattle.std.proofs.Common.{false, ◌≡◌, ℕ, ◌+◌, ◌<◌, ◌≤◌, inl, inr, Result, Err, List, [], map, refl, sym, ap, ◌∙◌, subst, arith, append-nil}
+use Rattle.std.specs.List.{AllByRecursion as All}
+use Rattle.bw_codec.specs.declared.block.Frame.{Frame}
+use Rattle.bw_page.specs.Standing.{Stand}
+use Rattle.bw_buffer.specs.Filling.{frame_of}
+use Rattle.bw_log.specs.declared.fault.LogFault.{LogFault}
+use Rattle.bw_log.specs.declared.fault.LogFault.TheVariants as log
+use Rattle.bw_log.specs.Contents as logs
+use Rattle.bw_log.specs.Reads.{IsKept, StopsAt}
+use Rattle.bw_store.specs.declared.fault.StoreFault.{StoreFault}
+use Rattle.bw_store.specs.declared.fault.StoreFault.TheVariants.{NoMemory, BadConfig, NoSegment, Device, Failed, Spent, NoPage}
+use Rattle.bw_store.specs.Faults.{fault_of}
+use Rattle.bw_store.specs.Following.{Follows, HasBoxes}
+use Rattle.bw_store.specs.Growing.{Grown, frames_upto}
+use Rattle.bw_store.specs.Kept.{Kept, leaves_at, TellsShare, IsSound}
+use Rattle.bw_store.specs.Reading.{with_log, ReadLeaves}
+
+-- a log that counts the same frames
+pub record CountsAs (old new : logs.Contents) : Type 0 where
+  pub sound : logs.IsSound new
+  pub m : new.m ≡ old.m
+  pub f : new.f ≡ old.f
+  pub next : new.next ≡ old.next
+  pub failed : new.is_failed ≡ old.is_failed
+  pub frames : logs.counted new ≡ logs.counted old
+
+pub log_sound : (s : Kept) (new : logs.Contents) → IsSound s → CountsAs s.log new → IsSound (with_log s new)
+log_sound s new h c = record {
+  log = c.sound;
+  pairs = h.pairs ∙ sym c.m;
+  limit = h.limit ∙ sym c.f;
+  here = h.here;
+  leaves = h.leaves;
+  ops = h.ops;
+  writers = h.writers;
+  grown = subst (λ (fs : List Frame). Grown s.filed.m fs (frame_of s.making) s.filed.leaves s.newest) (sym c.frames) h.grown;
+  next = c.next ∙ h.next;
+  number = elim (h.number) [ inl e ↦ inl e | inr e ↦ inr (c.next ∙ e.0, e.1) ];
+  sealed = h.sealed ∙ sym c.failed;
+  ordered = h.ordered;
+  beyond = elim (h.beyond) [ inl e ↦ inl e | inr e ↦ inr (e.0, c.failed ∙ e.1) ];
+  floor = h.floor;
+  stands = λ k low high from. subst (λ (fs : List Frame). Stand s.filed.m (frames_upto (s.before + k) fs) (leaves_at s k)) (sym c.frames)
+      (h.stands k low high from);
+  shares = subst (λ (fs : List Frame). All (λ f. s.before < f.number → TellsShare s f) fs) (sym c.frames) h.shares;
+  tells = h.tells;
+}
+
+pub log_follows : (s : Kept) (new : logs.Contents) → Follows s (with_log s new)
+log_follows s new = record {
+  rings = refl;
+  start = refl;
+  before = refl;
+  edge = refl;
+  entries_more = [];
+  history = sym (append-nil s.entries);
+  cuts_more = [];
+  cuts = sym (append-nil s.cuts);
+  appended = omega arith;
+  floor = omega arith;
+}
+
+-- what a read keeps is enough
+pub kept_counts : (old new : logs.Contents) → logs.IsSound new → IsKept old new → CountsAs old new
+kept_counts old new sound k = record {
+  sound = sound;
+  m = ap (λ (i : logs.Image). i.m) k.same;
+  f = ap (λ (i : logs.Image). i.f) k.same;
+  next = ap (λ (i : logs.Image). i.next) k.same;
+  failed = ap (λ (i : logs.Image). i.is_failed) k.same;
+  frames = k.counts;
+}
+
+-- a refused read, as the store tells it
+pub stops_as : (A : Type 0) (reads : ℕ → Type 0) (old : Kept) (fault : LogFault) (new : logs.Contents) → StopsAt reads old.log fault new
+    → (fault ≡ log.NoPage → ⊥) → ReadLeaves {A = A} reads old (Err (fault_of fault)) (with_log old new)
+stops_as A reads old log.NoMemory new stops other = ap (with_log old) stops
+stops_as A reads old (log.Device lease) new stops other = stops
+stops_as A reads old log.BadConfig new stops other = absurd stops
+stops_as A reads old log.NoSegment new stops other = absurd stops
+stops_as A reads old log.Failed new stops other = absurd stops
+stops_as A reads old log.Spent new stops other = (ap (with_log old) stops.0, stops.1)
+stops_as A reads old log.NoPage new stops other = absurd (other refl)
+
+pub rolled_counts : (old new : logs.Contents) → logs.IsSound new → new ≡ record old { is_open = false } → CountsAs old new
+rolled_counts old new sound is = record {
+  sound = sound;
+  m = ap (λ (c : logs.Contents). c.m) is;
+  f = ap (λ (c : logs.Contents). c.f) is;
+  next = ap (λ (c : logs.Contents). c.next) is;
+  failed = ap (λ (c : logs.Contents). c.is_failed) is;
+  frames = ap (λ (c : logs.Contents). logs.counted c) is;
+}
+
+-- the store tells a bad box where the log does, and nowhere else
+pub only_bad : (fault : LogFault) → fault_of fault ≡ BadConfig → fault ≡ log.BadConfig
+only_bad log.NoMemory e = cc
+only_bad log.BadConfig e = refl
+only_bad log.NoSegment e = cc
+only_bad (log.Device lease) e = cc
+only_bad log.Failed e = cc
+only_bad log.Spent e = cc
+only_bad log.NoPage e = cc

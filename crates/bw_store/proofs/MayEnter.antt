@@ -1,0 +1,177 @@
+-- A record whose blocks fit may be entered.
+
+use Rattle.std.proofs.Common.{◌≡◌, ◌≢◌, ℕ, zero, suc, ◌+◌, ◌-◌, ◌*◌, ◌^◌, ◌<◌, ◌≤◌, ◌⊎◌, inl, inr, Bool, true, false, Option, Some, None, Result, Ok, Err, List}
+use Rattle.std.proofs.Common.{[], ◌∷◌, ◌++◌, length, map, set, refl, sym, ap, ◌∙◌, subst, arith, if◌then◌else◌, length-append}
+use Rattle.std.specs.Prelude.{nat_le}
+use Rattle.std.specs.List.{AllByRecursion as All, slice_get}
+use Rattle.std.proofs.lemmas.Option.{slice_get_within}
+use Rattle.bw_codec.specs.Grammar.{body_bytes, IsBlock, IsOp}
+use Rattle.bw_codec.specs.declared.record.Record.{Record}
+use Rattle.bw_codec.specs.declared.block.Place.{Place}
+use Rattle.bw_codec.specs.declared.block.Block.{Block}
+use Rattle.bw_codec.specs.declared.block.Block.TheVariants.{Delta, Split}
+use Rattle.bw_codec.specs.declared.leaf.Leaf.{Leaf}
+use Rattle.std.proofs.lemmas.Bool.{leb-true, leb-false}
+use Rattle.bw_codec.proofs.Wider.{blocks_wider}
+use Rattle.bw_page.specs.Leaves.{directed_at, upper_of, HasPage, AreLeaves}
+use Rattle.bw_page.specs.Shown.{Shown, IsSpent, after_record}
+use Rattle.bw_page.proofs.Indexing.{count_fits}
+use Rattle.bw_page.proofs.Indexed.{home_within}
+use Rattle.bw_codec.specs.Record.{key_of}
+use Rattle.bw_buffer.specs.Filling.{Filling, frame_of, size_of}
+use Rattle.bw_buffer.proofs.Holding.{few_blocks}
+use Rattle.bw_ring.specs.declared.lane.Lane.{Lane}
+use Rattle.bw_ring.specs.Ends.{Ring, ring_of_lane}
+use Rattle.std.proofs.lemmas.List.{length-map}
+use Rattle.bw_log.specs.Contents as logs
+use Rattle.bw_log.specs.Segments.{following}
+use Rattle.bw_log.proofs.Adding.{following_is}
+use Rattle.bw_store.specs.declared.entry.Entry.{Entry}
+use Rattle.bw_store.specs.Adding.{end_of, after_place, result_of, blocks_for, places_after, noted}
+use Rattle.bw_store.specs.Taken.{taken}
+use Rattle.bw_store.specs.Kept.{Kept, IsSound}
+use Rattle.bw_store.proofs.Growing.{Takes, blocks_lawful}
+use Rattle.bw_store.proofs.RecordMore.{TakesOne, taken_sound}
+use Rattle.bw_store.proofs.MayAppend.{following_fits}
+
+pub record Enters (s : Kept) (item : Record) (back : Place) (blocks : List Block) : Type 0 where
+  pub sound : IsSound s
+  pub next : s.log.next ≡ Some s.making.frame
+  pub op : IsOp item
+  pub last : slice_get s.newest (directed_at s.filed.leaves item - 1) ≡ Some back
+  pub made : blocks ≡ blocks_for s.filed.m s.filed.leaves back (end_of (frame_of s.making)) item
+  pub fits : size_of s.making + length (body_bytes blocks) ≤ s.making.limit
+
+pub enters_at : {s : Kept} {item : Record} {back : Place} {blocks : List Block} (page : ℕ) → IsSound s → s.log.next ≡ Some s.making.frame → IsOp item
+    → page ≡ directed_at s.filed.leaves item
+    → slice_get s.newest (page - 1) ≡ Some back → blocks ≡ blocks_for s.filed.m s.filed.leaves back (end_of (frame_of s.making)) item
+    → size_of s.making + length (body_bytes blocks) ≤ s.making.limit → Enters s item back blocks
+enters_at {s} {item} {back} page sound next op at last made fits = record {
+  sound = sound;
+  next = next;
+  op = op;
+  last = subst (λ (p : ℕ). slice_get s.newest (p - 1) ≡ Some back) at last;
+  made = made;
+  fits = fits;
+}
+
+few : (s : Kept) → IsSound s → size_of s.making ≤ s.making.limit → length s.making.blocks + 2 < 2 ^ 32
+few s h fits = (let k = few_blocks s.making.blocks in let l = h.limit in let top = h.log.holds.limits.3 in omega arith)
+
+limits : (s : Kept) → IsSound s → (4 ≤ s.filed.m) × (s.filed.m ≤ 32)
+limits s h = (let p = h.pairs in let l = h.log.holds.limits in (omega arith, omega arith))
+
+has_page : (f : Shown) (r : Record) → AreLeaves f.m f.leaves → (IsSpent f r → ⊥) → HasPage f.m f.leaves r
+has_page f r a not over = (let n = count_fits f.m f.leaves a in
+    elim (nat_le (2 ^ 32) (length f.leaves + 1)) as (λ b. nat_le (2 ^ 32) (length f.leaves + 1) ≡ b → length f.leaves + 1 < 2 ^ 32) [
+      | true ↦ λ e. (let big = leb-true _ _ e in absurd (not (over, omega arith)))
+      | false ↦ λ e. leb-false _ _ e
+    ] refl)
+
+takes_it : (s : Kept) (item : Record) (back : Place) (blocks : List Block) → Enters s item back blocks → (IsSpent s.filed item → ⊥)
+    → Takes s.filed.m (logs.counted s.log) (frame_of s.making) s.filed.leaves s.newest back item
+takes_it s item back blocks e not =
+    let h = e.sound in
+    let bound = following_fits (s.before + s.durable) s.making.frame (sym h.next ∙ e.next) in
+    let number = following_is (s.before + s.durable) s.making.frame (sym h.next ∙ e.next) in
+    let fits = e.fits in
+    record {
+      some = (limits s h).0;
+      grown = h.grown;
+      op = e.op;
+      room = has_page s.filed item h.grown.stands.lawful not;
+      last = e.last;
+      number = (omega arith, bound);
+      few = few s h (omega arith);
+    }
+
+pub takes_one : (s : Kept) (writer : ℕ) (item : Record) (back : Place) (blocks : List Block) → Enters s item back blocks → (IsSpent s.filed item → ⊥)
+    → writer < length s.rings → TakesOne s writer item back
+takes_one s writer item back blocks e not inside = record {
+  sound = e.sound;
+  takes = takes_it s item back blocks e not;
+  number = following_is (s.before + s.durable) s.making.frame (sym e.sound.next ∙ e.next);
+  inside = inside;
+}
+
+-- ---- what filing the blocks asks
+
+module _ {s : Kept} {item : Record} {back : Place} {blocks : List Block} (e : Enters s item back blocks) where
+  pub file_few : length s.making.blocks + 2 < 2 ^ 32
+  file_few = (let fits = e.fits in few s e.sound (omega arith))
+
+  pub file_page : (page : ℕ) → page ≡ directed_at s.filed.leaves item → (1 ≤ page) × (page ≤ length s.newest)
+  file_page page is = (let w = home_within s.filed.m (key_of item) s.filed.leaves e.sound.grown.stands.lawful in let c = e.sound.grown.count
+      in (omega arith, omega arith))
+
+  pub file_some : (1 ≤ length blocks) × (length blocks ≤ 2)
+  file_some =
+      subst (λ (bs : List Block). (1 ≤ length bs) × (length bs ≤ 2)) (sym e.made)
+      (elim (nat_le (length (result_of s.filed.leaves item).pairs) s.filed.m) as
+      (λ b. (1 ≤ length (if b then Delta (directed_at s.filed.leaves item) back (item ∷ []) ∷ [] else Delta (directed_at s.filed.leaves item) back
+      (item ∷ []) ∷ Split (directed_at s.filed.leaves item) (end_of (frame_of s.making))
+      (upper_of s.filed.m (length s.filed.leaves + 1) (result_of s.filed.leaves item)) ∷ []))
+      × (length (if b then Delta (directed_at s.filed.leaves item) back (item ∷ []) ∷ [] else Delta (directed_at s.filed.leaves item) back (item ∷ []) ∷
+      Split (directed_at s.filed.leaves item) (end_of (frame_of s.making))
+      (upper_of s.filed.m (length s.filed.leaves + 1) (result_of s.filed.leaves item)) ∷ []) ≤ 2)) [
+        | true ↦ (omega arith, omega arith)
+        | false ↦ (omega arith, omega arith)
+      ])
+
+  pub file_lawful : (IsSpent s.filed item → ⊥) → All (IsBlock 32) blocks
+  file_lawful not =
+      subst (All (IsBlock 32)) (sym e.made) (blocks_wider s.filed.m 32 _ (limits s e.sound).1
+      (blocks_lawful s.filed.m _ (frame_of s.making) s.filed.leaves s.newest back item (takes_it s item back blocks e not)))
+
+-- the places noted are those after the record
+pub noted_is : (m : ℕ) (leaves : List Leaf) (back here : Place) (r : Record) (newest : List Place)
+    → noted newest (directed_at leaves r) here (length (blocks_for m leaves back here r)) ≡ places_after m leaves here r newest
+noted_is m leaves back here r newest =
+    elim (nat_le (length (result_of leaves r).pairs) m) as
+    (λ b. noted newest (directed_at leaves r) here
+    (length (if b then Delta (directed_at leaves r) back (r ∷ []) ∷ [] else Delta (directed_at leaves r) back (r ∷ []) ∷ Split (directed_at leaves r) here
+    (upper_of m (length leaves + 1) (result_of leaves r)) ∷ []))
+    ≡ (if b then set newest (directed_at leaves r - 1) here else set newest (directed_at leaves r - 1) (after_place here) ++ after_place here ∷ []))
+    [ true ↦ refl | false ↦ refl ]
+
+-- the store after all was written
+pub entered : {s : Kept} {item : Record} {back : Place} {blocks : List Block} → Enters s item back blocks → (IsSpent s.filed item → ⊥)
+    → (writer page : ℕ) (entries : List Entry) (filed : Shown) (newest : List Place) (making : Filling)
+    → page ≡ directed_at s.filed.leaves item
+    → (es : List Entry) → entries ≡ es ++ record { writer = writer; item = item } ∷ [] → es ≡ s.entries → filed ≡ after_record s.filed item
+    → (ps : List Place) → newest ≡ noted ps page (end_of (frame_of s.making)) (length blocks) → ps ≡ s.newest
+    → making ≡ record s.making { blocks = s.making.blocks ++ blocks }
+    → (rings rs : List Ring) → rings ≡ rs → rs ≡ s.rings
+    → record s { rings = rings; entries = entries; filed = filed; newest = newest; making = making } ≡ taken s writer item back
+entered {s} {item} {back} {blocks} e not writer page entries filed newest making at es e1 e1' e2 ps e3 e3' e4 rings rs e5 e5' =
+    let places : newest ≡ places_after s.filed.m s.filed.leaves (end_of (frame_of s.making)) item s.newest =
+    e3 ∙ ap (λ (l : List Place). noted l page (end_of (frame_of s.making)) (length blocks)) e3'
+    ∙ ap (λ (p : ℕ). noted s.newest p (end_of (frame_of s.making)) (length blocks)) at
+    ∙ ap (λ (bs : List Block). noted s.newest (directed_at s.filed.leaves item) (end_of (frame_of s.making)) (length bs)) e.made
+    ∙ noted_is s.filed.m s.filed.leaves back (end_of (frame_of s.making)) item s.newest in
+    let made : making ≡ record s.making { blocks = s.making.blocks ++ blocks_for s.filed.m s.filed.leaves back (end_of (frame_of s.making)) item } =
+    e4 ∙ ap (λ (bs : List Block). record s.making { blocks = s.making.blocks ++ bs }) e.made in
+    ap (λ (l : List Ring). record s { rings = l; entries = entries; filed = filed; newest = newest; making = making }) (e5 ∙ e5') ∙
+    ap (λ (es : List Entry). record s { entries = es; filed = filed; newest = newest; making = making })
+    (e1 ∙ ap (λ (l : List Entry). l ++ record { writer = writer; item = item } ∷ []) e1')
+    ∙ ap (λ (f : Shown). record s { entries = s.entries ++ record { writer = writer; item = item } ∷ []; filed = f; newest = newest; making = making }) e2
+    ∙ ap (λ (ps : List Place). record s {
+      entries = s.entries ++ record { writer = writer; item = item } ∷ [];
+      filed = after_record s.filed item;
+      newest = ps;
+      making = making;
+    }) places
+    ∙ ap (λ (b : Filling). record s {
+      entries = s.entries ++ record { writer = writer; item = item } ∷ [];
+      filed = after_record s.filed item;
+      newest = places_after s.filed.m s.filed.leaves (end_of (frame_of s.making)) item s.newest;
+      making = b;
+    }) made
+
+pub entered_sound : {s : Kept} {item : Record} {back : Place} {blocks : List Block} → Enters s item back blocks → (IsSpent s.filed item → ⊥) → (writer : ℕ)
+    → writer < length s.rings → IsSound (taken s writer item back)
+entered_sound {s} {item} {back} {blocks} e not writer inside = taken_sound s writer item back (takes_one s writer item back blocks e not inside)
+
+-- a lane is one of the rings
+pub lane_inside : (lanes : List Lane) (at : ℕ) → at < length lanes → at < length (map ring_of_lane lanes)
+lane_inside lanes at lt = (let e = length-map lanes ring_of_lane in omega arith)

@@ -1,0 +1,204 @@
+-- What was planned is what the record adds, and it is short.
+
+use Rattle.std.proofs.Common.{◌≡◌, ℕ, ◌+◌, ◌-◌, ◌*◌, ◌^◌, ◌<◌, ◌≤◌, Bool, true, false, Option, Some, None, Result, Ok, Err, inl, inr, List, [], ◌∷◌, ◌++◌}
+use Rattle.std.proofs.Common.{length, refl, sym, ap, ◌∙◌, subst, arith, if◌then◌else◌, length-append, append-nil}
+use Rattle.std.specs.Prelude.{nat_le, IfOk, OnOk}
+use Rattle.bw_store.specs.declared.planning.Plan.{Plan}
+use Rattle.bw_store.specs.declared.fault.StoreFault.{StoreFault}
+use Rattle.bw_store.specs.Faults.{FlushLeaves}
+use Rattle.bw_store.specs.Taking.{MayFlush, Took}
+use Rattle.bw_store.specs.Taken.{taken}
+use Rattle.bw_store.specs.declared.entry.Entry.{Entry}
+use Rattle.std.specs.List.{AllByRecursion as All, flat_map}
+use Rattle.bw_codec.specs.Grammar.{body_bytes, block_bytes, op_bytes, pair_bytes, IsBlock, IsOp, IsPair}
+use Rattle.bw_codec.specs.Record.{key_of}
+use Rattle.bw_codec.specs.declared.record.Record.{Record}
+use Rattle.bw_codec.specs.declared.record.Record.TheVariants.{Put, Del}
+use Rattle.bw_codec.specs.declared.leaf.Leaf.{Leaf}
+use Rattle.bw_codec.specs.declared.block.Place.{Place}
+use Rattle.bw_codec.specs.declared.block.Block.{Block}
+use Rattle.bw_codec.specs.declared.block.Block.TheVariants.{Delta, Base, Split}
+use Rattle.bw_codec.proofs.Lengths.{length-delta, length-split}
+use Rattle.bw_page.specs.Leaves.{home, changed, directed_at, upper_of, leaf_at, HasPage, AreLeaves}
+use Rattle.std.specs.List.{slice_get}
+use Rattle.bw_page.specs.Shown.{Shown, leaf_here}
+use Rattle.bw_page.specs.Seats.{is_among}
+use Rattle.bw_codec.proofs.Wider.{blocks_wider}
+use Rattle.bw_buffer.specs.Filling.{frame_of, size_of}
+use Rattle.bw_buffer.proofs.Holding.{few_blocks}
+use Rattle.bw_log.specs.Contents as logs
+use Rattle.bw_log.proofs.Adding.{following_is}
+use Rattle.bw_store.specs.Kept.{Kept, IsSound}
+use Rattle.bw_store.proofs.Growing.{Takes, blocks_lawful}
+use Rattle.bw_store.proofs.MayAppend.{following_fits}
+use Rattle.bw_store.specs.Adding.{blocks_for, end_of, result_of, upper_if, planned}
+use Rattle.bw_store.proofs.Stepping.{home_there}
+
+-- where no page is away, each leaf is in memory
+pub leaf_is_here : (f : Shown) (p : ℕ) → f.away ≡ [] → leaf_here p f ≡ leaf_at p f.leaves
+leaf_is_here f p none = ap (λ (away : List ℕ). if is_among p away then None else leaf_at p f.leaves) none
+
+some_same : {A : Type 0} {a b : A} → Some a ≡ Some b → a ≡ b
+some_same e = cc
+
+pub planned_is : (m : ℕ) (leaves : List Leaf) (back here : Place) (item : Record) (key : List ℕ) (page pages n : ℕ) (leaf : Leaf)
+    (upper : Option Leaf) (bs : List Block)
+    → AreLeaves m leaves → key ≡ key_of item → page ≡ (home key leaves).page → Some leaf ≡ leaf_at page leaves → n ≡ m → pages ≡ length leaves
+    → upper ≡ upper_if n (pages + 1) (changed item leaf) → bs ≡ planned page back here item upper → bs ≡ blocks_for m leaves back here item
+planned_is m leaves back here item key page pages n leaf upper bs a k at there same count up made =
+    let at_home : page ≡ directed_at leaves item = at ∙ ap (λ q. (home q leaves).page) k in
+    let is : leaf ≡ home (key_of item) leaves = some_same (there ∙ ap (λ p. leaf_at p leaves) at_home ∙ home_there m leaves (key_of item) a) in
+    let upper_is : upper ≡ upper_if m (length leaves + 1) (result_of leaves item) =
+    up ∙ ap (λ x. upper_if x (pages + 1) (changed item leaf)) same ∙ ap (λ x. upper_if m (x + 1) (changed item leaf)) count
+    ∙ ap (λ (l : Leaf). upper_if m (length leaves + 1) (changed item l)) is in
+    made
+    ∙ ap (λ p. planned p back here item upper) at_home
+    ∙ ap (λ (u : Option Leaf). planned (directed_at leaves item) back here item u) upper_is
+    ∙ elim (nat_le (length (result_of leaves item).pairs) m) as
+    (λ b. planned (directed_at leaves item) back here item (if b then None else Some (upper_of m (length leaves + 1) (result_of leaves item)))
+    ≡ (if b then Delta (directed_at leaves item) back (item ∷ []) ∷ [] else Delta (directed_at leaves item) back (item ∷ []) ∷ Split (directed_at leaves item)
+    here (upper_of m (length leaves + 1) (result_of leaves item)) ∷ [])) [ true ↦ refl | false ↦ refl ]
+
+-- ---- lengths
+
+op_short : (r : Record) → IsOp r → length (op_bytes r) ≤ 195
+op_short (Put key value) h = (let e = length-append (length key ∷ key) (length value ∷ value) in let k = h.0.1 in let v = h.1 in omega arith)
+op_short (Del key) h = (let k = h.1 in omega arith)
+
+pairs_short : (ps : List (List ℕ × List ℕ)) → All IsPair ps → length (flat_map pair_bytes ps) ≤ 194 * length ps
+pairs_short [] h = omega arith
+pairs_short (p ∷ ps) h =
+    (let e = length-append (pair_bytes p) (flat_map pair_bytes ps) in
+    let f = length-append (length p.0 ∷ p.0) (length p.1 ∷ p.1) in
+    let k = h.0.0.1 in
+    let v = h.0.1 in
+    let rest = pairs_short ps h.1 in
+    omega arith)
+
+one_op : (r : Record) → IsOp r → length (flat_map op_bytes (r ∷ [])) ≤ 195
+one_op r h = (let e = ap length (append-nil (op_bytes r)) in let s = op_short r h in omega arith)
+
+pub blocks_short : (m : ℕ) (leaves : List Leaf) (back here : Place) (r : Record) → m ≤ 32 → IsOp r → All (IsBlock m) (blocks_for m leaves back here r)
+    → length (body_bytes (blocks_for m leaves back here r)) ≤ 7000
+blocks_short m leaves back here r le op lawful =
+    elim (nat_le (length (result_of leaves r).pairs) m) as (λ b.
+    All (IsBlock m) (if b then Delta (directed_at leaves r) back (r ∷ []) ∷ [] else Delta (directed_at leaves r) back (r ∷ []) ∷ Split
+    (directed_at leaves r) here (upper_of m (length leaves + 1) (result_of leaves r)) ∷ [])
+    → length (body_bytes (if b then Delta (directed_at leaves r) back (r ∷ []) ∷ [] else Delta (directed_at leaves r) back (r ∷ []) ∷ Split
+    (directed_at leaves r) here (upper_of m (length leaves + 1) (result_of leaves r)) ∷ [])) ≤ 7000) [
+      | true ↦ λ h. (let e = ap length (append-nil (block_bytes (Delta (directed_at leaves r) back (r ∷ []))))
+          in let d = length-delta (directed_at leaves r) back (r ∷ []) in let s = one_op r op in omega arith)
+      | false ↦ λ h. (
+          let u = upper_of m (length leaves + 1) (result_of leaves r) in
+          let split = h.1.0 in
+          let count = split.makes.count in
+          let low = split.makes.low in
+          let pairs = pairs_short u.pairs split.makes.pairs in
+          let e = length-append (block_bytes (Delta (directed_at leaves r) back (r ∷ []))) (body_bytes (Split (directed_at leaves r) here u ∷ [])) in
+          let f = ap length (append-nil (block_bytes (Split (directed_at leaves r) here u))) in
+          let d = length-delta (directed_at leaves r) back (r ∷ []) in
+          let g = length-split (directed_at leaves r) here u in
+          let s = one_op r op in omega arith)
+    ] lawful
+
+pub room_is : (m : ℕ) (leaves : List Leaf) (item : Record) (key : List ℕ) (page pages n : ℕ) (leaf : Leaf) → AreLeaves m leaves → key ≡ key_of item
+    → page ≡ (home key leaves).page → Some leaf ≡ leaf_at page leaves → n ≡ m → pages ≡ length leaves
+    → (n < length (changed item leaf).pairs → pages + 1 < 2 ^ 32) → HasPage m leaves item
+room_is m leaves item key page pages n leaf a k at there same count room over =
+    let at_home : page ≡ directed_at leaves item = at ∙ ap (λ q. (home q leaves).page) k in
+    let is : leaf ≡ home (key_of item) leaves = some_same (there ∙ ap (λ p. leaf_at p leaves) at_home ∙ home_there m leaves (key_of item) a) in
+    let long : length (changed item leaf).pairs ≡ length (result_of leaves item).pairs = ap (λ (l : Leaf). length (changed item l).pairs) is in
+    let bound = room (omega arith) in
+    omega arith
+
+takes_by : (s : Kept) → IsSound s → (item : Record) (back : Place) → IsOp item → HasPage s.filed.m s.filed.leaves item → s.log.next ≡ Some s.making.frame
+    → size_of s.making ≤ s.making.limit
+    → slice_get s.newest (directed_at s.filed.leaves item - 1) ≡ Some back
+    → Takes s.filed.m (logs.counted s.log) (frame_of s.making) s.filed.leaves s.newest back item
+takes_by s h item back op room next fits last =
+    let number = following_is (s.before + s.durable) s.making.frame (sym h.next ∙ next) in
+    let bound = following_fits (s.before + s.durable) s.making.frame (sym h.next ∙ next) in
+    let l = h.log.holds.limits in
+    let p = h.pairs in
+    let k = few_blocks s.making.blocks in
+    let limit = h.limit in
+    record { some = omega arith; grown = h.grown; op = op; room = room; last = last; number = (omega arith, bound); few = omega arith }
+
+some_blocks : (s : Kept) (item : Record) (back : Place)
+    → (1 ≤ length (blocks_for s.filed.m s.filed.leaves back (end_of (frame_of s.making)) item))
+    × (length (blocks_for s.filed.m s.filed.leaves back (end_of (frame_of s.making)) item) ≤ 2)
+some_blocks s item back =
+    elim (nat_le (length (result_of s.filed.leaves item).pairs) s.filed.m) as
+    (λ b. (1 ≤ length (if b then Delta (directed_at s.filed.leaves item) back (item ∷ []) ∷ [] else Delta (directed_at s.filed.leaves item) back (item ∷ [])
+    ∷ Split (directed_at s.filed.leaves item) (end_of (frame_of s.making)) (upper_of s.filed.m (length s.filed.leaves + 1) (result_of s.filed.leaves item))
+    ∷ [])) × (length (if b then Delta (directed_at s.filed.leaves item) back (item ∷ []) ∷ [] else Delta (directed_at s.filed.leaves item) back (item ∷ [])
+    ∷ Split (directed_at s.filed.leaves item) (end_of (frame_of s.making))
+    (upper_of s.filed.m (length s.filed.leaves + 1) (result_of s.filed.leaves item)) ∷ []) ≤ 2)) [
+      | true ↦ (omega arith, omega arith)
+      | false ↦ (omega arith, omega arith)
+    ]
+
+-- what a plan says, on a sound store: the blocks are lawful, few and short
+pub plan_lawful : (s : Kept) → IsSound s → (item : Record) (back : Place) (blocks : List Block) → IsOp item → HasPage s.filed.m s.filed.leaves item
+    → s.log.next ≡ Some s.making.frame → size_of s.making ≤ s.making.limit
+    → slice_get s.newest (directed_at s.filed.leaves item - 1) ≡ Some back → blocks ≡ blocks_for s.filed.m s.filed.leaves back (end_of (frame_of s.making)) item
+    → All (IsBlock 32) blocks × (length blocks ≤ 2) × (1 ≤ length blocks) × (length (body_bytes blocks) ≤ 7000)
+plan_lawful s h item back blocks op room next fits last made =
+    let t = takes_by s h item back op room next fits last in
+    let all = blocks_lawful s.filed.m (logs.counted s.log) (frame_of s.making) s.filed.leaves s.newest back item t in
+    let some = some_blocks s item back in
+    let l = h.log.holds.limits in
+    let p = h.pairs in
+    let le : s.filed.m ≤ 32 = omega arith in (
+      subst (All (IsBlock 32)) (sym made) (blocks_wider s.filed.m 32 _ le all),
+      subst (λ (bs : List Block). length bs ≤ 2) (sym made) some.1,
+      subst (λ (bs : List Block). 1 ≤ length bs) (sym made) some.0,
+      subst (λ (bs : List Block). length (body_bytes bs) ≤ 7000) (sym made)
+          (blocks_short s.filed.m s.filed.leaves back (end_of (frame_of s.making)) item le op all),
+    )
+
+-- the same of what planning answers
+module _ (s : Kept) (h : IsSound s) (item : Record) (op : IsOp item) (next : s.log.next ≡ Some s.making.frame) (free frame index : ℕ)
+    (fits : free + size_of s.making ≡ s.making.limit) (at : frame ≡ s.making.frame) (in_frame : index ≡ length s.making.blocks) where
+  plan_all : (p : Plan) → p.page ≡ directed_at s.filed.leaves item → slice_get s.newest (p.page - 1) ≡ Some p.back → HasPage s.filed.m s.filed.leaves item
+      → p.blocks.items ≡ blocks_for s.filed.m s.filed.leaves p.back (record { frame = frame; index = index }) item
+      → All (IsBlock 32) p.blocks.items × (length p.blocks.items ≤ 2) × (1 ≤ length p.blocks.items) × (length (body_bytes p.blocks.items) ≤ 7000)
+  plan_all p page back room blocks =
+      plan_lawful s h item p.back p.blocks.items op room next (omega arith)
+      (subst (λ (n : ℕ). slice_get s.newest (n - 1) ≡ Some p.back) page back)
+      (blocks ∙ ap (λ n. blocks_for s.filed.m s.filed.leaves p.back (record { frame = n; index = index }) item) at
+      ∙ ap (λ n. blocks_for s.filed.m s.filed.leaves p.back (record { frame = s.making.frame; index = n }) item) in_frame)
+
+  pub answer_lawful : (o : Result Plan StoreFault) → IfOk o (λ p. p.page ≡ directed_at s.filed.leaves item)
+      → IfOk o (λ p. slice_get s.newest (p.page - 1) ≡ Some p.back) → OnOk o (HasPage s.filed.m s.filed.leaves item)
+      → IfOk o (λ p. p.blocks.items ≡ blocks_for s.filed.m s.filed.leaves p.back (record { frame = frame; index = index }) item)
+      → IfOk o (λ p. All (IsBlock 32) p.blocks.items × (length p.blocks.items ≤ 2))
+  answer_lawful (Err e) page back room blocks = tt
+  answer_lawful (Ok p) page back room blocks = (let all = plan_all p page back room blocks in (all.0, all.1))
+
+  pub answer_short : (o : Result Plan StoreFault) → IfOk o (λ p. p.page ≡ directed_at s.filed.leaves item)
+      → IfOk o (λ p. slice_get s.newest (p.page - 1) ≡ Some p.back) → OnOk o (HasPage s.filed.m s.filed.leaves item)
+      → IfOk o (λ p. p.blocks.items ≡ blocks_for s.filed.m s.filed.leaves p.back (record { frame = frame; index = index }) item)
+      → IfOk o (λ p. length (body_bytes p.blocks.items) ≤ 7000)
+  answer_short (Err e) page back room blocks = tt
+  answer_short (Ok p) page back room blocks = (plan_all p page back room blocks).3
+
+-- what is known of a flush that answered Ok
+pub flushed_or_not : (old new : Kept) (o : Option ℕ) → FlushLeaves old (Ok o) new → MayFlush old new
+flushed_or_not old new None f = inl f.0
+flushed_or_not old new (Some n) f = inr (n, f)
+
+pub took_now : {lane : ℕ} {old new : Kept} (looked : Kept) (item : Record) (back : Place) → looked ≡ old → new ≡ taken looked lane item back → Took lane old new
+took_now {lane} {old} {new} looked item back e is =
+    record { item = item; back = back; middle = old; flushes = inl refl; is = is ∙ ap (λ (s : Kept). taken s lane item back) e }
+
+pub took_later : {lane : ℕ} {old new : Kept} (middle looked : Kept) (item : Record) (back : Place) (o : Option ℕ) → looked ≡ old
+    → FlushLeaves looked (Ok o) middle → new ≡ taken middle lane item back → Took lane old new
+took_later {lane} {old} {new} middle looked item back o e f is =
+    record {
+      item = item;
+      back = back;
+      middle = middle;
+      flushes = flushed_or_not old middle o (subst (λ (s : Kept). FlushLeaves s (Ok o) middle) e f);
+      is = is;
+    }

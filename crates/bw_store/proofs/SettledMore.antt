@@ -1,0 +1,106 @@
+-- Where nothing is in the making, all is in the segments.
+
+use Rattle.std.proofs.Common.{◌≡◌, ◌≢◌, ℕ, zero, suc, ◌+◌, ◌-◌, ◌^◌, ◌<◌, ◌≤◌, ◌⊎◌, inl, inr, Bool, true, false, Option, Some, None, List, [], ◌∷◌, ◌++◌}
+use Rattle.std.proofs.Common.{length, drop, refl, sym, ap, ◌∙◌, subst, append-nil, arith, if◌then◌else◌, length-drop}
+use Rattle.std.specs.Prelude.{◌==◌}
+use Rattle.std.specs.List.{AllByRecursion as All, fold}
+use Rattle.std.proofs.lemmas.Bool.{eq-eqb, ne_eqb, eqb-true, eqb-false}
+use Rattle.std.proofs.lemmas.Grind.{fold-append, flat_map-append}
+use Rattle.bw_codec.specs.Touch.{touches}
+use Rattle.bw_codec.specs.declared.record.Record.{Record}
+use Rattle.bw_codec.specs.declared.leaf.Leaf.{Leaf}
+use Rattle.bw_codec.specs.declared.block.Place.{Place}
+use Rattle.bw_codec.specs.declared.block.Block.{Block}
+use Rattle.bw_codec.specs.declared.block.Block.TheVariants.{Delta, Base, Split}
+use Rattle.bw_codec.specs.declared.block.Frame.{Frame}
+use Rattle.bw_page.specs.Leaves.{pages, changed, directed_at, applied, leaf_at}
+use Rattle.bw_page.specs.Links.{Chained, told}
+use Rattle.bw_page.specs.declared.chain.Link.TheVariants as link
+use Rattle.bw_page.specs.Standing.{after, content, blocks_of, Stand}
+use Rattle.bw_buffer.specs.Filling.{frame_of}
+use Rattle.bw_log.specs.Contents as logs
+use Rattle.bw_log.specs.Segments.{following, next_of}
+use Rattle.bw_log.proofs.Adding.{following_is}
+use Rattle.bw_log.proofs.Walks.{content_push}
+use Rattle.bw_log.proofs.Walk.{same_after}
+use Rattle.bw_store.specs.declared.entry.Entry.{Entry}
+use Rattle.bw_store.specs.History.{records, cut}
+use Rattle.bw_store.specs.Share.{Tells, TellsFirst, directed}
+use Rattle.bw_store.specs.Kept.{Kept, leaves_at, TellsBy, waiting, IsSound}
+use Rattle.bw_store.specs.Settled.{IsSettled, Tied}
+use Rattle.bw_store.proofs.RecordMore.{cut_within}
+
+-- ---- nothing waits
+
+nothing_told : (m : ℕ) (leaves : List Leaf) (rs : List Record) → Tells m leaves rs [] → rs ≡ []
+nothing_told m leaves [] t = refl
+nothing_told m leaves (r ∷ rs) t =
+    let here : [] ≡ r ∷ directed m (directed_at leaves r) (applied m leaves r) rs =
+    t.deltas (directed_at leaves r) ∙ ap (λ (b : Bool). (if b then r ∷ [] else []) ++ directed m (directed_at leaves r) (applied m leaves r) rs)
+    (eq-eqb (directed_at leaves r) (directed_at leaves r) refl) in
+    absurd cc
+
+nothing_by : (s : Kept) (number : ℕ) → TellsBy s number (leaves_at s s.durable) (waiting s) [] → ((s.before ≡ 0 → number ≢ 1) × (waiting s ≡ []))
+nothing_by s number (inl first) = absurd first.2
+nothing_by s number (inr other) = (other.0, nothing_told s.filed.m (leaves_at s s.durable) (waiting s) other.1)
+
+no_records : (es : List Entry) → records es ≡ [] → length es ≡ 0
+no_records [] e = refl
+no_records (x ∷ xs) e = absurd cc
+
+last_blocks : (fs : List Frame) (f : Frame) → f.blocks ≡ [] → blocks_of (fs ++ f ∷ []) ≡ blocks_of fs
+last_blocks fs f e = flat_map-append (λ (x : Frame). x.blocks) fs (f ∷ []) ∙ ap (λ (bs : List Block). blocks_of fs ++ (bs ++ [])) e ∙ append-nil (blocks_of fs)
+
+some_counted : (fs : List Frame) (n : ℕ) → next_of fs ≡ following n → n ≢ 0 → 1 ≤ length fs
+some_counted [] n e ne = (let one = following_is n 1 (sym e) in absurd (ne (omega arith)))
+some_counted (f ∷ fs) n e ne = omega arith
+
+pub settled : (s : Kept) → IsSound s → s.making.blocks ≡ [] → IsSettled s
+settled s h empty =
+    let told = nothing_by s (s.before + s.durable + 1)
+    (subst (λ (bs : List Block). TellsBy s (s.before + s.durable + 1) (leaves_at s s.durable) (waiting s) bs) empty h.tells) in
+    let some = some_counted (logs.counted s.log) (s.before + s.durable) (sym h.log.holds.follows ∙ h.next) (λ zeroth. told.0 (omega arith) (omega arith)) in
+    let same = last_blocks (logs.counted s.log) (frame_of s.making) empty in
+    let stand : Stand s.filed.m (logs.counted s.log) s.filed.leaves = record {
+      some = some;
+      lawful = h.grown.stands.lawful;
+      each = λ p from within. sym (ap (content p) same) ∙ h.grown.stands.each p from within;
+      all = λ p beyond. subst (λ (bs : List Block). All (λ b. touches p b ≡ false) bs) same (h.grown.stands.all p beyond);
+    } in
+    let rest = no_records (drop (cut s.cuts s.durable) s.entries) told.1 in
+    let long = length-drop (cut s.cuts s.durable) s.entries in
+    let within = cut_within s.cuts (length s.entries) s.durable h.ordered in
+    record {
+      stands = subst (λ (m : ℕ). Stand m (logs.counted s.log) (pages m s.start (records s.entries))) h.pairs
+          (subst (λ (ls : List Leaf). Stand s.filed.m (logs.counted s.log) ls) h.leaves stand);
+      whole = h.log.holds.live;
+      ends = omega arith;
+    }
+
+-- ---- a page that left memory: the log has it as of the counted frames, and its chain tells the rest
+
+pub away_page : (s : Kept) → IsSound s → (p : ℕ) (chain : Chained) (below : Leaf) → 1 ≤ p → p ≤ length s.filed.leaves → Tied p s.making.blocks chain
+    → content p (blocks_of (logs.counted s.log)) ≡ Some below → leaf_at p (pages s.filed.m s.start (records s.entries)) ≡ Some (told chain.links below)
+away_page s h p chain below from within tied read =
+    sym (ap (leaf_at p) h.leaves)
+    ∙ sym (h.grown.stands.each p from within)
+    ∙ content_push p (logs.counted s.log) (frame_of s.making)
+    ∙ ap (λ (w : Option Leaf). fold (after p) w s.making.blocks) read
+    ∙ tied below
+
+-- a new frame: nothing above the mark
+pub tied_new : (p : ℕ) (chain : Chained) (place : Place) → chain.links ≡ link.Flushed place ∷ [] → Tied p [] chain
+tied_new p chain place e below = ap (λ (ls : List Rattle.bw_page.specs.declared.chain.Link.Link). Some (told ls below)) (sym e)
+
+-- a record of the page is the newest link
+pub tied_delta : (p : ℕ) (blocks : List Block) (chain : Chained) (back : Place) (r : Record) → Tied p blocks chain
+    → Tied p (blocks ++ Delta p back (r ∷ []) ∷ []) (record chain { links = link.Delta r ∷ chain.links })
+tied_delta p blocks chain back r t below =
+    fold-append (after p) (Some below) blocks (Delta p back (r ∷ []) ∷ [])
+    ∙ ap (λ (w : Option Leaf). after p w (Delta p back (r ∷ []))) (t below)
+    ∙ ap (λ (b : Bool). if b then Some (changed r (told chain.links below)) else Some (told chain.links below)) (eq-eqb p p refl)
+
+-- a block of another page changes nothing
+pub tied_other : (p : ℕ) (blocks : List Block) (chain : Chained) (b : Block) → touches p b ≡ false → Tied p blocks chain → Tied p (blocks ++ b ∷ []) chain
+tied_other p blocks chain b apart t below =
+    fold-append (after p) (Some below) blocks (b ∷ []) ∙ ap (λ (w : Option Leaf). after p w b) (t below) ∙ same_after p (Some (told chain.links below)) b apart

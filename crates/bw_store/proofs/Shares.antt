@@ -1,0 +1,55 @@
+-- The share of a frame on worked examples: five puts, one a frame, of which the last cuts page 1.
+
+use Rattle.std.proofs.Common.{◌≡◌, ℕ, List, [], ◌∷◌, refl}
+use Rattle.bw_codec.specs.declared.record.Record.{Record}
+use Rattle.bw_codec.specs.declared.record.Record.TheVariants.{Put, Del}
+use Rattle.bw_codec.specs.declared.leaf.Leaf.{Leaf}
+use Rattle.bw_codec.specs.declared.block.Place.{Place}
+use Rattle.bw_codec.specs.declared.block.Block.{Block}
+use Rattle.bw_codec.specs.declared.block.Block.TheVariants.{Delta, Base, Split}
+use Rattle.bw_page.specs.Leaves.{empty_leaf, pages}
+use Rattle.bw_store.specs.declared.entry.Entry.{Entry}
+use Rattle.bw_store.specs.History.{records, cut, upto, share, of_writer, streams}
+use Rattle.bw_store.specs.Share.{Tells, TellsFirst, cuts_by}
+use Rattle.bw_store.specs.Adding.{blocks_for, planned}
+
+abbrev put : ℕ → ℕ → Record
+put k v = Put (k ∷ []) (v ∷ [])
+
+abbrev by_zero : Record → Entry
+by_zero r = record { writer = 0; item = r }
+
+abbrev five : List Entry
+five = by_zero (put 97 49) ∷ by_zero (put 98 50) ∷ by_zero (put 99 51) ∷ by_zero (put 100 52) ∷ by_zero (put 101 53) ∷ []
+
+abbrev cuts : List ℕ
+cuts = 1 ∷ 2 ∷ 3 ∷ 4 ∷ 5 ∷ []
+
+fifth_share : records (share cuts five 5) ≡ put 101 53 ∷ []
+fifth_share = refl
+
+before_fifth : upto cuts five 4 ≡ by_zero (put 97 49) ∷ by_zero (put 98 50) ∷ by_zero (put 99 51) ∷ by_zero (put 100 52) ∷ []
+before_fifth = refl
+
+place : ℕ → ℕ → Place
+place f i = record { frame = f; index = i }
+
+abbrev upper : Leaf
+upper = record { page = 2; low = 99 ∷ []; pairs = (99 ∷ [], 51 ∷ []) ∷ (100 ∷ [], 52 ∷ []) ∷ (101 ∷ [], 53 ∷ []) ∷ [] }
+
+-- frame 1 begins with the first page, and frame 5 has the Delta and its Split
+first_tells : TellsFirst 4 (empty_leaf ∷ []) (records (share cuts five 1)) (Base empty_leaf ∷ Delta 1 (place 1 0) (put 97 49 ∷ []) ∷ [])
+first_tells = (refl, record { deltas = λ p. refl; splits = refl; bases = refl })
+
+fifth_tells : Tells 4 (pages 4 (empty_leaf ∷ []) (records (upto cuts five 4))) (records (share cuts five 5))
+    (Delta 1 (place 4 0) (put 101 53 ∷ []) ∷ Split 1 (place 5 0) upper ∷ [])
+fifth_tells = record { deltas = λ p. refl; splits = refl; bases = refl }
+
+fifth_blocks : blocks_for 4 (pages 4 (empty_leaf ∷ []) (records (upto cuts five 4))) (place 4 0) (place 5 0) (put 101 53)
+    ≡ Delta 1 (place 4 0) (put 101 53 ∷ []) ∷ Split 1 (place 5 0) upper ∷ []
+fifth_blocks = refl
+
+-- two writers
+two_streams : streams 0 2 (record { writer = 0; item = put 97 49 } ∷ record { writer = 1; item = put 98 49 } ∷ record { writer = 1; item = put 99 50 } ∷ [])
+    ≡ (put 97 49 ∷ []) ∷ (put 98 49 ∷ put 99 50 ∷ []) ∷ []
+two_streams = refl

@@ -1,0 +1,161 @@
+-- The blocks of one record, read forwards, are that record.
+
+use Rattle.std.proofs.Common.{◌≡◌, ◌≢◌, ℕ, zero, suc, ◌+◌, ◌-◌, ◌/◌, ◌^◌, ◌<◌, ◌≤◌, Bool, true, false, Option, Some, None, List, [], ◌∷◌, ◌++◌, map, length}
+use Rattle.std.proofs.Common.{refl, sym, ap, ◌∙◌, subst, append_assoc, append-nil, arith, if◌then◌else◌, length-append}
+use Rattle.std.specs.Prelude.{◌==◌, ◌||◌, nat_le}
+use Rattle.std.specs.List.{AllByRecursion as All, fold, flat_map, slice_get}
+use Rattle.std.specs.Option.{option_map}
+use Rattle.std.proofs.lemmas.Bool.{eqb-true, eqb-false, eq-eqb, ne_eqb, le-leb, lt-leb, leb-true, leb-false, or_from}
+use Rattle.std.proofs.lemmas.Grind.{fold-append, flat_map-append}
+use Rattle.std.proofs.lemmas.List.{length-map}
+use Rattle.bw_codec.specs.Grammar.{IsOp, IsBlock, IsBase, IsPlace, IsPage, first_key}
+use Rattle.bw_codec.specs.Record.{key_of}
+use Rattle.bw_codec.specs.Touch.{touches}
+use Rattle.bw_codec.specs.declared.record.Record.{Record}
+use Rattle.bw_codec.specs.declared.leaf.Leaf.{Leaf}
+use Rattle.bw_codec.specs.declared.block.Place.{Place}
+use Rattle.bw_codec.specs.declared.block.Block.{Block}
+use Rattle.bw_codec.specs.declared.block.Block.TheVariants.{Delta, Base, Split}
+use Rattle.bw_codec.specs.declared.block.Frame.{Frame}
+use Rattle.bw_page.specs.Leaves.{home, changed, directed_at, lower_of, upper_of, leaf_at, applied, HasPage, AreNumbered, AreLeaves}
+use Rattle.bw_page.specs.Standing.{kept_below, after, content, blocks_of, Stand}
+use Rattle.bw_page.proofs.Sorted.{all-push}
+use Rattle.bw_page.proofs.Homes.{home-all, put_in}
+use Rattle.bw_page.proofs.Applying.{put_in-at, put_in-other}
+use Rattle.bw_page.proofs.Indexed.{each_at, home_within}
+use Rattle.bw_page.proofs.Law.{directed, cut_within, upper_in, applied-whole, applied-cut, applied-lawful}
+use Rattle.bw_page.proofs.Steps.{kept-lower, leaf_at-map, leaf_at-push, leaf_at-new}
+use Rattle.bw_store.specs.Adding.{with_blocks, result_of, blocks_for}
+
+-- ---- frames
+
+pub blocks_with : (fs : List Frame) (f : Frame) (bs : List Block) → blocks_of (fs ++ with_blocks f bs ∷ []) ≡ blocks_of (fs ++ f ∷ []) ++ bs
+blocks_with fs f bs =
+    flat_map-append (λ (x : Frame). x.blocks) fs (with_blocks f bs ∷ [])
+    ∙ ap (λ (l : List Block). blocks_of fs ++ l) (append-nil (f.blocks ++ bs))
+    ∙ sym (append_assoc (blocks_of fs) f.blocks bs)
+    ∙ ap (λ (l : List Block). l ++ bs) (ap (λ (l : List Block). blocks_of fs ++ l) (sym (append-nil f.blocks))
+    ∙ sym (flat_map-append (λ (x : Frame). x.blocks) fs (f ∷ [])))
+
+pub content_with : (p : ℕ) (fs : List Frame) (f : Frame) (bs : List Block)
+    → content p (blocks_of (fs ++ with_blocks f bs ∷ [])) ≡ fold (after p) (content p (blocks_of (fs ++ f ∷ []))) bs
+content_with p fs f bs = ap (content p) (blocks_with fs f bs) ∙ fold-append (after p) None (blocks_of (fs ++ f ∷ [])) bs
+
+-- ---- leaves by page
+
+page_is : (n : ℕ) (ls : List Leaf) (i : ℕ) (l : Leaf) → AreNumbered n ls → slice_get ls i ≡ Some l → l.page ≡ n + i
+page_is n [] i l h e = absurd cc
+page_is n (x ∷ ls) zero l h e = (let same : x ≡ l = cc in ap (λ (y : Leaf). y.page) (sym same) ∙ h.0 ∙ omega arith)
+page_is n (x ∷ ls) (suc i) l h e = page_is (n + 1) ls i l h.1 e ∙ omega arith
+
+pub leaf_page : (p : ℕ) (leaves : List Leaf) (l : Leaf) → AreNumbered 1 leaves → leaf_at p leaves ≡ Some l → l.page ≡ p
+leaf_page zero leaves l h e = absurd cc
+leaf_page (suc n) leaves l h e = page_is 1 leaves n l h e ∙ omega arith
+
+pub home_there : (m : ℕ) (leaves : List Leaf) (k : List ℕ) → AreLeaves m leaves → leaf_at (home k leaves).page leaves ≡ Some (home k leaves)
+home_there m leaves k a = home-all (λ l. leaf_at l.page leaves ≡ Some l) k leaves a.first (each_at leaves a.pages)
+
+-- ---- one page after a record
+
+-- a leaf that is not of the changed page stays
+others_stay : (d : Leaf) (p : ℕ) (leaves : List Leaf) (o : Option Leaf) → AreNumbered 1 leaves → leaf_at p leaves ≡ o → p ≢ d.page → option_map (put_in d) o ≡ o
+others_stay d p leaves None h e ne = refl
+others_stay d p leaves (Some l) h e ne = ap Some (put_in-other d l (λ same. ne (sym (leaf_page p leaves l h e) ∙ same)))
+
+module _ (m : ℕ) (leaves : List Leaf) (r : Record) (some : 1 ≤ m) (a : AreLeaves m leaves) (op : IsOp r) where
+  -- a leaf with the page's number, in its place
+  puts : (d : Leaf) (p : ℕ) → d.page ≡ directed_at leaves r
+      → leaf_at p (map (put_in d) leaves) ≡ (if directed_at leaves r == p then Some d else leaf_at p leaves)
+  puts d p page =
+      leaf_at-map (put_in d) p leaves
+      ∙ elim (directed_at leaves r == p) as (λ b. (directed_at leaves r == p) ≡ b
+      → option_map (put_in d) (leaf_at p leaves) ≡ (if b then Some d else leaf_at p leaves)) [
+        | true ↦ λ e. (let same : directed_at leaves r ≡ p = eqb-true _ _ e in
+            ap (option_map (put_in d)) (ap (λ q. leaf_at q leaves) (sym same) ∙ home_there m leaves (key_of r) a)
+            ∙ ap Some (put_in-at d (home (key_of r) leaves) (sym page)))
+        | false ↦ λ e. others_stay d p leaves (leaf_at p leaves) a.pages refl (λ same. eqb-false _ _ e (sym page ∙ sym same))
+      ] refl
+
+  -- what a Delta of the record leaves
+  delta_leaves : (back : Place) (p : ℕ) → after p (leaf_at p leaves) (Delta (directed_at leaves r) back (r ∷ []))
+      ≡ (if directed_at leaves r == p then Some (result_of leaves r) else leaf_at p leaves)
+  delta_leaves back p =
+      elim (directed_at leaves r == p) as (λ b. (directed_at leaves r == p) ≡ b
+      → (if b then option_map (λ l. changed r l) (leaf_at p leaves) else leaf_at p leaves) ≡ (if b then Some (result_of leaves r) else leaf_at p leaves)) [
+        | true ↦ λ e. (let same : directed_at leaves r ≡ p = eqb-true _ _ e in
+            ap (option_map (λ l. changed r l)) (ap (λ q. leaf_at q leaves) (sym same) ∙ home_there m leaves (key_of r) a))
+        | false ↦ λ e. refl
+      ] refl
+
+  -- the two forms of a record's blocks
+  blocks-whole : (back here : Place) → length (result_of leaves r).pairs ≤ m → blocks_for m leaves back here r ≡ Delta (directed_at leaves r) back (r ∷ []) ∷ []
+  blocks-whole back here fits = rw (le-leb _ m fits) refl
+
+  blocks-cut : (back here : Place) → m < length (result_of leaves r).pairs
+      → blocks_for m leaves back here r ≡ Delta (directed_at leaves r) back (r ∷ []) ∷ Split (directed_at leaves r) here
+      (upper_of m (length leaves + 1) (result_of leaves r)) ∷ []
+  blocks-cut back here over = rw (lt-leb _ m over) refl
+
+  pub whole_content : (back here : Place) (p : ℕ) → length (result_of leaves r).pairs ≤ m
+      → fold (after p) (leaf_at p leaves) (blocks_for m leaves back here r) ≡ leaf_at p (applied m leaves r)
+  whole_content back here p fits =
+      ap (fold (after p) (leaf_at p leaves)) (blocks-whole back here fits) ∙ delta_leaves back p ∙ sym (puts (result_of leaves r) p refl)
+      ∙ ap (leaf_at p) (sym (applied-whole m leaves r some a op fits))
+
+  cut_lower : m < length (result_of leaves r).pairs
+      → kept_below (upper_of m (length leaves + 1) (result_of leaves r)).low (result_of leaves r) ≡ lower_of m (result_of leaves r)
+  cut_lower over =
+      let t = Rattle.bw_page.proofs.Law.directed m leaves r a op in
+      kept-lower m (length leaves + 1) (result_of leaves r) (cut_within m leaves (key_of r) (result_of leaves r) some a t over) t.rises
+
+  -- an old page after the Delta and the Split
+  split_leaves : (back here : Place) (p : ℕ) → p ≤ length leaves → m < length (result_of leaves r).pairs
+      → after p (after p (leaf_at p leaves) (Delta (directed_at leaves r) back (r ∷ [])))
+      (Split (directed_at leaves r) here (upper_of m (length leaves + 1) (result_of leaves r)))
+      ≡ (if directed_at leaves r == p then Some (lower_of m (result_of leaves r)) else leaf_at p leaves)
+  split_leaves back here p within over =
+      let other : ((length leaves + 1) == p) ≡ false = ne_eqb _ _ (λ e. absurd (omega arith)) in
+      rw other (elim (directed_at leaves r == p) as (λ b. (directed_at leaves r == p) ≡ b
+      → (if b then option_map (kept_below (upper_of m (length leaves + 1) (result_of leaves r)).low)
+      (after p (leaf_at p leaves) (Delta (directed_at leaves r) back (r ∷ []))) else after p (leaf_at p leaves)
+      (Delta (directed_at leaves r) back (r ∷ [])))
+      ≡ (if b then Some (lower_of m (result_of leaves r)) else leaf_at p leaves)) [
+        | true ↦ λ e. ap (option_map (kept_below (upper_of m (length leaves + 1) (result_of leaves r)).low))
+            (delta_leaves back p ∙ ap (λ (b : Bool). if b then Some (result_of leaves r) else leaf_at p leaves) e) ∙ ap Some (cut_lower over)
+        | false ↦ λ e. delta_leaves back p ∙ ap (λ (b : Bool). if b then Some (result_of leaves r) else leaf_at p leaves) e
+      ] refl)
+
+  pub old_content : (back here : Place) (p : ℕ) → p ≤ length leaves → m < length (result_of leaves r).pairs
+      → fold (after p) (leaf_at p leaves) (blocks_for m leaves back here r) ≡ leaf_at p (applied m leaves r)
+  old_content back here p within over =
+      ap (fold (after p) (leaf_at p leaves)) (blocks-cut back here over)
+      ∙ split_leaves back here p within over
+      ∙ sym (puts (lower_of m (result_of leaves r)) p refl)
+      ∙ sym (leaf_at-push p (map (put_in (lower_of m (result_of leaves r))) leaves) (upper_of m (length leaves + 1) (result_of leaves r))
+      (let e = length-map leaves (put_in (lower_of m (result_of leaves r))) in omega arith))
+      ∙ ap (leaf_at p) (sym (applied-cut m leaves r some a op over))
+
+  pub new_content : (back here : Place) (w : Option Leaf) → m < length (result_of leaves r).pairs
+      → fold (after (length leaves + 1)) w (blocks_for m leaves back here r) ≡ leaf_at (length leaves + 1) (applied m leaves r)
+  new_content back here w over =
+      let same : ((length leaves + 1) == (length leaves + 1)) ≡ true = eq-eqb _ _ refl in
+      let at = length-map leaves (put_in (lower_of m (result_of leaves r))) in
+      let u = upper_of m (length leaves + 1) (result_of leaves r) in
+      let delta = Delta (directed_at leaves r) back (r ∷ []) in
+      ap (fold (after (length leaves + 1)) w) (blocks-cut back here over)
+      ∙ ap (λ (b : Bool). if b then Some u else if directed_at leaves r == (length leaves + 1) then option_map (kept_below u.low)
+      (after (length leaves + 1) w delta) else after (length leaves + 1) w delta) same
+      ∙ sym (ap (λ n. leaf_at (n + 1) (map (put_in (lower_of m (result_of leaves r))) leaves
+      ++ upper_of m (length leaves + 1) (result_of leaves r) ∷ [])) (sym at)
+      ∙ leaf_at-new (map (put_in (lower_of m (result_of leaves r))) leaves) (upper_of m (length leaves + 1) (result_of leaves r)))
+      ∙ ap (leaf_at (length leaves + 1)) (sym (applied-cut m leaves r some a op over))
+
+  pub length-applied : length (applied m leaves r) ≡ (if nat_le (length (result_of leaves r).pairs) m then length leaves else length leaves + 1)
+  length-applied =
+      elim (nat_le (length (result_of leaves r).pairs) m) as
+      (λ b. nat_le (length (result_of leaves r).pairs) m ≡ b → length (applied m leaves r) ≡ (if b then length leaves else length leaves + 1)) [
+        | true ↦ λ e. ap length (applied-whole m leaves r some a op (leb-true _ _ e)) ∙ length-map leaves (put_in (result_of leaves r))
+        | false ↦ λ e. ap length (applied-cut m leaves r some a op (leb-false _ _ e))
+            ∙ length-append (map (put_in (lower_of m (result_of leaves r))) leaves) (upper_of m (length leaves + 1) (result_of leaves r) ∷ [])
+            ∙ ap (λ n. n + 1) (length-map leaves (put_in (lower_of m (result_of leaves r))))
+      ] refl

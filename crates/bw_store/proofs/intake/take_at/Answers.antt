@@ -1,0 +1,12 @@
+use Rattle.std.proofs.Common.{◌≡◌}
+use Rattle.bw_ring.specs.Ends.{taken, known, ring_of_lane}
+use Rattle.bw_store.proofs.Laned.{set_kept, took}
+use Rattle.bw_store.proofs.intake.take_at.Goals as goal
+
+pub returns-clause-rings : goal.returns-clause-rings
+returns-clause-rings c = set_kept ring_of_lane c.args.lanes.now.items c.args.at c.take_one.new.lane c.index_mut.result.now c.requires.inside
+    c.index_mut.ensures.value c.take_one.ensures.ring
+
+pub returns-clause-took : goal.returns-clause-took
+returns-clause-took c = took taken c.args.lanes.now.items c.args.at c.take_one.new.lane c.index_mut.result.now c.args.item.now c.requires.inside
+    c.index_mut.ensures.value c.take_one.ensures.taken

@@ -1,0 +1,9 @@
+use Rattle.std.proofs.Common.{◌≡◌}
+use Rattle.bw_store.proofs.FollowMore.{follows_left}
+use Rattle.bw_store.proofs.store.Store.flush.Goals as goal
+
+pub returns-clause-follows : goal.returns-clause-follows
+returns-clause-follows g c = (follows_left _ _ _ c.flush_making.ensures.leaves).follows
+
+pub returns-clause-boxes : goal.returns-clause-boxes
+returns-clause-boxes g c = (follows_left _ _ _ c.flush_making.ensures.leaves).boxes

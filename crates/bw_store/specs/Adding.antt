@@ -1,0 +1,54 @@
+-- What a record adds to the frame in the making.
+
+use Rattle.std.specs.Prelude.{ℕ, ◌+◌, ◌-◌, ◌≡◌, ◌≤◌, nat_le, if◌then◌else◌, Option, Some, None, List, [], ◌∷◌, ◌++◌, length, slice_get, slice_set}
+use Rattle.bw_codec.specs.Record.{key_of}
+use Rattle.bw_codec.specs.declared.record.Record.{Record}
+use Rattle.bw_codec.specs.declared.leaf.Leaf.{Leaf}
+use Rattle.bw_codec.specs.declared.block.Place.{Place}
+use Rattle.bw_codec.specs.declared.block.Block.{Block}
+use Rattle.bw_codec.specs.declared.block.Block.TheVariants.{Delta, Base, Split}
+use Rattle.bw_codec.specs.declared.block.Frame.{Frame}
+use Rattle.bw_page.specs.Leaves.{home, changed, directed_at, upper_of, applied}
+
+-- a frame with further blocks
+abbrev pub with_blocks : Frame → List Block → Frame
+with_blocks frame blocks = record frame { blocks = frame.blocks ++ blocks }
+
+-- where the next block of a frame goes
+abbrev pub end_of : Frame → Place
+end_of frame = record { frame = frame.number; index = length frame.blocks }
+
+-- ---- one record
+
+-- the leaf at which it is directed, after it
+abbrev pub result_of : List Leaf → Record → Leaf
+result_of leaves r = changed r (home (key_of r) leaves)
+
+-- its Delta, and a Split where its page has too many pairs; the Delta goes to the place `here`
+abbrev pub blocks_for : ℕ → List Leaf → Place → Place → Record → List Block
+blocks_for m leaves back here r =
+    if nat_le (length (result_of leaves r).pairs) m then Delta (directed_at leaves r) back (r ∷ []) ∷ []
+    else Delta (directed_at leaves r) back (r ∷ []) ∷ Split (directed_at leaves r) here (upper_of m (length leaves + 1) (result_of leaves r)) ∷ []
+
+abbrev pub after_place : Place → Place
+after_place here = record here { index = here.index + 1 }
+
+-- the newest place of each page, after it
+abbrev pub places_after : ℕ → List Leaf → Place → Record → List Place → List Place
+places_after m leaves here r newest =
+    if nat_le (length (result_of leaves r).pairs) m then slice_set newest (directed_at leaves r - 1) here
+    else slice_set newest (directed_at leaves r - 1) (after_place here) ++ after_place here ∷ []
+
+-- newest places where so many blocks of a page were added, the first of them here
+abbrev pub noted : List Place → ℕ → Place → ℕ → List Place
+noted newest page here count =
+    if nat_le count 1 then slice_set newest (page - 1) here
+    else slice_set newest (page - 1) (after_place here) ++ after_place here ∷ []
+
+-- the upper part of a leaf that has too many pairs
+abbrev pub upper_if : ℕ → ℕ → Leaf → Option Leaf
+upper_if m page leaf = if nat_le (length leaf.pairs) m then None else Some (upper_of m page leaf)
+
+abbrev pub planned : ℕ → Place → Place → Record → Option Leaf → List Block
+planned page back here r None = Delta page back (r ∷ []) ∷ []
+planned page back here r (Some upper) = Delta page back (r ∷ []) ∷ Split page here upper ∷ []

@@ -1,0 +1,30 @@
+-- What no call takes back.
+
+use Rattle.std.specs.Prelude.{ℕ, ◌+◌, ◌≡◌, ◌≤◌, List, ◌++◌, length}
+use Rattle.bw_log.specs.Contents.{roster}
+use Rattle.bw_store.specs.declared.entry.Entry.{Entry}
+use Rattle.bw_store.specs.Kept.{Kept}
+
+-- the old history and cuts begin the new ones, no frame is forgotten, and where the store began stays
+pub record Follows (old new : Kept) : Type 0 where
+  -- which feed is a lane's, and how many writers there are
+  pub rings : new.rings ≡ old.rings
+  pub start : new.start ≡ old.start
+  pub before : new.before ≡ old.before
+  pub edge : new.edge ≡ old.edge
+  pub entries_more : List Entry
+  pub history : new.entries ≡ old.entries ++ entries_more
+  pub cuts_more : List ℕ
+  pub cuts : new.cuts ≡ old.cuts ++ cuts_more
+  pub appended : old.durable ≤ new.durable
+  pub floor : old.floor ≤ new.floor
+
+-- each box is where it was in the row of all
+pub record HasBoxes (old new : Kept) : Type 0 where
+  pub same : roster new.log ≡ roster old.log
+
+-- a call that gives up no segment, by which the history grew by so many entries
+pub record Turned (n : ℕ) (old new : Kept) : Type 0 where
+  pub follows : Follows old new
+  pub boxes : HasBoxes old new
+  pub grew : length new.entries ≡ length old.entries + n

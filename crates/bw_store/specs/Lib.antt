@@ -1,0 +1,14 @@
+pub mod History
+pub mod Share
+pub mod Adding
+pub mod Growing
+pub mod Kept
+pub mod Faults
+pub mod Views
+pub mod Taken
+pub mod Settled
+pub mod Lanes
+pub mod Taking
+pub mod Opened
+pub mod Following
+pub mod Reading

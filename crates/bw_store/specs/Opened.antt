@@ -1,0 +1,79 @@
+-- A store that was just opened.
+
+use Rattle.std.specs.Prelude.{ℕ, ◌≡◌, ◌≤◌, ◌⊎◌, false, List, [], ◌∷◌, map, replicate}
+use Rattle.bw_codec.specs.declared.block.Place.{Place}
+use Rattle.bw_codec.specs.declared.block.Block.TheVariants.{Base}
+use Rattle.bw_codec.specs.declared.block.Frame.{Frame}
+use Rattle.bw_page.specs.Leaves.{empty_leaf}
+use Rattle.bw_page.specs.Shown.{Shown}
+use Rattle.bw_buffer.specs.Filling.{Filling}
+use Rattle.bw_device.specs.Holding.{Holding}
+use Rattle.bw_ring.specs.declared.feed.Feed.{Feed}
+use Rattle.bw_ring.specs.Ends.{Ring, accepted, places_of, ring_of_feed}
+use Rattle.bw_ring.specs.Limits.{IsConfig as IsRings}
+use Rattle.bw_log.specs.Contents.{Contents}
+use Rattle.bw_log.specs.Limits.{fresh, AreLimits, IsFit}
+use Rattle.bw_store.specs.declared.config.Config.{Config}
+use Rattle.bw_store.specs.declared.edge.Edge.{Edge}
+use Rattle.bw_store.specs.declared.entry.Entry.{Entry}
+use Rattle.bw_store.specs.declared.fault.StoreFault.{StoreFault}
+use Rattle.bw_store.specs.declared.fault.StoreFault.TheVariants.{NoMemory, BadConfig}
+use Rattle.bw_store.specs.Kept.{Kept}
+
+abbrev pub first_place : Place
+first_place = record { frame = 1; index = 0 }
+
+abbrev pub first_frame : Frame
+first_frame = record { number = 1; blocks = Base empty_leaf ∷ [] }
+
+abbrev pub no_edge : Edge
+no_edge = record { segment = 0; length = 0 }
+
+-- a frame 1 in the making that has the first page
+abbrev pub first_making : ℕ → Filling
+first_making f = record { frame = 1; limit = f; blocks = Base empty_leaf ∷ []; is_sealed = false }
+
+-- a store that starts with these
+abbrev pub started : List Ring → List Entry → Shown → List Place → Filling → Contents → Kept
+started rings entries filed newest making log = record {
+  rings = rings;
+  start = filed.leaves;
+  before = 0;
+  floor = 0;
+  edge = no_edge;
+  entries = entries;
+  cuts = [];
+  durable = 0;
+  filed = filed;
+  newest = newest;
+  making = making;
+  log = log;
+}
+
+-- a store of one empty page over spares alone
+abbrev pub opened : List Ring → ℕ → ℕ → List Holding → Kept
+opened rings m f spares =
+    started rings [] (record { m = m; leaves = empty_leaf ∷ []; away = [] }) (first_place ∷ []) (first_making f) (fresh m f spares)
+
+-- ---- what a store is opened with
+
+-- a ring for each of 1 to 64 writers, and 1 to 64 places for readers
+abbrev pub AreWriters : Config → Type 0
+AreWriters c = IsRings c.writers c.places × (1 ≤ c.readers) × (c.readers ≤ 64)
+
+abbrev pub IsConfig : Config → Type 0
+IsConfig c = AreWriters c × AreLimits c.m c.f
+
+-- the boxes are spares that a log of these limits takes
+abbrev pub AreTaken : Config → List Holding → Type 0
+AreTaken c boxes = AreWriters c × IsFit c.m c.f boxes
+
+-- an unused feed for each writer
+pub record AreFresh (c : Config) (feeds : List Feed) : Type 0 where
+  pub accepted : map accepted feeds ≡ replicate c.writers []
+  pub places : map places_of (map ring_of_feed feeds) ≡ replicate c.writers c.places
+
+-- why a store was not opened: what was handed in is looked at before memory is
+abbrev pub IsOpenFault : Config → List Holding → StoreFault → Type 0
+IsOpenFault c boxes cause =
+    ((cause ≡ BadConfig) × (AreTaken c boxes → ⊥)) ⊎ ((cause ≡ NoMemory) × AreTaken c boxes)

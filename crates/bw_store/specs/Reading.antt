@@ -1,0 +1,37 @@
+-- What the calls leave that only ask or read, or change the boxes alone.
+
+use Rattle.std.specs.Prelude.{ℕ, ◌≡◌, false, Result, Ok, Err, List, [], ◌∷◌, ◌++◌}
+use Rattle.bw_device.specs.Holding.{Holding}
+use Rattle.bw_log.specs.Contents as logs
+use Rattle.bw_log.specs.Reads.{IsKept, IsWornOut, FailedRead}
+use Rattle.bw_store.specs.declared.fault.StoreFault.{StoreFault}
+use Rattle.bw_store.specs.declared.fault.StoreFault.TheVariants.{NoMemory, BadConfig, NoSegment, Device, Failed, Spent, NoPage}
+use Rattle.bw_store.specs.Kept.{Kept}
+
+-- with another log
+abbrev pub with_log : Kept → logs.Contents → Kept
+with_log s log = record s { log = log }
+
+-- a call that at most reads the boxes: cuts and all held bytes stay
+pub record HasRead (old new : Kept) : Type 0 where
+  pub is : new ≡ with_log old new.log
+  pub kept : IsKept old.log new.log
+
+-- one spare more, which goes last
+abbrev pub with_spare : Kept → Holding → Kept
+with_spare s one = with_log s (record s.log { spares = s.log.spares ++ one ∷ [] })
+
+-- the current segment takes no more frames
+abbrev pub rolled : Kept → Kept
+rolled s = with_log s (record s.log { is_open = false })
+
+-- what a call leaves that may have had to read the live segments of these indices
+abbrev pub ReadLeaves : {A : Type 0} → (ℕ → Type 0) → Kept → Result A StoreFault → Kept → Type 0
+ReadLeaves reads old (Ok x) new = new ≡ old
+ReadLeaves reads old (Err NoMemory) new = new ≡ old
+ReadLeaves reads old (Err BadConfig) new = ⊥
+ReadLeaves reads old (Err NoSegment) new = ⊥
+ReadLeaves reads old (Err (Device lease)) new = FailedRead reads lease old.log new.log
+ReadLeaves reads old (Err Failed) new = ⊥
+ReadLeaves reads old (Err Spent) new = (new ≡ old) × IsWornOut reads old.log.live
+ReadLeaves reads old (Err NoPage) new = ⊥

@@ -1,0 +1,32 @@
+-- What a store is, through a reading of its boxes.
+
+use Rattle.std.specs.Prelude.{map}
+use Rattle.std.specs.declared.dyn_box.DynBox.{DynBox}
+use Rattle.std.specs.declared.alloc.Global.{Global}
+use Rattle.bw_device.specs.Holding.{Holding}
+use Rattle.bw_ring.specs.Ends.{ring_of_lane}
+use Rattle.bw_log.specs.Views.{seen_by}
+use Rattle.bw_store.specs.Kept.{Kept}
+use Rattle.bw_store.specs.Kept as kept
+use Rattle.bw_store.specs.declared.store.Store.{Store}
+
+module _ {I : Type 0} {H : I → Type 0} where
+  abbrev pub kept_by : Store I H → (DynBox I Global H → Holding) → Kept
+  kept_by s v = record {
+    rings = map ring_of_lane s.intake.lanes.items;
+    start = s.start.value.leaves;
+    before = s.before;
+    floor = s.floor;
+    edge = s.edge;
+    entries = s.intake.history.items;
+    cuts = s.cuts.items;
+    durable = s.durable;
+    filed = s.leaves;
+    newest = s.newest.items;
+    making = s.making;
+    log = seen_by v s.log;
+  }
+
+  -- what every store keeps between calls
+  abbrev pub IsSound : Store I H → (DynBox I Global H → Holding) → Type 0
+  IsSound s v = kept.IsSound (kept_by s v)

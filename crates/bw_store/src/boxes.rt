@@ -1,0 +1,98 @@
+//! The boxes of a store: one more, the current one closed, one dumped, all handed back.
+
+ghost use Rattle.std.specs.Prelude.{◌≡◌, ◌≢◌, ◌+◌, ◌++◌, ◌∷◌, ◌↔◌, ◌⊎◌, [], true, false, map, length, MatchOption, OnOk, OnErr, IfOk, IfErr, IsErrAnd};
+ghost use Rattle.bw_log.specs.Limits.{IsNotTaken};
+ghost use Rattle.bw_log.specs.Reads.{IsNumbered, segment_at};
+ghost use Rattle.bw_store.specs.Following.{Follows, HasBoxes};
+ghost use Rattle.bw_store.specs.Reading.{HasRead, ReadLeaves, with_spare, rolled};
+
+use crate::fault::StoreFault;
+use crate::store::Store;
+use bw_device::Segment;
+
+impl Store {
+    ghost use Rattle.bw_store.specs.Views.{kept_by, IsSound};
+
+    /// A further spare, which goes last. A box that is not empty or has not the room that `open`
+    /// asks, or one above 4,096, comes back with `BadConfig`, and any box with `NoMemory` where a
+    /// growth is refused; the store is then as it was.
+    pub fn add_segment(
+        &mut self,
+        one: Box<dyn Segment>,
+    ) -> Result<(), (Box<dyn Segment>, StoreFault)>
+        requires { IsSound self.old holding }
+        ensures sound { IsSound self.new holding }
+        ensures added { OnOk result
+            (kept_by self.new holding ≡ with_spare (kept_by self.old holding) (holding one)) }
+
+        ensures bad_config { IsErrAnd result (λ e. e.1 ≡ StoreFault.BadConfig)
+            ↔ IsNotTaken (kept_by self.old holding).log (holding one) }
+        ensures memory { IfErr result (λ e.
+            (e.1 ≡ StoreFault.BadConfig) ⊎ (e.1 ≡ StoreFault.NoMemory)) }
+        ensures back { IfErr result (λ e. e.0 ≡ one) }
+        ensures unchanged { OnErr result (kept_by self.new holding ≡ kept_by self.old holding) }
+
+        ensures follows { Follows (kept_by self.old holding) (kept_by self.new holding) }
+    {
+        match self.log.add_segment(one) {
+            Ok(()) => Ok(()),
+            Err((one, fault)) => Err((one, StoreFault::from(fault))),
+        }
+    }
+
+    /// Closes the current segment, if any: the next append begins another. No memory is taken.
+    pub fn roll(&mut self)
+        requires { IsSound self.old (λ b. holding (b.vtable, b.value)) }
+        ensures sound { IsSound self.new (λ b. holding (b.vtable, b.value)) }
+        ensures closed { kept_by self.new (λ b. holding (b.vtable, b.value))
+            ≡ rolled (kept_by self.old (λ b. holding (b.vtable, b.value))) }
+
+        ensures follows { Follows (kept_by self.old (λ b. holding (b.vtable, b.value)))
+            (kept_by self.new (λ b. holding (b.vtable, b.value))) }
+        ensures boxes { HasBoxes (kept_by self.old (λ b. holding (b.vtable, b.value)))
+            (kept_by self.new (λ b. holding (b.vtable, b.value))) }
+    {
+        self.log.roll();
+    }
+
+    /// Appends the bytes of the live segment with this number to a `Vec`; answers `false` where no
+    /// live segment has it. A refusal leaves the `Vec` as it was. It holds the segment in memory
+    /// once more while it reads. Refused `NoMemory`; `Device`, where the read failed: the next one
+    /// may not; `Spent`, where one more failure of that segment could not be counted.
+    pub fn dump(&mut self, segment: u64, out: &mut Vec<u8>) -> Result<bool, StoreFault>
+        requires { IsSound self.old (λ b. holding (b.vtable, b.value)) }
+        ensures found { IfOk result (λ found.
+            MatchOption (segment_at (kept_by self.old (λ b. holding (b.vtable, b.value))).log
+            segment) ((found ≡ false) × (out.new.items ≡ out.old.items))
+            (λ h. (found ≡ true) × (out.new.items ≡ out.old.items ++ h.bytes))) }
+        ensures sound { IsSound self.new (λ b. holding (b.vtable, b.value)) }
+        ensures read { HasRead (kept_by self.old (λ b. holding (b.vtable, b.value)))
+            (kept_by self.new (λ b. holding (b.vtable, b.value))) }
+
+        ensures unchanged { OnErr result (out.new.items ≡ out.old.items) }
+        ensures leaves { ReadLeaves (IsNumbered
+            (kept_by self.old (λ b. holding (b.vtable, b.value))).log segment)
+            (kept_by self.old (λ b. holding (b.vtable, b.value))) result
+            (kept_by self.new (λ b. holding (b.vtable, b.value))) }
+
+        ensures follows { Follows (kept_by self.old (λ b. holding (b.vtable, b.value)))
+            (kept_by self.new (λ b. holding (b.vtable, b.value))) }
+        ensures boxes { HasBoxes (kept_by self.old (λ b. holding (b.vtable, b.value)))
+            (kept_by self.new (λ b. holding (b.vtable, b.value))) }
+    {
+        match self.log.dump(segment, out) {
+            Ok(found) => Ok(found),
+            Err(fault) => Err(StoreFault::from(fault)),
+        }
+    }
+
+    /// All boxes, as they are: the live ones in the order of their numbers, and the spares in
+    /// theirs. Nothing is flushed. No memory is taken.
+    pub fn shut(self) -> (Vec<Box<dyn Segment>>, Vec<Box<dyn Segment>>)
+        requires { IsSound self holding }
+        ensures live { map holding result.0.items ≡ (kept_by self holding).log.live }
+        ensures spares { map holding result.1.items ≡ (kept_by self holding).log.spares }
+    {
+        self.log.into_segments()
+    }
+}

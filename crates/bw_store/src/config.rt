@@ -1,0 +1,45 @@
+//! What a store is opened with.
+
+ghost use Rattle.std.specs.Prelude.{◌↔◌, IsTrue};
+ghost use Rattle.bw_store.specs.Opened.{AreWriters, IsConfig};
+ghost use Rattle.bw_log.specs.Limits.{AreLimits};
+
+/// How many writers a store has, and its limits.
+#[derive(Debug, Clone, Copy, PartialEq, Eq)]
+pub struct Config {
+    /// 1 to 64: each has a ring of its own.
+    pub writers: usize,
+    /// The places of each ring, 1 to 4,096.
+    pub places: usize,
+    /// The places for readers, 1 to 64.
+    pub readers: usize,
+    /// The most pairs of a page, 4 to 32.
+    pub m: u16,
+    /// The most bytes of a frame, 16,384 to 65,536.
+    pub f: u32,
+}
+
+impl Config {
+    pub(crate) fn is_lawful(&self) -> bool
+        ensures { IsTrue result ↔ IsConfig self.now }
+    {
+        self.are_writers() && self.are_limits()
+    }
+
+    fn are_writers(&self) -> bool
+        ensures { IsTrue result ↔ AreWriters self.now }
+    {
+        1 <= self.writers
+            && self.writers <= 64
+            && 1 <= self.places
+            && self.places <= 4096
+            && 1 <= self.readers
+            && self.readers <= 64
+    }
+
+    fn are_limits(&self) -> bool
+        ensures { IsTrue result ↔ AreLimits self.now.m self.now.f }
+    {
+        4 <= self.m && self.m <= 32 && 16384 <= self.f && self.f <= 65536
+    }
+}

@@ -1,0 +1,85 @@
+//! One record is entered in the history and in the frame in the making.
+
+ghost use Rattle.std.specs.Prelude.{◌≡◌, ◌≤◌, ◌<◌, ◌+◌, ◌-◌, ◌^◌, ◌++◌, ◌⊎◌, Some, None, [], false, length, vec_len, slice_get, OnOk, OnErr, IfOk, IfErr};
+ghost use Rattle.bw_codec.specs.Grammar.{body_bytes, IsBlock};
+ghost use Rattle.std.specs.List.{AllByRecursion};
+ghost use Rattle.std.specs.Vec.{vec_capacity};
+ghost use Rattle.bw_buffer.specs.Filling.{frame_of, size_of};
+ghost use Rattle.bw_page.specs.Leaves.{directed_at};
+ghost use Rattle.bw_page.specs.Shown.{IsSpent};
+ghost use Rattle.bw_store.specs.Adding.{blocks_for, end_of, noted};
+ghost use Rattle.bw_store.specs.Lanes.{IsNext};
+ghost use Rattle.bw_store.specs.Taken.{taken};
+
+use crate::fault::StoreFault;
+use crate::store::Store;
+use bw_buffer::Buffer;
+use bw_codec::{Block, Place, Record};
+
+impl Store {
+    ghost use Rattle.bw_store.specs.Views.{kept_by, IsSound};
+
+    // Enters a record whose blocks fit the frame in the making.
+    pub(crate) fn enter(
+        &mut self,
+        lane: usize,
+        item: Record,
+        page: u32,
+        back: Place,
+        blocks: &[Block],
+    ) -> Result<(), StoreFault>
+        requires sound { IsSound self.old (λ b. holding (b.vtable, b.value)) }
+        requires inside { lane < length self.old.intake.lanes.items }
+        requires comes { IsNext self.old.intake.lanes.items lane item }
+        requires next { (kept_by self.old (λ b. holding (b.vtable, b.value))).log.next
+            ≡ Some self.old.making.frame }
+        requires unsealed { self.old.making.is_sealed ≡ false }
+        requires page { page ≡ directed_at self.old.leaves.leaves item }
+        requires back { slice_get self.old.newest.items (page - 1) ≡ Some back }
+        requires blocks { blocks.now ≡ blocks_for self.old.leaves.m self.old.leaves.leaves back
+            (end_of (frame_of self.old.making)) item }
+        requires fits { size_of self.old.making + length (body_bytes blocks.now)
+            ≤ self.old.making.limit }
+        ensures sound { IsSound self.new (λ b. holding (b.vtable, b.value)) }
+        ensures count { length self.new.intake.lanes.items ≡ length self.old.intake.lanes.items }
+        ensures ok { OnOk result (kept_by self.new (λ b. holding (b.vtable, b.value))
+            ≡ taken (kept_by self.old (λ b. holding (b.vtable, b.value))) lane item back) }
+        ensures unchanged { OnErr result (kept_by self.new (λ b. holding (b.vtable, b.value))
+            ≡ kept_by self.old (λ b. holding (b.vtable, b.value))) }
+    {
+        let _ = item.key();
+        self.intake.reserve()?;
+        self.newest.reserve(1)?;
+        let _ = self.leaves.apply(&item)?;
+        file(&mut self.making, &mut self.newest, page, blocks);
+        self.intake.enter(lane, item);
+        Ok(())
+    }
+}
+
+// Puts the blocks into the frame in the making, and notes where the last of them stands.
+fn file(making: &mut Buffer, newest: &mut Vec<Place>, page: u32, blocks: &[Block])
+    requires unsealed { making.old.is_sealed ≡ false }
+    requires fits { size_of making.old + length (body_bytes blocks.now) ≤ making.old.limit }
+    requires lawful { AllByRecursion (IsBlock 32) blocks.now }
+    requires some { (1 ≤ length blocks.now) × (length blocks.now ≤ 2) }
+    requires few { length making.old.blocks + 2 < 2 ^ 32 }
+    requires page { (1 ≤ page) × (page ≤ length newest.old.items) }
+    requires room { vec_len newest.old < vec_capacity newest.old }
+    ensures making { making.new ≡ record making.old { blocks = making.old.blocks ++ blocks.now } }
+    ensures newest { newest.new.items ≡ noted newest.old.items page (end_of (frame_of making.old))
+        (length blocks.now) }
+{
+    let Ok(first) = making.put_all(blocks) else {
+        unreachable!();
+    };
+    let last = Place {
+        frame: first.frame,
+        index: first.index + (blocks.len() as u32 - 1),
+    };
+    let _ = newest.as_slice().len();
+    newest[page as usize - 1] = last;
+    if blocks.len() > 1 {
+        newest.push_reserved(last);
+    }
+}

@@ -1,0 +1,128 @@
+//! The frame in the making is appended, and the next one begun.
+
+ghost use Rattle.std.specs.Prelude.{◌≡◌, ◌≤◌, ◌<◌, Some, [], true, false, length, vec_len, OnOk, IfErr};
+ghost use Rattle.std.specs.Vec.{vec_capacity};
+ghost use Rattle.bw_codec.specs.Grammar.{frame_bytes};
+ghost use Rattle.bw_buffer.specs.Filling.{frame_of};
+ghost use Rattle.bw_log.specs.Views.{IsReady};
+ghost use Rattle.bw_log.specs.Appends.{refusal};
+ghost use Rattle.bw_store.specs.Faults.{FlushLeaves, AppendLeaves, IsNext, IsRefused, FlushAnswers, flush_refusal};
+ghost use Rattle.bw_store.specs.Following.{Follows, HasBoxes};
+
+use crate::fault::StoreFault;
+use crate::store::Store;
+use bw_buffer::Buffer;
+
+impl Store {
+    ghost use Rattle.bw_store.specs.Views.{kept_by, IsSound};
+
+    /// Seals the frame in the making and appends it; answers its number, or `None` where nothing
+    /// waited.
+    ///
+    /// Refused `Failed`, where an append failed before; then `Spent`, where there is no number for
+    /// a frame, even if nothing waits; then, where something waits, `NoSegment`, `Spent` and
+    /// `NoMemory` as the log's append is: nothing was changed. `Device`: the frame stays sealed and
+    /// kept, and every later flush is refused `Failed`. Time is linear in the frame.
+    pub fn flush(&mut self) -> Result<Option<u64>, StoreFault>
+        requires sound { IsSound self.old (λ b. holding (b.vtable, b.value)) }
+        ensures sound { IsSound self.new (λ b. holding (b.vtable, b.value)) }
+        ensures intake { self.new.intake ≡ self.old.intake }
+
+        ensures answers { FlushAnswers (flush_refusal
+            (kept_by self.old (λ b. holding (b.vtable, b.value)))) result }
+        ensures leaves { FlushLeaves (kept_by self.old (λ b. holding (b.vtable, b.value))) result
+            (kept_by self.new (λ b. holding (b.vtable, b.value))) }
+
+        ensures follows { Follows (kept_by self.old (λ b. holding (b.vtable, b.value)))
+            (kept_by self.new (λ b. holding (b.vtable, b.value))) }
+        ensures boxes { HasBoxes (kept_by self.old (λ b. holding (b.vtable, b.value)))
+            (kept_by self.new (λ b. holding (b.vtable, b.value))) }
+    {
+        self.flush_making()
+    }
+
+    // The same, without what follows from it.
+    pub(crate) fn flush_making(&mut self) -> Result<Option<u64>, StoreFault>
+        requires sound { IsSound self.old (λ b. holding (b.vtable, b.value)) }
+        ensures sound { IsSound self.new (λ b. holding (b.vtable, b.value)) }
+        ensures intake { self.new.intake ≡ self.old.intake }
+        ensures answers { FlushAnswers (flush_refusal
+            (kept_by self.old (λ b. holding (b.vtable, b.value)))) result }
+        ensures leaves { FlushLeaves (kept_by self.old (λ b. holding (b.vtable, b.value))) result
+            (kept_by self.new (λ b. holding (b.vtable, b.value))) }
+    {
+        if self.log.is_failed() {
+            return Err(StoreFault::Failed);
+        }
+        let Some(next) = self.log.next_frame() else {
+            return Err(StoreFault::Spent);
+        };
+        if self.making.count() == 0 {
+            return Ok(None);
+        }
+        self.prepare()?;
+        self.append_making()?;
+        Ok(Some(next))
+    }
+
+    // All growths and checks of the append.
+    fn prepare(&mut self) -> Result<(), StoreFault>
+        requires sound { IsSound self.old (λ b. holding (b.vtable, b.value)) }
+        requires some { 1 ≤ length self.old.making.blocks }
+        ensures intake { self.new.intake ≡ self.old.intake }
+        ensures same { kept_by self.new (λ b. holding (b.vtable, b.value))
+            ≡ kept_by self.old (λ b. holding (b.vtable, b.value)) }
+        ensures ready { OnOk result (IsReady (λ b. holding (b.vtable, b.value)) self.new.log
+            (length (frame_bytes (frame_of self.new.making))) false) }
+        ensures room { OnOk result (vec_len self.new.cuts < vec_capacity self.new.cuts) }
+        ensures fits { length (frame_bytes (frame_of self.new.making)) ≤ self.new.making.limit }
+        ensures refused { IfErr result (IsRefused
+            (refusal (kept_by self.old (λ b. holding (b.vtable, b.value))).log
+            (length (frame_bytes (frame_of self.old.making))) false)) }
+    {
+        let len = self.making.bytes().len() as u32;
+        self.log.ready(len, false)?;
+        self.cuts.reserve(1)?;
+        Ok(())
+    }
+
+    // What is left once nothing but the device can refuse.
+    fn append_making(&mut self) -> Result<(), StoreFault>
+        requires sound { IsSound self.old (λ b. holding (b.vtable, b.value)) }
+        requires next { (kept_by self.old (λ b. holding (b.vtable, b.value))).log.next
+            ≡ Some self.old.making.frame }
+        requires works { (kept_by self.old (λ b. holding (b.vtable, b.value))).log.is_failed
+            ≡ false }
+        requires some { 1 ≤ length self.old.making.blocks }
+        requires fits { length (frame_bytes (frame_of self.old.making)) ≤ self.old.making.limit }
+        requires ready { IsReady (λ b. holding (b.vtable, b.value)) self.old.log
+            (length (frame_bytes (frame_of self.old.making))) false }
+        requires room { vec_len self.old.cuts < vec_capacity self.old.cuts }
+        requires countable { self.old.durable < u64.MAX }
+        ensures sound { IsSound self.new (λ b. holding (b.vtable, b.value)) }
+        ensures intake { self.new.intake ≡ self.old.intake }
+        ensures leaves { AppendLeaves (kept_by self.old (λ b. holding (b.vtable, b.value))) result
+            (kept_by self.new (λ b. holding (b.vtable, b.value))) }
+    {
+        let end = self.intake.history.as_slice().len() as u64;
+        self.making.seal();
+        self.cuts.push_reserved(end);
+        match self.log.append(&self.making) {
+            Ok(()) => {
+                self.durable += 1;
+                begin_next(&mut self.making);
+                Ok(())
+            }
+            Err(fault) => Err(StoreFault::from(fault)),
+        }
+    }
+}
+
+// Makes a sealed buffer the empty one of the next frame, if there is a number for it.
+fn begin_next(making: &mut Buffer)
+    requires { making.old.is_sealed ≡ true }
+    ensures { IsNext making.old making.new }
+{
+    let next = making.frame().saturating_add(1);
+    making.restart(next);
+}

@@ -1,0 +1,115 @@
+//! Lanes and the history: what is taken from a lane stands in the history at once.
+
+ghost use Rattle.std.specs.Prelude.{◌≡◌, ◌≤◌, ◌<◌, ◌+◌, ◌∷◌, ◌++◌, [], length, map, vec_len, IfSome, IfNone, slice_get, OnOk};
+ghost use Rattle.std.specs.Vec.{vec_capacity};
+ghost use mathlib.Core.List.{IsPrefix};
+ghost use Rattle.bw_ring.specs.Ends.{taken, known, ring_of_lane};
+ghost use Rattle.bw_store.specs.History.{streams};
+ghost use Rattle.bw_store.specs.Lanes.{IsNext, Dries, TookAt};
+
+use crate::entry::Entry;
+use bw_codec::Record;
+use bw_ring::Lane;
+use std::alloc::AllocError;
+
+/// The lanes, and what was taken from them in order.
+#[derive(Drop)]
+pub struct Intake {
+    pub(crate) lanes: Vec<Lane>,
+    pub(crate) history: Vec<Entry>,
+    ghost few: { vec_len lanes ≤ 64 },
+    ghost takes: { streams 0 (length lanes.items) history.items ≡ map taken lanes.items },
+}
+
+impl Intake {
+    /// A copy of the record that a lane gives next. Nothing is taken.
+    pub(crate) fn next(&mut self, lane: usize) -> Option<Record>
+        requires { lane < length self.old.lanes.items }
+        ensures history { self.new.history ≡ self.old.history }
+        ensures entries { self.new.history.items ≡ self.old.history.items }
+        ensures rings { map ring_of_lane self.new.lanes.items
+            ≡ map ring_of_lane self.old.lanes.items }
+        ensures count { length self.new.lanes.items ≡ length self.old.lanes.items }
+        ensures taken { map taken self.new.lanes.items ≡ map taken self.old.lanes.items }
+        ensures next { IfSome result (IsNext self.new.lanes.items lane) }
+        ensures none { IfNone result (Dries lane self.old.lanes.items self.new.lanes.items) }
+    {
+        peek_at(&mut self.lanes, lane)
+    }
+
+    /// Makes room for one more entry.
+    pub(crate) fn reserve(&mut self) -> Result<(), AllocError>
+        ensures lanes { self.new.lanes ≡ self.old.lanes }
+        ensures history { self.new.history.items ≡ self.old.history.items }
+        ensures room { OnOk result (vec_len self.new.history < vec_capacity self.new.history) }
+    {
+        self.history.reserve(1)
+    }
+
+    /// Takes the record that the lane gives next, and enters it.
+    pub(crate) fn enter(&mut self, lane: usize, item: Record)
+        requires inside { lane < length self.old.lanes.items }
+        requires next { IsNext self.old.lanes.items lane item }
+        requires room { vec_len self.old.history < vec_capacity self.old.history }
+        ensures count { length self.new.lanes.items ≡ length self.old.lanes.items }
+        ensures grows { self.new.history.items
+            ≡ self.old.history.items ++ record { writer = lane; item = item } ∷ [] }
+        ensures rings { map ring_of_lane self.new.lanes.items
+            ≡ map ring_of_lane self.old.lanes.items }
+    {
+        let Intake { lanes, history } = self;
+        take_at(lanes, lane, &item);
+        history.push_reserved(Entry {
+            writer: lane as u16,
+            item,
+        });
+    }
+}
+
+fn peek_at(lanes: &mut Vec<Lane>, at: usize) -> Option<Record>
+    requires { at < length lanes.old.items }
+    ensures rings { map ring_of_lane lanes.new.items ≡ map ring_of_lane lanes.old.items }
+    ensures count { length lanes.new.items ≡ length lanes.old.items }
+    ensures len { vec_len lanes.new ≡ vec_len lanes.old }
+    ensures taken { map taken lanes.new.items ≡ map taken lanes.old.items }
+    ensures next { IfSome result (IsNext lanes.new.items at) }
+    ensures none { IfNone result (Dries at lanes.old.items lanes.new.items) }
+{
+    let _ = lanes.as_slice().len();
+    peek_one(&mut lanes[at])
+}
+
+fn peek_one(lane: &mut Lane) -> Option<Record>
+    ensures ring { ring_of_lane lane.new ≡ ring_of_lane lane.old }
+    ensures taken { taken lane.new ≡ taken lane.old }
+    ensures next { IfSome result (λ r. IsPrefix (r ∷ []) (known lane.new)) }
+    ensures none { IfNone result (known lane.new ≡ []) }
+    ensures kept { 0 < length (known lane.old) → known lane.new ≡ known lane.old }
+{
+    if lane.waits() > 0 {
+        return Some(lane.peek_known().copy());
+    }
+    Some(lane.peek()?.copy())
+}
+
+fn take_at(lanes: &mut Vec<Lane>, at: usize, item: &Record)
+    requires inside { at < length lanes.old.items }
+    requires next { IsNext lanes.old.items at item.now }
+    ensures rings { map ring_of_lane lanes.new.items ≡ map ring_of_lane lanes.old.items }
+    ensures len { vec_len lanes.new ≡ vec_len lanes.old }
+    ensures count { length lanes.new.items ≡ length lanes.old.items }
+    ensures took { TookAt at item.now (map taken lanes.old.items) (map taken lanes.new.items) }
+{
+    let _ = lanes.as_slice().len();
+    let _ = take_one(&mut lanes[at], item);
+}
+
+fn take_one(lane: &mut Lane, item: &Record) -> Record
+    requires { IsPrefix (item.now ∷ []) (known lane.old) }
+    ensures given { taken lane.new ++ known lane.new ≡ taken lane.old ++ known lane.old }
+    ensures ring { ring_of_lane lane.new ≡ ring_of_lane lane.old }
+    ensures taken { taken lane.new ≡ taken lane.old ++ item.now ∷ [] }
+{
+    let _ = item;
+    lane.take_known()
+}

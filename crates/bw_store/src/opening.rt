@@ -1,0 +1,207 @@
+//! A store is opened over empty segments.
+
+ghost use Rattle.std.specs.Prelude.{◌≡◌, ◌≤◌, ◌+◌, ◌++◌, ◌↔◌, [], ◌∷◌, length, map, false, IsTrue, IfOk, IfErr, MatchResult};
+ghost use Rattle.std.specs.List.{AllByRecursion};
+ghost use Rattle.bw_codec.specs.Grammar.{body_bytes, IsBlock};
+ghost use Rattle.bw_codec.specs.declared.block.Block.TheVariants.{Base};
+ghost use Rattle.bw_buffer.specs.Filling.{size_of};
+ghost use Rattle.bw_page.specs.Leaves.{empty_leaf};
+ghost use Rattle.bw_ring.specs.Ends.{ring_of_feed, ring_of_lane};
+ghost use Rattle.bw_store.specs.Opened.{opened, started, first_place, first_making, AreFresh, AreTaken, IsConfig, IsOpenFault};
+
+use crate::config::Config;
+use crate::edge::Edge;
+use crate::fault::{OpenFault, StoreFault};
+use crate::intake::Intake;
+use crate::store::Store;
+use bw_buffer::Buffer;
+use bw_codec::{Block, Leaf, Low, Pairs, Place};
+use bw_device::{Segment, are_spares};
+use bw_log::Log;
+use bw_page::Leaves;
+use bw_ring::{Feed, lanes};
+use std::alloc::{AllocError, Global};
+use std::snapshot::Snapshot;
+
+/// How many boxes a log has at most.
+const MAX_BOXES: usize = 4096;
+
+// What an opened store has beside its log.
+#[derive(Drop)]
+struct Parts {
+    feeds: Vec<Feed>,
+    intake: Intake,
+    leaves: Leaves,
+    newest: Vec<Place>,
+    making: Buffer,
+}
+
+fn are_taken(config: &Config, segments: &[Box<dyn Segment>]) -> bool
+    ensures { IsTrue result ↔ AreTaken config.now (map holding segments.now) }
+{
+    config.is_lawful()
+        && segments.len() <= MAX_BOXES
+        && are_spares(segments, 24 + u64::from(config.f))
+}
+
+// The frame in the making, with the first page.
+fn first_frame(alloc: Global, f: u32) -> Result<Buffer, AllocError>
+    requires { (16384 ≤ f) × (f ≤ 65536) }
+    ensures { IfOk result (λ b. b ≡ first_making f) }
+{
+    let blocks = first_blocks(alloc)?;
+    let mut making = Buffer::new(alloc, 1, f)?;
+    put_first(&mut making, &blocks);
+    Ok(making)
+}
+
+fn first_blocks(alloc: Global) -> Result<Vec<Block>, AllocError>
+    ensures { IfOk result (λ bs. bs.items ≡ Base empty_leaf ∷ []) }
+{
+    let mut blocks = Vec::new(alloc);
+    blocks.push(Block::Base(Leaf {
+        page: 1,
+        low: Low::of(Vec::new(alloc)),
+        pairs: Pairs::of(Vec::new(alloc)),
+    }))?;
+    Ok(blocks)
+}
+
+fn put_first(making: &mut Buffer, blocks: &[Block])
+    requires unsealed { making.old.is_sealed ≡ false }
+    requires some { 1 ≤ length blocks.now }
+    requires lawful { AllByRecursion (IsBlock 32) blocks.now }
+    requires fits { size_of making.old + length (body_bytes blocks.now) ≤ making.old.limit }
+    ensures { making.new ≡ record making.old { blocks = making.old.blocks ++ blocks.now } }
+{
+    let Ok(_) = making.put_all(blocks) else {
+        unreachable!();
+    };
+}
+
+// Lanes from which nothing was taken, and the feeds that belong to them.
+fn intake_of(alloc: Global, config: &Config) -> Result<(Vec<Feed>, Intake), StoreFault>
+    requires { IsConfig config.now }
+    ensures feeds { IfOk result (λ p.
+        map ring_of_lane p.1.lanes.items ≡ map ring_of_feed p.0.items) }
+    ensures unused { IfOk result (λ p. AreFresh config.now p.0.items) }
+    ensures history { IfOk result (λ p. p.1.history.items ≡ []) }
+    ensures memory { IfErr result (λ fault. fault ≡ StoreFault.NoMemory) }
+{
+    let Ok((feeds, ends)) = lanes(alloc, config.writers, config.places) else {
+        return Err(StoreFault::NoMemory);
+    };
+    let _ = ends.as_slice().len();
+    let intake = Intake {
+        lanes: ends,
+        history: Vec::new(alloc),
+    };
+    Ok((feeds, intake))
+}
+
+fn parts_of(alloc: Global, config: &Config) -> Result<Parts, StoreFault>
+    requires { IsConfig config.now }
+    ensures feeds { IfOk result (λ p.
+        map ring_of_lane p.intake.lanes.items ≡ map ring_of_feed p.feeds.items) }
+    ensures unused { IfOk result (λ p. AreFresh config.now p.feeds.items) }
+    ensures history { IfOk result (λ p. p.intake.history.items ≡ []) }
+    ensures leaves { IfOk result (λ p.
+        p.leaves ≡ record { m = config.now.m; leaves = empty_leaf ∷ []; away = [] }) }
+    ensures newest { IfOk result (λ p. p.newest.items ≡ first_place ∷ []) }
+    ensures making { IfOk result (λ p. p.making ≡ first_making config.now.f) }
+    ensures memory { IfErr result (λ fault. fault ≡ StoreFault.NoMemory) }
+{
+    let (feeds, intake) = intake_of(alloc, config)?;
+    let leaves = Leaves::one_empty(alloc, config.m)?;
+    let mut newest = Vec::with_capacity(alloc, 1)?;
+    newest.push_reserved(Place { frame: 1, index: 0 });
+    let making = first_frame(alloc, config.f)?;
+    Ok(Parts {
+        feeds,
+        intake,
+        leaves,
+        newest,
+        making,
+    })
+}
+
+impl Store {
+    ghost use Rattle.bw_log.specs.Views.{seen_by};
+    ghost use Rattle.bw_store.specs.Views.{kept_by, IsSound};
+
+    /// A store of one empty page over empty segments, and a feed for each writer, which may go to
+    /// another thread. The first page is the first block of frame 1.
+    ///
+    /// Refused `BadConfig`, where a value is out of its range, there are more than 4,096 boxes, or
+    /// one of them is not empty or has not room for 24 + `f` bytes to 1,073,741,824; or `NoMemory`.
+    /// The boxes then come back as they were.
+    pub fn open(
+        alloc: Global,
+        config: &Config,
+        segments: Vec<Box<dyn Segment>>,
+    ) -> Result<(Store, Vec<Feed>), OpenFault>
+        requires { Unit {0} }
+        ensures made { IfOk result (λ r. kept_by r.0 holding
+            ≡ opened (map ring_of_feed r.1.items) config.now.m config.now.f
+            (map holding segments.items)) }
+        ensures sound { IfOk result (λ r. IsSound r.0 holding) }
+        ensures feeds { IfOk result (λ r. AreFresh config.now r.1.items) }
+
+        // The limits and the boxes are looked at before memory is.
+        ensures bad_config { MatchResult result
+            (λ _. AreTaken config.now (map holding segments.items))
+            (λ e. IsOpenFault config.now (map holding segments.items) e.cause) }
+        ensures back { IfErr result (λ e. e.segments.items ≡ segments.items) }
+    {
+        if !are_taken(config, &segments) {
+            let cause = StoreFault::BadConfig;
+            return Err(OpenFault { segments, cause });
+        }
+        let parts = match parts_of(alloc, config) {
+            Ok(parts) => parts,
+            Err(cause) => return Err(OpenFault { segments, cause }),
+        };
+        match Log::new(alloc, segments, config.m, config.f) {
+            Ok(log) => Ok(Store::of(alloc, parts, log)),
+            Err((segments, fault)) => {
+                let cause = StoreFault::from(fault);
+                Err(OpenFault { segments, cause })
+            }
+        }
+    }
+
+    // A store of these parts over a log of spares alone.
+    fn of(alloc: Global, parts: Parts, log: Log) -> (Store, Vec<Feed>)
+        ensures store { kept_by result.0 (λ b. holding (b.vtable, b.value))
+            ≡ started (map ring_of_lane parts.intake.lanes.items) parts.intake.history.items
+            parts.leaves parts.newest.items parts.making
+            (seen_by (λ b. holding (b.vtable, b.value)) log) }
+        ensures feeds { result.1 ≡ parts.feeds }
+    {
+        let Parts {
+            feeds,
+            intake,
+            leaves,
+            newest,
+            making,
+        } = parts;
+        let start = Snapshot::of(&leaves);
+        let store = Store {
+            intake,
+            start,
+            before: 0,
+            floor: 0,
+            edge: Edge {
+                segment: 0,
+                length: 0,
+            },
+            cuts: Vec::new(alloc),
+            durable: 0,
+            leaves,
+            newest,
+            making,
+            log,
+        };
+        (store, feeds)
+    }
+}

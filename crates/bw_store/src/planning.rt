@@ -1,0 +1,115 @@
+//! What one record adds to the frame in the making.
+
+ghost use Rattle.std.specs.Prelude.{◌≡◌, [], ◌≤◌, ◌<◌, ◌+◌, ◌-◌, ◌^◌, Some, length, slice_get, IfOk, IfErr, OnOk};
+ghost use Rattle.std.specs.List.{AllByRecursion};
+ghost use Rattle.bw_codec.specs.Grammar.{body_bytes, IsBlock};
+ghost use Rattle.bw_page.specs.Leaves.{changed, directed_at, HasPage};
+ghost use Rattle.bw_buffer.specs.Filling.{frame_of, size_of};
+ghost use Rattle.bw_store.specs.Adding.{upper_if, planned, blocks_for, end_of, result_of};
+
+use crate::fault::StoreFault;
+use crate::store::Store;
+use bw_codec::{Block, Leaf, Ops, Place, Record, block_length};
+use bw_page::{Cut, Leaves, change, count_after, cut_in_two};
+use std::alloc::{AllocError, Global};
+
+/// A record's page, the block before on that page, and the record's blocks.
+#[derive(Drop)]
+pub(crate) struct Plan {
+    pub(crate) page: u32,
+    pub(crate) back: Place,
+    pub(crate) blocks: Vec<Block>,
+}
+
+// The upper part of a leaf, if the record cuts it.
+fn upper_of(
+    alloc: Global,
+    m: u16,
+    leaf: &Leaf,
+    item: &Record,
+    pages: u32,
+) -> Result<Option<Leaf>, StoreFault>
+    requires { 1 ≤ m }
+    ensures upper { IfOk result (λ o. o ≡ upper_if m (pages + 1) (changed item.now leaf.now)) }
+    ensures room { OnOk result (m < length (changed item.now leaf.now).pairs → pages + 1 < 2 ^ 32) }
+{
+    if count_after(leaf, item) <= usize::from(m) {
+        return Ok(None);
+    }
+    let Some(page) = pages.checked_add(1) else {
+        return Err(StoreFault::Spent);
+    };
+    let mut whole = leaf.copy()?;
+    change(&mut whole, item)?;
+    let Cut { lower: _, upper } = cut_in_two(alloc, m, whole, page)?;
+    Ok(Some(upper))
+}
+
+// The blocks of a record of a page.
+fn blocks_of(
+    alloc: Global,
+    page: u32,
+    back: Place,
+    here: Place,
+    item: &Record,
+    upper: Option<Leaf>,
+) -> Result<Vec<Block>, AllocError>
+    ensures { IfOk result (λ bs. bs.items ≡ planned page back here item.now upper) }
+{
+    let mut ops = Vec::new(alloc);
+    ops.push(item.copy())?;
+    let mut blocks = Vec::new(alloc);
+    blocks.push(Block::Delta {
+        page,
+        back,
+        ops: Ops::of(ops),
+    })?;
+    if let Some(upper) = upper {
+        blocks.push(Block::Split {
+            page,
+            back: here,
+            upper,
+        })?;
+    }
+    Ok(blocks)
+}
+
+/// What a record adds, the first of its blocks here.
+pub(crate) fn planned_for(
+    alloc: Global,
+    leaves: &Leaves,
+    newest: &[Place],
+    here: Place,
+    item: &Record,
+) -> Result<Plan, StoreFault>
+    requires here { leaves.now.away ≡ [] }
+    requires count { length newest.now ≡ length leaves.now.leaves }
+    ensures page { IfOk result (λ p. p.page ≡ directed_at leaves.now.leaves item.now) }
+    ensures back { IfOk result (λ p. slice_get newest.now (p.page - 1) ≡ Some p.back) }
+    ensures room { OnOk result (HasPage leaves.now.m leaves.now.leaves item.now) }
+    ensures blocks { IfOk result (λ p. p.blocks.items
+        ≡ blocks_for leaves.now.m leaves.now.leaves p.back here item.now) }
+{
+    let page = leaves.find(item.key());
+    let back = newest[page as usize - 1];
+    let pages = leaves.count();
+    let Some(leaf) = leaves.page(page) else {
+        unreachable!();
+    };
+    let upper = upper_of(alloc, leaves.limit(), leaf, item, pages)?;
+    let blocks = blocks_of(alloc, page, back, here, item, upper)?;
+    Ok(Plan { page, back, blocks })
+}
+
+/// The bytes of blocks.
+pub(crate) fn length_of(blocks: &[Block]) -> usize
+    requires lawful { AllByRecursion (IsBlock 32) blocks.now }
+    requires few { length blocks.now ≤ 2 }
+    ensures { result ≡ length (body_bytes blocks.now) }
+{
+    match blocks {
+        [] => 0,
+        [one] => block_length(one),
+        [one, two, ..] => block_length(one) + block_length(two),
+    }
+}

@@ -1,0 +1,88 @@
+//! One record is taken from a lane.
+
+ghost use Rattle.std.specs.Prelude.{◌≡◌, ◌≤◌, ◌<◌, ◌+◌, ◌-◌, Some, None, false, length, IfSome, IfNone, IfOk, OnOk};
+ghost use Rattle.std.specs.List.{AllByRecursion};
+ghost use Rattle.bw_codec.specs.Grammar.{body_bytes, IsBlock};
+ghost use Rattle.bw_buffer.specs.Filling.{size_of};
+ghost use Rattle.bw_store.specs.Lanes.{IsNext, Dries};
+ghost use Rattle.bw_store.specs.Taking.{TakeLeaves, MayFlush, IsPlan};
+
+use crate::fault::StoreFault;
+use crate::planning::{Plan, length_of, planned_for};
+use crate::store::Store;
+use bw_codec::{Place, Record};
+
+impl Store {
+    ghost use Rattle.bw_store.specs.Views.{kept_by, IsSound};
+
+    /// Takes the next record of a lane, if there is one.
+    pub(crate) fn take_from(&mut self, lane: usize) -> Result<bool, StoreFault>
+        requires sound { IsSound self.old (λ b. holding (b.vtable, b.value)) }
+        requires inside { lane < length self.old.intake.lanes.items }
+        ensures sound { IsSound self.new (λ b. holding (b.vtable, b.value)) }
+        ensures count { length self.new.intake.lanes.items ≡ length self.old.intake.lanes.items }
+        ensures dry { IfOk result (λ took. took ≡ false
+            → Dries lane self.old.intake.lanes.items self.new.intake.lanes.items) }
+        ensures leaves { TakeLeaves lane (kept_by self.old (λ b. holding (b.vtable, b.value)))
+            result (kept_by self.new (λ b. holding (b.vtable, b.value))) }
+    {
+        let Some(item) = self.look(lane) else {
+            return Ok(false);
+        };
+        let plan = self.plan(&item)?;
+        if length_of(&plan.blocks) <= self.making.room() as usize {
+            self.enter(lane, item, plan.page, plan.back, &plan.blocks)?;
+            return Ok(true);
+        }
+        self.flush_making()?;
+        let plan = self.plan(&item)?;
+        self.enter(lane, item, plan.page, plan.back, &plan.blocks)?;
+        Ok(true)
+    }
+
+    // A copy of the record that a lane gives next.
+    fn look(&mut self, lane: usize) -> Option<Record>
+        requires { lane < length self.old.intake.lanes.items }
+        ensures same { kept_by self.new (λ b. holding (b.vtable, b.value))
+            ≡ kept_by self.old (λ b. holding (b.vtable, b.value)) }
+        ensures count { length self.new.intake.lanes.items ≡ length self.old.intake.lanes.items }
+        ensures next { IfSome result (IsNext self.new.intake.lanes.items lane) }
+        ensures none { IfNone result
+            (Dries lane self.old.intake.lanes.items self.new.intake.lanes.items) }
+    {
+        self.intake.next(lane)
+    }
+
+    // What a record adds, where there is a frame for it.
+    fn plan(&self, item: &Record) -> Result<Plan, StoreFault>
+        requires sound { IsSound self.now (λ b. holding (b.vtable, b.value)) }
+        ensures works { OnOk result (self.now.making.is_sealed ≡ false) }
+        ensures next { OnOk result ((kept_by self.now (λ b. holding (b.vtable, b.value))).log.next
+            ≡ Some self.now.making.frame) }
+        ensures plan { IfOk result (IsPlan (kept_by self.now (λ b. holding (b.vtable, b.value)))
+            item.now) }
+        ensures lawful { IfOk result (λ p. AllByRecursion (IsBlock 32) p.blocks.items
+            × (length p.blocks.items ≤ 2)) }
+        ensures short { IfOk result (λ p. length (body_bytes p.blocks.items) ≤ 7000) }
+    {
+        if self.log.is_failed() {
+            return Err(StoreFault::Failed);
+        }
+        let Some(_) = self.log.next_frame() else {
+            return Err(StoreFault::Spent);
+        };
+        let _ = item.key();
+        let _ = self.making.room();
+        let here = Place {
+            frame: self.making.frame(),
+            index: self.making.count(),
+        };
+        planned_for(
+            *self.cuts.allocator(),
+            &self.leaves,
+            &self.newest,
+            here,
+            item,
+        )
+    }
+}
