@@ -1,9 +1,8 @@
 -- The block at the front of bytes.
 
-use Rattle.std.proofs.Common.{◌≡◌, ℕ, ◌^◌, ◌<◌, Option, Some, None, Result, Ok, Err, List, refl, sym, ap, ◌∙◌}
-use Rattle.std.specs.Prelude.{IfOk}
-use Rattle.bw_codec.specs.Grammar.{block_bytes, IsBlock, IsFirst}
-use Rattle.bw_codec.specs.Reading.{Found, Says, Gives, block_at}
+use Rattle.std.proofs.Common.{◌≡◌, ℕ, ◌^◌, ◌<◌, Some, List, sym, ap, ◌∙◌}
+use Rattle.bw_codec.specs.Grammar.{IsFirst}
+use Rattle.bw_codec.specs.Reading.{Says, block_at}
 use Rattle.bw_codec.specs.declared.block.Block.{Block}
 use Rattle.bw_codec.specs.declared.fault.CodecFault.{CodecFault}
 use Rattle.bw_codec.specs.declared.fault.CodecFault.TheVariants.{NoMemory, BadBytes}

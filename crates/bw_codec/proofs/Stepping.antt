@@ -1,8 +1,11 @@
 -- What steps over a spelled block steps over all of it.
 
 use Rattle.std.proofs.Common.{◌≡◌, ℕ, suc, ◌+◌, ◌-◌, ◌^◌, ◌<◌, ◌==◌, ◌||◌, Bool, true, false, Option, Some, None, List, [], ◌∷◌, ◌++◌}
-use Rattle.std.proofs.Common.{length, refl, sym, ap, subst, ◌∙◌, append_assoc, arith, length-append}
+use Rattle.std.proofs.Common.{length, ◌≤◌, drop, refl, sym, ap, subst, ◌∙◌, append_assoc, arith, length-append}
+use Rattle.std.proofs.lemmas.Bool.{le-ltb}
+use Rattle.std.proofs.lemmas.List.{drop_at}
 use Rattle.std.specs.List.{flat_map}
+use Rattle.byteorder.specs.Endian.{little_number}
 use Rattle.bw_codec.specs.Bytes.{number_bytes, text}
 use Rattle.bw_codec.specs.Grammar.{op_bytes, pair_bytes, place_bytes, pairs_bytes, ops_bytes, upper_bytes, block_bytes, IsPage, IsPlace, IsDelta}
 use Rattle.bw_codec.specs.Grammar.{IsBase, IsSplit, IsBlock}
@@ -20,7 +23,8 @@ use Rattle.bw_codec.specs.declared.block.Place.{Place}
 use Rattle.bw_codec.specs.declared.block.Block.{Block}
 use Rattle.bw_codec.specs.declared.block.Block.TheVariants.{Delta, Base, Split}
 use Rattle.bw_codec.specs.declared.outline.Outline.{Outline}
-use Rattle.bw_codec.proofs.Format.{found, again_on, number_format, run_again}
+use Rattle.bw_codec.proofs.Format.{found, again_on, number_format, number_reads, run_again}
+use Rattle.bw_codec.proofs.FrontFormat.{length-number}
 use Rattle.bw_codec.proofs.BlockFormat.{page_format, place_format}
 
 -- ---- loops
@@ -85,11 +89,22 @@ delta_over : (page : ℕ) (back : Place) (ops : List Record) (rest : List ℕ) �
     → delta_after ((number_bytes 4 page ++ (place_bytes back ++ ops_bytes ops)) ++ rest) ≡ Some ((page, None), rest)
 unfolding delta_after
 delta_over page back ops rest law =
-    rw (
-      again_on (number_bytes 4) IsPage page_at page_format page (place_bytes back ++ ops_bytes ops) rest law.changes,
-      again_on place_bytes IsPlace place_at place_format back (ops_bytes ops) rest law.links,
-      counted_over op_bytes op_after op_over ops rest law.count.1,
-    ) refl
+    let bytes = (number_bytes 4 page ++ (place_bytes back ++ ops_bytes ops)) ++ rest in
+    let behind = ops_bytes ops ++ rest in
+    let fixed = number_bytes 4 page ++ place_bytes back in
+    let four : length (number_bytes 4 page) ≡ 4 = length-number 4 page in
+    let eight : length (number_bytes 8 back.frame) ≡ 8 = length-number 8 back.frame in
+    let last : length (number_bytes 4 back.index) ≡ 4 = length-number 4 back.index in
+    let sixteen : length fixed ≡ 16 =
+    omega (arith, length-append (number_bytes 4 page) (place_bytes back), length-append (number_bytes 8 back.frame) (number_bytes 4 back.index)) in
+    let parts : bytes ≡ fixed ++ behind =
+    ap (λ (b : List ℕ). b ++ rest) (sym (append_assoc (number_bytes 4 page) (place_bytes back) (ops_bytes ops))) ∙ append_assoc fixed (ops_bytes ops) rest in
+    let long : 16 ≤ length bytes = omega (arith, ap (λ (b : List ℕ). length b) parts, length-append fixed behind) in
+    let number : little_number 4 bytes ≡ page =
+    ap (λ (b : List ℕ). little_number 4 b) (append_assoc (number_bytes 4 page) (place_bytes back ++ ops_bytes ops) rest)
+    ∙ number_reads 4 page ((place_bytes back ++ ops_bytes ops) ++ rest) law.changes.1 in
+    let left : drop 16 bytes ≡ behind = ap (λ (b : List ℕ). drop 16 b) parts ∙ drop_at fixed behind 16 sixteen in
+    rw (le-ltb (length bytes) 16 long, left, counted_over op_bytes op_after op_over ops rest law.count.1, number) refl
 
 base_over : (m : ℕ) (leaf : Leaf) (rest : List ℕ) → m < 2 ^ 16 → IsBase m leaf
     → base_after ((number_bytes 4 leaf.page ++ (text leaf.low ++ pairs_bytes leaf.pairs)) ++ rest) ≡ Some ((leaf.page, None), rest)

@@ -1,6 +1,7 @@
 -- What stands behind a block and each part of it, found by their lengths alone.
 
-use Rattle.std.specs.Prelude.{ℕ, zero, suc, ◌==◌, if◌then◌else◌, Option, Some, None, List, [], ◌∷◌}
+use Rattle.std.specs.Prelude.{ℕ, zero, suc, ◌==◌, nat_lt, length, drop, if◌then◌else◌, Option, Some, None, List, [], ◌∷◌}
+use Rattle.byteorder.specs.Endian.{little_number}
 use Rattle.bw_codec.specs.Reading.{Found, ◌>>=◌, number_at, run_at, place_at, page_at}
 
 -- the bytes after a run of bytes and its length
@@ -29,12 +30,11 @@ counted_after one bytes = number_at 2 bytes >>= λ count. many_after one count.0
 abbrev pub Pages : Type 0
 Pages = ℕ × Option ℕ
 
+-- its page and its link back are 16 bytes
 unfoldable pub delta_after : List ℕ → Found Pages
-delta_after bytes = do
-  page ← page_at bytes
-  back ← place_at page.1
-  rest ← counted_after op_after back.1
-  Some ((page.0, None), rest)
+delta_after bytes = if nat_lt (length bytes) 16 then None else (do
+  rest ← counted_after op_after (drop 16 bytes)
+  Some ((little_number 4 bytes, None), rest))
 
 unfoldable pub base_after : List ℕ → Found Pages
 base_after bytes = do

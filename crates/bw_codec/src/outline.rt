@@ -10,6 +10,7 @@ ghost use Rattle.bw_codec.specs.Skipping.{run_after, pair_after, op_after, many_
 
 use crate::fault::CodecFault;
 use crate::parts::{four_of, page_of, place_of, run_of, two_of};
+use byteorder::{ByteOrder, LittleEndian};
 
 /// A block in short.
 #[derive(Debug, Clone, Copy, PartialEq, Eq)]
@@ -129,9 +130,12 @@ fn skip_delta(bytes: &[u8]) -> Result<((u32, Option<u32>), &[u8]), CodecFault>
     ensures gives { Gives (λ x. (x.0, x.1.now)) result (delta_after bytes.now) }
     ensures bad { IfErr result (λ fault. fault ≡ CodecFault.BadBytes) }
 {
-    let (page, rest) = page_of(bytes)?;
-    let (_, rest) = place_of(rest)?;
-    let rest = after_ops(rest)?;
+    // One test for the page and the link back, since each walk over a page takes this path.
+    if bytes.len() < 16 {
+        return Err(CodecFault::BadBytes);
+    }
+    let page = LittleEndian::read_u32(bytes);
+    let rest = after_ops(&bytes[16..])?;
     Ok(((page, None), rest))
 }
 
@@ -168,6 +172,7 @@ fn skip_split(bytes: &[u8]) -> Result<((u32, Option<u32>), &[u8]), CodecFault>
     Ok(((page, Some(made)), rest))
 }
 
+#[inline(always)]
 #[tactic(auto, unfolding(crate::specs::Skipping::block_after))]
 fn skip_block(bytes: &[u8]) -> Result<((u32, Option<u32>), &[u8]), CodecFault>
     ensures gives { Gives (λ x. (x.0, x.1.now)) result (block_after bytes.now) }

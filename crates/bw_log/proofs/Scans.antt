@@ -1,19 +1,15 @@
 -- Loops over the blocks of one frame.
 
-use Rattle.std.proofs.Common.{◌≡◌, ℕ, ◌+◌, ◌<◌, ◌==◌, ◌||◌, Bool, true, false, if◌then◌else◌, Option, Some, None, Result, Ok, Err, List, [], ◌∷◌, length, drop}
-use Rattle.std.proofs.Common.{get_or, refl, sym, ap, ◌∙◌, append-nil}
+use Rattle.std.proofs.Common.{◌≡◌, ℕ, ◌+◌, ◌<◌, ◌==◌, ◌||◌, Bool, true, false, if◌then◌else◌, Option, Some, None, List, [], ◌∷◌, length, drop}
+use Rattle.std.proofs.Common.{get_or, refl, sym, ap, ◌∙◌}
 use Rattle.std.specs.List.{list_any}
 use Rattle.std.proofs.lemmas.Bool.{or_parts}
 use Rattle.std.proofs.lemmas.List.{at_drop_more}
 use Rattle.bw_codec.specs.Touch.{touches}
-use Rattle.bw_codec.specs.Grammar.{frame_bytes, IsFrame, IsFront}
-use Rattle.bw_codec.specs.Reading.{Says, Gives}
+use Rattle.bw_codec.specs.Reading.{Says}
 use Rattle.bw_codec.specs.declared.block.Place.{Place}
 use Rattle.bw_codec.specs.declared.block.Block.{Block}
 use Rattle.bw_codec.specs.declared.block.Block.TheVariants.{Delta, Base, Split}
-use Rattle.bw_codec.specs.declared.block.Frame.{Frame}
-use Rattle.bw_codec.specs.declared.block.FrameRead.{FrameRead}
-use Rattle.bw_codec.specs.declared.block.FrameRead.TheVariants.{Whole, Tail}
 use Rattle.bw_codec.specs.declared.fault.CodecFault.{CodecFault}
 use Rattle.bw_codec.specs.declared.fault.CodecFault.TheVariants.{NoMemory, BadBytes}
 use Rattle.bw_log.specs.Walking.{first_back}

@@ -27,12 +27,7 @@ fn behind(bytes: &[u8], len: usize) -> Result<&[u8], CodecFault>
 }
 
 // The blocks that touch a page among those that the bytes spell.
-fn blocks_of_page(
-    alloc: Global,
-    bytes: &[u8],
-    m: u16,
-    page: u32,
-) -> Result<Vec<Block>, CodecFault>
+fn blocks_of_page(alloc: Global, bytes: &[u8], m: u16, page: u32) -> Result<Vec<Block>, CodecFault>
     ensures { (blocks : List Block) → AllByRecursion (IsBlock m) blocks
         → bytes.now ≡ body_bytes blocks
         → Gives (λ x. x.items) result (Some (filter (touches page) blocks)) }

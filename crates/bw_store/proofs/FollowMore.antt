@@ -7,7 +7,10 @@ use Rattle.bw_codec.specs.declared.record.Record.{Record}
 use Rattle.bw_codec.specs.declared.block.Place.{Place}
 use Rattle.std.specs.Prelude.{◌==◌, nat_le}
 use Rattle.std.proofs.lemmas.Bool.{eqb-false, leb-true, leb-false}
+use Rattle.bw_buffer.specs.Filling.{Filling}
 use Rattle.bw_log.specs.Contents.{roster}
+use Rattle.bw_log.specs.Contents as logs
+use Rattle.bw_log.specs.Appends.{IsSameLog}
 use Rattle.bw_store.specs.declared.entry.Entry.{Entry}
 use Rattle.bw_store.specs.declared.fault.StoreFault.{StoreFault}
 use Rattle.bw_store.specs.Kept.{Kept, with_frame, with_stop}
@@ -62,44 +65,35 @@ follows_then {n} {k} a b c x y =
       grew = omega arith;
     }
 
+-- one cut more, whether its frame was appended or not
+cut_turned : (old : Kept) (durable : ℕ) (making : Filling) (log : logs.Contents) → old.durable ≤ durable → IsSameLog old.log log
+    → Turned 0 old (record old { cuts = old.cuts ++ length old.entries ∷ []; durable = durable; making = making; log = log })
+cut_turned old durable making log risen same = record {
+  follows = record {
+    rings = refl;
+    start = refl;
+    before = refl;
+    edge = refl;
+    floor = omega arith;
+    entries_more = [];
+    history = sym (append-nil old.entries);
+    cuts_more = length old.entries ∷ [];
+    cuts = refl;
+    appended = risen;
+  };
+  boxes = record { same = same.leases };
+  grew = omega arith;
+}
+
 follows_flushed : (old new : Kept) (number : ℕ) → Flushed old number new → Turned 0 old new
 follows_flushed old new number f =
-    let step : Turned 0 old (with_frame old f.fresh f.log) = record {
-      follows = record {
-        rings = refl;
-        start = refl;
-        before = refl;
-        edge = refl;
-        floor = omega arith;
-        entries_more = [];
-        history = sym (append-nil old.entries);
-        cuts_more = length old.entries ∷ [];
-        cuts = refl;
-        appended = omega arith;
-      };
-      boxes = record { same = f.same.leases };
-      grew = omega arith;
-    } in
+    let step : Turned 0 old (with_frame old f.fresh f.log) = cut_turned old (old.durable + 1) f.fresh f.log (omega arith) f.same in
     follows_then old (with_frame old f.fresh f.log) new step (follows_as (with_frame old f.fresh f.log) new f.is)
 
 follows_broken : (old new : Kept) (lease : ℕ) → Broken lease old new → Turned 0 old new
 follows_broken old new lease b =
-    let step : Turned 0 old (with_stop old b.log) = record {
-      follows = record {
-        rings = refl;
-        start = refl;
-        before = refl;
-        edge = refl;
-        floor = omega arith;
-        entries_more = [];
-        history = sym (append-nil old.entries);
-        cuts_more = length old.entries ∷ [];
-        cuts = refl;
-        appended = omega arith;
-      };
-      boxes = record { same = b.same.leases };
-      grew = omega arith;
-    } in
+    let step : Turned 0 old (with_stop old b.log) =
+    cut_turned old old.durable (record old.making { is_sealed = true }) b.log (omega arith) b.same in
     follows_then old (with_stop old b.log) new step (follows_as (with_stop old b.log) new b.is)
 
 follows_may : (old new : Kept) → MayFlush old new → Turned 0 old new

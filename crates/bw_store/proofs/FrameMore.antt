@@ -183,7 +183,7 @@ module _ (s : Kept) (h : IsSound s) (works : s.log.is_failed ≡ false) where
             subst (λ (fs : List Frame). Stand s.filed.m fs (pages s.filed.m s.start (records (upto more s.entries k))))
             (sym (upto_older (s.before + k) (logs.counted s.log) (frame_of s.making) (omega arith)))
             (subst (λ (ls : List Leaf). Stand s.filed.m (frames_upto (s.before + k) (logs.counted s.log)) ls) (sym (same_leaves k old))
-                (h.stands k low old from)))
+            (h.stands k low old from)))
         | false ↦ λ is. (
             let new : s.durable < k = leb-false _ _ is in
             let last : k ≡ s.durable + 1 = omega arith in

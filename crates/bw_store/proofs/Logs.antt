@@ -62,28 +62,7 @@ log_follows s new = record {
   floor = omega arith;
 }
 
--- what a read keeps is enough
-pub kept_counts : (old new : logs.Contents) → logs.IsSound new → IsKept old new → CountsAs old new
-kept_counts old new sound k = record {
-  sound = sound;
-  m = ap (λ (i : logs.Image). i.m) k.same;
-  f = ap (λ (i : logs.Image). i.f) k.same;
-  next = ap (λ (i : logs.Image). i.next) k.same;
-  failed = ap (λ (i : logs.Image). i.is_failed) k.same;
-  frames = k.counts;
-}
-
--- a refused read, as the store tells it
-pub stops_as : (A : Type 0) (reads : ℕ → Type 0) (old : Kept) (fault : LogFault) (new : logs.Contents) → StopsAt reads old.log fault new
-    → (fault ≡ log.NoPage → ⊥) → ReadLeaves {A = A} reads old (Err (fault_of fault)) (with_log old new)
-stops_as A reads old log.NoMemory new stops other = ap (with_log old) stops
-stops_as A reads old (log.Device lease) new stops other = stops
-stops_as A reads old log.BadConfig new stops other = absurd stops
-stops_as A reads old log.NoSegment new stops other = absurd stops
-stops_as A reads old log.Failed new stops other = absurd stops
-stops_as A reads old log.Spent new stops other = (ap (with_log old) stops.0, stops.1)
-stops_as A reads old log.NoPage new stops other = absurd (other refl)
-
+-- a log whose current segment was closed
 pub rolled_counts : (old new : logs.Contents) → logs.IsSound new → new ≡ record old { is_open = false } → CountsAs old new
 rolled_counts old new sound is = record {
   sound = sound;

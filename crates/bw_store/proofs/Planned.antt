@@ -32,7 +32,7 @@ use Rattle.bw_store.specs.Kept.{Kept, IsSound}
 use Rattle.bw_store.proofs.Growing.{Takes, blocks_lawful}
 use Rattle.bw_store.proofs.MayAppend.{following_fits}
 use Rattle.bw_store.specs.Adding.{blocks_for, end_of, result_of, upper_if, planned}
-use Rattle.bw_store.proofs.Stepping.{home_there}
+use Rattle.bw_page.proofs.PageByPage.{home_there}
 
 -- where no page is away, each leaf is in memory
 pub leaf_is_here : (f : Shown) (p : ℕ) → f.away ≡ [] → leaf_here p f ≡ leaf_at p f.leaves

@@ -23,6 +23,7 @@ use Rattle.bw_page.proofs.Sorted.{all-push}
 use Rattle.bw_page.proofs.Homes.{home-all, put_in}
 use Rattle.bw_page.proofs.Applying.{put_in-at, put_in-other}
 use Rattle.bw_page.proofs.Indexed.{each_at, home_within}
+use Rattle.bw_page.proofs.PageByPage.{leaf_page, home_there, put_at}
 use Rattle.bw_page.proofs.Law.{directed, cut_within, upper_in, applied-whole, applied-cut, applied-lawful}
 use Rattle.bw_page.proofs.Steps.{kept-lower, leaf_at-map, leaf_at-push, leaf_at-new}
 use Rattle.bw_store.specs.Adding.{with_blocks, result_of, blocks_for}
@@ -41,40 +42,13 @@ pub content_with : (p : ℕ) (fs : List Frame) (f : Frame) (bs : List Block)
     → content p (blocks_of (fs ++ with_blocks f bs ∷ [])) ≡ fold (after p) (content p (blocks_of (fs ++ f ∷ []))) bs
 content_with p fs f bs = ap (content p) (blocks_with fs f bs) ∙ fold-append (after p) None (blocks_of (fs ++ f ∷ [])) bs
 
--- ---- leaves by page
-
-page_is : (n : ℕ) (ls : List Leaf) (i : ℕ) (l : Leaf) → AreNumbered n ls → slice_get ls i ≡ Some l → l.page ≡ n + i
-page_is n [] i l h e = absurd cc
-page_is n (x ∷ ls) zero l h e = (let same : x ≡ l = cc in ap (λ (y : Leaf). y.page) (sym same) ∙ h.0 ∙ omega arith)
-page_is n (x ∷ ls) (suc i) l h e = page_is (n + 1) ls i l h.1 e ∙ omega arith
-
-pub leaf_page : (p : ℕ) (leaves : List Leaf) (l : Leaf) → AreNumbered 1 leaves → leaf_at p leaves ≡ Some l → l.page ≡ p
-leaf_page zero leaves l h e = absurd cc
-leaf_page (suc n) leaves l h e = page_is 1 leaves n l h e ∙ omega arith
-
-pub home_there : (m : ℕ) (leaves : List Leaf) (k : List ℕ) → AreLeaves m leaves → leaf_at (home k leaves).page leaves ≡ Some (home k leaves)
-home_there m leaves k a = home-all (λ l. leaf_at l.page leaves ≡ Some l) k leaves a.first (each_at leaves a.pages)
-
 -- ---- one page after a record
-
--- a leaf that is not of the changed page stays
-others_stay : (d : Leaf) (p : ℕ) (leaves : List Leaf) (o : Option Leaf) → AreNumbered 1 leaves → leaf_at p leaves ≡ o → p ≢ d.page → option_map (put_in d) o ≡ o
-others_stay d p leaves None h e ne = refl
-others_stay d p leaves (Some l) h e ne = ap Some (put_in-other d l (λ same. ne (sym (leaf_page p leaves l h e) ∙ same)))
 
 module _ (m : ℕ) (leaves : List Leaf) (r : Record) (some : 1 ≤ m) (a : AreLeaves m leaves) (op : IsOp r) where
   -- a leaf with the page's number, in its place
   puts : (d : Leaf) (p : ℕ) → d.page ≡ directed_at leaves r
       → leaf_at p (map (put_in d) leaves) ≡ (if directed_at leaves r == p then Some d else leaf_at p leaves)
-  puts d p page =
-      leaf_at-map (put_in d) p leaves
-      ∙ elim (directed_at leaves r == p) as (λ b. (directed_at leaves r == p) ≡ b
-      → option_map (put_in d) (leaf_at p leaves) ≡ (if b then Some d else leaf_at p leaves)) [
-        | true ↦ λ e. (let same : directed_at leaves r ≡ p = eqb-true _ _ e in
-            ap (option_map (put_in d)) (ap (λ q. leaf_at q leaves) (sym same) ∙ home_there m leaves (key_of r) a)
-            ∙ ap Some (put_in-at d (home (key_of r) leaves) (sym page)))
-        | false ↦ λ e. others_stay d p leaves (leaf_at p leaves) a.pages refl (λ same. eqb-false _ _ e (sym page ∙ sym same))
-      ] refl
+  puts d p page = put_at m leaves (key_of r) d p a page
 
   -- what a Delta of the record leaves
   delta_leaves : (back : Place) (p : ℕ) → after p (leaf_at p leaves) (Delta (directed_at leaves r) back (r ∷ []))

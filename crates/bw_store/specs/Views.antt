@@ -1,4 +1,4 @@
--- What a store is, through a reading of its boxes.
+-- What a store is, through a reading of its boxes: a box is a pair, or, in a signature that names boxes, a box.
 
 use Rattle.std.specs.Prelude.{map}
 use Rattle.std.specs.declared.dyn_box.DynBox.{DynBox}
@@ -11,8 +11,8 @@ use Rattle.bw_store.specs.Kept as kept
 use Rattle.bw_store.specs.declared.store.Store.{Store}
 
 module _ {I : Type 0} {H : I → Type 0} where
-  abbrev pub kept_by : Store I H → (DynBox I Global H → Holding) → Kept
-  kept_by s v = record {
+  abbrev pub kept_beside : Store I H → (DynBox I Global H → Holding) → Kept
+  kept_beside s v = record {
     rings = map ring_of_lane s.intake.lanes.items;
     start = s.start.value.leaves;
     before = s.before;
@@ -27,6 +27,12 @@ module _ {I : Type 0} {H : I → Type 0} where
     log = seen_by v s.log;
   }
 
+  abbrev pub kept_by : Store I H → ((i : I) × H i → Holding) → Kept
+  kept_by s v = kept_beside s (λ b. v (b.vtable, b.value))
+
   -- what every store keeps between calls
-  abbrev pub IsSound : Store I H → (DynBox I Global H → Holding) → Type 0
+  abbrev pub IsSoundBeside : Store I H → (DynBox I Global H → Holding) → Type 0
+  IsSoundBeside s v = kept.IsSound (kept_beside s v)
+
+  abbrev pub IsSound : Store I H → ((i : I) × H i → Holding) → Type 0
   IsSound s v = kept.IsSound (kept_by s v)

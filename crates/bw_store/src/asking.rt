@@ -1,7 +1,9 @@
 //! What a store answers of itself. None of these calls takes memory.
 
-ghost use Rattle.std.specs.Prelude.{◌≡◌, ◌+◌, Some, None, length, slice_get, MatchOption};
+ghost use Rattle.std.specs.Prelude.{◌≡◌, ◌+◌, Some, None, length, map, slice_get, MatchOption};
+ghost use Rattle.bw_ring.specs.Ends.{taken};
 ghost use Rattle.bw_log.specs.Segments.{following};
+ghost use Rattle.bw_store.specs.History.{streams};
 
 use crate::entry::Entry;
 use crate::store::Store;
@@ -9,58 +11,61 @@ use crate::store::Store;
 impl Store {
     ghost use Rattle.bw_store.specs.Views.{kept_by, IsSound};
 
-    /// What was taken, in the order in which it was taken.
+    /// What was taken, in the order in which it was taken: each writer's records are those that its
+    /// lane gave, in order.
     pub fn history(&self) -> &[Entry]
-        ensures { result.now ≡ (kept_by self.now (λ b. holding (b.vtable, b.value))).entries }
+        ensures value { result.now ≡ (kept_by self.now holding).entries }
+        ensures takes { streams 0 (length self.now.intake.lanes.items) result.now
+            ≡ map taken self.now.intake.lanes.items }
     {
         self.intake.history.as_slice()
     }
 
     /// The history's length at the seal of each frame of this store, the cleaner's too.
     pub fn cuts(&self) -> &[u64]
-        ensures { result.now ≡ (kept_by self.now (λ b. holding (b.vtable, b.value))).cuts }
+        ensures { result.now ≡ (kept_by self.now holding).cuts }
     {
         self.cuts.as_slice()
     }
 
     /// How many of these frames were appended.
     pub fn durable(&self) -> u64
-        ensures { result ≡ (kept_by self.now (λ b. holding (b.vtable, b.value))).durable }
+        ensures { result ≡ (kept_by self.now holding).durable }
     {
         self.durable
     }
 
     /// The number of the next frame; `None` after the greatest.
     pub fn next_frame(&self) -> Option<u64>
-        requires { IsSound self.now (λ b. holding (b.vtable, b.value)) }
-        ensures { result ≡ following ((kept_by self.now (λ b. holding (b.vtable, b.value))).before +
-            (kept_by self.now (λ b. holding (b.vtable, b.value))).durable) }
+        requires { IsSound self.now holding }
+        ensures { result ≡ following ((kept_by self.now holding).before +
+            (kept_by self.now holding).durable) }
     {
         self.log.next_frame()
     }
 
     /// How many segments are live.
     pub fn live(&self) -> u32
-        requires { IsSound self.now (λ b. holding (b.vtable, b.value)) }
-        ensures { result ≡ length (kept_by self.now (λ b. holding (b.vtable, b.value))).log.live }
+        requires { IsSound self.now holding }
+        ensures { result ≡ length (kept_by self.now holding).log.live }
     {
         self.log.live()
     }
 
     /// How many spares stand.
     pub fn spares(&self) -> u32
-        requires { IsSound self.now (λ b. holding (b.vtable, b.value)) }
-        ensures { result ≡ length (kept_by self.now (λ b. holding (b.vtable, b.value))).log.spares }
+        requires { IsSound self.now holding }
+        ensures { result ≡ length (kept_by self.now holding).log.spares }
     {
         self.log.spares()
     }
 
     /// The number, the lease and the length in bytes of the i-th live segment, from 0.
     pub fn live_segment(&self, i: u32) -> Option<(u64, u32, u64)>
-        requires { IsSound self.now (λ b. holding (b.vtable, b.value)) }
-        ensures { MatchOption (slice_get (kept_by self.now (λ b. holding (b.vtable, b.value))).log.live
-            i) (result ≡ None) (λ h. result ≡ Some (
-              (kept_by self.now (λ b. holding (b.vtable, b.value))).log.number + i,
+        requires { IsSound self.now holding }
+        ensures { MatchOption (slice_get (kept_by self.now holding).log.live i) (result ≡ None)
+            (λ h. result ≡ Some (
+              (kept_by self.now holding).log.number + i,
               h.lease,
               length
                   h.bytes,

@@ -11,7 +11,7 @@ use crate::store::Store;
 use bw_device::Segment;
 
 impl Store {
-    ghost use Rattle.bw_store.specs.Views.{kept_by, IsSound};
+    ghost use Rattle.bw_store.specs.Views.{kept_by, kept_beside, IsSound, IsSoundBeside};
 
     /// A further spare, which goes last. A box that is not empty or has not the room that `open`
     /// asks, or one above 4,096, comes back with `BadConfig`, and any box with `NoMemory` where a
@@ -20,19 +20,19 @@ impl Store {
         &mut self,
         one: Box<dyn Segment>,
     ) -> Result<(), (Box<dyn Segment>, StoreFault)>
-        requires { IsSound self.old holding }
-        ensures sound { IsSound self.new holding }
+        requires { IsSoundBeside self.old holding }
+        ensures sound { IsSoundBeside self.new holding }
         ensures added { OnOk result
-            (kept_by self.new holding ≡ with_spare (kept_by self.old holding) (holding one)) }
+            (kept_beside self.new holding ≡ with_spare (kept_beside self.old holding) (holding one)) }
 
         ensures bad_config { IsErrAnd result (λ e. e.1 ≡ StoreFault.BadConfig)
-            ↔ IsNotTaken (kept_by self.old holding).log (holding one) }
+            ↔ IsNotTaken (kept_beside self.old holding).log (holding one) }
         ensures memory { IfErr result (λ e.
             (e.1 ≡ StoreFault.BadConfig) ⊎ (e.1 ≡ StoreFault.NoMemory)) }
         ensures back { IfErr result (λ e. e.0 ≡ one) }
-        ensures unchanged { OnErr result (kept_by self.new holding ≡ kept_by self.old holding) }
+        ensures unchanged { OnErr result (kept_beside self.new holding ≡ kept_beside self.old holding) }
 
-        ensures follows { Follows (kept_by self.old holding) (kept_by self.new holding) }
+        ensures follows { Follows (kept_beside self.old holding) (kept_beside self.new holding) }
     {
         match self.log.add_segment(one) {
             Ok(()) => Ok(()),
@@ -42,15 +42,15 @@ impl Store {
 
     /// Closes the current segment, if any: the next append begins another. No memory is taken.
     pub fn roll(&mut self)
-        requires { IsSound self.old (λ b. holding (b.vtable, b.value)) }
-        ensures sound { IsSound self.new (λ b. holding (b.vtable, b.value)) }
-        ensures closed { kept_by self.new (λ b. holding (b.vtable, b.value))
-            ≡ rolled (kept_by self.old (λ b. holding (b.vtable, b.value))) }
+        requires { IsSound self.old holding }
+        ensures sound { IsSound self.new holding }
+        ensures closed { kept_by self.new holding
+            ≡ rolled (kept_by self.old holding) }
 
-        ensures follows { Follows (kept_by self.old (λ b. holding (b.vtable, b.value)))
-            (kept_by self.new (λ b. holding (b.vtable, b.value))) }
-        ensures boxes { HasBoxes (kept_by self.old (λ b. holding (b.vtable, b.value)))
-            (kept_by self.new (λ b. holding (b.vtable, b.value))) }
+        ensures follows { Follows (kept_by self.old holding)
+            (kept_by self.new holding) }
+        ensures boxes { HasBoxes (kept_by self.old holding)
+            (kept_by self.new holding) }
     {
         self.log.roll();
     }
@@ -60,25 +60,25 @@ impl Store {
     /// once more while it reads. Refused `NoMemory`; `Device`, where the read failed: the next one
     /// may not; `Spent`, where one more failure of that segment could not be counted.
     pub fn dump(&mut self, segment: u64, out: &mut Vec<u8>) -> Result<bool, StoreFault>
-        requires { IsSound self.old (λ b. holding (b.vtable, b.value)) }
+        requires { IsSound self.old holding }
         ensures found { IfOk result (λ found.
-            MatchOption (segment_at (kept_by self.old (λ b. holding (b.vtable, b.value))).log
+            MatchOption (segment_at (kept_by self.old holding).log
             segment) ((found ≡ false) × (out.new.items ≡ out.old.items))
             (λ h. (found ≡ true) × (out.new.items ≡ out.old.items ++ h.bytes))) }
-        ensures sound { IsSound self.new (λ b. holding (b.vtable, b.value)) }
-        ensures read { HasRead (kept_by self.old (λ b. holding (b.vtable, b.value)))
-            (kept_by self.new (λ b. holding (b.vtable, b.value))) }
+        ensures sound { IsSound self.new holding }
+        ensures read { HasRead (kept_by self.old holding)
+            (kept_by self.new holding) }
 
         ensures unchanged { OnErr result (out.new.items ≡ out.old.items) }
         ensures leaves { ReadLeaves (IsNumbered
-            (kept_by self.old (λ b. holding (b.vtable, b.value))).log segment)
-            (kept_by self.old (λ b. holding (b.vtable, b.value))) result
-            (kept_by self.new (λ b. holding (b.vtable, b.value))) }
+            (kept_by self.old holding).log segment)
+            (kept_by self.old holding) result
+            (kept_by self.new holding) }
 
-        ensures follows { Follows (kept_by self.old (λ b. holding (b.vtable, b.value)))
-            (kept_by self.new (λ b. holding (b.vtable, b.value))) }
-        ensures boxes { HasBoxes (kept_by self.old (λ b. holding (b.vtable, b.value)))
-            (kept_by self.new (λ b. holding (b.vtable, b.value))) }
+        ensures follows { Follows (kept_by self.old holding)
+            (kept_by self.new holding) }
+        ensures boxes { HasBoxes (kept_by self.old holding)
+            (kept_by self.new holding) }
     {
         match self.log.dump(segment, out) {
             Ok(found) => Ok(found),
@@ -89,9 +89,9 @@ impl Store {
     /// All boxes, as they are: the live ones in the order of their numbers, and the spares in
     /// theirs. Nothing is flushed. No memory is taken.
     pub fn shut(self) -> (Vec<Box<dyn Segment>>, Vec<Box<dyn Segment>>)
-        requires { IsSound self holding }
-        ensures live { map holding result.0.items ≡ (kept_by self holding).log.live }
-        ensures spares { map holding result.1.items ≡ (kept_by self holding).log.spares }
+        requires { IsSoundBeside self holding }
+        ensures live { map holding result.0.items ≡ (kept_beside self holding).log.live }
+        ensures spares { map holding result.1.items ≡ (kept_beside self holding).log.spares }
     {
         self.log.into_segments()
     }

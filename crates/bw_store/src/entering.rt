@@ -28,11 +28,10 @@ impl Store {
         back: Place,
         blocks: &[Block],
     ) -> Result<(), StoreFault>
-        requires sound { IsSound self.old (λ b. holding (b.vtable, b.value)) }
+        requires sound { IsSound self.old holding }
         requires inside { lane < length self.old.intake.lanes.items }
         requires comes { IsNext self.old.intake.lanes.items lane item }
-        requires next { (kept_by self.old (λ b. holding (b.vtable, b.value))).log.next
-            ≡ Some self.old.making.frame }
+        requires next { (kept_by self.old holding).log.next ≡ Some self.old.making.frame }
         requires unsealed { self.old.making.is_sealed ≡ false }
         requires page { page ≡ directed_at self.old.leaves.leaves item }
         requires back { slice_get self.old.newest.items (page - 1) ≡ Some back }
@@ -40,12 +39,11 @@ impl Store {
             (end_of (frame_of self.old.making)) item }
         requires fits { size_of self.old.making + length (body_bytes blocks.now)
             ≤ self.old.making.limit }
-        ensures sound { IsSound self.new (λ b. holding (b.vtable, b.value)) }
+        ensures sound { IsSound self.new holding }
         ensures count { length self.new.intake.lanes.items ≡ length self.old.intake.lanes.items }
-        ensures ok { OnOk result (kept_by self.new (λ b. holding (b.vtable, b.value))
-            ≡ taken (kept_by self.old (λ b. holding (b.vtable, b.value))) lane item back) }
-        ensures unchanged { OnErr result (kept_by self.new (λ b. holding (b.vtable, b.value))
-            ≡ kept_by self.old (λ b. holding (b.vtable, b.value))) }
+        ensures ok { OnOk result (kept_by self.new holding
+            ≡ taken (kept_by self.old holding) lane item back) }
+        ensures unchanged { OnErr result (kept_by self.new holding ≡ kept_by self.old holding) }
     {
         let _ = item.key();
         self.intake.reserve()?;

@@ -24,32 +24,26 @@ impl Store {
     /// `NoMemory` as the log's append is: nothing was changed. `Device`: the frame stays sealed and
     /// kept, and every later flush is refused `Failed`. Time is linear in the frame.
     pub fn flush(&mut self) -> Result<Option<u64>, StoreFault>
-        requires sound { IsSound self.old (λ b. holding (b.vtable, b.value)) }
-        ensures sound { IsSound self.new (λ b. holding (b.vtable, b.value)) }
+        requires sound { IsSound self.old holding }
+        ensures sound { IsSound self.new holding }
         ensures intake { self.new.intake ≡ self.old.intake }
 
-        ensures answers { FlushAnswers (flush_refusal
-            (kept_by self.old (λ b. holding (b.vtable, b.value)))) result }
-        ensures leaves { FlushLeaves (kept_by self.old (λ b. holding (b.vtable, b.value))) result
-            (kept_by self.new (λ b. holding (b.vtable, b.value))) }
+        ensures answers { FlushAnswers (flush_refusal (kept_by self.old holding)) result }
+        ensures leaves { FlushLeaves (kept_by self.old holding) result (kept_by self.new holding) }
 
-        ensures follows { Follows (kept_by self.old (λ b. holding (b.vtable, b.value)))
-            (kept_by self.new (λ b. holding (b.vtable, b.value))) }
-        ensures boxes { HasBoxes (kept_by self.old (λ b. holding (b.vtable, b.value)))
-            (kept_by self.new (λ b. holding (b.vtable, b.value))) }
+        ensures follows { Follows (kept_by self.old holding) (kept_by self.new holding) }
+        ensures boxes { HasBoxes (kept_by self.old holding) (kept_by self.new holding) }
     {
         self.flush_making()
     }
 
     // The same, without what follows from it.
     pub(crate) fn flush_making(&mut self) -> Result<Option<u64>, StoreFault>
-        requires sound { IsSound self.old (λ b. holding (b.vtable, b.value)) }
-        ensures sound { IsSound self.new (λ b. holding (b.vtable, b.value)) }
+        requires sound { IsSound self.old holding }
+        ensures sound { IsSound self.new holding }
         ensures intake { self.new.intake ≡ self.old.intake }
-        ensures answers { FlushAnswers (flush_refusal
-            (kept_by self.old (λ b. holding (b.vtable, b.value)))) result }
-        ensures leaves { FlushLeaves (kept_by self.old (λ b. holding (b.vtable, b.value))) result
-            (kept_by self.new (λ b. holding (b.vtable, b.value))) }
+        ensures answers { FlushAnswers (flush_refusal (kept_by self.old holding)) result }
+        ensures leaves { FlushLeaves (kept_by self.old holding) result (kept_by self.new holding) }
     {
         if self.log.is_failed() {
             return Err(StoreFault::Failed);
@@ -67,17 +61,16 @@ impl Store {
 
     // All growths and checks of the append.
     fn prepare(&mut self) -> Result<(), StoreFault>
-        requires sound { IsSound self.old (λ b. holding (b.vtable, b.value)) }
+        requires sound { IsSound self.old holding }
         requires some { 1 ≤ length self.old.making.blocks }
         ensures intake { self.new.intake ≡ self.old.intake }
-        ensures same { kept_by self.new (λ b. holding (b.vtable, b.value))
-            ≡ kept_by self.old (λ b. holding (b.vtable, b.value)) }
+        ensures same { kept_by self.new holding ≡ kept_by self.old holding }
         ensures ready { OnOk result (IsReady (λ b. holding (b.vtable, b.value)) self.new.log
             (length (frame_bytes (frame_of self.new.making))) false) }
         ensures room { OnOk result (vec_len self.new.cuts < vec_capacity self.new.cuts) }
         ensures fits { length (frame_bytes (frame_of self.new.making)) ≤ self.new.making.limit }
         ensures refused { IfErr result (IsRefused
-            (refusal (kept_by self.old (λ b. holding (b.vtable, b.value))).log
+            (refusal (kept_by self.old holding).log
             (length (frame_bytes (frame_of self.old.making))) false)) }
     {
         let len = self.making.bytes().len() as u32;
@@ -88,21 +81,18 @@ impl Store {
 
     // What is left once nothing but the device can refuse.
     fn append_making(&mut self) -> Result<(), StoreFault>
-        requires sound { IsSound self.old (λ b. holding (b.vtable, b.value)) }
-        requires next { (kept_by self.old (λ b. holding (b.vtable, b.value))).log.next
-            ≡ Some self.old.making.frame }
-        requires works { (kept_by self.old (λ b. holding (b.vtable, b.value))).log.is_failed
-            ≡ false }
+        requires sound { IsSound self.old holding }
+        requires next { (kept_by self.old holding).log.next ≡ Some self.old.making.frame }
+        requires works { (kept_by self.old holding).log.is_failed ≡ false }
         requires some { 1 ≤ length self.old.making.blocks }
         requires fits { length (frame_bytes (frame_of self.old.making)) ≤ self.old.making.limit }
         requires ready { IsReady (λ b. holding (b.vtable, b.value)) self.old.log
             (length (frame_bytes (frame_of self.old.making))) false }
         requires room { vec_len self.old.cuts < vec_capacity self.old.cuts }
         requires countable { self.old.durable < u64.MAX }
-        ensures sound { IsSound self.new (λ b. holding (b.vtable, b.value)) }
+        ensures sound { IsSound self.new holding }
         ensures intake { self.new.intake ≡ self.old.intake }
-        ensures leaves { AppendLeaves (kept_by self.old (λ b. holding (b.vtable, b.value))) result
-            (kept_by self.new (λ b. holding (b.vtable, b.value))) }
+        ensures leaves { AppendLeaves (kept_by self.old holding) result (kept_by self.new holding) }
     {
         let end = self.intake.history.as_slice().len() as u64;
         self.making.seal();

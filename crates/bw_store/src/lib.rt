@@ -1,4 +1,9 @@
-//! The page store: a prototype.
+//! The page store: turns take records from the writers' rings, and flushes append what they did.
+//!
+//! Writers live in threads of their own, each with a feed; one thread owns the store. What it took
+//! stands in the history at once, in the pages, and in a frame in the making; a flush appends that
+//! frame and cuts the history there. `specs/Kept.antt` has what holds between calls, and
+//! `specs/Following.antt` what no call takes back. All pages stay in memory.
 #![tactic(auto)]
 
 mod asking;
@@ -6,18 +11,19 @@ mod boxes;
 mod config;
 mod edge;
 mod entering;
-pub mod entry;
-pub mod fault;
+mod entry;
+mod fault;
 mod flushing;
-pub mod intake;
+mod intake;
 mod opening;
 mod planning;
-pub mod store;
+mod store;
 mod taking;
-pub mod turning;
+mod turning;
 
 pub use config::Config;
 pub use edge::Edge;
 pub use entry::Entry;
-pub use fault::StoreFault;
+pub use fault::{OpenFault, StoreFault};
 pub use store::Store;
+pub use turning::TurnFault;

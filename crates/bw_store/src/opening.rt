@@ -15,10 +15,10 @@ use crate::fault::{OpenFault, StoreFault};
 use crate::intake::Intake;
 use crate::store::Store;
 use bw_buffer::Buffer;
-use bw_codec::{Block, Leaf, Low, Pairs, Place};
+use bw_codec::{Block, Place};
 use bw_device::{Segment, are_spares};
 use bw_log::Log;
-use bw_page::Leaves;
+use bw_page::{Leaves, empty_page};
 use bw_ring::{Feed, lanes};
 use std::alloc::{AllocError, Global};
 use std::snapshot::Snapshot;
@@ -59,11 +59,7 @@ fn first_blocks(alloc: Global) -> Result<Vec<Block>, AllocError>
     ensures { IfOk result (λ bs. bs.items ≡ Base empty_leaf ∷ []) }
 {
     let mut blocks = Vec::new(alloc);
-    blocks.push(Block::Base(Leaf {
-        page: 1,
-        low: Low::of(Vec::new(alloc)),
-        pairs: Pairs::of(Vec::new(alloc)),
-    }))?;
+    blocks.push(Block::Base(empty_page(alloc)))?;
     Ok(blocks)
 }
 
@@ -127,7 +123,7 @@ fn parts_of(alloc: Global, config: &Config) -> Result<Parts, StoreFault>
 
 impl Store {
     ghost use Rattle.bw_log.specs.Views.{seen_by};
-    ghost use Rattle.bw_store.specs.Views.{kept_by, IsSound};
+    ghost use Rattle.bw_store.specs.Views.{kept_by, kept_beside, IsSoundBeside};
 
     /// A store of one empty page over empty segments, and a feed for each writer, which may go to
     /// another thread. The first page is the first block of frame 1.
@@ -141,10 +137,10 @@ impl Store {
         segments: Vec<Box<dyn Segment>>,
     ) -> Result<(Store, Vec<Feed>), OpenFault>
         requires { Unit {0} }
-        ensures made { IfOk result (λ r. kept_by r.0 holding
+        ensures made { IfOk result (λ r. kept_beside r.0 holding
             ≡ opened (map ring_of_feed r.1.items) config.now.m config.now.f
             (map holding segments.items)) }
-        ensures sound { IfOk result (λ r. IsSound r.0 holding) }
+        ensures sound { IfOk result (λ r. IsSoundBeside r.0 holding) }
         ensures feeds { IfOk result (λ r. AreFresh config.now r.1.items) }
 
         // The limits and the boxes are looked at before memory is.
@@ -172,7 +168,7 @@ impl Store {
 
     // A store of these parts over a log of spares alone.
     fn of(alloc: Global, parts: Parts, log: Log) -> (Store, Vec<Feed>)
-        ensures store { kept_by result.0 (λ b. holding (b.vtable, b.value))
+        ensures store { kept_by result.0 holding
             ≡ started (map ring_of_lane parts.intake.lanes.items) parts.intake.history.items
             parts.leaves parts.newest.items parts.making
             (seen_by (λ b. holding (b.vtable, b.value)) log) }

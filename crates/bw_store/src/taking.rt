@@ -17,14 +17,14 @@ impl Store {
 
     /// Takes the next record of a lane, if there is one.
     pub(crate) fn take_from(&mut self, lane: usize) -> Result<bool, StoreFault>
-        requires sound { IsSound self.old (λ b. holding (b.vtable, b.value)) }
+        requires sound { IsSound self.old holding }
         requires inside { lane < length self.old.intake.lanes.items }
-        ensures sound { IsSound self.new (λ b. holding (b.vtable, b.value)) }
+        ensures sound { IsSound self.new holding }
         ensures count { length self.new.intake.lanes.items ≡ length self.old.intake.lanes.items }
         ensures dry { IfOk result (λ took. took ≡ false
             → Dries lane self.old.intake.lanes.items self.new.intake.lanes.items) }
-        ensures leaves { TakeLeaves lane (kept_by self.old (λ b. holding (b.vtable, b.value)))
-            result (kept_by self.new (λ b. holding (b.vtable, b.value))) }
+        ensures leaves { TakeLeaves lane (kept_by self.old holding) result
+            (kept_by self.new holding) }
     {
         let Some(item) = self.look(lane) else {
             return Ok(false);
@@ -43,24 +43,22 @@ impl Store {
     // A copy of the record that a lane gives next.
     fn look(&mut self, lane: usize) -> Option<Record>
         requires { lane < length self.old.intake.lanes.items }
-        ensures same { kept_by self.new (λ b. holding (b.vtable, b.value))
-            ≡ kept_by self.old (λ b. holding (b.vtable, b.value)) }
+        ensures same { kept_by self.new holding ≡ kept_by self.old holding }
         ensures count { length self.new.intake.lanes.items ≡ length self.old.intake.lanes.items }
         ensures next { IfSome result (IsNext self.new.intake.lanes.items lane) }
-        ensures none { IfNone result
-            (Dries lane self.old.intake.lanes.items self.new.intake.lanes.items) }
+        ensures none { IfNone result (Dries lane self.old.intake.lanes.items
+            self.new.intake.lanes.items) }
     {
         self.intake.next(lane)
     }
 
     // What a record adds, where there is a frame for it.
     fn plan(&self, item: &Record) -> Result<Plan, StoreFault>
-        requires sound { IsSound self.now (λ b. holding (b.vtable, b.value)) }
+        requires sound { IsSound self.now holding }
         ensures works { OnOk result (self.now.making.is_sealed ≡ false) }
-        ensures next { OnOk result ((kept_by self.now (λ b. holding (b.vtable, b.value))).log.next
+        ensures next { OnOk result ((kept_by self.now holding).log.next
             ≡ Some self.now.making.frame) }
-        ensures plan { IfOk result (IsPlan (kept_by self.now (λ b. holding (b.vtable, b.value)))
-            item.now) }
+        ensures plan { IfOk result (IsPlan (kept_by self.now holding) item.now) }
         ensures lawful { IfOk result (λ p. AllByRecursion (IsBlock 32) p.blocks.items
             × (length p.blocks.items ≤ 2)) }
         ensures short { IfOk result (λ p. length (body_bytes p.blocks.items) ≤ 7000) }

@@ -1,4 +1,4 @@
-//! Rounds over the lanes.
+//! Turns: rounds over the lanes.
 
 ghost use Rattle.std.specs.Prelude.{◌≡◌, ◌≤◌, ◌<◌, ◌+◌, length, IfOk, MatchResult};
 ghost use Rattle.bw_store.specs.Following.{Turned};
@@ -18,16 +18,20 @@ pub struct TurnFault {
 impl Store {
     ghost use Rattle.bw_store.specs.Views.{kept_by, IsSound};
 
-    /// Takes records, one from each lane in turn, until `limit` of them are taken or no lane has
-    /// one.
+    /// Takes records in rounds over lanes 0, 1, .., one from each that has one, until `limit` of
+    /// them are taken or a round took none. A record's blocks go into one frame; where they do not
+    /// fit the frame in the making, that one is appended first.
+    ///
+    /// A refusal tells how many records were taken before it. The refused one is still the first in
+    /// its ring: all growths and appends come before a record is taken. `Failed` comes only where a
+    /// record is found, and so do `Spent`, `NoSegment`, `NoMemory` and `Device`. A record costs a
+    /// search among the pages, work in one page, and its blocks.
     pub fn turn(&mut self, limit: u32) -> Result<u32, TurnFault>
-        requires sound { IsSound self.old (λ b. holding (b.vtable, b.value)) }
-        ensures sound { IsSound self.new (λ b. holding (b.vtable, b.value)) }
+        requires sound { IsSound self.old holding }
+        ensures sound { IsSound self.new holding }
         ensures turned { MatchResult result (λ n.
-            Turned n (kept_by self.old (λ b. holding (b.vtable, b.value)))
-            (kept_by self.new (λ b. holding (b.vtable, b.value))))
-            (λ fault. Turned fault.taken (kept_by self.old (λ b. holding (b.vtable, b.value)))
-            (kept_by self.new (λ b. holding (b.vtable, b.value)))) }
+            Turned n (kept_by self.old holding) (kept_by self.new holding))
+            (λ fault. Turned fault.taken (kept_by self.old holding) (kept_by self.new holding)) }
         ensures within { IfOk result (λ n. n ≤ limit) }
         ensures dry { IfOk result (λ n. n < limit → AreDry self.new.intake.lanes.items) }
     {
@@ -44,15 +48,12 @@ impl Store {
 
     // A round behind what was taken.
     fn round_more(&mut self, taken: u32, limit: u32) -> Result<u32, TurnFault>
-        requires sound { IsSound self.old (λ b. holding (b.vtable, b.value)) }
+        requires sound { IsSound self.old holding }
         requires within { taken ≤ limit }
-        ensures sound { IsSound self.new (λ b. holding (b.vtable, b.value)) }
-        ensures turned { (first : Kept) → Turned taken first
-            (kept_by self.old (λ b. holding (b.vtable, b.value)))
-            → MatchResult result (λ n. Turned n first
-            (kept_by self.new (λ b. holding (b.vtable, b.value))))
-            (λ fault. Turned fault.taken first
-            (kept_by self.new (λ b. holding (b.vtable, b.value)))) }
+        ensures sound { IsSound self.new holding }
+        ensures turned { (first : Kept) → Turned taken first (kept_by self.old holding)
+            → MatchResult result (λ n. Turned n first (kept_by self.new holding))
+            (λ fault. Turned fault.taken first (kept_by self.new holding)) }
         ensures within { IfOk result (λ n. (taken ≤ n) × (n ≤ limit)) }
         ensures dry { IfOk result (λ n. n ≡ taken → taken < limit
             → AreDry self.new.intake.lanes.items) }
@@ -68,14 +69,12 @@ impl Store {
 
     // One record from each lane that has one, at most `limit` of them.
     fn round(&mut self, limit: u32) -> Result<u32, TurnFault>
-        requires sound { IsSound self.old (λ b. holding (b.vtable, b.value)) }
-        ensures sound { IsSound self.new (λ b. holding (b.vtable, b.value)) }
+        requires sound { IsSound self.old holding }
+        ensures sound { IsSound self.new holding }
         ensures count { length self.new.intake.lanes.items ≡ length self.old.intake.lanes.items }
         ensures turned { MatchResult result (λ n.
-            Turned n (kept_by self.old (λ b. holding (b.vtable, b.value)))
-            (kept_by self.new (λ b. holding (b.vtable, b.value))))
-            (λ fault. Turned fault.taken (kept_by self.old (λ b. holding (b.vtable, b.value)))
-            (kept_by self.new (λ b. holding (b.vtable, b.value)))) }
+            Turned n (kept_by self.old holding) (kept_by self.new holding))
+            (λ fault. Turned fault.taken (kept_by self.old holding) (kept_by self.new holding)) }
         ensures within { MatchResult result (λ n. n ≤ limit) (λ fault. fault.taken ≤ limit) }
         ensures dry { IfOk result (λ n. n ≡ 0 → 0 < limit → AreDry self.new.intake.lanes.items) }
     {
@@ -92,17 +91,14 @@ impl Store {
 
     // One record more, if the lane has one.
     fn take_more(&mut self, lane: usize, taken: u32) -> Result<u32, TurnFault>
-        requires sound { IsSound self.old (λ b. holding (b.vtable, b.value)) }
+        requires sound { IsSound self.old holding }
         requires inside { lane < length self.old.intake.lanes.items }
         requires few { taken < u32.MAX }
-        ensures sound { IsSound self.new (λ b. holding (b.vtable, b.value)) }
+        ensures sound { IsSound self.new holding }
         ensures count { length self.new.intake.lanes.items ≡ length self.old.intake.lanes.items }
-        ensures turned { (first : Kept) → Turned taken first
-            (kept_by self.old (λ b. holding (b.vtable, b.value)))
-            → MatchResult result (λ n. Turned n first
-            (kept_by self.new (λ b. holding (b.vtable, b.value))))
-            (λ fault. Turned fault.taken first
-            (kept_by self.new (λ b. holding (b.vtable, b.value)))) }
+        ensures turned { (first : Kept) → Turned taken first (kept_by self.old holding)
+            → MatchResult result (λ n. Turned n first (kept_by self.new holding))
+            (λ fault. Turned fault.taken first (kept_by self.new holding)) }
         ensures within { MatchResult result (λ n. (taken ≤ n) × (n ≤ taken + 1))
             (λ fault. fault.taken ≡ taken) }
         ensures dry { IfOk result (λ n. n ≡ taken

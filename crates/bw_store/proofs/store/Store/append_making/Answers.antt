@@ -22,4 +22,4 @@ returns-in-Err-clause-sound g c =
     stopped_at c.requires.sound c.requires.next c.requires.works c.seal.new.self _ c.push_reserved.new.self.items _ c.in-Err.fault _ c.seal.ensures
     c.in-Err.ensures.leaves.sound c.in-Err.ensures.leaves.log
     (c.in-Err.ensures.prepared (rw c.seal.ensures c.requires.ready)) c.in-Err.ensures.leaves.device c.push_reserved.ensures.items
-        (ap length c.as_slice.ensures.value)
+    (ap length c.as_slice.ensures.value)

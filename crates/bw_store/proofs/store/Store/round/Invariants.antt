@@ -6,10 +6,10 @@ use Rattle.bw_store.proofs.store.Store.round.Given as goal
 
 abbrev pub invariant-lanes : goal.invariant-lanes
 invariant-lanes g l = record {
-  sound : IsSound l.self (λ b. (goal.Segment-dyn g (b.vtable, b.value)).holding b.value);
+  sound : IsSound l.self (λ z. (goal.Segment-dyn g z).holding z.1);
   count : length l.self.intake.lanes.items ≡ length l.initial.self.intake.lanes.items;
-  turned : Turned l.taken (kept_by l.initial.self (λ b. (goal.Segment-dyn g (b.vtable, b.value)).holding b.value))
-      (kept_by l.self (λ b. (goal.Segment-dyn g (b.vtable, b.value)).holding b.value));
+  turned : Turned l.taken (kept_by l.initial.self (λ z. (goal.Segment-dyn g z).holding z.1))
+      (kept_by l.self (λ z. (goal.Segment-dyn g z).holding z.1));
   within : l.taken ≤ l.limit;
   dry : l.taken ≡ 0 → (i : ℕ) → i < l.lane → IsDry l.self.intake.lanes.items i;
 }

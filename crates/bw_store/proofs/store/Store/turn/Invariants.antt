@@ -5,9 +5,9 @@ use Rattle.bw_store.proofs.store.Store.turn.Given as goal
 
 abbrev pub invariant-rounds : goal.invariant-rounds
 invariant-rounds g l = record {
-  sound : IsSound l.self (λ b. (goal.Segment-dyn g (b.vtable, b.value)).holding b.value);
-  turned : Turned l.taken (kept_by l.initial.self (λ b. (goal.Segment-dyn g (b.vtable, b.value)).holding b.value))
-      (kept_by l.self (λ b. (goal.Segment-dyn g (b.vtable, b.value)).holding b.value));
+  sound : IsSound l.self (λ z. (goal.Segment-dyn g z).holding z.1);
+  turned : Turned l.taken (kept_by l.initial.self (λ z. (goal.Segment-dyn g z).holding z.1))
+      (kept_by l.self (λ z. (goal.Segment-dyn g z).holding z.1));
   within : l.taken ≤ l.limit;
 }
 

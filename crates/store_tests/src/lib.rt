@@ -1,0 +1,6 @@
+//! What no clause of the store says, tried from outside: that its calls succeed where memory is
+//! there, and the worked bytes.
+#![tactic(auto)]
+
+#[cfg(test)]
+mod tests;

@@ -1,0 +1,5 @@
+//! Calls on a store as tables of steps, each walked to the first that goes otherwise than told.
+
+mod boxes;
+mod steps;
+mod walking;
