@@ -3,10 +3,8 @@
 use Rattle.std.proofs.Common.{◌≡◌, ℕ, ◌+◌, ◌≤◌, inl, inr, true, false, Result, Ok, Err, Option, Some, None, Bool, List, [], ◌∷◌, ◌++◌, length, refl, sym, ap}
 use Rattle.std.proofs.Common.{◌∙◌, subst}
 use Rattle.std.proofs.Common.{append_assoc, append-nil, arith, length-append}
-use Rattle.bw_codec.specs.declared.record.Record.{Record}
-use Rattle.bw_codec.specs.declared.block.Place.{Place}
-use Rattle.std.specs.Prelude.{◌==◌, nat_le}
-use Rattle.std.proofs.lemmas.Bool.{eqb-false, leb-true, leb-false}
+use Rattle.std.specs.Prelude.{nat_le}
+use Rattle.std.proofs.lemmas.Bool.{leb-true, leb-false}
 use Rattle.bw_buffer.specs.Filling.{Filling}
 use Rattle.bw_log.specs.Contents.{roster}
 use Rattle.bw_log.specs.Contents as logs
@@ -18,7 +16,7 @@ use Rattle.bw_store.specs.Taken.{taken}
 use Rattle.bw_store.specs.Taking.{MayFlush, Took, TakeLeaves}
 use Rattle.bw_store.specs.declared.fault.StoreFault.TheVariants.{NoMemory, BadConfig, NoSegment, Device, Failed, Spent, NoPage}
 use Rattle.bw_store.specs.Faults.{Flushed, Broken, FlushLeaves}
-use Rattle.bw_store.specs.Following.{Follows, Turned}
+use Rattle.bw_store.specs.Following.{Turned}
 
 pub follows_as : (old new : Kept) → new ≡ old → Turned 0 old new
 follows_as old new e = record {

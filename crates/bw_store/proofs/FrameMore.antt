@@ -1,10 +1,10 @@
 -- A store after its frame was appended, and after the append failed.
 
-use Rattle.std.proofs.Common.{◌≡◌, ◌≢◌, ℕ, zero, suc, ◌+◌, ◌-◌, ◌^◌, ◌<◌, ◌≤◌, ◌⊎◌, inl, inr, Bool, true, false, Option, Some, None, List, [], ◌∷◌, ◌++◌, map}
-use Rattle.std.proofs.Common.{length, take, drop, get_or, refl, sym, ap, ◌∙◌, subst, append_assoc, append-nil, arith, length-append, take_all}
+use Rattle.std.proofs.Common.{◌≡◌, ℕ, zero, suc, ◌+◌, ◌-◌, ◌<◌, ◌≤◌, ◌⊎◌, inl, inr, Bool, true, false, Some, None, List, [], ◌∷◌, ◌++◌}
+use Rattle.std.proofs.Common.{length, take, drop, refl, sym, ap, ◌∙◌, subst, append-nil, arith, length-append, take_all}
 use Rattle.std.proofs.Common.{drop_of_length-le, if◌then◌else◌}
-use Rattle.std.specs.List.{AllByRecursion as All, fold, flat_map}
-use Rattle.std.proofs.lemmas.List.{map-append, get_or_append_left}
+use Rattle.std.specs.List.{AllByRecursion as All}
+use Rattle.std.proofs.lemmas.List.{get_or_append_left}
 use Rattle.std.proofs.Math.Seq.{get_or-append_seam}
 use Rattle.std.proofs.lemmas.Grind.{fold-append, flat_map-append}
 use Rattle.bw_codec.specs.Touch.{touches}
@@ -18,20 +18,18 @@ use Rattle.bw_page.specs.Standing.{content, blocks_of, Stand}
 use Rattle.bw_page.proofs.Sorted.{all-map, all-zip, all-push}
 use Rattle.bw_buffer.specs.Filling.{Filling, frame_of}
 use Rattle.bw_log.specs.Contents as logs
-use Rattle.bw_log.specs.Places.{all_placed, placed, bad_link, first_number, AreLinked, place_of, last_place}
-use Rattle.bw_log.specs.Segments.{following, next_of, AreFrom}
-use Rattle.bw_log.specs.Appends.{Appended, IsSameLog, Stopped}
+use Rattle.bw_log.specs.Places.{all_placed, placed, bad_link, first_number, last_place}
+use Rattle.bw_log.specs.Segments.{following, next_of}
+use Rattle.bw_log.specs.Appends.{Appended, IsSameLog}
 use Rattle.bw_log.proofs.Adding.{before_next, following_is, filter_all}
 use Rattle.std.proofs.lemmas.List.Elements.{filter-append}
 use Rattle.std.proofs.lemmas.Bool.{leb-true, leb-false, le-leb, lt-leb}
 use Rattle.std.specs.Prelude.{nat_le}
 use Rattle.bw_store.specs.declared.entry.Entry.{Entry}
 use Rattle.bw_store.specs.History.{records, cut, upto, share}
-use Rattle.bw_store.specs.Share.{Tells, TellsFirst}
 use Rattle.bw_store.specs.Growing.{Grown, frames_upto}
 use Rattle.bw_store.specs.Kept.{Kept, leaves_at, share_at, TellsBy, TellsShare, waiting, AreCuts, IsSound, with_frame, with_stop}
 use Rattle.bw_store.proofs.Telling.{tells_none}
-use Rattle.bw_store.proofs.RecordMore.{cut_within}
 
 -- ---- an empty frame behind others
 

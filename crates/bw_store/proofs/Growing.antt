@@ -1,25 +1,23 @@
 -- One record more in the frame in the making.
 
-use Rattle.std.proofs.Common.{◌≡◌, ◌≢◌, ℕ, zero, suc, ◌+◌, ◌-◌, ◌/◌, ◌^◌, ◌<◌, ◌≤◌, lit<, Bool, true, false, Option, Some, None, List, [], ◌∷◌, ◌++◌, map}
-use Rattle.std.proofs.Common.{length, set, drop, refl, sym, ap, ◌∙◌, subst, append_assoc, append-nil, arith, if◌then◌else◌, length-append, length-set}
+use Rattle.std.proofs.Common.{◌≡◌, ℕ, zero, suc, ◌+◌, ◌-◌, ◌/◌, ◌^◌, ◌<◌, ◌≤◌, lit<, true, false, Option, Some, List, [], ◌∷◌, ◌++◌}
+use Rattle.std.proofs.Common.{length, set, refl, sym, ap, ◌∙◌, subst, arith, if◌then◌else◌, length-append, length-set}
 use Rattle.std.proofs.Common.{length-drop}
-use Rattle.std.specs.Prelude.{◌==◌, ◌||◌, nat_le}
-use Rattle.std.specs.List.{AllByRecursion as All, fold, flat_map, slice_get}
-use Rattle.std.proofs.lemmas.Bool.{eqb-true, eqb-false, eq-eqb, ne_eqb, le-leb, lt-leb, leb-true, leb-false}
-use Rattle.std.proofs.lemmas.Option.{slice_get_past, slice_get_within}
-use Rattle.bw_codec.specs.Grammar.{IsOp, IsBlock, IsBase, IsPlace, IsPage, IsDelta, IsSplit, first_key}
+use Rattle.std.specs.Prelude.{◌==◌, nat_le}
+use Rattle.std.specs.List.{AllByRecursion as All, fold, slice_get}
+use Rattle.std.proofs.lemmas.Bool.{ne_eqb, leb-true, leb-false}
+use Rattle.bw_codec.specs.Grammar.{IsOp, IsBlock, IsPlace, IsDelta}
 use Rattle.bw_codec.specs.Record.{key_of}
 use Rattle.bw_codec.specs.Touch.{touches}
 use Rattle.bw_codec.specs.declared.record.Record.{Record}
 use Rattle.bw_codec.specs.declared.leaf.Leaf.{Leaf}
 use Rattle.bw_codec.specs.declared.block.Place.{Place}
 use Rattle.bw_codec.specs.declared.block.Block.{Block}
-use Rattle.bw_codec.specs.declared.block.Block.TheVariants.{Delta, Base, Split}
+use Rattle.bw_codec.specs.declared.block.Block.TheVariants.{Delta, Split}
 use Rattle.bw_codec.specs.declared.block.Frame.{Frame}
-use Rattle.bw_page.specs.Leaves.{home, changed, directed_at, lower_of, upper_of, leaf_at, applied, HasPage, AreNumbered, AreLeaves}
+use Rattle.bw_page.specs.Leaves.{directed_at, upper_of, leaf_at, applied, HasPage, AreLeaves}
 use Rattle.bw_page.specs.Standing.{after, content, blocks_of, Stand}
-use Rattle.bw_page.proofs.Sorted.{all-map, all-push}
-use Rattle.bw_page.proofs.Homes.{home-all}
+use Rattle.bw_page.proofs.Sorted.{all-push}
 use Rattle.bw_page.proofs.Indexed.{home_within}
 use Rattle.bw_page.proofs.Law.{applied-lawful, cut_within, upper_in, home_base}
 use Rattle.bw_page.proofs.Law as law

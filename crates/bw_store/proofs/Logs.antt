@@ -1,6 +1,6 @@
 -- A store whose log changed, but not in what it counts.
 
-use Rattle.std.proofs.Common.{false, ◌≡◌, ℕ, ◌+◌, ◌<◌, ◌≤◌, inl, inr, Result, Err, List, [], map, refl, sym, ap, ◌∙◌, subst, arith, append-nil}
+use Rattle.std.proofs.Common.{false, ◌≡◌, ◌+◌, ◌<◌, inl, inr, List, [], refl, sym, ap, ◌∙◌, subst, arith, append-nil}
 use Rattle.std.specs.List.{AllByRecursion as All}
 use Rattle.bw_codec.specs.declared.block.Frame.{Frame}
 use Rattle.bw_page.specs.Standing.{Stand}
@@ -8,14 +8,12 @@ use Rattle.bw_buffer.specs.Filling.{frame_of}
 use Rattle.bw_log.specs.declared.fault.LogFault.{LogFault}
 use Rattle.bw_log.specs.declared.fault.LogFault.TheVariants as log
 use Rattle.bw_log.specs.Contents as logs
-use Rattle.bw_log.specs.Reads.{IsKept, StopsAt}
-use Rattle.bw_store.specs.declared.fault.StoreFault.{StoreFault}
-use Rattle.bw_store.specs.declared.fault.StoreFault.TheVariants.{NoMemory, BadConfig, NoSegment, Device, Failed, Spent, NoPage}
+use Rattle.bw_store.specs.declared.fault.StoreFault.TheVariants.{BadConfig}
 use Rattle.bw_store.specs.Faults.{fault_of}
-use Rattle.bw_store.specs.Following.{Follows, HasBoxes}
+use Rattle.bw_store.specs.Following.{Follows}
 use Rattle.bw_store.specs.Growing.{Grown, frames_upto}
 use Rattle.bw_store.specs.Kept.{Kept, leaves_at, TellsShare, IsSound}
-use Rattle.bw_store.specs.Reading.{with_log, ReadLeaves}
+use Rattle.bw_store.specs.Reading.{with_log}
 
 -- a log that counts the same frames
 pub record CountsAs (old new : logs.Contents) : Type 0 where

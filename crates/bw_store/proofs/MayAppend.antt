@@ -1,13 +1,12 @@
 -- The frame in the making may follow the counted ones.
 
-use Rattle.std.proofs.Common.{◌≡◌, ◌≢◌, ℕ, zero, suc, ◌+◌, ◌-◌, ◌*◌, ◌^◌, ◌<◌, ◌≤◌, ◌⊎◌, inl, inr, Bool, true, false, Option, Some, None, Result, Ok, Err, List}
+use Rattle.std.proofs.Common.{◌≡◌, ℕ, ◌+◌, ◌^◌, ◌<◌, ◌≤◌, ◌⊎◌, inl, inr, Bool, true, false, Some, None, Err, List}
 use Rattle.std.proofs.Common.{[], ◌∷◌, ◌++◌, length, refl, sym, ap, ◌∙◌, subst, arith, length-append}
 use Rattle.std.specs.Prelude.{nat_lt}
 use Rattle.std.specs.List.{AllByRecursion as All}
 use Rattle.std.proofs.lemmas.Bool.{ltb-true}
 use Rattle.std.proofs.lemmas.Grind.{fold-append}
-use Rattle.bw_codec.specs.Grammar.{body_bytes, frame_bytes, head_bytes, IsBlock, IsFrame}
-use Rattle.bw_codec.specs.declared.block.Block.{Block}
+use Rattle.bw_codec.specs.Grammar.{body_bytes, frame_bytes, head_bytes, IsBlock}
 use Rattle.bw_codec.proofs.Format.{held, found}
 use Rattle.bw_codec.proofs.FrontFormat.{length-head}
 use Rattle.bw_buffer.specs.Filling.{Filling, frame_of}
@@ -19,10 +18,8 @@ use Rattle.bw_log.specs.Segments.{following, next_of}
 use Rattle.bw_log.specs.Appends.{refusal, MayFollow, Appended, Stopped, IsSameLog, Rose, IsOkOrDevice, OnDevice}
 use Rattle.bw_log.proofs.Adding.{following_is}
 use Rattle.bw_log.proofs.Whole.{granted}
-use Rattle.bw_store.specs.declared.fault.StoreFault.{StoreFault}
-use Rattle.bw_store.specs.declared.fault.StoreFault.TheVariants.{Device}
-use Rattle.bw_store.specs.Faults.{fault_of, Flushed, Broken, FlushLeaves, AppendedNow, IsNext}
-use Rattle.bw_store.specs.Kept.{Kept, IsSound, with_frame, with_stop}
+use Rattle.bw_store.specs.Faults.{Flushed, AppendedNow, IsNext}
+use Rattle.bw_store.specs.Kept.{Kept, IsSound, with_frame}
 use Rattle.bw_store.proofs.FrameMore.{flushed_sound, stopped_sound}
 
 pub following_fits : (n k : ℕ) → following n ≡ Some k → k < 2 ^ 64

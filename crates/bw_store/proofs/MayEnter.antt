@@ -1,10 +1,9 @@
 -- A record whose blocks fit may be entered.
 
-use Rattle.std.proofs.Common.{◌≡◌, ◌≢◌, ℕ, zero, suc, ◌+◌, ◌-◌, ◌*◌, ◌^◌, ◌<◌, ◌≤◌, ◌⊎◌, inl, inr, Bool, true, false, Option, Some, None, Result, Ok, Err, List}
-use Rattle.std.proofs.Common.{[], ◌∷◌, ◌++◌, length, map, set, refl, sym, ap, ◌∙◌, subst, arith, if◌then◌else◌, length-append}
+use Rattle.std.proofs.Common.{◌≡◌, ℕ, ◌+◌, ◌-◌, ◌^◌, ◌<◌, ◌≤◌, true, false, Some, List}
+use Rattle.std.proofs.Common.{[], ◌∷◌, ◌++◌, length, map, set, refl, sym, ap, ◌∙◌, subst, arith, if◌then◌else◌}
 use Rattle.std.specs.Prelude.{nat_le}
 use Rattle.std.specs.List.{AllByRecursion as All, slice_get}
-use Rattle.std.proofs.lemmas.Option.{slice_get_within}
 use Rattle.bw_codec.specs.Grammar.{body_bytes, IsBlock, IsOp}
 use Rattle.bw_codec.specs.declared.record.Record.{Record}
 use Rattle.bw_codec.specs.declared.block.Place.{Place}
@@ -24,7 +23,6 @@ use Rattle.bw_ring.specs.declared.lane.Lane.{Lane}
 use Rattle.bw_ring.specs.Ends.{Ring, ring_of_lane}
 use Rattle.std.proofs.lemmas.List.{length-map}
 use Rattle.bw_log.specs.Contents as logs
-use Rattle.bw_log.specs.Segments.{following}
 use Rattle.bw_log.proofs.Adding.{following_is}
 use Rattle.bw_store.specs.declared.entry.Entry.{Entry}
 use Rattle.bw_store.specs.Adding.{end_of, after_place, result_of, blocks_for, places_after, noted}

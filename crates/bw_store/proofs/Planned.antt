@@ -1,6 +1,6 @@
 -- What was planned is what the record adds, and it is short.
 
-use Rattle.std.proofs.Common.{◌≡◌, ℕ, ◌+◌, ◌-◌, ◌*◌, ◌^◌, ◌<◌, ◌≤◌, Bool, true, false, Option, Some, None, Result, Ok, Err, inl, inr, List, [], ◌∷◌, ◌++◌}
+use Rattle.std.proofs.Common.{◌≡◌, ℕ, ◌+◌, ◌-◌, ◌*◌, ◌^◌, ◌<◌, ◌≤◌, true, false, Option, Some, None, Result, Ok, Err, inl, inr, List, [], ◌∷◌}
 use Rattle.std.proofs.Common.{length, refl, sym, ap, ◌∙◌, subst, arith, if◌then◌else◌, length-append, append-nil}
 use Rattle.std.specs.Prelude.{nat_le, IfOk, OnOk}
 use Rattle.bw_store.specs.declared.planning.Plan.{Plan}
@@ -8,7 +8,6 @@ use Rattle.bw_store.specs.declared.fault.StoreFault.{StoreFault}
 use Rattle.bw_store.specs.Faults.{FlushLeaves}
 use Rattle.bw_store.specs.Taking.{MayFlush, Took}
 use Rattle.bw_store.specs.Taken.{taken}
-use Rattle.bw_store.specs.declared.entry.Entry.{Entry}
 use Rattle.std.specs.List.{AllByRecursion as All, flat_map}
 use Rattle.bw_codec.specs.Grammar.{body_bytes, block_bytes, op_bytes, pair_bytes, IsBlock, IsOp, IsPair}
 use Rattle.bw_codec.specs.Record.{key_of}
@@ -17,7 +16,7 @@ use Rattle.bw_codec.specs.declared.record.Record.TheVariants.{Put, Del}
 use Rattle.bw_codec.specs.declared.leaf.Leaf.{Leaf}
 use Rattle.bw_codec.specs.declared.block.Place.{Place}
 use Rattle.bw_codec.specs.declared.block.Block.{Block}
-use Rattle.bw_codec.specs.declared.block.Block.TheVariants.{Delta, Base, Split}
+use Rattle.bw_codec.specs.declared.block.Block.TheVariants.{Delta, Split}
 use Rattle.bw_codec.proofs.Lengths.{length-delta, length-split}
 use Rattle.bw_page.specs.Leaves.{home, changed, directed_at, upper_of, leaf_at, HasPage, AreLeaves}
 use Rattle.std.specs.List.{slice_get}

@@ -1,31 +1,25 @@
 -- A store after one record, and after one frame.
 
-use Rattle.std.proofs.Common.{◌≡◌, ◌≢◌, ℕ, zero, suc, ◌+◌, ◌-◌, ◌^◌, ◌<◌, ◌≤◌, ◌⊎◌, inl, inr, Bool, true, false, Option, Some, None, List, [], ◌∷◌, ◌++◌, map}
-use Rattle.std.proofs.Common.{length, take, drop, get_or, refl, sym, ap, ◌∙◌, subst, append_assoc, append-nil, arith, length-append, take-append-drop}
-use Rattle.std.specs.List.{AllByRecursion as All, fold}
-use Rattle.std.proofs.lemmas.List.{map-append, take-append-le, drop-append-le, get_or_append_left}
-use Rattle.std.proofs.Math.Seq.{get_or-append_seam}
-use Rattle.std.proofs.Math.ListN.{get_or-eq_default}
+use Rattle.std.proofs.Common.{◌≡◌, ℕ, zero, suc, ◌+◌, ◌-◌, ◌<◌, ◌≤◌, inl, inr, List, [], ◌∷◌, ◌++◌}
+use Rattle.std.proofs.Common.{length, take, drop, get_or, sym, ap, ◌∙◌, subst, arith, length-append, take-append-drop}
+use Rattle.std.proofs.lemmas.List.{map-append, take-append-le, drop-append-le}
 use Rattle.std.proofs.lemmas.Grind.{fold-append}
 use Rattle.bw_codec.specs.Grammar.{IsOp}
 use Rattle.bw_codec.specs.declared.record.Record.{Record}
 use Rattle.bw_codec.specs.declared.leaf.Leaf.{Leaf}
 use Rattle.bw_codec.specs.declared.block.Place.{Place}
 use Rattle.bw_codec.specs.declared.block.Block.{Block}
-use Rattle.bw_codec.specs.declared.block.Frame.{Frame}
-use Rattle.bw_page.specs.Leaves.{pages, applied, directed_at, HasPage}
-use Rattle.bw_page.specs.Shown.{Shown, after_record}
+use Rattle.bw_page.specs.Leaves.{pages, applied}
 use Rattle.bw_page.specs.Standing.{Stand}
 use Rattle.bw_page.proofs.Sorted.{all-map, all-push}
-use Rattle.bw_buffer.specs.Filling.{Filling, frame_of}
+use Rattle.bw_buffer.specs.Filling.{frame_of}
 use Rattle.bw_log.specs.Contents as logs
-use Rattle.bw_log.specs.Segments.{following}
 use Rattle.bw_store.specs.declared.entry.Entry.{Entry}
 use Rattle.bw_store.specs.History.{records, cut, upto, share}
-use Rattle.bw_store.specs.Share.{Tells, TellsFirst}
-use Rattle.bw_store.specs.Adding.{end_of, blocks_for, places_after}
-use Rattle.bw_store.specs.Growing.{Grown, frames_upto}
-use Rattle.bw_store.specs.Kept.{Kept, leaves_at, share_at, TellsBy, TellsShare, waiting, AreCuts, IsSound, with_record}
+use Rattle.bw_store.specs.Share.{TellsFirst}
+use Rattle.bw_store.specs.Adding.{end_of, blocks_for}
+use Rattle.bw_store.specs.Growing.{frames_upto}
+use Rattle.bw_store.specs.Kept.{Kept, leaves_at, share_at, TellsBy, TellsShare, waiting, AreCuts, IsSound}
 use Rattle.bw_store.specs.Taken.{taken}
 use Rattle.bw_store.proofs.Telling.{tells_more}
 use Rattle.bw_store.proofs.Growing.{Takes, grown_more}

@@ -1,17 +1,16 @@
 -- Where nothing is in the making, all is in the segments.
 
-use Rattle.std.proofs.Common.{◌≡◌, ◌≢◌, ℕ, zero, suc, ◌+◌, ◌-◌, ◌^◌, ◌<◌, ◌≤◌, ◌⊎◌, inl, inr, Bool, true, false, Option, Some, None, List, [], ◌∷◌, ◌++◌}
+use Rattle.std.proofs.Common.{◌≡◌, ◌≢◌, ℕ, ◌+◌, ◌≤◌, inl, inr, Bool, false, Option, Some, List, [], ◌∷◌, ◌++◌}
 use Rattle.std.proofs.Common.{length, drop, refl, sym, ap, ◌∙◌, subst, append-nil, arith, if◌then◌else◌, length-drop}
-use Rattle.std.specs.Prelude.{◌==◌}
 use Rattle.std.specs.List.{AllByRecursion as All, fold}
-use Rattle.std.proofs.lemmas.Bool.{eq-eqb, ne_eqb, eqb-true, eqb-false}
+use Rattle.std.proofs.lemmas.Bool.{eq-eqb}
 use Rattle.std.proofs.lemmas.Grind.{fold-append, flat_map-append}
 use Rattle.bw_codec.specs.Touch.{touches}
 use Rattle.bw_codec.specs.declared.record.Record.{Record}
 use Rattle.bw_codec.specs.declared.leaf.Leaf.{Leaf}
 use Rattle.bw_codec.specs.declared.block.Place.{Place}
 use Rattle.bw_codec.specs.declared.block.Block.{Block}
-use Rattle.bw_codec.specs.declared.block.Block.TheVariants.{Delta, Base, Split}
+use Rattle.bw_codec.specs.declared.block.Block.TheVariants.{Delta}
 use Rattle.bw_codec.specs.declared.block.Frame.{Frame}
 use Rattle.bw_page.specs.Leaves.{pages, changed, directed_at, applied, leaf_at}
 use Rattle.bw_page.specs.Links.{Chained, told}
@@ -25,7 +24,7 @@ use Rattle.bw_log.proofs.Walks.{content_push}
 use Rattle.bw_log.proofs.Walk.{same_after}
 use Rattle.bw_store.specs.declared.entry.Entry.{Entry}
 use Rattle.bw_store.specs.History.{records, cut}
-use Rattle.bw_store.specs.Share.{Tells, TellsFirst, directed}
+use Rattle.bw_store.specs.Share.{Tells, directed}
 use Rattle.bw_store.specs.Kept.{Kept, leaves_at, TellsBy, waiting, IsSound}
 use Rattle.bw_store.specs.Settled.{IsSettled, Tied}
 use Rattle.bw_store.proofs.RecordMore.{cut_within}

@@ -2,16 +2,15 @@
 
 use Rattle.std.proofs.Common.{◌≡◌, ℕ, List, [], ◌∷◌, refl}
 use Rattle.bw_codec.specs.declared.record.Record.{Record}
-use Rattle.bw_codec.specs.declared.record.Record.TheVariants.{Put, Del}
+use Rattle.bw_codec.specs.declared.record.Record.TheVariants.{Put}
 use Rattle.bw_codec.specs.declared.leaf.Leaf.{Leaf}
 use Rattle.bw_codec.specs.declared.block.Place.{Place}
-use Rattle.bw_codec.specs.declared.block.Block.{Block}
 use Rattle.bw_codec.specs.declared.block.Block.TheVariants.{Delta, Base, Split}
 use Rattle.bw_page.specs.Leaves.{empty_leaf, pages}
 use Rattle.bw_store.specs.declared.entry.Entry.{Entry}
-use Rattle.bw_store.specs.History.{records, cut, upto, share, of_writer, streams}
-use Rattle.bw_store.specs.Share.{Tells, TellsFirst, cuts_by}
-use Rattle.bw_store.specs.Adding.{blocks_for, planned}
+use Rattle.bw_store.specs.History.{records, upto, share, streams}
+use Rattle.bw_store.specs.Share.{Tells, TellsFirst}
+use Rattle.bw_store.specs.Adding.{blocks_for}
 
 abbrev put : ℕ → ℕ → Record
 put k v = Put (k ∷ []) (v ∷ [])

@@ -1,31 +1,27 @@
 -- The blocks of one record, read forwards, are that record.
 
-use Rattle.std.proofs.Common.{◌≡◌, ◌≢◌, ℕ, zero, suc, ◌+◌, ◌-◌, ◌/◌, ◌^◌, ◌<◌, ◌≤◌, Bool, true, false, Option, Some, None, List, [], ◌∷◌, ◌++◌, map, length}
-use Rattle.std.proofs.Common.{refl, sym, ap, ◌∙◌, subst, append_assoc, append-nil, arith, if◌then◌else◌, length-append}
-use Rattle.std.specs.Prelude.{◌==◌, ◌||◌, nat_le}
-use Rattle.std.specs.List.{AllByRecursion as All, fold, flat_map, slice_get}
+use Rattle.std.proofs.Common.{◌≡◌, ℕ, ◌+◌, ◌<◌, ◌≤◌, Bool, true, false, Option, Some, None, List, [], ◌∷◌, ◌++◌, map, length}
+use Rattle.std.proofs.Common.{refl, sym, ap, ◌∙◌, append_assoc, append-nil, arith, if◌then◌else◌, length-append}
+use Rattle.std.specs.Prelude.{◌==◌, nat_le}
+use Rattle.std.specs.List.{fold}
 use Rattle.std.specs.Option.{option_map}
-use Rattle.std.proofs.lemmas.Bool.{eqb-true, eqb-false, eq-eqb, ne_eqb, le-leb, lt-leb, leb-true, leb-false, or_from}
+use Rattle.std.proofs.lemmas.Bool.{eqb-true, eq-eqb, ne_eqb, le-leb, lt-leb, leb-true, leb-false}
 use Rattle.std.proofs.lemmas.Grind.{fold-append, flat_map-append}
 use Rattle.std.proofs.lemmas.List.{length-map}
-use Rattle.bw_codec.specs.Grammar.{IsOp, IsBlock, IsBase, IsPlace, IsPage, first_key}
+use Rattle.bw_codec.specs.Grammar.{IsOp}
 use Rattle.bw_codec.specs.Record.{key_of}
-use Rattle.bw_codec.specs.Touch.{touches}
 use Rattle.bw_codec.specs.declared.record.Record.{Record}
 use Rattle.bw_codec.specs.declared.leaf.Leaf.{Leaf}
 use Rattle.bw_codec.specs.declared.block.Place.{Place}
 use Rattle.bw_codec.specs.declared.block.Block.{Block}
-use Rattle.bw_codec.specs.declared.block.Block.TheVariants.{Delta, Base, Split}
+use Rattle.bw_codec.specs.declared.block.Block.TheVariants.{Delta, Split}
 use Rattle.bw_codec.specs.declared.block.Frame.{Frame}
-use Rattle.bw_page.specs.Leaves.{home, changed, directed_at, lower_of, upper_of, leaf_at, applied, HasPage, AreNumbered, AreLeaves}
-use Rattle.bw_page.specs.Standing.{kept_below, after, content, blocks_of, Stand}
-use Rattle.bw_page.proofs.Sorted.{all-push}
-use Rattle.bw_page.proofs.Homes.{home-all, put_in}
-use Rattle.bw_page.proofs.Applying.{put_in-at, put_in-other}
-use Rattle.bw_page.proofs.Indexed.{each_at, home_within}
-use Rattle.bw_page.proofs.PageByPage.{leaf_page, home_there, put_at}
+use Rattle.bw_page.specs.Leaves.{changed, directed_at, lower_of, upper_of, leaf_at, applied, AreLeaves}
+use Rattle.bw_page.specs.Standing.{kept_below, after, content, blocks_of}
+use Rattle.bw_page.proofs.Homes.{put_in}
+use Rattle.bw_page.proofs.PageByPage.{home_there, put_at}
 use Rattle.bw_page.proofs.Law.{directed, cut_within, upper_in, applied-whole, applied-cut, applied-lawful}
-use Rattle.bw_page.proofs.Steps.{kept-lower, leaf_at-map, leaf_at-push, leaf_at-new}
+use Rattle.bw_page.proofs.Steps.{kept-lower, leaf_at-push, leaf_at-new}
 use Rattle.bw_store.specs.Adding.{with_blocks, result_of, blocks_for}
 
 -- ---- frames

@@ -1,14 +1,13 @@
 -- A frame tells its share, one record after the other.
 
-use Rattle.std.proofs.Common.{◌≡◌, ℕ, ◌+◌, Bool, true, false, List, [], ◌∷◌, ◌++◌, length, refl, sym, ap, ◌∙◌, append_assoc, append-nil, if◌then◌else◌}
+use Rattle.std.proofs.Common.{◌≡◌, ℕ, ◌+◌, true, false, List, [], ◌∷◌, ◌++◌, length, refl, sym, ap, ◌∙◌, append_assoc, append-nil, if◌then◌else◌}
 use Rattle.std.specs.Prelude.{◌==◌, nat_le}
-use Rattle.std.specs.List.{flat_map, fold}
 use Rattle.std.proofs.lemmas.Grind.{flat_map-append}
 use Rattle.bw_codec.specs.declared.record.Record.{Record}
 use Rattle.bw_codec.specs.declared.leaf.Leaf.{Leaf}
 use Rattle.bw_codec.specs.declared.block.Place.{Place}
 use Rattle.bw_codec.specs.declared.block.Block.{Block}
-use Rattle.bw_codec.specs.declared.block.Block.TheVariants.{Delta, Base, Split}
+use Rattle.bw_codec.specs.declared.block.Block.TheVariants.{Delta, Split}
 use Rattle.bw_page.specs.Leaves.{directed_at, applied, pages, upper_of}
 use Rattle.bw_store.specs.Share.{ops_of, ops_at, cut_of, cuts_in, base_of, bases_in, directed, cut_by, cuts_by, Tells}
 use Rattle.bw_store.specs.Adding.{result_of, blocks_for}

@@ -1,6 +1,6 @@
 -- A log's fault as the store tells it, and what each answer of a flush leaves.
 
-use Rattle.std.specs.Prelude.{ℕ, ◌≡◌, ◌⊎◌, Option, Some, None, Result, Ok, Err, false, true, List, [], length, is_none, if◌then◌else◌, ◌==◌}
+use Rattle.std.specs.Prelude.{ℕ, ◌≡◌, ◌⊎◌, Option, Some, None, Result, Ok, Err, false, [], length, is_none, if◌then◌else◌, ◌==◌}
 use Rattle.bw_codec.specs.Grammar.{frame_bytes}
 use Rattle.bw_buffer.specs.Filling.{Filling, frame_of}
 use Rattle.bw_page.specs.declared.fault.ApplyError.{ApplyError}

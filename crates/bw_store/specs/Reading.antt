@@ -1,6 +1,6 @@
 -- What the calls leave that only ask or read, or change the boxes alone.
 
-use Rattle.std.specs.Prelude.{ℕ, ◌≡◌, false, Result, Ok, Err, List, [], ◌∷◌, ◌++◌}
+use Rattle.std.specs.Prelude.{ℕ, ◌≡◌, false, Result, Ok, Err, [], ◌∷◌, ◌++◌}
 use Rattle.bw_device.specs.Holding.{Holding}
 use Rattle.bw_log.specs.Contents as logs
 use Rattle.bw_log.specs.Reads.{IsKept, IsWornOut, FailedRead}

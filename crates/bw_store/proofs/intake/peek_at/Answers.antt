@@ -1,6 +1,4 @@
-use Rattle.std.proofs.Common.{◌≡◌, ◌∷◌, [], Option, Some, None}
-use mathlib.Core.List.{IsPrefix}
-use Rattle.bw_ring.specs.Ends.{taken, known, ring_of_lane}
+use Rattle.bw_ring.specs.Ends.{taken, ring_of_lane}
 use Rattle.bw_store.proofs.Laned.{set_kept, next_shown, none_shown}
 use Rattle.bw_store.proofs.intake.peek_at.Goals as goal
 

@@ -1,5 +1,4 @@
-use Rattle.std.proofs.Common.{◌≡◌}
-use Rattle.bw_ring.specs.Ends.{taken, known, ring_of_lane}
+use Rattle.bw_ring.specs.Ends.{taken, ring_of_lane}
 use Rattle.bw_store.proofs.Laned.{set_kept, took}
 use Rattle.bw_store.proofs.intake.take_at.Goals as goal
 

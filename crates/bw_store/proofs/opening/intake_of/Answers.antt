@@ -1,4 +1,3 @@
-use Rattle.std.proofs.Common.{◌≡◌, ◌≤◌, length, sym}
 use Rattle.bw_store.proofs.Laned.{lanes_count, fresh_streams, few_of}
 use Rattle.bw_store.proofs.opening.intake_of.Goals as goal
 

@@ -1,4 +1,4 @@
-use Rattle.std.proofs.Common.{◌≡◌, ◌∙◌, ap, sym}
+use Rattle.std.proofs.Common.{◌∙◌, ap, sym}
 use Rattle.std.specs.Option.{option_copied}
 use Rattle.bw_store.proofs.Planned.{planned_is, room_is, leaf_is_here}
 use Rattle.bw_store.proofs.planning.planned_for.Goals as goal

@@ -1,4 +1,3 @@
-use Rattle.std.proofs.Common.{◌≡◌, ◌∙◌, ap, sym}
 use Rattle.bw_store.proofs.Laned.{entered_streams}
 use Rattle.bw_store.proofs.intake.Intake.enter.Goals as goal
 

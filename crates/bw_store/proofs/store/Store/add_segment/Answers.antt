@@ -1,4 +1,4 @@
-use Rattle.std.proofs.Common.{◌≡◌, ◌∙◌, ap, sym}
+use Rattle.std.proofs.Common.{◌∙◌, ap, sym}
 use Rattle.bw_store.specs.Faults.{fault_of}
 use Rattle.bw_store.proofs.Logs.{log_follows, only_bad}
 use Rattle.bw_store.proofs.store.Store.add_segment.Goals as goal

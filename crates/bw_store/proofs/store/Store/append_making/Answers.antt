@@ -1,4 +1,4 @@
-use Rattle.std.proofs.Common.{◌≡◌, length, ap}
+use Rattle.std.proofs.Common.{length, ap}
 use Rattle.bw_store.proofs.MayAppend.{may_follow_at, flushed_at, appended_now, stopped_at}
 use Rattle.bw_store.proofs.store.Store.append_making.Goals as goal
 

@@ -1,4 +1,3 @@
-use Rattle.std.proofs.Common.{◌≡◌}
 use Rattle.bw_store.proofs.Logs.{log_follows}
 use Rattle.bw_store.proofs.store.Store.dump.Goals as goal
 

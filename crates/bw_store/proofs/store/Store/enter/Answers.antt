@@ -1,7 +1,4 @@
-use Rattle.std.proofs.Common.{◌≡◌, List, map, ◌++◌, length, ap, ◌∙◌, subst, sym}
-use Rattle.bw_codec.specs.declared.block.Place.{Place}
-use Rattle.bw_store.specs.declared.entry.Entry.{Entry}
-use Rattle.bw_store.specs.Adding.{noted}
+use Rattle.std.proofs.Common.{map, ap, subst, sym}
 use Rattle.bw_page.specs.Shown.{IsSpent}
 use Rattle.bw_page.specs.Seats.{is_among}
 use Rattle.bw_store.specs.Kept as kept

@@ -1,4 +1,3 @@
-use Rattle.std.proofs.Common.{◌≡◌}
 use Rattle.bw_store.proofs.FollowMore.{follows_left}
 use Rattle.bw_store.proofs.store.Store.flush.Goals as goal
 

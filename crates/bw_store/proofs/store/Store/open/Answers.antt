@@ -1,4 +1,3 @@
-use Rattle.std.proofs.Common.{◌≡◌}
 use Rattle.bw_store.proofs.Fresh.{started_sound}
 use Rattle.bw_store.proofs.store.Store.open.Goals as goal
 

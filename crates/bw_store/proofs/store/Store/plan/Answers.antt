@@ -1,4 +1,4 @@
-use Rattle.std.proofs.Common.{◌≡◌, Some, ap, sym, ◌∙◌}
+use Rattle.std.proofs.Common.{sym, ◌∙◌}
 use Rattle.bw_store.proofs.MayAppend.{making_is}
 use Rattle.bw_store.proofs.Planned.{answer_lawful, answer_short}
 use Rattle.bw_store.proofs.store.Store.plan.Goals as goal

@@ -1,4 +1,3 @@
-use Rattle.std.proofs.Common.{◌≡◌}
 use Rattle.bw_store.proofs.Logs.{log_sound, log_follows, rolled_counts}
 use Rattle.bw_store.proofs.store.Store.roll.Goals as goal
 

@@ -1,4 +1,4 @@
-use Rattle.std.proofs.Common.{◌≡◌, ◌≤◌, ◌<◌, ℕ, refl, ap, length, ◌∙◌, arith}
+use Rattle.std.proofs.Common.{refl, ap, length, ◌∙◌, arith}
 use Rattle.bw_store.proofs.FollowMore.{follows_as, still_within}
 use Rattle.bw_store.proofs.Laned.{all_dry, dry_more}
 use Rattle.bw_store.proofs.store.Store.round.Goals as goal

@@ -1,4 +1,3 @@
-use Rattle.std.proofs.Common.{◌≡◌}
 use Rattle.bw_store.proofs.Planned.{took_now, took_later}
 use Rattle.bw_store.proofs.store.Store.take_from.Goals as goal
 

@@ -1,4 +1,4 @@
-use Rattle.std.proofs.Common.{◌≡◌, ◌≤◌, refl, arith}
+use Rattle.std.proofs.Common.{refl, arith}
 use Rattle.bw_store.proofs.FollowMore.{follows_as}
 use Rattle.bw_store.proofs.store.Store.turn.Goals as goal
 
