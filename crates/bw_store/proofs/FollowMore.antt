@@ -13,10 +13,10 @@ use Rattle.bw_store.specs.declared.entry.Entry.{Entry}
 use Rattle.bw_store.specs.declared.fault.StoreFault.{StoreFault}
 use Rattle.bw_store.specs.Kept.{Kept, with_frame, with_stop}
 use Rattle.bw_store.specs.Taken.{taken}
-use Rattle.bw_store.specs.Taking.{MayFlush, Took, TakeLeaves}
+use Rattle.bw_store.specs.Taking.{MayFlush, Took, TakeLeaves, Refuses}
 use Rattle.bw_store.specs.declared.fault.StoreFault.TheVariants.{NoMemory, BadConfig, NoSegment, Device, Failed, Spent, NoPage}
 use Rattle.bw_store.specs.Faults.{Flushed, Broken, FlushLeaves}
-use Rattle.bw_store.specs.Following.{Turned}
+use Rattle.bw_store.specs.Following.{Follows, HasBoxes, Turned, TookInTurn, RefusedAfter, TookSome, RefusedAt}
 
 pub follows_as : (old new : Kept) → new ≡ old → Turned 0 old new
 follows_as old new e = record {
@@ -132,25 +132,87 @@ follows_left old new (Err Failed) left = follows_as old new left
 follows_left old new (Err Spent) left = follows_as old new left
 follows_left old new (Err NoPage) left = follows_as old new left
 
--- ---- a take behind others
+-- a record that was refused, whatever the cause
+pub follows_refused : (old new : Kept) (cause : StoreFault) → Refuses old cause new → Turned 0 old new
+follows_refused old new NoMemory r = follows_may old new r
+follows_refused old new BadConfig r = absurd r
+follows_refused old new NoSegment r = follows_as old new r.0
+follows_refused old new (Device lease) r = follows_broken old new lease r
+follows_refused old new Failed r = follows_as old new r.0
+follows_refused old new Spent r = follows_may old new r.0
+follows_refused old new NoPage r = absurd r
 
-pub took_more : {n : ℕ} (lane : ℕ) (a b c : Kept) → Turned n a b → TakeLeaves lane b (Ok true) c → Turned (n + 1) a c
-took_more lane a b c x t = follows_then a b c x (follows_took _ b c t)
+-- ---- takes one after the other
 
-pub took_none : {n : ℕ} (lane : ℕ) (a b c : Kept) → Turned n a b → TakeLeaves lane b (Ok false) c → Turned n a c
-took_none {n} lane a b c x e = (let y = follows_then a b c x (follows_as b c e)
-    in record { follows = y.follows; boxes = y.boxes; grew = (let g = y.grew in omega arith) })
+pub in_turn_as : (old new : Kept) → new ≡ old → TookInTurn 0 old new
+in_turn_as old new e = record { turned = follows_as old new e; works = λ failed. (refl, e) }
 
-pub took_fault : {n : ℕ} (lane : ℕ) (a b c : Kept) (fault : StoreFault) → Turned n a b → TakeLeaves lane b (Err fault) c → Turned n a c
-took_fault {n} lane a b c fault x (inl m) =
-    (let y = follows_then a b c x (follows_may b c m) in record { follows = y.follows; boxes = y.boxes; grew = (let g = y.grew in omega arith) })
-took_fault {n} lane a b c fault x (inr s) =
-    (let y = follows_then a b c x (follows_broken b c s.0 s.1) in record { follows = y.follows; boxes = y.boxes; grew = (let g = y.grew in omega arith) })
+pub in_turn_then : {n k : ℕ} (a b c : Kept) → TookInTurn n a b → TookInTurn k b c → TookInTurn (n + k) a c
+in_turn_then {n} {k} a b c x y = record {
+  turned = follows_then a b c x.turned y.turned;
+  works = λ failed. (
+      let last = y.works failed in
+      let first = x.works (subst (λ (s : Kept). s.log.is_failed ≡ true) last.1 failed) in
+      let none = first.0 in
+      let no_more = last.0 in
+      (omega arith, last.1 ∙ first.1));
+}
 
-pub took_more_by : {n : ℕ} (lane : ℕ) (a b c : Kept) (r : Result Bool StoreFault) (took : Bool) → r ≡ Ok took → took ≡ true → Turned n a b
-    → TakeLeaves lane b r c → Turned (n + 1) a c
+in_turn_took : (lane : ℕ) (old new : Kept) → Took lane old new → TookInTurn 1 old new
+in_turn_took lane old new t = record {
+  turned = follows_took lane old new t;
+  works = λ failed. (let works = t.works in let same = ap (λ (s : Kept). s.log.is_failed) t.is in absurd cc);
+}
+
+took_more : {n : ℕ} (lane : ℕ) (a b c : Kept) → TookInTurn n a b → Took lane b c → TookInTurn (n + 1) a c
+took_more lane a b c x t = in_turn_then a b c x (in_turn_took lane b c t)
+
+pub took_none : {n : ℕ} (a b c : Kept) → TookInTurn n a b → c ≡ b → TookInTurn n a c
+took_none {n} a b c x e = subst (λ (s : Kept). TookInTurn n a s) (sym e) x
+
+pub took_fault : {n : ℕ} (a b c : Kept) (fault : StoreFault) → TookInTurn n a b → Refuses b fault c → RefusedAfter n a fault c
+took_fault a b c fault x r = record { middle = b; took = x; refuses = r }
+
+pub took_more_by : {n : ℕ} (lane : ℕ) (a b c : Kept) (r : Result Bool StoreFault) (took : Bool) → r ≡ Ok took → took ≡ true → TookInTurn n a b
+    → TakeLeaves lane b r c → TookInTurn (n + 1) a c
 took_more_by lane a b c r took is sure x t =
     took_more lane a b c x (subst (λ (o : Result Bool StoreFault). TakeLeaves lane b o c) (is ∙ ap (λ (v : Bool). Ok v) sure) t)
+
+pub refused_then : {n k : ℕ} (a b c : Kept) (cause : StoreFault) → TookInTurn n a b → RefusedAfter k b cause c → RefusedAfter (n + k) a cause c
+refused_then a b c cause x r = record { middle = r.middle; took = in_turn_then a b r.middle x r.took; refuses = r.refuses }
+
+pub refused_turned : {n : ℕ} (old new : Kept) (cause : StoreFault) → RefusedAfter n old cause new → Turned n old new
+refused_turned {n} old new cause r =
+    (let all : Turned (n + 0) old new = follows_then old r.middle new r.took.turned (follows_refused r.middle new cause r.refuses)
+    in record { follows = all.follows; boxes = all.boxes; grew = (let g = all.grew in omega arith) })
+
+pub any_then : (lane : ℕ) (a b c : Kept) → TookSome a b → Took lane b c → TookSome a c
+any_then lane a b c x t = (x.0 + 1, took_more lane a b c x.1 t)
+
+pub some_then : (a b c : Kept) → TookSome a b → TookSome b c → TookSome a c
+some_then a b c x y = (x.0 + y.0, in_turn_then a b c x.1 y.1)
+
+pub some_refused : (a b c : Kept) (cause : StoreFault) → TookSome a b → RefusedAt b cause c → RefusedAt a cause c
+some_refused a b c cause x r = (x.0 + r.0, refused_then a b c cause x.1 r.1)
+
+pub some_fault : (a b c : Kept) (cause : StoreFault) → TookSome a b → Refuses b cause c → RefusedAt a cause c
+some_fault a b c cause x r = (x.0, took_fault a b c cause x.1 r)
+
+pub refused_follows : (old new : Kept) (cause : StoreFault) → RefusedAt old cause new → Follows old new
+refused_follows old new cause r = (refused_turned old new cause r.1).follows
+
+pub refused_boxes : (old new : Kept) (cause : StoreFault) → RefusedAt old cause new → HasBoxes old new
+refused_boxes old new cause r = (refused_turned old new cause r.1).boxes
+
+-- some records were taken, and then a frame was appended if anything waited
+flushed_turned : (old middle new : Kept) (r : Result (Option ℕ) StoreFault) → TookSome old middle → FlushLeaves middle r new → (n : ℕ) × Turned n old new
+flushed_turned old middle new r x left = (x.0 + 0, follows_then old middle new x.1.turned (follows_left middle new r left))
+
+pub flushed_follows : (old middle new : Kept) (r : Result (Option ℕ) StoreFault) → TookSome old middle → FlushLeaves middle r new → Follows old new
+flushed_follows old middle new r x left = (flushed_turned old middle new r x left).1.follows
+
+pub flushed_boxes : (old middle new : Kept) (r : Result (Option ℕ) StoreFault) → TookSome old middle → FlushLeaves middle r new → HasBoxes old new
+flushed_boxes old middle new r x left = (flushed_turned old middle new r x left).1.boxes
 
 pub still_within : (n k limit : ℕ) → (n ≡ limit → ⊥) → n ≤ limit → k ≤ n + 1 → k ≤ limit
 still_within n k limit ne le more = (elim (nat_le (n + 1) limit) as (λ b. nat_le (n + 1) limit ≡ b → k ≤ limit) [

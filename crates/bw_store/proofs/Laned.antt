@@ -1,9 +1,9 @@
 -- The records of each writer, where one entry is added.
 
-use Rattle.std.proofs.Common.{◌≡◌, ◌≢◌, ℕ, zero, suc, ◌+◌, ◌<◌, ◌≤◌, Bool, true, false, Option, Some, None, List, [], ◌∷◌, ◌++◌, map, length, set, get_or, refl}
+use Rattle.std.proofs.Common.{◌≡◌, ◌≢◌, ℕ, zero, suc, ◌+◌, ◌<◌, ◌≤◌, Bool, true, false, Option, Some, None, List, [], ◌∷◌, ◌++◌, map, length, set, get_or, take, drop, refl}
 use Rattle.std.proofs.Common.{sym, ap, ◌∙◌, subst, arith, append-nil, replicate, if◌then◌else◌}
 use Rattle.std.specs.Prelude.{◌==◌, nat_le}
-use Rattle.std.specs.List.{slice_get}
+use Rattle.std.specs.List.{slice_get, AllByRecursion as All}
 use Rattle.std.specs.Option.{IsSomeAnd}
 use Rattle.std.proofs.lemmas.Bool.{eq-eqb, ne_eqb, leb-true, leb-false}
 use Rattle.std.proofs.lemmas.List.{length-map, length-replicate}
@@ -12,8 +12,9 @@ use Rattle.bw_codec.specs.declared.record.Record.{Record}
 use Rattle.bw_store.specs.declared.entry.Entry.{Entry}
 use Rattle.std.specs.Prelude.{IfSome, IfNone}
 use Rattle.bw_ring.specs.declared.lane.Lane.{Lane}
-use Rattle.bw_ring.specs.Ends.{taken, known}
-use Rattle.bw_store.specs.Lanes.{IsNext, IsDry, Dries, AreDry, TookAt}
+use Rattle.bw_ring.specs.declared.feed.Feed.{Feed}
+use Rattle.bw_ring.specs.Ends.{accepted, taken, known, given, ring_of_feed, ring_of_lane}
+use Rattle.bw_store.specs.Lanes.{known_at, IsNext, IsDry, Dries, AreDry, TookAt, TookKnown, StayDry}
 use Rattle.bw_store.specs.History.{of_writer, streams}
 
 if_more : (b : Bool) (r : Record) (xs ys : List Record) (x : List Record) → ys ≡ xs ++ x → (if b then r ∷ ys else ys) ≡ (if b then r ∷ xs else xs) ++ x
@@ -127,3 +128,117 @@ fresh_streams xs es n e none = ap (streams 0 (length xs)) none ∙ no_streams 0 
 
 pub few_of : (xs shown : List Lane) (len n : ℕ) → shown ≡ xs → length shown ≡ len → length xs ≡ n → n ≤ 64 → len ≤ 64
 few_of xs shown len n is same count top = (let e = ap length is in omega arith)
+
+-- ---- what the lanes know, and what they will have given
+
+pub field_at : {X : Type 0} (f : X → List Record) (xs : List X) (i : ℕ) (d : X) → i < length xs → d ≡ get_or xs i d → get_or (map f xs) i [] ≡ f d
+field_at f [] i d lt is = absurd (omega arith)
+field_at f (y ∷ ys) zero d lt is = ap f (sym is)
+field_at f (y ∷ ys) (suc i) d lt is = field_at f ys i d (omega arith) is
+
+pub known_after : (xs : List Lane) (i : ℕ) (x d : Lane) (r : Record) → i < length xs → d ≡ get_or xs i d → known d ≡ r ∷ known x → TookKnown i xs (set xs i x)
+known_after xs i x d r lt is first =
+    map_set known xs i x
+    ∙ ap (λ (ks : List Record). set (map known xs) i ks) (sym (ap (drop 1) (field_at known xs i d lt is ∙ first)))
+
+drop_none : (ks : List Record) → ks ≡ [] → drop 1 ks ≡ []
+drop_none [] e = refl
+drop_none (k ∷ ks) e = absurd cc
+
+set_dry : (ks : List (List Record)) (at i : ℕ) → get_or ks i [] ≡ [] → get_or (set ks at (drop 1 (get_or ks at []))) i [] ≡ []
+set_dry [] at i e = e
+set_dry (k ∷ ks) zero zero e = drop_none k e
+set_dry (k ∷ ks) zero (suc i) e = e
+set_dry (k ∷ ks) (suc at) zero e = e
+set_dry (k ∷ ks) (suc at) (suc i) e = set_dry ks at i e
+
+pub took_dry : (at : ℕ) (old new : List Lane) → TookKnown at old new → StayDry old new
+took_dry at old new took i e = ap (λ (ks : List (List Record)). get_or ks i []) took ∙ set_dry (map known old) at i e
+
+fewer_of : (ks : List Record) → 0 < length ks → length (drop 1 ks) < length ks
+fewer_of [] some = absurd (omega arith)
+fewer_of (k ∷ ks) some = omega arith
+
+set_fewer : (ks : List (List Record)) (at : ℕ) → 0 < length (get_or ks at []) → length (get_or (set ks at (drop 1 (get_or ks at []))) at []) < length (get_or ks at [])
+set_fewer [] at some = absurd (omega arith)
+set_fewer (k ∷ ks) zero some = fewer_of k some
+set_fewer (k ∷ ks) (suc at) some = set_fewer ks at some
+
+pub took_fewer : (at : ℕ) (old new : List Lane) → TookKnown at old new → 0 < length (known_at old at) → length (known_at new at) < length (known_at old at)
+took_fewer at old new took some =
+    subst (λ (ks : List (List Record)). length (get_or ks at []) < length (known_at old at)) (sym took) (set_fewer (map known old) at some)
+
+-- where no lane knows of a record, what was given is what was taken
+pub given_all : (xs : List Lane) → ((i : ℕ) → i < length xs → known_at xs i ≡ []) → map taken xs ≡ map given xs
+given_all [] dry = refl
+given_all (x ∷ xs) dry =
+    ap (λ (ks : List Record). ks ∷ map taken xs) (sym (append-nil (taken x)) ∙ ap (λ (ks : List Record). taken x ++ ks) (sym (dry zero (omega arith))))
+    ∙ ap (λ (l : List (List Record)). given x ∷ l) (given_all xs (λ i lt. dry (suc i) (omega arith)))
+
+-- one lane more that knows of none
+pub dry_next : (old new : List Lane) (at : ℕ) → ((i : ℕ) → i < at → known_at old i ≡ []) → StayDry old new → known_at new at ≡ [] → (i : ℕ) → i < at + 1
+    → known_at new i ≡ []
+dry_next old new at before stay here i lt =
+    elim (nat_le at i) as (λ b. nat_le at i ≡ b → known_at new i ≡ []) [
+      | true ↦ λ e. (let h = leb-true _ _ e in let is : at ≡ i = omega arith in subst (λ j. known_at new j ≡ []) is here)
+      | false ↦ λ e. (let h = leb-false _ _ e in stay i (before i h))
+    ] refl
+
+-- ---- a look at both ends of all rings
+
+pub ends_at : {X Y R : Type 0} (f : X → R) (g : Y → R) (xs : List X) (ys : List Y) (i : ℕ) (x : X) (y : Y) → map f xs ≡ map g ys → i < length xs
+    → x ≡ get_or xs i x → y ≡ get_or ys i y → f x ≡ g y
+ends_at f g [] ys i x y e lt is_x is_y = absurd (omega arith)
+ends_at f g (a ∷ xs) [] i x y e lt is_x is_y = absurd cc
+ends_at {X} {Y} {R} f g (a ∷ xs) (b ∷ ys) zero x y e lt is_x is_y = (let here : f a ≡ g b = cc in ap f is_x ∙ here ∙ sym (ap g is_y))
+ends_at {X} {Y} {R} f g (a ∷ xs) (b ∷ ys) (suc i) x y e lt is_x is_y =
+    (let rest : map f xs ≡ map g ys = cc in ends_at f g xs ys i x y rest (omega arith) is_x is_y)
+
+-- the same number of ends
+pub as_many : {X Y R : Type 0} (f : X → R) (g : Y → R) (xs : List X) (ys : List Y) → map f xs ≡ map g ys → length xs ≡ length ys
+as_many f g xs ys e = sym (length-map xs f) ∙ ap length e ∙ length-map ys g
+
+pub look_given : (ls : List Lane) (fs : List Feed) (i : ℕ) (l : Lane) (f : Feed) → i < length fs → f ≡ get_or fs i f → given l ≡ accepted f
+    → map given (set ls i l) ≡ set (map given ls) i (get_or (map accepted fs) i [])
+look_given ls fs i l f lt is e =
+    map_set given ls i l ∙ ap (λ (ks : List Record). set (map given ls) i ks) (e ∙ sym (field_at accepted fs i f lt is))
+
+-- the first lanes have what their feeds had accepted, and one lane more
+pub whole_more : (xs ys : List (List Record)) (i n : ℕ) → i < length xs → length xs ≡ length ys → take i xs ≡ take i ys → n ≡ i + 1
+    → take n (set xs i (get_or ys i [])) ≡ take n ys
+whole_more [] ys i n lt same e next = absurd (omega arith)
+whole_more (x ∷ xs) [] i n lt same e next = absurd (omega arith)
+whole_more (x ∷ xs) (y ∷ ys) i zero lt same e next = absurd (omega arith)
+whole_more (x ∷ xs) (y ∷ ys) zero (suc n) lt same e next =
+    (let none : n ≡ 0 = omega arith in
+    subst (λ k. y ∷ take k xs ≡ y ∷ take k ys) (sym none) refl)
+whole_more (x ∷ xs) (y ∷ ys) (suc i) (suc n) lt same e next =
+    (let here : x ≡ y = cc in
+    let rest : take i xs ≡ take i ys = cc in
+    ap (λ (l : List Record). l ∷ take n (set xs i (get_or ys i []))) here
+    ∙ ap (λ (l : List (List Record)). y ∷ l) (whole_more xs ys i n (omega arith) (omega arith) rest (omega arith)))
+
+pub whole_end : (xs ys : List (List Record)) (n : ℕ) → length xs ≡ length ys → length xs ≤ n → take n xs ≡ take n ys → xs ≡ ys
+whole_end [] [] n same all e = refl
+whole_end [] (y ∷ ys) n same all e = absurd (omega arith)
+whole_end (x ∷ xs) [] n same all e = absurd (omega arith)
+whole_end (x ∷ xs) (y ∷ ys) zero same all e = absurd (omega arith)
+whole_end (x ∷ xs) (y ∷ ys) (suc n) same all e =
+    (let here : x ≡ y = cc in
+    let rest : take n xs ≡ take n ys = cc in
+    ap (λ (l : List Record). l ∷ xs) here ∙ ap (λ (l : List (List Record)). y ∷ l) (whole_end xs ys n (omega arith) (omega arith) rest))
+
+pub shorter : {X Y : Type 0} (f : X → List Record) (g : Y → List Record) (xs : List X) (ys : List Y) → length xs ≡ length ys
+    → length (map f xs) ≡ length (map g ys)
+shorter f g xs ys e = length-map xs f ∙ e ∙ sym (length-map ys g)
+
+-- ---- all that was accepted was taken
+
+pub exact : (lanes : List Lane) (feeds : List Feed) (es : List Entry) → streams 0 (length lanes) es ≡ map taken lanes → map taken lanes ≡ map accepted feeds
+    → streams 0 (length feeds) es ≡ map accepted feeds
+exact lanes feeds es is all = ap (λ n. streams 0 n es) (sym (as_many taken accepted lanes feeds all)) ∙ is ∙ all
+
+pub writers_of : (lanes : List Lane) (feeds : List Feed) (es : List Entry) → map ring_of_feed feeds ≡ map ring_of_lane lanes
+    → All (λ e. e.writer < length (map ring_of_lane lanes)) es → All (λ e. e.writer < length feeds) es
+writers_of lanes feeds es ends all =
+    subst (λ n. All (λ (e : Entry). e.writer < n) es) (length-map lanes ring_of_lane ∙ sym (as_many ring_of_feed ring_of_lane feeds lanes ends)) all

@@ -6,6 +6,7 @@ pub mod RecordMore
 pub mod FrameMore
 pub mod MayAppend
 pub mod MayEnter
+pub mod Refusing
 pub mod SettledMore
 pub mod Laned
 pub mod Planned

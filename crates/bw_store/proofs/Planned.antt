@@ -187,17 +187,10 @@ pub flushed_or_not : (old new : Kept) (o : Option ℕ) → FlushLeaves old (Ok o
 flushed_or_not old new None f = inl f.0
 flushed_or_not old new (Some n) f = inr (n, f)
 
-pub took_now : {lane : ℕ} {old new : Kept} (looked : Kept) (item : Record) (back : Place) → looked ≡ old → new ≡ taken looked lane item back → Took lane old new
-took_now {lane} {old} {new} looked item back e is =
-    record { item = item; back = back; middle = old; flushes = inl refl; is = is ∙ ap (λ (s : Kept). taken s lane item back) e }
+pub took_now : {lane : ℕ} {old new : Kept} (item : Record) (back : Place) → old.log.is_failed ≡ false → new ≡ taken old lane item back → Took lane old new
+took_now {lane} {old} {new} item back works is = record { item = item; back = back; middle = old; flushes = inl refl; works = works; is = is }
 
-pub took_later : {lane : ℕ} {old new : Kept} (middle looked : Kept) (item : Record) (back : Place) (o : Option ℕ) → looked ≡ old
-    → FlushLeaves looked (Ok o) middle → new ≡ taken middle lane item back → Took lane old new
-took_later {lane} {old} {new} middle looked item back o e f is =
-    record {
-      item = item;
-      back = back;
-      middle = middle;
-      flushes = flushed_or_not old middle o (subst (λ (s : Kept). FlushLeaves s (Ok o) middle) e f);
-      is = is;
-    }
+pub took_later : {lane : ℕ} {old new : Kept} (middle : Kept) (item : Record) (back : Place) (o : Option ℕ) → FlushLeaves old (Ok o) middle
+    → middle.log.is_failed ≡ false → new ≡ taken middle lane item back → Took lane old new
+took_later {lane} {old} {new} middle item back o f works is =
+    record { item = item; back = back; middle = middle; flushes = flushed_or_not old middle o f; works = works; is = is }

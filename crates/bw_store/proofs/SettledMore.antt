@@ -1,7 +1,8 @@
 -- Where nothing is in the making, all is in the segments.
 
-use Rattle.std.proofs.Common.{◌≡◌, ◌≢◌, ℕ, ◌+◌, ◌≤◌, inl, inr, Bool, false, Option, Some, List, [], ◌∷◌, ◌++◌}
+use Rattle.std.proofs.Common.{◌≡◌, ◌≢◌, ℕ, ◌+◌, ◌≤◌, inl, inr, Bool, false, Option, Some, None, Result, Ok, Err, List, [], ◌∷◌, ◌++◌}
 use Rattle.std.proofs.Common.{length, drop, refl, sym, ap, ◌∙◌, subst, append-nil, arith, if◌then◌else◌, length-drop}
+use Rattle.std.specs.Prelude.{OnOk}
 use Rattle.std.specs.List.{AllByRecursion as All, fold}
 use Rattle.std.proofs.lemmas.Bool.{eq-eqb}
 use Rattle.std.proofs.lemmas.Grind.{fold-append, flat_map-append}
@@ -27,6 +28,9 @@ use Rattle.bw_store.specs.History.{records, cut}
 use Rattle.bw_store.specs.Share.{Tells, directed}
 use Rattle.bw_store.specs.Kept.{Kept, leaves_at, TellsBy, waiting, IsSound}
 use Rattle.bw_store.specs.Settled.{IsSettled, Tied}
+use Rattle.bw_store.specs.declared.fault.StoreFault.{StoreFault}
+use Rattle.bw_store.specs.Faults.{FlushAnswers, FlushLeaves, flush_refusal}
+use Rattle.bw_store.proofs.Refusing.{worked}
 use Rattle.bw_store.proofs.RecordMore.{cut_within}
 
 -- ---- nothing waits
@@ -54,8 +58,11 @@ some_counted : (fs : List Frame) (n : ℕ) → next_of fs ≡ following n → n 
 some_counted [] n e ne = (let one = following_is n 1 (sym e) in absurd (ne (omega arith)))
 some_counted (f ∷ fs) n e ne = omega arith
 
-pub settled : (s : Kept) → IsSound s → s.making.blocks ≡ [] → IsSettled s
-settled s h empty =
+all_appended : (s : Kept) → IsSound s → s.log.is_failed ≡ false → length s.cuts ≡ s.durable
+all_appended s h works = (elim h.beyond as (λ _. length s.cuts ≡ s.durable) [ inl e ↦ e | inr p ↦ (let failed = p.1 in absurd cc) ])
+
+settled : (s : Kept) → IsSound s → s.making.blocks ≡ [] → s.log.is_failed ≡ false → IsSettled s
+settled s h empty works =
     let told = nothing_by s (s.before + s.durable + 1)
     (subst (λ (bs : List Block). TellsBy s (s.before + s.durable + 1) (leaves_at s s.durable) (waiting s) bs) empty h.tells) in
     let some = some_counted (logs.counted s.log) (s.before + s.durable) (sym h.log.holds.follows ∙ h.next) (λ zeroth. told.0 (omega arith) (omega arith)) in
@@ -73,8 +80,21 @@ settled s h empty =
       stands = subst (λ (m : ℕ). Stand m (logs.counted s.log) (pages m s.start (records s.entries))) h.pairs
           (subst (λ (ls : List Leaf). Stand s.filed.m (logs.counted s.log) ls) h.leaves stand);
       whole = h.log.holds.live;
-      ends = omega arith;
+      cut = (all_appended s h works, omega arith);
     }
+
+-- a flush that answers Ok leaves nothing in the making
+flushed_empty : (old new : Kept) (o : Option ℕ) → FlushLeaves old (Ok o) new → new.making.blocks ≡ []
+flushed_empty old new None left = ap (λ (s : Kept). s.making.blocks) left.0 ∙ left.1
+flushed_empty old new (Some n) left = ap (λ (s : Kept). s.making.blocks) left.is ∙ left.empty
+
+pub settled_by : (old new : Kept) (o : Option ℕ) → IsSound new → FlushAnswers (flush_refusal old) (Ok o) → FlushLeaves old (Ok o) new → IsSettled new
+settled_by old new o sound a left = settled new sound (flushed_empty old new o left) (worked old new o a left)
+
+pub flush_settled : (old new : Kept) (r : Result (Option ℕ) StoreFault) → IsSound new → FlushAnswers (flush_refusal old) r → FlushLeaves old r new
+    → OnOk r (IsSettled new)
+flush_settled old new (Ok o) sound a left = settled_by old new o sound a left
+flush_settled old new (Err fault) sound a left = tt
 
 -- ---- a page that left memory: the log has it as of the counted frames, and its chain tells the rest
 

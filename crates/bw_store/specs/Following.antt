@@ -1,9 +1,11 @@
 -- What no call takes back.
 
-use Rattle.std.specs.Prelude.{ℕ, ◌+◌, ◌≡◌, ◌≤◌, List, ◌++◌, length}
+use Rattle.std.specs.Prelude.{ℕ, ◌+◌, ◌≡◌, ◌≤◌, true, List, ◌++◌, length}
 use Rattle.bw_log.specs.Contents.{roster}
 use Rattle.bw_store.specs.declared.entry.Entry.{Entry}
+use Rattle.bw_store.specs.declared.fault.StoreFault.{StoreFault}
 use Rattle.bw_store.specs.Kept.{Kept}
+use Rattle.bw_store.specs.Taking.{Refuses}
 
 -- the old history and cuts begin the new ones, no frame is forgotten, and where the store began stays
 pub record Follows (old new : Kept) : Type 0 where
@@ -28,3 +30,21 @@ pub record Turned (n : ℕ) (old new : Kept) : Type 0 where
   pub follows : Follows old new
   pub boxes : HasBoxes old new
   pub grew : length new.entries ≡ length old.entries + n
+
+-- so many records were taken one after the other; where an append failed before, none was
+pub record TookInTurn (n : ℕ) (old new : Kept) : Type 0 where
+  pub turned : Turned n old new
+  pub works : new.log.is_failed ≡ true → (n ≡ 0) × (new ≡ old)
+
+-- so many records were taken one after the other, and then a record or a flush was refused
+pub record RefusedAfter (n : ℕ) (old : Kept) (cause : StoreFault) (new : Kept) : Type 0 where
+  pub middle : Kept
+  pub took : TookInTurn n old middle
+  pub refuses : Refuses middle cause new
+
+-- the same without a number
+abbrev pub TookSome : Kept → Kept → Type 0
+TookSome old new = (n : ℕ) × TookInTurn n old new
+
+abbrev pub RefusedAt : Kept → StoreFault → Kept → Type 0
+RefusedAt old cause new = (n : ℕ) × RefusedAfter n old cause new

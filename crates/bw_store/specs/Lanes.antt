@@ -1,6 +1,6 @@
 -- One lane of several.
 
-use Rattle.std.specs.Prelude.{ℕ, ◌≡◌, ◌++◌, ◌∷◌, [], List, slice_get, slice_index_or, slice_set}
+use Rattle.std.specs.Prelude.{ℕ, ◌≡◌, ◌<◌, ◌++◌, ◌∷◌, [], List, length, map, drop, slice_get, slice_index_or, slice_set}
 use Rattle.std.specs.List.{AllByRecursion}
 use Rattle.std.specs.Option.{IsSomeAnd}
 use mathlib.Core.List.{IsPrefix}
@@ -11,6 +11,14 @@ use Rattle.bw_ring.specs.Ends.{known}
 -- the lane at this index gives this record next
 abbrev pub IsNext : List Lane → ℕ → Record → Type 0
 IsNext lanes at r = IsSomeAnd (slice_get lanes at) (λ l. IsPrefix (r ∷ []) (known l))
+
+-- what the lane at this index knows of
+abbrev pub known_at : List Lane → ℕ → List Record
+known_at lanes at = slice_index_or (map known lanes) at []
+
+-- the lane at this index knows of a record
+abbrev pub IsWaiting : List Lane → ℕ → Type 0
+IsWaiting lanes at = 0 < length (known_at lanes at)
 
 -- the lane at this index knows of no record
 abbrev pub IsDry : List Lane → ℕ → Type 0
@@ -28,3 +36,11 @@ AreDry lanes = AllByRecursion (λ l. known l ≡ []) lanes
 -- one more was taken at this index
 abbrev pub TookAt : ℕ → Record → List (List Record) → List (List Record) → Type 0
 TookAt at r old new = new ≡ slice_set old at (slice_index_or old at [] ++ r ∷ [])
+
+-- the first record that the lane at this index knew of is gone, and no lane knows of more
+abbrev pub TookKnown : ℕ → List Lane → List Lane → Type 0
+TookKnown at old new = map known new ≡ slice_set (map known old) at (drop 1 (known_at old at))
+
+-- lanes that knew of no record still know of none
+abbrev pub StayDry : List Lane → List Lane → Type 0
+StayDry old new = (i : ℕ) → known_at old i ≡ [] → known_at new i ≡ []

@@ -1,6 +1,6 @@
 //! One record is entered in the history and in the frame in the making.
 
-ghost use Rattle.std.specs.Prelude.{◌≡◌, ◌≤◌, ◌<◌, ◌+◌, ◌-◌, ◌^◌, ◌++◌, ◌⊎◌, Some, None, [], false, length, vec_len, slice_get, OnOk, OnErr, IfOk, IfErr};
+ghost use Rattle.std.specs.Prelude.{◌≡◌, ◌≤◌, ◌<◌, ◌+◌, ◌-◌, ◌^◌, ◌++◌, ◌⊎◌, Some, None, [], false, length, map, vec_len, slice_get, OnOk, OnErr, IfOk, IfErr};
 ghost use Rattle.bw_codec.specs.Grammar.{body_bytes, IsBlock};
 ghost use Rattle.std.specs.List.{AllByRecursion};
 ghost use Rattle.std.specs.Vec.{vec_capacity};
@@ -8,7 +8,9 @@ ghost use Rattle.bw_buffer.specs.Filling.{frame_of, size_of};
 ghost use Rattle.bw_page.specs.Leaves.{directed_at};
 ghost use Rattle.bw_page.specs.Shown.{IsSpent};
 ghost use Rattle.bw_store.specs.Adding.{blocks_for, end_of, noted};
-ghost use Rattle.bw_store.specs.Lanes.{IsNext};
+ghost use Rattle.bw_ring.specs.Ends.{given};
+ghost use Rattle.bw_store.specs.Lanes.{IsNext, TookKnown};
+ghost use Rattle.bw_store.specs.Taking.{IsWanting};
 ghost use Rattle.bw_store.specs.Taken.{taken};
 
 use crate::fault::StoreFault;
@@ -44,6 +46,11 @@ impl Store {
         ensures ok { OnOk result (kept_by self.new holding
             ≡ taken (kept_by self.old holding) lane item back) }
         ensures unchanged { OnErr result (kept_by self.new holding ≡ kept_by self.old holding) }
+        ensures refused { IfErr result (IsWanting (kept_by self.old holding)) }
+        ensures given { OnOk result (map given self.new.intake.lanes.items
+            ≡ map given self.old.intake.lanes.items) }
+        ensures known { OnOk result
+            (TookKnown lane self.old.intake.lanes.items self.new.intake.lanes.items) }
     {
         let _ = item.key();
         self.intake.reserve()?;

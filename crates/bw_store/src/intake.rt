@@ -3,13 +3,14 @@
 ghost use Rattle.std.specs.Prelude.{◌≡◌, ◌≤◌, ◌<◌, ◌+◌, ◌∷◌, ◌++◌, [], length, map, vec_len, IfSome, IfNone, slice_get, OnOk};
 ghost use Rattle.std.specs.Vec.{vec_capacity};
 ghost use mathlib.Core.List.{IsPrefix};
-ghost use Rattle.bw_ring.specs.Ends.{taken, known, ring_of_lane};
+ghost use Rattle.bw_ring.specs.Ends.{accepted, taken, known, given, ring_of_feed, ring_of_lane};
 ghost use Rattle.bw_store.specs.History.{streams};
-ghost use Rattle.bw_store.specs.Lanes.{IsNext, Dries, TookAt};
+ghost use Rattle.bw_store.specs.Lanes.{known_at, IsNext, IsWaiting, Dries, TookAt, TookKnown};
 
+use crate::beside::look_at_all;
 use crate::entry::Entry;
 use bw_codec::Record;
-use bw_ring::Lane;
+use bw_ring::{Feed, Lane};
 use std::alloc::AllocError;
 
 /// The lanes, and what was taken from them in order.
@@ -37,6 +38,40 @@ impl Intake {
         peek_at(&mut self.lanes, lane)
     }
 
+    /// A look at both ends of all rings: what was accepted is then what was taken and what the lanes
+    /// know of.
+    pub(crate) fn look_beside(&mut self, feeds: &mut Vec<Feed>)
+        requires { map ring_of_feed feeds.old.items ≡ map ring_of_lane self.old.lanes.items }
+        ensures history { self.new.history.items ≡ self.old.history.items }
+        ensures count { length self.new.lanes.items ≡ length self.old.lanes.items }
+        ensures rings { map ring_of_lane self.new.lanes.items
+            ≡ map ring_of_lane self.old.lanes.items }
+        ensures feeds { map ring_of_feed feeds.new.items ≡ map ring_of_feed feeds.old.items }
+        ensures accepted { map accepted feeds.new.items ≡ map accepted feeds.old.items }
+        ensures whole { map given self.new.lanes.items ≡ map accepted feeds.old.items }
+    {
+        look_at_all(&mut self.lanes, feeds)
+    }
+
+    /// How many records a lane knows of. Its ring is not looked at.
+    pub(crate) fn waits(&self, lane: usize) -> usize
+        requires { lane < length self.now.lanes.items }
+        ensures { result ≡ length (known_at self.now.lanes.items lane) }
+    {
+        let _ = self.lanes.as_slice().len();
+        self.lanes[lane].waits()
+    }
+
+    /// A copy of the record that a lane gives next, which it knows of. Its ring is not looked at.
+    pub(crate) fn first(&self, lane: usize) -> Record
+        requires inside { lane < length self.now.lanes.items }
+        requires waits { IsWaiting self.now.lanes.items lane }
+        ensures { IsNext self.now.lanes.items lane result }
+    {
+        let _ = self.lanes.as_slice().len();
+        self.lanes[lane].peek_known().copy()
+    }
+
     /// Makes room for one more entry.
     pub(crate) fn reserve(&mut self) -> Result<(), AllocError>
         ensures lanes { self.new.lanes ≡ self.old.lanes }
@@ -56,6 +91,8 @@ impl Intake {
             ≡ self.old.history.items ++ record { writer = lane; item = item } ∷ [] }
         ensures rings { map ring_of_lane self.new.lanes.items
             ≡ map ring_of_lane self.old.lanes.items }
+        ensures given { map given self.new.lanes.items ≡ map given self.old.lanes.items }
+        ensures known { TookKnown lane self.old.lanes.items self.new.lanes.items }
     {
         let Intake { lanes, history } = self;
         take_at(lanes, lane, &item);
@@ -99,6 +136,8 @@ fn take_at(lanes: &mut Vec<Lane>, at: usize, item: &Record)
     ensures len { vec_len lanes.new ≡ vec_len lanes.old }
     ensures count { length lanes.new.items ≡ length lanes.old.items }
     ensures took { TookAt at item.now (map taken lanes.old.items) (map taken lanes.new.items) }
+    ensures given { map given lanes.new.items ≡ map given lanes.old.items }
+    ensures known { TookKnown at lanes.old.items lanes.new.items }
 {
     let _ = lanes.as_slice().len();
     let _ = take_one(&mut lanes[at], item);
@@ -106,9 +145,10 @@ fn take_at(lanes: &mut Vec<Lane>, at: usize, item: &Record)
 
 fn take_one(lane: &mut Lane, item: &Record) -> Record
     requires { IsPrefix (item.now ∷ []) (known lane.old) }
-    ensures given { taken lane.new ++ known lane.new ≡ taken lane.old ++ known lane.old }
+    ensures given { given lane.new ≡ given lane.old }
     ensures ring { ring_of_lane lane.new ≡ ring_of_lane lane.old }
     ensures taken { taken lane.new ≡ taken lane.old ++ item.now ∷ [] }
+    ensures known { known lane.old ≡ item.now ∷ known lane.new }
 {
     let _ = item;
     lane.take_known()

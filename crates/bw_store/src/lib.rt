@@ -7,6 +7,7 @@
 #![tactic(auto)]
 
 mod asking;
+mod beside;
 mod boxes;
 mod config;
 mod edge;
@@ -17,6 +18,7 @@ mod flushing;
 mod intake;
 mod opening;
 mod planning;
+mod settling;
 mod store;
 mod taking;
 mod turning;

@@ -6,6 +6,7 @@ ghost use Rattle.bw_codec.specs.Grammar.{body_bytes, IsBlock};
 ghost use Rattle.bw_page.specs.Leaves.{changed, directed_at, HasPage};
 ghost use Rattle.bw_buffer.specs.Filling.{frame_of, size_of};
 ghost use Rattle.bw_store.specs.Adding.{upper_if, planned, blocks_for, end_of, result_of};
+ghost use Rattle.bw_store.specs.Faults.{IsWantingAt};
 
 use crate::fault::StoreFault;
 use crate::store::Store;
@@ -32,6 +33,7 @@ fn upper_of(
     requires { 1 ≤ m }
     ensures upper { IfOk result (λ o. o ≡ upper_if m (pages + 1) (changed item.now leaf.now)) }
     ensures room { OnOk result (m < length (changed item.now leaf.now).pairs → pages + 1 < 2 ^ 32) }
+    ensures refused { IfErr result (IsWantingAt pages) }
 {
     if count_after(leaf, item) <= usize::from(m) {
         return Ok(None);
@@ -89,6 +91,7 @@ pub(crate) fn planned_for(
     ensures room { OnOk result (HasPage leaves.now.m leaves.now.leaves item.now) }
     ensures blocks { IfOk result (λ p. p.blocks.items
         ≡ blocks_for leaves.now.m leaves.now.leaves p.back here item.now) }
+    ensures refused { IfErr result (IsWantingAt (length leaves.now.leaves)) }
 {
     let page = leaves.find(item.key());
     let back = newest[page as usize - 1];

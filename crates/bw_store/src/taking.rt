@@ -1,11 +1,12 @@
 //! One record is taken from a lane.
 
-ghost use Rattle.std.specs.Prelude.{◌≡◌, ◌≤◌, ◌<◌, ◌+◌, ◌-◌, Some, None, false, length, IfSome, IfNone, IfOk, OnOk};
+ghost use Rattle.std.specs.Prelude.{◌≡◌, ◌≤◌, ◌<◌, ◌+◌, ◌-◌, Some, None, false, length, map, IfSome, IfNone, IfOk, IfErr, OnOk};
 ghost use Rattle.std.specs.List.{AllByRecursion};
 ghost use Rattle.bw_codec.specs.Grammar.{body_bytes, IsBlock};
 ghost use Rattle.bw_buffer.specs.Filling.{size_of};
-ghost use Rattle.bw_store.specs.Lanes.{IsNext, Dries};
-ghost use Rattle.bw_store.specs.Taking.{TakeLeaves, MayFlush, IsPlan};
+ghost use Rattle.bw_ring.specs.Ends.{given};
+ghost use Rattle.bw_store.specs.Lanes.{IsNext, IsWaiting, Dries, TookKnown};
+ghost use Rattle.bw_store.specs.Taking.{TakeLeaves, ItemLeaves, IsPlan, IsUnplanned};
 
 use crate::fault::StoreFault;
 use crate::planning::{Plan, length_of, planned_for};
@@ -29,15 +30,51 @@ impl Store {
         let Some(item) = self.look(lane) else {
             return Ok(false);
         };
+        self.take_item(lane, item)?;
+        Ok(true)
+    }
+
+    /// Takes the next record of a lane, which the lane knows of: its ring is not looked at.
+    pub(crate) fn take_waiting(&mut self, lane: usize) -> Result<(), StoreFault>
+        requires sound { IsSound self.old holding }
+        requires inside { lane < length self.old.intake.lanes.items }
+        requires waits { IsWaiting self.old.intake.lanes.items lane }
+        ensures sound { IsSound self.new holding }
+        ensures count { length self.new.intake.lanes.items ≡ length self.old.intake.lanes.items }
+        ensures given { OnOk result (map given self.new.intake.lanes.items
+            ≡ map given self.old.intake.lanes.items) }
+        ensures known { OnOk result
+            (TookKnown lane self.old.intake.lanes.items self.new.intake.lanes.items) }
+        ensures leaves { ItemLeaves lane (kept_by self.old holding) result
+            (kept_by self.new holding) }
+    {
+        let item = self.intake.first(lane);
+        self.take_item(lane, item)
+    }
+
+    // Takes this record, which is the next of its lane.
+    fn take_item(&mut self, lane: usize, item: Record) -> Result<(), StoreFault>
+        requires sound { IsSound self.old holding }
+        requires inside { lane < length self.old.intake.lanes.items }
+        requires comes { IsNext self.old.intake.lanes.items lane item }
+        ensures sound { IsSound self.new holding }
+        ensures count { length self.new.intake.lanes.items ≡ length self.old.intake.lanes.items }
+        ensures given { OnOk result (map given self.new.intake.lanes.items
+            ≡ map given self.old.intake.lanes.items) }
+        ensures known { OnOk result
+            (TookKnown lane self.old.intake.lanes.items self.new.intake.lanes.items) }
+        ensures leaves { ItemLeaves lane (kept_by self.old holding) result
+            (kept_by self.new holding) }
+    {
         let plan = self.plan(&item)?;
         if length_of(&plan.blocks) <= self.making.room() as usize {
             self.enter(lane, item, plan.page, plan.back, &plan.blocks)?;
-            return Ok(true);
+            return Ok(());
         }
         self.flush_making()?;
         let plan = self.plan(&item)?;
         self.enter(lane, item, plan.page, plan.back, &plan.blocks)?;
-        Ok(true)
+        Ok(())
     }
 
     // A copy of the record that a lane gives next.
@@ -55,13 +92,15 @@ impl Store {
     // What a record adds, where there is a frame for it.
     fn plan(&self, item: &Record) -> Result<Plan, StoreFault>
         requires sound { IsSound self.now holding }
-        ensures works { OnOk result (self.now.making.is_sealed ≡ false) }
+        ensures works { OnOk result ((kept_by self.now holding).log.is_failed ≡ false) }
+        ensures unsealed { OnOk result (self.now.making.is_sealed ≡ false) }
         ensures next { OnOk result ((kept_by self.now holding).log.next
             ≡ Some self.now.making.frame) }
         ensures plan { IfOk result (IsPlan (kept_by self.now holding) item.now) }
         ensures lawful { IfOk result (λ p. AllByRecursion (IsBlock 32) p.blocks.items
             × (length p.blocks.items ≤ 2)) }
         ensures short { IfOk result (λ p. length (body_bytes p.blocks.items) ≤ 7000) }
+        ensures refused { IfErr result (IsUnplanned (kept_by self.now holding)) }
     {
         if self.log.is_failed() {
             return Err(StoreFault::Failed);

@@ -1,7 +1,7 @@
 //! Turns: rounds over the lanes.
 
-ghost use Rattle.std.specs.Prelude.{◌≡◌, ◌≤◌, ◌<◌, ◌+◌, length, IfOk, MatchResult};
-ghost use Rattle.bw_store.specs.Following.{Turned};
+ghost use Rattle.std.specs.Prelude.{◌≡◌, ◌≤◌, ◌<◌, ◌+◌, length, IfOk, IfErr, MatchResult};
+ghost use Rattle.bw_store.specs.Following.{Turned, TookInTurn, RefusedAfter};
 ghost use Rattle.bw_store.specs.Lanes.{Dries, AreDry};
 ghost use Rattle.bw_store.specs.Kept.{Kept};
 
@@ -34,6 +34,12 @@ impl Store {
             (λ fault. Turned fault.taken (kept_by self.old holding) (kept_by self.new holding)) }
         ensures within { IfOk result (λ n. n ≤ limit) }
         ensures dry { IfOk result (λ n. n < limit → AreDry self.new.intake.lanes.items) }
+
+        // `Failed` exactly where an append failed before; every other cause with its reason.
+        ensures took { IfOk result (λ n.
+            TookInTurn n (kept_by self.old holding) (kept_by self.new holding)) }
+        ensures refused { IfErr result (λ fault. RefusedAfter fault.taken
+            (kept_by self.old holding) fault.cause (kept_by self.new holding)) }
     {
         let mut taken = 0;
         'rounds: while taken < limit {
@@ -51,9 +57,9 @@ impl Store {
         requires sound { IsSound self.old holding }
         requires within { taken ≤ limit }
         ensures sound { IsSound self.new holding }
-        ensures turned { (first : Kept) → Turned taken first (kept_by self.old holding)
-            → MatchResult result (λ n. Turned n first (kept_by self.new holding))
-            (λ fault. Turned fault.taken first (kept_by self.new holding)) }
+        ensures turned { (first : Kept) → TookInTurn taken first (kept_by self.old holding)
+            → MatchResult result (λ n. TookInTurn n first (kept_by self.new holding))
+            (λ fault. RefusedAfter fault.taken first fault.cause (kept_by self.new holding)) }
         ensures within { IfOk result (λ n. (taken ≤ n) × (n ≤ limit)) }
         ensures dry { IfOk result (λ n. n ≡ taken → taken < limit
             → AreDry self.new.intake.lanes.items) }
@@ -72,9 +78,10 @@ impl Store {
         requires sound { IsSound self.old holding }
         ensures sound { IsSound self.new holding }
         ensures count { length self.new.intake.lanes.items ≡ length self.old.intake.lanes.items }
-        ensures turned { MatchResult result (λ n.
-            Turned n (kept_by self.old holding) (kept_by self.new holding))
-            (λ fault. Turned fault.taken (kept_by self.old holding) (kept_by self.new holding)) }
+        ensures turned { MatchResult result
+            (λ n. TookInTurn n (kept_by self.old holding) (kept_by self.new holding))
+            (λ fault. RefusedAfter fault.taken (kept_by self.old holding) fault.cause
+            (kept_by self.new holding)) }
         ensures within { MatchResult result (λ n. n ≤ limit) (λ fault. fault.taken ≤ limit) }
         ensures dry { IfOk result (λ n. n ≡ 0 → 0 < limit → AreDry self.new.intake.lanes.items) }
     {
@@ -96,9 +103,9 @@ impl Store {
         requires few { taken < u32.MAX }
         ensures sound { IsSound self.new holding }
         ensures count { length self.new.intake.lanes.items ≡ length self.old.intake.lanes.items }
-        ensures turned { (first : Kept) → Turned taken first (kept_by self.old holding)
-            → MatchResult result (λ n. Turned n first (kept_by self.new holding))
-            (λ fault. Turned fault.taken first (kept_by self.new holding)) }
+        ensures turned { (first : Kept) → TookInTurn taken first (kept_by self.old holding)
+            → MatchResult result (λ n. TookInTurn n first (kept_by self.new holding))
+            (λ fault. RefusedAfter fault.taken first fault.cause (kept_by self.new holding)) }
         ensures within { MatchResult result (λ n. (taken ≤ n) × (n ≤ taken + 1))
             (λ fault. fault.taken ≡ taken) }
         ensures dry { IfOk result (λ n. n ≡ taken

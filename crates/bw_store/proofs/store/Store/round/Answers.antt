@@ -1,10 +1,10 @@
 use Rattle.std.proofs.Common.{refl, ap, length, ◌∙◌, arith}
-use Rattle.bw_store.proofs.FollowMore.{follows_as, still_within}
+use Rattle.bw_store.proofs.FollowMore.{in_turn_as, still_within}
 use Rattle.bw_store.proofs.Laned.{all_dry, dry_more}
 use Rattle.bw_store.proofs.store.Store.round.Goals as goal
 
 pub lanes-init : goal.lanes-init
-lanes-init g c = record { sound = c.requires.sound; count = refl; turned = follows_as _ _ refl; within = omega arith; dry = λ none i lt. absurd (omega arith) }
+lanes-init g c = record { sound = c.requires.sound; count = refl; turned = in_turn_as _ _ refl; within = omega arith; dry = λ none i lt. absurd (omega arith) }
 
 pub lanes-preserved : goal.lanes-preserved
 lanes-preserved g c = record {

@@ -1,0 +1,95 @@
+-- Why a record or a flush was refused.
+
+use Rattle.std.proofs.Common.{◌≡◌, ℕ, Bool, true, false, Option, Some, None, Ok, Err, length, inl, inr, refl, sym, ap, ◌∙◌, subst}
+use Rattle.std.specs.Prelude.{◌==◌, ◌&&◌, nat_lt, is_none, if◌then◌else◌}
+use Rattle.bw_codec.specs.Grammar.{frame_bytes}
+use Rattle.bw_buffer.specs.Filling.{frame_of}
+use Rattle.bw_log.specs.Appends.{wants_segment, spares_wanted, is_spent}
+use Rattle.bw_log.specs.declared.fault.LogFault.TheVariants as logs
+use Rattle.bw_store.specs.declared.fault.StoreFault.{StoreFault}
+use Rattle.bw_store.specs.declared.fault.StoreFault.TheVariants.{NoMemory, BadConfig, NoSegment, Device, Failed, Spent, NoPage}
+use Rattle.bw_store.specs.Kept.{Kept}
+use Rattle.bw_store.specs.Faults.{FlushAnswers, FlushLeaves, flush_refusal, fault_of}
+use Rattle.bw_store.specs.Taking.{MayFlush, IsWanting, IsUnplanned, Refuses}
+
+-- a flush that answers Ok was not of a failed store
+none_failed : (s : Kept) (o : Option ℕ) (failed : Bool) (rest : Option StoreFault) → FlushAnswers (if failed then Some Failed else rest) (Ok o) → failed ≡ false
+none_failed s o true rest a = absurd cc
+none_failed s o false rest a = refl
+
+pub worked : (old new : Kept) (o : Option ℕ) → FlushAnswers (flush_refusal old) (Ok o) → FlushLeaves old (Ok o) new → new.log.is_failed ≡ false
+worked old new None a left = ap (λ (s : Kept). s.log.is_failed) left.0 ∙ none_failed old None old.log.is_failed _ a
+worked old new (Some n) a left = ap (λ (s : Kept). s.log.is_failed) left.is ∙ left.added.works
+
+-- ---- causes
+
+wanting_after : (old new : Kept) (cause : StoreFault) → MayFlush old new → IsWanting new cause → Refuses old cause new
+wanting_after old new NoMemory may w = may
+wanting_after old new BadConfig may w = absurd w
+wanting_after old new NoSegment may w = absurd w
+wanting_after old new (Device lease) may w = absurd w
+wanting_after old new Failed may w = absurd w
+wanting_after old new Spent may w = (may, inr w)
+wanting_after old new NoPage may w = absurd w
+
+pub entered_not : (old middle new : Kept) (cause : StoreFault) → MayFlush old middle → new ≡ middle → IsWanting middle cause → Refuses old cause new
+entered_not old middle new cause may same w = subst (Refuses old cause) (sym same) (wanting_after old middle cause may w)
+
+pub unplanned_after : (old new : Kept) (cause : StoreFault) → MayFlush old new → new.log.is_failed ≡ false → IsUnplanned new cause → Refuses old cause new
+unplanned_after old new NoMemory may works w = may
+unplanned_after old new BadConfig may works w = absurd w
+unplanned_after old new NoSegment may works w = absurd w
+unplanned_after old new (Device lease) may works w = absurd w
+unplanned_after old new Failed may works w = absurd cc
+unplanned_after old new Spent may works w = (may, w)
+unplanned_after old new NoPage may works w = absurd w
+
+-- ---- a refusal of a flush is that of the record, or of the call, that asked for it
+
+same_answer : (o : Option StoreFault) (fault : StoreFault) → (FlushAnswers None (Err fault) → ⊥) → FlushAnswers o (Err fault) → o ≡ Some fault
+same_answer None fault never a = absurd (never a)
+same_answer (Some cause) fault never a = cc
+
+-- a flush is refused for one of three reasons, `Failed` where an append failed before
+abbrev IsFlushCause : Bool → Option StoreFault → Type 0
+IsFlushCause failed None = Unit {0}
+IsFlushCause failed (Some NoMemory) = ⊥
+IsFlushCause failed (Some BadConfig) = ⊥
+IsFlushCause failed (Some NoSegment) = Unit {0}
+IsFlushCause failed (Some (Device lease)) = ⊥
+IsFlushCause failed (Some Failed) = failed ≡ true
+IsFlushCause failed (Some Spent) = Unit {0}
+IsFlushCause failed (Some NoPage) = ⊥
+
+abbrev cause_of : (failed none empty wants spent : Bool) → Option StoreFault
+cause_of failed none empty wants spent =
+    if failed then Some Failed else if none then Some Spent else if empty then None
+    else (elim (if failed then Some logs.Failed else if wants then Some logs.NoSegment else if spent then Some logs.Spent else None) as (λ _. Option StoreFault)
+    [ None ↦ None | Some fault ↦ Some (fault_of fault) ])
+
+cause_is : (failed none empty wants spent : Bool) → IsFlushCause failed (cause_of failed none empty wants spent)
+cause_is true none empty wants spent = refl
+cause_is false true empty wants spent = tt
+cause_is false false true wants spent = tt
+cause_is false false false true spent = tt
+cause_is false false false false true = tt
+cause_is false false false false false = tt
+
+flush_cause : (s : Kept) → IsFlushCause s.log.is_failed (flush_refusal s)
+flush_cause s = cause_is s.log.is_failed (is_none s.log.next) (length s.making.blocks == 0)
+    (wants_segment s.log (length (frame_bytes (frame_of s.making))) && nat_lt (length s.log.spares) (spares_wanted false))
+    (is_spent s.log (length (frame_bytes (frame_of s.making))))
+
+is_cause : (s : Kept) (fault : StoreFault) → (FlushAnswers None (Err fault) → ⊥) → FlushAnswers (flush_refusal s) (Err fault)
+    → IsFlushCause s.log.is_failed (Some fault)
+is_cause s fault never a = subst (IsFlushCause s.log.is_failed) (same_answer (flush_refusal s) fault never a) (flush_cause s)
+
+pub flush_refuses : (old new : Kept) (cause : StoreFault) → FlushAnswers (flush_refusal old) (Err cause) → FlushLeaves old (Err cause) new → Refuses old cause new
+flush_refuses old new NoMemory a left = inl left
+flush_refuses old new BadConfig a left = absurd (is_cause old BadConfig (λ x. x) a)
+flush_refuses old new NoSegment a left = (left, same_answer (flush_refusal old) NoSegment (λ x. x) a)
+flush_refuses old new (Device lease) a left = left
+flush_refuses old new Failed a left = (left, is_cause old Failed (λ x. x) a)
+flush_refuses old new Spent a left =
+    (inl left, inl (subst (λ (s : Kept). flush_refusal s ≡ Some Spent) (sym left) (same_answer (flush_refusal old) Spent (λ x. x) a)))
+flush_refuses old new NoPage a left = absurd (is_cause old NoPage (λ x. x) a)

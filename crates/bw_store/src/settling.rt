@@ -1,0 +1,119 @@
+//! All that was accepted is taken and appended.
+
+ghost use Rattle.std.specs.Prelude.{◌≡◌, ◌<◌, [], length, map, IfOk, IfErr, OnOk, MatchResult};
+ghost use Rattle.std.specs.List.{AllByRecursion};
+ghost use Rattle.bw_page.specs.Leaves.{pages};
+ghost use Rattle.bw_page.specs.Standing.{Stand};
+ghost use Rattle.bw_ring.specs.Ends.{accepted, taken, given, ring_of_feed};
+ghost use Rattle.bw_log.specs.Contents.{counted, image};
+ghost use Rattle.bw_log.specs.Segments.{AreLive};
+ghost use Rattle.bw_store.specs.History.{records, streams};
+ghost use Rattle.bw_store.specs.Kept.{Kept, TellsShare};
+ghost use Rattle.bw_store.specs.Following.{Follows, HasBoxes, TookSome, RefusedAt};
+ghost use Rattle.bw_store.specs.Lanes.{known_at, StayDry};
+ghost use Rattle.bw_store.specs.Settled.{IsAllCut};
+
+use crate::fault::StoreFault;
+use crate::store::Store;
+use bw_ring::Feed;
+
+impl Store {
+    ghost use Rattle.bw_store.specs.Views.{kept_by, IsSound};
+
+    /// Takes all that the feeds accepted, flushes, and answers the length of the history. The feeds
+    /// are those that `open` or `reopen` gave, all of them, in order.
+    ///
+    /// On Ok the segments hold, page for page, each accepted record exactly once. A refusal leaves
+    /// what a refused `turn` or `flush` leaves, and tells its cause; `settle` may be called again.
+    /// The time is that of a turn over what was accepted.
+    pub fn settle(&mut self, feeds: &mut Vec<Feed>) -> Result<u64, StoreFault>
+        requires sound { IsSound self.old holding }
+        requires feeds { map ring_of_feed feeds.old.items ≡ (kept_by self.old holding).rings }
+
+        // Each writer's records in the history are exactly what its feed accepted, in its order.
+        ensures exactly { OnOk result
+            (streams 0 (length feeds.new.items) (kept_by self.new holding).entries
+            ≡ map accepted feeds.new.items) }
+        ensures writers { OnOk result (AllByRecursion (λ e. e.writer < length feeds.new.items)
+            (kept_by self.new holding).entries) }
+
+        // The last cut is the whole history, and each counted frame tells its share.
+        ensures last_cut { OnOk result (IsAllCut (kept_by self.new holding)) }
+        ensures shares { OnOk result
+            (AllByRecursion (λ f. (kept_by self.new holding).before < f.number
+            → TellsShare (kept_by self.new holding) f) (counted (kept_by self.new holding).log)) }
+
+        // Each live segment is whole, and the counted frames stand for the pages of the history.
+        ensures whole { OnOk result
+            (AreLive (kept_by self.new holding).log.m (kept_by self.new holding).log.f
+            (kept_by self.new holding).log.number
+            (image (kept_by self.new holding).log).bytes) }
+        ensures pages { OnOk result
+            (Stand (kept_by self.new holding).log.m (counted (kept_by self.new holding).log)
+            (pages (kept_by self.new holding).log.m (kept_by self.new holding).start
+            (records (kept_by self.new holding).entries))) }
+        ensures answer { IfOk result (λ n. n ≡ length (kept_by self.new holding).entries) }
+
+        ensures sound { IsSound self.new holding }
+        ensures ends { map ring_of_feed feeds.new.items ≡ map ring_of_feed feeds.old.items }
+        ensures accepted { map accepted feeds.new.items ≡ map accepted feeds.old.items }
+        ensures refused { IfErr result (λ cause.
+            RefusedAt (kept_by self.old holding) cause (kept_by self.new holding)) }
+        ensures follows { Follows (kept_by self.old holding) (kept_by self.new holding) }
+        ensures boxes { HasBoxes (kept_by self.old holding) (kept_by self.new holding) }
+    {
+        self.look_beside(feeds);
+        self.take_known()?;
+        self.flush_making()?;
+        Ok(self.intake.history.as_slice().len() as u64)
+    }
+
+    // A look at both ends of all rings.
+    fn look_beside(&mut self, feeds: &mut Vec<Feed>)
+        requires { map ring_of_feed feeds.old.items ≡ (kept_by self.old holding).rings }
+        ensures same { kept_by self.new holding ≡ kept_by self.old holding }
+        ensures ends { map ring_of_feed feeds.new.items ≡ map ring_of_feed feeds.old.items }
+        ensures accepted { map accepted feeds.new.items ≡ map accepted feeds.old.items }
+        ensures whole { map given self.new.intake.lanes.items ≡ map accepted feeds.old.items }
+    {
+        self.intake.look_beside(feeds);
+    }
+
+    // Takes all that the lanes know of, lane by lane. No ring is looked at.
+    fn take_known(&mut self) -> Result<(), StoreFault>
+        requires sound { IsSound self.old holding }
+        ensures sound { IsSound self.new holding }
+        ensures taken { OnOk result
+            (map taken self.new.intake.lanes.items ≡ map given self.old.intake.lanes.items) }
+        ensures took { MatchResult result
+            (λ _. TookSome (kept_by self.old holding) (kept_by self.new holding))
+            (λ cause. RefusedAt (kept_by self.old holding) cause (kept_by self.new holding)) }
+    {
+        let lanes = self.intake.lanes.as_slice().len();
+        'lanes: for lane in 0..lanes {
+            self.take_lane(lane)?;
+        }
+        Ok(())
+    }
+
+    // Takes all that a lane knows of.
+    fn take_lane(&mut self, lane: usize) -> Result<(), StoreFault>
+        requires sound { IsSound self.old holding }
+        requires inside { lane < length self.old.intake.lanes.items }
+        ensures sound { IsSound self.new holding }
+        ensures count { length self.new.intake.lanes.items ≡ length self.old.intake.lanes.items }
+        ensures given { OnOk result (map given self.new.intake.lanes.items
+            ≡ map given self.old.intake.lanes.items) }
+        ensures dry { OnOk result (known_at self.new.intake.lanes.items lane ≡ []) }
+        ensures others { OnOk result
+            (StayDry self.old.intake.lanes.items self.new.intake.lanes.items) }
+        ensures took { MatchResult result
+            (λ _. TookSome (kept_by self.old holding) (kept_by self.new holding))
+            (λ cause. RefusedAt (kept_by self.old holding) cause (kept_by self.new holding)) }
+    {
+        'records: while self.intake.waits(lane) > 0 {
+            self.take_waiting(lane)?;
+        }
+        Ok(())
+    }
+}
