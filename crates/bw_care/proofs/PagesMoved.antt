@@ -249,13 +249,13 @@ first_lease number (h ∷ hs) told segment lease len some answer is =
     let b : h.lease ≡ lease = ap (λ (t : ℕ × ℕ × ℕ). t.1) e in
     (omega arith, ap (λ (l : ℕ). l ∷ []) b)
 
-pub all_cleaned : (old now new : Contents) (cleaned : Cleaned) (told : Option (ℕ × ℕ × ℕ)) (len : ℕ) → IsSound old → 2 ≤ length old.live → old.is_failed ≡ false
+pub all_cleaned : (old now new : Contents) (cleaned : Cleaned) (told : Option (ℕ × ℕ × ℕ)) (len : ℕ) → IsSound old → IsSound now → 2 ≤ length old.live → old.is_failed ≡ false
     → Moved old now (old_pages old) [] cleaned.frames
     → new ≡ record now { live = drop 1 now.live; number = now.number + 1; frames = new.frames } → counted new ≡ drop (oldest_count now.live) (counted now)
     → MatchOption (slice_get old.live 0) (told ≡ None) (λ h. told ≡ Some (old.number + 0, h.lease, length h.bytes))
     → told ≡ Some (cleaned.segment, cleaned.lease, len) → cleaned.pages ≡ length (old_pages old)
     → IsCleaned old cleaned new
-all_cleaned old now new cleaned told len sound two works x given counts answer is pages =
+all_cleaned old now new cleaned told len sound sound_then two works x given counts answer is pages =
     let hd = heads old.live now.live x.older two in
     let first = first_lease old.number old.live told cleaned.segment cleaned.lease len (omega arith) answer is in
     let left : roster new ≡ map (λ (h : Holding). h.lease) (drop 1 now.live ++ now.spares) = ap roster given in
@@ -264,6 +264,7 @@ all_cleaned old now new cleaned told len sound two works x given counts answer i
       worked = works;
       then_log = now;
       moved = x;
+      sound = sound_then;
       given_up = given;
       counts = counts ∙ ap (λ (l : List Holding). drop (oldest_count l) (counted now)) hd.is
           ∙ ap (λ (l : List Holding). drop (oldest_count l) (counted now)) (sym hd.was);

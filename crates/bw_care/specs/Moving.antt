@@ -136,6 +136,7 @@ pub record IsCleaned (old : Contents) (cleaned : Cleaned) (new : Contents) : Typ
   pub worked : old.is_failed ≡ false
   pub then_log : Contents
   pub moved : Moved old then_log (old_pages old) [] cleaned.frames
+  pub sound : IsSound then_log
   pub given_up : new ≡ record then_log { live = drop 1 then_log.live; number = then_log.number + 1; frames = new.frames }
   pub counts : counted new ≡ drop (oldest_count old.live) (counted then_log)
   pub segment : cleaned.segment ≡ old.number

@@ -14,7 +14,7 @@ use Rattle.bw_store.specs.declared.fault.StoreFault.{StoreFault}
 use Rattle.bw_store.specs.Kept.{Kept, with_frame, with_stop}
 use Rattle.bw_store.specs.Taken.{taken}
 use Rattle.bw_store.specs.Taking.{MayFlush, Took, TakeLeaves, Refuses}
-use Rattle.bw_store.specs.declared.fault.StoreFault.TheVariants.{NoMemory, BadConfig, NoSegment, Device, Failed, Spent, NoPage}
+use Rattle.bw_store.specs.declared.fault.StoreFault.TheVariants.{NoMemory, BadConfig, NoSegment, Device, Failed, Spent, NoPage, NothingOld}
 use Rattle.bw_store.specs.Faults.{Flushed, Broken, FlushLeaves}
 use Rattle.bw_store.specs.Following.{Follows, HasBoxes, Turned, TookInTurn, RefusedAfter, TookSome, RefusedAt}
 
@@ -131,6 +131,7 @@ follows_left old new (Err NoSegment) left = follows_as old new left
 follows_left old new (Err Failed) left = follows_as old new left
 follows_left old new (Err Spent) left = follows_as old new left
 follows_left old new (Err NoPage) left = follows_as old new left
+follows_left old new (Err NothingOld) left = follows_as old new left
 
 -- a record that was refused, whatever the cause
 pub follows_refused : (old new : Kept) (cause : StoreFault) → Refuses old cause new → Turned 0 old new
@@ -141,6 +142,7 @@ follows_refused old new (Device lease) r = follows_broken old new lease r
 follows_refused old new Failed r = follows_as old new r.0
 follows_refused old new Spent r = follows_may old new r.0
 follows_refused old new NoPage r = absurd r
+follows_refused old new NothingOld r = absurd r
 
 -- ---- takes one after the other
 

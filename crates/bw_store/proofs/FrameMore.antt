@@ -28,7 +28,8 @@ use Rattle.std.specs.Prelude.{nat_le}
 use Rattle.bw_store.specs.declared.entry.Entry.{Entry}
 use Rattle.bw_store.specs.History.{records, cut, upto, share}
 use Rattle.bw_store.specs.Growing.{Grown, frames_upto}
-use Rattle.bw_store.specs.Kept.{Kept, leaves_at, share_at, TellsBy, TellsShare, waiting, AreCuts, IsSound, with_frame, with_stop}
+use Rattle.bw_store.specs.Kept.{Kept, leaves_at, TellsBy, TellsAs, TellsShare, waiting, AreCuts, IsSound, with_frame, with_stop}
+use Rattle.bw_store.proofs.CutMore.{same_leaves, old_shares}
 use Rattle.bw_store.proofs.Telling.{tells_none}
 
 -- ---- an empty frame behind others
@@ -107,14 +108,6 @@ module _ (s : Kept) (h : IsSound s) (works : s.log.is_failed ≡ false) where
   same_cut : (k : ℕ) → k ≤ s.durable → cut more k ≡ cut s.cuts k
   same_cut k le = cut_old s.cuts (length s.entries) k (let e = all_appended in omega arith)
 
-  same_leaves : (k : ℕ) → k ≤ s.durable → pages s.filed.m s.start (records (upto more s.entries k)) ≡ leaves_at s k
-  same_leaves k le = ap (λ c. pages s.filed.m s.start (records (take c s.entries))) (same_cut k le)
-
-  same_share : (k : ℕ) → k ≤ s.durable → records (share more s.entries k) ≡ share_at s k
-  same_share k le =
-      ap (λ c. records (drop (cut more (k - 1)) (take c s.entries))) (same_cut k le)
-      ∙ ap (λ c. records (drop c (take (cut s.cuts k) s.entries))) (same_cut (k - 1) (omega arith))
-
   last_cut : cut more (s.durable + 1) ≡ length s.entries
   last_cut = ap (λ n. cut more (n + 1)) (sym all_appended) ∙ cut_new s.cuts (length s.entries)
 
@@ -131,29 +124,15 @@ module _ (s : Kept) (h : IsSound s) (works : s.log.is_failed ≡ false) where
       ∙ (let e : s.durable + 1 - 1 ≡ s.durable = omega arith in ap (λ k. records (drop (cut more k) s.entries)) e)
       ∙ ap (λ c. records (drop c s.entries)) (same_cut s.durable (omega arith))
 
-  -- the frames counted before
-  old_share : (f : Frame) → f.number < s.before + s.durable + 1 → s.before < f.number → TellsShare s f
-      → TellsBy s f.number (pages s.filed.m s.start (records (upto more s.entries (f.number - s.before - 1))))
-      (records (share more s.entries (f.number - s.before))) f.blocks
-  old_share f low above told =
-      subst (λ (ls : List Leaf). TellsBy s f.number ls (records (share more s.entries (f.number - s.before))) f.blocks)
-      (sym (same_leaves (f.number - s.before - 1) (omega arith)))
-      (subst (λ (rs : List Record). TellsBy s f.number (leaves_at s (f.number - s.before - 1)) rs f.blocks)
-      (sym (same_share (f.number - s.before) (omega arith))) told)
-
   numbers_below : s.log.next ≡ Some s.making.frame → s.making.frame ≡ s.before + s.durable + 1
       → All (λ f. f.number < s.before + s.durable + 1) (logs.counted s.log)
   numbers_below next number = before_next (logs.counted s.log) (s.before + s.durable + 1) h.log.holds.numbered
       (sym h.log.holds.follows ∙ next ∙ ap (λ (n : ℕ). Some n) number)
 
-  old_shares : s.log.next ≡ Some s.making.frame → s.making.frame ≡ s.before + s.durable + 1
-      → All (λ f. s.before < f.number → TellsBy s f.number (pages s.filed.m s.start (records (upto more s.entries (f.number - s.before - 1))))
+  old_told : s.log.next ≡ Some s.making.frame → s.making.frame ≡ s.before + s.durable + 1
+      → All (λ f. s.before < f.number → TellsAs s f.number (pages s.filed.m s.start (records (upto more s.entries (f.number - s.before - 1))))
       (records (share more s.entries (f.number - s.before))) f.blocks) (logs.counted s.log)
-  old_shares next number =
-      all-zip (λ f. f.number < s.before + s.durable + 1) (λ f. s.before < f.number → TellsShare s f)
-      (λ f. s.before < f.number → TellsBy s f.number (pages s.filed.m s.start (records (upto more s.entries (f.number - s.before - 1))))
-      (records (share more s.entries (f.number - s.before))) f.blocks)
-      (λ f low told above. old_share f low above (told above)) (logs.counted s.log) (numbers_below next number) h.shares
+  old_told next number = old_shares s more same_cut (logs.counted s.log) (numbers_below next number) h.shares
 
   -- the frame in the making says its share
   new_share : s.making.frame ≡ s.before + s.durable + 1
@@ -165,7 +144,7 @@ module _ (s : Kept) (h : IsSound s) (works : s.log.is_failed ≡ false) where
       subst (λ (n : ℕ). TellsBy s n (pages s.filed.m s.start (records (upto more s.entries (s.making.frame - s.before - 1))))
       (records (share more s.entries (s.making.frame - s.before))) s.making.blocks) (sym number)
       (subst (λ (ls : List Leaf). TellsBy s (s.before + s.durable + 1) ls (records (share more s.entries (s.making.frame - s.before))) s.making.blocks)
-      (sym (ap (λ n. pages s.filed.m s.start (records (upto more s.entries n))) j ∙ same_leaves s.durable (omega arith)))
+      (sym (ap (λ n. pages s.filed.m s.start (records (upto more s.entries n))) j ∙ same_leaves s more same_cut s.durable (omega arith)))
       (subst (λ (rs : List Record). TellsBy s (s.before + s.durable + 1) (leaves_at s s.durable) rs s.making.blocks)
       (sym (ap (λ n. records (share more s.entries n)) k ∙ last_share)) h.tells))
 
@@ -180,7 +159,7 @@ module _ (s : Kept) (h : IsSound s) (works : s.log.is_failed ≡ false) where
             let old : k ≤ s.durable = leb-true _ _ is in
             subst (λ (fs : List Frame). Stand s.filed.m fs (pages s.filed.m s.start (records (upto more s.entries k))))
             (sym (upto_older (s.before + k) (logs.counted s.log) (frame_of s.making) (omega arith)))
-            (subst (λ (ls : List Leaf). Stand s.filed.m (frames_upto (s.before + k) (logs.counted s.log)) ls) (sym (same_leaves k old))
+            (subst (λ (ls : List Leaf). Stand s.filed.m (frames_upto (s.before + k) (logs.counted s.log)) ls) (sym (same_leaves s more same_cut k old))
             (h.stands k low old from)))
         | false ↦ λ is. (
             let new : s.durable < k = leb-false _ _ is in
@@ -211,6 +190,7 @@ module _ (s : Kept) (h : IsSound s) (works : s.log.is_failed ≡ false) where
         pairs = h.pairs ∙ sym same.m;
         limit = limit ∙ h.limit ∙ sym same.f;
         leaves = h.leaves;
+        mapped = h.mapped;
         ops = h.ops;
         writers = h.writers;
         grown =
@@ -230,8 +210,8 @@ module _ (s : Kept) (h : IsSound s) (works : s.log.is_failed ≡ false) where
             (stands_all next number k low high from);
         beyond = inl (length-append s.cuts (length s.entries ∷ []) ∙ ap (λ n. n + 1) all_appended);
         shares = subst (λ (fs : List Frame). All (λ f. s.before < f.number → TellsShare t f) fs) (sym counted)
-            (all-push (λ f. s.before < f.number → TellsShare t f) (logs.counted s.log) (frame_of s.making) (old_shares next number)
-            (λ above. new_share number));
+            (all-push (λ f. s.before < f.number → TellsShare t f) (logs.counted s.log) (frame_of s.making) (old_told next number)
+            (λ above. inl (new_share number)));
         tells =
             subst (λ (bs : List Block). TellsBy t (s.before + (s.durable + 1) + 1) (leaves_at t (s.durable + 1)) (waiting t) bs) (sym empty)
             (subst (λ (rs : List Record). TellsBy t (s.before + (s.durable + 1) + 1) (leaves_at t (s.durable + 1)) rs [])
@@ -250,6 +230,7 @@ module _ (s : Kept) (h : IsSound s) (works : s.log.is_failed ≡ false) where
         pairs = h.pairs ∙ sym same.m;
         limit = h.limit ∙ sym same.f;
         leaves = h.leaves;
+        mapped = h.mapped;
         ops = h.ops;
         writers = h.writers;
         grown = subst (λ (fs : List Frame). Grown s.filed.m fs (frame_of s.making) s.filed.leaves s.newest) (sym counted) h.grown;
@@ -259,11 +240,11 @@ module _ (s : Kept) (h : IsSound s) (works : s.log.is_failed ≡ false) where
         ordered = cuts_push 0 s.cuts (length s.entries) h.ordered;
         floor = h.floor;
         stands = λ k low high from. subst (λ (fs : List Frame). Stand s.filed.m (frames_upto (s.before + k) fs) (leaves_at t k)) (sym counted)
-            (subst (Stand s.filed.m (frames_upto (s.before + k) (logs.counted s.log))) (sym (same_leaves k high)) (h.stands k low high from));
+            (subst (Stand s.filed.m (frames_upto (s.before + k) (logs.counted s.log))) (sym (same_leaves s more same_cut k high)) (h.stands k low high from));
         beyond = inr (length-append s.cuts (length s.entries ∷ []) ∙ ap (λ n. n + 1) all_appended, failed);
-        shares = subst (λ (fs : List Frame). All (λ f. s.before < f.number → TellsShare t f) fs) (sym counted) (old_shares next number);
+        shares = subst (λ (fs : List Frame). All (λ f. s.before < f.number → TellsShare t f) fs) (sym counted) (old_told next number);
         tells =
-            subst (λ (ls : List Leaf). TellsBy t (s.before + s.durable + 1) ls (waiting t) s.making.blocks) (sym (same_leaves s.durable (omega arith)))
+            subst (λ (ls : List Leaf). TellsBy t (s.before + s.durable + 1) ls (waiting t) s.making.blocks) (sym (same_leaves s more same_cut s.durable (omega arith)))
             (subst (λ (rs : List Record). TellsBy t (s.before + s.durable + 1) (leaves_at s s.durable) rs s.making.blocks)
             (sym (ap (λ c. records (drop c s.entries)) (same_cut s.durable (omega arith)))) h.tells);
       }

@@ -49,6 +49,7 @@ opened_sound rings m f spares sound = record {
   pairs = refl;
   limit = refl;
   leaves = refl;
+  mapped = refl;
   ops = tt;
   writers = tt;
   floor = omega arith;

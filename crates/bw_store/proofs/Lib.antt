@@ -3,6 +3,7 @@ pub mod Placing
 pub mod Telling
 pub mod Growing
 pub mod RecordMore
+pub mod CutMore
 pub mod FrameMore
 pub mod MayAppend
 pub mod MayEnter

@@ -31,6 +31,7 @@ log_sound s new h c = record {
   limit = h.limit ∙ sym c.f;
   here = h.here;
   leaves = h.leaves;
+  mapped = h.mapped;
   ops = h.ops;
   writers = h.writers;
   grown = subst (λ (fs : List Frame). Grown s.filed.m fs (frame_of s.making) s.filed.leaves s.newest) (sym c.frames) h.grown;

@@ -9,7 +9,8 @@ use Rattle.bw_codec.specs.declared.record.Record.{Record}
 use Rattle.bw_codec.specs.declared.leaf.Leaf.{Leaf}
 use Rattle.bw_codec.specs.declared.block.Place.{Place}
 use Rattle.bw_codec.specs.declared.block.Block.{Block}
-use Rattle.bw_page.specs.Leaves.{pages, applied}
+use Rattle.bw_page.specs.Leaves.{Map, pages, applied, union, plain, changed_map}
+use Rattle.bw_page.proofs.Law.{applied-plain}
 use Rattle.bw_page.specs.Standing.{Stand}
 use Rattle.bw_page.proofs.Sorted.{all-map, all-push}
 use Rattle.bw_buffer.specs.Filling.{frame_of}
@@ -19,7 +20,7 @@ use Rattle.bw_store.specs.History.{records, cut, upto, share}
 use Rattle.bw_store.specs.Share.{TellsFirst}
 use Rattle.bw_store.specs.Adding.{end_of, blocks_for}
 use Rattle.bw_store.specs.Growing.{frames_upto}
-use Rattle.bw_store.specs.Kept.{Kept, leaves_at, share_at, TellsBy, TellsShare, waiting, AreCuts, IsSound}
+use Rattle.bw_store.specs.Kept.{Kept, leaves_at, share_at, TellsBy, TellsAs, TellsShare, waiting, AreCuts, IsSound}
 use Rattle.bw_store.specs.Taken.{taken}
 use Rattle.bw_store.proofs.Telling.{tells_more}
 use Rattle.bw_store.proofs.Growing.{Takes, grown_more}
@@ -115,6 +116,11 @@ module _ (s : Kept) (writer : ℕ) (item : Record) (back : Place) (t : TakesOne 
         leaves = ap (λ (ls : List Leaf). applied s.filed.m ls item) h.leaves
             ∙ sym (ap (pages s.filed.m s.start) (records_more s.entries (record { writer = writer; item = item } ∷ []))
             ∙ pages_more s.filed.m s.start (records s.entries) (item ∷ []));
+        mapped =
+            applied-plain s.filed.m s.filed.leaves item (let some = t.takes.some in omega arith) t.takes.room t.takes.grown.stands.lawful t.takes.op
+            ∙ ap (λ (u : Map). changed_map u item) h.mapped
+            ∙ sym (ap (plain s.start) (records_more s.entries (record { writer = writer; item = item } ∷ []))
+            ∙ fold-append changed_map (union s.start) (records s.entries) (item ∷ []));
         ops = all-push (λ (e : Entry). IsOp e.item) s.entries (record { writer = writer; item = item }) h.ops t.takes.op;
         writers = all-push (λ (e : Entry). e.writer < length s.rings) s.entries (record { writer = writer; item = item }) h.writers t.inside;
         grown = grown_more s.filed.m (logs.counted s.log) (frame_of s.making) s.filed.leaves s.newest back item t.takes;
@@ -128,8 +134,8 @@ module _ (s : Kept) (writer : ℕ) (item : Record) (back : Place) (t : TakesOne 
         stands = λ k low high from. subst (Stand s.filed.m (frames_upto (s.before + k) (logs.counted s.log))) (sym (same_leaves k)) (h.stands k low high from);
         shares = all-map (λ f. s.before < f.number → TellsShare s f) (λ f. s.before < f.number → TellsShare now f)
             (λ f told above.
-            subst (λ (ls : List Leaf). TellsBy now f.number ls (share_at now (f.number - s.before)) f.blocks) (sym (same_leaves (f.number - s.before - 1)))
-            (subst (λ (rs : List Record). TellsBy now f.number (leaves_at s (f.number - s.before - 1)) rs f.blocks)
+            subst (λ (ls : List Leaf). TellsAs now f.number ls (share_at now (f.number - s.before)) f.blocks) (sym (same_leaves (f.number - s.before - 1)))
+            (subst (λ (rs : List Record). TellsAs now f.number (leaves_at s (f.number - s.before - 1)) rs f.blocks)
             (sym (same_share (f.number - s.before))) (told above)))
             (logs.counted s.log) h.shares;
         tells =

@@ -7,9 +7,9 @@ use Rattle.bw_buffer.specs.Filling.{frame_of}
 use Rattle.bw_log.specs.Appends.{wants_segment, spares_wanted, is_spent}
 use Rattle.bw_log.specs.declared.fault.LogFault.TheVariants as logs
 use Rattle.bw_store.specs.declared.fault.StoreFault.{StoreFault}
-use Rattle.bw_store.specs.declared.fault.StoreFault.TheVariants.{NoMemory, BadConfig, NoSegment, Device, Failed, Spent, NoPage}
+use Rattle.bw_store.specs.declared.fault.StoreFault.TheVariants.{NoMemory, BadConfig, NoSegment, Device, Failed, Spent, NoPage, NothingOld}
 use Rattle.bw_store.specs.Kept.{Kept}
-use Rattle.bw_store.specs.Faults.{FlushAnswers, FlushLeaves, flush_refusal, fault_of}
+use Rattle.bw_store.specs.Faults.{FlushAnswers, FlushLeaves, flush_refusal, refusal_by, fault_of}
 use Rattle.bw_store.specs.Taking.{MayFlush, IsWanting, IsUnplanned, Refuses}
 
 -- a flush that answers Ok was not of a failed store
@@ -17,9 +17,10 @@ none_failed : (s : Kept) (o : Option ℕ) (failed : Bool) (rest : Option StoreFa
 none_failed s o true rest a = absurd cc
 none_failed s o false rest a = refl
 
-pub worked : (old new : Kept) (o : Option ℕ) → FlushAnswers (flush_refusal old) (Ok o) → FlushLeaves old (Ok o) new → new.log.is_failed ≡ false
-worked old new None a left = ap (λ (s : Kept). s.log.is_failed) left.0 ∙ none_failed old None old.log.is_failed _ a
-worked old new (Some n) a left = ap (λ (s : Kept). s.log.is_failed) left.is ∙ left.added.works
+pub worked : (takes_last : Bool) (old new : Kept) (o : Option ℕ) → FlushAnswers (refusal_by takes_last old) (Ok o) → FlushLeaves old (Ok o) new
+    → new.log.is_failed ≡ false
+worked takes_last old new None a left = ap (λ (s : Kept). s.log.is_failed) left.0 ∙ none_failed old None old.log.is_failed _ a
+worked takes_last old new (Some n) a left = ap (λ (s : Kept). s.log.is_failed) left.is ∙ left.added.works
 
 -- ---- causes
 
@@ -31,6 +32,7 @@ wanting_after old new (Device lease) may w = absurd w
 wanting_after old new Failed may w = absurd w
 wanting_after old new Spent may w = (may, inr w)
 wanting_after old new NoPage may w = absurd w
+wanting_after old new NothingOld may w = absurd w
 
 pub entered_not : (old middle new : Kept) (cause : StoreFault) → MayFlush old middle → new ≡ middle → IsWanting middle cause → Refuses old cause new
 entered_not old middle new cause may same w = subst (Refuses old cause) (sym same) (wanting_after old middle cause may w)
@@ -43,6 +45,7 @@ unplanned_after old new (Device lease) may works w = absurd w
 unplanned_after old new Failed may works w = absurd cc
 unplanned_after old new Spent may works w = (may, w)
 unplanned_after old new NoPage may works w = absurd w
+unplanned_after old new NothingOld may works w = absurd w
 
 -- ---- a refusal of a flush is that of the record, or of the call, that asked for it
 
@@ -60,6 +63,7 @@ IsFlushCause failed (Some (Device lease)) = ⊥
 IsFlushCause failed (Some Failed) = failed ≡ true
 IsFlushCause failed (Some Spent) = Unit {0}
 IsFlushCause failed (Some NoPage) = ⊥
+IsFlushCause failed (Some NothingOld) = ⊥
 
 abbrev cause_of : (failed none empty wants spent : Bool) → Option StoreFault
 cause_of failed none empty wants spent =
@@ -93,3 +97,4 @@ flush_refuses old new Failed a left = (left, is_cause old Failed (λ x. x) a)
 flush_refuses old new Spent a left =
     (inl left, inl (subst (λ (s : Kept). flush_refusal s ≡ Some Spent) (sym left) (same_answer (flush_refusal old) Spent (λ x. x) a)))
 flush_refuses old new NoPage a left = absurd (is_cause old NoPage (λ x. x) a)
+flush_refuses old new NothingOld a left = absurd (is_cause old NothingOld (λ x. x) a)

@@ -29,7 +29,7 @@ use Rattle.bw_store.specs.Share.{Tells, directed}
 use Rattle.bw_store.specs.Kept.{Kept, leaves_at, TellsBy, waiting, IsSound}
 use Rattle.bw_store.specs.Settled.{IsSettled, Tied}
 use Rattle.bw_store.specs.declared.fault.StoreFault.{StoreFault}
-use Rattle.bw_store.specs.Faults.{FlushAnswers, FlushLeaves, flush_refusal}
+use Rattle.bw_store.specs.Faults.{FlushAnswers, FlushLeaves, flush_refusal, refusal_by}
 use Rattle.bw_store.proofs.Refusing.{worked}
 use Rattle.bw_store.proofs.RecordMore.{cut_within}
 
@@ -84,16 +84,16 @@ settled s h empty works =
     }
 
 -- a flush that answers Ok leaves nothing in the making
-flushed_empty : (old new : Kept) (o : Option ℕ) → FlushLeaves old (Ok o) new → new.making.blocks ≡ []
+pub flushed_empty : (old new : Kept) (o : Option ℕ) → FlushLeaves old (Ok o) new → new.making.blocks ≡ []
 flushed_empty old new None left = ap (λ (s : Kept). s.making.blocks) left.0 ∙ left.1
 flushed_empty old new (Some n) left = ap (λ (s : Kept). s.making.blocks) left.is ∙ left.empty
 
-pub settled_by : (old new : Kept) (o : Option ℕ) → IsSound new → FlushAnswers (flush_refusal old) (Ok o) → FlushLeaves old (Ok o) new → IsSettled new
-settled_by old new o sound a left = settled new sound (flushed_empty old new o left) (worked old new o a left)
+pub settled_by : (takes_last : Bool) (old new : Kept) (o : Option ℕ) → IsSound new → FlushAnswers (refusal_by takes_last old) (Ok o) → FlushLeaves old (Ok o) new → IsSettled new
+settled_by takes_last old new o sound a left = settled new sound (flushed_empty old new o left) (worked takes_last old new o a left)
 
 pub flush_settled : (old new : Kept) (r : Result (Option ℕ) StoreFault) → IsSound new → FlushAnswers (flush_refusal old) r → FlushLeaves old r new
     → OnOk r (IsSettled new)
-flush_settled old new (Ok o) sound a left = settled_by old new o sound a left
+flush_settled old new (Ok o) sound a left = settled_by false old new o sound a left
 flush_settled old new (Err fault) sound a left = tt
 
 -- ---- a page that left memory: the log has it as of the counted frames, and its chain tells the rest

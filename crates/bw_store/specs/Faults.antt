@@ -1,6 +1,6 @@
 -- A log's fault as the store tells it, and what each answer of a flush leaves.
 
-use Rattle.std.specs.Prelude.{ℕ, ◌≡◌, ◌⊎◌, ◌≤◌, ◌-◌, ◌^◌, Option, Some, None, Result, Ok, Err, false, [], length, is_none, if◌then◌else◌, ◌==◌}
+use Rattle.std.specs.Prelude.{ℕ, ◌≡◌, ◌⊎◌, ◌≤◌, ◌-◌, ◌^◌, Option, Some, None, Result, Ok, Err, Bool, false, [], length, is_none, if◌then◌else◌, ◌==◌}
 use Rattle.bw_codec.specs.Grammar.{frame_bytes}
 use Rattle.bw_buffer.specs.Filling.{Filling, frame_of}
 use Rattle.bw_page.specs.declared.fault.ApplyError.{ApplyError}
@@ -11,7 +11,7 @@ use Rattle.bw_log.specs.Contents as logs
 use Rattle.bw_log.specs.Segments.{following}
 use Rattle.bw_log.specs.Appends.{refusal, Appended, Stopped, IsSameLog, Rose}
 use Rattle.bw_store.specs.declared.fault.StoreFault.{StoreFault}
-use Rattle.bw_store.specs.declared.fault.StoreFault.TheVariants.{NoMemory, BadConfig, NoSegment, Device, Failed, Spent, NoPage}
+use Rattle.bw_store.specs.declared.fault.StoreFault.TheVariants.{NoMemory, BadConfig, NoSegment, Device, Failed, Spent, NoPage, NothingOld}
 use Rattle.bw_store.specs.Kept.{Kept, with_frame, with_stop}
 
 abbrev pub fault_of : LogFault → StoreFault
@@ -36,17 +36,21 @@ IsWantingAt pages (Device lease) = ⊥
 IsWantingAt pages Failed = ⊥
 IsWantingAt pages Spent = 2 ^ 32 - 1 ≤ pages
 IsWantingAt pages NoPage = ⊥
+IsWantingAt pages NothingOld = ⊥
 
 -- ---- a flush
 
--- why a flush is refused, memory and the device aside
-abbrev pub flush_refusal : Kept → Option StoreFault
-flush_refusal s =
+-- why a flush is refused, memory and the device aside, by whether it may take the last spare
+abbrev pub refusal_by : Bool → Kept → Option StoreFault
+refusal_by takes_last s =
     if s.log.is_failed then Some Failed
     else if is_none s.log.next then Some Spent
     else if length s.making.blocks == 0 then None
-    else (elim (refusal s.log (length (frame_bytes (frame_of s.making))) false) as (λ _. Option StoreFault)
+    else (elim (refusal s.log (length (frame_bytes (frame_of s.making))) takes_last) as (λ _. Option StoreFault)
     [ None ↦ None | Some fault ↦ Some (fault_of fault) ])
+
+abbrev pub flush_refusal : Kept → Option StoreFault
+flush_refusal s = refusal_by false s
 
 -- the frame in the making was appended, and the next one is begun
 pub record Flushed (old : Kept) (number : ℕ) (new : Kept) : Type 0 where
@@ -77,6 +81,7 @@ FlushLeaves old (Err NoSegment) new = new ≡ old
 FlushLeaves old (Err Failed) new = new ≡ old
 FlushLeaves old (Err Spent) new = new ≡ old
 FlushLeaves old (Err NoPage) new = new ≡ old
+FlushLeaves old (Err NothingOld) new = new ≡ old
 
 -- the same of the append alone
 pub record AppendedNow (old new : Kept) : Type 0 where
@@ -96,6 +101,7 @@ AppendLeaves old (Err NoSegment) new = ⊥
 AppendLeaves old (Err Failed) new = ⊥
 AppendLeaves old (Err Spent) new = ⊥
 AppendLeaves old (Err NoPage) new = ⊥
+AppendLeaves old (Err NothingOld) new = ⊥
 
 -- an empty buffer for the frame after this one, if there is a number for it
 pub record IsNext (making fresh : Filling) : Type 0 where
@@ -120,3 +126,4 @@ FlushAnswers None (Err NoSegment) = ⊥
 FlushAnswers None (Err Failed) = ⊥
 FlushAnswers None (Err Spent) = ⊥
 FlushAnswers None (Err NoPage) = ⊥
+FlushAnswers None (Err NothingOld) = ⊥

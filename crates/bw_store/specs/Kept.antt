@@ -8,7 +8,7 @@ use Rattle.bw_codec.specs.declared.leaf.Leaf.{Leaf}
 use Rattle.bw_codec.specs.declared.block.Place.{Place}
 use Rattle.bw_codec.specs.declared.block.Block.{Block}
 use Rattle.bw_codec.specs.declared.block.Frame.{Frame}
-use Rattle.bw_page.specs.Leaves.{pages}
+use Rattle.bw_page.specs.Leaves.{pages, union, plain}
 use Rattle.bw_page.specs.Standing.{Stand}
 use Rattle.bw_page.specs.Shown.{Shown}
 use Rattle.bw_buffer.specs.Filling.{Filling, frame_of}
@@ -18,7 +18,7 @@ use Rattle.bw_log.specs.Segments.{following}
 use Rattle.bw_store.specs.declared.edge.Edge.{Edge}
 use Rattle.bw_store.specs.declared.entry.Entry.{Entry}
 use Rattle.bw_store.specs.History.{records, cut, upto, share}
-use Rattle.bw_store.specs.Share.{Tells, TellsFirst}
+use Rattle.bw_store.specs.Share.{Tells, TellsFirst, IsBaseBlock}
 use Rattle.bw_store.specs.Growing.{Grown, frames_upto}
 
 pub record Kept : Type 0 where
@@ -54,8 +54,15 @@ TellsBy s number leaves rs blocks =
     ((s.before ≡ 0) × (number ≡ 1) × TellsFirst s.filed.m leaves rs blocks)
     ⊎ ((s.before ≡ 0 → number ≢ 1) × Tells s.filed.m leaves rs blocks)
 
+-- a frame of the cleaner's: nothing was put for it, and each of its blocks is a whole page
+abbrev pub IsMoved : List Record → List Block → Type 0
+IsMoved rs blocks = (rs ≡ []) × AllByRecursion IsBaseBlock blocks
+
+abbrev pub TellsAs : Kept → ℕ → List Leaf → List Record → List Block → Type 0
+TellsAs s number leaves rs blocks = TellsBy s number leaves rs blocks ⊎ IsMoved rs blocks
+
 abbrev pub TellsShare : Kept → Frame → Type 0
-TellsShare s frame = TellsBy s frame.number (leaves_at s (frame.number - s.before - 1)) (share_at s (frame.number - s.before)) frame.blocks
+TellsShare s frame = TellsAs s frame.number (leaves_at s (frame.number - s.before - 1)) (share_at s (frame.number - s.before)) frame.blocks
 
 -- the records that no appended frame has
 abbrev pub waiting : Kept → List Record
@@ -74,6 +81,8 @@ pub record IsSound (s : Kept) : Type 0 where
   -- all are in memory
   pub here : s.filed.away ≡ []
   pub leaves : s.filed.leaves ≡ pages s.filed.m s.start (records s.entries)
+  -- all their pairs are one map, which knows no pages
+  pub mapped : union s.filed.leaves ≡ plain s.start (records s.entries)
   pub ops : AllByRecursion (λ e. IsOp e.item) s.entries
   pub writers : AllByRecursion (λ e. e.writer < length s.rings) s.entries
   pub grown : Grown s.filed.m (logs.counted s.log) (frame_of s.making) s.filed.leaves s.newest

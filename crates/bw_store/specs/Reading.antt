@@ -1,12 +1,19 @@
 -- What the calls leave that only ask or read, or change the boxes alone.
 
-use Rattle.std.specs.Prelude.{ℕ, ◌≡◌, false, Result, Ok, Err, [], ◌∷◌, ◌++◌}
+use Rattle.std.specs.Prelude.{ℕ, ◌≡◌, false, Result, Ok, Err, List, [], ◌∷◌, ◌++◌}
+use Rattle.bw_codec.specs.declared.leaf.Leaf.{Leaf}
+use Rattle.bw_page.specs.Leaves.{pages}
 use Rattle.bw_device.specs.Holding.{Holding}
 use Rattle.bw_log.specs.Contents as logs
 use Rattle.bw_log.specs.Reads.{IsKept, IsWornOut, FailedRead}
 use Rattle.bw_store.specs.declared.fault.StoreFault.{StoreFault}
-use Rattle.bw_store.specs.declared.fault.StoreFault.TheVariants.{NoMemory, BadConfig, NoSegment, Device, Failed, Spent, NoPage}
+use Rattle.bw_store.specs.declared.fault.StoreFault.TheVariants.{NoMemory, BadConfig, NoSegment, Device, Failed, Spent, NoPage, NothingOld}
+use Rattle.bw_store.specs.History.{records}
 use Rattle.bw_store.specs.Kept.{Kept}
+
+-- the pages of the history
+abbrev pub leaves_now : Kept → List Leaf
+leaves_now s = pages s.filed.m s.start (records s.entries)
 
 -- with another log
 abbrev pub with_log : Kept → logs.Contents → Kept
@@ -35,3 +42,4 @@ ReadLeaves reads old (Err (Device lease)) new = FailedRead reads lease old.log n
 ReadLeaves reads old (Err Failed) new = ⊥
 ReadLeaves reads old (Err Spent) new = (new ≡ old) × IsWornOut reads old.log.live
 ReadLeaves reads old (Err NoPage) new = ⊥
+ReadLeaves reads old (Err NothingOld) new = ⊥

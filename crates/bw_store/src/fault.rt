@@ -27,6 +27,8 @@ pub enum StoreFault {
     Spent,
     #[error("no such page")]
     NoPage,
+    #[error("fewer than two live segments")]
+    NothingOld,
 }
 
 /// Why no store was opened, with the boxes that were handed in.

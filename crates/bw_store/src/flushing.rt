@@ -6,10 +6,11 @@ ghost use Rattle.bw_codec.specs.Grammar.{frame_bytes};
 ghost use Rattle.bw_buffer.specs.Filling.{frame_of};
 ghost use Rattle.bw_log.specs.Views.{IsReady};
 ghost use Rattle.bw_log.specs.Appends.{refusal};
-ghost use Rattle.bw_store.specs.Faults.{FlushLeaves, AppendLeaves, IsNext, IsRefused, FlushAnswers, flush_refusal};
+ghost use Rattle.bw_store.specs.Faults.{FlushLeaves, AppendLeaves, IsNext, IsRefused, FlushAnswers, flush_refusal, refusal_by};
 ghost use Rattle.bw_store.specs.Following.{Follows, HasBoxes};
 ghost use Rattle.bw_store.specs.Settled.{IsSettled};
 
+use crate::appending::append_to;
 use crate::fault::StoreFault;
 use crate::store::Store;
 use bw_buffer::Buffer;
@@ -36,15 +37,15 @@ impl Store {
         ensures follows { Follows (kept_by self.old holding) (kept_by self.new holding) }
         ensures boxes { HasBoxes (kept_by self.old holding) (kept_by self.new holding) }
     {
-        self.flush_making()
+        self.flush_making(false)
     }
 
-    // The same, without what follows from it.
-    pub(crate) fn flush_making(&mut self) -> Result<Option<u64>, StoreFault>
+    // The same, without what follows from it; it may take the last spare, or may not.
+    pub(crate) fn flush_making(&mut self, takes_last: bool) -> Result<Option<u64>, StoreFault>
         requires sound { IsSound self.old holding }
         ensures sound { IsSound self.new holding }
         ensures intake { self.new.intake ≡ self.old.intake }
-        ensures answers { FlushAnswers (flush_refusal (kept_by self.old holding)) result }
+        ensures answers { FlushAnswers (refusal_by takes_last (kept_by self.old holding)) result }
         ensures leaves { FlushLeaves (kept_by self.old holding) result (kept_by self.new holding) }
     {
         if self.log.is_failed() {
@@ -56,40 +57,40 @@ impl Store {
         if self.making.count() == 0 {
             return Ok(None);
         }
-        self.prepare()?;
-        self.append_making()?;
+        self.prepare(takes_last)?;
+        self.append_making(takes_last)?;
         Ok(Some(next))
     }
 
     // All growths and checks of the append.
-    fn prepare(&mut self) -> Result<(), StoreFault>
+    fn prepare(&mut self, takes_last: bool) -> Result<(), StoreFault>
         requires sound { IsSound self.old holding }
         requires some { 1 ≤ length self.old.making.blocks }
         ensures intake { self.new.intake ≡ self.old.intake }
         ensures same { kept_by self.new holding ≡ kept_by self.old holding }
         ensures ready { OnOk result (IsReady (λ b. holding (b.vtable, b.value)) self.new.log
-            (length (frame_bytes (frame_of self.new.making))) false) }
+            (length (frame_bytes (frame_of self.new.making))) takes_last) }
         ensures room { OnOk result (vec_len self.new.cuts < vec_capacity self.new.cuts) }
         ensures fits { length (frame_bytes (frame_of self.new.making)) ≤ self.new.making.limit }
         ensures refused { IfErr result (IsRefused
             (refusal (kept_by self.old holding).log
-            (length (frame_bytes (frame_of self.old.making))) false)) }
+            (length (frame_bytes (frame_of self.old.making))) takes_last)) }
     {
         let len = self.making.bytes().len() as u32;
-        self.log.ready(len, false)?;
+        self.log.ready(len, takes_last)?;
         self.cuts.reserve(1)?;
         Ok(())
     }
 
     // What is left once nothing but the device can refuse.
-    fn append_making(&mut self) -> Result<(), StoreFault>
+    fn append_making(&mut self, takes_last: bool) -> Result<(), StoreFault>
         requires sound { IsSound self.old holding }
         requires next { (kept_by self.old holding).log.next ≡ Some self.old.making.frame }
         requires works { (kept_by self.old holding).log.is_failed ≡ false }
         requires some { 1 ≤ length self.old.making.blocks }
         requires fits { length (frame_bytes (frame_of self.old.making)) ≤ self.old.making.limit }
         requires ready { IsReady (λ b. holding (b.vtable, b.value)) self.old.log
-            (length (frame_bytes (frame_of self.old.making))) false }
+            (length (frame_bytes (frame_of self.old.making))) takes_last }
         requires room { vec_len self.old.cuts < vec_capacity self.old.cuts }
         requires countable { self.old.durable < u64.MAX }
         ensures sound { IsSound self.new holding }
@@ -99,7 +100,7 @@ impl Store {
         let end = self.intake.history.as_slice().len() as u64;
         self.making.seal();
         self.cuts.push_reserved(end);
-        match self.log.append(&self.making) {
+        match append_to(&mut self.log, &self.making, takes_last) {
             Ok(()) => {
                 self.durable += 1;
                 begin_next(&mut self.making);

@@ -6,6 +6,7 @@
 //! `specs/Following.antt` what no call takes back. All pages stay in memory.
 #![tactic(auto)]
 
+mod appending;
 mod asking;
 mod beside;
 mod boxes;
@@ -18,6 +19,7 @@ mod flushing;
 mod intake;
 mod opening;
 mod planning;
+mod reading;
 mod settling;
 mod store;
 mod taking;

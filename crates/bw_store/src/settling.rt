@@ -64,7 +64,7 @@ impl Store {
     {
         self.look_beside(feeds);
         self.take_known()?;
-        self.flush_making()?;
+        self.flush_making(false)?;
         Ok(self.intake.history.as_slice().len() as u64)
     }
 

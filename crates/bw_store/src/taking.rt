@@ -71,7 +71,7 @@ impl Store {
             self.enter(lane, item, plan.page, plan.back, &plan.blocks)?;
             return Ok(());
         }
-        self.flush_making()?;
+        self.flush_making(false)?;
         let plan = self.plan(&item)?;
         self.enter(lane, item, plan.page, plan.back, &plan.blocks)?;
         Ok(())

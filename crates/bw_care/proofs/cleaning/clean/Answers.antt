@@ -24,7 +24,7 @@ returns-clause-cleaned g c =
     let two : 2 ≤ length (seen c.args.log.now (λ b. (goal.Segment-dyn g b).holding b.1)).live = omega (arith, c.if-live-lt2.false, c.live.ensures) in
     let many : c.len.result ≡ length (old_pages (seen c.args.log.now (λ b. (goal.Segment-dyn g b).holding b.1))) =
     omega (arith, c.len.ensures, c.in-Ok.pages.ok.0, ap (λ (l : List ℕ). length l) c.in-Ok.ensures) in
-    all_cleaned _ _ _ _ (Some (c.in-Some.segment, c.in-Some.lease, c.in-Some.field-0-2)) c.in-Some.field-0-2 c.requires two (sym c.if-is_failed.ensures)
+    all_cleaned _ _ _ _ (Some (c.in-Some.segment, c.in-Some.lease, c.in-Some.field-0-2)) c.in-Some.field-0-2 c.requires c.in-Ok-move_pages.ensures.sound two (sym c.if-is_failed.ensures)
     c.in-Ok-move_pages.ensures.moved
     c.give_up_oldest.ensures.given_up c.give_up_oldest.ensures.counted c.in-Some.ensures refl many
 

@@ -2,8 +2,8 @@ use Rattle.std.proofs.Common.{length, ap}
 use Rattle.bw_store.proofs.MayAppend.{may_follow_at, flushed_at, appended_now, stopped_at}
 use Rattle.bw_store.proofs.store.Store.append_making.Goals as goal
 
-pub append-requires-clause-follows : goal.append-requires-clause-follows
-append-requires-clause-follows g c = may_follow_at c.requires.sound c.requires.next c.requires.some c.requires.fits c.seal.new.self c.seal.ensures
+pub append_to-requires-clause-follows : goal.append_to-requires-clause-follows
+append_to-requires-clause-follows g c = may_follow_at c.requires.sound c.requires.next c.requires.some c.requires.fits c.seal.new.self c.seal.ensures
 
 pub returns-in-Ok-clause-sound : goal.returns-in-Ok-clause-sound
 returns-in-Ok-clause-sound g c =

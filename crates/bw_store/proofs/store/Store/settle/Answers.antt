@@ -1,4 +1,4 @@
-use Rattle.std.proofs.Common.{ap, sym, ◌∙◌, map}
+use Rattle.std.proofs.Common.{false, ap, sym, ◌∙◌, map}
 use Rattle.std.proofs.lemmas.Result.{err_from_is_err_and}
 use Rattle.bw_ring.specs.Ends.{taken, ring_of_lane}
 use Rattle.bw_store.specs.Kept.{Kept}
@@ -42,9 +42,9 @@ returns-clause-writers g c =
 
 pub returns-clause-last_cut : goal.returns-clause-last_cut
 returns-clause-last_cut g c =
-    (settled_by _ _ c.in_ok-flush_making.field-0 c.in_ok-flush_making.ensures.sound c.in_ok-flush_making.ensures.answers c.in_ok-flush_making.ensures.leaves).cut
+    (settled_by false _ _ c.in_ok-flush_making.field-0 c.in_ok-flush_making.ensures.sound c.in_ok-flush_making.ensures.answers c.in_ok-flush_making.ensures.leaves).cut
 
 pub returns-clause-pages : goal.returns-clause-pages
 returns-clause-pages g c =
-    (settled_by _ _ c.in_ok-flush_making.field-0 c.in_ok-flush_making.ensures.sound c.in_ok-flush_making.ensures.answers
+    (settled_by false _ _ c.in_ok-flush_making.field-0 c.in_ok-flush_making.ensures.sound c.in_ok-flush_making.ensures.answers
     c.in_ok-flush_making.ensures.leaves).stands
