@@ -36,29 +36,31 @@ follows_as old new e = record {
   grew = ap (λ (s : Kept). length s.entries) e ∙ omega arith;
 }
 
-pub follows_then : {n k : ℕ} (a b c : Kept) → Turned n a b → Turned k b c → Turned (n + k) a c
-follows_then {n} {k} a b c x y =
-    let f = x.follows in
-    let g = y.follows in
+pub follow_then : (a b c : Kept) → Follows a b → Follows b c → Follows a c
+follow_then a b c f g =
     let low = f.appended in
     let high = g.appended in
     let low_floor = f.floor in
     let high_floor = g.floor in
+    record {
+      rings = g.rings ∙ f.rings;
+      start = g.start ∙ f.start;
+      before = g.before ∙ f.before;
+      edge = g.edge ∙ f.edge;
+      entries_more = f.entries_more ++ g.entries_more;
+      history = g.history ∙ ap (λ (es : List Entry). es ++ g.entries_more) f.history ∙ append_assoc a.entries f.entries_more g.entries_more;
+      cuts_more = f.cuts_more ++ g.cuts_more;
+      cuts = g.cuts ∙ ap (λ (cs : List ℕ). cs ++ g.cuts_more) f.cuts ∙ append_assoc a.cuts f.cuts_more g.cuts_more;
+      appended = omega arith;
+      floor = omega arith;
+    }
+
+pub follows_then : {n k : ℕ} (a b c : Kept) → Turned n a b → Turned k b c → Turned (n + k) a c
+follows_then {n} {k} a b c x y =
     let one = x.grew in
     let two = y.grew in
     record {
-      follows = record {
-        rings = g.rings ∙ f.rings;
-        start = g.start ∙ f.start;
-        before = g.before ∙ f.before;
-        edge = g.edge ∙ f.edge;
-        entries_more = f.entries_more ++ g.entries_more;
-        history = g.history ∙ ap (λ (es : List Entry). es ++ g.entries_more) f.history ∙ append_assoc a.entries f.entries_more g.entries_more;
-        cuts_more = f.cuts_more ++ g.cuts_more;
-        cuts = g.cuts ∙ ap (λ (cs : List ℕ). cs ++ g.cuts_more) f.cuts ∙ append_assoc a.cuts f.cuts_more g.cuts_more;
-        appended = omega arith;
-        floor = omega arith;
-      };
+      follows = follow_then a b c x.follows y.follows;
       boxes = record { same = y.boxes.same ∙ x.boxes.same };
       grew = omega arith;
     }

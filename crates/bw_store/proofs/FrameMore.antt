@@ -15,7 +15,7 @@ use Rattle.bw_codec.specs.declared.block.Block.{Block}
 use Rattle.bw_codec.specs.declared.block.Frame.{Frame}
 use Rattle.bw_page.specs.Leaves.{pages}
 use Rattle.bw_page.specs.Standing.{content, blocks_of, Stand}
-use Rattle.bw_page.proofs.Sorted.{all-map, all-zip, all-push}
+use Rattle.bw_page.proofs.Sorted.{all-map, all-push}
 use Rattle.bw_buffer.specs.Filling.{Filling, frame_of}
 use Rattle.bw_log.specs.Contents as logs
 use Rattle.bw_log.specs.Places.{all_placed, placed, bad_link, first_number, last_place}
@@ -29,6 +29,7 @@ use Rattle.bw_store.specs.declared.entry.Entry.{Entry}
 use Rattle.bw_store.specs.History.{records, cut, upto, share}
 use Rattle.bw_store.specs.Growing.{Grown, frames_upto}
 use Rattle.bw_store.specs.Kept.{Kept, leaves_at, TellsBy, TellsAs, TellsShare, waiting, AreCuts, IsSound, with_frame, with_stop}
+use Rattle.bw_store.proofs.FramesBehind.{following_fits}
 use Rattle.bw_store.proofs.CutMore.{same_leaves, old_shares}
 use Rattle.bw_store.proofs.Telling.{tells_none}
 
@@ -40,7 +41,7 @@ empty_frame n = record { number = n; blocks = [] }
 blocks_same : (fs : List Frame) (n : ℕ) → blocks_of (fs ++ empty_frame n ∷ []) ≡ blocks_of fs
 blocks_same fs n = flat_map-append (λ (x : Frame). x.blocks) fs (empty_frame n ∷ []) ∙ append-nil (blocks_of fs)
 
-placed_same : (fs : List Frame) (n : ℕ) → all_placed (fs ++ empty_frame n ∷ []) ≡ all_placed fs
+pub placed_same : (fs : List Frame) (n : ℕ) → all_placed (fs ++ empty_frame n ∷ []) ≡ all_placed fs
 placed_same fs n = flat_map-append (λ (x : Frame). placed x.number 0 x.blocks) fs (empty_frame n ∷ []) ∙ append-nil (all_placed fs)
 
 first_same : (fs : List Frame) (f : Frame) (n : ℕ) → first_number ((fs ++ f ∷ []) ++ empty_frame n ∷ []) ≡ first_number (fs ++ f ∷ [])
@@ -199,6 +200,7 @@ module _ (s : Kept) (h : IsSound s) (works : s.log.is_failed ≡ false) where
             s.filed.leaves s.newest) (sym empty)
             (grown_next s.filed.m (logs.counted s.log) (frame_of s.making) fresh.frame s.filed.leaves s.newest h.grown));
         next = later;
+        last = (let top = following_fits (s.before + s.durable) s.making.frame (sym h.next ∙ next) in omega arith);
         number = elim numbered [
           | inl e ↦ inl (following_is (s.before + (s.durable + 1)) fresh.frame (sym later ∙ e))
           | inr e ↦ inr (e, empty)
@@ -235,6 +237,7 @@ module _ (s : Kept) (h : IsSound s) (works : s.log.is_failed ≡ false) where
         writers = h.writers;
         grown = subst (λ (fs : List Frame). Grown s.filed.m fs (frame_of s.making) s.filed.leaves s.newest) (sym counted) h.grown;
         next = sound.holds.follows ∙ ap next_of counted ∙ sym h.log.holds.follows ∙ h.next;
+        last = h.last;
         number = inl number;
         sealed = sym failed;
         ordered = cuts_push 0 s.cuts (length s.entries) h.ordered;

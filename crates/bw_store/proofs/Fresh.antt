@@ -63,6 +63,7 @@ opened_sound rings m f spares sound = record {
     lawful = (record { page = (lit≤ tt, lit< tt); low = lit≤ tt; count = omega arith; pairs = tt; ascends = refl }, tt);
   };
   next = refl;
+  last = lit< tt;
   number = inl refl;
   sealed = refl;
   ordered = omega arith;

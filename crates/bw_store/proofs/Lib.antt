@@ -4,11 +4,14 @@ pub mod Telling
 pub mod Growing
 pub mod RecordMore
 pub mod CutMore
+pub mod FramesBehind
 pub mod FrameMore
 pub mod MayAppend
 pub mod MayEnter
 pub mod Refusing
 pub mod SettledMore
+pub mod MovedMore
+pub mod CleanedMore
 pub mod Laned
 pub mod Planned
 pub mod Shares

@@ -36,6 +36,7 @@ log_sound s new h c = record {
   writers = h.writers;
   grown = subst (λ (fs : List Frame). Grown s.filed.m fs (frame_of s.making) s.filed.leaves s.newest) (sym c.frames) h.grown;
   next = c.next ∙ h.next;
+  last = h.last;
   number = elim (h.number) [ inl e ↦ inl e | inr e ↦ inr (c.next ∙ e.0, e.1) ];
   sealed = h.sealed ∙ sym c.failed;
   ordered = h.ordered;

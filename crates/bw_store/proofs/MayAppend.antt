@@ -1,13 +1,10 @@
 -- The frame in the making may follow the counted ones.
 
-use Rattle.std.proofs.Common.{◌≡◌, ℕ, ◌+◌, ◌^◌, ◌<◌, ◌≤◌, ◌⊎◌, inl, inr, Bool, true, false, Some, None, Err, List}
+use Rattle.std.proofs.Common.{◌≡◌, ℕ, ◌+◌, ◌≤◌, ◌⊎◌, inl, inr, Bool, true, false, Some, None, Err, List}
 use Rattle.std.proofs.Common.{[], ◌∷◌, ◌++◌, length, refl, sym, ap, ◌∙◌, subst, arith, length-append}
-use Rattle.std.specs.Prelude.{nat_lt}
 use Rattle.std.specs.List.{AllByRecursion as All}
-use Rattle.std.proofs.lemmas.Bool.{ltb-true}
 use Rattle.std.proofs.lemmas.Grind.{fold-append}
 use Rattle.bw_codec.specs.Grammar.{body_bytes, frame_bytes, head_bytes, IsBlock}
-use Rattle.bw_codec.proofs.Format.{held, found}
 use Rattle.bw_codec.proofs.FrontFormat.{length-head}
 use Rattle.bw_buffer.specs.Filling.{Filling, frame_of}
 use Rattle.bw_buffer.proofs.Holding.{few_blocks}
@@ -21,9 +18,7 @@ use Rattle.bw_log.proofs.Whole.{granted}
 use Rattle.bw_store.specs.Faults.{Flushed, AppendedNow, IsNext}
 use Rattle.bw_store.specs.Kept.{Kept, IsSound, with_frame}
 use Rattle.bw_store.proofs.FrameMore.{flushed_sound, stopped_sound}
-
-pub following_fits : (n k : ℕ) → following n ≡ Some k → k < 2 ^ 64
-following_fits n k e = let h = held (nat_lt (n + 1) (2 ^ 64)) (Some (n + 1)) k e in let same = found h.1 in let low = ltb-true _ _ h.0 in omega arith
+use Rattle.bw_store.proofs.FramesBehind.{following_fits}
 
 pub some_blocks : {A : Type 0} (xs : List A) → (xs ≡ [] → ⊥) → 1 ≤ length xs
 some_blocks [] h = absurd (h refl)

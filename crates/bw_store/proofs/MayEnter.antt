@@ -29,8 +29,8 @@ use Rattle.bw_store.specs.Adding.{end_of, after_place, result_of, blocks_for, pl
 use Rattle.bw_store.specs.Taken.{taken}
 use Rattle.bw_store.specs.Kept.{Kept, IsSound}
 use Rattle.bw_store.proofs.Growing.{Takes, blocks_lawful}
+use Rattle.bw_store.proofs.FramesBehind.{following_fits}
 use Rattle.bw_store.proofs.RecordMore.{TakesOne, taken_sound}
-use Rattle.bw_store.proofs.MayAppend.{following_fits}
 
 pub record Enters (s : Kept) (item : Record) (back : Place) (blocks : List Block) : Type 0 where
   pub sound : IsSound s

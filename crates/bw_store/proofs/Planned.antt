@@ -29,7 +29,7 @@ use Rattle.bw_log.specs.Contents as logs
 use Rattle.bw_log.proofs.Adding.{following_is}
 use Rattle.bw_store.specs.Kept.{Kept, IsSound}
 use Rattle.bw_store.proofs.Growing.{Takes, blocks_lawful}
-use Rattle.bw_store.proofs.MayAppend.{following_fits}
+use Rattle.bw_store.proofs.FramesBehind.{following_fits}
 use Rattle.bw_store.specs.Adding.{blocks_for, end_of, result_of, upper_if, planned}
 use Rattle.bw_page.proofs.PageByPage.{home_there}
 

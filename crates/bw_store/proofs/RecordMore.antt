@@ -125,6 +125,7 @@ module _ (s : Kept) (writer : ℕ) (item : Record) (back : Place) (t : TakesOne 
         writers = all-push (λ (e : Entry). e.writer < length s.rings) s.entries (record { writer = writer; item = item }) h.writers t.inside;
         grown = grown_more s.filed.m (logs.counted s.log) (frame_of s.making) s.filed.leaves s.newest back item t.takes;
         next = h.next;
+        last = h.last;
         number = inl t.number;
         sealed = h.sealed;
         ordered = cuts_longer 0 s.cuts (length s.entries) (length now.entries)

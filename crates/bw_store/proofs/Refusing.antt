@@ -79,22 +79,27 @@ cause_is false false false true spent = tt
 cause_is false false false false true = tt
 cause_is false false false false false = tt
 
-flush_cause : (s : Kept) → IsFlushCause s.log.is_failed (flush_refusal s)
-flush_cause s = cause_is s.log.is_failed (is_none s.log.next) (length s.making.blocks == 0)
-    (wants_segment s.log (length (frame_bytes (frame_of s.making))) && nat_lt (length s.log.spares) (spares_wanted false))
+flush_cause : (takes_last : Bool) (s : Kept) → IsFlushCause s.log.is_failed (refusal_by takes_last s)
+flush_cause takes_last s = cause_is s.log.is_failed (is_none s.log.next) (length s.making.blocks == 0)
+    (wants_segment s.log (length (frame_bytes (frame_of s.making))) && nat_lt (length s.log.spares) (spares_wanted takes_last))
     (is_spent s.log (length (frame_bytes (frame_of s.making))))
 
-is_cause : (s : Kept) (fault : StoreFault) → (FlushAnswers None (Err fault) → ⊥) → FlushAnswers (flush_refusal s) (Err fault)
+is_cause : (takes_last : Bool) (s : Kept) (fault : StoreFault) → (FlushAnswers None (Err fault) → ⊥) → FlushAnswers (refusal_by takes_last s) (Err fault)
     → IsFlushCause s.log.is_failed (Some fault)
-is_cause s fault never a = subst (IsFlushCause s.log.is_failed) (same_answer (flush_refusal s) fault never a) (flush_cause s)
+is_cause takes_last s fault never a =
+    subst (IsFlushCause s.log.is_failed) (same_answer (refusal_by takes_last s) fault never a) (flush_cause takes_last s)
+
+-- no flush tells that too few segments are live
+pub never_nothing : (takes_last : Bool) (s : Kept) → FlushAnswers (refusal_by takes_last s) (Err NothingOld) → ⊥
+never_nothing takes_last s a = is_cause takes_last s NothingOld (λ x. x) a
 
 pub flush_refuses : (old new : Kept) (cause : StoreFault) → FlushAnswers (flush_refusal old) (Err cause) → FlushLeaves old (Err cause) new → Refuses old cause new
 flush_refuses old new NoMemory a left = inl left
-flush_refuses old new BadConfig a left = absurd (is_cause old BadConfig (λ x. x) a)
+flush_refuses old new BadConfig a left = absurd (is_cause false old BadConfig (λ x. x) a)
 flush_refuses old new NoSegment a left = (left, same_answer (flush_refusal old) NoSegment (λ x. x) a)
 flush_refuses old new (Device lease) a left = left
-flush_refuses old new Failed a left = (left, is_cause old Failed (λ x. x) a)
+flush_refuses old new Failed a left = (left, is_cause false old Failed (λ x. x) a)
 flush_refuses old new Spent a left =
     (inl left, inl (subst (λ (s : Kept). flush_refusal s ≡ Some Spent) (sym left) (same_answer (flush_refusal old) Spent (λ x. x) a)))
-flush_refuses old new NoPage a left = absurd (is_cause old NoPage (λ x. x) a)
-flush_refuses old new NothingOld a left = absurd (is_cause old NothingOld (λ x. x) a)
+flush_refuses old new NoPage a left = absurd (is_cause false old NoPage (λ x. x) a)
+flush_refuses old new NothingOld a left = absurd (is_cause false old NothingOld (λ x. x) a)

@@ -58,6 +58,12 @@ some_counted : (fs : List Frame) (n : ℕ) → next_of fs ≡ following n → n 
 some_counted [] n e ne = (let one = following_is n 1 (sym e) in absurd (ne (omega arith)))
 some_counted (f ∷ fs) n e ne = omega arith
 
+-- frame 1 of an opened store is never empty
+pub not_first : (s : Kept) → IsSound s → s.making.blocks ≡ [] → s.before ≡ 0 → s.before + s.durable + 1 ≢ 1
+not_first s h empty =
+    (nothing_by s (s.before + s.durable + 1)
+    (subst (λ (bs : List Block). TellsBy s (s.before + s.durable + 1) (leaves_at s s.durable) (waiting s) bs) empty h.tells)).0
+
 all_appended : (s : Kept) → IsSound s → s.log.is_failed ≡ false → length s.cuts ≡ s.durable
 all_appended s h works = (elim h.beyond as (λ _. length s.cuts ≡ s.durable) [ inl e ↦ e | inr p ↦ (let failed = p.1 in absurd cc) ])
 

@@ -1,6 +1,6 @@
 -- What a store keeps, as plain data, and what holds of it between calls.
 
-use Rattle.std.specs.Prelude.{ℕ, ◌+◌, ◌-◌, ◌≡◌, ◌≢◌, ◌≤◌, ◌<◌, ◌⊎◌, true, None, List, [], ◌∷◌, ◌++◌, length, drop}
+use Rattle.std.specs.Prelude.{ℕ, ◌+◌, ◌-◌, ◌^◌, ◌≡◌, ◌≢◌, ◌≤◌, ◌<◌, ◌⊎◌, true, None, List, [], ◌∷◌, ◌++◌, length, drop}
 use Rattle.std.specs.List.{AllByRecursion}
 use Rattle.bw_codec.specs.Grammar.{IsOp}
 use Rattle.bw_codec.specs.declared.record.Record.{Record}
@@ -88,6 +88,7 @@ pub record IsSound (s : Kept) : Type 0 where
   pub grown : Grown s.filed.m (logs.counted s.log) (frame_of s.making) s.filed.leaves s.newest
   -- the frame in the making is the next one, or there is none and it stays empty; it is sealed where an append failed
   pub next : s.log.next ≡ following (s.before + s.durable)
+  pub last : s.before + s.durable < 2 ^ 64
   pub number : (s.making.frame ≡ s.before + s.durable + 1) ⊎ ((s.log.next ≡ None) × (s.making.blocks ≡ []))
   pub sealed : s.making.is_sealed ≡ s.log.is_failed
   -- cuts

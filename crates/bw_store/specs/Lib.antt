@@ -12,3 +12,4 @@ pub mod Taking
 pub mod Opened
 pub mod Following
 pub mod Reading
+pub mod Cleaning

@@ -2,8 +2,10 @@
 
 ghost use Rattle.std.specs.Prelude.{◌≡◌};
 ghost use Rattle.bw_store.specs.declared.fault.StoreFault.TheVariants.{NoMemory};
+ghost use Rattle.bw_store.specs.Cleaning.{fault_of_clean};
 ghost use Rattle.bw_store.specs.Faults.{fault_of, fault_of_apply};
 
+use bw_care::CleanFault;
 use bw_device::Segment;
 use bw_log::LogFault;
 use bw_page::ApplyError;
@@ -69,6 +71,17 @@ impl From<LogFault> for StoreFault {
             LogFault::Failed => StoreFault::Failed,
             LogFault::Spent => StoreFault::Spent,
             LogFault::NoPage => StoreFault::NoPage,
+        }
+    }
+}
+
+impl From<CleanFault> for StoreFault {
+    ghost from_gives = { λ e fault. fault ≡ fault_of_clean e };
+
+    fn from(error: CleanFault) -> StoreFault {
+        match error {
+            CleanFault::NothingOld => StoreFault::NothingOld,
+            CleanFault::Log(fault) => StoreFault::from(fault),
         }
     }
 }

@@ -1,0 +1,384 @@
+-- What the cleaner's answer says of the store.
+
+use Rattle.std.proofs.Common.{inl, inr, ◌≡◌, ◌⊎◌, ℕ, suc, ◌+◌, ◌-◌, ◌^◌, ◌<◌, ◌≤◌, Bool, true, false, Option, Some, None, Result, Ok, Err, List, [], ◌∷◌, ◌++◌}
+use Rattle.std.proofs.Common.{length, drop, refl, sym, ap, ◌∙◌, subst, arith, length-append, append-nil, replicate}
+use Rattle.std.specs.Prelude.{IfSome, IfOk, IfErr, if◌then◌else◌}
+use Rattle.std.specs.List.{slice_get}
+use Rattle.bw_codec.specs.declared.leaf.Leaf.{Leaf}
+use Rattle.bw_codec.specs.declared.block.Place.{Place}
+use Rattle.bw_codec.specs.declared.block.Frame.{Frame}
+use Rattle.bw_page.specs.Leaves.{pages}
+use Rattle.bw_page.specs.Standing.{blocks_of, Stand}
+use Rattle.bw_buffer.specs.Filling.{Filling, frame_of}
+use Rattle.bw_log.specs.Contents as logs
+use Rattle.bw_log.specs.Places.{place_of, first_number}
+use Rattle.bw_log.specs.Segments.{following, next_of, AreFrom}
+use Rattle.bw_log.specs.Oldest.{oldest_count}
+use Rattle.bw_log.specs.declared.fault.LogFault.{LogFault}
+use Rattle.bw_log.specs.declared.fault.LogFault.TheVariants as log
+use Rattle.bw_care.specs.Cleaning.{old_pages}
+use Rattle.bw_care.specs.Moving as care
+use Rattle.bw_care.specs.declared.cleaning.Cleaned.{Cleaned}
+use Rattle.bw_care.specs.declared.fault.CleanFault.{CleanFault}
+use Rattle.bw_care.specs.declared.fault.CleanFault.TheVariants.{NothingOld, Log}
+use Rattle.bw_care.proofs.OldPages.{few_old}
+use Rattle.bw_store.specs.declared.fault.StoreFault.{StoreFault}
+use Rattle.bw_store.specs.declared.fault.StoreFault.TheVariants as store
+use Rattle.bw_store.specs.Faults.{FlushLeaves}
+use Rattle.bw_store.specs.Following.{Follows}
+use Rattle.bw_store.proofs.FollowMore.{follow_then}
+use Rattle.bw_store.specs.Taking.{MayFlush}
+use Rattle.bw_care.proofs.BoxesGrown.{same_roster}
+use Rattle.bw_codec.specs.Grammar.{frame_bytes, header_bytes}
+use Rattle.bw_device.specs.Holding.{appended}
+use Rattle.bw_log.specs.Appends.{with_last, begun, begun_with, header_of, roomy, wants_segment}
+use Rattle.bw_store.specs.History.{records}
+use Rattle.bw_store.specs.Kept.{Kept, IsSound}
+use Rattle.bw_store.specs.Settled.{IsSettled}
+use Rattle.bw_store.specs.Cleaning.{end_by, with_moved, fault_of_clean, MoveLeaves, CleanLeaves, HasBoxesBut}
+use Rattle.bw_store.proofs.FramesBehind.{end_is, first_ahead, none_above, placed_page, pages_counted}
+use Rattle.bw_store.proofs.MovedMore.{Adds, Moves, high, next_then, moved_sound, kept_shares, last_cut, all_cuts}
+
+-- where a cleaning begins
+pub record Begins (s : Kept) : Type 0 where
+  pub sound : IsSound s
+  pub done : IsSettled s
+  pub empty : s.making.blocks ≡ []
+  pub works : s.log.is_failed ≡ false
+  pub two : 2 ≤ length s.log.live
+
+-- the log after a cleaning, whatever its answer: so many frames, and some of the first are gone
+pub record Cleans (s : Kept) (new : logs.Contents) : Type 0 where
+  pub written : List Frame
+  pub adds : Adds s written
+  pub few : length written ≤ length s.log.pages
+  pub sound : logs.IsSound new
+  pub m : new.m ≡ s.log.m
+  pub f : new.f ≡ s.log.f
+  pub next : new.next ≡ following (s.before + (s.durable + length written))
+  pub stands : Stand s.filed.m (logs.counted new) s.filed.leaves
+  pub gone : ℕ
+  pub counts : logs.counted new ≡ drop gone (logs.counted s.log ++ written)
+
+-- from a log that counts these frames too
+adds_of : (s : Kept) (written : List Frame) (ps : List ℕ) (now : logs.Contents) → Begins s → logs.IsSound now → logs.counted now ≡ logs.counted s.log ++ written
+    → care.AreBases s.log (blocks_of written) ps → Adds s written
+adds_of s written ps now b sound counts bases =
+    let numbered : AreFrom (first_number (logs.counted s.log ++ written)) (logs.counted s.log ++ written) =
+    subst (λ (fs : List Frame). AreFrom (first_number fs) fs) counts sound.holds.numbered in
+    let some = b.done.stands.some in
+    let ahead = first_ahead (logs.counted s.log) written some in
+    let top = none_above now (logs.counted s.log ++ written) (first_number (logs.counted s.log ++ written)) sound counts numbered
+    (let len = length-append (logs.counted s.log) written in omega arith) in
+    record { sound = b.sound; empty = b.empty; done = b.done; bases = bases.bases; numbered = numbered; top = omega arith }
+
+few_pages : (s : Kept) (ps rest : List ℕ) (frames : ℕ) → old_pages s.log ≡ ps ++ rest → frames ≤ length ps → frames ≤ length s.log.pages
+few_pages s ps rest frames all few =
+    let many = few_old (Rattle.bw_care.specs.Cleaning.oldest_last s.log s.log.live) (logs.counted s.log) 1 (length s.log.pages) in
+    let len = ap (λ (l : List ℕ). length l) all in
+    let parts = length-append ps rest in
+    omega arith
+
+-- what a refused step leaves of the log
+record StillCounts (old new : logs.Contents) : Type 0 where
+  counts : logs.counted new ≡ logs.counted old
+  m : new.m ≡ old.m
+  f : new.f ≡ old.f
+
+same_log : (old new : logs.Contents) → new ≡ old → StillCounts old new
+same_log old new e = record {
+  counts = ap logs.counted e;
+  m = ap (λ (c : logs.Contents). c.m) e;
+  f = ap (λ (c : logs.Contents). c.f) e;
+}
+
+still_counts : (old new : logs.Contents) (fault : LogFault) → care.Refused fault old new → StillCounts old new
+still_counts old new log.NoMemory r = same_log old new r
+still_counts old new log.BadConfig r = absurd r
+still_counts old new log.NoSegment r = same_log old new r.0
+still_counts old new (log.Device lease) r = record { counts = r.counts; m = r.same.m; f = r.same.f }
+still_counts old new log.Failed r = absurd r
+still_counts old new log.Spent r = same_log old new r.0
+still_counts old new log.NoPage r = absurd r
+
+stands_as : (s : Kept) (new : logs.Contents) → Begins s → ((leaves : List Leaf) → Stand s.log.m (logs.counted s.log) leaves → Stand s.log.m (logs.counted new) leaves)
+    → Stand s.filed.m (logs.counted new) s.filed.leaves
+stands_as s new b stands =
+    let h = b.sound in
+    subst (λ (ls : List Leaf). Stand s.filed.m (logs.counted new) ls) (sym h.leaves)
+    (subst (λ (m : ℕ). Stand m (logs.counted new) (pages m s.start (records s.entries))) (sym h.pairs)
+    (stands (pages s.log.m s.start (records s.entries)) b.done.stands))
+
+pub refused_cleans : (s : Kept) (fault : LogFault) (new : logs.Contents) → Begins s → logs.IsSound new → care.Stopped s.log fault new
+    → ((leaves : List Leaf) → Stand s.log.m (logs.counted s.log) leaves → Stand s.log.m (logs.counted new) leaves) → Cleans s new
+refused_cleans s fault new b sound x stands =
+    let still = still_counts x.then_log new fault x.refused in
+    let counts = still.counts ∙ x.moved.counts in
+    let adds = adds_of s x.moved.written x.done new b sound counts x.moved.holds in
+    let many = x.moved.count in
+    let few = x.moved.few in
+    record {
+      written = x.moved.written;
+      adds = adds;
+      few = (let all = few_pages s x.done x.rest x.frames x.pages few in omega arith);
+      sound = sound;
+      m = still.m ∙ x.moved.m;
+      f = still.f ∙ x.moved.f;
+      next = sound.holds.follows ∙ ap next_of counts ∙ next_then s x.moved.written adds;
+      stands = stands_as s new b stands;
+      gone = 0;
+      counts = counts;
+    }
+
+pub cleaned_cleans : (s : Kept) (cleaned : Cleaned) (new : logs.Contents) → Begins s → logs.IsSound new → care.IsCleaned s.log cleaned new
+    → ((leaves : List Leaf) → Stand s.log.m (logs.counted s.log) leaves → Stand s.log.m (logs.counted new) leaves) → Cleans s new
+cleaned_cleans s cleaned new b sound x stands =
+    let adds = adds_of s x.moved.written (old_pages s.log) x.then_log b x.sound x.moved.counts x.moved.holds in
+    let many = x.moved.count in
+    let few = x.moved.few in
+    record {
+      written = x.moved.written;
+      adds = adds;
+      few = (let all = few_pages s (old_pages s.log) [] cleaned.frames (sym (append-nil (old_pages s.log))) few in omega arith);
+      sound = sound;
+      m = ap (λ (c : logs.Contents). c.m) x.given_up ∙ x.moved.m;
+      f = ap (λ (c : logs.Contents). c.f) x.given_up ∙ x.moved.f;
+      next = ap (λ (c : logs.Contents). c.next) x.given_up ∙ x.sound.holds.follows ∙ ap next_of x.moved.counts ∙ next_then s x.moved.written adds;
+      stands = stands_as s new b stands;
+      gone = oldest_count s.log.live;
+      counts = x.counts ∙ ap (drop (oldest_count s.log.live)) x.moved.counts;
+    }
+
+pub cleaned_told : (s : Kept) (cleaned : Cleaned) (new : logs.Contents) (b : Begins s) (sound : logs.IsSound new) (x : care.IsCleaned s.log cleaned new)
+    (stands : (leaves : List Leaf) → Stand s.log.m (logs.counted s.log) leaves → Stand s.log.m (logs.counted new) leaves)
+    → length (cleaned_cleans s cleaned new b sound x stands).written ≡ cleaned.frames
+unfolding cleaned_cleans
+cleaned_told s cleaned new b sound x stands = x.moved.count
+
+pub refused_counts : (s : Kept) (fault : LogFault) (new : logs.Contents) (b : Begins s) (sound : logs.IsSound new) (x : care.Stopped s.log fault new)
+    (stands : (leaves : List Leaf) → Stand s.log.m (logs.counted s.log) leaves → Stand s.log.m (logs.counted new) leaves)
+    → logs.counted new ≡ logs.counted s.log ++ (refused_cleans s fault new b sound x stands).written
+unfolding refused_cleans
+refused_counts s fault new b sound x stands = (still_counts x.then_log new fault x.refused).counts ∙ x.moved.counts
+
+-- a cleaning that is not refused at once
+pub stopped_of : (s : Kept) (cause : CleanFault) (new : logs.Contents) → Begins s → care.Refuses cause s.log new → (fault : LogFault) × care.Stopped s.log fault new
+stopped_of s NothingOld new b r = (let two = b.two in let few = r.1 in absurd (omega arith))
+stopped_of s (Log log.NoMemory) new b r = (log.NoMemory, r.2)
+stopped_of s (Log log.BadConfig) new b r = absurd r
+stopped_of s (Log log.NoSegment) new b r = (log.NoSegment, r.2)
+stopped_of s (Log (log.Device lease)) new b r = (log.Device lease, r.2)
+stopped_of s (Log log.Failed) new b r = (let works = b.works in let failed = r.2 in absurd cc)
+stopped_of s (Log log.Spent) new b r = (log.Spent, r.2)
+stopped_of s (Log log.NoPage) new b r = absurd r
+
+pub cleans_of : (s : Kept) (new : logs.Contents) (r : Result Cleaned CleanFault) → Begins s → logs.IsSound new
+    → IfOk r (λ cleaned. care.IsCleaned s.log cleaned new) → IfErr r (λ cause. care.Refuses cause s.log new)
+    → ((leaves : List Leaf) → Stand s.log.m (logs.counted s.log) leaves → Stand s.log.m (logs.counted new) leaves) → Cleans s new
+cleans_of s new (Ok cleaned) b sound ok err stands = cleaned_cleans s cleaned new b sound ok stands
+cleans_of s new (Err cause) b sound ok err stands =
+    (let x = stopped_of s cause new b err in refused_cleans s x.0 new b sound x.1 stands)
+
+-- ---- what the store does next
+
+-- the number of frames, by the numbers of the next
+pub end_before : (s : Kept) → IsSound s → end_by s.log.next ≡ s.before + s.durable + 1
+end_before s h = (let top = h.last in ap end_by h.next ∙ end_is (s.before + s.durable) (omega arith))
+
+pub end_after : (s : Kept) (new : logs.Contents) (c : Cleans s new) → end_by new.next ≡ s.before + s.durable + 1 + length c.written
+end_after s new c =
+    (let top = high s c.written c.adds in
+    ap end_by c.next ∙ end_is (s.before + (s.durable + length c.written)) (omega arith) ∙ omega arith)
+
+pub frames_are : (s : Kept) (new : logs.Contents) (c : Cleans s new) (frames : ℕ) → IsSound s → frames + end_by s.log.next ≡ end_by new.next
+    → frames ≡ length c.written
+frames_are s new c frames h e = (let one = end_before s h in let two = end_after s new c in omega arith)
+
+pub there : (s : Kept) (new : logs.Contents) (c : Cleans s new) (p : ℕ) → 1 ≤ p → p ≤ length s.newest → IsSound s → place_of p (logs.counted new) ≡ None → ⊥
+there s new c p from to h = (let count = h.grown.count in placed_page new s.filed.m s.filed.leaves p c.sound c.stands from (omega arith))
+
+pub few_newest : (s : Kept) → IsSound s → IsSettled s → length s.newest < 2 ^ 32
+few_newest s h done =
+    (let count = h.grown.count in
+    let stand : Stand s.log.m (logs.counted s.log) s.filed.leaves =
+    subst (λ (ls : List Leaf). Stand s.log.m (logs.counted s.log) ls)
+    (ap (λ m. pages m s.start (records s.entries)) (sym h.pairs) ∙ sym h.leaves) done.stands in
+    let many = pages_counted s.log s.filed.leaves h.log stand in
+    let few = h.log.holds.count in
+    omega arith)
+
+-- what was noted
+pub record Notes (s : Kept) (new : logs.Contents) (frames : ℕ) (cuts : List ℕ) (newest : List Place) (making : Filling) : Type 0 where
+  pub cleans : Cleans s new
+  pub frames_are : frames ≡ length cleans.written
+  pub cuts_are : cuts ≡ s.cuts ++ replicate frames (length s.entries)
+  pub count : length newest ≡ length s.newest
+  pub each : (p : ℕ) → 1 ≤ p → p ≤ length s.newest → slice_get newest (p - 1) ≡ place_of p (logs.counted new)
+  pub limit : making.limit ≡ s.making.limit
+  pub empty : making.blocks ≡ []
+  pub sealed : making.is_sealed ≡ new.is_failed
+  pub numbered : (new.next ≡ Some making.frame) ⊎ (new.next ≡ None)
+
+module _ (s : Kept) (b : Begins s) (new : logs.Contents) (frames : ℕ) (cuts : List ℕ) (newest : List Place) (making : Filling)
+    (x : Notes s new frames cuts newest making) where
+  abbrev noted : ℕ → Kept
+  noted floor = record s { floor = floor; cuts = cuts; durable = s.durable + frames; newest = newest; making = making; log = new }
+
+  pub noted_is : (floor : ℕ) → noted floor ≡ with_moved s frames floor newest making new
+  noted_is floor = ap (λ (cs : List ℕ). record s { floor = floor; cuts = cs; durable = s.durable + frames; newest = newest; making = making; log = new }) x.cuts_are
+
+  moves : (floor : ℕ) → floor ≤ s.durable + length x.cleans.written
+      → ((k : ℕ) → floor ≤ k → k ≤ s.durable + length x.cleans.written → 1 ≤ s.before + k
+      → Stand s.filed.m (Rattle.bw_store.specs.Growing.frames_upto (s.before + k) (logs.counted new))
+      (pages s.filed.m s.start (records (Rattle.bw_store.specs.History.upto (s.cuts ++ replicate (length x.cleans.written) (length s.entries)) s.entries k))))
+      → Moves s x.cleans.written x.cleans.adds floor newest making new
+  moves floor within upto_cuts =
+      let c = x.cleans in
+      let count = b.sound.grown.count in
+      record {
+        sound = c.sound;
+        m = c.m;
+        f = c.f;
+        next = c.next;
+        stands = c.stands;
+        upto_cuts = upto_cuts;
+        shares = kept_shares s c.written c.adds c.gone new c.counts;
+        within = within;
+        count = x.count ∙ count;
+        each = λ p from to. x.each p from (omega arith);
+        limit = x.limit;
+        empty = x.empty;
+        sealed = x.sealed;
+        numbered = x.numbered;
+      }
+
+  pub cleaned_sound : IsSound (noted (s.durable + frames))
+  cleaned_sound =
+      let c = x.cleans in
+      let same = x.frames_are in
+      subst IsSound (sym (noted_is (s.durable + frames) ∙ ap (λ k. with_moved s k (s.durable + k) newest making new) same))
+      (moved_sound s c.written c.adds (s.durable + length c.written) newest making new
+      (moves (s.durable + length c.written) (omega arith) (last_cut s c.written c.adds c.gone new c.counts c.stands)))
+
+  pub refused_sound : logs.counted new ≡ logs.counted s.log ++ x.cleans.written → IsSound (noted s.floor)
+  refused_sound counts =
+      let c = x.cleans in
+      let same = x.frames_are in
+      let low = b.sound.floor in
+      subst IsSound (sym (noted_is s.floor ∙ ap (λ k. with_moved s k s.floor newest making new) same))
+      (moved_sound s c.written c.adds s.floor newest making new (moves s.floor (omega arith) (all_cuts s c.written c.adds new counts)))
+
+-- a store with these parts is the one with so many frames moved
+pub noted_are : (s : Kept) (frames told : ℕ) (cuts : List ℕ) (newest : List Place) (making : Filling) (new : logs.Contents) → frames ≡ told
+    → cuts ≡ s.cuts ++ replicate frames (length s.entries)
+    → record s { floor = s.durable + frames; cuts = cuts; durable = s.durable + frames; newest = newest; making = making; log = new }
+    ≡ with_moved s told (s.durable + told) newest making new
+noted_are s frames told cuts newest making new same is =
+    ap (λ (cs : List ℕ). record s { floor = s.durable + frames; cuts = cs; durable = s.durable + frames; newest = newest; making = making; log = new }) is
+    ∙ ap (λ k. with_moved s k (s.durable + k) newest making new) same
+
+pub numbered_of : (o next : Option ℕ) (frame : ℕ) → o ≡ next → IfSome o (λ n. frame ≡ n) → (next ≡ Some frame) ⊎ (next ≡ None)
+numbered_of None next frame e h = inr (sym e)
+numbered_of (Some n) next frame e h = inl (sym e ∙ ap (λ (k : ℕ). Some k) (sym h))
+
+pub first_numbered : (s : Kept) (new : logs.Contents) (c : Cleans s new) (o : Option ℕ) → o ≡ new.next → IfSome o (λ n. 1 ≤ n)
+first_numbered s new c None e = tt
+first_numbered s new c (Some n) e = (let two = end_after s new c in let same = ap end_by e in omega arith)
+
+-- ---- a flush before it
+
+long_as : (change : Rattle.bw_device.specs.Holding.Holding → Rattle.bw_device.specs.Holding.Holding) (hs : List Rattle.bw_device.specs.Holding.Holding)
+    → length (with_last change hs) ≡ length hs
+long_as change [] = refl
+long_as change (h ∷ []) = refl
+long_as change (h ∷ k ∷ hs) = ap suc (long_as change (k ∷ hs))
+
+begun_more : (c : logs.Contents) (ss : List Rattle.bw_device.specs.Holding.Holding) → length c.live ≤ length (begun_with c ss).live
+begun_more c [] = omega arith
+begun_more c (h ∷ hs) = (let len = length-append c.live (appended h (header_bytes (header_of c)) ∷ []) in omega arith)
+
+roomy_by : (c : logs.Contents) (wants : Bool) → length c.live ≤ length (if wants then begun c else c).live
+roomy_by c true = begun_more c c.spares
+roomy_by c false = omega arith
+
+pub live_stay : (old new : Kept) (o : Option ℕ) → FlushLeaves old (Ok o) new → length old.log.live ≤ length new.log.live
+live_stay old new None left = (let same = ap (λ (s : Kept). length s.log.live) left.0 in omega arith)
+live_stay old new (Some n) left =
+    let same = ap (λ (s : Kept). length s.log.live) left.is in
+    let live = ap (λ (hs : List Rattle.bw_device.specs.Holding.Holding). length hs) left.added.live in
+    let len = long_as (λ h. appended h (frame_bytes (frame_of old.making))) (roomy old.log (length (frame_bytes (frame_of old.making)))).live in
+    let more = roomy_by old.log (wants_segment old.log (length (frame_bytes (frame_of old.making)))) in
+    omega arith
+
+-- ---- what no cleaning takes back
+
+moved_follows : (s : Kept) (frames floor : ℕ) (newest : List Place) (making : Filling) (log : logs.Contents) (new : Kept) → s.floor ≤ floor
+    → new ≡ with_moved s frames floor newest making log → Follows s new
+moved_follows s frames floor newest making log new low is = record {
+  rings = ap (λ (k : Kept). k.rings) is;
+  start = ap (λ (k : Kept). k.start) is;
+  before = ap (λ (k : Kept). k.before) is;
+  edge = ap (λ (k : Kept). k.edge) is;
+  entries_more = [];
+  history = ap (λ (k : Kept). k.entries) is ∙ sym (append-nil s.entries);
+  cuts_more = replicate frames (length s.entries);
+  cuts = ap (λ (k : Kept). k.cuts) is;
+  appended = (let e = ap (λ (k : Kept). k.durable) is in omega arith);
+  floor = (let e = ap (λ (k : Kept). k.floor) is in omega arith);
+}
+
+pub move_follows : (s new : Kept) (r : Result Cleaned StoreFault) → s.floor ≤ s.durable → MoveLeaves s r new → Follows s new
+move_follows s new (Ok cleaned) low left =
+    moved_follows s cleaned.frames (s.durable + cleaned.frames) new.newest new.making new.log new (omega arith) left.is
+move_follows s new (Err fault) low left = moved_follows s left.2.frames s.floor new.newest new.making new.log new (omega arith) left.2.is
+
+refused_roster : (old new : logs.Contents) (fault : LogFault) → care.Refused fault old new → logs.roster new ≡ logs.roster old
+refused_roster old new log.NoMemory r = ap logs.roster r
+refused_roster old new log.BadConfig r = absurd r
+refused_roster old new log.NoSegment r = ap logs.roster r.0
+refused_roster old new (log.Device lease) r = r.same.leases
+refused_roster old new log.Failed r = absurd r
+refused_roster old new log.Spent r = ap logs.roster r.0
+refused_roster old new log.NoPage r = absurd r
+
+stopped_roster : (old new : logs.Contents) (fault : LogFault) → care.Stopped old fault new → logs.roster new ≡ logs.roster old
+stopped_roster old new fault x = refused_roster x.then_log new fault x.refused ∙ same_roster old x.then_log x.moved.boxes_grew
+
+cause_roster : (old new : logs.Contents) (cause : CleanFault) → care.Refuses cause old new → logs.roster new ≡ logs.roster old
+cause_roster old new NothingOld r = ap logs.roster r.0
+cause_roster old new (Log log.NoMemory) r = stopped_roster old new log.NoMemory r.2
+cause_roster old new (Log log.BadConfig) r = absurd r
+cause_roster old new (Log log.NoSegment) r = stopped_roster old new log.NoSegment r.2
+cause_roster old new (Log (log.Device lease)) r = stopped_roster old new (log.Device lease) r.2
+cause_roster old new (Log log.Failed) r = ap logs.roster r.0
+cause_roster old new (Log log.Spent) r = stopped_roster old new log.Spent r.2
+cause_roster old new (Log log.NoPage) r = absurd r
+
+pub move_boxes : (old s new : Kept) (r : Result Cleaned StoreFault) → logs.roster s.log ≡ logs.roster old.log → MoveLeaves s r new → HasBoxesBut old r new
+move_boxes old s new (Ok cleaned) same left = left.log.leases ∙ ap (drop 1) same
+move_boxes old s new (Err fault) same left = cause_roster s.log new.log left.0 left.2.log ∙ same
+
+-- the whole call
+pub clean_leaves : (old s new : Kept) (r : Result Cleaned StoreFault) → 2 ≤ length old.log.live → MayFlush old s → MoveLeaves s r new → CleanLeaves old r new
+clean_leaves old s new (Ok cleaned) two may left = (s, may, left)
+clean_leaves old s new (Err fault) two may left = inr (two, inr (s, may, inr left))
+
+pub follows_via : (old flushed begun new : Kept) → Follows old flushed → begun ≡ flushed → Follows begun new → Follows old new
+follows_via old flushed begun new first same rest = follow_then old flushed new first (subst (λ (s : Kept). Follows s new) same rest)
+
+pub reserve_leaves : (old s new : Kept) → 2 ≤ length old.log.live → MayFlush old s → new ≡ s → CleanLeaves old (Err store.NoMemory) new
+reserve_leaves old s new two may same = inr (two, inr (s, may, inl (refl, same)))
+
+nothing_by : (s new : Kept) (cause : CleanFault) → 2 ≤ length s.log.live → store.NothingOld ≡ fault_of_clean cause → care.Refuses cause s.log new.log → ⊥
+nothing_by s new NothingOld two e r = (let few = r.1 in omega arith)
+nothing_by s new (Log log.NoMemory) two e r = cc
+nothing_by s new (Log log.BadConfig) two e r = cc
+nothing_by s new (Log log.NoSegment) two e r = cc
+nothing_by s new (Log (log.Device lease)) two e r = cc
+nothing_by s new (Log log.Failed) two e r = cc
+nothing_by s new (Log log.Spent) two e r = cc
+nothing_by s new (Log log.NoPage) two e r = cc
+
+pub not_nothing : (s new : Kept) (r : Result Cleaned StoreFault) → 2 ≤ length s.log.live → MoveLeaves s r new → r ≡ Err store.NothingOld → ⊥
+not_nothing s new (Ok cleaned) two left e = cc
+not_nothing s new (Err fault) two left e = (let same : fault ≡ store.NothingOld = cc in nothing_by s new left.0 two (sym same ∙ left.1) left.2.log)

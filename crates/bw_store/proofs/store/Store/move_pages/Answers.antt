@@ -1,0 +1,105 @@
+use Rattle.std.proofs.Common.{◌≡◌, ◌++◌, length, replicate, ap, ◌∙◌, arith}
+use Rattle.bw_store.specs.Cleaning.{end_by}
+use Rattle.bw_store.specs.Views.{kept_by}
+use Rattle.bw_store.proofs.CleanedMore.{Begins, cleans_of, cleaned_cleans, cleaned_told, refused_cleans, refused_counts, stopped_of, end_before, end_after, frames_are}
+use Rattle.bw_store.proofs.CleanedMore.{there, few_newest, numbered_of, noted_are, cleaned_sound, refused_sound}
+use Rattle.bw_store.proofs.store.Store.move_pages.Goals as goal
+
+pub frames_between-frames-requires-clause-after : goal.frames_between-frames-requires-clause-after
+frames_between-frames-requires-clause-after g c =
+    let s = kept_by c.args.self.now (λ z. (goal.Segment-dyn g z).holding z.1) in
+    let b : Begins s = record { sound = c.requires.sound; done = c.requires.settled; empty = c.requires.empty; works = c.requires.works; two = c.requires.two } in
+    let e = c.clean-result.ensures in
+    let x = cleans_of s _ c.clean-result.result b e.sound e.cleaned e.refused e.stands in
+    let one = end_before s c.requires.sound in
+    let two = end_after s _ x in
+    let first = ap end_by c.next_frame-first.ensures in
+    let next = ap end_by c.next_frame.ensures in
+    omega arith
+
+pub push_many-requires : goal.push_many-requires
+push_many-requires g c =
+    let s = kept_by c.args.self.now (λ z. (goal.Segment-dyn g z).holding z.1) in
+    let b : Begins s = record { sound = c.requires.sound; done = c.requires.settled; empty = c.requires.empty; works = c.requires.works; two = c.requires.two } in
+    let e = c.clean-result.ensures in
+    let x = cleans_of s _ c.clean-result.result b e.sound e.cleaned e.refused e.stands in
+    let first = ap end_by c.next_frame-first.ensures in
+    let next = ap end_by c.next_frame.ensures in
+    let added = c.frames_between-frames.ensures in
+    let many = frames_are s _ x c.frames_between-frames.result c.requires.sound (omega arith) in
+    let few = x.few in
+    let room = c.requires.room in
+    omega arith
+
+pub renew-requires-clause-count : goal.renew-requires-clause-count
+renew-requires-clause-count g c = few_newest (kept_by c.args.self.now (λ z. (goal.Segment-dyn g z).holding z.1)) c.requires.sound c.requires.settled
+
+pub renew-requires-clause-there : goal.renew-requires-clause-there
+renew-requires-clause-there g c =
+    let s = kept_by c.args.self.now (λ z. (goal.Segment-dyn g z).holding z.1) in
+    let b : Begins s = record { sound = c.requires.sound; done = c.requires.settled; empty = c.requires.empty; works = c.requires.works; two = c.requires.two } in
+    let e = c.clean-result.ensures in
+    let x = cleans_of s _ c.clean-result.result b e.sound e.cleaned e.refused e.stands in
+    λ p from to. there s _ x p from to c.requires.sound
+
+pub returns-in-Ok-clause-sound : goal.returns-in-Ok-clause-sound
+returns-in-Ok-clause-sound g c =
+    let s = kept_by c.args.self.now (λ z. (goal.Segment-dyn g z).holding z.1) in
+    let b : Begins s = record { sound = c.requires.sound; done = c.requires.settled; empty = c.requires.empty; works = c.requires.works; two = c.requires.two } in
+    let e = c.clean-result.ensures in
+    let x = cleaned_cleans s c.in-Ok.cleaned _ b e.sound c.in-Ok.ensures.cleaned e.stands in
+    let first = ap end_by c.next_frame-first.ensures in
+    let next = ap end_by c.next_frame.ensures in
+    let added = c.frames_between-frames.ensures in
+    cleaned_sound s b _ c.frames_between-frames.result _ _ _ (record {
+      cleans = x;
+      frames_are = frames_are s _ x c.frames_between-frames.result c.requires.sound (omega arith);
+      cuts_are = c.push_many.ensures ∙ ap (λ end. s.cuts ++ replicate c.frames_between-frames.result end) (ap length c.as_slice.ensures.value);
+      count = c.renew.ensures.count;
+      each = c.renew.ensures.each;
+      limit = c.begin_at.ensures.limit;
+      empty = c.begin_at.ensures.empty;
+      sealed = c.begin_at.ensures.sealed ∙ c.is_failed.ensures;
+      numbered = numbered_of c.next_frame-2.result _ _ c.next_frame-2.ensures c.begin_at.ensures.number;
+    })
+
+pub returns-in-Ok-clause-leaves : goal.returns-in-Ok-clause-leaves
+returns-in-Ok-clause-leaves g c =
+    let s = kept_by c.args.self.now (λ z. (goal.Segment-dyn g z).holding z.1) in
+    let b : Begins s = record { sound = c.requires.sound; done = c.requires.settled; empty = c.requires.empty; works = c.requires.works; two = c.requires.two } in
+    let e = c.clean-result.ensures in
+    let x = cleaned_cleans s c.in-Ok.cleaned _ b e.sound c.in-Ok.ensures.cleaned e.stands in
+    let first = ap end_by c.next_frame-first.ensures in
+    let next = ap end_by c.next_frame.ensures in
+    let added = c.frames_between-frames.ensures in
+    let many = frames_are s _ x c.frames_between-frames.result c.requires.sound (omega arith) in
+    let told = cleaned_told s c.in-Ok.cleaned _ b e.sound c.in-Ok.ensures.cleaned e.stands in
+    let same : c.frames_between-frames.result ≡ c.in-Ok.cleaned.frames = omega arith in
+    record {
+      is = noted_are s c.frames_between-frames.result c.in-Ok.cleaned.frames _ _ _ _ same
+          (c.push_many.ensures ∙ ap (λ end. s.cuts ++ replicate c.frames_between-frames.result end) (ap length c.as_slice.ensures.value));
+      empty = c.begin_at.ensures.empty;
+      log = c.in-Ok.ensures.cleaned;
+    }
+
+pub returns-in-Err-clause-sound : goal.returns-in-Err-clause-sound
+returns-in-Err-clause-sound g c =
+    let s = kept_by c.args.self.now (λ z. (goal.Segment-dyn g z).holding z.1) in
+    let b : Begins s = record { sound = c.requires.sound; done = c.requires.settled; empty = c.requires.empty; works = c.requires.works; two = c.requires.two } in
+    let e = c.clean-result.ensures in
+    let stop = stopped_of s c.in-Err.fault _ b c.in-Err.ensures.refused in
+    let x = refused_cleans s stop.0 _ b e.sound stop.1 e.stands in
+    let first = ap end_by c.next_frame-first.ensures in
+    let next = ap end_by c.next_frame.ensures in
+    let added = c.frames_between-frames.ensures in
+    refused_sound s b _ c.frames_between-frames.result _ _ _ (record {
+      cleans = x;
+      frames_are = frames_are s _ x c.frames_between-frames.result c.requires.sound (omega arith);
+      cuts_are = c.push_many.ensures ∙ ap (λ end. s.cuts ++ replicate c.frames_between-frames.result end) (ap length c.as_slice.ensures.value);
+      count = c.renew.ensures.count;
+      each = c.renew.ensures.each;
+      limit = c.begin_at.ensures.limit;
+      empty = c.begin_at.ensures.empty;
+      sealed = c.begin_at.ensures.sealed ∙ c.is_failed.ensures;
+      numbered = numbered_of c.next_frame-2.result _ _ c.next_frame-2.ensures c.begin_at.ensures.number;
+    }) (refused_counts s stop.0 _ b e.sound stop.1 e.stands)
