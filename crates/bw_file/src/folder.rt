@@ -1,0 +1,239 @@
+// A folder with a file for each segment.
+ghost use Rattle.std.specs.Prelude.{◌≡◌, ◌≢◌, ◌≤◌, ◌<◌, ◌⊎◌, ◌↔◌, [], length, All, IfOk, IfErr, IsErrAnd};
+ghost use Rattle.std.specs.List.Sorted.{IsStrictlyIncreasing};
+ghost use Rattle.bw_device.specs.Leases.{number_of};
+ghost use Rattle.bw_device.specs.Memory.{fresh_holding};
+ghost use Rattle.bw_device.specs.declared.leases.TheConstants.{MAX_LEASES};
+ghost use Rattle.bw_device.specs.declared.memory.TheConstants.{MAX_CAPACITY};
+ghost use Rattle.bw_file.specs.FileHolding.{file_holding, IsOpened};
+ghost use Rattle.bw_file.specs.declared.refusals.FolderFault.TheVariants.{BadConfig};
+
+use crate::files::{SegmentFile, bytes_of, copy_of, is_capacity};
+use crate::names::{leases_in, lock_path, segment_path};
+use crate::refusals::{FolderFault, NotOpened};
+use crate::segment::{FileSegment, Shared};
+use bw_device::{Lease, MemSegment};
+use std::alloc::Global;
+use std::fs::{self, File, OpenOptions};
+use std::io::{self, ErrorKind};
+use std::rt::Files;
+use std::sync::Arc;
+
+// So many bytes at the end of a file are written once more when it is opened: no append is longer,
+// a header or the longest frame.
+const LAST: usize = 65_560;
+
+/// A folder with a file for each segment, named by its lease, which nobody else has open.
+///
+/// It is open as long as it or one of its segments stands. A drop changes no file.
+#[derive(Debug, Drop)]
+pub struct Folder<F = File> {
+    path: String,
+    /// By which new names come to stand.
+    itself: F,
+    /// Shared with every segment of the folder.
+    shared: Arc<Shared<F>>,
+}
+
+// An open file and its bytes, with what the folder shares.
+type Settled<F> = (F, Vec<u8>, Arc<Shared<F>>);
+
+// Makes the folder where it is missing, and waits until its name stands in its parent.
+fn make_folder<R: AllocGlobal + Files<File = F>, F: SegmentFile>(
+    rt: &R,
+    path: &str,
+) -> Result<(), FolderFault> {
+    match fs::create_dir(rt, path) {
+        Ok(()) => {}
+        Err(error) if error.kind() == ErrorKind::AlreadyExists => {}
+        Err(error) => return Err(FolderFault::from(error)),
+    }
+    let parent = format!(in rt.alloc(); "{path}/..")?;
+    fs::open(rt, parent.as_str())?.sync_all()?;
+    Ok(())
+}
+
+// Brings the end of a file and its length to the disk, which have been read.
+//
+// After a sync that failed in an earlier life, what is read may be in the system's memory alone, and
+// the next sync may say Ok all the same: so the end is written again first.
+fn settle<F: SegmentFile>(file: &F, bytes: &[u8]) -> io::Result<()> {
+    let from = bytes.len().saturating_sub(LAST);
+    file.write_all_at(&bytes[from..], from as u64)?;
+    file.sync_all()
+}
+
+// Empties a file, and waits until that stands.
+fn cut_to_nothing<F: SegmentFile>(file: &F) -> io::Result<()> {
+    file.set_len(0)?;
+    file.sync_all()
+}
+
+impl<F: SegmentFile> Folder<F> {
+    /// The folder of this path, which is made where it is missing; the folder that it lies in has to
+    /// be there.
+    ///
+    /// `InUse` where another process has it open, or a `Folder`, a segment or a `FolderReader` of
+    /// this one.
+    pub fn open<R: AllocGlobal + Files<File = F>>(
+        rt: &R,
+        path: &str,
+    ) -> Result<Folder<F>, FolderFault> {
+        make_folder(rt, path)?;
+        let itself = fs::open(rt, path)?;
+        let name = lock_path(rt.alloc(), path)?;
+        let lock = OpenOptions::new()
+            .write(true)
+            .create(true)
+            .open(rt, name.as_str())?;
+        lock.lock_alone()?;
+        let path = String::from_str(rt.alloc(), path)?;
+        let Ok(shared) = Arc::new(rt.alloc(), Shared::new(lock)) else {
+            return Err(FolderFault::NoMemory);
+        };
+        Ok(Folder {
+            path,
+            itself,
+            shared,
+        })
+    }
+
+    /// The numbers of the leases that have a file in the folder, be it empty, ascending.
+    pub fn leases<R: AllocGlobal + Files<File = F> + Clone + Drop>(
+        &self,
+        rt: &R,
+    ) -> Result<Vec<u32>, FolderFault>
+        ensures below { IfOk result (λ leases. All (λ lease. lease < MAX_LEASES) leases.items) }
+        ensures ascending { IfOk result (λ leases. IsStrictlyIncreasing leases.items) }
+    {
+        leases_in(rt, self.path.as_str())
+    }
+
+    // The file of this lease, made where it is missing, on which no segment stands.
+    fn taken<R: AllocGlobal + Files<File = F>>(&self, rt: &R, lease: u32) -> Result<F, FolderFault>
+        ensures cause { IfErr result (λ cause. cause ≢ BadConfig) }
+    {
+        let name = segment_path(rt.alloc(), self.path.as_str(), lease)?;
+        let file = OpenOptions::new()
+            .read(true)
+            .write(true)
+            .create(true)
+            .open(rt, name.as_str())?;
+        file.lock_alone()?;
+        self.itself.sync_all()?;
+        Ok(file)
+    }
+
+    // The file of this lease and its bytes, which stand on the disk before anything follows them.
+    fn settled<R: AllocGlobal + Files<File = F>>(
+        &self,
+        rt: &R,
+        lease: u32,
+    ) -> Result<Settled<F>, FolderFault>
+        ensures within { IfOk result (λ settled. length settled.1.items ≤ MAX_CAPACITY) }
+        ensures cause { IfErr result (λ cause. cause ≢ BadConfig) }
+    {
+        let file = self.taken(rt, lease)?;
+        let bytes = bytes_of(rt.alloc(), &file)?;
+        settle(&file, &bytes)?;
+        Ok((file, bytes, self.shared.clone()?))
+    }
+
+    /// The segment of this lease, with the bytes of its file, which is made where it is missing.
+    ///
+    /// Its capacity is the greater of this one, in bytes, and the file's length. For a moment it
+    /// takes memory for both. `InUse` where a segment stands on the file, `TooLong` where the file
+    /// is longer than any segment may be; the file's bytes stay as they are in each refusal.
+    pub fn segment<R: AllocGlobal + Files<File = F>>(
+        &self,
+        rt: &R,
+        lease: Lease,
+        capacity: u64,
+    ) -> Result<FileSegment<F>, NotOpened>
+        ensures opened { IfOk result (λ s. IsOpened (number_of lease) capacity (file_holding s)) }
+
+        ensures bad_config { IsErrAnd result (λ e. e.cause ≡ BadConfig) ↔
+            ((capacity ≡ 0) ⊎ (MAX_CAPACITY < capacity)) }
+        ensures lease { IfErr result (λ e. e.lease ≡ lease) }
+    {
+        if !is_capacity(capacity) {
+            return Err(NotOpened {
+                lease,
+                cause: FolderFault::BadConfig,
+            });
+        }
+        let (file, bytes, shared) = match self.settled(rt, lease.number()) {
+            Ok(settled) => settled,
+            Err(cause) => return Err(NotOpened { lease, cause }),
+        };
+        let copy = copy_of(rt.alloc(), lease, capacity, &bytes)?;
+        Ok(FileSegment::over(copy, file, shared))
+    }
+
+    // The file of this lease, which is empty and stands so, with what the folder shares.
+    fn emptied<R: AllocGlobal + Files<File = F>>(
+        &self,
+        rt: &R,
+        lease: u32,
+    ) -> Result<(F, Arc<Shared<F>>), FolderFault>
+        ensures cause { IfErr result (λ cause. cause ≢ BadConfig) }
+    {
+        let file = self.taken(rt, lease)?;
+        cut_to_nothing(&file)?;
+        Ok((file, self.shared.clone()?))
+    }
+
+    /// A new segment of this lease and capacity, in bytes, over an empty file: what the file held is
+    /// gone, maybe also where this is refused for another reason than `BadConfig` and `InUse`.
+    ///
+    /// `InUse` where a segment stands on the file.
+    pub fn spare<R: AllocGlobal + Files<File = F>>(
+        &self,
+        rt: &R,
+        lease: Lease,
+        capacity: u64,
+    ) -> Result<FileSegment<F>, NotOpened>
+        ensures made { IfOk result
+            (λ s. file_holding s ≡ fresh_holding (number_of lease) capacity []) }
+
+        ensures bad_config { IsErrAnd result (λ e. e.cause ≡ BadConfig) ↔
+            ((capacity ≡ 0) ⊎ (MAX_CAPACITY < capacity)) }
+        ensures lease { IfErr result (λ e. e.lease ≡ lease) }
+    {
+        if !is_capacity(capacity) {
+            return Err(NotOpened {
+                lease,
+                cause: FolderFault::BadConfig,
+            });
+        }
+        let (file, shared) = match self.emptied(rt, lease.number()) {
+            Ok(emptied) => emptied,
+            Err(cause) => return Err(NotOpened { lease, cause }),
+        };
+        match MemSegment::new(rt.alloc(), lease, capacity) {
+            Ok(copy) => Ok(FileSegment::over(copy, file, shared)),
+            Err(refused) => Err(NotOpened {
+                lease: refused.lease,
+                cause: FolderFault::NoMemory,
+            }),
+        }
+    }
+
+    /// Empties the file of a lease whose segment was given up and dropped, and waits until that
+    /// stands. `InUse` where a segment stands on it.
+    ///
+    /// It is done at once, before the next segment is given up: a stop must never show a later
+    /// segment gone and an earlier one still there. Where it fails, no other file may be emptied
+    /// before this one is.
+    pub fn empty<R: AllocGlobal + Files<File = F>>(
+        &self,
+        rt: &R,
+        lease: u32,
+    ) -> Result<(), FolderFault> {
+        let name = segment_path(rt.alloc(), self.path.as_str(), lease)?;
+        let file = OpenOptions::new().write(true).open(rt, name.as_str())?;
+        file.lock_alone()?;
+        cut_to_nothing(&file)?;
+        Ok(())
+    }
+}

@@ -1,0 +1,77 @@
+// The names of the files in a folder, and which leases have one.
+ghost use Rattle.std.specs.Prelude.{◌≡◌, ◌≢◌, ◌<◌, All, IfOk, IfSome, IfErr};
+ghost use Rattle.bw_device.specs.declared.leases.TheConstants.{MAX_LEASES};
+ghost use Rattle.std.specs.List.Sorted.{IsStrictlyIncreasing};
+
+use crate::refusals::FolderFault;
+use bw_device::MAX_LEASES;
+use std::alloc::{AllocError, Global};
+use std::fs;
+use std::io::ErrorKind;
+use std::rt::Files;
+
+/// The path of the file by which a folder is open once.
+pub(crate) fn lock_path(alloc: Global, folder: &str) -> Result<String, AllocError> {
+    format!(in alloc; "{folder}/lock")
+}
+
+/// The path of the file of a lease.
+pub(crate) fn segment_path(alloc: Global, folder: &str, lease: u32) -> Result<String, AllocError> {
+    format!(in alloc; "{folder}/segment-{lease:04}.bw")
+}
+
+// The number of the lease whose file has this name. A name that no lease's file has is not ours.
+fn lease_of(name: &str) -> Option<u32>
+    ensures { IfSome result (λ lease. lease < MAX_LEASES) }
+{
+    let number = name.strip_prefix("segment-")?.strip_suffix(".bw")?;
+    if number.len() != 4 || number.starts_with('+') {
+        return None;
+    }
+    let number = number.parse::<u32>().ok()?;
+    if number < MAX_LEASES {
+        Some(number)
+    } else {
+        None
+    }
+}
+
+// Says of each lease whether it has a file in the folder.
+fn mark_leases<R: AllocGlobal + Files + Clone + Drop>(
+    rt: &R,
+    folder: &str,
+    has_file: &mut [bool; 4096],
+) -> Result<(), FolderFault> {
+    for entry in fs::read_dir(rt, folder)? {
+        match entry {
+            Ok(entry) => {
+                if let Some(lease) = lease_of(entry.file_name()) {
+                    has_file[lease as usize] = true;
+                }
+            }
+            // A name that is no text is not ours.
+            Err(error) if error.kind() == ErrorKind::InvalidFilename => {}
+            Err(error) => return Err(FolderFault::from(error)),
+        }
+    }
+    Ok(())
+}
+
+/// The numbers of the leases that have a file in the folder, ascending.
+pub(crate) fn leases_in<R: AllocGlobal + Files + Clone + Drop>(
+    rt: &R,
+    folder: &str,
+) -> Result<Vec<u32>, FolderFault>
+    ensures below { IfOk result (λ leases. All (λ lease. lease < MAX_LEASES) leases.items) }
+    ensures ascending { IfOk result (λ leases. IsStrictlyIncreasing leases.items) }
+{
+    let mut has_file = [false; 4096];
+    mark_leases(rt, folder, &mut has_file)?;
+    let mut leases = Vec::new(rt.alloc());
+    for lease in 0..MAX_LEASES {
+        if has_file[lease as usize] {
+            leases.push(lease)?;
+        }
+    }
+    Ok(leases)
+}

@@ -1,0 +1,112 @@
+// A folder that is only looked at.
+ghost use Rattle.std.specs.Prelude.{◌≡◌, ◌≢◌, ◌≤◌, ◌<◌, ◌⊎◌, ◌↔◌, length, All, IfOk, IfErr, IsErrAnd};
+ghost use Rattle.std.specs.List.Sorted.{IsStrictlyIncreasing};
+ghost use Rattle.bw_device.specs.Leases.{number_of};
+ghost use Rattle.bw_device.specs.Memory.{memory_holding};
+ghost use Rattle.bw_device.specs.declared.leases.TheConstants.{MAX_LEASES};
+ghost use Rattle.bw_device.specs.declared.memory.TheConstants.{MAX_CAPACITY};
+ghost use Rattle.bw_file.specs.FileHolding.{IsOpened};
+ghost use Rattle.bw_file.specs.declared.refusals.FolderFault.TheVariants.{BadConfig};
+
+use crate::files::{SegmentFile, bytes_of, copy_of, is_capacity};
+use crate::names::{leases_in, lock_path, segment_path};
+use crate::refusals::{FolderFault, NotOpened};
+use bw_device::{Lease, MemSegment};
+use std::fs::{self, File};
+use std::io::ErrorKind;
+use std::rt::Files;
+
+/// A folder that is open for reading: no file of it is made or written, and no `Folder` is open on
+/// it at the same time.
+#[derive(Debug, Drop)]
+pub struct FolderReader<F = File> {
+    path: String,
+    /// Held beside other readers. A folder that was never opened to be written has no such file.
+    lock: Option<F>,
+}
+
+// The lock of a folder beside other readers, where it has the file for it.
+fn reading_lock<R: AllocGlobal + Files<File = F>, F: SegmentFile>(
+    rt: &R,
+    path: &str,
+) -> Result<Option<F>, FolderFault> {
+    let name = lock_path(rt.alloc(), path)?;
+    match fs::open(rt, name.as_str()) {
+        Ok(lock) => {
+            lock.lock_to_read()?;
+            Ok(Some(lock))
+        }
+        Err(error) if error.kind() == ErrorKind::NotFound => Ok(None),
+        Err(error) => Err(FolderFault::from(error)),
+    }
+}
+
+impl<F: SegmentFile> FolderReader<F> {
+    /// The folder of this path, which has to be there.
+    ///
+    /// `InUse` where a `Folder` or a segment of it stands, in this process or another. Other readers
+    /// are no hindrance.
+    pub fn open<R: AllocGlobal + Files<File = F>>(
+        rt: &R,
+        path: &str,
+    ) -> Result<FolderReader<F>, FolderFault> {
+        fs::metadata(rt, path)?;
+        let lock = reading_lock(rt, path)?;
+        let path = String::from_str(rt.alloc(), path)?;
+        Ok(FolderReader { path, lock })
+    }
+
+    /// The numbers of the leases that have a file in the folder, be it empty, ascending.
+    pub fn leases<R: AllocGlobal + Files<File = F> + Clone + Drop>(
+        &self,
+        rt: &R,
+    ) -> Result<Vec<u32>, FolderFault>
+        ensures below { IfOk result (λ leases. All (λ lease. lease < MAX_LEASES) leases.items) }
+        ensures ascending { IfOk result (λ leases. IsStrictlyIncreasing leases.items) }
+    {
+        leases_in(rt, self.path.as_str())
+    }
+
+    // The bytes of the file of this lease.
+    fn bytes<R: AllocGlobal + Files<File = F>>(
+        &self,
+        rt: &R,
+        lease: u32,
+    ) -> Result<Vec<u8>, FolderFault>
+        ensures within { IfOk result (λ bytes. length bytes.items ≤ MAX_CAPACITY) }
+        ensures cause { IfErr result (λ cause. cause ≢ BadConfig) }
+    {
+        let name = segment_path(rt.alloc(), self.path.as_str(), lease)?;
+        let file = fs::open(rt, name.as_str())?;
+        bytes_of(rt.alloc(), &file)
+    }
+
+    /// A segment in memory with the bytes of the file of this lease, which has to be there.
+    ///
+    /// Its capacity is the greater of this one, in bytes, and the file's length. What is appended to
+    /// it stands in memory alone. `TooLong` where the file is longer than any segment may be.
+    pub fn copy<R: AllocGlobal + Files<File = F>>(
+        &self,
+        rt: &R,
+        lease: Lease,
+        capacity: u64,
+    ) -> Result<MemSegment, NotOpened>
+        ensures opened { IfOk result
+            (λ s. IsOpened (number_of lease) capacity (memory_holding s)) }
+
+        ensures bad_config { IsErrAnd result (λ e. e.cause ≡ BadConfig) ↔
+            ((capacity ≡ 0) ⊎ (MAX_CAPACITY < capacity)) }
+        ensures lease { IfErr result (λ e. e.lease ≡ lease) }
+    {
+        if !is_capacity(capacity) {
+            return Err(NotOpened {
+                lease,
+                cause: FolderFault::BadConfig,
+            });
+        }
+        match self.bytes(rt, lease.number()) {
+            Ok(bytes) => copy_of(rt.alloc(), lease, capacity, &bytes),
+            Err(cause) => Err(NotOpened { lease, cause }),
+        }
+    }
+}

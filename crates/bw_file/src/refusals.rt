@@ -1,0 +1,77 @@
+// Why a folder or a segment in it was not opened. A lease comes back with the refusal.
+ghost use Rattle.std.specs.Prelude.{◌≡◌, ◌≢◌};
+ghost use Rattle.bw_file.specs.declared.refusals.FolderFault.TheVariants.{NoMemory, BadConfig};
+
+use bw_device::Lease;
+use std::alloc::{AllocError, AllocFailed};
+use std::fs::TryLockError;
+use std::io::{self, ErrorKind};
+use thiserror::Error;
+
+/// Why a folder or a segment in it was not opened, copied or emptied, or why its files were not
+/// listed.
+#[derive(Clone, Copy, Debug, Error)]
+pub enum FolderFault {
+    /// There was no memory for it.
+    #[error("no memory")]
+    NoMemory,
+    /// A capacity is outside its limits, 1 and `MAX_CAPACITY`. It is looked at before any file.
+    #[error("a number is outside its limits")]
+    BadConfig,
+    /// A file is longer than `MAX_CAPACITY`. None of it was read.
+    #[error("a file is longer than a segment")]
+    TooLong,
+    /// Another process has the folder or the file open, or a value of this one.
+    #[error("in use")]
+    InUse,
+    /// The system refused a call.
+    #[error("{0}")]
+    System(io::Error),
+}
+
+impl From<AllocError> for FolderFault {
+    ghost from_gives = { λ _ fault. fault ≡ NoMemory };
+
+    fn from(_: AllocError) -> FolderFault {
+        FolderFault::NoMemory
+    }
+}
+
+impl<T: Drop> From<AllocFailed<T>> for FolderFault {
+    ghost from_gives = { λ _ fault. fault ≡ NoMemory };
+
+    fn from(_: AllocFailed<T>) -> FolderFault {
+        FolderFault::NoMemory
+    }
+}
+
+impl From<io::Error> for FolderFault {
+    ghost from_gives = { λ _ fault. fault ≢ BadConfig };
+
+    fn from(error: io::Error) -> FolderFault {
+        if error.kind() == ErrorKind::OutOfMemory {
+            FolderFault::NoMemory
+        } else {
+            FolderFault::System(error)
+        }
+    }
+}
+
+impl From<TryLockError> for FolderFault {
+    ghost from_gives = { λ _ fault. fault ≢ BadConfig };
+
+    fn from(error: TryLockError) -> FolderFault {
+        match error {
+            TryLockError::WouldBlock => FolderFault::InUse,
+            TryLockError::Error(error) => FolderFault::from(error),
+        }
+    }
+}
+
+/// A segment was not opened, and here is the lease that was meant for it.
+#[derive(Debug, Drop, Error)]
+#[error("{cause}")]
+pub struct NotOpened {
+    pub lease: Lease,
+    pub cause: FolderFault,
+}

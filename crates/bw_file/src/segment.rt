@@ -1,0 +1,134 @@
+// A segment in a file, and what it shares with its folder.
+ghost use Rattle.std.specs.Prelude.{◌≡◌, ◌+◌, ◌<◌, ◌≤◌, length, take, drop, OnOk, OnErr, IsOk};
+
+use crate::files::SegmentFile;
+use bw_device::{Fault, MemSegment, Segment};
+use std::fs::File;
+use std::io::{self, ErrorKind};
+use std::sync::Arc;
+use std::sync::atomic::{AtomicBool, Ordering};
+
+/// What a folder and its segments share.
+#[derive(Debug, Drop)]
+pub(crate) struct Shared<F> {
+    /// Held as long as the folder or a segment of it stands, so that nobody else opens it.
+    lock: F,
+    /// Whether an append failed, of any segment.
+    has_failed: AtomicBool,
+}
+
+impl<F> Shared<F> {
+    /// Of a folder whose lock was taken.
+    pub(crate) fn new(lock: F) -> Shared<F> {
+        Shared {
+            lock,
+            has_failed: AtomicBool::new(false),
+        }
+    }
+}
+
+/// A segment in a file, and a copy of its bytes in memory, by which reads are answered.
+///
+/// An append is done when the system says that the file has it. After one that failed the file may
+/// hold some beginning of the piece that the copy has not, so every later append to a segment of
+/// that folder fails too, until the folder is opened again and the files are read: no segment may go
+/// on from the copies where a file went on from the piece. A drop closes the file and leaves its
+/// bytes.
+#[derive(Debug, Drop)]
+pub struct FileSegment<F = File> {
+    copy: MemSegment,
+    file: F,
+    /// Shared with the folder and its other segments.
+    shared: Arc<Shared<F>>,
+    /// How many appends have failed.
+    failed: u64,
+}
+
+impl<F: SegmentFile> FileSegment<F> {
+    ghost use Rattle.bw_device.specs.Memory.{memory_holding};
+    ghost use Rattle.bw_file.specs.FileHolding.{file_holding};
+
+    /// Over a file that holds what the copy has.
+    pub(crate) fn over(copy: MemSegment, file: F, shared: Arc<Shared<F>>) -> FileSegment<F>
+        ensures { file_holding result ≡ memory_holding copy }
+    {
+        FileSegment {
+            copy,
+            file,
+            shared,
+            failed: 0,
+        }
+    }
+
+    // Writes the piece behind what the file holds, and waits until the system says it is there.
+    // No clause sees what this does to the file: it is the one function to be read with care.
+    fn write_through(&self, piece: &[u8]) -> io::Result<()> {
+        if self.shared.has_failed.load(Ordering::SeqCst) {
+            return Err(io::Error::from(ErrorKind::Other));
+        }
+        self.file.write_all_at(piece, self.copy.len())?;
+        self.file.sync_data()
+    }
+}
+
+impl<F: SegmentFile + Send + Sync> Segment for FileSegment<F> {
+    ghost use Rattle.bw_device.specs.Holding.{appended, failed_once};
+    ghost use Rattle.bw_file.specs.FileHolding.{file_holding};
+
+    ghost holding = { file_holding };
+
+    /// Adds the piece, and waits until the system says that the file has it. Where it fails, the
+    /// held bytes stay, and every later append in this folder fails.
+    ///
+    /// A piece is at most 65,560 bytes where the files are to be opened again after a sync that
+    /// failed: so many the next opening writes once more.
+    fn append(&mut self, piece: &[u8]) -> Result<(), Fault>
+        requires fits { length (file_holding self.old).bytes + length piece.now ≤
+            (file_holding self.old).room }
+        requires countable { (file_holding self.old).failed < u64.MAX }
+        ensures added { OnOk result
+            (file_holding self.new ≡ appended (file_holding self.old) piece.now) }
+        ensures failed { OnErr result
+            (file_holding self.new ≡ failed_once (file_holding self.old)) }
+    {
+        // The copy is changed last, so that an append that fails leaves it as it was.
+        if self.write_through(piece).is_err() {
+            self.shared.has_failed.store(true, Ordering::SeqCst);
+            self.failed += 1;
+            return Err(Fault);
+        }
+        match self.copy.append(piece) {
+            Ok(()) => Ok(()),
+            Err(Fault) => unreachable!(),
+        }
+    }
+
+    /// Fills the slice with the held bytes from `at` on, by the copy. It never fails.
+    fn read(&mut self, at: u64, out: &mut [u8]) -> Result<(), Fault>
+        requires within { at + length out.old ≤ length (file_holding self.old).bytes }
+        ensures bytes { out.new ≡ take (length out.old) (drop at (file_holding self.old).bytes) }
+        ensures succeeds { IsOk result }
+        ensures unchanged { file_holding self.new ≡ file_holding self.old }
+    {
+        match self.copy.read(at, out) {
+            Ok(()) => Ok(()),
+            Err(Fault) => unreachable!(),
+        }
+    }
+
+    fn len(&self) -> u64 {
+        self.copy.len()
+    }
+
+    fn capacity(&self) -> u64 {
+        self.copy.capacity()
+    }
+
+    fn lease(&self) -> u32 {
+        self.copy.lease()
+    }
+
+    fn failures(&self) -> u64 {
+        self.failed
+    }
+}

@@ -1,0 +1,9 @@
+//! Folders as tables of steps, each walked to the first step that goes otherwise than told.
+
+mod failing;
+mod folders;
+mod listed;
+mod recovered;
+mod steps;
+mod stored;
+mod watched;

@@ -1,0 +1,127 @@
+//! Each call of the system failing in turn: it is told as the system's fault, and afterwards the step
+//! is done.
+
+use super::steps::Act::{
+    Append, Copy, Empty, Holds, Leave, Look, Open, Segment, Spare, Stop, Write,
+};
+use super::steps::Told::{Done, System};
+use super::steps::{Act, Row, at, goes, walked};
+use super::watched::Watched;
+use std::fs;
+use std::test::Fail;
+
+/// A step, what goes before it, how many calls it makes, and what goes after one of them failed.
+#[derive(Drop)]
+struct Trial(&'static [Row], Act, u64, &'static [Row]);
+
+const TRIALS: [Trial; 7] = [
+    Trial(&[], Open, 6, &[Row(Open, Done, "doaool")]),
+    Trial(
+        &[
+            Row(Open, Done, "doaool"),
+            Row(Write("segment-0000.bw", "abc"), Done, ""),
+        ],
+        Segment(0, 64),
+        7,
+        &[
+            Row(Segment(0, 64), Done, "olamrwa"),
+            Row(Holds(0, "abc", 0), Done, ""),
+        ],
+    ),
+    Trial(
+        &[
+            Row(Open, Done, "doaool"),
+            Row(Write("segment-0001.bw", "abc"), Done, ""),
+        ],
+        Spare(1, 64),
+        5,
+        &[
+            Row(Spare(1, 64), Done, "olaca"),
+            Row(Holds(1, "", 0), Done, ""),
+        ],
+    ),
+    Trial(
+        &[
+            Row(Open, Done, "doaool"),
+            Row(Write("segment-0000.bw", "abc"), Done, ""),
+        ],
+        Empty(0),
+        4,
+        &[
+            Row(Empty(0), Done, "olca"),
+            Row(Act::File("segment-0000.bw", ""), Done, ""),
+        ],
+    ),
+    Trial(
+        &[
+            Row(Open, Done, "doaool"),
+            Row(Segment(0, 64), Done, "olama"),
+            Row(Append(0, "abc"), Done, "ws"),
+        ],
+        Append(0, "d"),
+        2,
+        &[
+            Row(Holds(0, "abc", 1), Done, ""),
+            Row(Append(0, "d"), System, ""),
+            Row(Stop(0), Done, ""),
+            Row(Leave, Done, ""),
+            Row(Open, Done, "doaool"),
+            Row(Segment(0, 64), Done, "olamrwa"),
+            Row(Append(0, "e"), Done, "ws"),
+        ],
+    ),
+    Trial(
+        &[Row(Open, Done, "doaool"), Row(Leave, Done, "")],
+        Look,
+        3,
+        &[Row(Look, Done, "pok")],
+    ),
+    Trial(
+        &[
+            Row(Open, Done, "doaool"),
+            Row(Leave, Done, ""),
+            Row(Write("segment-0000.bw", "abc"), Done, ""),
+            Row(Look, Done, "pok"),
+        ],
+        Copy(0, 64, "abc"),
+        3,
+        &[Row(Copy(0, 64, "abc"), Done, "omr")],
+    ),
+];
+
+// Whether the step is told as the system's fault where the call of this number fails, and is done
+// where no call has this number.
+fn is_told(rt: HostRuntime, path: &'static str, trial: &Trial, number: u64) -> Result<bool, Fail> {
+    let _ = fs::remove_dir_all(&rt, path);
+    let watched = Watched::new(rt)?;
+    let mut stand = at(path);
+    let Trial(before, act, calls, after) = trial;
+    let made = walked(&watched, &mut stand, *before)? == before.len();
+    watched.watch().fail_after(number, 0);
+    let went = goes(&watched, &mut stand, act)?;
+    watched.watch().heal();
+    watched.watch().take_letters();
+    if number == *calls {
+        return Ok(made && went == Done);
+    }
+    Ok(made && went == System && walked(&watched, &mut stand, *after)? == after.len())
+}
+
+// How many of the calls were told before one was not.
+fn each_is_told(rt: HostRuntime, path: &'static str, trial: &Trial) -> Result<u64, Fail> {
+    for number in 0..=trial.2 {
+        if !is_told(rt, path, trial, number)? {
+            return Ok(number);
+        }
+    }
+    let _ = fs::remove_dir_all(&rt, path);
+    Ok(99)
+}
+
+#[test]
+fn each_failed_call_is_told(rt: HostRuntime) -> Result<(), Fail> {
+    for (i, trial) in TRIALS.iter().enumerate() {
+        assert_eq!(rt; each_is_told(rt, "failing", trial)?, 99, "in trial {i}");
+    }
+    Ok(())
+}

@@ -1,0 +1,196 @@
+//! The tables. A letter is a call of the system: o opens a file, d makes a folder, p looks at a path,
+//! l takes a lock, k takes one beside other readers, m asks for a length, r reads, w writes, c cuts,
+//! s waits until the bytes stand, a until the length or the name stands too.
+
+use super::steps::Act::{
+    Append, Copy, Empty, Fail as Failing, File, Full, Holds, Leave, Lengthen, Look, LookAway, Make,
+    NoFile, Open, Segment, Spare, Stop, Write,
+};
+use super::steps::Told::{BadConfig, Done, InUse, No, System, TooLong};
+use super::steps::{Act, Row, at, goes, walked};
+use super::watched::Watched;
+use bw_device::MAX_CAPACITY;
+use std::fs;
+use std::test::Fail;
+
+/// What was appended is there again after a stop, twice, and none of it after the file was emptied.
+const KEPT: [Row; 27] = [
+    Row(Open, Done, "doaool"),
+    Row(Segment(0, 64), Done, "olama"),
+    Row(Holds(0, "", 0), Done, ""),
+    Row(Append(0, "abc"), Done, "ws"),
+    Row(Append(0, ""), Done, "s"),
+    Row(File("segment-0000.bw", "abc"), Done, ""),
+    Row(Holds(0, "abc", 0), Done, ""),
+    Row(Leave, Done, ""),
+    Row(Append(0, "d"), Done, "ws"),
+    Row(Stop(0), Done, ""),
+    Row(File("segment-0000.bw", "abcd"), Done, ""),
+    Row(Open, Done, "doaool"),
+    Row(Segment(0, 64), Done, "olamrwa"),
+    Row(Holds(0, "abcd", 0), Done, ""),
+    Row(Append(0, "ef"), Done, "ws"),
+    Row(Stop(0), Done, ""),
+    Row(Leave, Done, ""),
+    Row(Open, Done, "doaool"),
+    Row(Segment(0, 64), Done, "olamrwa"),
+    Row(Holds(0, "abcdef", 0), Done, ""),
+    Row(Empty(0), InUse, "ol"),
+    Row(Segment(0, 64), InUse, "ol"),
+    Row(Spare(0, 64), InUse, "ol"),
+    Row(Stop(0), Done, ""),
+    Row(Empty(0), Done, "olca"),
+    Row(File("segment-0000.bw", ""), Done, ""),
+    Row(Segment(0, 64), Done, "olama"),
+];
+
+/// Limits are looked at before any file, a length before any byte; a file may be longer than the
+/// capacity that is asked for.
+const LIMITS: [Row; 17] = [
+    Row(Open, Done, "doaool"),
+    Row(Segment(0, 0), BadConfig, ""),
+    Row(Segment(0, MAX_CAPACITY + 1), BadConfig, ""),
+    Row(NoFile("segment-0000.bw"), Done, ""),
+    Row(Write("segment-0000.bw", "abc"), Done, ""),
+    Row(Spare(0, 0), BadConfig, ""),
+    Row(Spare(0, MAX_CAPACITY + 1), BadConfig, ""),
+    Row(File("segment-0000.bw", "abc"), Done, ""),
+    Row(Segment(0, 2), Done, "olamrwa"),
+    Row(Holds(0, "abc", 0), Done, ""),
+    Row(Append(0, "d"), No, ""),
+    Row(Append(0, ""), Done, "s"),
+    Row(Stop(0), Done, ""),
+    Row(Lengthen, Done, ""),
+    Row(Segment(0, 64), TooLong, "olam"),
+    Row(Spare(0, 64), Done, "olaca"),
+    Row(Holds(0, "", 0), Done, ""),
+];
+
+/// A folder is open once: as long as it or a segment of it stands, and beside no reader.
+const ONCE: [Row; 18] = [
+    Row(Look, System, "p"),
+    Row(Empty(0), No, ""),
+    Row(Open, Done, "doaool"),
+    Row(Empty(0), System, "o"),
+    Row(NoFile("segment-0000.bw"), Done, ""),
+    Row(Open, InUse, "doaool"),
+    Row(Look, InUse, "pok"),
+    Row(Segment(1, 64), Done, "olama"),
+    Row(Leave, Done, ""),
+    Row(Open, InUse, "doaool"),
+    Row(Look, InUse, "pok"),
+    Row(Stop(1), Done, ""),
+    Row(Look, Done, "pok"),
+    Row(Look, Done, "pok"),
+    Row(Open, InUse, "doaool"),
+    Row(LookAway, Done, ""),
+    Row(Open, Done, "doaool"),
+    Row(File("segment-0001.bw", ""), Done, ""),
+];
+
+/// A reader makes no file and writes none, also where the folder was never opened.
+const READ: [Row; 14] = [
+    Row(Make, Done, ""),
+    Row(Write("segment-0000.bw", "abc"), Done, ""),
+    Row(Look, Done, "po"),
+    Row(Copy(0, 64, "abc"), Done, "omr"),
+    Row(Copy(0, 1, "abc"), Done, "omr"),
+    Row(Copy(0, 0, "abc"), BadConfig, ""),
+    Row(Copy(0, MAX_CAPACITY + 1, "abc"), BadConfig, ""),
+    Row(Copy(1, 64, ""), System, "o"),
+    Row(NoFile("segment-0001.bw"), Done, ""),
+    Row(NoFile("lock"), Done, ""),
+    Row(Lengthen, Done, ""),
+    Row(Copy(0, 64, "abc"), TooLong, "om"),
+    Row(LookAway, Done, ""),
+    Row(Open, Done, "doaool"),
+];
+
+/// After a failed append each later one fails, in every segment of the folder and without a call,
+/// until the folder is opened again: what the file kept of the piece is then there.
+const CLOSED: [Row; 24] = [
+    Row(Open, Done, "doaool"),
+    Row(Segment(0, 64), Done, "olama"),
+    Row(Segment(1, 64), Done, "olama"),
+    Row(Append(0, "abc"), Done, "ws"),
+    Row(Append(1, "xy"), Done, "ws"),
+    Row(Failing(0, 2), Done, ""),
+    Row(Append(0, "defg"), System, "w"),
+    Row(Holds(0, "abc", 1), Done, ""),
+    Row(File("segment-0000.bw", "abcde"), Done, ""),
+    Row(Append(0, "h"), System, ""),
+    Row(Append(1, "z"), System, ""),
+    Row(Append(1, ""), System, ""),
+    Row(Holds(0, "abc", 2), Done, ""),
+    Row(Holds(1, "xy", 2), Done, ""),
+    Row(Stop(0), Done, ""),
+    Row(Segment(0, 64), Done, "olamrwa"),
+    Row(Append(0, "h"), System, ""),
+    Row(Stop(0), Done, ""),
+    Row(Stop(1), Done, ""),
+    Row(Leave, Done, ""),
+    Row(Open, Done, "doaool"),
+    Row(Segment(1, 64), Done, "olamrwa"),
+    Row(Append(1, "z"), Done, "ws"),
+    Row(Holds(1, "xyz", 0), Done, ""),
+];
+
+/// A sync that fails: the copy has nothing of the piece, and the file, opened again, has it.
+const UNSYNCED: [Row; 10] = [
+    Row(Open, Done, "doaool"),
+    Row(Segment(0, 64), Done, "olama"),
+    Row(Failing(1, 0), Done, ""),
+    Row(Append(0, "abc"), System, "ws"),
+    Row(Holds(0, "", 1), Done, ""),
+    Row(Stop(0), Done, ""),
+    Row(Leave, Done, ""),
+    Row(Open, Done, "doaool"),
+    Row(Segment(0, 64), Done, "olamrwa"),
+    Row(Holds(0, "abc", 0), Done, ""),
+];
+
+/// A device that is full: the system's own refusal of a write.
+const FULL: [Row; 9] = [
+    Row(Open, Done, "doaool"),
+    Row(Segment(0, 64), Done, "olama"),
+    Row(Append(0, "abc"), Done, "ws"),
+    Row(Full(true), Done, ""),
+    Row(Append(0, "d"), System, "w"),
+    Row(Full(false), Done, ""),
+    Row(Append(0, "d"), System, ""),
+    Row(Holds(0, "abc", 2), Done, ""),
+    Row(File("segment-0000.bw", "abc"), Done, ""),
+];
+
+// How many of the rows went as told before one did not, in a folder of their own.
+fn told(rt: HostRuntime, path: &'static str, rows: &[Row]) -> Result<usize, Fail> {
+    let _ = fs::remove_dir_all(&rt, path);
+    let watched = Watched::new(rt)?;
+    let mut stand = at(path);
+    let went = walked(&watched, &mut stand, rows)?;
+    drop(stand);
+    let _ = fs::remove_dir_all(&rt, path);
+    Ok(went)
+}
+
+#[test]
+fn what_was_appended_is_there_again(rt: HostRuntime) -> Result<(), Fail> {
+    assert_eq!(rt; told(rt, "kept", &KEPT)?, KEPT.len());
+    assert_eq!(rt; told(rt, "limits", &LIMITS)?, LIMITS.len());
+    Ok(())
+}
+
+#[test]
+fn a_folder_is_open_once_and_a_reader_writes_nothing(rt: HostRuntime) -> Result<(), Fail> {
+    assert_eq!(rt; told(rt, "once", &ONCE)?, ONCE.len());
+    assert_eq!(rt; told(rt, "read", &READ)?, READ.len());
+    Ok(())
+}
+
+#[test]
+fn a_failed_append_closes_its_folder(rt: HostRuntime) -> Result<(), Fail> {
+    assert_eq!(rt; told(rt, "closed", &CLOSED)?, CLOSED.len());
+    assert_eq!(rt; told(rt, "unsynced", &UNSYNCED)?, UNSYNCED.len());
+    assert_eq!(rt; told(rt, "full", &FULL)?, FULL.len());
+    Ok(())
+}

@@ -1,0 +1,208 @@
+//! A store and a cleaner over files: what was flushed is there again after a stop, and of what could
+//! not be flushed either the whole frame or none.
+
+ghost use Rattle.bw_store.specs.Views.{IsSound};
+
+use super::recovered::Said::Found;
+use super::recovered::{Piece, Said, add_boxes, is_told, write_files};
+use super::watched::Watched;
+use bw_care::{Cleaned, clean, recover};
+use bw_codec::{Key, Record, Value};
+use bw_device::{Desk, Segment};
+use bw_file::Folder;
+use bw_ring::Feed;
+use bw_store::{Config, Store, StoreFault};
+use std::fs;
+use std::test::Fail;
+
+const KV: &[(&str, &str)] = &[("k", "v")];
+
+const JKV: &[(&str, &str)] = &[("j", "w"), ("k", "v")];
+
+/// What the first flush writes, of k=v, and the second, of j=w.
+const BOTH: &str =
+    "42574c4f475347310100000000000000040000000040000046524d3101000000000000002000000002000000\
+    02010000000000000101000000010000000000000000000000010001016b017646524d310200000000000000\
+    18000000010000000101000000010000000000000001000000010001016a0177";
+
+/// How many of these bytes are of the second frame.
+const SECOND_LENGTH: u64 = 44;
+
+// Whether writer 0 could put a record.
+fn is_put(feeds: &mut [Feed], pair: (&[u8], &[u8])) -> Result<bool, Fail> {
+    let item = Record::Put(Key::new(pair.0)?, Value::new(pair.1)?);
+    match feeds.first_mut() {
+        Some(feed) => Ok(feed.put(item).is_ok()),
+        None => Ok(false),
+    }
+}
+
+// Whether one record is taken.
+fn is_taken(store: &mut Store) -> bool
+    requires { IsSound store.old holding }
+    ensures { IsSound store.new holding }
+{
+    store.turn(1) == Ok(1)
+}
+
+// Whether a flush answers so.
+fn answers(store: &mut Store, told: Result<Option<u64>, StoreFault>) -> bool
+    requires { IsSound store.old holding }
+    ensures { IsSound store.new holding }
+{
+    store.flush() == told
+}
+
+// Whether a record of writer 0 is taken, and its flush then answers so.
+fn is_flushed(
+    store: &mut Store,
+    feeds: &mut [Feed],
+    pair: (&[u8], &[u8]),
+    told: Result<Option<u64>, StoreFault>,
+) -> Result<bool, Fail>
+    requires { IsSound store.old holding }
+    ensures { IsSound store.new holding }
+{
+    let put = is_put(feeds, pair)?;
+    let taken = is_taken(store);
+    let flushed = answers(store, told);
+    Ok(put && taken && flushed)
+}
+
+// Two flushes: the first one passes, and the second one as long as no call of it is to fail.
+fn are_flushed(
+    rt: &Watched<HostRuntime>,
+    store: &mut Store,
+    feeds: &mut [Feed],
+    passes: u64,
+    keep: u64,
+) -> Result<bool, Fail>
+    requires { IsSound store.old holding }
+{
+    let first = is_flushed(store, feeds, (b"k", b"v"), Ok(Some(1)))?;
+    rt.watch().fail_after(passes, keep);
+    let told = if passes < 2 {
+        Err(StoreFault::Device { lease: 0 })
+    } else {
+        Ok(Some(2))
+    };
+    Ok(first && is_flushed(store, feeds, (b"j", b"w"), told)?)
+}
+
+// A life of a store over two files of the folder, until it is dropped.
+fn lives(rt: &Watched<HostRuntime>, path: &str, passes: u64, keep: u64) -> Result<bool, Fail> {
+    let folder = Folder::open(rt, path)?;
+    let mut desk = Desk::new(rt.alloc(), 8)?;
+    let mut boxes: Vec<Box<dyn Segment>> = Vec::new(rt.alloc());
+    add_boxes(rt, &folder, &mut desk, 2, &mut boxes)?;
+    let config = Config {
+        writers: 1,
+        places: 8,
+        readers: 1,
+        m: 4,
+        f: 16384,
+    };
+    let Ok((mut store, mut feeds)) = Store::open(rt.alloc(), &config, boxes) else {
+        return Ok(false);
+    };
+    are_flushed(rt, &mut store, &mut feeds, passes, keep)
+}
+
+// Whether the first file has the first bytes of both frames, so many of the second.
+fn has_bytes(rt: &Watched<HostRuntime>, path: &str, of_second: u64) -> Result<bool, Fail> {
+    let mut told = hex::decode(rt.alloc(), BOTH)?;
+    told.truncate(76 + of_second.min(SECOND_LENGTH) as usize);
+    let name = format!(in rt.alloc(); "{path}/segment-0000.bw")?;
+    let bytes = fs::read(rt.system(), name.as_str())?;
+    Ok(bytes.as_slice() == told.as_slice())
+}
+
+// Whether after a life whose call of this number failed the files tell so.
+fn is_there(
+    rt: HostRuntime,
+    path: &'static str,
+    (passes, keep): (u64, u64),
+    of_second: u64,
+    told: &Said,
+) -> Result<bool, Fail> {
+    let _ = fs::remove_dir_all(&rt, path);
+    let watched = Watched::new(rt)?;
+    Ok(
+        lives(&watched, path, passes, keep)?
+            && has_bytes(&watched, path, of_second)?
+            && is_told(&watched, path, 2, told)?,
+    )
+}
+
+#[test]
+fn what_was_flushed_is_there_after_a_stop(rt: HostRuntime) -> Result<(), Fail> {
+    let both = Found(1, 2, 0, 1, 1, 0, JKV);
+    assert!(rt; is_there(rt, "stored", (99, 0), SECOND_LENGTH, &both)?);
+    // The sync fails: the frame was not promised, and is there.
+    assert!(rt; is_there(rt, "stored", (1, 0), SECOND_LENGTH, &both)?);
+    for keep in 0..SECOND_LENGTH {
+        let first = Found(1, 1, keep, 1, 1, 0, KV);
+        assert!(rt;
+            is_there(rt, "stored", (0, keep), keep, &first)?,
+            "at {keep}"
+        );
+    }
+    assert!(rt; is_there(rt, "stored", (0, SECOND_LENGTH), SECOND_LENGTH, &both)?);
+    let _ = fs::remove_dir_all(&rt, "stored");
+    Ok(())
+}
+
+/// Two segments: k=1 on the empty page 1, then j=2.
+const TWO: [Piece; 2] = [
+    Piece(
+        "42574c4f475347310100000000000000040000000040000046524d3101000000000000002000000002000000\
+        02010000000000000101000000010000000000000000000000010001016b0131",
+        76,
+    ),
+    Piece(
+        "42574c4f475347310200000000000000040000000040000046524d3102000000000000001800000001000000\
+        0101000000010000000000000001000000010001016a0132",
+        68,
+    ),
+];
+
+const JK: &[(&str, &str)] = &[("j", "2"), ("k", "1")];
+
+// Whether the older of two segments is given up, and its file is then emptied where that is asked.
+fn is_cleaned(rt: &Watched<HostRuntime>, path: &str, empties: bool) -> Result<bool, Fail> {
+    let folder = Folder::open(rt, path)?;
+    let mut desk = Desk::new(rt.alloc(), 8)?;
+    let mut boxes: Vec<Box<dyn Segment>> = Vec::new(rt.alloc());
+    add_boxes(rt, &folder, &mut desk, 3, &mut boxes)?;
+    let Ok(found) = recover(rt.alloc(), boxes) else {
+        return Ok(false);
+    };
+    let mut log = found.log;
+    let told = Cleaned {
+        segment: 1,
+        lease: 0,
+        pages: 1,
+        frames: 1,
+    };
+    let cleaned = clean(rt.alloc(), &mut log) == Ok(told);
+    if empties {
+        folder.empty(rt, 0)?;
+    }
+    Ok(cleaned)
+}
+
+// Whether the files tell so after a cleaning and a stop, before the file is emptied or behind it.
+fn is_there_cleaned(rt: HostRuntime, empties: bool, told: &Said) -> Result<bool, Fail> {
+    let _ = fs::remove_dir_all(&rt, "cleaned");
+    let watched = Watched::new(rt)?;
+    write_files(&watched, "cleaned", &TWO)?;
+    Ok(is_cleaned(&watched, "cleaned", empties)? && is_told(&watched, "cleaned", 3, told)?)
+}
+
+#[test]
+fn a_segment_that_was_given_up_is_gone_once_its_file_is_empty(rt: HostRuntime) -> Result<(), Fail> {
+    assert!(rt; is_there_cleaned(rt, false, &Found(1, 3, 0, 2, 1, 0, JK))?);
+    assert!(rt; is_there_cleaned(rt, true, &Found(2, 3, 0, 1, 2, 0, JK))?);
+    let _ = fs::remove_dir_all(&rt, "cleaned");
+    Ok(())
+}
