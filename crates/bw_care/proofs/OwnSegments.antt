@@ -17,6 +17,7 @@ use Rattle.bw_codec.proofs.Heading.{header_again, length-header}
 use Rattle.bw_device.specs.Holding.{Holding}
 use Rattle.bw_log.specs.Segments.{segment_frames, frames_at, IsLive, AreLive, AreFrom}
 use Rattle.bw_log.proofs.Reread.{frames_read, frames_few}
+use Rattle.bw_care.specs.Behind.{EndsInTail}
 use Rattle.bw_care.specs.Scanning.{has_header, has_header_by, has_part, has_part_by, is_bare, rest_of, fault_by, fault_in}
 use Rattle.bw_care.specs.Recovery.{placed_by, in_order, number_in, segments_in, live_in, spares_in, parts_in, bytes_fault, bytes_fault_by, is_like, follow_on}
 use Rattle.bw_care.specs.declared.fault.RecoverCause.{RecoverCause}
@@ -52,15 +53,25 @@ live_rest m f n bytes live =
     ap (λ (b : List ℕ). (frames_at (length bytes) m f b).1) left
     ∙ ap (λ (r : List Frame × List ℕ). r.1) (frames_read (length bytes) m f fs live.cut (omega arith) (omega arith) live.whole.each live.whole.tail few)
 
--- its bytes have no fault
-live_unfaulted : (m f n : ℕ) (bytes : List ℕ) → IsLive m f n bytes → fault_in bytes ≡ None
-live_unfaulted m f n bytes live =
+pub live_long : (m f n : ℕ) (bytes : List ℕ) → IsLive m f n bytes → 24 ≤ length bytes
+live_long m f n bytes live =
+    let h = head_of m f n in
+    let rest = flat_map frame_bytes (segment_frames bytes) ++ live.cut in
+    let size = ap (λ (b : List ℕ). length b) live.whole.parts in
+    omega (arith, size, length-header h, length-append (header_bytes h) rest)
+
+-- behind its last whole frame stands a tail
+pub live_ends : (m f n : ℕ) (bytes : List ℕ) → IsLive m f n bytes → EndsInTail m f bytes
+live_ends m f n bytes live =
     let ms = live.whole.lawful.m in
     let fl = live.whole.lawful.f in
     let front : front_at m f (rest_of m f bytes) ≡ Some Tail =
     ap (front_at m f) (live_rest m f n bytes live) ∙ is_front m f live.cut Tail (omega arith) (omega arith) live.whole.tail in
-    fault_whole bytes (head_of m f n) (live_heading m f n bytes live)
-    ∙ ap (fault_by (length bytes - length (rest_of m f bytes))) front
+    ap (fault_by (length bytes - length (rest_of m f bytes))) front
+
+-- its bytes have no fault
+live_unfaulted : (m f n : ℕ) (bytes : List ℕ) → IsLive m f n bytes → fault_in bytes ≡ None
+live_unfaulted m f n bytes live = fault_whole bytes (head_of m f n) (live_heading m f n bytes live) ∙ live_ends m f n bytes live
 
 -- ---- segments before spares
 

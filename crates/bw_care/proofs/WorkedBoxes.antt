@@ -92,9 +92,10 @@ page_two = record { page = 2; low = 99 ∷ []; pairs = (99 ∷ [], 51 ∷ []) �
 -- ---- what is said of them
 
 -- whole vectors, in any order, beside a spare and a part of a header
-pub vectors_whole : AreTold (
-    (box second ∷ [],
-        found (page_one ((97 ∷ [], 49 ∷ []) ∷ (98 ∷ [], 50 ∷ []) ∷ []) ∷ page_two ∷ []) 1 5 0 0) ∷
+pub vectors_whole : AreTold ((
+  box second ∷ [],
+  found (page_one ((97 ∷ [], 49 ∷ []) ∷ (98 ∷ [], 50 ∷ []) ∷ []) ∷ page_two ∷ []) 1 5 0 0,
+) ∷
     (box greatest ∷ [], found (page_one [] ∷ []) 18446744073709551615 18446744073709551615 0 0) ∷
     (box third_older ∷ box third_newer ∷ [], found (page_one ((106 ∷ [], 50 ∷ []) ∷ (107 ∷ [], 51 ∷ []) ∷ []) ∷ []) 2 4 0 0) ∷
     (box third_newer ∷ box third_older ∷ [], found (page_one ((106 ∷ [], 50 ∷ []) ∷ (107 ∷ [], 51 ∷ []) ∷ []) ∷ []) 2 4 0 0) ∷
