@@ -54,12 +54,12 @@ old_skipped items now all last fs i n kept inside is push =
 
 -- ---- one more page in the buffer
 
-each_of : {A : Type 0} (P : A → Type 0) (xs : List A) (i : ℕ) (d : A) → AllByRecursion P xs → i < length xs → P (get_or xs i d)
+pub each_of : {A : Type 0} (P : A → Type 0) (xs : List A) (i : ℕ) (d : A) → AllByRecursion P xs → i < length xs → P (get_or xs i d)
 each_of P [] i d are inside = absurd (omega arith)
 each_of P (x ∷ xs) zero d are inside = are.0
 each_of P (x ∷ xs) (suc i) d are inside = each_of P xs i d are.1 (omega arith)
 
-take_next : (xs : List ℕ) (i d : ℕ) → i < length xs → take (i + 1) xs ≡ take i xs ++ get_or xs i d ∷ []
+pub take_next : (xs : List ℕ) (i d : ℕ) → i < length xs → take (i + 1) xs ≡ take i xs ++ get_or xs i d ∷ []
 take_next [] i d inside = absurd (omega arith)
 take_next (x ∷ xs) zero d inside = refl
 take_next (x ∷ xs) (suc i) d inside =

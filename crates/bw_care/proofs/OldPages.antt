@@ -107,7 +107,7 @@ placed_after : (last n i : ℕ) (bs : List Block) → last < n → AllByRecursio
 placed_after last n i [] less = tt
 placed_after last n i (b ∷ bs) less = (less, placed_after last n (i + 1) bs less)
 
-all_after : (last : ℕ) (fs : List Frame) → AllByRecursion (λ f. last < f.number) fs → AllByRecursion (λ x. last < x.0.frame) (all_placed fs)
+pub all_after : (last : ℕ) (fs : List Frame) → AllByRecursion (λ f. last < f.number) fs → AllByRecursion (λ x. last < x.0.frame) (all_placed fs)
 all_after last [] are = tt
 all_after last (f ∷ fs) are =
     all_append (λ (x : Place × Block). last < x.0.frame) (placed f.number 0 f.blocks) (all_placed fs) (placed_after last f.number 0 f.blocks are.0)
@@ -131,7 +131,7 @@ set_after_by : (last : ℕ) (test : Block → Bool) (acc : Option Place) (x : Pl
 set_after_by last test acc x xs true here are others is = stays_after last test (Some x.0) xs are here
 set_after_by last test acc x xs false here are others is = others acc is
 
-set_after : (last : ℕ) (test : Block → Bool) (acc : Option Place) (xs : List (Place × Block)) → AllByRecursion (λ x. last < x.0.frame) xs
+pub set_after : (last : ℕ) (test : Block → Bool) (acc : Option Place) (xs : List (Place × Block)) → AllByRecursion (λ x. last < x.0.frame) xs
     → list_any (λ y. test y.1) xs ≡ true → IsAfter last (fold (later test) acc xs)
 set_after last test acc [] are is = absurd cc
 set_after last test acc (x ∷ xs) are is = set_after_by last test acc x xs (test x.1) are.0 are.1 (λ v. set_after last test v xs are.1) is
@@ -140,7 +140,7 @@ any_placed : (test : Block → Bool) (n i : ℕ) (bs : List Block) → list_any 
 any_placed test n i [] = refl
 any_placed test n i (b ∷ bs) = ap (λ (t : Bool). test b || t) (any_placed test n (i + 1) bs)
 
-any_all_placed : (test : Block → Bool) (fs : List Frame) → list_any (λ y. test y.1) (all_placed fs) ≡ list_any test (blocks_of fs)
+pub any_all_placed : (test : Block → Bool) (fs : List Frame) → list_any (λ y. test y.1) (all_placed fs) ≡ list_any test (blocks_of fs)
 any_all_placed test [] = refl
 any_all_placed test (f ∷ fs) =
     list_any-append (λ (y : Place × Block). test y.1) (placed f.number 0 f.blocks) (all_placed fs)
@@ -196,7 +196,7 @@ oldest_by c (h ∷ hs) n is some =
 pub oldest_below : (c : Contents) (n : ℕ) → c.next ≡ Some n → 1 ≤ n → oldest_last c c.live < n
 oldest_below c n is some = oldest_by c c.live n is some
 
-plain_by : (c : Contents) (h : Holding) (hs : List Holding) → IsSound c → c.live ≡ h ∷ hs → c.is_failed ≡ false
+pub plain_by : (c : Contents) (h : Holding) (hs : List Holding) → IsSound c → c.live ≡ h ∷ hs → c.is_failed ≡ false
     → last_number c h ≡ fold (λ was f. f.number) 0 (segment_frames h.bytes)
 plain_by c h hs sound live works =
     let test : Frame → Bool = λ f. is_before_next c.next f.number in

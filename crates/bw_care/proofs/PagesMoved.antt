@@ -236,7 +236,7 @@ no_base_before old now n a b two works x =
 pub two_left : (old now : Contents) (ps rs : List ℕ) (n : ℕ) → 2 ≤ length old.live → Moved old now ps rs n → 2 ≤ length now.live
 two_left old now ps rs n two x = let many = x.older.many in omega arith
 
-same_some : {A : Type 0} (a b : A) → Some a ≡ Some b → a ≡ b
+pub same_some : {A : Type 0} (a b : A) → Some a ≡ Some b → a ≡ b
 same_some a b e = cc
 
 first_lease : (number : ℕ) (live : List Holding) (told : Option (ℕ × ℕ × ℕ)) (segment lease len : ℕ) → 1 ≤ length live

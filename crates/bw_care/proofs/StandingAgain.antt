@@ -37,7 +37,7 @@ none_first test p (suc n) all = rw (all p (omega arith) (omega arith), first_suc
 
 -- ---- a leaf of lawful leaves
 
-leaf_there : (leaves : List Leaf) (n i : ℕ) → i < length leaves → (l : Leaf) × (slice_get leaves i ≡ Some l)
+pub leaf_there : (leaves : List Leaf) (n i : ℕ) → i < length leaves → (l : Leaf) × (slice_get leaves i ≡ Some l)
 leaf_there [] n i inside = absurd (omega arith)
 leaf_there (l ∷ ls) n zero inside = (l, refl)
 leaf_there (l ∷ ls) n (suc i) inside = leaf_there ls n i (omega arith)
@@ -68,7 +68,7 @@ pub record Stands (m : ℕ) (blocks : List Block) (leaves : List Leaf) : Type 0 
 any_by : (test : Block → Bool) (bs : List Block) → AllByRecursion (λ b. test b ≡ false) bs → list_any test bs ≡ false
 any_by test bs all = none_any test bs all
 
-beyond_none : (blocks : List Block) (p : ℕ) → AllByRecursion (λ b. touches p b ≡ false) blocks → content p blocks ≡ None
+pub beyond_none : (blocks : List Block) (p : ℕ) → AllByRecursion (λ b. touches p b ≡ false) blocks → content p blocks ≡ None
 beyond_none blocks p all = same_fold p None blocks (any_by (touches p) blocks all)
 
 set_of : (m : ℕ) (blocks : List Block) (leaves : List Leaf) (p : ℕ) (l : Leaf) → Stands m blocks leaves → 1 ≤ p → content p blocks ≡ Some l → IsOf leaves l

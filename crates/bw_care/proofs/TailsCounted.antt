@@ -53,7 +53,7 @@ ends_are boxes hs rs all = ends_by false boxes hs rs all
 
 -- ---- parts of headers
 
-bare_part : has_part [] ≡ false
+pub bare_part : has_part [] ≡ false
 unfolding heading_of
 bare_part = refl
 

@@ -39,9 +39,12 @@ pub struct Cleaned {
 /// E6. A refusal part-way keeps the frames already written, drops no box and changes no page. After
 /// E1, E5 and a failed read it may be called again; where an append failed, the log is Failed.
 ///
-/// It costs a look at each page's line in memory, and four bytes for each old page; then for each
-/// old page what `read_page` costs (each frame with a block of that page since its last setting one
-/// is read whole), and the bytes of the new frames.
+/// It costs a look at each page's line in memory, and four bytes for each old page. Where a page is
+/// old, the oldest segment is read once, forwards, and its pages are held in memory together until
+/// they are written again; an old page that a later frame touches costs what `read_page` does (each
+/// frame with a block of that page since its last setting one is read whole), and so does each old
+/// page of a segment of more than 16 MiB, or where memory for reading ahead is refused. Then come
+/// the bytes of the new frames.
 pub fn clean(alloc: Global, log: &mut Log) -> Result<Cleaned, CleanFault>
     requires { IsSound log.old holding }
     ensures sound { IsSound log.new holding }

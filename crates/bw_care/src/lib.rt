@@ -2,6 +2,7 @@
 //! recovery by one scan, from any bytes to the leaves, or to the first fault.
 #![tactic(auto)]
 
+mod ahead;
 mod cleaning;
 mod fault;
 mod forward;

@@ -1,26 +1,42 @@
 //! The steps of a cleaning.
 
-ghost use Rattle.std.specs.Prelude.{◌≡◌, ◌≢◌, ◌+◌, ◌<◌, ◌≤◌, [], take, drop, length, false, Err, IfOk, IfErr};
+ghost use Rattle.std.specs.Prelude.{◌≡◌, ◌≢◌, ◌+◌, ◌<◌, ◌≤◌, [], take, drop, length, false, Err, IfOk, IfErr, OnOk};
 ghost use Rattle.std.specs.List.{AllByRecursion};
 ghost use Rattle.bw_buffer.specs.Filling.{frame_of};
 ghost use Rattle.bw_log.specs.Reads.{IsPage, ReadStops};
-ghost use Rattle.bw_care.specs.Cleaning.{is_old, old_pages};
+ghost use Rattle.bw_care.specs.Ahead.{AreAhead, IsPart};
+ghost use Rattle.bw_care.specs.Cleaning.{is_old, old_pages, oldest_last};
 ghost use Rattle.bw_care.specs.Moving.{AreBases, IsFull, Moved, Refused, Stopped};
 ghost use Rattle.bw_care.specs.Views.{seen, IsSound};
 
+use crate::ahead::{read_ahead, take_page};
+use crate::reading::Line;
 use bw_buffer::{Buffer, PutError};
 use bw_codec::{Block, Place};
 use bw_device::Segment;
 use bw_log::{Log, LogFault};
 use std::alloc::{AllocError, Global};
+use std::collections::BTreeMap;
 
 // Whether a place, if there is one, stands in the frames up to this one.
-fn is_old(last: u64, place: Option<Place>) -> bool
+pub(crate) fn is_old(last: u64, place: Option<Place>) -> bool
     ensures { result ≡ is_old last place }
 {
     match place {
         Some(place) => place.frame <= last,
         None => false,
+    }
+}
+
+/// The number of the last frame in the oldest segment, or 0 where it has none.
+pub(crate) fn last_old(log: &Log) -> u64
+    requires sound { IsSound log.now holding }
+    requires some { 0 < length (seen log.now holding).live }
+    ensures { result ≡ oldest_last (seen log.now holding) (seen log.now holding).live }
+{
+    match log.oldest() {
+        Some((_, last)) => last,
+        None => 0,
     }
 }
 
@@ -31,10 +47,7 @@ pub(crate) fn old_pages(alloc: Global, log: &Log) -> Result<Vec<u32>, AllocError
     requires some { 0 < length (seen log.now holding).live }
     ensures { IfOk result (λ pages. pages.items ≡ old_pages (seen log.now holding)) }
 {
-    let last = match log.oldest() {
-        Some((_, last)) => last,
-        None => 0,
-    };
+    let last = last_old(log);
     let mut pages = Vec::new(alloc);
     for index in 0..log.pages() {
         let page = index + 1;
@@ -46,10 +59,17 @@ pub(crate) fn old_pages(alloc: Global, log: &Log) -> Result<Vec<u32>, AllocError
 }
 
 /// Puts pages, one or more, into an empty buffer as Bases, as many as fit, and answers how many.
-fn fill(log: &mut Log, buffer: &mut Buffer, pages: &[u32]) -> Result<usize, LogFault>
+/// Those that were read ahead are taken out of the map.
+fn fill(
+    log: &mut Log,
+    lines: &mut BTreeMap<u32, Line>,
+    buffer: &mut Buffer,
+    pages: &[u32],
+) -> Result<usize, LogFault>
     requires sound { IsSound log.old holding }
     requires some { 0 < length pages.now }
     requires pages { AllByRecursion (IsPage (seen log.old holding)) pages.now }
+    requires ahead { AreAhead (seen log.old holding) lines.old pages.now }
     requires limit { buffer.old.limit ≡ (seen log.old holding).f }
     requires empty { buffer.old.blocks ≡ [] }
     requires unsealed { buffer.old.is_sealed ≡ false }
@@ -58,11 +78,12 @@ fn fill(log: &mut Log, buffer: &mut Buffer, pages: &[u32]) -> Result<usize, LogF
         × (buffer.new ≡ record buffer.old { blocks = buffer.new.blocks })
         × AreBases (seen log.old holding) buffer.new.blocks (take n pages.now)
         × IsFull (seen log.old holding) (frame_of buffer.new) (drop n pages.now)) }
+    ensures part { OnOk result (IsPart lines.old lines.new) }
     ensures stops { ReadStops (λ _. Unit {0}) (seen log.old holding) result (seen log.new holding) }
     ensures paged { result ≢ Err LogFault.NoPage }
 {
     for at in 0..pages.len() {
-        let leaf = log.read_page(pages[at])?;
+        let leaf = take_page(log, lines, pages[at])?;
         let block = [Block::Base(leaf)];
         match buffer.put_all(&block) {
             Ok(_) => {}
@@ -74,15 +95,22 @@ fn fill(log: &mut Log, buffer: &mut Buffer, pages: &[u32]) -> Result<usize, LogF
 }
 
 /// Writes one frame of as many of the pages as fit, and answers how many.
-fn move_some(alloc: Global, log: &mut Log, pages: &[u32]) -> Result<usize, LogFault>
+fn move_some(
+    alloc: Global,
+    log: &mut Log,
+    lines: &mut BTreeMap<u32, Line>,
+    pages: &[u32],
+) -> Result<usize, LogFault>
     requires sound { IsSound log.old holding }
     requires works { (seen log.old holding).is_failed ≡ false }
     requires some { 0 < length pages.now }
     requires pages { AllByRecursion (IsPage (seen log.old holding)) pages.now }
+    requires ahead { AreAhead (seen log.old holding) lines.old pages.now }
     ensures sound { IsSound log.new holding }
     ensures moved { IfOk result (λ n. (0 < n) × (n ≤ length pages.now)
         × Moved (seen log.old holding) (seen log.new holding)
         (take n pages.now) (drop n pages.now) 1) }
+    ensures part { OnOk result (IsPart lines.old lines.new) }
     ensures refused { IfErr result (λ fault.
         Refused fault (seen log.old holding) (seen log.new holding)) }
 {
@@ -90,12 +118,39 @@ fn move_some(alloc: Global, log: &mut Log, pages: &[u32]) -> Result<usize, LogFa
         return Err(LogFault::Spent);
     };
     let mut buffer = Buffer::new(alloc, number, log.limit())?;
-    let count = fill(log, &mut buffer, pages)?;
+    let count = fill(log, lines, &mut buffer, pages)?;
     buffer.seal();
     // The bytes tell the proof that the frame is no longer than the limit.
     let _ = buffer.bytes();
     log.append_care(&buffer)?;
     Ok(count)
+}
+
+// Writes all the pages again, those that were read ahead out of the map.
+fn move_all(
+    alloc: Global,
+    log: &mut Log,
+    lines: &mut BTreeMap<u32, Line>,
+    pages: &[u32],
+) -> Result<u64, LogFault>
+    requires sound { IsSound log.old holding }
+    requires works { (seen log.old holding).is_failed ≡ false }
+    requires two { 2 ≤ length (seen log.old holding).live }
+    requires pages { pages.now ≡ old_pages (seen log.old holding) }
+    requires ahead { AreAhead (seen log.old holding) lines.old pages.now }
+    ensures sound { IsSound log.new holding }
+    ensures moved { IfOk result (λ frames. Moved (seen log.old holding) (seen log.new holding)
+        (old_pages (seen log.old holding)) [] frames) }
+    ensures refused { IfErr result (λ fault.
+        Stopped (seen log.old holding) fault (seen log.new holding)) }
+{
+    let mut frames = 0;
+    let mut at = 0;
+    while at < pages.len() {
+        at += move_some(alloc, log, lines, &pages[at..])?;
+        frames += 1;
+    }
+    Ok(frames)
 }
 
 /// Writes all the pages again, in frames of as many as fit, and answers how many frames.
@@ -110,11 +165,6 @@ pub(crate) fn move_pages(alloc: Global, log: &mut Log, pages: &[u32]) -> Result<
     ensures refused { IfErr result (λ fault.
         Stopped (seen log.old holding) fault (seen log.new holding)) }
 {
-    let mut frames = 0;
-    let mut at = 0;
-    while at < pages.len() {
-        at += move_some(alloc, log, &pages[at..])?;
-        frames += 1;
-    }
-    Ok(frames)
+    let mut lines = read_ahead(alloc, log, pages)?;
+    move_all(alloc, log, &mut lines, pages)
 }

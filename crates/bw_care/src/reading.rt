@@ -49,7 +49,7 @@ fn keep_some(leaf: Option<Leaf>, separator: &[u8]) -> Option<Leaf>
 }
 
 // What the map had of a page, taken out of it.
-fn take_line(lines: &mut BTreeMap<u32, Line>, page: u32) -> (Place, Option<Leaf>)
+pub(crate) fn take_line(lines: &mut BTreeMap<u32, Line>, page: u32) -> (Place, Option<Leaf>)
     ensures base { result.0 ≡ base_in (tree.get nat_cmp lines.old page) }
     ensures leaf { result.1 ≡ leaf_in (tree.get nat_cmp lines.old page) }
     ensures others { (p : ℕ) → tree.get nat_cmp lines.new p

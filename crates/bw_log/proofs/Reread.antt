@@ -28,7 +28,7 @@ length-frame x =
     omega (arith, length-head x.number (length body) (length x.blocks), length-append (head_bytes x.number (length body) (length x.blocks)) body)
 
 -- there are no more frames than bytes
-frames_few : (fs : List Frame) → length fs ≤ length (flat_map frame_bytes fs)
+pub frames_few : (fs : List Frame) → length fs ≤ length (flat_map frame_bytes fs)
 frames_few [] = omega arith
 frames_few (x ∷ fs) = omega (arith, frames_few fs, length-frame x, length-append (frame_bytes x) (flat_map frame_bytes fs))
 

@@ -1,32 +1,15 @@
-use Rattle.std.proofs.Common.{◌≡◌, ◌≤◌, ◌<◌, ◌+◌, ◌∙◌, refl, sym, ap, length, arith}
+use Rattle.std.proofs.Common.{◌≡◌, Err, ap}
 use Rattle.std.proofs.lemmas.Result.{err_from_is_err_and}
-use Rattle.bw_care.proofs.PagesMoved.{moved_none}
-use Rattle.bw_care.proofs.CleaningSteps.{rest_pages, moved_more, stopped_at, rest_inside}
+use Rattle.bw_care.proofs.CleaningSteps.{stopped_first, fill_refused}
+use Rattle.bw_care.specs.Views.{seen}
+use Rattle.bw_care.proofs.ReadAhead.{are_pages}
 use Rattle.bw_care.proofs.moving.move_pages.Goals as goal
 
-pub loop-at-init : goal.loop-at-init
-loop-at-init g c = record { inside = omega arith; few = omega arith; sound = c.requires.sound; moved = moved_none _ _ c.requires.works }
+pub read_ahead-requires-clause-pages : goal.read_ahead-requires-clause-pages
+read_ahead-requires-clause-pages g c = are_pages (seen c.args.log.now (λ b. (goal.Segment-dyn g b).holding b.1)) c.args.pages.now c.requires.pages
 
-pub move_some-requires-clause-pages : goal.move_some-requires-clause-pages
-move_some-requires-clause-pages g c = rest_pages _ _ c.args.pages.now c.loop-at.at _ c.loop-at.frames c.requires.pages c.loop-at.invariant.moved
-
-pub returns-in_err-at-clause-refused : goal.returns-in_err-at-clause-refused
-returns-in_err-at-clause-refused g c =
+pub returns-in_err-lines-clause-refused : goal.returns-in_err-lines-clause-refused
+returns-in_err-lines-clause-refused g c =
     let p = err_from_is_err_and c.from_residual.result c.from_residual.ensures.1 in
-    rw (p.1, p.2) (stopped_at _ _ _ c.args.pages.now c.loop-at.at c.loop-at.frames c.in_err-at.field-0.0 c.requires.pages c.loop-at.invariant.moved
-    c.in_err-at.ensures.refused)
-
-pub loop-at-preserved : goal.loop-at-preserved
-loop-at-preserved g c =
-    let moved = c.in_ok-at.ensures.moved in
-    let some = moved.0 in
-    let inside = moved.1 in
-    let kept = c.loop-at.invariant.inside in
-    let few = c.loop-at.invariant.few in
-    record {
-      inside = rest_inside c.args.pages.now c.loop-at.at c.in_ok-at.field-0 inside kept;
-      few = omega arith;
-      sound = c.in_ok-at.ensures.sound;
-      moved = moved_more _ _ _ c.args.pages.now c.loop-at.at c.in_ok-at.field-0 c.loop-at.frames c.requires.sound c.loop-at.invariant.sound c.requires.two
-          c.requires.works c.loop-at.invariant.moved moved.2;
-    }
+    rw (p.1, p.2) (stopped_first _ _ c.in_err-lines.field-0.0 c.requires.works
+    (fill_refused _ _ c.in_err-lines.field-0.0 c.in_err-lines.ensures.stops (λ same. c.in_err-lines.ensures.paged (ap (λ fault. Err fault) same))))

@@ -1,0 +1,198 @@
+-- The boxes of a log, sorted out: its live segments in their order, and its spares.
+
+use Rattle.std.proofs.Common.{◌≡◌, ℕ, zero, suc, ◌+◌, ◌-◌, ◌^◌, ◌<◌, ◌≤◌, ◌==◌, ◌&&◌, ◌||◌, not, nat_lt, Bool, true, false, if◌then◌else◌, Option, Some, None, List}
+use Rattle.std.proofs.Common.{[], ◌∷◌, ◌++◌, length, drop, map, refl, sym, ap, subst, ◌∙◌, arith, append_assoc, append-nil, length-append}
+use Rattle.std.specs.List.{fold, filter, flat_map, list_any, AllByRecursion}
+use Rattle.std.proofs.lemmas.Bool.{eq-eqb, le-ltb}
+use Rattle.std.proofs.lemmas.List.{drop_at}
+use Rattle.bw_codec.specs.Grammar.{frame_bytes, header_bytes, IsWhole}
+use Rattle.bw_codec.specs.Reading.{front_at, heading_of, header_in}
+use Rattle.bw_codec.specs.declared.block.Frame.{Frame}
+use Rattle.bw_codec.specs.declared.block.FrameRead.{FrameRead}
+use Rattle.bw_codec.specs.declared.block.FrameRead.TheVariants.{Tail}
+use Rattle.bw_codec.specs.declared.block.Header.{Header}
+use Rattle.bw_codec.specs.declared.block.HeaderRead.TheVariants as heading
+use Rattle.bw_codec.proofs.FrontFormat.{is_front}
+use Rattle.bw_codec.proofs.Heading.{header_again, length-header}
+use Rattle.bw_device.specs.Holding.{Holding}
+use Rattle.bw_log.specs.Segments.{segment_frames, frames_at, IsLive, AreLive, AreFrom}
+use Rattle.bw_log.proofs.Reread.{frames_read, frames_few}
+use Rattle.bw_care.specs.Behind.{EndsInTail}
+use Rattle.bw_care.specs.Scanning.{has_header, has_header_by, has_part, has_part_by, is_bare, rest_of, fault_by, fault_in}
+use Rattle.bw_care.specs.Recovery.{placed_by, in_order, number_in, segments_in, live_in, spares_in, parts_in, bytes_fault, bytes_fault_by, is_like, follow_on}
+use Rattle.bw_care.specs.declared.fault.RecoverCause.{RecoverCause}
+use Rattle.bw_care.proofs.HeadersRead.{fault_whole}
+use Rattle.bw_care.proofs.SortedOut.{header_is, bare_none, not_bare, keeps, drops, number_at}
+use Rattle.bw_care.proofs.TailsCounted.{bare_part}
+
+-- ---- one segment
+
+abbrev head_of : ℕ → ℕ → ℕ → Header
+head_of m f n = record { number = n; m = m; f = f }
+
+pub live_heading : (m f n : ℕ) (bytes : List ℕ) → IsLive m f n bytes → heading_of bytes ≡ heading.Whole (head_of m f n)
+live_heading m f n bytes live = ap heading_of live.whole.parts ∙ header_again (head_of m f n)
+    (flat_map frame_bytes (segment_frames bytes) ++ live.cut) live.whole.lawful
+
+pub live_header : (m f n : ℕ) (bytes : List ℕ) → IsLive m f n bytes → header_in bytes ≡ head_of m f n
+live_header m f n bytes live = sym (header_is bytes (head_of m f n) (live_heading m f n bytes live))
+
+-- what follows its last whole frame is its tail
+live_rest : (m f n : ℕ) (bytes : List ℕ) (live : IsLive m f n bytes) → rest_of m f bytes ≡ live.cut
+unfolding rest_of
+live_rest m f n bytes live =
+    let h = head_of m f n in
+    let fs = segment_frames bytes in
+    let rest = flat_map frame_bytes fs ++ live.cut in
+    let ms = live.whole.lawful.m in
+    let fl = live.whole.lawful.f in
+    let left : drop 24 bytes ≡ rest = ap (λ (b : List ℕ). drop 24 b) live.whole.parts ∙ drop_at (header_bytes h) rest 24 (length-header h) in
+    let size = ap (λ (b : List ℕ). length b) live.whole.parts in
+    let few : length fs ≤ length bytes =
+    omega (arith, size, frames_few fs, length-append (header_bytes h) rest, length-append (flat_map frame_bytes fs) live.cut) in
+    ap (λ (b : List ℕ). (frames_at (length bytes) m f b).1) left
+    ∙ ap (λ (r : List Frame × List ℕ). r.1) (frames_read (length bytes) m f fs live.cut (omega arith) (omega arith) live.whole.each live.whole.tail few)
+
+pub live_long : (m f n : ℕ) (bytes : List ℕ) → IsLive m f n bytes → 24 ≤ length bytes
+live_long m f n bytes live =
+    let h = head_of m f n in
+    let rest = flat_map frame_bytes (segment_frames bytes) ++ live.cut in
+    let size = ap (λ (b : List ℕ). length b) live.whole.parts in
+    omega (arith, size, length-header h, length-append (header_bytes h) rest)
+
+-- behind its last whole frame stands a tail
+pub live_ends : (m f n : ℕ) (bytes : List ℕ) → IsLive m f n bytes → EndsInTail m f bytes
+live_ends m f n bytes live =
+    let ms = live.whole.lawful.m in
+    let fl = live.whole.lawful.f in
+    let front : front_at m f (rest_of m f bytes) ≡ Some Tail =
+    ap (front_at m f) (live_rest m f n bytes live) ∙ is_front m f live.cut Tail (omega arith) (omega arith) live.whole.tail in
+    ap (fault_by (length bytes - length (rest_of m f bytes))) front
+
+-- its bytes have no fault
+live_unfaulted : (m f n : ℕ) (bytes : List ℕ) → IsLive m f n bytes → fault_in bytes ≡ None
+live_unfaulted m f n bytes live = fault_whole bytes (head_of m f n) (live_heading m f n bytes live) ∙ live_ends m f n bytes live
+
+-- ---- segments before spares
+
+abbrev pub AreEmpty : List Holding → Type 0
+AreEmpty hs = AllByRecursion (λ h. h.bytes ≡ []) hs
+
+abbrev pub AreSegments : ℕ → ℕ → ℕ → List Holding → Type 0
+AreSegments m f n hs = AreLive m f n (map (λ h. h.bytes) hs)
+
+abbrev with_header : Holding → Bool
+with_header h = has_header h.bytes
+
+abbrev without_bytes : Holding → Bool
+without_bytes h = is_bare h.bytes
+
+abbrev with_part : Holding → Bool
+with_part h = has_part h.bytes
+
+none_among : (ss : List Holding) → AreEmpty ss → segments_in ss ≡ []
+none_among [] empty = refl
+none_among (s ∷ ss) empty = drops with_header s ss (ap has_header empty.0 ∙ bare_none) ∙ none_among ss empty.1
+
+pub segments_are : (m f n : ℕ) (ls ss : List Holding) → AreSegments m f n ls → AreEmpty ss → segments_in (ls ++ ss) ≡ ls
+segments_are m f n [] ss live empty = none_among ss empty
+segments_are m f n (l ∷ ls) ss live empty =
+    keeps with_header l (ls ++ ss) (ap has_header_by (live_heading m f n l.bytes live.0))
+    ∙ ap (λ (hs : List Holding). l ∷ hs) (segments_are m f (n + 1) ls ss live.1 empty)
+
+all_bare : (ss : List Holding) → AreEmpty ss → spares_in ss ≡ ss
+all_bare [] empty = refl
+all_bare (s ∷ ss) empty = keeps without_bytes s ss (ap is_bare empty.0) ∙ ap (λ (hs : List Holding). s ∷ hs) (all_bare ss empty.1)
+
+pub spares_are : (m f n : ℕ) (ls ss : List Holding) → AreSegments m f n ls → AreEmpty ss → spares_in (ls ++ ss) ≡ ss
+spares_are m f n [] ss live empty = all_bare ss empty
+spares_are m f n (l ∷ ls) ss live empty =
+    drops without_bytes l (ls ++ ss) (not_bare l.bytes (has_header l.bytes) refl (ap has_header_by (live_heading m f n l.bytes live.0)))
+    ∙ spares_are m f (n + 1) ls ss live.1 empty
+
+no_parts : (ss : List Holding) → AreEmpty ss → parts_in ss ≡ []
+no_parts [] empty = refl
+no_parts (s ∷ ss) empty = drops with_part s ss (ap has_part empty.0 ∙ bare_part) ∙ no_parts ss empty.1
+
+pub parts_none : (m f n : ℕ) (ls ss : List Holding) → AreSegments m f n ls → AreEmpty ss → parts_in (ls ++ ss) ≡ []
+parts_none m f n [] ss live empty = no_parts ss empty
+parts_none m f n (l ∷ ls) ss live empty =
+    drops with_part l (ls ++ ss) (ap has_part_by (live_heading m f n l.bytes live.0)) ∙ parts_none m f (n + 1) ls ss live.1 empty
+
+no_spare_fault : (k : ℕ) (ss : List Holding) → AreEmpty ss → bytes_fault k ss ≡ None
+no_spare_fault k [] empty = refl
+no_spare_fault k (s ∷ ss) empty =
+    ap (λ (o : Option ℕ). bytes_fault_by k o (bytes_fault (k + 1) ss)) (ap fault_in empty.0) ∙ no_spare_fault (k + 1) ss empty.1
+
+pub bytes_right : (m f n k : ℕ) (ls ss : List Holding) → AreSegments m f n ls → AreEmpty ss → bytes_fault k (ls ++ ss) ≡ None
+bytes_right m f n k [] ss live empty = no_spare_fault k ss empty
+bytes_right m f n k (l ∷ ls) ss live empty =
+    ap (λ (o : Option ℕ). bytes_fault_by k o (bytes_fault (k + 1) (ls ++ ss))) (live_unfaulted m f n l.bytes live.0)
+    ∙ bytes_right m f (n + 1) (k + 1) ls ss live.1 empty
+
+-- ---- in order
+
+-- what has no number above this one stands before it
+placed_behind : (hs : List Holding) (h : Holding) → AllByRecursion (λ x. number_at x ≤ number_at h) hs → placed_by number_at h hs ≡ hs ++ h ∷ []
+placed_behind [] h all = refl
+placed_behind (x ∷ xs) h all =
+    ap (λ (t : Bool). if t then h ∷ x ∷ xs else x ∷ placed_by number_at h xs) (le-ltb (number_at h) (number_at x) all.0)
+    ∙ ap (λ (l : List Holding). x ∷ l) (placed_behind xs h all.1)
+
+all_above : (n : ℕ) (hs : List Holding) → AllByRecursion (λ x. number_at x < n) hs → AllByRecursion (λ x. number_at x ≤ n) hs
+all_above n [] all = tt
+all_above n (x ∷ xs) all = (let less = all.0 in omega arith, all_above n xs all.1)
+
+all_more : (n : ℕ) (hs : List Holding) (h : Holding) → number_at h ≡ n → AllByRecursion (λ x. number_at x < n) hs
+    → AllByRecursion (λ x. number_at x < n + 1) (hs ++ h ∷ [])
+all_more n [] h is all = (omega arith, tt)
+all_more n (x ∷ xs) h is all = (let less = all.0 in omega arith, all_more n xs h is all.1)
+
+ordered_from : (m f n : ℕ) (done ls : List Holding) → AreSegments m f n ls → AllByRecursion (λ x. number_at x < n) done
+    → fold (λ sorted x. placed_by number_at x sorted) done ls ≡ done ++ ls
+ordered_from m f n done [] live all = sym (append-nil done)
+ordered_from m f n done (l ∷ ls) live all =
+    let is : number_at l ≡ n = ap (λ (h : Header). h.number) (live_header m f n l.bytes live.0) in
+    let before : AllByRecursion (λ x. number_at x ≤ number_at l) done =
+    subst (λ (k : ℕ). AllByRecursion (λ x. number_at x ≤ k) done) (sym is) (all_above n done all) in
+    ap (λ (hs : List Holding). fold (λ sorted x. placed_by number_at x sorted) hs ls) (placed_behind done l before)
+    ∙ ordered_from m f (n + 1) (done ++ l ∷ []) ls live.1 (all_more n done l is all)
+    ∙ append_assoc done (l ∷ []) ls
+
+pub live_are : (m f n : ℕ) (ls ss : List Holding) → AreSegments m f n ls → AreEmpty ss → live_in (ls ++ ss) ≡ ls
+live_are m f n ls ss live empty = ap (in_order number_at) (segments_are m f n ls ss live empty) ∙ ordered_from m f n [] ls live tt
+
+-- ---- headers
+
+same_limits : (m f : ℕ) (a b : Header) → a.m ≡ m → a.f ≡ f → b.m ≡ m → b.f ≡ f → not (is_like a b) ≡ false
+same_limits m f a b am af bm bf =
+    ap (λ (t : Bool). not (t && (b.f == a.f))) (eq-eqb b.m a.m (bm ∙ sym am)) ∙ ap not (eq-eqb b.f a.f (bf ∙ sym af))
+
+pub none_mixed : (m f n : ℕ) (h : Header) (ls : List Holding) → h.m ≡ m → h.f ≡ f → AreSegments m f n ls
+    → list_any (λ x. not (is_like h (header_in x.bytes))) ls ≡ false
+none_mixed m f n h [] hm hf live = refl
+none_mixed m f n h (l ∷ ls) hm hf live =
+    let is = live_header m f n l.bytes live.0 in
+    ap (λ (t : Bool). t || list_any (λ x. not (is_like h (header_in x.bytes))) ls)
+    (same_limits m f h (header_in l.bytes) hm hf (ap (λ (k : Header). k.m) is) (ap (λ (k : Header). k.f) is))
+    ∙ none_mixed m f (n + 1) h ls hm hf live.1
+
+-- ---- numbers
+
+pub segments_follow : (m f n : ℕ) (ls : List Holding) → AreSegments m f n ls → follow_on (map (λ h. number_in h.bytes) ls) ≡ true
+segments_follow m f n [] live = refl
+segments_follow m f n (l ∷ []) live = refl
+segments_follow m f n (l ∷ k ∷ ls) live =
+    let one : number_at l ≡ n = ap (λ (h : Header). h.number) (live_header m f n l.bytes live.0) in
+    let two : number_at k ≡ n + 1 = ap (λ (h : Header). h.number) (live_header m f (n + 1) k.bytes live.1.0) in
+    ap (λ (t : Bool). t && follow_on (map (λ h. number_in h.bytes) (k ∷ ls)))
+    (eq-eqb (number_at l + 1) (number_at k) (ap (λ (i : ℕ). i + 1) one ∙ sym two))
+    ∙ segments_follow m f (n + 1) (k ∷ ls) live.1
+
+pub frames_follow : (n : ℕ) (fs : List Frame) → AreFrom n fs → follow_on (map (λ f. f.number) fs) ≡ true
+frames_follow n [] from = refl
+frames_follow n (f ∷ []) from = refl
+frames_follow n (f ∷ g ∷ fs) from =
+    ap (λ (t : Bool). t && follow_on (map (λ x. x.number) (g ∷ fs)))
+    (eq-eqb (f.number + 1) g.number (ap (λ (i : ℕ). i + 1) from.0 ∙ sym from.1.0))
+    ∙ frames_follow (n + 1) (g ∷ fs) from.1

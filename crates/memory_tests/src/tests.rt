@@ -1,0 +1,4 @@
+//! The third vector, recovered and cleaned.
+
+mod boxes;
+mod refused;

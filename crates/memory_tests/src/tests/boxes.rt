@@ -1,0 +1,44 @@
+//! The three segments of the third vector as boxes.
+
+use bw_device::{Desk, MemSegment, Segment};
+use std::alloc::Global;
+
+/// The oldest segment: the empty page 1, and k=1.
+pub(super) const LOST: &str =
+    "42574c4f475347310100000000000000040000000040000046524d3101000000000000002000000002000000\
+    02010000000000000101000000010000000000000000000000010001016b0131";
+
+/// The one behind it: j=2.
+pub(super) const OLDER: &str =
+    "42574c4f475347310200000000000000040000000040000046524d3102000000000000001800000001000000\
+    0101000000010000000000000001000000010001016a0132";
+
+/// The newest: k=3.
+pub(super) const NEWER: &str =
+    "42574c4f475347310300000000000000040000000040000046524d3103000000000000001800000001000000\
+    0101000000020000000000000000000000010001016b0133";
+
+fn add(
+    alloc: Global,
+    desk: &mut Desk,
+    hex: &'static str,
+    boxes: &mut Vec<Box<dyn Segment>>,
+) -> Option<()> {
+    let bytes = hex::decode(alloc, hex).ok()?;
+    let segment = MemSegment::with_bytes(alloc, desk.take().ok()?, 65_560, &bytes).ok()?;
+    boxes.push(Box::new(alloc, segment).ok()?).ok()?;
+    Some(())
+}
+
+/// A box for each text; an empty text is a spare. None where memory for them is refused.
+pub(super) fn add_all(
+    alloc: Global,
+    desk: &mut Desk,
+    texts: &[&'static str],
+    boxes: &mut Vec<Box<dyn Segment>>,
+) -> Option<()> {
+    for text in texts {
+        add(alloc, desk, *text, boxes)?;
+    }
+    Some(())
+}
