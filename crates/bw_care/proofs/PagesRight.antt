@@ -214,12 +214,13 @@ map_length g (x ∷ xs) = ap suc (map_length g xs)
 
 pub right_pages : (m f : ℕ) (frames : List Frame) (es : List Paged) (r : Pages) → AllByRecursion (IsFrame m f) frames → Rise 0 es → AreOf frames es
     → fault_among m frames ≡ None
-    → r.leaves.m ≡ m → r.leaves.leaves ≡ leaves_in es → r.table.items ≡ map at_line es → IsRight m frames r
-right_pages m f frames es r laws rise of none limit leaves table =
+    → r.leaves.m ≡ m → r.leaves.away ≡ [] → r.leaves.leaves ≡ leaves_in es → r.table.items ≡ map at_line es → IsRight m frames r
+right_pages m f frames es r laws rise of none limit here leaves table =
     let no_fault = none_wrong m frames es rise of none in
     record {
       none = none;
       limit = limit;
+      here = here;
       leaves = leaves ∙ found_leaves m frames es rise of no_fault;
       table = subst (λ (t : List PageAt). IsTable t frames) (sym table) (table_is m frames es rise of (numbers_from m f frames laws) no_fault);
       count = ap (λ (t : List PageAt). length t) table ∙ map_length at_line es ∙ sym (leaves_count m 0 (leaves_set (blocks_of frames)) es no_fault)

@@ -124,6 +124,7 @@ HasFrames m lines = (f : ℕ) × (frames : List Frame) × AllByRecursion (IsFram
 pub record IsRight (m : ℕ) (frames : List Frame) (r : Pages) : Type 0 where
   pub none : fault_among m frames ≡ None
   pub limit : r.leaves.m ≡ m
+  pub here : r.leaves.away ≡ []
   pub leaves : r.leaves.leaves ≡ contents (blocks_of frames) 1 (top_page (blocks_of frames))
   pub table : IsTable r.table.items frames
   pub count : length r.table.items ≡ length r.leaves.leaves

@@ -87,6 +87,7 @@ pub record IsPlan (boxes : List Holding) (p : Plan) : Type 0 where
   pub opened : p.tables.is_open ≡ ends_whole (live_in boxes)
   pub follows : next_in p.tables.frames.items ≡ following p.last
   pub limit : p.leaves.m ≡ p.tables.m
+  pub here : p.leaves.away ≡ []
   pub pages : length p.leaves.leaves ≡ length p.tables.pages.items
 
 abbrev pub as_cause : ReadFault → RecoverCause

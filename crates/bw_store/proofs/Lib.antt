@@ -12,6 +12,7 @@ pub mod Refusing
 pub mod SettledMore
 pub mod MovedMore
 pub mod CleanedMore
+pub mod ReopenedMore
 pub mod Laned
 pub mod Planned
 pub mod Shares

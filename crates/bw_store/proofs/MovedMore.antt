@@ -99,17 +99,17 @@ all_dropped P zero xs h = h
 all_dropped P (suc k) [] h = tt
 all_dropped P (suc k) (x ∷ xs) h = all_dropped P k xs h.1
 
-all_of_get : {X : Type 0} (P : X → Type 0) (xs : List X) → ((i : ℕ) (x : X) → i < length xs → slice_get xs i ≡ Some x → P x) → All P xs
+pub all_of_get : {X : Type 0} (P : X → Type 0) (xs : List X) → ((i : ℕ) (x : X) → i < length xs → slice_get xs i ≡ Some x → P x) → All P xs
 all_of_get P [] h = tt
 all_of_get P (x ∷ xs) h = (h zero x (omega arith) refl, all_of_get P xs (λ i y lt is. h (suc i) y (omega arith) is))
 
-linked_next : (fs : List Frame) (n : ℕ) → 1 ≤ length fs → AreLinked fs → AreLinked (fs ++ empty_frame n ∷ [])
+pub linked_next : (fs : List Frame) (n : ℕ) → 1 ≤ length fs → AreLinked fs → AreLinked (fs ++ empty_frame n ∷ [])
 linked_next fs n some linked =
     ap (λ k. bad_link k [] (all_placed (fs ++ empty_frame n ∷ []))) (first_ahead fs (empty_frame n ∷ []) some)
     ∙ ap (bad_link (first_number fs) []) (placed_same fs n)
     ∙ linked
 
-place_next : (fs : List Frame) (n p : ℕ) → place_of p (fs ++ empty_frame n ∷ []) ≡ place_of p fs
+pub place_next : (fs : List Frame) (n p : ℕ) → place_of p (fs ++ empty_frame n ∷ []) ≡ place_of p fs
 place_next fs n p = ap (last_place (touches p)) (placed_same fs n)
 
 -- ---- what the cleaner added

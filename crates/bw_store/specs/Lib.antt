@@ -10,6 +10,7 @@ pub mod Settled
 pub mod Lanes
 pub mod Taking
 pub mod Opened
+pub mod Reopened
 pub mod Following
 pub mod Reading
 pub mod Cleaning

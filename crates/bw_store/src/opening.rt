@@ -76,7 +76,7 @@ fn put_first(making: &mut Buffer, blocks: &[Block])
 }
 
 // Lanes from which nothing was taken, and the feeds that belong to them.
-fn intake_of(alloc: Global, config: &Config) -> Result<(Vec<Feed>, Intake), StoreFault>
+pub(crate) fn intake_of(alloc: Global, config: &Config) -> Result<(Vec<Feed>, Intake), StoreFault>
     requires { IsConfig config.now }
     ensures feeds { IfOk result (λ p.
         map ring_of_lane p.1.lanes.items ≡ map ring_of_feed p.0.items) }

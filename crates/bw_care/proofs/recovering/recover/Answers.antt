@@ -35,6 +35,7 @@ returns-in-Ok-prepare-clause-recovered g c =
     record {
       sound = c.adopt-log.ensures.sound;
       stands = subst (λ (k : Contents). Stand c.in-Ok-prepare.plan.leaves.m (counted k) c.in-Ok-prepare.plan.leaves.leaves) (sym same) plan.stands;
+      here = plan.here;
       first = ap (λ (k : Contents). first_number (counted k)) same ∙ plan.begins;
       last = ap (λ (k : Contents). last_number (counted k)) same ∙ plan.ends;
     }
