@@ -1,12 +1,12 @@
 //! Readers, and news.
 
-ghost use Rattle.std.specs.Prelude.{◌≡◌, ◌⊎◌, OnOk, OnErr, IfOk};
+ghost use Rattle.std.specs.Prelude.{◌≡◌, ◌⊎◌, OnOk, OnErr, IfOk, IfSome};
 ghost use mathlib.Core.List.{IsPrefix};
 ghost use Rattle.bw_versions.specs.Posted.{posted_of, value_in, leaf_in};
 ghost use Rattle.bw_versions.specs.Heard.{Beyond, Reads};
 
 use crate::front::Front;
-use crate::reading::{Looker, VersionReader};
+use crate::reading::{Looker, PageOf, Question, VersionReader};
 use bw_codec::{Key, Leaf, Value};
 use core::mem::replace_with;
 use std::marker::Model;
@@ -104,17 +104,9 @@ impl<L: Looker> ReaderOf<L> {
             seen,
             learnt,
         } = self;
-        let looked = replace_with(inner, (&*seen, key), |reader, asked| {
-            reader.look(asked.0, asked.1)
-        });
-        let Some((value, mark)) = looked else {
+        let Some((value, mark)) = looked(inner, seen, learnt, key) else {
             return Err(NoReader);
         };
-        // What was told was published before, so the machine's steps never bring this about; no
-        // clause of the versions says so.
-        if !mark.has(learnt) {
-            return Err(NoReader);
-        }
         *seen = mark.again();
         *learnt = mark;
         Ok(value)
@@ -134,16 +126,9 @@ impl<L: Looker> ReaderOf<L> {
             seen,
             learnt,
         } = self;
-        let looked = replace_with(inner, (&*seen, page), |reader, asked| {
-            reader.look_page(asked.0, asked.1)
-        });
-        let Some((leaf, mark)) = looked else {
+        let Some((leaf, mark)) = looked(inner, seen, learnt, &PageOf(page)) else {
             return Err(ReadFault::NoReader);
         };
-        // As in `get`.
-        if !mark.has(learnt) {
-            return Err(ReadFault::NoReader);
-        }
         let Ok(leaf) = leaf else {
             return Err(ReadFault::NoMemory);
         };
@@ -165,4 +150,32 @@ impl<L: Looker> ReaderOf<L> {
             self.learnt = front;
         }
     }
+}
+
+// The answer to a question, with the front of what was asked: that begins with what was seen and
+// with what was learnt.
+fn looked<L: Looker, Q: Question>(
+    inner: &mut L,
+    seen: &Front,
+    learnt: &Front,
+    question: &Q,
+) -> Option<(Q::Answer, Front)>
+    requires book { learnt.now.book ≡ seen.now.book }
+    requires knows { Beyond seen.now (L.knows inner.old) }
+    ensures knows { Beyond seen.now (L.knows inner.new) }
+    ensures sees { IfSome result (λ r. Beyond r.1 (L.knows inner.new)) }
+    ensures book { IfSome result (λ r. r.1.book ≡ seen.now.book) }
+    ensures seen { IfSome result (λ r. IsPrefix seen.now.log r.1.log) }
+    ensures learnt { IfSome result (λ r. IsPrefix learnt.now.log r.1.log) }
+    ensures answer { IfSome result (λ r. Q.answers question.now (posted_of r.1.log) r.0) }
+{
+    let (answer, mark) = replace_with(inner, (seen, question), |reader, asked| {
+        reader.look(asked.0, asked.1)
+    })?;
+    // What was told was published before, so the machine's steps never bring this about; no clause
+    // of the versions says so.
+    if !mark.has(learnt) {
+        return None;
+    }
+    Some((answer, mark))
 }

@@ -1,13 +1,13 @@
 //! The readers' rule, and one read.
 
-ghost use Rattle.std.specs.Prelude.{◌≡◌, IfSome, IfOk};
+ghost use Rattle.std.specs.Prelude.{◌≡◌, IfSome};
 ghost use mathlib.Core.List.{IsPrefix};
 ghost use Rattle.left_right.specs.Sides.{view};
-ghost use Rattle.bw_versions.specs.Posted.{posted_of, value_in, leaf_in};
+ghost use Rattle.bw_versions.specs.Posted.{posted_of};
 ghost use Rattle.bw_versions.specs.Heard.{Beyond};
 
 use crate::front::Front;
-use crate::version::Version;
+use crate::version::{Posts, Version};
 use bw_codec::{Key, Leaf, Value};
 use crossbeam_utils::rule::{Outcome, Protocol};
 use std::alloc::AllocError;
@@ -38,6 +38,50 @@ impl Outcome<Version, View> for Looks {
 
 pub type VersionReader = left_right::reader::Reader<Version, View, OneBook>;
 
+/// What is asked of what is shown.
+pub trait Question {
+    type Answer: Drop;
+
+    ghost use Rattle.std.specs.Prelude.{Option};
+    ghost use Rattle.bw_versions.specs.Posted.{Posted};
+
+    ghost answers: { Self → Option Posted → Self.Answer → Type 0 };
+
+    fn ask(&self, posts: &Posts) -> Self::Answer
+        ensures { answers self.now (posted_of posts.now) result };
+}
+
+/// The value of a key.
+impl Question for Key {
+    type Answer = Option<Value>;
+
+    ghost use Rattle.std.specs.Prelude.{◌≡◌};
+    ghost use Rattle.bw_versions.specs.Posted.{value_in};
+
+    ghost answers = { λ key p value. value ≡ value_in p key };
+
+    fn ask(&self, posts: &Posts) -> Option<Value> {
+        posts.get(self)
+    }
+}
+
+/// A copy of a page, by its number.
+#[derive(Clone, Copy)]
+pub struct PageOf(pub u32);
+
+impl Question for PageOf {
+    type Answer = Result<Option<Leaf>, AllocError>;
+
+    ghost use Rattle.std.specs.Prelude.{◌≡◌, IfOk};
+    ghost use Rattle.bw_versions.specs.Posted.{leaf_in};
+
+    ghost answers = { λ page p answer. IfOk answer (λ leaf. leaf ≡ leaf_in p page.0) };
+
+    fn ask(&self, posts: &Posts) -> Result<Option<Leaf>, AllocError> {
+        posts.page(self.0)
+    }
+}
+
 /// A reader's seat at what is shown.
 pub trait Looker: Drop {
     ghost use Rattle.std.specs.Prelude.{Option};
@@ -45,95 +89,48 @@ pub trait Looker: Drop {
 
     ghost knows: { Self → Option Reach };
 
-    /// Reads a value by a seat that knows its book: the value, and the front of what was read.
-    /// Where the versions have ended it answers none.
-    fn look(self, seen: &Front, key: &Key) -> (Self, Option<(Option<Value>, Front)>)
+    /// Asks by a seat that knows its book: the answer, and the front of what was asked. Where the
+    /// versions have ended it is none.
+    fn look<Q: Question>(self, seen: &Front, question: &Q) -> (Self, Option<(Q::Answer, Front)>)
         requires { Beyond seen.now (knows self) }
         ensures view { Beyond seen.now (knows result.0) }
         ensures seen { IfSome result.1 (λ r. Beyond r.1 (knows result.0)) }
         ensures book { IfSome result.1 (λ r. r.1.book ≡ seen.now.book) }
         ensures later { IfSome result.1 (λ r. IsPrefix seen.now.log r.1.log) }
-        ensures value { IfSome result.1 (λ r. r.0 ≡ value_in (posted_of r.1.log) key.now) };
-
-    /// Reads a page in the same way.
-    fn look_page(
-        self,
-        seen: &Front,
-        page: u32,
-    ) -> (Self, Option<(Result<Option<Leaf>, AllocError>, Front)>)
-        requires { Beyond seen.now (knows self) }
-        ensures view { Beyond seen.now (knows result.0) }
-        ensures seen { IfSome result.1 (λ r. Beyond r.1 (knows result.0)) }
-        ensures book { IfSome result.1 (λ r. r.1.book ≡ seen.now.book) }
-        ensures later { IfSome result.1 (λ r. IsPrefix seen.now.log r.1.log) }
-        ensures page { IfSome result.1 (λ r.
-            IfOk r.0 (λ p. p ≡ leaf_in (posted_of r.1.log) page)) };
+        ensures answer { IfSome result.1 (λ r.
+            Q.answers question.now (posted_of r.1.log) r.0) };
 }
 
 impl Looker for VersionReader {
     ghost knows = { λ r. view r.place };
 
-    fn look(self, seen: &Front, key: &Key) -> (VersionReader, Option<(Option<Value>, Front)>) {
-        look_at(self, seen, key)
-    }
-
-    fn look_page(
+    fn look<Q: Question>(
         self,
         seen: &Front,
-        page: u32,
-    ) -> (
-        VersionReader,
-        Option<(Result<Option<Leaf>, AllocError>, Front)>,
-    ) {
-        look_page_at(self, seen, page)
+        question: &Q,
+    ) -> (VersionReader, Option<(Q::Answer, Front)>) {
+        look_at(self, seen, question)
     }
 }
 
-fn look_at(
+fn look_at<Q: Question>(
     reader: VersionReader,
     seen: &Front,
-    key: &Key,
-) -> (VersionReader, Option<(Option<Value>, Front)>)
+    question: &Q,
+) -> (VersionReader, Option<(Q::Answer, Front)>)
     requires { Beyond seen.now (view reader.place) }
     ensures view { Beyond seen.now (view result.0.place) }
     ensures seen { IfSome result.1 (λ r. Beyond r.1 (view result.0.place)) }
     ensures book { IfSome result.1 (λ r. r.1.book ≡ seen.now.book) }
     ensures later { IfSome result.1 (λ r. IsPrefix seen.now.log r.1.log) }
-    ensures value { IfSome result.1 (λ r. r.0 ≡ value_in (posted_of r.1.log) key.now) }
+    ensures answer { IfSome result.1 (λ r. Q.answers question.now (posted_of r.1.log) r.0) }
 {
     match reader.enter_as::<Looks>() {
         Ok(reading) => {
             let version = reading.get();
             let mark = version.mark.again();
-            let value = version.posts.get(key);
-            (reading.leave(), Some((value, mark)))
-        }
-        Err(reader) => (reader, None),
-    }
-}
-
-fn look_page_at(
-    reader: VersionReader,
-    seen: &Front,
-    page: u32,
-) -> (
-    VersionReader,
-    Option<(Result<Option<Leaf>, AllocError>, Front)>,
-)
-    requires { Beyond seen.now (view reader.place) }
-    ensures view { Beyond seen.now (view result.0.place) }
-    ensures seen { IfSome result.1 (λ r. Beyond r.1 (view result.0.place)) }
-    ensures book { IfSome result.1 (λ r. r.1.book ≡ seen.now.book) }
-    ensures later { IfSome result.1 (λ r. IsPrefix seen.now.log r.1.log) }
-    ensures page { IfSome result.1 (λ r.
-        IfOk r.0 (λ p. p ≡ leaf_in (posted_of r.1.log) page)) }
-{
-    match reader.enter_as::<Looks>() {
-        Ok(reading) => {
-            let version = reading.get();
-            let mark = version.mark.again();
-            let leaf = version.posts.page(page);
-            (reading.leave(), Some((leaf, mark)))
+            let answer = question.ask(&version.posts);
+            (reading.leave(), Some((answer, mark)))
         }
         Err(reader) => (reader, None),
     }
