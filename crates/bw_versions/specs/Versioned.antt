@@ -1,6 +1,6 @@
 -- What a contract sees of a store's versions.
 
-use Rattle.std.specs.Prelude.{ℕ, ◌≡◌, ◌≤◌, List, length}
+use Rattle.std.specs.Prelude.{ℕ, ◌≡◌, ◌≤◌, ◌⊎◌, List, [], ◌∷◌, ◌++◌, length}
 use Rattle.bw_page.specs.Shown.{Shown}
 use Rattle.logbook.specs.Pages.{Book}
 use Rattle.bw_versions.specs.declared.entry.Entry.{Entry}
@@ -22,3 +22,8 @@ pub record IsUpTo (v : Versioned) (es : List Entry) : Type 0 where
   pub begun : 1 ≤ length v.published
   pub all : v.entered ≡ v.published
   pub entries : entries_of v.published ≡ es
+
+-- at most one batch is entered: all of these entries that the book has not, whole
+abbrev pub EntersWhole : List BatchData → List BatchData → List Entry → Type 0
+EntersWhole old new es =
+    (new ≡ old) ⊎ ((b : BatchData) × (new ≡ old ++ b ∷ []) × (entries_of old ++ b.entries ≡ es))

@@ -1,16 +1,15 @@
 //! A board: leaves beside the entries that they are the fold of.
 
 ghost use Rattle.std.specs.Prelude.{◌≡◌, ◌++◌, ◌∷◌, [], map, ◌+◌, ◌≤◌, Err, vec_len, length, IfOk, OnOk, OnErr, IsErr};
-ghost use Rattle.std.specs.Option.{option_copied};
 ghost use Rattle.std.specs.Vec.{vec_capacity};
 ghost use Rattle.std.specs.FinMap as finite;
-ghost use Rattle.bw_page.specs.Leaves.{plain, leaf_at};
+ghost use Rattle.bw_page.specs.Leaves.{plain, union};
 ghost use Rattle.bw_page.specs.Batch.{SomeIsSpent};
 ghost use Rattle.bw_versions.specs.Entries.{records};
 ghost use Rattle.bw_versions.specs.Posted.{pages_of};
 
 use crate::entry::Entry;
-use bw_codec::{Key, Leaf, Record, Value};
+use bw_codec::{Key, Record, Value};
 use bw_page::{ApplyError, Leaves};
 use std::alloc::{AllocError, Global};
 use std::marker::Model;
@@ -51,11 +50,14 @@ impl Board {
         })
     }
 
-    /// The leaf of a page, if there is such a page.
-    pub fn page(&self, page: u32) -> Option<&Leaf>
-        ensures { option_copied result ≡ leaf_at page (pages_of self.now).leaves }
+    /// The pages, all of them in memory.
+    pub fn leaves(&self) -> &Leaves
+        ensures pages { result.now ≡ pages_of self.now }
+        ensures plainly { union result.now.leaves
+            ≡ plain self.now.start.leaves (records self.now.entries) }
+        ensures here { result.now.away ≡ [] }
     {
-        self.leaves.page(page)
+        &self.leaves
     }
 
     /// The value of a key, if it has one.

@@ -212,8 +212,8 @@ impl Publisher {
           seen = [];
           learnt = [];
         }) }
-        ensures place { OnOk result
-            (self.new ≡ record self.old { places = self.old.places - 1 }) }
+        ensures same { self.new ≡ record self.old { places = self.new.places } }
+        ensures place { OnOk result (self.new.places ≡ self.old.places - 1) }
         ensures no_reader { (result ≡ Err ReadFault.NoReader) ↔ (self.old.places ≡ 0) }
         ensures unchanged { OnErr result (self.new ≡ self.old) }
     {

@@ -128,7 +128,7 @@ fn leaf(board: &Option<Board>, page: u32) -> Result<Option<Leaf>, AllocError>
     ensures { IfOk result (λ leaf. leaf ≡ leaf_in board.now page) }
 {
     match board {
-        Some(board) => match board.page(page) {
+        Some(board) => match board.leaves().page(page) {
             Some(leaf) => Ok(Some(leaf.copy()?)),
             None => Ok(None),
         },

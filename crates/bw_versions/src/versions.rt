@@ -4,7 +4,7 @@ ghost use Rattle.std.specs.Prelude.{◌≡◌, ◌↔◌, ◌++◌, ◌∷◌, �
 ghost use mathlib.Core.List.{IsPrefix};
 ghost use Rattle.bw_versions.specs.Batches.{entries_of};
 ghost use Rattle.bw_versions.specs.Posted.{posted_of};
-ghost use Rattle.bw_versions.specs.Versioned.{IsUpTo};
+ghost use Rattle.bw_versions.specs.Versioned.{EntersWhole, IsUpTo};
 
 use crate::batch::Batch;
 use crate::entry::Entry;
@@ -77,6 +77,7 @@ impl Versions {
     pub fn publish_up_to<R: Wait>(&mut self, rt: &R, history: &[Entry]) -> Result<(), AllocError>
         requires begins { IsPrefix (entries_of self.old.entered) history.now }
         ensures begins { IsPrefix (entries_of self.new.entered) history.now }
+        ensures whole { EntersWhole self.old.entered self.new.entered history.now }
         ensures same { (self.new.start ≡ self.old.start) × (self.new.book ≡ self.old.book)
             × (self.new.places ≡ self.old.places) }
 
@@ -130,8 +131,8 @@ impl Versions {
     pub fn reader(&mut self) -> Result<Reader, ReadFault>
         ensures made { IfOk result (λ r.
             r ≡ record { book = self.old.book; seen = []; learnt = [] }) }
-        ensures place { OnOk result
-            (self.new ≡ record self.old { places = self.old.places - 1 }) }
+        ensures same { self.new ≡ record self.old { places = self.new.places } }
+        ensures place { OnOk result (self.new.places ≡ self.old.places - 1) }
         ensures no_reader { (result ≡ Err ReadFault.NoReader) ↔ (self.old.places ≡ 0) }
         ensures unchanged { OnErr result (self.new ≡ self.old) }
     {
