@@ -1,0 +1,5 @@
+pub mod Joined
+pub mod Fronts
+pub mod Adding
+pub mod Books
+pub mod Sends

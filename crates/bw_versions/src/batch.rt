@@ -1,0 +1,45 @@
+//! What is published at once.
+
+ghost use Rattle.std.specs.Prelude.{◌≡◌, []};
+ghost use Rattle.std.specs.Option.{ForSome};
+
+use crate::entry::Entry;
+use bw_page::Leaves;
+use std::marker::Model;
+
+/// Entries, and the start leaves where the batch is the first.
+#[derive(Drop)]
+pub struct Batch {
+    /// All of them in memory.
+    pub(crate) start: Option<Leaves>,
+    pub(crate) entries: Vec<Entry>,
+}
+
+impl Model for Batch {
+    ghost use Rattle.std.specs.Prelude.{◌≡◌, []};
+    ghost use Rattle.std.specs.Option.{ForSome};
+    ghost use Rattle.bw_versions.specs.Batches.{BatchData};
+
+    ghost Value = { BatchData };
+
+    ghost view = { λ b. record { start = b.start; entries = b.entries.items } };
+
+    ghost invariant = { λ b. ForSome b.start (λ leaves. leaves.away ≡ []) };
+}
+
+impl Batch {
+    /// A batch of these entries. No memory is taken.
+    pub fn new(start: Option<Leaves>, entries: Vec<Entry>) -> Batch
+        requires here { ForSome start (λ leaves. leaves.away ≡ []) }
+        ensures { result ≡ record { start = start; entries = entries.items } }
+    {
+        Batch { start, entries }
+    }
+
+    /// The start leaves that it brings.
+    pub(crate) fn into_start(self) -> Option<Leaves>
+        ensures { result ≡ self.start }
+    {
+        self.start
+    }
+}

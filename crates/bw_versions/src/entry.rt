@@ -1,0 +1,24 @@
+//! What was taken, and from whom.
+
+ghost use Rattle.std.specs.Prelude.{◌≡◌};
+
+use bw_codec::Record;
+
+/// A record and its writer.
+#[derive(Debug, PartialEq, Eq, Drop)]
+pub struct Entry {
+    pub writer: u16,
+    pub item: Record,
+}
+
+impl Entry {
+    /// The same entry. No memory is taken.
+    pub fn copy(&self) -> Entry
+        ensures { result ≡ self.now }
+    {
+        Entry {
+            writer: self.writer,
+            item: self.item.copy(),
+        }
+    }
+}
