@@ -15,20 +15,28 @@ use thiserror::Error;
 /// Why a call on a store was refused.
 #[derive(Debug, Clone, Copy, PartialEq, Eq, Error)]
 pub enum StoreFault {
+    /// E1: a growth was refused.
     #[error("out of memory")]
     NoMemory,
+    /// E10: a number is out of its range, or a box is no spare.
     #[error("limits or boxes that no store takes")]
     BadConfig,
+    /// E5: a segment has to be begun, and too few spares stand.
     #[error("no segment")]
     NoSegment,
+    /// E6: the segment of this lease failed in this call.
     #[error("the segment of lease {lease} failed")]
     Device { lease: u32 },
+    /// E7: an append of this store's log failed before.
     #[error("an append failed before")]
     Failed,
+    /// E8: a frame, a segment, a page or a failure has no further number.
     #[error("a counter is at its greatest value")]
     Spent,
+    /// E9: the number is 0 or above the number of pages.
     #[error("no such page")]
     NoPage,
+    /// E11: fewer than two segments are live.
     #[error("fewer than two live segments")]
     NothingOld,
 }

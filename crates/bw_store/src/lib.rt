@@ -1,9 +1,11 @@
-//! The page store: turns take records from the writers' rings, and flushes append what they did.
+//! The page store: turns take records from the writers' rings, flushes append what they did, and
+//! `settle` does both for all that was accepted: the goal of the whole store stands on it.
 //!
 //! Writers live in threads of their own, each with a feed; one thread owns the store. What it took
 //! stands in the history at once, in the pages, and in a frame in the making; a flush appends that
-//! frame and cuts the history there. `specs/Kept.antt` has what holds between calls, and
-//! `specs/Following.antt` what no call takes back. All pages stay in memory.
+//! frame and cuts the history there. `clean` gives up the oldest segment, and `reopen` goes on from
+//! what was recovered. `specs/Kept.antt` has what holds between calls, and `specs/Following.antt`
+//! what no call takes back. All pages stay in memory.
 #![tactic(auto)]
 
 mod appending;
