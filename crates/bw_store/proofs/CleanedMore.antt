@@ -285,6 +285,28 @@ pub first_numbered : (s : Kept) (new : logs.Contents) (c : Cleans s new) (o : Op
 first_numbered s new c None e = tt
 first_numbered s new c (Some n) e = (let two = end_after s new c in let same = ap end_by e in omega arith)
 
+-- the same of what the steps of the code answered
+abbrev pub notes_of : (s : Kept) (new : logs.Contents) (x : Cleans s new) (frames end : ℕ) (cuts : List ℕ) (newest : List Place) (making : Filling) (failed : Bool)
+    (first next told : Option ℕ) → IsSound s → first ≡ s.log.next → next ≡ new.next → frames + end_by first ≡ end_by next
+    → cuts ≡ s.cuts ++ replicate frames end → end ≡ length s.entries → length newest ≡ length s.newest
+    → ((p : ℕ) → 1 ≤ p → p ≤ length s.newest → slice_get newest (p - 1) ≡ place_of p (logs.counted new))
+    → making.limit ≡ s.making.limit → making.blocks ≡ [] → making.is_sealed ≡ failed → failed ≡ new.is_failed
+    → told ≡ new.next → IfSome told (λ n. making.frame ≡ n) → Notes s new frames cuts newest making
+notes_of s new x frames end cuts newest making failed first next told h at_first at_next added pushed ends count each limit empty sealed is numbered number =
+    let one = ap end_by at_first in
+    let two = ap end_by at_next in
+    record {
+      cleans = x;
+      frames_are = frames_are s new x frames h (omega arith);
+      cuts_are = pushed ∙ ap (λ e. s.cuts ++ replicate frames e) ends;
+      count = count;
+      each = each;
+      limit = limit;
+      empty = empty;
+      sealed = sealed ∙ is;
+      numbered = numbered_of told new.next making.frame numbered number;
+    }
+
 -- ---- a flush before it
 
 long_as : (change : Rattle.bw_device.specs.Holding.Holding → Rattle.bw_device.specs.Holding.Holding) (hs : List Rattle.bw_device.specs.Holding.Holding)

@@ -10,6 +10,7 @@ pub mod MayAppend
 pub mod MayEnter
 pub mod Refusing
 pub mod SettledMore
+pub mod EmptyBehind
 pub mod MovedMore
 pub mod CleanedMore
 pub mod ReopenedMore

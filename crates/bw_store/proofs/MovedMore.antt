@@ -20,7 +20,7 @@ use Rattle.bw_codec.specs.declared.block.Frame.{Frame}
 use Rattle.bw_page.specs.Leaves.{pages}
 use Rattle.bw_page.specs.Standing.{blocks_of, Stand}
 use Rattle.bw_page.proofs.Sorted.{all-map, all-zip}
-use Rattle.bw_buffer.specs.Filling.{Filling}
+use Rattle.bw_buffer.specs.Filling.{Filling, frame_of}
 use Rattle.bw_log.specs.Contents as logs
 use Rattle.bw_codec.specs.Touch.{touches}
 use Rattle.bw_log.specs.Places.{all_placed, bad_link, last_place, place_of, first_number, AreLinked}
@@ -38,7 +38,7 @@ use Rattle.bw_store.specs.Kept.{Kept, leaves_at, TellsAs, TellsBy, waiting, AreC
 use Rattle.bw_store.specs.Settled.{IsSettled}
 use Rattle.bw_store.specs.Cleaning.{with_moved}
 use Rattle.bw_store.proofs.CutMore.{same_leaves, old_shares}
-use Rattle.bw_store.proofs.FrameMore.{empty_frame, placed_same, stands_next}
+use Rattle.bw_store.proofs.EmptyBehind.{AreNoted, grown_empty}
 use Rattle.bw_store.proofs.FramesBehind.{from_behind, from_within, next_after, first_ahead, same_end, place_lawful, pages_counted}
 use Rattle.bw_store.proofs.SettledMore.{not_first}
 use Rattle.bw_store.proofs.Telling.{tells_none}
@@ -98,19 +98,6 @@ all_dropped : {X : Type 0} (P : X → Type 0) (k : ℕ) (xs : List X) → All P 
 all_dropped P zero xs h = h
 all_dropped P (suc k) [] h = tt
 all_dropped P (suc k) (x ∷ xs) h = all_dropped P k xs h.1
-
-pub all_of_get : {X : Type 0} (P : X → Type 0) (xs : List X) → ((i : ℕ) (x : X) → i < length xs → slice_get xs i ≡ Some x → P x) → All P xs
-all_of_get P [] h = tt
-all_of_get P (x ∷ xs) h = (h zero x (omega arith) refl, all_of_get P xs (λ i y lt is. h (suc i) y (omega arith) is))
-
-pub linked_next : (fs : List Frame) (n : ℕ) → 1 ≤ length fs → AreLinked fs → AreLinked (fs ++ empty_frame n ∷ [])
-linked_next fs n some linked =
-    ap (λ k. bad_link k [] (all_placed (fs ++ empty_frame n ∷ []))) (first_ahead fs (empty_frame n ∷ []) some)
-    ∙ ap (bad_link (first_number fs) []) (placed_same fs n)
-    ∙ linked
-
-pub place_next : (fs : List Frame) (n p : ℕ) → place_of p (fs ++ empty_frame n ∷ []) ≡ place_of p fs
-place_next fs n p = ap (last_place (touches p)) (placed_same fs n)
 
 -- ---- what the cleaner added
 
@@ -286,39 +273,17 @@ module _ (s : Kept) (written : List Frame) (a : Adds s written) where
     pub shares : All (Tells s more) (logs.counted new)
     pub within : floor ≤ s.durable + n
     pub count : length newest ≡ length s.filed.leaves
-    pub each : (p : ℕ) → 1 ≤ p → p ≤ length s.filed.leaves → slice_get newest (p - 1) ≡ place_of p (logs.counted new)
+    pub each : AreNoted new s.filed.leaves newest
     pub limit : making.limit ≡ s.making.limit
     pub empty : making.blocks ≡ []
     pub sealed : making.is_sealed ≡ new.is_failed
     pub numbered : (new.next ≡ Some making.frame) ⊎ (new.next ≡ None)
-
-  -- a page beyond all of them has no place
-  beyond_none : (new : logs.Contents) (p : ℕ) → logs.IsSound new → new.m ≡ s.log.m → Stand s.filed.m (logs.counted new) s.filed.leaves
-      → length s.filed.leaves + 1 ≤ p → place_of p (logs.counted new) ≡ None
-  beyond_none new p sound m stands beyond =
-      let stand : Stand new.m (logs.counted new) s.filed.leaves =
-      subst (λ (k : ℕ). Stand k (logs.counted new) s.filed.leaves) (a.sound.pairs ∙ sym m) stands in
-      let many = pages_counted new s.filed.leaves sound stand in
-      sym (sound.holds.table.places p (omega arith))
-      ∙ ap (λ (o : Option PageAt). logs.entry_place (λ e. e.place) o) (slice_get_past new.pages (p - 1) (omega arith))
-
-  each_place : (newest : List Place) (new : logs.Contents) → logs.IsSound new → new.m ≡ s.log.m → Stand s.filed.m (logs.counted new) s.filed.leaves
-      → length newest ≡ length s.filed.leaves
-      → ((p : ℕ) → 1 ≤ p → p ≤ length s.filed.leaves → slice_get newest (p - 1) ≡ place_of p (logs.counted new))
-      → (p : ℕ) → 1 ≤ p → slice_get newest (p - 1) ≡ place_of p (logs.counted new)
-  each_place newest new sound m stands count each p some_page =
-      elim (nat_le p (length s.filed.leaves)) as (λ b. nat_le p (length s.filed.leaves) ≡ b → slice_get newest (p - 1) ≡ place_of p (logs.counted new)) [
-        | true ↦ λ e. each p some_page (leb-true _ _ e)
-        | false ↦ λ e. (let gt = leb-false _ _ e in
-            slice_get_past newest (p - 1) (omega arith) ∙ sym (beyond_none new p sound m stands (omega arith)))
-      ] refl
 
   pub moved_sound : (floor : ℕ) (newest : List Place) (making : Filling) (new : logs.Contents) → Moves floor newest making new
       → IsSound (with_moved s n floor newest making new)
   moved_sound floor newest making new x =
       let h = a.sound in
       let t = with_moved s n floor newest making new in
-      let each = each_place newest new x.sound x.m x.stands x.count x.each in
       record {
         log = x.sound;
         pairs = h.pairs ∙ sym x.m;
@@ -329,17 +294,9 @@ module _ (s : Kept) (written : List Frame) (a : Adds s written) where
         ops = h.ops;
         writers = h.writers;
         grown =
-            subst (λ (bs : List Block). Grown s.filed.m (logs.counted new) (record { number = making.frame; blocks = bs }) s.filed.leaves newest) (sym x.empty)
-            (record {
-              stands = stands_next s.filed.m (logs.counted new) making.frame s.filed.leaves x.stands;
-              linked = linked_next (logs.counted new) making.frame x.stands.some x.sound.holds.linked;
-              count = x.count;
-              places = all_of_get IsPlace newest (λ i place lt is. (
-                  let at : i + 1 - 1 ≡ i = omega arith in
-                  place_lawful new (i + 1) place x.sound (sym (each (i + 1) (omega arith)) ∙ ap (slice_get newest) at ∙ is)));
-              each = λ p some_page. each p some_page ∙ sym (place_next (logs.counted new) making.frame p);
-              lawful = tt;
-            });
+            subst (λ (m : ℕ). Grown m (logs.counted new) (frame_of making) s.filed.leaves newest) (sym (h.pairs ∙ sym x.m))
+            (grown_empty new s.filed.leaves x.sound (subst (λ (m : ℕ). Stand m (logs.counted new) s.filed.leaves) (h.pairs ∙ sym x.m) x.stands)
+            newest making x.count x.each x.empty);
         next = x.next;
         last = (let top = high in omega arith);
         number = elim (x.numbered) [

@@ -10,23 +10,28 @@ use Rattle.bw_codec.specs.Grammar.{IsFrame, IsPlace}
 use Rattle.bw_codec.specs.declared.block.Place.{Place}
 use Rattle.bw_codec.specs.declared.block.Block.{Block}
 use Rattle.bw_codec.specs.declared.block.Frame.{Frame}
+use Rattle.bw_device.specs.Holding.{Holding}
 use Rattle.bw_page.specs.Shown.{Shown}
 use Rattle.bw_page.specs.Standing.{Stand}
 use Rattle.bw_page.proofs.Sorted.{all-map}
-use Rattle.bw_buffer.specs.Filling.{Filling}
+use Rattle.bw_buffer.specs.Filling.{Filling, frame_of}
 use Rattle.bw_ring.specs.Ends.{Ring}
 use Rattle.bw_log.specs.Contents as logs
 use Rattle.bw_log.specs.Places.{place_of, first_number}
 use Rattle.bw_log.specs.Segments.{following, AreFrom}
 use Rattle.bw_log.specs.declared.places.PageAt.{PageAt}
 use Rattle.bw_log.proofs.Adding.{following_is, filter_all}
+use Rattle.std.specs.declared.dyn_box.DynBox.{DynBox}
+use Rattle.std.specs.declared.alloc.Global.{Global}
+use Rattle.bw_log.specs.Views.{seen_by}
+use Rattle.bw_care.specs.Found.{IsRecovered}
 use Rattle.bw_care.specs.Recovery.{last_number}
+use Rattle.bw_care.specs.declared.recovered.Recovered.{Recovered}
 use Rattle.bw_store.specs.Growing.{Grown, frames_upto}
 use Rattle.bw_store.specs.Kept.{Kept, IsSound, TellsShare}
 use Rattle.bw_store.specs.Reopened.{reopened}
-use Rattle.bw_store.proofs.FrameMore.{stands_next}
 use Rattle.bw_store.proofs.FramesBehind.{from_within, none_above, counted_lawful, place_lawful, placed_page, pages_counted}
-use Rattle.bw_store.proofs.MovedMore.{all_of_get, linked_next, place_next}
+use Rattle.bw_store.proofs.EmptyBehind.{AreNoted, grown_empty}
 use Rattle.bw_store.proofs.Telling.{tells_none}
 
 -- what was recovered
@@ -38,6 +43,18 @@ pub record Found (c : logs.Contents) (filed : Shown) (last : ℕ) : Type 0 where
   pub works : c.is_failed ≡ false
   pub limit : filed.m ≡ c.m
   pub here : filed.away ≡ []
+
+module _ {I : Type 0} {H : I → Type 0} where
+  pub found_by : (v : DynBox I Global H → Holding) (r : Recovered I H) → IsRecovered v r → Found (seen_by v r.log) r.leaves r.last
+  found_by v r is = record {
+    sound = is.sound;
+    stands = is.stands;
+    ends = is.last;
+    follows = r.follows;
+    works = r.works;
+    limit = r.limit;
+    here = is.here;
+  }
 
 last_from : (n w : ℕ) (x : Frame) (xs : List Frame) → AreFrom n (x ∷ xs) → fold (λ was f. f.number) w (x ∷ xs) + 1 ≡ n + length (x ∷ xs)
 last_from n w x [] are = (let e = are.0 in omega arith)
@@ -98,28 +115,11 @@ module _ (c : logs.Contents) (filed : Shown) (last : ℕ) (x : Found c filed las
   pub next_some : IfSome c.next (λ n. 1 ≤ n)
   next_some = some_next last c.next x.follows
 
-  none_beyond : (p : ℕ) → length filed.leaves + 1 ≤ p → place_of p (logs.counted c) ≡ None
-  none_beyond p beyond =
-      let many = pages_are in
-      sym (x.sound.holds.table.places p (omega arith))
-      ∙ ap (λ (o : Option PageAt). logs.entry_place (λ e. e.place) o) (slice_get_past c.pages (p - 1) (omega arith))
-
-  each_place : (newest : List Place) → length newest ≡ length filed.leaves
-      → ((p : ℕ) → 1 ≤ p → p ≤ length filed.leaves → slice_get newest (p - 1) ≡ place_of p (logs.counted c))
-      → (p : ℕ) → 1 ≤ p → slice_get newest (p - 1) ≡ place_of p (logs.counted c)
-  each_place newest count each p from =
-      elim (nat_le p (length filed.leaves)) as (λ b. nat_le p (length filed.leaves) ≡ b → slice_get newest (p - 1) ≡ place_of p (logs.counted c)) [
-        | true ↦ λ e. each p from (leb-true _ _ e)
-        | false ↦ λ e. (let gt = leb-false _ _ e in slice_get_past newest (p - 1) (omega arith) ∙ sym (none_beyond p (omega arith)))
-      ] refl
-
   pub reopened_sound : (rings : List Ring) (newest : List Place) (making : Filling) → length newest ≡ length filed.leaves
-      → ((p : ℕ) → 1 ≤ p → p ≤ length filed.leaves → slice_get newest (p - 1) ≡ place_of p (logs.counted c))
-      → making.limit ≡ c.f → making.blocks ≡ [] → making.is_sealed ≡ false → IfSome c.next (λ n. making.frame ≡ n)
+      → AreNoted c filed.leaves newest → making.limit ≡ c.f → making.blocks ≡ [] → making.is_sealed ≡ false → IfSome c.next (λ n. making.frame ≡ n)
       → IsSound (reopened rings last filed newest making c)
   reopened_sound rings newest making count each limit empty unsealed number =
       let t = reopened rings last filed newest making c in
-      let placed = each_place newest count each in
       record {
         log = x.sound;
         pairs = x.limit;
@@ -130,17 +130,8 @@ module _ (c : logs.Contents) (filed : Shown) (last : ℕ) (x : Found c filed las
         ops = tt;
         writers = tt;
         grown =
-            subst (λ (bs : List Block). Grown filed.m (logs.counted c) (record { number = making.frame; blocks = bs }) filed.leaves newest) (sym empty)
-            (record {
-              stands = stands_next filed.m (logs.counted c) making.frame filed.leaves x.stands;
-              linked = linked_next (logs.counted c) making.frame some x.sound.holds.linked;
-              count = count;
-              places = all_of_get IsPlace newest (λ i place lt is. (
-                  let at : i + 1 - 1 ≡ i = omega arith in
-                  place_lawful c (i + 1) place x.sound (sym (placed (i + 1) (omega arith)) ∙ ap (slice_get newest) at ∙ is)));
-              each = λ p from. placed p from ∙ sym (place_next (logs.counted c) making.frame p);
-              lawful = tt;
-            });
+            subst (λ (m : ℕ). Grown m (logs.counted c) (frame_of making) filed.leaves newest) (sym x.limit)
+            (grown_empty c filed.leaves x.sound stand_c newest making count each empty);
         next = x.follows ∙ ap following (omega arith);
         last = (let top = below in omega arith);
         number = number_by last making c.next x.follows empty number;

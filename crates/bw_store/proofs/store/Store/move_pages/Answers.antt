@@ -2,7 +2,7 @@ use Rattle.std.proofs.Common.{◌≡◌, ◌++◌, length, replicate, ap, ◌∙
 use Rattle.bw_store.specs.Cleaning.{end_by}
 use Rattle.bw_store.specs.Views.{kept_by}
 use Rattle.bw_store.proofs.CleanedMore.{Begins, cleans_of, cleaned_cleans, cleaned_told, refused_cleans, refused_counts, stopped_of, end_before, end_after, frames_are}
-use Rattle.bw_store.proofs.CleanedMore.{there, few_newest, numbered_of, noted_are, cleaned_sound, refused_sound}
+use Rattle.bw_store.proofs.CleanedMore.{there, few_newest, notes_of, noted_are, cleaned_sound, refused_sound}
 use Rattle.bw_store.proofs.store.Store.move_pages.Goals as goal
 
 pub frames_between-frames-requires-clause-after : goal.frames_between-frames-requires-clause-after
@@ -48,20 +48,10 @@ returns-in-Ok-clause-sound g c =
     let b : Begins s = record { sound = c.requires.sound; done = c.requires.settled; empty = c.requires.empty; works = c.requires.works; two = c.requires.two } in
     let e = c.clean-result.ensures in
     let x = cleaned_cleans s c.in-Ok.cleaned _ b e.sound c.in-Ok.ensures.cleaned e.stands in
-    let first = ap end_by c.next_frame-first.ensures in
-    let next = ap end_by c.next_frame.ensures in
-    let added = c.frames_between-frames.ensures in
-    cleaned_sound s b _ c.frames_between-frames.result _ _ _ (record {
-      cleans = x;
-      frames_are = frames_are s _ x c.frames_between-frames.result c.requires.sound (omega arith);
-      cuts_are = c.push_many.ensures ∙ ap (λ end. s.cuts ++ replicate c.frames_between-frames.result end) (ap length c.as_slice.ensures.value);
-      count = c.renew.ensures.count;
-      each = c.renew.ensures.each;
-      limit = c.begin_at.ensures.limit;
-      empty = c.begin_at.ensures.empty;
-      sealed = c.begin_at.ensures.sealed ∙ c.is_failed.ensures;
-      numbered = numbered_of c.next_frame-2.result _ _ c.next_frame-2.ensures c.begin_at.ensures.number;
-    })
+    cleaned_sound s b _ c.frames_between-frames.result _ _ _ (notes_of s _ x c.frames_between-frames.result _ _ _ _ _ c.next_frame-first.result c.next_frame.result
+    c.next_frame-2.result c.requires.sound c.next_frame-first.ensures c.next_frame.ensures c.frames_between-frames.ensures c.push_many.ensures
+    (ap length c.as_slice.ensures.value) c.renew.ensures.count c.renew.ensures.each c.begin_at.ensures.limit c.begin_at.ensures.empty
+    c.begin_at.ensures.sealed c.is_failed.ensures c.next_frame-2.ensures c.begin_at.ensures.number)
 
 pub returns-in-Ok-clause-leaves : goal.returns-in-Ok-clause-leaves
 returns-in-Ok-clause-leaves g c =
@@ -89,17 +79,7 @@ returns-in-Err-clause-sound g c =
     let e = c.clean-result.ensures in
     let stop = stopped_of s c.in-Err.fault _ b c.in-Err.ensures.refused in
     let x = refused_cleans s stop.0 _ b e.sound stop.1 e.stands in
-    let first = ap end_by c.next_frame-first.ensures in
-    let next = ap end_by c.next_frame.ensures in
-    let added = c.frames_between-frames.ensures in
-    refused_sound s b _ c.frames_between-frames.result _ _ _ (record {
-      cleans = x;
-      frames_are = frames_are s _ x c.frames_between-frames.result c.requires.sound (omega arith);
-      cuts_are = c.push_many.ensures ∙ ap (λ end. s.cuts ++ replicate c.frames_between-frames.result end) (ap length c.as_slice.ensures.value);
-      count = c.renew.ensures.count;
-      each = c.renew.ensures.each;
-      limit = c.begin_at.ensures.limit;
-      empty = c.begin_at.ensures.empty;
-      sealed = c.begin_at.ensures.sealed ∙ c.is_failed.ensures;
-      numbered = numbered_of c.next_frame-2.result _ _ c.next_frame-2.ensures c.begin_at.ensures.number;
-    }) (refused_counts s stop.0 _ b e.sound stop.1 e.stands)
+    refused_sound s b _ c.frames_between-frames.result _ _ _ (notes_of s _ x c.frames_between-frames.result _ _ _ _ _ c.next_frame-first.result c.next_frame.result
+    c.next_frame-2.result c.requires.sound c.next_frame-first.ensures c.next_frame.ensures c.frames_between-frames.ensures c.push_many.ensures
+    (ap length c.as_slice.ensures.value) c.renew.ensures.count c.renew.ensures.each c.begin_at.ensures.limit c.begin_at.ensures.empty
+    c.begin_at.ensures.sealed c.is_failed.ensures c.next_frame-2.ensures c.begin_at.ensures.number) (refused_counts s stop.0 _ b e.sound stop.1 e.stands)

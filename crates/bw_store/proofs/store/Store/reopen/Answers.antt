@@ -5,35 +5,19 @@ use Rattle.bw_store.specs.declared.entry.Entry.{Entry}
 use Rattle.bw_store.specs.Kept.{Kept}
 use Rattle.bw_store.specs.Kept as kept
 use Rattle.bw_store.specs.Reopened.{reopened}
-use Rattle.bw_store.proofs.ReopenedMore.{Found, all_there, reopened_sound}
+use Rattle.bw_store.proofs.ReopenedMore.{found_by, all_there, reopened_sound}
 use Rattle.bw_store.proofs.store.Store.reopen.Goals as goal
 
 pub ends_of-requires-clause-there : goal.ends_of-requires-clause-there
 ends_of-requires-clause-there g c =
     let log = seen c.args.recovered.log (λ z. (goal.Segment-dyn g z).holding z.1) in
-    let found : Found log c.args.recovered.leaves c.args.recovered.last = record {
-      sound = c.requires.sound;
-      stands = c.requires.stands;
-      ends = c.requires.last;
-      follows = c.args.recovered.follows;
-      works = c.args.recovered.works;
-      limit = c.args.recovered.limit;
-      here = c.requires.here;
-    } in
+    let found = found_by (λ b. (goal.Segment-dyn g (b.vtable, b.value)).holding b.value) c.args.recovered c.requires in
     λ p from to. (let count = c.count-pages.ensures.value in all_there log c.args.recovered.leaves c.args.recovered.last found p from (omega arith))
 
 pub returns-in-Ok-clause-sound : goal.returns-in-Ok-clause-sound
 returns-in-Ok-clause-sound g c =
     let log = seen c.args.recovered.log (λ z. (goal.Segment-dyn g z).holding z.1) in
-    let found : Found log c.args.recovered.leaves c.args.recovered.last = record {
-      sound = c.requires.sound;
-      stands = c.requires.stands;
-      ends = c.requires.last;
-      follows = c.args.recovered.follows;
-      works = c.args.recovered.works;
-      limit = c.args.recovered.limit;
-      here = c.requires.here;
-    } in
+    let found = found_by (λ b. (goal.Segment-dyn g (b.vtable, b.value)).holding b.value) c.args.recovered c.requires in
     let count = c.count-pages.ensures.value in
     let e = c.in-Ok.ensures in
     subst kept.IsSound
