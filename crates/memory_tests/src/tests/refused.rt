@@ -3,26 +3,33 @@
 ghost use Rattle.bw_care.specs.Views.{IsSound};
 
 use super::boxes::{LOST, NEWER, OLDER, add_all};
-use bw_care::{CleanFault, Cleaned, RecoverCause, clean, recover};
+use bw_care::{CleanFault, Cleaned, RecoverCause, Recovered, clean, recover};
 use bw_codec::Leaf;
 use bw_device::{Desk, Segment};
 use bw_log::{Log, LogFault};
 use std::alloc::Global;
 use std::test::Fail;
 
-// Whether this is page 1 with j=2 and k=3.
-fn is_page(leaf: Option<&Leaf>) -> bool {
-    match leaf {
-        Some(leaf) => match leaf.pairs.as_slice() {
-            [(j, two), (k, three)] => {
-                j.as_slice() == b"j".as_slice()
-                    && two.as_slice() == b"2".as_slice()
-                    && k.as_slice() == b"k".as_slice()
-                    && three.as_slice() == b"3".as_slice()
-            }
-            _ => false,
-        },
-        None => false,
+// Whether this is the page with j=2 and k=3.
+fn is_page(leaf: &Leaf) -> bool {
+    let told: [(&[u8], &[u8]); 2] = [(b"j", b"2"), (b"k", b"3")];
+    let held = leaf.pairs.as_slice();
+    held.len() == told.len()
+        && held
+            .iter()
+            .zip(&told)
+            .all(|(a, b)| a.0.as_slice() == b.0 && a.1.as_slice() == b.1)
+}
+
+fn is_found(found: &Recovered) -> bool {
+    found.leaves.page(1).is_some_and(is_page)
+}
+
+// The same boxes, once more.
+fn recovered_again(alloc: Global, boxes: Vec<Box<dyn Segment>>) -> u8 {
+    match recover(alloc, boxes) {
+        Ok(found) => { if is_found(&found) { 0 } else { 3 } }
+        Err(_) => 4,
     }
 }
 
@@ -30,15 +37,12 @@ fn is_page(leaf: Option<&Leaf>) -> bool {
 fn recovered(alloc: Global, boxes: Vec<Box<dyn Segment>>) -> u8 {
     let count = boxes.len();
     match recover(alloc, boxes) {
-        Ok(found) => { if is_page(found.leaves.page(1)) { 0 } else { 1 } }
+        Ok(found) => { if is_found(&found) { 0 } else { 1 } }
         Err(fault) => {
             if fault.cause != RecoverCause::NoMemory || fault.boxes.len() != count {
                 return 2;
             }
-            match recover(alloc, fault.boxes) {
-                Ok(found) => { if is_page(found.leaves.page(1)) { 0 } else { 3 } }
-                Err(_) => 4,
-            }
+            recovered_again(alloc, fault.boxes)
         }
     }
 }
@@ -72,17 +76,26 @@ const TOLD: Cleaned = Cleaned {
 };
 
 // The page behind a cleaning, read once more where memory was refused.
-fn reads(log: &mut Log) -> u8
+fn is_read(log: &mut Log, more: bool) -> u8
     requires { IsSound log.old holding }
     ensures { IsSound log.new holding }
 {
     match log.read_page(1) {
-        Ok(leaf) => { if is_page(Some(&leaf)) { 0 } else { 5 } }
-        Err(LogFault::NoMemory) => match log.read_page(1) {
-            Ok(leaf) => { if is_page(Some(&leaf)) { 0 } else { 6 } }
-            Err(_) => 7,
-        },
-        Err(_) => 8,
+        Ok(leaf) => { if is_page(&leaf) { 0 } else { 5 } }
+        Err(LogFault::NoMemory) => { if more { 99 } else { 6 } }
+        Err(_) => 7,
+    }
+}
+
+fn reads(log: &mut Log) -> u8
+    requires { IsSound log.old holding }
+    ensures { IsSound log.new holding }
+{
+    let step = is_read(log, true);
+    if step == 99 {
+        is_read(log, false)
+    } else {
+        step
     }
 }
 
@@ -91,17 +104,17 @@ fn cleaned(alloc: Global, log: &mut Log) -> u8
     requires { IsSound log.old holding }
     ensures { IsSound log.new holding }
 {
-    match clean(alloc, log) {
-        Ok(told) => { if told == TOLD { reads(log) } else { 1 } }
-        Err(fault) => {
-            if fault != CleanFault::Log(LogFault::NoMemory) || log.live() != 3 {
-                return 2;
-            }
-            match clean(alloc, log) {
-                Ok(told) => { if told == TOLD { reads(log) } else { 3 } }
-                Err(_) => 4,
-            }
-        }
+    let answer = clean(alloc, log);
+    if answer == Ok(TOLD) {
+        return reads(log);
+    }
+    if answer != Err(CleanFault::Log(LogFault::NoMemory)) || log.live() != 3 {
+        return 2;
+    }
+    if clean(alloc, log) == Ok(TOLD) {
+        reads(log)
+    } else {
+        3
     }
 }
 
