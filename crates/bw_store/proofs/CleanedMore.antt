@@ -16,7 +16,7 @@ use Rattle.bw_log.specs.Segments.{following, next_of, AreFrom}
 use Rattle.bw_log.specs.Oldest.{oldest_count}
 use Rattle.bw_log.specs.declared.fault.LogFault.{LogFault}
 use Rattle.bw_log.specs.declared.fault.LogFault.TheVariants as log
-use Rattle.bw_care.specs.Cleaning.{old_pages}
+use Rattle.bw_care.specs.Cleaning.{old_pages, oldest_last}
 use Rattle.bw_care.specs.Moving as care
 use Rattle.bw_care.specs.declared.cleaning.Cleaned.{Cleaned}
 use Rattle.bw_care.specs.declared.fault.CleanFault.{CleanFault}
@@ -30,9 +30,10 @@ use Rattle.bw_store.proofs.FollowMore.{follow_then}
 use Rattle.bw_store.specs.Taking.{MayFlush}
 use Rattle.bw_care.proofs.BoxesGrown.{same_roster}
 use Rattle.bw_codec.specs.Grammar.{frame_bytes, header_bytes}
-use Rattle.bw_device.specs.Holding.{appended}
+use Rattle.bw_device.specs.Holding.{Holding, appended}
 use Rattle.bw_log.specs.Appends.{with_last, begun, begun_with, header_of, roomy, wants_segment}
-use Rattle.bw_store.specs.History.{records}
+use Rattle.bw_store.specs.History.{records, upto}
+use Rattle.bw_store.specs.Growing.{frames_upto}
 use Rattle.bw_store.specs.Kept.{Kept, IsSound}
 use Rattle.bw_store.specs.Settled.{IsSettled}
 use Rattle.bw_store.specs.Cleaning.{end_by, with_moved, fault_of_clean, MoveLeaves, CleanLeaves, HasBoxesBut}
@@ -74,7 +75,7 @@ adds_of s written ps now b sound counts bases =
 
 few_pages : (s : Kept) (ps rest : List ℕ) (frames : ℕ) → old_pages s.log ≡ ps ++ rest → frames ≤ length ps → frames ≤ length s.log.pages
 few_pages s ps rest frames all few =
-    let many = few_old (Rattle.bw_care.specs.Cleaning.oldest_last s.log s.log.live) (logs.counted s.log) 1 (length s.log.pages) in
+    let many = few_old (oldest_last s.log s.log.live) (logs.counted s.log) 1 (length s.log.pages) in
     let len = ap (λ (l : List ℕ). length l) all in
     let parts = length-append ps rest in
     omega arith
@@ -101,7 +102,8 @@ still_counts old new log.Failed r = absurd r
 still_counts old new log.Spent r = same_log old new r.0
 still_counts old new log.NoPage r = absurd r
 
-stands_as : (s : Kept) (new : logs.Contents) → Begins s → ((leaves : List Leaf) → Stand s.log.m (logs.counted s.log) leaves → Stand s.log.m (logs.counted new) leaves)
+stands_as : (s : Kept) (new : logs.Contents) → Begins s
+    → ((leaves : List Leaf) → Stand s.log.m (logs.counted s.log) leaves → Stand s.log.m (logs.counted new) leaves)
     → Stand s.filed.m (logs.counted new) s.filed.leaves
 stands_as s new b stands =
     let h = b.sound in
@@ -162,7 +164,8 @@ unfolding refused_cleans
 refused_counts s fault new b sound x stands = (still_counts x.then_log new fault x.refused).counts ∙ x.moved.counts
 
 -- a cleaning that is not refused at once
-pub stopped_of : (s : Kept) (cause : CleanFault) (new : logs.Contents) → Begins s → care.Refuses cause s.log new → (fault : LogFault) × care.Stopped s.log fault new
+pub stopped_of : (s : Kept) (cause : CleanFault) (new : logs.Contents) → Begins s → care.Refuses cause s.log new
+    → (fault : LogFault) × care.Stopped s.log fault new
 stopped_of s NothingOld new b r = (let two = b.two in let few = r.1 in absurd (omega arith))
 stopped_of s (Log log.NoMemory) new b r = (log.NoMemory, r.2)
 stopped_of s (Log log.BadConfig) new b r = absurd r
@@ -225,12 +228,13 @@ module _ (s : Kept) (b : Begins s) (new : logs.Contents) (frames : ℕ) (cuts : 
   noted floor = record s { floor = floor; cuts = cuts; durable = s.durable + frames; newest = newest; making = making; log = new }
 
   pub noted_is : (floor : ℕ) → noted floor ≡ with_moved s frames floor newest making new
-  noted_is floor = ap (λ (cs : List ℕ). record s { floor = floor; cuts = cs; durable = s.durable + frames; newest = newest; making = making; log = new }) x.cuts_are
+  noted_is floor =
+      ap (λ (cs : List ℕ). record s { floor = floor; cuts = cs; durable = s.durable + frames; newest = newest; making = making; log = new }) x.cuts_are
 
   moves : (floor : ℕ) → floor ≤ s.durable + length x.cleans.written
       → ((k : ℕ) → floor ≤ k → k ≤ s.durable + length x.cleans.written → 1 ≤ s.before + k
-      → Stand s.filed.m (Rattle.bw_store.specs.Growing.frames_upto (s.before + k) (logs.counted new))
-      (pages s.filed.m s.start (records (Rattle.bw_store.specs.History.upto (s.cuts ++ replicate (length x.cleans.written) (length s.entries)) s.entries k))))
+      → Stand s.filed.m (frames_upto (s.before + k) (logs.counted new))
+      (pages s.filed.m s.start (records (upto (s.cuts ++ replicate (length x.cleans.written) (length s.entries)) s.entries k))))
       → Moves s x.cleans.written x.cleans.adds floor newest making new
   moves floor within upto_cuts =
       let c = x.cleans in
@@ -286,8 +290,8 @@ first_numbered s new c None e = tt
 first_numbered s new c (Some n) e = (let two = end_after s new c in let same = ap end_by e in omega arith)
 
 -- the same of what the steps of the code answered
-abbrev pub notes_of : (s : Kept) (new : logs.Contents) (x : Cleans s new) (frames end : ℕ) (cuts : List ℕ) (newest : List Place) (making : Filling) (failed : Bool)
-    (first next told : Option ℕ) → IsSound s → first ≡ s.log.next → next ≡ new.next → frames + end_by first ≡ end_by next
+abbrev pub notes_of : (s : Kept) (new : logs.Contents) (x : Cleans s new) (frames end : ℕ) (cuts : List ℕ) (newest : List Place) (making : Filling)
+    (failed : Bool) (first next told : Option ℕ) → IsSound s → first ≡ s.log.next → next ≡ new.next → frames + end_by first ≡ end_by next
     → cuts ≡ s.cuts ++ replicate frames end → end ≡ length s.entries → length newest ≡ length s.newest
     → ((p : ℕ) → 1 ≤ p → p ≤ length s.newest → slice_get newest (p - 1) ≡ place_of p (logs.counted new))
     → making.limit ≡ s.making.limit → making.blocks ≡ [] → making.is_sealed ≡ failed → failed ≡ new.is_failed
@@ -309,13 +313,13 @@ notes_of s new x frames end cuts newest making failed first next told h at_first
 
 -- ---- a flush before it
 
-long_as : (change : Rattle.bw_device.specs.Holding.Holding → Rattle.bw_device.specs.Holding.Holding) (hs : List Rattle.bw_device.specs.Holding.Holding)
+long_as : (change : Holding → Holding) (hs : List Holding)
     → length (with_last change hs) ≡ length hs
 long_as change [] = refl
 long_as change (h ∷ []) = refl
 long_as change (h ∷ k ∷ hs) = ap suc (long_as change (k ∷ hs))
 
-begun_more : (c : logs.Contents) (ss : List Rattle.bw_device.specs.Holding.Holding) → length c.live ≤ length (begun_with c ss).live
+begun_more : (c : logs.Contents) (ss : List Holding) → length c.live ≤ length (begun_with c ss).live
 begun_more c [] = omega arith
 begun_more c (h ∷ hs) = (let len = length-append c.live (appended h (header_bytes (header_of c)) ∷ []) in omega arith)
 
@@ -327,7 +331,7 @@ pub live_stay : (old new : Kept) (o : Option ℕ) → FlushLeaves old (Ok o) new
 live_stay old new None left = (let same = ap (λ (s : Kept). length s.log.live) left.0 in omega arith)
 live_stay old new (Some n) left =
     let same = ap (λ (s : Kept). length s.log.live) left.is in
-    let live = ap (λ (hs : List Rattle.bw_device.specs.Holding.Holding). length hs) left.added.live in
+    let live = ap (λ (hs : List Holding). length hs) left.added.live in
     let len = long_as (λ h. appended h (frame_bytes (frame_of old.making))) (roomy old.log (length (frame_bytes (frame_of old.making)))).live in
     let more = roomy_by old.log (wants_segment old.log (length (frame_bytes (frame_of old.making)))) in
     omega arith

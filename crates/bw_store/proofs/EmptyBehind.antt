@@ -1,6 +1,6 @@
 -- A log with an empty frame in the making behind its counted ones, and the place of each page as the log has it.
 
-use Rattle.std.proofs.Common.{◌≡◌, ℕ, zero, suc, ◌+◌, ◌-◌, ◌<◌, ◌≤◌, Bool, true, false, Option, Some, None, List, [], ◌∷◌, ◌++◌}
+use Rattle.std.proofs.Common.{◌≡◌, ℕ, zero, suc, ◌+◌, ◌-◌, ◌<◌, ◌≤◌, true, false, Option, Some, None, List, [], ◌∷◌, ◌++◌}
 use Rattle.std.proofs.Common.{length, refl, sym, ap, ◌∙◌, subst, arith}
 use Rattle.std.specs.Prelude.{nat_le}
 use Rattle.std.specs.List.{AllByRecursion as All, slice_get}
@@ -66,8 +66,8 @@ module _ (c : logs.Contents) (leaves : List Leaf) (sound : logs.IsSound c) (stan
         linked = linked_next (logs.counted c) making.frame stands.some sound.holds.linked;
         count = count;
         places = all_of_get IsPlace newest (λ i place lt is. (
-          let at : i + 1 - 1 ≡ i = omega arith in
-          place_lawful c (i + 1) place sound (sym (each (i + 1) (omega arith)) ∙ ap (slice_get newest) at ∙ is)));
+            let at : i + 1 - 1 ≡ i = omega arith in
+            place_lawful c (i + 1) place sound (sym (each (i + 1) (omega arith)) ∙ ap (slice_get newest) at ∙ is)));
         each = λ p from. each p from ∙ sym (place_next (logs.counted c) making.frame p);
         lawful = tt;
       })

@@ -247,7 +247,8 @@ module _ (s : Kept) (h : IsSound s) (works : s.log.is_failed ≡ false) where
         beyond = inr (length-append s.cuts (length s.entries ∷ []) ∙ ap (λ n. n + 1) all_appended, failed);
         shares = subst (λ (fs : List Frame). All (λ f. s.before < f.number → TellsShare t f) fs) (sym counted) (old_told next number);
         tells =
-            subst (λ (ls : List Leaf). TellsBy t (s.before + s.durable + 1) ls (waiting t) s.making.blocks) (sym (same_leaves s more same_cut s.durable (omega arith)))
+            subst (λ (ls : List Leaf). TellsBy t (s.before + s.durable + 1) ls (waiting t) s.making.blocks)
+            (sym (same_leaves s more same_cut s.durable (omega arith)))
             (subst (λ (rs : List Record). TellsBy t (s.before + s.durable + 1) (leaves_at s s.durable) rs s.making.blocks)
             (sym (ap (λ c. records (drop c s.entries)) (same_cut s.durable (omega arith)))) h.tells);
       }

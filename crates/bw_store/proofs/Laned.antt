@@ -1,6 +1,7 @@
 -- The records of each writer, where one entry is added.
 
-use Rattle.std.proofs.Common.{◌≡◌, ◌≢◌, ℕ, zero, suc, ◌+◌, ◌<◌, ◌≤◌, Bool, true, false, Option, Some, None, List, [], ◌∷◌, ◌++◌, map, length, set, get_or, take, drop, refl}
+use Rattle.std.proofs.Common.{◌≡◌, ◌≢◌, ℕ, zero, suc, ◌+◌, ◌<◌, ◌≤◌, Bool, true, false, Option}
+use Rattle.std.proofs.Common.{Some, None, List, [], ◌∷◌, ◌++◌, map, length, set, get_or, take, drop, refl}
 use Rattle.std.proofs.Common.{sym, ap, ◌∙◌, subst, arith, append-nil, replicate, if◌then◌else◌}
 use Rattle.std.specs.Prelude.{◌==◌, nat_le}
 use Rattle.std.specs.List.{slice_get, AllByRecursion as All}
@@ -159,7 +160,8 @@ fewer_of : (ks : List Record) → 0 < length ks → length (drop 1 ks) < length 
 fewer_of [] some = absurd (omega arith)
 fewer_of (k ∷ ks) some = omega arith
 
-set_fewer : (ks : List (List Record)) (at : ℕ) → 0 < length (get_or ks at []) → length (get_or (set ks at (drop 1 (get_or ks at []))) at []) < length (get_or ks at [])
+set_fewer : (ks : List (List Record)) (at : ℕ) → 0 < length (get_or ks at [])
+    → length (get_or (set ks at (drop 1 (get_or ks at []))) at []) < length (get_or ks at [])
 set_fewer [] at some = absurd (omega arith)
 set_fewer (k ∷ ks) zero some = fewer_of k some
 set_fewer (k ∷ ks) (suc at) some = set_fewer ks at some

@@ -1,16 +1,14 @@
 -- A store after the cleaner's frames, and after its oldest segment was given up.
 
-use Rattle.std.proofs.Common.{inl, inr, ◌≡◌, ◌⊎◌, ℕ, zero, suc, ◌+◌, ◌-◌, ◌^◌, ◌<◌, ◌≤◌, Bool, true, false, if◌then◌else◌, Option, Some, None, List, [], ◌∷◌, ◌++◌}
+use Rattle.std.proofs.Common.{inl, inr, ◌≡◌, ◌⊎◌, ℕ, zero, suc, ◌+◌, ◌-◌, ◌^◌, ◌<◌}
+use Rattle.std.proofs.Common.{◌≤◌, Bool, true, false, if◌then◌else◌, Some, None, List, [], ◌∷◌, ◌++◌}
 use Rattle.std.proofs.Common.{length, take, drop, refl, sym, ap, ◌∙◌, subst, arith, length-append, append-nil, replicate, get_or, take_all}
 use Rattle.std.proofs.Common.{drop_of_length-le}
 use Rattle.std.specs.Prelude.{nat_le}
-use Rattle.std.specs.List.{AllByRecursion as All, filter, slice_get}
+use Rattle.std.specs.List.{AllByRecursion as All, filter}
 use Rattle.std.proofs.lemmas.Bool.{leb-true, leb-false, le-leb, lt-leb}
 use Rattle.std.proofs.lemmas.List.{get_or_append_left}
-use Rattle.std.proofs.lemmas.Option.{slice_get_past}
-use Rattle.bw_log.specs.declared.places.PageAt.{PageAt}
 use Rattle.std.proofs.lemmas.List.Elements.{filter-append}
-use Rattle.bw_codec.specs.Grammar.{IsPlace}
 use Rattle.bw_codec.specs.declared.record.Record.{Record}
 use Rattle.bw_codec.specs.declared.leaf.Leaf.{Leaf}
 use Rattle.bw_codec.specs.declared.block.Place.{Place}
@@ -22,8 +20,7 @@ use Rattle.bw_page.specs.Standing.{blocks_of, Stand}
 use Rattle.bw_page.proofs.Sorted.{all-map, all-zip}
 use Rattle.bw_buffer.specs.Filling.{Filling, frame_of}
 use Rattle.bw_log.specs.Contents as logs
-use Rattle.bw_codec.specs.Touch.{touches}
-use Rattle.bw_log.specs.Places.{all_placed, bad_link, last_place, place_of, first_number, AreLinked}
+use Rattle.bw_log.specs.Places.{first_number}
 use Rattle.bw_log.specs.Segments.{following, next_of, AreFrom}
 use Rattle.bw_log.proofs.Adding.{following_is, filter_all}
 use Rattle.bw_log.proofs.Entries.{all_append}
@@ -39,7 +36,7 @@ use Rattle.bw_store.specs.Settled.{IsSettled}
 use Rattle.bw_store.specs.Cleaning.{with_moved}
 use Rattle.bw_store.proofs.CutMore.{same_leaves, old_shares}
 use Rattle.bw_store.proofs.EmptyBehind.{AreNoted, grown_empty}
-use Rattle.bw_store.proofs.FramesBehind.{from_behind, from_within, next_after, first_ahead, same_end, place_lawful, pages_counted}
+use Rattle.bw_store.proofs.FramesBehind.{from_behind, from_within, next_after, first_ahead, same_end}
 use Rattle.bw_store.proofs.SettledMore.{not_first}
 use Rattle.bw_store.proofs.Telling.{tells_none}
 
@@ -86,7 +83,8 @@ some_bases_by : (was : List Block) (f : Frame) (fs : List Frame) (passes : Bool)
 some_bases_by was f fs true here rest = all_append (IsRewritten was) f.blocks (blocks_of fs) here rest
 some_bases_by was f fs false here rest = rest
 
-some_bases : (was : List Block) (test : Frame → Bool) (fs : List Frame) → All (IsRewritten was) (blocks_of fs) → All (IsRewritten was) (blocks_of (filter test fs))
+some_bases : (was : List Block) (test : Frame → Bool) (fs : List Frame) → All (IsRewritten was) (blocks_of fs)
+    → All (IsRewritten was) (blocks_of (filter test fs))
 some_bases was test [] h = tt
 some_bases was test (f ∷ fs) h =
     (let parts = all_parts (IsRewritten was) f.blocks (blocks_of fs) h in
@@ -145,7 +143,8 @@ module _ (s : Kept) (written : List Frame) (a : Adds s written) where
       let low = h.last in
       let last : s.before + s.durable ≡ first_number old + length old - 1 =
       same_end (s.before + s.durable) (first_number old + length old - 1) (omega arith) (omega arith)
-      (sym (sym h.log.holds.follows ∙ h.next) ∙ next_after (first_number old) old h.log.holds.numbered some (first_number old + length old - 1) (omega arith)) in
+      (sym (sym h.log.holds.follows ∙ h.next)
+      ∙ next_after (first_number old) old h.log.holds.numbered some (first_number old + length old - 1) (omega arith)) in
       omega arith
 
   pub high : first + n ≤ 2 ^ 64

@@ -93,7 +93,8 @@ is_cause takes_last s fault never a =
 pub never_nothing : (takes_last : Bool) (s : Kept) → FlushAnswers (refusal_by takes_last s) (Err NothingOld) → ⊥
 never_nothing takes_last s a = is_cause takes_last s NothingOld (λ x. x) a
 
-pub flush_refuses : (old new : Kept) (cause : StoreFault) → FlushAnswers (flush_refusal old) (Err cause) → FlushLeaves old (Err cause) new → Refuses old cause new
+pub flush_refuses : (old new : Kept) (cause : StoreFault) → FlushAnswers (flush_refusal old) (Err cause)
+    → FlushLeaves old (Err cause) new → Refuses old cause new
 flush_refuses old new NoMemory a left = inl left
 flush_refuses old new BadConfig a left = absurd (is_cause false old BadConfig (λ x. x) a)
 flush_refuses old new NoSegment a left = (left, same_answer (flush_refusal old) NoSegment (λ x. x) a)

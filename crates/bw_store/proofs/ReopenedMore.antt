@@ -1,12 +1,11 @@
 -- A store that was opened again is sound.
 
-use Rattle.std.proofs.Common.{inl, inr, ◌≡◌, ◌⊎◌, ℕ, ◌+◌, ◌-◌, ◌^◌, ◌<◌, ◌≤◌, true, false, Option, Some, None, List, [], ◌∷◌}
+use Rattle.std.proofs.Common.{inl, inr, ◌≡◌, ◌⊎◌, ℕ, ◌+◌, ◌^◌, ◌<◌, ◌≤◌, true, false, Option, Some, None, List, [], ◌∷◌}
 use Rattle.std.proofs.Common.{length, refl, sym, ap, ◌∙◌, subst, arith}
 use Rattle.std.specs.Prelude.{nat_le, IfSome}
-use Rattle.std.specs.List.{AllByRecursion as All, fold, slice_get}
-use Rattle.std.proofs.lemmas.Bool.{le-leb, leb-true, leb-false}
-use Rattle.std.proofs.lemmas.Option.{slice_get_past}
-use Rattle.bw_codec.specs.Grammar.{IsFrame, IsPlace}
+use Rattle.std.specs.List.{AllByRecursion as All, fold}
+use Rattle.std.proofs.lemmas.Bool.{le-leb}
+use Rattle.bw_codec.specs.Grammar.{IsFrame}
 use Rattle.bw_codec.specs.declared.block.Place.{Place}
 use Rattle.bw_codec.specs.declared.block.Block.{Block}
 use Rattle.bw_codec.specs.declared.block.Frame.{Frame}
@@ -19,7 +18,6 @@ use Rattle.bw_ring.specs.Ends.{Ring}
 use Rattle.bw_log.specs.Contents as logs
 use Rattle.bw_log.specs.Places.{place_of, first_number}
 use Rattle.bw_log.specs.Segments.{following, AreFrom}
-use Rattle.bw_log.specs.declared.places.PageAt.{PageAt}
 use Rattle.bw_log.proofs.Adding.{following_is, filter_all}
 use Rattle.std.specs.declared.dyn_box.DynBox.{DynBox}
 use Rattle.std.specs.declared.alloc.Global.{Global}
@@ -28,9 +26,9 @@ use Rattle.bw_care.specs.Found.{IsRecovered}
 use Rattle.bw_care.specs.Recovery.{last_number}
 use Rattle.bw_care.specs.declared.recovered.Recovered.{Recovered}
 use Rattle.bw_store.specs.Growing.{Grown, frames_upto}
-use Rattle.bw_store.specs.Kept.{Kept, IsSound, TellsShare}
+use Rattle.bw_store.specs.Kept.{leaves_at, TellsBy, TellsShare, IsSound}
 use Rattle.bw_store.specs.Reopened.{reopened}
-use Rattle.bw_store.proofs.FramesBehind.{from_within, none_above, counted_lawful, place_lawful, placed_page, pages_counted}
+use Rattle.bw_store.proofs.FramesBehind.{from_within, none_above, counted_lawful, placed_page, pages_counted}
 use Rattle.bw_store.proofs.EmptyBehind.{AreNoted, grown_empty}
 use Rattle.bw_store.proofs.Telling.{tells_none}
 
@@ -141,7 +139,7 @@ module _ (c : logs.Contents) (filed : Shown) (last : ℕ) (x : Found c filed las
         floor = omega arith;
         stands = λ k low high from. (
             let none : 0 ≡ k = omega arith in
-            subst (λ j. Stand filed.m (frames_upto (last + j) (logs.counted c)) (Rattle.bw_store.specs.Kept.leaves_at t j)) none
+            subst (λ j. Stand filed.m (frames_upto (last + j) (logs.counted c)) (leaves_at t j)) none
             (subst (λ (fs : List Frame). Stand filed.m fs filed.leaves)
             (sym (filter_all (λ (f : Frame). nat_le f.number (last + 0)) (logs.counted c)
             (all-map (λ f. (0 ≤ f.number) × (f.number < last + 1)) (λ f. nat_le f.number (last + 0) ≡ true)
@@ -150,6 +148,6 @@ module _ (c : logs.Contents) (filed : Shown) (last : ℕ) (x : Found c filed las
         shares = all-map (λ f. (0 ≤ f.number) × (f.number < last + 1)) (λ f. last < f.number → TellsShare t f)
             (λ f in_range above. (let high_number = in_range.1 in absurd (omega arith))) (logs.counted c) numbers;
         tells =
-            subst (λ (bs : List Block). Rattle.bw_store.specs.Kept.TellsBy t (last + 0 + 1) filed.leaves [] bs) (sym empty)
+            subst (λ (bs : List Block). TellsBy t (last + 0 + 1) filed.leaves [] bs) (sym empty)
             (inr (λ zeroth one. (let low = from_one in absurd (omega arith)), tells_none filed.m filed.leaves));
       }

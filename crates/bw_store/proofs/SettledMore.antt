@@ -94,7 +94,8 @@ pub flushed_empty : (old new : Kept) (o : Option ℕ) → FlushLeaves old (Ok o)
 flushed_empty old new None left = ap (λ (s : Kept). s.making.blocks) left.0 ∙ left.1
 flushed_empty old new (Some n) left = ap (λ (s : Kept). s.making.blocks) left.is ∙ left.empty
 
-pub settled_by : (takes_last : Bool) (old new : Kept) (o : Option ℕ) → IsSound new → FlushAnswers (refusal_by takes_last old) (Ok o) → FlushLeaves old (Ok o) new → IsSettled new
+pub settled_by : (takes_last : Bool) (old new : Kept) (o : Option ℕ) → IsSound new
+    → FlushAnswers (refusal_by takes_last old) (Ok o) → FlushLeaves old (Ok o) new → IsSettled new
 settled_by takes_last old new o sound a left = settled new sound (flushed_empty old new o left) (worked takes_last old new o a left)
 
 pub flush_settled : (old new : Kept) (r : Result (Option ℕ) StoreFault) → IsSound new → FlushAnswers (flush_refusal old) r → FlushLeaves old r new

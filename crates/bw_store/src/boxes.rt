@@ -23,14 +23,16 @@ impl Store {
         requires { IsSoundBeside self.old holding }
         ensures sound { IsSoundBeside self.new holding }
         ensures added { OnOk result
-            (kept_beside self.new holding ≡ with_spare (kept_beside self.old holding) (holding one)) }
+            (kept_beside self.new holding
+            ≡ with_spare (kept_beside self.old holding) (holding one)) }
 
         ensures bad_config { IsErrAnd result (λ e. e.1 ≡ StoreFault.BadConfig)
             ↔ IsNotTaken (kept_beside self.old holding).log (holding one) }
         ensures memory { IfErr result (λ e.
             (e.1 ≡ StoreFault.BadConfig) ⊎ (e.1 ≡ StoreFault.NoMemory)) }
         ensures back { IfErr result (λ e. e.0 ≡ one) }
-        ensures unchanged { OnErr result (kept_beside self.new holding ≡ kept_beside self.old holding) }
+        ensures unchanged { OnErr result
+            (kept_beside self.new holding ≡ kept_beside self.old holding) }
 
         ensures follows { Follows (kept_beside self.old holding) (kept_beside self.new holding) }
     {

@@ -38,8 +38,8 @@ impl Intake {
         peek_at(&mut self.lanes, lane)
     }
 
-    /// A look at both ends of all rings: what was accepted is then what was taken and what the lanes
-    /// know of.
+    /// A look at both ends of all rings: what was accepted is then what was taken and what the
+    /// lanes know of.
     pub(crate) fn look_beside(&mut self, feeds: &mut Vec<Feed>)
         requires { map ring_of_feed feeds.old.items ≡ map ring_of_lane self.old.lanes.items }
         ensures history { self.new.history.items ≡ self.old.history.items }

@@ -32,7 +32,8 @@ fn renew_at(newest: &mut Vec<Place>, log: &Log, at: usize)
     requires there { place_of (at + 1) (counted (seen log.now holding)) ≡ None → ⊥ }
     ensures len { vec_len newest.new ≡ vec_len newest.old }
     ensures count { length newest.new.items ≡ length newest.old.items }
-    ensures at { slice_get newest.new.items at ≡ place_of (at + 1) (counted (seen log.now holding)) }
+    ensures at { slice_get newest.new.items at
+        ≡ place_of (at + 1) (counted (seen log.now holding)) }
     ensures others { (i : ℕ) → (i ≡ at → ⊥)
         → slice_get newest.new.items i ≡ slice_get newest.old.items i }
 {

@@ -1,14 +1,16 @@
 use Rattle.std.proofs.Common.{◌≡◌, ◌++◌, length, replicate, ap, ◌∙◌, arith}
 use Rattle.bw_store.specs.Cleaning.{end_by}
 use Rattle.bw_store.specs.Views.{kept_by}
-use Rattle.bw_store.proofs.CleanedMore.{Begins, cleans_of, cleaned_cleans, cleaned_told, refused_cleans, refused_counts, stopped_of, end_before, end_after, frames_are}
+use Rattle.bw_store.proofs.CleanedMore.{Begins, cleans_of, cleaned_cleans, cleaned_told, refused_cleans}
+use Rattle.bw_store.proofs.CleanedMore.{refused_counts, stopped_of, end_before, end_after, frames_are}
 use Rattle.bw_store.proofs.CleanedMore.{there, few_newest, notes_of, noted_are, cleaned_sound, refused_sound}
 use Rattle.bw_store.proofs.store.Store.move_pages.Goals as goal
 
 pub frames_between-frames-requires-clause-after : goal.frames_between-frames-requires-clause-after
 frames_between-frames-requires-clause-after g c =
     let s = kept_by c.args.self.now (λ z. (goal.Segment-dyn g z).holding z.1) in
-    let b : Begins s = record { sound = c.requires.sound; done = c.requires.settled; empty = c.requires.empty; works = c.requires.works; two = c.requires.two } in
+    let r = c.requires in
+    let b : Begins s = record { sound = r.sound; done = r.settled; empty = r.empty; works = r.works; two = r.two } in
     let e = c.clean-result.ensures in
     let x = cleans_of s _ c.clean-result.result b e.sound e.cleaned e.refused e.stands in
     let one = end_before s c.requires.sound in
@@ -20,7 +22,8 @@ frames_between-frames-requires-clause-after g c =
 pub push_many-requires : goal.push_many-requires
 push_many-requires g c =
     let s = kept_by c.args.self.now (λ z. (goal.Segment-dyn g z).holding z.1) in
-    let b : Begins s = record { sound = c.requires.sound; done = c.requires.settled; empty = c.requires.empty; works = c.requires.works; two = c.requires.two } in
+    let r = c.requires in
+    let b : Begins s = record { sound = r.sound; done = r.settled; empty = r.empty; works = r.works; two = r.two } in
     let e = c.clean-result.ensures in
     let x = cleans_of s _ c.clean-result.result b e.sound e.cleaned e.refused e.stands in
     let first = ap end_by c.next_frame-first.ensures in
@@ -37,7 +40,8 @@ renew-requires-clause-count g c = few_newest (kept_by c.args.self.now (λ z. (go
 pub renew-requires-clause-there : goal.renew-requires-clause-there
 renew-requires-clause-there g c =
     let s = kept_by c.args.self.now (λ z. (goal.Segment-dyn g z).holding z.1) in
-    let b : Begins s = record { sound = c.requires.sound; done = c.requires.settled; empty = c.requires.empty; works = c.requires.works; two = c.requires.two } in
+    let r = c.requires in
+    let b : Begins s = record { sound = r.sound; done = r.settled; empty = r.empty; works = r.works; two = r.two } in
     let e = c.clean-result.ensures in
     let x = cleans_of s _ c.clean-result.result b e.sound e.cleaned e.refused e.stands in
     λ p from to. there s _ x p from to c.requires.sound
@@ -45,18 +49,21 @@ renew-requires-clause-there g c =
 pub returns-in-Ok-clause-sound : goal.returns-in-Ok-clause-sound
 returns-in-Ok-clause-sound g c =
     let s = kept_by c.args.self.now (λ z. (goal.Segment-dyn g z).holding z.1) in
-    let b : Begins s = record { sound = c.requires.sound; done = c.requires.settled; empty = c.requires.empty; works = c.requires.works; two = c.requires.two } in
+    let r = c.requires in
+    let b : Begins s = record { sound = r.sound; done = r.settled; empty = r.empty; works = r.works; two = r.two } in
     let e = c.clean-result.ensures in
     let x = cleaned_cleans s c.in-Ok.cleaned _ b e.sound c.in-Ok.ensures.cleaned e.stands in
-    cleaned_sound s b _ c.frames_between-frames.result _ _ _ (notes_of s _ x c.frames_between-frames.result _ _ _ _ _ c.next_frame-first.result c.next_frame.result
-    c.next_frame-2.result c.requires.sound c.next_frame-first.ensures c.next_frame.ensures c.frames_between-frames.ensures c.push_many.ensures
+    cleaned_sound s b _ c.frames_between-frames.result _ _ _ (notes_of s _ x c.frames_between-frames.result _ _ _ _ _ c.next_frame-first.result
+    c.next_frame.result c.next_frame-2.result c.requires.sound c.next_frame-first.ensures c.next_frame.ensures c.frames_between-frames.ensures
+    c.push_many.ensures
     (ap length c.as_slice.ensures.value) c.renew.ensures.count c.renew.ensures.each c.begin_at.ensures.limit c.begin_at.ensures.empty
     c.begin_at.ensures.sealed c.is_failed.ensures c.next_frame-2.ensures c.begin_at.ensures.number)
 
 pub returns-in-Ok-clause-leaves : goal.returns-in-Ok-clause-leaves
 returns-in-Ok-clause-leaves g c =
     let s = kept_by c.args.self.now (λ z. (goal.Segment-dyn g z).holding z.1) in
-    let b : Begins s = record { sound = c.requires.sound; done = c.requires.settled; empty = c.requires.empty; works = c.requires.works; two = c.requires.two } in
+    let r = c.requires in
+    let b : Begins s = record { sound = r.sound; done = r.settled; empty = r.empty; works = r.works; two = r.two } in
     let e = c.clean-result.ensures in
     let x = cleaned_cleans s c.in-Ok.cleaned _ b e.sound c.in-Ok.ensures.cleaned e.stands in
     let first = ap end_by c.next_frame-first.ensures in
@@ -75,11 +82,13 @@ returns-in-Ok-clause-leaves g c =
 pub returns-in-Err-clause-sound : goal.returns-in-Err-clause-sound
 returns-in-Err-clause-sound g c =
     let s = kept_by c.args.self.now (λ z. (goal.Segment-dyn g z).holding z.1) in
-    let b : Begins s = record { sound = c.requires.sound; done = c.requires.settled; empty = c.requires.empty; works = c.requires.works; two = c.requires.two } in
+    let r = c.requires in
+    let b : Begins s = record { sound = r.sound; done = r.settled; empty = r.empty; works = r.works; two = r.two } in
     let e = c.clean-result.ensures in
     let stop = stopped_of s c.in-Err.fault _ b c.in-Err.ensures.refused in
     let x = refused_cleans s stop.0 _ b e.sound stop.1 e.stands in
-    refused_sound s b _ c.frames_between-frames.result _ _ _ (notes_of s _ x c.frames_between-frames.result _ _ _ _ _ c.next_frame-first.result c.next_frame.result
-    c.next_frame-2.result c.requires.sound c.next_frame-first.ensures c.next_frame.ensures c.frames_between-frames.ensures c.push_many.ensures
+    refused_sound s b _ c.frames_between-frames.result _ _ _ (notes_of s _ x c.frames_between-frames.result _ _ _ _ _ c.next_frame-first.result
+    c.next_frame.result c.next_frame-2.result c.requires.sound c.next_frame-first.ensures c.next_frame.ensures c.frames_between-frames.ensures
+    c.push_many.ensures
     (ap length c.as_slice.ensures.value) c.renew.ensures.count c.renew.ensures.each c.begin_at.ensures.limit c.begin_at.ensures.empty
     c.begin_at.ensures.sealed c.is_failed.ensures c.next_frame-2.ensures c.begin_at.ensures.number) (refused_counts s stop.0 _ b e.sound stop.1 e.stands)

@@ -42,7 +42,8 @@ returns-clause-writers g c =
 
 pub returns-clause-last_cut : goal.returns-clause-last_cut
 returns-clause-last_cut g c =
-    (settled_by false _ _ c.in_ok-flush_making.field-0 c.in_ok-flush_making.ensures.sound c.in_ok-flush_making.ensures.answers c.in_ok-flush_making.ensures.leaves).cut
+    (settled_by false _ _ c.in_ok-flush_making.field-0 c.in_ok-flush_making.ensures.sound c.in_ok-flush_making.ensures.answers
+    c.in_ok-flush_making.ensures.leaves).cut
 
 pub returns-clause-pages : goal.returns-clause-pages
 returns-clause-pages g c =
