@@ -8,6 +8,7 @@ mod putting;
 mod reading;
 mod settling;
 mod steps;
+mod threads;
 mod turning;
 mod vectors;
 mod walking;
