@@ -1,6 +1,14 @@
 //! Calls on a store as tables of steps, each walked to the first that goes otherwise than told.
 
+mod asking;
 mod boxes;
+mod cleaning;
 mod opening;
+mod putting;
+mod reading;
+mod settling;
 mod steps;
+mod threads;
+mod turning;
+mod vectors;
 mod walking;

@@ -1,11 +1,16 @@
 //! One call, with what it has to answer.
 
-ghost use Rattle.bw_store.specs.Views.{IsSound, IsSoundBeside};
+ghost use Rattle.std.specs.Prelude.{◌≡◌, map};
+ghost use Rattle.bw_ring.specs.Ends.{ring_of_feed};
+ghost use Rattle.bw_store.specs.Views.{kept_by, kept_beside, IsSound, IsSoundBeside};
+ghost use Rattle.bw_store.specs.Following.{Follows};
 
-use bw_codec::{Key, Record, Value};
+use super::asking::{are_bytes, has, is_history, is_page};
+use super::putting::{are_put, is_put, record};
+use super::reading::reads;
 use bw_device::Segment;
 use bw_ring::Feed;
-use bw_store::{Entry, Store, StoreFault, TurnFault};
+use bw_store::{Cleaned, Store, StoreFault, TurnFault};
 use std::alloc::Global;
 use std::test::Fail;
 
@@ -13,6 +18,11 @@ use std::test::Fail;
 pub(super) enum Step {
     /// A put of a writer.
     Put(usize, &'static [u8], &'static [u8]),
+    Del(usize, &'static [u8]),
+    /// A put that finds no place.
+    Full(usize, &'static [u8], &'static [u8]),
+    /// So many puts of a writer, each of its number.
+    Puts(usize, u32),
     /// A turn of this limit takes so many.
     Turn(u32, u32),
     /// It takes so many, and is then refused.
@@ -20,10 +30,23 @@ pub(super) enum Step {
     /// A flush appends this frame, or nothing.
     Flush(Option<u64>),
     Refused(StoreFault),
+    /// All is taken and flushed: the length of the history.
+    Settle(u64),
+    Unsettled(StoreFault),
+    /// The segment given up, its lease, how many pages, in how many frames.
+    Clean(u64, u32, usize, u64),
+    Uncleaned(StoreFault),
+    /// A page; no text where there is none.
+    Page(u32, &'static str),
+    /// The value of a key; no text where it has none.
+    Get(&'static [u8], &'static [u8]),
+    /// All pages together have the first so many puts of two writers, and so has each key.
+    Reads(u32),
+    /// The number, lease and length of a live segment, from 0.
+    Live(u32, u64, u32, u64),
     /// The bytes of a live segment, as hex.
     Bytes(u64, &'static str),
-    /// The writers of the history and the first bytes of its keys.
-    History(&'static [(u16, u8)]),
+    History(&'static str),
     Cuts(&'static [u64], u64),
     /// How many segments are live, and how many spares stand.
     Stands(u32, u32),
@@ -32,56 +55,10 @@ pub(super) enum Step {
     Add,
 }
 
-use Step::{Add, Bytes, Cuts, Flush, History, Put, Refused, Roll, Stands, Stops, Turn};
-
-fn is_put(feeds: &mut [Feed], writer: usize, key: &[u8], value: &[u8]) -> Result<bool, Fail> {
-    let item = Record::Put(Key::new(key)?, Value::new(value)?);
-    match feeds.get_mut(writer) {
-        Some(feed) => Ok(feed.put(item).is_ok()),
-        None => Ok(false),
-    }
-}
-
-fn digit(n: u8) -> u8 {
-    match n {
-        0..=9 => n + b'0',
-        10..=15 => n + (b'a' - 10),
-        _ => 0,
-    }
-}
-
-// Whether these are the bytes that the hex digits spell.
-fn spells(bytes: &[u8], hex: &[u8]) -> bool {
-    if hex.len() / 2 != bytes.len() {
-        return false;
-    }
-    for (at, byte) in bytes.iter().enumerate() {
-        let (high, low) = (hex.get(2 * at), hex.get(2 * at + 1));
-        if high.copied() != Some(digit(*byte / 16)) || low.copied() != Some(digit(*byte % 16)) {
-            return false;
-        }
-    }
-    true
-}
-
-fn are_bytes(alloc: Global, store: &mut Store, segment: u64, hex: &str) -> Result<bool, Fail>
-    requires { IsSound store.old holding }
-    ensures { IsSound store.new holding }
-{
-    let mut bytes = Vec::new(alloc);
-    let Ok(true) = store.dump(segment, &mut bytes) else {
-        return Ok(false);
-    };
-    Ok(spells(&bytes, hex.as_bytes()))
-}
-
-fn is_entry(entry: &Entry, told: &(u16, u8)) -> bool {
-    entry.writer == told.0 && entry.item.key().as_slice().first().copied() == Some(told.1)
-}
-
-fn is_history(entries: &[Entry], told: &[(u16, u8)]) -> bool {
-    entries.len() == told.len() && entries.iter().zip(told).all(|(a, b)| is_entry(a, b))
-}
+use Step::{
+    Add, Bytes, Clean, Cuts, Del, Flush, Full, Get, History, Live, Page, Put, Puts, Reads, Refused,
+    Roll, Settle, Stands, Stops, Turn, Uncleaned, Unsettled,
+};
 
 fn are_cuts(cuts: &[u64], told: &[u64]) -> bool {
     cuts.len() == told.len() && cuts.iter().zip(told).all(|(a, b)| *a == *b)
@@ -89,7 +66,8 @@ fn are_cuts(cuts: &[u64], told: &[u64]) -> bool {
 
 fn is_added(store: &mut Store, more: &mut Vec<Box<dyn Segment>>) -> bool
     requires { IsSoundBeside store.old holding }
-    ensures { IsSoundBeside store.new holding }
+    ensures sound { IsSoundBeside store.new holding }
+    ensures follows { Follows (kept_beside store.old holding) (kept_beside store.new holding) }
 {
     match more.pop() {
         Some(one) => store.add_segment(one).is_ok(),
@@ -97,37 +75,111 @@ fn is_added(store: &mut Store, more: &mut Vec<Box<dyn Segment>>) -> bool
     }
 }
 
-/// Whether the step goes as told.
-pub(super) fn goes(
-    alloc: Global,
-    store: &mut Store,
-    feeds: &mut [Feed],
-    more: &mut Vec<Box<dyn Segment>>,
-    step: &Step,
-) -> Result<bool, Fail>
-    requires { IsSoundBeside store.old holding }
-    ensures { IsSoundBeside store.new holding }
+fn takes(store: &mut Store, limit: u32, told: Result<u32, TurnFault>) -> bool
+    requires { IsSound store.old holding }
+    ensures sound { IsSound store.new holding }
+    ensures follows { Follows (kept_by store.old holding) (kept_by store.new holding) }
+{
+    match store.turn(limit) {
+        Ok(taken) => told == Ok(taken),
+        Err(fault) => told == Err(fault),
+    }
+}
+
+// A step of a writer.
+fn puts(feeds: &mut Vec<Feed>, step: &Step) -> Result<bool, Fail>
+    ensures { map ring_of_feed feeds.new.items ≡ map ring_of_feed feeds.old.items }
+{
+    let count = feeds.as_slice().len();
+    match step {
+        Put(writer, key, value) if *writer < count => {
+            Ok(is_put(feeds, *writer, record(*key, Some(*value))?))
+        }
+        Full(writer, key, value) if *writer < count => {
+            Ok(!is_put(feeds, *writer, record(*key, Some(*value))?))
+        }
+        Del(writer, key) if *writer < count => Ok(is_put(feeds, *writer, record(*key, None)?)),
+        Puts(writer, many) if *writer < count => Ok(are_put(feeds, *writer, *many)),
+        _ => Ok(false),
+    }
+}
+
+// A step that only asks.
+fn answers(alloc: Global, store: &mut Store, step: &Step) -> Result<bool, Fail>
+    requires { IsSound store.old holding }
+    ensures sound { IsSound store.new holding }
+    ensures follows { Follows (kept_by store.old holding) (kept_by store.new holding) }
 {
     match step {
-        Put(writer, key, value) => is_put(feeds, *writer, *key, *value),
-        Turn(limit, taken) => Ok(store.turn(*limit) == Ok(*taken)),
+        Page(page, text) => is_page(alloc, store, *page, *text),
+        Get(key, value) => has(store, *key, *value),
+        Reads(many) => reads(store, *many),
+        Live(at, number, lease, length) => {
+            Ok(store.live_segment(*at) == Some((*number, *lease, *length)))
+        }
+        Bytes(segment, hex) => are_bytes(alloc, store, *segment, *hex),
+        History(told) => is_history(alloc, store.history(), *told),
+        Cuts(told, durable) => Ok(are_cuts(store.cuts(), *told) && store.durable() == *durable),
+        Stands(live, spares) => Ok(store.live() == *live && store.spares() == *spares),
+        _ => Ok(false),
+    }
+}
+
+// A step that changes the store alone.
+fn changes(store: &mut Store, step: &Step) -> bool
+    requires { IsSound store.old holding }
+    ensures sound { IsSound store.new holding }
+    ensures follows { Follows (kept_by store.old holding) (kept_by store.new holding) }
+{
+    match step {
+        Turn(limit, taken) => takes(store, *limit, Ok(*taken)),
         Stops(limit, taken, cause) => {
             let told = TurnFault {
                 taken: *taken,
                 cause: *cause,
             };
-            Ok(store.turn(*limit) == Err(told))
+            takes(store, *limit, Err(told))
         }
-        Flush(frame) => Ok(store.flush() == Ok(*frame)),
-        Refused(fault) => Ok(store.flush() == Err(*fault)),
-        Bytes(segment, hex) => are_bytes(alloc, store, *segment, *hex),
-        History(told) => Ok(is_history(store.history(), *told)),
-        Cuts(told, durable) => Ok(are_cuts(store.cuts(), *told) && store.durable() == *durable),
-        Stands(live, spares) => Ok(store.live() == *live && store.spares() == *spares),
-        Roll => {
+        Flush(frame) => store.flush() == Ok(*frame),
+        Refused(fault) => store.flush() == Err(*fault),
+        Clean(segment, lease, pages, frames) => {
+            let told = Cleaned {
+                segment: *segment,
+                lease: *lease,
+                pages: *pages,
+                frames: *frames,
+            };
+            store.clean() == Ok(told)
+        }
+        Uncleaned(fault) => store.clean() == Err(*fault),
+        _ => {
             store.roll();
-            Ok(true)
+            true
         }
+    }
+}
+
+/// Whether the step goes as told.
+pub(super) fn goes(
+    alloc: Global,
+    store: &mut Store,
+    feeds: &mut Vec<Feed>,
+    more: &mut Vec<Box<dyn Segment>>,
+    step: &Step,
+) -> Result<bool, Fail>
+    requires sound { IsSoundBeside store.old holding }
+    requires feeds { map ring_of_feed feeds.old.items ≡ (kept_beside store.old holding).rings }
+    ensures sound { IsSoundBeside store.new holding }
+    ensures feeds { map ring_of_feed feeds.new.items ≡ (kept_beside store.new holding).rings }
+{
+    match step {
+        Put(..) | Del(..) | Full(..) | Puts(..) => puts(feeds, step),
+        Turn(..) | Stops(..) | Flush(..) | Refused(..) | Clean(..) | Uncleaned(..) | Roll => {
+            Ok(changes(store, step))
+        }
+        Settle(count) => Ok(store.settle(feeds) == Ok(*count)),
+        Unsettled(fault) => Ok(store.settle(feeds) == Err(*fault)),
         Add => Ok(is_added(store, more)),
+        _ => answers(alloc, store, step),
     }
 }

@@ -1,0 +1,120 @@
+//! What is asked of a store, as text.
+
+ghost use Rattle.std.specs.Prelude.{◌≡◌};
+ghost use Rattle.bw_store.specs.Views.{kept_by, IsSound};
+ghost use Rattle.bw_store.specs.Following.{Follows};
+
+use bw_codec::{Key, Leaf, Record};
+use bw_store::{Entry, Store, StoreFault};
+use std::alloc::{AllocError, Global};
+use std::test::Fail;
+
+fn digit(n: u8) -> u8 {
+    match n {
+        0..=9 => n + b'0',
+        10..=15 => n + (b'a' - 10),
+        _ => 0,
+    }
+}
+
+// Whether these are the bytes that the hex digits spell.
+fn spells(bytes: &[u8], hex: &[u8]) -> bool {
+    if hex.len() / 2 != bytes.len() {
+        return false;
+    }
+    for (at, byte) in bytes.iter().enumerate() {
+        let (high, low) = (hex.get(2 * at), hex.get(2 * at + 1));
+        if high.copied() != Some(digit(*byte / 16)) || low.copied() != Some(digit(*byte % 16)) {
+            return false;
+        }
+    }
+    true
+}
+
+/// Whether these are the bytes of a live segment.
+pub(super) fn are_bytes(
+    alloc: Global,
+    store: &mut Store,
+    segment: u64,
+    hex: &str,
+) -> Result<bool, Fail>
+    requires { IsSound store.old holding }
+    ensures sound { IsSound store.new holding }
+    ensures follows { Follows (kept_by store.old holding) (kept_by store.new holding) }
+{
+    let mut bytes = Vec::new(alloc);
+    let Ok(true) = store.dump(segment, &mut bytes) else {
+        return Ok(false);
+    };
+    Ok(spells(&bytes, hex.as_bytes()))
+}
+
+fn show_entry(out: &mut Vec<u8>, entry: &Entry) -> Result<(), AllocError> {
+    out.push(b'0' + (entry.writer % 10) as u8)?;
+    match &entry.item {
+        Record::Put(key, value) => {
+            out.extend_from_slice(b" put ")?;
+            out.extend_from_slice(key.as_slice())?;
+            out.push(b' ')?;
+            out.extend_from_slice(value.as_slice())?;
+        }
+        Record::Del(key) => {
+            out.extend_from_slice(b" del ")?;
+            out.extend_from_slice(key.as_slice())?;
+        }
+    }
+    out.push(b';')?;
+    Ok(())
+}
+
+/// Whether the history is so: each entry as its writer, `put` or `del`, key and value.
+pub(super) fn is_history(alloc: Global, entries: &[Entry], text: &str) -> Result<bool, Fail> {
+    let mut out = Vec::new(alloc);
+    for entry in entries {
+        show_entry(&mut out, entry)?;
+    }
+    Ok(out.as_slice() == text.as_bytes())
+}
+
+fn show_leaf(out: &mut Vec<u8>, leaf: &Leaf) -> Result<(), AllocError> {
+    out.push(b'0' + (leaf.page % 10) as u8)?;
+    out.push(b' ')?;
+    out.extend_from_slice(leaf.low.as_slice())?;
+    out.push(b':')?;
+    for (key, value) in leaf.pairs.as_slice() {
+        out.push(b' ')?;
+        out.extend_from_slice(key.as_slice())?;
+        out.push(b'=')?;
+        out.extend_from_slice(value.as_slice())?;
+    }
+    Ok(())
+}
+
+fn is_leaf(alloc: Global, leaf: &Leaf, text: &str) -> Result<bool, Fail> {
+    let mut out = Vec::new(alloc);
+    show_leaf(&mut out, leaf)?;
+    Ok(out.as_slice() == text.as_bytes())
+}
+
+/// Whether a page is so: its number, low key and pairs; with no text, whether there is none.
+pub(super) fn is_page(alloc: Global, store: &mut Store, page: u32, text: &str) -> Result<bool, Fail>
+    requires { IsSound store.old holding }
+    ensures { kept_by store.new holding ≡ kept_by store.old holding }
+{
+    match store.page(page) {
+        Ok(leaf) => is_leaf(alloc, &leaf, text),
+        Err(fault) => Ok(fault == StoreFault::NoPage && text.len() == 0),
+    }
+}
+
+/// Whether a key has this value; with no text, whether it has none.
+pub(super) fn has(store: &mut Store, key: &[u8], text: &[u8]) -> Result<bool, Fail>
+    requires { IsSound store.old holding }
+    ensures { kept_by store.new holding ≡ kept_by store.old holding }
+{
+    let key = Key::new(key)?;
+    match store.get(&key)? {
+        Some(value) => Ok(value.as_slice() == text),
+        None => Ok(text.len() == 0),
+    }
+}

@@ -1,0 +1,124 @@
+//! The oldest segment is given up: the tables.
+
+use super::steps::Step;
+use super::steps::Step::{
+    Add, Bytes, Clean, Cuts, Flush, Get, History, Live, Page, Put, Refused, Roll, Settle, Stands,
+    Turn, Uncleaned,
+};
+use super::vectors::{THIRD_NEWER, THIRD_OLDER};
+use super::walking::{over, over_fuse};
+use bw_store::StoreFault;
+use std::test::Fail;
+
+/// A cleaning that writes a page again, then one with nothing to write, then none.
+const THREE_SEGMENTS: [Step; 27] = [
+    Put(0, b"k", b"1"),
+    Turn(9, 1),
+    Flush(Some(1)),
+    Roll,
+    Put(0, b"j", b"2"),
+    Turn(9, 1),
+    Flush(Some(2)),
+    Roll,
+    Put(0, b"k", b"3"),
+    Turn(9, 1),
+    Flush(Some(3)),
+    Stands(3, 1),
+    Clean(1, 0, 1, 1),
+    Page(1, "1 : j=2 k=3"),
+    Cuts(&[1, 2, 3, 3], 4),
+    Live(0, 2, 1, 68),
+    Live(1, 3, 2, 104),
+    Stands(2, 1),
+    Bytes(2, THIRD_OLDER),
+    Bytes(3, THIRD_NEWER),
+    Clean(2, 1, 0, 0),
+    Live(0, 3, 2, 104),
+    Stands(1, 1),
+    Cuts(&[1, 2, 3, 3], 4),
+    Uncleaned(StoreFault::NothingOld),
+    Settle(3),
+    Page(1, "1 : j=2 k=3"),
+];
+
+/// What waits is not flushed where nothing is old.
+const NOTHING_OLD: [Step; 12] = [
+    Uncleaned(StoreFault::NothingOld),
+    Cuts(&[], 0),
+    Put(0, b"k", b"v"),
+    Turn(9, 1),
+    Flush(Some(1)),
+    Put(0, b"j", b"w"),
+    Turn(9, 1),
+    Uncleaned(StoreFault::NothingOld),
+    Cuts(&[1], 1),
+    Live(0, 1, 0, 76),
+    Flush(Some(2)),
+    Cuts(&[1, 2], 2),
+];
+
+/// Where one spare is left, a flush is refused; the flush of a cleaning takes it.
+const THREE_BOXES: [Step; 24] = [
+    Put(0, b"a", b"1"),
+    Turn(9, 1),
+    Flush(Some(1)),
+    Roll,
+    Put(0, b"b", b"2"),
+    Turn(9, 1),
+    Flush(Some(2)),
+    Roll,
+    Put(0, b"c", b"3"),
+    Turn(9, 1),
+    Refused(StoreFault::NoSegment),
+    Stands(2, 1),
+    Clean(1, 0, 1, 1),
+    Live(0, 2, 1, 68),
+    Live(1, 3, 2, 108),
+    Stands(2, 0),
+    Cuts(&[1, 2, 3, 3], 4),
+    Page(1, "1 : a=1 b=2 c=3"),
+    History("0 put a 1;0 put b 2;0 put c 3;"),
+    Add,
+    Stands(2, 1),
+    Put(0, b"d", b"4"),
+    Settle(4),
+    Page(1, "1 : a=1 b=2 c=3 d=4"),
+];
+
+/// The cleaner's append fails: no box is dropped, and pages and values are as before.
+const FAILED: [Step; 17] = [
+    Put(0, b"k", b"1"),
+    Turn(9, 1),
+    Flush(Some(1)),
+    Roll,
+    Put(0, b"j", b"2"),
+    Turn(9, 1),
+    Flush(Some(2)),
+    Stands(2, 1),
+    Uncleaned(StoreFault::Device { lease: 1 }),
+    Stands(2, 1),
+    Cuts(&[1, 2], 2),
+    Page(1, "1 : j=2 k=1"),
+    Get(b"k", b"1"),
+    Uncleaned(StoreFault::Failed),
+    Refused(StoreFault::Failed),
+    Stands(2, 1),
+    Page(1, "1 : j=2 k=1"),
+];
+
+#[test]
+fn the_oldest_segment_is_given_up(rt: HostRuntime) -> Result<(), Fail> {
+    assert_eq!(rt; over(rt.alloc(), 4, &THREE_SEGMENTS)?, THREE_SEGMENTS.len());
+    assert_eq!(rt; over(rt.alloc(), 4, &NOTHING_OLD)?, NOTHING_OLD.len());
+    assert_eq!(rt; over(rt.alloc(), 3, &THREE_BOXES)?, THREE_BOXES.len());
+    Ok(())
+}
+
+#[test]
+fn a_failed_append_of_the_cleaner_drops_no_box(rt: HostRuntime) -> Result<(), Fail> {
+    // A header, a frame and the read of a page pass; the cleaner's frame has 36 bytes.
+    for keep in 0..=36u64 {
+        assert_eq!(rt; over_fuse(rt.alloc(), 1, 3, keep, &FAILED)?, FAILED.len());
+    }
+    Ok(())
+}

@@ -1,0 +1,66 @@
+//! What writers put.
+
+ghost use Rattle.std.specs.Prelude.{◌≡◌, ◌<◌, length, map};
+ghost use Rattle.bw_ring.specs.Ends.{ring_of_feed};
+
+use bw_codec::{Key, Record, Value};
+use bw_ring::Feed;
+use std::test::Fail;
+
+/// A put, or with no value a delete.
+pub(super) fn record(key: &[u8], value: Option<&[u8]>) -> Result<Record, Fail> {
+    let key = Key::new(key)?;
+    match value {
+        Some(value) => Ok(Record::Put(key, Value::new(value)?)),
+        None => Ok(Record::Del(key)),
+    }
+}
+
+/// A writer's record of a number: its key is the writer's letter and the number, which its value
+/// is too.
+pub(super) fn numbered(writer: u8, number: u32) -> Record {
+    let [_, high, middle, low] = number.to_be_bytes();
+    match (
+        Key::new(&[writer, high, middle, low]),
+        Value::new(&[middle, low]),
+    ) {
+        (Ok(key), Ok(value)) => Record::Put(key, value),
+        _ => unreachable!(),
+    }
+}
+
+/// Whether a writer's feed takes the record.
+pub(super) fn is_put(feeds: &mut Vec<Feed>, writer: usize, item: Record) -> bool
+    requires { writer < length feeds.old.items }
+    ensures { map ring_of_feed feeds.new.items ≡ map ring_of_feed feeds.old.items }
+{
+    let _ = feeds.as_slice().len();
+    put_one(&mut feeds[writer], item)
+}
+
+fn put_one(feed: &mut Feed, item: Record) -> bool
+    ensures { ring_of_feed feed.new ≡ ring_of_feed feed.old }
+{
+    feed.put(item).is_ok()
+}
+
+/// Whether a writer's feed takes its first so many records.
+pub(super) fn are_put(feeds: &mut Vec<Feed>, writer: usize, count: u32) -> bool
+    requires { writer < length feeds.old.items }
+    ensures { map ring_of_feed feeds.new.items ≡ map ring_of_feed feeds.old.items }
+{
+    let letter = if writer == 0 { b'a' } else { b'b' };
+    let _ = feeds.as_slice().len();
+    put_all(&mut feeds[writer], letter, count)
+}
+
+fn put_all(feed: &mut Feed, writer: u8, count: u32) -> bool
+    ensures { ring_of_feed feed.new ≡ ring_of_feed feed.old }
+{
+    'numbers: for number in 0..count {
+        if feed.put(numbered(writer, number)).is_err() {
+            return false;
+        }
+    }
+    true
+}

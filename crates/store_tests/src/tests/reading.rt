@@ -1,0 +1,77 @@
+//! All pages of two writers' puts, read back.
+
+ghost use Rattle.std.specs.Prelude.{◌≡◌};
+ghost use Rattle.bw_store.specs.Views.{kept_by, IsSound};
+
+use super::putting::numbered;
+use bw_codec::{Leaf, Record};
+use bw_store::{Store, StoreFault};
+use std::test::Fail;
+
+// How many pairs a leaf has, if each is the put of a number.
+fn count_in(leaf: &Leaf) -> Option<u32> {
+    let mut count: u32 = 0;
+    for (key, value) in leaf.pairs.as_slice() {
+        let [writer, _, middle, low] = key.as_slice() else {
+            return None;
+        };
+        let number = u32::from(*middle) * 256 + u32::from(*low);
+        if numbered(*writer, number) != Record::Put(key.copy(), value.copy()) {
+            return None;
+        }
+        count = count.saturating_add(1);
+    }
+    Some(count)
+}
+
+// How many pairs a page has; none where there is no such page.
+fn pairs_of(store: &mut Store, page: u32) -> Result<Option<u32>, Fail>
+    requires { IsSound store.old holding }
+    ensures { kept_by store.new holding ≡ kept_by store.old holding }
+{
+    match store.page(page) {
+        Ok(leaf) => Ok(count_in(&leaf)),
+        Err(StoreFault::NoPage) => Ok(None),
+        Err(fault) => Err(fault.into()),
+    }
+}
+
+// How many pairs all pages have.
+fn pairs(store: &mut Store) -> Result<u32, Fail>
+    requires { IsSound store.old holding }
+    ensures { kept_by store.new holding ≡ kept_by store.old holding }
+{
+    let mut count: u32 = 0;
+    'pages: for page in 1..100_000 {
+        let Some(more) = pairs_of(store, page)? else {
+            return Ok(count);
+        };
+        count = count.saturating_add(more);
+    }
+    Ok(count)
+}
+
+// Whether the key of a put has its value.
+fn is_read(store: &mut Store, writer: u8, number: u32) -> Result<bool, Fail>
+    requires { IsSound store.old holding }
+    ensures { kept_by store.new holding ≡ kept_by store.old holding }
+{
+    let Record::Put(key, value) = numbered(writer, number) else {
+        return Ok(false);
+    };
+    Ok(store.get(&key)? == Some(value))
+}
+
+/// Whether all pages together have the first so many puts of writers 0 and 1 and no more, and so
+/// has each key.
+pub(super) fn reads(store: &mut Store, many: u32) -> Result<bool, Fail>
+    requires { IsSound store.old holding }
+    ensures { kept_by store.new holding ≡ kept_by store.old holding }
+{
+    'numbers: for number in 0..many {
+        if !is_read(store, b'a', number)? || !is_read(store, b'b', number)? {
+            return Ok(false);
+        }
+    }
+    Ok(pairs(store)? == many.saturating_mul(2))
+}

@@ -1,0 +1,194 @@
+//! Writers in threads of their own, while the store turns.
+
+ghost use Rattle.std.specs.Prelude.{◌≡◌, ◌++◌, ◌∷◌, [], map, IfOk, IfSome, OnOk};
+ghost use Rattle.bw_ring.specs.Ends.{ring_of_feed};
+ghost use Rattle.bw_store.specs.Views.{kept_by, IsSound};
+ghost use Rattle.bw_store.specs.Following.{Follows};
+
+use super::boxes::fill;
+use super::putting::numbered;
+use bw_device::{Desk, Segment};
+use bw_ring::Feed;
+use bw_store::{Config, Entry, Store};
+use std::alloc::Global;
+use std::snapshot::Snapshot;
+use std::test::Fail;
+use std::thread;
+use std::thread::{Promise, PromisedHandle, Threads};
+
+/// How many records each of the four writers puts into its ring of 256 places.
+const RECORDS: u32 = 1000;
+
+/// How many are taken while the feeds are away: those that are left fit any one ring.
+const TAKEN_MEANWHILE: usize = 3800;
+
+/// How often each side tries at most, so that the test ends whatever the schedule.
+const TRIES: u32 = 50_000_000;
+
+/// The feed that comes back is an end of the ring of the feed that left.
+#[derive(Drop)]
+struct OfOneRing(Snapshot<Feed>);
+
+impl Promise<Feed> for OfOneRing {
+    ghost kept_by = { λ p feed. ring_of_feed feed ≡ ring_of_feed p.0.value };
+}
+
+fn put_script(feed: Feed, letter: u8) -> Feed
+    ensures { ring_of_feed result ≡ ring_of_feed feed }
+{
+    let mut feed = feed;
+    let mut next: u32 = 0;
+    'tries: for _ in 0..TRIES {
+        if next >= RECORDS {
+            break;
+        }
+        match feed.put(numbered(letter, next)) {
+            Ok(()) => next = next.saturating_add(1),
+            Err(_) => thread::yield_now(),
+        }
+    }
+    feed
+}
+
+fn start<R: Threads>(
+    rt: &R,
+    feed: Feed,
+    letter: u8,
+) -> Result<PromisedHandle<Feed, OfOneRing>, Fail>
+    ensures { IfOk result (λ h. ring_of_feed h.promise.0.value ≡ ring_of_feed feed) }
+{
+    let promise = OfOneRing(Snapshot::of(&feed));
+    Ok(thread::spawn_with(rt, promise, move || { put_script(feed, letter) })?)
+}
+
+// The last feed goes to a thread.
+fn leaves<R: Threads>(
+    rt: &R,
+    feeds: &mut Vec<Feed>,
+    letter: u8,
+) -> Result<Option<PromisedHandle<Feed, OfOneRing>>, Fail>
+    ensures { IfOk result (λ o. IfSome o (λ h. map ring_of_feed feeds.old.items
+        ≡ map ring_of_feed feeds.new.items ++ ring_of_feed h.promise.0.value ∷ [])) }
+{
+    let Some(feed) = feeds.pop() else {
+        return Ok(None);
+    };
+    Ok(Some(start(rt, feed, letter)?))
+}
+
+// A feed comes back, as the last.
+fn returns<R: Threads>(
+    rt: &R,
+    feeds: &mut Vec<Feed>,
+    writer: PromisedHandle<Feed, OfOneRing>,
+) -> Result<(), Fail>
+    ensures { OnOk result (map ring_of_feed feeds.new.items
+        ≡ map ring_of_feed feeds.old.items ++ ring_of_feed writer.promise.0.value ∷ []) }
+{
+    let feed = writer.join(rt);
+    feeds.push(feed)?;
+    Ok(())
+}
+
+// Whether a turn was not refused.
+fn is_turned(store: &mut Store) -> bool
+    requires { IsSound store.old holding }
+    ensures sound { IsSound store.new holding }
+    ensures follows { Follows (kept_by store.old holding) (kept_by store.new holding) }
+{
+    match store.turn(100) {
+        Ok(_) => true,
+        Err(_) => false,
+    }
+}
+
+// Turns while records come.
+fn take_meanwhile(store: &mut Store)
+    requires { IsSound store.old holding }
+    ensures sound { IsSound store.new holding }
+    ensures rings { (kept_by store.new holding).rings ≡ (kept_by store.old holding).rings }
+{
+    'turns: for _ in 0..TRIES {
+        if store.history().len() >= TAKEN_MEANWHILE {
+            return;
+        }
+        if !is_turned(store) {
+            return;
+        }
+        thread::yield_now();
+    }
+}
+
+fn letter_of(writer: u16) -> u8 {
+    match writer {
+        0 => b'a',
+        1 => b'b',
+        2 => b'c',
+        _ => b'd',
+    }
+}
+
+// Whether each writer's entries are its script.
+fn are_scripts(entries: &[Entry]) -> bool {
+    let mut next: [u32; 4] = [0; 4];
+    for entry in entries {
+        let Some(number) = next.get_mut(usize::from(entry.writer)) else {
+            return false;
+        };
+        if entry.item != numbered(letter_of(entry.writer), *number) {
+            return false;
+        }
+        *number = number.saturating_add(1);
+    }
+    next.iter().all(|n| *n == RECORDS)
+}
+
+// Whether all that four writers put meanwhile is settled, each writer's records in order.
+fn are_settled<R: Threads>(rt: &R, store: &mut Store, feeds: &mut Vec<Feed>) -> Result<bool, Fail>
+    requires sound { IsSound store.old holding }
+    requires feeds { map ring_of_feed feeds.old.items ≡ (kept_by store.old holding).rings }
+{
+    let Some(d) = leaves(rt, feeds, b'd')? else {
+        return Ok(false);
+    };
+    let Some(c) = leaves(rt, feeds, b'c')? else {
+        return Ok(false);
+    };
+    let Some(b) = leaves(rt, feeds, b'b')? else {
+        return Ok(false);
+    };
+    let Some(a) = leaves(rt, feeds, b'a')? else {
+        return Ok(false);
+    };
+    take_meanwhile(store);
+    returns(rt, feeds, a)?;
+    returns(rt, feeds, b)?;
+    returns(rt, feeds, c)?;
+    returns(rt, feeds, d)?;
+    Ok(store.settle(feeds) == Ok(4000) && are_scripts(store.history()))
+}
+
+fn boxes_of(alloc: Global) -> Result<Vec<Box<dyn Segment>>, Fail> {
+    let mut desk = Desk::new(alloc, 40)?;
+    let mut boxes: Vec<Box<dyn Segment>> = Vec::new(alloc);
+    fill(alloc, &mut desk, 40, &mut boxes)?;
+    Ok(boxes)
+}
+
+#[test]
+fn four_writers_in_threads_are_settled(rt: HostRuntime) -> Result<(), Fail> {
+    let config = Config {
+        writers: 4,
+        places: 256,
+        readers: 1,
+        m: 4,
+        f: 16384,
+    };
+    let boxes = boxes_of(rt.alloc())?;
+    let Ok((mut store, mut feeds)) = Store::open(rt.alloc(), &config, boxes) else {
+        assert!(rt; false);
+        return Ok(());
+    };
+    assert!(rt; are_settled(&rt, &mut store, &mut feeds)?);
+    Ok(())
+}

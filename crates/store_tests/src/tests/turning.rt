@@ -1,0 +1,168 @@
+//! Turns and flushes: the tables.
+
+use super::steps::Step;
+use super::steps::Step::{
+    Add, Bytes, Cuts, Flush, Get, History, Live, Page, Put, Refused, Roll, Stands, Stops, Turn,
+    Unsettled,
+};
+use super::vectors::{FIRST_BYTES, SECOND_BYTES};
+use super::walking::{over, over_fuse};
+use bw_store::StoreFault;
+use std::test::Fail;
+
+const FIRST: [Step; 10] = [
+    Put(0, b"k", b"v"),
+    Turn(1, 1),
+    Flush(Some(1)),
+    Flush(None),
+    Cuts(&[1], 1),
+    Stands(1, 3),
+    Live(0, 1, 0, 76),
+    Bytes(1, FIRST_BYTES),
+    Page(1, "1 : k=v"),
+    Flush(None),
+];
+
+const SECOND: [Step; 31] = [
+    Put(0, b"a", b"1"),
+    Turn(9, 1),
+    Flush(Some(1)),
+    Put(0, b"b", b"2"),
+    Turn(9, 1),
+    Flush(Some(2)),
+    Put(0, b"c", b"3"),
+    Turn(9, 1),
+    Flush(Some(3)),
+    Put(0, b"d", b"4"),
+    Turn(9, 1),
+    Flush(Some(4)),
+    Put(0, b"e", b"5"),
+    Turn(9, 1),
+    Flush(Some(5)),
+    Bytes(1, SECOND_BYTES),
+    Cuts(&[1, 2, 3, 4, 5], 5),
+    Page(1, "1 : a=1 b=2"),
+    Page(2, "2 c: c=3 d=4 e=5"),
+    Page(3, ""),
+    Page(0, ""),
+    Live(0, 1, 0, 289),
+    Stands(1, 3),
+    Put(0, b"bz", b"6"),
+    Put(0, b"c", b"7"),
+    Turn(9, 2),
+    Flush(Some(6)),
+    Page(1, "1 : a=1 b=2 bz=6"),
+    Page(2, "2 c: c=7 d=4 e=5"),
+    Get(b"c", b"7"),
+    Get(b"x", b""),
+];
+
+/// An empty store has its first page to append.
+const EMPTY: [Step; 7] = [
+    Stands(0, 4),
+    Flush(Some(1)),
+    Cuts(&[0], 1),
+    Page(1, "1 :"),
+    Live(0, 1, 0, 52),
+    Stands(1, 3),
+    Flush(None),
+];
+
+/// Rounds begin at lane 0, and each writer's records stay in order.
+const WRITERS: [Step; 8] = [
+    Put(1, b"b", b"1"),
+    Put(0, b"a", b"1"),
+    Put(1, b"c", b"2"),
+    Put(1, b"d", b"2"),
+    Put(0, b"e", b"2"),
+    Turn(9, 5),
+    History("0 put a 1;1 put b 1;0 put e 2;1 put c 2;1 put d 2;"),
+    Turn(9, 0),
+];
+
+const LIMITS: [Step; 10] = [
+    Turn(0, 0),
+    Turn(3, 0),
+    Put(0, b"a", b"1"),
+    Put(0, b"b", b"2"),
+    Put(0, b"c", b"3"),
+    Turn(0, 0),
+    Turn(1, 1),
+    History("0 put a 1;"),
+    Turn(9, 2),
+    Turn(9, 0),
+];
+
+/// One spare is not enough to begin a segment: nothing is changed, and one more is.
+const NO_SPARE: [Step; 11] = [
+    Put(0, b"k", b"v"),
+    Turn(1, 1),
+    Refused(StoreFault::NoSegment),
+    Cuts(&[], 0),
+    History("0 put k v;"),
+    Stands(0, 1),
+    Add,
+    Stands(0, 2),
+    Flush(Some(1)),
+    Bytes(1, FIRST_BYTES),
+    Cuts(&[1], 1),
+];
+
+/// A closed segment takes no more frames.
+const ROLLED: [Step; 7] = [
+    Flush(Some(1)),
+    Roll,
+    Roll,
+    Put(0, b"k", b"v"),
+    Turn(1, 1),
+    Flush(Some(2)),
+    Stands(2, 2),
+];
+
+/// The append of the frame fails: the cut stays, nothing is durable, and no more is taken.
+const FAILED: [Step; 13] = [
+    Put(0, b"k", b"v"),
+    Turn(1, 1),
+    Refused(StoreFault::Device { lease: 0 }),
+    Refused(StoreFault::Failed),
+    Cuts(&[1], 0),
+    Turn(9, 0),
+    Put(1, b"j", b"w"),
+    Stops(9, 0, StoreFault::Failed),
+    History("0 put k v;"),
+    Refused(StoreFault::Failed),
+    Unsettled(StoreFault::Failed),
+    Page(1, "1 : k=v"),
+    Get(b"j", b""),
+];
+
+#[test]
+fn worked_bytes_are_written(rt: HostRuntime) -> Result<(), Fail> {
+    assert_eq!(rt; over(rt.alloc(), 4, &FIRST)?, FIRST.len());
+    assert_eq!(rt; over(rt.alloc(), 4, &SECOND)?, SECOND.len());
+    assert_eq!(rt; over(rt.alloc(), 4, &EMPTY)?, EMPTY.len());
+    Ok(())
+}
+
+#[test]
+fn turns_go_round_the_lanes(rt: HostRuntime) -> Result<(), Fail> {
+    assert_eq!(rt; over(rt.alloc(), 4, &WRITERS)?, WRITERS.len());
+    assert_eq!(rt; over(rt.alloc(), 4, &LIMITS)?, LIMITS.len());
+    Ok(())
+}
+
+#[test]
+fn segments_are_begun_while_two_spares_stand(rt: HostRuntime) -> Result<(), Fail> {
+    assert_eq!(rt; over(rt.alloc(), 1, &NO_SPARE)?, NO_SPARE.len());
+    assert_eq!(rt; over(rt.alloc(), 4, &ROLLED)?, ROLLED.len());
+    Ok(())
+}
+
+#[test]
+fn a_failed_append_ends_the_store(rt: HostRuntime) -> Result<(), Fail> {
+    for keep in 0..=53u64 {
+        assert_eq!(rt; over_fuse(rt.alloc(), 0, 0, keep, &FAILED)?, FAILED.len());
+        assert_eq!(rt; over_fuse(rt.alloc(), 0, 1, keep, &FAILED)?, FAILED.len());
+    }
+    Ok(())
+}
