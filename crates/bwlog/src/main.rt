@@ -1,19 +1,20 @@
 //! Scripts over the page store: `bwlog replay` runs one, line by line, and prints what each line
 //! answers.
 //!
-//! The store of this stage is the first path (`first`): one page that is never split, one frame,
-//! and the page read back from the bytes of that frame. `replay::run` is the whole program over any
-//! reader and writers; `main` gives it the standard streams.
+//! A script has a session before it: a store over segments in memory, a feed for each writer, and
+//! the desk of the segments' leases. `replay::run` is the whole program over any reader and
+//! writers; `main` gives it the standard streams.
 #![tactic(auto)]
 
-mod first;
+mod answers;
+mod calls;
 mod lines;
-mod one_frame;
 mod options;
 mod printed;
 mod refusal;
 mod replay;
 mod script;
+mod session;
 #[cfg(test)]
 mod tests;
 

@@ -1,28 +1,43 @@
 //! The command line, read by `clap`. Nothing else of the program stands here.
 
 use clap::error::ErrorKind;
-use clap::{Arg, Command, Error};
-use std::alloc::Global;
+use clap::{Arg, ArgMatches, Command, Error};
+use std::alloc::{AllocError, Global};
 
 /// What the command line asks for.
 #[derive(Debug, Clone, Copy, PartialEq, Eq)]
 pub struct Options {
-    /// How many records may wait, 1 to 4,096.
+    /// How many writers there are, numbered from 0: 1 to 64.
+    pub writers: u16,
+    /// How many records of a writer may wait, 1 to 4,096.
     pub places: u16,
     /// The most pairs that a page holds, 4 to 32.
     pub m: u16,
     /// The most bytes that a frame has, 16,384 to 65,536.
     pub f: u32,
+    /// How many segments there are at the beginning, 2 to 64.
+    pub segments: u16,
+    /// How many bytes a segment has room for, 16,408 to 16,777,216.
+    pub capacity: u32,
 }
 
-/// The options of `replay`, from the words after the program's name. What they do not give as a
-/// parse, help among it, is clap's error, whose text is for the user.
-pub fn options_of<'a>(alloc: Global, words: &'a [&'a str]) -> Result<Options, Error> {
+/// How many writers there are, and their places.
+fn with_writers<'a>(alloc: Global, command: Command<'a>) -> Result<Command<'a>, AllocError> {
+    let writers = Arg::new(alloc, "writers")
+        .long("writers")
+        .help("how many writers there are, numbered from 0")
+        .value_parser(clap::value_parser!(u16).range(1..=64))
+        .default_value("1");
     let places = Arg::new(alloc, "places")
         .long("places")
-        .help("how many records may wait")
+        .help("how many records of a writer may wait")
         .value_parser(clap::value_parser!(u16).range(1..=4096))
         .default_value("8");
+    command.arg(writers)?.arg(places)
+}
+
+/// The limits of pages and frames.
+fn with_limits<'a>(alloc: Global, command: Command<'a>) -> Result<Command<'a>, AllocError> {
     let m = Arg::new(alloc, "m")
         .long("m")
         .help("the most pairs that a page holds")
@@ -33,11 +48,43 @@ pub fn options_of<'a>(alloc: Global, words: &'a [&'a str]) -> Result<Options, Er
         .help("the most bytes that a frame has")
         .value_parser(clap::value_parser!(u32).range(16384..=65536))
         .default_value("16384");
-    let replay = Command::new(alloc, "replay")
-        .about("Runs a script from standard input")
-        .arg(places)?
-        .arg(m)?
-        .arg(f)?;
+    command.arg(m)?.arg(f)
+}
+
+/// How many segments there are, and their room.
+fn with_segments<'a>(alloc: Global, command: Command<'a>) -> Result<Command<'a>, AllocError> {
+    let segments = Arg::new(alloc, "segments")
+        .long("segments")
+        .help("how many segments there are at the beginning")
+        .value_parser(clap::value_parser!(u16).range(2..=64))
+        .default_value("4");
+    let capacity = Arg::new(alloc, "capacity")
+        .long("capacity")
+        .help("how many bytes a segment has room for")
+        .value_parser(clap::value_parser!(u32).range(16408..=16777216))
+        .default_value("65536");
+    command.arg(segments)?.arg(capacity)
+}
+
+/// What the words behind `replay` say. Each option has a value, its default at least.
+fn found_of(found: &ArgMatches) -> Options {
+    Options {
+        writers: found.get_one("writers").unwrap_or(0),
+        places: found.get_one("places").unwrap_or(0),
+        m: found.get_one("m").unwrap_or(0),
+        f: found.get_one("frame").unwrap_or(0),
+        segments: found.get_one("segments").unwrap_or(0),
+        capacity: found.get_one("capacity").unwrap_or(0),
+    }
+}
+
+/// The options of `replay`, from the words after the program's name. What they do not give as a
+/// parse, help among it, is clap's error, whose text is for the user.
+pub fn options_of<'a>(alloc: Global, words: &'a [&'a str]) -> Result<Options, Error> {
+    let replay = Command::new(alloc, "replay").about("Runs a script from standard input");
+    let replay = with_writers(alloc, replay)?;
+    let replay = with_limits(alloc, replay)?;
+    let replay = with_segments(alloc, replay)?;
     let command = Command::new(alloc, "bwlog")
         .about("Runs scripts over the page store")
         .no_binary_name(true)
@@ -45,14 +92,15 @@ pub fn options_of<'a>(alloc: Global, words: &'a [&'a str]) -> Result<Options, Er
         .subcommand(replay)?;
     let matches = command.try_get_matches_from(words)?;
     let mut options = Options {
+        writers: 0,
         places: 0,
         m: 0,
         f: 0,
+        segments: 0,
+        capacity: 0,
     };
     if let Some(found) = matches.subcommand_matches("replay") {
-        options.places = found.get_one("places").unwrap_or(0);
-        options.m = found.get_one("m").unwrap_or(0);
-        options.f = found.get_one("frame").unwrap_or(0);
+        options = found_of(found);
     }
     Ok(options)
 }

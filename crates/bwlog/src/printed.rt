@@ -1,6 +1,7 @@
-//! What is printed: words, pages and dumps. No memory is taken.
+//! What is printed: words, pages, entries and dumps. No memory is taken.
 
-use bw_codec::Leaf;
+use bw_codec::{Leaf, Record, Value};
+use bw_store::Entry;
 use std::io::{self, Write};
 
 /// Bytes as lower-case hex digits.
@@ -42,6 +43,35 @@ pub fn write_page<W: Write>(output: &mut W, leaf: &Leaf) -> io::Result<()> {
         write_word(output, key.as_slice())?;
         output.write_all(b"=")?;
         write_word(output, value.as_slice())?;
+    }
+    output.write_all(b"\n")
+}
+
+/// The line of a key's value.
+pub fn write_value<W: Write>(output: &mut W, value: Option<&Value>) -> io::Result<()> {
+    match value {
+        Some(value) => {
+            output.write_all(b"value ")?;
+            write_word(output, value.as_slice())?;
+            output.write_all(b"\n")
+        }
+        None => output.write_all(b"none\n"),
+    }
+}
+
+/// The line of an entry of the history.
+pub fn write_entry<W: Write>(output: &mut W, entry: &Entry) -> io::Result<()> {
+    match &entry.item {
+        Record::Put(key, value) => {
+            write!(output, "{} put ", entry.writer)?;
+            write_word(output, key.as_slice())?;
+            output.write_all(b" ")?;
+            write_word(output, value.as_slice())?;
+        }
+        Record::Del(key) => {
+            write!(output, "{} del ", entry.writer)?;
+            write_word(output, key.as_slice())?;
+        }
     }
     output.write_all(b"\n")
 }

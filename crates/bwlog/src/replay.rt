@@ -1,12 +1,16 @@
 //! The program over any reader and writers: the command line, the script, and the exit status.
 
-use crate::first::{FirstStore, PutError};
+ghost use Rattle.bwlog.specs.Session.{IsReady};
+
+use crate::answers::{LEASES, Miss, answer};
+use crate::calls::spare_of;
 use crate::lines::Lines;
 use crate::options::{Options, is_memory, options_of};
-use crate::printed::{write_dump, write_page};
 use crate::refusal::Refusal;
-use crate::script::{Command, Fault, parse};
-use std::alloc::Global;
+use crate::script::{Fault, parse};
+use crate::session::Session;
+use bw_device::{Desk, Segment};
+use std::alloc::{AllocError, AllocFailed, Global};
 use std::io::{self, ErrorKind, Read, Write};
 
 /// The most reads of the input before its end.
@@ -25,6 +29,18 @@ enum Stop {
     Input,
     /// An output could not be written.
     Output,
+}
+
+impl From<AllocError> for Stop {
+    fn from(_error: AllocError) -> Stop {
+        Stop::NoMemory
+    }
+}
+
+impl<T: Drop> From<AllocFailed<T>> for Stop {
+    fn from(_error: AllocFailed<T>) -> Stop {
+        Stop::NoMemory
+    }
 }
 
 /// An error of a write.
@@ -50,68 +66,86 @@ fn refuse<O: Write>(output: &mut O, refusal: Refusal) -> Result<bool, Stop> {
     Ok(true)
 }
 
-/// Does what a line asks for, prints its answer, and says whether it was refused.
-fn perform<O: Write>(
-    store: &mut FirstStore,
+/// What comes of an answer: whether it was a refusal.
+fn after<O: Write>(output: &mut O, number: u64, answer: Result<(), Miss>) -> Result<bool, Stop> {
+    match answer {
+        Ok(()) => Ok(false),
+        Err(Miss::Refused(refusal)) => refuse(output, refusal),
+        Err(Miss::Fault(fault)) => Err(Stop::Fault(number, fault)),
+        Err(Miss::Output) => Err(Stop::Output),
+    }
+}
+
+/// Reads a line and does what it asks for; `None` where there was none, and else whether it was
+/// refused.
+fn do_line<I: Read, O: Write>(
+    alloc: Global,
+    session: &mut Session,
+    lines: &mut Lines<&mut I>,
     output: &mut O,
     number: u64,
-    command: Command,
-) -> Result<bool, Stop> {
-    match command {
-        Command::Put(op) => match store.put(op) {
-            Ok(()) => output.write_all(b"ok\n").map_err(no_output)?,
-            Err(PutError::Full(_)) => output.write_all(b"full\n").map_err(no_output)?,
-            Err(PutError::NoMemory(_)) => return Err(Stop::NoMemory),
-        },
-        Command::Flush => match store.flush() {
-            Ok(Some(frame)) => writeln!(output, "frame {frame}").map_err(no_output)?,
-            Ok(None) => output.write_all(b"no frame\n").map_err(no_output)?,
-            Err(refusal) => return refuse(output, refusal),
-        },
-        Command::Page(page) => match store.page(page) {
-            Ok(leaf) => write_page(output, &leaf).map_err(no_output)?,
-            Err(refusal) => return refuse(output, refusal),
-        },
-        Command::Dump(segment) => {
-            let bytes = store.bytes();
-            if segment != 1 || bytes.is_empty() {
-                return Err(Stop::Fault(number, Fault::BadNumber));
-            }
-            write_dump(output, bytes).map_err(no_output)?;
-        }
+    writers: u16,
+) -> Result<Option<bool>, Stop>
+    requires { IsReady session.old holding }
+    ensures { IsReady session.new holding }
+{
+    if !lines.read_line().map_err(no_input)? {
+        return Ok(None);
     }
-    Ok(false)
+    match parse(lines.line(), writers) {
+        Ok(None) => Ok(Some(false)),
+        Ok(Some(command)) => {
+            let answer = answer(alloc, session, output, command);
+            Ok(Some(after(output, number, answer)?))
+        }
+        Err(fault) => Err(Stop::Fault(number, fault)),
+    }
 }
 
 /// Runs a script line by line, and says whether something was refused.
+fn run_lines<I: Read, O: Write>(
+    alloc: Global,
+    session: &mut Session,
+    lines: &mut Lines<&mut I>,
+    output: &mut O,
+    writers: u16,
+) -> Result<bool, Stop>
+    requires { IsReady session.old holding }
+{
+    let mut is_refused = false;
+    'lines: for number in 1..u64::MAX {
+        match do_line(alloc, session, lines, output, number, writers)? {
+            Some(refused) => is_refused |= refused,
+            None => break,
+        }
+    }
+    Ok(is_refused)
+}
+
+/// Makes a store and runs a script over it. Boxes are made here alone: a function that takes or
+/// gives a box, or a store, makes none.
 fn replay<I: Read, O: Write>(
     alloc: Global,
     options: Options,
     input: &mut I,
     output: &mut O,
 ) -> Result<bool, Stop> {
-    let places = usize::from(options.places);
-    let mut store = match FirstStore::new(alloc, options.m, options.f, places) {
-        Ok(store) => store,
-        Err(refusal) => return refuse(output, refusal),
-    };
     let mut lines = Lines::new(alloc, input, READS).map_err(no_input)?;
-    let mut is_refused = false;
-    for number in 1..u64::MAX {
-        if !lines.read_line().map_err(no_input)? {
-            break;
-        }
-        match parse(lines.line()) {
-            Ok(None) => {}
-            Ok(Some(command)) => {
-                if perform(&mut store, output, number, command)? {
-                    is_refused = true;
-                }
-            }
-            Err(fault) => return Err(Stop::Fault(number, fault)),
+    let mut desk = match Desk::new(alloc, LEASES) {
+        Ok(desk) => desk,
+        Err(cause) => return refuse(output, Refusal::from(cause)),
+    };
+    let mut boxes: Vec<Box<dyn Segment>> = Vec::new(alloc);
+    for _ in 0..options.segments {
+        match spare_of(alloc, &mut desk, u64::from(options.capacity)) {
+            Ok(spare) => boxes.push(Box::new(alloc, spare)?)?,
+            Err(refusal) => return refuse(output, refusal),
         }
     }
-    Ok(is_refused)
+    match Session::open(alloc, &options, boxes, desk) {
+        Ok(mut session) => { run_lines(alloc, &mut session, &mut lines, output, options.writers) }
+        Err(refusal) => refuse(output, refusal),
+    }
 }
 
 /// The command line, and what it asks for.

@@ -30,18 +30,29 @@ pub enum Fault {
 /// What a line asks for.
 #[derive(Debug, PartialEq, Eq, Drop)]
 pub enum Command {
-    /// A record is put.
-    Put(Record),
-    /// What waits is written.
+    /// A writer puts a record.
+    Put(u16, Record),
+    /// At most so many records are taken.
+    Turn(u32),
+    /// All that waits is taken, and the frame in the making is appended.
     Flush,
+    /// All that was accepted is taken and appended.
+    Settle,
     /// A page is printed.
     Page(u32),
+    /// A key's value is printed.
+    Get(Key),
+    /// The oldest segment is given up.
+    Clean,
+    /// The current segment is closed.
+    Roll,
+    History,
+    Cuts,
+    Segments,
+    Leases,
     /// A segment's bytes are printed.
     Dump(u32),
 }
-
-/// How many writers there are, numbered from 0.
-const WRITERS: u32 = 1;
 
 /// A number of decimal digits.
 fn number_of(word: &str) -> Result<u32, Fault> {
@@ -51,12 +62,11 @@ fn number_of(word: &str) -> Result<u32, Fault> {
     word.parse().map_err(|_| Fault::BadNumber)
 }
 
-/// A writer's number. Nothing else is known of the one writer.
-fn check_writer(word: &str) -> Result<(), Fault> {
-    if number_of(word)? < WRITERS {
-        Ok(())
-    } else {
-        Err(Fault::BadNumber)
+/// A writer's number.
+fn writer_of(word: &str, writers: u16) -> Result<u16, Fault> {
+    match u16::try_from(number_of(word)?) {
+        Ok(writer) if writer < writers => Ok(writer),
+        _ => Err(Fault::BadNumber),
     }
 }
 
@@ -89,21 +99,37 @@ fn value_of(word: &str) -> Result<Value, Fault> {
     Value::new(bytes).map_err(|_| Fault::BadWord)
 }
 
-fn put_of(writer: &str, key: &str, value: &str) -> Result<Command, Fault> {
-    check_writer(writer)?;
+fn put_of(writers: u16, writer: &str, key: &str, value: &str) -> Result<Command, Fault> {
+    let writer = writer_of(writer, writers)?;
     let key = key_of(key)?;
     let value = value_of(value)?;
-    Ok(Command::Put(Record::Put(key, value)))
+    Ok(Command::Put(writer, Record::Put(key, value)))
 }
 
-fn del_of(writer: &str, key: &str) -> Result<Command, Fault> {
-    check_writer(writer)?;
+fn del_of(writers: u16, writer: &str, key: &str) -> Result<Command, Fault> {
+    let writer = writer_of(writer, writers)?;
     let key = key_of(key)?;
-    Ok(Command::Put(Record::Del(key)))
+    Ok(Command::Put(writer, Record::Del(key)))
+}
+
+/// A command that takes no word.
+fn alone(one: Option<&str>, command: Command) -> Result<Command, Fault> {
+    match one {
+        None => Ok(command),
+        Some(_) => Err(Fault::WrongNumberOfWords),
+    }
+}
+
+/// The word of a command that takes one.
+fn single<'a>(one: Option<&'a str>, two: Option<&'a str>) -> Result<&'a str, Fault> {
+    match (one, two) {
+        (Some(word), None) => Ok(word),
+        _ => Err(Fault::WrongNumberOfWords),
+    }
 }
 
 /// The command of words that are parted by spaces.
-fn command_of(text: &str) -> Result<Command, Fault> {
+fn command_of(text: &str, writers: u16) -> Result<Command, Fault> {
     let mut words = text.split_whitespace();
     let name = words.next().unwrap_or("");
     let one = words.next();
@@ -112,31 +138,39 @@ fn command_of(text: &str) -> Result<Command, Fault> {
     let more = words.next();
     match name {
         "put" => match (one, two, three, more) {
-            (Some(writer), Some(key), Some(value), None) => put_of(writer, key, value),
+            (Some(writer), Some(key), Some(value), None) => put_of(writers, writer, key, value),
             _ => Err(Fault::WrongNumberOfWords),
         },
         "del" => match (one, two, three) {
-            (Some(writer), Some(key), None) => del_of(writer, key),
+            (Some(writer), Some(key), None) => del_of(writers, writer, key),
             _ => Err(Fault::WrongNumberOfWords),
         },
-        "flush" => match one {
-            None => Ok(Command::Flush),
-            Some(_) => Err(Fault::WrongNumberOfWords),
-        },
-        "page" => match (one, two) {
-            (Some(number), None) => Ok(Command::Page(number_of(number)?)),
-            _ => Err(Fault::WrongNumberOfWords),
-        },
-        "dump" => match (one, two) {
-            (Some(number), None) => Ok(Command::Dump(number_of(number)?)),
-            _ => Err(Fault::WrongNumberOfWords),
-        },
+        "turn" => Ok(Command::Turn(number_of(single(one, two)?)?)),
+        "page" => Ok(Command::Page(number_of(single(one, two)?)?)),
+        "dump" => Ok(Command::Dump(number_of(single(one, two)?)?)),
+        "get" => Ok(Command::Get(key_of(single(one, two)?)?)),
+        _ => plain_of(name, one),
+    }
+}
+
+/// The command of a name that takes no word.
+fn plain_of(name: &str, one: Option<&str>) -> Result<Command, Fault> {
+    match name {
+        "flush" => alone(one, Command::Flush),
+        "settle" => alone(one, Command::Settle),
+        "clean" => alone(one, Command::Clean),
+        "roll" => alone(one, Command::Roll),
+        "history" => alone(one, Command::History),
+        "cuts" => alone(one, Command::Cuts),
+        "segments" => alone(one, Command::Segments),
+        "leases" => alone(one, Command::Leases),
         _ => Err(Fault::UnknownCommand),
     }
 }
 
-/// What a line asks for: nothing where it is empty or begins with `#`, whatever its length.
-pub fn parse(line: &[u8]) -> Result<Option<Command>, Fault> {
+/// What a line asks for, where there are so many writers: nothing where it is empty or begins with
+/// `#`, whatever its length.
+pub fn parse(line: &[u8], writers: u16) -> Result<Option<Command>, Fault> {
     if line.is_empty() || line.starts_with(b"#") {
         return Ok(None);
     }
@@ -147,7 +181,7 @@ pub fn parse(line: &[u8]) -> Result<Option<Command>, Fault> {
         return Err(Fault::BadByte);
     }
     match std::str::from_utf8(line) {
-        Ok(text) => Ok(Some(command_of(text)?)),
+        Ok(text) => Ok(Some(command_of(text, writers)?)),
         Err(_) => Err(Fault::BadByte),
     }
 }

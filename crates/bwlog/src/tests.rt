@@ -1,9 +1,9 @@
 //! Scripts and what they print, in rows that are walked to the first that goes otherwise than told.
 
 mod command_line;
+mod faults;
 mod lengths;
 mod scripts;
-mod store;
 mod streams;
 
 use crate::replay::run;
@@ -21,17 +21,16 @@ enum Row {
     Long(&'static str, u8, usize, &'static str, &'static str),
     /// So many times a byte between two texts, a script of one fault, and what is told.
     LongFault(&'static str, u8, usize, &'static str, &'static str),
-    /// So many records of a value of 128 bytes, and the exit status of their flush.
-    Records(usize, u8),
-    /// The words of a command line, a script, and what it prints.
-    Under(&'static [&'static str], &'static str, &'static str),
+    /// The words of a command line, so many records of a value of 128 bytes, and what their flush
+    /// prints.
+    Records(&'static [&'static str], usize, &'static str),
+    /// The words of a command line, a script, its exit status, and what it prints.
+    Under(&'static [&'static str], &'static str, u8, &'static str),
     /// Words that are no command line.
     NoParse(&'static [&'static str]),
 }
 
 const PLAIN: [&str; 1] = ["replay"];
-
-const MANY: [&str; 3] = ["replay", "--places", "200"];
 
 /// Whether what was written is as told.
 fn are_so(printed: &[u8], output: &str, told: &[u8], errors: &str) -> bool {
@@ -89,19 +88,25 @@ fn flushed(alloc: Global, line: &[u8], count: usize) -> Result<Vec<u8>, AllocErr
     Ok(script)
 }
 
-/// Whether a script ends with this status, whatever it prints.
-fn has_status(alloc: Global, words: &[&str], script: &[u8], status: u8) -> bool {
+/// Whether what a script prints ends so.
+fn prints_last(alloc: Global, words: &[&str], script: &[u8], output: &str) -> bool {
     let mut input = script;
     let mut printed = Vec::new(alloc);
     let mut told = Vec::new(alloc);
-    run(alloc, words, &mut input, &mut printed, &mut told) == status
+    let _ = run(alloc, words, &mut input, &mut printed, &mut told);
+    told.is_empty() & printed.ends_with(output.as_bytes())
 }
 
-/// Whether so many records are flushed with this status.
-fn flush_answers(alloc: Global, count: usize, status: u8) -> Result<bool, AllocError> {
+/// Whether the flush of so many records answers so.
+fn flush_answers(
+    alloc: Global,
+    words: &[&str],
+    count: usize,
+    output: &str,
+) -> Result<bool, AllocError> {
     let line = around(alloc, "put 0 k ", b'v', 128, "\n")?;
     let script = flushed(alloc, line.as_slice(), count)?;
-    Ok(has_status(alloc, &MANY, script.as_slice(), status))
+    Ok(prints_last(alloc, words, script.as_slice(), output))
 }
 
 /// Whether the row goes as told.
@@ -121,9 +126,9 @@ fn goes(alloc: Global, row: &Row) -> Result<bool, AllocError> {
             let script = around(alloc, before, *byte, *count, after)?;
             Ok(ends(alloc, &PLAIN, &mut script.as_slice(), 3, "", errors))
         }
-        Row::Records(count, status) => flush_answers(alloc, *count, *status),
-        Row::Under(words, script, output) => {
-            Ok(ends(alloc, words, &mut script.as_bytes(), 0, output, ""))
+        Row::Records(words, count, output) => flush_answers(alloc, words, *count, output),
+        Row::Under(words, script, status, output) => {
+            Ok(ends(alloc, words, &mut script.as_bytes(), *status, output, ""))
         }
         Row::NoParse(words) => Ok(is_no_parse(alloc, words)),
     }

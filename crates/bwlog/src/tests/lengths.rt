@@ -3,7 +3,19 @@
 use super::{Row, walked};
 use std::test::*;
 
-const LENGTHS: [Row; 22] = [
+const MANY: [&str; 3] = ["replay", "--places", "200"];
+
+const NARROW: [&str; 7] = [
+    "replay",
+    "--places",
+    "300",
+    "--segments",
+    "2",
+    "--capacity",
+    "16408",
+];
+
+const LENGTHS: [Row; 25] = [
     Row::LongFault("", 0x7f, 4097, "", "script line 1: line too long\n"),
     Row::LongFault("", 0x7f, 4096, "", "script line 1: bad byte\n"),
     Row::LongFault("", 0x7f, 4096, "\r\n", "script line 1: bad byte\n"),
@@ -49,8 +61,13 @@ const LENGTHS: [Row; 22] = [
     Row::LongFault("put 0 k 0x", b'7', 258, "", "script line 1: bad word\n"),
     Row::Long("page ", b'0', 4000, "1", "page 1 low 0x pairs 0\n"),
     // A frame of 16,384 bytes has room for its head, the empty Base and 108 Deltas of 151 bytes.
-    Row::Records(108, 0),
-    Row::Records(109, 4),
+    Row::Records(&MANY, 108, "ok\nframe 1\n"),
+    Row::Records(&MANY, 109, "ok\nframe 2\n"),
+    // One segment takes one such frame. The flush of the second one is refused, or the turn that
+    // would append it.
+    Row::Records(&NARROW, 108, "ok\nframe 1\n"),
+    Row::Records(&NARROW, 109, "ok\nrefused E5 NoSegment\n"),
+    Row::Records(&NARROW, 217, "ok\nrefused E5 NoSegment\n"),
 ];
 
 #[test]

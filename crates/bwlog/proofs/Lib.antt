@@ -1,2 +1,0 @@
-pub mod OneFrame
-pub mod Flushed

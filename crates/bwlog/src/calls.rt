@@ -1,0 +1,148 @@
+//! The calls that a script makes. Each keeps the store sound, and the feeds those of its lanes.
+
+ghost use Rattle.std.specs.Prelude.{◌≡◌, ◌<◌, length, map, IfOk};
+ghost use Rattle.bw_ring.specs.Ends.{ring_of_feed};
+
+use crate::options::Options;
+use crate::refusal::Refusal;
+use crate::session::Session;
+use bw_codec::{Key, Leaf, Record, Value};
+use bw_device::{Desk, MemSegment, Segment};
+use bw_ring::Feed;
+use bw_store::{Cleaned, Config, Store};
+use std::alloc::Global;
+
+/// How many places for readers a store is opened with.
+const READERS: usize = 4;
+
+/// A segment of this capacity, with the least lease that is free.
+pub fn spare_of(alloc: Global, desk: &mut Desk, capacity: u64) -> Result<MemSegment, Refusal> {
+    let lease = desk.take()?;
+    match MemSegment::new(alloc, lease, capacity) {
+        Ok(spare) => Ok(spare),
+        Err(refused) => Err(Refusal::from(refused.cause)),
+    }
+}
+
+// Whether the feed of this writer took the record.
+fn put_at(feeds: &mut Vec<Feed>, writer: usize, op: Record) -> bool
+    requires { writer < length feeds.old.items }
+    ensures { map ring_of_feed feeds.new.items ≡ map ring_of_feed feeds.old.items }
+{
+    let _ = feeds.as_slice().len();
+    feeds[writer].put(op).is_ok()
+}
+
+impl Session {
+    ghost use Rattle.bwlog.specs.Session.{IsReady, IsReadyBeside};
+
+    /// A session over these segments, whose leases are the desk's.
+    pub fn open(
+        alloc: Global,
+        options: &Options,
+        segments: Vec<Box<dyn Segment>>,
+        desk: Desk,
+    ) -> Result<Session, Refusal>
+        requires { Unit {0} }
+        ensures { IfOk result (λ s. IsReadyBeside s holding) }
+    {
+        let config = Config {
+            writers: usize::from(options.writers),
+            places: usize::from(options.places),
+            readers: READERS,
+            m: options.m,
+            f: options.f,
+        };
+        match Store::open(alloc, &config, segments) {
+            Ok((store, feeds)) => Ok(Session { store, feeds, desk }),
+            Err(fault) => Err(Refusal::from(fault.cause)),
+        }
+    }
+
+    /// Whether the record found a place in its writer's ring; `None` where there is no such writer.
+    pub fn put(&mut self, writer: u16, op: Record) -> Option<bool>
+        requires { IsReady self.old holding }
+        ensures { IsReady self.new holding }
+    {
+        let writer = usize::from(writer);
+        if writer >= self.feeds.len() {
+            return None;
+        }
+        Some(put_at(&mut self.feeds, writer, op))
+    }
+
+    /// How many records a turn of this limit took.
+    pub fn turn(&mut self, limit: u32) -> Result<u32, Refusal>
+        requires { IsReady self.old holding }
+        ensures { IsReady self.new holding }
+    {
+        match self.store.turn(limit) {
+            Ok(taken) => Ok(taken),
+            Err(fault) => Err(Refusal::from(fault.cause)),
+        }
+    }
+
+    /// The number of the frame that was appended, if something waited.
+    pub fn flush(&mut self) -> Result<Option<u64>, Refusal>
+        requires { IsReady self.old holding }
+        ensures { IsReady self.new holding }
+    {
+        Ok(self.store.flush()?)
+    }
+
+    /// The length of the history, once all that was accepted is taken and appended.
+    pub fn settle(&mut self) -> Result<u64, Refusal>
+        requires { IsReady self.old holding }
+        ensures { IsReady self.new holding }
+    {
+        Ok(self.store.settle(&mut self.feeds)?)
+    }
+
+    /// A page, as the history leaves it.
+    pub fn page(&mut self, page: u32) -> Result<Leaf, Refusal>
+        requires { IsReady self.old holding }
+        ensures { IsReady self.new holding }
+    {
+        Ok(self.store.page(page)?)
+    }
+
+    /// A key's value, as the history leaves it.
+    pub fn get(&mut self, key: &Key) -> Result<Option<Value>, Refusal>
+        requires { IsReady self.old holding }
+        ensures { IsReady self.new holding }
+    {
+        Ok(self.store.get(key)?)
+    }
+
+    /// What was given up with the oldest segment.
+    pub fn clean(&mut self) -> Result<Cleaned, Refusal>
+        requires { IsReady self.old holding }
+        ensures { IsReady self.new holding }
+    {
+        Ok(self.store.clean()?)
+    }
+
+    /// The current segment takes no more frames.
+    pub fn roll(&mut self)
+        requires { IsReady self.old holding }
+        ensures { IsReady self.new holding }
+    {
+        self.store.roll();
+    }
+
+    /// The bytes of a live segment go behind what the `Vec` has; `false` where none has the number.
+    pub fn dump(&mut self, segment: u32, bytes: &mut Vec<u8>) -> Result<bool, Refusal>
+        requires { IsReady self.old holding }
+        ensures { IsReady self.new holding }
+    {
+        Ok(self.store.dump(u64::from(segment), bytes)?)
+    }
+
+    /// Leases that came back are free again.
+    pub fn collect(&mut self)
+        requires { IsReady self.old holding }
+        ensures { IsReady self.new holding }
+    {
+        let _ = self.desk.collect();
+    }
+}
