@@ -6,6 +6,7 @@ mod cleaning;
 mod opening;
 mod putting;
 mod reading;
+mod reopening;
 mod settling;
 mod steps;
 mod threads;

@@ -2,7 +2,8 @@
 
 use super::boxes::{fill, fuse};
 use super::steps::{Step, goes};
-use bw_device::{Desk, Segment};
+use bw_care::recover;
+use bw_device::{Desk, MemSegment, Segment};
 use bw_store::{Config, Store};
 use std::alloc::Global;
 use std::test::Fail;
@@ -68,4 +69,44 @@ pub(super) fn over_fuse(
     fill(alloc, &mut desk, 1, &mut boxes)?;
     let mut more: Vec<Box<dyn Segment>> = Vec::new(alloc);
     walked(alloc, boxes, &mut more, 8, steps)
+}
+
+// The same over a store that is opened again: 98 where the boxes were not recovered, 99 where no
+// store was opened.
+fn walked_again(
+    alloc: Global,
+    boxes: Vec<Box<dyn Segment>>,
+    more: &mut Vec<Box<dyn Segment>>,
+    steps: &[Step],
+) -> Result<usize, Fail> {
+    let Ok(recovered) = recover(alloc, boxes) else {
+        return Ok(98);
+    };
+    let Ok((mut store, mut feeds)) = Store::reopen(alloc, recovered, 2, 8, 1) else {
+        return Ok(99);
+    };
+    for (i, step) in steps.iter().enumerate() {
+        if !goes(alloc, &mut store, &mut feeds, more, step)? {
+            return Ok(i);
+        }
+    }
+    Ok(steps.len())
+}
+
+/// Over a box for each of these texts in hex, in any order, and two spares.
+pub(super) fn over_bytes(
+    alloc: Global,
+    texts: &[&'static str],
+    steps: &[Step],
+) -> Result<usize, Fail> {
+    let mut desk = Desk::new(alloc, 8)?;
+    let mut boxes: Vec<Box<dyn Segment>> = Vec::new(alloc);
+    for text in texts.iter() {
+        let bytes = hex::decode(alloc, *text)?;
+        let segment = MemSegment::with_bytes(alloc, desk.take()?, 16408, &bytes)?;
+        boxes.push(Box::new(alloc, segment)?)?;
+    }
+    fill(alloc, &mut desk, 2, &mut boxes)?;
+    let mut more: Vec<Box<dyn Segment>> = Vec::new(alloc);
+    walked_again(alloc, boxes, &mut more, steps)
 }

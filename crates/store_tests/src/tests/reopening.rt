@@ -1,0 +1,63 @@
+//! A store is opened again over the bytes of worked segments: the tables.
+
+use super::steps::Step;
+use super::steps::Step::{
+    Bytes, Clean, Cuts, Flush, Get, History, Live, Page, Put, Refused, Roll, Settle, Stands,
+};
+use super::vectors::{FIRST_BYTES, GREATEST, THIRD_NEWER, THIRD_OLDER};
+use super::walking::over_bytes;
+use bw_store::StoreFault;
+use std::test::Fail;
+
+/// After the first worked segment: frame 2 in a segment of its own has the bytes of the third.
+const AFTER_THE_FIRST: [Step; 12] = [
+    Page(1, "1 : k=v"),
+    History(""),
+    Cuts(&[], 0),
+    Flush(None),
+    Roll,
+    Put(0, b"j", b"2"),
+    Settle(1),
+    Cuts(&[1], 1),
+    History("0 put j 2;"),
+    Page(1, "1 : j=2 k=v"),
+    Live(1, 2, 1, 68),
+    Bytes(2, THIRD_OLDER),
+];
+
+/// After the third: pages go on from what the cleaner wrote, and the older segment is given up.
+const AFTER_THE_THIRD: [Step; 9] = [
+    Page(1, "1 : j=2 k=3"),
+    Get(b"j", b"2"),
+    Stands(2, 2),
+    Put(1, b"j", b"5"),
+    Settle(1),
+    Clean(2, 0, 0, 0),
+    Stands(1, 2),
+    Page(1, "1 : j=5 k=3"),
+    Cuts(&[1], 1),
+];
+
+/// After the greatest frame number there is no further one, even where nothing waits.
+const AFTER_THE_GREATEST: [Step; 2] = [Page(1, "1 :"), Refused(StoreFault::Spent)];
+
+#[test]
+fn a_store_goes_on_from_worked_segments(rt: HostRuntime) -> Result<(), Fail> {
+    let walked = over_bytes(rt.alloc(), &[FIRST_BYTES], &AFTER_THE_FIRST)?;
+    assert!(rt; walked == AFTER_THE_FIRST.len());
+    Ok(())
+}
+
+#[test]
+fn a_store_goes_on_from_a_cleaned_log(rt: HostRuntime) -> Result<(), Fail> {
+    let walked = over_bytes(rt.alloc(), &[THIRD_OLDER, THIRD_NEWER], &AFTER_THE_THIRD)?;
+    assert!(rt; walked == AFTER_THE_THIRD.len());
+    Ok(())
+}
+
+#[test]
+fn a_store_after_the_greatest_frame_is_spent(rt: HostRuntime) -> Result<(), Fail> {
+    let walked = over_bytes(rt.alloc(), &[GREATEST], &AFTER_THE_GREATEST)?;
+    assert!(rt; walked == AFTER_THE_GREATEST.len());
+    Ok(())
+}
