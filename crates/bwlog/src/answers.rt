@@ -2,6 +2,7 @@
 
 ghost use Rattle.bwlog.specs.Session.{IsReady};
 
+use crate::calls::LEASES;
 use crate::printed::{write_dump, write_entry, write_page, write_value};
 use crate::refusal::Refusal;
 use crate::script::{Command, Fault};
@@ -10,9 +11,6 @@ use bw_codec::{Key, Record};
 use bw_device::Segment;
 use std::alloc::Global;
 use std::io::{self, Write};
-
-/// How many leases a desk has.
-pub const LEASES: u32 = 64;
 
 /// Why a command has no answer.
 #[derive(Debug, Clone, Copy, PartialEq, Eq)]

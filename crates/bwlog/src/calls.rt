@@ -15,6 +15,9 @@ use std::alloc::Global;
 /// How many places for readers a store is opened with.
 const READERS: usize = 4;
 
+/// How many leases a desk has.
+pub const LEASES: u32 = 64;
+
 /// A segment of this capacity, with the least lease that is free.
 pub fn spare_of(alloc: Global, desk: &mut Desk, capacity: u64) -> Result<MemSegment, Refusal> {
     let lease = desk.take()?;

@@ -1,8 +1,8 @@
 //! Scripts over the page store: `bwlog replay` runs one, line by line, and prints what each line
-//! answers.
+//! answers; `bwlog scan` says what segments hold.
 //!
 //! A script has a session before it: a store over segments in memory, a feed for each writer, and
-//! the desk of the segments' leases. `replay::run` is the whole program over any reader and
+//! the desk of the segments' leases. `program::run` is the whole program over any reader and
 //! writers; `main` gives it the standard streams.
 #![tactic(auto)]
 
@@ -11,15 +11,19 @@ mod calls;
 mod lines;
 mod options;
 mod printed;
+mod program;
 mod refusal;
 mod replay;
+mod scan;
 mod script;
 mod session;
+mod stop;
+mod system;
 #[cfg(test)]
 mod tests;
 
+use program::run;
 use refusal::Refusal;
-use replay::run;
 use std::alloc::Global;
 use std::io::{self, BufWriter, ErrorKind};
 use std::process::ExitCode;
@@ -42,7 +46,7 @@ fn start(rt: &HostRuntime, alloc: Global) -> io::Result<u8> {
     }
     let mut output = BufWriter::new(alloc, rt.stdout())?;
     let status = run(
-        alloc,
+        rt,
         texts.as_slice(),
         &mut rt.stdin(),
         &mut output,
