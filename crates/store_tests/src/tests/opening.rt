@@ -3,10 +3,11 @@
 use super::boxes::fill;
 use bw_device::{Desk, Segment};
 use bw_store::{Config, Store, StoreFault};
+use std::sync::Wait;
 use std::test::Fail;
 
 // Whether a store over two boxes is refused, and both come back.
-fn is_refused(rt: &HostRuntime, config: &Config) -> Result<bool, Fail> {
+fn is_refused<R: AllocGlobal + Wait>(rt: &R, config: &Config) -> Result<bool, Fail> {
     let alloc = rt.alloc();
     let mut desk = Desk::new(alloc, 2)?;
     let mut boxes: Vec<Box<dyn Segment>> = Vec::new(alloc);

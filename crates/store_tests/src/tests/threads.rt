@@ -12,6 +12,7 @@ use bw_ring::Feed;
 use bw_store::{Config, Entry, Store};
 use std::alloc::Global;
 use std::snapshot::Snapshot;
+use std::sync::Wait;
 use std::test::Fail;
 use std::thread;
 use std::thread::{Promise, PromisedHandle, Threads};
@@ -144,7 +145,11 @@ fn are_scripts(entries: &[Entry]) -> bool {
 }
 
 // Whether all that four writers put meanwhile is settled, each writer's records in order.
-fn are_settled<R: Threads>(rt: &R, store: &mut Store, feeds: &mut Vec<Feed>) -> Result<bool, Fail>
+fn are_settled<R: Threads + Wait>(
+    rt: &R,
+    store: &mut Store,
+    feeds: &mut Vec<Feed>,
+) -> Result<bool, Fail>
     requires sound { IsSound store.old holding }
     requires feeds { map ring_of_feed feeds.old.items ≡ (kept_by store.old holding).rings }
     ensures { IsSound store.new holding }

@@ -10,11 +10,12 @@ use bw_care::recover;
 use bw_device::{Desk, MemSegment, Segment};
 use bw_ring::Feed;
 use bw_store::{Config, Store};
+use std::sync::Wait;
 use std::test::Fail;
 
 // How many of the steps went as told before one did not.
-fn all_go(
-    rt: &HostRuntime,
+fn all_go<R: AllocGlobal + Wait>(
+    rt: &R,
     store: &mut Store,
     feeds: &mut Vec<Feed>,
     more: &mut Vec<Box<dyn Segment>>,
@@ -33,8 +34,8 @@ fn all_go(
 }
 
 // The same over a store that is opened over these boxes; 99 where it was not opened.
-fn walked(
-    rt: &HostRuntime,
+fn walked<R: AllocGlobal + Wait>(
+    rt: &R,
     boxes: Vec<Box<dyn Segment>>,
     more: &mut Vec<Box<dyn Segment>>,
     places: usize,
@@ -56,8 +57,8 @@ fn walked(
 }
 
 /// Over so many boxes, with one more in reserve, and rings of so many places.
-pub(super) fn within(
-    rt: &HostRuntime,
+pub(super) fn within<R: AllocGlobal + Wait>(
+    rt: &R,
     many: u32,
     places: usize,
     steps: &[Step],
@@ -72,13 +73,17 @@ pub(super) fn within(
 }
 
 /// The same with eight places.
-pub(super) fn over(rt: &HostRuntime, many: u32, steps: &[Step]) -> Result<usize, Fail> {
+pub(super) fn over<R: AllocGlobal + Wait>(
+    rt: &R,
+    many: u32,
+    steps: &[Step],
+) -> Result<usize, Fail> {
     within(rt, many, 8, steps)
 }
 
 /// Over so many boxes, then one that fails after so many calls, and a spare.
-pub(super) fn over_fuse(
-    rt: &HostRuntime,
+pub(super) fn over_fuse<R: AllocGlobal + Wait>(
+    rt: &R,
     many: u32,
     calls: u64,
     keep: u64,
@@ -96,8 +101,8 @@ pub(super) fn over_fuse(
 
 // The same over a store that is opened again: 98 where the boxes were not recovered, 99 where no
 // store was opened.
-fn walked_again(
-    rt: &HostRuntime,
+fn walked_again<R: AllocGlobal + Wait>(
+    rt: &R,
     boxes: Vec<Box<dyn Segment>>,
     more: &mut Vec<Box<dyn Segment>>,
     steps: &[Step],
@@ -114,8 +119,8 @@ fn walked_again(
 }
 
 /// Over a box for each of these texts in hex, in any order, and two spares.
-pub(super) fn over_bytes(
-    rt: &HostRuntime,
+pub(super) fn over_bytes<R: AllocGlobal + Wait>(
+    rt: &R,
     texts: &[&'static str],
     steps: &[Step],
 ) -> Result<usize, Fail> {
