@@ -5,7 +5,7 @@ use Rattle.std.specs.declared.dyn_box.DynBox.{DynBox}
 use Rattle.std.specs.declared.alloc.Global.{Global}
 use Rattle.bw_device.specs.Holding.{Holding}
 use Rattle.bw_ring.specs.Ends.{ring_of_feed}
-use Rattle.bw_store.specs.Kept.{Kept, IsSound}
+use Rattle.bw_store.specs.Kept.{IsSound}
 use Rattle.bw_store.specs.Views.{kept_beside}
 use Rattle.bwlog.specs.declared.session.Session.{Session}
 

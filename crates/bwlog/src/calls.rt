@@ -142,6 +142,27 @@ impl Session {
         Ok(self.store.dump(u64::from(segment), bytes)?)
     }
 
+    /// A segment of this capacity, with the least lease that is free, once those that came back
+    /// are.
+    pub fn spare(&mut self, alloc: Global, capacity: u64) -> Result<MemSegment, Refusal>
+        requires { IsReady self.old holding }
+        ensures { IsReady self.new holding }
+    {
+        let _ = self.desk.collect();
+        spare_of(alloc, &mut self.desk, capacity)
+    }
+
+    /// The store has one more spare.
+    pub fn add(&mut self, spare: Box<dyn Segment>) -> Result<(), Refusal>
+        requires { IsReadyBeside self.old holding }
+        ensures { IsReadyBeside self.new holding }
+    {
+        match self.store.add_segment(spare) {
+            Ok(()) => Ok(()),
+            Err((_, cause)) => Err(Refusal::from(cause)),
+        }
+    }
+
     /// Leases that came back are free again.
     pub fn collect(&mut self)
         requires { IsReady self.old holding }

@@ -87,8 +87,8 @@ fn found_of(found: &ArgMatches) -> Options {
     }
 }
 
-/// What the words after the program's name ask for. What they do not give as a parse, help among it,
-/// is clap's error, whose text is for the user.
+/// What the words after the program's name ask for. What they do not give as a parse, help among
+/// it, is clap's error, whose text is for the user.
 pub fn mode_of<'a>(alloc: Global, words: &'a [&'a str]) -> Result<Mode, Error> {
     let replay = Command::new(alloc, "replay").about("Runs a script from standard input");
     let replay = with_writers(alloc, replay)?;

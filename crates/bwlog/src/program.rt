@@ -1,4 +1,5 @@
-//! The program over any reader and writers: the command line, what it asks for, and the exit status.
+//! The program over any reader and writers: the command line, what it asks for, and the exit
+//! status.
 
 use crate::options::{Mode, is_memory, mode_of};
 use crate::refusal::Refusal;

@@ -7,15 +7,24 @@ use crate::calls::{LEASES, spare_of};
 use crate::lines::{Lines, READS};
 use crate::options::Options;
 use crate::refusal::Refusal;
-use crate::script::{LONGEST, parse};
+use crate::script::{Command, LONGEST, parse};
 use crate::session::Session;
-use crate::stop::{Stop, missed, no_input, refuse};
+use crate::stop::{Stop, missed, no_input, no_output, refuse};
 use crate::system::System;
 use bw_device::{Desk, Segment};
 use std::io::{Read, Write};
 
-/// Reads a line and does what it asks for; `None` where there was none, and else whether it was
-/// refused.
+/// What came of a line.
+enum Done {
+    /// There was none.
+    End,
+    /// It was answered, and this tells whether by a refusal.
+    Answered(bool),
+    /// It asks for a spare.
+    Add,
+}
+
+/// Reads a line and does what it asks for, but for a spare.
 fn do_line<R: System, I: Read, O: Write>(
     rt: &R,
     session: &mut Session,
@@ -23,46 +32,37 @@ fn do_line<R: System, I: Read, O: Write>(
     output: &mut O,
     number: u64,
     writers: u16,
-) -> Result<Option<bool>, Stop>
+) -> Result<Done, Stop>
     requires { IsReady session.old holding }
     ensures { IsReady session.new holding }
 {
     if !lines.read_line().map_err(no_input)? {
-        return Ok(None);
+        return Ok(Done::End);
     }
     match parse(lines.line(), writers) {
-        Ok(None) => Ok(Some(false)),
+        Ok(None) => Ok(Done::Answered(false)),
+        Ok(Some(Command::Add)) => Ok(Done::Add),
         Ok(Some(command)) => match answer(rt, session, output, command) {
-            Ok(()) => Ok(Some(false)),
-            Err(miss) => Ok(Some(missed(output, number, miss)?)),
+            Ok(()) => Ok(Done::Answered(false)),
+            Err(miss) => Ok(Done::Answered(missed(output, number, miss)?)),
         },
         Err(fault) => Err(Stop::Fault(number, fault)),
     }
 }
 
-/// Runs a script line by line, and says whether something was refused.
-fn run_lines<R: System, I: Read, O: Write>(
-    rt: &R,
-    session: &mut Session,
-    lines: &mut Lines<&mut I>,
-    output: &mut O,
-    writers: u16,
-) -> Result<bool, Stop>
-    requires { IsReady session.old holding }
-    ensures { IsReady session.new holding }
-{
-    let mut is_refused = false;
-    'lines: for number in 1..u64::MAX {
-        match do_line(rt, session, lines, output, number, writers)? {
-            Some(refused) => is_refused |= refused,
-            None => break,
+/// Says that a spare was added, or why not.
+fn added<O: Write>(output: &mut O, lease: u32, answer: Result<(), Refusal>) -> Result<bool, Stop> {
+    match answer {
+        Ok(()) => {
+            writeln!(output, "added {lease}").map_err(no_output)?;
+            Ok(false)
         }
+        Err(refusal) => refuse(output, refusal),
     }
-    Ok(is_refused)
 }
 
-/// Makes a store and runs a script over it. Boxes are made here alone: a function that takes or
-/// gives a box, or a store, makes none.
+/// Makes a store and runs a script over it, line by line; answers whether something was refused.
+/// Boxes are made here alone: a function that takes or gives a box, or a store, makes none.
 pub fn replay<R: System, I: Read, O: Write>(
     rt: &R,
     options: &Options,
@@ -75,19 +75,52 @@ pub fn replay<R: System, I: Read, O: Write>(
         Ok(desk) => desk,
         Err(cause) => return refuse(output, Refusal::from(cause)),
     };
+    let capacity = u64::from(options.capacity);
     let mut boxes: Vec<Box<dyn Segment>> = Vec::new(alloc);
     for _ in 0..options.segments {
-        match spare_of(alloc, &mut desk, u64::from(options.capacity)) {
+        match spare_of(alloc, &mut desk, capacity) {
             Ok(spare) => boxes.push(Box::new(alloc, spare)?)?,
             Err(refusal) => return refuse(output, refusal),
         }
     }
-    match Session::open(rt, options, boxes, desk) {
-        Ok(mut session) => {
-            let end = run_lines(rt, &mut session, &mut lines, output, options.writers);
-            session.shut(rt);
-            end
+    let mut session = match Session::open(rt, options, boxes, desk) {
+        Ok(session) => session,
+        Err(refusal) => return refuse(output, refusal),
+    };
+    let mut end = Ok(());
+    let mut is_refused = false;
+    'lines: for number in 1..u64::MAX {
+        let done = do_line(
+            rt,
+            &mut session,
+            &mut lines,
+            output,
+            number,
+            options.writers,
+        );
+        let answer = match done {
+            Ok(Done::End) => break,
+            Ok(Done::Answered(refused)) => Ok(refused),
+            Ok(Done::Add) => match session.spare(alloc, capacity) {
+                Ok(spare) => {
+                    let lease = spare.lease();
+                    match Box::new(alloc, spare) {
+                        Ok(one) => added(output, lease, session.add(one)),
+                        Err(_) => Err(Stop::NoMemory),
+                    }
+                }
+                Err(refusal) => refuse(output, refusal),
+            },
+            Err(stop) => Err(stop),
+        };
+        match answer {
+            Ok(refused) => is_refused |= refused,
+            Err(stop) => {
+                end = Err(stop);
+                break;
+            }
         }
-        Err(refusal) => refuse(output, refusal),
     }
+    session.shut(rt);
+    end.map(|()| is_refused)
 }

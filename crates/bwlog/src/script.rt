@@ -6,7 +6,8 @@ use thiserror::Error;
 /// The most bytes of a line that is not skipped.
 pub const LONGEST: u32 = 4096;
 
-/// Why a line is no command, or no segment of a scan. Where a line has two faults, the one that stands first here is told.
+/// Why a line is no command, or no segment of a scan. Where a line has two faults, the one that
+/// stands first here is told.
 #[derive(Debug, Clone, Copy, PartialEq, Eq, Error)]
 pub enum Fault {
     /// Over 4,096 bytes; of a scan over 2,097,152.
@@ -48,6 +49,8 @@ pub enum Command {
     Clean,
     /// The current segment is closed.
     Roll,
+    /// A spare is added.
+    Add,
     History,
     Cuts,
     Segments,
@@ -162,6 +165,7 @@ fn plain_of(name: &str, one: Option<&str>) -> Result<Command, Fault> {
         "settle" => alone(one, Command::Settle),
         "clean" => alone(one, Command::Clean),
         "roll" => alone(one, Command::Roll),
+        "add" => alone(one, Command::Add),
         "history" => alone(one, Command::History),
         "cuts" => alone(one, Command::Cuts),
         "segments" => alone(one, Command::Segments),

@@ -4,7 +4,7 @@ use super::{Row, walked};
 use std::test::*;
 
 /// What is no parse, and limits at the ends of their ranges.
-const COMMAND_LINES: [Row; 31] = [
+const COMMAND_LINES: [Row; 33] = [
     Row::NoParse(&[]),
     Row::NoParse(&[""]),
     Row::NoParse(&["--help"]),
@@ -82,12 +82,27 @@ const COMMAND_LINES: [Row; 31] = [
     ),
     Row::Under(
         &["replay", "--segments", "3"],
-        "put 0 a 1\nflush\nroll\nput 0 b 2\nflush\nroll\nput 0 c 3\nflush\nclean\nsegments\n\
+        "put 0 a 1\nflush\nroll\nput 0 b 2\nflush\nroll\nput 0 c 3\nflush\nclean\nsegments\nadd\n\
          leases\n",
         4,
         "ok\nframe 1\nrolled\nok\nframe 2\nrolled\nok\nrefused E5 NoSegment\n\
          cleaned segment 1 lease 0 pages 1 frames 1\nsegment 2 lease 1 bytes 68\n\
-         segment 3 lease 2 bytes 108\nspares 0\nout 1 2\n",
+         segment 3 lease 2 bytes 108\nspares 0\nadded 0\n\
+         out 0 1 2\n",
+    ),
+    // A spare that is added takes the frame that had no segment.
+    Row::Under(
+        &["replay", "--segments", "2"],
+        "put 0 a 1\nflush\nroll\nput 0 b 2\nflush\nadd\nflush\nsegments\nadd\nleases\n",
+        4,
+        "ok\nframe 1\nrolled\nok\nrefused E5 NoSegment\nadded 2\nframe 2\n\
+         segment 1 lease 0 bytes 76\nsegment 2 lease 1 bytes 68\nspares 1\nadded 3\nout 0 1 2 3\n",
+    ),
+    Row::Under(
+        &["replay", "--segments=64", "--capacity=16408"],
+        "add\nput 0 k v\nsettle\n",
+        4,
+        "refused E20 NoLease\nok\nsettled 1\n",
     ),
 ];
 

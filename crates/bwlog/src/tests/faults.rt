@@ -38,7 +38,7 @@ const FAULTS: [Row; 52] = [
     Row::Fault("get k k", "", "script line 1: wrong number of words\n"),
     Row::Fault("clean 1", "", "script line 1: wrong number of words\n"),
     Row::Fault("roll 1", "", "script line 1: wrong number of words\n"),
-    Row::Fault("add", "", "script line 1: unknown command\n"),
+    Row::Fault("add 1", "", "script line 1: wrong number of words\n"),
     Row::Fault("history 1", "", "script line 1: wrong number of words\n"),
     Row::Fault("cuts 1", "", "script line 1: wrong number of words\n"),
     Row::Fault("segments 1", "", "script line 1: wrong number of words\n"),

@@ -1,0 +1,7 @@
+use Rattle.bw_device.specs.Memory.{memory_holding}
+use Rattle.bwlog.specs.Session.{IsReadyBeside}
+use Rattle.bwlog.proofs.Readings.{by_kind}
+use Rattle.bwlog.proofs.replay.replay.Given as goal
+
+abbrev pub invariant-lines : goal.invariant-lines
+invariant-lines g l = IsReadyBeside l.session (by_kind (λ _. memory_holding))
