@@ -59,21 +59,42 @@ fn is_taken(store: &mut Store, feeds: &mut Vec<Feed>, value: &[u8]) -> Result<bo
     Ok(store.turn(8) == Ok(1) && put)
 }
 
+// Whether a flush answers so.
+fn flushes<R: Wait>(rt: &R, store: &mut Store, told: Option<u64>) -> bool
+    requires { IsSound store.old holding }
+    ensures { IsSound store.new holding }
+{
+    store.flush(rt) == Ok(told)
+}
+
+// A value is taken: a reader sees the old one still, and this one once it is flushed.
+fn is_seen<R: Wait>(
+    rt: &R,
+    store: &mut Store,
+    feeds: &mut Vec<Feed>,
+    reader: &mut Reader,
+    (old, new, frame): (&[u8], &[u8], u64),
+) -> Result<bool, Fail>
+    requires { IsSound store.old holding }
+    ensures { IsSound store.new holding }
+{
+    let taken = is_taken(store, feeds, new)?;
+    let still = reads(reader, old)?;
+    let flushed = flushes(rt, store, Some(frame));
+    let seen = reads(reader, new)?;
+    let idle = flushes(rt, store, None);
+    Ok(taken && still && flushed && seen && idle)
+}
+
 // A reader sees what was flushed, and not what was only taken.
 fn sees_flushes<R: Wait>(rt: &R, store: &mut Store, feeds: &mut Vec<Feed>) -> Result<Reader, Fail>
     requires { IsSound store.old holding }
     ensures { IsSound store.new holding }
 {
     let mut reader = store.reader()?;
-    let none = reads(&mut reader, b"")? && matches!(reader.page(1), Ok(None));
-    let taken = is_taken(store, feeds, b"1")?;
-    let still = reads(&mut reader, b"")?;
-    let flushed = store.flush(rt) == Ok(Some(1));
-    let one = reads(&mut reader, b"1")?;
-    let again = is_taken(store, feeds, b"2")?;
-    let old = reads(&mut reader, b"1")? && store.flush(rt) == Ok(Some(2));
-    let two = reads(&mut reader, b"2")? && store.flush(rt) == Ok(None);
-    if none && taken && still && flushed && one && again && old && two {
+    let first = is_seen(rt, store, feeds, &mut reader, (b"", b"1", 1))?;
+    let second = is_seen(rt, store, feeds, &mut reader, (b"1", b"2", 2))?;
+    if first && second {
         return Ok(reader);
     }
     Err(Fail::from("a reader sees otherwise"))
