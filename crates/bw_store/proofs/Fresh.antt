@@ -45,7 +45,6 @@ first_newest (suc (suc n)) h =
 pub opened_sound : (rings : List Ring) (m f : ℕ) (spares : List Holding) → logs.IsSound (fresh m f spares) → IsSound (opened rings m f spares)
 opened_sound rings m f spares sound = record {
   log = sound;
-  here = refl;
   pairs = refl;
   limit = refl;
   leaves = refl;

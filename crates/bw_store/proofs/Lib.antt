@@ -1,6 +1,8 @@
 pub mod Stepping
 pub mod Placing
 pub mod Telling
+pub mod TailSteps
+pub mod TailLists
 pub mod Growing
 pub mod RecordMore
 pub mod CutMore
@@ -20,3 +22,4 @@ pub mod Shares
 pub mod Fresh
 pub mod FollowMore
 pub mod Logs
+pub mod AwayPages

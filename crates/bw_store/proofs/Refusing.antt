@@ -30,7 +30,7 @@ wanting_after old new BadConfig may w = absurd w
 wanting_after old new NoSegment may w = absurd w
 wanting_after old new (Device lease) may w = absurd w
 wanting_after old new Failed may w = absurd w
-wanting_after old new Spent may w = (may, inr w)
+wanting_after old new Spent may w = inl (may, inr w)
 wanting_after old new NoPage may w = absurd w
 wanting_after old new NothingOld may w = absurd w
 
@@ -43,7 +43,7 @@ unplanned_after old new BadConfig may works w = absurd w
 unplanned_after old new NoSegment may works w = absurd w
 unplanned_after old new (Device lease) may works w = absurd w
 unplanned_after old new Failed may works w = absurd cc
-unplanned_after old new Spent may works w = (may, w)
+unplanned_after old new Spent may works w = inl (may, w)
 unplanned_after old new NoPage may works w = absurd w
 unplanned_after old new NothingOld may works w = absurd w
 
@@ -98,9 +98,9 @@ pub flush_refuses : (old new : Kept) (cause : StoreFault) → FlushAnswers (flus
 flush_refuses old new NoMemory a left = inl left
 flush_refuses old new BadConfig a left = absurd (is_cause false old BadConfig (λ x. x) a)
 flush_refuses old new NoSegment a left = (left, same_answer (flush_refusal old) NoSegment (λ x. x) a)
-flush_refuses old new (Device lease) a left = left
+flush_refuses old new (Device lease) a left = inl left
 flush_refuses old new Failed a left = (left, is_cause false old Failed (λ x. x) a)
 flush_refuses old new Spent a left =
-    (inl left, inl (subst (λ (s : Kept). flush_refusal s ≡ Some Spent) (sym left) (same_answer (flush_refusal old) Spent (λ x. x) a)))
+    inl (inl left, inl (subst (λ (s : Kept). flush_refusal s ≡ Some Spent) (sym left) (same_answer (flush_refusal old) Spent (λ x. x) a)))
 flush_refuses old new NoPage a left = absurd (is_cause false old NoPage (λ x. x) a)
 flush_refuses old new NothingOld a left = absurd (is_cause false old NothingOld (λ x. x) a)

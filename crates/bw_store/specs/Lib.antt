@@ -1,6 +1,8 @@
 pub mod History
 pub mod Share
 pub mod Adding
+pub mod Tails
+pub mod Tailing
 pub mod Growing
 pub mod Kept
 pub mod Faults
@@ -8,9 +10,9 @@ pub mod Views
 pub mod Taken
 pub mod Settled
 pub mod Lanes
+pub mod Reading
 pub mod Taking
 pub mod Opened
 pub mod Reopened
 pub mod Following
-pub mod Reading
 pub mod Cleaning

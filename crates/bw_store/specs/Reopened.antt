@@ -12,7 +12,7 @@ use Rattle.bw_device.specs.Holding.{Holding}
 use Rattle.bw_store.specs.declared.edge.Edge.{Edge}
 use Rattle.bw_store.specs.declared.fault.StoreFault.{StoreFault}
 use Rattle.bw_store.specs.declared.fault.StoreFault.TheVariants.{NoMemory, BadConfig}
-use Rattle.bw_store.specs.Kept.{Kept}
+use Rattle.bw_store.specs.Kept.{Kept, filed_of}
 
 -- a segment's number and its length
 abbrev pub edge_at : ℕ → Option Holding → Edge
@@ -34,7 +34,7 @@ reopened rings last filed newest making log = record {
   entries = [];
   cuts = [];
   durable = 0;
-  filed = filed;
+  filed = filed_of filed;
   newest = newest;
   making = making;
   log = log;

@@ -17,6 +17,7 @@ mod config;
 mod edge;
 mod entering;
 mod entry;
+mod evicting;
 mod fault;
 mod flushing;
 mod intake;
@@ -27,6 +28,7 @@ mod renewing;
 mod reopening;
 mod settling;
 mod store;
+mod tails;
 mod taking;
 mod turning;
 

@@ -5,6 +5,7 @@ ghost use Rattle.bw_log.specs.Contents.{counted};
 ghost use Rattle.bw_log.specs.Places.{place_of};
 ghost use Rattle.bw_ring.specs.Ends.{ring_of_feed, ring_of_lane};
 ghost use Rattle.bw_care.specs.Views.{seen, IsSound as IsSoundLog};
+ghost use Rattle.bw_store.specs.Tails.{tail_of, tails_for};
 ghost use Rattle.bw_store.specs.Opened.{AreFresh, IsConfig};
 ghost use Rattle.bw_store.specs.Reopened.{edge_of as newest_edge, reopened, AreEnds, AreUnused, IsReopenFault};
 
@@ -15,6 +16,7 @@ use crate::intake::Intake;
 use crate::opening::intake_of;
 use crate::renewing::renew;
 use crate::store::Store;
+use crate::tails::{Tail, tails_on};
 use bw_buffer::Buffer;
 use bw_care::Recovered;
 use bw_codec::Place;
@@ -36,6 +38,7 @@ struct Ends {
     feeds: Vec<Feed>,
     intake: Intake,
     newest: Vec<Place>,
+    tails: Vec<Option<Tail>>,
     making: Buffer,
 }
 
@@ -91,6 +94,7 @@ fn ends_of(alloc: Global, config: &Config, log: &Log, pages: usize) -> Result<En
     ensures unused { IfOk result (λ e. AreFresh config.now e.feeds.items) }
     ensures history { IfOk result (λ e. e.intake.history.items ≡ []) }
     ensures count { IfOk result (λ e. length e.newest.items ≡ pages) }
+    ensures tails { IfOk result (λ e. map tail_of e.tails.items ≡ tails_for pages []) }
     ensures each { IfOk result (λ e. (p : ℕ) → 1 ≤ p → p ≤ pages
         → slice_get e.newest.items (p - 1) ≡ place_of p (counted (seen log.now holding))) }
     ensures limit { IfOk result (λ e. e.making.limit ≡ config.now.f) }
@@ -103,11 +107,13 @@ fn ends_of(alloc: Global, config: &Config, log: &Log, pages: usize) -> Result<En
     let (feeds, intake) = intake_of(alloc, config)?;
     let mut newest = blank_places(alloc, pages)?;
     renew(&mut newest, log);
+    let tails = tails_on(alloc, &newest)?;
     let making = next_buffer(alloc, log.next_frame(), config.f)?;
     Ok(Ends {
         feeds,
         intake,
         newest,
+        tails,
         making,
     })
 }
@@ -162,7 +168,10 @@ impl Store {
 
     // A store of these ends over what was recovered.
     fn again(alloc: Global, ends: Ends, recovered: Recovered) -> (Store, Vec<Feed>)
-        requires { IsSoundLog recovered.log holding }
+        requires sound { IsSoundLog recovered.log holding }
+        requires tails { map tail_of ends.tails.items
+            ≡ tails_for (length recovered.leaves.leaves) ends.making.blocks }
+        requires here { recovered.leaves.away ≡ [] }
         ensures store { kept_by result.0 holding
             ≡ record (reopened (map ring_of_lane ends.intake.lanes.items) recovered.last
             recovered.leaves ends.newest.items ends.making (seen recovered.log holding))
@@ -173,6 +182,7 @@ impl Store {
             feeds,
             intake,
             newest,
+            tails,
             making,
         } = ends;
         let Recovered {
@@ -193,6 +203,7 @@ impl Store {
             durable: 0,
             leaves,
             newest,
+            tails,
             making,
             log,
         };
