@@ -159,14 +159,14 @@ follows_left old new (Err NothingOld) left = follows_as old new left
 
 -- a record that was refused, whatever the cause
 pub follows_refused : (old new : Kept) (cause : StoreFault) → Refuses old cause new → Turned 0 old new
-follows_refused old new NoMemory r = follows_may old new r
+follows_refused old new NoMemory r = follows_may old new r.1
 follows_refused old new BadConfig r = absurd r
 follows_refused old new NoSegment r = follows_as old new r.0
-follows_refused old new (Device lease) (inl broken) = follows_broken old new lease broken
-follows_refused old new (Device lease) (inr unread) = follows_read old new unread.read
+follows_refused old new (Device lease) (works, inl broken) = follows_broken old new lease broken
+follows_refused old new (Device lease) (works, inr unread) = follows_read old new unread.read
 follows_refused old new Failed r = follows_as old new r.0
-follows_refused old new Spent (inl spent) = follows_may old new spent.0
-follows_refused old new Spent (inr unread) = follows_as old new unread.0
+follows_refused old new Spent (works, inl spent) = follows_may old new spent.0
+follows_refused old new Spent (works, inr unread) = follows_as old new unread.0
 follows_refused old new NoPage r = absurd r
 follows_refused old new NothingOld r = absurd r
 

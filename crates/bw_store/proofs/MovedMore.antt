@@ -256,7 +256,7 @@ module _ (s : Kept) (written : List Frame) (a : Adds s written) where
       (λ f in_range bases above. (
       let low = in_range.0 in
       let high = in_range.1 in
-      inr (share_then (f.number - s.before) (omega arith) (omega arith), bases)))
+      inr (λ zeroth one. not_first s a.sound a.empty zeroth (omega arith), share_then (f.number - s.before) (omega arith) (omega arith), bases)))
       written numbers_new (all_bases (blocks_of old) written a.bases))
 
   -- ---- the store with these cuts

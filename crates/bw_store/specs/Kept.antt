@@ -62,12 +62,12 @@ TellsBy s number leaves rs blocks =
     ((s.before ≡ 0) × (number ≡ 1) × TellsFirst s.filed.m leaves rs blocks)
     ⊎ ((s.before ≡ 0 → number ≢ 1) × Tells s.filed.m leaves rs blocks)
 
--- a frame of the cleaner's: nothing was put for it, and each of its blocks is a whole page
-abbrev pub IsMoved : List Record → List Block → Type 0
-IsMoved rs blocks = (rs ≡ []) × AllByRecursion IsBaseBlock blocks
+-- a frame of the cleaner's, which is not frame 1 of an opened store: nothing was put for it, and each of its blocks is a whole page
+abbrev pub IsMoved : Kept → ℕ → List Record → List Block → Type 0
+IsMoved s number rs blocks = (s.before ≡ 0 → number ≢ 1) × (rs ≡ []) × AllByRecursion IsBaseBlock blocks
 
 abbrev pub TellsAs : Kept → ℕ → List Leaf → List Record → List Block → Type 0
-TellsAs s number leaves rs blocks = TellsBy s number leaves rs blocks ⊎ IsMoved rs blocks
+TellsAs s number leaves rs blocks = TellsBy s number leaves rs blocks ⊎ IsMoved s number rs blocks
 
 abbrev pub TellsShare : Kept → Frame → Type 0
 TellsShare s frame = TellsAs s frame.number (leaves_at s (frame.number - s.before - 1)) (share_at s (frame.number - s.before)) frame.blocks

@@ -57,9 +57,12 @@ opened rings m f spares =
 
 -- ---- what a store is opened with
 
--- a ring for each of 1 to 64 writers, and 1 to 64 places for readers
+-- so many writers with rings of so many places each, 1 to 64 and 1 to 4,096, and 1 to 64 places for readers
+abbrev pub AreEnds : ℕ → ℕ → ℕ → Type 0
+AreEnds writers places readers = IsRings writers places × (1 ≤ readers) × (readers ≤ 64)
+
 abbrev pub AreWriters : Config → Type 0
-AreWriters c = IsRings c.writers c.places × (1 ≤ c.readers) × (c.readers ≤ 64)
+AreWriters c = AreEnds c.writers c.places c.readers
 
 abbrev pub IsConfig : Config → Type 0
 IsConfig c = AreWriters c × AreLimits c.m c.f
@@ -69,11 +72,16 @@ abbrev pub AreTaken : Config → List Holding → Type 0
 AreTaken c boxes = AreWriters c × IsFit c.m c.f boxes
 
 -- an unused feed for each writer
-pub record AreFresh (c : Config) (feeds : List Feed) : Type 0 where
-  pub accepted : map accepted feeds ≡ replicate c.writers []
-  pub places : map places_of (map ring_of_feed feeds) ≡ replicate c.writers c.places
+pub record AreUnused (writers places : ℕ) (feeds : List Feed) : Type 0 where
+  pub nothing : map accepted feeds ≡ replicate writers []
+  pub rooms : map places_of (map ring_of_feed feeds) ≡ replicate writers places
 
--- why a store was not opened: what was handed in is looked at before memory is
+abbrev pub AreFresh : Config → List Feed → Type 0
+AreFresh c feeds = AreUnused c.writers c.places feeds
+
+-- why no store was made of what was handed in, which is looked at before memory is
+abbrev pub IsUnmade : Type 0 → StoreFault → Type 0
+IsUnmade Fits cause = ((cause ≡ BadConfig) × (Fits → ⊥)) ⊎ ((cause ≡ NoMemory) × Fits)
+
 abbrev pub IsOpenFault : Config → List Holding → StoreFault → Type 0
-IsOpenFault c boxes cause =
-    ((cause ≡ BadConfig) × (AreTaken c boxes → ⊥)) ⊎ ((cause ≡ NoMemory) × AreTaken c boxes)
+IsOpenFault c boxes cause = IsUnmade (AreTaken c boxes) cause

@@ -35,8 +35,11 @@ impl Store {
         if page == 0 || page > self.leaves.count() {
             return Err(StoreFault::NoPage);
         }
+        if !self.leaves.is_here(page) {
+            return Ok(false);
+        }
         let _ = self.tails.as_slice().len();
-        if !self.leaves.is_here(page) || self.tails[page as usize - 1].is_none() {
+        if self.tails[page as usize - 1].is_none() {
             return Ok(false);
         }
         self.leaves.put_away(page);

@@ -6,8 +6,8 @@ ghost use Rattle.bw_log.specs.Places.{place_of};
 ghost use Rattle.bw_ring.specs.Ends.{ring_of_feed, ring_of_lane};
 ghost use Rattle.bw_care.specs.Views.{seen, IsSound as IsSoundLog};
 ghost use Rattle.bw_store.specs.Tails.{tail_of, tails_for};
-ghost use Rattle.bw_store.specs.Opened.{AreFresh, IsConfig};
-ghost use Rattle.bw_store.specs.Reopened.{edge_of as newest_edge, reopened, AreEnds, AreUnused, IsReopenFault};
+ghost use Rattle.bw_store.specs.Opened.{AreEnds, AreFresh, AreUnused, IsConfig};
+ghost use Rattle.bw_store.specs.Reopened.{edge_of as newest_edge, reopened, IsReopenFault};
 
 use crate::config::Config;
 use crate::edge::Edge;

@@ -2,9 +2,9 @@ use Rattle.std.proofs.Common.{true, length, refl, ap, ◌∙◌, arith}
 use Rattle.std.proofs.lemmas.Result.{err_from_is_err_and}
 use Rattle.bw_log.specs.Contents.{roster}
 use Rattle.bw_store.specs.Kept.{Kept}
+use Rattle.bw_store.specs.Cleaning.{Emptied}
 use Rattle.bw_store.specs.Views.{kept_by}
 use Rattle.bw_store.proofs.FollowMore.{follows_as, follows_left}
-use Rattle.bw_store.proofs.Planned.{flushed_or_not}
 use Rattle.bw_store.proofs.SettledMore.{settled_by}
 use Rattle.bw_store.proofs.CleanedMore.{live_stay, move_follows, move_boxes, clean_leaves, reserve_leaves, follows_via, not_nothing}
 use Rattle.bw_store.proofs.store.Store.clean.Goals as goal
@@ -36,8 +36,8 @@ returns-in_err-reserve_cuts-clause-leaves g c =
     let p = err_from_is_err_and c.from_residual-in_err-reserve_cuts.result c.from_residual-in_err-reserve_cuts.ensures.1 in
     let live = c.live.ensures in
     let many = c.if-live-lt2.false in
-    rw (p.1, p.2) (reserve_leaves _ _ _ (omega arith) (flushed_or_not _ _ c.in_ok-flush_making.field-0 c.in_ok-flush_making.ensures.leaves)
-    c.reserve_cuts.ensures.same)
+    let empty : Emptied _ _ = record { number = _; answers = c.in_ok-flush_making.ensures.answers; leaves = c.in_ok-flush_making.ensures.leaves } in
+    rw (p.1, p.2) (reserve_leaves _ _ _ (omega arith) empty c.reserve_cuts.ensures.same)
 
 pub returns-clause-follows : goal.returns-clause-follows
 returns-clause-follows g c =
@@ -57,8 +57,8 @@ pub returns-clause-leaves : goal.returns-clause-leaves
 returns-clause-leaves g c =
     let live = c.live.ensures in
     let many = c.if-live-lt2.false in
-    clean_leaves _ _ _ _ (omega arith)
-    (rw c.reserve_cuts.ensures.same (flushed_or_not _ _ c.in_ok-flush_making.field-0 c.in_ok-flush_making.ensures.leaves)) c.move_pages.ensures.leaves
+    let empty : Emptied _ _ = record { number = _; answers = c.in_ok-flush_making.ensures.answers; leaves = c.in_ok-flush_making.ensures.leaves } in
+    clean_leaves _ _ _ _ (omega arith) (rw c.reserve_cuts.ensures.same empty) c.move_pages.ensures.leaves
 
 pub returns-clause-nothing_old : goal.returns-clause-nothing_old
 returns-clause-nothing_old g c =
