@@ -1,6 +1,6 @@
 -- A page that the frame in the making neither makes nor cuts is in the log, and its tail leads from there to it.
 
-use Rattle.std.proofs.Common.{◌≡◌, ℕ, zero, suc, ◌+◌, ◌-◌, ◌<◌, ◌≤◌, inl, inr, Bool, true, false, Option, Some, None, Result, Ok, Err, List, [], ◌∷◌, ◌++◌}
+use Rattle.std.proofs.Common.{◌≡◌, ℕ, zero, suc, ◌+◌, ◌<◌, ◌≤◌, inl, inr, Bool, true, false, Option, Some, None, Result, Err, List, [], ◌∷◌, ◌++◌}
 use Rattle.std.proofs.Common.{length, refl, sym, ap, ◌∙◌, subst, arith, append-nil, if◌then◌else◌}
 use Rattle.std.specs.Prelude.{◌==◌, ◌||◌, ◌&&◌, nat_le, nat_lt, not, is_some, is_none, IsTrue, IsErrOf}
 use Rattle.std.specs.List.{AllByRecursion as All, fold, list_any, slice_get}
@@ -19,7 +19,7 @@ use Rattle.bw_codec.specs.declared.block.Block.TheVariants.{Delta, Base, Split}
 use Rattle.bw_codec.specs.declared.block.Frame.{Frame}
 use Rattle.std.specs.FinMap as finite
 use Rattle.std.specs.FinMap.Entries.{find}
-use Rattle.bw_page.specs.Leaves.{Bytes, Map, order, home, union, plain, leaf_at, all_changed, applied, directed_at, upper_of, AreLeaves}
+use Rattle.bw_page.specs.Leaves.{Bytes, Map, order, home, plain, leaf_at, all_changed, applied, directed_at, upper_of, AreLeaves}
 use Rattle.bw_page.specs.Seats.{is_among}
 use Rattle.bw_page.specs.Shown.{Shown, is_away, leaf_here}
 use Rattle.bw_page.specs.Standing.{after, content, blocks_of, Stand}

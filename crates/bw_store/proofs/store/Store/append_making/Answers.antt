@@ -1,10 +1,9 @@
-use Rattle.std.proofs.Common.{ℕ, ◌≡◌, ◌≤◌, true, List, [], length, ap, sym, ◌∙◌, subst, arith}
-use Rattle.std.specs.Prelude.{false}
+use Rattle.std.proofs.Common.{ℕ, List, [], length, ap, sym, ◌∙◌, arith}
 use Rattle.std.specs.List.{list_any}
 use Rattle.bw_codec.specs.Touch.{touches}
 use Rattle.bw_codec.specs.declared.block.Block.{Block}
 use Rattle.bw_buffer.specs.Filling.{Filling}
-use Rattle.bw_store.specs.Tails.{tail_of, tails_for, is_made}
+use Rattle.bw_store.specs.Tails.{tails_for, is_made}
 use Rattle.bw_store.specs.Views.{kept_by}
 use Rattle.bw_store.proofs.TailLists.{as_many}
 use Rattle.bw_store.proofs.AwayPages.{touched_within}

@@ -1,7 +1,6 @@
-use Rattle.std.proofs.Common.{◌≡◌, ◌∙◌, List, length, ap, sym, arith}
-use Rattle.std.specs.Prelude.{false}
+use Rattle.std.proofs.Common.{◌∙◌, List, length, ap, sym, arith}
 use Rattle.bw_codec.specs.declared.leaf.Leaf.{Leaf}
-use Rattle.bw_store.specs.Tails.{is_made, tails_for}
+use Rattle.bw_store.specs.Tails.{tails_for}
 use Rattle.bw_store.proofs.TailLists.{as_many, tail_here}
 use Rattle.bw_store.proofs.AwayPages.{none_made, away_more, kept_apart}
 use Rattle.bw_store.proofs.store.Store.evict.Goals as goal

@@ -1,4 +1,4 @@
-use Rattle.std.proofs.Common.{refl, ap, sym, ◌∙◌}
+use Rattle.std.proofs.Common.{refl}
 use Rattle.bw_store.specs.Views.{kept_by}
 use Rattle.bw_store.proofs.FollowMore.{follows_as, follows_read}
 use Rattle.bw_store.proofs.AwayPages.{leaf_ascends, value_is}

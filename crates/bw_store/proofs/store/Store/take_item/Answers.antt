@@ -2,7 +2,6 @@ use Rattle.std.proofs.Common.{sym}
 use Rattle.bw_store.proofs.Planned.{took_now, took_later, flushed_or_not}
 use Rattle.std.proofs.lemmas.Result.{err_from_is_err_and}
 use Rattle.bw_store.proofs.Refusing.{entered_not, flush_refuses}
-use Rattle.bw_store.proofs.AwayPages.{fetched_not}
 use Rattle.bw_store.proofs.store.Store.take_item.Goals as goal
 
 pub returns-then-length_of-room-clause-leaves : goal.returns-then-length_of-room-clause-leaves

@@ -1,6 +1,5 @@
 use Rattle.std.proofs.Common.{sym}
 use Rattle.bw_store.proofs.TailSteps.{content_over}
-use Rattle.bw_store.proofs.TailLists.{tails_delta}
 use Rattle.bw_store.proofs.tails.Tail.content.Goals as goal
 
 pub returns : goal.returns
