@@ -17,6 +17,7 @@ use Rattle.bw_store.specs.Taken.{taken}
 use Rattle.bw_store.specs.Taking.{MayFlush, Took, TakeLeaves, Refuses}
 use Rattle.bw_store.specs.declared.fault.StoreFault.TheVariants.{NoMemory, BadConfig, NoSegment, Device, Failed, Spent, NoPage, NothingOld}
 use Rattle.bw_store.specs.Faults.{Flushed, Broken, FlushLeaves}
+use Rattle.bw_store.specs.Reading.{HasRead, with_log}
 use Rattle.bw_store.specs.Following.{Follows, HasBoxes, Turned, TookInTurn, RefusedAfter, TookSome, RefusedAt}
 
 pub follows_as : (old new : Kept) → new ≡ old → Turned 0 old new
@@ -141,6 +142,27 @@ follows_took lane old new t =
     (follows_as (taken t.middle lane t.item t.back) new t.is) in
     follows_then old t.middle new (follows_may old t.middle t.flushes) last
 
+-- a read of the boxes
+pub follows_read : (old new : Kept) → HasRead old new → Turned 0 old new
+follows_read old new r =
+    (let step : Turned 0 old (with_log old new.log) = record {
+      follows = record {
+        rings = refl;
+        start = refl;
+        before = refl;
+        edge = refl;
+        floor = omega arith;
+        entries_more = [];
+        history = sym (append-nil old.entries);
+        cuts_more = [];
+        cuts = sym (append-nil old.cuts);
+        appended = omega arith;
+      };
+      boxes = record { same = r.kept.leases };
+      grew = omega arith;
+    } in
+    follows_then old (with_log old new.log) new step (follows_as (with_log old new.log) new r.is))
+
 -- a flush, whatever its answer
 pub follows_left : (old new : Kept) (r : Result (Option ℕ) StoreFault) → FlushLeaves old r new → Turned 0 old new
 follows_left old new (Ok None) left = follows_as old new left.0
@@ -159,9 +181,11 @@ pub follows_refused : (old new : Kept) (cause : StoreFault) → Refuses old caus
 follows_refused old new NoMemory r = follows_may old new r.1
 follows_refused old new BadConfig r = absurd r
 follows_refused old new NoSegment r = follows_as old new r.0
-follows_refused old new (Device lease) r = follows_broken old new lease r.1
+follows_refused old new (Device lease) (works, inl broken) = follows_broken old new lease broken
+follows_refused old new (Device lease) (works, inr unread) = follows_read old new unread.read
 follows_refused old new Failed r = follows_as old new r.0
-follows_refused old new Spent r = follows_may old new r.1
+follows_refused old new Spent (works, inl spent) = follows_may old new spent.0
+follows_refused old new Spent (works, inr unread) = follows_as old new unread.0
 follows_refused old new NoPage r = absurd r
 follows_refused old new NothingOld r = absurd r
 

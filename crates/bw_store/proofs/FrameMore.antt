@@ -190,7 +190,6 @@ module _ (s : Kept) (h : IsSound s) (works : s.log.is_failed ≡ false) where
       let later : new.next ≡ following (s.before + (s.durable + 1)) = follows ∙ ap following (number ∙ omega arith) in
       record {
         log = sound;
-        here = h.here;
         pairs = h.pairs ∙ sym same.m;
         limit = limit ∙ h.limit ∙ sym same.f;
         leaves = h.leaves;
@@ -236,7 +235,6 @@ module _ (s : Kept) (h : IsSound s) (works : s.log.is_failed ≡ false) where
       let t = with_stop s new in
       record {
         log = sound;
-        here = h.here;
         pairs = h.pairs ∙ sym same.m;
         limit = h.limit ∙ sym same.f;
         leaves = h.leaves;

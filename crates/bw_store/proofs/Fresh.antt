@@ -49,7 +49,6 @@ opened_by : (rings : List Ring) (m f : ℕ) (spares : List Holding) (versions : 
     → logs.IsSound (fresh m f spares) → IsSound (opened rings m f spares (record versions { start = one_empty m }))
 opened_by rings m f spares versions unseen sound = record {
   log = sound;
-  here = refl;
   pairs = refl;
   limit = refl;
   leaves = refl;

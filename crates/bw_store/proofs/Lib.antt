@@ -1,6 +1,8 @@
 pub mod Stepping
 pub mod Placing
 pub mod Telling
+pub mod TailSteps
+pub mod TailLists
 pub mod Growing
 pub mod RecordMore
 pub mod Readers
@@ -22,3 +24,4 @@ pub mod Fresh
 pub mod FollowMore
 pub mod Showing
 pub mod Logs
+pub mod AwayPages

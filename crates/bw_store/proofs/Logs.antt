@@ -29,7 +29,6 @@ log_sound s new h c = record {
   log = c.sound;
   pairs = h.pairs ∙ sym c.m;
   limit = h.limit ∙ sym c.f;
-  here = h.here;
   leaves = h.leaves;
   mapped = h.mapped;
   ops = h.ops;

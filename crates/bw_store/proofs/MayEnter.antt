@@ -12,8 +12,8 @@ use Rattle.bw_codec.specs.declared.block.Block.TheVariants.{Delta, Split}
 use Rattle.bw_codec.specs.declared.leaf.Leaf.{Leaf}
 use Rattle.std.proofs.lemmas.Bool.{leb-true, leb-false}
 use Rattle.bw_codec.proofs.Wider.{blocks_wider}
-use Rattle.bw_page.specs.Leaves.{directed_at, upper_of, HasPage, AreLeaves}
-use Rattle.bw_page.specs.Shown.{Shown, IsSpent, after_record}
+use Rattle.bw_page.specs.Leaves.{directed_at, upper_of, applied, HasPage, AreLeaves}
+use Rattle.bw_page.specs.Shown.{Shown, IsSpent}
 use Rattle.bw_page.proofs.Indexing.{count_fits}
 use Rattle.bw_page.proofs.Indexed.{home_within}
 use Rattle.bw_codec.specs.Record.{key_of}
@@ -27,7 +27,7 @@ use Rattle.bw_log.proofs.Adding.{following_is}
 use Rattle.bw_versions.specs.declared.entry.Entry.{Entry}
 use Rattle.bw_store.specs.Adding.{end_of, after_place, result_of, blocks_for, places_after, noted}
 use Rattle.bw_store.specs.Taken.{taken}
-use Rattle.bw_store.specs.Kept.{Kept, IsSound}
+use Rattle.bw_store.specs.Kept.{Kept, Filed, IsSound}
 use Rattle.bw_store.proofs.Growing.{Takes, blocks_lawful}
 use Rattle.bw_store.proofs.FramesBehind.{following_fits}
 use Rattle.bw_store.proofs.RecordMore.{TakesOne, taken_sound}
@@ -39,6 +39,10 @@ pub record Enters (s : Kept) (item : Record) (back : Place) (blocks : List Block
   pub last : slice_get s.newest (directed_at s.filed.leaves item - 1) ≡ Some back
   pub made : blocks ≡ blocks_for s.filed.m s.filed.leaves back (end_of (frame_of s.making)) item
   pub fits : size_of s.making + length (body_bytes blocks) ≤ s.making.limit
+
+-- the pages, as if all were in memory
+abbrev shown_of : Filed → Shown
+shown_of f = record { m = f.m; leaves = f.leaves; away = [] }
 
 pub enters_at : {s : Kept} {item : Record} {back : Place} {blocks : List Block} (page : ℕ) → IsSound s → s.log.next ≡ Some s.making.frame → IsOp item
     → page ≡ directed_at s.filed.leaves item
@@ -66,7 +70,7 @@ has_page f r a not over = (let n = count_fits f.m f.leaves a in
       | false ↦ λ e. leb-false _ _ e
     ] refl)
 
-takes_it : (s : Kept) (item : Record) (back : Place) (blocks : List Block) → Enters s item back blocks → (IsSpent s.filed item → ⊥)
+takes_it : (s : Kept) (item : Record) (back : Place) (blocks : List Block) → Enters s item back blocks → (IsSpent (shown_of s.filed) item → ⊥)
     → Takes s.filed.m (logs.counted s.log) (frame_of s.making) s.filed.leaves s.newest back item
 takes_it s item back blocks e not =
     let h = e.sound in
@@ -77,13 +81,13 @@ takes_it s item back blocks e not =
       some = (limits s h).0;
       grown = h.grown;
       op = e.op;
-      room = has_page s.filed item h.grown.stands.lawful not;
+      room = has_page (shown_of s.filed) item h.grown.stands.lawful not;
       last = e.last;
       number = (omega arith, bound);
       few = few s h (omega arith);
     }
 
-pub takes_one : (s : Kept) (writer : ℕ) (item : Record) (back : Place) (blocks : List Block) → Enters s item back blocks → (IsSpent s.filed item → ⊥)
+pub takes_one : (s : Kept) (writer : ℕ) (item : Record) (back : Place) (blocks : List Block) → Enters s item back blocks → (IsSpent (shown_of s.filed) item → ⊥)
     → writer < length s.rings → TakesOne s writer item back
 takes_one s writer item back blocks e not inside = record {
   sound = e.sound;
@@ -116,7 +120,7 @@ module _ {s : Kept} {item : Record} {back : Place} {blocks : List Block} (e : En
         | false ↦ (omega arith, omega arith)
       ])
 
-  pub file_lawful : (IsSpent s.filed item → ⊥) → All (IsBlock 32) blocks
+  pub file_lawful : (IsSpent (shown_of s.filed) item → ⊥) → All (IsBlock 32) blocks
   file_lawful not =
       subst (All (IsBlock 32)) (sym e.made) (blocks_wider s.filed.m 32 _ (limits s e.sound).1
       (blocks_lawful s.filed.m _ (frame_of s.making) s.filed.leaves s.newest back item (takes_it s item back blocks e not)))
@@ -133,10 +137,10 @@ noted_is m leaves back here r newest =
     [ true ↦ refl | false ↦ refl ]
 
 -- the store after all was written
-pub entered : {s : Kept} {item : Record} {back : Place} {blocks : List Block} → Enters s item back blocks → (IsSpent s.filed item → ⊥)
-    → (writer page : ℕ) (entries : List Entry) (filed : Shown) (newest : List Place) (making : Filling)
+pub entered : {s : Kept} {item : Record} {back : Place} {blocks : List Block} → Enters s item back blocks → (IsSpent (shown_of s.filed) item → ⊥)
+    → (writer page : ℕ) (entries : List Entry) (filed : Filed) (newest : List Place) (making : Filling)
     → page ≡ directed_at s.filed.leaves item
-    → (es : List Entry) → entries ≡ es ++ record { writer = writer; item = item } ∷ [] → es ≡ s.entries → filed ≡ after_record s.filed item
+    → (es : List Entry) → entries ≡ es ++ record { writer = writer; item = item } ∷ [] → es ≡ s.entries → filed ≡ record s.filed { leaves = applied s.filed.m s.filed.leaves item }
     → (ps : List Place) → newest ≡ noted ps page (end_of (frame_of s.making)) (length blocks) → ps ≡ s.newest
     → making ≡ record s.making { blocks = s.making.blocks ++ blocks }
     → (rings rs : List Ring) → rings ≡ rs → rs ≡ s.rings
@@ -152,21 +156,21 @@ entered {s} {item} {back} {blocks} e not writer page entries filed newest making
     ap (λ (l : List Ring). record s { rings = l; entries = entries; filed = filed; newest = newest; making = making }) (e5 ∙ e5') ∙
     ap (λ (es : List Entry). record s { entries = es; filed = filed; newest = newest; making = making })
     (e1 ∙ ap (λ (l : List Entry). l ++ record { writer = writer; item = item } ∷ []) e1')
-    ∙ ap (λ (f : Shown). record s { entries = s.entries ++ record { writer = writer; item = item } ∷ []; filed = f; newest = newest; making = making }) e2
+    ∙ ap (λ (f : Filed). record s { entries = s.entries ++ record { writer = writer; item = item } ∷ []; filed = f; newest = newest; making = making }) e2
     ∙ ap (λ (ps : List Place). record s {
       entries = s.entries ++ record { writer = writer; item = item } ∷ [];
-      filed = after_record s.filed item;
+      filed = record s.filed { leaves = applied s.filed.m s.filed.leaves item };
       newest = ps;
       making = making;
     }) places
     ∙ ap (λ (b : Filling). record s {
       entries = s.entries ++ record { writer = writer; item = item } ∷ [];
-      filed = after_record s.filed item;
+      filed = record s.filed { leaves = applied s.filed.m s.filed.leaves item };
       newest = places_after s.filed.m s.filed.leaves (end_of (frame_of s.making)) item s.newest;
       making = b;
     }) made
 
-pub entered_sound : {s : Kept} {item : Record} {back : Place} {blocks : List Block} → Enters s item back blocks → (IsSpent s.filed item → ⊥) → (writer : ℕ)
+pub entered_sound : {s : Kept} {item : Record} {back : Place} {blocks : List Block} → Enters s item back blocks → (IsSpent (shown_of s.filed) item → ⊥) → (writer : ℕ)
     → writer < length s.rings → IsSound (taken s writer item back)
 entered_sound {s} {item} {back} {blocks} e not writer inside = taken_sound s writer item back (takes_one s writer item back blocks e not inside)
 

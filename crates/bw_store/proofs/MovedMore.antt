@@ -289,7 +289,6 @@ module _ (s : Kept) (written : List Frame) (a : Adds s written) where
         log = x.sound;
         pairs = h.pairs ∙ sym x.m;
         limit = x.limit ∙ h.limit ∙ sym x.f;
-        here = h.here;
         leaves = h.leaves;
         mapped = h.mapped;
         ops = h.ops;

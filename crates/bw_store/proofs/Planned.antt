@@ -1,7 +1,7 @@
 -- What was planned is what the record adds, and it is short.
 
 use Rattle.std.proofs.Common.{◌≡◌, ℕ, ◌+◌, ◌-◌, ◌*◌, ◌^◌, ◌<◌, ◌≤◌, true, false, Option, Some, None, Result, Ok, Err, inl, inr, List, [], ◌∷◌}
-use Rattle.std.proofs.Common.{length, refl, sym, ap, ◌∙◌, subst, arith, if◌then◌else◌, length-append, append-nil}
+use Rattle.std.proofs.Common.{Bool, length, refl, sym, ap, ◌∙◌, subst, arith, if◌then◌else◌, length-append, append-nil}
 use Rattle.std.specs.Prelude.{nat_le, IfOk, OnOk}
 use Rattle.bw_store.specs.declared.planning.Plan.{Plan}
 use Rattle.bw_store.specs.declared.fault.StoreFault.{StoreFault}
@@ -20,8 +20,7 @@ use Rattle.bw_codec.specs.declared.block.Block.TheVariants.{Delta, Split}
 use Rattle.bw_codec.proofs.Lengths.{length-delta, length-split}
 use Rattle.bw_page.specs.Leaves.{home, changed, directed_at, upper_of, leaf_at, HasPage, AreLeaves}
 use Rattle.std.specs.List.{slice_get}
-use Rattle.bw_page.specs.Shown.{Shown, leaf_here}
-use Rattle.bw_page.specs.Seats.{is_among}
+use Rattle.bw_page.specs.Shown.{Shown, leaf_here, is_away, IsHere}
 use Rattle.bw_codec.proofs.Wider.{blocks_wider}
 use Rattle.bw_buffer.specs.Filling.{frame_of, size_of}
 use Rattle.bw_buffer.proofs.Holding.{few_blocks}
@@ -33,9 +32,12 @@ use Rattle.bw_store.proofs.FramesBehind.{following_fits}
 use Rattle.bw_store.specs.Adding.{blocks_for, end_of, result_of, upper_if, planned}
 use Rattle.bw_page.proofs.PageByPage.{home_there}
 
--- where no page is away, each leaf is in memory
-pub leaf_is_here : (f : Shown) (p : ℕ) → f.away ≡ [] → leaf_here p f ≡ leaf_at p f.leaves
-leaf_is_here f p none = ap (λ (away : List ℕ). if is_among p away then None else leaf_at p f.leaves) none
+-- the leaf of a record's page is in memory where the page is
+pub leaf_is_here : (f : Shown) (p : ℕ) (key : List ℕ) (item : Record) → key ≡ key_of item → p ≡ (home key f.leaves).page → IsHere (key_of item) f
+    → leaf_here p f ≡ leaf_at p f.leaves
+leaf_is_here f p key item k at here =
+    ap (λ (b : Bool). if b then None else leaf_at p f.leaves)
+    (ap (λ (q : ℕ). is_away q f) (at ∙ ap (λ (q : List ℕ). (home q f.leaves).page) k) ∙ here)
 
 some_same : {A : Type 0} {a b : A} → Some a ≡ Some b → a ≡ b
 some_same e = cc

@@ -113,7 +113,6 @@ module _ (s : Kept) (writer : ℕ) (item : Record) (back : Place) (t : TakesOne 
       let now = taken s writer item back in
       record {
         log = h.log;
-        here = h.here;
         pairs = h.pairs;
         limit = h.limit;
         leaves = ap (λ (ls : List Leaf). applied s.filed.m ls item) h.leaves

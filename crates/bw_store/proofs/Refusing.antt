@@ -35,7 +35,7 @@ entered_not old middle new NoSegment works may same w = absurd w
 entered_not old middle new (Device lease) works may same w = absurd w
 entered_not old middle new Failed works may same w = absurd w
 entered_not old middle new Spent works may same w =
-    subst (λ (s : Kept). Works old × MayFlush old s × IsSpentAt s) (sym same) (works, may, inr w)
+    (works, inl (subst (λ (s : Kept). MayFlush old s × IsSpentAt s) (sym same) (may, inr w)))
 entered_not old middle new NoPage works may same w = absurd w
 entered_not old middle new NothingOld works may same w = absurd w
 
@@ -46,7 +46,7 @@ unplanned_now s BadConfig w = absurd w
 unplanned_now s NoSegment w = absurd w
 unplanned_now s (Device lease) w = absurd w
 unplanned_now s Failed w = (refl, w)
-unplanned_now s Spent w = (w.0, inl refl, w.1)
+unplanned_now s Spent w = (w.0, inl (inl refl, w.1))
 unplanned_now s NoPage w = absurd w
 unplanned_now s NothingOld w = absurd w
 
@@ -56,7 +56,7 @@ unplanned_after old new BadConfig was may works w = absurd w
 unplanned_after old new NoSegment was may works w = absurd w
 unplanned_after old new (Device lease) was may works w = absurd w
 unplanned_after old new Failed was may works w = absurd cc
-unplanned_after old new Spent was may works w = (was, may, w.1)
+unplanned_after old new Spent was may works w = (was, inl (may, w.1))
 unplanned_after old new NoPage was may works w = absurd w
 unplanned_after old new NothingOld was may works w = absurd w
 
@@ -117,12 +117,11 @@ pub flush_refuses : (old new : Kept) (cause : StoreFault) → FlushAnswers (flus
 flush_refuses old new NoMemory a left = (other_cause old.log.is_failed _ NoMemory (λ e. cc) a, inl left)
 flush_refuses old new BadConfig a left = absurd (is_cause false old BadConfig (λ x. x) a)
 flush_refuses old new NoSegment a left = (left, same_answer (flush_refusal old) NoSegment (λ x. x) a)
-flush_refuses old new (Device lease) a left = (other_cause old.log.is_failed _ (Device lease) (λ e. cc) a, left)
+flush_refuses old new (Device lease) a left = (other_cause old.log.is_failed _ (Device lease) (λ e. cc) a, inl left)
 flush_refuses old new Failed a left = (left, is_cause false old Failed (λ x. x) a)
 flush_refuses old new Spent a left = (
   other_cause old.log.is_failed _ Spent (λ e. cc) a,
-  inl left,
-  inl (subst (λ (s : Kept). flush_refusal s ≡ Some Spent) (sym left) (same_answer (flush_refusal old) Spent (λ x. x) a)),
+  inl (inl left, inl (subst (λ (s : Kept). flush_refusal s ≡ Some Spent) (sym left) (same_answer (flush_refusal old) Spent (λ x. x) a))),
 )
 flush_refuses old new NoPage a left = absurd (is_cause false old NoPage (λ x. x) a)
 flush_refuses old new NothingOld a left = absurd (is_cause false old NothingOld (λ x. x) a)

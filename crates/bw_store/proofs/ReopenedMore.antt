@@ -125,7 +125,6 @@ module _ (c : logs.Contents) (filed : Shown) (last : ℕ) (x : Found c filed las
         log = x.sound;
         pairs = x.limit;
         limit = limit;
-        here = x.here;
         leaves = refl;
         mapped = refl;
         ops = tt;

@@ -3,32 +3,26 @@
 use Rattle.std.proofs.Common.{◌≡◌, ◌≢◌, ℕ, ◌+◌, ◌≤◌, inl, inr, Bool, false, Option, Some, None, Result, Ok, Err, List, [], ◌∷◌, ◌++◌}
 use Rattle.std.proofs.Common.{length, drop, refl, sym, ap, ◌∙◌, subst, append-nil, arith, if◌then◌else◌, length-drop}
 use Rattle.std.specs.Prelude.{OnOk}
-use Rattle.std.specs.List.{AllByRecursion as All, fold}
+use Rattle.std.specs.List.{AllByRecursion as All}
 use Rattle.std.proofs.lemmas.Bool.{eq-eqb}
-use Rattle.std.proofs.lemmas.Grind.{fold-append, flat_map-append}
+use Rattle.std.proofs.lemmas.Grind.{flat_map-append}
 use Rattle.bw_codec.specs.Touch.{touches}
 use Rattle.bw_codec.specs.declared.record.Record.{Record}
 use Rattle.bw_codec.specs.declared.leaf.Leaf.{Leaf}
-use Rattle.bw_codec.specs.declared.block.Place.{Place}
 use Rattle.bw_codec.specs.declared.block.Block.{Block}
-use Rattle.bw_codec.specs.declared.block.Block.TheVariants.{Delta}
 use Rattle.bw_codec.specs.declared.block.Frame.{Frame}
-use Rattle.bw_page.specs.Leaves.{pages, changed, directed_at, applied, leaf_at}
-use Rattle.bw_page.specs.Links.{Chained, told}
-use Rattle.bw_page.specs.declared.chain.Link.TheVariants as link
-use Rattle.bw_page.specs.Standing.{after, content, blocks_of, Stand}
+use Rattle.bw_page.specs.Leaves.{pages, directed_at, applied}
+use Rattle.bw_page.specs.Standing.{content, blocks_of, Stand}
 use Rattle.bw_buffer.specs.Filling.{frame_of}
 use Rattle.bw_log.specs.Contents as logs
 use Rattle.bw_log.specs.Segments.{following, next_of}
 use Rattle.bw_log.proofs.Adding.{following_is}
-use Rattle.bw_log.proofs.Walks.{content_push}
-use Rattle.bw_log.proofs.Walk.{same_after}
 use Rattle.bw_versions.specs.declared.entry.Entry.{Entry}
 use Rattle.bw_versions.specs.Entries.{records}
 use Rattle.bw_store.specs.History.{cut}
 use Rattle.bw_store.specs.Share.{Tells, directed}
 use Rattle.bw_store.specs.Kept.{Kept, leaves_at, TellsBy, waiting, IsSound}
-use Rattle.bw_store.specs.Settled.{IsSettled, Tied}
+use Rattle.bw_store.specs.Settled.{IsSettled}
 use Rattle.bw_store.specs.declared.fault.StoreFault.{StoreFault}
 use Rattle.bw_store.specs.Faults.{FlushAnswers, FlushLeaves, flush_refusal, refusal_by}
 use Rattle.bw_store.proofs.Refusing.{worked}
@@ -103,31 +97,3 @@ pub flush_settled : (old new : Kept) (r : Result (Option ℕ) StoreFault) → Is
     → OnOk r (IsSettled new)
 flush_settled old new (Ok o) sound a left = settled_by false old new o sound a left
 flush_settled old new (Err fault) sound a left = tt
-
--- ---- a page that left memory: the log has it as of the counted frames, and its chain tells the rest
-
-pub away_page : (s : Kept) → IsSound s → (p : ℕ) (chain : Chained) (below : Leaf) → 1 ≤ p → p ≤ length s.filed.leaves → Tied p s.making.blocks chain
-    → content p (blocks_of (logs.counted s.log)) ≡ Some below → leaf_at p (pages s.filed.m s.start (records s.entries)) ≡ Some (told chain.links below)
-away_page s h p chain below from within tied read =
-    sym (ap (leaf_at p) h.leaves)
-    ∙ sym (h.grown.stands.each p from within)
-    ∙ content_push p (logs.counted s.log) (frame_of s.making)
-    ∙ ap (λ (w : Option Leaf). fold (after p) w s.making.blocks) read
-    ∙ tied below
-
--- a new frame: nothing above the mark
-pub tied_new : (p : ℕ) (chain : Chained) (place : Place) → chain.links ≡ link.Flushed place ∷ [] → Tied p [] chain
-tied_new p chain place e below = ap (λ (ls : List Rattle.bw_page.specs.declared.chain.Link.Link). Some (told ls below)) (sym e)
-
--- a record of the page is the newest link
-pub tied_delta : (p : ℕ) (blocks : List Block) (chain : Chained) (back : Place) (r : Record) → Tied p blocks chain
-    → Tied p (blocks ++ Delta p back (r ∷ []) ∷ []) (record chain { links = link.Delta r ∷ chain.links })
-tied_delta p blocks chain back r t below =
-    fold-append (after p) (Some below) blocks (Delta p back (r ∷ []) ∷ [])
-    ∙ ap (λ (w : Option Leaf). after p w (Delta p back (r ∷ []))) (t below)
-    ∙ ap (λ (b : Bool). if b then Some (changed r (told chain.links below)) else Some (told chain.links below)) (eq-eqb p p refl)
-
--- a block of another page changes nothing
-pub tied_other : (p : ℕ) (blocks : List Block) (chain : Chained) (b : Block) → touches p b ≡ false → Tied p blocks chain → Tied p (blocks ++ b ∷ []) chain
-tied_other p blocks chain b apart t below =
-    fold-append (after p) (Some below) blocks (b ∷ []) ∙ ap (λ (w : Option Leaf). after p w b) (t below) ∙ same_after p (Some (told chain.links below)) b apart

@@ -25,6 +25,14 @@ use Rattle.bw_store.specs.History.{cut, upto, share}
 use Rattle.bw_store.specs.Share.{Tells, TellsFirst, IsBaseBlock}
 use Rattle.bw_store.specs.Growing.{Grown, frames_upto}
 
+-- the pages, whether they are in memory or away
+pub record Filed : Type 0 where
+  pub m : ℕ
+  pub leaves : List Leaf
+
+abbrev pub filed_of : Shown → Filed
+filed_of f = record { m = f.m; leaves = f.leaves }
+
 pub record Kept : Type 0 where
   -- the rings of the writers, in turn
   pub rings : List Ring
@@ -40,7 +48,7 @@ pub record Kept : Type 0 where
   pub cuts : List ℕ
   pub durable : ℕ
   -- the pages, and the last block of each: in the log, or in the frame in the making
-  pub filed : Shown
+  pub filed : Filed
   pub newest : List Place
   pub making : Filling
   pub log : logs.Contents
@@ -93,8 +101,6 @@ pub record IsSound (s : Kept) : Type 0 where
   pub pairs : s.filed.m ≡ s.log.m
   pub limit : s.making.limit ≡ s.log.f
   -- pages
-  -- all are in memory
-  pub here : s.filed.away ≡ []
   pub leaves : s.filed.leaves ≡ pages s.filed.m s.start (records s.entries)
   -- all their pairs are one map, which knows no pages
   pub mapped : union s.filed.leaves ≡ plain s.start (records s.entries)
@@ -119,7 +125,7 @@ pub record IsSound (s : Kept) : Type 0 where
 
 -- ---- one record taken
 
-abbrev pub with_record : Kept → ℕ → Record → Shown → List Place → List Block → Kept
+abbrev pub with_record : Kept → ℕ → Record → Filed → List Place → List Block → Kept
 with_record s writer item filed newest blocks =
     record s {
       entries = s.entries ++ record { writer = writer; item = item } ∷ [];

@@ -1,6 +1,8 @@
 pub mod History
 pub mod Share
 pub mod Adding
+pub mod Tails
+pub mod Tailing
 pub mod Growing
 pub mod Kept
 pub mod Faults
@@ -9,10 +11,10 @@ pub mod Taken
 pub mod Settled
 pub mod Emptied
 pub mod Lanes
+pub mod Reading
 pub mod Taking
 pub mod Opened
 pub mod Reopened
 pub mod Following
-pub mod Reading
 pub mod Cleaning
 pub mod Showing

@@ -19,7 +19,7 @@ use Rattle.bw_store.specs.declared.edge.Edge.{Edge}
 use Rattle.bw_versions.specs.declared.entry.Entry.{Entry}
 use Rattle.bw_store.specs.declared.fault.StoreFault.{StoreFault}
 use Rattle.bw_store.specs.declared.fault.StoreFault.TheVariants.{NoMemory, BadConfig}
-use Rattle.bw_store.specs.Kept.{Kept}
+use Rattle.bw_store.specs.Kept.{Kept, filed_of}
 
 abbrev pub first_place : Place
 first_place = record { frame = 1; index = 0 }
@@ -49,7 +49,7 @@ started rings entries filed newest making log versions = record {
   entries = entries;
   cuts = [];
   durable = 0;
-  filed = filed;
+  filed = filed_of filed;
   newest = newest;
   making = making;
   log = log;

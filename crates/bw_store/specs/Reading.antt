@@ -5,7 +5,7 @@ use Rattle.bw_codec.specs.declared.leaf.Leaf.{Leaf}
 use Rattle.bw_page.specs.Leaves.{pages}
 use Rattle.bw_device.specs.Holding.{Holding}
 use Rattle.bw_log.specs.Contents as logs
-use Rattle.bw_log.specs.Reads.{IsKept, IsWornOut, FailedRead}
+use Rattle.bw_log.specs.Reads.{IsKept, IsWornOut, FailedRead, HoldsPage}
 use Rattle.bw_store.specs.declared.fault.StoreFault.{StoreFault}
 use Rattle.bw_store.specs.declared.fault.StoreFault.TheVariants.{NoMemory, BadConfig, NoSegment, Device, Failed, Spent, NoPage, NothingOld}
 use Rattle.bw_versions.specs.Entries.{records}
@@ -43,3 +43,26 @@ ReadLeaves reads old (Err Failed) new = ⊥
 ReadLeaves reads old (Err Spent) new = (new ≡ old) × IsWornOut reads old.log.live
 ReadLeaves reads old (Err NoPage) new = ⊥
 ReadLeaves reads old (Err NothingOld) new = ⊥
+
+-- the same of a page, which there may not be
+abbrev pub PageLeaves : (ℕ → Type 0) → Kept → Result Leaf StoreFault → Kept → Type 0
+PageLeaves reads old (Ok leaf) new = new ≡ old
+PageLeaves reads old (Err NoMemory) new = new ≡ old
+PageLeaves reads old (Err BadConfig) new = ⊥
+PageLeaves reads old (Err NoSegment) new = ⊥
+PageLeaves reads old (Err (Device lease)) new = FailedRead reads lease old.log new.log
+PageLeaves reads old (Err Failed) new = ⊥
+PageLeaves reads old (Err Spent) new = (new ≡ old) × IsWornOut reads old.log.live
+PageLeaves reads old (Err NoPage) new = new ≡ old
+PageLeaves reads old (Err NothingOld) new = ⊥
+
+-- a page had to be read, and the segment of this lease failed
+pub record CouldNotRead (lease : ℕ) (old new : Kept) : Type 0 where
+  pub page : ℕ
+  pub read : HasRead old new
+  pub failed : FailedRead (HoldsPage old.log page) lease old.log new.log
+
+-- a page has to be read, and a further failure of its segment could not be counted
+pub record IsUnread (s : Kept) : Type 0 where
+  pub page : ℕ
+  pub worn : IsWornOut (HoldsPage s.log page) s.log.live

@@ -10,7 +10,7 @@ use Rattle.bw_versions.specs.Versioned.{Versioned}
 use Rattle.bw_device.specs.Holding.{Holding}
 use Rattle.bw_store.specs.declared.edge.Edge.{Edge}
 use Rattle.bw_store.specs.declared.fault.StoreFault.{StoreFault}
-use Rattle.bw_store.specs.Kept.{Kept}
+use Rattle.bw_store.specs.Kept.{Kept, filed_of}
 use Rattle.bw_store.specs.Opened.{AreEnds, IsUnmade}
 
 -- a segment's number and its length
@@ -33,7 +33,7 @@ reopened rings last filed newest making log versions = record {
   entries = [];
   cuts = [];
   durable = 0;
-  filed = filed;
+  filed = filed_of filed;
   newest = newest;
   making = making;
   log = log;

@@ -1,12 +1,13 @@
 -- What a store is, through a reading of its boxes: a box is a pair, or, in a signature that names boxes, a box.
 
-use Rattle.std.specs.Prelude.{map}
+use Rattle.std.specs.Prelude.{ℕ, Bool, map}
 use Rattle.std.specs.declared.dyn_box.DynBox.{DynBox}
 use Rattle.std.specs.declared.alloc.Global.{Global}
 use Rattle.bw_device.specs.Holding.{Holding}
+use Rattle.bw_page.specs.Shown.{is_away}
 use Rattle.bw_ring.specs.Ends.{ring_of_lane}
 use Rattle.bw_log.specs.Views.{seen_by}
-use Rattle.bw_store.specs.Kept.{Kept}
+use Rattle.bw_store.specs.Kept.{Kept, filed_of}
 use Rattle.bw_store.specs.Kept as kept
 use Rattle.bw_store.specs.declared.store.Store.{Store}
 
@@ -21,7 +22,7 @@ module _ {I : Type 0} {H : I → Type 0} where
     entries = s.intake.history.items;
     cuts = s.cuts.items;
     durable = s.durable;
-    filed = s.leaves;
+    filed = filed_of s.leaves;
     newest = s.newest.items;
     making = s.making;
     log = seen_by v s.log;
@@ -30,6 +31,10 @@ module _ {I : Type 0} {H : I → Type 0} where
 
   abbrev pub kept_by : Store I H → ((i : I) × H i → Holding) → Kept
   kept_by s v = kept_beside s (λ b. v (b.vtable, b.value))
+
+  -- a page is not in memory; what a store keeps is the same, wherever its pages are
+  abbrev pub is_evicted : ℕ → Store I H → Bool
+  is_evicted page s = is_away page s.leaves
 
   -- what every store keeps between calls
   abbrev pub IsSoundBeside : Store I H → (DynBox I Global H → Holding) → Type 0

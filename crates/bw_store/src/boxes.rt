@@ -106,6 +106,7 @@ impl Store {
             durable: _,
             leaves: _leaves,
             newest: _newest,
+            tails: _tails,
             making: _making,
             log,
             versions,

@@ -6,7 +6,8 @@ ghost use Rattle.std.specs.List.{AllByRecursion};
 ghost use Rattle.std.specs.Vec.{vec_capacity};
 ghost use Rattle.bw_buffer.specs.Filling.{frame_of, size_of};
 ghost use Rattle.bw_page.specs.Leaves.{directed_at};
-ghost use Rattle.bw_page.specs.Shown.{IsSpent};
+ghost use Rattle.bw_codec.specs.Record.{key_of};
+ghost use Rattle.bw_page.specs.Shown.{IsSpent, IsHere};
 ghost use Rattle.bw_store.specs.Adding.{blocks_for, end_of, noted};
 ghost use Rattle.bw_ring.specs.Ends.{given};
 ghost use Rattle.bw_store.specs.Lanes.{IsNext, TookKnown};
@@ -15,6 +16,7 @@ ghost use Rattle.bw_store.specs.Taken.{taken};
 
 use crate::fault::StoreFault;
 use crate::store::Store;
+use crate::tails::{note, reserve_for};
 use bw_buffer::Buffer;
 use bw_codec::{Block, Place, Record};
 
@@ -33,6 +35,7 @@ impl Store {
         requires sound { IsSound self.old holding }
         requires inside { lane < length self.old.intake.lanes.items }
         requires comes { IsNext self.old.intake.lanes.items lane item }
+        requires here { IsHere (key_of item) self.old.leaves }
         requires next { (kept_by self.old holding).log.next ≡ Some self.old.making.frame }
         requires unsealed { self.old.making.is_sealed ≡ false }
         requires page { page ≡ directed_at self.old.leaves.leaves item }
@@ -53,9 +56,12 @@ impl Store {
             (TookKnown lane self.old.intake.lanes.items self.new.intake.lanes.items) }
     {
         let _ = item.key();
+        let _ = self.leaves.count();
         self.intake.reserve()?;
         self.newest.reserve(1)?;
+        reserve_for(&mut self.tails, page)?;
         let _ = self.leaves.apply(&item)?;
+        note(&mut self.tails, page, &item, blocks.len() > 1);
         file(&mut self.making, &mut self.newest, page, blocks);
         self.intake.enter(lane, item);
         Ok(())

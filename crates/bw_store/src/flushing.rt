@@ -14,6 +14,7 @@ ghost use Rattle.bw_store.specs.Showing.{FlushShows};
 use crate::appending::append_to;
 use crate::fault::StoreFault;
 use crate::store::Store;
+use crate::tails::rest;
 use bw_buffer::Buffer;
 use std::sync::Wait;
 
@@ -55,6 +56,7 @@ impl Store {
         requires sound { IsSound self.old holding }
         ensures sound { IsSound self.new holding }
         ensures intake { self.new.intake ≡ self.old.intake }
+        ensures pages { self.new.leaves ≡ self.old.leaves }
         ensures answers { FlushAnswers (refusal_by takes_last (kept_by self.old holding)) result }
         ensures leaves { FlushLeaves (kept_by self.old holding) result (kept_by self.new holding) }
     {
@@ -77,6 +79,7 @@ impl Store {
         requires sound { IsSound self.old holding }
         requires some { 1 ≤ length self.old.making.blocks }
         ensures intake { self.new.intake ≡ self.old.intake }
+        ensures pages { self.new.leaves ≡ self.old.leaves }
         ensures same { kept_by self.new holding ≡ kept_by self.old holding }
         ensures ready { OnOk result (IsReady (λ b. holding (b.vtable, b.value)) self.new.log
             (length (frame_bytes (frame_of self.new.making))) takes_last) }
@@ -105,6 +108,7 @@ impl Store {
         requires countable { self.old.durable < u64.MAX }
         ensures sound { IsSound self.new holding }
         ensures intake { self.new.intake ≡ self.old.intake }
+        ensures pages { self.new.leaves ≡ self.old.leaves }
         ensures leaves { AppendLeaves (kept_by self.old holding) result (kept_by self.new holding) }
     {
         let end = self.intake.history.as_slice().len() as u64;
@@ -113,6 +117,7 @@ impl Store {
         match append_to(&mut self.log, &self.making, takes_last) {
             Ok(()) => {
                 self.durable += 1;
+                rest(&mut self.tails, &self.making, &self.newest);
                 begin_next(&mut self.making);
                 Ok(())
             }

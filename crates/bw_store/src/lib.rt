@@ -5,7 +5,8 @@
 //! stands in the history at once, in the pages, and in a frame in the making; a flush appends that
 //! frame and cuts the history there. `clean` gives up the oldest segment, and `reopen` goes on from
 //! what was recovered. `specs/Kept.antt` has what holds between calls, and `specs/Following.antt`
-//! what no call takes back. All pages stay in memory.
+//! what no call takes back. `evict` drops a page from memory: it is then read from the log, and
+//! `specs/Tails.antt` has what the frame in the making adds to it.
 #![tactic(auto)]
 
 mod appending;
@@ -16,6 +17,7 @@ mod cleaning;
 mod config;
 mod edge;
 mod entering;
+mod evicting;
 mod fault;
 mod flushing;
 mod intake;
@@ -27,6 +29,7 @@ mod renewing;
 mod reopening;
 mod settling;
 mod store;
+mod tails;
 mod taking;
 mod turning;
 

@@ -1,12 +1,13 @@
 //! A store is opened over empty segments.
 
-ghost use Rattle.std.specs.Prelude.{◌≡◌, ◌≤◌, ◌+◌, ◌++◌, ◌↔◌, [], ◌∷◌, length, map, false, IsTrue, IfOk, IfErr, MatchResult};
+ghost use Rattle.std.specs.Prelude.{◌≡◌, ◌≤◌, ◌+◌, ◌++◌, ◌↔◌, [], ◌∷◌, length, map, false, None, IsTrue, IfOk, IfErr, MatchResult};
 ghost use Rattle.std.specs.List.{AllByRecursion};
 ghost use Rattle.bw_codec.specs.Grammar.{body_bytes, IsBlock};
 ghost use Rattle.bw_codec.specs.declared.block.Block.TheVariants.{Base};
 ghost use Rattle.bw_buffer.specs.Filling.{size_of};
 ghost use Rattle.bw_page.specs.Leaves.{empty_leaf};
 ghost use Rattle.bw_ring.specs.Ends.{ring_of_feed, ring_of_lane};
+ghost use Rattle.bw_store.specs.Tails.{tail_of, tails_for};
 ghost use Rattle.bw_store.specs.Opened.{opened, one_empty, started, first_place, first_making, AreFresh, AreTaken, IsConfig, IsOpenFault};
 ghost use Rattle.bw_store.specs.Showing.{AreUnseen};
 
@@ -15,6 +16,7 @@ use crate::edge::Edge;
 use crate::fault::{OpenFault, StoreFault};
 use crate::intake::Intake;
 use crate::store::Store;
+use crate::tails::Tail;
 use bw_buffer::Buffer;
 use bw_codec::{Block, Place};
 use bw_device::{Segment, are_spares};
@@ -35,6 +37,7 @@ struct Parts {
     intake: Intake,
     leaves: Leaves,
     newest: Vec<Place>,
+    tails: Vec<Option<Tail>>,
     making: Buffer,
 }
 
@@ -106,6 +109,7 @@ fn parts_of(alloc: Global, config: &Config) -> Result<Parts, StoreFault>
     ensures leaves { IfOk result (λ p.
         p.leaves ≡ one_empty config.now.m) }
     ensures newest { IfOk result (λ p. p.newest.items ≡ first_place ∷ []) }
+    ensures tails { IfOk result (λ p. map tail_of p.tails.items ≡ None ∷ []) }
     ensures making { IfOk result (λ p. p.making ≡ first_making config.now.f) }
     ensures memory { IfErr result (λ fault. fault ≡ StoreFault.NoMemory) }
 {
@@ -113,12 +117,15 @@ fn parts_of(alloc: Global, config: &Config) -> Result<Parts, StoreFault>
     let leaves = Leaves::one_empty(alloc, config.m)?;
     let mut newest = Vec::with_capacity(alloc, 1)?;
     newest.push_reserved(Place { frame: 1, index: 0 });
+    let mut tails = Vec::with_capacity(alloc, 1)?;
+    tails.push_reserved(None);
     let making = first_frame(alloc, config.f)?;
     Ok(Parts {
         feeds,
         intake,
         leaves,
         newest,
+        tails,
         making,
     })
 }
@@ -186,6 +193,9 @@ impl Store {
 
     // A store of these parts over a log of spares alone.
     fn of(alloc: Global, parts: Parts, log: Log, versions: Versions) -> (Store, Vec<Feed>)
+        requires tails { map tail_of parts.tails.items
+            ≡ tails_for (length parts.leaves.leaves) parts.making.blocks }
+        requires here { parts.leaves.away ≡ [] }
         ensures store { kept_by result.0 holding
             ≡ started (map ring_of_lane parts.intake.lanes.items) parts.intake.history.items
             parts.leaves parts.newest.items parts.making
@@ -197,6 +207,7 @@ impl Store {
             intake,
             leaves,
             newest,
+            tails,
             making,
         } = parts;
         let store = Store {
@@ -211,6 +222,7 @@ impl Store {
             durable: 0,
             leaves,
             newest,
+            tails,
             making,
             log,
             versions,

@@ -1,9 +1,11 @@
 //! What one record adds to the frame in the making.
 
-ghost use Rattle.std.specs.Prelude.{◌≡◌, [], ◌≤◌, ◌<◌, ◌+◌, ◌-◌, ◌^◌, Some, length, slice_get, IfOk, IfErr, OnOk};
+ghost use Rattle.std.specs.Prelude.{◌≡◌, ◌≤◌, ◌<◌, ◌+◌, ◌-◌, ◌^◌, Some, length, slice_get, IfOk, IfErr, OnOk};
 ghost use Rattle.std.specs.List.{AllByRecursion};
 ghost use Rattle.bw_codec.specs.Grammar.{body_bytes, IsBlock};
+ghost use Rattle.bw_codec.specs.Record.{key_of};
 ghost use Rattle.bw_page.specs.Leaves.{changed, directed_at, HasPage};
+ghost use Rattle.bw_page.specs.Shown.{IsHere};
 ghost use Rattle.bw_buffer.specs.Filling.{frame_of, size_of};
 ghost use Rattle.bw_store.specs.Adding.{upper_if, planned, blocks_for, end_of, result_of};
 ghost use Rattle.bw_store.specs.Faults.{IsWantingAt};
@@ -84,7 +86,7 @@ pub(crate) fn planned_for(
     here: Place,
     item: &Record,
 ) -> Result<Plan, StoreFault>
-    requires here { leaves.now.away ≡ [] }
+    requires here { IsHere (key_of item.now) leaves.now }
     requires count { length newest.now ≡ length leaves.now.leaves }
     ensures page { IfOk result (λ p. p.page ≡ directed_at leaves.now.leaves item.now) }
     ensures back { IfOk result (λ p. slice_get newest.now (p.page - 1) ≡ Some p.back) }

@@ -5,6 +5,7 @@ ghost use Rattle.bw_log.specs.Contents.{counted};
 ghost use Rattle.bw_log.specs.Places.{place_of};
 ghost use Rattle.bw_ring.specs.Ends.{ring_of_feed, ring_of_lane};
 ghost use Rattle.bw_care.specs.Views.{seen, IsSound as IsSoundLog};
+ghost use Rattle.bw_store.specs.Tails.{tail_of, tails_for};
 ghost use Rattle.bw_store.specs.Opened.{AreEnds, AreFresh, AreUnused, IsConfig};
 ghost use Rattle.bw_store.specs.Showing.{AreUnseen};
 ghost use Rattle.bw_store.specs.Reopened.{edge_of as newest_edge, reopened, IsReopenFault};
@@ -16,6 +17,7 @@ use crate::intake::Intake;
 use crate::opening::intake_of;
 use crate::renewing::renew;
 use crate::store::Store;
+use crate::tails::{Tail, tails_on};
 use bw_buffer::Buffer;
 use bw_care::Recovered;
 use bw_codec::Place;
@@ -39,6 +41,7 @@ struct Ends {
     feeds: Vec<Feed>,
     intake: Intake,
     newest: Vec<Place>,
+    tails: Vec<Option<Tail>>,
     making: Buffer,
 }
 
@@ -94,6 +97,7 @@ fn ends_of(alloc: Global, config: &Config, log: &Log, pages: usize) -> Result<En
     ensures unused { IfOk result (λ e. AreFresh config.now e.feeds.items) }
     ensures history { IfOk result (λ e. e.intake.history.items ≡ []) }
     ensures count { IfOk result (λ e. length e.newest.items ≡ pages) }
+    ensures tails { IfOk result (λ e. map tail_of e.tails.items ≡ tails_for pages []) }
     ensures each { IfOk result (λ e. (p : ℕ) → 1 ≤ p → p ≤ pages
         → slice_get e.newest.items (p - 1) ≡ place_of p (counted (seen log.now holding))) }
     ensures limit { IfOk result (λ e. e.making.limit ≡ config.now.f) }
@@ -106,11 +110,13 @@ fn ends_of(alloc: Global, config: &Config, log: &Log, pages: usize) -> Result<En
     let (feeds, intake) = intake_of(alloc, config)?;
     let mut newest = blank_places(alloc, pages)?;
     renew(&mut newest, log);
+    let tails = tails_on(alloc, &newest)?;
     let making = next_buffer(alloc, log.next_frame(), config.f)?;
     Ok(Ends {
         feeds,
         intake,
         newest,
+        tails,
         making,
     })
 }
@@ -196,7 +202,10 @@ impl Store {
         recovered: Recovered,
         versions: Versions,
     ) -> (Store, Vec<Feed>)
-        requires { IsSoundLog recovered.log holding }
+        requires sound { IsSoundLog recovered.log holding }
+        requires tails { map tail_of ends.tails.items
+            ≡ tails_for (length recovered.leaves.leaves) ends.making.blocks }
+        requires here { recovered.leaves.away ≡ [] }
         ensures store { kept_by result.0 holding
             ≡ record (reopened (map ring_of_lane ends.intake.lanes.items) recovered.last
             recovered.leaves ends.newest.items ends.making (seen recovered.log holding) versions)
@@ -207,6 +216,7 @@ impl Store {
             feeds,
             intake,
             newest,
+            tails,
             making,
         } = ends;
         let Recovered {
@@ -225,6 +235,7 @@ impl Store {
             durable: 0,
             leaves,
             newest,
+            tails,
             making,
             log,
             versions,

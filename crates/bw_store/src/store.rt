@@ -1,7 +1,12 @@
 //! The store itself.
 
+ghost use Rattle.std.specs.Prelude.{ℕ, ◌≡◌, true, false, length, map};
+ghost use Rattle.bw_page.specs.Shown.{is_away};
+ghost use Rattle.bw_store.specs.Tails.{tail_of, tails_for, is_made};
+
 use crate::edge::Edge;
 use crate::intake::Intake;
+use crate::tails::Tail;
 use bw_buffer::Buffer;
 use bw_codec::Place;
 use bw_log::Log;
@@ -24,9 +29,14 @@ pub struct Store {
     pub(crate) leaves: Leaves,
     /// The last block of each page, from page 1 on.
     pub(crate) newest: Vec<Place>,
+    /// What the frame in the making does to each page; `None` where it makes or cuts the page.
+    pub(crate) tails: Vec<Option<Tail>>,
     /// The frame in the making.
     pub(crate) making: Buffer,
     pub(crate) log: Log,
     /// What readers see: the leaves at `open` or `reopen`, and the durable entries since.
     pub(crate) versions: Versions,
+    ghost tailed: { map tail_of tails.items ≡ tails_for (length leaves.leaves) making.blocks },
+    // A page that is away is in the log, but for its tail.
+    ghost logged: { (p : ℕ) → is_away p leaves ≡ true → is_made p making.blocks ≡ false },
 }

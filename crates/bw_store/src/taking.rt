@@ -3,6 +3,8 @@
 ghost use Rattle.std.specs.Prelude.{◌≡◌, ◌≤◌, ◌<◌, ◌+◌, ◌-◌, Some, None, false, length, map, IfSome, IfNone, IfOk, IfErr, OnOk};
 ghost use Rattle.std.specs.List.{AllByRecursion};
 ghost use Rattle.bw_codec.specs.Grammar.{body_bytes, IsBlock};
+ghost use Rattle.bw_codec.specs.Record.{key_of};
+ghost use Rattle.bw_page.specs.Shown.{IsHere};
 ghost use Rattle.bw_buffer.specs.Filling.{size_of};
 ghost use Rattle.bw_ring.specs.Ends.{given};
 ghost use Rattle.bw_store.specs.Lanes.{IsNext, IsWaiting, Dries, TookKnown};
@@ -66,6 +68,8 @@ impl Store {
         ensures leaves { ItemLeaves lane (kept_by self.old holding) result
             (kept_by self.new holding) }
     {
+        self.goes_on()?;
+        self.fetch(item.key())?;
         let plan = self.plan(&item)?;
         if length_of(&plan.blocks) <= self.making.room() as usize {
             self.enter(lane, item, plan.page, plan.back, &plan.blocks)?;
@@ -89,9 +93,28 @@ impl Store {
         self.intake.next(lane)
     }
 
+    // Whether there is a frame for a further record.
+    fn goes_on(&self) -> Result<(), StoreFault>
+        requires sound { IsSound self.now holding }
+        ensures works { OnOk result ((kept_by self.now holding).log.is_failed ≡ false) }
+        ensures unsealed { OnOk result (self.now.making.is_sealed ≡ false) }
+        ensures next { OnOk result ((kept_by self.now holding).log.next
+            ≡ Some self.now.making.frame) }
+        ensures refused { IfErr result (IsUnplanned (kept_by self.now holding)) }
+    {
+        if self.log.is_failed() {
+            return Err(StoreFault::Failed);
+        }
+        match self.log.next_frame() {
+            Some(_) => Ok(()),
+            None => Err(StoreFault::Spent),
+        }
+    }
+
     // What a record adds, where there is a frame for it.
     fn plan(&self, item: &Record) -> Result<Plan, StoreFault>
         requires sound { IsSound self.now holding }
+        requires here { IsHere (key_of item.now) self.now.leaves }
         ensures works { OnOk result ((kept_by self.now holding).log.is_failed ≡ false) }
         ensures unsealed { OnOk result (self.now.making.is_sealed ≡ false) }
         ensures next { OnOk result ((kept_by self.now holding).log.next
@@ -102,12 +125,7 @@ impl Store {
         ensures short { IfOk result (λ p. length (body_bytes p.blocks.items) ≤ 7000) }
         ensures refused { IfErr result (IsUnplanned (kept_by self.now holding)) }
     {
-        if self.log.is_failed() {
-            return Err(StoreFault::Failed);
-        }
-        let Some(_) = self.log.next_frame() else {
-            return Err(StoreFault::Spent);
-        };
+        self.goes_on()?;
         let _ = item.key();
         let _ = self.making.room();
         let here = Place {

@@ -23,9 +23,11 @@ impl Store {
     /// fit the frame in the making, that one is appended first.
     ///
     /// A refusal tells how many records were taken before it. The refused one is still the first in
-    /// its ring: all growths and appends come before a record is taken. `Failed` comes only where a
-    /// record is found, and so do `Spent`, `NoSegment`, `NoMemory` and `Device`. A record costs a
-    /// search among the pages, work in one page, and its blocks.
+    /// its ring: all growths, reads and appends come before a record is taken. `Failed` comes only
+    /// where a record is found, and so do `Spent`, `NoSegment`, `NoMemory` and `Device`. A record
+    /// costs a search among the pages, work in one page, and its blocks. Where its page is away, it
+    /// is read from the log and is in memory from then on, unless that read is refused `Device`,
+    /// `Spent` or `NoMemory`.
     pub fn turn(&mut self, limit: u32) -> Result<u32, TurnFault>
         requires sound { IsSound self.old holding }
         ensures sound { IsSound self.new holding }

@@ -99,7 +99,8 @@ fn is_leaf(alloc: Global, leaf: &Leaf, text: &str) -> Result<bool, Fail> {
 /// Whether a page is so: its number, low key and pairs; with no text, whether there is none.
 pub(super) fn is_page(alloc: Global, store: &mut Store, page: u32, text: &str) -> Result<bool, Fail>
     requires { IsSound store.old holding }
-    ensures { kept_by store.new holding ≡ kept_by store.old holding }
+    ensures sound { IsSound store.new holding }
+    ensures rings { (kept_by store.new holding).rings ≡ (kept_by store.old holding).rings }
 {
     match store.page(page) {
         Ok(leaf) => is_leaf(alloc, &leaf, text),
@@ -107,10 +108,23 @@ pub(super) fn is_page(alloc: Global, store: &mut Store, page: u32, text: &str) -
     }
 }
 
+/// Whether a page is refused so.
+pub(super) fn is_unread(store: &mut Store, page: u32, fault: StoreFault) -> bool
+    requires { IsSound store.old holding }
+    ensures sound { IsSound store.new holding }
+    ensures rings { (kept_by store.new holding).rings ≡ (kept_by store.old holding).rings }
+{
+    match store.page(page) {
+        Ok(_) => false,
+        Err(cause) => cause == fault,
+    }
+}
+
 /// Whether a key has this value; with no text, whether it has none.
 pub(super) fn has(store: &mut Store, key: &[u8], text: &[u8]) -> Result<bool, Fail>
     requires { IsSound store.old holding }
-    ensures { kept_by store.new holding ≡ kept_by store.old holding }
+    ensures sound { IsSound store.new holding }
+    ensures rings { (kept_by store.new holding).rings ≡ (kept_by store.old holding).rings }
 {
     let key = Key::new(key)?;
     match store.get(&key)? {

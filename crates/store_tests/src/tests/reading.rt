@@ -27,7 +27,8 @@ fn count_in(leaf: &Leaf) -> Option<u32> {
 // How many pairs a page has; none where there is no such page.
 fn pairs_of(store: &mut Store, page: u32) -> Result<Option<u32>, Fail>
     requires { IsSound store.old holding }
-    ensures { kept_by store.new holding ≡ kept_by store.old holding }
+    ensures sound { IsSound store.new holding }
+    ensures rings { (kept_by store.new holding).rings ≡ (kept_by store.old holding).rings }
 {
     match store.page(page) {
         Ok(leaf) => Ok(count_in(&leaf)),
@@ -39,7 +40,8 @@ fn pairs_of(store: &mut Store, page: u32) -> Result<Option<u32>, Fail>
 // How many pairs all pages have.
 fn pairs(store: &mut Store) -> Result<u32, Fail>
     requires { IsSound store.old holding }
-    ensures { kept_by store.new holding ≡ kept_by store.old holding }
+    ensures sound { IsSound store.new holding }
+    ensures rings { (kept_by store.new holding).rings ≡ (kept_by store.old holding).rings }
 {
     let mut count: u32 = 0;
     'pages: for page in 1..100_000 {
@@ -54,7 +56,8 @@ fn pairs(store: &mut Store) -> Result<u32, Fail>
 // Whether the key of a put has its value.
 fn is_read(store: &mut Store, writer: u8, number: u32) -> Result<bool, Fail>
     requires { IsSound store.old holding }
-    ensures { kept_by store.new holding ≡ kept_by store.old holding }
+    ensures sound { IsSound store.new holding }
+    ensures rings { (kept_by store.new holding).rings ≡ (kept_by store.old holding).rings }
 {
     let Record::Put(key, value) = numbered(writer, number) else {
         return Ok(false);
@@ -66,7 +69,8 @@ fn is_read(store: &mut Store, writer: u8, number: u32) -> Result<bool, Fail>
 /// has each key.
 pub(super) fn reads(store: &mut Store, many: u32) -> Result<bool, Fail>
     requires { IsSound store.old holding }
-    ensures { kept_by store.new holding ≡ kept_by store.old holding }
+    ensures sound { IsSound store.new holding }
+    ensures rings { (kept_by store.new holding).rings ≡ (kept_by store.old holding).rings }
 {
     'numbers: for number in 0..many {
         if !is_read(store, b'a', number)? || !is_read(store, b'b', number)? {

@@ -5,7 +5,7 @@ ghost use Rattle.bw_ring.specs.Ends.{ring_of_feed};
 ghost use Rattle.bw_store.specs.Views.{kept_by, kept_beside, IsSound, IsSoundBeside};
 ghost use Rattle.bw_store.specs.Following.{Follows};
 
-use super::asking::{are_bytes, has, is_history, is_page};
+use super::asking::{are_bytes, has, is_history, is_page, is_unread};
 use super::putting::{are_put, is_put, record};
 use super::reading::reads;
 use bw_device::Segment;
@@ -39,6 +39,10 @@ pub(super) enum Step {
     Uncleaned(StoreFault),
     /// A page; no text where there is none.
     Page(u32, &'static str),
+    /// A page is not read.
+    Unread(u32, StoreFault),
+    /// A page leaves memory, or stays, or there is none.
+    Evict(u32, Result<bool, StoreFault>),
     /// The value of a key; no text where it has none.
     Get(&'static [u8], &'static [u8]),
     /// All pages together have the first so many puts of two writers, and so has each key.
@@ -57,8 +61,8 @@ pub(super) enum Step {
 }
 
 use Step::{
-    Add, Bytes, Clean, Cuts, Del, Flush, Full, Get, History, Live, Page, Put, Puts, Reads, Refused,
-    Roll, Settle, Stands, Stops, Turn, Uncleaned, Unsettled,
+    Add, Bytes, Clean, Cuts, Del, Evict, Flush, Full, Get, History, Live, Page, Put, Puts, Reads,
+    Refused, Roll, Settle, Stands, Stops, Turn, Uncleaned, Unread, Unsettled,
 };
 
 fn are_cuts(cuts: &[u64], told: &[u64]) -> bool {
@@ -109,10 +113,12 @@ fn puts(feeds: &mut Vec<Feed>, step: &Step) -> Result<bool, Fail>
 fn answers(alloc: Global, store: &mut Store, step: &Step) -> Result<bool, Fail>
     requires { IsSound store.old holding }
     ensures sound { IsSound store.new holding }
-    ensures follows { Follows (kept_by store.old holding) (kept_by store.new holding) }
+    ensures rings { (kept_by store.new holding).rings ≡ (kept_by store.old holding).rings }
 {
     match step {
         Page(page, text) => is_page(alloc, store, *page, *text),
+        Unread(page, fault) => Ok(is_unread(store, *page, *fault)),
+        Evict(page, told) => Ok(store.evict(*page) == *told),
         Get(key, value) => has(store, *key, *value),
         Reads(many) => reads(store, *many),
         Live(at, number, lease, length) => {

@@ -1,9 +1,43 @@
-use Rattle.std.proofs.Common.{length, ap}
+use Rattle.std.proofs.Common.{ℕ, List, [], length, ap, sym, ◌∙◌, arith}
+use Rattle.std.specs.List.{list_any}
+use Rattle.bw_codec.specs.Touch.{touches}
+use Rattle.bw_codec.specs.declared.block.Block.{Block}
+use Rattle.bw_buffer.specs.Filling.{Filling}
+use Rattle.bw_store.specs.Tails.{tails_for, is_made}
+use Rattle.bw_store.specs.Views.{kept_by}
+use Rattle.bw_store.proofs.TailLists.{as_many}
+use Rattle.bw_store.proofs.AwayPages.{touched_within}
 use Rattle.bw_store.proofs.MayAppend.{may_follow_at, flushed_at, appended_now, stopped_at}
 use Rattle.bw_store.proofs.store.Store.append_making.Goals as goal
 
 pub append_to-requires-clause-follows : goal.append_to-requires-clause-follows
 append_to-requires-clause-follows g c = may_follow_at c.requires.sound c.requires.next c.requires.some c.requires.fits c.seal.new.self c.seal.ensures
+
+pub rest-requires-clause-count : goal.rest-requires-clause-count
+rest-requires-clause-count g c =
+    (let many = as_many _ _ c.args.self.now.making.blocks c.args.self.now.tailed in let count = c.requires.sound.grown.count in omega arith)
+
+pub rest-requires-clause-pages : goal.rest-requires-clause-pages
+rest-requires-clause-pages g c = λ p touched. (
+    let s = kept_by c.args.self.now (λ z. (goal.Segment-dyn g z).holding z.1) in
+    let many = as_many _ _ c.args.self.now.making.blocks c.args.self.now.tailed in
+    let same = ap (λ (b : Filling). list_any (touches p) b.blocks) c.seal.ensures in
+    let range = touched_within s c.requires.sound p (sym same ∙ touched) in
+    (range.0, omega arith))
+
+pub rest-requires-clause-tails : goal.rest-requires-clause-tails
+rest-requires-clause-tails g c =
+    c.args.self.now.tailed
+    ∙ ap (λ (n : ℕ). tails_for n c.args.self.now.making.blocks) (sym (as_many _ _ c.args.self.now.making.blocks c.args.self.now.tailed))
+    ∙ ap (λ (b : Filling). tails_for (length c.args.self.now.tails.items) b.blocks) (sym c.seal.ensures)
+
+pub invariant_of-self : goal.invariant_of-self
+invariant_of-self g c = record {
+  tailed = c.rest.ensures
+      ∙ ap (λ (n : ℕ). tails_for n []) (as_many _ _ c.args.self.now.making.blocks c.args.self.now.tailed)
+      ∙ ap (tails_for (length c.args.self.now.leaves.leaves)) (sym c.begin_next.ensures.empty);
+  logged = λ p away. ap (λ (bs : List Block). is_made p bs) c.begin_next.ensures.empty;
+}
 
 pub returns-in-Ok-clause-sound : goal.returns-in-Ok-clause-sound
 returns-in-Ok-clause-sound g c =

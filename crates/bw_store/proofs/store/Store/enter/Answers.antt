@@ -1,13 +1,63 @@
-use Rattle.std.proofs.Common.{map, ap, subst, sym}
-use Rattle.bw_page.specs.Shown.{IsSpent}
+use Rattle.std.proofs.Common.{◌≡◌, ◌∙◌, ◌+◌, ◌++◌, ℕ, List, true, length, map, ap, subst, sym, arith}
+use Rattle.std.specs.Prelude.{nat_lt}
+use Rattle.bw_codec.specs.declared.block.Block.{Block}
+use Rattle.bw_codec.specs.declared.leaf.Leaf.{Leaf}
+use Rattle.bw_buffer.specs.Filling.{Filling, frame_of}
+use Rattle.bw_page.specs.Leaves.{applied}
 use Rattle.bw_page.specs.Seats.{is_among}
+use Rattle.bw_page.specs.Shown.{Shown}
+use Rattle.bw_store.specs.Adding.{end_of, blocks_for}
+use Rattle.bw_store.specs.Tails.{tails_for, tails_after, is_made}
+use Rattle.bw_store.specs.Views.{kept_by}
+use Rattle.bw_store.proofs.AwayPages.{page_within, tails_entered, away_entered}
+use Rattle.bw_store.proofs.TailLists.{as_many}
+use Rattle.bw_page.specs.Shown.{IsSpent}
+use Rattle.bw_store.specs.Kept.{filed_of}
 use Rattle.bw_store.specs.Kept as kept
 use Rattle.bw_store.proofs.MayEnter.{enters_at, file_few, file_page, file_lawful, entered, entered_sound, lane_inside}
 use Rattle.bw_ring.specs.Ends.{ring_of_lane}
 use Rattle.bw_store.proofs.store.Store.enter.Goals as goal
 
 pub apply-requires : goal.apply-requires
-apply-requires g c = ap (is_among _) c.requires.sound.here
+apply-requires g c = c.requires.here
+
+pub reserve_for-requires : goal.reserve_for-requires
+reserve_for-requires g c =
+    let range = page_within (kept_by c.args.self.now (λ z. (goal.Segment-dyn g z).holding z.1)) c.requires.sound c.args.item c.args.page c.requires.page in
+    let many = as_many _ _ c.args.self.now.making.blocks c.args.self.now.tailed in
+    (omega arith, omega arith)
+
+pub note-requires-clause-inside : goal.note-requires-clause-inside
+note-requires-clause-inside g c =
+    let range = page_within (kept_by c.args.self.now (λ z. (goal.Segment-dyn g z).holding z.1)) c.requires.sound c.args.item c.args.page c.requires.page in
+    let many = as_many _ _ c.args.self.now.making.blocks (c.reserve_for.ensures.same ∙ c.args.self.now.tailed) in
+    (omega arith, omega arith)
+
+pub invariant_of-self-2 : goal.invariant_of-self-2
+invariant_of-self-2 g c =
+    let was = c.args.self.now in
+    let f = was.leaves in
+    let here = end_of (frame_of was.making) in
+    let range = page_within (kept_by was (λ z. (goal.Segment-dyn g z).holding z.1)) c.requires.sound c.args.item c.args.page c.requires.page in
+    let limit = c.count.ensures.limit in
+    let at = c.requires.page in
+    let made : c.file.new.making.blocks ≡ was.making.blocks ++ blocks_for f.m f.leaves c.args.back here c.args.item =
+    ap (λ (b : Filling). b.blocks) c.file.ensures.making ∙ ap (λ (bs : List Block). was.making.blocks ++ bs) c.requires.blocks in
+    let leaves = ap (λ (x : Shown). x.leaves) c.in_ok-apply.ensures.ok in
+    record {
+      tailed = c.note.ensures
+          ∙ ap (tails_after c.args.page c.args.item (nat_lt 1 (length c.args.blocks.now))) (c.reserve_for.ensures.same ∙ was.tailed)
+          ∙ ap (λ (p : ℕ). tails_after p c.args.item (nat_lt 1 (length c.args.blocks.now)) (tails_for (length f.leaves) was.making.blocks)) at
+          ∙ sym (tails_entered f.m f.leaves c.args.back here c.args.item was.making.blocks (omega arith) c.count.ensures.lawful c.key.ensures.lawful
+          (omega arith) (omega arith) (nat_lt 1 (length c.args.blocks.now)) (ap (λ (bs : List Block). nat_lt 1 (length bs)) c.requires.blocks))
+          ∙ ap (tails_for (length (applied f.m f.leaves c.args.item))) (sym made)
+          ∙ ap (λ (ls : List Leaf). tails_for (length ls) c.file.new.making.blocks) (sym leaves);
+      logged = λ q away.
+          ap (is_made q) made
+          ∙ away_entered f.m f.leaves c.args.back here c.args.item was.making.blocks f.away q
+          (subst (λ (ps : List ℕ). is_among q ps ≡ true) c.apply.ensures.away away) c.requires.here
+          (c.count.ensures.beyond (length f.leaves + 1) (omega arith)) (was.logged q (subst (λ (ps : List ℕ). is_among q ps ≡ true) c.apply.ensures.away away));
+    }
 
 pub file-requires-clause-lawful : goal.file-requires-clause-lawful
 file-requires-clause-lawful g c =
@@ -29,8 +79,8 @@ returns-clause-sound g c =
     let e = enters_at c.args.page c.requires.sound c.requires.next c.key.ensures.lawful c.requires.page c.requires.back c.requires.blocks c.requires.fits in
     let not : IsSpent c.args.self.now.leaves c.args.item → ⊥ = λ p. let x = c.in_ok-apply.ensures.spent p in cc in
     subst kept.IsSound
-    (sym (entered e not c.args.lane c.args.page c.enter.new.self.history.items c.apply.new.self c.file.new.newest.items c.file.new.making c.requires.page
-    _ c.enter.ensures.grows c.reserve.ensures.history c.in_ok-apply.ensures.ok
+    (sym (entered e not c.args.lane c.args.page c.enter.new.self.history.items (filed_of c.apply.new.self) c.file.new.newest.items c.file.new.making c.requires.page
+    _ c.enter.ensures.grows c.reserve.ensures.history (ap filed_of c.in_ok-apply.ensures.ok)
     _ c.file.ensures.newest c.reserve-2.ensures.items c.file.ensures.making
     _ _ c.enter.ensures.rings (ap (λ v. map ring_of_lane v.items) c.reserve.ensures.lanes)))
     (entered_sound e not c.args.lane (lane_inside _ _ c.requires.inside))

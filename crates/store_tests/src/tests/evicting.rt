@@ -1,0 +1,145 @@
+//! Pages leave memory and are read from their segments: the tables.
+
+use super::steps::Step;
+use super::steps::Step::{
+    Clean, Del, Evict, Flush, Get, Page, Put, Roll, Settle, Stands, Stops, Turn, Unread,
+};
+use super::vectors::FIRST_BYTES;
+use super::walking::{over, over_bytes, over_fuse};
+use bw_store::StoreFault;
+use std::test::Fail;
+
+/// A page that no frame has yet stays. One that left is read from its segment, which fails once,
+/// and stays away.
+const READ_AGAIN: [Step; 10] = [
+    Put(0, b"k", b"v"),
+    Turn(1, 1),
+    Evict(1, Ok(false)),
+    Flush(Some(1)),
+    Evict(1, Ok(true)),
+    Evict(1, Ok(false)),
+    Unread(1, StoreFault::Device { lease: 0 }),
+    Page(1, "1 : k=v"),
+    Get(b"k", b"v"),
+    Evict(1, Ok(false)),
+];
+
+/// A turn that cannot bring a page back leaves the record in its ring, and the next one takes it.
+const TURNED_AGAIN: [Step; 9] = [
+    Put(0, b"k", b"v"),
+    Turn(1, 1),
+    Flush(Some(1)),
+    Evict(1, Ok(true)),
+    Put(0, b"b", b"2"),
+    Stops(9, 0, StoreFault::Device { lease: 0 }),
+    Evict(1, Ok(false)),
+    Turn(9, 1),
+    Page(1, "1 : b=2 k=v"),
+];
+
+/// What no frame has yet stays with a page that leaves; a turn brings the page back.
+const UNFLUSHED: [Step; 21] = [
+    Put(0, b"a", b"1"),
+    Turn(9, 1),
+    Flush(Some(1)),
+    Evict(1, Ok(true)),
+    Put(0, b"b", b"2"),
+    Turn(9, 1),
+    Page(1, "1 : a=1 b=2"),
+    Evict(1, Ok(true)),
+    Page(1, "1 : a=1 b=2"),
+    Get(b"b", b"2"),
+    Get(b"x", b""),
+    Put(0, b"a", b"3"),
+    Del(0, b"b"),
+    Turn(9, 2),
+    Evict(1, Ok(true)),
+    Page(1, "1 : a=3"),
+    Flush(Some(2)),
+    Page(1, "1 : a=3"),
+    Evict(1, Ok(false)),
+    Settle(4),
+    Get(b"b", b""),
+];
+
+/// A page that is away is cut; neither part leaves before the frame is appended.
+const CUT: [Step; 21] = [
+    Put(0, b"a", b"1"),
+    Put(0, b"b", b"2"),
+    Put(0, b"c", b"3"),
+    Put(0, b"d", b"4"),
+    Turn(9, 4),
+    Flush(Some(1)),
+    Evict(1, Ok(true)),
+    Put(0, b"e", b"5"),
+    Turn(9, 1),
+    Evict(1, Ok(false)),
+    Evict(2, Ok(false)),
+    Evict(3, Err(StoreFault::NoPage)),
+    Evict(0, Err(StoreFault::NoPage)),
+    Flush(Some(2)),
+    Evict(1, Ok(true)),
+    Evict(2, Ok(true)),
+    Page(1, "1 : a=1 b=2"),
+    Page(2, "2 c: c=3 d=4 e=5"),
+    Get(b"e", b"5"),
+    Page(3, ""),
+    Page(0, ""),
+];
+
+/// A page stays away while it is written again, and is then read from where it stands now.
+const CLEANED: [Step; 16] = [
+    Put(0, b"a", b"1"),
+    Turn(9, 1),
+    Flush(Some(1)),
+    Roll,
+    Put(0, b"b", b"2"),
+    Turn(9, 1),
+    Flush(Some(2)),
+    Evict(1, Ok(true)),
+    Clean(1, 0, 1, 1),
+    Stands(1, 2),
+    Evict(1, Ok(false)),
+    Page(1, "1 : a=1 b=2"),
+    Put(0, b"c", b"3"),
+    Turn(9, 1),
+    Evict(1, Ok(true)),
+    Page(1, "1 : a=1 b=2 c=3"),
+];
+
+/// A recovered page may leave at once.
+const OPENED_AGAIN: [Step; 6] = [
+    Evict(1, Ok(true)),
+    Page(1, "1 : k=v"),
+    Put(0, b"j", b"2"),
+    Turn(9, 1),
+    Evict(1, Ok(true)),
+    Page(1, "1 : j=2 k=v"),
+];
+
+#[test]
+fn pages_that_are_away_are_read_from_their_segments(rt: HostRuntime) -> Result<(), Fail> {
+    assert_eq!(rt; over_fuse(rt.alloc(), 0, 2, 0, &READ_AGAIN)?, READ_AGAIN.len());
+    assert_eq!(rt; over_fuse(rt.alloc(), 0, 2, 0, &TURNED_AGAIN)?, TURNED_AGAIN.len());
+    Ok(())
+}
+
+#[test]
+fn what_no_frame_has_yet_stays_with_its_page(rt: HostRuntime) -> Result<(), Fail> {
+    assert_eq!(rt; over(rt.alloc(), 4, &UNFLUSHED)?, UNFLUSHED.len());
+    assert_eq!(rt; over(rt.alloc(), 4, &CUT)?, CUT.len());
+    Ok(())
+}
+
+#[test]
+fn pages_stay_away_through_a_cleaning(rt: HostRuntime) -> Result<(), Fail> {
+    assert_eq!(rt; over(rt.alloc(), 4, &CLEANED)?, CLEANED.len());
+    Ok(())
+}
+
+#[test]
+fn recovered_pages_leave_memory(rt: HostRuntime) -> Result<(), Fail> {
+    let walked = over_bytes(rt.alloc(), &[FIRST_BYTES], &OPENED_AGAIN)?;
+    assert!(rt; walked == OPENED_AGAIN.len());
+    Ok(())
+}
