@@ -157,9 +157,13 @@ follows_read old new r =
         cuts_more = [];
         cuts = sym (append-nil old.cuts);
         appended = omega arith;
+        book = refl;
+        batches_more = [];
+        published = sym (append-nil old.versions.published);
       };
       boxes = record { same = r.kept.leases };
       grew = omega arith;
+      quiet = refl;
     } in
     follows_then old (with_log old new.log) new step (follows_as (with_log old new.log) new r.is))
 
