@@ -167,10 +167,10 @@ fn finish<R: Wait>(
 /// `gate.before` and `gate.after`; where these tries are used up it ends. The caller's thread turns
 /// at most `max_turns` times, and then waits for the writers.
 ///
-/// The first refusal ends the run, and is the cause: memory or a thread that cannot be had before the
-/// store is turned (`NoMemory`), a turn, a flush, a cleaning, or the last settle. Nothing is turned,
-/// flushed, cleaned or settled after it; the writers end at their next try, and are waited for. Such
-/// a run may be followed by another over the same feeds.
+/// The first refusal ends the run, and is the cause: memory or a thread that cannot be had before
+/// the store is turned (`NoMemory`), a turn, a flush, a cleaning, or the last settle. Nothing is
+/// turned, flushed, cleaned or settled after it; the writers end at their next try, and are waited
+/// for. Such a run may be followed by another over the same feeds.
 pub fn drive<R: Threads + Wait, G: Gate>(
     rt: &R,
     store: &mut Store,
