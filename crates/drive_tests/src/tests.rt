@@ -5,6 +5,7 @@ mod cleaned;
 mod courses;
 mod meeting;
 mod reading;
+mod readme;
 mod scripts;
 mod steps;
 mod walking;
