@@ -6,8 +6,8 @@ use Rattle.bw_store.specs.declared.fault.StoreFault.{StoreFault}
 use Rattle.bw_store.specs.declared.fault.StoreFault.TheVariants.{NoMemory}
 use Rattle.bw_store.specs.Kept.{Kept}
 use Rattle.bw_store.specs.Following.{Follows, HasBoxes, RefusedAt}
-use Rattle.bw_store.specs.Faults.{FlushAnswers, FlushLeaves, flush_refusal}
-use Rattle.bw_store.specs.Cleaning.{CleanLeaves}
+use Rattle.bw_store.specs.Faults.{FlushAnswers, flush_refusal}
+use Rattle.bw_store.specs.Showing.{FlushShows, CleanShows, SettleRefuses}
 
 -- the boxes are the old ones without some of the first
 pub record LosesSome (old new : Kept) : Type 0 where
@@ -26,20 +26,24 @@ pub record Runs (clean_at : ℕ) (old new : Kept) : Type 0 where
 
 -- ---- the first refusal
 
--- of a turn, or of the last settle
-abbrev pub TakeRefused : Kept → StoreFault → Kept → Type 0
-TakeRefused old cause new = RefusedAt old cause new
+-- of a turn
+abbrev pub TurnRefused : Kept → StoreFault → Kept → Type 0
+TurnRefused old cause new = RefusedAt old cause new
 
 abbrev pub FlushRefused : Kept → StoreFault → Kept → Type 0
-FlushRefused old cause new = FlushAnswers (flush_refusal old) (Err cause) × FlushLeaves old (Err cause) new
+FlushRefused old cause new = FlushAnswers (flush_refusal old) (Err cause) × FlushShows old (Err cause) new
+
+-- of the last settle
+abbrev pub SettleRefused : Kept → StoreFault → Kept → Type 0
+SettleRefused old cause new = SettleRefuses old cause new
 
 -- a cleaning is tried only where so many segments are live
 abbrev pub CleanRefused : ℕ → Kept → StoreFault → Kept → Type 0
-CleanRefused clean_at old cause new = (1 ≤ clean_at) × (clean_at ≤ length old.log.live) × CleanLeaves old (Err cause) new
+CleanRefused clean_at old cause new = (1 ≤ clean_at) × (clean_at ≤ length old.log.live) × CleanShows old (Err cause) new
 
 abbrev pub CallRefused : ℕ → Kept → StoreFault → Kept → Type 0
 CallRefused clean_at old cause new =
-    TakeRefused old cause new ⊎ (FlushRefused old cause new ⊎ CleanRefused clean_at old cause new)
+    TurnRefused old cause new ⊎ (FlushRefused old cause new ⊎ (CleanRefused clean_at old cause new ⊎ SettleRefused old cause new))
 
 -- a call was refused, and none came after it
 pub record StopsAfter (clean_at : ℕ) (old : Kept) (cause : StoreFault) (new : Kept) : Type 0 where

@@ -1,12 +1,13 @@
 -- What the last settle leaves where it answered Ok.
 
-use Rattle.std.specs.Prelude.{ℕ, ◌≡◌, ◌<◌, List, length, map}
+use Rattle.std.specs.Prelude.{ℕ, ◌≡◌, ◌<◌, Some, List, length, map}
 use Rattle.std.specs.List.{AllByRecursion}
 use Rattle.bw_ring.specs.declared.feed.Feed.{Feed}
 use Rattle.bw_ring.specs.Ends.{accepted}
 use Rattle.bw_log.specs.Contents.{counted}
+use Rattle.bw_versions.specs.Posted.{posted_of}
 use Rattle.bw_store.specs.History.{streams}
-use Rattle.bw_store.specs.Kept.{Kept, TellsShare}
+use Rattle.bw_store.specs.Kept.{Kept, TellsShare, start_of}
 use Rattle.bw_store.specs.Settled.{IsSettled}
 
 -- each accepted record is in the history exactly once, each writer's in its order, and in the segments
@@ -18,3 +19,5 @@ pub record HasSettled (s : Kept) (feeds : List Feed) (entries : ℕ) : Type 0 wh
   pub settled : IsSettled s
   pub shares : AllByRecursion (λ f. s.before < f.number → TellsShare s f) (counted s.log)
   pub answer : entries ≡ length s.entries
+  -- readers see the start and all entries
+  pub published : posted_of s.versions.published ≡ Some (record { start = start_of s; entries = s.entries })

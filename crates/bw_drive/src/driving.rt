@@ -10,7 +10,7 @@ ghost use Rattle.bw_store.specs.Kept.{Kept};
 ghost use Rattle.bw_store.specs.Views.{kept_by, IsSound};
 ghost use Rattle.bw_store.specs.Following.{Follows, HasBoxes};
 ghost use Rattle.bw_drive.specs.Written.{Wrote, WroteSome};
-ghost use Rattle.bw_drive.specs.Ran.{Runs, Stops, TakeRefused};
+ghost use Rattle.bw_drive.specs.Ran.{Runs, Stops};
 ghost use Rattle.bw_drive.specs.Settling.{HasSettled};
 
 use crate::driven::{DriveFault, Driven};
@@ -119,7 +119,7 @@ fn run_writers<'s, E, R: Threads + Wait, G: Gate>(
 
 // Settles where nothing was refused. What the run was before it, is what both are from its start.
 fn finish<R: Wait>(
-    _rt: &R,
+    rt: &R,
     store: &mut Store,
     left: Left,
     clean_at: u32,
@@ -149,7 +149,7 @@ fn finish<R: Wait>(
     if let Err(cause) = run {
         return Err(DriveFault { feeds, cause });
     }
-    match store.settle(&mut feeds) {
+    match store.settle(rt, &mut feeds) {
         Ok(entries) => Ok(Driven {
             feeds,
             accepted,

@@ -3,7 +3,7 @@
 ghost use Rattle.std.specs.Prelude.{◌≤◌, IfErr};
 ghost use Rattle.bw_store.specs.Views.{kept_by, IsSound};
 ghost use Rattle.bw_store.specs.Following.{Follows, HasBoxes};
-ghost use Rattle.bw_drive.specs.Ran.{Runs, TakeRefused, StopsAfter, Stops};
+ghost use Rattle.bw_drive.specs.Ran.{Runs, TurnRefused, StopsAfter, Stops};
 
 use crate::flags::Flags;
 use crate::plan::Plan;
@@ -18,7 +18,7 @@ fn turn_once(store: &mut Store, limit: u32) -> Result<(), StoreFault>
     ensures follows { Follows (kept_by store.old holding) (kept_by store.new holding) }
     ensures boxes { HasBoxes (kept_by store.old holding) (kept_by store.new holding) }
     ensures refused { IfErr result (λ cause.
-        TakeRefused (kept_by store.old holding) cause (kept_by store.new holding)) }
+        TurnRefused (kept_by store.old holding) cause (kept_by store.new holding)) }
 {
     match store.turn(limit) {
         Ok(taken) => {
@@ -32,18 +32,18 @@ fn turn_once(store: &mut Store, limit: u32) -> Result<(), StoreFault>
 }
 
 // Flushes, and cleans where many segments are live.
-fn flush_and_clean<R: Wait>(_rt: &R, store: &mut Store, clean_at: u32) -> Result<(), StoreFault>
+fn flush_and_clean<R: Wait>(rt: &R, store: &mut Store, clean_at: u32) -> Result<(), StoreFault>
     requires { IsSound store.old holding }
     ensures sound { IsSound store.new holding }
     ensures runs { Runs clean_at (kept_by store.old holding) (kept_by store.new holding) }
     ensures refused { IfErr result (λ cause.
         StopsAfter clean_at (kept_by store.old holding) cause (kept_by store.new holding)) }
 {
-    let _ = store.flush()?;
+    let _ = store.flush(rt)?;
     if clean_at == 0 || store.live() < clean_at {
         return Ok(());
     }
-    let _ = store.clean()?;
+    let _ = store.clean(rt)?;
     Ok(())
 }
 

@@ -23,10 +23,10 @@ const PACE: Pace = Pace(64, 4, 3, 1_000_000_000);
 const BOXES: u32 = 64;
 
 // Whether each key is in the pages recovered from the boxes, of which some were given up.
-fn is_recovered(alloc: Global, store: Store) -> Result<bool, Fail>
+fn is_recovered<R: Wait>(rt: &R, alloc: Global, store: Store) -> Result<bool, Fail>
     requires { IsSound store holding }
 {
-    let (live, spares) = store.shut();
+    let (live, spares) = store.shut(rt);
     // What was put fills seven segments at least, and one may have been begun since the last
     // cleaning.
     let few = live.len() <= 4 && live.len() + spares.len() + 3 <= BOXES as usize;
@@ -37,10 +37,13 @@ fn is_recovered(alloc: Global, store: Store) -> Result<bool, Fail>
     let Ok(found) = recover(alloc, boxes) else {
         return Ok(false);
     };
-    let Ok((mut store, _)) = Store::reopen(alloc, found, 2, 8, 1) else {
+    let Ok((mut store, _)) = Store::reopen(rt, alloc, found, 2, 8, 1) else {
         return Ok(false);
     };
-    Ok(few && store.history().is_empty() && reads(&mut store, 2, PART.1, PART.2)?)
+    let are_read = reads(&mut store, 2, PART.1, PART.2);
+    let is_new = store.history().is_empty();
+    let _ = store.shut(rt);
+    Ok(are_read? && few && is_new)
 }
 
 fn is_driven<R: Threads + Wait>(rt: &R, alloc: Global) -> Result<bool, Fail> {
@@ -52,10 +55,10 @@ fn is_driven<R: Threads + Wait>(rt: &R, alloc: Global) -> Result<bool, Fail> {
         f: 16384,
     };
     let boxes = boxes(alloc, BOXES, 16408, None)?;
-    let Ok((mut store, feeds)) = Store::open(alloc, &config, boxes) else {
+    let Ok((mut store, feeds)) = Store::open(rt, alloc, &config, boxes) else {
         return Ok(false);
     };
-    let (_, went) = drives(
+    match drives(
         rt,
         alloc,
         &mut store,
@@ -64,8 +67,13 @@ fn is_driven<R: Threads + Wait>(rt: &R, alloc: Global) -> Result<bool, Fail> {
         PART,
         PACE,
         Ok((2000, 2000)),
-    )?;
-    Ok(went && is_recovered(alloc, store)?)
+    ) {
+        Ok((_, went)) => Ok(is_recovered(rt, alloc, store)? && went),
+        Err(fail) => {
+            let _ = store.shut(rt);
+            Err(fail)
+        }
+    }
 }
 
 #[test]

@@ -108,13 +108,18 @@ pub(super) fn drives<R: Threads + Wait, G: Gate>(
 }
 
 // All is taken and flushed, or it is refused.
-fn settles(store: &mut Store, feeds: &mut Vec<Feed>, told: Result<(), StoreFault>) -> bool
+fn settles<R: Wait>(
+    rt: &R,
+    store: &mut Store,
+    feeds: &mut Vec<Feed>,
+    told: Result<(), StoreFault>,
+) -> bool
     requires sound { IsSound store.old holding }
     requires feeds { map ring_of_feed feeds.old.items ≡ (kept_by store.old holding).rings }
     ensures sound { IsSound store.new holding }
     ensures feeds { map ring_of_feed feeds.new.items ≡ (kept_by store.new holding).rings }
 {
-    match store.settle(feeds) {
+    match store.settle(rt, feeds) {
         Ok(entries) => told == Ok(()) && entries == store.history().len() as u64,
         Err(cause) => told == Err(cause),
     }
@@ -174,7 +179,7 @@ pub(super) fn goes<R: Threads + Wait, G: Gate>(
             drives(rt, alloc, store, feeds, gate, *part, *pace, Err(*cause))
         }
         Settles(told) => {
-            let went = settles(store, &mut feeds, *told);
+            let went = settles(rt, store, &mut feeds, *told);
             Ok((feeds, went))
         }
         _ => {

@@ -1,8 +1,11 @@
 //! Tables are walked.
 
+ghost use Rattle.std.specs.Prelude.{◌≡◌, map};
+ghost use Rattle.bw_ring.specs.Ends.{ring_of_feed};
+ghost use Rattle.bw_store.specs.Views.{kept_by, IsSound};
+
 use super::boxes::boxes;
 use super::steps::{Step, goes};
-use bw_device::Segment;
 use bw_drive::Gate;
 use bw_ring::Feed;
 use bw_store::{Config, Store};
@@ -23,36 +26,32 @@ pub(super) struct Table {
     pub(super) steps: &'static [Step],
 }
 
-// How many of the steps went as told before one did not; 99 where the store was not opened.
-fn walked_over<R: Threads + Wait, G: Gate>(
+// How many of the steps went as told before one did not.
+fn all_go<R: Threads + Wait, G: Gate>(
     rt: &R,
     alloc: Global,
-    boxes: Vec<Box<dyn Segment>>,
-    table: &Table,
+    store: &mut Store,
+    feeds: Vec<Feed>,
+    steps: &[Step],
     gate: &G,
-) -> Result<usize, Fail> {
-    let config = Config {
-        writers: table.writers,
-        places: table.places,
-        readers: 1,
-        m: 4,
-        f: 16384,
-    };
-    let Ok((mut store, feeds)) = Store::open(alloc, &config, boxes) else {
-        return Ok(99);
-    };
+) -> Result<usize, Fail>
+    requires sound { IsSound store.old holding }
+    requires feeds { map ring_of_feed feeds.items ≡ (kept_by store.old holding).rings }
+    ensures { IsSound store.new holding }
+{
     let mut feeds = feeds;
-    for (i, step) in table.steps.iter().enumerate() {
-        let (back, went) = goes(rt, alloc, &mut store, feeds, gate, step)?;
+    for (i, step) in steps.iter().enumerate() {
+        let (back, went) = goes(rt, alloc, store, feeds, gate, step)?;
         feeds = back;
         if !went {
             return Ok(i);
         }
     }
-    Ok(table.steps.len())
+    Ok(steps.len())
 }
 
-/// How many of the table's steps went as told, through this gate, before one did not.
+/// How many of the table's steps went as told, through this gate, before one did not; 99 where the
+/// store was not opened.
 pub(super) fn walked<R: Threads + Wait, G: Gate>(
     rt: &R,
     alloc: Global,
@@ -60,5 +59,17 @@ pub(super) fn walked<R: Threads + Wait, G: Gate>(
     gate: &G,
 ) -> Result<usize, Fail> {
     let boxes = boxes(alloc, table.boxes, table.capacity, table.fuse)?;
-    walked_over(rt, alloc, boxes, table, gate)
+    let config = Config {
+        writers: table.writers,
+        places: table.places,
+        readers: 1,
+        m: 4,
+        f: 16384,
+    };
+    let Ok((mut store, feeds)) = Store::open(rt, alloc, &config, boxes) else {
+        return Ok(99);
+    };
+    let went = all_go(rt, alloc, &mut store, feeds, table.steps, gate);
+    let _ = store.shut(rt);
+    went
 }

@@ -27,7 +27,7 @@ returns-in_err-clean-clause-refused g c =
     let live = c.live.ensures in
     let many = c.if-live-clean_at.false in
     rw (p.1, p.2) (stops_then _ _ _ _ c.in_err-clean.field-0.0 (kept_all _ _ _ c.flush.ensures.follows c.flush.ensures.boxes)
-    (stops_now _ _ _ c.in_err-clean.field-0.0 (inr (inr (omega arith, omega arith, c.in_err-clean.ensures.leaves)))))
+    (stops_now _ _ _ c.in_err-clean.field-0.0 (inr (inr (inl (omega arith, omega arith, c.in_err-clean.ensures.leaves))))))
 
 pub returns-clause-runs : goal.returns-clause-runs
 returns-clause-runs g c =
