@@ -1,11 +1,11 @@
 #!/usr/bin/env python3
-"""The example of README.md stands to the letter in the test that runs it, and the dumps of FORMAT.md have the bytes that
+"""The examples of README.md stand to the letter in the tests that run them, and the dumps of FORMAT.md have the bytes that
 the tests read: so neither can go stale. It prints nothing where both hold."""
 
 import re
 import sys
 
-EXAMPLE = "crates/log_tests/src/tests/readme.rt"
+EXAMPLES = ["crates/log_tests/src/tests/readme.rt", "crates/drive_tests/src/tests/readme.rt"]
 VECTORS = "crates/care_tests/src/tests/vectors.rt"
 
 
@@ -28,10 +28,13 @@ def dumps(page):
 
 def main():
     wrong = []
-    [example] = blocks(text("README.md"), "rust")
-    lines = [line.strip() for line in example.strip().splitlines()]
-    if "\n".join(lines) not in "\n".join(line.strip() for line in text(EXAMPLE).splitlines()):
-        wrong.append("README.md's example is not that of " + EXAMPLE)
+    shown = blocks(text("README.md"), "rust")
+    if len(shown) != len(EXAMPLES):
+        wrong.append("README.md has %d examples in place of %d" % (len(shown), len(EXAMPLES)))
+    for example, path in zip(shown, EXAMPLES):
+        lines = [line.strip() for line in example.strip().splitlines()]
+        if "\n".join(lines) not in "\n".join(line.strip() for line in text(path).splitlines()):
+            wrong.append("README.md's example is not that of " + path)
     vectors = re.sub(r"\\\n\s*", "", text(VECTORS))
     found = [dump for dump in dumps(text("docs/FORMAT.md")) if dump.startswith("42574c4f")]
     if len(found) != 4:

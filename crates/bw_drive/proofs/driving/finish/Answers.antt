@@ -1,0 +1,12 @@
+use Rattle.bw_drive.proofs.Runs.{runs_kept, stops_last}
+use Rattle.bw_drive.proofs.driving.finish.Goals as goal
+
+pub returns-in-Ok-clause-runs : goal.returns-in-Ok-clause-runs
+returns-in-Ok-clause-runs g c = λ first ran. runs_kept _ first _ _ ran c.settle.ensures.follows c.settle.ensures.boxes
+
+pub returns-in-Err-settle-clause-runs : goal.returns-in-Err-settle-clause-runs
+returns-in-Err-settle-clause-runs g c = λ first ran. runs_kept _ first _ _ ran c.settle.ensures.follows c.settle.ensures.boxes
+
+pub returns-in-Err-settle-clause-refused : goal.returns-in-Err-settle-clause-refused
+returns-in-Err-settle-clause-refused g c =
+    λ first ran before. stops_last _ first _ _ c.in-Err-settle.cause ran c.in-Err-settle.ensures.refused

@@ -1,0 +1,17 @@
+use Rattle.std.proofs.lemmas.Result.{err_from_is_err_and}
+use Rattle.bw_drive.proofs.Runs.{runs_none, runs_then, stops_then}
+use Rattle.bw_drive.proofs.tending.tend.Goals as goal
+
+pub turns-init : goal.turns-init
+turns-init g c = (c.requires.sound, runs_none _ _)
+
+pub turns-preserved : goal.turns-preserved
+turns-preserved g c = (c.turn_and_tend.ensures.sound, runs_then _ _ _ _ c.turns.invariant.1 c.turn_and_tend.ensures.runs)
+
+pub returns-in_err-turn_and_tend-clause-runs : goal.returns-in_err-turn_and_tend-clause-runs
+returns-in_err-turn_and_tend-clause-runs g c = runs_then _ _ _ _ c.turns.invariant.1 c.turn_and_tend.ensures.runs
+
+pub returns-in_err-turn_and_tend-clause-refused : goal.returns-in_err-turn_and_tend-clause-refused
+returns-in_err-turn_and_tend-clause-refused g c =
+    let p = err_from_is_err_and c.from_residual.result c.from_residual.ensures.1 in
+    rw (p.1, p.2) (stops_then _ _ _ _ c.in_err-turn_and_tend.field-0.0 c.turns.invariant.1 c.in_err-turn_and_tend.ensures.refused)

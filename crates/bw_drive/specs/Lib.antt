@@ -1,0 +1,5 @@
+-- what callers see, in reading order
+pub mod Written
+pub mod Pending
+pub mod Ran
+pub mod Settling

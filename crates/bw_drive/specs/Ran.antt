@@ -1,0 +1,56 @@
+-- What a run of turns, flushes and cleanings leaves of a store, and why it ends early.
+
+use Rattle.std.specs.Prelude.{ℕ, zero, suc, ◌≡◌, ◌≤◌, ◌⊎◌, Err, length, drop}
+use Rattle.bw_log.specs.Contents.{roster}
+use Rattle.bw_store.specs.declared.fault.StoreFault.{StoreFault}
+use Rattle.bw_store.specs.declared.fault.StoreFault.TheVariants.{NoMemory}
+use Rattle.bw_store.specs.Kept.{Kept}
+use Rattle.bw_store.specs.Following.{Follows, HasBoxes, RefusedAt}
+use Rattle.bw_store.specs.Faults.{FlushAnswers, flush_refusal}
+use Rattle.bw_store.specs.Showing.{FlushShows, CleanShows, SettleRefuses}
+
+-- the boxes are the old ones without some of the first
+pub record LosesSome (old new : Kept) : Type 0 where
+  pub count : ℕ
+  pub rest : roster new.log ≡ drop count (roster old.log)
+
+-- where nothing is ever cleaned, each box is where it was in the row of all
+abbrev pub Boxes : ℕ → Kept → Kept → Type 0
+Boxes zero old new = HasBoxes old new
+Boxes (suc n) old new = LosesSome old new
+
+-- calls one after the other; segments are given up where so many are live, or never
+pub record Runs (clean_at : ℕ) (old new : Kept) : Type 0 where
+  pub follows : Follows old new
+  pub boxes : Boxes clean_at old new
+
+-- ---- the first refusal
+
+-- of a turn
+abbrev pub TurnRefused : Kept → StoreFault → Kept → Type 0
+TurnRefused old cause new = RefusedAt old cause new
+
+abbrev pub FlushRefused : Kept → StoreFault → Kept → Type 0
+FlushRefused old cause new = FlushAnswers (flush_refusal old) (Err cause) × FlushShows old (Err cause) new
+
+-- of the last settle
+abbrev pub SettleRefused : Kept → StoreFault → Kept → Type 0
+SettleRefused old cause new = SettleRefuses old cause new
+
+-- a cleaning is tried only where so many segments are live
+abbrev pub CleanRefused : ℕ → Kept → StoreFault → Kept → Type 0
+CleanRefused clean_at old cause new = (1 ≤ clean_at) × (clean_at ≤ length old.log.live) × CleanShows old (Err cause) new
+
+abbrev pub CallRefused : ℕ → Kept → StoreFault → Kept → Type 0
+CallRefused clean_at old cause new =
+    TurnRefused old cause new ⊎ (FlushRefused old cause new ⊎ (CleanRefused clean_at old cause new ⊎ SettleRefused old cause new))
+
+-- a call was refused, and none came after it
+pub record StopsAfter (clean_at : ℕ) (old : Kept) (cause : StoreFault) (new : Kept) : Type 0 where
+  pub before : Kept
+  pub ran : Runs clean_at old before
+  pub refused : CallRefused clean_at before cause new
+
+-- not every writer could be started, and the store was left alone; or a call was refused
+abbrev pub Stops : ℕ → Kept → StoreFault → Kept → Type 0
+Stops clean_at old cause new = ((cause ≡ NoMemory) × (new ≡ old)) ⊎ StopsAfter clean_at old cause new

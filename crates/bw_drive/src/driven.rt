@@ -1,0 +1,25 @@
+//! What a run of writers answers.
+
+use bw_ring::Feed;
+use bw_store::StoreFault;
+
+/// All writers have ended, and what was accepted is settled.
+#[derive(Drop)]
+pub struct Driven {
+    /// Those that were handed in, in order.
+    pub feeds: Vec<Feed>,
+    /// How many records of each script were accepted: its first ones. A writer that used up its
+    /// tries for one record put none behind it.
+    pub accepted: Vec<u64>,
+    /// The length of the history.
+    pub entries: u64,
+}
+
+/// Why a run of writers ended early, with the feeds.
+#[derive(Drop)]
+pub struct DriveFault {
+    /// Those that were handed in, in order, each with some first records of its script.
+    pub feeds: Vec<Feed>,
+    /// The first refusal; `NoMemory` also where a thread could not be made.
+    pub cause: StoreFault,
+}

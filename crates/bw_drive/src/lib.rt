@@ -1,0 +1,22 @@
+//! Writers in threads of their own over one store: what a run of them leaves is what `settle`
+//! leaves, and each feed accepted a beginning of its script.
+//!
+//! `drive` starts a thread for each writer, and its caller's thread owns the store meanwhile: it
+//! turns, flushes and cleans until they have ended. Writers and store meet in the rings alone. The
+//! flags by which the writers are told to stop, and tell that they have ended, are in no proof:
+//! what holds, holds whenever anybody looks at them.
+#![tactic(auto)]
+
+mod driven;
+mod driving;
+mod flags;
+mod gate;
+mod plan;
+mod starting;
+mod tending;
+mod writers;
+
+pub use driven::{DriveFault, Driven};
+pub use driving::drive;
+pub use gate::{Gate, MeetGate, OpenGate};
+pub use plan::Plan;

@@ -1,0 +1,6 @@
+//! What no clause of a run of writers says, tried from outside: that writers run at once, that records
+//! are accepted and taken where memory is there, and that nothing follows a refusal.
+#![tactic(auto)]
+
+#[cfg(test)]
+mod tests;

@@ -1,0 +1,64 @@
+//! The example of README: writers in threads beside the store's.
+
+ghost use Rattle.std.specs.Prelude.{◌≡◌, map};
+ghost use Rattle.bw_ring.specs.Ends.{ring_of_feed};
+ghost use Rattle.bw_store.specs.Views.{kept_by, IsSound};
+
+use super::boxes::boxes;
+use super::scripts::{Part, scripts};
+use bw_drive::{OpenGate, Plan, drive};
+use bw_ring::Feed;
+use bw_store::{Config, Store};
+use std::alloc::Global;
+use std::sync::Wait;
+use std::test::Fail;
+use std::thread::Threads;
+
+// How many entries the history has once each writer has put its part.
+fn example<R: Threads + Wait>(
+    rt: &R,
+    alloc: Global,
+    store: &mut Store,
+    feeds: Vec<Feed>,
+    part: Part,
+) -> Result<Option<u64>, Fail>
+    requires sound { IsSound store.old holding }
+    requires feeds { map ring_of_feed feeds.items ≡ (kept_by store.old holding).rings }
+    ensures { IsSound store.new holding }
+{
+    let scripts = scripts(alloc, feeds.len(), part)?; // a Vec<Record> for each writer
+    let plan = Plan {
+        limit: 64,
+        flush_every: 4,
+        clean_at: 3,
+    };
+    let tries = 1_000_000_000; // for each record
+    match drive(rt, store, feeds, scripts, &OpenGate, plan, tries) {
+        Ok(driven) => Ok(Some(driven.entries)), // accepted, settled, and in the segments
+        Err(_) => Ok(None), // the feeds are back, with the first refusal
+    }
+}
+
+// The same over a new store of two writers.
+fn is_settled<R: Threads + Wait>(rt: &R, alloc: Global) -> Result<bool, Fail> {
+    let boxes = boxes(alloc, 4, 65536, None)?;
+    let config = Config {
+        writers: 2,
+        places: 8,
+        readers: 1,
+        m: 4,
+        f: 16384,
+    };
+    let Ok((mut store, feeds)) = Store::open(rt, alloc, &config, boxes) else {
+        return Ok(false);
+    };
+    let entries = example(rt, alloc, &mut store, feeds, Part(0, 10, 10));
+    let _ = store.shut(rt);
+    Ok(entries? == Some(20))
+}
+
+#[test]
+fn the_example_of_readme_settles(rt: HostRuntime) -> Result<(), Fail> {
+    assert!(rt; is_settled(&rt, rt.alloc())?);
+    Ok(())
+}

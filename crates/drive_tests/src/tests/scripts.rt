@@ -1,0 +1,63 @@
+//! What writers put, and what stands of it in a history.
+
+ghost use Rattle.std.specs.Prelude.{◌≡◌, vec_len, IfOk};
+
+use bw_codec::{Key, Record, Value};
+use bw_store::Entry;
+use std::alloc::Global;
+use std::test::Fail;
+
+/// A part of each writer's records: from which number on, how many, and how many keys they have in
+/// turn.
+#[derive(Debug, Clone, Copy)]
+pub(super) struct Part(pub(super) u32, pub(super) u32, pub(super) u32);
+
+fn digits(number: u32) -> [u8; 4] {
+    let digit = |place: u32| (number / place % 10) as u8 + b'0';
+    [digit(1000), digit(100), digit(10), digit(1)]
+}
+
+/// A writer's record of a number: its key is the writer's letter, `a` for writer 0, and four
+/// digits; its value is the four digits of the number.
+pub(super) fn numbered(writer: usize, number: u32, keys: u32) -> Record {
+    let letter = (writer % 64) as u8 + b'a';
+    let [a, b, c, d] = digits(number % keys.max(1));
+    match (Key::new(&[letter, a, b, c, d]), Value::new(&digits(number))) {
+        (Ok(key), Ok(value)) => Record::Put(key, value),
+        _ => unreachable!(),
+    }
+}
+
+fn script(alloc: Global, writer: usize, part: Part) -> Result<Vec<Record>, Fail> {
+    let Part(from, records, keys) = part;
+    let mut script = Vec::new(alloc);
+    for number in from..from.saturating_add(records) {
+        script.push(numbered(writer, number, keys))?;
+    }
+    Ok(script)
+}
+
+/// A script for each of so many writers.
+pub(super) fn scripts(alloc: Global, writers: usize, part: Part) -> Result<Vec<Vec<Record>>, Fail>
+    ensures { IfOk result (λ s. vec_len s ≡ writers) }
+{
+    let mut scripts = Vec::new(alloc);
+    'writers: for writer in 0..writers {
+        scripts.push(script(alloc, writer, part)?)?;
+    }
+    Ok(scripts)
+}
+
+/// How many entries each writer has, where they are its first records in order.
+pub(super) fn begun(entries: &[Entry], keys: u32) -> Option<[u32; 64]> {
+    let mut next: [u32; 64] = [0; 64];
+    for entry in entries {
+        let writer = usize::from(entry.writer);
+        let number = next.get_mut(writer)?;
+        if entry.item != numbered(writer, *number, keys) {
+            return None;
+        }
+        *number = number.saturating_add(1);
+    }
+    Some(next)
+}
