@@ -3,6 +3,7 @@ pub mod Placing
 pub mod Telling
 pub mod Growing
 pub mod RecordMore
+pub mod Readers
 pub mod CutMore
 pub mod FramesBehind
 pub mod FrameMore
@@ -19,4 +20,5 @@ pub mod Planned
 pub mod Shares
 pub mod Fresh
 pub mod FollowMore
+pub mod Showing
 pub mod Logs

@@ -10,12 +10,15 @@ use Rattle.bw_store.specs.declared.fault.StoreFault.{StoreFault}
 use Rattle.bw_store.specs.declared.fault.StoreFault.TheVariants.{NoMemory, BadConfig, NoSegment, Device, Failed, Spent, NoPage, NothingOld}
 use Rattle.bw_store.specs.Kept.{Kept}
 use Rattle.bw_store.specs.Faults.{FlushAnswers, FlushLeaves, flush_refusal, refusal_by, fault_of}
-use Rattle.bw_store.specs.Taking.{MayFlush, IsWanting, IsUnplanned, Refuses}
+use Rattle.bw_store.specs.Taking.{MayFlush, IsWanting, IsSpentAt, IsUnplanned, Refuses, Works}
 
 -- a flush that answers Ok was not of a failed store
 none_failed : (s : Kept) (o : Option ℕ) (failed : Bool) (rest : Option StoreFault) → FlushAnswers (if failed then Some Failed else rest) (Ok o) → failed ≡ false
 none_failed s o true rest a = absurd cc
 none_failed s o false rest a = refl
+
+pub went : (takes_last : Bool) (old : Kept) (o : Option ℕ) → FlushAnswers (refusal_by takes_last old) (Ok o) → Works old
+went takes_last old o a = none_failed old o old.log.is_failed _ a
 
 pub worked : (takes_last : Bool) (old new : Kept) (o : Option ℕ) → FlushAnswers (refusal_by takes_last old) (Ok o) → FlushLeaves old (Ok o) new
     → new.log.is_failed ≡ false
@@ -24,28 +27,38 @@ worked takes_last old new (Some n) a left = ap (λ (s : Kept). s.log.is_failed) 
 
 -- ---- causes
 
-wanting_after : (old new : Kept) (cause : StoreFault) → MayFlush old new → IsWanting new cause → Refuses old cause new
-wanting_after old new NoMemory may w = may
-wanting_after old new BadConfig may w = absurd w
-wanting_after old new NoSegment may w = absurd w
-wanting_after old new (Device lease) may w = absurd w
-wanting_after old new Failed may w = absurd w
-wanting_after old new Spent may w = (may, inr w)
-wanting_after old new NoPage may w = absurd w
-wanting_after old new NothingOld may w = absurd w
+-- where a flush answered Ok, want of memory or of a page is told of the store before it
+pub entered_not : (old middle new : Kept) (cause : StoreFault) → Works old → MayFlush old middle → new ≡ middle → IsWanting middle cause → Refuses old cause new
+entered_not old middle new NoMemory works may same w = (works, subst (MayFlush old) (sym same) may)
+entered_not old middle new BadConfig works may same w = absurd w
+entered_not old middle new NoSegment works may same w = absurd w
+entered_not old middle new (Device lease) works may same w = absurd w
+entered_not old middle new Failed works may same w = absurd w
+entered_not old middle new Spent works may same w =
+    subst (λ (s : Kept). Works old × MayFlush old s × IsSpentAt s) (sym same) (works, may, inr w)
+entered_not old middle new NoPage works may same w = absurd w
+entered_not old middle new NothingOld works may same w = absurd w
 
-pub entered_not : (old middle new : Kept) (cause : StoreFault) → MayFlush old middle → new ≡ middle → IsWanting middle cause → Refuses old cause new
-entered_not old middle new cause may same w = subst (Refuses old cause) (sym same) (wanting_after old middle cause may w)
+-- nothing was appended, and nothing could be planned
+pub unplanned_now : (s : Kept) (cause : StoreFault) → IsUnplanned s cause → Refuses s cause s
+unplanned_now s NoMemory w = (w, inl refl)
+unplanned_now s BadConfig w = absurd w
+unplanned_now s NoSegment w = absurd w
+unplanned_now s (Device lease) w = absurd w
+unplanned_now s Failed w = (refl, w)
+unplanned_now s Spent w = (w.0, inl refl, w.1)
+unplanned_now s NoPage w = absurd w
+unplanned_now s NothingOld w = absurd w
 
-pub unplanned_after : (old new : Kept) (cause : StoreFault) → MayFlush old new → new.log.is_failed ≡ false → IsUnplanned new cause → Refuses old cause new
-unplanned_after old new NoMemory may works w = may
-unplanned_after old new BadConfig may works w = absurd w
-unplanned_after old new NoSegment may works w = absurd w
-unplanned_after old new (Device lease) may works w = absurd w
-unplanned_after old new Failed may works w = absurd cc
-unplanned_after old new Spent may works w = (may, w)
-unplanned_after old new NoPage may works w = absurd w
-unplanned_after old new NothingOld may works w = absurd w
+pub unplanned_after : (old new : Kept) (cause : StoreFault) → Works old → MayFlush old new → Works new → IsUnplanned new cause → Refuses old cause new
+unplanned_after old new NoMemory was may works w = (was, may)
+unplanned_after old new BadConfig was may works w = absurd w
+unplanned_after old new NoSegment was may works w = absurd w
+unplanned_after old new (Device lease) was may works w = absurd w
+unplanned_after old new Failed was may works w = absurd cc
+unplanned_after old new Spent was may works w = (was, may, w.1)
+unplanned_after old new NoPage was may works w = absurd w
+unplanned_after old new NothingOld was may works w = absurd w
 
 -- ---- a refusal of a flush is that of the record, or of the call, that asked for it
 
@@ -93,14 +106,23 @@ is_cause takes_last s fault never a =
 pub never_nothing : (takes_last : Bool) (s : Kept) → FlushAnswers (refusal_by takes_last s) (Err NothingOld) → ⊥
 never_nothing takes_last s a = is_cause takes_last s NothingOld (λ x. x) a
 
+-- a flush that was refused for another cause than Failed was not of a failed store
+other_cause : (failed : Bool) (rest : Option StoreFault) (fault : StoreFault) → (fault ≡ Failed → ⊥)
+    → FlushAnswers (if failed then Some Failed else rest) (Err fault) → failed ≡ false
+other_cause true rest fault other a = absurd (other cc)
+other_cause false rest fault other a = refl
+
 pub flush_refuses : (old new : Kept) (cause : StoreFault) → FlushAnswers (flush_refusal old) (Err cause)
     → FlushLeaves old (Err cause) new → Refuses old cause new
-flush_refuses old new NoMemory a left = inl left
+flush_refuses old new NoMemory a left = (other_cause old.log.is_failed _ NoMemory (λ e. cc) a, inl left)
 flush_refuses old new BadConfig a left = absurd (is_cause false old BadConfig (λ x. x) a)
 flush_refuses old new NoSegment a left = (left, same_answer (flush_refusal old) NoSegment (λ x. x) a)
-flush_refuses old new (Device lease) a left = left
+flush_refuses old new (Device lease) a left = (other_cause old.log.is_failed _ (Device lease) (λ e. cc) a, left)
 flush_refuses old new Failed a left = (left, is_cause false old Failed (λ x. x) a)
-flush_refuses old new Spent a left =
-    (inl left, inl (subst (λ (s : Kept). flush_refusal s ≡ Some Spent) (sym left) (same_answer (flush_refusal old) Spent (λ x. x) a)))
+flush_refuses old new Spent a left = (
+  other_cause old.log.is_failed _ Spent (λ e. cc) a,
+  inl left,
+  inl (subst (λ (s : Kept). flush_refusal s ≡ Some Spent) (sym left) (same_answer (flush_refusal old) Spent (λ x. x) a)),
+)
 flush_refuses old new NoPage a left = absurd (is_cause false old NoPage (λ x. x) a)
 flush_refuses old new NothingOld a left = absurd (is_cause false old NothingOld (λ x. x) a)

@@ -13,7 +13,7 @@ use Rattle.bw_store.specs.declared.fault.StoreFault.{StoreFault}
 use Rattle.bw_store.specs.declared.fault.StoreFault.TheVariants.{NoMemory, NothingOld}
 use Rattle.bw_store.specs.Kept.{Kept}
 use Rattle.bw_store.specs.Faults.{fault_of, FlushAnswers, FlushLeaves, refusal_by}
-use Rattle.bw_store.specs.Taking.{MayFlush}
+use Rattle.bw_store.specs.Emptied.{Emptied}
 
 abbrev pub fault_of_clean : CleanFault → StoreFault
 fault_of_clean clean.NothingOld = NothingOld
@@ -57,12 +57,13 @@ MoveLeaves old (Err fault) new = (cause : CleanFault) × (fault ≡ fault_of_cle
 abbrev pub RefusesClean : Kept → StoreFault → Kept → Type 0
 RefusesClean old fault new =
     (FlushAnswers (refusal_by true old) (Err fault) × FlushLeaves old (Err fault) new)
-    ⊎ ((middle : Kept) × MayFlush old middle
+    ⊎ ((middle : Kept) × Emptied true old middle
     × (((fault ≡ NoMemory) × (new ≡ middle)) ⊎ ((cause : CleanFault) × (fault ≡ fault_of_clean cause) × IsStopped middle cause new)))
 
 -- a cleaning of a store: the number of live segments is looked at first
 abbrev pub CleanLeaves : Kept → Result Cleaned StoreFault → Kept → Type 0
-CleanLeaves old (Ok cleaned) new = (middle : Kept) × MayFlush old middle × IsCleaned middle cleaned new
+CleanLeaves old (Ok cleaned) new =
+    (2 ≤ length old.log.live) × ((middle : Kept) × Emptied true old middle × IsCleaned middle cleaned new)
 CleanLeaves old (Err fault) new =
     ((length old.log.live < 2) × (fault ≡ NothingOld) × (new ≡ old)) ⊎ ((2 ≤ length old.log.live) × RefusesClean old fault new)
 

@@ -2,6 +2,7 @@
 
 use Rattle.std.specs.Prelude.{ℕ, ◌+◌, ◌-◌, ◌^◌, ◌≡◌, ◌≢◌, ◌≤◌, ◌<◌, ◌⊎◌, true, None, List, [], ◌∷◌, ◌++◌, length, drop}
 use Rattle.std.specs.List.{AllByRecursion}
+use mathlib.Core.List.{IsPrefix}
 use Rattle.bw_codec.specs.Grammar.{IsOp}
 use Rattle.bw_codec.specs.declared.record.Record.{Record}
 use Rattle.bw_codec.specs.declared.leaf.Leaf.{Leaf}
@@ -13,11 +14,14 @@ use Rattle.bw_page.specs.Standing.{Stand}
 use Rattle.bw_page.specs.Shown.{Shown}
 use Rattle.bw_buffer.specs.Filling.{Filling, frame_of}
 use Rattle.bw_ring.specs.Ends.{Ring}
+use Rattle.bw_versions.specs.Batches.{BatchData, entries_of}
+use Rattle.bw_versions.specs.Versioned.{Versioned}
 use Rattle.bw_log.specs.Contents as logs
 use Rattle.bw_log.specs.Segments.{following}
 use Rattle.bw_store.specs.declared.edge.Edge.{Edge}
-use Rattle.bw_store.specs.declared.entry.Entry.{Entry}
-use Rattle.bw_store.specs.History.{records, cut, upto, share}
+use Rattle.bw_versions.specs.declared.entry.Entry.{Entry}
+use Rattle.bw_versions.specs.Entries.{records}
+use Rattle.bw_store.specs.History.{cut, upto, share}
 use Rattle.bw_store.specs.Share.{Tells, TellsFirst, IsBaseBlock}
 use Rattle.bw_store.specs.Growing.{Grown, frames_upto}
 
@@ -40,6 +44,8 @@ pub record Kept : Type 0 where
   pub newest : List Place
   pub making : Filling
   pub log : logs.Contents
+  -- what readers see, and the start that they see it from
+  pub versions : Versioned
 
 -- the leaves up to the k-th cut, and the records of the k-th share
 abbrev pub leaves_at : Kept → ℕ → List Leaf
@@ -54,12 +60,12 @@ TellsBy s number leaves rs blocks =
     ((s.before ≡ 0) × (number ≡ 1) × TellsFirst s.filed.m leaves rs blocks)
     ⊎ ((s.before ≡ 0 → number ≢ 1) × Tells s.filed.m leaves rs blocks)
 
--- a frame of the cleaner's: nothing was put for it, and each of its blocks is a whole page
-abbrev pub IsMoved : List Record → List Block → Type 0
-IsMoved rs blocks = (rs ≡ []) × AllByRecursion IsBaseBlock blocks
+-- a frame of the cleaner's, which is not frame 1 of an opened store: nothing was put for it, and each of its blocks is a whole page
+abbrev pub IsMoved : Kept → ℕ → List Record → List Block → Type 0
+IsMoved s number rs blocks = (s.before ≡ 0 → number ≢ 1) × (rs ≡ []) × AllByRecursion IsBaseBlock blocks
 
 abbrev pub TellsAs : Kept → ℕ → List Leaf → List Record → List Block → Type 0
-TellsAs s number leaves rs blocks = TellsBy s number leaves rs blocks ⊎ IsMoved rs blocks
+TellsAs s number leaves rs blocks = TellsBy s number leaves rs blocks ⊎ IsMoved s number rs blocks
 
 abbrev pub TellsShare : Kept → Frame → Type 0
 TellsShare s frame = TellsAs s frame.number (leaves_at s (frame.number - s.before - 1)) (share_at s (frame.number - s.before)) frame.blocks
@@ -72,6 +78,15 @@ waiting s = records (drop (cut s.cuts s.durable) s.entries)
 abbrev pub AreCuts : ℕ → List ℕ → ℕ → Type 0
 AreCuts from [] end = from ≤ end
 AreCuts from (c ∷ cs) end = (from ≤ c) × AreCuts c cs end
+
+-- the leaves at open or reopen, all of them in memory
+abbrev pub start_of : Kept → Shown
+start_of s = record { m = s.filed.m; leaves = s.start; away = [] }
+
+-- readers start where the store did, and their book has a beginning of the entries up to the durable cut
+pub record AreVersions (s : Kept) : Type 0 where
+  pub start : s.versions.start ≡ start_of s
+  pub begins : IsPrefix (entries_of s.versions.entered) (upto s.cuts s.entries s.durable)
 
 pub record IsSound (s : Kept) : Type 0 where
   pub log : logs.IsSound s.log
@@ -100,6 +115,7 @@ pub record IsSound (s : Kept) : Type 0 where
   -- frames tell their shares, and so does the one in the making
   pub shares : AllByRecursion (λ f. s.before < f.number → TellsShare s f) (logs.counted s.log)
   pub tells : TellsBy s (s.before + s.durable + 1) (leaves_at s s.durable) (waiting s) s.making.blocks
+  pub shown : AreVersions s
 
 -- ---- one record taken
 
@@ -121,3 +137,9 @@ with_frame s fresh log =
 abbrev pub with_stop : Kept → logs.Contents → Kept
 with_stop s log =
     record s { cuts = s.cuts ++ length s.entries ∷ []; making = record s.making { is_sealed = true }; log = log }
+
+-- ---- these batches are published, and these are in the book
+
+abbrev pub with_batches : Kept → List BatchData → List BatchData → Kept
+with_batches s published entered =
+    record s { versions = record s.versions { published = published; entered = entered } }

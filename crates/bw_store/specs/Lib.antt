@@ -7,6 +7,7 @@ pub mod Faults
 pub mod Views
 pub mod Taken
 pub mod Settled
+pub mod Emptied
 pub mod Lanes
 pub mod Taking
 pub mod Opened
@@ -14,3 +15,4 @@ pub mod Reopened
 pub mod Following
 pub mod Reading
 pub mod Cleaning
+pub mod Showing

@@ -12,10 +12,11 @@ use Rattle.bw_ring.specs.declared.feed.Feed.{Feed}
 use Rattle.bw_ring.specs.Ends.{Ring, accepted, places_of, ring_of_feed}
 use Rattle.bw_ring.specs.Limits.{IsConfig as IsRings}
 use Rattle.bw_log.specs.Contents.{Contents}
+use Rattle.bw_versions.specs.Versioned.{Versioned}
 use Rattle.bw_log.specs.Limits.{fresh, AreLimits, IsFit}
 use Rattle.bw_store.specs.declared.config.Config.{Config}
 use Rattle.bw_store.specs.declared.edge.Edge.{Edge}
-use Rattle.bw_store.specs.declared.entry.Entry.{Entry}
+use Rattle.bw_versions.specs.declared.entry.Entry.{Entry}
 use Rattle.bw_store.specs.declared.fault.StoreFault.{StoreFault}
 use Rattle.bw_store.specs.declared.fault.StoreFault.TheVariants.{NoMemory, BadConfig}
 use Rattle.bw_store.specs.Kept.{Kept}
@@ -26,6 +27,10 @@ first_place = record { frame = 1; index = 0 }
 abbrev pub first_frame : Frame
 first_frame = record { number = 1; blocks = Base empty_leaf ∷ [] }
 
+-- one empty page
+abbrev pub one_empty : ℕ → Shown
+one_empty m = record { m = m; leaves = empty_leaf ∷ []; away = [] }
+
 abbrev pub no_edge : Edge
 no_edge = record { segment = 0; length = 0 }
 
@@ -34,10 +39,10 @@ abbrev pub first_making : ℕ → Filling
 first_making f = record { frame = 1; limit = f; blocks = Base empty_leaf ∷ []; is_sealed = false }
 
 -- a store that starts with these
-abbrev pub started : List Ring → List Entry → Shown → List Place → Filling → Contents → Kept
-started rings entries filed newest making log = record {
+abbrev pub started : List Ring → List Entry → Shown → List Place → Filling → Contents → Versioned → Kept
+started rings entries filed newest making log versions = record {
   rings = rings;
-  start = filed.leaves;
+  start = versions.start.leaves;
   before = 0;
   floor = 0;
   edge = no_edge;
@@ -48,18 +53,21 @@ started rings entries filed newest making log = record {
   newest = newest;
   making = making;
   log = log;
+  versions = versions;
 }
 
 -- a store of one empty page over spares alone
-abbrev pub opened : List Ring → ℕ → ℕ → List Holding → Kept
-opened rings m f spares =
-    started rings [] (record { m = m; leaves = empty_leaf ∷ []; away = [] }) (first_place ∷ []) (first_making f) (fresh m f spares)
+abbrev pub opened : List Ring → ℕ → ℕ → List Holding → Versioned → Kept
+opened rings m f spares versions = started rings [] (one_empty m) (first_place ∷ []) (first_making f) (fresh m f spares) versions
 
 -- ---- what a store is opened with
 
--- a ring for each of 1 to 64 writers, and 1 to 64 places for readers
+-- so many writers with rings of so many places each, 1 to 64 and 1 to 4,096, and 1 to 64 places for readers
+abbrev pub AreEnds : ℕ → ℕ → ℕ → Type 0
+AreEnds writers places readers = IsRings writers places × (1 ≤ readers) × (readers ≤ 64)
+
 abbrev pub AreWriters : Config → Type 0
-AreWriters c = IsRings c.writers c.places × (1 ≤ c.readers) × (c.readers ≤ 64)
+AreWriters c = AreEnds c.writers c.places c.readers
 
 abbrev pub IsConfig : Config → Type 0
 IsConfig c = AreWriters c × AreLimits c.m c.f
@@ -69,11 +77,16 @@ abbrev pub AreTaken : Config → List Holding → Type 0
 AreTaken c boxes = AreWriters c × IsFit c.m c.f boxes
 
 -- an unused feed for each writer
-pub record AreFresh (c : Config) (feeds : List Feed) : Type 0 where
-  pub accepted : map accepted feeds ≡ replicate c.writers []
-  pub places : map places_of (map ring_of_feed feeds) ≡ replicate c.writers c.places
+pub record AreUnused (writers places : ℕ) (feeds : List Feed) : Type 0 where
+  pub nothing : map accepted feeds ≡ replicate writers []
+  pub rooms : map places_of (map ring_of_feed feeds) ≡ replicate writers places
 
--- why a store was not opened: what was handed in is looked at before memory is
+abbrev pub AreFresh : Config → List Feed → Type 0
+AreFresh c feeds = AreUnused c.writers c.places feeds
+
+-- why no store was made of what was handed in, which is looked at before memory is
+abbrev pub IsUnmade : Type 0 → StoreFault → Type 0
+IsUnmade Fits cause = ((cause ≡ BadConfig) × (Fits → ⊥)) ⊎ ((cause ≡ NoMemory) × Fits)
+
 abbrev pub IsOpenFault : Config → List Holding → StoreFault → Type 0
-IsOpenFault c boxes cause =
-    ((cause ≡ BadConfig) × (AreTaken c boxes → ⊥)) ⊎ ((cause ≡ NoMemory) × AreTaken c boxes)
+IsOpenFault c boxes cause = IsUnmade (AreTaken c boxes) cause

@@ -1,18 +1,17 @@
 -- A store that was just opened again.
 
-use Rattle.std.specs.Prelude.{ℕ, ◌+◌, ◌-◌, ◌≤◌, ◌≡◌, ◌⊎◌, Option, Some, None, List, [], map, length, replicate, slice_get}
+use Rattle.std.specs.Prelude.{ℕ, ◌+◌, ◌-◌, Option, Some, None, List, [], length, slice_get}
 use Rattle.bw_codec.specs.declared.block.Place.{Place}
 use Rattle.bw_page.specs.Shown.{Shown}
 use Rattle.bw_buffer.specs.Filling.{Filling}
-use Rattle.bw_ring.specs.declared.feed.Feed.{Feed}
-use Rattle.bw_ring.specs.Ends.{Ring, accepted, places_of, ring_of_feed}
-use Rattle.bw_ring.specs.Limits.{IsConfig as IsRings}
+use Rattle.bw_ring.specs.Ends.{Ring}
 use Rattle.bw_log.specs.Contents.{Contents}
+use Rattle.bw_versions.specs.Versioned.{Versioned}
 use Rattle.bw_device.specs.Holding.{Holding}
 use Rattle.bw_store.specs.declared.edge.Edge.{Edge}
 use Rattle.bw_store.specs.declared.fault.StoreFault.{StoreFault}
-use Rattle.bw_store.specs.declared.fault.StoreFault.TheVariants.{NoMemory, BadConfig}
 use Rattle.bw_store.specs.Kept.{Kept}
+use Rattle.bw_store.specs.Opened.{AreEnds, IsUnmade}
 
 -- a segment's number and its length
 abbrev pub edge_at : ℕ → Option Holding → Edge
@@ -24,10 +23,10 @@ abbrev pub edge_of : Contents → Edge
 edge_of c = edge_at (c.number + (length c.live - 1)) (slice_get c.live (length c.live - 1))
 
 -- a store that starts with what was recovered, up to this frame, and has no history
-abbrev pub reopened : List Ring → ℕ → Shown → List Place → Filling → Contents → Kept
-reopened rings last filed newest making log = record {
+abbrev pub reopened : List Ring → ℕ → Shown → List Place → Filling → Contents → Versioned → Kept
+reopened rings last filed newest making log versions = record {
   rings = rings;
-  start = filed.leaves;
+  start = versions.start.leaves;
   before = last;
   floor = 0;
   edge = edge_of log;
@@ -38,18 +37,9 @@ reopened rings last filed newest making log = record {
   newest = newest;
   making = making;
   log = log;
+  versions = versions;
 }
 
--- so many writers, with so many places each, and readers
-abbrev pub AreEnds : ℕ → ℕ → ℕ → Type 0
-AreEnds writers places readers = IsRings writers places × (1 ≤ readers) × (readers ≤ 64)
-
--- an unused feed for each writer
-pub record AreUnused (writers places : ℕ) (feeds : List Feed) : Type 0 where
-  pub nothing : map accepted feeds ≡ replicate writers []
-  pub rooms : map places_of (map ring_of_feed feeds) ≡ replicate writers places
-
--- why a store was not opened again: what was handed in is looked at before memory is
+-- why a store was not opened again
 abbrev pub IsReopenFault : ℕ → ℕ → ℕ → StoreFault → Type 0
-IsReopenFault writers places readers cause =
-    ((cause ≡ BadConfig) × (AreEnds writers places readers → ⊥)) ⊎ ((cause ≡ NoMemory) × AreEnds writers places readers)
+IsReopenFault writers places readers cause = IsUnmade (AreEnds writers places readers) cause

@@ -5,7 +5,7 @@ ghost use Rattle.bw_ring.specs.Ends.{taken};
 ghost use Rattle.bw_log.specs.Segments.{following};
 ghost use Rattle.bw_store.specs.History.{streams};
 
-use crate::entry::Entry;
+use bw_versions::Entry;
 use crate::store::Store;
 
 impl Store {

@@ -3,7 +3,7 @@
 ghost use Rattle.std.specs.Prelude.{◌≡◌, ◌↔◌, ◌⊎◌, Some, None, IfOk, IfErr, IsErrOf};
 ghost use Rattle.std.specs.FinMap as finite;
 ghost use Rattle.bw_page.specs.Leaves.{leaf_at, plain};
-ghost use Rattle.bw_store.specs.History.{records};
+ghost use Rattle.bw_versions.specs.Entries.{records};
 ghost use Rattle.bw_store.specs.Reading.{leaves_now};
 
 use crate::fault::StoreFault;

@@ -1,16 +1,21 @@
 //! `bwlog replay`: a script over one store, line by line.
 
-ghost use Rattle.bwlog.specs.Session.{IsReady};
+ghost use Rattle.std.specs.Prelude.{IfOk};
+ghost use Rattle.bwlog.specs.Session.{IsReady, IsReadyBeside};
 
 use crate::answers::answer;
-use crate::calls::{LEASES, spare_of};
+use crate::calls::LEASES;
+use crate::home::{Home, Made};
 use crate::lines::{Lines, READS};
+use crate::miss::Miss;
 use crate::options::Options;
 use crate::refusal::Refusal;
+use crate::scan::write_found;
 use crate::script::{Command, LONGEST, parse};
 use crate::session::Session;
 use crate::stop::{Stop, missed, no_input, no_output, refuse};
 use crate::system::System;
+use bw_care::recover;
 use bw_device::{Desk, Segment};
 use std::io::{Read, Write};
 
@@ -42,7 +47,7 @@ fn do_line<R: System, I: Read, O: Write>(
     match parse(lines.line(), writers) {
         Ok(None) => Ok(Done::Answered(false)),
         Ok(Some(Command::Add)) => Ok(Done::Add),
-        Ok(Some(command)) => match answer(rt.alloc(), session, output, command) {
+        Ok(Some(command)) => match answer(rt, session, output, command) {
             Ok(()) => Ok(Done::Answered(false)),
             Err(miss) => Ok(Done::Answered(missed(output, number, miss)?)),
         },
@@ -61,11 +66,43 @@ fn added<O: Write>(output: &mut O, lease: u32, answer: Result<(), Refusal>) -> R
     }
 }
 
-/// Makes a store and runs a script over it, line by line; answers whether something was refused.
-/// Boxes are made here alone: a function that takes or gives a box, or a store, makes none.
+/// What comes of a script and of its next line: whether something was refused, or what ends it.
+fn joined(end: Result<bool, Stop>, answer: Result<bool, Stop>) -> Result<bool, Stop> {
+    Ok(end? | answer?)
+}
+
+/// A new store where all segments are new, and else the one that they hold, of which the two lines
+/// of a scan are printed.
+fn begin<R: System, O: Write>(
+    rt: &R,
+    options: &Options<'_>,
+    boxes: Vec<Box<dyn Segment>>,
+    are_new: bool,
+    desk: Desk,
+    home: Home,
+    output: &mut O,
+) -> Result<Session, Miss>
+    requires { Unit {0} }
+    ensures { IfOk result (λ s. IsReadyBeside s holding) }
+{
+    if are_new {
+        return Ok(Session::open(rt, options, boxes, desk, home)?);
+    }
+    match recover(rt.alloc(), boxes) {
+        Ok(found) => {
+            write_found(output, &found)?;
+            Ok(Session::reopen(rt, options, found, desk, home)?)
+        }
+        Err(fault) => Err(Miss::Refused(Refusal::from(fault.cause))),
+    }
+}
+
+/// Makes a store, or goes on from the one in a folder, and runs a script over it, line by line;
+/// answers whether something was refused. Boxes are made here alone: a function that takes or gives
+/// a box, or a store, makes none.
 pub fn replay<R: System, I: Read, O: Write>(
     rt: &R,
-    options: &Options,
+    options: &Options<'_>,
     input: &mut I,
     output: &mut O,
 ) -> Result<bool, Stop> {
@@ -75,39 +112,62 @@ pub fn replay<R: System, I: Read, O: Write>(
         Ok(desk) => desk,
         Err(cause) => return refuse(output, Refusal::from(cause)),
     };
+    let home = Home::open(rt, options.dir)?;
     let capacity = u64::from(options.capacity);
     let mut boxes: Vec<Box<dyn Segment>> = Vec::new(alloc);
-    for _ in 0..options.segments {
-        match spare_of(alloc, &mut desk, capacity) {
-            Ok(spare) => boxes.push(Box::new(alloc, spare)?)?,
-            Err(refusal) => return refuse(output, refusal),
+    let mut are_new = true;
+    for _ in 0..home.count(rt, options.segments)? {
+        let made = match home.segment(rt, &mut desk, capacity) {
+            Ok(made) => made,
+            Err(miss) => return missed(output, 0, miss),
+        };
+        are_new &= made.sight().1;
+        match made {
+            Made::Memory(segment) => boxes.push(Box::new(alloc, segment)?)?,
+            Made::File(segment) => boxes.push(Box::new(alloc, segment)?)?,
         }
     }
-    let mut session = match Session::open(alloc, options, boxes, desk) {
+    let mut session = match begin(rt, options, boxes, are_new, desk, home, output) {
         Ok(session) => session,
-        Err(refusal) => return refuse(output, refusal),
+        Err(miss) => return missed(output, 0, miss),
     };
-    let mut is_refused = false;
+    // The store is shut whatever ends the script.
+    let mut end = Ok(false);
     'lines: for number in 1..u64::MAX {
-        match do_line(
+        let answer = match do_line(
             rt,
             &mut session,
             &mut lines,
             output,
             number,
             options.writers,
-        )? {
-            Done::End => break,
-            Done::Answered(refused) => is_refused |= refused,
-            Done::Add => match session.spare(alloc, capacity) {
-                Ok(spare) => {
-                    let lease = spare.lease();
-                    let answer = session.add(Box::new(alloc, spare)?);
-                    is_refused |= added(output, lease, answer)?;
+        ) {
+            Ok(Done::End) => break,
+            Ok(Done::Answered(refused)) => Ok(refused),
+            Ok(Done::Add) => match session.spare(rt, capacity) {
+                Ok(made) => {
+                    let lease = made.sight().0;
+                    let answer = match made {
+                        Made::Memory(segment) => match Box::new(alloc, segment) {
+                            Ok(spare) => session.add(spare),
+                            Err(_) => Err(Refusal::NoMemory),
+                        },
+                        Made::File(segment) => match Box::new(alloc, segment) {
+                            Ok(spare) => session.add(spare),
+                            Err(_) => Err(Refusal::NoMemory),
+                        },
+                    };
+                    added(output, lease, answer)
                 }
-                Err(refusal) => is_refused |= refuse(output, refusal)?,
+                Err(miss) => missed(output, number, miss),
             },
+            Err(stop) => Err(stop),
+        };
+        end = joined(end, answer);
+        if end.is_err() {
+            break;
         }
     }
-    Ok(is_refused)
+    session.shut(rt);
+    end
 }

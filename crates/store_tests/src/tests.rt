@@ -5,6 +5,7 @@ mod boxes;
 mod cleaning;
 mod opening;
 mod putting;
+mod readers;
 mod reading;
 mod reopening;
 mod settling;

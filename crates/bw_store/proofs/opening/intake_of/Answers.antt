@@ -13,4 +13,4 @@ pub invariant_of-intake-clause-takes : goal.invariant_of-intake-clause-takes
 invariant_of-intake-clause-takes c = fresh_streams c.in-Ok.ends.items _ c.args.config.now.writers c.in-Ok.ensures.taken c.new.ensures.items
 
 pub returns-clause-unused : goal.returns-clause-unused
-returns-clause-unused c = record { accepted = c.in-Ok.ensures.accepted; places = c.in-Ok.ensures.places }
+returns-clause-unused c = record { nothing = c.in-Ok.ensures.accepted; rooms = c.in-Ok.ensures.places }

@@ -14,7 +14,7 @@ returns-in_err-flush_making-clause-leaves g c =
 pub returns-in_err-enter-2-clause-leaves : goal.returns-in_err-enter-2-clause-leaves
 returns-in_err-enter-2-clause-leaves g c =
     let p = err_from_is_err_and c.from_residual-in_err-enter-2.result c.from_residual-in_err-enter-2.ensures.1 in
-    rw (p.1, p.2) (entered_not _ _ _ c.in_err-enter-2.field-0.0 (flushed_or_not _ _ _ c.in_ok-flush_making.ensures.leaves) c.in_err-enter-2.ensures.unchanged
+    rw (p.1, p.2) (entered_not _ _ _ c.in_err-enter-2.field-0.0 c.in_ok-plan.ensures.works (flushed_or_not _ _ _ c.in_ok-flush_making.ensures.leaves) c.in_err-enter-2.ensures.unchanged
     c.in_err-enter-2.ensures.refused)
 
 pub returns-clause-leaves : goal.returns-clause-leaves
