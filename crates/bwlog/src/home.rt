@@ -1,7 +1,9 @@
 //! Where the segments of a run stand: in memory, or in the files of a folder.
 
+use crate::calls::LEASES;
 use crate::miss::Miss;
 use crate::refusal::Refusal;
+use crate::stop::Stop;
 use crate::system::System;
 use bw_device::{Desk, Lease, MemSegment, Segment};
 use bw_file::{FileSegment, Folder, FolderFault};
@@ -30,6 +32,14 @@ impl Made {
             Made::Memory(segment) => (segment.lease(), segment.len() == 0),
             Made::File(segment) => (segment.lease(), segment.len() == 0),
         }
+    }
+}
+
+/// A desk of the program's leases, as many as a desk may have or fewer: only memory can be wanting.
+pub fn desk_of(alloc: Global) -> Result<Desk, Stop> {
+    match Desk::new(alloc, LEASES) {
+        Ok(desk) => Ok(desk),
+        Err(_) => Err(Stop::NoMemory),
     }
 }
 

@@ -4,8 +4,7 @@ ghost use Rattle.std.specs.Prelude.{IfOk};
 ghost use Rattle.bwlog.specs.Session.{IsReady, IsReadyBeside};
 
 use crate::answers::answer;
-use crate::calls::LEASES;
-use crate::home::{Home, Made};
+use crate::home::{Home, Made, desk_of};
 use crate::lines::{Lines, READS};
 use crate::miss::Miss;
 use crate::options::Options;
@@ -108,12 +107,10 @@ pub fn replay<R: System, I: Read, O: Write>(
 ) -> Result<bool, Stop> {
     let alloc = rt.alloc();
     let mut lines = Lines::new(alloc, input, READS, LONGEST).map_err(no_input)?;
-    let mut desk = match Desk::new(alloc, LEASES) {
-        Ok(desk) => desk,
-        Err(cause) => return refuse(output, Refusal::from(cause)),
-    };
+    let mut desk = desk_of(alloc)?;
     let home = Home::open(rt, options.dir)?;
     let capacity = u64::from(options.capacity);
+    let writers = options.writers;
     let mut boxes: Vec<Box<dyn Segment>> = Vec::new(alloc);
     let mut are_new = true;
     for _ in 0..home.count(rt, options.segments)? {
@@ -134,14 +131,7 @@ pub fn replay<R: System, I: Read, O: Write>(
     // The store is shut whatever ends the script.
     let mut end = Ok(false);
     'lines: for number in 1..u64::MAX {
-        let answer = match do_line(
-            rt,
-            &mut session,
-            &mut lines,
-            output,
-            number,
-            options.writers,
-        ) {
+        let answer = match do_line(rt, &mut session, &mut lines, output, number, writers) {
             Ok(Done::End) => break,
             Ok(Done::Answered(refused)) => Ok(refused),
             Ok(Done::Add) => match session.spare(rt, capacity) {

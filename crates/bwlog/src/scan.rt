@@ -3,7 +3,7 @@
 ghost use Rattle.bw_care.specs.Views.{IsSound};
 
 use crate::calls::LEASES;
-use crate::home::taken;
+use crate::home::{desk_of, taken};
 use crate::lines::{Lines, READS};
 use crate::miss::Miss;
 use crate::printed::write_page;
@@ -103,10 +103,7 @@ pub fn scan<R: System, I: Read, O: Write>(
 ) -> Result<bool, Stop> {
     let alloc = rt.alloc();
     let mut lines = Lines::new(alloc, input, READS, LONGEST).map_err(no_input)?;
-    let mut desk = match Desk::new(alloc, LEASES) {
-        Ok(desk) => desk,
-        Err(cause) => return refuse(output, Refusal::from(cause)),
-    };
+    let mut desk = desk_of(alloc)?;
     let mut boxes: Vec<Box<dyn Segment>> = Vec::new(alloc);
     for number in 1..u64::MAX {
         if !lines.read_line().map_err(no_input)? {
@@ -143,10 +140,7 @@ fn copy_of<R: System>(
 pub fn scan_folder<R: System, O: Write>(rt: &R, path: &str, output: &mut O) -> Result<bool, Stop> {
     let alloc = rt.alloc();
     let reader = FolderReader::open(rt, path)?;
-    let mut desk = match Desk::new(alloc, LEASES) {
-        Ok(desk) => desk,
-        Err(cause) => return refuse(output, Refusal::from(cause)),
-    };
+    let mut desk = desk_of(alloc)?;
     let mut boxes: Vec<Box<dyn Segment>> = Vec::new(alloc);
     for number in reader.leases(rt)?.as_slice() {
         match copy_of(rt, &reader, &mut desk, *number) {
