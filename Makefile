@@ -19,5 +19,5 @@ test:
 
 wrong:
 	copy=$$(mktemp -d) && git clone -q . $$copy && cd $$copy && for crate in wrong/*; do \
-	  name=$$(basename $$crate); rm -f crates/$$name/must-fail/*.edit; cp $$crate/*.edit crates/$$name/must-fail/; \
+	  name=$$(basename $$crate); mkdir -p crates/$$name/must-fail; rm -f crates/$$name/must-fail/*.edit; cp $$crate/*.edit crates/$$name/must-fail/; \
 	done && rt must-fail $$(ls wrong)

@@ -36,7 +36,7 @@ use Rattle.bw_log.proofs.Walks.{content_push}
 use Rattle.bw_store.specs.declared.fault.StoreFault.{StoreFault}
 use Rattle.bw_store.specs.declared.fault.StoreFault.TheVariants.{NoMemory, BadConfig, NoSegment, Device, Failed, Spent, NoPage, NothingOld}
 use Rattle.bw_store.specs.Adding.{blocks_for, result_of}
-use Rattle.bw_store.specs.History.{records}
+use Rattle.bw_versions.specs.Entries.{records}
 use Rattle.bw_store.specs.Kept.{Kept, IsSound}
 use Rattle.bw_store.specs.Faults.{fault_of}
 use Rattle.bw_store.specs.Reading.{leaves_now, HasRead, ReadLeaves, with_log}

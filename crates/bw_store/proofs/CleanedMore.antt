@@ -31,11 +31,13 @@ use Rattle.bw_care.proofs.BoxesGrown.{same_roster}
 use Rattle.bw_codec.specs.Grammar.{frame_bytes, header_bytes}
 use Rattle.bw_device.specs.Holding.{Holding, appended}
 use Rattle.bw_log.specs.Appends.{with_last, begun, begun_with, header_of, roomy, wants_segment}
-use Rattle.bw_store.specs.History.{records, upto}
+use Rattle.bw_versions.specs.Entries.{records}
+use Rattle.bw_store.specs.History.{upto}
 use Rattle.bw_store.specs.Growing.{frames_upto}
 use Rattle.bw_store.specs.Kept.{Kept, IsSound}
 use Rattle.bw_store.specs.Settled.{IsSettled}
-use Rattle.bw_store.specs.Cleaning.{end_by, with_moved, fault_of_clean, MoveLeaves, CleanLeaves, Emptied, HasBoxesBut}
+use Rattle.bw_store.specs.Cleaning.{end_by, with_moved, fault_of_clean, MoveLeaves, CleanLeaves, HasBoxesBut}
+use Rattle.bw_store.specs.Emptied.{Emptied}
 use Rattle.bw_store.proofs.FramesBehind.{end_is, first_ahead, none_above, placed_page, pages_counted}
 use Rattle.bw_store.proofs.MovedMore.{Adds, Moves, high, next_then, moved_sound, kept_shares, last_cut, all_cuts}
 
@@ -350,6 +352,9 @@ moved_follows s frames floor newest making log new low is = record {
   cuts = ap (λ (k : Kept). k.cuts) is;
   appended = (let e = ap (λ (k : Kept). k.durable) is in omega arith);
   floor = (let e = ap (λ (k : Kept). k.floor) is in omega arith);
+  book = ap (λ (k : Kept). k.versions.book) is;
+  batches_more = [];
+  published = ap (λ (k : Kept). k.versions.published) is ∙ sym (append-nil s.versions.published);
 }
 
 pub move_follows : (s new : Kept) (r : Result Cleaned StoreFault) → s.floor ≤ s.durable → MoveLeaves s r new → Follows s new
@@ -384,14 +389,14 @@ move_boxes old s new (Ok cleaned) same left = left.log.leases ∙ ap (drop 1) sa
 move_boxes old s new (Err fault) same left = cause_roster s.log new.log left.0 left.2.log ∙ same
 
 -- the whole call
-pub clean_leaves : (old s new : Kept) (r : Result Cleaned StoreFault) → 2 ≤ length old.log.live → Emptied old s → MoveLeaves s r new → CleanLeaves old r new
+pub clean_leaves : (old s new : Kept) (r : Result Cleaned StoreFault) → 2 ≤ length old.log.live → Emptied true old s → MoveLeaves s r new → CleanLeaves old r new
 clean_leaves old s new (Ok cleaned) two may left = (two, (s, may, left))
 clean_leaves old s new (Err fault) two may left = inr (two, inr (s, may, inr left))
 
 pub follows_via : (old flushed begun new : Kept) → Follows old flushed → begun ≡ flushed → Follows begun new → Follows old new
 follows_via old flushed begun new first same rest = follow_then old flushed new first (subst (λ (s : Kept). Follows s new) same rest)
 
-pub reserve_leaves : (old s new : Kept) → 2 ≤ length old.log.live → Emptied old s → new ≡ s → CleanLeaves old (Err store.NoMemory) new
+pub reserve_leaves : (old s new : Kept) → 2 ≤ length old.log.live → Emptied true old s → new ≡ s → CleanLeaves old (Err store.NoMemory) new
 reserve_leaves old s new two may same = inr (two, inr (s, may, inl (refl, same)))
 
 nothing_by : (s new : Kept) (cause : CleanFault) → 2 ≤ length s.log.live → store.NothingOld ≡ fault_of_clean cause → care.Refuses cause s.log new.log → ⊥

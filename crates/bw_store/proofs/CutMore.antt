@@ -7,7 +7,8 @@ use Rattle.bw_codec.specs.declared.leaf.Leaf.{Leaf}
 use Rattle.bw_codec.specs.declared.block.Frame.{Frame}
 use Rattle.bw_page.specs.Leaves.{pages}
 use Rattle.bw_page.proofs.Sorted.{all-zip}
-use Rattle.bw_store.specs.History.{records, cut, upto, share}
+use Rattle.bw_versions.specs.Entries.{records}
+use Rattle.bw_store.specs.History.{cut, upto, share}
 use Rattle.bw_store.specs.Kept.{Kept, leaves_at, share_at, TellsAs, TellsShare}
 
 module _ (s : Kept) (more : List ℕ) (same_cut : (k : ℕ) → k ≤ s.durable → cut more k ≡ cut s.cuts k) where

@@ -9,7 +9,8 @@ use Rattle.bw_buffer.specs.Filling.{Filling}
 use Rattle.bw_log.specs.Contents.{roster}
 use Rattle.bw_log.specs.Contents as logs
 use Rattle.bw_log.specs.Appends.{IsSameLog}
-use Rattle.bw_store.specs.declared.entry.Entry.{Entry}
+use Rattle.bw_versions.specs.Batches.{BatchData}
+use Rattle.bw_versions.specs.declared.entry.Entry.{Entry}
 use Rattle.bw_store.specs.declared.fault.StoreFault.{StoreFault}
 use Rattle.bw_store.specs.Kept.{Kept, with_frame, with_stop}
 use Rattle.bw_store.specs.Taken.{taken}
@@ -32,9 +33,13 @@ follows_as old new e = record {
     cuts = ap (λ (s : Kept). s.cuts) e ∙ sym (append-nil old.cuts);
     appended = (let k = ap (λ (s : Kept). s.durable) e in omega arith);
     floor = (let k = ap (λ (s : Kept). s.floor) e in omega arith);
+    book = ap (λ (s : Kept). s.versions.book) e;
+    batches_more = [];
+    published = ap (λ (s : Kept). s.versions.published) e ∙ sym (append-nil old.versions.published);
   };
   boxes = record { same = ap (λ (s : Kept). roster s.log) e };
   grew = ap (λ (s : Kept). length s.entries) e ∙ omega arith;
+  quiet = ap (λ (s : Kept). s.versions) e;
 }
 
 pub follow_then : (a b c : Kept) → Follows a b → Follows b c → Follows a c
@@ -54,6 +59,11 @@ follow_then a b c f g =
       cuts = g.cuts ∙ ap (λ (cs : List ℕ). cs ++ g.cuts_more) f.cuts ∙ append_assoc a.cuts f.cuts_more g.cuts_more;
       appended = omega arith;
       floor = omega arith;
+      book = g.book ∙ f.book;
+      batches_more = f.batches_more ++ g.batches_more;
+      published =
+          g.published ∙ ap (λ (bs : List BatchData). bs ++ g.batches_more) f.published
+          ∙ append_assoc a.versions.published f.batches_more g.batches_more;
     }
 
 pub follows_then : {n k : ℕ} (a b c : Kept) → Turned n a b → Turned k b c → Turned (n + k) a c
@@ -64,6 +74,7 @@ follows_then {n} {k} a b c x y =
       follows = follow_then a b c x.follows y.follows;
       boxes = record { same = y.boxes.same ∙ x.boxes.same };
       grew = omega arith;
+      quiet = y.quiet ∙ x.quiet;
     }
 
 -- one cut more, whether its frame was appended or not
@@ -81,9 +92,13 @@ cut_turned old durable making log risen same = record {
     cuts_more = length old.entries ∷ [];
     cuts = refl;
     appended = risen;
+    book = refl;
+    batches_more = [];
+    published = sym (append-nil old.versions.published);
   };
   boxes = record { same = same.leases };
   grew = omega arith;
+  quiet = refl;
 }
 
 follows_flushed : (old new : Kept) (number : ℕ) → Flushed old number new → Turned 0 old new
@@ -115,8 +130,12 @@ follows_took lane old new t =
         cuts_more = [];
         cuts = sym (append-nil t.middle.cuts);
         appended = omega arith;
+        book = refl;
+        batches_more = [];
+        published = sym (append-nil t.middle.versions.published);
       };
       boxes = record { same = refl };
+      quiet = refl;
       grew = length-append t.middle.entries (record { writer = lane; item = t.item } ∷ []);
     } in
     let last : Turned (1 + 0) t.middle new = follows_then t.middle (taken t.middle lane t.item t.back) new step
@@ -138,9 +157,13 @@ follows_read old new r =
         cuts_more = [];
         cuts = sym (append-nil old.cuts);
         appended = omega arith;
+        book = refl;
+        batches_more = [];
+        published = sym (append-nil old.versions.published);
       };
       boxes = record { same = r.kept.leases };
       grew = omega arith;
+      quiet = refl;
     } in
     follows_then old (with_log old new.log) new step (follows_as (with_log old new.log) new r.is))
 
@@ -212,7 +235,7 @@ refused_then a b c cause x r = record { middle = r.middle; took = in_turn_then a
 pub refused_turned : {n : ℕ} (old new : Kept) (cause : StoreFault) → RefusedAfter n old cause new → Turned n old new
 refused_turned {n} old new cause r =
     (let all : Turned (n + 0) old new = follows_then old r.middle new r.took.turned (follows_refused r.middle new cause r.refuses)
-    in record { follows = all.follows; boxes = all.boxes; grew = (let g = all.grew in omega arith) })
+    in record { follows = all.follows; boxes = all.boxes; grew = (let g = all.grew in omega arith); quiet = all.quiet })
 
 pub any_then : (lane : ℕ) (a b c : Kept) → TookSome a b → Took lane b c → TookSome a c
 any_then lane a b c x t = (x.0 + 1, took_more lane a b c x.1 t)

@@ -25,13 +25,16 @@ use Rattle.bw_log.proofs.Adding.{before_next, following_is, filter_all}
 use Rattle.std.proofs.lemmas.List.Elements.{filter-append}
 use Rattle.std.proofs.lemmas.Bool.{leb-true, leb-false, le-leb, lt-leb}
 use Rattle.std.specs.Prelude.{nat_le}
-use Rattle.bw_store.specs.declared.entry.Entry.{Entry}
-use Rattle.bw_store.specs.History.{records, cut, upto, share}
+use Rattle.bw_versions.specs.declared.entry.Entry.{Entry}
+use Rattle.bw_versions.specs.Entries.{records}
+use Rattle.bw_store.specs.History.{cut, upto, share}
 use Rattle.bw_store.specs.Growing.{Grown, frames_upto}
 use Rattle.bw_store.specs.Kept.{Kept, leaves_at, TellsBy, TellsAs, TellsShare, waiting, AreCuts, IsSound, with_frame, with_stop}
+use Rattle.bw_store.proofs.Readers.{later_cut}
 use Rattle.bw_store.proofs.FramesBehind.{following_fits}
 use Rattle.bw_store.proofs.CutMore.{same_leaves, old_shares}
 use Rattle.bw_store.proofs.Telling.{tells_none}
+use Rattle.bw_store.proofs.RecordMore.{cut_within}
 
 -- ---- an empty frame behind others
 
@@ -218,6 +221,11 @@ module _ (s : Kept) (h : IsSound s) (works : s.log.is_failed ≡ false) where
             (subst (λ (rs : List Record). TellsBy t (s.before + (s.durable + 1) + 1) (leaves_at t (s.durable + 1)) rs [])
             (sym (ap (λ c. records (drop c s.entries)) last_cut ∙ ap records (drop_of_length-le s.entries (omega arith))))
             (inr (λ zeroth one. omega arith, tells_none s.filed.m (leaves_at t (s.durable + 1)))));
+        shown = record {
+          start = h.shown.start;
+          begins = later_cut s more (s.durable + 1) h.shown
+              (let all = last_cut in let within = cut_within s.cuts (length s.entries) s.durable h.ordered in omega arith);
+        };
       }
 
   -- after an append that failed
@@ -249,4 +257,8 @@ module _ (s : Kept) (h : IsSound s) (works : s.log.is_failed ≡ false) where
             (sym (same_leaves s more same_cut s.durable (omega arith)))
             (subst (λ (rs : List Record). TellsBy t (s.before + s.durable + 1) (leaves_at s s.durable) rs s.making.blocks)
             (sym (ap (λ c. records (drop c s.entries)) (same_cut s.durable (omega arith)))) h.tells);
+        shown = record {
+          start = h.shown.start;
+          begins = later_cut s more s.durable h.shown (let same = same_cut s.durable (omega arith) in omega arith);
+        };
       }

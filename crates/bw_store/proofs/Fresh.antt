@@ -21,10 +21,13 @@ use Rattle.bw_log.specs.Contents as logs
 use Rattle.bw_log.specs.Limits.{fresh}
 use Rattle.bw_log.specs.Places.{place_of}
 use Rattle.bw_page.specs.Shown.{Shown}
-use Rattle.bw_store.specs.declared.entry.Entry.{Entry}
-use Rattle.bw_store.specs.Opened.{first_place, first_frame, first_making, started, opened}
+use Rattle.bw_versions.specs.declared.entry.Entry.{Entry}
+use Rattle.bw_versions.specs.Versioned.{Versioned}
+use Rattle.bw_store.specs.Opened.{first_place, first_frame, first_making, one_empty, started, opened}
+use Rattle.bw_store.specs.Showing.{AreUnseen}
 use Rattle.bw_store.specs.Kept.{Kept, IsSound}
 use Rattle.bw_store.proofs.Telling.{tells_none}
+use Rattle.bw_store.proofs.Readers.{unseen_begins}
 
 first_stands : (m : ℕ) → Stand m (first_frame ∷ []) (empty_leaf ∷ [])
 first_stands m = record {
@@ -42,8 +45,9 @@ first_newest (suc (suc n)) h =
     let none : slice_get (first_place ∷ []) (suc (suc n) - 1) ≡ None = slice_get_past (first_place ∷ []) (suc (suc n) - 1) (omega arith) in
     none ∙ sym (ap (λ (b : Bool). if b then Some first_place else None) apart))
 
-pub opened_sound : (rings : List Ring) (m f : ℕ) (spares : List Holding) → logs.IsSound (fresh m f spares) → IsSound (opened rings m f spares)
-opened_sound rings m f spares sound = record {
+opened_by : (rings : List Ring) (m f : ℕ) (spares : List Holding) (versions : Versioned) → versions.entered ≡ []
+    → logs.IsSound (fresh m f spares) → IsSound (opened rings m f spares (record versions { start = one_empty m }))
+opened_by rings m f spares versions unseen sound = record {
   log = sound;
   pairs = refl;
   limit = refl;
@@ -69,7 +73,13 @@ opened_sound rings m f spares sound = record {
   beyond = inl refl;
   shares = tt;
   tells = inl (refl, refl, (refl, tells_none m (empty_leaf ∷ [])));
+  shown = record { start = refl; begins = unseen_begins versions [] unseen };
 }
+
+pub opened_sound : (rings : List Ring) (m f : ℕ) (spares : List Holding) (versions : Versioned) → versions.start ≡ one_empty m → versions.entered ≡ []
+    → logs.IsSound (fresh m f spares) → IsSound (opened rings m f spares versions)
+opened_sound rings m f spares versions start unseen sound =
+    subst (λ (s : Shown). IsSound (opened rings m f spares (record versions { start = s }))) (sym start) (opened_by rings m f spares versions unseen sound)
 
 pub first_fits : (f n : ℕ) (blocks done : List Block) → 16384 ≤ f → done ≡ [] → blocks ≡ Base empty_leaf ∷ []
     → (20 + length (body_bytes done)) + length (body_bytes blocks) ≤ f
@@ -87,14 +97,14 @@ fits_at b f items shown is h made same =
     subst (λ (x : Filling). size_of x + length (body_bytes shown) ≤ x.limit) (sym is) (first_fits f 0 shown [] h refl (same ∙ made))
 
 -- a store of the parts that `open` makes is an opened one
-pub started_sound : {k : Kept} (rings : List Ring) (entries : List Entry) (filed : Shown) (newest : List Place) (making : Filling) (log : logs.Contents)
-    (m f : ℕ) (spares : List Holding)
-    → k ≡ started rings entries filed newest making log → entries ≡ [] → filed ≡ record { m = m; leaves = empty_leaf ∷ []; away = [] }
-    → newest ≡ first_place ∷ [] → making ≡ first_making f → log ≡ fresh m f spares → logs.IsSound log → IsSound k
-started_sound rings entries filed newest making log m f spares is e1 e2 e3 e4 e5 sound =
-    let same : started rings entries filed newest making log ≡ opened rings m f spares =
-    ap (λ (x : List Entry). started rings x filed newest making log) e1 ∙ ap (λ (x : Shown). started rings [] x newest making log) e2
-    ∙ ap (λ (x : List Place). started rings [] (record { m = m; leaves = empty_leaf ∷ []; away = [] }) x making log) e3
-    ∙ ap (λ (x : Filling). started rings [] (record { m = m; leaves = empty_leaf ∷ []; away = [] }) (first_place ∷ []) x log) e4
-    ∙ ap (λ (x : logs.Contents). started rings [] (record { m = m; leaves = empty_leaf ∷ []; away = [] }) (first_place ∷ []) (first_making f) x) e5 in
-    subst IsSound (sym (is ∙ same)) (opened_sound rings m f spares (subst logs.IsSound e5 sound))
+pub started_sound : {k : Kept} {readers : ℕ} (rings : List Ring) (entries : List Entry) (filed : Shown) (newest : List Place) (making : Filling) (log : logs.Contents)
+    (versions : Versioned) (m f : ℕ) (spares : List Holding)
+    → k ≡ started rings entries filed newest making log versions → entries ≡ [] → filed ≡ one_empty m
+    → newest ≡ first_place ∷ [] → making ≡ first_making f → log ≡ fresh m f spares → logs.IsSound log → AreUnseen (one_empty m) readers versions → IsSound k
+started_sound rings entries filed newest making log versions m f spares is e1 e2 e3 e4 e5 sound unseen =
+    let same : started rings entries filed newest making log versions ≡ opened rings m f spares versions =
+    ap (λ (x : List Entry). started rings x filed newest making log versions) e1 ∙ ap (λ (x : Shown). started rings [] x newest making log versions) e2
+    ∙ ap (λ (x : List Place). started rings [] (one_empty m) x making log versions) e3
+    ∙ ap (λ (x : Filling). started rings [] (one_empty m) (first_place ∷ []) x log versions) e4
+    ∙ ap (λ (x : logs.Contents). started rings [] (one_empty m) (first_place ∷ []) (first_making f) x versions) e5 in
+    subst IsSound (sym (is ∙ same)) (opened_sound rings m f spares versions unseen.start unseen.entered (subst logs.IsSound e5 sound))

@@ -10,7 +10,7 @@ use Rattle.std.proofs.lemmas.Bool.{eq-eqb, ne_eqb, leb-true, leb-false}
 use Rattle.std.proofs.lemmas.List.{length-map, length-replicate}
 use mathlib.Core.List.{IsPrefix}
 use Rattle.bw_codec.specs.declared.record.Record.{Record}
-use Rattle.bw_store.specs.declared.entry.Entry.{Entry}
+use Rattle.bw_versions.specs.declared.entry.Entry.{Entry}
 use Rattle.std.specs.Prelude.{IfSome, IfNone}
 use Rattle.bw_ring.specs.declared.lane.Lane.{Lane}
 use Rattle.bw_ring.specs.declared.feed.Feed.{Feed}

@@ -5,6 +5,7 @@ pub mod TailSteps
 pub mod TailLists
 pub mod Growing
 pub mod RecordMore
+pub mod Readers
 pub mod CutMore
 pub mod FramesBehind
 pub mod FrameMore
@@ -21,5 +22,6 @@ pub mod Planned
 pub mod Shares
 pub mod Fresh
 pub mod FollowMore
+pub mod Showing
 pub mod Logs
 pub mod AwayPages

@@ -45,6 +45,7 @@ log_sound s new h c = record {
       (h.stands k low high from);
   shares = subst (λ (fs : List Frame). All (λ f. s.before < f.number → TellsShare s f) fs) (sym c.frames) h.shares;
   tells = h.tells;
+  shown = record { start = h.shown.start; begins = h.shown.begins };
 }
 
 pub log_follows : (s : Kept) (new : logs.Contents) → Follows s (with_log s new)
@@ -59,6 +60,9 @@ log_follows s new = record {
   cuts = sym (append-nil s.cuts);
   appended = omega arith;
   floor = omega arith;
+  book = refl;
+  batches_more = [];
+  published = sym (append-nil s.versions.published);
 }
 
 -- a log whose current segment was closed

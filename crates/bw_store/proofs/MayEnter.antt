@@ -24,7 +24,7 @@ use Rattle.bw_ring.specs.Ends.{Ring, ring_of_lane}
 use Rattle.std.proofs.lemmas.List.{length-map}
 use Rattle.bw_log.specs.Contents as logs
 use Rattle.bw_log.proofs.Adding.{following_is}
-use Rattle.bw_store.specs.declared.entry.Entry.{Entry}
+use Rattle.bw_versions.specs.declared.entry.Entry.{Entry}
 use Rattle.bw_store.specs.Adding.{end_of, after_place, result_of, blocks_for, places_after, noted}
 use Rattle.bw_store.specs.Taken.{taken}
 use Rattle.bw_store.specs.Kept.{Kept, Filed, IsSound}

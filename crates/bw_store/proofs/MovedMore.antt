@@ -27,13 +27,15 @@ use Rattle.bw_log.proofs.Entries.{all_append}
 use Rattle.bw_log.proofs.GivenUp.{filter_none}
 use Rattle.bw_care.specs.Cleaning.{IsRewritten}
 use Rattle.bw_care.proofs.BasesLeave.{stand_more}
-use Rattle.bw_store.specs.declared.entry.Entry.{Entry}
-use Rattle.bw_store.specs.History.{records, cut, upto, share}
+use Rattle.bw_versions.specs.declared.entry.Entry.{Entry}
+use Rattle.bw_versions.specs.Entries.{records}
+use Rattle.bw_store.specs.History.{cut, upto, share}
 use Rattle.bw_store.specs.Share.{IsBaseBlock}
 use Rattle.bw_store.specs.Growing.{Grown, frames_upto}
 use Rattle.bw_store.specs.Kept.{Kept, leaves_at, TellsAs, TellsBy, waiting, AreCuts, IsSound}
 use Rattle.bw_store.specs.Settled.{IsSettled}
 use Rattle.bw_store.specs.Cleaning.{with_moved}
+use Rattle.bw_store.proofs.Readers.{later_cut}
 use Rattle.bw_store.proofs.CutMore.{same_leaves, old_shares}
 use Rattle.bw_store.proofs.EmptyBehind.{AreNoted, grown_empty}
 use Rattle.bw_store.proofs.FramesBehind.{from_behind, from_within, next_after, first_ahead, same_end}
@@ -313,6 +315,11 @@ module _ (s : Kept) (written : List Frame) (a : Adds s written) where
             (subst (λ (rs : List Record). TellsBy t (s.before + (s.durable + n) + 1) (leaves_at t (s.durable + n)) rs [])
             (sym (ap records (none_then (s.durable + n) (omega arith) (omega arith))))
             (inr (λ zeroth one. not_first s h a.empty zeroth (omega arith), tells_none s.filed.m (leaves_at t (s.durable + n)))));
+        shown = record {
+          start = h.shown.start;
+          begins = later_cut s more (s.durable + n) h.shown
+              (let all = full_cut (s.durable + n) (omega arith) (omega arith) in let now = a.done.cut.1 in omega arith);
+        };
       }
 
   -- all that the log says of them, whether its oldest segment was given up or not

@@ -15,8 +15,11 @@ use Rattle.bw_page.specs.Standing.{Stand}
 use Rattle.bw_page.proofs.Sorted.{all-map, all-push}
 use Rattle.bw_buffer.specs.Filling.{frame_of}
 use Rattle.bw_log.specs.Contents as logs
-use Rattle.bw_store.specs.declared.entry.Entry.{Entry}
-use Rattle.bw_store.specs.History.{records, cut, upto, share}
+use Rattle.bw_versions.specs.declared.entry.Entry.{Entry}
+use mathlib.Core.List.{IsPrefix}
+use Rattle.bw_versions.specs.Batches.{entries_of}
+use Rattle.bw_versions.specs.Entries.{records}
+use Rattle.bw_store.specs.History.{cut, upto, share}
 use Rattle.bw_store.specs.Share.{TellsFirst}
 use Rattle.bw_store.specs.Adding.{end_of, blocks_for}
 use Rattle.bw_store.specs.Growing.{frames_upto}
@@ -144,4 +147,9 @@ module _ (s : Kept) (writer : ℕ) (item : Record) (back : Place) (t : TakesOne 
             (subst (λ (ls : List Leaf). TellsBy now (s.before + s.durable + 1) (leaves_at s s.durable) (waiting s ++ item ∷ [])
             (s.making.blocks ++ blocks_for s.filed.m ls back (end_of (frame_of s.making)) item)) (waiting_leads s h)
             (tells_now (s.before + s.durable + 1) h.tells)));
+        shown = record {
+          start = h.shown.start;
+          begins = subst (IsPrefix (entries_of s.versions.entered))
+              (sym (upto_more s.cuts s.entries (record { writer = writer; item = item } ∷ []) s.durable h.ordered)) h.shown.begins;
+        };
       }

@@ -27,6 +27,9 @@ use Rattle.bw_care.specs.Recovery.{last_number}
 use Rattle.bw_care.specs.declared.recovered.Recovered.{Recovered}
 use Rattle.bw_store.specs.Growing.{Grown, frames_upto}
 use Rattle.bw_store.specs.Kept.{leaves_at, TellsBy, TellsShare, IsSound}
+use Rattle.bw_versions.specs.Versioned.{Versioned}
+use Rattle.bw_store.specs.Showing.{AreUnseen}
+use Rattle.bw_store.proofs.Readers.{unseen_begins}
 use Rattle.bw_store.specs.Reopened.{reopened}
 use Rattle.bw_store.proofs.FramesBehind.{from_within, none_above, counted_lawful, placed_page, pages_counted}
 use Rattle.bw_store.proofs.EmptyBehind.{AreNoted, grown_empty}
@@ -113,11 +116,11 @@ module _ (c : logs.Contents) (filed : Shown) (last : ℕ) (x : Found c filed las
   pub next_some : IfSome c.next (λ n. 1 ≤ n)
   next_some = some_next last c.next x.follows
 
-  pub reopened_sound : (rings : List Ring) (newest : List Place) (making : Filling) → length newest ≡ length filed.leaves
+  reopened_by : (rings : List Ring) (newest : List Place) (making : Filling) → length newest ≡ length filed.leaves
       → AreNoted c filed.leaves newest → making.limit ≡ c.f → making.blocks ≡ [] → making.is_sealed ≡ false → IfSome c.next (λ n. making.frame ≡ n)
-      → IsSound (reopened rings last filed newest making c)
-  reopened_sound rings newest making count each limit empty unsealed number =
-      let t = reopened rings last filed newest making c in
+      → (versions : Versioned) → versions.entered ≡ [] → IsSound (reopened rings last filed newest making c (record versions { start = filed }))
+  reopened_by rings newest making count each limit empty unsealed number versions unseen =
+      let t = reopened rings last filed newest making c (record versions { start = filed }) in
       record {
         log = x.sound;
         pairs = x.limit;
@@ -149,4 +152,15 @@ module _ (c : logs.Contents) (filed : Shown) (last : ℕ) (x : Found c filed las
         tells =
             subst (λ (bs : List Block). TellsBy t (last + 0 + 1) filed.leaves [] bs) (sym empty)
             (inr (λ zeroth one. (let low = from_one in absurd (omega arith)), tells_none filed.m filed.leaves));
+        shown = record {
+          start = ap (λ away. record { m = filed.m; leaves = filed.leaves; away = away }) x.here;
+          begins = unseen_begins versions [] unseen;
+        };
       }
+
+  pub reopened_sound : (rings : List Ring) (newest : List Place) (making : Filling) → length newest ≡ length filed.leaves
+      → AreNoted c filed.leaves newest → making.limit ≡ c.f → making.blocks ≡ [] → making.is_sealed ≡ false → IfSome c.next (λ n. making.frame ≡ n)
+      → (versions : Versioned) {readers : ℕ} → AreUnseen filed readers versions → IsSound (reopened rings last filed newest making c versions)
+  reopened_sound rings newest making count each limit empty unsealed number versions unseen =
+      subst (λ (s : Shown). IsSound (reopened rings last filed newest making c (record versions { start = s }))) (sym unseen.start)
+      (reopened_by rings newest making count each limit empty unsealed number versions unseen.entered)

@@ -17,8 +17,9 @@ use Rattle.bw_buffer.specs.Filling.{frame_of}
 use Rattle.bw_log.specs.Contents as logs
 use Rattle.bw_log.specs.Segments.{following, next_of}
 use Rattle.bw_log.proofs.Adding.{following_is}
-use Rattle.bw_store.specs.declared.entry.Entry.{Entry}
-use Rattle.bw_store.specs.History.{records, cut}
+use Rattle.bw_versions.specs.declared.entry.Entry.{Entry}
+use Rattle.bw_versions.specs.Entries.{records}
+use Rattle.bw_store.specs.History.{cut}
 use Rattle.bw_store.specs.Share.{Tells, directed}
 use Rattle.bw_store.specs.Kept.{Kept, leaves_at, TellsBy, waiting, IsSound}
 use Rattle.bw_store.specs.Settled.{IsSettled}

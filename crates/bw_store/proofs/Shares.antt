@@ -7,8 +7,9 @@ use Rattle.bw_codec.specs.declared.leaf.Leaf.{Leaf}
 use Rattle.bw_codec.specs.declared.block.Place.{Place}
 use Rattle.bw_codec.specs.declared.block.Block.TheVariants.{Delta, Base, Split}
 use Rattle.bw_page.specs.Leaves.{empty_leaf, pages}
-use Rattle.bw_store.specs.declared.entry.Entry.{Entry}
-use Rattle.bw_store.specs.History.{records, upto, share, streams}
+use Rattle.bw_versions.specs.declared.entry.Entry.{Entry}
+use Rattle.bw_versions.specs.Entries.{records}
+use Rattle.bw_store.specs.History.{upto, share, streams}
 use Rattle.bw_store.specs.Share.{Tells, TellsFirst}
 use Rattle.bw_store.specs.Adding.{blocks_for}
 

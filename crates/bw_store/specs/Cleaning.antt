@@ -13,6 +13,7 @@ use Rattle.bw_store.specs.declared.fault.StoreFault.{StoreFault}
 use Rattle.bw_store.specs.declared.fault.StoreFault.TheVariants.{NoMemory, NothingOld}
 use Rattle.bw_store.specs.Kept.{Kept}
 use Rattle.bw_store.specs.Faults.{fault_of, FlushAnswers, FlushLeaves, refusal_by}
+use Rattle.bw_store.specs.Emptied.{Emptied}
 
 abbrev pub fault_of_clean : CleanFault → StoreFault
 fault_of_clean clean.NothingOld = NothingOld
@@ -52,23 +53,17 @@ abbrev pub MoveLeaves : Kept → Result Cleaned StoreFault → Kept → Type 0
 MoveLeaves old (Ok cleaned) new = IsCleaned old cleaned new
 MoveLeaves old (Err fault) new = (cause : CleanFault) × (fault ≡ fault_of_clean cause) × IsStopped old cause new
 
--- a flush that may take the last spare answered Ok: nothing is in the making
-pub record Emptied (old middle : Kept) : Type 0 where
-  pub number : Option ℕ
-  pub answers : FlushAnswers (refusal_by true old) (Ok number)
-  pub leaves : FlushLeaves old (Ok number) middle
-
 -- why a cleaning was refused: its flush was, which may take the last spare, or memory was wanting after it, or the cleaner was
 abbrev pub RefusesClean : Kept → StoreFault → Kept → Type 0
 RefusesClean old fault new =
     (FlushAnswers (refusal_by true old) (Err fault) × FlushLeaves old (Err fault) new)
-    ⊎ ((middle : Kept) × Emptied old middle
+    ⊎ ((middle : Kept) × Emptied true old middle
     × (((fault ≡ NoMemory) × (new ≡ middle)) ⊎ ((cause : CleanFault) × (fault ≡ fault_of_clean cause) × IsStopped middle cause new)))
 
 -- a cleaning of a store: the number of live segments is looked at first
 abbrev pub CleanLeaves : Kept → Result Cleaned StoreFault → Kept → Type 0
 CleanLeaves old (Ok cleaned) new =
-    (2 ≤ length old.log.live) × ((middle : Kept) × Emptied old middle × IsCleaned middle cleaned new)
+    (2 ≤ length old.log.live) × ((middle : Kept) × Emptied true old middle × IsCleaned middle cleaned new)
 CleanLeaves old (Err fault) new =
     ((length old.log.live < 2) × (fault ≡ NothingOld) × (new ≡ old)) ⊎ ((2 ≤ length old.log.live) × RefusesClean old fault new)
 

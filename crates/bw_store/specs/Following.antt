@@ -2,7 +2,8 @@
 
 use Rattle.std.specs.Prelude.{ℕ, ◌+◌, ◌≡◌, ◌≤◌, true, List, ◌++◌, length}
 use Rattle.bw_log.specs.Contents.{roster}
-use Rattle.bw_store.specs.declared.entry.Entry.{Entry}
+use Rattle.bw_versions.specs.Batches.{BatchData}
+use Rattle.bw_versions.specs.declared.entry.Entry.{Entry}
 use Rattle.bw_store.specs.declared.fault.StoreFault.{StoreFault}
 use Rattle.bw_store.specs.Kept.{Kept}
 use Rattle.bw_store.specs.Taking.{Refuses}
@@ -20,16 +21,21 @@ pub record Follows (old new : Kept) : Type 0 where
   pub cuts : new.cuts ≡ old.cuts ++ cuts_more
   pub appended : old.durable ≤ new.durable
   pub floor : old.floor ≤ new.floor
+  -- what was published stays so, and readers keep their book
+  pub book : new.versions.book ≡ old.versions.book
+  pub batches_more : List BatchData
+  pub published : new.versions.published ≡ old.versions.published ++ batches_more
 
 -- each box is where it was in the row of all
 pub record HasBoxes (old new : Kept) : Type 0 where
   pub same : roster new.log ≡ roster old.log
 
--- a call that gives up no segment, by which the history grew by so many entries
+-- a call that gives up no segment and publishes nothing, by which the history grew by so many entries
 pub record Turned (n : ℕ) (old new : Kept) : Type 0 where
   pub follows : Follows old new
   pub boxes : HasBoxes old new
   pub grew : length new.entries ≡ length old.entries + n
+  pub quiet : new.versions ≡ old.versions
 
 -- so many records were taken one after the other; where an append failed before, none was
 pub record TookInTurn (n : ℕ) (old new : Kept) : Type 0 where

@@ -2,6 +2,7 @@
 
 use Rattle.std.specs.Prelude.{ℕ, ◌+◌, ◌-◌, ◌^◌, ◌≡◌, ◌≢◌, ◌≤◌, ◌<◌, ◌⊎◌, true, None, List, [], ◌∷◌, ◌++◌, length, drop}
 use Rattle.std.specs.List.{AllByRecursion}
+use mathlib.Core.List.{IsPrefix}
 use Rattle.bw_codec.specs.Grammar.{IsOp}
 use Rattle.bw_codec.specs.declared.record.Record.{Record}
 use Rattle.bw_codec.specs.declared.leaf.Leaf.{Leaf}
@@ -13,11 +14,14 @@ use Rattle.bw_page.specs.Standing.{Stand}
 use Rattle.bw_page.specs.Shown.{Shown}
 use Rattle.bw_buffer.specs.Filling.{Filling, frame_of}
 use Rattle.bw_ring.specs.Ends.{Ring}
+use Rattle.bw_versions.specs.Batches.{BatchData, entries_of}
+use Rattle.bw_versions.specs.Versioned.{Versioned}
 use Rattle.bw_log.specs.Contents as logs
 use Rattle.bw_log.specs.Segments.{following}
 use Rattle.bw_store.specs.declared.edge.Edge.{Edge}
-use Rattle.bw_store.specs.declared.entry.Entry.{Entry}
-use Rattle.bw_store.specs.History.{records, cut, upto, share}
+use Rattle.bw_versions.specs.declared.entry.Entry.{Entry}
+use Rattle.bw_versions.specs.Entries.{records}
+use Rattle.bw_store.specs.History.{cut, upto, share}
 use Rattle.bw_store.specs.Share.{Tells, TellsFirst, IsBaseBlock}
 use Rattle.bw_store.specs.Growing.{Grown, frames_upto}
 
@@ -48,6 +52,8 @@ pub record Kept : Type 0 where
   pub newest : List Place
   pub making : Filling
   pub log : logs.Contents
+  -- what readers see, and the start that they see it from
+  pub versions : Versioned
 
 -- the leaves up to the k-th cut, and the records of the k-th share
 abbrev pub leaves_at : Kept → ℕ → List Leaf
@@ -81,6 +87,15 @@ abbrev pub AreCuts : ℕ → List ℕ → ℕ → Type 0
 AreCuts from [] end = from ≤ end
 AreCuts from (c ∷ cs) end = (from ≤ c) × AreCuts c cs end
 
+-- the leaves at open or reopen, all of them in memory
+abbrev pub start_of : Kept → Shown
+start_of s = record { m = s.filed.m; leaves = s.start; away = [] }
+
+-- readers start where the store did, and their book has a beginning of the entries up to the durable cut
+pub record AreVersions (s : Kept) : Type 0 where
+  pub start : s.versions.start ≡ start_of s
+  pub begins : IsPrefix (entries_of s.versions.entered) (upto s.cuts s.entries s.durable)
+
 pub record IsSound (s : Kept) : Type 0 where
   pub log : logs.IsSound s.log
   pub pairs : s.filed.m ≡ s.log.m
@@ -106,6 +121,7 @@ pub record IsSound (s : Kept) : Type 0 where
   -- frames tell their shares, and so does the one in the making
   pub shares : AllByRecursion (λ f. s.before < f.number → TellsShare s f) (logs.counted s.log)
   pub tells : TellsBy s (s.before + s.durable + 1) (leaves_at s s.durable) (waiting s) s.making.blocks
+  pub shown : AreVersions s
 
 -- ---- one record taken
 
@@ -127,3 +143,9 @@ with_frame s fresh log =
 abbrev pub with_stop : Kept → logs.Contents → Kept
 with_stop s log =
     record s { cuts = s.cuts ++ length s.entries ∷ []; making = record s.making { is_sealed = true }; log = log }
+
+-- ---- these batches are published, and these are in the book
+
+abbrev pub with_batches : Kept → List BatchData → List BatchData → Kept
+with_batches s published entered =
+    record s { versions = record s.versions { published = published; entered = entered } }

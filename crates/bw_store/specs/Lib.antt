@@ -9,6 +9,7 @@ pub mod Faults
 pub mod Views
 pub mod Taken
 pub mod Settled
+pub mod Emptied
 pub mod Lanes
 pub mod Reading
 pub mod Taking
@@ -16,3 +17,4 @@ pub mod Opened
 pub mod Reopened
 pub mod Following
 pub mod Cleaning
+pub mod Showing

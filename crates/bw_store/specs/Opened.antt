@@ -12,10 +12,11 @@ use Rattle.bw_ring.specs.declared.feed.Feed.{Feed}
 use Rattle.bw_ring.specs.Ends.{Ring, accepted, places_of, ring_of_feed}
 use Rattle.bw_ring.specs.Limits.{IsConfig as IsRings}
 use Rattle.bw_log.specs.Contents.{Contents}
+use Rattle.bw_versions.specs.Versioned.{Versioned}
 use Rattle.bw_log.specs.Limits.{fresh, AreLimits, IsFit}
 use Rattle.bw_store.specs.declared.config.Config.{Config}
 use Rattle.bw_store.specs.declared.edge.Edge.{Edge}
-use Rattle.bw_store.specs.declared.entry.Entry.{Entry}
+use Rattle.bw_versions.specs.declared.entry.Entry.{Entry}
 use Rattle.bw_store.specs.declared.fault.StoreFault.{StoreFault}
 use Rattle.bw_store.specs.declared.fault.StoreFault.TheVariants.{NoMemory, BadConfig}
 use Rattle.bw_store.specs.Kept.{Kept, filed_of}
@@ -26,6 +27,10 @@ first_place = record { frame = 1; index = 0 }
 abbrev pub first_frame : Frame
 first_frame = record { number = 1; blocks = Base empty_leaf ∷ [] }
 
+-- one empty page
+abbrev pub one_empty : ℕ → Shown
+one_empty m = record { m = m; leaves = empty_leaf ∷ []; away = [] }
+
 abbrev pub no_edge : Edge
 no_edge = record { segment = 0; length = 0 }
 
@@ -34,10 +39,10 @@ abbrev pub first_making : ℕ → Filling
 first_making f = record { frame = 1; limit = f; blocks = Base empty_leaf ∷ []; is_sealed = false }
 
 -- a store that starts with these
-abbrev pub started : List Ring → List Entry → Shown → List Place → Filling → Contents → Kept
-started rings entries filed newest making log = record {
+abbrev pub started : List Ring → List Entry → Shown → List Place → Filling → Contents → Versioned → Kept
+started rings entries filed newest making log versions = record {
   rings = rings;
-  start = filed.leaves;
+  start = versions.start.leaves;
   before = 0;
   floor = 0;
   edge = no_edge;
@@ -48,12 +53,12 @@ started rings entries filed newest making log = record {
   newest = newest;
   making = making;
   log = log;
+  versions = versions;
 }
 
 -- a store of one empty page over spares alone
-abbrev pub opened : List Ring → ℕ → ℕ → List Holding → Kept
-opened rings m f spares =
-    started rings [] (record { m = m; leaves = empty_leaf ∷ []; away = [] }) (first_place ∷ []) (first_making f) (fresh m f spares)
+abbrev pub opened : List Ring → ℕ → ℕ → List Holding → Versioned → Kept
+opened rings m f spares versions = started rings [] (one_empty m) (first_place ∷ []) (first_making f) (fresh m f spares) versions
 
 -- ---- what a store is opened with
 

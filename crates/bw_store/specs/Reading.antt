@@ -8,7 +8,7 @@ use Rattle.bw_log.specs.Contents as logs
 use Rattle.bw_log.specs.Reads.{IsKept, IsWornOut, FailedRead, HoldsPage}
 use Rattle.bw_store.specs.declared.fault.StoreFault.{StoreFault}
 use Rattle.bw_store.specs.declared.fault.StoreFault.TheVariants.{NoMemory, BadConfig, NoSegment, Device, Failed, Spent, NoPage, NothingOld}
-use Rattle.bw_store.specs.History.{records}
+use Rattle.bw_versions.specs.Entries.{records}
 use Rattle.bw_store.specs.Kept.{Kept}
 
 -- the pages of the history

@@ -6,6 +6,7 @@ use Rattle.bw_page.specs.Shown.{Shown}
 use Rattle.bw_buffer.specs.Filling.{Filling}
 use Rattle.bw_ring.specs.Ends.{Ring}
 use Rattle.bw_log.specs.Contents.{Contents}
+use Rattle.bw_versions.specs.Versioned.{Versioned}
 use Rattle.bw_device.specs.Holding.{Holding}
 use Rattle.bw_store.specs.declared.edge.Edge.{Edge}
 use Rattle.bw_store.specs.declared.fault.StoreFault.{StoreFault}
@@ -22,10 +23,10 @@ abbrev pub edge_of : Contents → Edge
 edge_of c = edge_at (c.number + (length c.live - 1)) (slice_get c.live (length c.live - 1))
 
 -- a store that starts with what was recovered, up to this frame, and has no history
-abbrev pub reopened : List Ring → ℕ → Shown → List Place → Filling → Contents → Kept
-reopened rings last filed newest making log = record {
+abbrev pub reopened : List Ring → ℕ → Shown → List Place → Filling → Contents → Versioned → Kept
+reopened rings last filed newest making log versions = record {
   rings = rings;
-  start = filed.leaves;
+  start = versions.start.leaves;
   before = last;
   floor = 0;
   edge = edge_of log;
@@ -36,6 +37,7 @@ reopened rings last filed newest making log = record {
   newest = newest;
   making = making;
   log = log;
+  versions = versions;
 }
 
 -- why a store was not opened again

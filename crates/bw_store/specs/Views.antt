@@ -15,7 +15,7 @@ module _ {I : Type 0} {H : I → Type 0} where
   abbrev pub kept_beside : Store I H → (DynBox I Global H → Holding) → Kept
   kept_beside s v = record {
     rings = map ring_of_lane s.intake.lanes.items;
-    start = s.start.value.leaves;
+    start = s.versions.start.leaves;
     before = s.before;
     floor = s.floor;
     edge = s.edge;
@@ -26,6 +26,7 @@ module _ {I : Type 0} {H : I → Type 0} where
     newest = s.newest.items;
     making = s.making;
     log = seen_by v s.log;
+    versions = s.versions;
   }
 
   abbrev pub kept_by : Store I H → ((i : I) × H i → Holding) → Kept

@@ -9,6 +9,7 @@ ghost use Rattle.bw_store.specs.Reading.{HasRead, ReadLeaves, with_spare, rolled
 use crate::fault::StoreFault;
 use crate::store::Store;
 use bw_device::Segment;
+use std::sync::Wait;
 
 impl Store {
     ghost use Rattle.bw_store.specs.Views.{kept_by, kept_beside, IsSound, IsSoundBeside};
@@ -89,12 +90,28 @@ impl Store {
     }
 
     /// All boxes, as they are: the live ones in the order of their numbers, and the spares in
-    /// theirs. Nothing is flushed. No memory is taken.
-    pub fn shut(self) -> (Vec<Box<dyn Segment>>, Vec<Box<dyn Segment>>)
+    /// theirs. Nothing is flushed. It may wait for readers; from then on they are refused. No memory
+    /// is taken.
+    pub fn shut<R: Wait>(self, rt: &R) -> (Vec<Box<dyn Segment>>, Vec<Box<dyn Segment>>)
         requires { IsSoundBeside self holding }
         ensures live { map holding result.0.items ≡ (kept_beside self holding).log.live }
         ensures spares { map holding result.1.items ≡ (kept_beside self holding).log.spares }
     {
-        self.log.into_segments()
+        let Store {
+            intake: _intake,
+            before: _,
+            floor: _,
+            edge: _,
+            cuts: _cuts,
+            durable: _,
+            leaves: _leaves,
+            newest: _newest,
+            tails: _tails,
+            making: _making,
+            log,
+            versions,
+        } = self;
+        versions.shut(rt);
+        log.into_segments()
     }
 }

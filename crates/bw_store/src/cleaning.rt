@@ -5,6 +5,7 @@ ghost use Rattle.std.specs.Vec.{vec_capacity};
 ghost use Rattle.bw_store.specs.Cleaning.{MoveLeaves, CleanLeaves, HasBoxesBut, end_by};
 ghost use Rattle.bw_store.specs.Following.{Follows};
 ghost use Rattle.bw_store.specs.Settled.{IsSettled};
+ghost use Rattle.bw_store.specs.Showing.{CleanShows, HasBoxesAfter};
 
 use crate::fault::StoreFault;
 use crate::renewing::renew;
@@ -12,6 +13,7 @@ use crate::store::Store;
 use bw_buffer::Buffer;
 use bw_care::{Cleaned, clean};
 use std::alloc::AllocError;
+use std::sync::Wait;
 
 impl Store {
     ghost use Rattle.bw_store.specs.Views.{kept_by, IsSound};
@@ -22,11 +24,30 @@ impl Store {
     /// Refused `NothingOld`, exactly where fewer than two segments are live, before anything else;
     /// then as `flush` is, but `NoSegment` only where no spare stands at all; then `NoMemory`; then
     /// as the cleaner is. A refused step leaves the steps before it done: frames that were appended
-    /// stay and are durable, each with a cut at the end of the history. No box is dropped by a
-    /// refusal. After a refusal other than `Failed` and a failed append it may be called again.
+    /// stay and are durable, each with a cut at the end of the history, and no box is dropped. After a refusal other than `Failed` and a failed append it may be called again.
+    ///
+    /// Then what is durable is published, as `flush` does it. Where that alone finds no memory the
+    /// call is refused `NoMemory`, though the segment is given up: its box is dropped.
     ///
     /// It costs what a flush and `bw_care::clean` cost, and a look at each page's line in memory.
-    pub fn clean(&mut self) -> Result<Cleaned, StoreFault>
+    pub fn clean<R: Wait>(&mut self, rt: &R) -> Result<Cleaned, StoreFault>
+        requires sound { IsSound self.old holding }
+        ensures sound { IsSound self.new holding }
+        ensures leaves { CleanShows (kept_by self.old holding) result (kept_by self.new holding) }
+
+        ensures nothing_old { IsErrOf result StoreFault.NothingOld
+            ↔ (length (kept_by self.old holding).log.live < 2) }
+
+        ensures follows { Follows (kept_by self.old holding) (kept_by self.new holding) }
+        ensures boxes { HasBoxesAfter (kept_by self.old holding) result (kept_by self.new holding) }
+    {
+        let cleaned = self.clean_oldest()?;
+        self.publish(rt)?;
+        Ok(cleaned)
+    }
+
+    // The same without the publication.
+    fn clean_oldest(&mut self) -> Result<Cleaned, StoreFault>
         requires sound { IsSound self.old holding }
         ensures sound { IsSound self.new holding }
         ensures leaves { CleanLeaves (kept_by self.old holding) result (kept_by self.new holding) }

@@ -9,12 +9,14 @@ ghost use Rattle.bw_log.specs.Appends.{refusal};
 ghost use Rattle.bw_store.specs.Faults.{FlushLeaves, AppendLeaves, IsNext, IsRefused, FlushAnswers, flush_refusal, refusal_by};
 ghost use Rattle.bw_store.specs.Following.{Follows, HasBoxes};
 ghost use Rattle.bw_store.specs.Settled.{IsSettled};
+ghost use Rattle.bw_store.specs.Showing.{FlushShows};
 
 use crate::appending::append_to;
 use crate::fault::StoreFault;
 use crate::store::Store;
 use crate::tails::rest;
 use bw_buffer::Buffer;
+use std::sync::Wait;
 
 impl Store {
     ghost use Rattle.bw_store.specs.Views.{kept_by, IsSound};
@@ -25,20 +27,28 @@ impl Store {
     /// Refused `Failed`, where an append failed before; then `Spent`, where there is no number for
     /// a frame, even if nothing waits; then, where something waits, `NoSegment`, `Spent` and
     /// `NoMemory` as the log's append is: nothing was changed. `Device`: the frame stays sealed and
-    /// kept, and every later flush is refused `Failed`. Time is linear in the frame.
-    pub fn flush(&mut self) -> Result<Option<u64>, StoreFault>
+    /// kept, and every later flush is refused `Failed`.
+    ///
+    /// Then what is durable is published, all at once; where nothing is new, nothing is done. It
+    /// may wait for readers. Where that finds no memory the call is refused `NoMemory`, though the
+    /// frame is durable: readers see what they saw, and the next `flush`, `clean` or `settle`
+    /// publishes. Time is linear in the frame, and in what its records cost to apply twice; the
+    /// first publication also brings all pages of the start.
+    pub fn flush<R: Wait>(&mut self, rt: &R) -> Result<Option<u64>, StoreFault>
         requires sound { IsSound self.old holding }
         ensures sound { IsSound self.new holding }
         ensures intake { self.new.intake ≡ self.old.intake }
 
         ensures answers { FlushAnswers (flush_refusal (kept_by self.old holding)) result }
-        ensures leaves { FlushLeaves (kept_by self.old holding) result (kept_by self.new holding) }
+        ensures leaves { FlushShows (kept_by self.old holding) result (kept_by self.new holding) }
         ensures settled { OnOk result (IsSettled (kept_by self.new holding)) }
 
         ensures follows { Follows (kept_by self.old holding) (kept_by self.new holding) }
         ensures boxes { HasBoxes (kept_by self.old holding) (kept_by self.new holding) }
     {
-        self.flush_making(false)
+        let number = self.flush_making(false)?;
+        self.publish(rt)?;
+        Ok(number)
     }
 
     // The same, without what follows from it; it may take the last spare, or may not.

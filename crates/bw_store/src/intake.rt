@@ -8,9 +8,9 @@ ghost use Rattle.bw_store.specs.History.{streams};
 ghost use Rattle.bw_store.specs.Lanes.{known_at, IsNext, IsWaiting, Dries, TookAt, TookKnown};
 
 use crate::beside::look_at_all;
-use crate::entry::Entry;
 use bw_codec::Record;
 use bw_ring::{Feed, Lane};
+use bw_versions::Entry;
 use std::alloc::AllocError;
 
 /// The lanes, and what was taken from them in order.
@@ -70,6 +70,13 @@ impl Intake {
     {
         let _ = self.lanes.as_slice().len();
         self.lanes[lane].peek_known().copy()
+    }
+
+    /// What was taken.
+    pub(crate) fn entries(&self) -> &[Entry]
+        ensures { result.now ≡ self.now.history.items }
+    {
+        self.history.as_slice()
     }
 
     /// Makes room for one more entry.

@@ -8,7 +8,8 @@ ghost use Rattle.bw_buffer.specs.Filling.{size_of};
 ghost use Rattle.bw_page.specs.Leaves.{empty_leaf};
 ghost use Rattle.bw_ring.specs.Ends.{ring_of_feed, ring_of_lane};
 ghost use Rattle.bw_store.specs.Tails.{tail_of, tails_for};
-ghost use Rattle.bw_store.specs.Opened.{opened, started, first_place, first_making, AreFresh, AreTaken, IsConfig, IsOpenFault};
+ghost use Rattle.bw_store.specs.Opened.{opened, one_empty, started, first_place, first_making, AreFresh, AreTaken, IsConfig, IsOpenFault};
+ghost use Rattle.bw_store.specs.Showing.{AreUnseen};
 
 use crate::config::Config;
 use crate::edge::Edge;
@@ -22,8 +23,9 @@ use bw_device::{Segment, are_spares};
 use bw_log::Log;
 use bw_page::{Leaves, empty_page};
 use bw_ring::{Feed, lanes};
+use bw_versions::Versions;
 use std::alloc::{AllocError, Global};
-use std::snapshot::Snapshot;
+use std::sync::Wait;
 
 /// How many boxes a log has at most.
 const MAX_BOXES: usize = 4096;
@@ -105,7 +107,7 @@ fn parts_of(alloc: Global, config: &Config) -> Result<Parts, StoreFault>
     ensures unused { IfOk result (λ p. AreFresh config.now p.feeds.items) }
     ensures history { IfOk result (λ p. p.intake.history.items ≡ []) }
     ensures leaves { IfOk result (λ p.
-        p.leaves ≡ record { m = config.now.m; leaves = empty_leaf ∷ []; away = [] }) }
+        p.leaves ≡ one_empty config.now.m) }
     ensures newest { IfOk result (λ p. p.newest.items ≡ first_place ∷ []) }
     ensures tails { IfOk result (λ p. map tail_of p.tails.items ≡ None ∷ []) }
     ensures making { IfOk result (λ p. p.making ≡ first_making config.now.f) }
@@ -128,6 +130,19 @@ fn parts_of(alloc: Global, config: &Config) -> Result<Parts, StoreFault>
     })
 }
 
+// What readers of an opened store see: nothing yet, and one empty page from the first publication.
+fn unseen<R: Wait>(rt: &R, alloc: Global, config: &Config) -> Result<Versions, AllocError>
+    requires { IsConfig config.now }
+    ensures { IfOk result (λ v. AreUnseen (one_empty config.now.m) config.now.readers v) }
+{
+    Versions::open(
+        rt,
+        alloc,
+        config.readers,
+        Leaves::one_empty(alloc, config.m)?,
+    )
+}
+
 impl Store {
     ghost use Rattle.bw_log.specs.Views.{seen_by};
     ghost use Rattle.bw_store.specs.Views.{kept_by, kept_beside, IsSoundBeside};
@@ -138,7 +153,8 @@ impl Store {
     /// Refused `BadConfig`, where a value is out of its range, there are more than 4,096 boxes, or
     /// one of them is not empty or has not room for 24 + `f` bytes to 1,073,741,824; or `NoMemory`.
     /// The boxes then come back as they were.
-    pub fn open(
+    pub fn open<R: Wait>(
+        rt: &R,
         alloc: Global,
         config: &Config,
         segments: Vec<Box<dyn Segment>>,
@@ -146,9 +162,11 @@ impl Store {
         requires { Unit {0} }
         ensures made { IfOk result (λ r. kept_beside r.0 holding
             ≡ opened (map ring_of_feed r.1.items) config.now.m config.now.f
-            (map holding segments.items)) }
+            (map holding segments.items) (kept_beside r.0 holding).versions) }
         ensures sound { IfOk result (λ r. IsSoundBeside r.0 holding) }
         ensures feeds { IfOk result (λ r. AreFresh config.now r.1.items) }
+        ensures unseen { IfOk result (λ r. AreUnseen (one_empty config.now.m) config.now.readers
+            (kept_beside r.0 holding).versions) }
 
         // The limits and the boxes are looked at before memory is.
         ensures bad_config { MatchResult result
@@ -164,9 +182,14 @@ impl Store {
             Ok(parts) => parts,
             Err(cause) => return Err(OpenFault { segments, cause }),
         };
+        let Ok(versions) = unseen(rt, alloc, config) else {
+            let cause = StoreFault::NoMemory;
+            return Err(OpenFault { segments, cause });
+        };
         match Log::new(alloc, segments, config.m, config.f) {
-            Ok(log) => Ok(Store::of(alloc, parts, log)),
+            Ok(log) => Ok(Store::of(alloc, parts, log, versions)),
             Err((segments, fault)) => {
+                versions.shut(rt);
                 let cause = StoreFault::from(fault);
                 Err(OpenFault { segments, cause })
             }
@@ -174,14 +197,14 @@ impl Store {
     }
 
     // A store of these parts over a log of spares alone.
-    fn of(alloc: Global, parts: Parts, log: Log) -> (Store, Vec<Feed>)
+    fn of(alloc: Global, parts: Parts, log: Log, versions: Versions) -> (Store, Vec<Feed>)
         requires tails { map tail_of parts.tails.items
             ≡ tails_for (length parts.leaves.leaves) parts.making.blocks }
         requires here { parts.leaves.away ≡ [] }
         ensures store { kept_by result.0 holding
             ≡ started (map ring_of_lane parts.intake.lanes.items) parts.intake.history.items
             parts.leaves parts.newest.items parts.making
-            (seen_by (λ b. holding (b.vtable, b.value)) log) }
+            (seen_by (λ b. holding (b.vtable, b.value)) log) versions }
         ensures feeds { result.1 ≡ parts.feeds }
     {
         let Parts {
@@ -192,10 +215,8 @@ impl Store {
             tails,
             making,
         } = parts;
-        let start = Snapshot::of(&leaves);
         let store = Store {
             intake,
-            start,
             before: 0,
             floor: 0,
             edge: Edge {
@@ -209,6 +230,7 @@ impl Store {
             tails,
             making,
             log,
+            versions,
         };
         (store, feeds)
     }

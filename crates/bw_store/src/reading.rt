@@ -4,7 +4,7 @@ ghost use Rattle.std.specs.Prelude.{ℕ, ◌≡◌, ◌↔◌, ◌⊎◌, false,
 ghost use Rattle.std.specs.FinMap as finite;
 ghost use Rattle.bw_log.specs.Reads.{HoldsPage};
 ghost use Rattle.bw_page.specs.Leaves.{leaf_at, home, plain};
-ghost use Rattle.bw_store.specs.History.{records};
+ghost use Rattle.bw_versions.specs.Entries.{records};
 ghost use Rattle.bw_store.specs.Following.{Follows, HasBoxes};
 ghost use Rattle.bw_store.specs.Reading.{leaves_now, HasRead, ReadLeaves, PageLeaves};
 

@@ -7,6 +7,7 @@ ghost use Rattle.bw_ring.specs.Ends.{ring_of_feed, ring_of_lane};
 ghost use Rattle.bw_care.specs.Views.{seen, IsSound as IsSoundLog};
 ghost use Rattle.bw_store.specs.Tails.{tail_of, tails_for};
 ghost use Rattle.bw_store.specs.Opened.{AreEnds, AreFresh, AreUnused, IsConfig};
+ghost use Rattle.bw_store.specs.Showing.{AreUnseen};
 ghost use Rattle.bw_store.specs.Reopened.{edge_of as newest_edge, reopened, IsReopenFault};
 
 use crate::config::Config;
@@ -21,9 +22,11 @@ use bw_buffer::Buffer;
 use bw_care::Recovered;
 use bw_codec::Place;
 use bw_log::Log;
+use bw_page::Leaves;
 use bw_ring::Feed;
+use bw_versions::Versions;
 use std::alloc::{AllocError, Global};
-use std::snapshot::Snapshot;
+use std::sync::Wait;
 
 /// Why a store was not opened again, with what was recovered.
 #[derive(Drop)]
@@ -118,6 +121,21 @@ fn ends_of(alloc: Global, config: &Config, log: &Log, pages: usize) -> Result<En
     })
 }
 
+// What readers of a store that is opened again see: nothing yet, and these leaves from the first
+// publication.
+fn unseen<R: Wait>(
+    rt: &R,
+    alloc: Global,
+    readers: usize,
+    leaves: &Leaves,
+) -> Result<Versions, AllocError>
+    requires readers { (1 ≤ readers) × (readers ≤ 64) }
+    requires here { leaves.now.away ≡ [] }
+    ensures { IfOk result (λ v. AreUnseen leaves.now readers v) }
+{
+    Versions::open(rt, alloc, readers, leaves.copy()?)
+}
+
 impl Store {
     ghost use Rattle.bw_care.specs.Found.{IsRecovered};
     ghost use Rattle.bw_store.specs.Views.{kept_by, IsSound};
@@ -127,8 +145,10 @@ impl Store {
     /// recovered leaves, its history is empty, and its next frame is the one after the last.
     ///
     /// Refused `BadConfig`, where a number is out of its range, or `NoMemory`. What was recovered
-    /// then comes back. It costs a look at each page's line.
-    pub fn reopen(
+    /// then comes back. It costs a copy of each page, which is what readers will see, and a look at
+    /// its line.
+    pub fn reopen<R: Wait>(
+        rt: &R,
         alloc: Global,
         recovered: Recovered,
         writers: usize,
@@ -139,10 +159,12 @@ impl Store {
         ensures made { IfOk result (λ r. kept_by r.0 holding
             ≡ reopened (map ring_of_feed r.1.items) recovered.last recovered.leaves
             (kept_by r.0 holding).newest (kept_by r.0 holding).making
-            (seen recovered.log holding)) }
+            (seen recovered.log holding) (kept_by r.0 holding).versions) }
         ensures empty { IfOk result (λ r. (kept_by r.0 holding).making.blocks ≡ []) }
         ensures sound { IfOk result (λ r. IsSound r.0 holding) }
         ensures feeds { IfOk result (λ r. AreUnused writers places r.1.items) }
+        ensures unseen { IfOk result (λ r. AreUnseen recovered.leaves readers
+            (kept_by r.0 holding).versions) }
 
         ensures bad_config { MatchResult result (λ _. AreEnds writers places readers)
             (λ e. IsReopenFault writers places readers e.cause) }
@@ -160,21 +182,33 @@ impl Store {
             return Err(ReopenFault { recovered, cause });
         }
         let pages = recovered.leaves.count() as usize;
-        match ends_of(alloc, &config, &recovered.log, pages) {
-            Ok(ends) => Ok(Store::again(alloc, ends, recovered)),
-            Err(cause) => Err(ReopenFault { recovered, cause }),
+        let ends = match ends_of(alloc, &config, &recovered.log, pages) {
+            Ok(ends) => ends,
+            Err(cause) => return Err(ReopenFault { recovered, cause }),
+        };
+        match unseen(rt, alloc, readers, &recovered.leaves) {
+            Ok(versions) => Ok(Store::again(alloc, ends, recovered, versions)),
+            Err(AllocError) => {
+                let cause = StoreFault::NoMemory;
+                Err(ReopenFault { recovered, cause })
+            }
         }
     }
 
     // A store of these ends over what was recovered.
-    fn again(alloc: Global, ends: Ends, recovered: Recovered) -> (Store, Vec<Feed>)
+    fn again(
+        alloc: Global,
+        ends: Ends,
+        recovered: Recovered,
+        versions: Versions,
+    ) -> (Store, Vec<Feed>)
         requires sound { IsSoundLog recovered.log holding }
         requires tails { map tail_of ends.tails.items
             ≡ tails_for (length recovered.leaves.leaves) ends.making.blocks }
         requires here { recovered.leaves.away ≡ [] }
         ensures store { kept_by result.0 holding
             ≡ record (reopened (map ring_of_lane ends.intake.lanes.items) recovered.last
-            recovered.leaves ends.newest.items ends.making (seen recovered.log holding))
+            recovered.leaves ends.newest.items ends.making (seen recovered.log holding) versions)
             { entries = ends.intake.history.items } }
         ensures feeds { result.1 ≡ ends.feeds }
     {
@@ -191,11 +225,9 @@ impl Store {
             last,
             ..
         } = recovered;
-        let start = Snapshot::of(&leaves);
         let edge = edge_of(&log);
         let store = Store {
             intake,
-            start,
             before: last,
             floor: 0,
             edge,
@@ -206,6 +238,7 @@ impl Store {
             tails,
             making,
             log,
+            versions,
         };
         (store, feeds)
     }

@@ -1,21 +1,25 @@
 //! All that was accepted is taken and appended.
 
-ghost use Rattle.std.specs.Prelude.{◌≡◌, ◌<◌, [], length, map, IfOk, IfErr, OnOk, MatchResult};
+ghost use Rattle.std.specs.Prelude.{◌≡◌, ◌<◌, Some, [], length, map, IfOk, IfErr, OnOk, MatchResult};
 ghost use Rattle.std.specs.List.{AllByRecursion};
 ghost use Rattle.bw_page.specs.Leaves.{pages};
 ghost use Rattle.bw_page.specs.Standing.{Stand};
 ghost use Rattle.bw_ring.specs.Ends.{accepted, taken, given, ring_of_feed};
 ghost use Rattle.bw_log.specs.Contents.{counted, image};
 ghost use Rattle.bw_log.specs.Segments.{AreLive};
-ghost use Rattle.bw_store.specs.History.{records, streams};
-ghost use Rattle.bw_store.specs.Kept.{Kept, TellsShare};
+ghost use Rattle.bw_versions.specs.Entries.{records};
+ghost use Rattle.bw_store.specs.History.{streams};
+ghost use Rattle.bw_versions.specs.Posted.{posted_of};
+ghost use Rattle.bw_store.specs.Kept.{Kept, TellsShare, start_of};
 ghost use Rattle.bw_store.specs.Following.{Follows, HasBoxes, TookSome, RefusedAt};
 ghost use Rattle.bw_store.specs.Lanes.{known_at, StayDry};
 ghost use Rattle.bw_store.specs.Settled.{IsAllCut};
+ghost use Rattle.bw_store.specs.Showing.{SettleRefuses};
 
 use crate::fault::StoreFault;
 use crate::store::Store;
 use bw_ring::Feed;
+use std::sync::Wait;
 
 impl Store {
     ghost use Rattle.bw_store.specs.Views.{kept_by, IsSound};
@@ -23,10 +27,10 @@ impl Store {
     /// Takes all that the feeds accepted, flushes, and answers the length of the history. The feeds
     /// are those that `open` or `reopen` gave, all of them, in order.
     ///
-    /// On Ok the segments hold, page for page, each accepted record exactly once. A refusal leaves
-    /// what a refused `turn` or `flush` leaves, and tells its cause; `settle` may be called again.
-    /// The time is that of a turn over what was accepted.
-    pub fn settle(&mut self, feeds: &mut Vec<Feed>) -> Result<u64, StoreFault>
+    /// On Ok the segments hold, page for page, each accepted record exactly once, and readers see
+    /// them. A refusal leaves what a refused `turn` or `flush` leaves, and tells its cause; `settle`
+    /// may be called again. The time is that of a turn over what was accepted, and of a flush.
+    pub fn settle<R: Wait>(&mut self, rt: &R, feeds: &mut Vec<Feed>) -> Result<u64, StoreFault>
         requires sound { IsSound self.old holding }
         requires feeds { map ring_of_feed feeds.old.items ≡ (kept_by self.old holding).rings }
 
@@ -58,13 +62,19 @@ impl Store {
         ensures ends { map ring_of_feed feeds.new.items ≡ map ring_of_feed feeds.old.items }
         ensures accepted { map accepted feeds.new.items ≡ map accepted feeds.old.items }
         ensures refused { IfErr result (λ cause.
-            RefusedAt (kept_by self.old holding) cause (kept_by self.new holding)) }
+            SettleRefuses (kept_by self.old holding) cause (kept_by self.new holding)) }
+        ensures published { OnOk result (posted_of (kept_by self.new holding).versions.published
+            ≡ Some (record {
+              start = start_of (kept_by self.new holding);
+              entries = (kept_by self.new holding).entries;
+            })) }
         ensures follows { Follows (kept_by self.old holding) (kept_by self.new holding) }
         ensures boxes { HasBoxes (kept_by self.old holding) (kept_by self.new holding) }
     {
         self.look_beside(feeds);
         self.take_known()?;
         self.flush_making(false)?;
+        self.publish(rt)?;
         Ok(self.intake.history.as_slice().len() as u64)
     }
 

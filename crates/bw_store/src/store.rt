@@ -11,15 +11,12 @@ use bw_buffer::Buffer;
 use bw_codec::Place;
 use bw_log::Log;
 use bw_page::Leaves;
-use std::snapshot::Snapshot;
+use bw_versions::Versions;
 
-/// Pages that writers change and a log keeps.
-#[derive(Drop)]
+/// Pages that writers change and a log keeps. It is ended by `shut` alone, which tells its readers.
 pub struct Store {
     /// The lanes, and what was taken from them.
     pub(crate) intake: Intake,
-    /// The leaves at `open` or `reopen`, which the proof alone knows.
-    pub(crate) start: Snapshot<Leaves>,
     /// The number of the frame before the first of this store.
     pub(crate) before: u64,
     /// How many cuts were durable when a segment was last given up.
@@ -37,6 +34,8 @@ pub struct Store {
     /// The frame in the making.
     pub(crate) making: Buffer,
     pub(crate) log: Log,
+    /// What readers see: the leaves at `open` or `reopen`, and the durable entries since.
+    pub(crate) versions: Versions,
     ghost tailed: { map tail_of tails.items ≡ tails_for (length leaves.leaves) making.blocks },
     // A page that is away is in the log, but for its tail.
     ghost logged: { (p : ℕ) → is_away p leaves ≡ true → is_made p making.blocks ≡ false },

@@ -2,17 +2,16 @@
 
 ghost use Rattle.bwlog.specs.Session.{IsReady};
 
+use crate::calls::LEASES;
 use crate::printed::{write_dump, write_entry, write_page, write_value};
 use crate::refusal::Refusal;
 use crate::script::{Command, Fault};
 use crate::session::Session;
+use crate::system::System;
 use bw_codec::{Key, Record};
 use bw_device::Segment;
 use std::alloc::Global;
 use std::io::{self, Write};
-
-/// How many leases a desk has.
-pub const LEASES: u32 = 64;
 
 /// Why a command has no answer.
 #[derive(Debug, Clone, Copy, PartialEq, Eq)]
@@ -60,23 +59,31 @@ fn turn<O: Write>(session: &mut Session, output: &mut O, limit: u32) -> Result<(
 
 // A turn without a limit ends with a round that took none: the rings are then empty, since nobody
 // puts meanwhile.
-fn flush<O: Write>(session: &mut Session, output: &mut O) -> Result<(), Miss>
+fn flush<R: System, O: Write>(
+    rt: &R,
+    session: &mut Session,
+    output: &mut O,
+) -> Result<(), Miss>
     requires { IsReady session.old holding }
     ensures { IsReady session.new holding }
 {
     let _ = session.turn(u32::MAX)?;
-    match session.flush()? {
+    match session.flush(rt)? {
         Some(frame) => writeln!(output, "frame {frame}")?,
         None => output.write_all(b"no frame\n")?,
     }
     Ok(())
 }
 
-fn settle<O: Write>(session: &mut Session, output: &mut O) -> Result<(), Miss>
+fn settle<R: System, O: Write>(
+    rt: &R,
+    session: &mut Session,
+    output: &mut O,
+) -> Result<(), Miss>
     requires { IsReady session.old holding }
     ensures { IsReady session.new holding }
 {
-    let length = session.settle()?;
+    let length = session.settle(rt)?;
     writeln!(output, "settled {length}")?;
     Ok(())
 }
@@ -99,11 +106,15 @@ fn get<O: Write>(session: &mut Session, output: &mut O, key: &Key) -> Result<(),
     Ok(())
 }
 
-fn clean<O: Write>(session: &mut Session, output: &mut O) -> Result<(), Miss>
+fn clean<R: System, O: Write>(
+    rt: &R,
+    session: &mut Session,
+    output: &mut O,
+) -> Result<(), Miss>
     requires { IsReady session.old holding }
     ensures { IsReady session.new holding }
 {
-    let cleaned = session.clean()?;
+    let cleaned = session.clean(rt)?;
     writeln!(
         output,
         "cleaned segment {} lease {} pages {} frames {}",
@@ -193,8 +204,8 @@ fn ask<O: Write>(session: &Session, output: &mut O, command: &Command) -> io::Re
 }
 
 /// Does what a line asks for, and prints its answer.
-pub fn answer<O: Write>(
-    alloc: Global,
+pub fn answer<R: System, O: Write>(
+    rt: &R,
     session: &mut Session,
     output: &mut O,
     command: Command,
@@ -205,14 +216,14 @@ pub fn answer<O: Write>(
     match command {
         Command::Put(writer, op) => put(session, output, writer, op),
         Command::Turn(limit) => turn(session, output, limit),
-        Command::Flush => flush(session, output),
-        Command::Settle => settle(session, output),
+        Command::Flush => flush(rt, session, output),
+        Command::Settle => settle(rt, session, output),
         Command::Page(number) => page(session, output, number),
         Command::Get(key) => get(session, output, &key),
-        Command::Clean => clean(session, output),
+        Command::Clean => clean(rt, session, output),
         Command::Roll => roll(session, output),
         Command::Leases => leases(session, output),
-        Command::Dump(segment) => dump(alloc, session, output, segment),
+        Command::Dump(segment) => dump(rt.alloc(), session, output, segment),
         other => Ok(ask(session, output, &other)?),
     }
 }

@@ -6,6 +6,7 @@ ghost use Rattle.bw_ring.specs.Ends.{ring_of_feed};
 use crate::options::Options;
 use crate::refusal::Refusal;
 use crate::session::Session;
+use crate::system::System;
 use bw_codec::{Key, Leaf, Record, Value};
 use bw_device::{Desk, MemSegment, Segment};
 use bw_ring::Feed;
@@ -14,6 +15,9 @@ use std::alloc::Global;
 
 /// How many places for readers a store is opened with.
 const READERS: usize = 4;
+
+/// How many leases a desk has.
+pub const LEASES: u32 = 64;
 
 /// A segment of this capacity, with the least lease that is free.
 pub fn spare_of(alloc: Global, desk: &mut Desk, capacity: u64) -> Result<MemSegment, Refusal> {
@@ -37,8 +41,8 @@ impl Session {
     ghost use Rattle.bwlog.specs.Session.{IsReady, IsReadyBeside};
 
     /// A session over these segments, whose leases are the desk's.
-    pub fn open(
-        alloc: Global,
+    pub fn open<R: System>(
+        rt: &R,
         options: &Options,
         segments: Vec<Box<dyn Segment>>,
         desk: Desk,
@@ -53,7 +57,7 @@ impl Session {
             m: options.m,
             f: options.f,
         };
-        match Store::open(alloc, &config, segments) {
+        match Store::open(rt, rt.alloc(), &config, segments) {
             Ok((store, feeds)) => Ok(Session { store, feeds, desk }),
             Err(fault) => Err(Refusal::from(fault.cause)),
         }
@@ -83,19 +87,19 @@ impl Session {
     }
 
     /// The number of the frame that was appended, if something waited.
-    pub fn flush(&mut self) -> Result<Option<u64>, Refusal>
+    pub fn flush<R: System>(&mut self, rt: &R) -> Result<Option<u64>, Refusal>
         requires { IsReady self.old holding }
         ensures { IsReady self.new holding }
     {
-        Ok(self.store.flush()?)
+        Ok(self.store.flush(rt)?)
     }
 
     /// The length of the history, once all that was accepted is taken and appended.
-    pub fn settle(&mut self) -> Result<u64, Refusal>
+    pub fn settle<R: System>(&mut self, rt: &R) -> Result<u64, Refusal>
         requires { IsReady self.old holding }
         ensures { IsReady self.new holding }
     {
-        Ok(self.store.settle(&mut self.feeds)?)
+        Ok(self.store.settle(rt, &mut self.feeds)?)
     }
 
     /// A page, as the history leaves it.
@@ -115,11 +119,11 @@ impl Session {
     }
 
     /// What was given up with the oldest segment.
-    pub fn clean(&mut self) -> Result<Cleaned, Refusal>
+    pub fn clean<R: System>(&mut self, rt: &R) -> Result<Cleaned, Refusal>
         requires { IsReady self.old holding }
         ensures { IsReady self.new holding }
     {
-        Ok(self.store.clean()?)
+        Ok(self.store.clean(rt)?)
     }
 
     /// The current segment takes no more frames.
@@ -144,5 +148,17 @@ impl Session {
         ensures { IsReady self.new holding }
     {
         let _ = self.desk.collect();
+    }
+
+    /// Ends the store. Nothing is flushed, and its segments are dropped.
+    pub fn shut<R: System>(self, rt: &R)
+        requires { IsReady self holding }
+    {
+        let Session {
+            store,
+            feeds: _feeds,
+            desk: _desk,
+        } = self;
+        let _ = store.shut(rt);
     }
 }

@@ -3,12 +3,8 @@
 use std::alloc::Global;
 use std::io::{self, BufRead, BufReader, ErrorKind, Read};
 
-/// The most bytes of a line that is not skipped.
-pub const LONGEST: usize = 4096;
-
-/// So many bytes with their LF tell whether a line is too long: one more than the longest line, a
-/// CR and the LF.
-const KEPT: u64 = 4099;
+/// The most reads of the input before its end.
+pub const READS: u64 = 1_000_000_000;
 
 /// Counts the reads of a reader, and fails from the one after the last.
 #[derive(Drop)]
@@ -27,9 +23,9 @@ impl<R: Read> Read for Counted<R> {
     }
 }
 
-/// Reads to the next LF, but at most so many bytes as are kept of a line.
-fn read_front<R: BufRead>(input: &mut R, line: &mut Vec<u8>) -> io::Result<usize> {
-    input.take(KEPT).read_until(b'\n', line)
+/// Reads to the next LF, but at most so many bytes.
+fn read_front<R: BufRead>(input: &mut R, most: u64, line: &mut Vec<u8>) -> io::Result<usize> {
+    input.take(most).read_until(b'\n', line)
 }
 
 /// A reader as lines.
@@ -37,29 +33,34 @@ fn read_front<R: BufRead>(input: &mut R, line: &mut Vec<u8>) -> io::Result<usize
 pub struct Lines<R> {
     input: BufReader<Counted<R>>,
     line: Vec<u8>,
+    /// So many bytes with their LF tell whether a line is too long: one more than the longest line,
+    /// a CR and the LF.
+    kept: u64,
 }
 
 impl<R: Read + Drop> Lines<R> {
-    /// The lines of a reader, of which at most `reads` reads may come before its end.
-    pub fn new(alloc: Global, input: R, reads: u64) -> io::Result<Lines<R>> {
+    /// The lines of a reader, of which at most `reads` reads may come before its end. The longest
+    /// line that is wanted has `longest` bytes.
+    pub fn new(alloc: Global, input: R, reads: u64, longest: u32) -> io::Result<Lines<R>> {
         let counted = Counted { input, left: reads };
         Ok(Lines {
             input: BufReader::new(alloc, counted)?,
             line: Vec::new(alloc),
+            kept: u64::from(longest) + 3,
         })
     }
 
     /// Reads the next line, and says whether there was one. Of a line that is too long the first
-    /// bytes are kept, one at least above `LONGEST`.
+    /// bytes are kept, one at least above the longest.
     pub fn read_line(&mut self) -> io::Result<bool> {
         self.line.clear();
-        let count = read_front(&mut self.input, &mut self.line)?;
+        let count = read_front(&mut self.input, self.kept, &mut self.line)?;
         if self.line.last() == Some(&b'\n') {
             let _ = self.line.pop();
             if self.line.last() == Some(&b'\r') {
                 let _ = self.line.pop();
             }
-        } else if count as u64 == KEPT {
+        } else if count as u64 == self.kept {
             let _ = self.input.skip_until(b'\n')?;
         }
         Ok(count > 0)

@@ -1,8 +1,8 @@
 //! Scripts over the page store: `bwlog replay` runs one, line by line, and prints what each line
-//! answers.
+//! answers; `bwlog scan` says what segments hold.
 //!
 //! A script has a session before it: a store over segments in memory, a feed for each writer, and
-//! the desk of the segments' leases. `replay::run` is the whole program over any reader and
+//! the desk of the segments' leases. `program::run` is the whole program over any reader and
 //! writers; `main` gives it the standard streams.
 #![tactic(auto)]
 
@@ -11,18 +11,23 @@ mod calls;
 mod lines;
 mod options;
 mod printed;
+mod program;
 mod refusal;
 mod replay;
+mod scan;
 mod script;
 mod session;
+mod stop;
+mod system;
 #[cfg(test)]
 mod tests;
 
+use program::run;
 use refusal::Refusal;
-use replay::run;
 use std::alloc::Global;
 use std::io::{self, BufWriter, ErrorKind};
 use std::process::ExitCode;
+use system::System;
 
 /// The words after the program's name.
 fn words_of(rt: &HostRuntime, alloc: Global) -> io::Result<Vec<String>> {
@@ -33,27 +38,28 @@ fn words_of(rt: &HostRuntime, alloc: Global) -> io::Result<Vec<String>> {
     Ok(words)
 }
 
-/// Runs the program on the system's words and streams.
-fn start(rt: &HostRuntime, alloc: Global) -> io::Result<u8> {
-    let words = words_of(rt, alloc)?;
+/// Runs the program on the system's words and streams. The handle by which it may wait is told
+/// apart: only `main` knows that the system is one.
+fn start<R: System>(host: &HostRuntime, rt: &R) -> io::Result<u8> {
+    let alloc = rt.alloc();
+    let words = words_of(host, alloc)?;
     let mut texts = Vec::new(alloc);
     for word in &words {
         texts.push(word.as_str())?;
     }
-    let mut output = BufWriter::new(alloc, rt.stdout())?;
+    let mut output = BufWriter::new(alloc, host.stdout())?;
     let status = run(
-        alloc,
+        rt,
         texts.as_slice(),
-        &mut rt.stdin(),
+        &mut host.stdin(),
         &mut output,
-        &mut rt.stderr(),
+        &mut host.stderr(),
     );
     Ok(status)
 }
 
 fn main(rt: HostRuntime) -> ExitCode {
-    let alloc = rt.alloc();
-    match start(&rt, alloc) {
+    match start(&rt, &rt) {
         Ok(status) => ExitCode::from(status),
         Err(error) if error.kind() == ErrorKind::OutOfMemory => {
             let _ = rt.println(Refusal::NoMemory);

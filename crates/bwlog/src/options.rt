@@ -6,6 +6,15 @@ use std::alloc::{AllocError, Global};
 
 /// What the command line asks for.
 #[derive(Debug, Clone, Copy, PartialEq, Eq)]
+pub enum Mode {
+    /// A script is run over a store.
+    Replay(Options),
+    /// Segments are looked at.
+    Scan,
+}
+
+/// The options of `replay`.
+#[derive(Debug, Clone, Copy, PartialEq, Eq)]
 pub struct Options {
     /// How many writers there are, numbered from 0: 1 to 64.
     pub writers: u16,
@@ -78,31 +87,27 @@ fn found_of(found: &ArgMatches) -> Options {
     }
 }
 
-/// The options of `replay`, from the words after the program's name. What they do not give as a
-/// parse, help among it, is clap's error, whose text is for the user.
-pub fn options_of<'a>(alloc: Global, words: &'a [&'a str]) -> Result<Options, Error> {
+/// What the words after the program's name ask for. What they do not give as a parse, help among it,
+/// is clap's error, whose text is for the user.
+pub fn mode_of<'a>(alloc: Global, words: &'a [&'a str]) -> Result<Mode, Error> {
     let replay = Command::new(alloc, "replay").about("Runs a script from standard input");
     let replay = with_writers(alloc, replay)?;
     let replay = with_limits(alloc, replay)?;
     let replay = with_segments(alloc, replay)?;
+    let scan = Command::new(alloc, "scan").about(
+        "Says what segments hold, one in hex on each line of standard input",
+    );
     let command = Command::new(alloc, "bwlog")
-        .about("Runs scripts over the page store")
+        .about("Runs scripts over the page store, and says what segments hold")
         .no_binary_name(true)
         .subcommand_required(true)
-        .subcommand(replay)?;
+        .subcommand(replay)?
+        .subcommand(scan)?;
     let matches = command.try_get_matches_from(words)?;
-    let mut options = Options {
-        writers: 0,
-        places: 0,
-        m: 0,
-        f: 0,
-        segments: 0,
-        capacity: 0,
-    };
-    if let Some(found) = matches.subcommand_matches("replay") {
-        options = found_of(found);
+    match matches.subcommand_matches("replay") {
+        Some(found) => Ok(Mode::Replay(found_of(found))),
+        None => Ok(Mode::Scan),
     }
-    Ok(options)
 }
 
 /// Whether clap had too little memory.

@@ -1,5 +1,6 @@
 //! What is refused, by number and name.
 
+use bw_care::RecoverCause;
 use bw_device::{NotMade, NotTaken};
 use bw_store::StoreFault;
 use std::alloc::{AllocError, AllocFailed};
@@ -32,6 +33,25 @@ pub enum Refusal {
     /// Fewer than two segments are live.
     #[error("refused E11 NothingOld")]
     NothingOld,
+    /// There is no whole frame.
+    #[error("refused E12 Empty")]
+    Empty,
+    /// Bytes of the segment at this position in the list, from 0, that are neither a header, nor a
+    /// frame, nor a tail; they begin at this offset.
+    #[error("refused E13 BadBytes segment {segment} at {at}")]
+    BadBytes { segment: u32, at: u64 },
+    /// The numbers of segments, or of frames, have a gap.
+    #[error("refused E14 Gap")]
+    Gap,
+    /// Headers differ in their limits.
+    #[error("refused E15 Mixed")]
+    Mixed,
+    /// A block of this page does not link back to the one before it.
+    #[error("refused E16 BadLink page {page}")]
+    BadLink { page: u32 },
+    /// This page is not lawful.
+    #[error("refused E17 Unlawful page {page}")]
+    Unlawful { page: u32 },
     /// All leases are out.
     #[error("refused E20 NoLease")]
     NoLease,
@@ -63,6 +83,23 @@ impl From<NotTaken> for Refusal {
         match error {
             NotTaken::NoMemory => Refusal::NoMemory,
             NotTaken::NoLease => Refusal::NoLease,
+        }
+    }
+}
+
+impl From<RecoverCause> for Refusal {
+    fn from(cause: RecoverCause) -> Refusal {
+        match cause {
+            RecoverCause::NoMemory => Refusal::NoMemory,
+            RecoverCause::BadConfig => Refusal::BadConfig,
+            RecoverCause::Device { lease } => Refusal::Device { lease },
+            RecoverCause::Spent => Refusal::Spent,
+            RecoverCause::Empty => Refusal::Empty,
+            RecoverCause::BadBytes { segment, at } => Refusal::BadBytes { segment, at },
+            RecoverCause::Gap => Refusal::Gap,
+            RecoverCause::Mixed => Refusal::Mixed,
+            RecoverCause::BadLink { page } => Refusal::BadLink { page },
+            RecoverCause::Unlawful { page } => Refusal::Unlawful { page },
         }
     }
 }

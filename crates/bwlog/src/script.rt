@@ -1,13 +1,15 @@
 //! One line of a script: a command, nothing, or a fault.
 
-use crate::lines::LONGEST;
 use bw_codec::{Key, Record, Value};
 use thiserror::Error;
 
-/// Why a line is no command. Where a line has two faults, the one that stands first here is told.
+/// The most bytes of a line that is not skipped.
+pub const LONGEST: u32 = 4096;
+
+/// Why a line is no command, or no segment of a scan. Where a line has two faults, the one that stands first here is told.
 #[derive(Debug, Clone, Copy, PartialEq, Eq, Error)]
 pub enum Fault {
-    /// Over 4,096 bytes.
+    /// Over 4,096 bytes; of a scan over 2,097,152.
     #[error("line too long")]
     LineTooLong,
     /// A byte outside 0x20 to 0x7e.
@@ -22,7 +24,7 @@ pub enum Fault {
     /// A number's word is no number, or out of range there.
     #[error("bad number")]
     BadNumber,
-    /// A key's or value's word is no hex, or of a length out of range.
+    /// A key's or value's word is no hex, or of a length out of range; a line of a scan is no hex.
     #[error("bad word")]
     BadWord,
 }
@@ -168,16 +170,21 @@ fn plain_of(name: &str, one: Option<&str>) -> Result<Command, Fault> {
     }
 }
 
+/// Whether all bytes are those of plain text on one line: 0x20 to 0x7e.
+pub fn are_printable(line: &[u8]) -> bool {
+    line.iter().all(|byte| matches!(*byte, 0x20..=0x7e))
+}
+
 /// What a line asks for, where there are so many writers: nothing where it is empty or begins with
 /// `#`, whatever its length.
 pub fn parse(line: &[u8], writers: u16) -> Result<Option<Command>, Fault> {
     if line.is_empty() || line.starts_with(b"#") {
         return Ok(None);
     }
-    if line.len() > LONGEST {
+    if line.len() > LONGEST as usize {
         return Err(Fault::LineTooLong);
     }
-    if !line.iter().all(|byte| matches!(*byte, 0x20..=0x7e)) {
+    if !are_printable(line) {
         return Err(Fault::BadByte);
     }
     match std::str::from_utf8(line) {

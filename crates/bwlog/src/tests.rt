@@ -3,10 +3,11 @@
 mod command_line;
 mod faults;
 mod lengths;
+mod scans;
 mod scripts;
 mod streams;
 
-use crate::replay::run;
+use crate::program::run;
 use std::alloc::{AllocError, Global};
 use std::io::Read;
 
@@ -39,26 +40,26 @@ fn are_so(printed: &[u8], output: &str, told: &[u8], errors: &str) -> bool {
 
 /// Whether a run ends with this status, prints this and tells that.
 fn ends<I: Read>(
-    alloc: Global,
+    rt: &HostRuntime,
     words: &[&str],
     input: &mut I,
     status: u8,
     output: &str,
     errors: &str,
 ) -> bool {
-    let mut printed = Vec::new(alloc);
-    let mut told = Vec::new(alloc);
-    let answer = run(alloc, words, input, &mut printed, &mut told);
+    let mut printed = Vec::new(rt.alloc());
+    let mut told = Vec::new(rt.alloc());
+    let answer = run(rt, words, input, &mut printed, &mut told);
     let are_so = are_so(printed.as_slice(), output, told.as_slice(), errors);
     are_so & (answer == status)
 }
 
 /// Whether words are answered with status 2, nothing printed and something told.
-fn is_no_parse(alloc: Global, words: &[&str]) -> bool {
+fn is_no_parse(rt: &HostRuntime, words: &[&str]) -> bool {
     let mut input = b"flush\n".as_slice();
-    let mut printed = Vec::new(alloc);
-    let mut told = Vec::new(alloc);
-    let answer = run(alloc, words, &mut input, &mut printed, &mut told);
+    let mut printed = Vec::new(rt.alloc());
+    let mut told = Vec::new(rt.alloc());
+    let answer = run(rt, words, &mut input, &mut printed, &mut told);
     (answer == 2) & printed.is_empty() & !told.is_empty()
 }
 
@@ -89,55 +90,55 @@ fn flushed(alloc: Global, line: &[u8], count: usize) -> Result<Vec<u8>, AllocErr
 }
 
 /// Whether what a script prints ends so.
-fn prints_last(alloc: Global, words: &[&str], script: &[u8], output: &str) -> bool {
+fn prints_last(rt: &HostRuntime, words: &[&str], script: &[u8], output: &str) -> bool {
     let mut input = script;
-    let mut printed = Vec::new(alloc);
-    let mut told = Vec::new(alloc);
-    let _ = run(alloc, words, &mut input, &mut printed, &mut told);
+    let mut printed = Vec::new(rt.alloc());
+    let mut told = Vec::new(rt.alloc());
+    let _ = run(rt, words, &mut input, &mut printed, &mut told);
     told.is_empty() & printed.ends_with(output.as_bytes())
 }
 
 /// Whether the flush of so many records answers so.
 fn flush_answers(
-    alloc: Global,
+    rt: &HostRuntime,
     words: &[&str],
     count: usize,
     output: &str,
 ) -> Result<bool, AllocError> {
-    let line = around(alloc, "put 0 k ", b'v', 128, "\n")?;
-    let script = flushed(alloc, line.as_slice(), count)?;
-    Ok(prints_last(alloc, words, script.as_slice(), output))
+    let line = around(rt.alloc(), "put 0 k ", b'v', 128, "\n")?;
+    let script = flushed(rt.alloc(), line.as_slice(), count)?;
+    Ok(prints_last(rt, words, script.as_slice(), output))
 }
 
 /// Whether the row goes as told.
-fn goes(alloc: Global, row: &Row) -> Result<bool, AllocError> {
+fn goes(rt: &HostRuntime, row: &Row) -> Result<bool, AllocError> {
     match row {
         Row::Prints(script, status, output) => {
-            Ok(ends(alloc, &PLAIN, &mut script.as_bytes(), *status, output, ""))
+            Ok(ends(rt, &PLAIN, &mut script.as_bytes(), *status, output, ""))
         }
         Row::Fault(script, output, errors) => {
-            Ok(ends(alloc, &PLAIN, &mut script.as_bytes(), 3, output, errors))
+            Ok(ends(rt, &PLAIN, &mut script.as_bytes(), 3, output, errors))
         }
         Row::Long(before, byte, count, after, output) => {
-            let script = around(alloc, before, *byte, *count, after)?;
-            Ok(ends(alloc, &PLAIN, &mut script.as_slice(), 0, output, ""))
+            let script = around(rt.alloc(), before, *byte, *count, after)?;
+            Ok(ends(rt, &PLAIN, &mut script.as_slice(), 0, output, ""))
         }
         Row::LongFault(before, byte, count, after, errors) => {
-            let script = around(alloc, before, *byte, *count, after)?;
-            Ok(ends(alloc, &PLAIN, &mut script.as_slice(), 3, "", errors))
+            let script = around(rt.alloc(), before, *byte, *count, after)?;
+            Ok(ends(rt, &PLAIN, &mut script.as_slice(), 3, "", errors))
         }
-        Row::Records(words, count, output) => flush_answers(alloc, words, *count, output),
+        Row::Records(words, count, output) => flush_answers(rt, words, *count, output),
         Row::Under(words, script, status, output) => {
-            Ok(ends(alloc, words, &mut script.as_bytes(), *status, output, ""))
+            Ok(ends(rt, words, &mut script.as_bytes(), *status, output, ""))
         }
-        Row::NoParse(words) => Ok(is_no_parse(alloc, words)),
+        Row::NoParse(words) => Ok(is_no_parse(rt, words)),
     }
 }
 
 /// How many of the rows went as told before one did not.
-fn walked(alloc: Global, rows: &[Row]) -> Result<usize, AllocError> {
+fn walked(rt: &HostRuntime, rows: &[Row]) -> Result<usize, AllocError> {
     for (i, row) in rows.iter().enumerate() {
-        if !goes(alloc, row)? {
+        if !goes(rt, row)? {
             return Ok(i);
         }
     }

@@ -6,6 +6,7 @@ mod cleaning;
 mod evicting;
 mod opening;
 mod putting;
+mod readers;
 mod reading;
 mod reopening;
 mod settling;

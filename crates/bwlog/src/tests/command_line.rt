@@ -4,13 +4,14 @@ use super::{Row, walked};
 use std::test::*;
 
 /// What is no parse, and limits at the ends of their ranges.
-const COMMAND_LINES: [Row; 30] = [
+const COMMAND_LINES: [Row; 31] = [
     Row::NoParse(&[]),
     Row::NoParse(&[""]),
     Row::NoParse(&["--help"]),
     Row::NoParse(&["help"]),
     Row::NoParse(&["threads"]),
-    Row::NoParse(&["scan"]),
+    Row::NoParse(&["scan", "--m=4"]),
+    Row::NoParse(&["scan", "word"]),
     Row::NoParse(&["replay", "--help"]),
     Row::NoParse(&["replay", "--nothing"]),
     Row::NoParse(&["replay", "word"]),
@@ -92,6 +93,6 @@ const COMMAND_LINES: [Row; 30] = [
 
 #[test]
 fn command_lines_are_answered(rt: HostRuntime) -> Result<(), Fail> {
-    assert_eq!(rt; walked(rt.alloc(), &COMMAND_LINES)?, COMMAND_LINES.len());
+    assert_eq!(rt; walked(&rt, &COMMAND_LINES)?, COMMAND_LINES.len());
     Ok(())
 }

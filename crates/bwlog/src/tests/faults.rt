@@ -85,6 +85,6 @@ const FAULTS: [Row; 52] = [
 
 #[test]
 fn a_fault_ends_the_script(rt: HostRuntime) -> Result<(), Fail> {
-    assert_eq!(rt; walked(rt.alloc(), &FAULTS)?, FAULTS.len());
+    assert_eq!(rt; walked(&rt, &FAULTS)?, FAULTS.len());
     Ok(())
 }

@@ -72,6 +72,6 @@ const LENGTHS: [Row; 25] = [
 
 #[test]
 fn lengths_of_lines_words_and_frames_are_bounded(rt: HostRuntime) -> Result<(), Fail> {
-    assert_eq!(rt; walked(rt.alloc(), &LENGTHS)?, LENGTHS.len());
+    assert_eq!(rt; walked(&rt, &LENGTHS)?, LENGTHS.len());
     Ok(())
 }

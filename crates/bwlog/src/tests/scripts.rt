@@ -127,6 +127,6 @@ const SCRIPTS: [Row; 18] = [
 
 #[test]
 fn scripts_print_their_answers(rt: HostRuntime) -> Result<(), Fail> {
-    assert_eq!(rt; walked(rt.alloc(), &SCRIPTS)?, SCRIPTS.len());
+    assert_eq!(rt; walked(&rt, &SCRIPTS)?, SCRIPTS.len());
     Ok(())
 }

@@ -2,7 +2,8 @@
 
 use super::{PLAIN, ends};
 use crate::lines::Lines;
-use crate::replay::run;
+use crate::program::run;
+use crate::script::LONGEST;
 use std::alloc::Global;
 use std::io::{self, ErrorKind, Read, Write};
 use std::test::*;
@@ -79,7 +80,7 @@ enum Row {
 
 const TEXT: &str = "put 0 k v\nflush\npage 1\n";
 
-fn input_ends(alloc: Global, cut: usize, status: u8, output: &str, errors: &str) -> bool {
+fn input_ends(rt: &HostRuntime, cut: usize, status: u8, output: &str, errors: &str) -> bool {
     let mut input = Failing {
         text: TEXT.as_bytes(),
         at: 0,
@@ -87,24 +88,24 @@ fn input_ends(alloc: Global, cut: usize, status: u8, output: &str, errors: &str)
         has_interruptions: true,
         is_interrupted: false,
     };
-    ends(alloc, &PLAIN, &mut input, status, output, errors)
+    ends(rt, &PLAIN, &mut input, status, output, errors)
 }
 
-fn output_ends(alloc: Global, script: &str, left: usize, can_flush: bool, status: u8) -> bool {
+fn output_ends(rt: &HostRuntime, script: &str, left: usize, can_flush: bool, status: u8) -> bool {
     let mut input = script.as_bytes();
     let mut printed = Short { left, can_flush };
-    let mut told = Vec::new(alloc);
-    run(alloc, &PLAIN, &mut input, &mut printed, &mut told) == status
+    let mut told = Vec::new(rt.alloc());
+    run(rt, &PLAIN, &mut input, &mut printed, &mut told) == status
 }
 
-fn errors_end(alloc: Global, word: &str, script: &str, status: u8) -> bool {
+fn errors_end(rt: &HostRuntime, word: &str, script: &str, status: u8) -> bool {
     let mut input = script.as_bytes();
-    let mut printed = Vec::new(alloc);
+    let mut printed = Vec::new(rt.alloc());
     let mut told = Short {
         left: 3,
         can_flush: true,
     };
-    run(alloc, &[word], &mut input, &mut printed, &mut told) == status
+    run(rt, &[word], &mut input, &mut printed, &mut told) == status
 }
 
 fn is_read<R: Read + Drop>(lines: &mut Lines<R>, text: &str) -> io::Result<bool> {
@@ -129,28 +130,28 @@ fn reads_end(alloc: Global, reads: u64, is_enough: bool) -> io::Result<bool> {
         has_interruptions: false,
         is_interrupted: false,
     };
-    let mut lines = Lines::new(alloc, &mut input, reads)?;
+    let mut lines = Lines::new(alloc, &mut input, reads, LONGEST)?;
     are_read(&mut lines, is_enough)
 }
 
 /// Whether the row goes as told.
-fn goes(alloc: Global, row: &Row) -> io::Result<bool> {
+fn goes(rt: &HostRuntime, row: &Row) -> io::Result<bool> {
     match row {
         Row::Input(cut, status, output, errors) => {
-            Ok(input_ends(alloc, *cut, *status, output, errors))
+            Ok(input_ends(rt, *cut, *status, output, errors))
         }
         Row::Output(script, left, can_flush, status) => {
-            Ok(output_ends(alloc, script, *left, *can_flush, *status))
+            Ok(output_ends(rt, script, *left, *can_flush, *status))
         }
-        Row::Errors(word, script, status) => Ok(errors_end(alloc, word, script, *status)),
-        Row::Reads(reads, is_enough) => reads_end(alloc, *reads, *is_enough),
+        Row::Errors(word, script, status) => Ok(errors_end(rt, word, script, *status)),
+        Row::Reads(reads, is_enough) => reads_end(rt.alloc(), *reads, *is_enough),
     }
 }
 
 /// How many of the rows went as told before one did not.
-fn walked(alloc: Global, rows: &[Row]) -> io::Result<usize> {
+fn walked(rt: &HostRuntime, rows: &[Row]) -> io::Result<usize> {
     for (i, row) in rows.iter().enumerate() {
-        if !goes(alloc, row)? {
+        if !goes(rt, row)? {
             return Ok(i);
         }
     }
@@ -189,6 +190,6 @@ const STREAMS: [Row; 21] = [
 
 #[test]
 fn a_failed_stream_ends_the_run(rt: HostRuntime) -> Result<(), Fail> {
-    assert_eq!(rt; walked(rt.alloc(), &STREAMS)?, STREAMS.len());
+    assert_eq!(rt; walked(&rt, &STREAMS)?, STREAMS.len());
     Ok(())
 }

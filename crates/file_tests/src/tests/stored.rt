@@ -13,6 +13,7 @@ use bw_file::Folder;
 use bw_ring::Feed;
 use bw_store::{Config, Store, StoreFault};
 use std::fs;
+use std::sync::Wait;
 use std::test::Fail;
 
 const KV: &[(&str, &str)] = &[("k", "v")];
@@ -46,15 +47,16 @@ fn is_taken(store: &mut Store) -> bool
 }
 
 // Whether a flush answers so.
-fn answers(store: &mut Store, told: Result<Option<u64>, StoreFault>) -> bool
+fn answers<R: Wait>(rt: &R, store: &mut Store, told: Result<Option<u64>, StoreFault>) -> bool
     requires { IsSound store.old holding }
     ensures { IsSound store.new holding }
 {
-    store.flush() == told
+    store.flush(rt) == told
 }
 
 // Whether a record of writer 0 is taken, and its flush then answers so.
-fn is_flushed(
+fn is_flushed<R: Wait>(
+    rt: &R,
     store: &mut Store,
     feeds: &mut [Feed],
     pair: (&[u8], &[u8]),
@@ -65,7 +67,7 @@ fn is_flushed(
 {
     let put = is_put(feeds, pair)?;
     let taken = is_taken(store);
-    let flushed = answers(store, told);
+    let flushed = answers(rt, store, told);
     Ok(put && taken && flushed)
 }
 
@@ -78,18 +80,19 @@ fn are_flushed(
     keep: u64,
 ) -> Result<bool, Fail>
     requires { IsSound store.old holding }
+    ensures { IsSound store.new holding }
 {
-    let first = is_flushed(store, feeds, (b"k", b"v"), Ok(Some(1)))?;
+    let first = is_flushed(rt.system(), store, feeds, (b"k", b"v"), Ok(Some(1)))?;
     rt.watch().fail_after(passes, keep);
     let told = if passes < 2 {
         Err(StoreFault::Device { lease: 0 })
     } else {
         Ok(Some(2))
     };
-    Ok(first && is_flushed(store, feeds, (b"j", b"w"), told)?)
+    Ok(first && is_flushed(rt.system(), store, feeds, (b"j", b"w"), told)?)
 }
 
-// A life of a store over two files of the folder, until it is dropped.
+// A life of a store over two files of the folder, until it is shut.
 fn lives(rt: &Watched<HostRuntime>, path: &str, passes: u64, keep: u64) -> Result<bool, Fail> {
     let folder = Folder::open(rt, path)?;
     let mut desk = Desk::new(rt.alloc(), 8)?;
@@ -102,10 +105,12 @@ fn lives(rt: &Watched<HostRuntime>, path: &str, passes: u64, keep: u64) -> Resul
         m: 4,
         f: 16384,
     };
-    let Ok((mut store, mut feeds)) = Store::open(rt.alloc(), &config, boxes) else {
+    let Ok((mut store, mut feeds)) = Store::open(rt.system(), rt.alloc(), &config, boxes) else {
         return Ok(false);
     };
-    are_flushed(rt, &mut store, &mut feeds, passes, keep)
+    let flushed = are_flushed(rt, &mut store, &mut feeds, passes, keep);
+    let _ = store.shut(rt.system());
+    flushed
 }
 
 // Whether the first file has the first bytes of both frames, so many of the second.

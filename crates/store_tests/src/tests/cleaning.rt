@@ -108,9 +108,9 @@ const FAILED: [Step; 17] = [
 
 #[test]
 fn the_oldest_segment_is_given_up(rt: HostRuntime) -> Result<(), Fail> {
-    assert_eq!(rt; over(rt.alloc(), 4, &THREE_SEGMENTS)?, THREE_SEGMENTS.len());
-    assert_eq!(rt; over(rt.alloc(), 4, &NOTHING_OLD)?, NOTHING_OLD.len());
-    assert_eq!(rt; over(rt.alloc(), 3, &THREE_BOXES)?, THREE_BOXES.len());
+    assert_eq!(rt; over(&rt, 4, &THREE_SEGMENTS)?, THREE_SEGMENTS.len());
+    assert_eq!(rt; over(&rt, 4, &NOTHING_OLD)?, NOTHING_OLD.len());
+    assert_eq!(rt; over(&rt, 3, &THREE_BOXES)?, THREE_BOXES.len());
     Ok(())
 }
 
@@ -118,7 +118,7 @@ fn the_oldest_segment_is_given_up(rt: HostRuntime) -> Result<(), Fail> {
 fn a_failed_append_of_the_cleaner_drops_no_box(rt: HostRuntime) -> Result<(), Fail> {
     // A header, a frame and the read of a page pass; the cleaner's frame has 36 bytes.
     for keep in 0..=36u64 {
-        assert_eq!(rt; over_fuse(rt.alloc(), 1, 3, keep, &FAILED)?, FAILED.len());
+        assert_eq!(rt; over_fuse(&rt, 1, 3, keep, &FAILED)?, FAILED.len());
     }
     Ok(())
 }

@@ -119,27 +119,33 @@ const OPENED_AGAIN: [Step; 6] = [
 
 #[test]
 fn pages_that_are_away_are_read_from_their_segments(rt: HostRuntime) -> Result<(), Fail> {
-    assert_eq!(rt; over_fuse(rt.alloc(), 0, 2, 0, &READ_AGAIN)?, READ_AGAIN.len());
-    assert_eq!(rt; over_fuse(rt.alloc(), 0, 2, 0, &TURNED_AGAIN)?, TURNED_AGAIN.len());
+    assert_eq!(rt;
+        over_fuse(&rt, 0, 2, 0, &READ_AGAIN)?,
+        READ_AGAIN.len()
+    );
+    assert_eq!(rt;
+        over_fuse(&rt, 0, 2, 0, &TURNED_AGAIN)?,
+        TURNED_AGAIN.len()
+    );
     Ok(())
 }
 
 #[test]
 fn what_no_frame_has_yet_stays_with_its_page(rt: HostRuntime) -> Result<(), Fail> {
-    assert_eq!(rt; over(rt.alloc(), 4, &UNFLUSHED)?, UNFLUSHED.len());
-    assert_eq!(rt; over(rt.alloc(), 4, &CUT)?, CUT.len());
+    assert_eq!(rt; over(&rt, 4, &UNFLUSHED)?, UNFLUSHED.len());
+    assert_eq!(rt; over(&rt, 4, &CUT)?, CUT.len());
     Ok(())
 }
 
 #[test]
 fn pages_stay_away_through_a_cleaning(rt: HostRuntime) -> Result<(), Fail> {
-    assert_eq!(rt; over(rt.alloc(), 4, &CLEANED)?, CLEANED.len());
+    assert_eq!(rt; over(&rt, 4, &CLEANED)?, CLEANED.len());
     Ok(())
 }
 
 #[test]
 fn recovered_pages_leave_memory(rt: HostRuntime) -> Result<(), Fail> {
-    let walked = over_bytes(rt.alloc(), &[FIRST_BYTES], &OPENED_AGAIN)?;
+    let walked = over_bytes(&rt, &[FIRST_BYTES], &OPENED_AGAIN)?;
     assert!(rt; walked == OPENED_AGAIN.len());
     Ok(())
 }

@@ -3,16 +3,20 @@
 use super::boxes::fill;
 use bw_device::{Desk, Segment};
 use bw_store::{Config, Store, StoreFault};
-use std::alloc::Global;
+use std::sync::Wait;
 use std::test::Fail;
 
 // Whether a store over two boxes is refused, and both come back.
-fn is_refused(alloc: Global, config: &Config) -> Result<bool, Fail> {
+fn is_refused<R: AllocGlobal + Wait>(rt: &R, config: &Config) -> Result<bool, Fail> {
+    let alloc = rt.alloc();
     let mut desk = Desk::new(alloc, 2)?;
     let mut boxes: Vec<Box<dyn Segment>> = Vec::new(alloc);
     fill(alloc, &mut desk, 2, &mut boxes)?;
-    match Store::open(alloc, config, boxes) {
-        Ok(_) => Ok(false),
+    match Store::open(rt, alloc, config, boxes) {
+        Ok((store, _feeds)) => {
+            let _ = store.shut(rt);
+            Ok(false)
+        }
         Err(fault) => Ok(fault.cause == StoreFault::BadConfig && fault.segments.len() == 2),
     }
 }
@@ -42,7 +46,7 @@ fn a_bad_config_is_refused(rt: HostRuntime) -> Result<(), Fail> {
             m,
             f,
         };
-        assert!(rt; is_refused(rt.alloc(), &config)?);
+        assert!(rt; is_refused(&rt, &config)?);
     }
     Ok(())
 }

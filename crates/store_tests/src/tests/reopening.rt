@@ -43,21 +43,21 @@ const AFTER_THE_GREATEST: [Step; 2] = [Page(1, "1 :"), Refused(StoreFault::Spent
 
 #[test]
 fn a_store_goes_on_from_worked_segments(rt: HostRuntime) -> Result<(), Fail> {
-    let walked = over_bytes(rt.alloc(), &[FIRST_BYTES], &AFTER_THE_FIRST)?;
+    let walked = over_bytes(&rt, &[FIRST_BYTES], &AFTER_THE_FIRST)?;
     assert!(rt; walked == AFTER_THE_FIRST.len());
     Ok(())
 }
 
 #[test]
 fn a_store_goes_on_from_a_cleaned_log(rt: HostRuntime) -> Result<(), Fail> {
-    let walked = over_bytes(rt.alloc(), &[THIRD_OLDER, THIRD_NEWER], &AFTER_THE_THIRD)?;
+    let walked = over_bytes(&rt, &[THIRD_OLDER, THIRD_NEWER], &AFTER_THE_THIRD)?;
     assert!(rt; walked == AFTER_THE_THIRD.len());
     Ok(())
 }
 
 #[test]
 fn a_store_after_the_greatest_frame_is_spent(rt: HostRuntime) -> Result<(), Fail> {
-    let walked = over_bytes(rt.alloc(), &[GREATEST], &AFTER_THE_GREATEST)?;
+    let walked = over_bytes(&rt, &[GREATEST], &AFTER_THE_GREATEST)?;
     assert!(rt; walked == AFTER_THE_GREATEST.len());
     Ok(())
 }

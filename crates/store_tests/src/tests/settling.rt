@@ -96,23 +96,23 @@ const FRAMES: [Step; 8] = [
 
 #[test]
 fn all_that_was_accepted_is_settled(rt: HostRuntime) -> Result<(), Fail> {
-    assert_eq!(rt; within(rt.alloc(), 4, 2, &TWO_PLACES)?, TWO_PLACES.len());
-    assert_eq!(rt; over(rt.alloc(), 4, &ONE_KEY)?, ONE_KEY.len());
-    assert_eq!(rt; over(rt.alloc(), 4, &WRITERS)?, WRITERS.len());
-    assert_eq!(rt; over(rt.alloc(), 4, &EMPTY)?, EMPTY.len());
+    assert_eq!(rt; within(&rt, 4, 2, &TWO_PLACES)?, TWO_PLACES.len());
+    assert_eq!(rt; over(&rt, 4, &ONE_KEY)?, ONE_KEY.len());
+    assert_eq!(rt; over(&rt, 4, &WRITERS)?, WRITERS.len());
+    assert_eq!(rt; over(&rt, 4, &EMPTY)?, EMPTY.len());
     Ok(())
 }
 
 #[test]
 fn a_refused_settle_keeps_what_it_took(rt: HostRuntime) -> Result<(), Fail> {
-    assert_eq!(rt; over(rt.alloc(), 1, &NO_SPARE)?, NO_SPARE.len());
-    assert_eq!(rt; over_fuse(rt.alloc(), 0, 0, 10, &FAILED)?, FAILED.len());
-    assert_eq!(rt; over_fuse(rt.alloc(), 0, 1, 10, &FAILED)?, FAILED.len());
+    assert_eq!(rt; over(&rt, 1, &NO_SPARE)?, NO_SPARE.len());
+    assert_eq!(rt; over_fuse(&rt, 0, 0, 10, &FAILED)?, FAILED.len());
+    assert_eq!(rt; over_fuse(&rt, 0, 1, 10, &FAILED)?, FAILED.len());
     Ok(())
 }
 
 #[test]
 fn many_frames_are_settled_and_read_back(rt: HostRuntime) -> Result<(), Fail> {
-    assert_eq!(rt; within(rt.alloc(), 12, 1024, &FRAMES)?, FRAMES.len());
+    assert_eq!(rt; within(&rt, 12, 1024, &FRAMES)?, FRAMES.len());
     Ok(())
 }

@@ -12,6 +12,7 @@ use bw_device::Segment;
 use bw_ring::Feed;
 use bw_store::{Cleaned, Store, StoreFault, TurnFault};
 use std::alloc::Global;
+use std::sync::Wait;
 use std::test::Fail;
 
 #[derive(Drop)]
@@ -132,7 +133,7 @@ fn answers(alloc: Global, store: &mut Store, step: &Step) -> Result<bool, Fail>
 }
 
 // A step that changes the store alone.
-fn changes(store: &mut Store, step: &Step) -> bool
+fn changes<R: Wait>(rt: &R, store: &mut Store, step: &Step) -> bool
     requires { IsSound store.old holding }
     ensures sound { IsSound store.new holding }
     ensures follows { Follows (kept_by store.old holding) (kept_by store.new holding) }
@@ -146,8 +147,8 @@ fn changes(store: &mut Store, step: &Step) -> bool
             };
             takes(store, *limit, Err(told))
         }
-        Flush(frame) => store.flush() == Ok(*frame),
-        Refused(fault) => store.flush() == Err(*fault),
+        Flush(frame) => store.flush(rt) == Ok(*frame),
+        Refused(fault) => store.flush(rt) == Err(*fault),
         Clean(segment, lease, pages, frames) => {
             let told = Cleaned {
                 segment: *segment,
@@ -155,9 +156,9 @@ fn changes(store: &mut Store, step: &Step) -> bool
                 pages: *pages,
                 frames: *frames,
             };
-            store.clean() == Ok(told)
+            store.clean(rt) == Ok(told)
         }
-        Uncleaned(fault) => store.clean() == Err(*fault),
+        Uncleaned(fault) => store.clean(rt) == Err(*fault),
         _ => {
             store.roll();
             true
@@ -166,7 +167,8 @@ fn changes(store: &mut Store, step: &Step) -> bool
 }
 
 /// Whether the step goes as told.
-pub(super) fn goes(
+pub(super) fn goes<R: Wait>(
+    rt: &R,
     alloc: Global,
     store: &mut Store,
     feeds: &mut Vec<Feed>,
@@ -181,10 +183,10 @@ pub(super) fn goes(
     match step {
         Put(..) | Del(..) | Full(..) | Puts(..) => puts(feeds, step),
         Turn(..) | Stops(..) | Flush(..) | Refused(..) | Clean(..) | Uncleaned(..) | Roll => {
-            Ok(changes(store, step))
+            Ok(changes(rt, store, step))
         }
-        Settle(count) => Ok(store.settle(feeds) == Ok(*count)),
-        Unsettled(fault) => Ok(store.settle(feeds) == Err(*fault)),
+        Settle(count) => Ok(store.settle(rt, feeds) == Ok(*count)),
+        Unsettled(fault) => Ok(store.settle(rt, feeds) == Err(*fault)),
         Add => Ok(is_added(store, more)),
         _ => answers(alloc, store, step),
     }

@@ -12,6 +12,7 @@ use bw_ring::Feed;
 use bw_store::{Config, Entry, Store};
 use std::alloc::Global;
 use std::snapshot::Snapshot;
+use std::sync::Wait;
 use std::test::Fail;
 use std::thread;
 use std::thread::{Promise, PromisedHandle, Threads};
@@ -144,9 +145,14 @@ fn are_scripts(entries: &[Entry]) -> bool {
 }
 
 // Whether all that four writers put meanwhile is settled, each writer's records in order.
-fn are_settled<R: Threads>(rt: &R, store: &mut Store, feeds: &mut Vec<Feed>) -> Result<bool, Fail>
+fn are_settled<R: Threads + Wait>(
+    rt: &R,
+    store: &mut Store,
+    feeds: &mut Vec<Feed>,
+) -> Result<bool, Fail>
     requires sound { IsSound store.old holding }
     requires feeds { map ring_of_feed feeds.old.items ≡ (kept_by store.old holding).rings }
+    ensures { IsSound store.new holding }
 {
     let Some(d) = leaves(rt, feeds, b'd')? else {
         return Ok(false);
@@ -165,7 +171,7 @@ fn are_settled<R: Threads>(rt: &R, store: &mut Store, feeds: &mut Vec<Feed>) -> 
     returns(rt, feeds, b)?;
     returns(rt, feeds, c)?;
     returns(rt, feeds, d)?;
-    Ok(store.settle(feeds) == Ok(4000) && are_scripts(store.history()))
+    Ok(store.settle(rt, feeds) == Ok(4000) && are_scripts(store.history()))
 }
 
 fn boxes_of(alloc: Global) -> Result<Vec<Box<dyn Segment>>, Fail> {
@@ -185,10 +191,12 @@ fn four_writers_in_threads_are_settled(rt: HostRuntime) -> Result<(), Fail> {
         f: 16384,
     };
     let boxes = boxes_of(rt.alloc())?;
-    let Ok((mut store, mut feeds)) = Store::open(rt.alloc(), &config, boxes) else {
+    let Ok((mut store, mut feeds)) = Store::open(&rt, rt.alloc(), &config, boxes) else {
         assert!(rt; false);
         return Ok(());
     };
-    assert!(rt; are_settled(&rt, &mut store, &mut feeds)?);
+    let settled = are_settled(&rt, &mut store, &mut feeds);
+    let _ = store.shut(&rt);
+    assert!(rt; settled?);
     Ok(())
 }

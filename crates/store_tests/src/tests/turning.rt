@@ -138,31 +138,31 @@ const FAILED: [Step; 13] = [
 
 #[test]
 fn worked_bytes_are_written(rt: HostRuntime) -> Result<(), Fail> {
-    assert_eq!(rt; over(rt.alloc(), 4, &FIRST)?, FIRST.len());
-    assert_eq!(rt; over(rt.alloc(), 4, &SECOND)?, SECOND.len());
-    assert_eq!(rt; over(rt.alloc(), 4, &EMPTY)?, EMPTY.len());
+    assert_eq!(rt; over(&rt, 4, &FIRST)?, FIRST.len());
+    assert_eq!(rt; over(&rt, 4, &SECOND)?, SECOND.len());
+    assert_eq!(rt; over(&rt, 4, &EMPTY)?, EMPTY.len());
     Ok(())
 }
 
 #[test]
 fn turns_go_round_the_lanes(rt: HostRuntime) -> Result<(), Fail> {
-    assert_eq!(rt; over(rt.alloc(), 4, &WRITERS)?, WRITERS.len());
-    assert_eq!(rt; over(rt.alloc(), 4, &LIMITS)?, LIMITS.len());
+    assert_eq!(rt; over(&rt, 4, &WRITERS)?, WRITERS.len());
+    assert_eq!(rt; over(&rt, 4, &LIMITS)?, LIMITS.len());
     Ok(())
 }
 
 #[test]
 fn segments_are_begun_while_two_spares_stand(rt: HostRuntime) -> Result<(), Fail> {
-    assert_eq!(rt; over(rt.alloc(), 1, &NO_SPARE)?, NO_SPARE.len());
-    assert_eq!(rt; over(rt.alloc(), 4, &ROLLED)?, ROLLED.len());
+    assert_eq!(rt; over(&rt, 1, &NO_SPARE)?, NO_SPARE.len());
+    assert_eq!(rt; over(&rt, 4, &ROLLED)?, ROLLED.len());
     Ok(())
 }
 
 #[test]
 fn a_failed_append_ends_the_store(rt: HostRuntime) -> Result<(), Fail> {
     for keep in 0..=53u64 {
-        assert_eq!(rt; over_fuse(rt.alloc(), 0, 0, keep, &FAILED)?, FAILED.len());
-        assert_eq!(rt; over_fuse(rt.alloc(), 0, 1, keep, &FAILED)?, FAILED.len());
+        assert_eq!(rt; over_fuse(&rt, 0, 0, keep, &FAILED)?, FAILED.len());
+        assert_eq!(rt; over_fuse(&rt, 0, 1, keep, &FAILED)?, FAILED.len());
     }
     Ok(())
 }

@@ -1,0 +1,146 @@
+-- What readers have is a beginning of what is durable, step by step.
+
+use Rattle.std.proofs.Common.{◌≡◌, ℕ, zero, suc, ◌≤◌, Some, Result, Ok, Err, OnOk, OnErr, MatchResult, List, [], ◌∷◌, ◌++◌, length, take, refl, sym, ap, ◌∙◌, subst, arith}
+use Rattle.std.specs.declared.alloc.AllocError.{AllocError}
+use mathlib.Core.List.{IsPrefix}
+use Rattle.bw_codec.specs.declared.leaf.Leaf.{Leaf}
+use Rattle.bw_page.specs.Shown.{Shown}
+use Rattle.bw_versions.specs.Batches.{BatchData, entries_of}
+use Rattle.bw_versions.specs.Posted.{posted_of}
+use Rattle.bw_versions.specs.Versioned.{Versioned}
+use Rattle.bw_versions.specs.declared.entry.Entry.{Entry}
+use Rattle.bw_versions.proofs.Fronts.{prefix_trans}
+use Rattle.bw_store.specs.History.{cut, upto}
+use Rattle.bw_store.specs.Kept.{Kept, AreVersions, IsSound, with_batches}
+use Rattle.bw_store.specs.Showing.{Hides, Shows, with_places}
+use Rattle.bw_store.proofs.RecordMore.{cut_within}
+
+-- ---- beginnings of the history
+
+take_prefix : {A : Type 0} (xs : List A) (c d : ℕ) → c ≤ d → IsPrefix (take c xs) (take d xs)
+take_prefix xs zero d le = (take d xs, refl)
+take_prefix [] (suc c) zero le = absurd (omega arith)
+take_prefix [] (suc c) (suc d) le = ([], refl)
+take_prefix (x ∷ xs) (suc c) zero le = absurd (omega arith)
+take_prefix (x ∷ xs) (suc c) (suc d) le = (let rest = take_prefix xs c d (omega arith) in (rest.0, ap (λ ys. x ∷ ys) rest.1))
+
+-- a later cut leaves it so
+pub later_cut : (s : Kept) (cuts : List ℕ) (durable : ℕ) → AreVersions s → cut s.cuts s.durable ≤ cut cuts durable
+    → IsPrefix (entries_of s.versions.entered) (upto cuts s.entries durable)
+later_cut s cuts durable h le = prefix_trans _ _ _ h.begins (take_prefix s.entries (cut s.cuts s.durable) (cut cuts durable) le)
+
+-- before the first publication
+pub unseen_begins : (v : Versioned) (xs : List Entry) → v.entered ≡ [] → IsPrefix (entries_of v.entered) xs
+unseen_begins v xs none = (xs, ap (λ (bs : List BatchData). entries_of bs ++ xs) none)
+
+-- ---- a publication
+
+-- only what is published and what is in the book may differ
+same_readers : (old new : Versioned) → (new.start ≡ old.start) × (new.book ≡ old.book) × (new.places ≡ old.places)
+    → new ≡ record old { published = new.published; entered = new.entered }
+same_readers old new same =
+    ap (λ s. record { start = s; book = new.book; published = new.published; entered = new.entered; places = new.places }) same.0
+    ∙ ap (λ b. record { start = old.start; book = b; published = new.published; entered = new.entered; places = new.places }) same.1
+    ∙ ap (λ p. record { start = old.start; book = old.book; published = new.published; entered = new.entered; places = p }) same.2
+
+-- a store with other readers
+abbrev pub with_versions : Kept → Versioned → Kept
+with_versions s new = record s { start = new.start.leaves; versions = new }
+
+batches_are : (s : Kept) (new : Versioned) → AreVersions s
+    → (new.start ≡ s.versions.start) × (new.book ≡ s.versions.book) × (new.places ≡ s.versions.places)
+    → with_versions s new ≡ with_batches s new.published new.entered
+batches_are s new h same =
+    ap (λ (ls : List Leaf). record s { start = ls; versions = new }) (ap (λ (l : Shown). l.leaves) (same.0 ∙ h.start))
+    ∙ ap (λ (v : Versioned). record s { versions = v }) (same_readers s.versions new same)
+
+batched_sound : (s : Kept) (published entered : List BatchData) → IsSound s → IsPrefix (entries_of entered) (upto s.cuts s.entries s.durable)
+    → IsSound (with_batches s published entered)
+batched_sound s published entered h begins = record {
+  log = h.log;
+  pairs = h.pairs;
+  limit = h.limit;
+  leaves = h.leaves;
+  mapped = h.mapped;
+  ops = h.ops;
+  writers = h.writers;
+  grown = h.grown;
+  next = h.next;
+  last = h.last;
+  number = h.number;
+  sealed = h.sealed;
+  ordered = h.ordered;
+  beyond = h.beyond;
+  floor = h.floor;
+  stands = h.stands;
+  shares = h.shares;
+  tells = h.tells;
+  shown = record { start = h.shown.start; begins = begins };
+}
+
+placed_sound : (s : Kept) (places : ℕ) → IsSound s → IsSound (with_places s places)
+placed_sound s places h = record {
+  log = h.log;
+  pairs = h.pairs;
+  limit = h.limit;
+  leaves = h.leaves;
+  mapped = h.mapped;
+  ops = h.ops;
+  writers = h.writers;
+  grown = h.grown;
+  next = h.next;
+  last = h.last;
+  number = h.number;
+  sealed = h.sealed;
+  ordered = h.ordered;
+  beyond = h.beyond;
+  floor = h.floor;
+  stands = h.stands;
+  shares = h.shares;
+  tells = h.tells;
+  shown = record { start = h.shown.start; begins = h.shown.begins };
+}
+
+-- a reader more has one place less
+pub places_are : (s : Kept) (new : Versioned) → AreVersions s → new ≡ record s.versions { places = new.places }
+    → with_versions s new ≡ with_places s new.places
+places_are s new h same =
+    ap (λ (v : Versioned). with_versions s v) same
+    ∙ ap (λ (ls : List Leaf). record s { start = ls; versions = record s.versions { places = new.places } }) (ap (λ (l : Shown). l.leaves) h.start)
+
+pub reader_sound : (s : Kept) (new : Versioned) → IsSound s → new ≡ record s.versions { places = new.places } → IsSound (with_versions s new)
+reader_sound s new h same = subst IsSound (sym (places_are s new h.shown same)) (placed_sound s new.places h)
+
+-- the durable cut is within the history
+pub end_within : (s : Kept) (end : ℕ) → IsSound s → end ≡ cut s.cuts s.durable → end ≤ length s.entries
+end_within s end h is = (let within = cut_within s.cuts (length s.entries) s.durable h.ordered in omega arith)
+
+-- ---- the entries up to the durable cut are handed to the readers
+
+upto_is : (s : Kept) (end : ℕ) (entries : List Entry) → end ≡ cut s.cuts s.durable → entries ≡ s.entries → take end entries ≡ upto s.cuts s.entries s.durable
+upto_is s end entries is same = ap (λ n. take n entries) is ∙ ap (λ (es : List Entry). take (cut s.cuts s.durable) es) same
+
+pub publish_sound : (s : Kept) (new : Versioned) (end : ℕ) (entries : List Entry) → IsSound s → end ≡ cut s.cuts s.durable → entries ≡ s.entries
+    → (new.start ≡ s.versions.start) × (new.book ≡ s.versions.book) × (new.places ≡ s.versions.places)
+    → IsPrefix (entries_of new.entered) (take end entries) → IsSound (with_versions s new)
+publish_sound s new end entries h is all same begins =
+    subst IsSound (sym (batches_are s new h.shown same))
+    (batched_sound s new.published new.entered h (subst (IsPrefix (entries_of new.entered)) (upto_is s end entries is all) begins))
+
+pub publish_leaves : (s : Kept) (new : Versioned) (r : Result (Unit {0}) AllocError) (end : ℕ) (entries : List Entry) → IsSound s
+    → end ≡ cut s.cuts s.durable → entries ≡ s.entries
+    → (new.start ≡ s.versions.start) × (new.book ≡ s.versions.book) × (new.places ≡ s.versions.places)
+    → OnOk r (posted_of new.published ≡ Some (record { start = s.versions.start; entries = take end entries }))
+    → OnOk r (IsPrefix s.versions.published new.published) → OnErr r (new.published ≡ s.versions.published)
+    → MatchResult r (λ _. Shows s (with_versions s new)) (λ _. Hides s (with_versions s new))
+publish_leaves s new (Ok x) end entries h is all same posted grows err = record {
+  is = batches_are s new h.shown same;
+  shown =
+      posted ∙ ap (λ (es : List Entry). Some (record { start = s.versions.start; entries = es })) (upto_is s end entries is all)
+      ∙ ap (λ (l : Shown). Some (record { start = l; entries = upto s.cuts s.entries s.durable })) h.shown.start;
+  more = grows.0;
+  grows = sym grows.1;
+}
+publish_leaves s new (Err x) end entries h is all same posted grows err = record {
+  is = batches_are s new h.shown same ∙ ap (λ (bs : List BatchData). with_batches s bs new.entered) err;
+}

@@ -1,0 +1,69 @@
+use Rattle.std.proofs.Common.{true, length, refl, ap, ◌∙◌, arith}
+use Rattle.std.proofs.lemmas.Result.{err_from_is_err_and}
+use Rattle.bw_log.specs.Contents.{roster}
+use Rattle.bw_store.specs.Kept.{Kept}
+use Rattle.bw_store.specs.Emptied.{Emptied}
+use Rattle.bw_store.specs.Views.{kept_by}
+use Rattle.bw_store.proofs.FollowMore.{follows_as, follows_left}
+use Rattle.bw_store.proofs.SettledMore.{settled_by}
+use Rattle.bw_store.proofs.CleanedMore.{live_stay, move_follows, move_boxes, clean_leaves, reserve_leaves, follows_via, not_nothing}
+use Rattle.bw_store.proofs.store.Store.clean_oldest.Goals as goal
+
+pub returns-then-live-lt2-clause-follows : goal.returns-then-live-lt2-clause-follows
+returns-then-live-lt2-clause-follows g c = (follows_as _ _ refl).follows
+
+pub returns-in_err-flush_making-clause-follows : goal.returns-in_err-flush_making-clause-follows
+returns-in_err-flush_making-clause-follows g c = (follows_left _ _ _ c.flush_making.ensures.leaves).follows
+
+pub returns-in_err-reserve_cuts-clause-follows : goal.returns-in_err-reserve_cuts-clause-follows
+returns-in_err-reserve_cuts-clause-follows g c = rw c.reserve_cuts.ensures.same (follows_left _ _ _ c.flush_making.ensures.leaves).follows
+
+pub move_pages-requires-clause-settled : goal.move_pages-requires-clause-settled
+move_pages-requires-clause-settled g c =
+    rw c.reserve_cuts.ensures.same (settled_by true _ _ c.in_ok-flush_making.field-0 c.in_ok-flush_making.ensures.sound c.in_ok-flush_making.ensures.answers
+    c.in_ok-flush_making.ensures.leaves)
+
+pub move_pages-requires-clause-two : goal.move_pages-requires-clause-two
+move_pages-requires-clause-two g c =
+    let stay = live_stay _ _ c.in_ok-flush_making.field-0 c.in_ok-flush_making.ensures.leaves in
+    let live = c.live.ensures in
+    let many = c.if-live-lt2.false in
+    let same = ap (λ (s : Kept). length s.log.live) c.reserve_cuts.ensures.same in
+    omega arith
+
+pub returns-in_err-reserve_cuts-clause-leaves : goal.returns-in_err-reserve_cuts-clause-leaves
+returns-in_err-reserve_cuts-clause-leaves g c =
+    let p = err_from_is_err_and c.from_residual-in_err-reserve_cuts.result c.from_residual-in_err-reserve_cuts.ensures.1 in
+    let live = c.live.ensures in
+    let many = c.if-live-lt2.false in
+    let empty : Emptied true _ _ = record { number = _; answers = c.in_ok-flush_making.ensures.answers; leaves = c.in_ok-flush_making.ensures.leaves } in
+    rw (p.1, p.2) (reserve_leaves _ _ _ (omega arith) empty c.reserve_cuts.ensures.same)
+
+pub returns-clause-follows : goal.returns-clause-follows
+returns-clause-follows g c =
+    let floor = ap (λ (s : Kept). s.floor) c.reserve_cuts.ensures.same in
+    let durable = ap (λ (s : Kept). s.durable) c.reserve_cuts.ensures.same in
+    let low = c.flush_making.ensures.sound.floor in
+    follows_via _ _ _ _ (follows_left _ _ _ c.flush_making.ensures.leaves).follows c.reserve_cuts.ensures.same
+    (move_follows _ _ _ (omega arith) c.move_pages.ensures.leaves)
+
+pub returns-clause-boxes : goal.returns-clause-boxes
+returns-clause-boxes g c =
+    move_boxes (kept_by c.args.self.now (λ z. (goal.Segment-dyn g z).holding z.1)) _ _ _
+    (ap (λ (s : Kept). roster s.log) c.reserve_cuts.ensures.same ∙ (follows_left _ _ _ c.flush_making.ensures.leaves).boxes.same)
+    c.move_pages.ensures.leaves
+
+pub returns-clause-leaves : goal.returns-clause-leaves
+returns-clause-leaves g c =
+    let live = c.live.ensures in
+    let many = c.if-live-lt2.false in
+    let empty : Emptied true _ _ = record { number = _; answers = c.in_ok-flush_making.ensures.answers; leaves = c.in_ok-flush_making.ensures.leaves } in
+    clean_leaves _ _ _ _ (omega arith) (rw c.reserve_cuts.ensures.same empty) c.move_pages.ensures.leaves
+
+pub returns-clause-nothing_old : goal.returns-clause-nothing_old
+returns-clause-nothing_old g c =
+    let stay = live_stay _ _ c.in_ok-flush_making.field-0 c.in_ok-flush_making.ensures.leaves in
+    let live = c.live.ensures in
+    let many = c.if-live-lt2.false in
+    let same = ap (λ (s : Kept). length s.log.live) c.reserve_cuts.ensures.same in
+    (λ e. absurd (not_nothing _ _ _ (omega arith) c.move_pages.ensures.leaves e), λ few. absurd (omega arith))

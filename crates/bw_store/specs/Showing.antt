@@ -1,0 +1,64 @@
+-- What a publication leaves, and the calls that end with one.
+
+use Rattle.std.specs.Prelude.{ℕ, false, ◌≡◌, ◌⊎◌, ◌++◌, List, [], Option, Some, Result, Ok, Err, drop}
+use Rattle.bw_versions.specs.Batches.{BatchData}
+use Rattle.bw_versions.specs.Posted.{posted_of}
+use Rattle.bw_versions.specs.Versioned.{Versioned}
+use Rattle.bw_page.specs.Shown.{Shown}
+use Rattle.bw_log.specs.Contents.{roster}
+use Rattle.bw_care.specs.declared.cleaning.Cleaned.{Cleaned}
+use Rattle.bw_store.specs.declared.fault.StoreFault.{StoreFault}
+use Rattle.bw_store.specs.declared.fault.StoreFault.TheVariants.{NoMemory}
+use Rattle.bw_store.specs.History.{upto}
+use Rattle.bw_store.specs.Kept.{Kept, start_of, with_batches}
+use Rattle.bw_store.specs.Faults.{FlushLeaves}
+use Rattle.bw_store.specs.Emptied.{Emptied}
+use Rattle.bw_store.specs.Cleaning.{CleanLeaves}
+use Rattle.bw_store.specs.Following.{RefusedAt, TookSome}
+
+-- before the first publication: so many readers may be made, and they start from these leaves
+pub record AreUnseen (leaves : Shown) (readers : ℕ) (v : Versioned) : Type 0 where
+  pub start : v.start ≡ leaves
+  pub published : v.published ≡ []
+  pub entered : v.entered ≡ []
+  pub places : v.places ≡ readers
+
+-- so many readers may still be made
+abbrev pub with_places : Kept → ℕ → Kept
+with_places s places = record s { versions = record s.versions { places = places } }
+
+-- the start and the entries up to the durable cut are published, all at once
+pub record Shows (old new : Kept) : Type 0 where
+  pub is : new ≡ with_batches old new.versions.published new.versions.entered
+  pub shown : posted_of new.versions.published ≡ Some (record { start = start_of old; entries = upto old.cuts old.entries old.durable })
+  pub more : List BatchData
+  pub grows : new.versions.published ≡ old.versions.published ++ more
+
+-- a publication was refused: what is published stays
+pub record Hides (old new : Kept) : Type 0 where
+  pub is : new ≡ with_batches old old.versions.published new.versions.entered
+
+-- a flush, and then a publication; where that finds no memory the frame is durable
+abbrev pub FlushShows : Kept → Result (Option ℕ) StoreFault → Kept → Type 0
+FlushShows old (Ok number) new = (middle : Kept) × FlushLeaves old (Ok number) middle × Shows middle new
+FlushShows old (Err fault) new =
+    FlushLeaves old (Err fault) new ⊎ ((fault ≡ NoMemory) × ((middle : Kept) × Emptied false old middle × Hides middle new))
+
+-- why a settlement was refused: a record or the flush was, or the publication behind them
+abbrev pub SettleRefuses : Kept → StoreFault → Kept → Type 0
+SettleRefuses old fault new =
+    RefusedAt old fault new
+    ⊎ ((fault ≡ NoMemory) × ((middle : Kept) × TookSome old middle × ((flushed : Kept) × Emptied false middle flushed × Hides flushed new)))
+
+-- a cleaning, and then a publication
+abbrev pub CleanShows : Kept → Result Cleaned StoreFault → Kept → Type 0
+CleanShows old (Ok cleaned) new = (middle : Kept) × CleanLeaves old (Ok cleaned) middle × Shows middle new
+CleanShows old (Err fault) new =
+    CleanLeaves old (Err fault) new
+    ⊎ ((fault ≡ NoMemory) × ((middle : Kept) × ((cleaned : Cleaned) × CleanLeaves old (Ok cleaned) middle) × Hides middle new))
+
+-- the row of all boxes lacks its first on Ok, and also where nothing but the publication was refused; it is the same else
+abbrev pub HasBoxesAfter : Kept → Result Cleaned StoreFault → Kept → Type 0
+HasBoxesAfter old (Ok cleaned) new = roster new.log ≡ drop 1 (roster old.log)
+HasBoxesAfter old (Err fault) new =
+    (roster new.log ≡ roster old.log) ⊎ ((fault ≡ NoMemory) × (roster new.log ≡ drop 1 (roster old.log)))

@@ -1,0 +1,73 @@
+//! What is durable is shown to readers.
+
+ghost use Rattle.std.specs.Prelude.{◌≡◌, ◌≤◌, ◌↔◌, ◌-◌, [], Err, length, MatchResult, IfOk, OnOk, OnErr};
+ghost use Rattle.bw_versions.specs.declared.reader.ReadFault.TheVariants as read;
+ghost use Rattle.bw_store.specs.History.{cut};
+ghost use Rattle.bw_store.specs.Following.{Follows, HasBoxes};
+ghost use Rattle.bw_store.specs.Showing.{Hides, Shows, with_places};
+
+use crate::store::Store;
+use bw_versions::{News, ReadFault, Reader};
+use std::alloc::AllocError;
+use std::sync::Wait;
+
+impl Store {
+    ghost use Rattle.bw_store.specs.Views.{kept_by, IsSound};
+
+    /// A reader of what this store publishes, which may go to another thread. It saw nothing yet.
+    ///
+    /// Refused `NoReader` exactly where no place for a reader is left: a dropped reader frees none;
+    /// or `NoMemory`.
+    pub fn reader(&mut self) -> Result<Reader, ReadFault>
+        requires sound { IsSound self.old holding }
+        ensures sound { IsSound self.new holding }
+        ensures made { IfOk result (λ r. r
+            ≡ record { book = (kept_by self.old holding).versions.book; seen = []; learnt = [] }) }
+        ensures place { kept_by self.new holding ≡ with_places (kept_by self.old holding)
+            (kept_by self.new holding).versions.places }
+        ensures one { OnOk result ((kept_by self.new holding).versions.places
+            ≡ (kept_by self.old holding).versions.places - 1) }
+        ensures no_reader { (result ≡ Err read.NoReader)
+            ↔ ((kept_by self.old holding).versions.places ≡ 0) }
+        ensures unchanged { OnErr result (kept_by self.new holding ≡ kept_by self.old holding) }
+        ensures follows { Follows (kept_by self.old holding) (kept_by self.new holding) }
+        ensures boxes { HasBoxes (kept_by self.old holding) (kept_by self.new holding) }
+    {
+        self.versions.reader()
+    }
+
+    /// What is published, as a value that a reader of this store may learn. No memory is taken.
+    pub fn news(&self) -> News
+        ensures { result ≡ record {
+          book = (kept_by self.now holding).versions.book;
+          log = (kept_by self.now holding).versions.published;
+        } }
+    {
+        self.versions.news()
+    }
+
+    // Publishes the entries up to the durable cut.
+    pub(crate) fn publish<R: Wait>(&mut self, rt: &R) -> Result<(), AllocError>
+        requires sound { IsSound self.old holding }
+        ensures sound { IsSound self.new holding }
+        ensures intake { self.new.intake ≡ self.old.intake }
+        ensures leaves { MatchResult result
+            (λ _. Shows (kept_by self.old holding) (kept_by self.new holding))
+            (λ _. Hides (kept_by self.old holding) (kept_by self.new holding)) }
+    {
+        let end = self.durable_end();
+        self.versions
+            .publish_up_to(rt, &self.intake.entries()[..end])
+    }
+
+    // The history's length at the durable cut.
+    fn durable_end(&self) -> usize
+        requires { IsSound self.now holding }
+        ensures { result ≡ cut (kept_by self.now holding).cuts (kept_by self.now holding).durable }
+    {
+        if self.durable == 0 {
+            return 0;
+        }
+        self.cuts[self.durable as usize - 1] as usize
+    }
+}

@@ -1,0 +1,166 @@
+//! Readers beside a store: what is published is what was flushed.
+
+ghost use Rattle.bw_store.specs.Views.{IsSound};
+
+use super::boxes::fill;
+use super::putting::{is_put, record};
+use bw_codec::{Key, Value};
+use bw_device::{Desk, Segment};
+use bw_ring::Feed;
+use bw_store::{Config, NoReader, ReadFault, Reader, Store};
+use std::alloc::Global;
+use std::sync::Wait;
+use std::test::Fail;
+use std::thread;
+use std::thread::Threads;
+
+/// How many times a reader in a thread reads beside the flushes.
+const READS: u32 = 10_000;
+
+/// How many values of one key are put, taken and flushed meanwhile.
+const VALUES: u8 = 200;
+
+fn config() -> Config {
+    Config {
+        writers: 1,
+        places: 8,
+        readers: 2,
+        m: 4,
+        f: 16384,
+    }
+}
+
+fn boxes_of(alloc: Global) -> Result<Vec<Box<dyn Segment>>, Fail> {
+    let mut desk = Desk::new(alloc, 8)?;
+    let mut boxes: Vec<Box<dyn Segment>> = Vec::new(alloc);
+    fill(alloc, &mut desk, 8, &mut boxes)?;
+    Ok(boxes)
+}
+
+// Whether a reader answers this value of `k`; no bytes where it has none.
+fn reads(reader: &mut Reader, value: &[u8]) -> Result<bool, Fail> {
+    match reader.get(&Key::new(b"k")?) {
+        Ok(Some(found)) => Ok(found.as_slice() == value),
+        Ok(None) => Ok(value.is_empty()),
+        Err(NoReader) => Ok(false),
+    }
+}
+
+// Whether a put of `k` is accepted and taken.
+fn is_taken(store: &mut Store, feeds: &mut Vec<Feed>, value: &[u8]) -> Result<bool, Fail>
+    requires { IsSound store.old holding }
+    ensures { IsSound store.new holding }
+{
+    let item = record(b"k", Some(value))?;
+    if feeds.as_slice().len() == 0 {
+        return Ok(false);
+    }
+    let put = is_put(feeds, 0, item);
+    Ok(store.turn(8) == Ok(1) && put)
+}
+
+// A reader sees what was flushed, and not what was only taken.
+fn sees_flushes<R: Wait>(rt: &R, store: &mut Store, feeds: &mut Vec<Feed>) -> Result<Reader, Fail>
+    requires { IsSound store.old holding }
+    ensures { IsSound store.new holding }
+{
+    let mut reader = store.reader()?;
+    let none = reads(&mut reader, b"")? && matches!(reader.page(1), Ok(None));
+    let taken = is_taken(store, feeds, b"1")?;
+    let still = reads(&mut reader, b"")?;
+    let flushed = store.flush(rt) == Ok(Some(1));
+    let one = reads(&mut reader, b"1")?;
+    let again = is_taken(store, feeds, b"2")?;
+    let old = reads(&mut reader, b"1")? && store.flush(rt) == Ok(Some(2));
+    let two = reads(&mut reader, b"2")? && store.flush(rt) == Ok(None);
+    if none && taken && still && flushed && one && again && old && two {
+        return Ok(reader);
+    }
+    Err(Fail::from("a reader sees otherwise"))
+}
+
+// One reader more is made, and then none.
+fn has_one_place(store: &mut Store) -> bool
+    requires { IsSound store.old holding }
+    ensures { IsSound store.new holding }
+{
+    store.reader().is_ok() && matches!(store.reader(), Err(ReadFault::NoReader))
+}
+
+#[test]
+fn a_reader_sees_what_was_flushed(rt: HostRuntime) -> Result<(), Fail> {
+    let boxes = boxes_of(rt.alloc())?;
+    let Ok((mut store, mut feeds)) = Store::open(&rt, rt.alloc(), &config(), boxes) else {
+        return Err(Fail::from("a refusal"));
+    };
+    let seen = sees_flushes(&rt, &mut store, &mut feeds);
+    let places = has_one_place(&mut store);
+    let _ = store.shut(&rt);
+    let mut reader = seen?;
+    assert!(rt; places);
+    assert!(rt; matches!(reader.get(&Key::new(b"k")?), Err(NoReader)));
+    Ok(())
+}
+
+// How many reads were refused or went back.
+fn read_all(mut reader: Reader, key: Key) -> u32 {
+    let mut last: Option<Value> = None;
+    let mut wrong = 0u32;
+    for _ in 0..READS {
+        match reader.get(&key) {
+            Ok(Some(value)) => {
+                if let Some(old) = &last {
+                    wrong = wrong.saturating_add(u32::from(value.as_slice() < old.as_slice()));
+                }
+                last = Some(value);
+            }
+            Ok(None) => wrong = wrong.saturating_add(u32::from(last.is_some())),
+            Err(_) => wrong = wrong.saturating_add(1),
+        }
+    }
+    wrong
+}
+
+// How many of the values were not taken and flushed.
+fn flush_all<R: Wait>(rt: &R, store: &mut Store, feeds: &mut Vec<Feed>) -> Result<u32, Fail>
+    requires { IsSound store.old holding }
+    ensures { IsSound store.new holding }
+{
+    let mut wrong = 0u32;
+    for value in 0..VALUES {
+        let taken = is_taken(store, feeds, &[value])?;
+        let flushed = store.flush(rt) == Ok(Some(u64::from(value) + 1));
+        wrong = wrong.saturating_add(u32::from(!taken || !flushed));
+    }
+    Ok(wrong)
+}
+
+fn race<R: Threads + Wait>(
+    rt: &R,
+    store: &mut Store,
+    feeds: &mut Vec<Feed>,
+) -> Result<(u32, u32), Fail>
+    requires { IsSound store.old holding }
+    ensures { IsSound store.new holding }
+{
+    let reader = store.reader()?;
+    let key = Key::new(b"k")?;
+    let Ok(child) = thread::spawn(rt, move || read_all(reader, key)) else {
+        return Err(Fail::from("a thread"));
+    };
+    let flushed = flush_all(rt, store, feeds);
+    let wrong = child.join(rt);
+    Ok((flushed?, wrong))
+}
+
+#[test]
+fn no_value_goes_back_beside_the_flusher(rt: HostRuntime) -> Result<(), Fail> {
+    let boxes = boxes_of(rt.alloc())?;
+    let Ok((mut store, mut feeds)) = Store::open(&rt, rt.alloc(), &config(), boxes) else {
+        return Err(Fail::from("a refusal"));
+    };
+    let said = race(&rt, &mut store, &mut feeds);
+    let _ = store.shut(&rt);
+    assert_eq!(rt; said?, (0, 0));
+    Ok(())
+}
