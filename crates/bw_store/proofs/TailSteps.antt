@@ -90,6 +90,8 @@ pub split_tail : (p page : ℕ) (blocks : List Block) (back here : Place) (r : R
     → tail_for (blocks ++ Delta page back (r ∷ []) ∷ Split page here upper ∷ []) p
     ≡ (if (page == p) || (upper.page == p) then None else tail_for blocks p)
 split_tail p page blocks back here r upper =
-    rw (list_any-append (makes p) blocks (Delta page back (r ∷ []) ∷ Split page here upper ∷ []),
-    flat_map-append (ops_of p) blocks (Delta page back (r ∷ []) ∷ Split page here upper ∷ []))
+    rw (
+      list_any-append (makes p) blocks (Delta page back (r ∷ []) ∷ Split page here upper ∷ []),
+      flat_map-append (ops_of p) blocks (Delta page back (r ∷ []) ∷ Split page here upper ∷ []),
+    )
     (split_by (is_made p blocks) (page == p) (upper.page == p) (ops_at p blocks) r)

@@ -5,8 +5,8 @@ ghost use Rattle.bw_ring.specs.Ends.{taken};
 ghost use Rattle.bw_log.specs.Segments.{following};
 ghost use Rattle.bw_store.specs.History.{streams};
 
-use bw_versions::Entry;
 use crate::store::Store;
+use bw_versions::Entry;
 
 impl Store {
     ghost use Rattle.bw_store.specs.Views.{kept_by, IsSound};

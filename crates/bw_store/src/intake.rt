@@ -8,9 +8,9 @@ ghost use Rattle.bw_store.specs.History.{streams};
 ghost use Rattle.bw_store.specs.Lanes.{known_at, IsNext, IsWaiting, Dries, TookAt, TookKnown};
 
 use crate::beside::look_at_all;
-use bw_versions::Entry;
 use bw_codec::Record;
 use bw_ring::{Feed, Lane};
+use bw_versions::Entry;
 use std::alloc::AllocError;
 
 /// The lanes, and what was taken from them in order.

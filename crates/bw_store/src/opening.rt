@@ -135,7 +135,12 @@ fn unseen<R: Wait>(rt: &R, alloc: Global, config: &Config) -> Result<Versions, A
     requires { IsConfig config.now }
     ensures { IfOk result (λ v. AreUnseen (one_empty config.now.m) config.now.readers v) }
 {
-    Versions::open(rt, alloc, config.readers, Leaves::one_empty(alloc, config.m)?)
+    Versions::open(
+        rt,
+        alloc,
+        config.readers,
+        Leaves::one_empty(alloc, config.m)?,
+    )
 }
 
 impl Store {

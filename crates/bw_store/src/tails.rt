@@ -80,10 +80,7 @@ impl Tail {
 }
 
 /// A tail without a record for each page of the log, whose last blocks stand here.
-pub(crate) fn tails_on(
-    alloc: Global,
-    newest: &[Place],
-) -> Result<Vec<Option<Tail>>, AllocError>
+pub(crate) fn tails_on(alloc: Global, newest: &[Place]) -> Result<Vec<Option<Tail>>, AllocError>
     ensures { IfOk result
         (λ tails. map tail_of tails.items ≡ tails_for (length newest.now) []) }
 {

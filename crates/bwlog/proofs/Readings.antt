@@ -8,27 +8,44 @@ use Rattle.bw_device.specs.Holding.{Holding}
 use Rattle.bwlog.specs.declared.session.Session.{Session}
 use Rattle.bwlog.specs.Session.{IsReadyBeside}
 
-module _ {H : Unit {0} ⊎ ⊥ → Type 0} where
-  -- boxes of one kind, each read so
-  pub by_kind : ((i : Unit {0}) → H (inl i) → Holding) → DynBox (Unit {0} ⊎ ⊥) Global H → Holding
-  by_kind m b = elim b.vtable as (λ i. H i → Holding) [ inl i ↦ m i | inr none ↦ elim none [ ] ] b.value
+-- the kind of a box, where boxes of two kinds are made
+abbrev pub Kind : Type 0
+Kind = Unit {0} ⊎ (Unit {0} ⊎ ⊥)
 
-  -- a reading that says so of each box of that kind
-  abbrev pub Says : ((i : Unit {0}) → H (inl i) → Holding) → (DynBox (Unit {0} ⊎ ⊥) Global H → Holding) → Type 0
-  Says m w = (b : DynBox (Unit {0} ⊎ ⊥) Global H) (i : Unit {0}) (x : H (inl i)) → w (record b { vtable = inl i; value = x }) ≡ m i x
+-- a reading of the boxes of each kind
+abbrev pub First : (Kind → Type 0) → Type 0
+First H = (i : Unit {0}) → H (inl i) → Holding
+
+abbrev pub Second : (Kind → Type 0) → Type 0
+Second H = (i : Unit {0}) → H (inr (inl i)) → Holding
+
+module _ {H : Kind → Type 0} where
+  -- a box, read by its kind
+  pub by_kind : First H → Second H → DynBox Kind Global H → Holding
+  by_kind m n b =
+      elim b.vtable as (λ i. H i → Holding) [ inl i ↦ m i | inr j ↦ elim j as (λ j'. H (inr j') → Holding) [ inl i ↦ n i | inr none ↦ elim none [ ] ] ] b.value
+
+  -- a reading that says so of each box of the first kind, and so of each of the second
+  pub record Says (m : First H) (n : Second H) (w : DynBox Kind Global H → Holding) : Type 0 where
+    pub first : (b : DynBox Kind Global H) (i : Unit {0}) (x : H (inl i)) → w (record b { vtable = inl i; value = x }) ≡ m i x
+    pub second : (b : DynBox Kind Global H) (i : Unit {0}) (x : H (inr (inl i))) → w (record b { vtable = inr (inl i); value = x }) ≡ n i x
 
   -- it says the same of every box
-  alike : (m : (i : Unit {0}) → H (inl i) → Holding) (w : DynBox (Unit {0} ⊎ ⊥) Global H → Holding) → Says m w → w ≡ by_kind m
+  alike : (m : First H) (n : Second H) (w : DynBox Kind Global H → Holding) → Says m n w → w ≡ by_kind m n
   unfolding by_kind
-  alike m w says = fun_ext (λ b.
-      elim b.vtable as (λ i. (x : H i) → w (record b { vtable = i; value = x }) ≡ by_kind m (record b { vtable = i; value = x }))
-      [ inl i ↦ says b i | inr none ↦ elim none [ ] ] b.value
+  alike m n w says = fun_ext (λ b.
+      elim b.vtable as (λ i. (x : H i) → w (record b { vtable = i; value = x }) ≡ by_kind m n (record b { vtable = i; value = x })) [
+        | inl i ↦ says.first b i
+        | inr j ↦
+            elim j as (λ j'. (x : H (inr j')) → w (record b { vtable = inr j'; value = x }) ≡ by_kind m n (record b { vtable = inr j'; value = x }))
+            [ inl i ↦ says.second b i | inr none ↦ elim none [ ] ]
+      ] b.value
       )
 
-  pub ready_by_kind : {s : Session (Unit {0} ⊎ ⊥) H} {m : (i : Unit {0}) → H (inl i) → Holding} {w : DynBox (Unit {0} ⊎ ⊥) Global H → Holding}
-      → Says m w → IsReadyBeside s w → IsReadyBeside s (by_kind m)
-  ready_by_kind {s = s} {m = m} {w = w} says ready = subst (IsReadyBeside s) (alike m w says) ready
+  pub ready_by_kind : {s : Session Kind H} {m : First H} {n : Second H} {w : DynBox Kind Global H → Holding}
+      → Says m n w → IsReadyBeside s w → IsReadyBeside s (by_kind m n)
+  ready_by_kind {s = s} {m = m} {n = n} {w = w} says ready = subst (IsReadyBeside s) (alike m n w says) ready
 
-  pub ready_from_kind : {s : Session (Unit {0} ⊎ ⊥) H} {m : (i : Unit {0}) → H (inl i) → Holding} {w : DynBox (Unit {0} ⊎ ⊥) Global H → Holding}
-      → Says m w → IsReadyBeside s (by_kind m) → IsReadyBeside s w
-  ready_from_kind {s = s} {m = m} {w = w} says ready = subst (IsReadyBeside s) (sym (alike m w says)) ready
+  pub ready_from_kind : {s : Session Kind H} {m : First H} {n : Second H} {w : DynBox Kind Global H → Holding}
+      → Says m n w → IsReadyBeside s (by_kind m n) → IsReadyBeside s w
+  ready_from_kind {s = s} {m = m} {n = n} {w = w} says ready = subst (IsReadyBeside s) (sym (alike m n w says)) ready

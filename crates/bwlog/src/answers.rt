@@ -3,8 +3,8 @@
 ghost use Rattle.bwlog.specs.Session.{IsReady};
 
 use crate::calls::LEASES;
+use crate::miss::Miss;
 use crate::printed::{write_dump, write_entry, write_page, write_value};
-use crate::refusal::Refusal;
 use crate::script::{Command, Fault};
 use crate::session::Session;
 use crate::system::System;
@@ -12,29 +12,6 @@ use bw_codec::{Key, Record};
 use bw_device::Segment;
 use std::alloc::Global;
 use std::io::{self, Write};
-
-/// Why a command has no answer.
-#[derive(Debug, Clone, Copy, PartialEq, Eq)]
-pub enum Miss {
-    /// It was refused.
-    Refused(Refusal),
-    /// Its line is no command after all.
-    Fault(Fault),
-    /// The answer could not be written.
-    Output,
-}
-
-impl From<Refusal> for Miss {
-    fn from(refusal: Refusal) -> Miss {
-        Miss::Refused(refusal)
-    }
-}
-
-impl From<io::Error> for Miss {
-    fn from(_error: io::Error) -> Miss {
-        Miss::Output
-    }
-}
 
 fn put<O: Write>(session: &mut Session, output: &mut O, writer: u16, op: Record) -> Result<(), Miss>
     requires { IsReady session.old holding }
@@ -59,11 +36,7 @@ fn turn<O: Write>(session: &mut Session, output: &mut O, limit: u32) -> Result<(
 
 // A turn without a limit ends with a round that took none: the rings are then empty, since nobody
 // puts meanwhile.
-fn flush<R: System, O: Write>(
-    rt: &R,
-    session: &mut Session,
-    output: &mut O,
-) -> Result<(), Miss>
+fn flush<R: System, O: Write>(rt: &R, session: &mut Session, output: &mut O) -> Result<(), Miss>
     requires { IsReady session.old holding }
     ensures { IsReady session.new holding }
 {
@@ -75,11 +48,7 @@ fn flush<R: System, O: Write>(
     Ok(())
 }
 
-fn settle<R: System, O: Write>(
-    rt: &R,
-    session: &mut Session,
-    output: &mut O,
-) -> Result<(), Miss>
+fn settle<R: System, O: Write>(rt: &R, session: &mut Session, output: &mut O) -> Result<(), Miss>
     requires { IsReady session.old holding }
     ensures { IsReady session.new holding }
 {
@@ -106,11 +75,8 @@ fn get<O: Write>(session: &mut Session, output: &mut O, key: &Key) -> Result<(),
     Ok(())
 }
 
-fn clean<R: System, O: Write>(
-    rt: &R,
-    session: &mut Session,
-    output: &mut O,
-) -> Result<(), Miss>
+// The file of what was given up is emptied before the next segment can be.
+fn clean<R: System, O: Write>(rt: &R, session: &mut Session, output: &mut O) -> Result<(), Miss>
     requires { IsReady session.old holding }
     ensures { IsReady session.new holding }
 {
@@ -120,6 +86,7 @@ fn clean<R: System, O: Write>(
         "cleaned segment {} lease {} pages {} frames {}",
         cleaned.segment, cleaned.lease, cleaned.pages, cleaned.frames
     )?;
+    session.home.empty(rt, cleaned.lease)?;
     Ok(())
 }
 

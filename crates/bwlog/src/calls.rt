@@ -1,32 +1,26 @@
 //! The calls that a script makes. Each keeps the store sound, and the feeds those of its lanes.
 
 ghost use Rattle.std.specs.Prelude.{◌≡◌, ◌<◌, length, map, IfOk};
+ghost use Rattle.bw_care.specs.Found.{IsRecovered};
 ghost use Rattle.bw_ring.specs.Ends.{ring_of_feed};
 
+use crate::home::{Home, Made};
+use crate::miss::Miss;
 use crate::options::Options;
 use crate::refusal::Refusal;
 use crate::session::Session;
 use crate::system::System;
+use bw_care::Recovered;
 use bw_codec::{Key, Leaf, Record, Value};
-use bw_device::{Desk, MemSegment, Segment};
+use bw_device::{Desk, Segment};
 use bw_ring::Feed;
 use bw_store::{Cleaned, Config, Store};
-use std::alloc::Global;
 
 /// How many places for readers a store is opened with.
 const READERS: usize = 4;
 
 /// How many leases a desk has.
 pub const LEASES: u32 = 64;
-
-/// A segment of this capacity, with the least lease that is free.
-pub fn spare_of(alloc: Global, desk: &mut Desk, capacity: u64) -> Result<MemSegment, Refusal> {
-    let lease = desk.take()?;
-    match MemSegment::new(alloc, lease, capacity) {
-        Ok(spare) => Ok(spare),
-        Err(refused) => Err(Refusal::from(refused.cause)),
-    }
-}
 
 // Whether the feed of this writer took the record.
 fn put_at(feeds: &mut Vec<Feed>, writer: usize, op: Record) -> bool
@@ -40,12 +34,13 @@ fn put_at(feeds: &mut Vec<Feed>, writer: usize, op: Record) -> bool
 impl Session {
     ghost use Rattle.bwlog.specs.Session.{IsReady, IsReadyBeside};
 
-    /// A session over these segments, whose leases are the desk's.
+    /// A session over these new segments, whose leases are the desk's.
     pub fn open<R: System>(
         rt: &R,
-        options: &Options,
+        options: &Options<'_>,
         segments: Vec<Box<dyn Segment>>,
         desk: Desk,
+        home: Home,
     ) -> Result<Session, Refusal>
         requires { Unit {0} }
         ensures { IfOk result (λ s. IsReadyBeside s holding) }
@@ -57,8 +52,38 @@ impl Session {
             m: options.m,
             f: options.f,
         };
-        match Store::open(rt, rt.alloc(), &config, segments) {
-            Ok((store, feeds)) => Ok(Session { store, feeds, desk }),
+        let (store, feeds) = match Store::open(rt, rt.alloc(), &config, segments) {
+            Ok(opened) => opened,
+            Err(fault) => return Err(Refusal::from(fault.cause)),
+        };
+        Ok(Session {
+            store,
+            feeds,
+            desk,
+            home,
+        })
+    }
+
+    /// A session that goes on from what was recovered, with the limits of its pages and frames.
+    pub fn reopen<R: System>(
+        rt: &R,
+        options: &Options<'_>,
+        found: Recovered,
+        desk: Desk,
+        home: Home,
+    ) -> Result<Session, Refusal>
+        requires { IsRecovered (λ b. holding (b.vtable, b.value)) found }
+        ensures { IfOk result (λ s. IsReady s holding) }
+    {
+        let writers = usize::from(options.writers);
+        let places = usize::from(options.places);
+        match Store::reopen(rt, rt.alloc(), found, writers, places, READERS) {
+            Ok((store, feeds)) => Ok(Session {
+                store,
+                feeds,
+                desk,
+                home,
+            }),
             Err(fault) => Err(Refusal::from(fault.cause)),
         }
     }
@@ -142,14 +167,14 @@ impl Session {
         Ok(self.store.dump(u64::from(segment), bytes)?)
     }
 
-    /// A segment of this capacity, with the least lease that is free, once those that came back
+    /// A new segment of this capacity, with the least lease that is free, once those that came back
     /// are.
-    pub fn spare(&mut self, alloc: Global, capacity: u64) -> Result<MemSegment, Refusal>
+    pub fn spare<R: System>(&mut self, rt: &R, capacity: u64) -> Result<Made, Miss>
         requires { IsReady self.old holding }
         ensures { IsReady self.new holding }
     {
         let _ = self.desk.collect();
-        spare_of(alloc, &mut self.desk, capacity)
+        self.home.spare(rt, &mut self.desk, capacity)
     }
 
     /// The store has one more spare.
@@ -179,6 +204,7 @@ impl Session {
             store,
             feeds: _feeds,
             desk: _desk,
+            home: _home,
         } = self;
         let _ = store.shut(rt);
     }

@@ -8,7 +8,9 @@
 
 mod answers;
 mod calls;
+mod home;
 mod lines;
+mod miss;
 mod options;
 mod printed;
 mod program;

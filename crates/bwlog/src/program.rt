@@ -4,35 +4,41 @@
 use crate::options::{Mode, is_memory, mode_of};
 use crate::refusal::Refusal;
 use crate::replay::replay;
-use crate::scan::scan;
-use crate::stop::{Stop, no_output};
+use crate::scan::{scan, scan_folder};
+use crate::stop::Stop;
 use crate::system::System;
+use clap::Error;
 use std::io::{self, Read, Write};
 
-/// The command line, and what it asks for.
-fn start<R: System, I: Read, O: Write, E: Write>(
+/// Does what the command line asks for.
+fn start<R: System, I: Read, O: Write>(
     rt: &R,
-    words: &[&str],
+    mode: &Mode<'_>,
     input: &mut I,
     output: &mut O,
-    errors: &mut E,
 ) -> Result<bool, Stop> {
-    match mode_of(rt.alloc(), words) {
-        Ok(Mode::Replay(options)) => replay(rt, &options, input, output),
-        Ok(Mode::Scan) => scan(rt, input, output),
-        Err(error) => {
-            if is_memory(&error) {
-                return Err(Stop::NoMemory);
-            }
-            write!(errors, "{error}").map_err(no_output)?;
-            Err(Stop::Usage)
-        }
+    match mode {
+        Mode::Replay(options) => replay(rt, options, input, output),
+        Mode::Scan(None) => scan(rt, input, output),
+        Mode::Scan(Some(path)) => scan_folder(rt, *path, output),
+    }
+}
+
+/// Prints why words are no command line.
+fn usage<E: Write>(error: &Error, errors: &mut E) -> Stop {
+    if is_memory(error) {
+        return Stop::NoMemory;
+    }
+    match write!(errors, "{error}") {
+        Ok(()) => Stop::Usage,
+        Err(_) => Stop::Output,
     }
 }
 
 /// Prints what an end has to say, and gives its exit status.
 fn status_of<O: Write, E: Write>(
     end: Result<bool, Stop>,
+    dir: &str,
     output: &mut O,
     errors: &mut E,
 ) -> io::Result<u8> {
@@ -56,6 +62,11 @@ fn status_of<O: Write, E: Write>(
             Ok(6)
         }
         Err(Stop::Output) => Ok(6),
+        Err(Stop::Folder(fault)) => {
+            output.flush()?;
+            writeln!(errors, "folder {dir}: {fault}")?;
+            Ok(6)
+        }
     }
 }
 
@@ -70,8 +81,13 @@ pub fn run<R: System, I: Read, O: Write, E: Write>(
     output: &mut O,
     errors: &mut E,
 ) -> u8 {
-    let end = start(rt, words, input, output, errors);
-    let status = status_of(end, output, errors);
+    let status = match mode_of(rt.alloc(), words) {
+        Ok(mode) => {
+            let end = start(rt, &mode, input, output);
+            status_of(end, mode.dir().unwrap_or(""), output, errors)
+        }
+        Err(error) => status_of(Err(usage(&error, errors)), "", output, errors),
+    };
     let printed = output.flush();
     let told = errors.flush();
     match (status, printed, told) {

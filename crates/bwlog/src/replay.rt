@@ -1,16 +1,20 @@
 //! `bwlog replay`: a script over one store, line by line.
 
-ghost use Rattle.bwlog.specs.Session.{IsReady};
+ghost use Rattle.std.specs.Prelude.{IfOk};
+ghost use Rattle.bwlog.specs.Session.{IsReady, IsReadyBeside};
 
 use crate::answers::answer;
-use crate::calls::{LEASES, spare_of};
+use crate::home::{Home, Made, desk_of};
 use crate::lines::{Lines, READS};
+use crate::miss::Miss;
 use crate::options::Options;
 use crate::refusal::Refusal;
+use crate::scan::write_found;
 use crate::script::{Command, LONGEST, parse};
 use crate::session::Session;
 use crate::stop::{Stop, missed, no_input, no_output, refuse};
 use crate::system::System;
+use bw_care::recover;
 use bw_device::{Desk, Segment};
 use std::io::{Read, Write};
 
@@ -61,66 +65,99 @@ fn added<O: Write>(output: &mut O, lease: u32, answer: Result<(), Refusal>) -> R
     }
 }
 
-/// Makes a store and runs a script over it, line by line; answers whether something was refused.
-/// Boxes are made here alone: a function that takes or gives a box, or a store, makes none.
+/// What comes of a script and of its next line: whether something was refused, or what ends it.
+fn joined(end: Result<bool, Stop>, answer: Result<bool, Stop>) -> Result<bool, Stop> {
+    Ok(end? | answer?)
+}
+
+/// A new store where all segments are new, and else the one that they hold, of which the two lines
+/// of a scan are printed.
+fn begin<R: System, O: Write>(
+    rt: &R,
+    options: &Options<'_>,
+    boxes: Vec<Box<dyn Segment>>,
+    are_new: bool,
+    desk: Desk,
+    home: Home,
+    output: &mut O,
+) -> Result<Session, Miss>
+    requires { Unit {0} }
+    ensures { IfOk result (λ s. IsReadyBeside s holding) }
+{
+    if are_new {
+        return Ok(Session::open(rt, options, boxes, desk, home)?);
+    }
+    match recover(rt.alloc(), boxes) {
+        Ok(found) => {
+            write_found(output, &found)?;
+            Ok(Session::reopen(rt, options, found, desk, home)?)
+        }
+        Err(fault) => Err(Miss::Refused(Refusal::from(fault.cause))),
+    }
+}
+
+/// Makes a store, or goes on from the one in a folder, and runs a script over it, line by line;
+/// answers whether something was refused. Boxes are made here alone: a function that takes or gives
+/// a box, or a store, makes none.
 pub fn replay<R: System, I: Read, O: Write>(
     rt: &R,
-    options: &Options,
+    options: &Options<'_>,
     input: &mut I,
     output: &mut O,
 ) -> Result<bool, Stop> {
     let alloc = rt.alloc();
     let mut lines = Lines::new(alloc, input, READS, LONGEST).map_err(no_input)?;
-    let mut desk = match Desk::new(alloc, LEASES) {
-        Ok(desk) => desk,
-        Err(cause) => return refuse(output, Refusal::from(cause)),
-    };
+    let mut desk = desk_of(alloc)?;
+    let home = Home::open(rt, options.dir)?;
     let capacity = u64::from(options.capacity);
+    let writers = options.writers;
     let mut boxes: Vec<Box<dyn Segment>> = Vec::new(alloc);
-    for _ in 0..options.segments {
-        match spare_of(alloc, &mut desk, capacity) {
-            Ok(spare) => boxes.push(Box::new(alloc, spare)?)?,
-            Err(refusal) => return refuse(output, refusal),
+    let mut are_new = true;
+    for _ in 0..home.count(rt, options.segments)? {
+        let made = match home.segment(rt, &mut desk, capacity) {
+            Ok(made) => made,
+            Err(miss) => return missed(output, 0, miss),
+        };
+        are_new &= made.sight().1;
+        match made {
+            Made::Memory(segment) => boxes.push(Box::new(alloc, segment)?)?,
+            Made::File(segment) => boxes.push(Box::new(alloc, segment)?)?,
         }
     }
-    let mut session = match Session::open(rt, options, boxes, desk) {
+    let mut session = match begin(rt, options, boxes, are_new, desk, home, output) {
         Ok(session) => session,
-        Err(refusal) => return refuse(output, refusal),
+        Err(miss) => return missed(output, 0, miss),
     };
-    let mut end = Ok(());
-    let mut is_refused = false;
+    // The store is shut whatever ends the script.
+    let mut end = Ok(false);
     'lines: for number in 1..u64::MAX {
-        let done = do_line(
-            rt,
-            &mut session,
-            &mut lines,
-            output,
-            number,
-            options.writers,
-        );
-        let answer = match done {
+        let answer = match do_line(rt, &mut session, &mut lines, output, number, writers) {
             Ok(Done::End) => break,
             Ok(Done::Answered(refused)) => Ok(refused),
-            Ok(Done::Add) => match session.spare(alloc, capacity) {
-                Ok(spare) => {
-                    let lease = spare.lease();
-                    match Box::new(alloc, spare) {
-                        Ok(one) => added(output, lease, session.add(one)),
-                        Err(_) => Err(Stop::NoMemory),
-                    }
+            Ok(Done::Add) => match session.spare(rt, capacity) {
+                Ok(made) => {
+                    let lease = made.sight().0;
+                    let answer = match made {
+                        Made::Memory(segment) => match Box::new(alloc, segment) {
+                            Ok(spare) => session.add(spare),
+                            Err(_) => Err(Refusal::NoMemory),
+                        },
+                        Made::File(segment) => match Box::new(alloc, segment) {
+                            Ok(spare) => session.add(spare),
+                            Err(_) => Err(Refusal::NoMemory),
+                        },
+                    };
+                    added(output, lease, answer)
                 }
-                Err(refusal) => refuse(output, refusal),
+                Err(miss) => missed(output, number, miss),
             },
             Err(stop) => Err(stop),
         };
-        match answer {
-            Ok(refused) => is_refused |= refused,
-            Err(stop) => {
-                end = Err(stop);
-                break;
-            }
+        end = joined(end, answer);
+        if end.is_err() {
+            break;
         }
     }
     session.shut(rt);
-    end.map(|()| is_refused)
+    end
 }

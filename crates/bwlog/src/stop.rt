@@ -1,8 +1,9 @@
 //! What ends a run before its end, and what is printed of it.
 
-use crate::answers::Miss;
+use crate::miss::Miss;
 use crate::refusal::Refusal;
 use crate::script::Fault;
+use bw_file::FolderFault;
 use std::alloc::{AllocError, AllocFailed};
 use std::io::{self, ErrorKind, Write};
 
@@ -19,6 +20,8 @@ pub enum Stop {
     Input,
     /// An output could not be written.
     Output,
+    /// The folder of the segments could not be opened, read or written.
+    Folder(FolderFault),
 }
 
 impl From<AllocError> for Stop {
@@ -30,6 +33,15 @@ impl From<AllocError> for Stop {
 impl<T: Drop> From<AllocFailed<T>> for Stop {
     fn from(_error: AllocFailed<T>) -> Stop {
         Stop::NoMemory
+    }
+}
+
+impl From<FolderFault> for Stop {
+    fn from(fault: FolderFault) -> Stop {
+        match fault {
+            FolderFault::NoMemory => Stop::NoMemory,
+            other => Stop::Folder(other),
+        }
     }
 }
 
@@ -63,5 +75,6 @@ pub fn missed<O: Write>(output: &mut O, number: u64, miss: Miss) -> Result<bool,
         Miss::Refused(refusal) => refuse(output, refusal),
         Miss::Fault(fault) => Err(Stop::Fault(number, fault)),
         Miss::Output => Err(Stop::Output),
+        Miss::Folder(fault) => Err(Stop::from(fault)),
     }
 }

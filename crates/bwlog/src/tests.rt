@@ -2,12 +2,14 @@
 
 mod command_line;
 mod faults;
+mod folders;
 mod lengths;
 mod scans;
 mod scripts;
 mod streams;
 
 use crate::program::run;
+use crate::system::System;
 use std::alloc::{AllocError, Global};
 use std::io::Read;
 
@@ -39,8 +41,8 @@ fn are_so(printed: &[u8], output: &str, told: &[u8], errors: &str) -> bool {
 }
 
 /// Whether a run ends with this status, prints this and tells that.
-fn ends<I: Read>(
-    rt: &HostRuntime,
+fn ends<R: System, I: Read>(
+    rt: &R,
     words: &[&str],
     input: &mut I,
     status: u8,
@@ -55,7 +57,7 @@ fn ends<I: Read>(
 }
 
 /// Whether words are answered with status 2, nothing printed and something told.
-fn is_no_parse(rt: &HostRuntime, words: &[&str]) -> bool {
+fn is_no_parse<R: System>(rt: &R, words: &[&str]) -> bool {
     let mut input = b"flush\n".as_slice();
     let mut printed = Vec::new(rt.alloc());
     let mut told = Vec::new(rt.alloc());
@@ -90,7 +92,7 @@ fn flushed(alloc: Global, line: &[u8], count: usize) -> Result<Vec<u8>, AllocErr
 }
 
 /// Whether what a script prints ends so.
-fn prints_last(rt: &HostRuntime, words: &[&str], script: &[u8], output: &str) -> bool {
+fn prints_last<R: System>(rt: &R, words: &[&str], script: &[u8], output: &str) -> bool {
     let mut input = script;
     let mut printed = Vec::new(rt.alloc());
     let mut told = Vec::new(rt.alloc());
@@ -99,8 +101,8 @@ fn prints_last(rt: &HostRuntime, words: &[&str], script: &[u8], output: &str) ->
 }
 
 /// Whether the flush of so many records answers so.
-fn flush_answers(
-    rt: &HostRuntime,
+fn flush_answers<R: System>(
+    rt: &R,
     words: &[&str],
     count: usize,
     output: &str,
@@ -111,7 +113,7 @@ fn flush_answers(
 }
 
 /// Whether the row goes as told.
-fn goes(rt: &HostRuntime, row: &Row) -> Result<bool, AllocError> {
+fn goes<R: System>(rt: &R, row: &Row) -> Result<bool, AllocError> {
     match row {
         Row::Prints(script, status, output) => {
             Ok(ends(rt, &PLAIN, &mut script.as_bytes(), *status, output, ""))
@@ -136,7 +138,7 @@ fn goes(rt: &HostRuntime, row: &Row) -> Result<bool, AllocError> {
 }
 
 /// How many of the rows went as told before one did not.
-fn walked(rt: &HostRuntime, rows: &[Row]) -> Result<usize, AllocError> {
+fn walked<R: System>(rt: &R, rows: &[Row]) -> Result<usize, AllocError> {
     for (i, row) in rows.iter().enumerate() {
         if !goes(rt, row)? {
             return Ok(i);

@@ -4,7 +4,7 @@ use super::{Row, walked};
 use std::test::*;
 
 /// What is no parse, and limits at the ends of their ranges.
-const COMMAND_LINES: [Row; 33] = [
+const COMMAND_LINES: [Row; 35] = [
     Row::NoParse(&[]),
     Row::NoParse(&[""]),
     Row::NoParse(&["--help"]),
@@ -12,6 +12,8 @@ const COMMAND_LINES: [Row; 33] = [
     Row::NoParse(&["threads"]),
     Row::NoParse(&["scan", "--m=4"]),
     Row::NoParse(&["scan", "word"]),
+    Row::NoParse(&["scan", "--dir"]),
+    Row::NoParse(&["replay", "--dir"]),
     Row::NoParse(&["replay", "--help"]),
     Row::NoParse(&["replay", "--nothing"]),
     Row::NoParse(&["replay", "word"]),

@@ -73,11 +73,12 @@ fn is_seen<R: Wait>(
     store: &mut Store,
     feeds: &mut Vec<Feed>,
     reader: &mut Reader,
-    (old, new, frame): (&[u8], &[u8], u64),
+    step: (&[u8], &[u8], u64),
 ) -> Result<bool, Fail>
     requires { IsSound store.old holding }
     ensures { IsSound store.new holding }
 {
+    let (old, new, frame) = step;
     let taken = is_taken(store, feeds, new)?;
     let still = reads(reader, old)?;
     let flushed = flushes(rt, store, Some(frame));

@@ -73,7 +73,10 @@ pub(super) fn reads(store: &mut Store, many: u32) -> Result<bool, Fail>
     ensures rings { (kept_by store.new holding).rings ≡ (kept_by store.old holding).rings }
 {
     'numbers: for number in 0..many {
-        if !is_read(store, b'a', number)? || !is_read(store, b'b', number)? {
+        if !is_read(store, b'a', number)? {
+            return Ok(false);
+        }
+        if !is_read(store, b'b', number)? {
             return Ok(false);
         }
     }

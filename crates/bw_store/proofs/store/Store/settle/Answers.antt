@@ -44,8 +44,10 @@ returns-in_err-publish-clause-follows g c =
 pub returns-in_err-publish-clause-boxes : goal.returns-in_err-publish-clause-boxes
 returns-in_err-publish-clause-boxes g c =
     rw (sym c.look_beside.ensures.same)
-    (record { same = hides_roster _ _ c.in_err-publish.ensures.leaves
-        ∙ (flushed_boxes _ _ _ _ c.in_ok-take_known.ensures.took c.flush_making.ensures.leaves).same })
+    (record {
+      same = hides_roster _ _ c.in_err-publish.ensures.leaves
+          ∙ (flushed_boxes _ _ _ _ c.in_ok-take_known.ensures.took c.flush_making.ensures.leaves).same;
+    })
 
 pub returns-clause-follows : goal.returns-clause-follows
 returns-clause-follows g c =
@@ -55,8 +57,10 @@ returns-clause-follows g c =
 pub returns-clause-boxes : goal.returns-clause-boxes
 returns-clause-boxes g c =
     rw (sym c.look_beside.ensures.same)
-    (record { same = shows_roster _ _ c.in_ok-publish.ensures.leaves
-        ∙ (flushed_boxes _ _ _ _ c.in_ok-take_known.ensures.took c.flush_making.ensures.leaves).same })
+    (record {
+      same = shows_roster _ _ c.in_ok-publish.ensures.leaves
+          ∙ (flushed_boxes _ _ _ _ c.in_ok-take_known.ensures.took c.flush_making.ensures.leaves).same;
+    })
 
 pub returns-clause-exactly : goal.returns-clause-exactly
 returns-clause-exactly g c =

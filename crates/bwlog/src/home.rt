@@ -1,0 +1,114 @@
+//! Where the segments of a run stand: in memory, or in the files of a folder.
+
+use crate::calls::LEASES;
+use crate::miss::Miss;
+use crate::refusal::Refusal;
+use crate::stop::Stop;
+use crate::system::System;
+use bw_device::{Desk, Lease, MemSegment, Segment};
+use bw_file::{FileSegment, Folder, FolderFault};
+use std::alloc::Global;
+
+/// Where the segments of a run stand.
+#[derive(Drop)]
+pub enum Home {
+    /// In memory, as long as the run lasts.
+    Memory,
+    /// In files, as long as these keep what they were given.
+    Folder(Folder),
+}
+
+/// A segment that was made, before it is boxed.
+#[derive(Drop)]
+pub enum Made {
+    Memory(MemSegment),
+    File(FileSegment),
+}
+
+impl Made {
+    /// Its lease, and whether it has no bytes.
+    pub fn sight(&self) -> (u32, bool) {
+        match self {
+            Made::Memory(segment) => (segment.lease(), segment.len() == 0),
+            Made::File(segment) => (segment.lease(), segment.len() == 0),
+        }
+    }
+}
+
+/// A desk of the program's leases, as many as a desk may have or fewer: only memory can be wanting.
+pub fn desk_of(alloc: Global) -> Result<Desk, Stop> {
+    match Desk::new(alloc, LEASES) {
+        Ok(desk) => Ok(desk),
+        Err(_) => Err(Stop::NoMemory),
+    }
+}
+
+/// A lease of the desk, the least that is free.
+pub fn taken(desk: &mut Desk) -> Result<Lease, Refusal> {
+    match desk.take() {
+        Ok(lease) => Ok(lease),
+        Err(cause) => Err(Refusal::from(cause)),
+    }
+}
+
+fn in_memory(alloc: Global, lease: Lease, capacity: u64) -> Result<Made, Miss> {
+    match MemSegment::new(alloc, lease, capacity) {
+        Ok(segment) => Ok(Made::Memory(segment)),
+        Err(refused) => Err(Miss::Refused(Refusal::from(refused.cause))),
+    }
+}
+
+impl Home {
+    /// The folder of this path, made where it is missing; memory where there is none.
+    pub fn open<R: System>(rt: &R, dir: Option<&str>) -> Result<Home, FolderFault> {
+        match dir {
+            Some(path) => Ok(Home::Folder(Folder::open(rt, path)?)),
+            None => Ok(Home::Memory),
+        }
+    }
+
+    /// How many segments a run begins with: so many at least, and one for each lease up to the last
+    /// that has a file.
+    pub fn count<R: System>(&self, rt: &R, least: u16) -> Result<u32, FolderFault> {
+        let least = u32::from(least);
+        match self {
+            Home::Memory => Ok(least),
+            Home::Folder(folder) => match folder.leases(rt)?.last() {
+                Some(last) => Ok(least.max(last.saturating_add(1))),
+                None => Ok(least),
+            },
+        }
+    }
+
+    /// The segment of the least lease that is free, with what its file has.
+    pub fn segment<R: System>(&self, rt: &R, desk: &mut Desk, capacity: u64) -> Result<Made, Miss> {
+        let lease = taken(desk)?;
+        match self {
+            Home::Memory => in_memory(rt.alloc(), lease, capacity),
+            Home::Folder(folder) => match folder.segment(rt, lease, capacity) {
+                Ok(segment) => Ok(Made::File(segment)),
+                Err(refused) => Err(Miss::from(refused.cause)),
+            },
+        }
+    }
+
+    /// A new segment of the least lease that is free, over a file of no bytes.
+    pub fn spare<R: System>(&self, rt: &R, desk: &mut Desk, capacity: u64) -> Result<Made, Miss> {
+        let lease = taken(desk)?;
+        match self {
+            Home::Memory => in_memory(rt.alloc(), lease, capacity),
+            Home::Folder(folder) => match folder.spare(rt, lease, capacity) {
+                Ok(segment) => Ok(Made::File(segment)),
+                Err(refused) => Err(Miss::from(refused.cause)),
+            },
+        }
+    }
+
+    /// The file of a lease whose segment was given up has no bytes any more.
+    pub fn empty<R: System>(&self, rt: &R, lease: u32) -> Result<(), FolderFault> {
+        match self {
+            Home::Memory => Ok(()),
+            Home::Folder(folder) => folder.empty(rt, lease),
+        }
+    }
+}
