@@ -119,14 +119,8 @@ const OPENED_AGAIN: [Step; 6] = [
 
 #[test]
 fn pages_that_are_away_are_read_from_their_segments(rt: HostRuntime) -> Result<(), Fail> {
-    assert_eq!(rt;
-        over_fuse(&rt, 0, 2, 0, &READ_AGAIN)?,
-        READ_AGAIN.len()
-    );
-    assert_eq!(rt;
-        over_fuse(&rt, 0, 2, 0, &TURNED_AGAIN)?,
-        TURNED_AGAIN.len()
-    );
+    assert_eq!(rt; over_fuse(&rt, 0, 2, 0, &READ_AGAIN)?, READ_AGAIN.len());
+    assert_eq!(rt; over_fuse(&rt, 0, 2, 0, &TURNED_AGAIN)?, TURNED_AGAIN.len());
     Ok(())
 }
 
