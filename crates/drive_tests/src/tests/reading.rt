@@ -11,7 +11,8 @@ use std::test::Fail;
 // How many pairs a page has; none where there is no such page.
 fn pairs_of(store: &mut Store, page: u32) -> Result<Option<u32>, Fail>
     requires { IsSound store.old holding }
-    ensures { kept_by store.new holding ≡ kept_by store.old holding }
+    ensures sound { IsSound store.new holding }
+    ensures rings { (kept_by store.new holding).rings ≡ (kept_by store.old holding).rings }
 {
     match store.page(page) {
         Ok(leaf) => Ok(Some(leaf.pairs.as_slice().len() as u32)),
@@ -23,7 +24,8 @@ fn pairs_of(store: &mut Store, page: u32) -> Result<Option<u32>, Fail>
 // How many pairs all pages have.
 fn pairs(store: &mut Store) -> Result<u32, Fail>
     requires { IsSound store.old holding }
-    ensures { kept_by store.new holding ≡ kept_by store.old holding }
+    ensures sound { IsSound store.new holding }
+    ensures rings { (kept_by store.new holding).rings ≡ (kept_by store.old holding).rings }
 {
     let mut count: u32 = 0;
     'pages: for page in 1..100_000 {
@@ -38,7 +40,8 @@ fn pairs(store: &mut Store) -> Result<u32, Fail>
 // Whether the key of a put has its value.
 fn is_read(store: &mut Store, writer: usize, number: u32, keys: u32) -> Result<bool, Fail>
     requires { IsSound store.old holding }
-    ensures { kept_by store.new holding ≡ kept_by store.old holding }
+    ensures sound { IsSound store.new holding }
+    ensures rings { (kept_by store.new holding).rings ≡ (kept_by store.old holding).rings }
 {
     let Record::Put(key, value) = numbered(writer, number, keys) else {
         return Ok(false);
@@ -49,7 +52,8 @@ fn is_read(store: &mut Store, writer: usize, number: u32, keys: u32) -> Result<b
 // Whether each key of a writer's first so many records has the value of the last of them.
 fn has_read(store: &mut Store, writer: usize, records: u32, keys: u32) -> Result<bool, Fail>
     requires { IsSound store.old holding }
-    ensures { kept_by store.new holding ≡ kept_by store.old holding }
+    ensures sound { IsSound store.new holding }
+    ensures rings { (kept_by store.new holding).rings ≡ (kept_by store.old holding).rings }
 {
     'numbers: for number in records.saturating_sub(keys)..records {
         if !is_read(store, writer, number, keys)? {
@@ -68,7 +72,8 @@ pub(super) fn reads(
     keys: u32,
 ) -> Result<bool, Fail>
     requires { IsSound store.old holding }
-    ensures { kept_by store.new holding ≡ kept_by store.old holding }
+    ensures sound { IsSound store.new holding }
+    ensures rings { (kept_by store.new holding).rings ≡ (kept_by store.old holding).rings }
 {
     'writers: for writer in 0..writers {
         if !has_read(store, writer, records, keys)? {
@@ -82,7 +87,8 @@ pub(super) fn reads(
 /// Whether the first page has the first two records of writer 0, and no more.
 pub(super) fn is_split(store: &mut Store) -> Result<bool, Fail>
     requires { IsSound store.old holding }
-    ensures { kept_by store.new holding ≡ kept_by store.old holding }
+    ensures sound { IsSound store.new holding }
+    ensures rings { (kept_by store.new holding).rings ≡ (kept_by store.old holding).rings }
 {
     let leaf = store.page(1)?;
     let mut next: u32 = 0;

@@ -128,7 +128,8 @@ fn settles<R: Wait>(
 // A step that only asks.
 fn answers(store: &mut Store, step: &Step) -> Result<bool, Fail>
     requires { IsSound store.old holding }
-    ensures { kept_by store.new holding ≡ kept_by store.old holding }
+    ensures sound { IsSound store.new holding }
+    ensures rings { (kept_by store.new holding).rings ≡ (kept_by store.old holding).rings }
 {
     match step {
         Begins(keys, most) => {

@@ -72,7 +72,8 @@ fn is_flushed<R: Wait>(
 }
 
 // Two flushes: the first one passes, and the second one as long as no call of it is to fail.
-fn are_flushed(
+fn are_flushed<R: Wait>(
+    wait: &R,
     rt: &Watched<HostRuntime>,
     store: &mut Store,
     feeds: &mut [Feed],
@@ -82,18 +83,24 @@ fn are_flushed(
     requires { IsSound store.old holding }
     ensures { IsSound store.new holding }
 {
-    let first = is_flushed(rt.system(), store, feeds, (b"k", b"v"), Ok(Some(1)))?;
+    let first = is_flushed(wait, store, feeds, (b"k", b"v"), Ok(Some(1)))?;
     rt.watch().fail_after(passes, keep);
     let told = if passes < 2 {
         Err(StoreFault::Device { lease: 0 })
     } else {
         Ok(Some(2))
     };
-    Ok(first && is_flushed(rt.system(), store, feeds, (b"j", b"w"), told)?)
+    Ok(first && is_flushed(wait, store, feeds, (b"j", b"w"), told)?)
 }
 
 // A life of a store over two files of the folder, until it is shut.
-fn lives(rt: &Watched<HostRuntime>, path: &str, passes: u64, keep: u64) -> Result<bool, Fail> {
+fn lives<R: Wait>(
+    wait: &R,
+    rt: &Watched<HostRuntime>,
+    path: &str,
+    passes: u64,
+    keep: u64,
+) -> Result<bool, Fail> {
     let folder = Folder::open(rt, path)?;
     let mut desk = Desk::new(rt.alloc(), 8)?;
     let mut boxes: Vec<Box<dyn Segment>> = Vec::new(rt.alloc());
@@ -105,11 +112,11 @@ fn lives(rt: &Watched<HostRuntime>, path: &str, passes: u64, keep: u64) -> Resul
         m: 4,
         f: 16384,
     };
-    let Ok((mut store, mut feeds)) = Store::open(rt.system(), rt.alloc(), &config, boxes) else {
+    let Ok((mut store, mut feeds)) = Store::open(wait, rt.alloc(), &config, boxes) else {
         return Ok(false);
     };
-    let flushed = are_flushed(rt, &mut store, &mut feeds, passes, keep);
-    let _ = store.shut(rt.system());
+    let flushed = are_flushed(wait, rt, &mut store, &mut feeds, passes, keep);
+    let _ = store.shut(wait);
     flushed
 }
 
@@ -123,7 +130,8 @@ fn has_bytes(rt: &Watched<HostRuntime>, path: &str, of_second: u64) -> Result<bo
 }
 
 // Whether after a life whose call of this number failed the files tell so.
-fn is_there(
+fn is_there<R: Wait>(
+    wait: &R,
     rt: HostRuntime,
     path: &'static str,
     (passes, keep): (u64, u64),
@@ -133,7 +141,7 @@ fn is_there(
     let _ = fs::remove_dir_all(&rt, path);
     let watched = Watched::new(rt)?;
     Ok(
-        lives(&watched, path, passes, keep)?
+        lives(wait, &watched, path, passes, keep)?
             && has_bytes(&watched, path, of_second)?
             && is_told(&watched, path, 2, told)?,
     )
@@ -142,17 +150,17 @@ fn is_there(
 #[test]
 fn what_was_flushed_is_there_after_a_stop(rt: HostRuntime) -> Result<(), Fail> {
     let both = Found(1, 2, 0, 1, 1, 0, JKV);
-    assert!(rt; is_there(rt, "stored", (99, 0), SECOND_LENGTH, &both)?);
+    assert!(rt; is_there(&rt, rt, "stored", (99, 0), SECOND_LENGTH, &both)?);
     // The sync fails: the frame was not promised, and is there.
-    assert!(rt; is_there(rt, "stored", (1, 0), SECOND_LENGTH, &both)?);
+    assert!(rt; is_there(&rt, rt, "stored", (1, 0), SECOND_LENGTH, &both)?);
     for keep in 0..SECOND_LENGTH {
         let first = Found(1, 1, keep, 1, 1, 0, KV);
         assert!(rt;
-            is_there(rt, "stored", (0, keep), keep, &first)?,
+            is_there(&rt, rt, "stored", (0, keep), keep, &first)?,
             "at {keep}"
         );
     }
-    assert!(rt; is_there(rt, "stored", (0, SECOND_LENGTH), SECOND_LENGTH, &both)?);
+    assert!(rt; is_there(&rt, rt, "stored", (0, SECOND_LENGTH), SECOND_LENGTH, &both)?);
     let _ = fs::remove_dir_all(&rt, "stored");
     Ok(())
 }
