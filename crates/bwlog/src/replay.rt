@@ -131,6 +131,9 @@ pub fn replay<R: System, I: Read, O: Write>(
     // The store is shut whatever ends the script.
     let mut end = Ok(false);
     'lines: for number in 1..u64::MAX {
+        if end.is_err() {
+            break;
+        }
         let answer = match do_line(rt, &mut session, &mut lines, output, number, writers) {
             Ok(Done::End) => break,
             Ok(Done::Answered(refused)) => Ok(refused),
@@ -154,9 +157,6 @@ pub fn replay<R: System, I: Read, O: Write>(
             Err(stop) => Err(stop),
         };
         end = joined(end, answer);
-        if end.is_err() {
-            break;
-        }
     }
     session.shut(rt);
     end
