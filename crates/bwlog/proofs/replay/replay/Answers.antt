@@ -19,55 +19,55 @@ lines-preserved g c =
     elim c.match-do_line.branch [
       | in-Ok-Answered w ↦ rw w.session-is (ready_by_kind (record { first = λ _ _ _. refl; second = λ _ _ _. refl }) c.do_line.ensures)
       | in-Ok-Add+in-Ok-spare w ↦ elim w.match-made-2.branch [
-          | in-Memory-made+then-drop+in-Ok-new-2 v ↦ elim v.match-new.branch [
-              | in-Ok-new u ↦
-                  rw (w.session-is, v.session-is, u.session-is)
-                  (ready_by_kind (record { first = λ _ _ _. refl; second = λ _ _ _. refl }) u.add.ensures)
-              | in-Err-new u ↦
-                  rw (w.session-is, v.session-is, u.session-is)
-                  (ready_by_kind (record { first = λ _ _ _. refl; second = λ _ _ _. refl }) w.spare.ensures)
-            ]
-          | in-Memory-made+then-drop+in-Err-1 v ↦ elim v.match-new.branch [
-              | in-Ok-new u ↦
-                  rw (w.session-is, v.session-is, u.session-is)
-                  (ready_by_kind (record { first = λ _ _ _. refl; second = λ _ _ _. refl }) u.add.ensures)
-              | in-Err-new u ↦
-                  rw (w.session-is, v.session-is, u.session-is)
-                  (ready_by_kind (record { first = λ _ _ _. refl; second = λ _ _ _. refl }) w.spare.ensures)
-            ]
-          | in-Memory-made+else-drop v ↦ elim v.match-new.branch [
-              | in-Ok-new u ↦
-                  rw (w.session-is, v.session-is, u.session-is)
-                  (ready_by_kind (record { first = λ _ _ _. refl; second = λ _ _ _. refl }) u.add.ensures)
-              | in-Err-new u ↦
-                  rw (w.session-is, v.session-is, u.session-is)
-                  (ready_by_kind (record { first = λ _ _ _. refl; second = λ _ _ _. refl }) w.spare.ensures)
-            ]
-          | in-File-made+then-drop-2+in-Ok-new-4 v ↦ elim v.match-new-3.branch [
-              | in-Ok-new-2 u ↦
-                  rw (w.session-is, v.session-is, u.session-is)
-                  (ready_by_kind (record { first = λ _ _ _. refl; second = λ _ _ _. refl }) u.add-in-Ok-new-2.ensures)
-              | in-Err-new-2 u ↦
-                  rw (w.session-is, v.session-is, u.session-is)
-                  (ready_by_kind (record { first = λ _ _ _. refl; second = λ _ _ _. refl }) w.spare.ensures)
-            ]
-          | in-File-made+then-drop-2+in-Err-1 v ↦ elim v.match-new-3.branch [
-              | in-Ok-new-2 u ↦
-                  rw (w.session-is, v.session-is, u.session-is)
-                  (ready_by_kind (record { first = λ _ _ _. refl; second = λ _ _ _. refl }) u.add-in-Ok-new-2.ensures)
-              | in-Err-new-2 u ↦
-                  rw (w.session-is, v.session-is, u.session-is)
-                  (ready_by_kind (record { first = λ _ _ _. refl; second = λ _ _ _. refl }) w.spare.ensures)
-            ]
-          | in-File-made+else-drop-2 v ↦ elim v.match-new-3.branch [
-              | in-Ok-new-2 u ↦
-                  rw (w.session-is, v.session-is, u.session-is)
-                  (ready_by_kind (record { first = λ _ _ _. refl; second = λ _ _ _. refl }) u.add-in-Ok-new-2.ensures)
-              | in-Err-new-2 u ↦
-                  rw (w.session-is, v.session-is, u.session-is)
-                  (ready_by_kind (record { first = λ _ _ _. refl; second = λ _ _ _. refl }) w.spare.ensures)
-            ]
+        | in-Memory-made+then-drop+in-Ok-new-2 v ↦ elim v.match-new.branch [
+          | in-Ok-new u ↦
+              rw (w.session-is, v.session-is, u.session-is)
+              (ready_by_kind (record { first = λ _ _ _. refl; second = λ _ _ _. refl }) u.add.ensures)
+          | in-Err-new u ↦
+              rw (w.session-is, v.session-is, u.session-is)
+              (ready_by_kind (record { first = λ _ _ _. refl; second = λ _ _ _. refl }) w.spare.ensures)
         ]
+        | in-Memory-made+then-drop+in-Err-1 v ↦ elim v.match-new.branch [
+          | in-Ok-new u ↦
+              rw (w.session-is, v.session-is, u.session-is)
+              (ready_by_kind (record { first = λ _ _ _. refl; second = λ _ _ _. refl }) u.add.ensures)
+          | in-Err-new u ↦
+              rw (w.session-is, v.session-is, u.session-is)
+              (ready_by_kind (record { first = λ _ _ _. refl; second = λ _ _ _. refl }) w.spare.ensures)
+        ]
+        | in-Memory-made+else-drop v ↦ elim v.match-new.branch [
+          | in-Ok-new u ↦
+              rw (w.session-is, v.session-is, u.session-is)
+              (ready_by_kind (record { first = λ _ _ _. refl; second = λ _ _ _. refl }) u.add.ensures)
+          | in-Err-new u ↦
+              rw (w.session-is, v.session-is, u.session-is)
+              (ready_by_kind (record { first = λ _ _ _. refl; second = λ _ _ _. refl }) w.spare.ensures)
+        ]
+        | in-File-made+then-drop-2+in-Ok-new-4 v ↦ elim v.match-new-3.branch [
+          | in-Ok-new-2 u ↦
+              rw (w.session-is, v.session-is, u.session-is)
+              (ready_by_kind (record { first = λ _ _ _. refl; second = λ _ _ _. refl }) u.add-in-Ok-new-2.ensures)
+          | in-Err-new-2 u ↦
+              rw (w.session-is, v.session-is, u.session-is)
+              (ready_by_kind (record { first = λ _ _ _. refl; second = λ _ _ _. refl }) w.spare.ensures)
+        ]
+        | in-File-made+then-drop-2+in-Err-1 v ↦ elim v.match-new-3.branch [
+          | in-Ok-new-2 u ↦
+              rw (w.session-is, v.session-is, u.session-is)
+              (ready_by_kind (record { first = λ _ _ _. refl; second = λ _ _ _. refl }) u.add-in-Ok-new-2.ensures)
+          | in-Err-new-2 u ↦
+              rw (w.session-is, v.session-is, u.session-is)
+              (ready_by_kind (record { first = λ _ _ _. refl; second = λ _ _ _. refl }) w.spare.ensures)
+        ]
+        | in-File-made+else-drop-2 v ↦ elim v.match-new-3.branch [
+          | in-Ok-new-2 u ↦
+              rw (w.session-is, v.session-is, u.session-is)
+              (ready_by_kind (record { first = λ _ _ _. refl; second = λ _ _ _. refl }) u.add-in-Ok-new-2.ensures)
+          | in-Err-new-2 u ↦
+              rw (w.session-is, v.session-is, u.session-is)
+              (ready_by_kind (record { first = λ _ _ _. refl; second = λ _ _ _. refl }) w.spare.ensures)
+        ]
+      ]
       | in-Ok-Add+in-Err-spare w ↦ rw w.session-is (ready_by_kind (record { first = λ _ _ _. refl; second = λ _ _ _. refl }) w.spare.ensures)
       | in-Err-do_line w ↦ rw w.session-is (ready_by_kind (record { first = λ _ _ _. refl; second = λ _ _ _. refl }) c.do_line.ensures)
     ]
