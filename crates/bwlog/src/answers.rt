@@ -75,6 +75,18 @@ fn get<O: Write>(session: &mut Session, output: &mut O, key: &Key) -> Result<(),
     Ok(())
 }
 
+fn evict<O: Write>(session: &mut Session, output: &mut O, page: u32) -> Result<(), Miss>
+    requires { IsReady session.old holding }
+    ensures { IsReady session.new holding }
+{
+    if session.evict(page)? {
+        output.write_all(b"evicted\n")?;
+    } else {
+        output.write_all(b"kept\n")?;
+    }
+    Ok(())
+}
+
 // The file of what was given up is emptied before the next segment can be.
 fn clean<R: System, O: Write>(rt: &R, session: &mut Session, output: &mut O) -> Result<(), Miss>
     requires { IsReady session.old holding }
@@ -186,6 +198,7 @@ pub fn answer<R: System, O: Write>(
         Command::Flush => flush(rt, session, output),
         Command::Settle => settle(rt, session, output),
         Command::Page(number) => page(session, output, number),
+        Command::Evict(number) => evict(session, output, number),
         Command::Get(key) => get(session, output, &key),
         Command::Clean => clean(rt, session, output),
         Command::Roll => roll(session, output),

@@ -143,6 +143,14 @@ impl Session {
         Ok(self.store.get(key)?)
     }
 
+    /// Whether the page left memory; it stays where it is away, or where no frame has all of it.
+    pub fn evict(&mut self, page: u32) -> Result<bool, Refusal>
+        requires { IsReady self.old holding }
+        ensures { IsReady self.new holding }
+    {
+        Ok(self.store.evict(page)?)
+    }
+
     /// What was given up with the oldest segment.
     pub fn clean<R: System>(&mut self, rt: &R) -> Result<Cleaned, Refusal>
         requires { IsReady self.old holding }

@@ -45,6 +45,8 @@ pub enum Command {
     Page(u32),
     /// A key's value is printed.
     Get(Key),
+    /// A page leaves memory.
+    Evict(u32),
     /// The oldest segment is given up.
     Clean,
     /// The current segment is closed.
@@ -152,6 +154,7 @@ fn command_of(text: &str, writers: u16) -> Result<Command, Fault> {
         },
         "turn" => Ok(Command::Turn(number_of(single(one, two)?)?)),
         "page" => Ok(Command::Page(number_of(single(one, two)?)?)),
+        "evict" => Ok(Command::Evict(number_of(single(one, two)?)?)),
         "dump" => Ok(Command::Dump(number_of(single(one, two)?)?)),
         "get" => Ok(Command::Get(key_of(single(one, two)?)?)),
         _ => plain_of(name, one),

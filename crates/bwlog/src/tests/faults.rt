@@ -49,7 +49,7 @@ const FAULTS: [Row; 52] = [
         "frame 1\nrolled\nok\nframe 2\ncleaned segment 1 lease 0 pages 1 frames 1\n",
         "script line 6: bad number\n",
     ),
-    Row::Fault("evict 1", "", "script line 1: unknown command\n"),
+    Row::Fault("forget 1", "", "script line 1: unknown command\n"),
     Row::Fault(
         "nothing of a command",
         "",

@@ -4,7 +4,7 @@ use super::{Row, walked};
 use std::test::*;
 
 /// Worked bytes are those of the format's vectors.
-const SCRIPTS: [Row; 18] = [
+const SCRIPTS: [Row; 20] = [
     Row::Prints(
         "put 0 k v\nflush\npage 1\ndump 1\n",
         0,
@@ -44,6 +44,17 @@ const SCRIPTS: [Row; 18] = [
         0,
         "ok\nframe 1\nok\nframe 2\nok\nframe 3\nok\nframe 4\nok\nframe 5\nok\nok\nframe 6\n\
          page 1 low 0x pairs 3 a=1 b=2 bz=6\npage 2 low c pairs 3 c=7 d=4 e=5\nvalue 7\nnone\n",
+    ),
+    // A page stays while no frame has it, leaves once, and is read back.
+    Row::Prints(
+        "put 0 k v\nturn 1\nevict 1\nflush\nevict 1\nevict 1\npage 1\n",
+        0,
+        "ok\ntook 1\nkept\nframe 1\nevicted\nkept\npage 1 low 0x pairs 1 k=v\n",
+    ),
+    Row::Prints(
+        "evict 0\nevict 2\n",
+        4,
+        "refused E9 NoPage\nrefused E9 NoPage\n",
     ),
     // The oldest segment is given up; then the next one, of which nothing has to be written again.
     Row::Prints(
