@@ -11,6 +11,7 @@ mod reading;
 mod reopening;
 mod settling;
 mod steps;
+mod stopping;
 mod threads;
 mod turning;
 mod vectors;

@@ -13,8 +13,8 @@ use bw_store::{Config, Store};
 use std::sync::Wait;
 use std::test::Fail;
 
-// How many of the steps went as told before one did not.
-fn all_go<R: AllocGlobal + Wait>(
+/// How many of the steps went as told before one did not.
+pub(super) fn all_go<R: AllocGlobal + Wait>(
     rt: &R,
     store: &mut Store,
     feeds: &mut Vec<Feed>,
