@@ -24,7 +24,7 @@ fn config() -> Config {
     Config {
         writers: 1,
         places: 8,
-        readers: 2,
+        readers: 3,
         m: 4,
         f: 16384,
     }
@@ -101,6 +101,22 @@ fn sees_flushes<R: Wait>(rt: &R, store: &mut Store, feeds: &mut Vec<Feed>) -> Re
     Err(Fail::from("a reader sees otherwise"))
 }
 
+// A reader that learnt the last news reads what they tell.
+fn reads_news<R: Wait>(rt: &R, store: &mut Store, key: &Key) -> bool
+    requires { IsSound store.old holding }
+    ensures { IsSound store.new holding }
+{
+    let Ok(mut reader) = store.reader() else {
+        return false;
+    };
+    let flushed = store.flush(rt).is_ok();
+    reader.learn(store.news());
+    match reader.get(key) {
+        Ok(Some(value)) => flushed && value.as_slice() == b"2".as_slice(),
+        _ => false,
+    }
+}
+
 // One reader more is made, and then none.
 fn has_one_place(store: &mut Store) -> bool
     requires { IsSound store.old holding }
@@ -112,14 +128,16 @@ fn has_one_place(store: &mut Store) -> bool
 #[test]
 fn a_reader_sees_what_was_flushed(rt: HostRuntime) -> Result<(), Fail> {
     let boxes = boxes_of(rt.alloc())?;
+    let key = Key::new(b"k")?;
     let Ok((mut store, mut feeds)) = Store::open(&rt, rt.alloc(), &config(), boxes) else {
         return Err(Fail::from("a refusal"));
     };
     let seen = sees_flushes(&rt, &mut store, &mut feeds);
+    let news = reads_news(&rt, &mut store, &key);
     let places = has_one_place(&mut store);
     let _ = store.shut(&rt);
     let mut reader = seen?;
-    assert!(rt; places);
+    assert!(rt; news && places);
     assert!(rt; matches!(reader.get(&Key::new(b"k")?), Err(NoReader)));
     Ok(())
 }
