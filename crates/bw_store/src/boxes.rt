@@ -90,8 +90,8 @@ impl Store {
     }
 
     /// All boxes, as they are: the live ones in the order of their numbers, and the spares in
-    /// theirs. Nothing is flushed. It may wait for readers; from then on they are refused. No memory
-    /// is taken.
+    /// theirs. Nothing is flushed. It may wait for readers; from then on they are refused. No
+    /// memory is taken.
     pub fn shut<R: Wait>(self, rt: &R) -> (Vec<Box<dyn Segment>>, Vec<Box<dyn Segment>>)
         requires { IsSoundBeside self holding }
         ensures live { map holding result.0.items ≡ (kept_beside self holding).log.live }

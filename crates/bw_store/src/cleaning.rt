@@ -24,7 +24,8 @@ impl Store {
     /// Refused `NothingOld`, exactly where fewer than two segments are live, before anything else;
     /// then as `flush` is, but `NoSegment` only where no spare stands at all; then `NoMemory`; then
     /// as the cleaner is. A refused step leaves the steps before it done: frames that were appended
-    /// stay and are durable, each with a cut at the end of the history, and no box is dropped. After a refusal other than `Failed` and a failed append it may be called again.
+    /// stay and are durable, each with a cut at the end of the history, and no box is dropped. After
+    /// a refusal other than `Failed` and a failed append it may be called again.
     ///
     /// Then what is durable is published, as `flush` does it. Where that alone finds no memory the
     /// call is refused `NoMemory`, though the segment is given up: its box is dropped.
