@@ -2,10 +2,15 @@
 # make try    runs the same script without any proof, in seconds
 # make test   the gate: the pages against the tests, every proof from nothing, the wrong bodies, the tests, the program
 # make wrong  tries the wrong bodies outside the gate, in a copy of the repository
+# make memory proves the tests of memory_tests, and runs them with each allocation refused in turn, by a shim that cc makes
+# make bench  times the store at a million keys, each subject in a process of its own (docs/TESTING.md, "Measured")
+# make crash  kills the program that make run built in mid-run, and looks at what its folder holds
 
 PROGRAM = crates/bwlog
+BENCH = --keys 1000000 --operations 1000000
+SUBJECTS = pages alone beside late one one-beside many many-beside
 
-.PHONY: run try test wrong
+.PHONY: run try test wrong memory bench crash
 
 run:
 	@cat $(PROGRAM)/stdin && cd $(PROGRAM) && rt run -- $$(cat args) < stdin
@@ -21,3 +26,13 @@ wrong:
 	copy=$$(mktemp -d) && git clone -q . $$copy && cd $$copy && for crate in wrong/*; do \
 	  name=$$(basename $$crate); mkdir -p crates/$$name/must-fail; rm -f crates/$$name/must-fail/*.edit; cp $$crate/*.edit crates/$$name/must-fail/; \
 	done && rt must-fail $$(ls wrong)
+
+memory:
+	cd crates/memory_tests && rt test
+	python3 docs/refuse.py
+
+bench:
+	@cd crates/bw_bench && for subject in $(SUBJECTS); do rt run -- $(BENCH) --times --only $$subject || exit 1; done
+
+crash:
+	python3 $(PROGRAM)/crash.py

@@ -5,7 +5,12 @@ the tests read: so neither can go stale. It prints nothing where both hold."""
 import re
 import sys
 
-EXAMPLES = ["crates/log_tests/src/tests/readme.rt", "crates/drive_tests/src/tests/readme.rt"]
+EXAMPLES = [
+    "crates/store_tests/src/tests/readme.rt",
+    "crates/store_tests/src/tests/readme.rt",
+    "crates/log_tests/src/tests/readme.rt",
+    "crates/drive_tests/src/tests/readme.rt",
+]
 VECTORS = "crates/care_tests/src/tests/vectors.rt"
 
 

@@ -7,9 +7,9 @@ use Rattle.bw_care.specs.declared.cleaning.Cleaned.{Cleaned}
 use Rattle.bw_store.specs.declared.fault.StoreFault.{StoreFault}
 use Rattle.bw_store.specs.Kept.{Kept}
 use Rattle.bw_store.specs.Following.{Follows, HasBoxes}
-use Rattle.bw_store.specs.Showing.{HasBoxesAfter}
+use Rattle.bw_store.specs.Showing.{HasBoxesAfter, SettleRefuses}
 use Rattle.bw_store.proofs.FollowMore.{follows_as, follow_then}
-use Rattle.bw_drive.specs.Ran.{Runs, CallRefused, SettleRefused, StopsAfter, Stops}
+use Rattle.bw_drive.specs.Ran.{Runs, CallRefused, StopsAfter, Stops}
 
 drop_none : {A : Type 0} (xs : List A) → xs ≡ drop 0 xs
 drop_none [] = refl
@@ -53,5 +53,5 @@ pub runs_kept : (n : ℕ) (a b c : Kept) → Runs n a b → Follows b c → HasB
 runs_kept n a b c r f k = runs_then n a b c r (kept_all n b c f k)
 
 -- a run, and a settlement behind it that was refused
-pub stops_last : (n : ℕ) (a b c : Kept) (cause : StoreFault) → Runs n a b → SettleRefused b cause c → Stops n a cause c
+pub stops_last : (n : ℕ) (a b c : Kept) (cause : StoreFault) → Runs n a b → SettleRefuses b cause c → Stops n a cause c
 stops_last n a b c cause r refused = inr (record { before = b; ran = r; refused = inr (inr (inr refused)) })

@@ -26,24 +26,18 @@ pub record Runs (clean_at : ℕ) (old new : Kept) : Type 0 where
 
 -- ---- the first refusal
 
--- of a turn
-abbrev pub TurnRefused : Kept → StoreFault → Kept → Type 0
-TurnRefused old cause new = RefusedAt old cause new
-
+-- of a flush
 abbrev pub FlushRefused : Kept → StoreFault → Kept → Type 0
 FlushRefused old cause new = FlushAnswers (flush_refusal old) (Err cause) × FlushShows old (Err cause) new
-
--- of the last settle
-abbrev pub SettleRefused : Kept → StoreFault → Kept → Type 0
-SettleRefused old cause new = SettleRefuses old cause new
 
 -- a cleaning is tried only where so many segments are live
 abbrev pub CleanRefused : ℕ → Kept → StoreFault → Kept → Type 0
 CleanRefused clean_at old cause new = (1 ≤ clean_at) × (clean_at ≤ length old.log.live) × CleanShows old (Err cause) new
 
+-- a turn was refused, a flush, a cleaning, or the last settle
 abbrev pub CallRefused : ℕ → Kept → StoreFault → Kept → Type 0
 CallRefused clean_at old cause new =
-    TurnRefused old cause new ⊎ (FlushRefused old cause new ⊎ (CleanRefused clean_at old cause new ⊎ SettleRefused old cause new))
+    RefusedAt old cause new ⊎ (FlushRefused old cause new ⊎ (CleanRefused clean_at old cause new ⊎ SettleRefuses old cause new))
 
 -- a call was refused, and none came after it
 pub record StopsAfter (clean_at : ℕ) (old : Kept) (cause : StoreFault) (new : Kept) : Type 0 where

@@ -18,7 +18,7 @@ use crate::flags::Flags;
 use crate::gate::Gate;
 use crate::plan::Plan;
 use crate::starting::{end_all, start_all};
-use crate::tending::tend_if;
+use crate::tending::tend;
 use crate::writers::Writer;
 use bw_codec::Record;
 use bw_ring::Feed;
@@ -105,7 +105,7 @@ fn run_writers<'s, E, R: Threads + Wait, G: Gate>(
     } = start;
     let count = feeds.len() as u64;
     let (writers, are_all) = start_all(scope, feeds, scripts, writers, gate, flags, max_turns);
-    let run = tend_if(rt, store, flags, are_all, count, plan, max_turns);
+    let run = tend(rt, store, flags, are_all, count, plan, max_turns);
     if run.is_err() {
         flags.stop();
     }

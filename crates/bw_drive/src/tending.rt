@@ -2,8 +2,8 @@
 
 ghost use Rattle.std.specs.Prelude.{◌≤◌, IfErr};
 ghost use Rattle.bw_store.specs.Views.{kept_by, IsSound};
-ghost use Rattle.bw_store.specs.Following.{Follows, HasBoxes};
-ghost use Rattle.bw_drive.specs.Ran.{Runs, TurnRefused, StopsAfter, Stops};
+ghost use Rattle.bw_store.specs.Following.{Follows, HasBoxes, RefusedAt};
+ghost use Rattle.bw_drive.specs.Ran.{Runs, StopsAfter, Stops};
 
 use crate::flags::Flags;
 use crate::plan::Plan;
@@ -18,7 +18,7 @@ fn turn_once(store: &mut Store, limit: u32) -> Result<(), StoreFault>
     ensures follows { Follows (kept_by store.old holding) (kept_by store.new holding) }
     ensures boxes { HasBoxes (kept_by store.old holding) (kept_by store.new holding) }
     ensures refused { IfErr result (λ cause.
-        TurnRefused (kept_by store.old holding) cause (kept_by store.new holding)) }
+        RefusedAt (kept_by store.old holding) cause (kept_by store.new holding)) }
 {
     match store.turn(limit) {
         Ok(taken) => {
@@ -67,36 +67,9 @@ fn turn_and_tend<R: Wait>(
     flush_and_clean(rt, store, plan.clean_at)
 }
 
-// Turns, flushes and cleans until so many writers have ended, at most `max_turns` turns.
-fn tend<R: Wait>(
-    rt: &R,
-    store: &mut Store,
-    flags: &Flags,
-    writers: u64,
-    plan: Plan,
-    max_turns: u64,
-) -> Result<(), StoreFault>
-    requires sound { IsSound store.old holding }
-    requires often { 1 ≤ plan.flush_every }
-    ensures sound { IsSound store.new holding }
-    ensures runs { Runs plan.clean_at (kept_by store.old holding) (kept_by store.new holding) }
-    ensures refused { IfErr result (λ cause.
-        StopsAfter plan.clean_at (kept_by store.old holding) cause (kept_by store.new holding)) }
-{
-    let every = u64::from(plan.flush_every);
-    'turns: for turn in 0..max_turns {
-        // What the last writers put is taken by the settle that follows.
-        if flags.ended() >= writers {
-            break;
-        }
-        let is_due = (turn + 1) % every == 0;
-        turn_and_tend(rt, store, is_due, plan)?;
-    }
-    Ok(())
-}
-
-/// The same where each writer has a thread; otherwise the store is left alone.
-pub(crate) fn tend_if<R: Wait>(
+/// Turns, flushes and cleans until so many writers have ended, at most `max_turns` turns. Where not
+/// each of them has a thread, the store is left alone.
+pub(crate) fn tend<R: Wait>(
     rt: &R,
     store: &mut Store,
     flags: &Flags,
@@ -115,5 +88,14 @@ pub(crate) fn tend_if<R: Wait>(
     if !are_all {
         return Err(StoreFault::NoMemory);
     }
-    tend(rt, store, flags, writers, plan, max_turns)
+    let every = u64::from(plan.flush_every);
+    'turns: for turn in 0..max_turns {
+        // What the last writers put is taken by the settle that follows.
+        if flags.ended() >= writers {
+            break;
+        }
+        let is_due = (turn + 1) % every == 0;
+        turn_and_tend(rt, store, is_due, plan)?;
+    }
+    Ok(())
 }

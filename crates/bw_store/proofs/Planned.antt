@@ -4,6 +4,7 @@ use Rattle.std.proofs.Common.{◌≡◌, ℕ, ◌+◌, ◌-◌, ◌*◌, ◌^◌
 use Rattle.std.proofs.Common.{Bool, length, refl, sym, ap, ◌∙◌, subst, arith, if◌then◌else◌, length-append, append-nil}
 use Rattle.std.specs.Prelude.{nat_le, IfOk, OnOk}
 use Rattle.bw_store.specs.declared.planning.Plan.{Plan}
+use Rattle.bw_store.specs.Planning.{listed}
 use Rattle.bw_store.specs.declared.fault.StoreFault.{StoreFault}
 use Rattle.bw_store.specs.Faults.{FlushLeaves}
 use Rattle.bw_store.specs.Taking.{MayFlush, Took}
@@ -162,25 +163,25 @@ plan_lawful s h item back blocks op room next fits last made =
 module _ (s : Kept) (h : IsSound s) (item : Record) (op : IsOp item) (next : s.log.next ≡ Some s.making.frame) (free frame index : ℕ)
     (fits : free + size_of s.making ≡ s.making.limit) (at : frame ≡ s.making.frame) (in_frame : index ≡ length s.making.blocks) where
   plan_all : (p : Plan) → p.page ≡ directed_at s.filed.leaves item → slice_get s.newest (p.page - 1) ≡ Some p.back → HasPage s.filed.m s.filed.leaves item
-      → p.blocks.items ≡ blocks_for s.filed.m s.filed.leaves p.back (record { frame = frame; index = index }) item
-      → All (IsBlock 32) p.blocks.items × (length p.blocks.items ≤ 2) × (1 ≤ length p.blocks.items) × (length (body_bytes p.blocks.items) ≤ 7000)
+      → listed p.blocks ≡ blocks_for s.filed.m s.filed.leaves p.back (record { frame = frame; index = index }) item
+      → All (IsBlock 32) (listed p.blocks) × (length (listed p.blocks) ≤ 2) × (1 ≤ length (listed p.blocks)) × (length (body_bytes (listed p.blocks)) ≤ 7000)
   plan_all p page back room blocks =
-      plan_lawful s h item p.back p.blocks.items op room next (omega arith)
+      plan_lawful s h item p.back (listed p.blocks) op room next (omega arith)
       (subst (λ (n : ℕ). slice_get s.newest (n - 1) ≡ Some p.back) page back)
       (blocks ∙ ap (λ n. blocks_for s.filed.m s.filed.leaves p.back (record { frame = n; index = index }) item) at
       ∙ ap (λ n. blocks_for s.filed.m s.filed.leaves p.back (record { frame = s.making.frame; index = n }) item) in_frame)
 
   pub answer_lawful : (o : Result Plan StoreFault) → IfOk o (λ p. p.page ≡ directed_at s.filed.leaves item)
       → IfOk o (λ p. slice_get s.newest (p.page - 1) ≡ Some p.back) → OnOk o (HasPage s.filed.m s.filed.leaves item)
-      → IfOk o (λ p. p.blocks.items ≡ blocks_for s.filed.m s.filed.leaves p.back (record { frame = frame; index = index }) item)
-      → IfOk o (λ p. All (IsBlock 32) p.blocks.items × (length p.blocks.items ≤ 2))
+      → IfOk o (λ p. listed p.blocks ≡ blocks_for s.filed.m s.filed.leaves p.back (record { frame = frame; index = index }) item)
+      → IfOk o (λ p. All (IsBlock 32) (listed p.blocks) × (length (listed p.blocks) ≤ 2))
   answer_lawful (Err e) page back room blocks = tt
   answer_lawful (Ok p) page back room blocks = (let all = plan_all p page back room blocks in (all.0, all.1))
 
   pub answer_short : (o : Result Plan StoreFault) → IfOk o (λ p. p.page ≡ directed_at s.filed.leaves item)
       → IfOk o (λ p. slice_get s.newest (p.page - 1) ≡ Some p.back) → OnOk o (HasPage s.filed.m s.filed.leaves item)
-      → IfOk o (λ p. p.blocks.items ≡ blocks_for s.filed.m s.filed.leaves p.back (record { frame = frame; index = index }) item)
-      → IfOk o (λ p. length (body_bytes p.blocks.items) ≤ 7000)
+      → IfOk o (λ p. listed p.blocks ≡ blocks_for s.filed.m s.filed.leaves p.back (record { frame = frame; index = index }) item)
+      → IfOk o (λ p. length (body_bytes (listed p.blocks)) ≤ 7000)
   answer_short (Err e) page back room blocks = tt
   answer_short (Ok p) page back room blocks = (plan_all p page back room blocks).3
 

@@ -1,6 +1,7 @@
 pub mod History
 pub mod Share
 pub mod Adding
+pub mod Planning
 pub mod Tails
 pub mod Tailing
 pub mod Growing

@@ -8,6 +8,7 @@ ghost use Rattle.bw_page.specs.Leaves.{changed, directed_at, HasPage};
 ghost use Rattle.bw_page.specs.Shown.{IsHere};
 ghost use Rattle.bw_buffer.specs.Filling.{frame_of, size_of};
 ghost use Rattle.bw_store.specs.Adding.{upper_if, planned, blocks_for, end_of, result_of};
+ghost use Rattle.bw_store.specs.Planning.{listed};
 ghost use Rattle.bw_store.specs.Faults.{IsWantingAt};
 
 use crate::fault::StoreFault;
@@ -21,7 +22,26 @@ use std::alloc::{AllocError, Global};
 pub(crate) struct Plan {
     pub(crate) page: u32,
     pub(crate) back: Place,
-    pub(crate) blocks: Vec<Block>,
+    pub(crate) blocks: Blocks,
+}
+
+/// The blocks of one record: its Delta, and a Split where its page is cut. They take no memory of
+/// their own.
+#[derive(Drop)]
+pub(crate) enum Blocks {
+    One([Block; 1]),
+    Two([Block; 2]),
+}
+
+impl Blocks {
+    pub(crate) fn as_slice(&self) -> &[Block]
+        ensures { result.now ≡ listed self.now }
+    {
+        match self {
+            Blocks::One(blocks) => blocks,
+            Blocks::Two(blocks) => blocks,
+        }
+    }
 }
 
 // The upper part of a leaf, if the record cuts it.
@@ -57,25 +77,25 @@ fn blocks_of(
     here: Place,
     item: &Record,
     upper: Option<Leaf>,
-) -> Result<Vec<Block>, AllocError>
-    ensures { IfOk result (λ bs. bs.items ≡ planned page back here item.now upper) }
+) -> Result<Blocks, AllocError>
+    ensures { IfOk result (λ bs. listed bs ≡ planned page back here item.now upper) }
 {
     let mut ops = Vec::new(alloc);
     ops.push(item.copy())?;
-    let mut blocks = Vec::new(alloc);
-    blocks.push(Block::Delta {
+    let delta = Block::Delta {
         page,
         back,
         ops: Ops::of(ops),
-    })?;
-    if let Some(upper) = upper {
-        blocks.push(Block::Split {
-            page,
-            back: here,
-            upper,
-        })?;
-    }
-    Ok(blocks)
+    };
+    let Some(upper) = upper else {
+        return Ok(Blocks::One([delta]));
+    };
+    let split = Block::Split {
+        page,
+        back: here,
+        upper,
+    };
+    Ok(Blocks::Two([delta, split]))
 }
 
 /// What a record adds, the first of its blocks here.
@@ -91,7 +111,7 @@ pub(crate) fn planned_for(
     ensures page { IfOk result (λ p. p.page ≡ directed_at leaves.now.leaves item.now) }
     ensures back { IfOk result (λ p. slice_get newest.now (p.page - 1) ≡ Some p.back) }
     ensures room { OnOk result (HasPage leaves.now.m leaves.now.leaves item.now) }
-    ensures blocks { IfOk result (λ p. p.blocks.items
+    ensures blocks { IfOk result (λ p. listed p.blocks
         ≡ blocks_for leaves.now.m leaves.now.leaves p.back here item.now) }
     ensures refused { IfErr result (IsWantingAt (length leaves.now.leaves)) }
 {

@@ -7,6 +7,7 @@ ghost use Rattle.bw_codec.specs.Record.{key_of};
 ghost use Rattle.bw_page.specs.Shown.{IsHere};
 ghost use Rattle.bw_buffer.specs.Filling.{size_of};
 ghost use Rattle.bw_ring.specs.Ends.{given};
+ghost use Rattle.bw_store.specs.Planning.{listed};
 ghost use Rattle.bw_store.specs.Lanes.{IsNext, IsWaiting, Dries, TookKnown};
 ghost use Rattle.bw_store.specs.Taking.{TakeLeaves, ItemLeaves, IsPlan, IsUnplanned};
 
@@ -71,13 +72,13 @@ impl Store {
         self.goes_on()?;
         self.fetch(item.key())?;
         let plan = self.plan(&item)?;
-        if length_of(&plan.blocks) <= self.making.room() as usize {
-            self.enter(lane, item, plan.page, plan.back, &plan.blocks)?;
+        if length_of(plan.blocks.as_slice()) <= self.making.room() as usize {
+            self.enter(lane, item, plan.page, plan.back, plan.blocks.as_slice())?;
             return Ok(());
         }
         self.flush_making(false)?;
         let plan = self.plan(&item)?;
-        self.enter(lane, item, plan.page, plan.back, &plan.blocks)?;
+        self.enter(lane, item, plan.page, plan.back, plan.blocks.as_slice())?;
         Ok(())
     }
 
@@ -120,9 +121,9 @@ impl Store {
         ensures next { OnOk result ((kept_by self.now holding).log.next
             ≡ Some self.now.making.frame) }
         ensures plan { IfOk result (IsPlan (kept_by self.now holding) item.now) }
-        ensures lawful { IfOk result (λ p. AllByRecursion (IsBlock 32) p.blocks.items
-            × (length p.blocks.items ≤ 2)) }
-        ensures short { IfOk result (λ p. length (body_bytes p.blocks.items) ≤ 7000) }
+        ensures lawful { IfOk result (λ p. AllByRecursion (IsBlock 32) (listed p.blocks)
+            × (length (listed p.blocks) ≤ 2)) }
+        ensures short { IfOk result (λ p. length (body_bytes (listed p.blocks)) ≤ 7000) }
         ensures refused { IfErr result (IsUnplanned (kept_by self.now holding)) }
     {
         self.goes_on()?;

@@ -1,6 +1,6 @@
 //! The calls that a script makes. Each keeps the store sound, and the feeds those of its lanes.
 
-ghost use Rattle.std.specs.Prelude.{◌≡◌, ◌<◌, length, map, IfOk};
+ghost use Rattle.std.specs.Prelude.{◌≡◌, ◌<◌, length, map, vec_len, IfOk};
 ghost use Rattle.bw_care.specs.Found.{IsRecovered};
 ghost use Rattle.bw_ring.specs.Ends.{ring_of_feed};
 
@@ -43,7 +43,8 @@ impl Session {
         home: Home,
     ) -> Result<Session, Refusal>
         requires { Unit {0} }
-        ensures { IfOk result (λ s. IsReadyBeside s holding) }
+        ensures ready { IfOk result (λ s. IsReadyBeside s holding) }
+        ensures writers { IfOk result (λ s. vec_len s.feeds ≡ options.now.writers) }
     {
         let config = Config {
             writers: usize::from(options.writers),
@@ -73,7 +74,8 @@ impl Session {
         home: Home,
     ) -> Result<Session, Refusal>
         requires { IsRecovered (λ b. holding (b.vtable, b.value)) found }
-        ensures { IfOk result (λ s. IsReady s holding) }
+        ensures ready { IfOk result (λ s. IsReady s holding) }
+        ensures writers { IfOk result (λ s. vec_len s.feeds ≡ options.now.writers) }
     {
         let writers = usize::from(options.writers);
         let places = usize::from(options.places);

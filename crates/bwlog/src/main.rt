@@ -1,5 +1,6 @@
 //! Scripts over the page store: `bwlog replay` runs one, line by line, and prints what each line
-//! answers; `bwlog scan` says what segments hold.
+//! answers; `bwlog threads` runs each writer's in a thread of its own; `bwlog scan` says what
+//! segments hold.
 //!
 //! A script has a session before it: a store over segments in memory, a feed for each writer, and
 //! the desk of the segments' leases. `program::run` is the whole program over any reader and
@@ -16,6 +17,7 @@ mod printed;
 mod program;
 mod refusal;
 mod replay;
+mod running;
 mod scan;
 mod script;
 mod session;
@@ -23,13 +25,14 @@ mod stop;
 mod system;
 #[cfg(test)]
 mod tests;
+mod threads;
 
 use program::run;
 use refusal::Refusal;
 use std::alloc::Global;
 use std::io::{self, BufWriter, ErrorKind};
 use std::process::ExitCode;
-use system::System;
+use system::Host;
 
 /// The words after the program's name.
 fn words_of(rt: &HostRuntime, alloc: Global) -> io::Result<Vec<String>> {
@@ -42,7 +45,7 @@ fn words_of(rt: &HostRuntime, alloc: Global) -> io::Result<Vec<String>> {
 
 /// Runs the program on the system's words and streams. The handle by which it may wait is told
 /// apart: only `main` knows that the system is one.
-fn start<R: System>(host: &HostRuntime, rt: &R) -> io::Result<u8> {
+fn start<R: Host>(host: &HostRuntime, rt: &R) -> io::Result<u8> {
     let alloc = rt.alloc();
     let words = words_of(host, alloc)?;
     let mut texts = Vec::new(alloc);

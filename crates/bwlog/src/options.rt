@@ -9,6 +9,8 @@ use std::alloc::{AllocError, Global};
 pub enum Mode<'a> {
     /// A script is run over a store.
     Replay(Options<'a>),
+    /// Each writer's script is run by a thread of its own over a store.
+    Threads(Options<'a>, Pace),
     /// Segments are looked at: those of a folder, or lines in hex.
     Scan(Option<&'a str>),
 }
@@ -18,12 +20,13 @@ impl<'a> Mode<'a> {
     pub fn dir(&self) -> Option<&'a str> {
         match self {
             Mode::Replay(options) => options.dir,
+            Mode::Threads(options, _) => options.dir,
             Mode::Scan(dir) => *dir,
         }
     }
 }
 
-/// The options of `replay`.
+/// The options of `replay`, and of `threads` likewise.
 #[derive(Debug, Clone, Copy, PartialEq, Eq)]
 pub struct Options<'a> {
     /// How many writers there are, numbered from 0: 1 to 64.
@@ -42,7 +45,20 @@ pub struct Options<'a> {
     pub dir: Option<&'a str>,
 }
 
-const REPLAY_DIR: &str =
+/// How the writers of `threads` put, and how the store is tended meanwhile.
+#[derive(Debug, Clone, Copy, PartialEq, Eq)]
+pub struct Pace {
+    /// How many records a turn takes at most, 1 to 4,096.
+    pub limit: u32,
+    /// After how many turns a flush comes, 1 to 4,096.
+    pub flush_every: u32,
+    /// After a flush the oldest segment is given up where so many are live, 0 to 64; 0 for never.
+    pub clean_at: u32,
+    /// How often a record is tried, and how many turns there are, at most: 1 to 1,000,000,000.
+    pub tries: u32,
+}
+
+const STORE_DIR: &str =
     "a folder for the segments, made where it is missing, and gone on from where it is there; \
     refused E13 then tells a lease";
 
@@ -51,12 +67,16 @@ const SCAN_DIR: &str =
     among its files";
 
 /// How many writers there are, and their places.
-fn with_writers<'a>(alloc: Global, command: Command<'a>) -> Result<Command<'a>, AllocError> {
+fn with_writers<'a>(
+    alloc: Global,
+    command: Command<'a>,
+    default: &'a str,
+) -> Result<Command<'a>, AllocError> {
     let writers = Arg::new(alloc, "writers")
         .long("writers")
         .help("how many writers there are, numbered from 0")
         .value_parser(clap::value_parser!(u16).range(1..=64))
-        .default_value("1");
+        .default_value(default);
     let places = Arg::new(alloc, "places")
         .long("places")
         .help("how many records of a writer may wait")
@@ -81,12 +101,16 @@ fn with_limits<'a>(alloc: Global, command: Command<'a>) -> Result<Command<'a>, A
 }
 
 /// How many segments there are, and their room.
-fn with_segments<'a>(alloc: Global, command: Command<'a>) -> Result<Command<'a>, AllocError> {
+fn with_segments<'a>(
+    alloc: Global,
+    command: Command<'a>,
+    default: &'a str,
+) -> Result<Command<'a>, AllocError> {
     let segments = Arg::new(alloc, "segments")
         .long("segments")
         .help("how many segments there are at the beginning")
         .value_parser(clap::value_parser!(u16).range(2..=64))
-        .default_value("4");
+        .default_value(default);
     let capacity = Arg::new(alloc, "capacity")
         .long("capacity")
         .help("how many bytes a segment has room for")
@@ -108,6 +132,49 @@ fn with_dir<'a>(
     command.arg(dir)
 }
 
+/// A store of so many writers and segments, if not told otherwise.
+fn with_store<'a>(
+    alloc: Global,
+    command: Command<'a>,
+    writers: &'a str,
+    segments: &'a str,
+) -> Result<Command<'a>, AllocError> {
+    let command = with_writers(alloc, command, writers)?;
+    let command = with_limits(alloc, command)?;
+    let command = with_segments(alloc, command, segments)?;
+    with_dir(alloc, command, STORE_DIR)
+}
+
+/// How the store is tended.
+fn with_plan<'a>(alloc: Global, command: Command<'a>) -> Result<Command<'a>, AllocError> {
+    let limit = Arg::new(alloc, "limit")
+        .long("limit")
+        .help("how many records a turn takes at most")
+        .value_parser(clap::value_parser!(u32).range(1..=4096))
+        .default_value("64");
+    let flush_every = Arg::new(alloc, "flush-every")
+        .long("flush-every")
+        .help("after how many turns a flush comes")
+        .value_parser(clap::value_parser!(u32).range(1..=4096))
+        .default_value("4");
+    let clean_at = Arg::new(alloc, "clean-at")
+        .long("clean-at")
+        .help("how many live segments there are where the oldest is given up, 0 for never")
+        .value_parser(clap::value_parser!(u32).range(0..=64))
+        .default_value("3");
+    command.arg(limit)?.arg(flush_every)?.arg(clean_at)
+}
+
+/// How often a record is tried.
+fn with_tries<'a>(alloc: Global, command: Command<'a>) -> Result<Command<'a>, AllocError> {
+    let tries = Arg::new(alloc, "tries")
+        .long("tries")
+        .help("how often a record is tried, and how many turns there are, at most")
+        .value_parser(clap::value_parser!(u32).range(1..=1000000000))
+        .default_value("1000000000");
+    command.arg(tries)
+}
+
 /// The folder that was named.
 fn dir_of<'a>(found: &ArgMatches<'a>) -> Option<&'a str> {
     match found.get_raw("dir") {
@@ -116,7 +183,7 @@ fn dir_of<'a>(found: &ArgMatches<'a>) -> Option<&'a str> {
     }
 }
 
-/// What the words behind `replay` say. Each option has a value, its default at least.
+/// What the words behind `replay` or `threads` say. Each option has a value, its default at least.
 fn found_of<'a>(found: &ArgMatches<'a>) -> Options<'a> {
     Options {
         writers: found.get_one("writers").unwrap_or(0),
@@ -129,31 +196,52 @@ fn found_of<'a>(found: &ArgMatches<'a>) -> Options<'a> {
     }
 }
 
-/// What the words after the program's name ask for. What they do not give as a parse, help among
-/// it, is clap's error, whose text is for the user.
-pub fn mode_of<'a>(alloc: Global, words: &'a [&'a str]) -> Result<Mode<'a>, Error> {
+/// What the words behind `threads` say of its writers.
+fn pace_of<'a>(found: &ArgMatches<'a>) -> Pace {
+    Pace {
+        limit: found.get_one("limit").unwrap_or(0),
+        flush_every: found.get_one("flush-every").unwrap_or(0),
+        clean_at: found.get_one("clean-at").unwrap_or(0),
+        tries: found.get_one("tries").unwrap_or(0),
+    }
+}
+
+/// The command `bwlog` with its modes.
+fn command_of<'a>(alloc: Global) -> Result<Command<'a>, AllocError> {
     let replay = Command::new(alloc, "replay").about("Runs a script from standard input");
-    let replay = with_writers(alloc, replay)?;
-    let replay = with_limits(alloc, replay)?;
-    let replay = with_segments(alloc, replay)?;
-    let replay = with_dir(alloc, replay, REPLAY_DIR)?;
+    let replay = with_store(alloc, replay, "1", "4")?;
+    let threads = Command::new(alloc, "threads").about(
+        "Runs the puts and deletes of standard input, each writer's in a thread of its own",
+    );
+    let threads = with_store(alloc, threads, "2", "32")?;
+    let threads = with_plan(alloc, threads)?;
+    let threads = with_tries(alloc, threads)?;
     let scan = Command::new(alloc, "scan").about(
         "Says what segments hold, one in hex on each line of standard input",
     );
     let scan = with_dir(alloc, scan, SCAN_DIR)?;
-    let command = Command::new(alloc, "bwlog")
+    Command::new(alloc, "bwlog")
         .about("Runs scripts over the page store, and says what segments hold")
         .no_binary_name(true)
         .subcommand_required(true)
         .subcommand(replay)?
-        .subcommand(scan)?;
-    let matches = command.try_get_matches_from(words)?;
-    match matches.subcommand_matches("replay") {
-        Some(found) => Ok(Mode::Replay(found_of(found))),
-        None => match matches.subcommand_matches("scan") {
-            Some(found) => Ok(Mode::Scan(dir_of(found))),
-            None => Ok(Mode::Scan(None)),
-        },
+        .subcommand(threads)?
+        .subcommand(scan)
+}
+
+/// What the words after the program's name ask for. What they do not give as a parse, help among
+/// it, is clap's error, whose text is for the user.
+pub fn mode_of<'a>(alloc: Global, words: &'a [&'a str]) -> Result<Mode<'a>, Error> {
+    let matches = command_of(alloc)?.try_get_matches_from(words)?;
+    if let Some(found) = matches.subcommand_matches("replay") {
+        return Ok(Mode::Replay(found_of(found)));
+    }
+    if let Some(found) = matches.subcommand_matches("threads") {
+        return Ok(Mode::Threads(found_of(found), pace_of(found)));
+    }
+    match matches.subcommand_matches("scan") {
+        Some(found) => Ok(Mode::Scan(dir_of(found))),
+        None => Ok(Mode::Scan(None)),
     }
 }
 

@@ -1,6 +1,6 @@
 //! What is printed: words, pages, entries and dumps. No memory is taken.
 
-use bw_codec::{Leaf, Record, Value};
+use bw_codec::{Key, Leaf, Record, Value};
 use bw_store::Entry;
 use std::io::{self, Write};
 
@@ -33,6 +33,13 @@ pub fn write_word<W: Write>(output: &mut W, bytes: &[u8]) -> io::Result<()> {
     write_hex(output, bytes)
 }
 
+/// A key, `=` and its value.
+fn write_pair<W: Write>(output: &mut W, key: &Key, value: &Value) -> io::Result<()> {
+    write_word(output, key.as_slice())?;
+    output.write_all(b"=")?;
+    write_word(output, value.as_slice())
+}
+
 /// A page's line.
 pub fn write_page<W: Write>(output: &mut W, leaf: &Leaf) -> io::Result<()> {
     write!(output, "page {} low ", leaf.page)?;
@@ -40,11 +47,19 @@ pub fn write_page<W: Write>(output: &mut W, leaf: &Leaf) -> io::Result<()> {
     write!(output, " pairs {}", leaf.pairs.as_slice().len())?;
     for (key, value) in leaf.pairs.as_slice() {
         output.write_all(b" ")?;
-        write_word(output, key.as_slice())?;
-        output.write_all(b"=")?;
-        write_word(output, value.as_slice())?;
+        write_pair(output, key, value)?;
     }
     output.write_all(b"\n")
+}
+
+/// The number of pairs, and a line for each.
+pub fn write_pairs<W: Write>(output: &mut W, pairs: &[(Key, Value)]) -> io::Result<()> {
+    writeln!(output, "pairs {}", pairs.len())?;
+    for (key, value) in pairs {
+        write_pair(output, key, value)?;
+        output.write_all(b"\n")?;
+    }
+    Ok(())
 }
 
 /// The line of a key's value.

@@ -6,12 +6,13 @@ use crate::refusal::Refusal;
 use crate::replay::replay;
 use crate::scan::{scan, scan_folder};
 use crate::stop::Stop;
-use crate::system::System;
+use crate::system::Host;
+use crate::threads::threads;
 use clap::Error;
 use std::io::{self, Read, Write};
 
 /// Does what the command line asks for.
-fn start<R: System, I: Read, O: Write>(
+fn start<R: Host, I: Read, O: Write>(
     rt: &R,
     mode: &Mode<'_>,
     input: &mut I,
@@ -19,6 +20,7 @@ fn start<R: System, I: Read, O: Write>(
 ) -> Result<bool, Stop> {
     match mode {
         Mode::Replay(options) => replay(rt, options, input, output),
+        Mode::Threads(options, pace) => threads(rt, options, *pace, input, output),
         Mode::Scan(None) => scan(rt, input, output),
         Mode::Scan(Some(path)) => scan_folder(rt, *path, output),
     }
@@ -71,10 +73,10 @@ fn status_of<O: Write, E: Write>(
 }
 
 /// Runs the program on the words after its name, and answers its exit status: 0; 2 where the words
-/// are no command line; 3 at a fault of the script; 4 where something was refused; 5 at once where
-/// a growth was refused; 6 where a read or a write failed. The outputs are flushed before it
-/// answers.
-pub fn run<R: System, I: Read, O: Write, E: Write>(
+/// are no command line; 3 at a fault of the script; 4 where something was refused or a writer gave
+/// up; 5 at once where a growth was refused; 6 where a read or a write failed. The outputs are
+/// flushed before it answers.
+pub fn run<R: Host, I: Read, O: Write, E: Write>(
     rt: &R,
     words: &[&str],
     input: &mut I,

@@ -1,6 +1,6 @@
 //! `bwlog replay`: a script over one store, line by line.
 
-ghost use Rattle.std.specs.Prelude.{IfOk};
+ghost use Rattle.std.specs.Prelude.{◌≡◌, vec_len, IfOk};
 ghost use Rattle.bwlog.specs.Session.{IsReady, IsReadyBeside};
 
 use crate::answers::answer;
@@ -72,7 +72,7 @@ fn joined(end: Result<bool, Stop>, answer: Result<bool, Stop>) -> Result<bool, S
 
 /// A new store where all segments are new, and else the one that they hold, of which the two lines
 /// of a scan are printed.
-fn begin<R: System, O: Write>(
+pub fn begin<R: System, O: Write>(
     rt: &R,
     options: &Options<'_>,
     boxes: Vec<Box<dyn Segment>>,
@@ -82,7 +82,8 @@ fn begin<R: System, O: Write>(
     output: &mut O,
 ) -> Result<Session, Miss>
     requires { Unit {0} }
-    ensures { IfOk result (λ s. IsReadyBeside s holding) }
+    ensures ready { IfOk result (λ s. IsReadyBeside s holding) }
+    ensures writers { IfOk result (λ s. vec_len s.feeds ≡ options.now.writers) }
 {
     if are_new {
         return Ok(Session::open(rt, options, boxes, desk, home)?);

@@ -182,9 +182,8 @@ pub fn are_printable(line: &[u8]) -> bool {
     line.iter().all(|byte| matches!(*byte, 0x20..=0x7e))
 }
 
-/// What a line asks for, where there are so many writers: nothing where it is empty or begins with
-/// `#`, whatever its length.
-pub fn parse(line: &[u8], writers: u16) -> Result<Option<Command>, Fault> {
+/// A line as text: nothing where it is empty or begins with `#`, whatever its length.
+fn text_of(line: &[u8]) -> Result<Option<&str>, Fault> {
     if line.is_empty() || line.starts_with(b"#") {
         return Ok(None);
     }
@@ -195,7 +194,29 @@ pub fn parse(line: &[u8], writers: u16) -> Result<Option<Command>, Fault> {
         return Err(Fault::BadByte);
     }
     match std::str::from_utf8(line) {
-        Ok(text) => Ok(Some(command_of(text, writers)?)),
+        Ok(text) => Ok(Some(text)),
         Err(_) => Err(Fault::BadByte),
+    }
+}
+
+/// What a line asks for, where there are so many writers; nothing where it is skipped.
+pub fn parse(line: &[u8], writers: u16) -> Result<Option<Command>, Fault> {
+    match text_of(line)? {
+        Some(text) => Ok(Some(command_of(text, writers)?)),
+        None => Ok(None),
+    }
+}
+
+/// A writer and its record, where a line may ask for nothing else; nothing where it is skipped.
+pub fn parse_record(line: &[u8], writers: u16) -> Result<Option<(u16, Record)>, Fault> {
+    let Some(text) = text_of(line)? else {
+        return Ok(None);
+    };
+    match text.split_whitespace().next().unwrap_or("") {
+        "put" | "del" => match command_of(text, writers)? {
+            Command::Put(writer, op) => Ok(Some((writer, op))),
+            _ => Err(Fault::UnknownCommand),
+        },
+        _ => Err(Fault::UnknownCommand),
     }
 }

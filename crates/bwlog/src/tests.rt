@@ -7,9 +7,10 @@ mod lengths;
 mod scans;
 mod scripts;
 mod streams;
+mod writers;
 
 use crate::program::run;
-use crate::system::System;
+use crate::system::Host;
 use std::alloc::{AllocError, Global};
 use std::io::Read;
 
@@ -29,6 +30,10 @@ enum Row {
     Records(&'static [&'static str], usize, &'static str),
     /// The words of a command line, a script, its exit status, and what it prints.
     Under(&'static [&'static str], &'static str, u8, &'static str),
+    /// The words of a command line, a script of one fault, and what is told. Nothing is printed.
+    UnderFault(&'static [&'static str], &'static str, &'static str),
+    /// The words of a command line, so many times a line, its exit status, and what is printed.
+    Repeated(&'static [&'static str], &'static str, usize, u8, &'static str),
     /// Words that are no command line.
     NoParse(&'static [&'static str]),
 }
@@ -41,7 +46,7 @@ fn are_so(printed: &[u8], output: &str, told: &[u8], errors: &str) -> bool {
 }
 
 /// Whether a run ends with this status, prints this and tells that.
-fn ends<R: System, I: Read>(
+fn ends<R: Host, I: Read>(
     rt: &R,
     words: &[&str],
     input: &mut I,
@@ -57,7 +62,7 @@ fn ends<R: System, I: Read>(
 }
 
 /// Whether words are answered with status 2, nothing printed and something told.
-fn is_no_parse<R: System>(rt: &R, words: &[&str]) -> bool {
+fn is_no_parse<R: Host>(rt: &R, words: &[&str]) -> bool {
     let mut input = b"flush\n".as_slice();
     let mut printed = Vec::new(rt.alloc());
     let mut told = Vec::new(rt.alloc());
@@ -81,18 +86,18 @@ fn around(
     Ok(script)
 }
 
-/// So many times a line, and a flush.
-fn flushed(alloc: Global, line: &[u8], count: usize) -> Result<Vec<u8>, AllocError> {
+/// So many times a line, and a last one.
+fn repeated(alloc: Global, line: &[u8], count: usize, last: &str) -> Result<Vec<u8>, AllocError> {
     let mut script = Vec::new(alloc);
     for _ in 0..count {
         script.extend_from_slice(line)?;
     }
-    script.extend_from_slice(b"flush\n")?;
+    script.extend_from_slice(last.as_bytes())?;
     Ok(script)
 }
 
 /// Whether what a script prints ends so.
-fn prints_last<R: System>(rt: &R, words: &[&str], script: &[u8], output: &str) -> bool {
+fn prints_last<R: Host>(rt: &R, words: &[&str], script: &[u8], output: &str) -> bool {
     let mut input = script;
     let mut printed = Vec::new(rt.alloc());
     let mut told = Vec::new(rt.alloc());
@@ -101,19 +106,19 @@ fn prints_last<R: System>(rt: &R, words: &[&str], script: &[u8], output: &str) -
 }
 
 /// Whether the flush of so many records answers so.
-fn flush_answers<R: System>(
+fn flush_answers<R: Host>(
     rt: &R,
     words: &[&str],
     count: usize,
     output: &str,
 ) -> Result<bool, AllocError> {
     let line = around(rt.alloc(), "put 0 k ", b'v', 128, "\n")?;
-    let script = flushed(rt.alloc(), line.as_slice(), count)?;
+    let script = repeated(rt.alloc(), line.as_slice(), count, "flush\n")?;
     Ok(prints_last(rt, words, script.as_slice(), output))
 }
 
 /// Whether the row goes as told.
-fn goes<R: System>(rt: &R, row: &Row) -> Result<bool, AllocError> {
+fn goes<R: Host>(rt: &R, row: &Row) -> Result<bool, AllocError> {
     match row {
         Row::Prints(script, status, output) => {
             Ok(ends(rt, &PLAIN, &mut script.as_bytes(), *status, output, ""))
@@ -133,12 +138,19 @@ fn goes<R: System>(rt: &R, row: &Row) -> Result<bool, AllocError> {
         Row::Under(words, script, status, output) => {
             Ok(ends(rt, words, &mut script.as_bytes(), *status, output, ""))
         }
+        Row::UnderFault(words, script, errors) => {
+            Ok(ends(rt, words, &mut script.as_bytes(), 3, "", errors))
+        }
+        Row::Repeated(words, line, count, status, output) => {
+            let script = repeated(rt.alloc(), line.as_bytes(), *count, "")?;
+            Ok(ends(rt, words, &mut script.as_slice(), *status, output, ""))
+        }
         Row::NoParse(words) => Ok(is_no_parse(rt, words)),
     }
 }
 
 /// How many of the rows went as told before one did not.
-fn walked<R: System>(rt: &R, rows: &[Row]) -> Result<usize, AllocError> {
+fn walked<R: Host>(rt: &R, rows: &[Row]) -> Result<usize, AllocError> {
     for (i, row) in rows.iter().enumerate() {
         if !goes(rt, row)? {
             return Ok(i);

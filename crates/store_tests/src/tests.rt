@@ -8,6 +8,7 @@ mod opening;
 mod putting;
 mod readers;
 mod reading;
+mod readme;
 mod reopening;
 mod settling;
 mod steps;

@@ -4,18 +4,30 @@ use super::{Row, walked};
 use std::test::*;
 
 /// What is no parse, and limits at the ends of their ranges.
-const COMMAND_LINES: [Row; 35] = [
+const COMMAND_LINES: [Row; 47] = [
     Row::NoParse(&[]),
     Row::NoParse(&[""]),
     Row::NoParse(&["--help"]),
     Row::NoParse(&["help"]),
-    Row::NoParse(&["threads"]),
+    Row::NoParse(&["threads", "--help"]),
+    Row::NoParse(&["threads", "word"]),
+    Row::NoParse(&["threads", "--dir"]),
+    Row::NoParse(&["threads", "--writers=65"]),
+    Row::NoParse(&["threads", "--segments=1"]),
+    Row::NoParse(&["threads", "--limit=0"]),
+    Row::NoParse(&["threads", "--limit=4097"]),
+    Row::NoParse(&["threads", "--flush-every=0"]),
+    Row::NoParse(&["threads", "--flush-every=4097"]),
+    Row::NoParse(&["threads", "--clean-at=65"]),
+    Row::NoParse(&["threads", "--tries=0"]),
+    Row::NoParse(&["threads", "--tries=1000000001"]),
     Row::NoParse(&["scan", "--m=4"]),
     Row::NoParse(&["scan", "word"]),
     Row::NoParse(&["scan", "--dir"]),
     Row::NoParse(&["replay", "--dir"]),
     Row::NoParse(&["replay", "--help"]),
     Row::NoParse(&["replay", "--nothing"]),
+    Row::NoParse(&["replay", "--limit=64"]),
     Row::NoParse(&["replay", "word"]),
     Row::NoParse(&["replay", "--writers=0"]),
     Row::NoParse(&["replay", "--writers=65"]),

@@ -1,7 +1,7 @@
 //! Runs one after the other over one folder: what a run leaves, the next one finds.
 
-use super::ends;
-use crate::system::System;
+use super::{ends, prints_last};
+use crate::system::Host;
 use bw_file::Folder;
 use std::fs::{self, OpenOptions};
 use std::io;
@@ -12,7 +12,9 @@ use std::test::*;
 enum Step {
     /// A run: words, script, exit status, what is printed, what is told.
     Run(&'static [&'static str], &'static str, u8, &'static str, &'static str),
-    /// The same while somebody has the folder open.
+    /// A run: words, script, how what is printed ends. Nothing is told.
+    Last(&'static [&'static str], &'static str, &'static str),
+    /// A run without a script while somebody has the folder open: words, exit status, what is told.
     Beside(&'static [&'static str], u8, &'static str),
     /// The folder is made.
     Make(&'static str),
@@ -24,7 +26,7 @@ enum Step {
     Holds(&'static str, &'static str),
 }
 
-use Step::{Beside, Holds, Lengthen, Make, Run, Write};
+use Step::{Beside, Holds, Last, Lengthen, Make, Run, Write};
 
 /// What was flushed is there again, what was not is gone; a scan changes nothing.
 const KEPT: [Step; 6] = [
@@ -103,8 +105,96 @@ const GIVEN_UP: [Step; 4] = [
     ),
 ];
 
+/// What writers put is there again. A script with a fault makes no folder. With three turns at most
+/// there is no flush but the last.
+const WRITTEN: [Step; 6] = [
+    Run(
+        &["threads", "--dir", "written"],
+        "put 0 k v\nput 2 k v\n",
+        3,
+        "",
+        "script line 2: bad number\n",
+    ),
+    Run(
+        &["scan", "--dir", "written"],
+        "",
+        6,
+        "",
+        "folder written: No such file or directory (os error 2)\n",
+    ),
+    Run(
+        &["threads", "--dir", "written", "--tries=3"],
+        "put 0 k v\nput 1 j w\n",
+        0,
+        "entries 2\nwriter 0 1 of 1\nwriter 1 1 of 1\npairs 2\nj=w\nk=v\n",
+        "",
+    ),
+    Run(
+        &["scan", "--dir", "written"],
+        "",
+        0,
+        "segments 1 spares 31 dropped 0\nframes 1 1 tail 0\npage 1 low 0x pairs 2 j=w k=v\n",
+        "",
+    ),
+    Run(
+        &["threads", "--dir", "written", "--tries=3", "--writers=1"],
+        "put 0 a 1\ndel 0 j\n",
+        0,
+        "segments 1 spares 31 dropped 0\nframes 1 1 tail 0\n\
+         entries 2\nwriter 0 2 of 2\npairs 2\na=1\nk=v\n",
+        "",
+    ),
+    Run(
+        &["replay", "--dir", "written"],
+        "page 1\n",
+        0,
+        "segments 1 spares 31 dropped 0\nframes 1 2 tail 0\npage 1 low 0x pairs 2 a=1 k=v\n",
+        "",
+    ),
+];
+
+/// The files of the segments that a run gave up are empty at its end. Of three records through one
+/// place two at least are taken by turns, and each of these is followed by a cleaning, as long as
+/// two segments are live.
+const TENDED: [Step; 6] = [
+    Run(
+        &["replay", "--dir", "tended"],
+        "put 0 k 1\nflush\nroll\nput 0 j 2\nflush\nroll\nput 0 i 3\nflush\nsegments\n",
+        0,
+        "ok\nframe 1\nrolled\nok\nframe 2\nrolled\nok\nframe 3\n\
+         segment 1 lease 0 bytes 76\nsegment 2 lease 1 bytes 68\nsegment 3 lease 2 bytes 68\n\
+         spares 1\n",
+        "",
+    ),
+    Run(
+        &[
+            "threads",
+            "--dir",
+            "tended",
+            "--writers=1",
+            "--places=1",
+            "--segments=2",
+            "--flush-every=1",
+            "--clean-at=2",
+        ],
+        "put 0 a 4\nput 0 j 5\nput 0 b 6\n",
+        0,
+        "segments 3 spares 1 dropped 0\nframes 1 3 tail 0\n\
+         entries 3\nwriter 0 3 of 3\npairs 5\na=4\nb=6\ni=3\nj=5\nk=1\n",
+        "",
+    ),
+    Holds("tended/segment-0000.bw", ""),
+    Holds("tended/segment-0001.bw", ""),
+    Holds("tended/segment-0003.bw", ""),
+    Last(
+        &["replay", "--dir", "tended"],
+        "page 1\npage 2\nleases\nget k\n",
+        "page 1 low 0x pairs 2 a=4 b=6\npage 2 low i pairs 3 i=3 j=5 k=1\nout 0 1 2 3\nvalue 1\n",
+    ),
+];
+
 /// A folder's own limits go before the options; spares have the capacity of the options.
-const LIMITS: [Step; 5] = [
+const LIMITS: [Step; 6] = [
     Run(
         &[
             "replay",
@@ -137,14 +227,26 @@ const LIMITS: [Step; 5] = [
     ),
     Beside(&["replay", "--dir", "limits"], 6, "folder limits: in use\n"),
     Beside(&["scan", "--dir", "limits"], 6, "folder limits: in use\n"),
+    Beside(
+        &["threads", "--dir", "limits"],
+        6,
+        "folder limits: in use\n",
+    ),
 ];
 
 /// Files that no store left: nothing is changed.
-const HOSTILE: [Step; 11] = [
+const HOSTILE: [Step; 12] = [
     Make("hostile"),
     Write("hostile/segment-0001.bw", "This is no segment of a log."),
     Run(
         &["replay", "--dir", "hostile"],
+        "put 0 k v\n",
+        4,
+        "refused E13 BadBytes segment 1 at 0\n",
+        "",
+    ),
+    Run(
+        &["threads", "--dir", "hostile", "--segments=2"],
         "put 0 k v\n",
         4,
         "refused E13 BadBytes segment 1 at 0\n",
@@ -226,18 +328,18 @@ const UNOPENED: [Step; 7] = [
     ),
 ];
 
-fn lengthen<R: System>(rt: &R, path: &str, len: u64) -> io::Result<bool> {
+fn lengthen<R: Host>(rt: &R, path: &str, len: u64) -> io::Result<bool> {
     let file = OpenOptions::new().write(true).open(rt, path)?;
     file.set_len(len)?;
     Ok(true)
 }
 
-fn holds<R: System>(rt: &R, path: &str, text: &str) -> io::Result<bool> {
+fn holds<R: Host>(rt: &R, path: &str, text: &str) -> io::Result<bool> {
     Ok(fs::read(rt, path)?.as_slice() == text.as_bytes())
 }
 
 /// Whether a run ends so while the folder that its last word names is open here.
-fn ends_beside<R: System>(rt: &R, words: &[&str], status: u8, errors: &str) -> bool {
+fn ends_beside<R: Host>(rt: &R, words: &[&str], status: u8, errors: &str) -> bool {
     let path = words.last().copied().unwrap_or("");
     match Folder::open(rt, path) {
         Ok(_held) => ends(rt, words, &mut b"".as_slice(), status, "", errors),
@@ -246,11 +348,12 @@ fn ends_beside<R: System>(rt: &R, words: &[&str], status: u8, errors: &str) -> b
 }
 
 /// Whether the step goes as told.
-fn goes<R: System>(rt: &R, step: &Step) -> io::Result<bool> {
+fn goes<R: Host>(rt: &R, step: &Step) -> io::Result<bool> {
     match step {
         Run(words, script, status, output, errors) => {
             Ok(ends(rt, words, &mut script.as_bytes(), *status, output, errors))
         }
+        Last(words, script, output) => Ok(prints_last(rt, words, script.as_bytes(), output)),
         Beside(words, status, errors) => Ok(ends_beside(rt, words, *status, errors)),
         Make(path) => {
             fs::create_dir(rt, *path)?;
@@ -266,7 +369,7 @@ fn goes<R: System>(rt: &R, step: &Step) -> io::Result<bool> {
 }
 
 /// How many of the steps went as told before one did not, in a folder that was not there.
-fn walked<R: System>(rt: &R, path: &str, steps: &[Step]) -> io::Result<usize> {
+fn walked<R: Host>(rt: &R, path: &str, steps: &[Step]) -> io::Result<usize> {
     let _ = fs::remove_dir_all(rt, path);
     for (i, step) in steps.iter().enumerate() {
         if !goes(rt, step)? {
@@ -282,6 +385,8 @@ fn a_folder_keeps_what_was_flushed(rt: HostRuntime) -> Result<(), Fail> {
     assert_eq!(rt; walked(&rt, "kept", &KEPT)?, KEPT.len());
     assert_eq!(rt; walked(&rt, "given_up", &GIVEN_UP)?, GIVEN_UP.len());
     assert_eq!(rt; walked(&rt, "limits", &LIMITS)?, LIMITS.len());
+    assert_eq!(rt; walked(&rt, "written", &WRITTEN)?, WRITTEN.len());
+    assert_eq!(rt; walked(&rt, "tended", &TENDED)?, TENDED.len());
     Ok(())
 }
 

@@ -1,7 +1,7 @@
 //! Segments in hex, and what a scan prints of them.
 
 use super::ends;
-use crate::system::System;
+use crate::system::Host;
 use std::alloc::{AllocError, Global};
 use std::test::*;
 
@@ -287,7 +287,7 @@ fn input_of(alloc: Global, lines: &[Line]) -> Result<Vec<u8>, AllocError> {
 }
 
 /// Whether the row goes as told.
-fn goes<R: System>(rt: &R, row: &Row) -> Result<bool, AllocError> {
+fn goes<R: Host>(rt: &R, row: &Row) -> Result<bool, AllocError> {
     let Row(lines, status, output, errors) = row;
     let input = input_of(rt.alloc(), *lines)?;
     Ok(ends(
@@ -301,7 +301,7 @@ fn goes<R: System>(rt: &R, row: &Row) -> Result<bool, AllocError> {
 }
 
 /// How many of the rows went as told before one did not.
-fn walked<R: System>(rt: &R, rows: &[Row]) -> Result<usize, AllocError> {
+fn walked<R: Host>(rt: &R, rows: &[Row]) -> Result<usize, AllocError> {
     for (i, row) in rows.iter().enumerate() {
         if !goes(rt, row)? {
             return Ok(i);

@@ -4,7 +4,7 @@ use super::{PLAIN, ends};
 use crate::lines::Lines;
 use crate::program::run;
 use crate::script::LONGEST;
-use crate::system::System;
+use crate::system::Host;
 use std::alloc::Global;
 use std::io::{self, ErrorKind, Read, Write};
 use std::test::*;
@@ -81,7 +81,7 @@ enum Row {
 
 const TEXT: &str = "put 0 k v\nflush\npage 1\n";
 
-fn input_ends<R: System>(rt: &R, cut: usize, status: u8, output: &str, errors: &str) -> bool {
+fn input_ends<R: Host>(rt: &R, cut: usize, status: u8, output: &str, errors: &str) -> bool {
     let mut input = Failing {
         text: TEXT.as_bytes(),
         at: 0,
@@ -92,14 +92,14 @@ fn input_ends<R: System>(rt: &R, cut: usize, status: u8, output: &str, errors: &
     ends(rt, &PLAIN, &mut input, status, output, errors)
 }
 
-fn output_ends<R: System>(rt: &R, script: &str, left: usize, can_flush: bool, status: u8) -> bool {
+fn output_ends<R: Host>(rt: &R, script: &str, left: usize, can_flush: bool, status: u8) -> bool {
     let mut input = script.as_bytes();
     let mut printed = Short { left, can_flush };
     let mut told = Vec::new(rt.alloc());
     run(rt, &PLAIN, &mut input, &mut printed, &mut told) == status
 }
 
-fn errors_end<R: System>(rt: &R, word: &str, script: &str, status: u8) -> bool {
+fn errors_end<R: Host>(rt: &R, word: &str, script: &str, status: u8) -> bool {
     let mut input = script.as_bytes();
     let mut printed = Vec::new(rt.alloc());
     let mut told = Short {
@@ -136,7 +136,7 @@ fn reads_end(alloc: Global, reads: u64, is_enough: bool) -> io::Result<bool> {
 }
 
 /// Whether the row goes as told.
-fn goes<R: System>(rt: &R, row: &Row) -> io::Result<bool> {
+fn goes<R: Host>(rt: &R, row: &Row) -> io::Result<bool> {
     match row {
         Row::Input(cut, status, output, errors) => {
             Ok(input_ends(rt, *cut, *status, output, errors))
@@ -150,7 +150,7 @@ fn goes<R: System>(rt: &R, row: &Row) -> io::Result<bool> {
 }
 
 /// How many of the rows went as told before one did not.
-fn walked<R: System>(rt: &R, rows: &[Row]) -> io::Result<usize> {
+fn walked<R: Host>(rt: &R, rows: &[Row]) -> io::Result<usize> {
     for (i, row) in rows.iter().enumerate() {
         if !goes(rt, row)? {
             return Ok(i);

@@ -2,7 +2,7 @@
 
 use super::scripts::Part;
 use super::steps::Pace;
-use super::steps::Step::{Begins, Boxes, Drives, Durable, Reads, Settles, Stops};
+use super::steps::Step::{Begins, Boxes, Drives, Durable, Learns, Reads, Settles, Stops};
 use super::walking::{Table, walked};
 use bw_drive::OpenGate;
 use bw_store::StoreFault;
@@ -26,6 +26,7 @@ const TWICE: Table = Table {
         Reads(2, 300, KEYS),
         Drives(Part(300, 200, KEYS), Pace(1, 1, 0, MANY), 200, 200),
         Reads(2, 500, KEYS),
+        Learns(2, 500, KEYS),
         Boxes(8, 8),
     ],
 };

@@ -5,7 +5,7 @@ ghost use Rattle.bw_store.specs.Views.{kept_by, IsSound};
 
 use super::scripts::numbered;
 use bw_codec::Record;
-use bw_store::{Store, StoreFault};
+use bw_store::{Reader, Store, StoreFault};
 use std::test::Fail;
 
 // How many pairs a page has; none where there is no such page.
@@ -99,4 +99,28 @@ pub(super) fn is_split(store: &mut Store) -> Result<bool, Fail>
         next = next.saturating_add(1);
     }
     Ok(next == 2)
+}
+
+// Whether a reader has a writer's record of this number.
+fn is_seen(reader: &mut Reader, writer: usize, number: u32, keys: u32) -> bool {
+    let Record::Put(key, value) = numbered(writer, number, keys) else {
+        return false;
+    };
+    match reader.get(&key) {
+        Ok(found) => found == Some(value),
+        Err(_) => false,
+    }
+}
+
+/// Whether a new reader that learnt the last news sees the last record of each writer.
+pub(super) fn learns(store: &mut Store, writers: usize, records: u32, keys: u32) -> bool
+    requires { IsSound store.old holding }
+    ensures sound { IsSound store.new holding }
+    ensures rings { (kept_by store.new holding).rings ≡ (kept_by store.old holding).rings }
+{
+    let Ok(mut reader) = store.reader() else {
+        return false;
+    };
+    reader.learn(store.news());
+    (0..writers).all(|writer| is_seen(&mut reader, writer, records.saturating_sub(1), keys))
 }

@@ -4,7 +4,7 @@ ghost use Rattle.std.specs.Prelude.{◌≡◌, map, IfOk};
 ghost use Rattle.bw_ring.specs.Ends.{ring_of_feed};
 ghost use Rattle.bw_store.specs.Views.{kept_by, IsSound};
 
-use super::reading::{is_split, reads};
+use super::reading::{is_split, learns, reads};
 use super::scripts::{Part, begun, scripts};
 use bw_drive::{DriveFault, Driven, Gate, Plan, drive};
 use bw_ring::Feed;
@@ -41,11 +41,14 @@ pub(super) enum Step {
     /// All pages together have the last value of each key of the first so many records of so many
     /// writers, and no more.
     Reads(usize, u32, u32),
+    /// A new reader that learnt the last news sees the last of the first so many records of each of
+    /// so many writers.
+    Learns(usize, u32, u32),
     /// The first page has the first two records of writer 0, and no more.
     Splits,
 }
 
-use Step::{Begins, Boxes, Drives, Durable, Reads, Settles, Splits, Stops};
+use Step::{Begins, Boxes, Drives, Durable, Learns, Reads, Settles, Splits, Stops};
 
 // Whether each writer's records in the history are all that its feed accepted: so many here, at
 // least and at most.
@@ -143,6 +146,7 @@ fn answers(store: &mut Store, step: &Step) -> Result<bool, Fail>
         }
         Splits => is_split(store),
         Reads(writers, records, keys) => reads(store, *writers, *records, *keys),
+        Learns(writers, records, keys) => Ok(learns(store, *writers, *records, *keys)),
         _ => Ok(false),
     }
 }

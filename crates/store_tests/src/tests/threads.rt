@@ -28,7 +28,7 @@ const TRIES: u32 = 50_000_000;
 
 /// The feed that comes back is an end of the ring of the feed that left.
 #[derive(Drop)]
-struct OfOneRing(Snapshot<Feed>);
+pub(super) struct OfOneRing(pub(super) Snapshot<Feed>);
 
 impl Promise<Feed> for OfOneRing {
     ghost kept_by = { λ p feed. ring_of_feed feed ≡ ring_of_feed p.0.value };

@@ -1,6 +1,10 @@
+use Rattle.std.proofs.Common.{inr}
 use Rattle.std.proofs.lemmas.Result.{err_from_is_err_and}
 use Rattle.bw_drive.proofs.Runs.{runs_none, runs_then, stops_then}
 use Rattle.bw_drive.proofs.tending.tend.Goals as goal
+
+pub returns-then-not-are_all-clause-runs : goal.returns-then-not-are_all-clause-runs
+returns-then-not-are_all-clause-runs g c = runs_none _ _
 
 pub turns-init : goal.turns-init
 turns-init g c = (c.requires.sound, runs_none _ _)
@@ -14,4 +18,4 @@ returns-in_err-turn_and_tend-clause-runs g c = runs_then _ _ _ _ c.turns.invaria
 pub returns-in_err-turn_and_tend-clause-refused : goal.returns-in_err-turn_and_tend-clause-refused
 returns-in_err-turn_and_tend-clause-refused g c =
     let p = err_from_is_err_and c.from_residual.result c.from_residual.ensures.1 in
-    rw (p.1, p.2) (stops_then _ _ _ _ c.in_err-turn_and_tend.field-0.0 c.turns.invariant.1 c.in_err-turn_and_tend.ensures.refused)
+    rw (p.1, p.2) (inr (stops_then _ _ _ _ c.in_err-turn_and_tend.field-0.0 c.turns.invariant.1 c.in_err-turn_and_tend.ensures.refused))

@@ -8,7 +8,7 @@ use Rattle.bwlog.proofs.replay.replay.Goals.{in-Ok-new, in-Err-new, in-Ok-new-2,
 use Rattle.bwlog.proofs.replay.replay.Goals.{else-lines-test, then-lines-test+then-is_err, then-lines-test+else-is_err+in-Ok-End}
 
 pub lines-init : goal.lines-init
-lines-init g c = ready_by_kind (record { first = λ _ _ _. refl; second = λ _ _ _. refl }) c.in-Ok-begin.ensures
+lines-init g c = ready_by_kind (record { first = λ _ _ _. refl; second = λ _ _ _. refl }) c.in-Ok-begin.ensures.ready
 
 pub do_line-requires : goal.do_line-requires
 do_line-requires g c = ready_from_kind (record { first = λ _ _ _. refl; second = λ _ _ _. refl }) c.lines.invariant

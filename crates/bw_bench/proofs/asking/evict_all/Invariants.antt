@@ -1,0 +1,5 @@
+use Rattle.bw_store.specs.Views.{IsSound}
+use Rattle.bw_bench.proofs.asking.evict_all.Given as goal
+
+abbrev pub invariant-pages : goal.invariant-pages
+invariant-pages g l = IsSound l.store (λ z. (goal.Segment-dyn g z).holding z.1)

@@ -1,0 +1,5 @@
+use Rattle.bw_store.specs.Views.{IsSound}
+use Rattle.bw_bench.proofs.asking.get_all.Given as goal
+
+abbrev pub invariant-gets : goal.invariant-gets
+invariant-gets g l = IsSound l.store (λ z. (goal.Segment-dyn g z).holding z.1)

@@ -1,0 +1,153 @@
+//! Records are put, turned and flushed in batches, by one writer in the store's own thread.
+
+ghost use Rattle.bw_store.specs.Views.{IsSound};
+
+use crate::stop::Stop;
+use crate::subject::Pace;
+use crate::system::System;
+use crate::watch::{Meter, since};
+use bw_codec::Record;
+use bw_ring::Feed;
+use bw_store::Store;
+use std::time::Instant;
+
+/// The nanoseconds of each part of a course.
+#[derive(Clone, Copy)]
+pub struct Cost {
+    pub puts: u64,
+    pub turns: u64,
+    pub flushes: u64,
+}
+
+impl Cost {
+    pub const NONE: Cost = Cost {
+        puts: 0,
+        turns: 0,
+        flushes: 0,
+    };
+
+    pub fn all(&self) -> u64 {
+        self.puts
+            .saturating_add(self.turns)
+            .saturating_add(self.flushes)
+    }
+
+    fn and(&self, more: Cost) -> Cost {
+        Cost {
+            puts: self.puts.saturating_add(more.puts),
+            turns: self.turns.saturating_add(more.turns),
+            flushes: self.flushes.saturating_add(more.flushes),
+        }
+    }
+}
+
+/// Puts all of a batch: the nanoseconds.
+fn put_all<R: System>(rt: &R, feed: &mut Feed, batch: &[Record]) -> Result<u64, Stop> {
+    let start = Instant::now(rt)?;
+    for item in batch {
+        if feed.put(item.copy()).is_err() {
+            return Err(Stop::Failed("a full ring"));
+        }
+    }
+    since(rt, start)
+}
+
+/// Takes so many records.
+fn take(store: &mut Store, many: u32) -> Result<(), Stop>
+    requires { IsSound store.old holding }
+    ensures { IsSound store.new holding }
+{
+    match store.turn(many) {
+        Ok(taken) => {
+            if taken == many {
+                return Ok(());
+            }
+            Err(Stop::Failed("a turn that took fewer"))
+        }
+        Err(fault) => Err(Stop::from(fault.cause)),
+    }
+}
+
+/// The same: the nanoseconds.
+fn take_all<R: System>(rt: &R, store: &mut Store, many: u32) -> Result<u64, Stop>
+    requires { IsSound store.old holding }
+    ensures { IsSound store.new holding }
+{
+    let start = Instant::now(rt)?;
+    take(store, many)?;
+    since(rt, start)
+}
+
+/// Flushes if told: the nanoseconds.
+fn flush_if<R: System>(rt: &R, store: &mut Store, is_due: bool) -> Result<u64, Stop>
+    requires { IsSound store.old holding }
+    ensures { IsSound store.new holding }
+{
+    if !is_due {
+        return Ok(0);
+    }
+    let start = Instant::now(rt)?;
+    let _ = store.flush(rt)?;
+    since(rt, start)
+}
+
+/// Puts and takes a batch, and flushes it if told.
+fn one_batch<R: System>(
+    rt: &R,
+    store: &mut Store,
+    feed: &mut Feed,
+    batch: &[Record],
+    is_due: bool,
+) -> Result<Cost, Stop>
+    requires { IsSound store.old holding }
+    ensures { IsSound store.new holding }
+{
+    let many = u32::try_from(batch.len()).unwrap_or(u32::MAX);
+    let puts = put_all(rt, feed, batch)?;
+    let turns = take_all(rt, store, many)?;
+    let flushes = flush_if(rt, store, is_due)?;
+    Ok(Cost {
+        puts,
+        turns,
+        flushes,
+    })
+}
+
+/// Puts, takes and flushes a script, so many records at once.
+pub fn put_script<R: System>(
+    rt: &R,
+    store: &mut Store,
+    feed: &mut Feed,
+    script: &[Record],
+    size: usize,
+    pace: Pace,
+    name: &'static str,
+) -> Result<Cost, Stop>
+    requires { IsSound store.old holding }
+    ensures { IsSound store.new holding }
+{
+    let mut cost = Cost::NONE;
+    let mut done = 0u64;
+    let mut meter = Meter::start(rt, name, script.len() as u64)?;
+    'batches: for batch in script.chunks(size.max(1)) {
+        cost = cost.and(one_batch(rt, store, feed, batch, pace == Pace::Batches)?);
+        done = done.saturating_add(batch.len() as u64);
+        meter.tell(rt, done)?;
+    }
+    let last = flush_if(rt, store, pace == Pace::Late)?;
+    cost.flushes = cost.flushes.saturating_add(last);
+    Ok(cost)
+}
+
+/// The bytes of all live segments.
+pub fn bytes_of(store: &Store) -> u64
+    requires { IsSound store.now holding }
+{
+    let mut bytes = 0u64;
+    'segments: for i in 0..store.live() {
+        if let Some((_, _, length)) = store.live_segment(i) {
+            bytes = bytes.saturating_add(length);
+        }
+    }
+    bytes
+}

@@ -1,0 +1,115 @@
+//! A reader in a thread of its own, which looks up while records are put.
+
+ghost use Rattle.std.specs.Prelude.{◌≡◌};
+ghost use Rattle.bw_store.specs.Views.{kept_by, IsSound};
+
+use crate::shape::Shape;
+use crate::stop::Stop;
+use crate::system::System;
+use bw_codec::Value;
+use bw_store::{Reader, Store};
+use std::thread;
+use std::thread::{JoinHandle, Threads};
+
+/// After how many look-ups the reader looks whether it is over.
+const LOOKS: u64 = 64;
+
+/// What a reader saw.
+#[derive(Clone, Copy)]
+pub struct Seen {
+    pub lookups: u64,
+    pub found: u64,
+    /// How many values no put has.
+    pub wrong: u64,
+}
+
+/// Whether a value is one of the puts of its key.
+fn is_put(shape: &Shape, put: u64, value: &Value, puts: u64) -> bool {
+    let told = shape.told(put, value);
+    match shape.value(told) {
+        Ok(expected) => told < puts && *value == expected,
+        Err(_) => false,
+    }
+}
+
+/// Whether the reader finds the value of this put, or nothing any more.
+fn is_over(reader: &mut Reader, shape: &Shape, put: u64) -> bool {
+    let (Ok(key), Ok(last)) = (shape.key(put), shape.value(put)) else {
+        return true;
+    };
+    match reader.get(&key) {
+        Ok(Some(value)) => value == last,
+        Ok(None) => false,
+        Err(_) => true,
+    }
+}
+
+/// Looks up one key after the other until the last of so many puts is there, or the store is shut.
+fn look_up(mut reader: Reader, shape: Shape, puts: u64) -> Seen {
+    let mut seen = Seen {
+        lookups: 0,
+        found: 0,
+        wrong: 0,
+    };
+    for put in 0..u64::MAX {
+        if put % LOOKS == 0 && is_over(&mut reader, &shape, puts.saturating_sub(1)) {
+            break;
+        }
+        let Ok(key) = shape.key(put) else {
+            break;
+        };
+        seen.lookups = seen.lookups.saturating_add(1);
+        if let Ok(Some(value)) = reader.get(&key) {
+            seen.found = seen.found.saturating_add(1);
+            let is_wrong = !is_put(&shape, put, &value, puts);
+            seen.wrong = seen.wrong.saturating_add(u64::from(is_wrong));
+        }
+    }
+    seen
+}
+
+/// A reader of the store that begins to look up.
+fn start<R: Threads>(
+    rt: &R,
+    reader: Reader,
+    shape: Shape,
+    puts: u64,
+) -> Result<JoinHandle<Seen>, Stop> {
+    match thread::spawn(rt, move || look_up(reader, shape, puts)) {
+        Ok(thread) => Ok(thread),
+        Err(_) => Err(Stop::Thread),
+    }
+}
+
+/// The same, if there is to be one.
+pub fn start_if<R: System>(
+    rt: &R,
+    store: &mut Store,
+    shape: &Shape,
+    puts: u64,
+    is_read: bool,
+) -> Result<Option<JoinHandle<Seen>>, Stop>
+    requires { IsSound store.old holding }
+    ensures sound { IsSound store.new holding }
+    ensures rings { (kept_by store.new holding).rings ≡ (kept_by store.old holding).rings }
+{
+    if !is_read {
+        return Ok(None);
+    }
+    let reader = store.reader()?;
+    Ok(Some(start(rt, reader, *shape, puts)?))
+}
+
+/// What the reader saw, if there is one. Where the puts were refused it is not waited for: it ends
+/// once its store is shut.
+pub fn end_if<R: System>(rt: &R, looker: Option<JoinHandle<Seen>>, are_put: bool) -> Option<Seen> {
+    match looker {
+        Some(thread) => {
+            if are_put {
+                return Some(thread.join(rt));
+            }
+            None
+        }
+        None => None,
+    }
+}

@@ -1,0 +1,99 @@
+//! Segments in memory, and a store over them.
+
+ghost use Rattle.std.specs.Prelude.{◌≡◌, map};
+ghost use Rattle.bw_ring.specs.Ends.{ring_of_feed};
+ghost use Rattle.bw_store.specs.Views.{kept_by, IsSound};
+
+use crate::alone::alone;
+use crate::driven::driven;
+use crate::options::Options;
+use crate::reopened::reopened;
+use crate::stop::Stop;
+use crate::subject::Course;
+use crate::system::System;
+use crate::watch::Meter;
+use bw_device::{Desk, MemSegment, Segment};
+use bw_ring::Feed;
+use bw_store::{Config, Store};
+
+/// How many bytes a segment has room for, all of which it takes when it is made.
+const CAPACITY: u64 = 16_777_216;
+
+/// The most bytes that a put adds to the log: a record of 8 and 128 bytes with what stands around
+/// it, and its part of a page that is cut.
+const EACH: u64 = 400;
+
+/// How many segments hold all puts, with two spares more.
+fn count_of(options: &Options<'_>) -> u32 {
+    let bytes = options.puts().saturating_mul(EACH);
+    let full = bytes / CAPACITY;
+    u32::try_from(full).unwrap_or(u32::MAX).saturating_add(4)
+}
+
+fn config_of(options: &Options<'_>, writers: u16) -> Config {
+    Config {
+        writers: usize::from(writers),
+        places: usize::from(options.batch),
+        readers: 4,
+        m: 32,
+        f: 65536,
+    }
+}
+
+/// Runs the course.
+fn go<R: System>(
+    rt: &R,
+    options: &Options<'_>,
+    course: Course,
+    store: &mut Store,
+    feeds: Vec<Feed>,
+) -> Result<(), Stop>
+    requires sound { IsSound store.old holding }
+    requires feeds { map ring_of_feed feeds.items ≡ (kept_by store.old holding).rings }
+    ensures { IsSound store.new holding }
+{
+    match course {
+        Course::Alone { pace, is_read } => alone(rt, options, store, feeds, pace, is_read),
+        Course::Driven { is_read, .. } => driven(rt, options, store, feeds, is_read),
+    }
+}
+
+/// Runs the course over a store of these boxes, and then goes on from the live ones.
+fn over<R: System>(
+    rt: &R,
+    options: &Options<'_>,
+    course: Course,
+    boxes: Vec<Box<dyn Segment>>,
+) -> Result<(), Stop> {
+    let writers = match course {
+        Course::Alone { .. } => 1,
+        Course::Driven { writers, .. } => writers,
+    };
+    let config = config_of(options, writers);
+    let (mut store, feeds) = match Store::open(rt, rt.alloc(), &config, boxes) {
+        Ok(opened) => opened,
+        Err(fault) => return Err(Stop::from(fault.cause)),
+    };
+    let went = go(rt, options, course, &mut store, feeds);
+    let (live, _spares) = store.shut(rt);
+    went?;
+    let meter = Meter::start(rt, "open", 1)?;
+    reopened(rt, options, meter, live)
+}
+
+/// Makes the boxes of a course, and runs it. A function that takes or gives a box, or a store,
+/// makes none.
+pub fn over_memory<R: System>(rt: &R, options: &Options<'_>, course: Course) -> Result<(), Stop> {
+    let alloc = rt.alloc();
+    let many = count_of(options);
+    let mut desk = Desk::new(alloc, many)?;
+    let mut boxes: Vec<Box<dyn Segment>> = Vec::new(alloc);
+    for _ in 0..many {
+        let lease = desk.take()?;
+        match MemSegment::new(alloc, lease, CAPACITY) {
+            Ok(segment) => boxes.push(Box::new(alloc, segment)?)?,
+            Err(refused) => return Err(Stop::from(refused.cause)),
+        }
+    }
+    over(rt, options, course, boxes)
+}

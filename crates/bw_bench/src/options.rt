@@ -1,0 +1,124 @@
+//! The command line, read by `clap`. Nothing else of the program stands here.
+
+use crate::shape::Shape;
+use clap::error::ErrorKind;
+use clap::{Arg, ArgMatches, Command, Error};
+use std::alloc::{AllocError, Global};
+
+/// What a run does.
+#[derive(Clone, Copy)]
+pub struct Options<'a> {
+    /// How many keys there are, 1 to 10,000,000.
+    pub keys: u32,
+    /// How many bytes a value has, 8 to 128.
+    pub value_length: u16,
+    /// How many updates and gets there are, 1 to 10,000,000.
+    pub operations: u32,
+    /// How many records a ring holds, a turn takes, and a frame has at most: 1 to 4,096.
+    pub batch: u16,
+    /// How many writers there are in threads of their own, 1 to 64.
+    pub writers: u16,
+    /// Whether times are printed.
+    pub times: bool,
+    /// The one subject that is run.
+    pub only: Option<&'a str>,
+}
+
+impl Options<'_> {
+    /// The keys and values.
+    pub fn shape(&self) -> Shape {
+        Shape {
+            keys: u64::from(self.keys),
+            value_length: usize::from(self.value_length),
+        }
+    }
+
+    /// How many puts there are, of new keys and of old ones.
+    pub fn puts(&self) -> u64 {
+        u64::from(self.keys).saturating_add(u64::from(self.operations))
+    }
+}
+
+const SUBJECTS: &str = "one of pages, alone, beside, late, one, one-beside, many and many-beside";
+
+/// Keys, values and operations.
+fn with_shape<'a>(alloc: Global, command: Command<'a>) -> Result<Command<'a>, AllocError> {
+    let keys = Arg::new(alloc, "keys")
+        .long("keys")
+        .help("how many keys of 8 bytes there are")
+        .value_parser(clap::value_parser!(u32).range(1..=10_000_000))
+        .default_value("1000");
+    let value_length = Arg::new(alloc, "value-length")
+        .long("value-length")
+        .help("how many bytes a value has")
+        .value_parser(clap::value_parser!(u16).range(8..=128))
+        .default_value("100");
+    let operations = Arg::new(alloc, "operations")
+        .long("operations")
+        .help("how many updates and gets there are")
+        .value_parser(clap::value_parser!(u32).range(1..=10_000_000))
+        .default_value("1000");
+    command.arg(keys)?.arg(value_length)?.arg(operations)
+}
+
+/// Batches and writers.
+fn with_pace<'a>(alloc: Global, command: Command<'a>) -> Result<Command<'a>, AllocError> {
+    let batch = Arg::new(alloc, "batch")
+        .long("batch")
+        .help("how many records are put, turned and flushed together")
+        .value_parser(clap::value_parser!(u16).range(1..=4096))
+        .default_value("64");
+    let writers = Arg::new(alloc, "writers")
+        .long("writers")
+        .help("how many writers there are in threads of their own")
+        .value_parser(clap::value_parser!(u16).range(1..=64))
+        .default_value("4");
+    command.arg(batch)?.arg(writers)
+}
+
+/// What is printed, and of which subject.
+fn with_choice<'a>(alloc: Global, command: Command<'a>) -> Result<Command<'a>, AllocError> {
+    let times = Arg::new(alloc, "times")
+        .long("times")
+        .help("prints nanoseconds and bytes")
+        .action(clap::ArgAction::SetTrue);
+    let only = Arg::new(alloc, "only")
+        .long("only")
+        .value_name("SUBJECT")
+        .help(SUBJECTS);
+    command.arg(times)?.arg(only)
+}
+
+/// What was named by an option.
+fn named<'a>(found: &ArgMatches<'a>, option: &str) -> Option<&'a str> {
+    match found.get_raw(option) {
+        Some(words) => words.first().copied(),
+        None => None,
+    }
+}
+
+/// What the words after the program's name ask for. What they do not give as a parse, help among
+/// it, is clap's error, whose text is for the user.
+pub fn options_of<'a>(alloc: Global, words: &'a [&'a str]) -> Result<Options<'a>, Error> {
+    let command = Command::new(alloc, "bw_bench")
+        .about("Times the page store, and reads back what was put")
+        .no_binary_name(true);
+    let command = with_shape(alloc, command)?;
+    let command = with_pace(alloc, command)?;
+    let command = with_choice(alloc, command)?;
+    let found = command.try_get_matches_from(words)?;
+    Ok(Options {
+        keys: found.get_one("keys").unwrap_or(0),
+        value_length: found.get_one("value-length").unwrap_or(0),
+        operations: found.get_one("operations").unwrap_or(0),
+        batch: found.get_one("batch").unwrap_or(0),
+        writers: found.get_one("writers").unwrap_or(0),
+        times: found.get_flag("times"),
+        only: named(&found, "only"),
+    })
+}
+
+/// Whether clap had too little memory.
+pub fn is_memory(error: &Error) -> bool {
+    error.kind() == ErrorKind::OutOfMemory
+}

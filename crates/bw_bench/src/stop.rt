@@ -1,0 +1,98 @@
+//! What ends a run before its end.
+
+use bw_codec::LengthError;
+use bw_device::{NotMade, NotTaken};
+use bw_store::{ReadFault, StoreFault};
+use std::alloc::{AllocError, AllocFailed};
+use std::io;
+use thiserror::Error;
+
+#[derive(Debug, Drop, Error)]
+pub enum Stop {
+    /// The command line is no parse. Its text was printed.
+    #[error("see --help")]
+    Usage,
+    #[error("out of memory")]
+    NoMemory,
+    /// The store, its log or its segments refused.
+    #[error("refused: {0}")]
+    Refused(StoreFault),
+    /// Something else was refused.
+    #[error("refused: {0}")]
+    Failed(&'static str),
+    /// So many keys read back otherwise than they were put.
+    #[error("wrong values: {0}")]
+    Wrong(u64),
+    /// The clock, or a write.
+    #[error("the clock or an output failed")]
+    Output,
+    #[error("no thread could be made")]
+    Thread,
+}
+
+impl Stop {
+    /// The exit status.
+    pub fn status(&self) -> u8 {
+        match self {
+            Stop::Wrong(_) => 1,
+            Stop::Usage => 2,
+            Stop::Refused(_) | Stop::Failed(_) => 4,
+            Stop::NoMemory => 5,
+            Stop::Output | Stop::Thread => 6,
+        }
+    }
+}
+
+impl From<AllocError> for Stop {
+    fn from(_error: AllocError) -> Stop {
+        Stop::NoMemory
+    }
+}
+
+impl<T: Drop> From<AllocFailed<T>> for Stop {
+    fn from(_error: AllocFailed<T>) -> Stop {
+        Stop::NoMemory
+    }
+}
+
+impl From<io::Error> for Stop {
+    fn from(_error: io::Error) -> Stop {
+        Stop::Output
+    }
+}
+
+impl From<StoreFault> for Stop {
+    fn from(fault: StoreFault) -> Stop {
+        match fault {
+            StoreFault::NoMemory => Stop::NoMemory,
+            other => Stop::Refused(other),
+        }
+    }
+}
+
+impl From<ReadFault> for Stop {
+    fn from(_fault: ReadFault) -> Stop {
+        Stop::Failed("a reader")
+    }
+}
+
+impl From<LengthError> for Stop {
+    fn from(_error: LengthError) -> Stop {
+        Stop::Failed("a length")
+    }
+}
+
+impl From<NotMade> for Stop {
+    fn from(error: NotMade) -> Stop {
+        match error {
+            NotMade::NoMemory => Stop::NoMemory,
+            NotMade::BadConfig => Stop::Failed("a segment or a desk"),
+        }
+    }
+}
+
+impl From<NotTaken> for Stop {
+    fn from(_error: NotTaken) -> Stop {
+        Stop::Failed("a lease")
+    }
+}

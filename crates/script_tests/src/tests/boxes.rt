@@ -1,0 +1,34 @@
+//! Boxes of one capacity.
+
+use bw_device::{Desk, FuseSegment, MemSegment, Segment};
+use std::alloc::Global;
+use std::test::Fail;
+
+/// So many boxes.
+pub(super) fn fill(
+    alloc: Global,
+    desk: &mut Desk,
+    many: u32,
+    capacity: u64,
+    boxes: &mut Vec<Box<dyn Segment>>,
+) -> Result<(), Fail> {
+    for _ in 0..many {
+        let segment = MemSegment::new(alloc, desk.take()?, capacity)?;
+        boxes.push(Box::new(alloc, segment)?)?;
+    }
+    Ok(())
+}
+
+/// A box that fails once, after so many calls.
+pub(super) fn fuse(
+    alloc: Global,
+    desk: &mut Desk,
+    calls: u64,
+    keep: u64,
+    capacity: u64,
+    boxes: &mut Vec<Box<dyn Segment>>,
+) -> Result<(), Fail> {
+    let inner = MemSegment::new(alloc, desk.take()?, capacity)?;
+    boxes.push(Box::new(alloc, FuseSegment::new(inner, calls, keep))?)?;
+    Ok(())
+}

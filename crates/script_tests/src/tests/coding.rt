@@ -1,0 +1,49 @@
+//! Keys and values as numbers.
+
+use bw_codec::{Key, Value};
+use std::test::Fail;
+
+/// The key of a number, below 131,072: in the order of the numbers, and each even one's key is a
+/// beginning of the next one's.
+pub(super) fn key_of(number: u32) -> Result<Key, Fail> {
+    let [_, _, high, low] = (number / 2).to_be_bytes();
+    if number % 2 == 0 {
+        Ok(Key::new(&[b'k', high, low])?)
+    } else {
+        Ok(Key::new(&[b'k', high, low, b'+'])?)
+    }
+}
+
+/// The number of a key.
+pub(super) fn number_of(key: &[u8]) -> Option<u32> {
+    match key {
+        [b'k', high, low] => Some(u32::from_be_bytes([0, 0, *high, *low]).saturating_mul(2)),
+        [b'k', high, low, b'+'] => {
+            let half = u32::from_be_bytes([0, 0, *high, *low]);
+            Some(half.saturating_mul(2).saturating_add(1))
+        }
+        _ => None,
+    }
+}
+
+/// The value of a number: its four bytes, and up to 124 more.
+pub(super) fn value_of(number: u32) -> Result<Value, Fail> {
+    let [a, b, c, d] = number.to_be_bytes();
+    let mut bytes = [d; 128];
+    bytes[0] = a;
+    bytes[1] = b;
+    bytes[2] = c;
+    Ok(Value::new(&bytes[..4 + (number % 125) as usize])?)
+}
+
+/// The number of a value.
+pub(super) fn number_in(value: &Value) -> Result<Option<u32>, Fail> {
+    let [a, b, c, d, ..] = value.as_slice() else {
+        return Ok(None);
+    };
+    let number = u32::from_be_bytes([*a, *b, *c, *d]);
+    if value_of(number)? == *value {
+        return Ok(Some(number));
+    }
+    Ok(None)
+}

@@ -1,0 +1,134 @@
+//! A segment fails in a cleaning, and the store goes on from its boxes: the tables.
+
+use super::boxes::{fill, fuse};
+use super::living::{Table, lives, lives_on, script_of};
+use super::steps::Step;
+use super::steps::Step::{Ask, Break, Clean, Del, Flush, Put, Reads, Roll, Settle, Turn};
+use super::walking::Rounds;
+use bw_device::{Desk, Segment};
+use std::sync::Wait;
+use std::test::Fail;
+
+const RECORDS: [Step; 6] = [Put, Put, Put, Put, Del, Turn(12)];
+
+const DECK: [Step; 9] = [Put, Put, Put, Del, Turn(6), Turn(20), Flush, Roll, Clean];
+
+/// What a cleaning writes again has more than one frame; the segment that may fail takes it behind
+/// a header and a frame.
+const NOTHING_WAITS: [Rounds; 2] = [
+    Rounds {
+        rounds: 1,
+        drawn: 500,
+        deck: &RECORDS,
+        then: &[Settle, Roll],
+    },
+    Rounds {
+        rounds: 1,
+        drawn: 4,
+        deck: &RECORDS,
+        then: &[Settle, Break, Ask, Reads],
+    },
+];
+
+/// Some records are taken and not flushed when the cleaning begins.
+const SOME_WAIT: [Rounds; 3] = [
+    Rounds {
+        rounds: 1,
+        drawn: 100,
+        deck: &RECORDS,
+        then: &[Settle, Roll],
+    },
+    Rounds {
+        rounds: 1,
+        drawn: 4,
+        deck: &RECORDS,
+        then: &[Settle],
+    },
+    Rounds {
+        rounds: 1,
+        drawn: 12,
+        deck: &[Put],
+        then: &[Turn(u32::MAX), Break, Ask, Reads],
+    },
+];
+
+/// The second life.
+const AGAIN: [Rounds; 2] = [
+    Rounds {
+        rounds: 1,
+        drawn: 60,
+        deck: &DECK,
+        then: &[Reads],
+    },
+    Rounds {
+        rounds: 1,
+        drawn: 0,
+        deck: &[],
+        then: &[Settle],
+    },
+];
+
+const TABLE: Table = Table {
+    seed: 41,
+    m: 32,
+    keys: 600,
+    are_shared: false,
+    places: 16,
+    boxes: 1,
+    more: 12,
+    capacity: 65536,
+};
+
+// Whether all went as told in three lives of a store whose second segment fails once, after so many
+// calls, and whether it was an append that failed; with `is_kept` all that was taken is in frames.
+fn walked<R: AllocGlobal + Wait>(
+    rt: &R,
+    calls: u64,
+    keep: u64,
+    plans: &[Rounds],
+    is_kept: bool,
+) -> Result<(bool, bool), Fail> {
+    let alloc = rt.alloc();
+    let mut desk = Desk::new(alloc, 64)?;
+    let mut boxes: Vec<Box<dyn Segment>> = Vec::new(alloc);
+    fill(alloc, &mut desk, TABLE.boxes, TABLE.capacity, &mut boxes)?;
+    fuse(alloc, &mut desk, calls, keep, TABLE.capacity, &mut boxes)?;
+    fill(alloc, &mut desk, 2, TABLE.capacity, &mut boxes)?;
+    let mut more: Vec<Box<dyn Segment>> = Vec::new(alloc);
+    fill(alloc, &mut desk, TABLE.more, TABLE.capacity, &mut more)?;
+    let mut script = script_of(alloc, &TABLE)?;
+    let (first, boxes) = lives(rt, boxes, &mut more, &mut script, plans)?;
+    let is_failed = script.is_failed;
+    if !script.is_refused {
+        // The segment has not failed yet, and may fail in a read of the recovery.
+        return Ok((first, is_failed));
+    }
+    script.model.stop(alloc, is_kept)?;
+    let (second, boxes) = lives_on(rt, boxes, &mut more, &mut script, &AGAIN)?;
+    script.model.stop(alloc, true)?;
+    let (third, _boxes) = lives_on(rt, boxes, &mut more, &mut script, &[])?;
+    Ok((first && second && third, is_failed))
+}
+
+#[test]
+fn a_store_goes_on_after_a_cleaning_that_failed(rt: HostRuntime) -> Result<(), Fail> {
+    for keep in [0u64, u64::MAX] {
+        let mut failed = 0u32;
+        for calls in 2..8u64 {
+            let (went, is_failed) = walked(&rt, calls, keep, &NOTHING_WAITS, true)?;
+            assert!(rt; went, "after {calls} calls");
+            failed = failed.saturating_add(u32::from(is_failed));
+        }
+        // The cleaner appends more than one frame, and each of these failed.
+        assert!(rt; failed > 1);
+    }
+    Ok(())
+}
+
+#[test]
+fn a_store_goes_on_after_the_flush_of_a_cleaning_failed(rt: HostRuntime) -> Result<(), Fail> {
+    assert_eq!(rt; walked(&rt, 2, 0, &SOME_WAIT, false)?, (true, true));
+    assert_eq!(rt; walked(&rt, 2, 30, &SOME_WAIT, false)?, (true, true));
+    assert_eq!(rt; walked(&rt, 2, u64::MAX, &SOME_WAIT, true)?, (true, true));
+    Ok(())
+}

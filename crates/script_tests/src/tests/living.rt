@@ -1,0 +1,121 @@
+//! A store lives, stops, and lives on from its boxes.
+
+ghost use Rattle.bw_store.specs.Views.{IsSoundBeside};
+
+use super::draws::Draw;
+use super::model::Model;
+use super::seen::Seen;
+use super::steps::Script;
+use super::walking::{Rounds, all_go};
+use bw_care::recover;
+use bw_device::Segment;
+use bw_page::Leaves;
+use bw_store::{Config, Store};
+use std::alloc::Global;
+use std::sync::Wait;
+use std::test::Fail;
+
+/// What a store is opened with, and what its script draws from.
+#[derive(Clone, Copy)]
+pub(super) struct Table {
+    pub(super) seed: u64,
+    pub(super) m: u16,
+    pub(super) keys: u32,
+    pub(super) are_shared: bool,
+    /// The places of each writer's ring.
+    pub(super) places: usize,
+    /// How many boxes it is opened over, how many more there are, and the capacity of each.
+    pub(super) boxes: u32,
+    pub(super) more: u32,
+    pub(super) capacity: u64,
+}
+
+pub(super) fn script_of(alloc: Global, table: &Table) -> Result<Script, Fail> {
+    Ok(Script {
+        draw: Draw(table.seed),
+        model: Model::new(alloc, table.places)?,
+        m: table.m,
+        keys: table.keys,
+        are_shared: table.are_shared,
+        pages: 1,
+        steps: 0,
+        refusals: 0,
+        cleaned: 0,
+        is_refused: false,
+        is_failed: false,
+    })
+}
+
+/// How a life ended: whether all went as told, and all boxes.
+pub(super) type Left = (bool, Vec<Box<dyn Segment>>);
+
+// All boxes in one row.
+fn joined(
+    live: Vec<Box<dyn Segment>>,
+    spares: Vec<Box<dyn Segment>>,
+) -> Result<Vec<Box<dyn Segment>>, Fail> {
+    let mut boxes = live;
+    for spare in spares {
+        boxes.push(spare)?;
+    }
+    Ok(boxes)
+}
+
+/// Whether all goes as told over a store of these boxes, which then come out of it.
+pub(super) fn lives<R: AllocGlobal + Wait>(
+    rt: &R,
+    boxes: Vec<Box<dyn Segment>>,
+    more: &mut Vec<Box<dyn Segment>>,
+    script: &mut Script,
+    plans: &[Rounds],
+) -> Result<Left, Fail> {
+    let config = Config {
+        writers: 2,
+        places: script.model.places(),
+        readers: 1,
+        m: script.m,
+        f: 16384,
+    };
+    let Ok((mut store, mut feeds)) = Store::open(rt, rt.alloc(), &config, boxes) else {
+        return Err(Fail::from("a refusal of open"));
+    };
+    let went = all_go(rt, &mut store, &mut feeds, more, script, plans);
+    let (live, spares) = store.shut(rt);
+    Ok((went?, joined(live, spares)?))
+}
+
+// Whether these pages are the map's.
+fn are_told(alloc: Global, leaves: &Leaves, script: &Script) -> Result<bool, Fail> {
+    let mut seen = Seen::new(alloc, script.m);
+    for page in 1..=leaves.count() {
+        let Some(leaf) = leaves.page(page) else {
+            return Ok(false);
+        };
+        if !seen.read(leaf)? {
+            return Ok(false);
+        }
+    }
+    seen.are(alloc, script.model.values())
+}
+
+/// The same over what is recovered from them, whose pages have to be the map's.
+pub(super) fn lives_on<R: AllocGlobal + Wait>(
+    rt: &R,
+    boxes: Vec<Box<dyn Segment>>,
+    more: &mut Vec<Box<dyn Segment>>,
+    script: &mut Script,
+    plans: &[Rounds],
+) -> Result<Left, Fail> {
+    let Ok(recovered) = recover(rt.alloc(), boxes) else {
+        return Err(Fail::from("a refusal of recover"));
+    };
+    let told = are_told(rt.alloc(), &recovered.leaves, script)?;
+    let places = script.model.places();
+    let Ok((mut store, mut feeds)) = Store::reopen(rt, rt.alloc(), recovered, 2, places, 1) else {
+        return Err(Fail::from("a refusal of reopen"));
+    };
+    let went = all_go(rt, &mut store, &mut feeds, more, script, plans);
+    let (live, spares) = store.shut(rt);
+    let is_told = went? && told;
+    Ok((is_told, joined(live, spares)?))
+}

@@ -1,0 +1,114 @@
+//! Readers of two stores side by side: each sees its own store's values.
+
+ghost use Rattle.bw_store.specs.Views.{IsSound, IsSoundBeside};
+
+use super::sides::Side::{Left, Right};
+use super::sides::Step::{Flushes, See, Takes};
+use super::sides::{Ends, Step, boxes_of, config, ends_of, goes, see, sees};
+use bw_device::Segment;
+use bw_ring::Feed;
+use bw_store::Store;
+use std::sync::Wait;
+use std::test::Fail;
+
+/// What one store takes and flushes, its own reader sees and the other's does not.
+const STEPS: [Step; 17] = [
+    See(b"", b""),
+    Takes(Left, b"1"),
+    Takes(Right, b"2"),
+    See(b"", b""),
+    Flushes(Left),
+    See(b"1", b""),
+    Flushes(Right),
+    See(b"1", b"2"),
+    Takes(Right, b"3"),
+    Takes(Left, b"4"),
+    See(b"1", b"2"),
+    Flushes(Right),
+    See(b"1", b"3"),
+    Flushes(Left),
+    See(b"4", b"3"),
+    Flushes(Right),
+    See(b"4", b"3"),
+];
+
+// How many steps went as told before one did not.
+fn all_go<R: Wait>(
+    rt: &R,
+    left: &mut Store,
+    one: &mut Ends,
+    right: &mut Store,
+    other: &mut Ends,
+) -> Result<usize, Fail>
+    requires left { IsSound left.old holding }
+    requires right { IsSound right.old holding }
+    ensures left { IsSound left.new holding }
+    ensures right { IsSound right.new holding }
+{
+    'steps: for (at, step) in STEPS.iter().enumerate() {
+        let is_left = goes(rt, left, one, Left, step)?;
+        let is_right = goes(rt, right, other, Right, step)?;
+        if !is_left || !is_right || !see(&mut one.reader, &mut other.reader, step)? {
+            return Ok(at);
+        }
+    }
+    Ok(STEPS.len())
+}
+
+// The same with the ends of the left store.
+fn go_with<R: Wait>(
+    rt: &R,
+    left: &mut Store,
+    feeds: Vec<Feed>,
+    right: &mut Store,
+    other: &mut Ends,
+) -> Result<usize, Fail>
+    requires left { IsSound left.old holding }
+    requires right { IsSound right.old holding }
+    ensures left { IsSound left.new holding }
+    ensures right { IsSound right.new holding }
+{
+    let mut one = ends_of(left, feeds)?;
+    all_go(rt, left, &mut one, right, other)
+}
+
+// The same with a left store over these boxes; then that one is shut, and the right one's reader
+// sees on.
+fn go_beside<R: AllocGlobal + Wait>(
+    rt: &R,
+    right: &mut Store,
+    feeds: Vec<Feed>,
+    boxes: Vec<Box<dyn Segment>>,
+) -> Result<usize, Fail>
+    requires { IsSoundBeside right.old holding }
+    ensures { IsSoundBeside right.new holding }
+{
+    let mut other = ends_of(right, feeds)?;
+    let Ok((mut left, feeds)) = Store::open(rt, rt.alloc(), &config(), boxes) else {
+        return Err(Fail::from("a refusal"));
+    };
+    let went = go_with(rt, &mut left, feeds, right, &mut other);
+    let _ = left.shut(rt);
+    let went = went?;
+    if !sees(&mut other.reader, b"3")? {
+        return Ok(0);
+    }
+    Ok(went)
+}
+
+fn walked<R: AllocGlobal + Wait>(rt: &R) -> Result<usize, Fail> {
+    let boxes = boxes_of(rt.alloc())?;
+    let more = boxes_of(rt.alloc())?;
+    let Ok((mut right, feeds)) = Store::open(rt, rt.alloc(), &config(), boxes) else {
+        return Err(Fail::from("a refusal"));
+    };
+    let went = go_beside(rt, &mut right, feeds, more);
+    let _ = right.shut(rt);
+    went
+}
+
+#[test]
+fn each_reader_sees_its_own_store(rt: HostRuntime) -> Result<(), Fail> {
+    assert_eq!(rt; walked(&rt)?, STEPS.len());
+    Ok(())
+}

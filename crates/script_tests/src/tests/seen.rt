@@ -1,0 +1,106 @@
+//! Pages that were read, against a map.
+
+use super::coding::{number_in, number_of};
+use bw_codec::{Key, Leaf, Value};
+use std::alloc::Global;
+use std::collections::BTreeMap;
+use std::test::Fail;
+
+/// The pairs of the pages that were read, in the order of the pages' low keys: each value behind
+/// its page's low key and its own.
+#[derive(Drop)]
+pub(super) struct Seen {
+    pairs: BTreeMap<u64, u32>,
+    pages: u32,
+    /// The most pairs of a page.
+    m: u16,
+}
+
+// The least key that a page may have: 1 is that of the first number, and 0 stands for no bytes.
+fn least_of(leaf: &Leaf) -> Option<u32> {
+    if leaf.low.as_slice().is_empty() {
+        return Some(0);
+    }
+    Some(number_of(leaf.low.as_slice())?.saturating_add(1))
+}
+
+fn numbers_of(key: &Key, value: &Value) -> Result<Option<(u32, u32)>, Fail> {
+    match (number_of(key.as_slice()), number_in(value)?) {
+        (Some(key), Some(value)) => Ok(Some((key, value))),
+        _ => Ok(None),
+    }
+}
+
+impl Seen {
+    pub(super) fn new(alloc: Global, m: u16) -> Seen {
+        Seen {
+            pairs: BTreeMap::new(alloc),
+            pages: 0,
+            m,
+        }
+    }
+
+    /// How many pages were read.
+    pub(super) fn pages(&self) -> u32 {
+        self.pages
+    }
+
+    // Whether a page may be the next one.
+    fn is_next(&self, leaf: &Leaf, least: u32) -> bool {
+        leaf.page == self.pages.saturating_add(1)
+            && (leaf.page == 1) == (least == 0)
+            && leaf.pairs.as_slice().len() <= usize::from(self.m)
+    }
+
+    /// Reads the next page; whether it is lawful: its number, no more pairs than it may have, and
+    /// keys that ascend from its low key on.
+    pub(super) fn read(&mut self, leaf: &Leaf) -> Result<bool, Fail> {
+        let Some(low) = least_of(leaf) else {
+            return Ok(false);
+        };
+        if !self.is_next(leaf, low) {
+            return Ok(false);
+        }
+        self.pages = self.pages.saturating_add(1);
+        let mut least = low;
+        for (key, value) in leaf.pairs.as_slice() {
+            let Some((key, value)) = numbers_of(key, value)? else {
+                return Ok(false);
+            };
+            if key.saturating_add(1) < least {
+                return Ok(false);
+            }
+            least = key.saturating_add(2);
+            let _ = self
+                .pairs
+                .insert(u64::from(low) << 32 | u64::from(key), value)?;
+        }
+        Ok(true)
+    }
+
+    /// Whether the pairs of all pages are the map's, in its order.
+    pub(super) fn are(&self, alloc: Global, values: &BTreeMap<u32, u32>) -> Result<bool, Fail> {
+        let mut pairs = Vec::new(alloc);
+        for (place, value) in self.pairs.iter() {
+            pairs.push(((*place & 0xffff_ffff) as u32, *value))?;
+        }
+        let mut told = Vec::new(alloc);
+        for (key, value) in values.iter() {
+            told.push((*key, *value))?;
+        }
+        Ok(pairs == told)
+    }
+}
+
+/// Whether a page has no other pairs than the map's.
+pub(super) fn has_only(leaf: &Leaf, values: &BTreeMap<u32, u32>) -> Result<bool, Fail> {
+    for (key, value) in leaf.pairs.as_slice() {
+        let Some((key, value)) = numbers_of(key, value)? else {
+            return Ok(false);
+        };
+        if values.get(&key).copied() != Some(value) {
+            return Ok(false);
+        }
+    }
+    Ok(true)
+}
