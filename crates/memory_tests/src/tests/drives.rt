@@ -83,7 +83,11 @@ fn runs<R: Threads + Wait>(rt: &R, alloc: Global, store: &mut Store, feeds: Vec<
         return 0;
     };
     let fault = match drive(rt, store, feeds, scripts, &OpenGate, PLAN, TRIES) {
-        Ok(driven) => return if driven.entries == 2 * u64::from(RECORDS) { 0 } else { 4 },
+        Ok(driven) => return if driven.entries == 2 * u64::from(RECORDS) {
+            0
+        } else {
+            4
+        },
         Err(fault) => fault,
     };
     if fault.cause != StoreFault::NoMemory || fault.feeds.len() != 2 {

@@ -6,11 +6,8 @@ ghost use Rattle.bw_care.specs.Found.{IsRecovered};
 ghost use Rattle.bw_store.specs.Views.{kept_by, IsSound};
 
 use super::boxes::{CLEANED, OLDER, add_all};
-use super::steps::Step;
-use super::steps::Step::{
-    Bytes, Clean, Evict, Flush, Get, Page, Put, Roll, Sees, Settle, Turn,
-};
-use super::steps::goes;
+use super::steps::Step::{Bytes, Clean, Evict, Flush, Get, Page, Put, Roll, Sees, Settle, Turn};
+use super::steps::{Step, goes};
 use bw_care::{RecoverCause, Recovered, recover};
 use bw_device::{Desk, Segment};
 use bw_ring::Feed;
