@@ -21,9 +21,15 @@ many_first : {X : Type 0} (one : List ℕ → Found X) (n : ℕ) (bytes : List �
 unfolding many_at
 many_first one n bytes x rest e = rw e refl
 
-many_none : {X : Type 0} (one : List ℕ → Found X) (n : ℕ) (bytes : List ℕ) → one bytes ≡ None → many_at one (suc n) bytes ≡ None
+pub many_none : {X : Type 0} (one : List ℕ → Found X) (n : ℕ) (bytes : List ℕ) → one bytes ≡ None → many_at one (suc n) bytes ≡ None
 unfolding many_at
 many_none one n bytes e = rw e refl
+
+-- one thing alone was read
+pub many_of_one : {X : Type 0} (one : List ℕ → Found X) (bytes : List ℕ) (x : X) (rest : List ℕ) → one bytes ≡ Some (x, rest)
+    → many_at one 1 bytes ≡ Some (x ∷ [], rest)
+unfolding many_at
+many_of_one one bytes x rest e = rw e refl
 
 -- one thing more was read
 pub many_goes_on : {X : Type 0} (one : List ℕ → Found X) (count i : ℕ) (xs : List X) (bytes : List ℕ) (x : X) (rest : List ℕ) → i < count

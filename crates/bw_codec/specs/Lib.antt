@@ -3,6 +3,7 @@ pub mod Bytes
 pub mod Record
 pub mod Grammar
 pub mod Touch
+pub mod Heads
 pub mod Outline
 pub mod Writing
 pub mod Sizes
@@ -10,3 +11,4 @@ pub mod Laws
 -- what private functions say; of `Reading` callers see what a fault says of bytes
 pub mod Reading
 pub mod Skipping
+pub mod Items

@@ -1,7 +1,9 @@
 //! A leaf: a page's low key and its pairs in the order of their keys.
 
 ghost use Rattle.std.specs.Prelude.{◌≡◌, ◌<◌, ◌≤◌, length, insert, remove, take, slice_set, OnOk, OnErr, IfOk};
+ghost use Rattle.bw_codec.specs.Heads.{AreBelow};
 
+use crate::heads::{count_below, head_of, insert_head, remove_head, row_of, set_head};
 use crate::key::{Key, Value};
 use std::alloc::{AllocError, Global};
 use std::marker::Model;
@@ -52,25 +54,34 @@ impl Low {
 }
 
 /// Keys with their values, in the order of the keys where a lawful leaf holds them.
+///
+/// Beside them stands a row with the first eight bytes of each key as a number, which a search reads
+/// in place of most keys. It takes memory of its own, and where that is refused there is none: then
+/// a search is slower, and nothing else changes.
 #[derive(Debug, Drop)]
 pub struct Pairs {
     items: Vec<(Key, Value)>,
+    row: Vec<u64>,
 }
 
 impl Model for Pairs {
     ghost use Rattle.std.specs.Prelude.{List, ℕ};
+    ghost use Rattle.bw_codec.specs.Heads.{IsRow};
 
     ghost Value = { List (List ℕ × List ℕ) };
 
     ghost view = { λ p. p.items.items };
+
+    ghost invariant = { λ p. IsRow p.row.items p.items.items };
 }
 
 impl Pairs {
-    /// Pairs as they stand in a `Vec`.
+    /// Pairs as they stand in a `Vec`. Linear in them.
     pub fn of(items: Vec<(Key, Value)>) -> Pairs
         ensures { result ≡ items.items }
     {
-        Pairs { items }
+        let row = row_of(*items.allocator(), items.as_slice());
+        Pairs { items, row }
     }
 
     /// The `Vec` again. No memory is taken.
@@ -94,7 +105,9 @@ impl Pairs {
         ensures err { OnErr result (self.new ≡ self.old) }
     {
         // Tells the proof that the list is as long as the `Vec`; so below.
-        let _ = self.items.as_slice().len();
+        let count = self.items.as_slice().len();
+        self.items.reserve(1)?;
+        insert_head(&mut self.row, count, at, key.as_slice());
         self.items.insert(at, (key, value))?;
         Ok(())
     }
@@ -106,6 +119,7 @@ impl Pairs {
         ensures { self.new ≡ slice_set self.old at (key, value) }
     {
         let _ = self.items.as_slice().len();
+        set_head(&mut self.row, at, key.as_slice());
         self.items[at] = (key, value);
     }
 
@@ -115,6 +129,7 @@ impl Pairs {
         ensures { self.new ≡ remove self.old at }
     {
         let _ = self.items.as_slice().len();
+        remove_head(&mut self.row, at);
         let _ = self.items.remove(at);
     }
 
@@ -122,7 +137,17 @@ impl Pairs {
     pub fn truncate(&mut self, count: usize)
         ensures { self.new ≡ take count self.old }
     {
+        self.row.truncate(count);
         self.items.truncate(count);
+    }
+
+    /// How many pairs from the first on have a key below this one, as far as the first eight bytes
+    /// tell: a search for the key can begin behind them. There may be more.
+    pub fn skipped(&self, key: &[u8]) -> usize
+        ensures within { result ≤ length self.now }
+        ensures below { AreBelow key.now (take result self.now) }
+    {
+        count_below(self.row.as_slice(), head_of(key))
     }
 
     /// The same pairs as these. It takes memory, whose refusal is the only error; linear in the
@@ -134,7 +159,7 @@ impl Pairs {
         for (key, value) in pairs {
             items.push((key.copy(), value.copy()))?;
         }
-        Ok(Pairs { items })
+        Ok(Pairs::of(items))
     }
 
     /// The same pairs, as by `copy_of`.

@@ -10,6 +10,7 @@
 
 mod block;
 mod fault;
+mod heads;
 mod key;
 pub mod laws;
 mod leaf;

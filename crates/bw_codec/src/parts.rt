@@ -167,9 +167,19 @@ pub(crate) fn some_pairs(
     Ok((Pairs::of(items), rest))
 }
 
+fn one_op(bytes: &[u8]) -> Result<(Ops, &[u8]), CodecFault>
+    ensures { Gives (λ x. (x.0, x.1.now)) result (many_at op_at 1 bytes.now) }
+{
+    let (op, rest) = op_of(bytes)?;
+    Ok((Ops::one(op), rest))
+}
+
 pub(crate) fn some_ops(alloc: Global, count: u16, bytes: &[u8]) -> Result<(Ops, &[u8]), CodecFault>
     ensures { Gives (λ x. (x.0, x.1.now)) result (many_at op_at count bytes.now) }
 {
+    if count == 1 {
+        return one_op(bytes);
+    }
     let mut items = room_for(alloc, count as usize, bytes, MIN_OP)?;
     let mut rest = bytes;
     for _i in 0..count {

@@ -1,6 +1,6 @@
 //! A record is one change of one key; a list of records is what a Delta holds.
 
-ghost use Rattle.std.specs.Prelude.{◌≡◌};
+ghost use Rattle.std.specs.Prelude.{◌≡◌, [], ◌∷◌};
 ghost use Rattle.bw_codec.specs.Record.{key_of};
 ghost use Rattle.bw_codec.specs.Grammar.{IsOp};
 
@@ -47,40 +47,54 @@ impl Record {
     }
 }
 
-/// Records, in the order in which they apply.
+#[derive(Debug, Drop)]
+enum Items {
+    One([Record; 1]),
+    Many(Vec<Record>),
+}
+
+/// Records, in the order in which they apply. One alone takes no memory.
 #[derive(Debug, Drop)]
 pub struct Ops {
-    items: Vec<Record>,
+    items: Items,
 }
 
 impl Model for Ops {
     ghost use Rattle.std.specs.Prelude.{List};
     ghost use Rattle.bw_codec.specs.declared.record.Record.{Record};
+    ghost use Rattle.bw_codec.specs.Items.{listed};
 
     ghost Value = { List Record };
 
-    ghost view = { λ o. o.items.items };
+    ghost view = { λ o. listed o.items };
 }
 
 impl Ops {
+    /// One record.
+    pub fn one(item: Record) -> Ops
+        ensures { result ≡ item ∷ [] }
+    {
+        Ops {
+            items: Items::One([item]),
+        }
+    }
+
     /// Records as they stand in a `Vec`.
     pub fn of(items: Vec<Record>) -> Ops
         ensures { result ≡ items.items }
     {
-        Ops { items }
-    }
-
-    /// The `Vec` again. No memory is taken.
-    pub fn into_vec(self) -> Vec<Record>
-        ensures { result.items ≡ self }
-    {
-        self.items
+        Ops {
+            items: Items::Many(items),
+        }
     }
 
     /// The records.
     pub fn as_slice(&self) -> &[Record]
         ensures { result.now ≡ self.now }
     {
-        self.items.as_slice()
+        match &self.items {
+            Items::One(items) => items,
+            Items::Many(items) => items.as_slice(),
+        }
     }
 }

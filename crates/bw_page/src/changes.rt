@@ -11,8 +11,21 @@ use bw_codec::{Key, Leaf, Low, Pairs, Record, Value};
 use std::alloc::{AllocError, Global};
 use std::cmp::Ordering;
 
-/// The index of a key, or where it would stand. Whole keys are compared, as bytes.
-pub(crate) fn find_key(pairs: &[(Key, Value)], key: &[u8]) -> Result<usize, usize>
+/// The index of a key, or where it would stand. The first bytes of keys are compared as numbers, and
+/// whole keys as bytes from the first pair on that these do not tell apart.
+pub(crate) fn find_key(pairs: &Pairs, key: &[u8]) -> Result<usize, usize>
+    ensures found { result ≡ seek_of key.now pairs.now }
+    ensures within { IsWithin (length pairs.now) result }
+{
+    let from = pairs.skipped(key);
+    match find_whole(&pairs.as_slice()[from..], key) {
+        Ok(at) => Ok(from + at),
+        Err(at) => Err(from + at),
+    }
+}
+
+// The same among pairs whose whole keys are compared.
+fn find_whole(pairs: &[(Key, Value)], key: &[u8]) -> Result<usize, usize>
     ensures found { result ≡ seek_of key.now pairs.now }
     ensures within { IsWithin (length pairs.now) result }
 {
@@ -31,7 +44,11 @@ pub fn count_after(leaf: &Leaf, change: &Record) -> usize
     ensures { result ≡ length (changed change.now leaf.now).pairs }
 {
     let pairs = leaf.pairs.as_slice();
-    count_found(pairs, find_key(pairs, change.key().as_slice()), change)
+    count_found(
+        pairs,
+        find_key(&leaf.pairs, change.key().as_slice()),
+        change,
+    )
 }
 
 /// How many pairs there are after a record, where the search for its key ended so.
@@ -64,7 +81,7 @@ pub fn change(leaf: &mut Leaf, change: &Record) -> Result<(), AllocError>
     ensures ok { OnOk result (leaf.new ≡ changed change.now leaf.old) }
     ensures unchanged { OnErr result (leaf.new ≡ leaf.old) }
 {
-    let found = find_key(leaf.pairs.as_slice(), change.key().as_slice());
+    let found = find_key(&leaf.pairs, change.key().as_slice());
     change_found(leaf, found, change)
 }
 
@@ -128,7 +145,7 @@ pub fn value_in(leaf: &Leaf, key: &Key) -> Option<Value>
     ensures { result ≡ find order key.now leaf.now.pairs }
 {
     let pairs = leaf.pairs.as_slice();
-    match find_key(pairs, key.as_slice()) {
+    match find_key(&leaf.pairs, key.as_slice()) {
         Ok(at) => Some(pairs[at].1.copy()),
         Err(_) => None,
     }

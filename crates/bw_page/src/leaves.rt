@@ -9,7 +9,7 @@ ghost use Rattle.std.specs.FinMap as finite;
 ghost use Rattle.std.specs.FinMap.Entries.{find};
 ghost use Rattle.bw_codec.specs.Bytes.{ascends};
 ghost use Rattle.bw_codec.specs.Record.{key_of};
-ghost use Rattle.bw_page.specs.Leaves.{order, empty_leaf, home, leaf_at, AreLeaves, changed_map, union};
+ghost use Rattle.bw_page.specs.Leaves.{order, empty_leaf, home, leaf_at, directed_at, AreLeaves, changed_map, union};
 ghost use Rattle.bw_page.specs.Shown.{TakesKey, IsSpent, after_record, is_away, leaf_here, IsHere, applied_by};
 ghost use Rattle.bw_page.specs.Aim.{IsAim};
 
@@ -146,8 +146,9 @@ impl Leaves {
         requires { IsHere key.now self.now }
         ensures { result ≡ finite.get (union self.now.leaves) key.now }
     {
-        let pairs = self.home_of(key).pairs.as_slice();
-        match find_key(pairs, key.as_slice()) {
+        let leaf = self.home_of(key);
+        let pairs = leaf.pairs.as_slice();
+        match find_key(&leaf.pairs, key.as_slice()) {
             Ok(at) => Some(pairs[at].1.copy()),
             Err(_) => None,
         }
@@ -162,7 +163,19 @@ impl Leaves {
             ≡ find order key.now result.now.pairs }
         ensures within { (1 ≤ result.now.page) × (result.now.page ≤ length self.now.leaves) }
     {
-        let page = self.find(key);
+        self.home_on(self.find(key), key)
+    }
+
+    /// The same, where its page is known.
+    fn home_on(&self, page: u32, _key: &Key) -> &Leaf
+        requires here { IsHere _key.now self.now }
+        requires page { page ≡ (home _key.now self.now.leaves).page }
+        ensures home { result.now ≡ home _key.now self.now.leaves }
+        ensures ascends { IsTrue (ascends result.now.pairs) }
+        ensures value { finite.get (union self.now.leaves) _key.now
+            ≡ find order _key.now result.now.pairs }
+        ensures within { (1 ≤ result.now.page) × (result.now.page ≤ length self.now.leaves) }
+    {
         self.leaves.get(page as usize - 1)
     }
 
@@ -185,19 +198,40 @@ impl Leaves {
         ensures only_spent { result ≡ Err ApplyError.Spent → IsSpent self.old change.now }
         ensures unchanged { OnErr result (self.new ≡ self.old) }
     {
-        let (at, count, found) = self.aim(change);
+        self.apply_on(self.find(change.key()), change)
+    }
+
+    /// The same, where the page at which the record is directed is known: it costs no search among
+    /// the pages.
+    pub fn apply_on(&mut self, page: u32, change: &Record) -> Result<Applied, ApplyError>
+        requires here { IsHere (key_of change.now) self.old }
+        requires page { page ≡ directed_at self.old.leaves change.now }
+        ensures ok { OnOk result (self.new ≡ after_record self.old change.now) }
+        ensures plain { OnOk result (union self.new.leaves
+            ≡ changed_map (union self.old.leaves) change.now) }
+
+        ensures applied { IfOk result (λ a. a ≡ applied_by self.old change.now) }
+        ensures away { self.new.away ≡ self.old.away }
+
+        // The page number is looked for before memory is.
+        ensures spent { IsSpent self.old change.now → result ≡ Err ApplyError.Spent }
+        ensures only_spent { result ≡ Err ApplyError.Spent → IsSpent self.old change.now }
+        ensures unchanged { OnErr result (self.new ≡ self.old) }
+    {
+        let (at, count, found) = self.aim(page, change);
         self.apply_at(at, count, found, change)
     }
 
-    /// Where the leaf stands that the record changes, how many pairs it would have, and where the
-    /// search in it for the record's key ended.
-    fn aim(&self, change: &Record) -> (usize, usize, Result<usize, usize>)
-        requires { IsHere (key_of change.now) self.now }
+    /// Where the leaf of this page stands, which the record changes, how many pairs it would have,
+    /// and where the search in it for the record's key ended.
+    fn aim(&self, page: u32, change: &Record) -> (usize, usize, Result<usize, usize>)
+        requires here { IsHere (key_of change.now) self.now }
+        requires page { page ≡ directed_at self.now.leaves change.now }
         ensures { IsAim self.now change.now result.0 result.1 result.2 }
     {
-        let leaf = self.home_of(change.key());
+        let leaf = self.home_on(page, change.key());
         let pairs = leaf.pairs.as_slice();
-        let found = find_key(pairs, change.key().as_slice());
+        let found = find_key(&leaf.pairs, change.key().as_slice());
         let count = count_found(pairs, found, change);
         (leaf.page as usize - 1, count, found)
     }

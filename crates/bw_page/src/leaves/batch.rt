@@ -63,7 +63,7 @@ impl Leaves {
         ensures only_spent { result ≡ Err ApplyError.Spent → IsSpent self.old change.now }
         ensures unchanged { OnErr result (self.new ≡ self.old) }
     {
-        let (at, count, found) = self.aim(change);
+        let (at, count, found) = self.aim(self.find(change.key()), change);
         let undo = self.undo_at(at, count, found, change)?;
         self.apply_at(at, count, found, change)?;
         Ok(undo)
@@ -119,7 +119,7 @@ impl Leaves {
         requires { IsNewest self.old (Undo.Back back.now) }
         ensures { self.new ≡ undone self.old (Undo.Back back.now) }
     {
-        let (at, _, found) = self.aim(back);
+        let (at, _, found) = self.aim(self.find(back.key()), back);
         match self.leaves.change(at, found, back) {
             Ok(()) => {}
             Err(_) => unreachable!(),

@@ -80,15 +80,19 @@ fn leaf_is_copied(alloc: Global) -> Option<bool> {
     )
 }
 
-/// The blocks of one Delta that holds this record.
-fn delta_of(alloc: Global, put: Record) -> Option<Blocks> {
-    let mut items = Vec::new(alloc);
-    items.push(put).ok()?;
-    let ops = Ops::of(Ops::of(items).into_vec());
+/// The blocks of one Delta that holds these records.
+fn delta_of(alloc: Global, ops: Ops) -> Option<Blocks> {
     let back = Place { frame: 1, index: 0 };
     let mut blocks = Vec::new(alloc);
     blocks.push(Block::Delta { page: 1, back, ops }).ok()?;
     Some(Blocks::of(Blocks::of(blocks).into_vec()))
+}
+
+/// Whether a Delta of these records says that k has the value v.
+fn puts_k(alloc: Global, ops: Ops) -> Option<bool> {
+    let blocks = delta_of(alloc, ops)?;
+    let first = blocks.as_slice().get(0)?;
+    Some(says(first, Kind::Put, (1, 0), b"k", b"v"))
 }
 
 /// Whether records and the blocks that hold them are handed in and out.
@@ -96,9 +100,53 @@ fn records_go_through(alloc: Global) -> Option<bool> {
     let (key, value) = pair_of(b"k", b"v")?;
     let put = Record::Put(key, value);
     let same = put.copy() == put && is_one(put.key().as_slice(), b'k');
-    let blocks = delta_of(alloc, put)?;
-    let first = blocks.as_slice().get(0)?;
-    Some(same && says(first, Kind::Put, (1, 0), b"k", b"v"))
+    let mut items = Vec::new(alloc);
+    items.push(put.copy()).ok()?;
+    Some(same && puts_k(alloc, Ops::of(items))? && puts_k(alloc, Ops::one(put))?)
+}
+
+/// Keys that share their first bytes: those of the third and fourth are the first eight.
+const NEAR: [&[u8]; 5] = [b"a", b"ab", b"abcdefgh1", b"abcdefgh2", b"b"];
+
+/// How many of these a search for a key may step over by the first eight bytes, zeros where a key
+/// has fewer.
+const STEPS: [(&[u8], usize); 8] = [
+    (b"Z", 0),
+    (b"a", 0),
+    (b"a\0", 0),
+    (b"a\0\0\0\0\0\0\0\x01", 0),
+    (b"ab", 1),
+    (b"abcdefgh2", 2),
+    (b"abcdefgi", 4),
+    (b"c", 5),
+];
+
+fn near_pairs(alloc: Global) -> Option<Pairs> {
+    let mut items = Vec::new(alloc);
+    for key in NEAR {
+        items.push(pair_of(key, b"")?).ok()?;
+    }
+    Some(Pairs::of(items))
+}
+
+/// Whether all steps are made over these pairs.
+fn are_stepped(pairs: &Pairs) -> bool {
+    STEPS
+        .iter()
+        .all(|(key, count)| pairs.skipped(*key) == *count)
+}
+
+/// Whether a search steps over pairs however these came about.
+fn keys_are_stepped_over(alloc: Global) -> Option<bool> {
+    let made = near_pairs(alloc)?;
+    let copied = made.copy().ok()?;
+    let changed = changed_pairs(alloc)?;
+    Some(
+        are_stepped(&made)
+            && are_stepped(&copied)
+            && changed.skipped(b"c") == 1
+            && changed.skipped(b"d") == 2,
+    )
 }
 
 /// Whether heads and keys are told by the calls that answer yes or no.
@@ -130,6 +178,7 @@ fn each_call_succeeds(rt: HostRuntime) {
     assert!(rt; questions_are_answered() == Some(true));
     assert!(rt; leaf_is_copied(rt.alloc()) == Some(true));
     assert!(rt; records_go_through(rt.alloc()) == Some(true));
+    assert!(rt; keys_are_stepped_over(rt.alloc()) == Some(true));
 }
 
 #[test]
