@@ -1,6 +1,6 @@
--- The share of a frame on worked examples: five puts, one a frame, of which the last cuts page 1.
+-- The share of a frame on worked examples: five puts, one a frame, of which the last cuts page 1; and a frame of the cleaner's.
 
-use Rattle.std.proofs.Common.{◌≡◌, ℕ, List, [], ◌∷◌, refl}
+use Rattle.std.proofs.Common.{◌≡◌, ℕ, List, [], ◌∷◌, refl, arith}
 use Rattle.bw_codec.specs.declared.record.Record.{Record}
 use Rattle.bw_codec.specs.declared.record.Record.TheVariants.{Put}
 use Rattle.bw_codec.specs.declared.leaf.Leaf.{Leaf}
@@ -12,6 +12,7 @@ use Rattle.bw_versions.specs.Entries.{records}
 use Rattle.bw_store.specs.History.{upto, share, streams}
 use Rattle.bw_store.specs.Share.{Tells, TellsFirst}
 use Rattle.bw_store.specs.Adding.{blocks_for}
+use Rattle.bw_store.specs.Kept.{Kept, IsMoved}
 
 abbrev put : ℕ → ℕ → Record
 put k v = Put (k ∷ []) (v ∷ [])
@@ -45,9 +46,16 @@ fifth_tells : Tells 4 (pages 4 (empty_leaf ∷ []) (records (upto cuts five 4)))
     (Delta 1 (place 4 0) (put 101 53 ∷ []) ∷ Split 1 (place 5 0) upper ∷ [])
 fifth_tells = record { deltas = λ p. refl; splits = refl; bases = refl }
 
+second_tells : Tells 4 (pages 4 (empty_leaf ∷ []) (records (upto cuts five 1))) (records (share cuts five 2)) (Delta 1 (place 1 1) (put 98 50 ∷ []) ∷ [])
+second_tells = record { deltas = λ p. refl; splits = refl; bases = refl }
+
 fifth_blocks : blocks_for 4 (pages 4 (empty_leaf ∷ []) (records (upto cuts five 4))) (place 4 0) (place 5 0) (put 101 53)
     ≡ Delta 1 (place 4 0) (put 101 53 ∷ []) ∷ Split 1 (place 5 0) upper ∷ []
 fifth_blocks = refl
+
+-- frame 4 behind three shares is the cleaner's: nothing was put for it, and its one block is a whole page
+fourth_is_moved : (s : Kept) → IsMoved s 4 [] (Base (record { page = 1; low = []; pairs = (106 ∷ [], 50 ∷ []) ∷ (107 ∷ [], 51 ∷ []) ∷ [] }) ∷ [])
+fourth_is_moved s = (λ opened first. absurd (omega arith), refl, (tt, tt))
 
 -- two writers
 two_streams : streams 0 2 (record { writer = 0; item = put 97 49 } ∷ record { writer = 1; item = put 98 49 } ∷ record { writer = 1; item = put 99 50 } ∷ [])

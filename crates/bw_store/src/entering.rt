@@ -60,7 +60,7 @@ impl Store {
         self.intake.reserve()?;
         self.newest.reserve(1)?;
         reserve_for(&mut self.tails, page)?;
-        let _ = self.leaves.apply(&item)?;
+        let _ = self.leaves.apply_on(page, &item)?;
         note(&mut self.tails, page, &item, blocks.len() > 1);
         file(&mut self.making, &mut self.newest, page, blocks);
         self.intake.enter(lane, item);

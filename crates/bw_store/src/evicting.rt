@@ -71,9 +71,10 @@ impl Store {
         }
     }
 
-    /// Brings back the page that a record of this key changes, if it is away.
-    pub(crate) fn fetch(&mut self, key: &Key) -> Result<(), StoreFault>
+    /// Brings back the page that a record of this key changes, if it is away, and tells which it is.
+    pub(crate) fn fetch(&mut self, key: &Key) -> Result<u32, StoreFault>
         requires sound { IsSound self.old holding }
+        ensures page { IfOk result (λ page. page ≡ (home key.now self.new.leaves.leaves).page) }
         ensures here { OnOk result (IsHere key.now self.new.leaves) }
         ensures sound { IsSound self.new holding }
         ensures intake { self.new.intake ≡ self.old.intake }
@@ -84,10 +85,10 @@ impl Store {
     {
         let page = self.leaves.find(key);
         if self.leaves.is_here(page) {
-            return Ok(());
+            return Ok(page);
         }
         let leaf = self.read_away(page)?;
         self.leaves.bring_back(page, leaf);
-        Ok(())
+        Ok(page)
     }
 }

@@ -15,7 +15,7 @@ use crate::fault::StoreFault;
 use crate::store::Store;
 use bw_codec::{Block, Leaf, Ops, Place, Record, block_length};
 use bw_page::{Cut, Leaves, change, count_after, cut_in_two};
-use std::alloc::{AllocError, Global};
+use std::alloc::Global;
 
 /// A record's page, the block before on that page, and the record's blocks.
 #[derive(Drop)]
@@ -69,44 +69,38 @@ fn upper_of(
     Ok(Some(upper))
 }
 
-// The blocks of a record of a page.
-fn blocks_of(
-    alloc: Global,
-    page: u32,
-    back: Place,
-    here: Place,
-    item: &Record,
-    upper: Option<Leaf>,
-) -> Result<Blocks, AllocError>
-    ensures { IfOk result (λ bs. listed bs ≡ planned page back here item.now upper) }
+// The blocks of a record of a page. No memory is taken.
+fn blocks_of(page: u32, back: Place, here: Place, item: &Record, upper: Option<Leaf>) -> Blocks
+    ensures { listed result ≡ planned page back here item.now upper }
 {
-    let mut ops = Vec::new(alloc);
-    ops.push(item.copy())?;
     let delta = Block::Delta {
         page,
         back,
-        ops: Ops::of(ops),
+        ops: Ops::one(item.copy()),
     };
     let Some(upper) = upper else {
-        return Ok(Blocks::One([delta]));
+        return Blocks::One([delta]);
     };
     let split = Block::Split {
         page,
         back: here,
         upper,
     };
-    Ok(Blocks::Two([delta, split]))
+    Blocks::Two([delta, split])
 }
 
-/// What a record adds, the first of its blocks here.
+/// What a record of this page adds, the first of its blocks here.
 pub(crate) fn planned_for(
     alloc: Global,
     leaves: &Leaves,
     newest: &[Place],
     here: Place,
+    page: u32,
     item: &Record,
 ) -> Result<Plan, StoreFault>
     requires here { IsHere (key_of item.now) leaves.now }
+    requires page { page ≡ directed_at leaves.now.leaves item.now }
+    requires within { (1 ≤ page) × (page ≤ length leaves.now.leaves) }
     requires count { length newest.now ≡ length leaves.now.leaves }
     ensures page { IfOk result (λ p. p.page ≡ directed_at leaves.now.leaves item.now) }
     ensures back { IfOk result (λ p. slice_get newest.now (p.page - 1) ≡ Some p.back) }
@@ -115,14 +109,14 @@ pub(crate) fn planned_for(
         ≡ blocks_for leaves.now.m leaves.now.leaves p.back here item.now) }
     ensures refused { IfErr result (IsWantingAt (length leaves.now.leaves)) }
 {
-    let page = leaves.find(item.key());
+    let _ = item.key();
     let back = newest[page as usize - 1];
     let pages = leaves.count();
     let Some(leaf) = leaves.page(page) else {
         unreachable!();
     };
     let upper = upper_of(alloc, leaves.limit(), leaf, item, pages)?;
-    let blocks = blocks_of(alloc, page, back, here, item, upper)?;
+    let blocks = blocks_of(page, back, here, item, upper);
     Ok(Plan { page, back, blocks })
 }
 

@@ -4,6 +4,7 @@ ghost use Rattle.std.specs.Prelude.{◌≡◌, ◌≤◌, ◌<◌, ◌+◌, ◌-
 ghost use Rattle.std.specs.List.{AllByRecursion};
 ghost use Rattle.bw_codec.specs.Grammar.{body_bytes, IsBlock};
 ghost use Rattle.bw_codec.specs.Record.{key_of};
+ghost use Rattle.bw_page.specs.Leaves.{directed_at};
 ghost use Rattle.bw_page.specs.Shown.{IsHere};
 ghost use Rattle.bw_buffer.specs.Filling.{size_of};
 ghost use Rattle.bw_ring.specs.Ends.{given};
@@ -70,14 +71,14 @@ impl Store {
             (kept_by self.new holding) }
     {
         self.goes_on()?;
-        self.fetch(item.key())?;
-        let plan = self.plan(&item)?;
+        let page = self.fetch(item.key())?;
+        let plan = self.plan(page, &item)?;
         if length_of(plan.blocks.as_slice()) <= self.making.room() as usize {
             self.enter(lane, item, plan.page, plan.back, plan.blocks.as_slice())?;
             return Ok(());
         }
         self.flush_making(false)?;
-        let plan = self.plan(&item)?;
+        let plan = self.plan(page, &item)?;
         self.enter(lane, item, plan.page, plan.back, plan.blocks.as_slice())?;
         Ok(())
     }
@@ -112,10 +113,11 @@ impl Store {
         }
     }
 
-    // What a record adds, where there is a frame for it.
-    fn plan(&self, item: &Record) -> Result<Plan, StoreFault>
+    // What a record of this page adds, where there is a frame for it.
+    fn plan(&self, page: u32, item: &Record) -> Result<Plan, StoreFault>
         requires sound { IsSound self.now holding }
         requires here { IsHere (key_of item.now) self.now.leaves }
+        requires page { page ≡ directed_at self.now.leaves.leaves item.now }
         ensures works { OnOk result ((kept_by self.now holding).log.is_failed ≡ false) }
         ensures unsealed { OnOk result (self.now.making.is_sealed ≡ false) }
         ensures next { OnOk result ((kept_by self.now holding).log.next
@@ -138,6 +140,7 @@ impl Store {
             &self.leaves,
             &self.newest,
             here,
+            page,
             item,
         )
     }

@@ -18,8 +18,11 @@ use Rattle.bw_store.proofs.MayEnter.{enters_at, file_few, file_page, file_lawful
 use Rattle.bw_ring.specs.Ends.{ring_of_lane}
 use Rattle.bw_store.proofs.store.Store.enter.Goals as goal
 
-pub apply-requires : goal.apply-requires
-apply-requires g c = c.requires.here
+pub apply_on-requires-clause-here : goal.apply_on-requires-clause-here
+apply_on-requires-clause-here g c = c.requires.here
+
+pub apply_on-requires-clause-page : goal.apply_on-requires-clause-page
+apply_on-requires-clause-page g c = c.requires.page
 
 pub reserve_for-requires : goal.reserve_for-requires
 reserve_for-requires g c =
@@ -43,7 +46,7 @@ invariant_of-self-2 g c =
     let at = c.requires.page in
     let made : c.file.new.making.blocks ≡ was.making.blocks ++ blocks_for f.m f.leaves c.args.back here c.args.item =
     ap (λ (b : Filling). b.blocks) c.file.ensures.making ∙ ap (λ (bs : List Block). was.making.blocks ++ bs) c.requires.blocks in
-    let leaves = ap (λ (x : Shown). x.leaves) c.in_ok-apply.ensures.ok in
+    let leaves = ap (λ (x : Shown). x.leaves) c.in_ok-apply_on.ensures.ok in
     record {
       tailed = c.note.ensures
           ∙ ap (tails_after c.args.page c.args.item (nat_lt 1 (length c.args.blocks.now))) (c.reserve_for.ensures.same ∙ was.tailed)
@@ -55,14 +58,14 @@ invariant_of-self-2 g c =
       logged = λ q away.
           ap (is_made q) made
           ∙ away_entered f.m f.leaves c.args.back here c.args.item was.making.blocks f.away q
-          (subst (λ (ps : List ℕ). is_among q ps ≡ true) c.apply.ensures.away away) c.requires.here
-          (c.count.ensures.beyond (length f.leaves + 1) (omega arith)) (was.logged q (subst (λ (ps : List ℕ). is_among q ps ≡ true) c.apply.ensures.away away));
+          (subst (λ (ps : List ℕ). is_among q ps ≡ true) c.apply_on.ensures.away away) c.requires.here
+          (c.count.ensures.beyond (length f.leaves + 1) (omega arith)) (was.logged q (subst (λ (ps : List ℕ). is_among q ps ≡ true) c.apply_on.ensures.away away));
     }
 
 pub file-requires-clause-lawful : goal.file-requires-clause-lawful
 file-requires-clause-lawful g c =
     file_lawful (enters_at c.args.page c.requires.sound c.requires.next c.key.ensures.lawful c.requires.page c.requires.back c.requires.blocks c.requires.fits)
-    (λ p. let x = c.in_ok-apply.ensures.spent p in cc)
+    (λ p. let x = c.in_ok-apply_on.ensures.spent p in cc)
 
 pub file-requires-clause-few : goal.file-requires-clause-few
 file-requires-clause-few g c =
@@ -77,10 +80,10 @@ file-requires-clause-page g c =
 pub returns-clause-sound : goal.returns-clause-sound
 returns-clause-sound g c =
     let e = enters_at c.args.page c.requires.sound c.requires.next c.key.ensures.lawful c.requires.page c.requires.back c.requires.blocks c.requires.fits in
-    let not : IsSpent c.args.self.now.leaves c.args.item → ⊥ = λ p. let x = c.in_ok-apply.ensures.spent p in cc in
+    let not : IsSpent c.args.self.now.leaves c.args.item → ⊥ = λ p. let x = c.in_ok-apply_on.ensures.spent p in cc in
     subst kept.IsSound
-    (sym (entered e not c.args.lane c.args.page c.enter.new.self.history.items (filed_of c.apply.new.self) c.file.new.newest.items c.file.new.making c.requires.page
-    _ c.enter.ensures.grows c.reserve.ensures.history (ap filed_of c.in_ok-apply.ensures.ok)
+    (sym (entered e not c.args.lane c.args.page c.enter.new.self.history.items (filed_of c.apply_on.new.self) c.file.new.newest.items c.file.new.making c.requires.page
+    _ c.enter.ensures.grows c.reserve.ensures.history (ap filed_of c.in_ok-apply_on.ensures.ok)
     _ c.file.ensures.newest c.reserve-2.ensures.items c.file.ensures.making
     _ _ c.enter.ensures.rings (ap (λ v. map ring_of_lane v.items) c.reserve.ensures.lanes)))
     (entered_sound e not c.args.lane (lane_inside _ _ c.requires.inside))

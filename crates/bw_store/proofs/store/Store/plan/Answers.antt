@@ -1,6 +1,12 @@
 use Rattle.std.proofs.Common.{sym}
+use Rattle.bw_store.specs.Views.{kept_by}
+use Rattle.bw_store.proofs.AwayPages.{page_within}
 use Rattle.bw_store.proofs.Planned.{answer_lawful, answer_short}
 use Rattle.bw_store.proofs.store.Store.plan.Goals as goal
+
+pub planned_for-requires-clause-within : goal.planned_for-requires-clause-within
+planned_for-requires-clause-within g c =
+    page_within (kept_by c.args.self.now (λ z. (goal.Segment-dyn g z).holding z.1)) c.requires.sound c.args.item.now c.args.page c.requires.page
 
 pub returns-clause-lawful : goal.returns-clause-lawful
 returns-clause-lawful g c =
