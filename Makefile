@@ -3,7 +3,7 @@
 # make test   the gate: the pages against the tests, every proof from nothing, the wrong bodies, the tests, the program
 # make wrong  tries the wrong bodies outside the gate, in a copy of the repository
 # make memory proves the tests of memory_tests, and runs them with each allocation refused in turn, by a shim that cc makes
-# make bench  times the store at a million keys, each subject in a process of its own (docs/TESTING.md, "Measured")
+# make bench  times the store at a million keys, each subject in a process of its own, and then over files (docs/TESTING.md, "Measured")
 # make crash  kills the program that make run built in mid-run, and looks at what its folder holds
 
 PROGRAM = crates/bwlog
@@ -33,6 +33,12 @@ memory:
 
 bench:
 	@cd crates/bw_bench && for subject in $(SUBJECTS); do rt run -- $(BENCH) --times --only $$subject || exit 1; done
+	@cd crates/bw_bench && folder=$$(mktemp -d) && trap "rm -rf $$folder" EXIT && \
+	rt run -- --times --only appends --dir $$folder && \
+	rt run -- --keys 500000 --operations 1 --batch 4096 --times --only alone --dir $$folder && \
+	for batch in 64 512 4096; do mkdir $$folder/$$batch && \
+	  rt run -- --keys 100000 --operations 100000 --batch $$batch --times --only many --dir $$folder/$$batch || exit 1; \
+	done
 
 crash:
 	python3 $(PROGRAM)/crash.py

@@ -1,4 +1,4 @@
-//! Segments in memory, and a store over them.
+//! A store over segments, in memory or not.
 
 ghost use Rattle.std.specs.Prelude.{◌≡◌, map};
 ghost use Rattle.bw_ring.specs.Ends.{ring_of_feed};
@@ -17,14 +17,14 @@ use bw_ring::Feed;
 use bw_store::{Config, Store};
 
 /// How many bytes a segment has room for, all of which it takes when it is made.
-const CAPACITY: u64 = 16_777_216;
+pub const CAPACITY: u64 = 16_777_216;
 
 /// The most bytes that a put adds to the log: a record of 8 and 128 bytes with what stands around
 /// it, and its part of a page that is cut.
 const EACH: u64 = 400;
 
 /// How many segments hold all puts, with two spares more.
-fn count_of(options: &Options<'_>) -> u32 {
+pub fn count_of(options: &Options<'_>) -> u32 {
     let bytes = options.puts().saturating_mul(EACH);
     let full = bytes / CAPACITY;
     u32::try_from(full).unwrap_or(u32::MAX).saturating_add(4)
@@ -58,13 +58,13 @@ fn go<R: System>(
     }
 }
 
-/// Runs the course over a store of these boxes, and then goes on from the live ones.
-fn over<R: System>(
+/// Runs the course over a store of these boxes, and gives the live ones back.
+pub fn over<R: System>(
     rt: &R,
     options: &Options<'_>,
     course: Course,
     boxes: Vec<Box<dyn Segment>>,
-) -> Result<(), Stop> {
+) -> Result<Vec<Box<dyn Segment>>, Stop> {
     let writers = match course {
         Course::Alone { .. } => 1,
         Course::Driven { writers, .. } => writers,
@@ -77,12 +77,11 @@ fn over<R: System>(
     let went = go(rt, options, course, &mut store, feeds);
     let (live, _spares) = store.shut(rt);
     went?;
-    let meter = Meter::start(rt, "open", 1)?;
-    reopened(rt, options, meter, live)
+    Ok(live)
 }
 
-/// Makes the boxes of a course, and runs it. A function that takes or gives a box, or a store,
-/// makes none.
+/// Makes the boxes of a course, runs it, and then goes on from the live ones. A function that takes
+/// or gives a box, or a store, makes none.
 pub fn over_memory<R: System>(rt: &R, options: &Options<'_>, course: Course) -> Result<(), Stop> {
     let alloc = rt.alloc();
     let many = count_of(options);
@@ -95,5 +94,7 @@ pub fn over_memory<R: System>(rt: &R, options: &Options<'_>, course: Course) -> 
             Err(refused) => return Err(Stop::from(refused.cause)),
         }
     }
-    over(rt, options, course, boxes)
+    let live = over(rt, options, course, boxes)?;
+    let meter = Meter::start(rt, "open", 1)?;
+    reopened(rt, options, meter, live)
 }

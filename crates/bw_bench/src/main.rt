@@ -1,7 +1,8 @@
 //! Times of the page store, and whether each key reads back as it was last put.
 //!
 //! `bw_bench` runs the subjects of `subject` one after the other, each over a store of its own, and
-//! prints what each did and what it read back. With `--times` it also prints nanoseconds and bytes.
+//! prints what each did and what it read back. With `--times` it also prints nanoseconds and bytes,
+//! and with `--dir` its segments stand in files.
 //! Keys are 8 bytes and come in a scattered order; `shape` says which value each put has.
 #![tactic(auto)]
 
@@ -11,6 +12,7 @@ mod batches;
 mod beside;
 mod boxes;
 mod driven;
+mod folders;
 mod options;
 mod pages;
 mod reopened;

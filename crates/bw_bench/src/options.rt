@@ -22,6 +22,8 @@ pub struct Options<'a> {
     pub times: bool,
     /// The one subject that is run.
     pub only: Option<&'a str>,
+    /// The folder in which each subject makes one for its segments; none: they stand in memory.
+    pub dir: Option<&'a str>,
 }
 
 impl Options<'_> {
@@ -39,7 +41,18 @@ impl Options<'_> {
     }
 }
 
-const SUBJECTS: &str = "one of pages, alone, beside, late, one, one-beside, many and many-beside";
+/// The subjects in the order in which they run.
+const SUBJECTS: &[&str] = &[
+    "pages",
+    "appends",
+    "alone",
+    "beside",
+    "late",
+    "one",
+    "one-beside",
+    "many",
+    "many-beside",
+];
 
 /// Keys, values and operations.
 fn with_shape<'a>(alloc: Global, command: Command<'a>) -> Result<Command<'a>, AllocError> {
@@ -76,7 +89,7 @@ fn with_pace<'a>(alloc: Global, command: Command<'a>) -> Result<Command<'a>, All
     command.arg(batch)?.arg(writers)
 }
 
-/// What is printed, and of which subject.
+/// What is printed, of which subject, and where its segments stand.
 fn with_choice<'a>(alloc: Global, command: Command<'a>) -> Result<Command<'a>, AllocError> {
     let times = Arg::new(alloc, "times")
         .long("times")
@@ -85,8 +98,12 @@ fn with_choice<'a>(alloc: Global, command: Command<'a>) -> Result<Command<'a>, A
     let only = Arg::new(alloc, "only")
         .long("only")
         .value_name("SUBJECT")
-        .help(SUBJECTS);
-    command.arg(times)?.arg(only)
+        .value_parser(SUBJECTS)
+        .help("the one subject that is run");
+    let dir = Arg::new(alloc, "dir").long("dir").value_name("FOLDER").help(
+        "keeps segments in files, in a new folder in this one for each subject",
+    );
+    command.arg(times)?.arg(only)?.arg(dir)
 }
 
 /// What was named by an option.
@@ -115,6 +132,7 @@ pub fn options_of<'a>(alloc: Global, words: &'a [&'a str]) -> Result<Options<'a>
         writers: found.get_one("writers").unwrap_or(0),
         times: found.get_flag("times"),
         only: named(&found, "only"),
+        dir: named(&found, "dir"),
     })
 }
 

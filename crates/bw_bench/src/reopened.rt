@@ -3,8 +3,9 @@
 ghost use Rattle.bw_store.specs.Views.{IsSound};
 
 use crate::asking::wrong_of;
+use crate::batches::bytes_of;
 use crate::options::Options;
-use crate::report::{tell, tell_wrong};
+use crate::report::{tell, tell_bytes, tell_wrong};
 use crate::stop::Stop;
 use crate::system::System;
 use crate::watch::Meter;
@@ -29,6 +30,7 @@ fn ask<R: System>(
         tell(rt, options, "recover, records", puts, recovered)?;
     }
     tell(rt, options, "open, records", puts, opened)?;
+    tell_bytes(rt, options, "  in the log", puts, bytes_of(store))?;
     let shape = options.shape();
     let wrong = wrong_of(rt, store, &shape, shape.keys, puts)?;
     tell_wrong(rt, "open", shape.keys, wrong)

@@ -2,6 +2,7 @@
 
 use bw_codec::LengthError;
 use bw_device::{NotMade, NotTaken};
+use bw_file::{FolderFault, NotOpened};
 use bw_store::{ReadFault, StoreFault};
 use std::alloc::{AllocError, AllocFailed};
 use std::io;
@@ -17,6 +18,9 @@ pub enum Stop {
     /// The store, its log or its segments refused.
     #[error("refused: {0}")]
     Refused(StoreFault),
+    /// A folder or a file was not opened.
+    #[error("refused: {0}")]
+    Folder(FolderFault),
     /// Something else was refused.
     #[error("refused: {0}")]
     Failed(&'static str),
@@ -36,7 +40,7 @@ impl Stop {
         match self {
             Stop::Wrong(_) => 1,
             Stop::Usage => 2,
-            Stop::Refused(_) | Stop::Failed(_) => 4,
+            Stop::Refused(_) | Stop::Folder(_) | Stop::Failed(_) => 4,
             Stop::NoMemory => 5,
             Stop::Output | Stop::Thread => 6,
         }
@@ -71,8 +75,11 @@ impl From<StoreFault> for Stop {
 }
 
 impl From<ReadFault> for Stop {
-    fn from(_fault: ReadFault) -> Stop {
-        Stop::Failed("a reader")
+    fn from(fault: ReadFault) -> Stop {
+        match fault {
+            ReadFault::NoMemory => Stop::NoMemory,
+            ReadFault::NoReader => Stop::Failed("a reader"),
+        }
     }
 }
 
@@ -92,7 +99,25 @@ impl From<NotMade> for Stop {
 }
 
 impl From<NotTaken> for Stop {
-    fn from(_error: NotTaken) -> Stop {
-        Stop::Failed("a lease")
+    fn from(error: NotTaken) -> Stop {
+        match error {
+            NotTaken::NoMemory => Stop::NoMemory,
+            NotTaken::NoLease => Stop::Failed("a lease"),
+        }
+    }
+}
+
+impl From<FolderFault> for Stop {
+    fn from(fault: FolderFault) -> Stop {
+        match fault {
+            FolderFault::NoMemory => Stop::NoMemory,
+            other => Stop::Folder(other),
+        }
+    }
+}
+
+impl From<NotOpened> for Stop {
+    fn from(refused: NotOpened) -> Stop {
+        Stop::from(refused.cause)
     }
 }

@@ -1,6 +1,7 @@
 //! The subjects, each over a store of its own.
 
 use crate::boxes::over_memory;
+use crate::folders::{appends, over_files};
 use crate::options::Options;
 use crate::pages::pages;
 use crate::report::tell_sizes;
@@ -57,7 +58,21 @@ fn run_if<R: System>(
         return Ok(());
     }
     println!(rt; "{name}")?;
-    over_memory(rt, options, course)
+    match options.dir {
+        Some(dir) => over_files(rt, options, course, dir, name),
+        None => over_memory(rt, options, course),
+    }
+}
+
+/// Appends have no subject where segments stand in memory.
+fn appends_if<R: System>(rt: &R, options: &Options<'_>) -> Result<(), Stop> {
+    match options.dir {
+        Some(dir) if is_asked(options, "appends") => {
+            println!(rt; "appends")?;
+            appends(rt, options, dir)
+        }
+        _ => Ok(()),
+    }
 }
 
 /// Runs all subjects, or the one that is asked for.
@@ -67,6 +82,7 @@ pub fn run<R: System>(rt: &R, options: &Options<'_>) -> Result<(), Stop> {
         println!(rt; "pages")?;
         pages(rt, options)?;
     }
+    appends_if(rt, options)?;
     for (name, course) in [("alone", ALONE), ("beside", BESIDE), ("late", LATE)] {
         run_if(rt, options, name, course)?;
     }
