@@ -13,10 +13,10 @@ SUBJECTS = pages alone beside late one one-beside many many-beside
 .PHONY: run try test wrong memory bench crash
 
 run:
-	@cat $(PROGRAM)/stdin && cd $(PROGRAM) && rt run -- $$(cat args) < stdin
+	@cat $(PROGRAM)/stdin && cd $(PROGRAM) && rt run -- replay < stdin
 
 try:
-	@echo "(nothing is proved by this run)" && cd $(PROGRAM) && rt try -- $$(cat args) < stdin
+	@echo "(nothing is proved by this run)" && cd $(PROGRAM) && rt try -- replay < stdin
 
 test:
 	python3 docs/same.py

@@ -1,6 +1,7 @@
 #!/usr/bin/env python3
-"""The examples of README.md stand to the letter in the tests that run them, and the dumps of FORMAT.md have the bytes that
-the tests read: so neither can go stale. It prints nothing where both hold."""
+"""The examples of README.md stand to the letter in the tests that run them, the dumps of FORMAT.md have the bytes that the
+tests read, and the stored folder from which the program goes on has the second of them: so none can go stale. It prints nothing
+where all hold."""
 
 import re
 import sys
@@ -12,6 +13,7 @@ EXAMPLES = [
     "crates/drive_tests/src/tests/readme.rt",
 ]
 VECTORS = "crates/care_tests/src/tests/vectors.rt"
+STORED = "crates/bwlog/data/store/segment-0000.bw"
 
 
 def text(path):
@@ -45,6 +47,9 @@ def main():
     if len(found) != 4:
         wrong.append("FORMAT.md has %d dumps in place of 4" % len(found))
     wrong += ["FORMAT.md: no test has " + dump for dump in found if '"%s"' % dump not in vectors]
+    with open(STORED, "rb") as file:
+        if file.read().hex() not in found:
+            wrong.append(STORED + " has not the bytes of a dump of FORMAT.md")
     for line in wrong:
         print(line)
     return 1 if wrong else 0
