@@ -8,6 +8,7 @@ ghost use Rattle.bw_codec.specs.Heads.{PairList, head, IsRow};
 use crate::key::{Key, Value};
 use std::alloc::Global;
 
+// A byte of a key; zeros stand behind its end.
 fn byte_at(key: &[u8], at: usize) -> u8
     ensures { result ≡ get_or key.now at 0 }
 {

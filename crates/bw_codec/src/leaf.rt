@@ -76,7 +76,8 @@ impl Model for Pairs {
 }
 
 impl Pairs {
-    /// Pairs as they stand in a `Vec`. Linear in them.
+    /// Pairs as they stand in a `Vec`. It is never refused; their row takes memory, and is linear in
+    /// them.
     pub fn of(items: Vec<(Key, Value)>) -> Pairs
         ensures { result ≡ items.items }
     {

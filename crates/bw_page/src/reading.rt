@@ -21,7 +21,8 @@ pub fn change_all(leaf: Leaf, records: &[Record]) -> Result<Leaf, AllocError>
     Ok(leaf)
 }
 
-/// The leaf without its pairs from a key on. No memory is taken.
+/// The leaf without its pairs from a key on. It is never refused; where memory is wanting it only has
+/// no row of heads.
 pub fn keep_below(leaf: Leaf, separator: &[u8]) -> Leaf
     ensures { result ≡ kept_below separator.now leaf }
 {
