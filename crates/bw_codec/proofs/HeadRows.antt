@@ -1,6 +1,6 @@
 -- Heads tell an order of keys, and a row of them goes along with its pairs.
 
-use Rattle.std.proofs.Common.{◌≡◌, ℕ, zero, suc, ◌+◌, ◌*◌, ◌^◌, ◌<◌, ◌≤◌, ◌⊎◌, inl, inr, List, [], ◌∷◌, ◌++◌, length, take, drop, map, insert, remove}
+use Rattle.std.proofs.Common.{◌≡◌, ℕ, zero, suc, ◌*◌, ◌^◌, ◌<◌, ◌≤◌, inl, inr, List, [], ◌∷◌, ◌++◌, length, take, drop, map, insert, remove}
 use Rattle.std.proofs.Common.{refl, sym, ap, ◌∙◌, subst, arith, Less, Equal, Greater}
 use Rattle.std.proofs.lemmas.List.{length-map, map-append, take-map, drop-map, map-set}
 use Rattle.std.proofs.Math.Nat.{mul-le-mul_right}

@@ -1,6 +1,6 @@
 -- Records as a list, however they are held.
 
-use Rattle.std.specs.Prelude.{List, vec_items}
+use Rattle.std.specs.Prelude.{List}
 use Rattle.bw_codec.specs.declared.record.Record.{Record}
 use Rattle.bw_codec.specs.declared.record.Items.{Items}
 use Rattle.bw_codec.specs.declared.record.Items.TheVariants.{One, Many}

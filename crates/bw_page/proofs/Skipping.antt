@@ -1,13 +1,13 @@
 -- A search that begins behind pairs whose keys are below ends where one from the front does.
 
-use Rattle.std.proofs.Common.{◌≡◌, ℕ, zero, suc, ◌+◌, ◌<◌, ◌≤◌, true, Result, Ok, Err, [], ◌∷◌, length, take, drop, refl, sym, ap, ◌∙◌, arith, zero-add, ◌-◌, take_all, length-drop}
+use Rattle.std.proofs.Common.{◌≡◌, ℕ, zero, suc, ◌+◌, ◌≤◌, true, Result, Ok, Err, [], ◌∷◌, length, take, drop, refl, sym, ap, ◌∙◌, arith, zero-add, ◌-◌, take_all, length-drop}
 use Rattle.std.specs.Ordering.{is_gt}
 use Rattle.std.specs.FinMap.Entries.{by_order}
 use Rattle.std.specs.declared.cmp.Ordering.{Ordering}
 use Rattle.std.specs.declared.cmp.Ordering.TheVariants.{Less, Equal, Greater}
 use Rattle.bw_codec.specs.Heads.{AreBelow}
 use Rattle.bw_page.specs.Leaves.{Bytes, Pairs, order}
-use Rattle.bw_page.specs.Seek.{seek_of, passed, IsWithin}
+use Rattle.bw_page.specs.Seek.{seek_of, passed}
 use Rattle.bw_page.proofs.Order.{greater_is_below}
 
 above : (r : Ordering) → is_gt r ≡ true → r ≡ Greater

@@ -1,4 +1,4 @@
-use Rattle.std.proofs.Common.{◌≡◌, inr, sym, ap, ◌∙◌, length, insert, arith}
+use Rattle.std.proofs.Common.{◌≡◌, inr, ◌∙◌, length, insert, arith}
 use Rattle.bw_codec.specs.Heads.{head}
 use Rattle.bw_codec.proofs.HeadRows.{whole_row, row_inserted}
 use Rattle.bw_codec.proofs.heads.insert_head.Goals as goal

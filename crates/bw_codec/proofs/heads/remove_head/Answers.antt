@@ -1,4 +1,4 @@
-use Rattle.std.proofs.Common.{◌≡◌, ◌<◌, length, remove, subst, sym, arith}
+use Rattle.std.proofs.Common.{◌<◌, length, remove, subst, sym, arith}
 use Rattle.bw_codec.specs.Heads.{IsRow}
 use Rattle.bw_codec.proofs.HeadRows.{row_removed}
 use Rattle.bw_codec.proofs.heads.remove_head.Goals as goal
