@@ -6,6 +6,7 @@ use Rattle.std.proofs.lemmas.List.{drop_at, drop-drop, map-append, take_all}
 use Rattle.std.specs.List.{flat_map, AllByRecursion}
 use Rattle.std.proofs.lemmas.Grind.{flat_map-append}
 use Rattle.bw_log.proofs.Reread.{all-push}
+use Rattle.bw_codec.specs.Bytes.{IsBytes}
 use Rattle.bw_codec.specs.Grammar.{IsTail}
 use Rattle.bw_codec.specs.Grammar.{frame_bytes, IsFrame, IsFront}
 use Rattle.bw_codec.specs.Reading.{Says, Gives, front_at}
@@ -14,7 +15,6 @@ use Rattle.bw_codec.specs.declared.block.FrameRead.{FrameRead}
 use Rattle.bw_codec.specs.declared.block.FrameRead.TheVariants.{Whole, Tail}
 use Rattle.bw_codec.specs.declared.fault.CodecFault.{CodecFault}
 use Rattle.bw_codec.specs.declared.fault.CodecFault.TheVariants.{NoMemory, BadBytes}
-use Rattle.bw_codec.proofs.Format.{IsBytes}
 use Rattle.bw_codec.proofs.FrontFormat.{is_front, front_is}
 use Rattle.bw_log.specs.Segments.{frames_at, entry_of, entries_from}
 use Rattle.bw_log.specs.declared.places.FrameAt.{FrameAt}

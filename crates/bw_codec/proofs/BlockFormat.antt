@@ -5,7 +5,7 @@ use Rattle.std.proofs.Common.{sym, ap, subst, ◌∙◌, arith}
 use Rattle.std.proofs.lemmas.Bool.{ltb-false, le-ltb, eqb-true, eqb-false, ne_eqb}
 use Rattle.std.specs.List.{flat_map, AllByRecursion}
 use lib.Pointwise.{bytes_decides}
-use Rattle.bw_codec.specs.Bytes.{number_bytes, text, ascends}
+use Rattle.bw_codec.specs.Bytes.{number_bytes, text, ascends, IsBytes}
 use Rattle.bw_codec.specs.Grammar.{op_bytes, pair_bytes, place_bytes, pairs_bytes, ops_bytes, upper_bytes, block_bytes, IsPair, IsOp, IsPage, IsPlace, IsDelta}
 use Rattle.bw_codec.specs.Grammar.{IsBase, IsSplit, IsBlock, first_key}
 use Rattle.bw_codec.specs.Reading.{Found, ◌>>=◌, number_at, text_at, put_at, del_at, op_at, pair_at, many_at, place_at, page_at, pairs_at, delta_at, base_at}
@@ -16,7 +16,7 @@ use Rattle.bw_codec.specs.declared.leaf.Leaf.{Leaf}
 use Rattle.bw_codec.specs.declared.block.Place.{Place}
 use Rattle.bw_codec.specs.declared.block.Block.{Block}
 use Rattle.bw_codec.specs.declared.block.Block.TheVariants.{Delta, Base, Split}
-use Rattle.bw_codec.proofs.Format.{IsBytes, Takes, IsFormat, IsRun, found, takes_as, bind_some, passed, held, then_parts, again_on, number_format, text_format}
+use Rattle.bw_codec.proofs.Format.{Takes, IsFormat, IsRun, found, takes_as, bind_some, passed, held, then_parts, again_on, number_format, text_format}
 
 -- ---- pairs and records
 

@@ -8,12 +8,8 @@ use Rattle.std.proofs.Math.Nat.{pow-succ', div-div-eq-div-mul}
 use Rattle.std.specs.Int.{byte_at, bytes_low_first}
 use Rattle.byteorder.specs.Endian.{little_from, little_number}
 use Rattle.byteorder.specs.Numbers.{little_from-cons, little_from-take, little_from-lt, little_number-reads_back, length-bytes_low_first}
-use Rattle.bw_codec.specs.Bytes.{number_bytes, text}
+use Rattle.bw_codec.specs.Bytes.{IsBytes, number_bytes, text}
 use Rattle.bw_codec.specs.Reading.{Found, ◌>>=◌, number_at, run_at, text_at}
-
--- each of them is a byte
-abbrev pub IsBytes : List ℕ → Type 0
-IsBytes bytes = (i : ℕ) → get_or bytes i 0 < 256
 
 -- what was taken from the front
 pub record Takes {X : Type 0} (spell : X → List ℕ) (Law : X → Type 0) (bytes : List ℕ) (x : X) (rest : List ℕ) : Type 0 where

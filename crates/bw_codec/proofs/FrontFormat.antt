@@ -6,7 +6,7 @@ use Rattle.std.proofs.lemmas.Bool.{ltb-false, ltb-true, le-ltb, lt-ltb, leb-true
 use Rattle.std.proofs.lemmas.List.{take_at, take-append-drop, nil_from_length, length-take-le, append_cancel_left}
 use Rattle.std.proofs.Math.Seq.{take-append-add}
 use Rattle.byteorder.specs.Numbers.{length-bytes_low_first}
-use Rattle.bw_codec.specs.Bytes.{number_bytes}
+use Rattle.bw_codec.specs.Bytes.{number_bytes, IsBytes}
 use Rattle.bw_codec.specs.Grammar.{block_bytes, body_bytes, frame_word, head_bytes, frame_bytes, agrees, is_head, IsHead, IsBlock, IsFrame, IsFront}
 use Rattle.std.specs.Prelude.{Result, Ok, Err, IfOk}
 use Rattle.bw_codec.specs.declared.fault.CodecFault.{CodecFault}
@@ -17,7 +17,7 @@ use Rattle.bw_codec.specs.declared.block.Frame.{Frame}
 use Rattle.bw_codec.specs.declared.block.Head.{Head}
 use Rattle.bw_codec.specs.declared.block.FrameRead.{FrameRead}
 use Rattle.bw_codec.specs.declared.block.FrameRead.TheVariants.{Whole, Tail}
-use Rattle.bw_codec.proofs.Format.{IsBytes, Takes, bytes_after, bytes_before, found, takes_as, bind_some, held, then_parts, again_on, number_format}
+use Rattle.bw_codec.proofs.Format.{Takes, bytes_after, bytes_before, found, takes_as, bind_some, held, then_parts, again_on, number_format}
 use Rattle.bw_codec.proofs.BlockFormat.{many_takes, many_again, block_format}
 
 -- ---- the word in front

@@ -12,9 +12,8 @@ use Rattle.std.specs.Cmp.{ranked}
 use Rattle.std.specs.Cmp.Lexicographic.{slice_cmp}
 use Rattle.byteorder.specs.Endian.{big_from}
 use Rattle.byteorder.specs.Numbers.{big_from-cons, big_from-lt}
-use Rattle.bw_codec.specs.Bytes.{is_below}
+use Rattle.bw_codec.specs.Bytes.{is_below, IsBytes}
 use Rattle.bw_codec.specs.Heads.{PairList, head, heads, IsRow, AreBelow}
-use Rattle.bw_codec.proofs.Format.{IsBytes}
 
 -- ---- the order
 
@@ -23,7 +22,7 @@ none i zero = refl
 none i (suc n) = omega (arith, none (suc i) n)
 
 -- a key whose head is below another's is below that key
-below_by_head : (n : ℕ) (a b : List ℕ) → IsBytes b → big_from 0 n a < big_from 0 n b → IsTrue (is_below a b)
+pub below_by_head : (n : ℕ) (a b : List ℕ) → IsBytes b → big_from 0 n a < big_from 0 n b → IsTrue (is_below a b)
 below_by_head zero a b fits h = absurd (omega arith)
 below_by_head (suc n) a [] fits h = absurd (omega (arith, none 0 (suc n)))
 below_by_head (suc n) [] (y ∷ ys) fits h = refl

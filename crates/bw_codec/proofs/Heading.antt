@@ -5,14 +5,14 @@ use Rattle.std.proofs.Common.{subst, ◌∙◌, append_assoc, arith, length-appe
 use Rattle.std.proofs.lemmas.Bool.{ltb-false, ltb-true, le-ltb, lt-ltb, leb-true, le-leb, eqb-true, and_parts, and_from}
 use Rattle.std.proofs.lemmas.List.{drop_at, drop-drop, append_cancel_left}
 use Rattle.byteorder.specs.Endian.{little_number}
-use Rattle.bw_codec.specs.Bytes.{number_bytes}
+use Rattle.bw_codec.specs.Bytes.{number_bytes, IsBytes}
 use Rattle.bw_codec.specs.Grammar.{segment_word, header_bytes, agrees, is_header, IsHeader, IsPart, IsHeading}
 use Rattle.bw_codec.specs.Laws.{OneHeaderSpelling}
 use Rattle.bw_codec.specs.Reading.{header_in, heading_of}
 use Rattle.bw_codec.specs.declared.block.Header.{Header}
 use Rattle.bw_codec.specs.declared.block.HeaderRead.{HeaderRead}
 use Rattle.bw_codec.specs.declared.block.HeaderRead.TheVariants as heading
-use Rattle.bw_codec.proofs.Format.{IsBytes, bytes_after, then_parts, number_there, number_reads}
+use Rattle.bw_codec.proofs.Format.{bytes_after, then_parts, number_there, number_reads}
 use Rattle.bw_codec.proofs.FrontFormat.{agrees_begins, length-number}
 
 -- ---- the tests

@@ -1,6 +1,6 @@
 -- Keys as bytes, their order, and a run of bytes behind its length.
 
-use Rattle.std.specs.Prelude.{ℕ, ◌≤◌, ◌&&◌, Bool, true, List, [], ◌∷◌, length}
+use Rattle.std.specs.Prelude.{ℕ, ◌<◌, ◌≤◌, ◌&&◌, Bool, true, List, [], ◌∷◌, get_or, length}
 use Rattle.std.specs.Ordering.{nat_cmp, is_lt}
 use Rattle.std.specs.Cmp.Lexicographic.{slice_cmp}
 use Rattle.byteorder.specs.Endian.{little_bytes}
@@ -22,6 +22,10 @@ text bytes = length bytes ∷ bytes
 -- the length of a key
 abbrev pub IsKey : List ℕ → Type 0
 IsKey k = (1 ≤ length k) × (length k ≤ 64)
+
+-- each of these numbers is a byte
+abbrev pub IsBytes : List ℕ → Type 0
+IsBytes bytes = (i : ℕ) → get_or bytes i 0 < 256
 
 -- a number in n bytes, the lowest first
 unfoldable pub number_bytes : ℕ → ℕ → List ℕ

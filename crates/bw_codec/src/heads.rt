@@ -3,6 +3,7 @@
 
 ghost use Rattle.std.specs.Prelude.{◌≡◌, ℕ, List, ◌≤◌, ◌<◌, get_or, length, take, insert, remove, slice_set};
 ghost use Rattle.std.specs.List.{AllByRecursion};
+ghost use Rattle.bw_codec.specs.Bytes.{IsBytes};
 ghost use Rattle.bw_codec.specs.Heads.{PairList, head, IsRow};
 
 use crate::key::{Key, Value};
@@ -36,7 +37,8 @@ fn short_head(key: &[u8]) -> u64
 
 /// The head of a key.
 pub(crate) fn head_of(key: &[u8]) -> u64
-    ensures { result ≡ head key.now }
+    ensures value { result ≡ head key.now }
+    ensures bytes { IsBytes key.now }
 {
     match key {
         [a, b, c, d, e, f, g, h, ..] => u64::from_be_bytes([*a, *b, *c, *d, *e, *f, *g, *h]),

@@ -1,8 +1,10 @@
 //! Keys and values, in fixed room: copying one takes no memory.
 
 ghost use Rattle.std.specs.Prelude.{◌≡◌, ◌≤◌, ◌↔◌, length, IsOk, IfOk, IfErr};
-ghost use Rattle.bw_codec.specs.Bytes.{is_below};
+ghost use Rattle.bw_codec.specs.Bytes.{is_below, IsBytes};
+ghost use Rattle.bw_codec.specs.Heads.{head};
 
+use crate::heads::head_of;
 use crate::limits::{MAX_KEY, MAX_VALUE};
 use arrayvec::ArrayVec;
 use std::cmp::Ordering;
@@ -58,6 +60,16 @@ impl Key {
         ensures lawful { (1 ≤ length self.now) × (length self.now ≤ 64) }
     {
         self.bytes.as_slice()
+    }
+
+    /// The key's first eight bytes as one number, the highest first; zeros stand for those that it
+    /// lacks. A key whose head is below another's is below that key.
+    pub fn head(&self) -> u64
+        ensures value { result ≡ head self.now }
+        ensures lawful { (1 ≤ length self.now) × (length self.now ≤ 64) }
+        ensures bytes { IsBytes self.now }
+    {
+        head_of(self.bytes.as_slice())
     }
 
     /// The same key. No memory is taken.

@@ -7,12 +7,12 @@ pub returns-clause-below : goal.returns-clause-below
 returns-clause-below c =
     let row : IsRow c.self.inside.row.items c.args.self.now = subst (λ (p : PairList). IsRow c.self.inside.row.items p) c.self.view_is c.self.invariant in
     let within = rw c.as_slice.ensures.value at c.count_below.ensures.within in
-    let below = rw (c.as_slice.ensures.value, c.head_of.ensures) at c.count_below.ensures.below in
+    let below = rw (c.as_slice.ensures.value, c.head_of.ensures.value) at c.count_below.ensures.below in
     (skipped_below c.args.key.now _ _ c.count_below.result (λ i. (c.type_inv.key i).fits) row within below).1
 
 pub returns-clause-within : goal.returns-clause-within
 returns-clause-within c =
     let row : IsRow c.self.inside.row.items c.args.self.now = subst (λ (p : PairList). IsRow c.self.inside.row.items p) c.self.view_is c.self.invariant in
     let within = rw c.as_slice.ensures.value at c.count_below.ensures.within in
-    let below = rw (c.as_slice.ensures.value, c.head_of.ensures) at c.count_below.ensures.below in
+    let below = rw (c.as_slice.ensures.value, c.head_of.ensures.value) at c.count_below.ensures.below in
     (skipped_below c.args.key.now _ _ c.count_below.result (λ i. (c.type_inv.key i).fits) row within below).0
