@@ -7,7 +7,6 @@ use Rattle.std.specs.Prelude.{slice_set}
 use Rattle.std.specs.List.{AllByRecursion as All}
 use Rattle.std.specs.Ordering.{eq_by_cmp}
 use Rattle.std.specs.Map.{lookup}
-use Rattle.std.specs.BTreeMap as tree
 use Rattle.std.specs.FinMap.Entries.{find, find-append}
 use Rattle.std.proofs.lemmas.Bool.{le-leb, lt-leb}
 use Rattle.std.proofs.lemmas.List.{length-map}
@@ -17,6 +16,7 @@ use Rattle.bw_codec.specs.declared.leaf.Leaf.{Leaf}
 use Rattle.bw_codec.specs.declared.record.Record.{Record}
 use Rattle.bw_page.specs.declared.leaves.Leaves.TheInside.{Inside}
 use Rattle.bw_page.specs.Leaves.{Bytes, order, empty_leaf, home, changed, AreLeaves, BeginsEmpty, HasPage, lower_of, upper_of, applied, union, changed_map}
+use Rattle.bw_page.specs.LowHeads.{page_of_low}
 use Rattle.bw_page.specs.Shown.{Shown, applied_by}
 use Rattle.bw_page.specs.Seek.{seek_of, IsWithin}
 use Rattle.bw_page.specs.Lows.{lows_of}
@@ -66,7 +66,7 @@ lawful_at a b em el h = subst (λ (p : ℕ × List Leaf). AreLeaves p.0 p.1) (λ
 
 -- nothing was changed
 pub same_filed : (a b : Inside) → IsIndexed a → b.m ≡ a.m → b.leaves.items ≡ a.leaves.items
-    → ((q : Bytes) → tree.get order b.index q ≡ tree.get order a.index q) → IsIndexed b
+    → ((q : Bytes) → page_of_low b.index q ≡ page_of_low a.index q) → IsIndexed b
 same_filed a b h em el same = record {
   limit = subst (λ (n : ℕ). (4 ≤ n) × (n ≤ 32)) (sym em) h.limit;
   count = subst (λ (ls : List Leaf). length ls < 2 ^ 32) (sym el) h.count;
@@ -96,7 +96,7 @@ module _ (a : Inside) (h : IsIndexed a) (r : Record) (op : IsOp r) (at : ℕ) (h
   whole_is fits = in_place (changed r (home (key_of r) a.leaves.items)) refl ∙ sym (applied-whole a.m a.leaves.items r some h.lawful op fits)
 
   pub whole_filed : (b : Inside) → b.m ≡ a.m → length (changed r (home (key_of r) a.leaves.items)).pairs ≤ a.m → b.leaves.items ≡ applied a.m a.leaves.items r
-      → ((q : Bytes) → tree.get order b.index q ≡ tree.get order a.index q) → IsIndexed b
+      → ((q : Bytes) → page_of_low b.index q ≡ page_of_low a.index q) → IsIndexed b
   whole_filed b em fits el same =
       let into = whole_in a.m a.leaves.items (key_of r) _ (directed a.m a.leaves.items r h.lawful op) fits in
       let form = applied-whole a.m a.leaves.items r some h.lawful op fits in
@@ -122,9 +122,9 @@ module _ (a : Inside) (h : IsIndexed a) (r : Record) (op : IsOp r) (at : ℕ) (h
 
   pub cut_filed : (b : Inside) → b.m ≡ a.m → a.m < length (changed r (home (key_of r) a.leaves.items)).pairs → length a.leaves.items + 1 < 2 ^ 32
       → b.leaves.items ≡ applied a.m a.leaves.items r
-      → ((q : Bytes) → tree.get order b.index q
+      → ((q : Bytes) → page_of_low b.index q
       ≡ cond (eq_by_cmp order q (upper_of a.m (length a.leaves.items + 1) (changed r (home (key_of r) a.leaves.items))).low)
-      (Some (length a.leaves.items + 1)) (tree.get order a.index q))
+      (Some (length a.leaves.items + 1)) (page_of_low a.index q))
       → IsIndexed b
   cut_filed b em over room el got =
       let x = changed r (home (key_of r) a.leaves.items) in
@@ -200,7 +200,7 @@ module _ (a : Inside) (h : IsIndexed a) (now : Shown) (v : view_of a ≡ now) (r
 
   pub follows_whole : (b : Inside) → b.m ≡ a.m → b.leaves.away ≡ a.leaves.away → count ≤ a.m
       → ((d : Leaf) → b.leaves.items ≡ slice_set a.leaves.items at (changed r (get_or a.leaves.items at d)))
-      → ((q : Bytes) → tree.get order b.index q ≡ tree.get order a.index q) → Follows now r b
+      → ((q : Bytes) → page_of_low b.index q ≡ page_of_low a.index q) → Follows now r b
   follows_whole b em ea few set same =
       let fits : length (changed r (home (key_of r) a.leaves.items)).pairs ≤ a.m = (let c = count_inside in omega arith) in
       let el : b.leaves.items ≡ applied a.m a.leaves.items r =
@@ -215,8 +215,8 @@ module _ (a : Inside) (h : IsIndexed a) (now : Shown) (v : view_of a ≡ now) (r
   pub follows_cut : (b : Inside) (page : ℕ) → b.m ≡ a.m → b.leaves.away ≡ a.leaves.away → a.m < count → page ≡ length a.leaves.items + 1 → page < 2 ^ 32
       → ((d : Leaf) → b.leaves.items ≡ slice_set a.leaves.items at (lower_of a.m (changed r (get_or a.leaves.items at d)))
       ++ upper_of a.m page (changed r (get_or a.leaves.items at d)) ∷ [])
-      → ((d : Leaf) (q : Bytes) → tree.get order b.index q
-      ≡ cond (eq_by_cmp order q (upper_of a.m page (changed r (get_or a.leaves.items at d))).low) (Some page) (tree.get order a.index q))
+      → ((d : Leaf) (q : Bytes) → page_of_low b.index q
+      ≡ cond (eq_by_cmp order q (upper_of a.m page (changed r (get_or a.leaves.items at d))).low) (Some page) (page_of_low a.index q))
       → Follows now r b
   follows_cut b page em ea many e room set got =
       let over : a.m < length (changed r (home (key_of r) a.leaves.items)).pairs = (let c = count_inside in omega arith) in
@@ -230,16 +230,16 @@ module _ (a : Inside) (h : IsIndexed a) (now : Shown) (v : view_of a ≡ now) (r
       ∙ cut_is a h r op at here_inside over in
       record {
         filed = cut_filed a h r op at here_inside b em over fits el (λ q. got empty_leaf q
-            ∙ ap (λ (l : Leaf). cond (eq_by_cmp order q (upper_of a.m page (changed r l)).low) (Some page) (tree.get order a.index q))
+            ∙ ap (λ (l : Leaf). cond (eq_by_cmp order q (upper_of a.m page (changed r l)).low) (Some page) (page_of_low a.index q))
             (leaf_is a h r op at here_inside empty_leaf)
-            ∙ ap (λ n. cond (eq_by_cmp order q (upper_of a.m n (changed r (home (key_of r) a.leaves.items))).low) (Some n) (tree.get order a.index q)) e);
+            ∙ ap (λ n. cond (eq_by_cmp order q (upper_of a.m n (changed r (home (key_of r) a.leaves.items))).low) (Some n) (page_of_low a.index q)) e);
         view = viewed b em ea el;
         plain = plain_is a h r op at here_inside b.leaves.items (λ o. fits) el ∙ ap (λ (f : Shown). changed_map (union f.leaves) r) v;
       }
 
 -- the same entries give the same look-ups
-pub same_gets : (x y : tree.BTreeMap Bytes ℕ) → y.entries ≡ x.entries → (q : Bytes) → tree.get order y q ≡ tree.get order x q
-same_gets x y e q = ap (λ es. lookup (tree.is_at (order q)) es) e
+pub same_gets : (x y : List (Bytes × ℕ)) → y ≡ x → (q : Bytes) → page_of_low y q ≡ page_of_low x q
+same_gets x y e q = ap (λ (lows : List (Bytes × ℕ)). page_of_low lows q) e
 
 -- ---- what a record did
 

@@ -12,6 +12,7 @@ use Rattle.bw_codec.specs.Bytes.{is_below}
 use Rattle.bw_codec.specs.declared.leaf.Leaf.{Leaf}
 use Rattle.bw_page.specs.Leaves.{Bytes, order, empty_leaf, best, home, leaf_at, AreNumbered, AreLeaves}
 use Rattle.bw_page.specs.Lows.{lows_of}
+use Rattle.bw_page.specs.LowHeads.{IsGreatestLow, HasNoLow}
 use Rattle.bw_page.specs.Shown.{HasGreatestLow, TakesKey}
 use Rattle.bw_page.proofs.Order.{UpTo, order-total, greater_is_below, upto_empty, upto-antisymm, tied}
 use Rattle.bw_page.proofs.Sorted.{all-map, all-zip}
@@ -97,18 +98,17 @@ home_takes m q leaves a =
     (sym (home-all (λ l. leaf_at l.page leaves ≡ Some l) q leaves a.first (each_at leaves a.pages)))
     (home-low q leaves a.first, home-max q leaves)
 
--- ---- what a range of the index tells
+-- ---- what a search in the index tells
 
 module _ (m : ℕ) (q : Bytes) (leaves : List Leaf) (a : AreLeaves m leaves) (got : Bytes → Option ℕ)
     (index : (k : Bytes) → got k ≡ find order k (lows_of (drop 1 leaves))) where
-  pub empty_range : ((k : Bytes) → Unit {0} × (is_gt (order k q) ≡ false) → got k ≡ None) → 1 ≡ (home q leaves).page
-  empty_range h = none_below_is_first m q leaves a (λ low u. sym (index low) ∙ h low (tt, greater_is_below low q ∙ u))
+  pub no_low_is_first : HasNoLow got q → 1 ≡ (home q leaves).page
+  no_low_is_first none = none_below_is_first m q leaves a (λ low u. sym (index low) ∙ none low u)
 
-  pub last_of_range : (low : Bytes) (page : ℕ) → (Unit {0} × (is_gt (order low q) ≡ false)) × (got low ≡ Some page)
-      → ((k : Bytes) → Unit {0} × (is_gt (order k q) ≡ false) → IsSome (got k) → is_below low k ≡ false) → page ≡ (home q leaves).page
-  last_of_range low page e h =
-      last_below m q low page leaves a (sym (greater_is_below low q) ∙ e.0.1) (sym (index low) ∙ e.1)
-      (λ k u some. h k (tt, greater_is_below k q ∙ u) (subst (λ (o : Option ℕ). IsSome o) (sym (index k)) some))
+  pub greatest_is_home : (page : ℕ) → IsGreatestLow got q page → page ≡ (home q leaves).page
+  greatest_is_home page g =
+      last_below m q g.low page leaves a g.upto (sym (index g.low) ∙ g.its)
+      (λ k u some. g.greatest k u (subst (λ (o : Option ℕ). IsSome o) (sym (index k)) some))
 
 -- the page of a home is the page of a leaf
 pub home_within : (m : ℕ) (q : Bytes) (leaves : List Leaf) → AreLeaves m leaves → (1 ≤ (home q leaves).page) × ((home q leaves).page ≤ length leaves)

@@ -3,18 +3,16 @@
 use Rattle.std.proofs.Common.{◌≡◌, ℕ, zero, suc, ◌+◌, ◌-◌, ◌<◌, ◌≤◌, ◌^◌, cond, Option, Some, List, [], ◌∷◌, length, drop, get_or, refl, sym, ap, ◌∙◌, arith}
 use Rattle.std.proofs.Common.{drop-cons, lit<}
 use Rattle.std.specs.List.{AllByRecursion as All}
-use Rattle.std.specs.Ordering.{is_eq}
-use Rattle.std.specs.Cmp.{eq_by_cmp_equiv}
-use Rattle.std.specs.BTreeMap as tree
+use Rattle.std.specs.Ordering.{eq_by_cmp}
 use Rattle.std.specs.FinMap.Entries.{find}
 use Rattle.bw_codec.specs.Bytes.{IsKey}
 use Rattle.bw_codec.specs.Grammar.{IsBase}
 use Rattle.bw_codec.specs.declared.leaf.Leaf.{Leaf}
 use Rattle.bw_page.specs.declared.leaves.Leaves.TheInside.{Inside}
 use Rattle.bw_page.specs.Leaves.{Bytes, order, AreNumbered, AreLeaves}
+use Rattle.bw_page.specs.LowHeads.{page_of_low}
 use Rattle.bw_page.specs.Lows.{lows_of}
 use Rattle.bw_page.specs.Index.{IsIndexed}
-use Rattle.bw_page.proofs.Order.{order-total}
 use Rattle.bw_page.proofs.Sorted.{all-map, all-zip}
 use Rattle.bw_page.proofs.Homes.{pages_from}
 
@@ -47,15 +45,14 @@ low_key (l ∷ ls) (suc i) d h one k = nth-all (λ x. IsKey x.low) i ls d h (ome
 -- one leaf more from behind
 pub index-step : (leaves : List Leaf) (n : ℕ) (leaf : Leaf) (got new : Bytes → Option ℕ) → 1 < n → n ≤ length leaves → leaf ≡ get_or leaves (n - 1) leaf
     → ((q : Bytes) → got q ≡ find order q (lows_of (drop n leaves)))
-    → ((q : Bytes) → new q ≡ cond (is_eq (order leaf.low q)) (Some leaf.page) (got q))
+    → ((q : Bytes) → new q ≡ cond (eq_by_cmp order q leaf.low) (Some leaf.page) (got q))
     → (q : Bytes) → new q ≡ find order q (lows_of (drop (n - 1) leaves))
 index-step leaves n leaf got new more within is h k q =
     let next : suc (n - 1) ≡ n = omega arith in
     let inside : n - 1 < length leaves = omega arith in
     let split : drop (n - 1) leaves ≡ leaf ∷ drop n leaves =
     drop-cons leaves (n - 1) leaf inside ∙ ap (λ (l : Leaf). l ∷ drop (suc (n - 1)) leaves) (sym is) ∙ ap (λ i. leaf ∷ drop i leaves) next in
-    k q ∙ ap (λ v. cond (is_eq (order leaf.low q)) (Some leaf.page) v) (h q)
-    ∙ ap (λ b. cond b (Some leaf.page) (find order q (lows_of (drop n leaves)))) ((eq_by_cmp_equiv order-total).symm leaf.low q)
+    k q ∙ ap (λ v. cond (eq_by_cmp order q leaf.low) (Some leaf.page) v) (h q)
     ∙ ap (λ (ls : List Leaf). find order q (lows_of ls)) (sym split)
 
 numbered_fits : (n : ℕ) (ls : List Leaf) → n < 2 ^ 32 → AreNumbered (n + 1) ls → All (λ l. l.page < 2 ^ 32) ls → n + length ls < 2 ^ 32
@@ -73,5 +70,5 @@ some_leaf m (l ∷ ls) a = omega arith
 
 -- leaves with the index of their lows
 pub filed_new : (b : Inside) → (4 ≤ b.m) × (b.m ≤ 32) → AreLeaves b.m b.leaves.items
-    → ((q : Bytes) → tree.get order b.index q ≡ find order q (lows_of (drop 1 b.leaves.items))) → IsIndexed b
+    → ((q : Bytes) → page_of_low b.index q ≡ find order q (lows_of (drop 1 b.leaves.items))) → IsIndexed b
 filed_new b limit lawful index = record { limit = limit; count = count_fits b.m b.leaves.items lawful; lawful = lawful; index = index }

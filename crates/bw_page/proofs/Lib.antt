@@ -7,6 +7,7 @@ pub mod Sorted
 pub mod Homes
 pub mod Applying
 pub mod Law
+pub mod HeadedLows
 pub mod Indexed
 pub mod Valued
 pub mod Closed

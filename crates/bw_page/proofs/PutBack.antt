@@ -4,7 +4,6 @@ use Rattle.std.proofs.Common.{◌≡◌, ℕ, List, [], false, Some, Result, map
 use Rattle.std.proofs.Common.{take, drop, get_or, sym, ap, ◌∙◌, subst, arith, length-take}
 use Rattle.std.specs.Prelude.{slice_set}
 use Rattle.std.specs.Ordering.{eq_by_cmp}
-use Rattle.std.specs.BTreeMap as tree
 use Rattle.std.specs.FinMap.Entries.{find}
 use Rattle.bw_codec.specs.Bytes.{IsKey}
 use Rattle.bw_codec.specs.Grammar.{IsOp}
@@ -15,6 +14,7 @@ use Rattle.bw_page.specs.declared.leaves.Leaves.TheInside.{Inside}
 use Rattle.bw_page.specs.declared.journal.Undo.TheVariants.{Back, Page}
 use Rattle.bw_page.specs.declared.journal.Displaced.{Displaced}
 use Rattle.bw_page.specs.Leaves.{Bytes, order, empty_leaf, changed, home, result_of, with_leaf, applied, AreLeaves}
+use Rattle.bw_page.specs.LowHeads.{page_of_low}
 use Rattle.bw_page.specs.Seats.{is_among}
 use Rattle.bw_page.specs.Seek.{seek_of, AddsNone, back_of}
 use Rattle.bw_page.specs.Shown.{Shown, IsHere}
@@ -70,9 +70,9 @@ module _ (a : Inside) (h : IsIndexed a) (now : Shown) (v : view_of a ≡ now) (u
 
   pub put_back_filed : (b : Inside) → b.m ≡ a.m → b.leaves.away ≡ a.leaves.away
       → b.leaves.items ≡ slice_set (take u.pages a.leaves.items) (u.leaf.page - 1) u.leaf
-      → (length a.leaves.items ≤ u.pages → (q : Bytes) → tree.get order b.index q ≡ tree.get order a.index q)
+      → (length a.leaves.items ≤ u.pages → (q : Bytes) → page_of_low b.index q ≡ page_of_low a.index q)
       → ((d : Leaf) → u.pages < length a.leaves.items → (q : Bytes)
-      → tree.get order b.index q ≡ cond (eq_by_cmp order q (get_or a.leaves.items u.pages d).low) None (tree.get order a.index q))
+      → page_of_low b.index q ≡ cond (eq_by_cmp order q (get_or a.leaves.items u.pages d).low) None (page_of_low a.index q))
       → IsIndexed b
   put_back_filed b em ea el same less =
       let to : view_of b ≡ undone (view_of a) (Page u) = λ i. record { m = em i; leaves = el i; away = ea i } in
@@ -80,10 +80,10 @@ module _ (a : Inside) (h : IsIndexed a) (now : Shown) (v : view_of a ≡ now) (u
       let e = pages_are in
       filed_new b (subst (λ (k : ℕ). (4 ≤ k) × (k ≤ 32)) (sym em) h.limit)
       (subst (λ (f : Shown). AreLeaves f.m f.leaves) (sym all) n.lawful)
-      (λ q. index_back n.before.m n.before.leaves (key_of n.change) n.lawful a.leaves.items u.leaf (tree.get order a.index)
-      (tree.get order b.index) steps h.index
+      (λ q. index_back n.before.m n.before.leaves (key_of n.change) n.lawful a.leaves.items u.leaf (page_of_low a.index)
+      (page_of_low b.index) steps h.index
       (λ few. same (omega arith))
-      (λ more k. less u.leaf (omega arith) k ∙ ap (λ p. cond (eq_by_cmp order k (get_or a.leaves.items p u.leaf).low) None (tree.get order a.index k)) e) q
+      (λ more k. less u.leaf (omega arith) k ∙ ap (λ p. cond (eq_by_cmp order k (get_or a.leaves.items p u.leaf).low) None (page_of_low a.index k)) e) q
       ∙ ap (λ (f : Shown). find order q (lows_of (drop 1 f.leaves))) (sym all))
 
 -- ---- the same by a record
@@ -118,7 +118,7 @@ module _ (a : Inside) (h : IsIndexed a) (now : Shown) (v : view_of a ≡ now) (b
       to ∙ ap (λ f. undone f (Back back)) v
 
   pub filed_back : (b : Inside) → b.m ≡ a.m → view_of b ≡ undone now (Back back)
-      → ((q : Bytes) → tree.get order b.index q ≡ tree.get order a.index q) → IsIndexed b
+      → ((q : Bytes) → page_of_low b.index q ≡ page_of_low a.index q) → IsIndexed b
   filed_back b em to same =
       let all : view_of b ≡ n.before = to ∙ back_one now (Back back) n in
       let x : Leaf = result_of n.before.leaves n.change in

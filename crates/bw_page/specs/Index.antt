@@ -1,10 +1,10 @@
 -- Leaves beside an index of their lows.
 
 use Rattle.std.specs.Prelude.{◌^◌, ◌<◌, ◌≤◌, ◌≡◌, length, drop}
-use Rattle.std.specs.BTreeMap as tree
 use Rattle.std.specs.FinMap.Entries.{find}
 use Rattle.bw_page.specs.declared.leaves.Leaves.TheInside.{Inside}
 use Rattle.bw_page.specs.Leaves.{Bytes, order, AreLeaves}
+use Rattle.bw_page.specs.LowHeads.{page_of_low}
 use Rattle.bw_page.specs.Shown.{Shown}
 use Rattle.bw_page.specs.Lows.{lows_of}
 
@@ -16,4 +16,4 @@ pub record IsIndexed (a : Inside) : Type 0 where
   pub count : length a.leaves.items < 2 ^ 32
   pub lawful : AreLeaves a.m a.leaves.items
   -- the index tells the page of each low but the first, which is empty
-  pub index : (q : Bytes) → tree.get order a.index q ≡ find order q (lows_of (drop 1 a.leaves.items))
+  pub index : (q : Bytes) → page_of_low a.index q ≡ find order q (lows_of (drop 1 a.leaves.items))

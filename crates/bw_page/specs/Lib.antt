@@ -10,6 +10,8 @@ pub mod Laws
 pub mod FirstPath
 -- what private functions say, and how values stand in memory
 
+pub mod LowHeads
+pub mod LowIndex
 pub mod Index
 pub mod Linked
 pub mod Marks

@@ -1,18 +1,18 @@
 //! A leaf changed in its place, and a leaf cut in two by the split rule.
 
 ghost use Rattle.std.specs.Prelude.{◌≡◌, ◌<◌, ◌≤◌, ◌+◌, ◌++◌, false, [], ◌∷◌, length, slice_set, Some, if◌then◌else◌, OnOk, OnErr, IfOk};
-ghost use Rattle.std.specs.BTreeMap as tree;
 ghost use Rattle.std.specs.Ordering.{eq_by_cmp};
 ghost use Rattle.bw_codec.specs.declared.leaf.Leaf.{Leaf as LeafValue};
 ghost use Rattle.bw_page.specs.Leaves.{Bytes, order, changed, lower_of, upper_of};
 ghost use Rattle.bw_page.specs.Cutting.{changed_at};
+ghost use Rattle.bw_page.specs.LowHeads.{page_of_low};
 ghost use Rattle.bw_page.specs.Seats.{is_among};
 
 use crate::changes;
+use crate::lows::LowIndex;
 use crate::seats::Seats;
 use bw_codec::{Key, Leaf, Low, Pairs, Record};
 use std::alloc::{AllocError, Global};
-use std::collections::BTreeMap;
 
 /// A leaf that was cut in two.
 #[derive(Debug, Drop)]
@@ -77,7 +77,7 @@ pub(crate) fn parts(
 /// place, the upper one last and in the index. A refusal changes nothing.
 pub(crate) fn cut_at(
     leaves: &mut Seats,
-    index: &mut BTreeMap<Key, u32>,
+    index: &mut LowIndex,
     m: u16,
     at: usize,
     item: &Record,
@@ -90,12 +90,12 @@ pub(crate) fn cut_at(
     ensures leaves { (d : LeafValue) → OnOk result (leaves.new.items
         ≡ slice_set leaves.old.items at (lower_of m (changed_at item.now leaves.old.items at d))
         ++ upper_of m page (changed_at item.now leaves.old.items at d) ∷ []) }
-    ensures index { (d : LeafValue) (q : Bytes) → OnOk result (tree.get order index.new q
+    ensures index { (d : LeafValue) (q : Bytes) → OnOk result (page_of_low index.new q
         ≡ (if eq_by_cmp order q (upper_of m page (changed_at item.now leaves.old.items at d)).low
-        then Some page else tree.get order index.old q)) }
+        then Some page else page_of_low index.old q)) }
     ensures away { leaves.new.away ≡ leaves.old.away }
     ensures leaves_stay { OnErr result (leaves.new.items ≡ leaves.old.items) }
-    ensures index_stays { OnErr result (index.new.entries ≡ index.old.entries) }
+    ensures index_stays { OnErr result (index.new ≡ index.old) }
 {
     let alloc = leaves.allocator();
     let Pieces { lower, upper, low } = parts(alloc, m, leaves.get(at), item, page)?;

@@ -2,19 +2,19 @@
 
 ghost use Rattle.std.specs.Prelude.{◌≡◌, ◌≤◌, ◌<◌, ◌+◌, false, [], None, drop, take, length, slice_index_or, if◌then◌else◌, IfOk};
 ghost use Rattle.std.specs.List.{AllByRecursion};
-ghost use Rattle.std.specs.BTreeMap as tree;
 ghost use Rattle.std.specs.FinMap.Entries.{find};
 ghost use Rattle.std.specs.Ordering.{eq_by_cmp};
 ghost use Rattle.bw_codec.specs.Bytes.{IsKey};
 ghost use Rattle.bw_codec.specs.declared.leaf.Leaf.{Leaf as LeafValue};
 ghost use Rattle.bw_page.specs.Leaves.{Bytes, order};
 ghost use Rattle.bw_page.specs.Lows.{lows_of};
+ghost use Rattle.bw_page.specs.LowHeads.{page_of_low};
 ghost use Rattle.bw_page.specs.Seats.{is_among};
 
+use crate::lows::LowIndex;
 use crate::seats::Seats;
 use bw_codec::{Key, Leaf};
 use std::alloc::{AllocError, Global};
-use std::collections::BTreeMap;
 
 /// The same leaves.
 pub(crate) fn copy_all(alloc: Global, leaves: &Seats) -> Result<Vec<Leaf>, AllocError>
@@ -31,20 +31,20 @@ pub(crate) fn copy_all(alloc: Global, leaves: &Seats) -> Result<Vec<Leaf>, Alloc
 
 /// The page of each low key but that of the first leaf. It goes from the last leaf down, so that
 /// the first of equal lows would count.
-pub(crate) fn index_of(alloc: Global, leaves: &[Leaf]) -> Result<BTreeMap<Key, u32>, AllocError>
+pub(crate) fn index_of(alloc: Global, leaves: &[Leaf]) -> Result<LowIndex, AllocError>
     requires some { 1 ≤ length leaves.now }
     requires keys { AllByRecursion (λ l. IsKey l.low) (drop 1 leaves.now) }
     ensures { IfOk result (λ index. (q : Bytes)
-        → tree.get order index q ≡ find order q (lows_of (drop 1 leaves.now))) }
+        → page_of_low index q ≡ find order q (lows_of (drop 1 leaves.now))) }
 {
-    let mut index = BTreeMap::new(alloc);
+    let mut index = LowIndex::new(alloc);
     let mut at = leaves.len();
     while at > 1 {
         at -= 1;
         let leaf = &leaves[at];
         match Key::new(leaf.low.as_slice()) {
             Ok(low) => {
-                let _ = index.insert(low, leaf.page)?;
+                index.insert(low, leaf.page)?;
             }
             Err(_) => unreachable!(),
         }
@@ -54,18 +54,18 @@ pub(crate) fn index_of(alloc: Global, leaves: &[Leaf]) -> Result<BTreeMap<Key, u
 
 /// Drops the last leaf, and its low key from the index, where there are more leaves than these. No
 /// memory is taken.
-pub(crate) fn drop_above(leaves: &mut Seats, index: &mut BTreeMap<Key, u32>, pages: u32)
+pub(crate) fn drop_above(leaves: &mut Seats, index: &mut LowIndex, pages: u32)
     requires over { length leaves.old.items ≤ pages + 1 }
     requires key { (d : LeafValue) → pages < length leaves.old.items
         → IsKey (slice_index_or leaves.old.items pages d).low }
     requires here { is_among (pages + 1) leaves.old.away ≡ false }
     ensures leaves { leaves.new.items ≡ take pages leaves.old.items }
     ensures away { leaves.new.away ≡ leaves.old.away }
-    ensures kept { length leaves.old.items ≤ pages → index.new.entries ≡ index.old.entries }
+    ensures kept { length leaves.old.items ≤ pages → index.new ≡ index.old }
     ensures dropped { (d : LeafValue) → pages < length leaves.old.items → (q : Bytes)
-        → tree.get order index.new q
+        → page_of_low index.new q
         ≡ (if eq_by_cmp order q (slice_index_or leaves.old.items pages d).low
-        then None else tree.get order index.old q) }
+        then None else page_of_low index.old q) }
 {
     if leaves.len() <= pages as usize {
         return;
@@ -73,7 +73,7 @@ pub(crate) fn drop_above(leaves: &mut Seats, index: &mut BTreeMap<Key, u32>, pag
     let upper = leaves.pop();
     match Key::new(upper.low.as_slice()) {
         Ok(low) => {
-            let _ = index.remove(&low);
+            index.remove(&low);
         }
         Err(_) => unreachable!(),
     }

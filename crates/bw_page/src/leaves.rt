@@ -19,10 +19,10 @@ use crate::changes::{count_found, empty_page, find_key};
 use crate::cutting::cut_at;
 use crate::fault::ApplyError;
 use crate::index::{copy_all, index_of};
+use crate::lows::LowIndex;
 use crate::seats::Seats;
 use bw_codec::{Key, Leaf, Record, Value};
 use std::alloc::{AllocError, Global};
-use std::collections::BTreeMap;
 use std::marker::Model;
 
 /// The leaves of all pages, with at most `m` pairs each.
@@ -33,7 +33,7 @@ pub struct Leaves {
     /// Page n at index n - 1.
     leaves: Seats,
     /// The page of each low key but the empty one, which is that of page 1.
-    index: BTreeMap<Key, u32>,
+    index: LowIndex,
 }
 
 impl Model for Leaves {
@@ -69,7 +69,7 @@ impl Leaves {
         Ok(Leaves {
             m,
             leaves,
-            index: BTreeMap::new(alloc),
+            index: LowIndex::new(alloc),
         })
     }
 
@@ -135,8 +135,8 @@ impl Leaves {
         ensures greatest { TakesKey key.now self.now.leaves result }
         ensures within { (1 ≤ result) × (result ≤ length self.now.leaves) }
     {
-        match self.index.range(..=key.copy()).next_back() {
-            Some((_, page)) => *page,
+        match self.index.find(key) {
+            Some(page) => page,
             None => 1,
         }
     }

@@ -16,6 +16,7 @@ mod index;
 mod journal;
 mod laws;
 mod leaves;
+mod lows;
 mod reading;
 mod seats;
 

@@ -1,11 +1,9 @@
 use Rattle.std.proofs.Common.{◌≡◌, ℕ, List, ◌+◌, ◌-◌, ◌≤◌, ◌<◌, subst, ◌∙◌, ap, sym, cond, None, length, get_or, arith}
-use Rattle.std.specs.BTreeMap as tree
 use Rattle.std.specs.Ordering.{eq_by_cmp}
-use Rattle.std.specs.Cmp.{eq_by_cmp_equiv}
 use Rattle.bw_codec.specs.Bytes.{IsKey}
 use Rattle.bw_codec.specs.declared.leaf.Leaf.{Leaf}
 use Rattle.bw_page.specs.Leaves.{order}
-use Rattle.bw_page.proofs.Order.{order-total}
+use Rattle.bw_page.specs.LowHeads.{page_of_low}
 use Rattle.bw_page.proofs.index.drop_above.Goals as goal
 
 -- the leaf that goes is that of the page above
@@ -17,9 +15,8 @@ pub returns-clause-dropped : goal.returns-clause-dropped
 returns-clause-dropped c d more q =
     let upper = gone c.args.leaves.now.items c.args.pages c.pop-upper.result c.requires.over more c.pop-upper.ensures.value d in
     let low : c.in-Ok.low ≡ c.pop-upper.result.low = cc (c.in-Ok.ensures.ok, c.as_slice.ensures) in
-    c.remove.ensures.updates.0 q
-    ∙ ap (λ b. cond b None (tree.get order c.args.index.now q)) ((eq_by_cmp_equiv order-total).symm c.in-Ok.low q)
-    ∙ ap (λ k. cond (eq_by_cmp order q k) None (tree.get order c.args.index.now q)) (low ∙ ap (λ (l : Leaf). l.low) upper)
+    c.remove.ensures q
+    ∙ ap (λ k. cond (eq_by_cmp order q k) None (page_of_low c.args.index.now q)) (low ∙ ap (λ (l : Leaf). l.low) upper)
 
 pub unreachable-requires : goal.unreachable-requires
 unreachable-requires c =

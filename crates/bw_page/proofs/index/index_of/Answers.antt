@@ -1,9 +1,9 @@
 use Rattle.std.proofs.Common.{◌≡◌, ◌-◌, ◌≤◌, ◌<◌, ◌∙◌, ap, cond, Some, length, arith, subst, sym}
-use Rattle.std.specs.BTreeMap as tree
-use Rattle.std.specs.Ordering.{is_eq}
+use Rattle.std.specs.Ordering.{eq_by_cmp}
 use Rattle.bw_codec.specs.Bytes.{IsKey}
 use Rattle.bw_codec.specs.declared.leaf.Leaf.{Leaf}
 use Rattle.bw_page.specs.Leaves.{Bytes, order}
+use Rattle.bw_page.specs.LowHeads.{page_of_low}
 use Rattle.bw_page.proofs.Indexing.{low_key, index-step}
 use Rattle.bw_page.proofs.index.index_of.Goals as goal
 
@@ -14,10 +14,10 @@ loop-at-preserved c =
     let low : c.in-Ok.low ≡ c.index-leaves-at.result.low = cc (c.in-Ok.ensures.ok, c.as_slice.ensures) in (
       omega arith,
       omega arith,
-      index-step c.args.leaves.now c.loop-at.at c.index-leaves-at.result (tree.get order c.loop-at.index) (tree.get order c.insert.new.self) more within
+      index-step c.args.leaves.now c.loop-at.at c.index-leaves-at.result (page_of_low c.loop-at.index) (page_of_low c.insert.new.self) more within
           c.index-leaves-at.is c.loop-at.invariant.2
-          (λ q. c.in_ok-insert-in-Ok.ensures.updates.0 q
-          ∙ ap (λ (k : Bytes). cond (is_eq (order k q)) (Some c.index-leaves-at.result.page) (tree.get order c.loop-at.index q)) low),
+          (λ q. c.in_ok-insert-in-Ok.ensures.ok q
+          ∙ ap (λ (k : Bytes). cond (eq_by_cmp order q k) (Some c.index-leaves-at.result.page) (page_of_low c.loop-at.index q)) low),
     )
 
 pub unreachable-requires : goal.unreachable-requires

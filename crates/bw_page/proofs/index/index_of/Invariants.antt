@@ -1,12 +1,12 @@
 use Rattle.std.proofs.Common.{◌≡◌, ◌≤◌, drop, length}
-use Rattle.std.specs.BTreeMap as tree
 use Rattle.std.specs.FinMap.Entries.{find}
 use Rattle.bw_page.specs.Leaves.{Bytes, order}
+use Rattle.bw_page.specs.LowHeads.{page_of_low}
 use Rattle.bw_page.specs.Lows.{lows_of}
 use Rattle.bw_page.proofs.index.index_of.Given as goal
 
 abbrev pub invariant-loop-at : goal.invariant-loop-at
-invariant-loop-at l = (1 ≤ l.at) × (l.at ≤ length l.leaves) × ((q : Bytes) → tree.get order l.index q ≡ find order q (lows_of (drop l.at l.leaves)))
+invariant-loop-at l = (1 ≤ l.at) × (l.at ≤ length l.leaves) × ((q : Bytes) → page_of_low l.index q ≡ find order q (lows_of (drop l.at l.leaves)))
 
 abbrev pub decreases-loop-at : goal.decreases-loop-at
 decreases-loop-at l = l.at

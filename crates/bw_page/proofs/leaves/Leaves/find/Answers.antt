@@ -1,25 +1,21 @@
-use Rattle.std.proofs.Common.{◌≤◌, ◌∙◌, sym, ap, subst, length}
-use Rattle.std.specs.BTreeMap as tree
+use Rattle.std.proofs.Common.{◌≤◌, ◌∙◌, refl, sym, ap, subst, length}
 use Rattle.bw_page.specs.Leaves.{order, home, AreLeaves}
+use Rattle.bw_page.specs.LowHeads.{page_of_low}
 use Rattle.bw_page.specs.Shown.{Shown, TakesKey}
-use Rattle.bw_page.proofs.Indexed.{empty_range, last_of_range, home_takes, home_within}
+use Rattle.bw_page.proofs.Indexed.{no_low_is_first, greatest_is_home, home_takes, home_within}
 use Rattle.bw_page.proofs.leaves.Leaves.find.Goals as goal
 
 pub returns-in-Some-clause-directed : goal.returns-in-Some-clause-directed
 returns-in-Some-clause-directed c =
-    let range = c.range.ensures.in_range tt in
-    let page = last_of_range c.self.inside.m c.copy.result c.self.inside.leaves.items c.self.invariant.lawful (tree.get order c.self.inside.index)
-    c.self.invariant.index _ _
-    (range.3 _ _ c.in-Some.ensures.steps) (range.4 _ _ c.in-Some.ensures.steps) in
-    page ∙ ap (λ k. (home k c.self.inside.leaves.items).page) c.copy.ensures ∙ ap (λ (f : Shown). (home c.args.key.now f.leaves).page) c.self.view_is
+    let page = greatest_is_home c.self.inside.m c.args.key.now c.self.inside.leaves.items c.self.invariant.lawful (page_of_low c.self.inside.index)
+    c.self.invariant.index c.in-Some.page c.in-Some.ensures.some in
+    page ∙ ap (λ (f : Shown). (home c.args.key.now f.leaves).page) c.self.view_is
 
 pub returns-in-None-clause-directed : goal.returns-in-None-clause-directed
 returns-in-None-clause-directed c =
-    let range = c.range.ensures.in_range tt in
-    let page = empty_range c.self.inside.m c.copy.result c.self.inside.leaves.items c.self.invariant.lawful (tree.get order c.self.inside.index)
-    c.self.invariant.index
-    (range.5 c.in-None.ensures.steps.0) in
-    page ∙ ap (λ k. (home k c.self.inside.leaves.items).page) c.copy.ensures ∙ ap (λ (f : Shown). (home c.args.key.now f.leaves).page) c.self.view_is
+    let page = no_low_is_first c.self.inside.m c.args.key.now c.self.inside.leaves.items c.self.invariant.lawful (page_of_low c.self.inside.index)
+    c.self.invariant.index (c.in-None.ensures.none refl) in
+    page ∙ ap (λ (f : Shown). (home c.args.key.now f.leaves).page) c.self.view_is
 
 pub returns-in-Some-clause-greatest : goal.returns-in-Some-clause-greatest
 returns-in-Some-clause-greatest c =
