@@ -6,7 +6,6 @@ use Rattle.std.proofs.Common.{arith, length-append}
 use Rattle.std.specs.Prelude.{slice_set}
 use Rattle.std.specs.List.{AllByRecursion as All}
 use Rattle.std.specs.Ordering.{eq_by_cmp}
-use Rattle.std.specs.Map.{lookup}
 use Rattle.std.specs.FinMap.Entries.{find, find-append}
 use Rattle.std.proofs.lemmas.Bool.{le-leb, lt-leb}
 use Rattle.std.proofs.lemmas.List.{length-map}

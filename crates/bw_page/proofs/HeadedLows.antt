@@ -1,8 +1,7 @@
 -- The heads of lows tell the greatest low up to a key, and go along with the lows.
 
-use Rattle.std.proofs.Common.{◌≡◌, ◌⊎◌, inl, inr, ℕ, ◌<◌, ◌≤◌, arith, Bool, true, false, cond, Option, Some, None, IsSome, List, [], ◌∷◌}
+use Rattle.std.proofs.Common.{◌≡◌, ◌⊎◌, inl, inr, ℕ, ◌<◌, ◌≤◌, arith, Bool, true, false, cond, Option, Some, None, IsSome}
 use Rattle.std.proofs.Common.{refl, sym, ap, ◌∙◌, subst, Less, Equal, Greater}
-use Rattle.std.specs.Bool.{IsTrue}
 use Rattle.std.specs.Prelude.{is_some, not, Result, Ok, Err, OnOk, OnErr}
 use Rattle.std.specs.Ordering.{MatchOrdering, nat_cmp, is_eq, is_lt, is_gt}
 use Rattle.std.specs.Cmp.{ranked}
@@ -11,7 +10,7 @@ use Rattle.bw_codec.specs.Heads.{head}
 use Rattle.bw_codec.proofs.HeadRows.{below_by_head}
 use Rattle.bw_page.specs.Leaves.{Bytes, order}
 use Rattle.bw_page.specs.LowHeads.{IsGreatestLow, HasNoLow, IsOnlyLow, AreHeads}
-use Rattle.bw_page.proofs.Order.{Below, UpTo, below_upto, upto-refl, greater_is_below, tied, not_both}
+use Rattle.bw_page.proofs.Order.{UpTo, below_upto, upto-refl, greater_is_below, tied, not_both}
 
 -- ---- a search
 
@@ -23,10 +22,10 @@ module _ (lows : Bytes → Option ℕ) (heads : ℕ → Option ℕ) (a : AreHead
   -- a low that is not above the key has no greater head
   head_upto : (q : Bytes) → IsSome (lows q) → UpTo q key → head q ≤ head key
   head_upto q some u = elim (nat_cmp (head key) (head q)) as (λ o. MatchOrdering o (head key < head q) (head key ≡ head q) (head q < head key) → head q ≤ head key) [
-      | Less ↦ λ less. not_both _ (below_by_head 8 key q (a.bytes q some) less) u
-      | Equal ↦ λ same. omega arith
-      | Greater ↦ λ more. omega arith
-    ] (ranked (head key) (head q) (nat_cmp (head key) (head q)) refl)
+    | Less ↦ λ less. not_both _ (below_by_head 8 key q (a.bytes q some) less) u
+    | Equal ↦ λ same. omega arith
+    | Greater ↦ λ more. omega arith
+  ] (ranked (head key) (head q) (nat_cmp (head key) (head q)) refl)
 
   pub no_head_no_low : ((h : ℕ) → h ≤ head key → heads h ≡ None) → HasNoLow lows key
   no_head_no_low none q u =
@@ -52,24 +51,24 @@ module _ (lows : Bytes → Option ℕ) (heads : ℕ → Option ℕ) (a : AreHead
 
 not_greater : (a b : ℕ) → is_gt (nat_cmp a b) ≡ false → a ≤ b
 not_greater a b h = elim (nat_cmp a b) as (λ o. MatchOrdering o (a < b) (a ≡ b) (b < a) → is_gt o ≡ false → a ≤ b) [
-    | Less ↦ λ less e. omega arith
-    | Equal ↦ λ same e. omega arith
-    | Greater ↦ λ more e. absurd (cc)
-  ] (ranked a b (nat_cmp a b) refl) h
+  | Less ↦ λ less e. omega arith
+  | Equal ↦ λ same e. omega arith
+  | Greater ↦ λ more e. absurd (cc)
+] (ranked a b (nat_cmp a b) refl) h
 
 not_less : (a b : ℕ) → is_lt (nat_cmp a b) ≡ false → b ≤ a
 not_less a b h = elim (nat_cmp a b) as (λ o. MatchOrdering o (a < b) (a ≡ b) (b < a) → is_lt o ≡ false → b ≤ a) [
-    | Less ↦ λ less e. absurd (cc)
-    | Equal ↦ λ same e. omega arith
-    | Greater ↦ λ more e. omega arith
-  ] (ranked a b (nat_cmp a b) refl) h
+  | Less ↦ λ less e. absurd (cc)
+  | Equal ↦ λ same e. omega arith
+  | Greater ↦ λ more e. omega arith
+] (ranked a b (nat_cmp a b) refl) h
 
 in_range : (a b : ℕ) → a ≤ b → is_gt (nat_cmp a b) ≡ false
 in_range a b h = elim (nat_cmp a b) as (λ o. MatchOrdering o (a < b) (a ≡ b) (b < a) → is_gt o ≡ false) [
-    | Less ↦ λ less. refl
-    | Equal ↦ λ same. refl
-    | Greater ↦ λ more. absurd (omega arith)
-  ] (ranked a b (nat_cmp a b) refl)
+  | Less ↦ λ less. refl
+  | Equal ↦ λ same. refl
+  | Greater ↦ λ more. absurd (omega arith)
+] (ranked a b (nat_cmp a b) refl)
 
 module _ (lows : Bytes → Option ℕ) (key : Bytes) where
   pub empty_range : ((k : Bytes) → Unit {0} × (is_gt (order k key) ≡ false) → lows k ≡ None) → HasNoLow lows key
@@ -96,9 +95,9 @@ module _ (lows : Bytes → Option ℕ) (key : Bytes) where
 
 low_set : (low q : Bytes) (v old new : Option ℕ) → new ≡ cond (is_eq (order low q)) v old → ((low ≡ q) × (new ≡ v)) ⊎ (new ≡ old)
 low_set low q v old new e = elim (is_eq (order low q)) as (λ b. is_eq (order low q) ≡ b → new ≡ cond b v old → ((low ≡ q) × (new ≡ v)) ⊎ (new ≡ old)) [
-    | true ↦ λ t s. inl (tied low q t, s)
-    | false ↦ λ t s. inr s
-  ] refl e
+  | true ↦ λ t s. inl (tied low q t, s)
+  | false ↦ λ t s. inr s
+] refl e
 
 head_set : (h g : ℕ) (v old new : Option ℕ) → new ≡ cond (is_eq (nat_cmp h g)) v old → ((h ≡ g) × (new ≡ v)) ⊎ (new ≡ old)
 head_set h g v old new e =
@@ -147,11 +146,14 @@ module _ (lows : Bytes → Option ℕ) (heads : ℕ → Option ℕ) (a : AreHead
       → OnErr r (heads h ≡ None) → OnErr r U → AreHeads lows next × ((p : ℕ) → next h ≡ Some p → p ≡ 0)
   heads_marked next h A B U (Ok x) same_by set none same =
       (heads_set next h 0 (λ no. absurd (no refl)) set, λ p is. let zero = own_head h h 0 (heads h) (next h) refl (set h) in let e : p ≡ 0 = cc (is, zero) in e)
-  heads_marked next h A B U (Err x) same_by set none same = (record {
-    bytes = a.bytes;
-    known = λ q some. some_same _ _ (same_by same (head q)) (a.known q some);
-    only = λ g page is one. a.only g page (sym (same_by same g) ∙ is) one;
-  }, λ p is. let e : None ≡ Some p = sym none ∙ sym (same_by same h) ∙ is in absurd (cc))
+  heads_marked next h A B U (Err x) same_by set none same = (
+    record {
+      bytes = a.bytes;
+      known = λ q some. some_same _ _ (same_by same (head q)) (a.known q some);
+      only = λ g page is one. a.only g page (sym (same_by same g) ∙ is) one;
+    },
+    λ p is. let e : None ≡ Some p = sym none ∙ sym (same_by same h) ∙ is in absurd (cc),
+  )
 
   -- a low is set or dropped whose head tells nothing
   pub lows_set : (next : Bytes → Option ℕ) (low : Bytes) (v : Option ℕ) → (IsSome v → IsBytes low × IsSome (heads (head low)))
@@ -166,19 +168,19 @@ module _ (lows : Bytes → Option ℕ) (heads : ℕ → Option ℕ) (a : AreHead
       | inr same ↦ a.known q (some_same _ _ (sym same) some)
     ];
     only = λ g page is one. let own = a.only g page is one in
-      let other : head low ≡ g → ⊥ = λ same. one (several page (ap heads same ∙ is)) in
-      record {
-        low = own.low;
-        its = elim (low_set low own.low v (lows own.low) (next own.low) (e own.low)) [
-          | inl same ↦ absurd (other (ap head same.0 ∙ own.head_is))
-          | inr same ↦ same ∙ own.its
-        ];
-        head_is = own.head_is;
-        only = λ q some at. elim (low_set low q v (lows q) (next q) (e q)) [
-          | inl same ↦ absurd (other (ap head same.0 ∙ at))
-          | inr same ↦ own.only q (some_same _ _ (sym same) some) at
-        ];
-      };
+        let other : head low ≡ g → ⊥ = λ same. one (several page (ap heads same ∙ is)) in
+        record {
+          low = own.low;
+          its = elim (low_set low own.low v (lows own.low) (next own.low) (e own.low)) [
+            | inl same ↦ absurd (other (ap head same.0 ∙ own.head_is))
+            | inr same ↦ same ∙ own.its
+          ];
+          head_is = own.head_is;
+          only = λ q some at. elim (low_set low q v (lows q) (next q) (e q)) [
+            | inl same ↦ absurd (other (ap head same.0 ∙ at))
+            | inr same ↦ own.only q (some_same _ _ (sym same) some) at
+          ];
+        };
   }
 
   -- a low whose head no other has

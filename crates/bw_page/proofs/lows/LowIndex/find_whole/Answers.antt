@@ -1,4 +1,4 @@
-use Rattle.std.proofs.Common.{subst, sym, ap, ◌∙◌, List, ℕ}
+use Rattle.std.proofs.Common.{subst, List, ℕ}
 use Rattle.bw_page.specs.Leaves.{Bytes}
 use Rattle.bw_page.specs.LowHeads.{page_of_low, IsGreatestLow, HasNoLow}
 use Rattle.bw_page.proofs.HeadedLows.{empty_range, last_of_range}

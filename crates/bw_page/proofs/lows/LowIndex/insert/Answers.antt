@@ -1,6 +1,6 @@
-use Rattle.std.proofs.Common.{◌≡◌, ℕ, cond, Some, refl, subst, sym, ap, ◌∙◌, Option, IsSome, List, true}
+use Rattle.std.proofs.Common.{◌≡◌, ℕ, cond, Some, refl, subst, sym, ap, ◌∙◌, Option, IsSome, List}
 use Rattle.std.specs.BTreeMap as tree
-use Rattle.std.specs.Ordering.{nat_cmp, eq_by_cmp, is_eq}
+use Rattle.std.specs.Ordering.{nat_cmp, eq_by_cmp}
 use Rattle.std.specs.Cmp.{eq_by_cmp_equiv}
 use Rattle.bw_codec.specs.Heads.{head}
 use Rattle.bw_page.specs.Leaves.{Bytes, order}

@@ -1,10 +1,9 @@
-use Rattle.std.proofs.Common.{◌≡◌, ℕ, cond, None, ap, ◌∙◌, sym, subst, List, IsSome, Option}
+use Rattle.std.proofs.Common.{ℕ, cond, None, ap, ◌∙◌, List, IsSome}
 use Rattle.std.proofs.lemmas.Result.{on_ok_weaker}
 use Rattle.std.specs.BTreeMap as tree
 use Rattle.std.specs.Map.{lookup}
 use Rattle.std.specs.Ordering.{nat_cmp, eq_by_cmp}
 use Rattle.std.specs.Cmp.{eq_by_cmp_equiv}
-use Rattle.bw_codec.specs.Heads.{head}
 use Rattle.bw_page.specs.Leaves.{Bytes, order}
 use Rattle.bw_page.specs.LowHeads.{page_of_low}
 use Rattle.bw_page.proofs.Order.{order-total}
