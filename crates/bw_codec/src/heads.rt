@@ -46,11 +46,12 @@ pub(crate) fn head_of(key: &[u8]) -> u64
     }
 }
 
-/// The heads of the keys of pairs, in their order; none where memory for them is refused.
+/// The heads of the keys of pairs, in their order, with room for one more; none where memory for
+/// them is refused.
 pub(crate) fn row_of(alloc: Global, pairs: &[(Key, Value)]) -> Vec<u64>
     ensures { IsRow result.items pairs.now }
 {
-    let Ok(mut row) = Vec::with_capacity(alloc, pairs.len()) else {
+    let Ok(mut row) = Vec::with_capacity(alloc, pairs.len() + 1) else {
         return Vec::new(alloc);
     };
     for (key, _) in pairs {

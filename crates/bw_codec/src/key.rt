@@ -62,16 +62,6 @@ impl Key {
         self.bytes.as_slice()
     }
 
-    /// The key's first eight bytes as one number, the highest first; zeros stand for those that it
-    /// lacks. A key whose head is below another's is below that key.
-    pub fn head(&self) -> u64
-        ensures value { result ≡ head self.now }
-        ensures lawful { (1 ≤ length self.now) × (length self.now ≤ 64) }
-        ensures bytes { IsBytes self.now }
-    {
-        head_of(self.bytes.as_slice())
-    }
-
     /// The same key. No memory is taken.
     pub fn copy(&self) -> Key
         ensures { result ≡ self.now }
@@ -79,6 +69,15 @@ impl Key {
         let mut held = ArrayVec::new();
         let _ = held.try_extend_from_slice(self.bytes.as_slice());
         Key { bytes: held }
+    }
+
+    /// The key's first eight bytes as one number, the highest first; zeros stand for those that it
+    /// lacks. A key whose head is below another's is below that key.
+    pub fn head(&self) -> u64
+        ensures value { result ≡ head self.now }
+        ensures bytes { IsBytes self.now }
+    {
+        head_of(self.bytes.as_slice())
     }
 }
 

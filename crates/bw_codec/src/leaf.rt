@@ -151,12 +151,12 @@ impl Pairs {
         count_below(self.row.as_slice(), head_of(key))
     }
 
-    /// The same pairs as these. It takes memory, whose refusal is the only error; linear in the
-    /// pairs.
+    /// The same pairs as these, with room for one more: what is copied is about to change. It takes
+    /// memory, whose refusal is the only error; linear in the pairs.
     pub fn copy_of(alloc: Global, pairs: &[(Key, Value)]) -> Result<Pairs, AllocError>
         ensures { IfOk result (λ copy. copy ≡ pairs.now) }
     {
-        let mut items = Vec::with_capacity(alloc, pairs.len())?;
+        let mut items = Vec::with_capacity(alloc, pairs.len() + 1)?;
         for (key, value) in pairs {
             items.push((key.copy(), value.copy()))?;
         }
