@@ -15,6 +15,8 @@ ghost use Rattle.bw_page.specs.Aim.{IsAim};
 
 mod batch;
 
+pub use batch::HasRecord;
+
 use crate::changes::{count_found, empty_page, find_key};
 use crate::cutting::cut_at;
 use crate::fault::ApplyError;

@@ -28,5 +28,5 @@ pub use laws::{
     applies_page_by_page, chains_read_over_newer, homes_are_ranges, lows_tell, reads_over_newer,
     stands_as_one, twice_is_once,
 };
-pub use leaves::{Applied, Leaves};
+pub use leaves::{Applied, HasRecord, Leaves};
 pub use reading::{change_all, keep_below, read_block, read_blocks};

@@ -4,7 +4,7 @@
 //! a key that had none. To put back a pair that was removed, or to join a page that was cut, might
 //! take memory; there the leaf is kept as it was before.
 
-ghost use Rattle.std.specs.Prelude.{◌≡◌, [], IfOk, IsErr, OnOk, OnErr};
+ghost use Rattle.std.specs.Prelude.{◌≡◌, [], map, IfOk, IsErr, OnOk, OnErr};
 ghost use Rattle.bw_codec.specs.Grammar.{IsOp};
 ghost use Rattle.bw_codec.specs.Record.{key_of};
 ghost use Rattle.bw_page.specs.Leaves.{HasPage, union, plain};
@@ -20,6 +20,25 @@ use crate::index::drop_above;
 use crate::journal::{Displaced, Undo};
 use bw_codec::Record;
 use std::alloc::AllocError;
+
+/// A value in which a record stands.
+pub trait HasRecord {
+    ghost use Rattle.bw_codec.specs.declared.record.Record.{Record as RecordValue};
+
+    ghost record_of: { Self → RecordValue };
+
+    /// The record.
+    fn record(&self) -> &Record
+        ensures { result.now ≡ record_of self.now };
+}
+
+impl HasRecord for Record {
+    ghost record_of = { λ r. r };
+
+    fn record(&self) -> &Record {
+        self
+    }
+}
 
 impl Leaves {
     /// Applies records one after the other, all or none: a refusal changes nothing.
@@ -37,9 +56,23 @@ impl Leaves {
         ensures only_spent { result ≡ Err ApplyError.Spent → SomeIsSpent self.old records.now }
         ensures unchanged { OnErr result (self.new ≡ self.old) }
     {
-        let mut journal = Vec::with_capacity(self.leaves.allocator(), records.len())?;
-        for record in records {
-            match self.displace(record) {
+        self.apply_all_of(records)
+    }
+
+    /// The same, where the records stand in other values: none of them is copied.
+    pub fn apply_all_of<T: HasRecord>(&mut self, items: &[T]) -> Result<(), ApplyError>
+        requires { self.old.away ≡ [] }
+        ensures ok { OnOk result (self.new ≡ run self.old (map T.record_of items.now)) }
+        ensures plain { OnOk result (union self.new.leaves
+            ≡ plain self.old.leaves (map T.record_of items.now)) }
+        ensures spent { SomeIsSpent self.old (map T.record_of items.now) → IsErr result }
+        ensures only_spent { result ≡ Err ApplyError.Spent
+            → SomeIsSpent self.old (map T.record_of items.now) }
+        ensures unchanged { OnErr result (self.new ≡ self.old) }
+    {
+        let mut journal = Vec::with_capacity(self.leaves.allocator(), items.len())?;
+        for item in items {
+            match self.displace(item.record()) {
                 Ok(undo) => match journal.push(undo) {
                     Ok(()) => {}
                     Err(_) => unreachable!(),
