@@ -9,7 +9,7 @@ ghost use Rattle.bw_versions.specs.Entries.{records};
 ghost use Rattle.bw_versions.specs.Posted.{pages_of};
 
 use crate::entry::Entry;
-use bw_codec::{Key, Record, Value};
+use bw_codec::{Key, Value};
 use bw_page::{ApplyError, Leaves};
 use std::alloc::{AllocError, Global};
 use std::marker::Model;
@@ -68,7 +68,8 @@ impl Board {
         self.leaves.get(key)
     }
 
-    /// Appends entries, all or none: a refusal changes nothing.
+    /// Appends entries, all or none: a refusal changes nothing. No record is copied but into its
+    /// page, and into what would take the batch back.
     pub fn publish(&mut self, more: &[Entry]) -> Result<(), ApplyError>
         ensures added { OnOk result
             (self.new ≡ record self.old { entries = self.old.entries ++ more.now }) }
@@ -80,28 +81,16 @@ impl Board {
             → SomeIsSpent (pages_of self.old) (records more.now) }
         ensures unchanged { OnErr result (self.new ≡ self.old) }
     {
-        let changes = items(*self.entries.allocator(), more)?;
         self.entries.reserve(more.len())?;
         let Board {
             start: _,
             entries,
             leaves,
         } = self;
-        leaves.apply_all(changes.as_slice())?;
+        leaves.apply_all_of(more)?;
         append(entries, more);
         Ok(())
     }
-}
-
-// The entries' records.
-fn items(alloc: Global, more: &[Entry]) -> Result<Vec<Record>, AllocError>
-    ensures { IfOk result (λ v. v.items ≡ records more.now) }
-{
-    let mut copies = Vec::with_capacity(alloc, more.len())?;
-    for entry in more {
-        copies.push(entry.item.copy())?;
-    }
-    Ok(copies)
 }
 
 // Appends entries, for which there is room. No memory is taken.

@@ -3,6 +3,7 @@
 ghost use Rattle.std.specs.Prelude.{◌≡◌};
 
 use bw_codec::Record;
+use bw_page::HasRecord;
 
 /// A record and its writer.
 #[derive(Debug, PartialEq, Eq, Drop)]
@@ -20,5 +21,13 @@ impl Entry {
             writer: self.writer,
             item: self.item.copy(),
         }
+    }
+}
+
+impl HasRecord for Entry {
+    ghost record_of = { λ e. e.item };
+
+    fn record(&self) -> &Record {
+        &self.item
     }
 }
