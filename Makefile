@@ -4,13 +4,14 @@
 # make wrong  tries the wrong bodies outside the gate, in a copy of the repository
 # make memory proves the tests of memory_tests, and runs them with each allocation refused in turn, by a shim that cc makes
 # make bench  times the store at a million keys, each subject in a process of its own, and then over files (docs/TESTING.md, "Measured")
+# make peers  times other stores under the same load: LMDB and LevelDB, by their C libraries (liblmdb-dev, libleveldb-dev) and rustc
 # make crash  kills the program that make run built in mid-run, and looks at what its folder holds
 
 PROGRAM = crates/bwlog
 BENCH = --keys 1000000 --operations 1000000
 SUBJECTS = pages alone beside late one one-beside many many-beside
 
-.PHONY: run try test wrong memory bench crash
+.PHONY: run try test wrong memory bench peers crash
 
 run:
 	@cat $(PROGRAM)/stdin && cd $(PROGRAM) && rt run -- replay < stdin
@@ -39,6 +40,10 @@ bench:
 	for batch in 64 512 4096; do mkdir $$folder/$$batch && \
 	  rt run -- --keys 100000 --operations 100000 --batch $$batch --times --only many --dir $$folder/$$batch || exit 1; \
 	done
+
+peers:
+	@folder=$$(mktemp -d /dev/shm/peers.XXXXXX) && trap "rm -rf $$folder" EXIT && \
+	rustc --edition 2021 -O -o $$folder/peers docs/peers.rs && $$folder/peers $$folder 1000000
 
 crash:
 	python3 $(PROGRAM)/crash.py
