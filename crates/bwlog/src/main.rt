@@ -1,38 +1,10 @@
-//! Scripts over the page store: `bwlog replay` runs one, line by line, and prints what each line
-//! answers; `bwlog threads` runs each writer's in a thread of its own; `bwlog scan` says what
-//! segments hold.
-//!
-//! A script has a session before it: a store over segments in memory, a feed for each writer, and
-//! the desk of the segments' leases. `program::run` is the whole program over any reader and
-//! writers; `main` gives it the standard streams.
+//! The program: `bw_script::run` on the words and the standard streams that the system gives it.
 #![tactic(auto)]
 
-mod answers;
-mod calls;
-mod home;
-mod lines;
-mod miss;
-mod options;
-mod printed;
-mod program;
-mod refusal;
-mod replay;
-mod running;
-mod scan;
-mod script;
-mod session;
-mod stop;
-mod system;
-#[cfg(test)]
-mod tests;
-mod threads;
-
-use program::run;
-use refusal::Refusal;
+use bw_script::{Host, Refusal, run};
 use std::alloc::Global;
 use std::io::{self, BufWriter, ErrorKind};
 use std::process::ExitCode;
-use system::Host;
 
 /// The words after the program's name.
 fn words_of(rt: &HostRuntime, alloc: Global) -> io::Result<Vec<String>> {

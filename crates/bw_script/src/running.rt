@@ -1,0 +1,139 @@
+//! The calls that a run of writers makes. Each keeps the store sound, and the feeds those of its
+//! lanes.
+
+ghost use Rattle.std.specs.Prelude.{◌≡◌, vec_len};
+
+use crate::calls::LEASES;
+use crate::options::Pace;
+use crate::refusal::Refusal;
+use crate::session::Session;
+use crate::system::{Host, System};
+use bw_codec::{Key, Leaf, Record, Value};
+use bw_device::Segment;
+use bw_drive::{DriveFault, Driven, OpenGate, Plan, drive};
+use bw_file::FolderFault;
+use bw_store::StoreFault;
+use std::alloc::{AllocError, Global};
+use std::mem;
+
+/// What a run leaves beside the store.
+#[derive(Drop)]
+pub struct Run {
+    /// The length of the history.
+    pub entries: u64,
+    /// How many records of each writer's script were accepted: its first ones.
+    pub accepted: Vec<u64>,
+}
+
+// The pairs of a page go behind those of the pages before it.
+fn append(pairs: &mut Vec<(Key, Value)>, leaf: &Leaf) -> Result<(), AllocError> {
+    for (key, value) in leaf.pairs.as_slice() {
+        pairs.push((key.copy(), value.copy()))?;
+    }
+    Ok(())
+}
+
+impl Session {
+    ghost use Rattle.bw_script.specs.Session.{IsReady};
+
+    /// Puts each script by a writer in a thread of its own, and settles.
+    pub fn drive<R: Host>(
+        &mut self,
+        rt: &R,
+        scripts: Vec<Vec<Record>>,
+        pace: Pace,
+    ) -> Result<Run, Refusal>
+        requires ready { IsReady self.old holding }
+        requires one_each { vec_len scripts ≡ vec_len self.old.feeds }
+        ensures { IsReady self.new holding }
+    {
+        let plan = Plan {
+            limit: pace.limit.max(1),
+            flush_every: pace.flush_every.max(1),
+            clean_at: pace.clean_at,
+        };
+        let tries = u64::from(pace.tries);
+        let feeds = mem::replace(&mut self.feeds, Vec::new(rt.alloc()));
+        match drive(rt, &mut self.store, feeds, scripts, &OpenGate, plan, tries) {
+            Ok(
+                Driven {
+                    feeds,
+                    accepted,
+                    entries,
+                },
+            ) => {
+                self.feeds = feeds;
+                Ok(Run { entries, accepted })
+            }
+            Err(DriveFault { feeds, cause }) => {
+                self.feeds = feeds;
+                Err(Refusal::from(cause))
+            }
+        }
+    }
+
+    // A page; `None` where there is none of that number.
+    fn leaf(&mut self, page: u32) -> Result<Option<Leaf>, Refusal>
+        requires { IsReady self.old holding }
+        ensures { IsReady self.new holding }
+    {
+        match self.store.page(page) {
+            Ok(leaf) => Ok(Some(leaf)),
+            Err(StoreFault::NoPage) => Ok(None),
+            Err(fault) => Err(Refusal::from(fault)),
+        }
+    }
+
+    /// The pairs of all pages, page by page.
+    pub fn pairs(&mut self, alloc: Global) -> Result<Vec<(Key, Value)>, Refusal>
+        requires { IsReady self.old holding }
+        ensures { IsReady self.new holding }
+    {
+        let mut pairs = Vec::new(alloc);
+        // Fewer pages than that fit the segments of a desk.
+        'pages: for page in 1..u32::MAX {
+            let Some(leaf) = self.leaf(page)? else {
+                return Ok(pairs);
+            };
+            append(&mut pairs, &leaf)?;
+        }
+        Ok(pairs)
+    }
+
+    /// The leases of all segments in the order in which these are given up: those of the live ones,
+    /// and then those of the spares, which are begun as they were handed in, by their leases.
+    pub fn row(&mut self, alloc: Global) -> Result<Vec<u32>, AllocError>
+        requires { IsReady self.old holding }
+        ensures ready { IsReady self.new holding }
+        ensures feeds { vec_len self.new.feeds ≡ vec_len self.old.feeds }
+    {
+        let mut row = Vec::new(alloc);
+        for i in 0..self.store.live() {
+            if let Some((_, lease, _)) = self.store.live_segment(i) {
+                row.push(lease)?;
+            }
+        }
+        let _ = self.desk.collect();
+        for lease in 0..LEASES {
+            if self.desk.is_out(lease) && !row.as_slice().contains(&lease) {
+                row.push(lease)?;
+            }
+        }
+        Ok(row)
+    }
+
+    /// Of this row those whose segments were given up have no bytes in their files any more; they
+    /// are emptied in its order.
+    pub fn empty<R: System>(&mut self, rt: &R, row: &[u32]) -> Result<(), FolderFault>
+        requires { IsReady self.old holding }
+        ensures { IsReady self.new holding }
+    {
+        let _ = self.desk.collect();
+        for lease in row {
+            if !self.desk.is_out(*lease) {
+                self.home.empty(rt, *lease)?;
+            }
+        }
+        Ok(())
+    }
+}

@@ -1,0 +1,159 @@
+//! Scripts and what they print, in rows that are walked to the first that goes otherwise than told.
+
+mod command_line;
+mod faults;
+mod folders;
+mod lengths;
+mod scans;
+mod scripts;
+mod streams;
+mod writers;
+
+use bw_script::{Host, run};
+use std::alloc::{AllocError, Global};
+use std::io::Read;
+
+/// One run of the program, with what it has to answer.
+#[derive(Drop)]
+enum Row {
+    /// A script, its exit status, and what it prints. Nothing is told.
+    Prints(&'static str, u8, &'static str),
+    /// A script that ends at a fault: what it prints before, and what is told.
+    Fault(&'static str, &'static str, &'static str),
+    /// So many times a byte between two texts, and what this script prints.
+    Long(&'static str, u8, usize, &'static str, &'static str),
+    /// So many times a byte between two texts, a script of one fault, and what is told.
+    LongFault(&'static str, u8, usize, &'static str, &'static str),
+    /// The words of a command line, so many records of a value of 128 bytes, and what their flush
+    /// prints.
+    Records(&'static [&'static str], usize, &'static str),
+    /// The words of a command line, a script, its exit status, and what it prints.
+    Under(&'static [&'static str], &'static str, u8, &'static str),
+    /// The words of a command line, a script of one fault, and what is told. Nothing is printed.
+    UnderFault(&'static [&'static str], &'static str, &'static str),
+    /// The words of a command line, so many times a line, its exit status, and what is printed.
+    Repeated(&'static [&'static str], &'static str, usize, u8, &'static str),
+    /// Words that are no command line.
+    NoParse(&'static [&'static str]),
+}
+
+const PLAIN: [&str; 1] = ["replay"];
+
+/// Whether what was written is as told.
+fn are_so(printed: &[u8], output: &str, told: &[u8], errors: &str) -> bool {
+    printed == output.as_bytes() && told == errors.as_bytes()
+}
+
+/// Whether a run ends with this status, prints this and tells that.
+fn ends<R: Host, I: Read>(
+    rt: &R,
+    words: &[&str],
+    input: &mut I,
+    status: u8,
+    output: &str,
+    errors: &str,
+) -> bool {
+    let mut printed = Vec::new(rt.alloc());
+    let mut told = Vec::new(rt.alloc());
+    let answer = run(rt, words, input, &mut printed, &mut told);
+    let are_so = are_so(printed.as_slice(), output, told.as_slice(), errors);
+    are_so & (answer == status)
+}
+
+/// Whether words are answered with status 2, nothing printed and something told.
+fn is_no_parse<R: Host>(rt: &R, words: &[&str]) -> bool {
+    let mut input = b"flush\n".as_slice();
+    let mut printed = Vec::new(rt.alloc());
+    let mut told = Vec::new(rt.alloc());
+    let answer = run(rt, words, &mut input, &mut printed, &mut told);
+    (answer == 2) & printed.is_empty() & !told.is_empty()
+}
+
+/// So many times a byte between two texts.
+fn around(
+    alloc: Global,
+    before: &str,
+    byte: u8,
+    count: usize,
+    after: &str,
+) -> Result<Vec<u8>, AllocError> {
+    let mut script = Vec::from_slice(alloc, before.as_bytes())?;
+    for _ in 0..count {
+        script.push(byte)?;
+    }
+    script.extend_from_slice(after.as_bytes())?;
+    Ok(script)
+}
+
+/// So many times a line, and a last one.
+fn repeated(alloc: Global, line: &[u8], count: usize, last: &str) -> Result<Vec<u8>, AllocError> {
+    let mut script = Vec::new(alloc);
+    for _ in 0..count {
+        script.extend_from_slice(line)?;
+    }
+    script.extend_from_slice(last.as_bytes())?;
+    Ok(script)
+}
+
+/// Whether what a script prints ends so.
+fn prints_last<R: Host>(rt: &R, words: &[&str], script: &[u8], output: &str) -> bool {
+    let mut input = script;
+    let mut printed = Vec::new(rt.alloc());
+    let mut told = Vec::new(rt.alloc());
+    let _ = run(rt, words, &mut input, &mut printed, &mut told);
+    told.is_empty() & printed.ends_with(output.as_bytes())
+}
+
+/// Whether the flush of so many records answers so.
+fn flush_answers<R: Host>(
+    rt: &R,
+    words: &[&str],
+    count: usize,
+    output: &str,
+) -> Result<bool, AllocError> {
+    let line = around(rt.alloc(), "put 0 k ", b'v', 128, "\n")?;
+    let script = repeated(rt.alloc(), line.as_slice(), count, "flush\n")?;
+    Ok(prints_last(rt, words, script.as_slice(), output))
+}
+
+/// Whether the row goes as told.
+fn goes<R: Host>(rt: &R, row: &Row) -> Result<bool, AllocError> {
+    match row {
+        Row::Prints(script, status, output) => {
+            Ok(ends(rt, &PLAIN, &mut script.as_bytes(), *status, output, ""))
+        }
+        Row::Fault(script, output, errors) => {
+            Ok(ends(rt, &PLAIN, &mut script.as_bytes(), 3, output, errors))
+        }
+        Row::Long(before, byte, count, after, output) => {
+            let script = around(rt.alloc(), before, *byte, *count, after)?;
+            Ok(ends(rt, &PLAIN, &mut script.as_slice(), 0, output, ""))
+        }
+        Row::LongFault(before, byte, count, after, errors) => {
+            let script = around(rt.alloc(), before, *byte, *count, after)?;
+            Ok(ends(rt, &PLAIN, &mut script.as_slice(), 3, "", errors))
+        }
+        Row::Records(words, count, output) => flush_answers(rt, words, *count, output),
+        Row::Under(words, script, status, output) => {
+            Ok(ends(rt, words, &mut script.as_bytes(), *status, output, ""))
+        }
+        Row::UnderFault(words, script, errors) => {
+            Ok(ends(rt, words, &mut script.as_bytes(), 3, "", errors))
+        }
+        Row::Repeated(words, line, count, status, output) => {
+            let script = repeated(rt.alloc(), line.as_bytes(), *count, "")?;
+            Ok(ends(rt, words, &mut script.as_slice(), *status, output, ""))
+        }
+        Row::NoParse(words) => Ok(is_no_parse(rt, words)),
+    }
+}
+
+/// How many of the rows went as told before one did not.
+fn walked<R: Host>(rt: &R, rows: &[Row]) -> Result<usize, AllocError> {
+    for (i, row) in rows.iter().enumerate() {
+        if !goes(rt, row)? {
+            return Ok(i);
+        }
+    }
+    Ok(rows.len())
+}
