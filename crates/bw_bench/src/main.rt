@@ -3,7 +3,8 @@
 //! `bw_bench` runs the subjects of `subject` one after the other, each over a store of its own, and
 //! prints what each did and what it read back. With `--times` it also prints nanoseconds and bytes,
 //! and with `--dir` its segments stand in files.
-//! Keys are 8 bytes and come in a scattered order; `shape` says which value each put has.
+//! Keys are 8 bytes, behind those that all share, and come in a scattered order; `shape` says which
+//! value each put has.
 #![tactic(auto)]
 
 mod alone;

@@ -10,6 +10,8 @@ use std::alloc::{AllocError, Global};
 pub struct Options<'a> {
     /// How many keys there are, 1 to 10,000,000.
     pub keys: u32,
+    /// How many bytes all keys share before those that tell them apart, 0 to 56.
+    pub shared: u16,
     /// How many bytes a value has, 8 to 128.
     pub value_length: u16,
     /// How many updates and gets there are, 1 to 10,000,000.
@@ -31,6 +33,7 @@ impl Options<'_> {
     pub fn shape(&self) -> Shape {
         Shape {
             keys: u64::from(self.keys),
+            shared: usize::from(self.shared),
             value_length: usize::from(self.value_length),
         }
     }
@@ -61,6 +64,11 @@ fn with_shape<'a>(alloc: Global, command: Command<'a>) -> Result<Command<'a>, Al
         .help("how many keys of 8 bytes there are")
         .value_parser(clap::value_parser!(u32).range(1..=10_000_000))
         .default_value("1000");
+    let shared = Arg::new(alloc, "shared")
+        .long("shared")
+        .help("how many bytes all keys have before those 8")
+        .value_parser(clap::value_parser!(u16).range(0..=56))
+        .default_value("0");
     let value_length = Arg::new(alloc, "value-length")
         .long("value-length")
         .help("how many bytes a value has")
@@ -71,7 +79,11 @@ fn with_shape<'a>(alloc: Global, command: Command<'a>) -> Result<Command<'a>, Al
         .help("how many updates and gets there are")
         .value_parser(clap::value_parser!(u32).range(1..=10_000_000))
         .default_value("1000");
-    command.arg(keys)?.arg(value_length)?.arg(operations)
+    command
+        .arg(keys)?
+        .arg(shared)?
+        .arg(value_length)?
+        .arg(operations)
 }
 
 /// Batches and writers.
@@ -126,6 +138,7 @@ pub fn options_of<'a>(alloc: Global, words: &'a [&'a str]) -> Result<Options<'a>
     let found = command.try_get_matches_from(words)?;
     Ok(Options {
         keys: found.get_one("keys").unwrap_or(0),
+        shared: found.get_one("shared").unwrap_or(0),
         value_length: found.get_one("value-length").unwrap_or(0),
         operations: found.get_one("operations").unwrap_or(0),
         batch: found.get_one("batch").unwrap_or(0),

@@ -15,7 +15,10 @@ pub fn tell_sizes<R: System>(rt: &R, options: &Options<'_>) -> Result<(), Stop> 
         writers,
         ..
     } = *options;
-    println!(rt; "{keys} keys of 8 bytes, values of {value_length}, {operations} operations")?;
+    let length = options.shape().length();
+    println!(rt;
+        "{keys} keys of {length} bytes, values of {value_length}, {operations} operations"
+    )?;
     println!(rt; "batches of {batch}, {writers} writers")?;
     Ok(())
 }

@@ -18,10 +18,11 @@ pub struct Part {
     pub of: u64,
 }
 
-/// How many keys there are, and how long their values are.
+/// How many keys there are, how many bytes they share, and how long their values are.
 #[derive(Clone, Copy)]
 pub struct Shape {
     pub keys: u64,
+    pub shared: usize,
     pub value_length: usize,
 }
 
@@ -39,9 +40,22 @@ impl Shape {
         rest(put.wrapping_mul(PRIME), self.keys)
     }
 
+    /// How many bytes a key has.
+    pub fn length(&self) -> usize {
+        self.shared.saturating_add(8)
+    }
+
     /// The key of a put.
     pub fn key(&self, put: u64) -> Result<Key, Stop> {
-        Ok(Key::new(&self.number(put).to_be_bytes())?)
+        let mut bytes = [b'k'; 64];
+        let number = self.number(put).to_be_bytes();
+        for (to, from) in bytes.iter_mut().skip(self.shared).zip(number) {
+            *to = from;
+        }
+        match bytes.get(..self.length()) {
+            Some(bytes) => Ok(Key::new(bytes)?),
+            None => Err(Stop::Failed("a length")),
+        }
     }
 
     /// The value of a put: the number of its key, its round, and a filler of both.
