@@ -15,14 +15,13 @@ ghost use Rattle.bw_page.specs.Aim.{IsAim};
 
 mod batch;
 
-pub use batch::HasRecord;
-
 use crate::changes::{count_found, empty_page, find_key};
 use crate::cutting::cut_at;
 use crate::fault::ApplyError;
 use crate::index::{copy_all, index_of};
 use crate::lows::LowIndex;
 use crate::seats::Seats;
+pub use batch::HasRecord;
 use bw_codec::{Key, Leaf, Record, Value};
 use std::alloc::{AllocError, Global};
 use std::marker::Model;

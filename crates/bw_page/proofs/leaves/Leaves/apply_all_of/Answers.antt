@@ -35,7 +35,7 @@ returns-in-Err-clause-only_spent g c e =
 pub loop-item-preserved : goal.loop-item-preserved
 loop-item-preserved g c =
     let more : map g.T.HasRecord.record_of (take (c.loop-item.item-index + 1) c.args.items.now)
-        ≡ map g.T.HasRecord.record_of (take c.loop-item.item-index c.args.items.now) ++ c.record.result.now ∷ [] =
+    ≡ map g.T.HasRecord.record_of (take c.loop-item.item-index c.args.items.now) ++ c.record.result.now ∷ [] =
     ap (map g.T.HasRecord.record_of) (take_more c.args.items.now c.loop-item.item-index c.item-item.result c.loop-item-test.true
     ∙ ap (λ i. take c.loop-item.item-index c.args.items.now ++ i ∷ []) (sym c.item-item.is))
     ∙ map-append g.T.HasRecord.record_of (take c.loop-item.item-index c.args.items.now) (c.item-item.result ∷ [])
