@@ -57,65 +57,115 @@ const SUBJECTS: &[&str] = &[
     "many-beside",
 ];
 
-/// Keys, values and operations.
-fn with_shape<'a>(alloc: Global, command: Command<'a>) -> Result<Command<'a>, AllocError> {
-    let keys = Arg::new(alloc, "keys")
-        .long("keys")
-        .help("how many keys of 8 bytes there are")
-        .value_parser(clap::value_parser!(u32).range(1..=10_000_000))
-        .default_value("1000");
-    let shared = Arg::new(alloc, "shared")
-        .long("shared")
-        .help("how many bytes all keys have before those 8")
-        .value_parser(clap::value_parser!(u16).range(0..=56))
-        .default_value("0");
-    let value_length = Arg::new(alloc, "value-length")
-        .long("value-length")
-        .help("how many bytes a value has")
-        .value_parser(clap::value_parser!(u16).range(8..=128))
-        .default_value("100");
-    let operations = Arg::new(alloc, "operations")
-        .long("operations")
-        .help("how many updates and gets there are")
-        .value_parser(clap::value_parser!(u32).range(1..=10_000_000))
-        .default_value("1000");
-    command
-        .arg(keys)?
-        .arg(shared)?
-        .arg(value_length)?
-        .arg(operations)
+/// An option whose value is a number.
+#[derive(Clone, Copy)]
+struct Number {
+    name: &'static str,
+    help: &'static str,
+    least: i64,
+    most: i64,
+    default: &'static str,
 }
 
-/// Batches and writers.
-fn with_pace<'a>(alloc: Global, command: Command<'a>) -> Result<Command<'a>, AllocError> {
-    let batch = Arg::new(alloc, "batch")
-        .long("batch")
-        .help("how many records are put, turned and flushed together")
-        .value_parser(clap::value_parser!(u16).range(1..=4096))
-        .default_value("64");
-    let writers = Arg::new(alloc, "writers")
-        .long("writers")
-        .help("how many writers there are in threads of their own")
-        .value_parser(clap::value_parser!(u16).range(1..=64))
-        .default_value("4");
-    command.arg(batch)?.arg(writers)
+/// Keys, values and operations, then batches and writers.
+const NUMBERS: [Number; 6] = [
+    Number {
+        name: "keys",
+        help: "how many keys of 8 bytes there are",
+        least: 1,
+        most: 10_000_000,
+        default: "1000",
+    },
+    Number {
+        name: "shared",
+        help: "how many bytes all keys have before those 8",
+        least: 0,
+        most: 56,
+        default: "0",
+    },
+    Number {
+        name: "value-length",
+        help: "how many bytes a value has",
+        least: 8,
+        most: 128,
+        default: "100",
+    },
+    Number {
+        name: "operations",
+        help: "how many updates and gets there are",
+        least: 1,
+        most: 10_000_000,
+        default: "1000",
+    },
+    Number {
+        name: "batch",
+        help: "how many records are put, turned and flushed together",
+        least: 1,
+        most: 4096,
+        default: "64",
+    },
+    Number {
+        name: "writers",
+        help: "how many writers there are in threads of their own",
+        least: 1,
+        most: 64,
+        default: "4",
+    },
+];
+
+fn with_number<'a>(
+    alloc: Global,
+    command: Command<'a>,
+    number: Number,
+) -> Result<Command<'a>, AllocError> {
+    let Number {
+        name,
+        help,
+        least,
+        most,
+        default,
+    } = number;
+    let option = Arg::new(alloc, name)
+        .long(name)
+        .help(help)
+        .value_parser(clap::value_parser!(u32).range(least..=most))
+        .default_value(default);
+    command.arg(option)
 }
 
-/// What is printed, of which subject, and where its segments stand.
-fn with_choice<'a>(alloc: Global, command: Command<'a>) -> Result<Command<'a>, AllocError> {
+fn with_numbers<'a>(alloc: Global, command: Command<'a>) -> Result<Command<'a>, AllocError> {
+    let mut command = command;
+    for number in NUMBERS {
+        command = with_number(alloc, command, number)?;
+    }
+    Ok(command)
+}
+
+/// Whether times are printed.
+fn with_times<'a>(alloc: Global, command: Command<'a>) -> Result<Command<'a>, AllocError> {
     let times = Arg::new(alloc, "times")
         .long("times")
         .help("prints nanoseconds and bytes")
         .action(clap::ArgAction::SetTrue);
+    command.arg(times)
+}
+
+/// Which subject is run.
+fn with_subject<'a>(alloc: Global, command: Command<'a>) -> Result<Command<'a>, AllocError> {
     let only = Arg::new(alloc, "only")
         .long("only")
         .value_name("SUBJECT")
         .value_parser(SUBJECTS)
         .help("the one subject that is run");
+    command.arg(only)
+}
+
+/// Where its segments stand.
+fn with_dir<'a>(alloc: Global, command: Command<'a>) -> Result<Command<'a>, AllocError> {
     let dir = Arg::new(alloc, "dir").long("dir").value_name("FOLDER").help(
         "keeps segments in files, in a new folder in this one for each subject",
     );
-    command.arg(times)?.arg(only)?.arg(dir)
+    command.arg(dir)
 }
 
 /// What was named by an option.
@@ -132,9 +182,10 @@ pub fn options_of<'a>(alloc: Global, words: &'a [&'a str]) -> Result<Options<'a>
     let command = Command::new(alloc, "bw_bench")
         .about("Times the page store, and reads back what was put")
         .no_binary_name(true);
-    let command = with_shape(alloc, command)?;
-    let command = with_pace(alloc, command)?;
-    let command = with_choice(alloc, command)?;
+    let command = with_numbers(alloc, command)?;
+    let command = with_times(alloc, command)?;
+    let command = with_subject(alloc, command)?;
+    let command = with_dir(alloc, command)?;
     let found = command.try_get_matches_from(words)?;
     Ok(Options {
         keys: found.get_one("keys").unwrap_or(0),

@@ -66,57 +66,46 @@ const SCAN_DIR: &str =
     "a folder whose segments are looked at, in place of lines; refused E13 then tells a position \
     among its files";
 
-/// How many writers there are, and their places.
-fn with_writers<'a>(
-    alloc: Global,
-    command: Command<'a>,
+/// An option whose value is a number.
+#[derive(Debug, Clone, Copy)]
+struct Number<'a> {
+    name: &'a str,
+    help: &'a str,
+    least: i64,
+    most: i64,
     default: &'a str,
-) -> Result<Command<'a>, AllocError> {
-    let writers = Arg::new(alloc, "writers")
-        .long("writers")
-        .help("how many writers there are, numbered from 0")
-        .value_parser(clap::value_parser!(u16).range(1..=64))
-        .default_value(default);
-    let places = Arg::new(alloc, "places")
-        .long("places")
-        .help("how many records of a writer may wait")
-        .value_parser(clap::value_parser!(u16).range(1..=4096))
-        .default_value("8");
-    command.arg(writers)?.arg(places)
 }
 
-/// The limits of pages and frames.
-fn with_limits<'a>(alloc: Global, command: Command<'a>) -> Result<Command<'a>, AllocError> {
-    let m = Arg::new(alloc, "m")
-        .long("m")
-        .help("the most pairs that a page holds")
-        .value_parser(clap::value_parser!(u16).range(4..=32))
-        .default_value("4");
-    let f = Arg::new(alloc, "frame")
-        .long("frame")
-        .help("the most bytes that a frame has")
-        .value_parser(clap::value_parser!(u32).range(16384..=65536))
-        .default_value("16384");
-    command.arg(m)?.arg(f)
-}
-
-/// How many segments there are, and their room.
-fn with_segments<'a>(
+fn with_number<'a>(
     alloc: Global,
     command: Command<'a>,
-    default: &'a str,
+    number: Number<'a>,
 ) -> Result<Command<'a>, AllocError> {
-    let segments = Arg::new(alloc, "segments")
-        .long("segments")
-        .help("how many segments there are at the beginning")
-        .value_parser(clap::value_parser!(u16).range(2..=64))
+    let Number {
+        name,
+        help,
+        least,
+        most,
+        default,
+    } = number;
+    let option = Arg::new(alloc, name)
+        .long(name)
+        .help(help)
+        .value_parser(clap::value_parser!(u32).range(least..=most))
         .default_value(default);
-    let capacity = Arg::new(alloc, "capacity")
-        .long("capacity")
-        .help("how many bytes a segment has room for")
-        .value_parser(clap::value_parser!(u32).range(16408..=16777216))
-        .default_value("65536");
-    command.arg(segments)?.arg(capacity)
+    command.arg(option)
+}
+
+fn with_numbers<'a>(
+    alloc: Global,
+    command: Command<'a>,
+    numbers: &[Number<'a>],
+) -> Result<Command<'a>, AllocError> {
+    let mut command = command;
+    for number in numbers {
+        command = with_number(alloc, command, *number)?;
+    }
+    Ok(command)
 }
 
 /// The folder of the segments.
@@ -132,6 +121,86 @@ fn with_dir<'a>(
     command.arg(dir)
 }
 
+/// The numbers of a store, of so many writers and segments if not told otherwise.
+fn numbers_of<'a>(writers: &'a str, segments: &'a str) -> [Number<'a>; 6] {
+    [
+        Number {
+            name: "writers",
+            help: "how many writers there are, numbered from 0",
+            least: 1,
+            most: 64,
+            default: writers,
+        },
+        Number {
+            name: "places",
+            help: "how many records of a writer may wait",
+            least: 1,
+            most: 4096,
+            default: "8",
+        },
+        Number {
+            name: "m",
+            help: "the most pairs that a page holds",
+            least: 4,
+            most: 32,
+            default: "4",
+        },
+        Number {
+            name: "frame",
+            help: "the most bytes that a frame has",
+            least: 16384,
+            most: 65536,
+            default: "16384",
+        },
+        Number {
+            name: "segments",
+            help: "how many segments there are at the beginning",
+            least: 2,
+            most: 64,
+            default: segments,
+        },
+        Number {
+            name: "capacity",
+            help: "how many bytes a segment has room for",
+            least: 16408,
+            most: 16777216,
+            default: "65536",
+        },
+    ]
+}
+
+/// How the store is tended, and how often a record is tried.
+const PACE: [Number<'static>; 4] = [
+    Number {
+        name: "limit",
+        help: "how many records a turn takes at most",
+        least: 1,
+        most: 4096,
+        default: "64",
+    },
+    Number {
+        name: "flush-every",
+        help: "after how many turns a flush comes",
+        least: 1,
+        most: 4096,
+        default: "4",
+    },
+    Number {
+        name: "clean-at",
+        help: "how many live segments there are where the oldest is given up, 0 for never",
+        least: 0,
+        most: 64,
+        default: "3",
+    },
+    Number {
+        name: "tries",
+        help: "how often a record is tried, and how many turns there are, at most",
+        least: 1,
+        most: 1000000000,
+        default: "1000000000",
+    },
+];
+
 /// A store of so many writers and segments, if not told otherwise.
 fn with_store<'a>(
     alloc: Global,
@@ -139,40 +208,8 @@ fn with_store<'a>(
     writers: &'a str,
     segments: &'a str,
 ) -> Result<Command<'a>, AllocError> {
-    let command = with_writers(alloc, command, writers)?;
-    let command = with_limits(alloc, command)?;
-    let command = with_segments(alloc, command, segments)?;
+    let command = with_numbers(alloc, command, &numbers_of(writers, segments))?;
     with_dir(alloc, command, STORE_DIR)
-}
-
-/// How the store is tended.
-fn with_plan<'a>(alloc: Global, command: Command<'a>) -> Result<Command<'a>, AllocError> {
-    let limit = Arg::new(alloc, "limit")
-        .long("limit")
-        .help("how many records a turn takes at most")
-        .value_parser(clap::value_parser!(u32).range(1..=4096))
-        .default_value("64");
-    let flush_every = Arg::new(alloc, "flush-every")
-        .long("flush-every")
-        .help("after how many turns a flush comes")
-        .value_parser(clap::value_parser!(u32).range(1..=4096))
-        .default_value("4");
-    let clean_at = Arg::new(alloc, "clean-at")
-        .long("clean-at")
-        .help("how many live segments there are where the oldest is given up, 0 for never")
-        .value_parser(clap::value_parser!(u32).range(0..=64))
-        .default_value("3");
-    command.arg(limit)?.arg(flush_every)?.arg(clean_at)
-}
-
-/// How often a record is tried.
-fn with_tries<'a>(alloc: Global, command: Command<'a>) -> Result<Command<'a>, AllocError> {
-    let tries = Arg::new(alloc, "tries")
-        .long("tries")
-        .help("how often a record is tried, and how many turns there are, at most")
-        .value_parser(clap::value_parser!(u32).range(1..=1000000000))
-        .default_value("1000000000");
-    command.arg(tries)
 }
 
 /// The folder that was named.
@@ -206,27 +243,35 @@ fn pace_of<'a>(found: &ArgMatches<'a>) -> Pace {
     }
 }
 
-/// The command `bwlog` with its modes.
-fn command_of<'a>(alloc: Global) -> Result<Command<'a>, AllocError> {
+fn replay_of<'a>(alloc: Global) -> Result<Command<'a>, AllocError> {
     let replay = Command::new(alloc, "replay").about("Runs a script from standard input");
-    let replay = with_store(alloc, replay, "1", "4")?;
+    with_store(alloc, replay, "1", "4")
+}
+
+fn threads_of<'a>(alloc: Global) -> Result<Command<'a>, AllocError> {
     let threads = Command::new(alloc, "threads").about(
         "Runs the puts and deletes of standard input, each writer's in a thread of its own",
     );
     let threads = with_store(alloc, threads, "2", "32")?;
-    let threads = with_plan(alloc, threads)?;
-    let threads = with_tries(alloc, threads)?;
+    with_numbers(alloc, threads, &PACE)
+}
+
+fn scan_of<'a>(alloc: Global) -> Result<Command<'a>, AllocError> {
     let scan = Command::new(alloc, "scan").about(
         "Says what segments hold, one in hex on each line of standard input",
     );
-    let scan = with_dir(alloc, scan, SCAN_DIR)?;
-    Command::new(alloc, "bwlog")
+    with_dir(alloc, scan, SCAN_DIR)
+}
+
+/// The command `bwlog` with its modes.
+fn command_of<'a>(alloc: Global) -> Result<Command<'a>, AllocError> {
+    let command = Command::new(alloc, "bwlog")
         .about("Runs scripts over the page store, and says what segments hold")
         .no_binary_name(true)
-        .subcommand_required(true)
-        .subcommand(replay)?
-        .subcommand(threads)?
-        .subcommand(scan)
+        .subcommand_required(true);
+    let command = command.subcommand(replay_of(alloc)?)?;
+    let command = command.subcommand(threads_of(alloc)?)?;
+    command.subcommand(scan_of(alloc)?)
 }
 
 /// What the words after the program's name ask for. What they do not give as a parse, help among

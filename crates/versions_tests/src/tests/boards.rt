@@ -16,26 +16,43 @@ fn five(alloc: Global) -> Result<Vec<Entry>, Fail> {
     Ok(entries)
 }
 
-// A board of these entries, published in two parts, of which the second is published twice.
-fn board(alloc: Global, entries: &[Entry]) -> Result<Board, Fail> {
+// A board of five entries, published in two parts, of which the second is published twice.
+fn board(alloc: Global) -> Result<Board, Fail> {
+    let entries = five(alloc)?;
     let mut board = Board::new(alloc, &start(alloc)?)?;
-    let half = entries.len() / 2;
-    board.publish(&entries[..half])?;
-    board.publish(&entries[half..])?;
-    board.publish(&entries[half..])?;
+    for (from, to) in [(0, 2), (2, 5), (2, 5)] {
+        board.publish(entries.get(from..to).unwrap_or(&[]))?;
+    }
     Ok(board)
+}
+
+const PAGES: [(u32, &str); 3] = [(1, ": a=1 b=2"), (2, "c: c=3 d=4 e=5"), (3, "")];
+
+const VALUES: [(&str, &str); 2] = [("e", "5"), ("x", "")];
+
+fn has_pages(alloc: Global, board: &Board) -> Result<bool, Fail> {
+    for (page, text) in PAGES {
+        if !is_shown(alloc, board.leaves().page(page), text)? {
+            return Ok(false);
+        }
+    }
+    Ok(true)
+}
+
+fn has_values(board: &Board) -> Result<bool, Fail> {
+    for (key, value) in VALUES {
+        if !is_value(board.get(&Key::new(key.as_bytes())?), value) {
+            return Ok(false);
+        }
+    }
+    Ok(true)
 }
 
 #[test]
 fn a_board_is_cut_as_leaves_are(rt: HostRuntime) -> Result<(), Fail> {
-    let alloc = rt.alloc();
     batches_are_joined();
-    let entries = five(alloc)?;
-    let board = board(alloc, entries.as_slice())?;
-    assert!(rt; is_shown(alloc, board.leaves().page(1), ": a=1 b=2")?);
-    assert!(rt; is_shown(alloc, board.leaves().page(2), "c: c=3 d=4 e=5")?);
-    assert!(rt; is_shown(alloc, board.leaves().page(3), "")?);
-    assert!(rt; is_value(board.get(&Key::new(b"e")?), "5"));
-    assert!(rt; is_value(board.get(&Key::new(b"x")?), ""));
+    let board = board(rt.alloc())?;
+    assert!(rt; has_pages(rt.alloc(), &board)?);
+    assert!(rt; has_values(&board)?);
     Ok(())
 }

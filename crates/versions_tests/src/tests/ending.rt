@@ -36,6 +36,16 @@ fn seen<R: Wait>(rt: &R, versions: &mut Versions, history: &mut Vec<Entry>) -> R
     Err(Fail::from("another value"))
 }
 
+// Whether each call of a reader is refused, the first one once more at the end.
+fn is_refused(mut reader: Reader) -> Result<bool, Fail> {
+    let key = Key::new(b"k")?;
+    Ok(
+        matches!(reader.get(&key), Err(NoReader))
+            && matches!(reader.page(1), Err(ReadFault::NoReader))
+            && matches!(reader.get(&key), Err(NoReader)),
+    )
+}
+
 #[test]
 fn a_reader_is_refused_once_its_versions_are_shut(rt: HostRuntime) -> Result<(), Fail> {
     let alloc = rt.alloc();
@@ -43,9 +53,6 @@ fn a_reader_is_refused_once_its_versions_are_shut(rt: HostRuntime) -> Result<(),
     let mut versions = Versions::open(&rt, alloc, 1, start(alloc)?)?;
     let seen = seen(&rt, &mut versions, &mut history);
     versions.shut(&rt);
-    let mut reader = seen?;
-    assert!(rt; matches!(reader.get(&Key::new(b"k")?), Err(NoReader)));
-    assert!(rt; matches!(reader.page(1), Err(ReadFault::NoReader)));
-    assert!(rt; matches!(reader.get(&Key::new(b"k")?), Err(NoReader)));
+    assert!(rt; is_refused(seen?)?);
     Ok(())
 }

@@ -36,6 +36,20 @@ fn reads<R: Wait>(
     value_is(reader, text)
 }
 
+fn both_publish<R: Wait>(
+    rt: &R,
+    alloc: Global,
+    one: &mut Publisher,
+    other: &mut Publisher,
+) -> Result<bool, Fail> {
+    Ok(reads(rt, one, batch(alloc, "1")?, "1")? && reads(rt, other, batch(alloc, "2")?, "2")?)
+}
+
+fn are_values(one: Reader, other: Reader) -> Result<bool, Fail> {
+    Ok(value_is(one, "1")? && value_is(other, "2")?)
+}
+
+// Whether readers that were made before anything was published read what both publish.
 fn both_read<R: Wait>(
     rt: &R,
     alloc: Global,
@@ -44,9 +58,10 @@ fn both_read<R: Wait>(
 ) -> Result<bool, Fail> {
     let first = one.reader()?;
     let second = other.reader()?;
-    let are_told = reads(rt, one, batch(alloc, "1")?, "1")?
-        && reads(rt, other, batch(alloc, "2")?, "2")?;
-    Ok(are_told && value_is(first, "1")? && value_is(second, "2")?)
+    if !both_publish(rt, alloc, one, other)? {
+        return Ok(false);
+    }
+    are_values(first, second)
 }
 
 fn with_two<R: Wait>(rt: &R, alloc: Global, mut one: Publisher) -> Result<bool, Fail> {
