@@ -41,6 +41,21 @@ blocks_there number body count blocks bytes lawful counted parts =
     ∙ many_again block_bytes (IsBlock 32) (block_at 32) (block_format 32 (omega arith)) blocks [] lawful in
     ap first_of read
 
+-- the bytes of one block are a body
+pub body_of_one : (block : Block) (bytes : List ℕ) → bytes ≡ block_bytes block → bytes ≡ body_bytes (block ∷ [])
+body_of_one block bytes spelled = spelled ∙ sym (append-nil (block_bytes block))
+
+-- no other lawful block has the same bytes
+pub same_block : (a b : Block) → IsBlock 32 a → IsBlock 32 b → block_bytes a ≡ block_bytes b → a ≡ b
+same_block a b law_a law_b same =
+    let format = block_format 32 (omega arith) in
+    let first : Block × List ℕ = (a, []) in
+    let second : Block × List ℕ = (b, []) in
+    let reads : Some first ≡ Some second =
+    sym (format.again a [] law_a) ∙ ap (λ (bytes : List ℕ). block_at 32 (bytes ++ [])) same ∙ format.again b [] law_b in
+    let pairs : first ≡ second = cc in
+    ap (λ (read : Block × List ℕ). read.0) pairs
+
 -- fields that hold these blocks
 pub record Holds (a : Inside) (blocks : List Block) : Type 0 where
   pub spelled : a.bytes.items ≡ head_bytes a.frame (length (body_bytes blocks)) a.count ++ body_bytes blocks
@@ -192,6 +207,14 @@ few_blocks (b ∷ bs) = omega (arith, some_bytes b, few_blocks bs, length-append
 pub room_inside : (a : Inside) (body room : ℕ) → IsLaid a → room ≡ a.limit - length a.bytes.items → true ≡ nat_le body room
     → length a.bytes.items + body ≤ a.limit
 room_inside a body room h is test = let under : body ≤ room = leb-true body room (sym test) in let within = h.fits in omega arith
+
+-- what fits the room that is told fits the limit
+pub within_room : (a : Inside) (f : Filling) (room more : ℕ) → IsLaid a → filling_of a ≡ f → room + size_of f ≡ f.limit → more ≤ room
+    → length a.bytes.items + more ≤ a.limit
+within_room a f room more h view is fits =
+    let size : length a.bytes.items ≡ size_of f = length-held a h ∙ ap size_of view in
+    let limit : a.limit ≡ f.limit = ap (λ (x : Filling). x.limit) view in
+    omega arith
 
 -- blocks that fit are few
 pub counts : (a : Inside) (blocks : List Block) → IsLaid a → length a.bytes.items + length (body_bytes blocks) ≤ a.limit

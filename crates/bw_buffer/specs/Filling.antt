@@ -1,9 +1,11 @@
 -- What a buffer is to its callers: blocks, never bytes.
 
-use Rattle.std.specs.Prelude.{ℕ, ◌+◌, ◌≤◌, Bool, List, length}
+use Rattle.std.specs.Prelude.{ℕ, ◌+◌, ◌≡◌, ◌≤◌, Bool, List, length}
 use Rattle.std.specs.List.{AllByRecursion}
-use Rattle.bw_codec.specs.Grammar.{body_bytes, IsBlock, IsFrame}
+use Rattle.bw_codec.specs.Grammar.{block_bytes, body_bytes, IsBlock, IsFrame}
+use Rattle.bw_codec.specs.declared.leaf.Leaf.{Leaf}
 use Rattle.bw_codec.specs.declared.block.Block.{Block}
+use Rattle.bw_codec.specs.declared.block.Block.TheVariants.{Base}
 use Rattle.bw_codec.specs.declared.block.Frame.{Frame}
 
 pub record Filling : Type 0 where
@@ -26,3 +28,7 @@ size_of b = 20 + length (body_bytes b.blocks)
 -- one or more blocks that are lawful where pages have at most m pairs are a frame that is lawful there
 abbrev pub IsLawfulFrame : Filling → Type 0
 IsLawfulFrame b = (m : ℕ) → 1 ≤ length b.blocks → AllByRecursion (IsBlock m) b.blocks → IsFrame m b.limit (frame_of b)
+
+-- bytes are those of a lawful Base of this page
+abbrev pub SpellsBase : ℕ → List ℕ → Type 0
+SpellsBase page bytes = (leaf : Leaf) × (leaf.page ≡ page) × IsBlock 32 (Base leaf) × (bytes ≡ block_bytes (Base leaf))

@@ -1,13 +1,15 @@
 //! The buffer itself.
 
-ghost use Rattle.std.specs.Prelude.{nat_le, ◌≡◌, ◌≤◌, ◌<◌, ◌+◌, ◌-◌, ◌++◌, ◌↔◌, ◌⊎◌, [], true, false, length, slice_get, IsTrue, IfOk, OnOk, OnErr, IfSome, IsErrOf};
+ghost use Rattle.std.specs.Prelude.{nat_le, ◌≡◌, ◌≤◌, ◌<◌, ◌+◌, ◌-◌, ◌∷◌, ◌++◌, ◌↔◌, ◌⊎◌, [], true, false, length, slice_get, IsTrue, IfOk, OnOk, OnErr, IfSome, IsErrOf};
 ghost use Rattle.std.specs.List.{AllByRecursion};
-ghost use Rattle.bw_codec.specs.Grammar.{body_bytes, frame_bytes, IsBlock};
-ghost use Rattle.bw_buffer.specs.Filling.{frame_of, size_of, IsLawfulFrame};
+ghost use Rattle.bw_codec.specs.Grammar.{block_bytes, body_bytes, frame_bytes, IsBlock};
+ghost use Rattle.bw_codec.specs.declared.leaf.Leaf.{Leaf};
+ghost use Rattle.bw_codec.specs.declared.block.Block.TheVariants.{Base};
+ghost use Rattle.bw_buffer.specs.Filling.{frame_of, size_of, IsLawfulFrame, SpellsBase};
 ghost use Rattle.bw_buffer.specs.Marks.{mark_of};
 
 use crate::fault::PutError;
-use crate::layout::{fit, lay_out, mark_all, set_head};
+use crate::layout::{copy_in, fit, lay_out, mark_all, set_head};
 use crate::mark::Mark;
 use bw_codec::limits::{HEAD_LEN, MIN_BLOCK};
 use bw_codec::{Block, Place};
@@ -117,6 +119,44 @@ impl Buffer {
             frame: self.frame,
             index,
         })
+    }
+
+    /// Adds a Base by the bytes that spell it, and answers its place: for a block that stands in a
+    /// frame already and is written again as it is, so that nobody decodes it. `page` is the page
+    /// that it sets. `Sealed` and `NoRoom` as in `put_all`. No memory is taken. Time is that of
+    /// copying these bytes, whatever stands in the buffer.
+    pub fn put_base(&mut self, bytes: &[u8], page: u32) -> Result<Place, PutError>
+        requires { SpellsBase page bytes.now }
+        ensures added { (leaf : Leaf) → IsBlock 32 (Base leaf)
+            → bytes.now ≡ block_bytes (Base leaf)
+            → OnOk result
+            (self.new ≡ record self.old { blocks = self.old.blocks ++ Base leaf ∷ [] }) }
+        ensures place { IfOk result (λ place.
+            place ≡ record { frame = self.old.frame; index = length self.old.blocks }) }
+
+        // The seal is looked at first, then the room; there is no other refusal.
+        ensures sealed { IsErrOf result PutError.Sealed ↔ IsTrue self.old.is_sealed }
+        ensures no_room { IsErrOf result PutError.NoRoom
+            ↔ ((self.old.is_sealed ≡ false)
+            × (self.old.limit < size_of self.old + length bytes.now)) }
+        ensures unchanged { OnErr result (self.new ≡ self.old) }
+    {
+        if self.is_sealed() {
+            return Err(PutError::Sealed);
+        }
+        if (self.room() as usize) < bytes.len() {
+            return Err(PutError::NoRoom);
+        }
+        let place = Place {
+            frame: self.frame,
+            index: self.count,
+        };
+        copy_in(bytes, &mut self.bytes);
+        self.marks.push_reserved(Mark::Sets(page));
+        self.count += 1;
+        let body = (self.bytes.as_slice().len() - HEAD_LEN) as u32;
+        set_head(&mut self.bytes, place.frame, body, self.count);
+        Ok(place)
     }
 
     /// Whether the frame with these blocks would not be longer than the limit. No memory is taken.

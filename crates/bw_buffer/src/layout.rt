@@ -38,6 +38,17 @@ pub(crate) fn lay_out(blocks: &[Block], bytes: &mut Vec<u8>)
     }
 }
 
+/// Appends bytes that are there already.
+pub(crate) fn copy_in(spelled: &[u8], bytes: &mut Vec<u8>)
+    requires { HasRoom bytes.old (length spelled.now) }
+    ensures { Adds bytes.old bytes.new spelled.now }
+{
+    match bytes.extend_from_slice(spelled) {
+        Ok(()) => {}
+        Err(_) => unreachable!(),
+    }
+}
+
 /// Appends what blocks do.
 pub(crate) fn mark_all(blocks: &[Block], marks: &mut Vec<Mark>)
     requires { vec_len marks.old + length blocks.now ≤ vec_capacity marks.old }

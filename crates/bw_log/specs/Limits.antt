@@ -1,6 +1,6 @@
 -- What a new log is made of, and which box it takes.
 
-use Rattle.std.specs.Prelude.{ℕ, ◌+◌, ◌-◌, ◌≤◌, ◌⊎◌, false, Some, List, [], length}
+use Rattle.std.specs.Prelude.{ℕ, ◌+◌, ◌≤◌, ◌⊎◌, false, Some, List, [], length}
 use Rattle.std.specs.List.{AllByRecursion}
 use Rattle.bw_device.specs.Holding.{Holding}
 use Rattle.bw_log.specs.Contents.{Contents, IsSpare}

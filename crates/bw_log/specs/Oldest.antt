@@ -1,6 +1,6 @@
 -- The oldest segment: which frames it has, and when it may be given up.
 
-use Rattle.std.specs.Prelude.{ℕ, ◌-◌, ◌<◌, ◌≡◌, Option, Some, None, List, [], ◌∷◌, length}
+use Rattle.std.specs.Prelude.{ℕ, ◌<◌, ◌≡◌, Option, Some, None, List, [], ◌∷◌, length}
 use Rattle.std.specs.Prelude.{slice_get, MatchOption}
 use Rattle.std.specs.List.{fold, filter}
 use Rattle.bw_codec.specs.declared.block.Place.{Place}

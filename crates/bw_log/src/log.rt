@@ -214,6 +214,13 @@ impl Log {
         }
     }
 
+    /// Where the counted frame of this index stands, from 0, the oldest; none behind the last.
+    pub fn line(&self, i: usize) -> Option<FrameAt>
+        ensures { result ≡ slice_get (seen_by holding self.now).frames i }
+    {
+        self.frames.as_slice().get(i).copied()
+    }
+
     // The table's line of a page.
     pub(crate) fn page_at(&self, page: u32) -> Option<PageAt>
         ensures { result ≡ (if page == 0 then None else slice_get self.now.pages.items (page - 1)) }
