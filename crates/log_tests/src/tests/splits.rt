@@ -122,24 +122,41 @@ fn splits(alloc: Global) -> Result<u8, Fail> {
     stands(&mut log, alloc)
 }
 
-// The same of what stands then.
-fn stands(log: &mut Log, alloc: Global) -> Result<u8, Fail>
+// Whether the segment has these bytes.
+fn is_spelled(log: &mut Log, alloc: Global) -> Result<bool, Fail>
     requires { IsSound log.old holding }
+    ensures { IsSound log.new holding }
 {
     let mut bytes = Vec::new(alloc);
-    if !log.dump(1, &mut bytes)? || bytes.as_slice() != &SPELLED[..] {
-        return Ok(7);
-    }
+    Ok(log.dump(1, &mut bytes)? && bytes.as_slice() == &SPELLED[..])
+}
+
+// Whether the lower page has its two pairs.
+fn has_lower(log: &mut Log) -> Result<bool, Fail>
+    requires { IsSound log.old holding }
+    ensures { IsSound log.new holding }
+{
     let lower = log.read_page(1)?;
-    if !has(&lower, &[(b"a", b"1"), (b"b", b"2")]) {
-        return Ok(8);
-    }
+    Ok(has(&lower, &[(b"a", b"1"), (b"b", b"2")]))
+}
+
+// Whether the upper one has its low and its three.
+fn has_upper(log: &mut Log) -> Result<bool, Fail>
+    requires { IsSound log.old holding }
+    ensures { IsSound log.new holding }
+{
     let upper = log.read_page(2)?;
-    if upper.low.as_slice() != b"c".as_slice()
-        || !has(&upper, &[(b"c", b"3"), (b"d", b"4"), (b"e", b"5")])
-    {
-        return Ok(9);
-    }
+    Ok(
+        upper.low.as_slice() == b"c".as_slice()
+            && has(&upper, &[(b"c", b"3"), (b"d", b"4"), (b"e", b"5")]),
+    )
+}
+
+// Whether both were last touched by the Split, and there is no third.
+fn has_places(log: &mut Log) -> bool
+    requires { IsSound log.old holding }
+    ensures { IsSound log.new holding }
+{
     let places = [
         log.place_of(1),
         log.base_of(1),
@@ -147,12 +164,26 @@ fn stands(log: &mut Log, alloc: Global) -> Result<u8, Fail>
         log.base_of(2),
     ];
     let split = Some(Place { frame: 5, index: 1 });
-    if places != [split, Some(Place { frame: 1, index: 0 }), split, split] {
+    places == [split, Some(Place { frame: 1, index: 0 }), split, split]
+        && log.read_page(3).err() == Some(LogFault::NoPage)
+}
+
+// The same of what stands then.
+fn stands(log: &mut Log, alloc: Global) -> Result<u8, Fail>
+    requires { IsSound log.old holding }
+{
+    if !is_spelled(log, alloc)? {
+        return Ok(7);
+    }
+    if !has_lower(log)? {
+        return Ok(8);
+    }
+    if !has_upper(log)? {
+        return Ok(9);
+    }
+    if !has_places(log) {
         return Ok(10);
     }
-    let Err(LogFault::NoPage) = log.read_page(3) else {
-        return Ok(11);
-    };
     Ok(0)
 }
 
