@@ -25,6 +25,7 @@ use Rattle.bw_log.proofs.Links.{bad_link-append}
 use Rattle.bw_log.proofs.Entries.{all_append, all_mapped}
 use Rattle.bw_log.proofs.Reread.{length-frame}
 use Rattle.bw_log.proofs.GivenUp.{placed_more}
+use Rattle.bw_care.specs.Ahead.{PageRead}
 use Rattle.bw_care.specs.Cleaning.{IsRewritten, page_of}
 
 -- ---- what pages are after them
@@ -165,11 +166,6 @@ each_at : (P : Leaf → Type 0) (i : ℕ) (leaves : List Leaf) (leaf : Leaf) →
 each_at P i [] leaf are is = absurd cc
 each_at P zero (l ∷ ls) leaf are is = let e : l ≡ leaf = cc in subst P e are.0
 each_at P (suc i) (l ∷ ls) leaf are is = each_at P i ls leaf are.1 is
-
-pub record PageRead (c : Contents) (p : ℕ) (leaf : Leaf) : Type 0 where
-  pub page : leaf.page ≡ p
-  pub stands : content leaf.page (blocks_of (counted c)) ≡ Some leaf
-  pub lawful : IsBase c.m leaf
 
 read_by : (c : Contents) (p : ℕ) (leaf : Leaf) (leaves : List Leaf) → Stand c.m (counted c) leaves → 1 ≤ p → p ≤ length leaves
     → content p (blocks_of (counted c)) ≡ Some leaf → PageRead c p leaf

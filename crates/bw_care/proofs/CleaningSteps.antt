@@ -25,9 +25,10 @@ use Rattle.bw_log.proofs.Entries.{all_append, all_mapped}
 use Rattle.bw_log.proofs.GivenUp.{all_behind}
 use Rattle.bw_log.proofs.LogLeft.{same_count}
 use Rattle.bw_log.proofs.Reread.{length-frame}
+use Rattle.bw_care.specs.Ahead.{PageRead}
 use Rattle.bw_care.specs.Cleaning.{is_old, old_from, old_pages, IsRewritten, page_of}
 use Rattle.bw_care.specs.Moving.{AreBases, IsFull, Moved, DeviceFailed, Refused, Stopped}
-use Rattle.bw_care.proofs.BasesLeave.{PageRead, page_read, largest_base, may_follow, frames_leave, stand_more}
+use Rattle.bw_care.proofs.BasesLeave.{page_read, largest_base, may_follow, frames_leave, stand_more}
 use Rattle.bw_care.proofs.BoxesGrown.{read_failed}
 use Rattle.bw_care.proofs.OldPages.{old_step, old_are_pages}
 use Rattle.bw_care.proofs.PagesMoved.{frame_lawful, moved_one, moved_none, moved_then, take_more, take_drop_all, two_left, drop_twice, drop_at_length}
@@ -89,9 +90,8 @@ bases_more c blocks now pages i d leaf bs inside r push = subst (λ (l : List Bl
 
 -- a page that does not fit is not the first
 not_first_by : (blocks : List Block) (pages : List ℕ) (i limit : ℕ) (leaf : Leaf) → map page_of blocks ≡ take i pages → i ≡ 0 → 16384 ≤ limit → IsBase 32 leaf
-    → limit < 20 + length (body_bytes blocks) + length (body_bytes (Base leaf ∷ [])) → ⊥
+    → limit < 20 + length (body_bytes blocks) + length (block_bytes (Base leaf)) → ⊥
 not_first_by [] pages i limit leaf told none most is over =
-    let size = ap (λ (l : List ℕ). length l) (append-nil (block_bytes (Base leaf))) in
     let small = largest_base 32 leaf (omega arith) is in
     let empty : length (body_bytes []) ≡ 0 = refl in
     absurd (omega arith)
@@ -100,7 +100,7 @@ not_first_by (b ∷ bs) pages i limit leaf told none most is over =
 
 pub not_first : (c : Contents) (blocks : List Block) (pages : List ℕ) (i limit : ℕ) (leaf : Leaf) → IsSound c → limit ≡ c.f → AreBases c blocks (take i pages)
     → IsBase 32 leaf
-    → limit < 20 + length (body_bytes blocks) + length (body_bytes (Base leaf ∷ [])) → 0 < i
+    → limit < 20 + length (body_bytes blocks) + length (block_bytes (Base leaf)) → 0 < i
 not_first c blocks pages i limit leaf sound same bs is over =
     elim (cases_lt 0 i) [
       | inl some ↦ some
@@ -357,12 +357,11 @@ same_leaf o a b x y = cc
 
 pub full_here : (c : Contents) (x : Filling) (pages : List ℕ) (i d limit : ℕ) (leaf : Leaf) → i < length pages → PageRead c (get_or pages i d) leaf
     → limit ≡ c.f
-    → limit < 20 + length (body_bytes x.blocks) + length (body_bytes (Base leaf ∷ [])) → IsFull c (frame_of x) (drop i pages)
+    → limit < 20 + length (body_bytes x.blocks) + length (block_bytes (Base leaf)) → IsFull c (frame_of x) (drop i pages)
 full_here c x pages i d limit leaf inside r same over = subst (IsFull c (frame_of x)) (sym (drop_here pages i d inside))
     (λ other there.
     (let e : leaf ≡ other = same_leaf (content (get_or pages i d) (blocks_of (counted c))) leaf other
     (ap (λ (p : ℕ). content p (blocks_of (counted c))) (sym r.page) ∙ r.stands) there in
-    let size = ap (λ (l : List ℕ). length l) (append-nil (block_bytes (Base leaf))) in
     subst (λ (l : Leaf). c.f < length (frame_bytes (frame_of x)) + length (block_bytes (Base l))) e (omega (arith, length-frame (frame_of x)))))
 
 pub full_end : (c : Contents) (x : Filling) (pages : List ℕ) (i : ℕ) → i ≡ length pages → IsFull c (frame_of x) (drop i pages)
