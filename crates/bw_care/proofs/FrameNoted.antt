@@ -1,11 +1,11 @@
 -- The walk over one frame's blocks: each Base that is its page's last block may be noted.
 
-use Rattle.std.proofs.Common.{◌≡◌, ℕ, ◌+◌, ◌-◌, ◌^◌, ◌<◌, ◌≤◌, Option, Some, None, IfSome, List, [], ◌∷◌, ◌++◌, length, take, drop, get_or, slice_get, refl, sym, ap, subst, ◌∙◌}
+use Rattle.std.proofs.Common.{◌≡◌, ℕ, ◌+◌, ◌-◌, ◌^◌, ◌<◌, ◌≤◌, Option, Some, IfSome, List, [], ◌∷◌, ◌++◌, length, take, drop, get_or, slice_get, refl, sym, ap, subst, ◌∙◌}
 use Rattle.std.proofs.Common.{append_assoc, length-append, length-drop, arith}
-use Rattle.std.specs.List.{flat_map, AllByRecursion}
+use Rattle.std.specs.List.{AllByRecursion}
 use Rattle.std.proofs.lemmas.List.{drop-drop, take-append-drop, length-take-le, take_at, drop_at}
 use Rattle.std.proofs.lemmas.Option.{slice_get_within, get_or_from_slice_get}
-use Rattle.bw_codec.specs.Grammar.{block_bytes, body_bytes, head_bytes, frame_bytes, IsBlock, IsFrame}
+use Rattle.bw_codec.specs.Grammar.{block_bytes, body_bytes, head_bytes, frame_bytes, IsBlock}
 use Rattle.bw_codec.specs.Outline.{outline_of}
 use Rattle.bw_codec.specs.declared.leaf.Leaf.{Leaf}
 use Rattle.bw_codec.specs.declared.block.Block.{Block}
@@ -21,9 +21,8 @@ use Rattle.bw_log.specs.Contents.{Contents, counted, IsSound}
 use Rattle.bw_log.specs.Places.{place_of, first_number}
 use Rattle.bw_log.specs.Segments.{AreFrom}
 use Rattle.bw_log.specs.declared.places.FrameAt.{FrameAt}
-use Rattle.bw_log.proofs.Fetched.{BoxedLine, boxed_line}
+use Rattle.bw_log.proofs.Fetched.{boxed_line}
 use Rattle.bw_care.specs.Ahead.{IsBaseOf, IsLineOf, IsOldest, Tells}
-use Rattle.bw_care.specs.declared.ahead.Spot.{Spot}
 use Rattle.bw_care.proofs.BasesFound.{base_found}
 use Rattle.bw_care.proofs.CleaningSteps.{rest_is}
 

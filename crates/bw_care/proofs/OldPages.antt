@@ -1,30 +1,27 @@
 -- The pages of the oldest segment, and where they stand once they were written again.
 
-use Rattle.std.proofs.Common.{inl, inr, ◌≡◌, ◌≢◌, ◌⊎◌, ℕ, zero, suc, ◌+◌, ◌-◌, ◌<◌, ◌≤◌, ◌==◌, ◌||◌, nat_lt, nat_le, Bool, true, false, if◌then◌else◌, Option}
-use Rattle.std.proofs.Common.{Some, None, IfSome, List, [], ◌∷◌, ◌++◌, length, map, take, refl, sym, ap, subst, ◌∙◌, append-nil, length-append, arith}
-use Rattle.std.specs.List.{fold, filter, flat_map, list_any, AllByRecursion}
-use Rattle.std.proofs.lemmas.Bool.{eqb-true, eq-eqb, ltb-true, leb-false, leb-true, le-leb, true≢false, false≢true, cases_lt, cases_Bool, or_left, or_right}
-use Rattle.std.proofs.lemmas.Bool.{or_parts}
+use Rattle.std.proofs.Common.{inl, inr, ◌≡◌, ℕ, zero, suc, ◌+◌, ◌-◌, ◌<◌, ◌≤◌, ◌==◌, ◌||◌, Bool, true, false, if◌then◌else◌, Option}
+use Rattle.std.proofs.Common.{Some, None, IfSome, List, [], ◌∷◌, ◌++◌, length, map, refl, sym, ap, subst, ◌∙◌, arith}
+use Rattle.std.specs.List.{fold, filter, list_any, AllByRecursion}
+use Rattle.std.proofs.lemmas.Bool.{eq-eqb, ltb-true, leb-false, false≢true, cases_lt, cases_Bool, or_left, or_right}
 use Rattle.std.proofs.lemmas.List.Folds.{list_any-append}
-use Rattle.std.proofs.lemmas.Grind.{fold-append, flat_map-append}
+use Rattle.std.proofs.lemmas.Grind.{fold-append}
 use Rattle.bw_codec.specs.Touch.{sets}
-use Rattle.bw_codec.specs.declared.leaf.Leaf.{Leaf}
 use Rattle.bw_codec.specs.declared.block.Place.{Place}
 use Rattle.bw_codec.specs.declared.block.Block.{Block}
 use Rattle.bw_codec.specs.declared.block.Block.TheVariants.{Delta, Base, Split}
 use Rattle.bw_codec.specs.declared.block.Frame.{Frame}
-use Rattle.bw_page.specs.Standing.{content, blocks_of}
+use Rattle.bw_page.specs.Standing.{blocks_of}
 use Rattle.bw_device.specs.Holding.{Holding}
 use Rattle.bw_log.specs.Places.{placed, all_placed, later, last_place, base_of}
 use Rattle.bw_log.specs.Segments.{segment_frames, frames_of, is_before_next}
-use Rattle.bw_log.specs.Contents.{Contents, image, counted, IsSound}
+use Rattle.bw_log.specs.Contents.{Contents, counted, IsSound}
 use Rattle.bw_log.specs.Reads.{IsPage}
-use Rattle.bw_log.specs.Oldest.{IsAfter, IsBaseAfter, NoBaseBefore, last_number}
+use Rattle.bw_log.specs.Oldest.{IsAfter, last_number}
 use Rattle.bw_log.proofs.Adding.{filter_all}
 use Rattle.bw_log.proofs.Entries.{all_append}
 use Rattle.bw_log.proofs.GivenUp.{all_pass, all_before, placed_more}
 use Rattle.bw_care.specs.Cleaning.{is_old, old_from, old_pages, oldest_last, IsRewritten, page_of}
-use Rattle.bw_care.specs.Moving.{AreLonger, KeepsOlder}
 
 -- ---- which pages are old
 

@@ -1,7 +1,7 @@
 -- What was read ahead tells of pages, then and after other pages were written again.
 
-use Rattle.std.proofs.Common.{◌≡◌, ℕ, zero, suc, ◌+◌, ◌-◌, ◌<◌, ◌≤◌, nat_le, Bool, true, false, if◌then◌else◌, Option, Some, None, List, [], ◌∷◌, ◌++◌, length}
-use Rattle.std.proofs.Common.{Result, Ok, Err, is_ok, OnOk, OnErr, IsErrOf, IsTrue, ◌↔◌, map, take, drop, set, replicate, get_or, slice_get, IfSome, MatchOption, inl, inr, refl, sym, ap, subst, ◌∙◌, arith}
+use Rattle.std.proofs.Common.{◌≡◌, ℕ, zero, suc, ◌+◌, ◌-◌, ◌<◌, nat_le, Bool, true, false, if◌then◌else◌, Option, Some, None, List, [], ◌∷◌, ◌++◌, length}
+use Rattle.std.proofs.Common.{Result, Ok, Err, is_ok, OnOk, OnErr, IsErrOf, IsTrue, ◌↔◌, take, drop, set, replicate, get_or, slice_get, IfSome, MatchOption, inl, inr, refl, sym, ap, subst, ◌∙◌, arith}
 use Rattle.std.specs.List.{AllByRecursion}
 use Rattle.std.proofs.lemmas.Bool.{le-leb}
 use Rattle.bw_codec.specs.Grammar.{block_bytes}
@@ -14,15 +14,13 @@ use Rattle.bw_buffer.specs.declared.fault.PutError.{PutError}
 use Rattle.bw_buffer.specs.declared.fault.PutError.TheVariants.{Sealed, NoRoom}
 use Rattle.bw_device.specs.Holding.{Holding}
 use Rattle.bw_page.specs.Standing.{content, blocks_of}
-use Rattle.bw_log.specs.Contents.{Contents, counted, IsSound}
+use Rattle.bw_log.specs.Contents.{Contents, counted}
 use Rattle.bw_log.specs.Reads.{IsPage, segment_at}
 use Rattle.bw_care.specs.Ahead.{PageRead, IsBaseOf, IsWithin, Tells, AreSpots, IsPiece, IsNoted, IsOldest, Puts}
-use Rattle.bw_care.specs.Cleaning.{old_pages}
 use Rattle.bw_care.specs.Moving.{Moved}
 use Rattle.bw_care.specs.declared.ahead.Spot.{Spot}
 use Rattle.bw_care.proofs.BasesLeave.{frames_leave}
 use Rattle.bw_care.proofs.CleaningSteps.{each_of, rest_is}
-use Rattle.bw_care.proofs.OldPages.{old_are_pages}
 use Rattle.bw_care.proofs.PagesMoved.{same_some}
 
 -- ---- the bytes
@@ -198,6 +196,3 @@ spots_rest old now bytes spots pages i ps rest n moved are =
 pub page_here : (old now : Contents) (pages : List ℕ) (i d : ℕ) → now ≡ old → AllByRecursion (IsPage old) pages → i < length pages → IsPage now (get_or pages i d)
 page_here old now pages i d same all inside =
     subst (λ (c : Contents). IsPage c (get_or pages i d)) (sym same) (each_of (IsPage old) pages i d all inside)
-
-pub are_pages : (c : Contents) (pages : List ℕ) → pages ≡ old_pages c → AllByRecursion (IsPage c) pages
-are_pages c pages is = subst (AllByRecursion (IsPage c)) (sym is) (old_are_pages c)

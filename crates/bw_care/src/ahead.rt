@@ -165,16 +165,15 @@ fn find_spots(
         unreachable!();
     };
     let mut spots = no_spots(alloc, pages.len())?;
+    // The frames of the oldest segment come first.
     for i in 0..usize::MAX {
-        match log.line(i) {
-            None => break,
-            Some(line) => {
-                if line.segment != segment {
-                    break;
-                }
-                note_frame(log, line, bytes, pages, &mut spots);
-            }
+        let Some(line) = log.line(i) else {
+            break;
+        };
+        if line.segment != segment {
+            break;
         }
+        note_frame(log, line, bytes, pages, &mut spots);
     }
     Ok(spots)
 }

@@ -155,12 +155,7 @@ fn move_some(
 }
 
 // Writes all the pages again, those that were found ahead as copies.
-fn move_all(
-    alloc: Global,
-    log: &mut Log,
-    ahead: &Ahead,
-    pages: &[u32],
-) -> Result<u64, LogFault>
+fn move_all(alloc: Global, log: &mut Log, ahead: &Ahead, pages: &[u32]) -> Result<u64, LogFault>
     requires sound { IsSound log.old holding }
     requires works { (seen log.old holding).is_failed ≡ false }
     requires two { 2 ≤ length (seen log.old holding).live }

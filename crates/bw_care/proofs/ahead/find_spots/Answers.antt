@@ -1,8 +1,6 @@
-use Rattle.std.proofs.Common.{◌≡◌, ◌∙◌, List, length, sym, ap, subst, slice_get, arith}
+use Rattle.std.proofs.Common.{◌∙◌, length, slice_get}
 use Rattle.std.proofs.lemmas.List.{length-replicate}
-use Rattle.bw_care.specs.Ahead.{AreSpots}
 use Rattle.bw_care.specs.Views.{seen}
-use Rattle.bw_care.specs.declared.ahead.Spot.{Spot}
 use Rattle.bw_care.proofs.FrameNoted.{line_of}
 use Rattle.bw_care.proofs.ReadAhead.{first_is, none_tell}
 use Rattle.bw_care.proofs.ahead.find_spots.Goals as goal

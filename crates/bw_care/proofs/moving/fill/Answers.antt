@@ -1,6 +1,5 @@
-use Rattle.std.proofs.Common.{◌≡◌, ◌<◌, ◌+◌, ◌∙◌, ap, length, arith}
+use Rattle.std.proofs.Common.{◌∙◌, ap, arith}
 use Rattle.std.proofs.lemmas.Option.{IfSome_then}
-use Rattle.bw_care.specs.Views.{seen}
 use Rattle.bw_care.proofs.CleaningSteps.{read_lawful, not_first, full_here}
 use Rattle.bw_care.proofs.ReadAhead.{spot_within, piece_here, no_room_for}
 use Rattle.bw_care.proofs.moving.fill.Goals as goal

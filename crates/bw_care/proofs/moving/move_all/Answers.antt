@@ -1,4 +1,4 @@
-use Rattle.std.proofs.Common.{◌≡◌, ◌≤◌, ◌<◌, ◌+◌, ◌∙◌, refl, sym, ap, length, arith}
+use Rattle.std.proofs.Common.{arith}
 use Rattle.std.proofs.lemmas.Result.{err_from_is_err_and}
 use Rattle.bw_care.proofs.PagesMoved.{moved_none}
 use Rattle.bw_care.proofs.CleaningSteps.{rest_pages, moved_more, stopped_at, rest_inside}

@@ -1,4 +1,4 @@
-use Rattle.std.proofs.Common.{◌≡◌, ◌≤◌, ◌-◌, length, take, drop}
+use Rattle.std.proofs.Common.{◌≤◌, ◌-◌, length, take, drop}
 use Rattle.bw_care.specs.Moving.{Moved}
 use Rattle.bw_care.specs.Views.{seen, IsSound}
 use Rattle.bw_care.proofs.moving.move_all.Given as goal

@@ -1,4 +1,4 @@
-use Rattle.std.proofs.Common.{◌≡◌, Err, ap}
+use Rattle.std.proofs.Common.{Err, ap}
 use Rattle.std.proofs.lemmas.Result.{err_from_is_err_and}
 use Rattle.bw_care.proofs.CleaningSteps.{stopped_first, fill_refused}
 use Rattle.bw_care.proofs.moving.move_pages.Goals as goal

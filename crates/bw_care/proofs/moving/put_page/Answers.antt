@@ -9,9 +9,11 @@ use Rattle.bw_care.proofs.moving.put_page.Goals as goal
 
 pub put_all-requires-clause-lawful : goal.put_all-requires-clause-lawful
 put_all-requires-clause-lawful g c =
-    let log = seen c.args.log.now (λ b. (goal.Segment-dyn g b).holding b.1) in
-    (read_lawful log c.args.page c.in_ok-leaf-in-None.leaf c.requires.sound
-    (page_read log c.args.page c.in_ok-leaf-in-None.leaf c.requires.sound c.requires.page.0 c.requires.page.1 c.in_ok-leaf-in-None.ensures.page), tt)
+    let log = seen c.args.log.now (λ b. (goal.Segment-dyn g b).holding b.1) in (
+      read_lawful log c.args.page c.in_ok-leaf-in-None.leaf c.requires.sound
+          (page_read log c.args.page c.in_ok-leaf-in-None.leaf c.requires.sound c.requires.page.0 c.requires.page.1 c.in_ok-leaf-in-None.ensures.page),
+      tt,
+    )
 
 pub returns-in_ok-leaf-in-None-clause-put : goal.returns-in_ok-leaf-in-None-clause-put
 returns-in_ok-leaf-in-None-clause-put g c =
