@@ -1,31 +1,31 @@
 -- Bases of pages as they stand leave every page, and may follow.
 
 use Rattle.std.proofs.Common.{inl, inr, ◌≡◌, ℕ, zero, suc, ◌+◌, ◌*◌, ◌^◌, ◌<◌, ◌≤◌, ◌==◌, nat_lt, Bool, true, false, if◌then◌else◌, Option, Some, None, List}
-use Rattle.std.proofs.Common.{[], ◌∷◌, ◌++◌, length, map, slice_get, refl, sym, ap, subst, lit≤, lit<, ◌∙◌, append-nil, length-append, arith}
+use Rattle.std.proofs.Common.{[], ◌∷◌, ◌++◌, length, slice_get, refl, sym, ap, subst, lit≤, lit<, ◌∙◌, append-nil, length-append, arith}
 use Rattle.std.specs.List.{fold, flat_map, AllByRecursion}
 use Rattle.std.proofs.lemmas.Bool.{eqb-true, ltb-true}
 use Rattle.std.proofs.lemmas.Grind.{fold-append}
-use Rattle.bw_codec.specs.Grammar.{pair_bytes, block_bytes, body_bytes, frame_bytes, IsPair, IsBase, IsBlock, IsFrame}
-use Rattle.bw_codec.specs.Touch.{sets, touches}
+use Rattle.bw_codec.specs.Grammar.{pair_bytes, block_bytes, IsPair, IsBase, IsFrame}
+use Rattle.bw_codec.specs.Touch.{touches}
 use Rattle.bw_codec.specs.declared.leaf.Leaf.{Leaf}
 use Rattle.bw_codec.specs.declared.block.Place.{Place}
 use Rattle.bw_codec.specs.declared.block.Block.{Block}
 use Rattle.bw_codec.specs.declared.block.Block.TheVariants.{Delta, Base, Split}
 use Rattle.bw_codec.specs.declared.block.Frame.{Frame}
 use Rattle.bw_codec.proofs.Lengths.{length-base}
-use Rattle.bw_page.specs.Leaves.{leaf_at, AreNumbered}
+use Rattle.bw_page.specs.Leaves.{AreNumbered}
 use Rattle.bw_page.specs.Standing.{after, content, blocks_of, Stand}
-use Rattle.bw_log.specs.Places.{placed, all_placed, or_else, bad_link, first_number, AreLinked}
-use Rattle.bw_log.specs.Segments.{following, next_of}
+use Rattle.bw_log.specs.Places.{placed, all_placed, or_else, bad_link, AreLinked}
+use Rattle.bw_log.specs.Segments.{following}
 use Rattle.bw_log.specs.Contents.{Contents, counted, IsStanding, IsSound}
 use Rattle.bw_log.specs.Appends.{MayFollow}
 use Rattle.bw_log.proofs.Walk.{same_after}
 use Rattle.bw_log.proofs.Walks.{blocks_more}
 use Rattle.bw_log.proofs.Links.{bad_link-append}
 use Rattle.bw_log.proofs.Entries.{all_append, all_mapped}
-use Rattle.bw_log.proofs.Reread.{length-frame}
 use Rattle.bw_log.proofs.GivenUp.{placed_more}
-use Rattle.bw_care.specs.Cleaning.{IsRewritten, page_of}
+use Rattle.bw_care.specs.Ahead.{PageRead}
+use Rattle.bw_care.specs.Cleaning.{IsRewritten}
 
 -- ---- what pages are after them
 
@@ -165,11 +165,6 @@ each_at : (P : Leaf → Type 0) (i : ℕ) (leaves : List Leaf) (leaf : Leaf) →
 each_at P i [] leaf are is = absurd cc
 each_at P zero (l ∷ ls) leaf are is = let e : l ≡ leaf = cc in subst P e are.0
 each_at P (suc i) (l ∷ ls) leaf are is = each_at P i ls leaf are.1 is
-
-pub record PageRead (c : Contents) (p : ℕ) (leaf : Leaf) : Type 0 where
-  pub page : leaf.page ≡ p
-  pub stands : content leaf.page (blocks_of (counted c)) ≡ Some leaf
-  pub lawful : IsBase c.m leaf
 
 read_by : (c : Contents) (p : ℕ) (leaf : Leaf) (leaves : List Leaf) → Stand c.m (counted c) leaves → 1 ≤ p → p ≤ length leaves
     → content p (blocks_of (counted c)) ≡ Some leaf → PageRead c p leaf

@@ -1,15 +1,14 @@
 -- Boxes that only grew, and the failure of one of them.
 
-use Rattle.std.proofs.Common.{inl, inr, ◌≡◌, ◌⊎◌, ℕ, zero, suc, ◌+◌, ◌-◌, ◌^◌, ◌<◌, ◌≤◌, Bool, true, false, if◌then◌else◌, Option, Some, None, List, [], ◌∷◌}
-use Rattle.std.proofs.Common.{◌++◌, length, map, drop, slice_get, slice_set, refl, sym, ap, subst, ◌∙◌, append_assoc, append-nil, length-append, arith}
-use Rattle.std.proofs.lemmas.Bool.{cases_Bool}
+use Rattle.std.proofs.Common.{inl, ◌≡◌, ℕ, zero, suc, ◌+◌, ◌<◌, Bool, true, false, if◌then◌else◌, Some, List, [], ◌∷◌}
+use Rattle.std.proofs.Common.{◌++◌, length, map, slice_get, slice_set, refl, sym, ap, subst, ◌∙◌, append_assoc, append-nil, length-append, arith}
 use Rattle.bw_codec.specs.Grammar.{frame_bytes, header_bytes}
 use Rattle.bw_codec.specs.declared.block.Frame.{Frame}
 use Rattle.bw_device.specs.Holding.{Holding, appended, failed_once}
-use Rattle.bw_log.specs.Contents.{Contents, Image, image, boxes, roster, counted, counted_in}
+use Rattle.bw_log.specs.Contents.{Contents, image, boxes, roster, counted_in}
 use Rattle.std.proofs.lemmas.List.{map-append}
 use Rattle.bw_log.specs.Reads.{FailedRead}
-use Rattle.bw_log.specs.Appends.{header_of, begun, begun_with, with_last, wants_segment, roomy, Appended, Rose, IsSameLog}
+use Rattle.bw_log.specs.Appends.{header_of, begun, begun_with, with_last, wants_segment, roomy, Appended, Rose}
 use Rattle.bw_care.specs.Moving.{IsLonger, AreLonger, KeepsOlder, DeviceFailed}
 
 -- ---- only bytes were added

@@ -1,15 +1,14 @@
 -- What the functions hand on.
 
-use Rattle.std.proofs.Common.{inl, inr, ◌≡◌, ◌≢◌, ◌⊎◌, ℕ, zero, suc, ◌+◌, ◌-◌, ◌<◌, ◌≤◌, ◌&&◌, nat_lt, Bool, true, false, if◌then◌else◌, Option, Some, None}
-use Rattle.std.proofs.Common.{Result, Ok, Err, List, [], ◌∷◌, ◌++◌, length, map, take, drop, get_or, refl, sym, ap, subst, ◌∙◌, append_assoc, append-nil}
-use Rattle.std.proofs.Common.{length-append, arith}
+use Rattle.std.proofs.Common.{inl, inr, ◌≡◌, ◌⊎◌, ℕ, zero, suc, ◌+◌, ◌-◌, ◌<◌, ◌≤◌, ◌&&◌, nat_lt, Bool, true, false, if◌then◌else◌, Option, Some, None}
+use Rattle.std.proofs.Common.{Result, Err, List, [], ◌∷◌, ◌++◌, length, map, take, drop, get_or, refl, sym, ap, subst, ◌∙◌, append_assoc}
+use Rattle.std.proofs.Common.{arith}
 use Rattle.std.specs.List.{AllByRecursion}
-use Rattle.std.proofs.lemmas.List.{map-append}
 use Rattle.std.proofs.lemmas.Bool.{cases_lt}
-use Rattle.bw_codec.specs.Grammar.{block_bytes, body_bytes, frame_bytes, IsBase, IsBlock}
+use Rattle.bw_codec.specs.Grammar.{block_bytes, body_bytes, frame_bytes, IsBase}
 use Rattle.bw_codec.specs.declared.leaf.Leaf.{Leaf}
 use Rattle.bw_codec.specs.declared.block.Block.{Block}
-use Rattle.bw_codec.specs.declared.block.Block.TheVariants.{Delta, Base, Split}
+use Rattle.bw_codec.specs.declared.block.Block.TheVariants.{Base}
 use Rattle.bw_codec.specs.declared.block.Frame.{Frame}
 use Rattle.bw_codec.proofs.Wider.{block_wider}
 use Rattle.bw_page.specs.Standing.{content, blocks_of, Stand}
@@ -21,16 +20,16 @@ use Rattle.bw_log.specs.Appends.{MayFollow, Appended, IsSameLog, Answers, OnDevi
 use Rattle.bw_log.specs.Appends as appends
 use Rattle.bw_log.specs.declared.fault.LogFault.{LogFault}
 use Rattle.bw_log.specs.declared.fault.LogFault.TheVariants.{NoMemory, BadConfig, NoSegment, Device, Failed, Spent, NoPage}
-use Rattle.bw_log.proofs.Entries.{all_append, all_mapped}
+use Rattle.bw_log.proofs.Entries.{all_mapped}
 use Rattle.bw_log.proofs.GivenUp.{all_behind}
-use Rattle.bw_log.proofs.LogLeft.{same_count}
 use Rattle.bw_log.proofs.Reread.{length-frame}
-use Rattle.bw_care.specs.Cleaning.{is_old, old_from, old_pages, IsRewritten, page_of}
-use Rattle.bw_care.specs.Moving.{AreBases, IsFull, Moved, DeviceFailed, Refused, Stopped}
-use Rattle.bw_care.proofs.BasesLeave.{PageRead, page_read, largest_base, may_follow, frames_leave, stand_more}
+use Rattle.bw_care.specs.Ahead.{PageRead}
+use Rattle.bw_care.specs.Cleaning.{is_old, old_from, old_pages, page_of}
+use Rattle.bw_care.specs.Moving.{AreBases, IsFull, Moved, Refused, Stopped}
+use Rattle.bw_care.proofs.BasesLeave.{largest_base, may_follow, stand_more}
 use Rattle.bw_care.proofs.BoxesGrown.{read_failed}
 use Rattle.bw_care.proofs.OldPages.{old_step, old_are_pages}
-use Rattle.bw_care.proofs.PagesMoved.{frame_lawful, moved_one, moved_none, moved_then, take_more, take_drop_all, two_left, drop_twice, drop_at_length}
+use Rattle.bw_care.proofs.PagesMoved.{frame_lawful, moved_one, moved_none, moved_then, take_more, take_drop_all, drop_twice}
 
 -- ---- the pages that are old
 
@@ -66,32 +65,13 @@ take_next (x ∷ xs) (suc i) d inside =
     let e : suc i + 1 ≡ suc (i + 1) = omega arith in
     ap (λ (k : ℕ). take k (x ∷ xs)) e ∙ ap (λ (l : List ℕ). x ∷ l) (take_next xs i d (omega arith))
 
-pub read_here : (old now : Contents) (pages : List ℕ) (i d : ℕ) (leaf : Leaf) → now ≡ old → IsSound old → AllByRecursion (IsPage old) pages → i < length pages
-    → content (get_or pages i d) (blocks_of (counted now)) ≡ Some leaf
-    → PageRead old (get_or pages i d) leaf
-read_here old now pages i d leaf same sound are inside is =
-    let there = each_of (IsPage old) pages i d are inside in
-    page_read old (get_or pages i d) leaf sound there.0 there.1
-    (subst (λ (c : Contents). content (get_or pages i d) (blocks_of (counted c)) ≡ Some leaf) same is)
-
 pub read_lawful : (c : Contents) (p : ℕ) (leaf : Leaf) → IsSound c → PageRead c p leaf → IsBase 32 leaf
 read_lawful c p leaf sound r = block_wider c.m 32 (Base leaf) (let few = sound.holds.limits.1 in omega arith) r.lawful
 
-pub bases_more : (c : Contents) (blocks now : List Block) (pages : List ℕ) (i d : ℕ) (leaf : Leaf) → AreBases c blocks (take i pages) → i < length pages
-    → PageRead c (get_or pages i d) leaf → now ≡ blocks ++ Base leaf ∷ []
-    → AreBases c now (take (i + 1) pages)
-bases_more c blocks now pages i d leaf bs inside r push = subst (λ (l : List Block). AreBases c l (take (i + 1) pages)) (sym push) (record {
-  bases = all_append (IsRewritten (blocks_of (counted c))) blocks (Base leaf ∷ []) bs.bases (r.stands, tt);
-  lawful = all_append (IsBlock c.m) blocks (Base leaf ∷ []) bs.lawful (r.lawful, tt);
-  told = map-append page_of blocks (Base leaf ∷ []) ∙ ap (λ (l : List ℕ). l ++ leaf.page ∷ []) bs.told ∙ ap (λ (p : ℕ). take i pages ++ p ∷ []) r.page
-      ∙ sym (take_next pages i d inside);
-})
-
 -- a page that does not fit is not the first
 not_first_by : (blocks : List Block) (pages : List ℕ) (i limit : ℕ) (leaf : Leaf) → map page_of blocks ≡ take i pages → i ≡ 0 → 16384 ≤ limit → IsBase 32 leaf
-    → limit < 20 + length (body_bytes blocks) + length (body_bytes (Base leaf ∷ [])) → ⊥
+    → limit < 20 + length (body_bytes blocks) + length (block_bytes (Base leaf)) → ⊥
 not_first_by [] pages i limit leaf told none most is over =
-    let size = ap (λ (l : List ℕ). length l) (append-nil (block_bytes (Base leaf))) in
     let small = largest_base 32 leaf (omega arith) is in
     let empty : length (body_bytes []) ≡ 0 = refl in
     absurd (omega arith)
@@ -100,7 +80,7 @@ not_first_by (b ∷ bs) pages i limit leaf told none most is over =
 
 pub not_first : (c : Contents) (blocks : List Block) (pages : List ℕ) (i limit : ℕ) (leaf : Leaf) → IsSound c → limit ≡ c.f → AreBases c blocks (take i pages)
     → IsBase 32 leaf
-    → limit < 20 + length (body_bytes blocks) + length (body_bytes (Base leaf ∷ [])) → 0 < i
+    → limit < 20 + length (body_bytes blocks) + length (block_bytes (Base leaf)) → 0 < i
 not_first c blocks pages i limit leaf sound same bs is over =
     elim (cases_lt 0 i) [
       | inl some ↦ some
@@ -357,12 +337,11 @@ same_leaf o a b x y = cc
 
 pub full_here : (c : Contents) (x : Filling) (pages : List ℕ) (i d limit : ℕ) (leaf : Leaf) → i < length pages → PageRead c (get_or pages i d) leaf
     → limit ≡ c.f
-    → limit < 20 + length (body_bytes x.blocks) + length (body_bytes (Base leaf ∷ [])) → IsFull c (frame_of x) (drop i pages)
+    → limit < 20 + length (body_bytes x.blocks) + length (block_bytes (Base leaf)) → IsFull c (frame_of x) (drop i pages)
 full_here c x pages i d limit leaf inside r same over = subst (IsFull c (frame_of x)) (sym (drop_here pages i d inside))
     (λ other there.
     (let e : leaf ≡ other = same_leaf (content (get_or pages i d) (blocks_of (counted c))) leaf other
     (ap (λ (p : ℕ). content p (blocks_of (counted c))) (sym r.page) ∙ r.stands) there in
-    let size = ap (λ (l : List ℕ). length l) (append-nil (block_bytes (Base leaf))) in
     subst (λ (l : Leaf). c.f < length (frame_bytes (frame_of x)) + length (block_bytes (Base l))) e (omega (arith, length-frame (frame_of x)))))
 
 pub full_end : (c : Contents) (x : Filling) (pages : List ℕ) (i : ℕ) → i ≡ length pages → IsFull c (frame_of x) (drop i pages)

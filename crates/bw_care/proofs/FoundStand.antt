@@ -1,25 +1,20 @@
 -- What recovery finds stands: and what stands, recovery finds.
 
-use Rattle.std.proofs.Common.{inl, inr, ◌⊎◌, ◌≡◌, ℕ, zero, suc, ◌+◌, ◌-◌, ◌^◌, ◌<◌, ◌≤◌, ◌==◌, ◌&&◌, ◌||◌, not, nat_lt, Bool, true, false, if◌then◌else◌, max}
-use Rattle.std.proofs.Common.{Option, Some, None, List, [], ◌∷◌, ◌++◌, length, slice_get, IsTrue, refl, sym, ap, ◌∙◌, subst, arith, length-append}
-use Rattle.std.specs.List.{fold, flat_map, list_any, AllByRecursion}
-use Rattle.std.proofs.lemmas.Bool.{or_parts, eqb-true, eq-eqb, ltb-true, ltb-false, lt-ltb, le-ltb, true≢false, cases_lt}
-use lib.Pointwise.{bytes_decides}
-use Rattle.bw_codec.specs.Bytes.{is_below}
-use Rattle.bw_codec.specs.Grammar.{IsPage, IsBase, IsBlock, IsFrame}
-use Rattle.bw_codec.specs.Touch.{sets, touches}
-use Rattle.bw_codec.specs.declared.leaf.Leaf.{Leaf}
+use Rattle.std.proofs.Common.{◌≡◌, ℕ, zero, suc, ◌+◌, ◌^◌, ◌<◌, ◌≤◌, ◌==◌, ◌||◌, Bool, true, false, max}
+use Rattle.std.proofs.Common.{List, [], ◌∷◌, ◌++◌, length, slice_get, refl, sym, ap, ◌∙◌, subst, arith, length-append}
+use Rattle.std.specs.List.{AllByRecursion}
+use Rattle.std.proofs.lemmas.Bool.{eqb-true}
+use Rattle.bw_codec.specs.Grammar.{IsBlock, IsFrame}
+use Rattle.bw_codec.specs.Touch.{touches}
 use Rattle.bw_codec.specs.declared.block.Block.{Block}
 use Rattle.bw_codec.specs.declared.block.Block.TheVariants.{Delta, Base, Split}
 use Rattle.bw_codec.specs.declared.block.Frame.{Frame}
 use Rattle.bw_buffer.specs.Marks.{mark_of}
-use Rattle.bw_page.specs.Leaves.{Bytes, leaf_at, AreNumbered, BeginsEmpty, HaveOwnLows, AreLeaves}
-use Rattle.bw_page.specs.Laws.{LiesBetween, AreRanged}
-use Rattle.bw_page.specs.Standing.{after, content, blocks_of, Stand}
+use Rattle.bw_page.specs.Leaves.{leaf_at}
+use Rattle.bw_page.specs.Standing.{content, blocks_of, Stand}
 use Rattle.bw_page.proofs.Order.{must_not}
 use Rattle.bw_log.specs.PageTable.{top_of, top_page}
-use Rattle.bw_care.specs.Lawful.{as_list, page_set, set_by, leaves_set, is_same, has_low_before, is_astray, has_wrong_low, is_bad_leaf, is_bad_page}
-use Rattle.bw_care.specs.Lawful.{is_at_fault, first_such, contents}
+use Rattle.bw_care.specs.Lawful.{contents}
 use Rattle.bw_care.proofs.PagesAtFault.{NoneAtFault, all_set, contents_at, contents_length, leaves_lawful}
 
 -- ---- pages that are touched

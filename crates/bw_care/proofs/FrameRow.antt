@@ -1,11 +1,10 @@
 -- Frames in order, as a log has them.
 
-use Rattle.std.proofs.Common.{◌≡◌, ℕ, zero, suc, ◌+◌, ◌==◌, ◌&&◌, ◌≤◌, Bool, true, false, Option, Some, None, List, [], ◌∷◌, ◌++◌, length, map, refl, sym, ap}
-use Rattle.std.proofs.Common.{◌∙◌, subst, arith}
-use Rattle.std.specs.List.{fold, flat_map, AllByRecursion}
+use Rattle.std.proofs.Common.{◌≡◌, ℕ, ◌+◌, ◌==◌, true, Option, Some, None, List, [], ◌∷◌, ◌++◌, map, refl, sym, ap}
+use Rattle.std.proofs.Common.{◌∙◌, subst}
+use Rattle.std.specs.List.{fold, AllByRecursion}
 use Rattle.std.proofs.lemmas.Bool.{and_parts, eqb-true}
-use Rattle.std.proofs.lemmas.List.{map-append}
-use Rattle.bw_codec.specs.Grammar.{IsFrame, frame_bytes}
+use Rattle.bw_codec.specs.Grammar.{IsFrame}
 use Rattle.bw_codec.specs.declared.block.Frame.{Frame}
 use Rattle.bw_device.specs.Holding.{Holding}
 use Rattle.bw_log.specs.Places.{first_number}
@@ -14,7 +13,7 @@ use Rattle.bw_log.specs.Adopting.{next_in}
 use Rattle.bw_log.specs.declared.places.FrameAt.{FrameAt}
 use Rattle.bw_care.specs.Behind.{frames_behind}
 use Rattle.bw_care.specs.Scanned.{IsScan}
-use Rattle.bw_care.specs.Ordering.{follow_from, AreFound, lines_found, line_number}
+use Rattle.bw_care.specs.Ordering.{follow_from, AreFound, lines_found}
 use Rattle.bw_care.specs.declared.scanning.Scan.TheVariants.{Live}
 use Rattle.bw_care.proofs.NumberOrder.{frames_here, all_numbers}
 use Rattle.bw_care.specs.declared.ordering.Found.{Found}

@@ -1,18 +1,18 @@
 -- What a box's first bytes tell.
 
-use Rattle.std.proofs.Common.{inl, inr, ◌≡◌, ◌≢◌, ℕ, zero, suc, ◌+◌, ◌-◌, ◌<◌, ◌≤◌, Option, Some, None, Result, Ok, Err, List, [], ◌∷◌, ◌++◌, length, drop}
+use Rattle.std.proofs.Common.{◌≡◌, ◌≢◌, ℕ, ◌≤◌, Option, None, List, [], ◌∷◌, ◌++◌, length, drop}
 use Rattle.std.proofs.Common.{refl, sym, ap, subst, ◌∙◌, arith, length-append}
 use Rattle.std.proofs.lemmas.List.{drop_at}
 use Rattle.bw_care.specs.Behind.{frames_behind, IsBehind}
 use Rattle.bw_care.specs.declared.scanning.Behind.{Behind}
 use Rattle.bw_codec.specs.Bytes.{IsBytes}
-use Rattle.bw_codec.specs.Grammar.{IsWhole, header_bytes, IsHeading, IsHeader, IsPart}
-use Rattle.bw_codec.specs.Reading.{front_at, heading_of}
+use Rattle.bw_codec.specs.Grammar.{IsWhole, header_bytes, IsHeading}
+use Rattle.bw_codec.specs.Reading.{heading_of}
 use Rattle.bw_codec.specs.declared.block.Header.{Header}
 use Rattle.bw_codec.specs.declared.block.HeaderRead.{HeaderRead}
 use Rattle.bw_codec.specs.declared.block.HeaderRead.TheVariants as heading
 use Rattle.bw_codec.proofs.Heading.{heading_is, header_again, length-header}
-use Rattle.bw_care.specs.Scanning.{rest_of, fault_by, fault_in, fault_under, fault_behind, FaultIs}
+use Rattle.bw_care.specs.Scanning.{rest_of, fault_in, fault_under, fault_behind, FaultIs}
 use Rattle.bw_care.specs.declared.scanning.ScanFault.{ScanFault}
 
 pub header_long : (bytes : List ℕ) (h : Header) → IsHeading bytes (heading.Whole h) → 24 ≤ length bytes

@@ -1,8 +1,8 @@
 -- What a line says is what the blocks say.
 
-use Rattle.std.proofs.Common.{◌≡◌, ℕ, zero, suc, ◌+◌, ◌≤◌, ◌==◌, ◌||◌, Bool, true, false, if◌then◌else◌, Option, Some, None, List, [], ◌∷◌, ◌++◌, map, refl}
-use Rattle.std.proofs.Common.{sym, ap, ◌∙◌, subst, arith}
-use Rattle.std.specs.List.{fold, flat_map, AllByRecursion}
+use Rattle.std.proofs.Common.{◌≡◌, ℕ, ◌+◌, ◌≤◌, ◌==◌, Bool, true, false, if◌then◌else◌, Option, Some, None, List, [], ◌∷◌, ◌++◌, map, refl}
+use Rattle.std.proofs.Common.{sym, ap, ◌∙◌, arith}
+use Rattle.std.specs.List.{fold, AllByRecursion}
 use Rattle.std.proofs.lemmas.Bool.{eqb-true, true≢false}
 use Rattle.std.proofs.lemmas.List.{map-append}
 use Rattle.bw_codec.specs.Touch.{sets, touches}
@@ -12,7 +12,7 @@ use Rattle.bw_codec.specs.declared.block.Frame.{Frame}
 use Rattle.bw_codec.specs.declared.leaf.Leaf.{Leaf}
 use Rattle.bw_page.specs.Standing.{after, content, blocks_of}
 use Rattle.bw_page.proofs.Order.{must_not}
-use Rattle.bw_log.specs.Places.{later, last_place, placed, all_placed, place_of, base_of}
+use Rattle.bw_log.specs.Places.{later, placed, all_placed, place_of, base_of}
 use Rattle.bw_log.specs.Contents.{some_place}
 use Rattle.bw_log.proofs.Walk.{same_after, sets_touches}
 use Rattle.bw_care.specs.declared.reading.Line.{Line}

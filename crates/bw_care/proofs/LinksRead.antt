@@ -1,22 +1,21 @@
 -- A map of lines, and the links of the blocks that were read.
 
 use Rattle.std.proofs.Common.{zero, suc, take, drop, reverse, ◌+◌, length, append_assoc, arith, ◌≡◌, ℕ, Bool, true, false, if◌then◌else◌, Option, Some, None}
-use Rattle.std.proofs.Common.{Result, Ok, Err, OnOk, IfErr, List, [], ◌∷◌, ◌++◌, refl, sym, ap, ◌∙◌, subst}
+use Rattle.std.proofs.Common.{List, [], ◌∷◌, ◌++◌, refl, sym, ap, ◌∙◌, subst}
 use Rattle.std.specs.List.{fold}
 use Rattle.std.specs.BTreeMap as tree
 use Rattle.std.specs.Ordering.{nat_cmp}
 use Rattle.std.proofs.lemmas.Grind.{fold-append}
 use Rattle.std.proofs.lemmas.List.{reverse-append, reverse-reverse}
-use Rattle.bw_codec.specs.Touch.{sets, touches}
+use Rattle.bw_codec.specs.Touch.{touches}
 use Rattle.bw_codec.specs.declared.block.Block.{Block}
-use Rattle.bw_codec.specs.declared.block.Block.TheVariants.{Delta, Base, Split}
 use Rattle.bw_codec.specs.declared.block.Place.{Place}
 use Rattle.bw_log.specs.Places.{placed, later, last_place, is_back, fault_at, fault_of, or_else, bad_link}
 use Rattle.bw_log.proofs.Links.{bad_link-append}
 use Rattle.bw_care.specs.declared.reading.Line.{Line}
 use Rattle.bw_care.specs.declared.reading.ReadFault.{ReadFault}
 use Rattle.bw_care.specs.declared.reading.ReadFault.TheVariants.{NoMemory, BadLink}
-use Rattle.bw_care.specs.Reading.{place_in, leaf_in, line_after, line_of, AreLines, IsRead, LinkFaultIs}
+use Rattle.bw_care.specs.Reading.{place_in, line_after, line_of, AreLines, IsRead, LinkFaultIs}
 
 -- a line's place is the last block that touches the page
 place_step : (p : ℕ) (was : Option Line) (last : Option Place) (x : Place × Block) (t : Bool) → touches p x.1 ≡ t → place_in was ≡ last

@@ -1,8 +1,8 @@
 -- Segments in order, as a log has them.
 
-use Rattle.std.proofs.Common.{◌≡◌, ℕ, zero, suc, ◌+◌, ◌==◌, ◌&&◌, ◌||◌, not, nat_lt, Bool, true, false, if◌then◌else◌, Option, Some, None, List, [], ◌∷◌, ◌++◌}
+use Rattle.std.proofs.Common.{◌≡◌, ℕ, ◌+◌, ◌==◌, ◌&&◌, not, Bool, true, false, Some, None, List, [], ◌∷◌, ◌++◌}
 use Rattle.std.proofs.Common.{length, map, refl, sym, ap, ◌∙◌, subst, arith}
-use Rattle.std.specs.List.{fold, list_any, AllByRecursion}
+use Rattle.std.specs.List.{list_any, AllByRecursion}
 use Rattle.std.proofs.lemmas.Bool.{or_parts, and_parts, eqb-true}
 use Rattle.std.proofs.lemmas.List.{map-append}
 use Rattle.bw_codec.specs.Grammar.{IsWhole, frame_bytes}
@@ -15,7 +15,6 @@ use Rattle.bw_log.specs.declared.places.FrameAt.{FrameAt}
 use Rattle.bw_care.specs.Scanning.{rest_of}
 use Rattle.bw_care.specs.Behind.{frames_behind}
 use Rattle.bw_care.specs.Scanned.{IsScan}
-use Rattle.bw_care.specs.Recovery.{placed_by, in_order}
 use Rattle.bw_care.specs.Ordering.{lives_from, lives, number_found, sorted, is_other, follow_from, AreFound, moved_to, lines_found}
 use Rattle.bw_care.specs.declared.scanning.Scan.{Scan}
 use Rattle.bw_care.specs.declared.scanning.Scan.TheVariants.{Bare, Part, Live}

@@ -1,18 +1,18 @@
 -- Pages in order, one more at a time.
 
-use Rattle.std.proofs.Common.{inl, inr, ◌⊎◌, ◌≡◌, ℕ, zero, suc, ◌+◌, ◌-◌, ◌<◌, ◌≤◌, ◌==◌, ◌&&◌, ◌||◌, not, nat_lt, Bool, true, false, if◌then◌else◌, cond}
-use Rattle.std.proofs.Common.{Option, Some, None, IsSome, List, [], ◌∷◌, ◌++◌, length, drop, get_or, drop-cons, refl, sym, ap, ◌∙◌, subst, arith}
-use Rattle.std.specs.List.{list_any, AllByRecursion}
+use Rattle.std.proofs.Common.{◌≡◌, ℕ, zero, suc, ◌+◌, ◌-◌, ◌<◌, ◌≤◌, ◌==◌, ◌||◌, not, Bool, true, false, if◌then◌else◌, cond}
+use Rattle.std.proofs.Common.{Option, Some, List, [], ◌∷◌, length, drop, get_or, drop-cons, refl, sym, ap, ◌∙◌, subst, arith}
+use Rattle.std.specs.List.{AllByRecursion}
 use Rattle.std.specs.Ordering.{is_eq}
 use Rattle.std.specs.Cmp.{tied_itself}
-use Rattle.std.proofs.lemmas.Bool.{or_parts, and_parts, eqb-true, eq-eqb, ltb-true, ltb-false, lt-ltb, le-ltb, true≢false, cases_lt}
+use Rattle.std.proofs.lemmas.Bool.{eq-eqb, true≢false}
 use lib.Pointwise.{bytes_decides}
-use Rattle.bw_codec.specs.Bytes.{is_below, IsKey}
+use Rattle.bw_codec.specs.Bytes.{IsKey}
 use Rattle.bw_codec.specs.declared.leaf.Leaf.{Leaf}
 use Rattle.bw_page.specs.Leaves.{Bytes, order}
-use Rattle.bw_page.proofs.Order.{tied, order-total, must_be, must_not, not_both}
+use Rattle.bw_page.proofs.Order.{tied, order-total}
 use Rattle.bw_care.specs.Lawful.{is_same, is_bad_page}
-use Rattle.bw_care.specs.Paging.{Paged, Rise, has_low, first_with, IsIndex, IsLows, IsShortIf, first_wrong, leaves_in, last_page}
+use Rattle.bw_care.specs.Paging.{Paged, Rise, has_low, first_with, IsIndex, IsShortIf, first_wrong}
 
 -- ---- the index
 

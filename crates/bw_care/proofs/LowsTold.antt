@@ -1,18 +1,18 @@
 -- An index of lows, and what it says of a page.
 
-use Rattle.std.proofs.Common.{inl, inr, ◌⊎◌, ◌≡◌, ℕ, zero, suc, ◌+◌, ◌-◌, ◌<◌, ◌≤◌, ◌==◌, ◌&&◌, ◌||◌, not, nat_lt, Bool, true, false, if◌then◌else◌, cond}
-use Rattle.std.proofs.Common.{Option, Some, None, IsSome, List, [], ◌∷◌, ◌++◌, length, refl, sym, ap, ◌∙◌, subst, arith}
+use Rattle.std.proofs.Common.{◌≡◌, ℕ, ◌≤◌, ◌==◌, ◌&&◌, ◌||◌, not, nat_lt, Bool, true, false}
+use Rattle.std.proofs.Common.{Option, Some, None, IsSome, List, [], ◌∷◌, length, refl, sym, ap, ◌∙◌, subst, arith}
 use Rattle.std.specs.List.{list_any, AllByRecursion}
-use Rattle.std.specs.Ordering.{is_lt, is_gt, is_eq}
+use Rattle.std.specs.Ordering.{is_lt, is_gt}
 use Rattle.std.specs.declared.cmp.Ordering.{Ordering}
 use Rattle.std.specs.declared.cmp.Ordering.TheVariants.{Less, Equal, Greater}
-use Rattle.std.proofs.lemmas.Bool.{or_parts, and_parts, eqb-true, eq-eqb, ltb-true, ltb-false, lt-ltb, le-ltb, true≢false, cases_lt}
+use Rattle.std.proofs.lemmas.Bool.{eqb-true, ltb-true, ltb-false}
 use lib.Pointwise.{bytes_decides}
 use Rattle.bw_codec.specs.Bytes.{is_below, IsKey}
 use Rattle.bw_codec.specs.declared.leaf.Leaf.{Leaf}
 use Rattle.bw_page.specs.Leaves.{Bytes, order}
-use Rattle.bw_page.proofs.Order.{Below, greater_is_below, below-upto, upto_empty, must_be, must_not, not_both, order-total}
-use Rattle.bw_care.specs.Lawful.{is_same, has_low_before, is_astray, has_wrong_low, is_bad_leaf}
+use Rattle.bw_page.proofs.Order.{greater_is_below, below-upto, upto_empty, must_not, not_both}
+use Rattle.bw_care.specs.Lawful.{is_same, has_low_before, is_astray, is_bad_leaf}
 use Rattle.bw_care.specs.Paging.{IsNext, is_past, IsLows, taken_before}
 
 -- ---- the order

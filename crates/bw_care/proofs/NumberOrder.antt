@@ -1,28 +1,27 @@
 -- What was read of boxes, in order, is what recovery says of the boxes.
 
-use Rattle.std.proofs.Common.{◌≡◌, ℕ, zero, suc, ◌+◌, ◌==◌, ◌&&◌, ◌||◌, not, nat_lt, Bool, true, false, if◌then◌else◌, Option, Some, None, List, [], ◌∷◌, ◌++◌}
-use Rattle.std.proofs.Common.{slice_get, length, drop, map, refl, sym, ap, ◌∙◌, subst, arith}
-use Rattle.std.specs.List.{fold, filter, flat_map, list_any}
+use Rattle.std.proofs.Common.{◌≡◌, ℕ, suc, ◌+◌, ◌==◌, ◌&&◌, ◌||◌, not, nat_lt, Bool, true, false, if◌then◌else◌, Option, Some, None, List, [], ◌∷◌, ◌++◌}
+use Rattle.std.proofs.Common.{slice_get, length, map, refl, sym, ap, ◌∙◌, subst, arith}
+use Rattle.std.specs.List.{fold, list_any}
 use Rattle.std.proofs.lemmas.List.{map-append}
 use Rattle.bw_codec.specs.Grammar.{frame_bytes}
 use Rattle.bw_log.specs.Segments.{entries_from}
 use Rattle.bw_log.specs.declared.places.FrameAt.{FrameAt}
 use Rattle.bw_care.specs.Behind.{frames_behind}
-use Rattle.bw_codec.specs.Reading.{header_in, heading_of}
+use Rattle.bw_codec.specs.Reading.{header_in}
 use Rattle.bw_codec.specs.declared.block.Frame.{Frame}
 use Rattle.bw_codec.specs.declared.block.Header.{Header}
-use Rattle.bw_codec.specs.declared.block.HeaderRead.TheVariants as heading
 use Rattle.bw_device.specs.Holding.{Holding}
-use Rattle.bw_log.specs.Segments.{segment_frames, frames_of, frames_at}
+use Rattle.bw_log.specs.Segments.{segment_frames, frames_of}
 use Rattle.bw_care.specs.Scanning.{has_header, has_header_by, is_bare}
 use Rattle.bw_care.specs.Scanned.{IsScan, AreScans}
-use Rattle.bw_care.specs.Recovery.{placed_by, in_order, number_in, segments_in, live_in, spares_in, frames_in, first_header, header_of_all, is_like, is_mixed}
+use Rattle.bw_care.specs.Recovery.{placed_by, number_in, segments_in, live_in, spares_in, frames_in, first_header, header_of_all, is_like, is_mixed}
 use Rattle.bw_care.specs.Recovery.{follow_on, has_gap, is_small, is_none, when, fault_of_order}
 use Rattle.bw_log.specs.Places.{or_else}
 use Rattle.bw_care.specs.declared.fault.RecoverCause.{RecoverCause}
 use Rattle.bw_care.specs.declared.fault.RecoverCause.TheVariants.{BadConfig, Empty, Gap, Mixed}
 use Rattle.bw_care.specs.Ordering.{order_fault_by, order_fault, lives_from, lives, number_found, sorted, moved_to, lines_found, line_number, has_none}
-use Rattle.bw_care.specs.Ordering.{first_found, is_other, is_narrow, any_narrow}
+use Rattle.bw_care.specs.Ordering.{first_found, is_other, any_narrow}
 use Rattle.bw_care.specs.Ordering.{follow_from, AreFound}
 use Rattle.bw_care.specs.declared.scanning.Scan.{Scan}
 use Rattle.bw_care.specs.declared.scanning.Scan.TheVariants.{Bare, Part, Live}

@@ -1,30 +1,27 @@
 -- The pages of the oldest segment, and where they stand once they were written again.
 
-use Rattle.std.proofs.Common.{inl, inr, ◌≡◌, ◌≢◌, ◌⊎◌, ℕ, zero, suc, ◌+◌, ◌-◌, ◌<◌, ◌≤◌, ◌==◌, ◌||◌, nat_lt, nat_le, Bool, true, false, if◌then◌else◌, Option}
-use Rattle.std.proofs.Common.{Some, None, List, [], ◌∷◌, ◌++◌, length, map, take, refl, sym, ap, subst, ◌∙◌, append-nil, length-append, arith}
-use Rattle.std.specs.List.{fold, filter, flat_map, list_any, AllByRecursion}
-use Rattle.std.proofs.lemmas.Bool.{eqb-true, eq-eqb, ltb-true, leb-false, leb-true, le-leb, true≢false, false≢true, cases_lt, cases_Bool, or_left, or_right}
-use Rattle.std.proofs.lemmas.Bool.{or_parts}
+use Rattle.std.proofs.Common.{inl, inr, ◌≡◌, ℕ, zero, suc, ◌+◌, ◌-◌, ◌<◌, ◌≤◌, ◌==◌, ◌||◌, Bool, true, false, if◌then◌else◌, Option}
+use Rattle.std.proofs.Common.{Some, None, IfSome, List, [], ◌∷◌, ◌++◌, length, map, refl, sym, ap, subst, ◌∙◌, arith}
+use Rattle.std.specs.List.{fold, filter, list_any, AllByRecursion}
+use Rattle.std.proofs.lemmas.Bool.{eq-eqb, ltb-true, leb-false, false≢true, cases_lt, cases_Bool, or_left, or_right}
 use Rattle.std.proofs.lemmas.List.Folds.{list_any-append}
-use Rattle.std.proofs.lemmas.Grind.{fold-append, flat_map-append}
+use Rattle.std.proofs.lemmas.Grind.{fold-append}
 use Rattle.bw_codec.specs.Touch.{sets}
-use Rattle.bw_codec.specs.declared.leaf.Leaf.{Leaf}
 use Rattle.bw_codec.specs.declared.block.Place.{Place}
 use Rattle.bw_codec.specs.declared.block.Block.{Block}
 use Rattle.bw_codec.specs.declared.block.Block.TheVariants.{Delta, Base, Split}
 use Rattle.bw_codec.specs.declared.block.Frame.{Frame}
-use Rattle.bw_page.specs.Standing.{content, blocks_of}
+use Rattle.bw_page.specs.Standing.{blocks_of}
 use Rattle.bw_device.specs.Holding.{Holding}
 use Rattle.bw_log.specs.Places.{placed, all_placed, later, last_place, base_of}
 use Rattle.bw_log.specs.Segments.{segment_frames, frames_of, is_before_next}
-use Rattle.bw_log.specs.Contents.{Contents, image, counted, IsSound}
+use Rattle.bw_log.specs.Contents.{Contents, counted, IsSound}
 use Rattle.bw_log.specs.Reads.{IsPage}
-use Rattle.bw_log.specs.Oldest.{IsAfter, IsBaseAfter, NoBaseBefore, last_number}
+use Rattle.bw_log.specs.Oldest.{IsAfter, last_number}
 use Rattle.bw_log.proofs.Adding.{filter_all}
 use Rattle.bw_log.proofs.Entries.{all_append}
 use Rattle.bw_log.proofs.GivenUp.{all_pass, all_before, placed_more}
 use Rattle.bw_care.specs.Cleaning.{is_old, old_from, old_pages, oldest_last, IsRewritten, page_of}
-use Rattle.bw_care.specs.Moving.{AreLonger, KeepsOlder}
 
 -- ---- which pages are old
 
@@ -113,30 +110,34 @@ all_after last (f ∷ fs) are =
     all_append (λ (x : Place × Block). last < x.0.frame) (placed f.number 0 f.blocks) (all_placed fs) (placed_after last f.number 0 f.blocks are.0)
     (all_after last fs are.1)
 
-one_after : (last : ℕ) (acc : Option Place) (place : Place) (t : Bool) → IsAfter last acc → last < place.frame → IsAfter last (if t then Some place else acc)
-one_after last acc place true was here = here
-one_after last acc place false was here = was
+one_where : (Q : Place → Type 0) (acc : Option Place) (place : Place) (t : Bool) → IfSome acc Q → Q place → IfSome (if t then Some place else acc) Q
+one_where Q acc place true was here = here
+one_where Q acc place false was here = was
 
--- after the frame, if it was so before
-stays_after : (last : ℕ) (test : Block → Bool) (acc : Option Place) (xs : List (Place × Block)) → AllByRecursion (λ x. last < x.0.frame) xs → IsAfter last acc
-    → IsAfter last (fold (later test) acc xs)
-stays_after last test acc [] are was = was
-stays_after last test acc (x ∷ xs) are was = stays_after last test (later test acc x) xs are.1 (one_after last acc x.0 (test x.1) was are.0)
+-- it holds of the last place, if it did before
+stays_where : (Q : Place → Type 0) (test : Block → Bool) (acc : Option Place) (xs : List (Place × Block)) → AllByRecursion (λ x. Q x.0) xs → IfSome acc Q
+    → IfSome (fold (later test) acc xs) Q
+stays_where Q test acc [] are was = was
+stays_where Q test acc (x ∷ xs) are was = stays_where Q test (later test acc x) xs are.1 (one_where Q acc x.0 (test x.1) was are.0)
 
--- after the frame, where one of these blocks passes
-set_after_by : (last : ℕ) (test : Block → Bool) (acc : Option Place) (x : Place × Block) (xs : List (Place × Block)) (t : Bool) → last < x.0.frame
-    → AllByRecursion (λ x. last < x.0.frame) xs
-    → ((v : Option Place) → list_any (λ y. test y.1) xs ≡ true → IsAfter last (fold (later test) v xs))
-    → (t || list_any (λ y. test y.1) xs) ≡ true → IsAfter last (fold (later test) (if t then Some x.0 else acc) xs)
-set_after_by last test acc x xs true here are others is = stays_after last test (Some x.0) xs are here
-set_after_by last test acc x xs false here are others is = others acc is
+-- it holds of the last place, where one of these blocks passes
+set_where_by : (Q : Place → Type 0) (test : Block → Bool) (acc : Option Place) (x : Place × Block) (xs : List (Place × Block)) (t : Bool) → Q x.0
+    → AllByRecursion (λ x. Q x.0) xs
+    → ((v : Option Place) → list_any (λ y. test y.1) xs ≡ true → IfSome (fold (later test) v xs) Q)
+    → (t || list_any (λ y. test y.1) xs) ≡ true → IfSome (fold (later test) (if t then Some x.0 else acc) xs) Q
+set_where_by Q test acc x xs true here are others is = stays_where Q test (Some x.0) xs are here
+set_where_by Q test acc x xs false here are others is = others acc is
 
-pub set_after : (last : ℕ) (test : Block → Bool) (acc : Option Place) (xs : List (Place × Block)) → AllByRecursion (λ x. last < x.0.frame) xs
-    → list_any (λ y. test y.1) xs ≡ true → IsAfter last (fold (later test) acc xs)
-set_after last test acc [] are is = absurd cc
-set_after last test acc (x ∷ xs) are is = set_after_by last test acc x xs (test x.1) are.0 are.1 (λ v. set_after last test v xs are.1) is
+pub set_where : (Q : Place → Type 0) (test : Block → Bool) (acc : Option Place) (xs : List (Place × Block)) → AllByRecursion (λ x. Q x.0) xs
+    → list_any (λ y. test y.1) xs ≡ true → IfSome (fold (later test) acc xs) Q
+set_where Q test acc [] are is = absurd cc
+set_where Q test acc (x ∷ xs) are is = set_where_by Q test acc x xs (test x.1) are.0 are.1 (λ v. set_where Q test v xs are.1) is
 
-any_placed : (test : Block → Bool) (n i : ℕ) (bs : List Block) → list_any (λ y. test y.1) (placed n i bs) ≡ list_any test bs
+is_after : (last : ℕ) (o : Option Place) → IfSome o (λ q. last < q.frame) → IsAfter last o
+is_after last None is = tt
+is_after last (Some place) is = is
+
+pub any_placed : (test : Block → Bool) (n i : ℕ) (bs : List Block) → list_any (λ y. test y.1) (placed n i bs) ≡ list_any test bs
 any_placed test n i [] = refl
 any_placed test n i (b ∷ bs) = ap (λ (t : Bool). test b || t) (any_placed test n (i + 1) bs)
 
@@ -153,7 +154,7 @@ any_all_placed test (f ∷ fs) =
 base_over : (p : ℕ) (fs xs : List Frame) → base_of p (fs ++ xs) ≡ fold (later (sets p)) (base_of p fs) (all_placed xs)
 base_over p fs xs = ap (last_place (sets p)) (placed_more fs xs) ∙ fold-append (later (sets p)) None (all_placed fs) (all_placed xs)
 
-not_old : (last : ℕ) (o : Option Place) → is_old last o ≡ false → IsAfter last o
+not_old : (last : ℕ) (o : Option Place) → is_old last o ≡ false → IfSome o (λ q. last < q.frame)
 not_old last None is = tt
 not_old last (Some place) is = leb-false place.frame last is
 
@@ -161,12 +162,13 @@ pub base_moved : (last : ℕ) (fs xs : List Frame) (p n : ℕ) → AllByRecursio
     → map page_of (blocks_of xs) ≡ old_from last fs 1 n
     → AllByRecursion (λ f. last < f.number) xs → 1 ≤ p → p ≤ n → IsAfter last (base_of p (fs ++ xs))
 base_moved last fs xs p n are pages after some inside =
+    let Q : Place → Type 0 = λ q. last < q.frame in
     subst (IsAfter last) (sym (base_over p fs xs))
-    (elim (cases_Bool (is_old last (base_of p fs))) [
-      | inl old ↦ set_after last (sets p) (base_of p fs) (all_placed xs) (all_after last xs after)
+    (is_after last (fold (later (sets p)) (base_of p fs) (all_placed xs)) (elim (cases_Bool (is_old last (base_of p fs))) [
+      | inl old ↦ set_where Q (sets p) (base_of p fs) (all_placed xs) (all_after last xs after)
           (any_all_placed (sets p) xs ∙ set_among p (blocks_of fs) (blocks_of xs) are ∙ ap (is_among p) pages ∙ among_old last fs 1 n p some (omega arith) old)
-      | inr new ↦ stays_after last (sets p) (base_of p fs) (all_placed xs) (all_after last xs after) (not_old last (base_of p fs) new)
-    ])
+      | inr new ↦ stays_where Q (sets p) (base_of p fs) (all_placed xs) (all_after last xs after) (not_old last (base_of p fs) new)
+    ]))
 
 -- ---- the last number of the oldest segment
 

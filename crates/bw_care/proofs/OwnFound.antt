@@ -1,26 +1,26 @@
 -- Recovery of the boxes of a sound log finds what the log counts.
 
-use Rattle.std.proofs.Common.{inl, inr, ◌⊎◌, ◌≡◌, ℕ, zero, suc, ◌+◌, ◌<◌, ◌≤◌, ◌||◌, ◌&&◌, not, nat_lt, Bool, true, false, Option, Some, None, Result, Ok, Err}
+use Rattle.std.proofs.Common.{◌≡◌, ℕ, ◌+◌, ◌≤◌, ◌||◌, ◌&&◌, not, nat_lt, Bool, true, false, Option, None, Result, Ok}
 use Rattle.std.proofs.Common.{List, [], ◌∷◌, ◌++◌, length, map, refl, sym, ap, ◌∙◌, subst, arith, length-append}
 use Rattle.std.specs.List.{fold, list_any, AllByRecursion}
 use Rattle.std.proofs.lemmas.Bool.{le-ltb}
 use Rattle.bw_codec.specs.Reading.{header_in}
-use Rattle.bw_codec.specs.Grammar.{IsFrame, IsWhole}
+use Rattle.bw_codec.specs.Grammar.{IsFrame}
 use Rattle.bw_codec.specs.declared.block.Frame.{Frame}
 use Rattle.bw_codec.specs.declared.block.Header.{Header}
 use Rattle.bw_codec.specs.declared.leaf.Leaf.{Leaf}
 use Rattle.bw_page.specs.Standing.{blocks_of, Stand}
 use Rattle.bw_device.specs.Holding.{Holding}
-use Rattle.bw_log.specs.Contents.{Contents, IsBounded, IsRoomy, IsSpare, IsSound, boxes, counted, image}
+use Rattle.bw_log.specs.Contents.{Contents, IsBounded, IsRoomy, IsSpare, IsSound, boxes, counted}
 use Rattle.bw_log.specs.PageTable.{top_page}
-use Rattle.bw_log.specs.Places.{AreLinked, first_number, or_else}
+use Rattle.bw_log.specs.Places.{first_number, or_else}
 use Rattle.bw_log.specs.Segments.{segment_frames, frames_of, AreLive}
 use Rattle.bw_care.specs.Lawful.{is_at_fault, first_such, contents}
 use Rattle.bw_care.specs.Laws.{OwnBoxesFound, WholeBoxesFound, EndWhole, own_finding}
-use Rattle.bw_care.specs.Recovery.{Finding, recovery, first_fault, fault_of_order, fault_of_frames, found_in, answer, when, too_large, bytes_fault, is_mixed, has_gap}
+use Rattle.bw_care.specs.Recovery.{Finding, first_fault, fault_of_order, fault_of_frames, found_in, answer, when, too_large, bytes_fault, is_mixed, has_gap}
 use Rattle.bw_care.specs.Recovery.{is_none, is_small, link_fault, link_fault_by, page_fault, page_fault_by, follow_on, frames_in, header_of_all, first_header}
 use Rattle.bw_care.specs.Scanning.{rest_in}
-use Rattle.bw_care.specs.Recovery.{segments_in, live_in, spares_in, parts_in, tails_of, last_number, is_like, number_in}
+use Rattle.bw_care.specs.Recovery.{live_in, spares_in, parts_in, tails_of, last_number, is_like, number_in}
 use Rattle.bw_care.specs.declared.fault.RecoverCause.{RecoverCause}
 use Rattle.bw_care.specs.declared.fault.RecoverCause.TheVariants.{BadConfig, Empty, Gap, Mixed}
 use Rattle.bw_care.proofs.FoundStand.{blocks_lawful}

@@ -1,14 +1,13 @@
 -- The boxes of a log, sorted out: its live segments in their order, and its spares.
 
-use Rattle.std.proofs.Common.{◌≡◌, ℕ, zero, suc, ◌+◌, ◌-◌, ◌^◌, ◌<◌, ◌≤◌, ◌==◌, ◌&&◌, ◌||◌, not, nat_lt, Bool, true, false, if◌then◌else◌, Option, Some, None, List}
+use Rattle.std.proofs.Common.{◌≡◌, ℕ, ◌+◌, ◌-◌, ◌<◌, ◌≤◌, ◌==◌, ◌&&◌, ◌||◌, not, Bool, true, false, if◌then◌else◌, Option, Some, None, List}
 use Rattle.std.proofs.Common.{[], ◌∷◌, ◌++◌, length, drop, map, refl, sym, ap, subst, ◌∙◌, arith, append_assoc, append-nil, length-append}
-use Rattle.std.specs.List.{fold, filter, flat_map, list_any, AllByRecursion}
+use Rattle.std.specs.List.{fold, flat_map, list_any, AllByRecursion}
 use Rattle.std.proofs.lemmas.Bool.{eq-eqb, le-ltb}
 use Rattle.std.proofs.lemmas.List.{drop_at}
-use Rattle.bw_codec.specs.Grammar.{frame_bytes, header_bytes, IsWhole}
+use Rattle.bw_codec.specs.Grammar.{frame_bytes, header_bytes}
 use Rattle.bw_codec.specs.Reading.{front_at, heading_of, header_in}
 use Rattle.bw_codec.specs.declared.block.Frame.{Frame}
-use Rattle.bw_codec.specs.declared.block.FrameRead.{FrameRead}
 use Rattle.bw_codec.specs.declared.block.FrameRead.TheVariants.{Tail}
 use Rattle.bw_codec.specs.declared.block.Header.{Header}
 use Rattle.bw_codec.specs.declared.block.HeaderRead.TheVariants as heading
@@ -20,7 +19,6 @@ use Rattle.bw_log.proofs.Reread.{frames_read, frames_few}
 use Rattle.bw_care.specs.Behind.{EndsInTail}
 use Rattle.bw_care.specs.Scanning.{has_header, has_header_by, has_part, has_part_by, is_bare, rest_of, fault_by, fault_in}
 use Rattle.bw_care.specs.Recovery.{placed_by, in_order, number_in, segments_in, live_in, spares_in, parts_in, bytes_fault, bytes_fault_by, is_like, follow_on}
-use Rattle.bw_care.specs.declared.fault.RecoverCause.{RecoverCause}
 use Rattle.bw_care.proofs.HeadersRead.{fault_whole}
 use Rattle.bw_care.proofs.SortedOut.{header_is, bare_none, not_bare, keeps, drops, number_at}
 use Rattle.bw_care.proofs.TailsCounted.{bare_part}
@@ -53,14 +51,6 @@ live_rest m f n bytes live =
     ap (λ (b : List ℕ). (frames_at (length bytes) m f b).1) left
     ∙ ap (λ (r : List Frame × List ℕ). r.1) (frames_read (length bytes) m f fs live.cut (omega arith) (omega arith) live.whole.each live.whole.tail few)
 
-pub live_long : (m f n : ℕ) (bytes : List ℕ) → IsLive m f n bytes → 24 ≤ length bytes
-live_long m f n bytes live =
-    let h = head_of m f n in
-    let rest = flat_map frame_bytes (segment_frames bytes) ++ live.cut in
-    let size = ap (λ (b : List ℕ). length b) live.whole.parts in
-    omega (arith, size, length-header h, length-append (header_bytes h) rest)
-
--- behind its last whole frame stands a tail
 pub live_ends : (m f n : ℕ) (bytes : List ℕ) → IsLive m f n bytes → EndsInTail m f bytes
 live_ends m f n bytes live =
     let ms = live.whole.lawful.m in

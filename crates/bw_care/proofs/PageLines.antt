@@ -1,8 +1,8 @@
 -- Lines in the order of their pages are the pages of the blocks that were read.
 
-use Rattle.std.proofs.Common.{inl, inr, ◌⊎◌, ◌≡◌, ℕ, zero, suc, ◌+◌, ◌-◌, ◌<◌, ◌≤◌, ◌==◌, ◌&&◌, ◌||◌, not, nat_lt, Bool, true, false, if◌then◌else◌, cond, max}
+use Rattle.std.proofs.Common.{inl, inr, ◌≡◌, ℕ, zero, suc, ◌+◌, ◌<◌, ◌≤◌, ◌==◌, ◌&&◌, ◌||◌, not, Bool, true, false, if◌then◌else◌, cond, max}
 use Rattle.std.proofs.Common.{Option, Some, None, IsSome, List, [], ◌∷◌, ◌++◌, map, length, slice_get, refl, sym, ap, ◌∙◌, subst, arith}
-use Rattle.std.specs.List.{fold, flat_map, list_any, AllByRecursion}
+use Rattle.std.specs.List.{list_any, AllByRecursion}
 use Rattle.std.specs.List.Sorted.{IsStrictlySortedBy}
 use Rattle.std.specs.Option.{option_map}
 use Rattle.std.specs.Ordering.{is_eq, nat_cmp}
@@ -11,29 +11,24 @@ use Rattle.std.specs.declared.cmp.Ordering.TheVariants.{Less, Equal, Greater}
 use Rattle.std.specs.BTreeMap as tree
 use Rattle.std.specs.Map.{lookup}
 use Rattle.std.proofs.lemmas.Cmp.{ranked}
-use Rattle.std.proofs.lemmas.Bool.{or_parts, eqb-true, eq-eqb, ltb-true, true≢false, cases_lt}
+use Rattle.std.proofs.lemmas.Bool.{eqb-true, eq-eqb, true≢false, cases_lt}
 use lib.Pointwise.{bytes_decides}
-use Rattle.bw_codec.specs.Bytes.{IsKey}
-use Rattle.bw_codec.specs.Grammar.{IsBlock, IsFrame}
-use Rattle.bw_codec.specs.Touch.{sets, touches}
+use Rattle.bw_codec.specs.Touch.{touches}
 use Rattle.bw_codec.specs.declared.leaf.Leaf.{Leaf}
 use Rattle.bw_codec.specs.declared.block.Block.{Block}
 use Rattle.bw_codec.specs.declared.block.Block.TheVariants.{Delta, Base, Split}
 use Rattle.bw_codec.specs.declared.block.Place.{Place}
 use Rattle.bw_codec.specs.declared.block.Frame.{Frame}
 use Rattle.bw_buffer.specs.Marks.{mark_of}
-use Rattle.bw_page.specs.Leaves.{Bytes, order}
-use Rattle.bw_page.specs.Standing.{after, content, blocks_of}
-use Rattle.bw_page.proofs.Order.{must_be, must_not}
+use Rattle.bw_page.specs.Leaves.{Bytes}
+use Rattle.bw_page.specs.Standing.{content, blocks_of}
+use Rattle.bw_page.proofs.Order.{must_not}
 use Rattle.bw_log.specs.PageTable.{top_of, top_page}
 use Rattle.bw_log.specs.Places.{all_placed}
-use Rattle.bw_log.proofs.Walk.{same_fold}
-use Rattle.bw_care.specs.Lawful.{as_list, page_set, set_by, leaves_set, is_same, is_bad_page, is_at_fault, first_such, contents}
-use Rattle.bw_care.specs.Paging.{Paged, Rise, has_low, first_with, IsIndex, IsLows, IsShortIf, first_wrong, leaves_in, last_page, line_at, AreOf, IsMapOf}
+use Rattle.bw_care.specs.Lawful.{as_list, leaves_set, is_bad_page, is_at_fault, first_such, contents}
+use Rattle.bw_care.specs.Paging.{Paged, Rise, has_low, first_with, first_wrong, leaves_in, last_page, line_at, AreOf, IsMapOf}
 use Rattle.bw_care.specs.Reading.{leaf_in, line_after, line_of}
 use Rattle.bw_care.specs.declared.reading.Line.{Line}
-use Rattle.bw_care.proofs.PageShape.{IsShaped, IsShapedIf, content_shaped}
-use Rattle.bw_care.proofs.PagesAtFault.{in_set}
 use Rattle.bw_care.proofs.LinesTaken.{leaf_is, blocks_all}
 use Rattle.bw_care.proofs.FoundStand.{all_untouched}
 

@@ -1,13 +1,12 @@
 -- What stays of a page over its blocks: its number, and the shape of its low and its pairs.
 
-use Rattle.std.proofs.Common.{◌≡◌, ℕ, zero, suc, ◌+◌, ◌^◌, ◌<◌, ◌≤◌, ◌==◌, Bool, true, false, if◌then◌else◌, Option, Some, None, List, [], ◌∷◌, ◌++◌, length}
-use Rattle.std.proofs.Common.{IsTrue, refl, sym, ap, ◌∙◌, subst, arith}
-use Rattle.std.specs.List.{fold, filter, flat_map, list_any, AllByRecursion}
+use Rattle.std.proofs.Common.{◌≡◌, ℕ, ◌≤◌, ◌==◌, Bool, true, false, if◌then◌else◌, Option, Some, None, List, [], ◌∷◌, length}
+use Rattle.std.proofs.Common.{refl, sym, subst}
+use Rattle.std.specs.List.{fold, filter, AllByRecursion}
 use Rattle.std.specs.Option.{option_map}
 use Rattle.std.proofs.lemmas.Bool.{eqb-true}
-use Rattle.bw_codec.specs.Bytes.{is_below, ascends}
+use Rattle.bw_codec.specs.Bytes.{is_below}
 use Rattle.bw_codec.specs.Grammar.{IsPage, IsPair, IsOp, IsBase, IsBlock}
-use Rattle.bw_codec.specs.Touch.{sets, touches}
 use Rattle.bw_codec.specs.declared.record.Record.{Record}
 use Rattle.bw_codec.specs.declared.record.Record.TheVariants.{Put, Del}
 use Rattle.bw_codec.specs.declared.leaf.Leaf.{Leaf}

@@ -1,27 +1,24 @@
 -- Where no page is at fault, the pages that stand are lawful leaves.
 
-use Rattle.std.proofs.Common.{inl, inr, ◌⊎◌, ◌≡◌, ℕ, zero, suc, ◌+◌, ◌-◌, ◌^◌, ◌<◌, ◌≤◌, ◌==◌, ◌&&◌, ◌||◌, not, nat_lt, nat_le, nat_eq, Bool, true, false}
-use Rattle.std.proofs.Common.{if◌then◌else◌, max, Option, Some, None, List, [], ◌∷◌, ◌++◌, length, slice_get, IsTrue, refl, sym, ap, ◌∙◌, subst, arith}
-use Rattle.std.specs.List.{fold, filter, flat_map, list_any, AllByRecursion}
-use Rattle.std.proofs.lemmas.Bool.{or_parts, and_parts, and_from, eqb-true, eq-eqb, ltb-true, ltb-false, lt-ltb, le-ltb, true≢false, cases_lt}
+use Rattle.std.proofs.Common.{inl, inr, ◌≡◌, ℕ, zero, suc, ◌+◌, ◌^◌, ◌<◌, ◌≤◌, ◌==◌, ◌&&◌, ◌||◌, not, nat_lt, Bool, true, false}
+use Rattle.std.proofs.Common.{if◌then◌else◌, Option, Some, None, List, [], ◌∷◌, ◌++◌, length, slice_get, IsTrue, refl, sym, ap, ◌∙◌, subst, arith}
+use Rattle.std.specs.List.{flat_map, list_any, AllByRecursion}
+use Rattle.std.proofs.lemmas.Bool.{or_parts, eqb-true, eq-eqb, ltb-false, lt-ltb, true≢false, cases_lt}
 use lib.Pointwise.{bytes_decides}
 use Rattle.bw_codec.specs.Bytes.{is_below}
-use Rattle.bw_codec.specs.Grammar.{IsPage, IsBase, IsBlock}
-use Rattle.bw_codec.specs.Touch.{sets, touches}
+use Rattle.bw_codec.specs.Grammar.{IsBase, IsBlock}
+use Rattle.bw_codec.specs.Touch.{sets}
 use Rattle.bw_codec.specs.declared.leaf.Leaf.{Leaf}
 use Rattle.bw_codec.specs.declared.block.Block.{Block}
 use Rattle.bw_codec.specs.declared.block.Block.TheVariants.{Delta, Base, Split}
-use Rattle.bw_codec.specs.declared.block.Frame.{Frame}
-use Rattle.bw_buffer.specs.Marks.{mark_of}
-use Rattle.bw_page.specs.Leaves.{Bytes, leaf_at, AreNumbered, BeginsEmpty, HaveOwnLows, AreLeaves}
-use Rattle.bw_page.specs.Laws.{LiesBetween, AreRanged}
-use Rattle.bw_page.specs.Standing.{after, content, blocks_of, Stand}
+use Rattle.bw_page.specs.Leaves.{Bytes, AreNumbered, BeginsEmpty, AreLeaves}
+use Rattle.bw_page.specs.Laws.{LiesBetween}
+use Rattle.bw_page.specs.Standing.{content}
 use Rattle.bw_page.proofs.Ranges.{ranges_homes}
 use Rattle.bw_log.proofs.Walk.{none_fold}
-use Rattle.bw_log.specs.PageTable.{top_of, top_page}
 use Rattle.bw_care.specs.Lawful.{as_list, page_set, set_by, leaves_set, is_same, has_low_before, is_astray, has_wrong_low, is_bad_leaf, is_bad_page}
 use Rattle.bw_care.specs.Lawful.{is_at_fault, first_such, contents}
-use Rattle.bw_care.proofs.PageShape.{IsShaped, content_shaped, shaped_base}
+use Rattle.bw_care.proofs.PageShape.{content_shaped, shaped_base}
 
 -- ---- lists
 

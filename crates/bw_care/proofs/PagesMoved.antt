@@ -1,12 +1,11 @@
 -- Frames of Bases one after the other, and the oldest segment after all of them.
 
-use Rattle.std.proofs.Common.{inl, inr, ◌≡◌, ◌⊎◌, ℕ, zero, suc, ◌+◌, ◌-◌, ◌^◌, ◌<◌, ◌≤◌, Bool, true, false, Option, Some, None, Result, Ok, Err, MatchOption}
-use Rattle.std.proofs.Common.{IfSome, List, [], ◌∷◌, ◌++◌, length, map, take, drop, slice_get, refl, sym, ap, subst, ◌∙◌, append_assoc, append-nil}
+use Rattle.std.proofs.Common.{◌≡◌, ℕ, zero, suc, ◌+◌, ◌<◌, ◌≤◌, false, Option, Some, None, MatchOption}
+use Rattle.std.proofs.Common.{List, [], ◌∷◌, ◌++◌, length, map, take, drop, slice_get, refl, sym, ap, subst, ◌∙◌, append_assoc, append-nil}
 use Rattle.std.proofs.Common.{length-append, arith}
 use Rattle.std.specs.List.{AllByRecursion}
 use Rattle.std.proofs.lemmas.List.{map-append, length-map}
-use Rattle.bw_codec.specs.Grammar.{frame_bytes, body_bytes, IsBlock, IsFrame}
-use Rattle.bw_codec.specs.declared.leaf.Leaf.{Leaf}
+use Rattle.bw_codec.specs.Grammar.{frame_bytes, IsBlock, IsFrame}
 use Rattle.bw_codec.specs.declared.block.Block.{Block}
 use Rattle.bw_codec.specs.declared.block.Frame.{Frame}
 use Rattle.bw_page.specs.Standing.{content, blocks_of, Stand}
@@ -16,16 +15,14 @@ use Rattle.bw_log.specs.Places.{base_of, first_number}
 use Rattle.bw_log.specs.Segments.{AreFrom, next_of}
 use Rattle.bw_log.proofs.Adding.{next_is}
 use Rattle.bw_log.specs.Contents.{Contents, boxes, roster, counted, IsSound}
-use Rattle.bw_log.specs.Reads.{IsPage}
 use Rattle.bw_log.specs.Oldest.{IsAfter, IsBaseAfter, NoBaseBefore, last_number, oldest_count}
 use Rattle.bw_log.specs.Appends.{Appended, IsSameLog}
-use Rattle.bw_log.specs.declared.fault.LogFault.{LogFault}
-use Rattle.bw_log.proofs.Entries.{all_append, all_mapped}
+use Rattle.bw_log.proofs.Entries.{all_append}
 use Rattle.bw_log.proofs.Reread.{length-frame}
 use Rattle.bw_log.proofs.Walks.{blocks_more}
 use Rattle.bw_log.proofs.LogLeft.{same_count}
 use Rattle.bw_care.specs.Cleaning.{IsRewritten, page_of, old_pages, oldest_last}
-use Rattle.bw_care.specs.Moving.{AreBases, IsFull, AreFull, Moved, KeepsOlder, Refused, Stopped, IsCleaned}
+use Rattle.bw_care.specs.Moving.{AreBases, IsFull, AreFull, Moved, KeepsOlder, IsCleaned}
 use Rattle.bw_care.proofs.BasesLeave.{frames_leave, all_rewritten, one_frame, some_stand, stand_more, next_range}
 use Rattle.bw_care.proofs.BoxesGrown.{longer_same, longer_all, appended_longer, appended_older, older_same, older_all, same_roster}
 use Rattle.bw_care.proofs.OldPages.{oldest_below, same_last, base_moved}

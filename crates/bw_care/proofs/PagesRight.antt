@@ -1,17 +1,15 @@
 -- What the lines of a map say of the pages of frames: the first page at fault, the leaves and the table.
 
-use Rattle.std.proofs.Common.{inl, inr, ◌⊎◌, ◌≡◌, ℕ, zero, suc, ◌+◌, ◌-◌, ◌<◌, ◌≤◌, ◌==◌, ◌&&◌, ◌||◌, not, nat_lt, Bool, true, false, if◌then◌else◌, Option}
-use Rattle.std.proofs.Common.{Some, None, IsSome, List, [], ◌∷◌, ◌++◌, map, length, slice_get, refl, sym, ap, ◌∙◌, subst, arith}
-use Rattle.std.specs.List.{fold, flat_map, list_any, AllByRecursion}
+use Rattle.std.proofs.Common.{◌≡◌, ℕ, zero, suc, ◌+◌, ◌-◌, ◌<◌, ◌≤◌, ◌==◌, ◌||◌, Bool, true, false, Option}
+use Rattle.std.proofs.Common.{Some, None, IsSome, List, [], ◌∷◌, map, length, slice_get, refl, sym, ap, ◌∙◌, subst, arith}
+use Rattle.std.specs.List.{list_any, AllByRecursion}
 use Rattle.std.specs.List.Sorted.{IsStrictlySortedBy}
 use Rattle.std.specs.Option.{option_map}
 use Rattle.std.specs.Ordering.{nat_cmp}
-use Rattle.std.specs.declared.cmp.Ordering.TheVariants.{Less}
-use Rattle.std.proofs.lemmas.Cmp.{ranked}
-use Rattle.std.proofs.lemmas.Bool.{or_parts, eqb-true, eq-eqb, true≢false, cases_lt}
+use Rattle.std.proofs.lemmas.Bool.{or_parts, eqb-true}
 use Rattle.bw_codec.specs.Bytes.{IsKey}
 use Rattle.bw_codec.specs.Grammar.{IsBlock, IsFrame}
-use Rattle.bw_codec.specs.Touch.{sets, touches}
+use Rattle.bw_codec.specs.Touch.{touches}
 use Rattle.bw_codec.specs.declared.leaf.Leaf.{Leaf}
 use Rattle.bw_codec.specs.declared.block.Block.{Block}
 use Rattle.bw_codec.specs.declared.block.Block.TheVariants.{Delta, Base, Split}
@@ -26,7 +24,7 @@ use Rattle.bw_log.specs.Contents.{IsTable, some_place, entry_place}
 use Rattle.bw_log.specs.Contents as log
 use Rattle.bw_log.specs.declared.places.PageAt.{PageAt}
 use Rattle.bw_care.specs.Lawful.{leaves_set, is_at_fault, first_such, contents}
-use Rattle.bw_care.specs.Paging.{Paged, Rise, first_with, IsIndex, IsLows, IsShortIf, first_wrong, leaves_in, last_page, line_at, AreOf, at_line, fault_among}
+use Rattle.bw_care.specs.Paging.{Paged, Rise, IsIndex, IsLows, IsShortIf, first_wrong, leaves_in, line_at, AreOf, at_line, fault_among}
 use Rattle.bw_care.specs.Paging.{IsRight}
 use Rattle.bw_care.specs.Reading.{place_in, base_in, leaf_in, line_of}
 use Rattle.bw_care.specs.declared.reading.Line.{Line}
@@ -37,7 +35,7 @@ use Rattle.bw_care.proofs.PagesAtFault.{in_set}
 use Rattle.bw_care.proofs.LinesTaken.{all_from, base_is, place_of_is}
 use Rattle.bw_care.proofs.FoundStand.{blocks_lawful, found_stands}
 use Rattle.bw_care.proofs.StandingAgain.{set_all_by}
-use Rattle.bw_care.proofs.PageLines.{AreFrom, IsFirst, IsUpTo, first_found, up_to, from_of, rise_by, all_less, here_is, from_next, line_none, line_untouched}
+use Rattle.bw_care.proofs.PageLines.{AreFrom, first_found, up_to, from_of, rise_by, all_less, here_is, from_next, line_untouched}
 use Rattle.bw_care.proofs.PageLines.{wrong_is, last_is, leaves_are, leaves_count, stands_here}
 
 -- ---- the index

@@ -1,15 +1,15 @@
 -- A pass over boxes, as far as it went.
 
-use Rattle.std.proofs.Common.{◌≡◌, ◌≢◌, ℕ, zero, suc, ◌+◌, ◌<◌, ◌≤◌, Option, Some, None, List, [], ◌∷◌, ◌++◌, length, take, map, slice_get, slice_set, IfSome}
-use Rattle.std.proofs.Common.{Result, Ok, Err, IfOk, refl, sym, ap, subst, ◌∙◌, arith}
-use Rattle.bw_device.specs.Holding.{Holding, failed_once}
+use Rattle.std.proofs.Common.{◌≡◌, ℕ, zero, suc, ◌+◌, ◌<◌, ◌≤◌, Option, Some, None, List, [], ◌∷◌, ◌++◌, length, take, map, slice_get, IfSome}
+use Rattle.std.proofs.Common.{refl, sym, ap, subst, ◌∙◌, arith}
+use Rattle.bw_device.specs.Holding.{Holding}
 use Rattle.std.proofs.lemmas.List.{length-map}
 use Rattle.bw_care.specs.Scanning.{fault_in, FaultIs}
 use Rattle.bw_care.specs.declared.scanning.ScanFault.{ScanFault}
 use Rattle.bw_care.specs.declared.scanning.ScanFault.TheVariants.{BadBytes as scan_bad}
 use Rattle.bw_care.specs.Scanned.{IsScan, AreScans}
 use Rattle.bw_care.specs.Recovery.{bytes_fault, bytes_fault_by}
-use Rattle.bw_care.specs.Passing.{Fails, IsWorn, ReadStops, PassStops}
+use Rattle.bw_care.specs.Passing.{ReadStops, PassStops}
 use Rattle.bw_care.specs.declared.scanning.Scan.{Scan}
 use Rattle.bw_care.specs.declared.scanning.Scan.TheVariants.{Bare, Part, Live}
 use Rattle.bw_care.specs.declared.fault.RecoverCause.{RecoverCause}

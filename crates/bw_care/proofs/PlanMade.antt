@@ -1,6 +1,6 @@
 -- What was scanned and read makes a sound log, and a plan.
 
-use Rattle.std.proofs.Common.{inl, inr, ◌≡◌, ℕ, zero, suc, ◌+◌, ◌^◌, ◌<◌, ◌≤◌, Bool, true, false, Option, Some, None, Ok, List, [], ◌∷◌, ◌++◌, length, map}
+use Rattle.std.proofs.Common.{◌≡◌, ℕ, ◌+◌, ◌^◌, ◌<◌, ◌≤◌, Bool, true, false, Option, Some, None, Ok, List, [], ◌∷◌, length, map}
 use Rattle.std.proofs.Common.{refl, sym, ap, subst, ◌∙◌, arith}
 use Rattle.bw_codec.specs.Grammar.{IsFrame}
 use Rattle.std.specs.List.{fold, AllByRecursion}
@@ -11,23 +11,19 @@ use Rattle.bw_codec.specs.declared.block.Header.{Header}
 use Rattle.bw_device.specs.Holding.{Holding}
 use Rattle.bw_page.specs.Standing.{blocks_of, Stand}
 use Rattle.bw_log.specs.PageTable.{top_page}
-use Rattle.bw_log.specs.Places.{or_else, bad_link, first_number, all_placed, AreLinked}
+use Rattle.bw_log.specs.Places.{bad_link, first_number, all_placed}
 use Rattle.bw_log.specs.Segments.{frames_of, entries, AreLive, IsCleanLast, following, next_of}
-use Rattle.bw_log.specs.Contents.{image, counted, IsSound}
+use Rattle.bw_log.specs.Contents.{image, counted}
 use Rattle.bw_log.specs.Adopting.{adopted, in_segments, next_in}
-use Rattle.bw_log.specs.declared.places.FrameAt.{FrameAt}
 use Rattle.bw_log.specs.declared.places.Tables.{Tables}
-use Rattle.bw_care.specs.Lawful.{contents}
-use Rattle.bw_care.specs.Recovery.{Finding, recovery, found_in, fault_of_order, is_small, when, frames_in, live_in, spares_in, parts_in, tails_of, link_fault}
-use Rattle.bw_care.specs.Recovery.{link_fault_by, last_number, header_of_all}
-use Rattle.bw_care.specs.Reading.{IsRead}
+use Rattle.bw_care.specs.Recovery.{Finding, found_in, fault_of_order, is_small, when, frames_in, live_in, spares_in, parts_in, tails_of, link_fault}
+use Rattle.bw_care.specs.Recovery.{link_fault_by, last_number}
 use Rattle.bw_care.specs.Paging.{IsRight}
 use Rattle.bw_care.specs.Planned.{IsSurvey, IsPlan, planned}
 use Rattle.bw_care.specs.Surveying.{kind_seen}
 use Rattle.bw_care.specs.Parting.{parted}
-use Rattle.bw_care.specs.Ordering.{number_found, sorted, follow_from, lines_found, AreFound, oldest_number, is_clean_from}
-use Rattle.bw_care.specs.declared.fault.RecoverCause.{RecoverCause}
-use Rattle.bw_care.specs.declared.fault.RecoverCause.TheVariants.{BadConfig, BadLink}
+use Rattle.bw_care.specs.Ordering.{number_found, sorted, follow_from, AreFound, oldest_number, is_clean_from}
+use Rattle.bw_care.specs.declared.fault.RecoverCause.TheVariants.{BadConfig}
 use Rattle.bw_care.specs.declared.ordering.Found.{Found}
 use Rattle.bw_care.specs.declared.lawful.Pages.{Pages}
 use Rattle.bw_care.specs.declared.parting.Kind.{Kind}
@@ -39,7 +35,7 @@ use Rattle.bw_care.proofs.PagesAtFault.{contents_length, all_set}
 use Rattle.bw_care.proofs.NewestWhole.{clean_last}
 use Rattle.bw_care.proofs.FrameRow.{frames_from, next_same}
 use Rattle.bw_care.proofs.LiveRow.{IsLike, numbers_are, all_live, lines_are}
-use Rattle.bw_care.proofs.SurveyFacts.{Facts, facts, or_none, when_none, scans_count, all_answer}
+use Rattle.bw_care.proofs.SurveyFacts.{facts, or_none, when_none, scans_count, all_answer}
 use Rattle.bw_care.proofs.SortedOut.{parted_is}
 use Rattle.bw_care.proofs.FoundStand.{top_small, blocks_lawful, found_stands}
 use Rattle.bw_care.proofs.RoomsParted.{few_live, sound_is}

@@ -1,24 +1,18 @@
 -- Rooms and numbers of boxes that were parted.
 
-use Rattle.std.proofs.Common.{◌≡◌, ℕ, zero, suc, ◌+◌, ◌<◌, ◌≤◌, nat_lt, Bool, true, false, if◌then◌else◌, List, [], ◌∷◌, ◌++◌, length, map, refl, sym, ap, ◌∙◌}
+use Rattle.std.proofs.Common.{◌≡◌, ℕ, suc, ◌+◌, ◌≤◌, nat_lt, Bool, true, false, if◌then◌else◌, List, [], ◌∷◌, ◌++◌, length, refl, sym, ap, ◌∙◌}
 use Rattle.std.proofs.Common.{subst, arith}
 use Rattle.std.specs.List.{fold, filter, list_any, AllByRecursion}
 use Rattle.std.proofs.lemmas.Bool.{or_parts, ltb-false}
-use Rattle.bw_codec.specs.Reading.{heading_of}
-use Rattle.bw_codec.specs.declared.block.HeaderRead.TheVariants as heading
 use Rattle.bw_device.specs.Holding.{Holding}
 use Rattle.bw_codec.specs.declared.leaf.Leaf.{Leaf}
 use Rattle.bw_log.specs.Adopting.{adopted}
 use Rattle.bw_log.specs.declared.places.Tables.{Tables}
 use Rattle.bw_care.proofs.ScannedLog.{IsScanned, scanned_image}
 use Rattle.bw_log.specs.Contents.{image, IsSound, IsBounded, IsRoomy, IsSpare}
-use Rattle.bw_care.specs.Scanning.{has_header, is_bare, rest_in, has_part, has_part_by}
-use Rattle.bw_care.specs.Scanned.{IsScan, AreScans}
-use Rattle.bw_care.specs.Recovery.{placed_by, number_in, segments_in, live_in, spares_in, parts_in, too_large, is_small, header_of_all, tails_of}
-use Rattle.bw_care.specs.declared.scanning.Scan.{Scan}
-use Rattle.bw_care.specs.declared.scanning.Scan.TheVariants.{Bare, Part, Live}
-use Rattle.bw_care.specs.Surveying.{parts_seen}
-use Rattle.bw_care.proofs.SortedOut.{bare_none, not_bare, keeps, drops, number_at}
+use Rattle.bw_care.specs.Scanning.{has_header, is_bare}
+use Rattle.bw_care.specs.Recovery.{placed_by, segments_in, live_in, spares_in, too_large, is_small, header_of_all}
+use Rattle.bw_care.proofs.SortedOut.{not_bare, number_at}
 
 any_none : {X : Type 0} (test : X → Bool) (xs : List X) → list_any test xs ≡ false → AllByRecursion (λ x. test x ≡ false) xs
 any_none test [] e = tt

@@ -1,6 +1,6 @@
 -- The second pass, as far as it went.
 
-use Rattle.std.proofs.Common.{◌≡◌, ℕ, zero, suc, ◌+◌, ◌-◌, ◌<◌, ◌≤◌, Option, Some, None, Result, Ok, Err, IfErr, OnOk, List, [], ◌∷◌, ◌++◌, length, drop, map}
+use Rattle.std.proofs.Common.{◌≡◌, ℕ, zero, suc, ◌+◌, ◌-◌, ◌<◌, Option, Some, None, List, [], ◌∷◌, ◌++◌, length, drop, map}
 use Rattle.std.proofs.Common.{slice_get, get_or, IfSome, refl, sym, ap, subst, ◌∙◌, append_assoc, append-nil, arith}
 use Rattle.std.proofs.lemmas.List.{length-map}
 use Rattle.bw_codec.specs.Reading.{front_at}
@@ -8,21 +8,18 @@ use Rattle.bw_codec.specs.declared.block.Place.{Place}
 use Rattle.bw_codec.specs.declared.block.Block.{Block}
 use Rattle.bw_codec.specs.declared.block.Frame.{Frame}
 use Rattle.bw_device.specs.Holding.{Holding}
-use Rattle.bw_log.specs.Places.{placed, all_placed, bad_link}
+use Rattle.bw_log.specs.Places.{all_placed, bad_link}
 use Rattle.bw_log.specs.Segments.{frames_at, segment_frames, frames_of}
 use Rattle.bw_log.specs.declared.places.FrameAt.{FrameAt}
-use Rattle.bw_care.specs.Scanning.{fault_by}
 use Rattle.bw_care.specs.Behind.{frames_behind, EndsInTail}
 use Rattle.bw_care.specs.Forward.{IsFramed, AreReady, ForwardStops}
 use Rattle.bw_care.specs.Planned.{as_cause}
-use Rattle.bw_care.specs.Reading.{IsRead, LinkFaultIs}
-use Rattle.bw_care.specs.Passing.{Fails, ReadStops}
+use Rattle.bw_care.specs.Reading.{LinkFaultIs}
 use Rattle.bw_care.specs.declared.reading.ReadFault.{ReadFault}
 use Rattle.bw_care.specs.declared.reading.ReadFault.TheVariants as read
 use Rattle.bw_care.specs.declared.fault.RecoverCause.{RecoverCause}
-use Rattle.bw_care.specs.declared.fault.RecoverCause.TheVariants.{NoMemory, BadConfig, Device, Spent, Empty, BadBytes, Gap, Mixed, BadLink, Unlawful}
 use Rattle.bw_care.proofs.FrontsRead.{IsReadTo, ends_bad, bad_there}
-use Rattle.bw_care.proofs.FramesJoined.{placed_join, frames_wrong}
+use Rattle.bw_care.proofs.FramesJoined.{placed_join}
 
 -- ---- one segment
 

@@ -1,24 +1,21 @@
 -- Boxes parted by what was read of them.
 
-use Rattle.std.proofs.Common.{◌≡◌, ℕ, ◌+◌, ◌<◌, ◌==◌, nat_lt, Bool, true, false, if◌then◌else◌, List, [], ◌∷◌, ◌++◌, length, drop, map, refl, sym, ap, ◌∙◌}
-use Rattle.std.proofs.Common.{subst, append_assoc, append-nil}
+use Rattle.std.proofs.Common.{◌≡◌, ℕ, ◌==◌, nat_lt, Bool, true, false, if◌then◌else◌, List, [], ◌∷◌, ◌++◌, length, drop, map, refl, sym, ap, ◌∙◌}
+use Rattle.std.proofs.Common.{append_assoc, append-nil}
 use Rattle.std.specs.List.{fold, filter}
 use Rattle.byteorder.specs.Endian.{little_number}
 use Rattle.bw_codec.specs.Grammar.{agrees, segment_word, is_header}
 use Rattle.bw_codec.specs.Reading.{header_in, heading_of}
 use Rattle.bw_codec.specs.declared.block.Header.{Header}
-use Rattle.bw_codec.specs.declared.block.HeaderRead.{HeaderRead}
 use Rattle.bw_codec.specs.declared.block.HeaderRead.TheVariants as heading
 use Rattle.bw_device.specs.Holding.{Holding}
 use Rattle.bw_care.specs.Scanning.{has_header, has_header_by, is_bare}
-use Rattle.bw_care.specs.Scanned.{IsScan, AreScans}
-use Rattle.bw_care.specs.Recovery.{placed_by, number_in, segments_in, live_in, spares_in}
-use Rattle.bw_care.specs.Parting.{Numbered, number_of, Parted, parted_by, parted}
+use Rattle.bw_care.specs.Scanned.{AreScans}
+use Rattle.bw_care.specs.Recovery.{placed_by, number_in, segments_in, spares_in}
+use Rattle.bw_care.specs.Parting.{Numbered, number_of, Parted, parted}
 use Rattle.bw_care.specs.declared.scanning.Scan.{Scan}
 use Rattle.bw_care.specs.declared.scanning.Scan.TheVariants.{Bare, Part, Live}
 use Rattle.bw_care.specs.Surveying.{kind_seen}
-use Rattle.bw_care.specs.declared.parting.Kind.{Kind}
-use Rattle.bw_care.specs.declared.parting.Kind.TheVariants as kind
 
 abbrev pub numbered : Holding → Numbered
 numbered h = (number_in h.bytes, h)

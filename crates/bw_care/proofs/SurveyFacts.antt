@@ -1,25 +1,20 @@
 -- From what was scanned to a plan: rooms, causes, and a log that may be adopted.
 
-use Rattle.std.proofs.Common.{inl, inr, ◌≡◌, ℕ, zero, suc, ◌+◌, ◌-◌, ◌^◌, ◌<◌, ◌≤◌, ◌==◌, ◌&&◌, ◌||◌, not, nat_lt, Bool, true, false, Option, Some, None}
-use Rattle.std.proofs.Common.{Result}
+use Rattle.std.proofs.Common.{◌≡◌, ℕ, zero, suc, ◌<◌, ◌≤◌, ◌||◌, not, nat_lt, Bool, true, false, Option, Some, None}
 use Rattle.std.proofs.Common.{Ok, Err, IfSome, List, [], ◌∷◌, ◌++◌, length, map, drop, slice_get, refl, sym, ap, subst, ◌∙◌, arith, length-append, length-drop}
-use Rattle.std.specs.List.{fold, flat_map, list_any, AllByRecursion}
+use Rattle.std.specs.List.{fold, list_any, AllByRecursion}
 use Rattle.std.proofs.lemmas.Bool.{and_parts, le-ltb, ltb-false}
 use Rattle.std.proofs.lemmas.List.{length-map}
-use Rattle.bw_codec.specs.Grammar.{frame_bytes, IsHeader, IsFrame}
+use Rattle.bw_codec.specs.Grammar.{IsHeader, IsFrame}
 use Rattle.bw_codec.specs.declared.block.Header.{Header}
 use Rattle.bw_codec.specs.declared.block.Frame.{Frame}
-use Rattle.bw_codec.specs.declared.block.Block.{Block}
-use Rattle.bw_codec.specs.declared.block.Place.{Place}
 use Rattle.bw_device.specs.Holding.{Holding}
 use Rattle.bw_page.specs.Standing.{blocks_of}
 use Rattle.bw_log.specs.Places.{or_else, bad_link, first_number, all_placed}
-use Rattle.bw_log.specs.Segments.{frames_of}
 use Rattle.bw_log.specs.declared.places.FrameAt.{FrameAt}
 use Rattle.bw_care.specs.Scanning.{rest_of}
-use Rattle.bw_care.specs.Behind.{frames_behind, IsBehind}
 use Rattle.bw_care.specs.Scanned.{IsScan, AreScans}
-use Rattle.bw_care.specs.Recovery.{recovery, answer, first_fault, found_in, too_large, bytes_fault, fault_of_order, fault_of_frames, is_small, when}
+use Rattle.bw_care.specs.Recovery.{recovery, answer, found_in, too_large, bytes_fault, fault_of_order, fault_of_frames, is_small, when}
 use Rattle.bw_care.specs.Recovery.{header_of_all, frames_in, live_in, is_none, link_fault, link_fault_by, page_fault, page_fault_by, last_number}
 use Rattle.bw_care.specs.Passing.{PassStops}
 use Rattle.bw_care.specs.Found.{Refuses}
@@ -27,8 +22,8 @@ use Rattle.bw_care.specs.Forward.{IsFramed, AreReady, ForwardStops}
 use Rattle.bw_care.specs.Paging.{PageFaultIs, fault_among}
 use Rattle.bw_care.specs.Planned.{HasRoom, AreRooms, RoomsStop, IsSurvey, first_line, last_line}
 use Rattle.bw_care.specs.Surveying.{HasShortTail}
-use Rattle.bw_care.specs.Ordering.{lives, number_found, sorted, is_other, any_narrow, follow_from, first_found, lines_found, line_number, has_none}
-use Rattle.bw_care.specs.Ordering.{order_fault_by, order_fault, AreFound, CauseIs, IsOrder}
+use Rattle.bw_care.specs.Ordering.{number_found, sorted, is_other, follow_from, first_found, lines_found, line_number, has_none}
+use Rattle.bw_care.specs.Ordering.{order_fault_by, order_fault, AreFound, CauseIs}
 use Rattle.bw_care.specs.declared.fault.RecoverCause.{RecoverCause}
 use Rattle.bw_care.specs.declared.fault.RecoverCause.TheVariants.{NoMemory, BadConfig, Device, Spent, Empty, BadBytes, Gap, Mixed, BadLink, Unlawful}
 use Rattle.bw_care.specs.declared.scanning.Scan.{Scan}
@@ -36,7 +31,6 @@ use Rattle.bw_care.specs.declared.scanning.Scan.TheVariants.{Bare, Part, Live}
 use Rattle.bw_care.specs.declared.ordering.Found.{Found}
 use Rattle.bw_care.specs.declared.plan.Survey.{Survey}
 use Rattle.bw_care.proofs.HeadersRead.{header_long}
-use Rattle.bw_care.proofs.PassSoFar.{there_is}
 use Rattle.bw_care.proofs.TailsCounted.{no_bytes_fault}
 use Rattle.bw_care.proofs.NumberOrder.{joined, header_first, live_found, all_numbers, order_is, frames_here, none_by}
 use Rattle.bw_care.proofs.LiveRow.{IsLike, sorted_like}

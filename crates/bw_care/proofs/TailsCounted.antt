@@ -1,18 +1,16 @@
 -- Tails, parts of headers, and bytes without a fault, as the scans say.
 
-use Rattle.std.proofs.Common.{◌≡◌, ℕ, zero, suc, ◌+◌, ◌==◌, Bool, true, false, Option, Some, None, List, [], ◌∷◌, length, refl, sym, ap, ◌∙◌, subst, arith}
-use Rattle.std.specs.List.{fold, filter}
-use Rattle.bw_codec.specs.Reading.{header_in, heading_of}
+use Rattle.std.proofs.Common.{◌≡◌, ℕ, suc, ◌+◌, ◌==◌, Bool, false, Option, None, List, [], ◌∷◌, length, refl, sym, ap, ◌∙◌, arith}
+use Rattle.std.specs.List.{fold}
+use Rattle.bw_codec.specs.Reading.{heading_of}
 use Rattle.bw_codec.specs.declared.block.Header.{Header}
-use Rattle.bw_codec.specs.declared.block.HeaderRead.TheVariants as heading
 use Rattle.bw_device.specs.Holding.{Holding}
 use Rattle.std.proofs.lemmas.Bool.{ne_eqb}
-use Rattle.bw_care.specs.Scanning.{has_part, has_part_by, is_bare, rest_of, rest_in, fault_in}
+use Rattle.bw_care.specs.Scanning.{has_part, has_part_by, is_bare, rest_of, rest_in}
 use Rattle.bw_care.specs.Scanned.{IsScan, AreScans}
 use Rattle.bw_care.specs.Recovery.{parts_in, tails_of, bytes_fault, bytes_fault_by, ends_whole_from, ends_whole}
 use Rattle.bw_care.specs.Ordering.{AreFound, is_clean_from}
 use Rattle.bw_care.specs.Surveying.{parts_seen, tails_found}
-use Rattle.bw_care.specs.declared.fault.RecoverCause.{RecoverCause}
 use Rattle.bw_care.specs.declared.scanning.Scan.{Scan}
 use Rattle.bw_care.specs.declared.scanning.Scan.TheVariants.{Bare, Part, Live}
 use Rattle.bw_care.specs.declared.ordering.Found.{Found}

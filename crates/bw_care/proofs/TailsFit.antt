@@ -1,6 +1,6 @@
 -- Segments that were found are few, and their tails short.
 
-use Rattle.std.proofs.Common.{◌≡◌, ℕ, zero, suc, ◌+◌, ◌≤◌, List, [], ◌∷◌, length, arith, subst, sym}
+use Rattle.std.proofs.Common.{◌≡◌, ℕ, ◌+◌, ◌≤◌, List, [], ◌∷◌, length, arith, subst, sym}
 use Rattle.std.specs.List.{AllByRecursion}
 use Rattle.bw_care.specs.Ordering.{lives_from, lives, number_found, sorted}
 use Rattle.bw_care.specs.Surveying.{IsShortFound, HasShortTail}

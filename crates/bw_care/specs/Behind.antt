@@ -1,11 +1,11 @@
 -- What stands behind a segment's header, and what was read of it.
 
-use Rattle.std.specs.Prelude.{◌++◌, ℕ, ◌-◌, ◌≤◌, ◌≡◌, None, List, length, drop, map}
+use Rattle.std.specs.Prelude.{◌++◌, ℕ, ◌-◌, ◌≡◌, None, List, length, drop, map}
 use Rattle.std.specs.List.{flat_map, AllByRecursion}
 use Rattle.bw_codec.specs.Grammar.{frame_bytes, IsFrame, IsTail}
 use Rattle.bw_codec.specs.Reading.{front_at}
 use Rattle.bw_codec.specs.declared.block.Frame.{Frame}
-use Rattle.bw_log.specs.Segments.{frames_at, entries_from, segment_frames}
+use Rattle.bw_log.specs.Segments.{frames_at, entries_from}
 use Rattle.bw_care.specs.Scanning.{rest_of, fault_by}
 use Rattle.bw_care.specs.declared.scanning.Behind.{Behind}
 

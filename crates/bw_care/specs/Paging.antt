@@ -1,6 +1,6 @@
 -- Pages in the order of their numbers, with an index of their lows.
 
-use Rattle.std.specs.Prelude.{ℕ, ◌+◌, ◌<◌, ◌≤◌, ◌^◌, ◌≡◌, ◌==◌, ◌&&◌, ◌||◌, nat_lt, not, Bool, true, false, if◌then◌else◌, Option, Some, None, IsSome, List, []}
+use Rattle.std.specs.Prelude.{ℕ, ◌+◌, ◌<◌, ◌≤◌, ◌≡◌, ◌==◌, ◌&&◌, nat_lt, not, Bool, true, false, if◌then◌else◌, Option, Some, None, IsSome, List, []}
 use Rattle.std.specs.Prelude.{◌∷◌, ◌++◌, length}
 use Rattle.std.specs.List.{list_any, AllByRecursion}
 use Rattle.bw_codec.specs.Bytes.{is_below, IsKey}
@@ -12,7 +12,7 @@ use Rattle.bw_codec.specs.Grammar.{IsFrame}
 use Rattle.bw_codec.specs.declared.block.Frame.{Frame}
 use Rattle.bw_page.specs.Standing.{blocks_of}
 use Rattle.bw_log.specs.PageTable.{top_page}
-use Rattle.bw_log.specs.Places.{all_placed, first_number}
+use Rattle.bw_log.specs.Places.{all_placed}
 use Rattle.bw_log.specs.Contents.{IsTable}
 use Rattle.bw_log.specs.declared.places.PageAt.{PageAt}
 use Rattle.bw_care.specs.Lawful.{as_list, is_same, is_bad_page, is_at_fault, first_such, contents}

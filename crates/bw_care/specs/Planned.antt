@@ -1,7 +1,6 @@
 -- What is ready before boxes are moved.
 
-use Rattle.std.specs.Prelude.{ℕ, ◌≡◌, ◌≤◌, ◌+◌, nat_lt, true, false, Ok, List, [], ◌∷◌, length, map}
-use Rattle.std.specs.declared.alloc.Global.{Global}
+use Rattle.std.specs.Prelude.{ℕ, ◌≡◌, ◌≤◌, nat_lt, true, false, Ok, List, [], ◌∷◌, length, map}
 use Rattle.bw_device.specs.Holding.{Holding}
 use Rattle.bw_page.specs.Standing.{Stand}
 use Rattle.bw_log.specs.Segments.{following}

@@ -1,6 +1,6 @@
 -- What a scan of boxes finds: the first fault of its steps, or the pages of all whole frames.
 
-use Rattle.std.specs.Prelude.{ℕ, ◌+◌, ◌==◌, ◌&&◌, ◌||◌, not, nat_lt, nat_le, Bool, true, false, if◌then◌else◌, Option, Some, None, Result, Ok, Err, List, []}
+use Rattle.std.specs.Prelude.{ℕ, ◌+◌, ◌==◌, ◌&&◌, ◌||◌, not, nat_lt, Bool, true, false, if◌then◌else◌, Option, Some, None, Result, Ok, Err, List, []}
 use Rattle.std.specs.Prelude.{◌∷◌, length, map}
 use Rattle.std.specs.List.{fold, filter, list_any}
 use Rattle.bw_codec.specs.Reading.{header_in}

@@ -1,7 +1,5 @@
 -- What a log is, read from a crate above.
 
-use Rattle.std.specs.declared.dyn_box.DynBox.{DynBox}
-use Rattle.std.specs.declared.alloc.Global.{Global}
 use Rattle.bw_device.specs.Holding.{Holding}
 use Rattle.bw_log.specs.Contents.{Contents}
 use Rattle.bw_log.specs.Contents as contents

@@ -1,25 +1,23 @@
 //! The steps of a cleaning.
 
-ghost use Rattle.std.specs.Prelude.{◌≡◌, ◌≢◌, ◌+◌, ◌<◌, ◌≤◌, [], take, drop, length, false, Err, IfOk, IfErr, OnOk};
+ghost use Rattle.std.specs.Prelude.{◌≡◌, ◌≢◌, ◌+◌, ◌^◌, ◌<◌, ◌≤◌, [], take, drop, length, false, Err, IfOk, IfErr, IfSome};
 ghost use Rattle.std.specs.List.{AllByRecursion};
 ghost use Rattle.bw_buffer.specs.Filling.{frame_of};
 ghost use Rattle.bw_log.specs.Reads.{IsPage, ReadStops};
-ghost use Rattle.bw_care.specs.Ahead.{AreAhead, IsPart};
+ghost use Rattle.bw_care.specs.Ahead.{AreSpots, IsBaseOf, Puts};
 ghost use Rattle.bw_care.specs.Cleaning.{is_old, old_pages, oldest_last};
 ghost use Rattle.bw_care.specs.Moving.{AreBases, IsFull, Moved, Refused, Stopped};
 ghost use Rattle.bw_care.specs.Views.{seen, IsSound};
 
-use crate::ahead::{read_ahead, take_page};
-use crate::reading::Line;
-use bw_buffer::{Buffer, PutError};
+use crate::ahead::{Ahead, read_ahead};
+use bw_buffer::Buffer;
 use bw_codec::{Block, Place};
 use bw_device::Segment;
 use bw_log::{Log, LogFault};
 use std::alloc::{AllocError, Global};
-use std::collections::BTreeMap;
 
 // Whether a place, if there is one, stands in the frames up to this one.
-pub(crate) fn is_old(last: u64, place: Option<Place>) -> bool
+fn is_old(last: u64, place: Option<Place>) -> bool
     ensures { result ≡ is_old last place }
 {
     match place {
@@ -28,8 +26,8 @@ pub(crate) fn is_old(last: u64, place: Option<Place>) -> bool
     }
 }
 
-/// The number of the last frame in the oldest segment, or 0 where it has none.
-pub(crate) fn last_old(log: &Log) -> u64
+// The number of the last frame in the oldest segment, or 0 where it has none.
+fn last_old(log: &Log) -> u64
     requires sound { IsSound log.now holding }
     requires some { 0 < length (seen log.now holding).live }
     ensures { result ≡ oldest_last (seen log.now holding) (seen log.now holding).live }
@@ -58,18 +56,49 @@ pub(crate) fn old_pages(alloc: Global, log: &Log) -> Result<Vec<u32>, AllocError
     Ok(pages)
 }
 
-/// Puts pages, one or more, into an empty buffer as Bases, as many as fit, and answers how many.
-/// Those that were read ahead are taken out of the map.
+// Puts a page's Base into the buffer, a copy of its bytes if they were found, and answers whether
+// there was room for it.
+fn put_page(
+    log: &mut Log,
+    found: Option<&[u8]>,
+    buffer: &mut Buffer,
+    page: u32,
+) -> Result<bool, LogFault>
+    requires sound { IsSound log.old holding }
+    requires page { IsPage (seen log.old holding) page }
+    requires found { IfSome found (λ piece. IsBaseOf (seen log.old holding) page piece.now) }
+    requires unsealed { buffer.old.is_sealed ≡ false }
+    ensures sound { IsSound log.new holding }
+    ensures put { IfOk result (λ fits. Puts (seen log.old holding) page buffer.old fits buffer.new) }
+    ensures stops { ReadStops (λ _. Unit {0}) (seen log.old holding) result (seen log.new holding) }
+    ensures paged { result ≢ Err LogFault.NoPage }
+{
+    // A buffer that is not sealed refuses for want of room alone.
+    match found {
+        Some(bytes) => Ok(buffer.put_base(bytes, page).is_ok()),
+        None => {
+            let leaf = log.read_page(page)?;
+            let block = [Block::Base(leaf)];
+            Ok(buffer.put_all(&block).is_ok())
+        }
+    }
+}
+
+/// Puts pages, one or more, into an empty buffer as Bases, as many as fit, and answers how many. Of
+/// what was found ahead, the spots from an index on are theirs.
 fn fill(
     log: &mut Log,
-    lines: &mut BTreeMap<u32, Line>,
+    ahead: &Ahead,
+    from: usize,
     buffer: &mut Buffer,
     pages: &[u32],
 ) -> Result<usize, LogFault>
     requires sound { IsSound log.old holding }
     requires some { 0 < length pages.now }
     requires pages { AllByRecursion (IsPage (seen log.old holding)) pages.now }
-    requires ahead { AreAhead (seen log.old holding) lines.old pages.now }
+    requires ahead { AreSpots (seen log.old holding)
+        ahead.now.bytes.items (drop from ahead.now.spots.items) pages.now }
+    requires few { from + length pages.now < 2 ^ 64 }
     requires limit { buffer.old.limit ≡ (seen log.old holding).f }
     requires empty { buffer.old.blocks ≡ [] }
     requires unsealed { buffer.old.is_sealed ≡ false }
@@ -78,39 +107,38 @@ fn fill(
         × (buffer.new ≡ record buffer.old { blocks = buffer.new.blocks })
         × AreBases (seen log.old holding) buffer.new.blocks (take n pages.now)
         × IsFull (seen log.old holding) (frame_of buffer.new) (drop n pages.now)) }
-    ensures part { OnOk result (IsPart lines.old lines.new) }
     ensures stops { ReadStops (λ _. Unit {0}) (seen log.old holding) result (seen log.new holding) }
     ensures paged { result ≢ Err LogFault.NoPage }
 {
     for at in 0..pages.len() {
-        let leaf = take_page(log, lines, pages[at])?;
-        let block = [Block::Base(leaf)];
-        match buffer.put_all(&block) {
-            Ok(_) => {}
-            Err(PutError::NoRoom) => return Ok(at),
-            Err(PutError::Sealed) => unreachable!(),
+        let fits = put_page(log, ahead.base(from + at), buffer, pages[at])?;
+        if !fits {
+            return Ok(at);
         }
     }
     Ok(pages.len())
 }
 
-/// Writes one frame of as many of the pages as fit, and answers how many.
+/// Writes one frame of as many of the pages as fit, and answers how many. Of what was found ahead,
+/// the spots from an index on are theirs.
 fn move_some(
     alloc: Global,
     log: &mut Log,
-    lines: &mut BTreeMap<u32, Line>,
+    ahead: &Ahead,
+    from: usize,
     pages: &[u32],
 ) -> Result<usize, LogFault>
     requires sound { IsSound log.old holding }
     requires works { (seen log.old holding).is_failed ≡ false }
     requires some { 0 < length pages.now }
     requires pages { AllByRecursion (IsPage (seen log.old holding)) pages.now }
-    requires ahead { AreAhead (seen log.old holding) lines.old pages.now }
+    requires ahead { AreSpots (seen log.old holding)
+        ahead.now.bytes.items (drop from ahead.now.spots.items) pages.now }
+    requires few { from + length pages.now < 2 ^ 64 }
     ensures sound { IsSound log.new holding }
     ensures moved { IfOk result (λ n. (0 < n) × (n ≤ length pages.now)
         × Moved (seen log.old holding) (seen log.new holding)
         (take n pages.now) (drop n pages.now) 1) }
-    ensures part { OnOk result (IsPart lines.old lines.new) }
     ensures refused { IfErr result (λ fault.
         Refused fault (seen log.old holding) (seen log.new holding)) }
 {
@@ -118,7 +146,7 @@ fn move_some(
         return Err(LogFault::Spent);
     };
     let mut buffer = Buffer::new(alloc, number, log.limit())?;
-    let count = fill(log, lines, &mut buffer, pages)?;
+    let count = fill(log, ahead, from, &mut buffer, pages)?;
     buffer.seal();
     // The bytes tell the proof that the frame is no longer than the limit.
     let _ = buffer.bytes();
@@ -126,18 +154,14 @@ fn move_some(
     Ok(count)
 }
 
-// Writes all the pages again, those that were read ahead out of the map.
-fn move_all(
-    alloc: Global,
-    log: &mut Log,
-    lines: &mut BTreeMap<u32, Line>,
-    pages: &[u32],
-) -> Result<u64, LogFault>
+// Writes all the pages again, those that were found ahead as copies.
+fn move_all(alloc: Global, log: &mut Log, ahead: &Ahead, pages: &[u32]) -> Result<u64, LogFault>
     requires sound { IsSound log.old holding }
     requires works { (seen log.old holding).is_failed ≡ false }
     requires two { 2 ≤ length (seen log.old holding).live }
     requires pages { pages.now ≡ old_pages (seen log.old holding) }
-    requires ahead { AreAhead (seen log.old holding) lines.old pages.now }
+    requires ahead { AreSpots (seen log.old holding)
+        ahead.now.bytes.items ahead.now.spots.items pages.now }
     ensures sound { IsSound log.new holding }
     ensures moved { IfOk result (λ frames. Moved (seen log.old holding) (seen log.new holding)
         (old_pages (seen log.old holding)) [] frames) }
@@ -147,7 +171,7 @@ fn move_all(
     let mut frames = 0;
     let mut at = 0;
     while at < pages.len() {
-        at += move_some(alloc, log, lines, &pages[at..])?;
+        at += move_some(alloc, log, ahead, at, &pages[at..])?;
         frames += 1;
     }
     Ok(frames)
@@ -165,6 +189,6 @@ pub(crate) fn move_pages(alloc: Global, log: &mut Log, pages: &[u32]) -> Result<
     ensures refused { IfErr result (λ fault.
         Stopped (seen log.old holding) fault (seen log.new holding)) }
 {
-    let mut lines = read_ahead(alloc, log, pages)?;
-    move_all(alloc, log, &mut lines, pages)
+    let ahead = read_ahead(alloc, log, pages)?;
+    move_all(alloc, log, &ahead, pages)
 }

@@ -1,8 +1,8 @@
-use Rattle.std.proofs.Common.{◌≡◌, ◌≤◌, ◌<◌, ◌∙◌, ℕ, List, false, Some, refl, sym, ap, length, arith}
+use Rattle.std.proofs.Common.{◌≡◌, ◌≤◌, ℕ, List, Some, refl, sym, ap, length, arith}
 use Rattle.bw_log.specs.declared.fault.LogFault.TheVariants.{NoMemory}
 use Rattle.bw_care.specs.Cleaning.{old_pages}
 use Rattle.bw_care.specs.Views.{seen}
-use Rattle.bw_care.proofs.PagesMoved.{no_base_before, two_left, all_cleaned}
+use Rattle.bw_care.proofs.PagesMoved.{no_base_before, all_cleaned}
 use Rattle.bw_care.proofs.CleaningSteps.{stopped_first, stopped_stands, moved_stand, same_m}
 use Rattle.bw_care.proofs.cleaning.clean.Goals as goal
 

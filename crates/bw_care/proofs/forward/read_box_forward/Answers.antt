@@ -1,4 +1,3 @@
-use Rattle.std.proofs.Common.{◌≡◌, sym, ap, ◌∙◌}
 use Rattle.bw_care.proofs.SecondPass.{box_frames, box_wrong}
 use Rattle.bw_care.proofs.forward.read_box_forward.Goals as goal
 

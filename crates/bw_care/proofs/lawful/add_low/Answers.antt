@@ -1,7 +1,7 @@
-use Rattle.std.proofs.Common.{◌≡◌, ◌∙◌, sym, ap, Some, Option, if◌then◌else◌}
+use Rattle.std.proofs.Common.{◌∙◌, sym, ap, Some, Option, if◌then◌else◌}
 use Rattle.std.specs.BTreeMap as tree
 use Rattle.bw_codec.specs.declared.leaf.Leaf.{Leaf}
-use Rattle.bw_page.specs.Leaves.{Bytes, order}
+use Rattle.bw_page.specs.Leaves.{order}
 use Rattle.bw_care.specs.Paging.{has_low}
 use Rattle.bw_care.proofs.LowIndex.{low_more}
 use Rattle.bw_care.proofs.lawful.add_low.Goals as goal

@@ -1,4 +1,4 @@
-use Rattle.std.proofs.Common.{refl, ◌≡◌, ◌≤◌, ◌∙◌, ◌||◌, ◌==◌, not, nat_lt, sym, ap, subst, length, Bool, true, false}
+use Rattle.std.proofs.Common.{refl, ◌≡◌, ◌∙◌, ◌||◌, ◌==◌, not, nat_lt, sym, ap, subst, length, Bool, false}
 use Rattle.std.specs.List.{list_any}
 use Rattle.std.specs.BTreeMap as tree
 use Rattle.bw_codec.specs.Bytes.{is_below, IsKey}

@@ -1,4 +1,4 @@
-use Rattle.std.proofs.Common.{◌≡◌, ℕ, refl, Option, List, Some, IsSome, false, [], sym, ◌∙◌, ap, subst}
+use Rattle.std.proofs.Common.{ℕ, refl, Option, Some, IsSome, [], sym, subst}
 use Rattle.std.specs.BTreeMap as tree
 use Rattle.bw_codec.specs.Bytes.{IsKey}
 use Rattle.bw_page.specs.Leaves.{Bytes, order}

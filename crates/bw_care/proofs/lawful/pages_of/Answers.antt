@@ -1,6 +1,6 @@
-use Rattle.std.proofs.Common.{◌≡◌, List, sym, ◌∙◌, ap, subst, map}
+use Rattle.std.proofs.Common.{sym, ◌∙◌, ap, subst, map}
 use Rattle.bw_page.specs.Leaves.{AreLeaves}
-use Rattle.bw_care.specs.Paging.{Paged, Rise, AreOf, leaves_in, at_line}
+use Rattle.bw_care.specs.Paging.{Rise, AreOf, leaves_in, at_line}
 use Rattle.bw_care.proofs.PagesRight.{rise_is, lawful_leaves, right_pages}
 use Rattle.bw_care.proofs.PageLines.{map_of}
 use Rattle.bw_care.proofs.lawful.pages_of.Goals as goal

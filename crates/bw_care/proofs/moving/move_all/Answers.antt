@@ -1,11 +1,8 @@
-use Rattle.std.proofs.Common.{◌≡◌, ◌≤◌, ◌<◌, ◌+◌, ◌∙◌, refl, sym, ap, length, arith}
+use Rattle.std.proofs.Common.{arith}
 use Rattle.std.proofs.lemmas.Result.{err_from_is_err_and}
-use Rattle.bw_page.specs.Standing.{blocks_of}
-use Rattle.bw_log.specs.Contents.{counted}
-use Rattle.bw_care.specs.Views.{seen}
 use Rattle.bw_care.proofs.PagesMoved.{moved_none}
 use Rattle.bw_care.proofs.CleaningSteps.{rest_pages, moved_more, stopped_at, rest_inside}
-use Rattle.bw_care.proofs.ReadAhead.{ahead_rest, says_less}
+use Rattle.bw_care.proofs.ReadAhead.{spots_rest}
 use Rattle.bw_care.proofs.moving.move_all.Goals as goal
 
 pub loop-at-init : goal.loop-at-init
@@ -13,13 +10,13 @@ loop-at-init g c = record {
   inside = omega arith;
   few = omega arith;
   sound = c.requires.sound;
-  ahead = c.requires.ahead;
   moved = moved_none _ _ c.requires.works;
 }
 
 pub move_some-requires-clause-ahead : goal.move_some-requires-clause-ahead
 move_some-requires-clause-ahead g c =
-    ahead_rest _ _ c.loop-at.lines c.args.pages.now c.loop-at.at _ _ c.loop-at.frames c.loop-at.invariant.moved c.loop-at.invariant.ahead
+    spots_rest _ _ c.args.ahead.now.bytes.items c.args.ahead.now.spots.items c.args.pages.now c.loop-at.at _ _ c.loop-at.frames c.loop-at.invariant.moved
+    c.requires.ahead
 
 pub move_some-requires-clause-pages : goal.move_some-requires-clause-pages
 move_some-requires-clause-pages g c = rest_pages _ _ c.args.pages.now c.loop-at.at _ c.loop-at.frames c.requires.pages c.loop-at.invariant.moved
@@ -41,8 +38,6 @@ loop-at-preserved g c =
       inside = rest_inside c.args.pages.now c.loop-at.at c.in_ok-at.field-0 inside kept;
       few = omega arith;
       sound = c.in_ok-at.ensures.sound;
-      ahead = says_less (blocks_of (counted (seen c.args.log.now (λ b. (goal.Segment-dyn g b).holding b.1)))) c.loop-at.lines c.move_some.new.lines
-          c.args.pages.now c.in_ok-at.ensures.part c.loop-at.invariant.ahead;
       moved = moved_more _ _ _ c.args.pages.now c.loop-at.at c.in_ok-at.field-0 c.loop-at.frames c.requires.sound c.loop-at.invariant.sound c.requires.two
           c.requires.works c.loop-at.invariant.moved moved.2;
     }

@@ -1,5 +1,4 @@
-use Rattle.std.proofs.Common.{◌≡◌, ◌≤◌, ◌-◌, length, take, drop}
-use Rattle.bw_care.specs.Ahead.{AreAhead}
+use Rattle.std.proofs.Common.{◌≤◌, ◌-◌, length, take, drop}
 use Rattle.bw_care.specs.Moving.{Moved}
 use Rattle.bw_care.specs.Views.{seen, IsSound}
 use Rattle.bw_care.proofs.moving.move_all.Given as goal
@@ -9,7 +8,6 @@ invariant-loop-at g l = record {
   inside : l.at ≤ length l.pages;
   few : l.frames ≤ l.at;
   sound : IsSound l.log (λ b. (goal.Segment-dyn g b).holding b.1);
-  ahead : AreAhead (seen l.initial.log (λ b. (goal.Segment-dyn g b).holding b.1)) l.lines l.pages;
   moved : Moved (seen l.initial.log (λ b. (goal.Segment-dyn g b).holding b.1)) (seen l.log (λ b. (goal.Segment-dyn g b).holding b.1)) (take l.at l.pages)
       (drop l.at l.pages) l.frames;
 }

@@ -1,4 +1,4 @@
-use Rattle.std.proofs.Common.{◌≡◌, ◌<◌, ◌∙◌, sym, ap, length, arith}
+use Rattle.std.proofs.Common.{◌<◌, ◌∙◌, sym, ap, length, arith}
 use Rattle.bw_log.specs.Contents.{counted}
 use Rattle.bw_care.specs.Cleaning.{is_old}
 use Rattle.bw_care.specs.Views.{seen}

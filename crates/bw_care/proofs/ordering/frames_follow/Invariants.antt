@@ -1,4 +1,4 @@
-use Rattle.std.proofs.Common.{◌≡◌, ◌≤◌, ◌-◌, None, length, drop, map}
+use Rattle.std.proofs.Common.{◌≡◌, ◌-◌, None, length, drop, map}
 use Rattle.bw_care.specs.Ordering.{follow_from, line_number}
 use Rattle.bw_care.proofs.ordering.frames_follow.Given as goal
 

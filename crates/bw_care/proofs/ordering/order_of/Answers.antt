@@ -1,4 +1,4 @@
-use Rattle.std.proofs.Common.{◌∙◌, ap}
+use Rattle.std.proofs.Common.{◌∙◌}
 use Rattle.bw_care.proofs.TailsFit.{sorted_few, sorted_short}
 use Rattle.bw_care.proofs.ordering.order_of.Goals as goal
 

@@ -1,4 +1,4 @@
-use Rattle.std.proofs.Common.{◌≡◌, ◌∙◌, sym, ap, insert, map, List}
+use Rattle.std.proofs.Common.{◌∙◌, sym, ap, insert, map, List}
 use Rattle.bw_care.specs.Parting.{place_among}
 use Rattle.bw_care.specs.Ordering.{number_found}
 use Rattle.bw_care.specs.declared.ordering.Found.{Found}

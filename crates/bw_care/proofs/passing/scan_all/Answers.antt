@@ -1,4 +1,4 @@
-use Rattle.std.proofs.Common.{◌≡◌, sym, ap, ◌∙◌, arith, length, ℕ, Some}
+use Rattle.std.proofs.Common.{sym, ap, ◌∙◌, arith, ℕ, Some}
 use Rattle.bw_care.specs.declared.fault.RecoverCause.TheVariants.{BadBytes}
 use Rattle.std.proofs.lemmas.Result.{err_from_is_err_and}
 use Rattle.bw_care.proofs.PassSoFar.{pass_stops, scan_step, fault_step, inside_map}

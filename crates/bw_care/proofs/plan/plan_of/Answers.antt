@@ -1,6 +1,4 @@
-use Rattle.std.proofs.Common.{◌≡◌, ◌∙◌, ℕ, List, sym, ap, subst}
 use Rattle.std.proofs.lemmas.Result.{err_from_is_err_and}
-use Rattle.bw_care.specs.Recovery.{live_in, frames_in}
 use Rattle.bw_care.proofs.SurveyFacts.{facts, ready, first_is, last_is, link_none, forward_refuses, page_refuses}
 use Rattle.bw_care.proofs.PlanMade.{planned_all}
 use Rattle.bw_care.proofs.plan.plan_of.Goals as goal

@@ -1,4 +1,4 @@
-use Rattle.std.proofs.Common.{arith, sym, ◌∙◌, ap, subst, List, reverse, length, ◌≡◌, length-append, [], ◌∷◌}
+use Rattle.std.proofs.Common.{arith, sym, ap, List, reverse, length, length-append, [], ◌∷◌}
 use Rattle.std.proofs.lemmas.Result.{err_from_is_err_and}
 use Rattle.bw_care.proofs.LinksRead.{next_of, popped, blocks_step, blocks_wrong_at}
 use Rattle.bw_care.proofs.reading.read_blocks_linked.Goals as goal

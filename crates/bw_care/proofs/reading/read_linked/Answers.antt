@@ -1,4 +1,4 @@
-use Rattle.std.proofs.Common.{sym, ◌∙◌}
+use Rattle.std.proofs.Common.{sym}
 use Rattle.bw_care.proofs.LinksRead.{read_more}
 use Rattle.bw_care.proofs.reading.read_linked.Goals as goal
 

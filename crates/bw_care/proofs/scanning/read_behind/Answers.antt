@@ -1,11 +1,9 @@
-use Rattle.std.proofs.Common.{ℕ, Option, Some, None, List, [], ◌∷◌, ◌++◌, drop, map, arith, subst, ◌∙◌, ap, sym}
+use Rattle.std.proofs.Common.{List, [], ◌∷◌, ◌++◌, map, arith, subst, ◌∙◌, ap}
 use Rattle.std.specs.List.{flat_map, AllByRecursion}
-use Rattle.bw_codec.specs.Grammar.{frame_bytes, IsFrame, IsFront}
+use Rattle.bw_codec.specs.Grammar.{frame_bytes, IsFrame}
 use Rattle.bw_codec.specs.declared.block.Frame.{Frame}
 use Rattle.bw_log.specs.Segments.{entries_from}
 use Rattle.bw_care.specs.Scanning.{rest_of}
-use Rattle.bw_codec.specs.declared.block.FrameRead.{FrameRead}
-use Rattle.bw_care.specs.Behind.{IsBehind}
 use Rattle.bw_care.proofs.FrontsRead.{ends_parts, ends_cut, front_from, there_from, none_from, fits_there, read_more, ends_tail, ends_bad, tail_lawful}
 use Rattle.bw_care.proofs.FrontsRead.{bad_there}
 use Rattle.bw_care.proofs.FrontsRead.{tail_len}

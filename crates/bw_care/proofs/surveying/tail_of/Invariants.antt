@@ -1,6 +1,6 @@
 use Rattle.std.proofs.Common.{◌≡◌, ◌+◌, ◌-◌, ◌*◌, ◌≤◌, length, drop}
-use Rattle.std.specs.List.{fold, AllByRecursion}
-use Rattle.bw_care.specs.Surveying.{tails_found, IsShortFound}
+use Rattle.std.specs.List.{fold}
+use Rattle.bw_care.specs.Surveying.{tails_found}
 use Rattle.bw_care.proofs.surveying.tail_of.Given as goal
 
 abbrev pub invariant-live : goal.invariant-live
