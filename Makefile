@@ -9,7 +9,7 @@
 
 PROGRAM = crates/bwlog
 BENCH = --keys 1000000 --operations 1000000
-SUBJECTS = pages alone beside late one one-beside many many-beside
+SUBJECTS = pages cleaning alone beside late one one-beside many many-beside
 
 .PHONY: run try test wrong memory bench peers crash
 

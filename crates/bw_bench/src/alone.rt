@@ -4,7 +4,7 @@ ghost use Rattle.bw_store.specs.Views.{IsSound};
 
 use crate::asking::{evict_all, get_all, read_all, wrong_of};
 use crate::batches::{Cost, bytes_of, put_script};
-use crate::beside::{end_if, start_if};
+use crate::beside::{Seen, end_if, start_if};
 use crate::options::Options;
 use crate::report::{tell, tell_bytes, tell_seen, tell_wrong};
 use crate::shape::Part;
@@ -45,7 +45,29 @@ fn tell_cost<R: System>(rt: &R, options: &Options<'_>, span: Span, cost: Cost) -
     Ok(())
 }
 
-/// Puts, takes and flushes some puts, and reads all keys back.
+/// Puts, takes and flushes some puts, a reader beside them or not.
+fn put_all<R: System>(
+    rt: &R,
+    options: &Options<'_>,
+    store: &mut Store,
+    feed: &mut Feed,
+    pace: Pace,
+    is_read: bool,
+    span: Span,
+) -> Result<(Cost, Option<Seen>), Stop>
+    requires { IsSound store.old holding }
+    ensures { IsSound store.new holding }
+{
+    let shape = options.shape();
+    let script = shape.script(rt.alloc(), span.from, span.to, WHOLE)?;
+    let looker = start_if(rt, store, &shape, span.to, is_read)?;
+    let size = usize::from(options.batch);
+    let cost = put_script(rt, store, feed, script.as_slice(), size, pace, span.name);
+    let seen = end_if(rt, looker, cost.is_ok());
+    Ok((cost?, seen))
+}
+
+/// The same, told; then all keys are read back.
 fn put_span<R: System>(
     rt: &R,
     options: &Options<'_>,
@@ -59,13 +81,9 @@ fn put_span<R: System>(
     ensures { IsSound store.new holding }
 {
     let shape = options.shape();
-    let script = shape.script(rt.alloc(), span.from, span.to, WHOLE)?;
     let (before, had) = (resident(rt), bytes_of(store));
-    let looker = start_if(rt, store, &shape, span.to, is_read)?;
-    let size = usize::from(options.batch);
-    let cost = put_script(rt, store, feed, script.as_slice(), size, pace, span.name);
-    let seen = end_if(rt, looker, cost.is_ok());
-    tell_cost(rt, options, span, cost?)?;
+    let (cost, seen) = put_all(rt, options, store, feed, pace, is_read, span)?;
+    tell_cost(rt, options, span, cost)?;
     tell_seen(rt, options, seen)?;
     let added = bytes_of(store).saturating_sub(had);
     tell_bytes(rt, options, "  in the log", span.count(), added)?;

@@ -62,49 +62,67 @@ fn append_all<R: System>(
 }
 
 /// Appends of each size, to a file of its own each.
+fn appends_in<R: System>(rt: &R, options: &Options<'_>, folder: &Folder) -> Result<(), Stop> {
+    let mut desk = Desk::new(rt.alloc(), 3)?;
+    for (name, size) in SIZES {
+        append_all(rt, options, folder, desk.take()?, name, size)?;
+    }
+    Ok(())
+}
+
+/// The same in a new folder.
 pub fn appends<R: System>(rt: &R, options: &Options<'_>, dir: &str) -> Result<(), Stop> {
     let path = format!(in rt.alloc(); "{dir}/appends")?;
     let folder = new_folder(rt, path.as_str())?;
-    let mut desk = Desk::new(rt.alloc(), 3)?;
-    for (name, size) in SIZES {
-        append_all(rt, options, &folder, desk.take()?, name, size)?;
-    }
-    Ok(())
+    appends_in(rt, options, &folder)
 }
 
-/// Makes files for a course and runs it over them.
-fn write_files<R: System>(
+/// A new file of the next lease, or the one that is there.
+fn file<R: System>(
+    rt: &R,
+    folder: &Folder,
+    desk: &mut Desk,
+    is_new: bool,
+) -> Result<FileSegment, Stop> {
+    let lease = desk.take()?;
+    let opened = if is_new {
+        folder.spare(rt, lease, CAPACITY)
+    } else {
+        folder.segment(rt, lease, CAPACITY)
+    };
+    Ok(opened?)
+}
+
+/// Runs a course over new files; without one it goes on from those of a course before, which nobody
+/// has open any more.
+fn with_files<R: System>(
     rt: &R,
     options: &Options<'_>,
-    course: Course,
+    course: Option<Course>,
     path: &str,
 ) -> Result<(), Stop> {
     let alloc = rt.alloc();
-    let folder = new_folder(rt, path)?;
-    let many = count_of(options);
-    let mut desk = Desk::new(alloc, many)?;
-    let mut boxes: Vec<Box<dyn Segment>> = Vec::new(alloc);
-    for _ in 0..many {
-        let segment = folder.spare(rt, desk.take()?, CAPACITY)?;
-        boxes.push(Box::new(alloc, segment)?)?;
-    }
-    let _live = over(rt, options, course, boxes)?;
-    Ok(())
-}
-
-/// Reads the files of a course, which nobody has open any more, and goes on from them.
-fn read_files<R: System>(rt: &R, options: &Options<'_>, path: &str) -> Result<(), Stop> {
-    let alloc = rt.alloc();
     let meter = Meter::start(rt, "open", 1)?;
-    let folder = Folder::open(rt, path)?;
+    let is_new = course.is_some();
+    let folder = if is_new {
+        new_folder(rt, path)?
+    } else {
+        Folder::open(rt, path)?
+    };
     let many = count_of(options);
     let mut desk = Desk::new(alloc, many)?;
     let mut boxes: Vec<Box<dyn Segment>> = Vec::new(alloc);
     for _ in 0..many {
-        let segment = folder.segment(rt, desk.take()?, CAPACITY)?;
+        let segment = file(rt, &folder, &mut desk, is_new)?;
         boxes.push(Box::new(alloc, segment)?)?;
     }
-    reopened(rt, options, meter, boxes)
+    match course {
+        Some(course) => {
+            let _live = over(rt, options, course, boxes)?;
+            Ok(())
+        }
+        None => reopened(rt, options, meter, boxes),
+    }
 }
 
 /// Runs the course over files in a new folder of the subject's name, and then goes on from what
@@ -117,6 +135,6 @@ pub fn over_files<R: System>(
     name: &str,
 ) -> Result<(), Stop> {
     let path = format!(in rt.alloc(); "{dir}/{name}")?;
-    write_files(rt, options, course, path.as_str())?;
-    read_files(rt, options, path.as_str())
+    with_files(rt, options, Some(course), path.as_str())?;
+    with_files(rt, options, None, path.as_str())
 }

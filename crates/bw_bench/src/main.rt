@@ -12,6 +12,7 @@ mod asking;
 mod batches;
 mod beside;
 mod boxes;
+mod cleaning;
 mod driven;
 mod folders;
 mod options;

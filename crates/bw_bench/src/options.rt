@@ -47,6 +47,7 @@ impl Options<'_> {
 /// The subjects in the order in which they run.
 const SUBJECTS: &[&str] = &[
     "pages",
+    "cleaning",
     "appends",
     "alone",
     "beside",

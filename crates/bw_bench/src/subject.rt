@@ -1,6 +1,7 @@
 //! The subjects, each over a store of its own.
 
 use crate::boxes::over_memory;
+use crate::cleaning::cleaning;
 use crate::folders::{appends, over_files};
 use crate::options::Options;
 use crate::pages::pages;
@@ -81,6 +82,10 @@ pub fn run<R: System>(rt: &R, options: &Options<'_>) -> Result<(), Stop> {
     if is_asked(options, "pages") {
         println!(rt; "pages")?;
         pages(rt, options)?;
+    }
+    if is_asked(options, "cleaning") {
+        println!(rt; "cleaning")?;
+        cleaning(rt, options)?;
     }
     appends_if(rt, options)?;
     for (name, course) in [("alone", ALONE), ("beside", BESIDE), ("late", LATE)] {

@@ -6,7 +6,7 @@ use super::steps::Step::{
     Turn, Uncleaned,
 };
 use super::vectors::{THIRD_NEWER, THIRD_OLDER};
-use super::walking::{over, over_fuse};
+use super::walking::{first_wrong, over_fuse};
 use bw_store::StoreFault;
 use std::test::Fail;
 
@@ -108,9 +108,12 @@ const FAILED: [Step; 17] = [
 
 #[test]
 fn the_oldest_segment_is_given_up(rt: HostRuntime) -> Result<(), Fail> {
-    assert_eq!(rt; over(&rt, 4, &THREE_SEGMENTS)?, THREE_SEGMENTS.len());
-    assert_eq!(rt; over(&rt, 4, &NOTHING_OLD)?, NOTHING_OLD.len());
-    assert_eq!(rt; over(&rt, 3, &THREE_BOXES)?, THREE_BOXES.len());
+    let tables = [
+        (4, &THREE_SEGMENTS[..]),
+        (4, &NOTHING_OLD[..]),
+        (3, &THREE_BOXES[..]),
+    ];
+    assert_eq!(rt; first_wrong(&rt, &tables)?, None);
     Ok(())
 }
 

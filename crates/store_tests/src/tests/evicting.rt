@@ -5,7 +5,7 @@ use super::steps::Step::{
     Clean, Del, Evict, Flush, Get, Page, Put, Roll, Settle, Stands, Stops, Turn, Unread,
 };
 use super::vectors::FIRST_BYTES;
-use super::walking::{over, over_bytes, over_fuse};
+use super::walking::{first_wrong, over, over_bytes, over_fuse};
 use bw_store::StoreFault;
 use std::test::Fail;
 
@@ -126,8 +126,8 @@ fn pages_that_are_away_are_read_from_their_segments(rt: HostRuntime) -> Result<(
 
 #[test]
 fn what_no_frame_has_yet_stays_with_its_page(rt: HostRuntime) -> Result<(), Fail> {
-    assert_eq!(rt; over(&rt, 4, &UNFLUSHED)?, UNFLUSHED.len());
-    assert_eq!(rt; over(&rt, 4, &CUT)?, CUT.len());
+    let tables = [(4, &UNFLUSHED[..]), (4, &CUT[..])];
+    assert_eq!(rt; first_wrong(&rt, &tables)?, None);
     Ok(())
 }
 

@@ -5,7 +5,7 @@ use super::steps::Step::{
     Add, Cuts, Del, Flush, Full, Get, History, Page, Put, Puts, Reads, Settle, Stands, Stops, Turn,
     Unsettled,
 };
-use super::walking::{over, over_fuse, within};
+use super::walking::{first_wrong, over, over_fuse, within};
 use bw_store::StoreFault;
 use std::test::Fail;
 
@@ -97,9 +97,8 @@ const FRAMES: [Step; 8] = [
 #[test]
 fn all_that_was_accepted_is_settled(rt: HostRuntime) -> Result<(), Fail> {
     assert_eq!(rt; within(&rt, 4, 2, &TWO_PLACES)?, TWO_PLACES.len());
-    assert_eq!(rt; over(&rt, 4, &ONE_KEY)?, ONE_KEY.len());
-    assert_eq!(rt; over(&rt, 4, &WRITERS)?, WRITERS.len());
-    assert_eq!(rt; over(&rt, 4, &EMPTY)?, EMPTY.len());
+    let tables = [(4, &ONE_KEY[..]), (4, &WRITERS[..]), (4, &EMPTY[..])];
+    assert_eq!(rt; first_wrong(&rt, &tables)?, None);
     Ok(())
 }
 

@@ -6,7 +6,7 @@ use super::steps::Step::{
     Unsettled,
 };
 use super::vectors::{FIRST_BYTES, SECOND_BYTES};
-use super::walking::{over, over_fuse};
+use super::walking::{first_wrong, over_fuse};
 use bw_store::StoreFault;
 use std::test::Fail;
 
@@ -138,23 +138,22 @@ const FAILED: [Step; 13] = [
 
 #[test]
 fn worked_bytes_are_written(rt: HostRuntime) -> Result<(), Fail> {
-    assert_eq!(rt; over(&rt, 4, &FIRST)?, FIRST.len());
-    assert_eq!(rt; over(&rt, 4, &SECOND)?, SECOND.len());
-    assert_eq!(rt; over(&rt, 4, &EMPTY)?, EMPTY.len());
+    let tables = [(4, &FIRST[..]), (4, &SECOND[..]), (4, &EMPTY[..])];
+    assert_eq!(rt; first_wrong(&rt, &tables)?, None);
     Ok(())
 }
 
 #[test]
 fn turns_go_round_the_lanes(rt: HostRuntime) -> Result<(), Fail> {
-    assert_eq!(rt; over(&rt, 4, &WRITERS)?, WRITERS.len());
-    assert_eq!(rt; over(&rt, 4, &LIMITS)?, LIMITS.len());
+    let tables = [(4, &WRITERS[..]), (4, &LIMITS[..])];
+    assert_eq!(rt; first_wrong(&rt, &tables)?, None);
     Ok(())
 }
 
 #[test]
 fn segments_are_begun_while_two_spares_stand(rt: HostRuntime) -> Result<(), Fail> {
-    assert_eq!(rt; over(&rt, 1, &NO_SPARE)?, NO_SPARE.len());
-    assert_eq!(rt; over(&rt, 4, &ROLLED)?, ROLLED.len());
+    let tables = [(1, &NO_SPARE[..]), (4, &ROLLED[..])];
+    assert_eq!(rt; first_wrong(&rt, &tables)?, None);
     Ok(())
 }
 

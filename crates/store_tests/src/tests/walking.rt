@@ -81,6 +81,20 @@ pub(super) fn over<R: AllocGlobal + Wait>(
     within(rt, many, 8, steps)
 }
 
+/// Each table over so many boxes: the first that went otherwise than told, and its step.
+pub(super) fn first_wrong<R: AllocGlobal + Wait>(
+    rt: &R,
+    tables: &[(u32, &[Step])],
+) -> Result<Option<(usize, usize)>, Fail> {
+    for (i, (many, steps)) in tables.iter().enumerate() {
+        let went = over(rt, *many, steps)?;
+        if went != steps.len() {
+            return Ok(Some((i, went)));
+        }
+    }
+    Ok(None)
+}
+
 /// Over so many boxes, then one that fails after so many calls, and a spare.
 pub(super) fn over_fuse<R: AllocGlobal + Wait>(
     rt: &R,
