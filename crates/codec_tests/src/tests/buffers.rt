@@ -6,7 +6,7 @@ ghost use Rattle.bw_codec.specs.Grammar.{IsBlock};
 
 use super::hex::{bytes_of, framed};
 use bw_buffer::{Buffer, Mark, PutError};
-use bw_codec::{Blocks, FrameRead, Header, Place, read_frame};
+use bw_codec::{Block, Blocks, FrameRead, Header, Place, encode_block, read_frame};
 use std::alloc::Global;
 
 /// An empty page 1.
@@ -40,6 +40,8 @@ const NONE: &str = "46524d31 0200000000000000 00000000 00000000";
 enum Step {
     /// The blocks of a frame are put: the first one's place, or the refusal.
     Put(&'static str, Result<(u64, u32), PutError>),
+    /// The first block of a frame, a Base, is copied as its bytes: its place, or the refusal.
+    Copy(&'static str, Result<(u64, u32), PutError>),
     /// Deltas of one put, of a key and a value of so many bytes, so often.
     Fill(u8, u8, u32),
     /// Whether there is room for the blocks of a frame.
@@ -81,6 +83,27 @@ fn puts(
     match buffer.put_all(blocks.as_slice()) {
         Ok(Place { frame, index }) => Some(told == Ok((frame, index))),
         Err(error) => Some(told == Err(error) && before.as_slice() == buffer.bytes()),
+    }
+}
+
+fn copies(
+    alloc: Global,
+    buffer: &mut Buffer,
+    hex: &str,
+    told: Result<(u64, u32), PutError>,
+) -> Option<bool> {
+    let blocks = blocks_in(alloc, &bytes_of(alloc, hex)?)?;
+    let [first, ..] = blocks.as_slice() else {
+        return Some(false);
+    };
+    let Block::Base(leaf) = first else {
+        return Some(false);
+    };
+    let mut bytes = Vec::new(alloc);
+    encode_block(first, &mut bytes).ok()?;
+    match buffer.put_base(&bytes, leaf.page) {
+        Ok(Place { frame, index }) => Some(told == Ok((frame, index))),
+        Err(error) => Some(told == Err(error)),
     }
 }
 
@@ -131,6 +154,7 @@ fn gives(alloc: Global, buffer: &Buffer, hex: &str) -> Option<bool> {
 fn goes(alloc: Global, buffer: &mut Buffer, step: &Step) -> Option<bool> {
     match step {
         Step::Put(hex, told) => puts(alloc, buffer, hex, *told),
+        Step::Copy(hex, told) => copies(alloc, buffer, hex, *told),
         Step::Fill(key, value, times) => fills(alloc, buffer, (*key, *value), *times),
         Step::HasRoom(hex, told) => tells_room(alloc, buffer, hex, *told),
         Step::Seal => {
@@ -176,6 +200,28 @@ const SEALED: [Step; 9] = [
     Step::Gives(EMPTY),
 ];
 
+const COPIED: [Step; 8] = [
+    Step::Copy(EMPTY, Ok((1, 0))),
+    Step::Mark(0, Mark::Sets(1)),
+    Step::Is(1, 1, 16356, false),
+    Step::Gives(EMPTY),
+    Step::Seal,
+    Step::Copy(EMPTY, Err(PutError::Sealed)),
+    Step::Is(1, 1, 16356, true),
+    Step::Gives(EMPTY),
+];
+
+/// A Base of 8 bytes where 8 are free, then where none is.
+const COPIED_TO_THE_END: [Step; 7] = [
+    Step::Fill(64, 128, 76),
+    Step::Fill(1, 69, 1),
+    Step::Is(1, 77, 8, false),
+    Step::Copy(EMPTY, Ok((1, 77))),
+    Step::Is(1, 78, 0, false),
+    Step::Copy(EMPTY, Err(PutError::NoRoom)),
+    Step::Is(1, 78, 0, false),
+];
+
 /// 76 Deltas of the greatest length, 214 bytes, and one of 60: 40 bytes are free, where a Delta of 24
 /// bytes and its Split of 37 do not fit together.
 const FULL: [Step; 9] = [
@@ -213,19 +259,27 @@ const WORKED: [Step; 19] = [
     Step::Gives(SPLIT),
 ];
 
+/// The first of these tables that did not go as told, and how far it went.
+fn first_wrong(alloc: Global, tables: &[&[Step]]) -> Option<(usize, Option<usize>)> {
+    for (i, steps) in tables.iter().enumerate() {
+        let went = walked(alloc, 1, steps);
+        if went != Some(steps.len()) {
+            return Some((i, went));
+        }
+    }
+    None
+}
+
 #[test]
 fn buffers_go_as_told(rt: HostRuntime) {
-    assert_eq!(rt;
-        walked(rt.alloc(), 1, &SEALED),
-        Some(SEALED.len()),
-        "sealed"
-    );
-    assert_eq!(rt; walked(rt.alloc(), 1, &FULL), Some(FULL.len()), "full");
-    assert_eq!(rt;
-        walked(rt.alloc(), 1, &WORKED),
-        Some(WORKED.len()),
-        "worked"
-    );
+    let tables = [
+        &SEALED[..],
+        &COPIED[..],
+        &COPIED_TO_THE_END[..],
+        &FULL[..],
+        &WORKED[..],
+    ];
+    assert_eq!(rt; first_wrong(rt.alloc(), &tables), None);
 }
 
 /// Whether a new buffer of this number gives the bytes whose blocks it takes, before and after the
