@@ -69,10 +69,8 @@ fn the_worked_bytes_are_read_and_written_again(rt: HostRuntime) {
     }
 }
 
-/// Whether the first segment's head, its frame's, and its first block are written as they stand there
-/// by the calls that take no memory.
-fn parts_are_written(alloc: Global) -> Option<bool> {
-    let bytes = bytes_of(alloc, FIRST)?;
+/// Whether these bytes are an empty page 1, written without memory.
+fn is_written(alloc: Global, bytes: &[u8]) -> Option<bool> {
     let base = Block::Base(Leaf {
         page: 1,
         low: Low::of(Vec::new(alloc)),
@@ -80,11 +78,20 @@ fn parts_are_written(alloc: Global) -> Option<bool> {
     });
     let mut out = Vec::with_capacity(alloc, block_length(&base)).ok()?;
     write_block(&base, &mut out);
-    Some(
-        bytes.get(..24)? == header_cells(1, 4, 16_384).as_slice()
-            && bytes.get(24..44)? == frame_cells(1, 32, 2).as_slice()
-            && bytes.get(44..52)? == out.as_slice(),
-    )
+    Some(bytes == out.as_slice())
+}
+
+/// Whether the first segment's head, its frame's, and its first block are written as they stand there
+/// by the calls that take no memory.
+fn are_written(alloc: Global, bytes: &[u8]) -> Option<bool> {
+    let (header, frame) = (header_cells(1, 4, 16_384), frame_cells(1, 32, 2));
+    let heads = bytes.get(..24)? == header.as_slice() && bytes.get(24..44)? == frame.as_slice();
+    Some(heads && is_written(alloc, bytes.get(44..52)?)?)
+}
+
+fn parts_are_written(alloc: Global) -> Option<bool> {
+    let bytes = bytes_of(alloc, FIRST)?;
+    are_written(alloc, &bytes)
 }
 
 #[test]
