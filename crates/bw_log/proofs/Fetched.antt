@@ -1,7 +1,8 @@
 -- What a read of one box leaves of the log.
 
-use Rattle.std.proofs.Common.{◌≡◌, ℕ, Bool, true, false, if◌then◌else◌, MatchOption, None, nat_le, le-leb, ◌+◌, ◌-◌, ◌<◌, ◌≤◌, List, [], ◌∷◌, ◌++◌, length}
+use Rattle.std.proofs.Common.{◌≡◌, ℕ, Bool, true, false, if◌then◌else◌, MatchOption, None, nat_le, le-leb, ◌+◌, ◌-◌, ◌<◌, ◌≤◌, List, [], ◌∷◌, ◌++◌, length, zero, suc, ◌^◌}
 use Rattle.std.proofs.Common.{take, drop, length-append, map, get_or, set, slice_get, Option, Some, IfSome, refl, sym, ap, subst, ◌∙◌, arith}
+use Rattle.std.specs.List.{AllByRecursion}
 use Rattle.std.proofs.lemmas.List.{get_or-set_same, length-set, take_at, drop_at, take_all}
 use Rattle.std.proofs.lemmas.Option.{slice_get-get_or, slice_get_within, get_or_from_slice_get}
 use Rattle.std.proofs.Math.Seq.{map-set_same}
@@ -9,7 +10,7 @@ use Rattle.bw_device.specs.Holding.{Holding, failed_once}
 use Rattle.bw_device.specs.Boxes.{ChangedAt}
 use Rattle.bw_log.proofs.Asked.{found}
 use Rattle.bw_log.proofs.Fields.{both_fields, bounded_same}
-use Rattle.bw_log.specs.Contents.{Contents, image, counted, counted_in, AreTorn, IsImage, IsSound}
+use Rattle.bw_log.specs.Contents.{Contents, image, counted, counted_in, AreTorn, IsImage, IsSound, IsBounded}
 use Rattle.bw_log.specs.Reads.{IsKept, FailedRead, StopsAt, IsLineIn, HoldsPage}
 use Rattle.bw_log.specs.Walking.{thinned, StandsAt, ThinnedAt, IsWalk}
 use Rattle.bw_log.specs.declared.places.FrameAt.{FrameAt}
@@ -112,9 +113,12 @@ pub line_within : {c : Contents} {k : ℕ} {line : FrameAt} (l : BoxedLine c k l
     → IfSome (slice_get c.live (line.segment - c.number)) (λ h. line.at + line.len ≤ length h.bytes)
 line_within {c} {k} {line} l = subst (λ (o : Option Holding). IfSome o (λ h. line.at + line.len ≤ length h.bytes)) (sym l.there) l.within
 
-pub line_bytes : {c : Contents} {k : ℕ} {line : FrameAt} (l : BoxedLine c k line) (bytes : List ℕ)
-    → IfSome (slice_get c.live (line.segment - c.number)) (λ h. bytes ≡ take line.len (drop line.at h.bytes)) → bytes ≡ frame_bytes l.frame
-line_bytes {c} {k} {line} l bytes read = subst (λ (o : Option Holding). IfSome o (λ h. bytes ≡ take line.len (drop line.at h.bytes))) l.there read ∙ l.spelled
+pub line_bytes : {c : Contents} {k : ℕ} {line : FrameAt} (l : BoxedLine c k line) (none bytes : List ℕ) → none ≡ []
+    → IfSome (slice_get c.live (line.segment - c.number)) (λ h. bytes ≡ none ++ take line.len (drop line.at h.bytes)) → bytes ≡ frame_bytes l.frame
+line_bytes {c} {k} {line} l none bytes empty read =
+    subst (λ (o : Option Holding). IfSome o (λ h. bytes ≡ none ++ take line.len (drop line.at h.bytes))) l.there read
+    ∙ ap (λ (n : List ℕ). n ++ take line.len (drop line.at l.box.bytes)) empty
+    ∙ l.spelled
 
 -- what was kept of the frame that was read
 pub frame_found : (p : ℕ) {c : Contents} {k : ℕ} {line : FrameAt} (l : BoxedLine c k line) (kept : Frame) → Some (thinned p l.frame) ≡ Some kept
@@ -222,18 +226,23 @@ on_page c now p at newer same walk j inside = record {
 
 -- ---- a segment's bytes, all of them
 
-pub dumped : {X : Type 0} (v : X → Holding) (number : ℕ) (xs : List X) (segment len : ℕ) (out new bytes : List ℕ) → number ≤ segment
-    → segment - number < length xs
+-- a number of bytes that a live segment has room for
+pub short : {X : Type 0} (v : X → Holding) (xs : List X) (i n : ℕ) → AllByRecursion IsBounded (map v xs) → i < length xs
+    → IfSome (slice_get (map v xs) i) (λ h. n ≤ h.room) → n < 2 ^ 32
+short v [] i n bounds inside within = absurd (omega arith)
+short v (x ∷ xs) zero n bounds inside within = omega (arith, bounds.0, within)
+short v (x ∷ xs) (suc i) n bounds inside within = short v xs i n bounds.1 (omega arith) within
+
+pub dumped : {X : Type 0} (v : X → Holding) (number : ℕ) (xs : List X) (segment len : ℕ) (out new : List ℕ) → number ≤ segment → segment - number < length xs
     → IfSome (slice_get (map v xs) (segment - number)) (λ h. len ≡ length h.bytes)
-    → IfSome (slice_get (map v xs) (segment - number)) (λ h. bytes ≡ take len (drop 0 h.bytes))
-    → new ≡ out ++ bytes
+    → IfSome (slice_get (map v xs) (segment - number)) (λ h. new ≡ out ++ take len (drop 0 h.bytes))
     → MatchOption (if nat_le number segment then slice_get (map v xs) (segment - number) else None) ((true ≡ false) × (new ≡ out))
     (λ h. (true ≡ true) × (new ≡ out ++ h.bytes))
-dumped v number xs segment len out new bytes from inside long read is =
+dumped v number xs segment len out new from inside long read =
     let box = found v xs (segment - number) inside in
     let at : (if nat_le number segment then slice_get (map v xs) (segment - number) else None) ≡ Some box.0 =
     ap (λ (b : Bool). if b then slice_get (map v xs) (segment - number) else None) (le-leb number segment from) ∙ box.1 in
     let size : len ≡ length box.0.bytes = subst (λ (o : Option Holding). IfSome o (λ h. len ≡ length h.bytes)) box.1 long in
-    let all : bytes ≡ take len box.0.bytes = subst (λ (o : Option Holding). IfSome o (λ h. bytes ≡ take len (drop 0 h.bytes))) box.1 read in
+    let is : new ≡ out ++ take len box.0.bytes = subst (λ (o : Option Holding). IfSome o (λ h. new ≡ out ++ take len (drop 0 h.bytes))) box.1 read in
     subst (λ (o : Option Holding). MatchOption o ((true ≡ false) × (new ≡ out)) (λ h. (true ≡ true) × (new ≡ out ++ h.bytes))) (sym at)
-    (refl, is ∙ ap (λ (l : List ℕ). out ++ l) (all ∙ take_all len box.0.bytes (omega arith)))
+    (refl, is ∙ ap (λ (l : List ℕ). out ++ l) (take_all len box.0.bytes (omega arith)))

@@ -6,7 +6,7 @@
 //! frame, and the blocks read are then applied forwards. By the law of locality that is what a
 //! reading of the whole log gives.
 
-ghost use Rattle.std.specs.Prelude.{◌≡◌, ◌≢◌, ◌+◌, ◌-◌, ◌<◌, ◌≤◌, ◌↔◌, ◌∷◌, ◌++◌, [], Some, None, true, false, length, map, take, drop, reverse, slice_get, IfOk, OnErr, IfSome, MatchOption};
+ghost use Rattle.std.specs.Prelude.{◌≡◌, ◌≢◌, ◌+◌, ◌-◌, ◌<◌, ◌≤◌, ◌↔◌, ◌∷◌, ◌++◌, [], Some, None, true, false, length, map, take, drop, reverse, slice_get, IfOk, OnOk, OnErr, IfSome, MatchOption};
 ghost use Rattle.std.specs.List.{fold, list_any};
 ghost use Rattle.bw_codec.specs.Touch.{sets, touches};
 ghost use Rattle.bw_codec.specs.declared.block.Frame.{Frame};
@@ -100,14 +100,21 @@ fn replay(frames: Vec<Frame>, page: u32) -> Result<Option<Leaf>, AllocError>
 impl Log {
     ghost use Rattle.bw_log.specs.Views.{seen_by, IsSound};
 
-    // Reads bytes of the live segment at an index.
-    fn read_some(&mut self, at: usize, from: u64, len: usize) -> Result<Vec<u8>, LogFault>
+    // Appends bytes of the live segment at an index. A refusal leaves the `Vec` as it was.
+    fn read_onto(
+        &mut self,
+        at: usize,
+        from: u64,
+        len: u32,
+        out: &mut Vec<u8>,
+    ) -> Result<(), LogFault>
         requires inside { at < length self.old.live.items }
         requires within { IfSome (slice_get (map holding self.old.live.items) at)
             (λ h. from + len ≤ length h.bytes) }
-        ensures bytes { IfOk result (λ bytes.
-            IfSome (slice_get (map holding self.old.live.items) at)
-            (λ h. bytes.items ≡ take len (drop from h.bytes))) }
+        ensures bytes { OnOk result
+            (IfSome (slice_get (map holding self.old.live.items) at)
+            (λ h. out.new.items ≡ out.old.items ++ take len (drop from h.bytes))) }
+        ensures unchanged { OnErr result (out.new.items ≡ out.old.items) }
         ensures stops { ReadStops (λ i. i ≡ at)
             (seen_by holding self.old) result (seen_by holding self.new) }
         ensures paged { result ≢ Err LogFault.NoPage }
@@ -115,10 +122,12 @@ impl Log {
         if failures_of(&self.live, at) == u64::MAX {
             return Err(LogFault::Spent);
         }
-        let mut bytes = vec![in *self.frames.allocator(); 0u8; len]?;
-        match read_from(&mut self.live, at, from, &mut bytes) {
-            Ok(()) => Ok(bytes),
+        let had = out.len();
+        out.resize(had + len as usize, 0u8)?;
+        match read_from(&mut self.live, at, from, &mut out[had..]) {
+            Ok(()) => Ok(()),
             Err(_) => {
+                out.truncate(had);
                 let lease = lease_of(&self.live, at);
                 Err(LogFault::Device { lease })
             }
@@ -137,7 +146,8 @@ impl Log {
         let line = self.frames[i];
         let m = self.m;
         let at = (line.segment - self.number) as usize;
-        let bytes = self.read_some(at, line.at, line.len as usize)?;
+        let mut bytes = Vec::new(*self.frames.allocator());
+        self.read_onto(at, line.at, line.len, &mut bytes)?;
         match frame_of_page(*self.frames.allocator(), &bytes, line.number, m, page) {
             Ok(frame) => Ok(frame),
             Err(CodecFault::NoMemory) => Err(LogFault::NoMemory),
@@ -207,8 +217,7 @@ impl Log {
     }
 
     /// Appends the bytes of the live segment with this number to a `Vec`; answers `false` where no
-    /// live segment has it. A refusal leaves the `Vec` as it was. It holds the segment in memory
-    /// once more while it reads.
+    /// live segment has it. A refusal leaves the `Vec` as it was.
     pub fn dump(&mut self, segment: u64, out: &mut Vec<u8>) -> Result<bool, LogFault>
         requires { IsSound holding self.old }
         ensures found { IfOk result (λ found.
@@ -227,9 +236,8 @@ impl Log {
             return Ok(false);
         }
         let at = (segment - self.number) as usize;
-        let len = len_of(&self.live, at) as usize;
-        let bytes = self.read_some(at, 0, len)?;
-        out.extend_from_slice(&bytes)?;
+        let len = len_of(&self.live, at) as u32;
+        self.read_onto(at, 0, len, out)?;
         Ok(true)
     }
 }

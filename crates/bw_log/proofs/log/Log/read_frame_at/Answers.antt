@@ -12,31 +12,31 @@ overflow_sub-at g c =
     let first = l.from_first in
     omega arith
 
-pub read_some-requires-clause-inside : goal.read_some-requires-clause-inside
-read_some-requires-clause-inside g c =
+pub read_onto-requires-clause-inside : goal.read_onto-requires-clause-inside
+read_onto-requires-clause-inside g c =
     let l = boxed_line _ c.args.i c.index-line.result.now c.requires.sound c.requires.inside c.index-line.ensures in
     let inside = l.inside in
     simp length-map at inside
 
-pub read_some-requires-clause-within : goal.read_some-requires-clause-within
-read_some-requires-clause-within g c =
+pub read_onto-requires-clause-within : goal.read_onto-requires-clause-within
+read_onto-requires-clause-within g c =
     line_within (boxed_line _ c.args.i c.index-line.result.now c.requires.sound c.requires.inside c.index-line.ensures)
 
 pub returns-in-Ok-clause-found : goal.returns-in-Ok-clause-found
 returns-in-Ok-clause-found g c =
     let l = boxed_line _ c.args.i c.index-line.result.now c.requires.sound c.requires.inside c.index-line.ensures in
     frame_found c.args.page l c.in-Ok.frame
-    (c.in-Ok.ensures _ l.frame l.lawful (c.deref.ensures.value ∙ line_bytes l c.in_ok-bytes.bytes.items c.in_ok-bytes.ensures.bytes) l.numbered)
+    (c.in-Ok.ensures _ l.frame l.lawful (c.deref.ensures.value ∙ line_bytes l c.new-bytes.result.items c.read_onto.new.out.items c.new-bytes.ensures.items c.in_ok-read_onto.ensures.bytes) l.numbered)
 
 pub unreachable-requires : goal.unreachable-requires
 unreachable-requires g c =
     let l = boxed_line _ c.args.i c.index-line.result.now c.requires.sound c.requires.inside c.index-line.ensures in
     not_bad c.in-Err-BadBytes.field-0 (thinned c.args.page l.frame) c.in-Err-BadBytes.field-0-is
     (c.in-Err-BadBytes.ensures _ l.frame l.lawful
-    (c.deref.ensures.value ∙ line_bytes l c.in_ok-bytes.bytes.items c.in_ok-bytes.ensures.bytes) l.numbered)
+    (c.deref.ensures.value ∙ line_bytes l c.new-bytes.result.items c.read_onto.new.out.items c.new-bytes.ensures.items c.in_ok-read_onto.ensures.bytes) l.numbered)
 
-pub returns-in_err-bytes-clause-stops : goal.returns-in_err-bytes-clause-stops
-returns-in_err-bytes-clause-stops g c =
+pub returns-in_err-read_onto-clause-stops : goal.returns-in_err-read_onto-clause-stops
+returns-in_err-read_onto-clause-stops g c =
     let p = err_from_is_err_and c.from_residual.result c.from_residual.ensures.1 in
-    rw (p.1, p.2) (stops_as _ _ _ _ c.in_err-bytes.field-0.0
-    (in_line _ c.args.i c.index-line.result.now c.requires.sound c.requires.inside c.index-line.ensures) c.in_err-bytes.ensures.stops)
+    rw (p.1, p.2) (stops_as _ _ _ _ c.in_err-read_onto.field-0.0
+    (in_line _ c.args.i c.index-line.result.now c.requires.sound c.requires.inside c.index-line.ensures) c.in_err-read_onto.ensures.stops)

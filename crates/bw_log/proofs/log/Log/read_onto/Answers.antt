@@ -1,5 +1,5 @@
 use Rattle.bw_log.proofs.Fetched.{failed_box}
-use Rattle.bw_log.proofs.log.Log.read_some.Goals as goal
+use Rattle.bw_log.proofs.log.Log.read_onto.Goals as goal
 
 pub returns-in-Err-clause-stops : goal.returns-in-Err-clause-stops
 returns-in-Err-clause-stops g c =
