@@ -201,12 +201,20 @@ fn walked(alloc: Global, rows: &[Row]) -> Result<usize, Fail> {
     Ok(rows.len())
 }
 
+// The first of the tables that did not go as told, and its row.
+fn first_wrong(alloc: Global) -> Result<Option<(usize, usize)>, Fail> {
+    for (i, rows) in [&WORKED[..], &HOSTILE[..], &ORDERED[..]].iter().enumerate() {
+        let went = walked(alloc, rows)?;
+        if went != rows.len() {
+            return Ok(Some((i, went)));
+        }
+    }
+    Ok(None)
+}
+
 #[test]
 fn worked_boxes_are_told(rt: HostRuntime) -> Result<(), Fail> {
-    let alloc = rt.alloc();
-    assert_eq!(rt; walked(alloc, &WORKED)?, WORKED.len());
-    assert_eq!(rt; walked(alloc, &HOSTILE)?, HOSTILE.len());
-    assert_eq!(rt; walked(alloc, &ORDERED)?, ORDERED.len());
+    assert_eq!(rt; first_wrong(rt.alloc())?, None);
     Ok(())
 }
 
@@ -229,14 +237,18 @@ fn with_spare(alloc: Global, piece: &Piece, room: u64, told: &Told) -> Result<bo
     is_told(alloc, &mut desk, boxes, told)
 }
 
+const SPARES: [(Piece, u64, Told); 4] = [
+    (Whole(FIRST), 16_408, Found(1, 1, 0, 1, 1, 0, KV)),
+    (Whole(FIRST), 16_407, Fault(BadConfig)),
+    (Cut(FIRST, 24), 16_407, Fault(Empty)),
+    (With(FIRST, 53, "03"), 16_407, Fault(BadConfig)),
+];
+
 #[test]
 fn a_small_spare_is_refused_behind_no_frame_and_before_links(rt: HostRuntime) -> Result<(), Fail> {
-    let alloc = rt.alloc();
-    let found = Found(1, 1, 0, 1, 1, 0, KV);
-    assert!(rt; with_spare(alloc, &Whole(FIRST), 16_408, &found)?);
-    assert!(rt; with_spare(alloc, &Whole(FIRST), 16_407, &Fault(BadConfig))?);
-    assert!(rt; with_spare(alloc, &Cut(FIRST, 24), 16_407, &Fault(Empty))?);
-    assert!(rt; with_spare(alloc, &With(FIRST, 53, "03"), 16_407, &Fault(BadConfig))?);
+    for (piece, room, told) in &SPARES {
+        assert!(rt; with_spare(rt.alloc(), piece, *room, told)?);
+    }
     Ok(())
 }
 
