@@ -5,8 +5,7 @@
 //! is read once, forwards, and it is noted where the last block of a page is its Base. All other
 //! pages are read by their links.
 
-ghost use Rattle.std.specs.Prelude.{◌≡◌, ◌≢◌, ◌+◌, ◌<◌, ◌≤◌, ◌↔◌, Some, None, Err, length, slice_get, slice_index, replicate, IfOk, IfSome, IsTrue};
-ghost use Rattle.std.specs.List.{AllByRecursion};
+ghost use Rattle.std.specs.Prelude.{◌≡◌, ◌≢◌, ◌<◌, ◌≤◌, Some, Err, length, slice_get, slice_index, replicate, IfOk, IfSome, IsTrue};
 ghost use Rattle.bw_log.specs.Contents.{counted};
 ghost use Rattle.bw_log.specs.Places as places;
 ghost use Rattle.bw_log.specs.Reads.{ReadStops};
