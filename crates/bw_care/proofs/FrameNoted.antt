@@ -146,6 +146,16 @@ some_spelled (Delta page back ops) = omega arith
 some_spelled (Base leaf) = omega arith
 some_spelled (Split page back upper) = omega arith
 
+page_by : (m : ℕ) (b : Block) → IsBlock m b → 1 ≤ (outline_of b).page
+page_by m (Delta page back ops) law = law.changes.0
+page_by m (Base leaf) law = law.page.0
+page_by m (Split page back upper) law = law.cuts.0
+
+pub page_told : {c : Contents} {bytes : List ℕ} {line : FrameAt} {end at count : ℕ} {n : Noting c bytes line end at count} {o : Outline} → Step n o → 1 ≤ o.page
+page_told {c} {bytes} {line} {end} {at} {count} {n} {o} s =
+    let some = page_by c.m s.next.0 (subst (AllByRecursion (IsBlock c.m)) s.next.2 n.laws).0 in
+    subst (λ (x : Outline). 1 ≤ x.page) (sym s.told) some
+
 -- where it ends
 pub record StepsOn (bytes : List ℕ) (end at count len : ℕ) : Type 0 where
   pub some : 0 < len
@@ -209,7 +219,7 @@ base_read c fs x xs bs cs leaf place sound stands split there last =
 
 tells_by : {c : Contents} {bytes : List ℕ} {line : FrameAt} {end at count : ℕ} (n : Noting c bytes line end at count) (leaf : Leaf) (others : List Block)
     (o : Outline) (place : Place) → IsSound c → n.left ≡ Base leaf ∷ others → o ≡ outline_of (Base leaf)
-    → place ≡ record { frame = line.number; index = count } → (1 ≤ o.page → place_of o.page (counted c) ≡ Some place)
+    → place ≡ record { frame = line.number; index = count } → place_of o.page (counted c) ≡ Some place
     → IsBaseOf c o.page (take o.len (drop at bytes))
 tells_by {c} {bytes} {line} {end} {at} {count} n leaf others o place sound left told there last =
     let frame = n.whole.frame in
@@ -218,7 +228,6 @@ tells_by {c} {bytes} {line} {end} {at} {count} n leaf others o place sound left 
     let rest = body_bytes others in
     let page : leaf.page ≡ o.page = sym (ap (λ (x : Outline). x.page) told) in
     let law : IsBlock c.m (Base leaf) = (subst (AllByRecursion (IsBlock c.m)) left n.laws).0 in
-    let some = law.page.0 in
     let here : place ≡ record { frame = frame.number; index = length n.passed } =
     there ∙ ap (λ (k : ℕ). let p : Place = record { frame = k; index = count } in p) n.whole.numbered
     ∙ ap (λ (k : ℕ). let p : Place = record { frame = frame.number; index = k } in p) (sym n.many) in
@@ -228,7 +237,7 @@ tells_by {c} {bytes} {line} {end} {at} {count} n leaf others o place sound left 
         page = page;
         stands = base_read c stands.before frame stands.beyond n.passed others leaf place sound stands.split
             (n.blocks ∙ ap (λ (l : List Block). n.passed ++ l) left) here
-            (ap (λ (p : ℕ). place_of p (counted c)) page ∙ last (omega arith));
+            (ap (λ (p : ℕ). place_of p (counted c)) page ∙ last);
         lawful = law;
       };
       spelled = ap (take o.len) (n.parts ∙ ap (λ (l : List Block). body_bytes l ++ n.back) left ∙ append_assoc base rest n.back)
@@ -237,7 +246,7 @@ tells_by {c} {bytes} {line} {end} {at} {count} n leaf others o place sound left 
 
 pub spot_tells : {c : Contents} {bytes : List ℕ} {line : FrameAt} {end at count : ℕ} {n : Noting c bytes line end at count} {o : Outline} → Step n o
     → (place : Place) → IsSound c → place ≡ record { frame = line.number; index = count }
-    → get_or (take (length bytes - at) (drop at bytes)) 0 0 ≡ 2 → (1 ≤ o.page → place_of o.page (counted c) ≡ Some place)
+    → get_or (take (length bytes - at) (drop at bytes)) 0 0 ≡ 2 → place_of o.page (counted c) ≡ Some place
     → Tells c bytes o.page (record { at = at; len = o.len })
 spot_tells {c} {bytes} {line} {end} {at} {count} {n} {o} s place sound there first last =
     let b = s.next in
