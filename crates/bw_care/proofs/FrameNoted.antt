@@ -51,15 +51,10 @@ line_of c k line bytes sound told first oldest =
 
 -- in the frame of this line so many blocks were passed over, and the others are spelled from here to the end
 pub record Noting (c : Contents) (bytes : List ℕ) (line : FrameAt) (end at count : ℕ) : Type 0 where
-  pub before : List Frame
-  pub frame : Frame
-  pub beyond : List Frame
-  pub stands : counted c ≡ before ++ frame ∷ beyond
-  pub numbered : line.number ≡ frame.number
-  pub few : length frame.blocks < 2 ^ 32
+  pub whole : IsLineOf c bytes line
   pub passed : List Block
   pub left : List Block
-  pub blocks : frame.blocks ≡ passed ++ left
+  pub blocks : whole.frame.blocks ≡ passed ++ left
   pub many : length passed ≡ count
   pub laws : AllByRecursion (IsBlock c.m) left
   pub back : List ℕ
@@ -96,12 +91,7 @@ noting_starts c bytes line end at l ends starts =
     let long = frame_long line.at line.len bytes l.frame l.within l.spelled in
     let inside = l.within in
     record {
-      before = l.stands.before;
-      frame = l.frame;
-      beyond = l.stands.beyond;
-      stands = l.stands.split;
-      numbered = l.numbered;
-      few = l.lawful.head.some.1;
+      whole = l;
       passed = [];
       left = l.frame.blocks;
       blocks = refl;
@@ -156,6 +146,16 @@ some_spelled (Delta page back ops) = omega arith
 some_spelled (Base leaf) = omega arith
 some_spelled (Split page back upper) = omega arith
 
+page_by : (m : ℕ) (b : Block) → IsBlock m b → 1 ≤ (outline_of b).page
+page_by m (Delta page back ops) law = law.changes.0
+page_by m (Base leaf) law = law.page.0
+page_by m (Split page back upper) law = law.cuts.0
+
+pub page_told : {c : Contents} {bytes : List ℕ} {line : FrameAt} {end at count : ℕ} {n : Noting c bytes line end at count} {o : Outline} → Step n o → 1 ≤ o.page
+page_told {c} {bytes} {line} {end} {at} {count} {n} {o} s =
+    let some = page_by c.m s.next.0 (subst (AllByRecursion (IsBlock c.m)) s.next.2 n.laws).0 in
+    subst (λ (x : Outline). 1 ≤ x.page) (sym s.told) some
+
 -- where it ends
 pub record StepsOn (bytes : List ℕ) (end at count len : ℕ) : Type 0 where
   pub some : 0 < len
@@ -169,7 +169,7 @@ steps_on {c} {bytes} {line} {end} {at} {count} {n} {o} s =
     let b = s.next in
     let len = outline_long b.0 o s.told in
     let ends = n.ends in
-    let few = n.few in
+    let few = n.whole.lawful.head.some.1 in
     let many = n.many in
     let size = ap (λ (l : List Block). length (body_bytes l)) b.2 in
     record {
@@ -188,12 +188,7 @@ noted_on {c} {bytes} {line} {end} {at} {count} {n} {o} s =
     let many = n.many in
     let size = ap (λ (l : List Block). length (body_bytes l)) b.2 in
     record {
-      before = n.before;
-      frame = n.frame;
-      beyond = n.beyond;
-      stands = n.stands;
-      numbered = n.numbered;
-      few = n.few;
+      whole = n.whole;
       passed = n.passed ++ b.0 ∷ [];
       left = b.1;
       blocks = n.blocks ∙ ap (λ (l : List Block). n.passed ++ l) b.2 ∙ sym (append_assoc n.passed (b.0 ∷ []) b.1);
@@ -213,46 +208,52 @@ base_here (Delta page back ops) bytes rest parts is = absurd (let e = sym (ap (�
 base_here (Base leaf) bytes rest parts is = (leaf, refl)
 base_here (Split page back upper) bytes rest parts is = absurd (let e = sym (ap (λ (l : List ℕ). get_or l 0 0) parts) ∙ is in omega arith)
 
+-- it is the page
 base_read : (c : Contents) (fs : List Frame) (x : Frame) (xs : List Frame) (bs cs : List Block) (leaf : Leaf) (place : Place) → IsSound c
     → counted c ≡ fs ++ x ∷ xs → x.blocks ≡ bs ++ Base leaf ∷ cs → place ≡ record { frame = x.number; index = length bs }
     → place_of leaf.page (counted c) ≡ Some place → content leaf.page (blocks_of (counted c)) ≡ Some leaf
-base_read c fs x xs bs cs leaf place sound stands split at last =
+base_read c fs x xs bs cs leaf place sound stands split there last =
     ap (λ (l : List Frame). content leaf.page (blocks_of l)) stands
     ∙ base_found (first_number (counted c)) fs x xs bs cs leaf (subst (AreFrom (first_number (counted c))) stands sound.holds.numbered) split
-    (ap (place_of leaf.page) (sym stands) ∙ last ∙ ap (λ (p : Place). Some p) at)
+    (ap (place_of leaf.page) (sym stands) ∙ last ∙ ap (λ (p : Place). Some p) there)
 
-tells_by : {c : Contents} {bytes : List ℕ} {line : FrameAt} {end at count : ℕ} (n : Noting c bytes line end at count) (b : Block) (others : List Block)
-    (leaf : Leaf) (o : Outline) (place : Place) → IsSound c → n.left ≡ b ∷ others → b ≡ Base leaf → o ≡ outline_of b
-    → place ≡ record { frame = line.number; index = count } → (1 ≤ o.page → place_of o.page (counted c) ≡ Some place) → IsBaseOf c o.page (take o.len (drop at bytes))
-tells_by {c} {bytes} {line} {end} {at} {count} n b others leaf o place sound next is outlined there last =
-    let page : leaf.page ≡ o.page = sym (ap (λ (x : Outline). x.page) (outlined ∙ ap outline_of is)) in
-    let left : n.left ≡ Base leaf ∷ others = next ∙ ap (λ (x : Block). x ∷ others) is in
+tells_by : {c : Contents} {bytes : List ℕ} {line : FrameAt} {end at count : ℕ} (n : Noting c bytes line end at count) (leaf : Leaf) (others : List Block)
+    (o : Outline) (place : Place) → IsSound c → n.left ≡ Base leaf ∷ others → o ≡ outline_of (Base leaf)
+    → place ≡ record { frame = line.number; index = count } → place_of o.page (counted c) ≡ Some place
+    → IsBaseOf c o.page (take o.len (drop at bytes))
+tells_by {c} {bytes} {line} {end} {at} {count} n leaf others o place sound left told there last =
+    let frame = n.whole.frame in
+    let stands = n.whole.stands in
+    let base = block_bytes (Base leaf) in
+    let rest = body_bytes others in
+    let page : leaf.page ≡ o.page = sym (ap (λ (x : Outline). x.page) told) in
     let law : IsBlock c.m (Base leaf) = (subst (AllByRecursion (IsBlock c.m)) left n.laws).0 in
-    let some = law.page.0 in
-    let at_place : place ≡ record { frame = n.frame.number; index = length n.passed } =
-    there ∙ ap (λ (k : ℕ). let p : Place = record { frame = k; index = count } in p) n.numbered
-    ∙ ap (λ (k : ℕ). let p : Place = record { frame = n.frame.number; index = k } in p) (sym n.many) in
+    let here : place ≡ record { frame = frame.number; index = length n.passed } =
+    there ∙ ap (λ (k : ℕ). let p : Place = record { frame = k; index = count } in p) n.whole.numbered
+    ∙ ap (λ (k : ℕ). let p : Place = record { frame = frame.number; index = k } in p) (sym n.many) in
     record {
       leaf = leaf;
       read = record {
         page = page;
-        stands = base_read c n.before n.frame n.beyond n.passed others leaf place sound n.stands
-            (n.blocks ∙ ap (λ (l : List Block). n.passed ++ l) left) at_place
-            (ap (λ (p : ℕ). place_of p (counted c)) page ∙ last (omega arith));
+        stands = base_read c stands.before frame stands.beyond n.passed others leaf place sound stands.split
+            (n.blocks ∙ ap (λ (l : List Block). n.passed ++ l) left) here
+            (ap (λ (p : ℕ). place_of p (counted c)) page ∙ last);
         lawful = law;
       };
-      spelled = ap (take o.len) (n.parts ∙ ap (λ (l : List Block). body_bytes l ++ n.back) left ∙ append_assoc (block_bytes (Base leaf)) (body_bytes others) n.back)
-          ∙ take_at (block_bytes (Base leaf)) (body_bytes others ++ n.back) o.len (sym (outline_long (Base leaf) o (outlined ∙ ap outline_of is)));
+      spelled = ap (take o.len) (n.parts ∙ ap (λ (l : List Block). body_bytes l ++ n.back) left ∙ append_assoc base rest n.back)
+          ∙ take_at base (rest ++ n.back) o.len (sym (outline_long (Base leaf) o told));
     }
 
 pub spot_tells : {c : Contents} {bytes : List ℕ} {line : FrameAt} {end at count : ℕ} {n : Noting c bytes line end at count} {o : Outline} → Step n o
     → (place : Place) → IsSound c → place ≡ record { frame = line.number; index = count }
-    → get_or (take (length bytes - at) (drop at bytes)) 0 0 ≡ 2 → (1 ≤ o.page → place_of o.page (counted c) ≡ Some place)
+    → get_or (take (length bytes - at) (drop at bytes)) 0 0 ≡ 2 → place_of o.page (counted c) ≡ Some place
     → Tells c bytes o.page (record { at = at; len = o.len })
 spot_tells {c} {bytes} {line} {end} {at} {count} {n} {o} s place sound there first last =
     let b = s.next in
     let base = base_here b.0 (take (length bytes - at) (drop at bytes)) (body_bytes b.1 ++ n.back) (rest_is bytes at ∙ drop_parts n b) first in
+    let left : n.left ≡ Base base.0 ∷ b.1 = b.2 ∙ ap (λ (x : Block). x ∷ b.1) base.1 in
+    let told : o ≡ outline_of (Base base.0) = s.told ∙ ap outline_of base.1 in
     let on = steps_on s in
     let within = on.within in
     let long = on.long in
-    record { within = omega arith; holds = λ some. tells_by n b.0 b.1 base.0 o place sound b.2 base.1 s.told there last }
+    record { within = omega arith; holds = λ some. tells_by n base.0 b.1 o place sound left told there last }

@@ -193,6 +193,7 @@ spots_rest old now bytes spots pages i ps rest n moved are =
 
 -- ---- the pages
 
-pub page_here : (old now : Contents) (pages : List ℕ) (i d : ℕ) → now ≡ old → AllByRecursion (IsPage old) pages → i < length pages → IsPage now (get_or pages i d)
+pub page_here : (old now : Contents) (pages : List ℕ) (i d : ℕ) → now ≡ old → AllByRecursion (IsPage old) pages → i < length pages
+    → IsPage now (get_or pages i d)
 page_here old now pages i d same all inside =
     subst (λ (c : Contents). IsPage c (get_or pages i d)) (sym same) (each_of (IsPage old) pages i d all inside)

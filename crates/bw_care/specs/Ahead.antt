@@ -36,21 +36,22 @@ Puts c p old false new =
 abbrev pub IsWithin : List ℕ → Spot → Type 0
 IsWithin bytes s = s.at + s.len ≤ length bytes
 
+-- the bytes of a spot
 abbrev pub piece_at : List ℕ → Spot → List ℕ
 piece_at bytes s = take s.len (drop s.at bytes)
 
--- .. and is the page's Base, unless it is of no bytes
+-- a spot lies within these bytes, and its own are the page's Base, unless it has none
 pub record Tells (c : Contents) (bytes : List ℕ) (p : ℕ) (s : Spot) : Type 0 where
   pub within : IsWithin bytes s
   pub holds : 0 < s.len → IsBaseOf c p (piece_at bytes s)
 
--- so do these spots of these pages, one for each; a page behind the last spot has none
+-- so does each of these spots for its page; a page behind the last spot has none
 abbrev pub AreSpots : Contents → List ℕ → List Spot → List ℕ → Type 0
 AreSpots c bytes [] pages = Unit {0}
 AreSpots c bytes (s ∷ ss) [] = Unit {0}
 AreSpots c bytes (s ∷ ss) (p ∷ ps) = Tells c bytes p s × AreSpots c bytes ss ps
 
--- the piece at the spot of an index, which is not of no bytes
+-- these are the bytes of the spot of an index, one or more
 pub record IsPiece (bytes : List ℕ) (spots : List Spot) (i : ℕ) (piece : List ℕ) : Type 0 where
   pub spot : Spot
   pub there : slice_get spots i ≡ Some spot

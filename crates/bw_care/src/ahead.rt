@@ -5,8 +5,7 @@
 //! is read once, forwards, and it is noted where the last block of a page is its Base. All other
 //! pages are read by their links.
 
-ghost use Rattle.std.specs.Prelude.{◌≡◌, ◌≢◌, ◌+◌, ◌<◌, ◌≤◌, ◌↔◌, Some, None, Err, length, slice_get, slice_index, replicate, IfOk, IfSome, IsTrue};
-ghost use Rattle.std.specs.List.{AllByRecursion};
+ghost use Rattle.std.specs.Prelude.{◌≡◌, ◌≢◌, ◌<◌, ◌≤◌, ◌↔◌, Some, Err, length, slice_get, slice_index, replicate, IfOk, IfSome, IsTrue};
 ghost use Rattle.bw_log.specs.Contents.{counted};
 ghost use Rattle.bw_log.specs.Places as places;
 ghost use Rattle.bw_log.specs.Reads.{ReadStops};
@@ -83,8 +82,8 @@ fn oldest_bytes(alloc: Global, log: &mut Log) -> Result<Option<Vec<u8>>, LogFaul
 // Whether the last block that touches a page stands at a place.
 fn is_last(log: &Log, page: u32, place: Place) -> bool
     requires { IsSound log.now holding }
-    ensures { IsTrue result → 1 ≤ page
-        → places.place_of page (counted (seen log.now holding)) ≡ Some place }
+    ensures { 1 ≤ page → (IsTrue result
+        ↔ (places.place_of page (counted (seen log.now holding)) ≡ Some place)) }
 {
     match log.place_of(page) {
         Some(last) => last.frame == place.frame && last.index == place.index,
@@ -96,9 +95,8 @@ fn is_last(log: &Log, page: u32, place: Place) -> bool
 fn is_last_base(log: &Log, block: &[u8], page: u32, place: Place) -> bool
     requires sound { IsSound log.now holding }
     requires some { 0 < length block.now }
-    ensures base { IsTrue result → slice_index block.now 0 ≡ 2 }
-    ensures last { IsTrue result → 1 ≤ page
-        → places.place_of page (counted (seen log.now holding)) ≡ Some place }
+    ensures { 1 ≤ page → (IsTrue result ↔ ((slice_index block.now 0 ≡ 2)
+        × (places.place_of page (counted (seen log.now holding)) ≡ Some place))) }
 {
     block[0] == BASE && is_last(log, page, place)
 }

@@ -69,7 +69,8 @@ fn put_page(
     requires found { IfSome found (λ piece. IsBaseOf (seen log.old holding) page piece.now) }
     requires unsealed { buffer.old.is_sealed ≡ false }
     ensures sound { IsSound log.new holding }
-    ensures put { IfOk result (λ fits. Puts (seen log.old holding) page buffer.old fits buffer.new) }
+    ensures put { IfOk result (λ fits.
+        Puts (seen log.old holding) page buffer.old fits buffer.new) }
     ensures stops { ReadStops (λ _. Unit {0}) (seen log.old holding) result (seen log.new holding) }
     ensures paged { result ≢ Err LogFault.NoPage }
 {

@@ -14,5 +14,5 @@ loop-i-init g c = record {
 pub note_frame-requires-clause-line : goal.note_frame-requires-clause-line
 note_frame-requires-clause-line g c =
     let log = seen c.args.log.now (λ b. (goal.Segment-dyn g b).holding b.1) in
-    line_of log c.loop-i.i c.in-Some-line.line c.args.bytes.now c.requires.sound c.in-Some-line.ensures
-    (c.if-line-segment.false ∙ first_is log (slice_get log.live 0) c.in-Some.segment c.in-Some.field-0-1 c.in-Some.field-0-2 c.in-Some.ensures) c.requires.oldest
+    let first = first_is log (slice_get log.live 0) c.in-Some.segment c.in-Some.field-0-1 c.in-Some.field-0-2 c.in-Some.ensures in
+    line_of log c.loop-i.i c.in-Some-line.line c.args.bytes.now c.requires.sound c.in-Some-line.ensures (c.if-line-segment.false ∙ first) c.requires.oldest

@@ -1,5 +1,5 @@
 use Rattle.std.proofs.Common.{◌+◌, ◌∙◌, refl, arith}
-use Rattle.bw_care.proofs.FrameNoted.{noting_starts, step_of, steps_on, noted_on, spot_tells}
+use Rattle.bw_care.proofs.FrameNoted.{noting_starts, step_of, steps_on, page_told, noted_on, spot_tells}
 use Rattle.bw_care.proofs.ReadAhead.{note_tells}
 use Rattle.bw_care.proofs.ahead.note_frame.Goals.{then-is_last_base, else-is_last_base}
 use Rattle.bw_care.proofs.ahead.note_frame.Goals as goal
@@ -29,14 +29,14 @@ pub loop-at-preserved : goal.loop-at-preserved
 loop-at-preserved g c =
     let s = step_of c.loop-at.invariant.walk c.in-Some.outline c.requires.sound c.loop-at-test.true c.in-Some.ensures in
     elim c.if-is_last_base.branch [
-      | then-is_last_base w ↦ record {
-        many = c.if-is_last_base.auto.spots ∙ c.loop-at.invariant.many;
-        spots = rw w.spots-is (note_tells _ c.args.bytes.now c.loop-at.spots w.note.new.spots c.args.pages.now c.in-Some.outline.page _ w.note.ensures
-            c.loop-at.invariant.spots
-            (spot_tells s (record { frame = c.args.line.number; index = c.loop-at.index }) c.requires.sound refl (w.if-is_last_base.ensures.base refl)
-            (w.if-is_last_base.ensures.last refl)));
-        walk = noted_on s;
-      }
+      | then-is_last_base w ↦ (let told = (w.if-is_last_base.ensures (page_told s)).0 refl in
+          record {
+            many = c.if-is_last_base.auto.spots ∙ c.loop-at.invariant.many;
+            spots = rw w.spots-is (note_tells _ c.args.bytes.now c.loop-at.spots w.note.new.spots c.args.pages.now c.in-Some.outline.page _ w.note.ensures
+                c.loop-at.invariant.spots
+                (spot_tells s (record { frame = c.args.line.number; index = c.loop-at.index }) c.requires.sound refl told.0 told.1));
+            walk = noted_on s;
+          })
       | else-is_last_base w ↦ record {
         many = c.if-is_last_base.auto.spots ∙ c.loop-at.invariant.many;
         spots = rw w.spots-is c.loop-at.invariant.spots;
