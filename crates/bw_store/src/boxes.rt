@@ -59,9 +59,9 @@ impl Store {
     }
 
     /// Appends the bytes of the live segment with this number to a `Vec`; answers `false` where no
-    /// live segment has it. A refusal leaves the `Vec` as it was. It holds the segment in memory
-    /// once more while it reads. Refused `NoMemory`; `Device`, where the read failed: the next one
-    /// may not; `Spent`, where one more failure of that segment could not be counted.
+    /// live segment has it. A refusal leaves the `Vec` as it was. Refused `NoMemory`; `Device`,
+    /// where the read failed: the next one may not; `Spent`, where one more failure of that segment
+    /// could not be counted.
     pub fn dump(&mut self, segment: u64, out: &mut Vec<u8>) -> Result<bool, StoreFault>
         requires { IsSound self.old holding }
         ensures found { IfOk result (λ found.
