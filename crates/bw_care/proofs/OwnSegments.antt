@@ -51,6 +51,13 @@ live_rest m f n bytes live =
     ap (λ (b : List ℕ). (frames_at (length bytes) m f b).1) left
     ∙ ap (λ (r : List Frame × List ℕ). r.1) (frames_read (length bytes) m f fs live.cut (omega arith) (omega arith) live.whole.each live.whole.tail few)
 
+pub live_long : (m f n : ℕ) (bytes : List ℕ) → IsLive m f n bytes → 24 ≤ length bytes
+live_long m f n bytes live =
+    let h = head_of m f n in
+    let rest = flat_map frame_bytes (segment_frames bytes) ++ live.cut in
+    let size = ap (λ (b : List ℕ). length b) live.whole.parts in
+    omega (arith, size, length-header h, length-append (header_bytes h) rest)
+
 pub live_ends : (m f n : ℕ) (bytes : List ℕ) → IsLive m f n bytes → EndsInTail m f bytes
 live_ends m f n bytes live =
     let ms = live.whole.lawful.m in
