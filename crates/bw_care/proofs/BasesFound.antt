@@ -23,7 +23,7 @@ use Rattle.bw_care.proofs.OldPages.{all_after, any_placed, any_all_placed, set_w
 
 -- ---- the places behind a block
 
-above : (k n : ℕ) (ys : List Frame) → AreFrom n ys → k < n → AllByRecursion (λ f. k < f.number) ys
+pub above : (k n : ℕ) (ys : List Frame) → AreFrom n ys → k < n → AllByRecursion (λ f. k < f.number) ys
 above k n [] from less = tt
 above k n (y ∷ ys) from less = (let is = from.0 in omega arith, above k (n + 1) ys from.1 (omega arith))
 

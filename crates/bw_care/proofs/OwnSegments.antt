@@ -19,7 +19,7 @@ use Rattle.bw_log.proofs.Reread.{frames_read, frames_few}
 use Rattle.bw_care.specs.Behind.{EndsInTail}
 use Rattle.bw_care.specs.Scanning.{has_header, has_header_by, has_part, has_part_by, is_bare, rest_of, fault_by, fault_in}
 use Rattle.bw_care.specs.Recovery.{placed_by, in_order, number_in, segments_in, live_in, spares_in, parts_in, bytes_fault, bytes_fault_by, is_like, follow_on}
-use Rattle.bw_care.proofs.HeadersRead.{fault_whole}
+use Rattle.bw_care.proofs.HeadersRead.{header_long, fault_whole}
 use Rattle.bw_care.proofs.SortedOut.{header_is, bare_none, not_bare, keeps, drops, number_at}
 use Rattle.bw_care.proofs.TailsCounted.{bare_part}
 
@@ -50,6 +50,10 @@ live_rest m f n bytes live =
     omega (arith, size, frames_few fs, length-append (header_bytes h) rest, length-append (flat_map frame_bytes fs) live.cut) in
     ap (λ (b : List ℕ). (frames_at (length bytes) m f b).1) left
     ∙ ap (λ (r : List Frame × List ℕ). r.1) (frames_read (length bytes) m f fs live.cut (omega arith) (omega arith) live.whole.each live.whole.tail few)
+
+pub live_long : (m f n : ℕ) (bytes : List ℕ) → IsLive m f n bytes → 24 ≤ length bytes
+live_long m f n bytes live =
+    header_long bytes (head_of m f n) (live.whole.lawful, flat_map frame_bytes (segment_frames bytes) ++ live.cut, live.whole.parts)
 
 pub live_ends : (m f n : ℕ) (bytes : List ℕ) → IsLive m f n bytes → EndsInTail m f bytes
 live_ends m f n bytes live =

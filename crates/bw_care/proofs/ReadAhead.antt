@@ -1,7 +1,8 @@
 -- What was read ahead tells of pages, then and after other pages were written again.
 
 use Rattle.std.proofs.Common.{◌≡◌, ℕ, zero, suc, ◌+◌, ◌-◌, ◌<◌, nat_le, Bool, true, false, if◌then◌else◌, Option, Some, None, List, [], ◌∷◌, ◌++◌, length}
-use Rattle.std.proofs.Common.{Result, Ok, Err, is_ok, OnOk, OnErr, IsErrOf, IsTrue, ◌↔◌, take, drop, set, replicate, get_or, slice_get, IfSome, MatchOption, inl, inr, refl, sym, ap, subst, ◌∙◌, arith}
+use Rattle.std.proofs.Common.{Result, Ok, Err, is_ok, OnOk, OnErr, IsErrOf, IsTrue, ◌↔◌, take, drop, set, replicate, get_or, slice_get, IfSome, MatchOption}
+use Rattle.std.proofs.Common.{inl, inr, refl, sym, ap, subst, ◌∙◌, arith}
 use Rattle.std.specs.List.{AllByRecursion}
 use Rattle.std.proofs.lemmas.Bool.{le-leb}
 use Rattle.bw_codec.specs.Grammar.{block_bytes}
@@ -74,7 +75,7 @@ none_tell c bytes zero pages = tt
 none_tell c bytes (suc n) [] = tt
 none_tell c bytes (suc n) (p ∷ ps) = (record { within = omega arith; holds = λ some. absurd (omega arith) }, none_tell c bytes n ps)
 
-set_tell : (c : Contents) (bytes : List ℕ) (spots : List Spot) (pages : List ℕ) (i : ℕ) (s : Spot) → AreSpots c bytes spots pages
+pub set_tell : (c : Contents) (bytes : List ℕ) (spots : List Spot) (pages : List ℕ) (i : ℕ) (s : Spot) → AreSpots c bytes spots pages
     → Tells c bytes (get_or pages i 0) s → AreSpots c bytes (set spots i s) pages
 set_tell c bytes [] pages i s are one = tt
 set_tell c bytes (t ∷ ts) [] zero s are one = tt

@@ -1,16 +1,23 @@
--- Bases found ahead of a cleaning: stretches of the oldest segment's bytes that are pages as they stand.
+-- Bases found ahead of a cleaning: stretches of bytes that are pages as they stand.
 
-use Rattle.std.specs.Prelude.{ℕ, ◌+◌, ◌<◌, ◌≤◌, ◌≡◌, ◌⊎◌, Bool, true, false, Some, IfSome, List, [], ◌∷◌, ◌++◌, length, take, drop, slice_get, slice_index, slice_set}
+use Rattle.std.specs.Prelude.{ℕ, ◌+◌, ◌<◌, ◌≤◌, ◌≡◌, ◌⊎◌, Bool, true, false, Some, Option, IfSome, List, [], ◌∷◌, ◌++◌, length, take, drop, slice_get, slice_index, slice_set}
+use Rattle.std.specs.BTreeMap as tree
+use Rattle.std.specs.Ordering.{nat_cmp}
 use Rattle.bw_codec.specs.Grammar.{block_bytes, frame_bytes, IsBase, IsFrame}
+use Rattle.bw_codec.specs.declared.block.Block.{Block}
 use Rattle.bw_codec.specs.declared.block.Block.TheVariants.{Base}
 use Rattle.bw_codec.specs.declared.block.Frame.{Frame}
 use Rattle.bw_codec.specs.declared.leaf.Leaf.{Leaf}
 use Rattle.bw_buffer.specs.Filling.{Filling, size_of}
+use Rattle.bw_device.specs.Holding.{Holding}
 use Rattle.bw_page.specs.Standing.{content, blocks_of}
 use Rattle.bw_log.specs.Contents.{Contents, counted}
+use Rattle.bw_log.specs.Segments.{segment_frames}
 use Rattle.bw_log.specs.Walking.{StandsAt}
 use Rattle.bw_log.specs.declared.places.FrameAt.{FrameAt}
+use Rattle.bw_care.specs.Reading.{leaf_in}
 use Rattle.bw_care.specs.declared.ahead.Spot.{Spot}
+use Rattle.bw_care.specs.declared.reading.Line.{Line}
 
 -- this leaf is the page, as the counted frames leave it
 pub record PageRead (c : Contents) (p : ℕ) (leaf : Leaf) : Type 0 where
@@ -78,3 +85,26 @@ pub record IsLineOf (c : Contents) (bytes : List ℕ) (line : FrameAt) : Type 0 
   pub within : line.at + line.len ≤ length bytes
   pub spelled : take line.len (drop line.at bytes) ≡ frame_bytes frame
   pub numbered : line.number ≡ frame.number
+
+-- ---- pages of the oldest segment, decoded
+
+-- the frames of the first of these segments
+abbrev pub oldest_frames : List Holding → List Frame
+oldest_frames [] = []
+oldest_frames (h ∷ hs) = segment_frames h.bytes
+
+-- a leaf that a map has of a page is the page as these blocks leave it
+abbrev pub Says : List Block → tree.BTreeMap ℕ Line → Type 0
+Says blocks lines = (p : ℕ) (leaf : Leaf) → leaf_in (tree.get nat_cmp lines p) ≡ Some leaf → content p blocks ≡ Some leaf
+
+-- no leaf but those that were there
+abbrev pub IsPart : tree.BTreeMap ℕ Line → tree.BTreeMap ℕ Line → Type 0
+IsPart old new = (p : ℕ) (leaf : Leaf) → leaf_in (tree.get nat_cmp new p) ≡ Some leaf → leaf_in (tree.get nat_cmp old p) ≡ Some leaf
+
+-- this leaf was spelled as a Base behind bytes, in the spot
+pub record IsSpelled (o : Option Leaf) (old new : List ℕ) (s : Spot) : Type 0 where
+  pub leaf : Leaf
+  pub there : o ≡ Some leaf
+  pub added : new ≡ old ++ block_bytes (Base leaf)
+  pub at : s.at ≡ length old
+  pub len : s.len ≡ length (block_bytes (Base leaf))

@@ -1,22 +1,39 @@
 //! Pages found ahead: one pass over the oldest segment finds most of what a cleaning writes again.
 //!
-//! Many old pages stand in each frame of the oldest segment, and of most of them the last block is
-//! a Base. Such a Base is written again as the bytes that it is, with no decoding. So the segment
-//! is read once, forwards, and it is noted where the last block of a page is its Base. All other
-//! pages are read by their links.
+//! Many old pages stand in each frame of the oldest segment. Read one by one, by the links back, a
+//! frame would be read once for each of them. So the segment is read once, forwards, and it is noted
+//! where the last block of a page is its Base. Such a Base is written again as the bytes that it
+//! is, with no decoding. If there are pages whose last block stands there and is no Base, the
+//! segment is decoded once, and each of them is spelled as a Base behind its bytes. A page that a
+//! later frame touches is read by its links.
 
-ghost use Rattle.std.specs.Prelude.{◌≡◌, ◌≢◌, ◌<◌, ◌≤◌, ◌↔◌, Some, Err, length, slice_get, slice_index, replicate, IfOk, IfSome, IsTrue};
+ghost use Rattle.std.specs.Prelude.{◌≡◌, ◌≢◌, ◌<◌, ◌≤◌, ◌↔◌, Some, None, Err, true, false, length, slice_get, slice_index, replicate, IfOk, IfSome, IsTrue};
+ghost use Rattle.std.specs.List.{AllByRecursion};
+ghost use Rattle.std.specs.BTreeMap as tree;
+ghost use Rattle.std.specs.Ordering.{nat_cmp};
+ghost use Rattle.bw_codec.specs.Grammar.{IsBlock};
+ghost use Rattle.bw_codec.specs.declared.block.Block.TheVariants.{Base};
+ghost use Rattle.bw_codec.specs.declared.leaf.Leaf.{Leaf as LeafValue};
+ghost use Rattle.bw_page.specs.Standing.{blocks_of};
 ghost use Rattle.bw_log.specs.Contents.{counted};
 ghost use Rattle.bw_log.specs.Places as places;
-ghost use Rattle.bw_log.specs.Reads.{ReadStops};
+ghost use Rattle.bw_log.specs.Reads.{IsPage, ReadStops};
 ghost use Rattle.bw_care.specs.Ahead.{AreSpots, IsLineOf, IsNoted, IsOldest, IsWithin, IsPiece};
+ghost use Rattle.bw_care.specs.Ahead.{oldest_frames, Says, IsPart, IsSpelled};
+ghost use Rattle.bw_care.specs.Behind.{frames_behind, EndsInTail};
+ghost use Rattle.bw_care.specs.Cleaning.{is_old, oldest_last};
+ghost use Rattle.bw_care.specs.Reading.{leaf_in};
 ghost use Rattle.bw_care.specs.Views.{seen, IsSound};
 
+use crate::forward::read_segment;
+use crate::moving::{is_old, last_old};
+use crate::reading::{Line, take_line};
 use bw_codec::limits::HEAD_LEN;
-use bw_codec::{Outline, Place};
+use bw_codec::{Block, Outline, Place, encode_block};
 use bw_device::Segment;
 use bw_log::{FrameAt, Log, LogFault};
 use std::alloc::{AllocError, Global};
+use std::collections::BTreeMap;
 
 /// The most bytes of a segment that is read ahead: the pages of a longer one are read one by one.
 const MOST_AHEAD: u64 = 16_777_216;
@@ -24,7 +41,8 @@ const MOST_AHEAD: u64 = 16_777_216;
 /// The first byte of a Base.
 const BASE: u8 = 2;
 
-/// A stretch of the bytes that were read ahead; of no bytes where there is none.
+/// A stretch of the bytes that were read ahead, or of those spelled behind them; of no bytes where
+/// there is none.
 #[derive(Clone, Copy)]
 pub(crate) struct Spot {
     pub(crate) at: usize,
@@ -34,7 +52,7 @@ pub(crate) struct Spot {
 /// What was read ahead for a list of pages.
 #[derive(Drop)]
 pub(crate) struct Ahead {
-    /// The bytes of the oldest segment, or none.
+    /// The bytes of the oldest segment, and behind them the Bases that were spelled; or none.
     pub(crate) bytes: Vec<u8>,
     /// For each page the spot where its Base stands in them; no spots where nothing was read.
     pub(crate) spots: Vec<Spot>,
@@ -156,7 +174,8 @@ fn find_spots(
     requires sound { IsSound log.now holding }
     requires some { 0 < length (seen log.now holding).live }
     requires oldest { IsOldest (seen log.now holding) bytes.now }
-    ensures { IfOk result (λ spots.
+    ensures many { IfOk result (λ spots. length spots.items ≡ length pages.now) }
+    ensures spots { IfOk result (λ spots.
         AreSpots (seen log.now holding) bytes.now spots.items pages.now) }
 {
     let Some((segment, _, _)) = log.live_segment(0) else {
@@ -176,12 +195,113 @@ fn find_spots(
     Ok(spots)
 }
 
-/// Where the pages' Bases stand in the oldest segment, which is read once. A page has no spot where
-/// a later block touches it or its last block is no Base, and none has one where the segment is
+// Each page as the frames behind a header leave it; none where memory for them is refused.
+fn pages_in(alloc: Global, bytes: &[u8], m: u16, f: u32) -> BTreeMap<u32, Line>
+    requires long { 24 ≤ length bytes.now }
+    requires lawful { EndsInTail m f bytes.now }
+    ensures { Says (blocks_of (frames_behind m f bytes.now)) result }
+{
+    let mut lines = BTreeMap::new(alloc);
+    // The links back may lead to segments that were given up: so before any frame at all.
+    match read_segment(alloc, &mut lines, u64::MAX, bytes, m, f) {
+        Ok(()) => lines,
+        Err(_) => BTreeMap::new(alloc),
+    }
+}
+
+// Whether a page has no spot, and the last block that touches it stands in the frames up to this.
+fn is_wanted(log: &Log, last: u64, spot: Spot, page: u32) -> bool
+    requires { IsSound log.now holding }
+    ensures { 1 ≤ page → IsTrue result
+        → is_old last (places.place_of page (counted (seen log.now holding))) ≡ true }
+{
+    spot.len == 0 && is_old(last, log.place_of(page))
+}
+
+fn is_some_wanted(log: &Log, last: u64, spots: &[Spot], pages: &[u32]) -> bool
+    requires sound { IsSound log.now holding }
+    requires many { length spots.now ≡ length pages.now }
+{
+    for at in 0..pages.len() {
+        if is_wanted(log, last, spots[at], pages[at]) {
+            return true;
+        }
+    }
+    false
+}
+
+// Takes a page out of the map and spells it as a Base behind the bytes; none where the map does not
+// have it or memory is refused.
+fn spell(lines: &mut BTreeMap<u32, Line>, page: u32, bytes: &mut Vec<u8>) -> Option<Spot>
+    requires { (leaf : LeafValue) → leaf_in (tree.get nat_cmp lines.old page) ≡ Some leaf
+        → IsBlock 32 (Base leaf) }
+    ensures part { IsPart lines.old lines.new }
+    ensures none { result ≡ None → bytes.new.items ≡ bytes.old.items }
+    ensures some { IfSome result (λ spot. IsSpelled (leaf_in (tree.get nat_cmp lines.old page))
+        bytes.old.items bytes.new.items spot) }
+{
+    let (_, leaf) = take_line(lines, page);
+    let at = bytes.len();
+    encode_block(&Block::Base(leaf?), bytes).ok()?;
+    let len = bytes.len() - at;
+    Some(Spot { at, len })
+}
+
+// Spells the wanted pages behind the bytes, until memory is refused.
+fn spell_wanted(
+    log: &Log,
+    last: u64,
+    lines: &mut BTreeMap<u32, Line>,
+    bytes: &mut Vec<u8>,
+    spots: &mut [Spot],
+    pages: &[u32],
+)
+    requires sound { IsSound log.now holding }
+    requires works { (seen log.now holding).is_failed ≡ false }
+    requires last { last ≡ oldest_last (seen log.now holding) (seen log.now holding).live }
+    requires pages { AllByRecursion (IsPage (seen log.now holding)) pages.now }
+    requires says { Says (blocks_of (oldest_frames (seen log.now holding).live)) lines.old }
+    requires many { length spots.old ≡ length pages.now }
+    requires spots { AreSpots (seen log.now holding) bytes.old.items spots.old pages.now }
+    ensures { AreSpots (seen log.now holding) bytes.new.items spots.new pages.now }
+{
+    for at in 0..pages.len() {
+        if is_wanted(log, last, spots[at], pages[at]) {
+            match spell(lines, pages[at], bytes) {
+                Some(spot) => spots[at] = spot,
+                None => return,
+            }
+        }
+    }
+}
+
+// Spells behind the bytes of the oldest segment each page whose last block stands there and is no
+// Base. If there is one, the segment is decoded once.
+fn spell_rest(alloc: Global, log: &Log, bytes: &mut Vec<u8>, spots: &mut [Spot], pages: &[u32])
+    requires sound { IsSound log.now holding }
+    requires works { (seen log.now holding).is_failed ≡ false }
+    requires some { 0 < length (seen log.now holding).live }
+    requires pages { AllByRecursion (IsPage (seen log.now holding)) pages.now }
+    requires oldest { IsOldest (seen log.now holding) bytes.old.items }
+    requires many { length spots.old ≡ length pages.now }
+    requires spots { AreSpots (seen log.now holding) bytes.old.items spots.old pages.now }
+    ensures { AreSpots (seen log.now holding) bytes.new.items spots.new pages.now }
+{
+    let last = last_old(log);
+    if is_some_wanted(log, last, spots, pages) {
+        let mut lines = pages_in(alloc, bytes, log.m(), log.limit());
+        spell_wanted(log, last, &mut lines, bytes, spots, pages);
+    }
+}
+
+/// Where the pages' Bases stand: in the oldest segment, which is read once, or spelled behind its
+/// bytes. A page has no spot where a later frame touches it, and none has one where the segment is
 /// longer than 16 MiB or memory is refused.
 pub(crate) fn read_ahead(alloc: Global, log: &mut Log, pages: &[u32]) -> Result<Ahead, LogFault>
     requires sound { IsSound log.old holding }
+    requires works { (seen log.old holding).is_failed ≡ false }
     requires some { 0 < length (seen log.old holding).live }
+    requires pages { AllByRecursion (IsPage (seen log.old holding)) pages.now }
     ensures ahead { IfOk result (λ ahead.
         AreSpots (seen log.old holding) ahead.bytes.items ahead.spots.items pages.now) }
     ensures sound { IsSound log.new holding }
@@ -195,11 +315,12 @@ pub(crate) fn read_ahead(alloc: Global, log: &mut Log, pages: &[u32]) -> Result<
     if pages.is_empty() {
         return Ok(none);
     }
-    match oldest_bytes(alloc, log)? {
-        None => Ok(none),
-        Some(bytes) => match find_spots(alloc, log, &bytes, pages) {
-            Ok(spots) => Ok(Ahead { bytes, spots }),
-            Err(_) => Ok(none),
-        },
-    }
+    let Some(mut bytes) = oldest_bytes(alloc, log)? else {
+        return Ok(none);
+    };
+    let Ok(mut spots) = find_spots(alloc, log, &bytes, pages) else {
+        return Ok(none);
+    };
+    spell_rest(alloc, log, &mut bytes, &mut spots, pages);
+    Ok(Ahead { bytes, spots })
 }

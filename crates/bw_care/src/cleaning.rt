@@ -40,12 +40,16 @@ pub struct Cleaned {
 /// E1, E5 and a failed read it may be called again; where an append failed, the log is Failed.
 ///
 /// It costs a look at each page's line in memory, and four bytes for each old page. Where a page is
-/// old, the oldest segment is read once, and its bytes are held in memory, with sixteen more for
-/// each old page, until all are written again. An old page whose last block of all is a Base in
-/// that segment is copied as the bytes of this Base. Each other old page costs what `read_page` does
-/// (each frame with a block of that page since its last setting one is read whole), and so does
-/// each old page of a segment of more than 16 MiB, or where memory for reading ahead is refused.
-/// Then come the bytes of the new frames.
+/// old, the oldest segment is read once. An old page whose last block of all is its Base there is
+/// copied as the bytes of this Base. If there are others whose last block stands there, the segment
+/// is decoded once, and these are spelled again behind its bytes. The segment's bytes stand in
+/// memory until all pages are written, with sixteen more for each old page and the bytes of those
+/// spelled; while it is decoded, so do all the pages that it touches.
+///
+/// An old page that a later frame touches costs what `read_page` does (each frame with a block of
+/// that page since its last setting one is read whole), and so does each old page of a segment of
+/// more than 16 MiB, or where memory for reading ahead is refused. Then come the bytes of the new
+/// frames.
 pub fn clean(alloc: Global, log: &mut Log) -> Result<Cleaned, CleanFault>
     requires { IsSound log.old holding }
     ensures sound { IsSound log.new holding }

@@ -16,8 +16,8 @@ use bw_device::Segment;
 use bw_log::{Log, LogFault};
 use std::alloc::{AllocError, Global};
 
-// Whether a place, if there is one, stands in the frames up to this one.
-fn is_old(last: u64, place: Option<Place>) -> bool
+/// Whether a place, if there is one, stands in the frames up to this one.
+pub(crate) fn is_old(last: u64, place: Option<Place>) -> bool
     ensures { result ≡ is_old last place }
 {
     match place {
@@ -26,8 +26,8 @@ fn is_old(last: u64, place: Option<Place>) -> bool
     }
 }
 
-// The number of the last frame in the oldest segment, or 0 where it has none.
-fn last_old(log: &Log) -> u64
+/// The number of the last frame in the oldest segment, or 0 where it has none.
+pub(crate) fn last_old(log: &Log) -> u64
     requires sound { IsSound log.now holding }
     requires some { 0 < length (seen log.now holding).live }
     ensures { result ≡ oldest_last (seen log.now holding) (seen log.now holding).live }

@@ -1,7 +1,16 @@
-use Rattle.std.proofs.Common.{Err, ap}
+use Rattle.std.proofs.Common.{Err, sym, ap, subst}
+use Rattle.std.specs.List.{AllByRecursion}
 use Rattle.std.proofs.lemmas.Result.{err_from_is_err_and}
+use Rattle.bw_log.specs.Reads.{IsPage}
+use Rattle.bw_care.specs.Views.{seen}
 use Rattle.bw_care.proofs.CleaningSteps.{stopped_first, fill_refused}
+use Rattle.bw_care.proofs.OldPages.{old_are_pages}
 use Rattle.bw_care.proofs.moving.move_pages.Goals as goal
+
+pub read_ahead-requires-clause-pages : goal.read_ahead-requires-clause-pages
+read_ahead-requires-clause-pages g c =
+    let log = seen c.args.log.now (λ b. (goal.Segment-dyn g b).holding b.1) in
+    subst (AllByRecursion (IsPage log)) (sym c.requires.pages) (old_are_pages log)
 
 pub returns-in_err-ahead-clause-refused : goal.returns-in_err-ahead-clause-refused
 returns-in_err-ahead-clause-refused g c =
