@@ -12,6 +12,8 @@ mod writers;
 use bw_script::{Host, run};
 use std::alloc::{AllocError, Global};
 use std::io::Read;
+use std::process::Abort;
+use std::test::*;
 
 /// One run of the program, with what it has to answer.
 #[derive(Drop)]
@@ -37,7 +39,7 @@ enum Row {
     NoParse(&'static [&'static str]),
 }
 
-const PLAIN: [&str; 1] = ["replay"];
+const PLAIN: &[&str] = &["replay"];
 
 /// Whether what was written is as told.
 fn are_so(printed: &[u8], output: &str, told: &[u8], errors: &str) -> bool {
@@ -58,6 +60,18 @@ fn ends<R: Host, I: Read>(
     let answer = run(rt, words, input, &mut printed, &mut told);
     let are_so = are_so(printed.as_slice(), output, told.as_slice(), errors);
     are_so & (answer == status)
+}
+
+/// The same over a text.
+fn text_ends<R: Host>(
+    rt: &R,
+    words: &[&str],
+    script: &str,
+    status: u8,
+    output: &str,
+    errors: &str,
+) -> bool {
+    ends(rt, words, &mut script.as_bytes(), status, output, errors)
 }
 
 /// Whether words are answered with status 2, nothing printed and something told.
@@ -116,33 +130,53 @@ fn flush_answers<R: Host>(
     Ok(prints_last(rt, words, script.as_slice(), output))
 }
 
+/// Whether a script of so many times a byte between two texts ends so.
+fn long_ends<R: Host>(
+    rt: &R,
+    (before, byte, count, after): (&str, u8, usize, &str),
+    status: u8,
+    output: &str,
+    errors: &str,
+) -> Result<bool, AllocError> {
+    let script = around(rt.alloc(), before, byte, count, after)?;
+    Ok(ends(rt, PLAIN, &mut script.as_slice(), status, output, errors))
+}
+
+/// Whether a script of so many times a line ends so, with nothing told.
+fn repeated_ends<R: Host>(
+    rt: &R,
+    words: &[&str],
+    line: &str,
+    count: usize,
+    status: u8,
+    output: &str,
+) -> Result<bool, AllocError> {
+    let script = repeated(rt.alloc(), line.as_bytes(), count, "")?;
+    Ok(ends(rt, words, &mut script.as_slice(), status, output, ""))
+}
+
 /// Whether the row goes as told.
 fn goes<R: Host>(rt: &R, row: &Row) -> Result<bool, AllocError> {
     match row {
         Row::Prints(script, status, output) => {
-            Ok(ends(rt, &PLAIN, &mut script.as_bytes(), *status, output, ""))
+            Ok(text_ends(rt, PLAIN, script, *status, output, ""))
         }
-        Row::Fault(script, output, errors) => {
-            Ok(ends(rt, &PLAIN, &mut script.as_bytes(), 3, output, errors))
-        }
+        Row::Fault(script, output, errors) => Ok(text_ends(rt, PLAIN, script, 3, output, errors)),
         Row::Long(before, byte, count, after, output) => {
-            let script = around(rt.alloc(), before, *byte, *count, after)?;
-            Ok(ends(rt, &PLAIN, &mut script.as_slice(), 0, output, ""))
+            long_ends(rt, (before, *byte, *count, after), 0, output, "")
         }
         Row::LongFault(before, byte, count, after, errors) => {
-            let script = around(rt.alloc(), before, *byte, *count, after)?;
-            Ok(ends(rt, &PLAIN, &mut script.as_slice(), 3, "", errors))
+            long_ends(rt, (before, *byte, *count, after), 3, "", errors)
         }
         Row::Records(words, count, output) => flush_answers(rt, words, *count, output),
         Row::Under(words, script, status, output) => {
-            Ok(ends(rt, words, &mut script.as_bytes(), *status, output, ""))
+            Ok(text_ends(rt, words, script, *status, output, ""))
         }
         Row::UnderFault(words, script, errors) => {
-            Ok(ends(rt, words, &mut script.as_bytes(), 3, "", errors))
+            Ok(text_ends(rt, words, script, 3, "", errors))
         }
         Row::Repeated(words, line, count, status, output) => {
-            let script = repeated(rt.alloc(), line.as_bytes(), *count, "")?;
-            Ok(ends(rt, words, &mut script.as_slice(), *status, output, ""))
+            repeated_ends(rt, words, line, *count, *status, output)
         }
         Row::NoParse(words) => Ok(is_no_parse(rt, words)),
     }
@@ -156,4 +190,11 @@ fn walked<R: Host>(rt: &R, rows: &[Row]) -> Result<usize, AllocError> {
         }
     }
     Ok(rows.len())
+}
+
+/// All rows go as told.
+fn go_as_told<R: Host + Abort>(rt: &R, rows: &[Row]) -> Result<(), Fail> {
+    let went = walked(rt, rows)?;
+    assert_eq!(rt; went, rows.len());
+    Ok(())
 }

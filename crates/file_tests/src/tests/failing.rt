@@ -5,16 +5,15 @@ use super::steps::Act::{
     Append, Copy, Empty, Holds, Leave, Look, Open, Segment, Spare, Stop, Write,
 };
 use super::steps::Told::{Done, System};
-use super::steps::{Act, Row, at, goes, walked};
+use super::steps::{Act, Row, Stand, Told, at, clear, goes, walked};
 use super::watched::Watched;
-use std::fs;
 use std::test::Fail;
 
 /// A step, what goes before it, how many calls it makes, and what goes after one of them failed.
 #[derive(Drop)]
 struct Trial(&'static [Row], Act, u64, &'static [Row]);
 
-const TRIALS: [Trial; 7] = [
+const TRIALS: &[Trial] = &[
     Trial(&[], Open, 6, &[Row(Open, Done, "doaool")]),
     Trial(
         &[
@@ -89,22 +88,50 @@ const TRIALS: [Trial; 7] = [
     ),
 ];
 
+fn all_go(rt: &Watched<HostRuntime>, stand: &mut Stand, rows: &[Row]) -> Result<bool, Fail> {
+    Ok(walked(rt, stand, rows)? == rows.len())
+}
+
+// How the step goes where its call of this number fails.
+fn went(
+    rt: &Watched<HostRuntime>,
+    stand: &mut Stand,
+    act: &Act,
+    number: u64,
+) -> Result<Told, Fail> {
+    rt.watch().fail_after(number, 0);
+    let went = goes(rt, stand, act)?;
+    rt.watch().heal();
+    rt.watch().take_letters();
+    Ok(went)
+}
+
 // Whether the step is told as the system's fault where the call of this number fails, and is done
 // where no call has this number.
-fn is_told(rt: HostRuntime, path: &'static str, trial: &Trial, number: u64) -> Result<bool, Fail> {
-    let _ = fs::remove_dir_all(&rt, path);
-    let watched = Watched::new(rt)?;
-    let mut stand = at(path);
+fn is_fault(
+    rt: &Watched<HostRuntime>,
+    stand: &mut Stand,
+    trial: &Trial,
+    number: u64,
+) -> Result<bool, Fail> {
     let Trial(before, act, calls, after) = trial;
-    let made = walked(&watched, &mut stand, *before)? == before.len();
-    watched.watch().fail_after(number, 0);
-    let went = goes(&watched, &mut stand, act)?;
-    watched.watch().heal();
-    watched.watch().take_letters();
+    let made = all_go(rt, stand, *before)?;
+    let went = went(rt, stand, act, number)?;
     if number == *calls {
         return Ok(made && went == Done);
     }
-    Ok(made && went == System && walked(&watched, &mut stand, *after)? == after.len())
+    if !made || went != System {
+        return Ok(false);
+    }
+    all_go(rt, stand, *after)
+}
+
+// The same in a folder of its own.
+fn is_told(rt: HostRuntime, path: &'static str, trial: &Trial, number: u64) -> Result<bool, Fail> {
+    clear(rt, path);
+    let watched = Watched::new(rt)?;
+    let mut stand = at(path);
+    is_fault(&watched, &mut stand, trial, number)
 }
 
 // How many of the calls were told before one was not.
@@ -114,7 +141,7 @@ fn each_is_told(rt: HostRuntime, path: &'static str, trial: &Trial) -> Result<u6
             return Ok(number);
         }
     }
-    let _ = fs::remove_dir_all(&rt, path);
+    clear(rt, path);
     Ok(99)
 }
 

@@ -7,14 +7,14 @@ use super::steps::Act::{
     NoFile, Open, Segment, Spare, Stop, Write,
 };
 use super::steps::Told::{BadConfig, Done, InUse, No, System, TooLong};
-use super::steps::{Act, Row, at, goes, walked};
+use super::steps::{Act, Row, at, clear, walked};
 use super::watched::Watched;
 use bw_device::MAX_CAPACITY;
-use std::fs;
+use std::process::Abort;
 use std::test::Fail;
 
 /// What was appended is there again after a stop, twice, and none of it after the file was emptied.
-const KEPT: [Row; 27] = [
+const KEPT: &[Row] = &[
     Row(Open, Done, "doaool"),
     Row(Segment(0, 64), Done, "olama"),
     Row(Holds(0, "", 0), Done, ""),
@@ -46,7 +46,7 @@ const KEPT: [Row; 27] = [
 
 /// Limits are looked at before any file, a length before any byte; a file may be longer than the
 /// capacity that is asked for.
-const LIMITS: [Row; 17] = [
+const LIMITS: &[Row] = &[
     Row(Open, Done, "doaool"),
     Row(Segment(0, 0), BadConfig, ""),
     Row(Segment(0, MAX_CAPACITY + 1), BadConfig, ""),
@@ -67,7 +67,7 @@ const LIMITS: [Row; 17] = [
 ];
 
 /// A folder is open once: as long as it or a segment of it stands, and beside no reader.
-const ONCE: [Row; 18] = [
+const ONCE: &[Row] = &[
     Row(Look, System, "p"),
     Row(Empty(0), No, ""),
     Row(Open, Done, "doaool"),
@@ -89,7 +89,7 @@ const ONCE: [Row; 18] = [
 ];
 
 /// A reader makes no file and writes none, also where the folder was never opened.
-const READ: [Row; 14] = [
+const READ: &[Row] = &[
     Row(Make, Done, ""),
     Row(Write("segment-0000.bw", "abc"), Done, ""),
     Row(Look, Done, "po"),
@@ -108,7 +108,7 @@ const READ: [Row; 14] = [
 
 /// After a failed append each later one fails, in every segment of the folder and without a call,
 /// until the folder is opened again: what the file kept of the piece is then there.
-const CLOSED: [Row; 24] = [
+const CLOSED: &[Row] = &[
     Row(Open, Done, "doaool"),
     Row(Segment(0, 64), Done, "olama"),
     Row(Segment(1, 64), Done, "olama"),
@@ -136,7 +136,7 @@ const CLOSED: [Row; 24] = [
 ];
 
 /// A sync that fails: the copy has nothing of the piece, and the file, opened again, has it.
-const UNSYNCED: [Row; 10] = [
+const UNSYNCED: &[Row] = &[
     Row(Open, Done, "doaool"),
     Row(Segment(0, 64), Done, "olama"),
     Row(Failing(1, 0), Done, ""),
@@ -150,7 +150,7 @@ const UNSYNCED: [Row; 10] = [
 ];
 
 /// A device that is full: the system's own refusal of a write.
-const FULL: [Row; 9] = [
+const FULL: &[Row] = &[
     Row(Open, Done, "doaool"),
     Row(Segment(0, 64), Done, "olama"),
     Row(Append(0, "abc"), Done, "ws"),
@@ -162,35 +162,42 @@ const FULL: [Row; 9] = [
     Row(File("segment-0000.bw", "abc"), Done, ""),
 ];
 
-// How many of the rows went as told before one did not, in a folder of their own.
+// How many of the rows went as told before one did not, where nothing stands yet.
 fn told(rt: HostRuntime, path: &'static str, rows: &[Row]) -> Result<usize, Fail> {
-    let _ = fs::remove_dir_all(&rt, path);
     let watched = Watched::new(rt)?;
     let mut stand = at(path);
-    let went = walked(&watched, &mut stand, rows)?;
-    drop(stand);
-    let _ = fs::remove_dir_all(&rt, path);
-    Ok(went)
+    walked(&watched, &mut stand, rows)
+}
+
+// Each of the rows goes as told, in a folder of their own.
+fn go_as_told<R: Abort>(
+    test: &R,
+    rt: HostRuntime,
+    path: &'static str,
+    rows: &[Row],
+) -> Result<(), Fail> {
+    clear(rt, path);
+    let went = told(rt, path, rows)?;
+    clear(rt, path);
+    assert_eq!(test; went, rows.len(), "in {path}");
+    Ok(())
 }
 
 #[test]
 fn what_was_appended_is_there_again(rt: HostRuntime) -> Result<(), Fail> {
-    assert_eq!(rt; told(rt, "kept", &KEPT)?, KEPT.len());
-    assert_eq!(rt; told(rt, "limits", &LIMITS)?, LIMITS.len());
-    Ok(())
+    go_as_told(&rt, rt, "kept", KEPT)?;
+    go_as_told(&rt, rt, "limits", LIMITS)
 }
 
 #[test]
 fn a_folder_is_open_once_and_a_reader_writes_nothing(rt: HostRuntime) -> Result<(), Fail> {
-    assert_eq!(rt; told(rt, "once", &ONCE)?, ONCE.len());
-    assert_eq!(rt; told(rt, "read", &READ)?, READ.len());
-    Ok(())
+    go_as_told(&rt, rt, "once", ONCE)?;
+    go_as_told(&rt, rt, "read", READ)
 }
 
 #[test]
 fn a_failed_append_closes_its_folder(rt: HostRuntime) -> Result<(), Fail> {
-    assert_eq!(rt; told(rt, "closed", &CLOSED)?, CLOSED.len());
-    assert_eq!(rt; told(rt, "unsynced", &UNSYNCED)?, UNSYNCED.len());
-    assert_eq!(rt; told(rt, "full", &FULL)?, FULL.len());
-    Ok(())
+    go_as_told(&rt, rt, "closed", CLOSED)?;
+    go_as_told(&rt, rt, "unsynced", UNSYNCED)?;
+    go_as_told(&rt, rt, "full", FULL)
 }

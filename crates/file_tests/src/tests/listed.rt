@@ -5,7 +5,7 @@ use std::fs;
 use std::test::Fail;
 
 /// Names of three leases, of none of a desk's, and of other files.
-const NAMES: [&str; 11] = [
+const NAMES: &[&str] = &[
     "segment-0007.bw",
     "segment-4095.bw",
     "segment-0000.bw",
@@ -19,10 +19,14 @@ const NAMES: [&str; 11] = [
     "notes",
 ];
 
+fn write_one(rt: &HostRuntime, path: &str, name: &str) -> Result<(), Fail> {
+    let file = format!(in rt.alloc(); "{path}/{name}")?;
+    Ok(fs::write(rt, file.as_str(), "")?)
+}
+
 fn write_all(rt: &HostRuntime, path: &str) -> Result<(), Fail> {
     for name in NAMES {
-        let file = format!(in rt.alloc(); "{path}/{name}")?;
-        fs::write(rt, file.as_str(), "")?;
+        write_one(rt, path, name)?;
     }
     Ok(())
 }

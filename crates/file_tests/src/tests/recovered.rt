@@ -2,11 +2,13 @@
 
 ghost use Rattle.bw_care.specs.Views.{IsSound};
 
+use super::steps::clear;
 use super::watched::{Watched, WatchedFile};
 use bw_care::{RecoverCause, Recovered, recover};
 use bw_codec::Leaf;
 use bw_device::{Desk, Segment};
 use bw_file::Folder;
+use std::alloc::Global;
 use std::fs;
 use std::test::Fail;
 
@@ -54,7 +56,7 @@ const ABCD: &[(&str, &str)] = &[("a", "1"), ("b", "2"), ("c", "3"), ("d", "4")];
 
 /// Files whole, torn at the end, without a frame, with a part of a header, and with bytes that are
 /// no segment's.
-const WORKED: [Row; 9] = [
+const WORKED: &[Row] = &[
     Row(&[Piece(FIRST, 76)], Found(1, 1, 0, 1, 0, 0, KV)),
     Row(&[Piece(SECOND, 288)], Found(1, 4, 80, 1, 0, 0, ABCD)),
     Row(
@@ -106,12 +108,10 @@ fn add_box(
     boxes: &mut Vec<Box<dyn Segment>>,
 ) -> Result<(), Fail> {
     let segment = folder.segment(rt, desk.take()?, 16_408)?;
-    boxes.push(Box::new(rt.alloc(), segment)?)?;
-    Ok(())
+    Ok(boxes.push(Box::new(rt.alloc(), segment)?)?)
 }
 
-/// Boxes over the files of leases 0 to n - 1.
-pub(super) fn add_boxes(
+fn add_boxes(
     rt: &Watched<HostRuntime>,
     folder: &Folder<WatchedFile>,
     desk: &mut Desk,
@@ -122,6 +122,18 @@ pub(super) fn add_boxes(
         add_box(rt, folder, desk, boxes)?;
     }
     Ok(())
+}
+
+/// Boxes over the files of leases 0 to n - 1.
+pub(super) fn boxes_of(
+    rt: &Watched<HostRuntime>,
+    folder: &Folder<WatchedFile>,
+    n: usize,
+) -> Result<Vec<Box<dyn Segment>>, Fail> {
+    let mut desk = Desk::new(rt.alloc(), 8)?;
+    let mut boxes: Vec<Box<dyn Segment>> = Vec::new(rt.alloc());
+    add_boxes(rt, folder, &mut desk, n, &mut boxes)?;
+    Ok(boxes)
 }
 
 // Whether the page has these pairs.
@@ -156,6 +168,13 @@ fn is_fault(cause: RecoverCause, told: &Said) -> bool {
     }
 }
 
+fn is_recovered(alloc: Global, boxes: Vec<Box<dyn Segment>>, told: &Said) -> bool {
+    match recover(alloc, boxes) {
+        Ok(found) => is_found(&found, told),
+        Err(fault) => is_fault(fault.cause, told),
+    }
+}
+
 /// Whether recovery tells so of the files of leases 0 to n - 1.
 pub(super) fn is_told(
     rt: &Watched<HostRuntime>,
@@ -164,22 +183,21 @@ pub(super) fn is_told(
     told: &Said,
 ) -> Result<bool, Fail> {
     let folder = Folder::open(rt, path)?;
-    let mut desk = Desk::new(rt.alloc(), 8)?;
-    let mut boxes: Vec<Box<dyn Segment>> = Vec::new(rt.alloc());
-    add_boxes(rt, &folder, &mut desk, n, &mut boxes)?;
-    match recover(rt.alloc(), boxes) {
-        Ok(found) => Ok(is_found(&found, told)),
-        Err(fault) => Ok(is_fault(fault.cause, told)),
-    }
+    let boxes = boxes_of(rt, &folder, n)?;
+    Ok(is_recovered(rt.alloc(), boxes, told))
+}
+
+fn are_told(rt: &Watched<HostRuntime>, path: &str, row: &Row) -> Result<bool, Fail> {
+    let Row(pieces, told) = row;
+    write_files(rt, path, *pieces)?;
+    // A second time: what one opening read, a later one reads too.
+    Ok(is_told(rt, path, pieces.len(), told)? && is_told(rt, path, pieces.len(), told)?)
 }
 
 fn goes(rt: HostRuntime, path: &'static str, row: &Row) -> Result<bool, Fail> {
-    let _ = fs::remove_dir_all(&rt, path);
+    clear(rt, path);
     let watched = Watched::new(rt)?;
-    let Row(pieces, told) = row;
-    write_files(&watched, path, *pieces)?;
-    // A second time: what one opening read, a later one reads too.
-    Ok(is_told(&watched, path, pieces.len(), told)? && is_told(&watched, path, pieces.len(), told)?)
+    are_told(&watched, path, row)
 }
 
 #[test]
@@ -187,6 +205,6 @@ fn worked_files_are_told(rt: HostRuntime) -> Result<(), Fail> {
     for (i, row) in WORKED.iter().enumerate() {
         assert!(rt; goes(rt, "worked", row)?, "in row {i}");
     }
-    let _ = fs::remove_dir_all(&rt, "worked");
+    clear(rt, "worked");
     Ok(())
 }

@@ -82,6 +82,11 @@ pub(super) fn at(path: &'static str) -> Stand {
     }
 }
 
+/// The folder and its files are gone, if they were there.
+pub(super) fn clear(rt: HostRuntime, path: &str) {
+    let _ = fs::remove_dir_all(&rt, path);
+}
+
 fn fault(cause: FolderFault) -> Told {
     match cause {
         FolderFault::NoMemory => Told::NoMemory,

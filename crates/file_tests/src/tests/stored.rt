@@ -1,15 +1,18 @@
 //! A store and a cleaner over files: what was flushed is there again after a stop, and of what could
 //! not be flushed either the whole frame or none.
 
+ghost use Rattle.bw_care.specs.Views.{IsSound as IsSoundLog};
 ghost use Rattle.bw_store.specs.Views.{IsSound};
 
 use super::recovered::Said::Found;
-use super::recovered::{Piece, Said, add_boxes, is_told, write_files};
-use super::watched::Watched;
+use super::recovered::{Piece, Said, boxes_of, is_told, write_files};
+use super::steps::clear;
+use super::watched::{Watched, WatchedFile};
 use bw_care::{Cleaned, clean, recover};
 use bw_codec::{Key, Record, Value};
-use bw_device::{Desk, Segment};
+use bw_device::Segment;
 use bw_file::Folder;
+use bw_log::Log;
 use bw_ring::Feed;
 use bw_store::{Config, Store, StoreFault};
 use std::fs;
@@ -93,7 +96,31 @@ fn are_flushed<R: Wait>(
     Ok(first && is_flushed(wait, store, feeds, (b"j", b"w"), told)?)
 }
 
-// A life of a store over two files of the folder, until it is shut.
+const CONFIG: Config = Config {
+    writers: 1,
+    places: 8,
+    readers: 1,
+    m: 4,
+    f: 16384,
+};
+
+// A life of a store over these boxes, until it is shut.
+fn lives_over<R: Wait>(
+    wait: &R,
+    rt: &Watched<HostRuntime>,
+    boxes: Vec<Box<dyn Segment>>,
+    passes: u64,
+    keep: u64,
+) -> Result<bool, Fail> {
+    let Ok((mut store, mut feeds)) = Store::open(wait, rt.alloc(), &CONFIG, boxes) else {
+        return Ok(false);
+    };
+    let flushed = are_flushed(wait, rt, &mut store, &mut feeds, passes, keep);
+    let _ = store.shut(wait);
+    flushed
+}
+
+// A life of a store over two files of the folder.
 fn lives<R: Wait>(
     wait: &R,
     rt: &Watched<HostRuntime>,
@@ -102,31 +129,27 @@ fn lives<R: Wait>(
     keep: u64,
 ) -> Result<bool, Fail> {
     let folder = Folder::open(rt, path)?;
-    let mut desk = Desk::new(rt.alloc(), 8)?;
-    let mut boxes: Vec<Box<dyn Segment>> = Vec::new(rt.alloc());
-    add_boxes(rt, &folder, &mut desk, 2, &mut boxes)?;
-    let config = Config {
-        writers: 1,
-        places: 8,
-        readers: 1,
-        m: 4,
-        f: 16384,
-    };
-    let Ok((mut store, mut feeds)) = Store::open(wait, rt.alloc(), &config, boxes) else {
-        return Ok(false);
-    };
-    let flushed = are_flushed(wait, rt, &mut store, &mut feeds, passes, keep);
-    let _ = store.shut(wait);
-    flushed
+    let boxes = boxes_of(rt, &folder, 2)?;
+    lives_over(wait, rt, boxes, passes, keep)
+}
+
+// The bytes of the first file.
+fn bytes_of(rt: &Watched<HostRuntime>, path: &str) -> Result<Vec<u8>, Fail> {
+    let name = format!(in rt.alloc(); "{path}/segment-0000.bw")?;
+    Ok(fs::read(rt.system(), name.as_str())?)
 }
 
 // Whether the first file has the first bytes of both frames, so many of the second.
 fn has_bytes(rt: &Watched<HostRuntime>, path: &str, of_second: u64) -> Result<bool, Fail> {
+    let bytes = bytes_of(rt, path)?;
     let mut told = hex::decode(rt.alloc(), BOTH)?;
     told.truncate(76 + of_second.min(SECOND_LENGTH) as usize);
-    let name = format!(in rt.alloc(); "{path}/segment-0000.bw")?;
-    let bytes = fs::read(rt.system(), name.as_str())?;
     Ok(bytes.as_slice() == told.as_slice())
+}
+
+// Whether the files have so many bytes of the second frame, and tell so.
+fn tells(rt: &Watched<HostRuntime>, path: &str, of_second: u64, told: &Said) -> Result<bool, Fail> {
+    Ok(has_bytes(rt, path, of_second)? && is_told(rt, path, 2, told)?)
 }
 
 // Whether after a life whose call of this number failed the files tell so.
@@ -138,35 +161,47 @@ fn is_there<R: Wait>(
     of_second: u64,
     told: &Said,
 ) -> Result<bool, Fail> {
-    let _ = fs::remove_dir_all(&rt, path);
+    clear(rt, path);
     let watched = Watched::new(rt)?;
-    Ok(
-        lives(wait, &watched, path, passes, keep)?
-            && has_bytes(&watched, path, of_second)?
-            && is_told(&watched, path, 2, told)?,
-    )
+    let lived = lives(wait, &watched, path, passes, keep)?;
+    if !lived {
+        return Ok(false);
+    }
+    tells(&watched, path, of_second, told)
+}
+
+const BOTH_FOUND: &Said = &Found(1, 2, 0, 1, 1, 0, JKV);
+
+// The same where so many bytes of the second frame were kept, which is then no frame.
+fn is_cut<R: Wait>(wait: &R, rt: HostRuntime, path: &'static str, keep: u64) -> Result<bool, Fail> {
+    let first = Found(1, 1, keep, 1, 1, 0, KV);
+    is_there(wait, rt, path, (0, keep), keep, &first)
 }
 
 #[test]
 fn what_was_flushed_is_there_after_a_stop(rt: HostRuntime) -> Result<(), Fail> {
-    let both = Found(1, 2, 0, 1, 1, 0, JKV);
-    assert!(rt; is_there(&rt, rt, "stored", (99, 0), SECOND_LENGTH, &both)?);
+    assert!(rt; is_there(&rt, rt, "stored", (99, 0), SECOND_LENGTH, BOTH_FOUND)?);
     // The sync fails: the frame was not promised, and is there.
-    assert!(rt; is_there(&rt, rt, "stored", (1, 0), SECOND_LENGTH, &both)?);
+    assert!(rt; is_there(&rt, rt, "stored", (1, 0), SECOND_LENGTH, BOTH_FOUND)?);
     for keep in 0..SECOND_LENGTH {
-        let first = Found(1, 1, keep, 1, 1, 0, KV);
-        assert!(rt;
-            is_there(&rt, rt, "stored", (0, keep), keep, &first)?,
-            "at {keep}"
-        );
+        assert!(rt; is_cut(&rt, rt, "stored", keep)?, "at {keep}");
     }
-    assert!(rt; is_there(&rt, rt, "stored", (0, SECOND_LENGTH), SECOND_LENGTH, &both)?);
-    let _ = fs::remove_dir_all(&rt, "stored");
+    assert!(rt;
+        is_there(
+            &rt,
+            rt,
+            "stored",
+            (0, SECOND_LENGTH),
+            SECOND_LENGTH,
+            BOTH_FOUND
+        )?
+    );
+    clear(rt, "stored");
     Ok(())
 }
 
 /// Two segments: k=1 on the empty page 1, then j=2.
-const TWO: [Piece; 2] = [
+const TWO: &[Piece] = &[
     Piece(
         "42574c4f475347310100000000000000040000000040000046524d3101000000000000002000000002000000\
         02010000000000000101000000010000000000000000000000010001016b0131",
@@ -181,41 +216,55 @@ const TWO: [Piece; 2] = [
 
 const JK: &[(&str, &str)] = &[("j", "2"), ("k", "1")];
 
-// Whether the older of two segments is given up, and its file is then emptied where that is asked.
-fn is_cleaned(rt: &Watched<HostRuntime>, path: &str, empties: bool) -> Result<bool, Fail> {
-    let folder = Folder::open(rt, path)?;
-    let mut desk = Desk::new(rt.alloc(), 8)?;
-    let mut boxes: Vec<Box<dyn Segment>> = Vec::new(rt.alloc());
-    add_boxes(rt, &folder, &mut desk, 3, &mut boxes)?;
-    let Ok(found) = recover(rt.alloc(), boxes) else {
-        return Ok(false);
-    };
-    let mut log = found.log;
+// Whether the older of two segments is given up, and its file is then emptied where that is asked,
+// while the log stands.
+fn is_given_up(
+    rt: &Watched<HostRuntime>,
+    folder: &Folder<WatchedFile>,
+    log: &mut Log,
+    empties: bool,
+) -> Result<bool, Fail>
+    requires { IsSoundLog log.old holding }
+{
     let told = Cleaned {
         segment: 1,
         lease: 0,
         pages: 1,
         frames: 1,
     };
-    let cleaned = clean(rt.alloc(), &mut log) == Ok(told);
+    let cleaned = clean(rt.alloc(), log) == Ok(told);
     if empties {
         folder.empty(rt, 0)?;
     }
     Ok(cleaned)
 }
 
+// The same of the log that is recovered from the files.
+fn is_cleaned(rt: &Watched<HostRuntime>, path: &str, empties: bool) -> Result<bool, Fail> {
+    let folder = Folder::open(rt, path)?;
+    let boxes = boxes_of(rt, &folder, 3)?;
+    match recover(rt.alloc(), boxes) {
+        Ok(mut found) => is_given_up(rt, &folder, &mut found.log, empties),
+        Err(_) => Ok(false),
+    }
+}
+
 // Whether the files tell so after a cleaning and a stop, before the file is emptied or behind it.
 fn is_there_cleaned(rt: HostRuntime, empties: bool, told: &Said) -> Result<bool, Fail> {
-    let _ = fs::remove_dir_all(&rt, "cleaned");
+    clear(rt, "cleaned");
     let watched = Watched::new(rt)?;
-    write_files(&watched, "cleaned", &TWO)?;
+    write_files(&watched, "cleaned", TWO)?;
     Ok(is_cleaned(&watched, "cleaned", empties)? && is_told(&watched, "cleaned", 3, told)?)
 }
 
+const TWO_LIVE: &Said = &Found(1, 3, 0, 2, 1, 0, JK);
+
+const ONE_LIVE: &Said = &Found(2, 3, 0, 1, 2, 0, JK);
+
 #[test]
 fn a_segment_that_was_given_up_is_gone_once_its_file_is_empty(rt: HostRuntime) -> Result<(), Fail> {
-    assert!(rt; is_there_cleaned(rt, false, &Found(1, 3, 0, 2, 1, 0, JK))?);
-    assert!(rt; is_there_cleaned(rt, true, &Found(2, 3, 0, 1, 2, 0, JK))?);
-    let _ = fs::remove_dir_all(&rt, "cleaned");
+    assert!(rt; is_there_cleaned(rt, false, TWO_LIVE)?);
+    assert!(rt; is_there_cleaned(rt, true, ONE_LIVE)?);
+    clear(rt, "cleaned");
     Ok(())
 }

@@ -1,9 +1,9 @@
 //! Scripts that end at a line that is no command.
 
-use super::{Row, walked};
+use super::{Row, go_as_told};
 use std::test::*;
 
-const FAULTS: [Row; 52] = [
+const FAULTS: &[Row] = &[
     Row::Fault("put 1 k v", "", "script line 1: bad number\n"),
     Row::Fault("put 65536 k v", "", "script line 1: bad number\n"),
     Row::Fault("put 0 0x v", "", "script line 1: bad word\n"),
@@ -85,6 +85,5 @@ const FAULTS: [Row; 52] = [
 
 #[test]
 fn a_fault_ends_the_script(rt: HostRuntime) -> Result<(), Fail> {
-    assert_eq!(rt; walked(&rt, &FAULTS)?, FAULTS.len());
-    Ok(())
+    go_as_told(&rt, FAULTS)
 }

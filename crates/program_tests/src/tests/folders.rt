@@ -1,10 +1,11 @@
 //! Runs one after the other over one folder: what a run leaves, the next one finds.
 
-use super::{ends, prints_last};
+use super::{prints_last, text_ends};
 use bw_file::Folder;
 use bw_script::Host;
 use std::fs::{self, OpenOptions};
 use std::io;
+use std::process::Abort;
 use std::test::*;
 
 /// What happens to a folder.
@@ -29,7 +30,7 @@ enum Step {
 use Step::{Beside, Holds, Last, Lengthen, Make, Run, Write};
 
 /// What was flushed is there again, what was not is gone; a scan changes nothing.
-const KEPT: [Step; 6] = [
+const KEPT: &[Step] = &[
     Run(
         &["scan", "--dir", "kept"],
         "",
@@ -76,7 +77,7 @@ const KEPT: [Step; 6] = [
 ];
 
 /// The file of a segment that was given up is empty, and a spare again.
-const GIVEN_UP: [Step; 4] = [
+const GIVEN_UP: &[Step] = &[
     Run(
         &["replay", "--dir", "given_up"],
         "put 0 k 1\nflush\nroll\nput 0 j 2\nflush\nroll\nput 0 k 3\nflush\nclean\nsegments\n",
@@ -107,7 +108,7 @@ const GIVEN_UP: [Step; 4] = [
 
 /// What writers put is there again. A script with a fault makes no folder. With three turns at most
 /// there is no flush but the last.
-const WRITTEN: [Step; 6] = [
+const WRITTEN: &[Step] = &[
     Run(
         &["threads", "--dir", "written"],
         "put 0 k v\nput 2 k v\n",
@@ -156,7 +157,7 @@ const WRITTEN: [Step; 6] = [
 /// The files of the segments that a run gave up are empty at its end. Of three records through one
 /// place two at least are taken by turns, and each of these is followed by a cleaning, as long as
 /// two segments are live.
-const TENDED: [Step; 6] = [
+const TENDED: &[Step] = &[
     Run(
         &["replay", "--dir", "tended"],
         "put 0 k 1\nflush\nroll\nput 0 j 2\nflush\nroll\nput 0 i 3\nflush\nsegments\n",
@@ -194,7 +195,7 @@ const TENDED: [Step; 6] = [
 ];
 
 /// A folder's own limits go before the options; spares have the capacity of the options.
-const LIMITS: [Step; 6] = [
+const LIMITS: &[Step] = &[
     Run(
         &[
             "replay",
@@ -235,7 +236,7 @@ const LIMITS: [Step; 6] = [
 ];
 
 /// Files that no store left: nothing is changed.
-const HOSTILE: [Step; 12] = [
+const HOSTILE: &[Step] = &[
     Make("hostile"),
     Write("hostile/segment-0001.bw", "This is no segment of a log."),
     Run(
@@ -288,7 +289,7 @@ const HOSTILE: [Step; 12] = [
 ];
 
 /// Folders that cannot be opened, and one of no bytes.
-const UNOPENED: [Step; 7] = [
+const UNOPENED: &[Step] = &[
     Run(
         &["replay", "--dir", "unopened/deep"],
         "put 0 k v\n",
@@ -328,6 +329,16 @@ const UNOPENED: [Step; 7] = [
     ),
 ];
 
+fn make<R: Host>(rt: &R, path: &str) -> io::Result<bool> {
+    fs::create_dir(rt, path)?;
+    Ok(true)
+}
+
+fn write<R: Host>(rt: &R, path: &str, text: &str) -> io::Result<bool> {
+    fs::write(rt, path, text.as_bytes())?;
+    Ok(true)
+}
+
 fn lengthen<R: Host>(rt: &R, path: &str, len: u64) -> io::Result<bool> {
     let file = OpenOptions::new().write(true).open(rt, path)?;
     file.set_len(len)?;
@@ -342,7 +353,7 @@ fn holds<R: Host>(rt: &R, path: &str, text: &str) -> io::Result<bool> {
 fn ends_beside<R: Host>(rt: &R, words: &[&str], status: u8, errors: &str) -> bool {
     let path = words.last().copied().unwrap_or("");
     match Folder::open(rt, path) {
-        Ok(_held) => ends(rt, words, &mut b"".as_slice(), status, "", errors),
+        Ok(_held) => text_ends(rt, words, "", status, "", errors),
         Err(_) => false,
     }
 }
@@ -351,18 +362,12 @@ fn ends_beside<R: Host>(rt: &R, words: &[&str], status: u8, errors: &str) -> boo
 fn goes<R: Host>(rt: &R, step: &Step) -> io::Result<bool> {
     match step {
         Run(words, script, status, output, errors) => {
-            Ok(ends(rt, words, &mut script.as_bytes(), *status, output, errors))
+            Ok(text_ends(rt, words, script, *status, output, errors))
         }
         Last(words, script, output) => Ok(prints_last(rt, words, script.as_bytes(), output)),
         Beside(words, status, errors) => Ok(ends_beside(rt, words, *status, errors)),
-        Make(path) => {
-            fs::create_dir(rt, *path)?;
-            Ok(true)
-        }
-        Write(path, text) => {
-            fs::write(rt, *path, text.as_bytes())?;
-            Ok(true)
-        }
+        Make(path) => make(rt, path),
+        Write(path, text) => write(rt, path, text),
         Lengthen(path, len) => lengthen(rt, path, *len),
         Holds(path, text) => holds(rt, path, text),
     }
@@ -380,19 +385,24 @@ fn walked<R: Host>(rt: &R, path: &str, steps: &[Step]) -> io::Result<usize> {
     Ok(steps.len())
 }
 
-#[test]
-fn a_folder_keeps_what_was_flushed(rt: HostRuntime) -> Result<(), Fail> {
-    assert_eq!(rt; walked(&rt, "kept", &KEPT)?, KEPT.len());
-    assert_eq!(rt; walked(&rt, "given_up", &GIVEN_UP)?, GIVEN_UP.len());
-    assert_eq!(rt; walked(&rt, "limits", &LIMITS)?, LIMITS.len());
-    assert_eq!(rt; walked(&rt, "written", &WRITTEN)?, WRITTEN.len());
-    assert_eq!(rt; walked(&rt, "tended", &TENDED)?, TENDED.len());
+/// All steps go as told.
+fn go_as_told<R: Host + Abort>(rt: &R, path: &str, steps: &[Step]) -> Result<(), Fail> {
+    let went = walked(rt, path, steps)?;
+    assert_eq!(rt; went, steps.len(), "in {path}");
     Ok(())
 }
 
 #[test]
+fn a_folder_keeps_what_was_flushed(rt: HostRuntime) -> Result<(), Fail> {
+    go_as_told(&rt, "kept", KEPT)?;
+    go_as_told(&rt, "given_up", GIVEN_UP)?;
+    go_as_told(&rt, "limits", LIMITS)?;
+    go_as_told(&rt, "written", WRITTEN)?;
+    go_as_told(&rt, "tended", TENDED)
+}
+
+#[test]
 fn a_folder_that_cannot_be_gone_on_from_stays(rt: HostRuntime) -> Result<(), Fail> {
-    assert_eq!(rt; walked(&rt, "hostile", &HOSTILE)?, HOSTILE.len());
-    assert_eq!(rt; walked(&rt, "unopened", &UNOPENED)?, UNOPENED.len());
-    Ok(())
+    go_as_told(&rt, "hostile", HOSTILE)?;
+    go_as_told(&rt, "unopened", UNOPENED)
 }

@@ -1,11 +1,11 @@
 //! Lines, words and frames at the ends of their lengths.
 
-use super::{Row, walked};
+use super::{Row, go_as_told};
 use std::test::*;
 
-const MANY: [&str; 3] = ["replay", "--places", "200"];
+const MANY: &[&str] = &["replay", "--places", "200"];
 
-const NARROW: [&str; 7] = [
+const NARROW: &[&str] = &[
     "replay",
     "--places",
     "300",
@@ -15,7 +15,7 @@ const NARROW: [&str; 7] = [
     "16408",
 ];
 
-const LENGTHS: [Row; 25] = [
+const LENGTHS: &[Row] = &[
     Row::LongFault("", 0x7f, 4097, "", "script line 1: line too long\n"),
     Row::LongFault("", 0x7f, 4096, "", "script line 1: bad byte\n"),
     Row::LongFault("", 0x7f, 4096, "\r\n", "script line 1: bad byte\n"),
@@ -61,17 +61,16 @@ const LENGTHS: [Row; 25] = [
     Row::LongFault("put 0 k 0x", b'7', 258, "", "script line 1: bad word\n"),
     Row::Long("page ", b'0', 4000, "1", "page 1 low 0x pairs 0\n"),
     // A frame of 16,384 bytes has room for its head, the empty Base and 108 Deltas of 151 bytes.
-    Row::Records(&MANY, 108, "ok\nframe 1\n"),
-    Row::Records(&MANY, 109, "ok\nframe 2\n"),
+    Row::Records(MANY, 108, "ok\nframe 1\n"),
+    Row::Records(MANY, 109, "ok\nframe 2\n"),
     // One segment takes one such frame. The flush of the second one is refused, or the turn that
     // would append it.
-    Row::Records(&NARROW, 108, "ok\nframe 1\n"),
-    Row::Records(&NARROW, 109, "ok\nrefused E5 NoSegment\n"),
-    Row::Records(&NARROW, 217, "ok\nrefused E5 NoSegment\n"),
+    Row::Records(NARROW, 108, "ok\nframe 1\n"),
+    Row::Records(NARROW, 109, "ok\nrefused E5 NoSegment\n"),
+    Row::Records(NARROW, 217, "ok\nrefused E5 NoSegment\n"),
 ];
 
 #[test]
 fn lengths_of_lines_words_and_frames_are_bounded(rt: HostRuntime) -> Result<(), Fail> {
-    assert_eq!(rt; walked(&rt, &LENGTHS)?, LENGTHS.len());
-    Ok(())
+    go_as_told(&rt, LENGTHS)
 }

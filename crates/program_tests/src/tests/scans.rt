@@ -3,6 +3,7 @@
 use super::ends;
 use bw_script::Host;
 use std::alloc::{AllocError, Global};
+use std::process::Abort;
 use std::test::*;
 
 /// One line of a scan, or many.
@@ -67,7 +68,7 @@ const BAD_FRAME: &str = "refused E13 BadBytes segment 0 at 24\n";
 
 /// Whole, cut, exchanged, doubled, with a changed byte and with one behind, beside a segment of no
 /// bytes and a part of a header.
-const WORKED: [Row; 20] = [
+const WORKED: &[Row] = &[
     Row(&[], 4, "refused E12 Empty\n", ""),
     Row(&[Whole("")], 4, "refused E12 Empty\n", ""),
     Row(&[Whole(FIRST)], 0, ONE, ""),
@@ -140,7 +141,7 @@ const WORKED: [Row; 20] = [
 ];
 
 /// Bytes that no store writes.
-const HOSTILE: [Row; 11] = [
+const HOSTILE: &[Row] = &[
     Row(
         &[With(FIRST, 16, "03")],
         4,
@@ -196,7 +197,7 @@ const HOSTILE: [Row; 11] = [
 ];
 
 /// Lines that are no segment, and more of them than there are leases.
-const FAULTS: [Row; 12] = [
+const FAULTS: &[Row] = &[
     Row(&[Whole("zz")], 3, "", "script line 1: bad word\n"),
     Row(&[Whole("4")], 3, "", "script line 1: bad word\n"),
     Row(&[Whole("0x42")], 3, "", "script line 1: bad word\n"),
@@ -310,15 +311,20 @@ fn walked<R: Host>(rt: &R, rows: &[Row]) -> Result<usize, AllocError> {
     Ok(rows.len())
 }
 
-#[test]
-fn scans_print_what_segments_hold(rt: HostRuntime) -> Result<(), Fail> {
-    assert_eq!(rt; walked(&rt, &WORKED)?, WORKED.len());
-    assert_eq!(rt; walked(&rt, &HOSTILE)?, HOSTILE.len());
+/// All rows go as told.
+fn go_as_told<R: Host + Abort>(rt: &R, rows: &[Row]) -> Result<(), Fail> {
+    let went = walked(rt, rows)?;
+    assert_eq!(rt; went, rows.len());
     Ok(())
 }
 
 #[test]
+fn scans_print_what_segments_hold(rt: HostRuntime) -> Result<(), Fail> {
+    go_as_told(&rt, WORKED)?;
+    go_as_told(&rt, HOSTILE)
+}
+
+#[test]
 fn a_line_that_is_no_segment_ends_the_scan(rt: HostRuntime) -> Result<(), Fail> {
-    assert_eq!(rt; walked(&rt, &FAULTS)?, FAULTS.len());
-    Ok(())
+    go_as_told(&rt, FAULTS)
 }

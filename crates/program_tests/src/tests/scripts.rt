@@ -1,10 +1,10 @@
 //! Scripts without options: what they print.
 
-use super::{Row, walked};
+use super::{Row, go_as_told};
 use std::test::*;
 
 /// Worked bytes are those of the format's vectors.
-const SCRIPTS: [Row; 20] = [
+const SCRIPTS: &[Row] = &[
     Row::Prints(
         "put 0 k v\nflush\npage 1\ndump 1\n",
         0,
@@ -138,6 +138,5 @@ const SCRIPTS: [Row; 20] = [
 
 #[test]
 fn scripts_print_their_answers(rt: HostRuntime) -> Result<(), Fail> {
-    assert_eq!(rt; walked(&rt, &SCRIPTS)?, SCRIPTS.len());
-    Ok(())
+    go_as_told(&rt, SCRIPTS)
 }

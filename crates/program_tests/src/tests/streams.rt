@@ -4,6 +4,7 @@ use super::{PLAIN, ends};
 use bw_script::{Host, LONGEST, Lines, run};
 use std::alloc::Global;
 use std::io::{self, ErrorKind, Read, Write};
+use std::process::Abort;
 use std::test::*;
 
 /// Gives its text a byte a read, and fails each time at `cut`. With interruptions the first read of
@@ -156,7 +157,14 @@ fn walked<R: Host>(rt: &R, rows: &[Row]) -> io::Result<usize> {
     Ok(rows.len())
 }
 
-const STREAMS: [Row; 21] = [
+/// All rows go as told.
+fn go_as_told<R: Host + Abort>(rt: &R, rows: &[Row]) -> Result<(), Fail> {
+    let went = walked(rt, rows)?;
+    assert_eq!(rt; went, rows.len());
+    Ok(())
+}
+
+const STREAMS: &[Row] = &[
     Row::Input(0, 6, "", "input failed\n"),
     Row::Input(10, 6, "ok\n", "input failed\n"),
     Row::Input(12, 6, "ok\n", "input failed\n"),
@@ -188,6 +196,5 @@ const STREAMS: [Row; 21] = [
 
 #[test]
 fn a_failed_stream_ends_the_run(rt: HostRuntime) -> Result<(), Fail> {
-    assert_eq!(rt; walked(&rt, &STREAMS)?, STREAMS.len());
-    Ok(())
+    go_as_told(&rt, STREAMS)
 }

@@ -1,16 +1,16 @@
 //! Runs of writers in threads, over segments in memory. What is printed is the same whichever
 //! thread goes first.
 
-use super::{Row, ends, walked};
+use super::{Row, ends, go_as_told};
 use bw_script::{Host, run};
 use std::alloc::Global;
 use std::io::{self, Write};
 use std::test::*;
 
 /// One writer of a ring of one place, so that no run ends before a turn took a record of two.
-const NARROW: [&str; 3] = ["threads", "--writers=1", "--places=1"];
+const NARROW: &[&str] = &["threads", "--writers=1", "--places=1"];
 
-const RUNS: [Row; 13] = [
+const RUNS: &[Row] = &[
     Row::Under(
         &["threads"],
         "",
@@ -31,14 +31,14 @@ const RUNS: [Row; 13] = [
     ),
     // A writer's records keep their order.
     Row::Under(
-        &NARROW,
+        NARROW,
         "put 0 k 1\nput 0 k 2\ndel 0 k\nput 0 j 3\nput 0 j 0x\ndel 0 x\n",
         0,
         "entries 6\nwriter 0 6 of 6\npairs 1\nj=0x\n",
     ),
     // The pages of these keys are numbered in another order than that of their keys.
     Row::Under(
-        &NARROW,
+        NARROW,
         "put 0 a 1\nput 0 b 1\nput 0 c 1\nput 0 d 1\nput 0 e 1\nput 0 f 1\nput 0 g 1\n\
          put 0 aa 1\nput 0 ab 1\nput 0 ac 1\nput 0 0x00ff 1\nput 0 ~ =\n",
         0,
@@ -124,7 +124,7 @@ const RUNS: [Row; 13] = [
          0123456789=0123456789012345678901234567890123\n",
     ),
     Row::Repeated(
-        &NARROW,
+        NARROW,
         "put 0 k v\n",
         1000,
         0,
@@ -133,7 +133,7 @@ const RUNS: [Row; 13] = [
 ];
 
 /// All faults are told before a writer starts, so nothing is printed.
-const FAULTS: [Row; 19] = [
+const FAULTS: &[Row] = &[
     Row::UnderFault(&["threads"], "turn 1", "script line 1: unknown command\n"),
     Row::UnderFault(&["threads"], "turn", "script line 1: unknown command\n"),
     Row::UnderFault(&["threads"], "flush", "script line 1: unknown command\n"),
@@ -174,36 +174,49 @@ const FAULTS: [Row; 19] = [
 
 #[test]
 fn runs_of_writers_print_what_they_left(rt: HostRuntime) -> Result<(), Fail> {
-    assert_eq!(rt; walked(&rt, &RUNS)?, RUNS.len());
-    assert_eq!(rt; walked(&rt, &FAULTS)?, FAULTS.len());
-    Ok(())
+    go_as_told(&rt, RUNS)?;
+    go_as_told(&rt, FAULTS)
 }
 
-/// So many puts of two writers, in turn: the keys are the writer's letter and four digits, which
-/// are the value, too.
+/// The puts of a number, of two writers in turn: the keys are the writer's letter and four digits,
+/// which are the value, too.
+fn add_puts(script: &mut Vec<u8>, number: u32) -> io::Result<()> {
+    writeln!(script, "put 0 a{number:04} {number:04}")?;
+    writeln!(script, "put 1 b{number:04} {number:04}")
+}
+
+/// So many puts of two writers.
 fn script_of(alloc: Global, count: u32) -> io::Result<Vec<u8>> {
     let mut script = Vec::new(alloc);
     for number in 0..count {
-        writeln!(script, "put 0 a{number:04} {number:04}")?;
-        writeln!(script, "put 1 b{number:04} {number:04}")?;
+        add_puts(&mut script, number)?;
     }
     Ok(script)
+}
+
+/// What is printed before the pairs where all of these are accepted.
+fn add_counts(output: &mut Vec<u8>, count: u32) -> io::Result<()> {
+    let both = u64::from(count) * 2;
+    writeln!(output, "entries {both}")?;
+    writeln!(output, "writer 0 {count} of {count}")?;
+    writeln!(output, "writer 1 {count} of {count}")?;
+    writeln!(output, "pairs {both}")
+}
+
+/// The pairs of a writer's letter.
+fn add_pairs(output: &mut Vec<u8>, letter: char, count: u32) -> io::Result<()> {
+    for number in 0..count {
+        writeln!(output, "{letter}{number:04}={number:04}")?;
+    }
+    Ok(())
 }
 
 /// What is printed where all of these are accepted.
 fn output_of(alloc: Global, count: u32) -> io::Result<Vec<u8>> {
     let mut output = Vec::new(alloc);
-    let both = u64::from(count) * 2;
-    writeln!(output, "entries {both}")?;
-    writeln!(output, "writer 0 {count} of {count}")?;
-    writeln!(output, "writer 1 {count} of {count}")?;
-    writeln!(output, "pairs {both}")?;
-    for number in 0..count {
-        writeln!(output, "a{number:04}={number:04}")?;
-    }
-    for number in 0..count {
-        writeln!(output, "b{number:04}={number:04}")?;
-    }
+    add_counts(&mut output, count)?;
+    add_pairs(&mut output, 'a', count)?;
+    add_pairs(&mut output, 'b', count)?;
     Ok(output)
 }
 

@@ -19,6 +19,18 @@ pub(super) fn fill(
     Ok(())
 }
 
+/// A row of so many boxes.
+pub(super) fn filled(
+    alloc: Global,
+    desk: &mut Desk,
+    many: u32,
+    capacity: u64,
+) -> Result<Vec<Box<dyn Segment>>, Fail> {
+    let mut boxes: Vec<Box<dyn Segment>> = Vec::new(alloc);
+    fill(alloc, desk, many, capacity, &mut boxes)?;
+    Ok(boxes)
+}
+
 /// A box that fails once, after so many calls.
 pub(super) fn fuse(
     alloc: Global,

@@ -1,11 +1,10 @@
 //! A store of three segments is cleaned a hundred times: the tables.
 
-use super::boxes::fill;
-use super::living::{Table, lives, lives_on, script_of};
-use super::steps::Step;
+use super::living::{Table, lives, script_of, stops_and_lives_on, supply};
 use super::steps::Step::{Add, Clean, Del, Evict, Put, Reads, Roll, Settle, Turn};
+use super::steps::{Script, Step};
 use super::walking::Rounds;
-use bw_device::{Desk, Segment};
+use bw_device::Segment;
 use std::sync::Wait;
 use std::test::Fail;
 
@@ -57,20 +56,25 @@ const LARGE_PAGES: Table = Table {
     capacity: 16408,
 };
 
-// Whether all went as told, how many segments were given up, and how often one was wanted.
-fn walked<R: AllocGlobal + Wait>(rt: &R, table: &Table) -> Result<(bool, u32, u32), Fail> {
-    let alloc = rt.alloc();
-    let mut desk = Desk::new(alloc, 128)?;
-    let mut boxes: Vec<Box<dyn Segment>> = Vec::new(alloc);
-    fill(alloc, &mut desk, table.boxes, table.capacity, &mut boxes)?;
-    let mut more: Vec<Box<dyn Segment>> = Vec::new(alloc);
-    fill(alloc, &mut desk, table.more, table.capacity, &mut more)?;
-    let mut script = script_of(alloc, table)?;
-    let (went, boxes) = lives(rt, boxes, &mut more, &mut script, &PLANS)?;
+// Whether all went as told in a life and in one after it, how many segments the first gave up, and
+// how often it wanted one.
+fn lives_twice<R: AllocGlobal + Wait>(
+    rt: &R,
+    boxes: Vec<Box<dyn Segment>>,
+    more: &mut Vec<Box<dyn Segment>>,
+    script: &mut Script,
+) -> Result<(bool, u32, u32), Fail> {
+    let (went, boxes) = lives(rt, boxes, more, script, &PLANS)?;
     let (cleaned, refusals) = (script.cleaned, script.refusals);
-    script.model.stop(alloc, true)?;
-    let (again, _boxes) = lives_on(rt, boxes, &mut more, &mut script, &AGAIN)?;
+    let (again, _boxes) = stops_and_lives_on(rt, boxes, more, script, &AGAIN, true)?;
     Ok((went && again, cleaned, refusals))
+}
+
+// The same over boxes of the table.
+fn walked<R: AllocGlobal + Wait>(rt: &R, table: &Table) -> Result<(bool, u32, u32), Fail> {
+    let mut script = script_of(rt.alloc(), table)?;
+    let (boxes, mut more) = supply(rt.alloc(), 128, table)?;
+    lives_twice(rt, boxes, &mut more, &mut script)
 }
 
 #[test]

@@ -1,11 +1,12 @@
 //! A segment fails in a cleaning, and the store goes on from its boxes: the tables.
 
-use super::boxes::{fill, fuse};
-use super::living::{Table, lives, lives_on, script_of};
-use super::steps::Step;
+use super::boxes::{fill, filled, fuse};
+use super::living::{Table, lives, script_of, stops_and_lives_on};
 use super::steps::Step::{Ask, Break, Clean, Del, Flush, Put, Reads, Roll, Settle, Turn};
+use super::steps::{Script, Step};
 use super::walking::Rounds;
 use bw_device::{Desk, Segment};
+use std::alloc::Global;
 use std::sync::Wait;
 use std::test::Fail;
 
@@ -79,8 +80,53 @@ const TABLE: Table = Table {
     capacity: 65536,
 };
 
-// Whether all went as told in three lives of a store whose second segment fails once, after so many
-// calls, and whether it was an append that failed; with `is_kept` all that was taken is in frames.
+// Two lives after one that a failing segment ended: whether all went as told.
+fn goes_on<R: AllocGlobal + Wait>(
+    rt: &R,
+    boxes: Vec<Box<dyn Segment>>,
+    more: &mut Vec<Box<dyn Segment>>,
+    script: &mut Script,
+    is_kept: bool,
+) -> Result<bool, Fail> {
+    let (second, boxes) = stops_and_lives_on(rt, boxes, more, script, &AGAIN, is_kept)?;
+    let (third, _boxes) = stops_and_lives_on(rt, boxes, more, script, &[], true)?;
+    Ok(second && third)
+}
+
+// Whether all went as told in three lives of a store one of whose segments fails once, and whether
+// it was an append that failed; with `is_kept` all that was taken is in frames.
+fn lives_thrice<R: AllocGlobal + Wait>(
+    rt: &R,
+    boxes: Vec<Box<dyn Segment>>,
+    more: &mut Vec<Box<dyn Segment>>,
+    plans: &[Rounds],
+    is_kept: bool,
+) -> Result<(bool, bool), Fail> {
+    let mut script = script_of(rt.alloc(), &TABLE)?;
+    let (first, boxes) = lives(rt, boxes, more, &mut script, plans)?;
+    let is_failed = script.is_failed;
+    if !script.is_refused {
+        // The segment has not failed yet, and may fail in a read of the recovery.
+        return Ok((first, is_failed));
+    }
+    let went = goes_on(rt, boxes, more, &mut script, is_kept)?;
+    Ok((first && went, is_failed))
+}
+
+// A row of boxes, of which the second fails once, after so many calls.
+fn fused(
+    alloc: Global,
+    desk: &mut Desk,
+    calls: u64,
+    keep: u64,
+) -> Result<Vec<Box<dyn Segment>>, Fail> {
+    let mut boxes = filled(alloc, desk, TABLE.boxes, TABLE.capacity)?;
+    fuse(alloc, desk, calls, keep, TABLE.capacity, &mut boxes)?;
+    fill(alloc, desk, 2, TABLE.capacity, &mut boxes)?;
+    Ok(boxes)
+}
+
+// The three lives of a store whose second segment fails.
 fn walked<R: AllocGlobal + Wait>(
     rt: &R,
     calls: u64,
@@ -88,26 +134,10 @@ fn walked<R: AllocGlobal + Wait>(
     plans: &[Rounds],
     is_kept: bool,
 ) -> Result<(bool, bool), Fail> {
-    let alloc = rt.alloc();
-    let mut desk = Desk::new(alloc, 64)?;
-    let mut boxes: Vec<Box<dyn Segment>> = Vec::new(alloc);
-    fill(alloc, &mut desk, TABLE.boxes, TABLE.capacity, &mut boxes)?;
-    fuse(alloc, &mut desk, calls, keep, TABLE.capacity, &mut boxes)?;
-    fill(alloc, &mut desk, 2, TABLE.capacity, &mut boxes)?;
-    let mut more: Vec<Box<dyn Segment>> = Vec::new(alloc);
-    fill(alloc, &mut desk, TABLE.more, TABLE.capacity, &mut more)?;
-    let mut script = script_of(alloc, &TABLE)?;
-    let (first, boxes) = lives(rt, boxes, &mut more, &mut script, plans)?;
-    let is_failed = script.is_failed;
-    if !script.is_refused {
-        // The segment has not failed yet, and may fail in a read of the recovery.
-        return Ok((first, is_failed));
-    }
-    script.model.stop(alloc, is_kept)?;
-    let (second, boxes) = lives_on(rt, boxes, &mut more, &mut script, &AGAIN)?;
-    script.model.stop(alloc, true)?;
-    let (third, _boxes) = lives_on(rt, boxes, &mut more, &mut script, &[])?;
-    Ok((first && second && third, is_failed))
+    let mut desk = Desk::new(rt.alloc(), 64)?;
+    let boxes = fused(rt.alloc(), &mut desk, calls, keep)?;
+    let mut more = filled(rt.alloc(), &mut desk, TABLE.more, TABLE.capacity)?;
+    lives_thrice(rt, boxes, &mut more, plans, is_kept)
 }
 
 #[test]
@@ -127,8 +157,12 @@ fn a_store_goes_on_after_a_cleaning_that_failed(rt: HostRuntime) -> Result<(), F
 
 #[test]
 fn a_store_goes_on_after_the_flush_of_a_cleaning_failed(rt: HostRuntime) -> Result<(), Fail> {
-    assert_eq!(rt; walked(&rt, 2, 0, &SOME_WAIT, false)?, (true, true));
-    assert_eq!(rt; walked(&rt, 2, 30, &SOME_WAIT, false)?, (true, true));
-    assert_eq!(rt; walked(&rt, 2, u64::MAX, &SOME_WAIT, true)?, (true, true));
+    for (keep, is_kept) in [(0u64, false), (30, false), (u64::MAX, true)] {
+        assert_eq!(rt;
+            walked(&rt, 2, keep, &SOME_WAIT, is_kept)?,
+            (true, true),
+            "keeps {keep}"
+        );
+    }
     Ok(())
 }

@@ -7,7 +7,7 @@ use super::sides::Step::{Flushes, See, Takes};
 use super::sides::{Ends, Step, boxes_of, config, ends_of, goes, see, sees};
 use bw_device::Segment;
 use bw_ring::Feed;
-use bw_store::Store;
+use bw_store::{Reader, Store};
 use std::sync::Wait;
 use std::test::Fail;
 
@@ -72,8 +72,31 @@ fn go_with<R: Wait>(
     all_go(rt, left, &mut one, right, other)
 }
 
-// The same with a left store over these boxes; then that one is shut, and the right one's reader
-// sees on.
+// The same with a left store over these boxes, which is then shut.
+fn go_against<R: AllocGlobal + Wait>(
+    rt: &R,
+    right: &mut Store,
+    other: &mut Ends,
+    boxes: Vec<Box<dyn Segment>>,
+) -> Result<usize, Fail>
+    requires { IsSoundBeside right.old holding }
+    ensures { IsSoundBeside right.new holding }
+{
+    let Ok((mut left, feeds)) = Store::open(rt, rt.alloc(), &config(), boxes) else {
+        return Err(Fail::from("a refusal"));
+    };
+    let went = go_with(rt, &mut left, feeds, right, other);
+    let _ = left.shut(rt);
+    went
+}
+
+// The same where the right store's reader then sees on.
+fn sees_on(reader: &mut Reader, went: Result<usize, Fail>) -> Result<usize, Fail> {
+    let went = went?;
+    Ok(if sees(reader, b"3")? { went } else { 0 })
+}
+
+// The same with the ends of the right store.
 fn go_beside<R: AllocGlobal + Wait>(
     rt: &R,
     right: &mut Store,
@@ -84,16 +107,8 @@ fn go_beside<R: AllocGlobal + Wait>(
     ensures { IsSoundBeside right.new holding }
 {
     let mut other = ends_of(right, feeds)?;
-    let Ok((mut left, feeds)) = Store::open(rt, rt.alloc(), &config(), boxes) else {
-        return Err(Fail::from("a refusal"));
-    };
-    let went = go_with(rt, &mut left, feeds, right, &mut other);
-    let _ = left.shut(rt);
-    let went = went?;
-    if !sees(&mut other.reader, b"3")? {
-        return Ok(0);
-    }
-    Ok(went)
+    let went = go_against(rt, right, &mut other, boxes);
+    sees_on(&mut other.reader, went)
 }
 
 fn walked<R: AllocGlobal + Wait>(rt: &R) -> Result<usize, Fail> {

@@ -1,10 +1,8 @@
 //! Turns and flushes that want a segment, and go on with one more: the tables.
 
-use super::boxes::fill;
-use super::living::{Table, lives, script_of};
+use super::living::{Table, has_lived, script_of};
 use super::steps::Step::{Flush, Put, Reads, Turn};
 use super::walking::Rounds;
-use bw_device::{Desk, Segment};
 use std::sync::Wait;
 use std::test::Fail;
 
@@ -46,14 +44,8 @@ const TABLE: Table = Table {
 
 // Whether all went as told, how many records were taken, and how often a segment was wanted.
 fn walked<R: AllocGlobal + Wait>(rt: &R, plans: &[Rounds]) -> Result<(bool, usize, u32), Fail> {
-    let alloc = rt.alloc();
-    let mut desk = Desk::new(alloc, 64)?;
-    let mut boxes: Vec<Box<dyn Segment>> = Vec::new(alloc);
-    fill(alloc, &mut desk, TABLE.boxes, TABLE.capacity, &mut boxes)?;
-    let mut more: Vec<Box<dyn Segment>> = Vec::new(alloc);
-    fill(alloc, &mut desk, TABLE.more, TABLE.capacity, &mut more)?;
-    let mut script = script_of(alloc, &TABLE)?;
-    let (went, _boxes) = lives(rt, boxes, &mut more, &mut script, plans)?;
+    let mut script = script_of(rt.alloc(), &TABLE)?;
+    let went = has_lived(rt, 64, &TABLE, &mut script, plans)?;
     Ok((went, script.model.taken(), script.refusals))
 }
 

@@ -1,13 +1,12 @@
 //! Stores that go on from their own boxes, with a script in each life: the tables.
 
-use super::boxes::fill;
-use super::living::{Table, lives, lives_on, script_of};
-use super::steps::Step;
+use super::living::{Table, lives, script_of, stops_and_lives_on, supply};
 use super::steps::Step::{
     Clean, Del, Evict, EvictAll, Flush, Get, Page, Put, Reads, Roll, Settle, Turn,
 };
+use super::steps::{Script, Step};
 use super::walking::Rounds;
-use bw_device::{Desk, Segment};
+use bw_device::Segment;
 use std::sync::Wait;
 use std::test::Fail;
 
@@ -68,23 +67,27 @@ const LARGE_PAGES: Table = Table {
     capacity: 20000,
 };
 
-// In how many of four lives all went as told.
-fn walked<R: AllocGlobal + Wait>(rt: &R, table: &Table) -> Result<u32, Fail> {
-    let alloc = rt.alloc();
-    let mut desk = Desk::new(alloc, 128)?;
-    let mut boxes: Vec<Box<dyn Segment>> = Vec::new(alloc);
-    fill(alloc, &mut desk, table.boxes, table.capacity, &mut boxes)?;
-    let mut more: Vec<Box<dyn Segment>> = Vec::new(alloc);
-    fill(alloc, &mut desk, table.more, table.capacity, &mut more)?;
-    let mut script = script_of(alloc, table)?;
-    let (mut went, mut boxes) = lives(rt, boxes, &mut more, &mut script, &PLANS)?;
+// In how many of four lives over these boxes all went as told.
+fn lives_four_times<R: AllocGlobal + Wait>(
+    rt: &R,
+    boxes: Vec<Box<dyn Segment>>,
+    more: &mut Vec<Box<dyn Segment>>,
+    script: &mut Script,
+) -> Result<u32, Fail> {
+    let (mut went, mut boxes) = lives(rt, boxes, more, script, &PLANS)?;
     let mut lived = u32::from(went);
     for _ in 0..3 {
-        script.model.stop(alloc, true)?;
-        (went, boxes) = lives_on(rt, boxes, &mut more, &mut script, &PLANS)?;
+        (went, boxes) = stops_and_lives_on(rt, boxes, more, script, &PLANS, true)?;
         lived = lived.saturating_add(u32::from(went));
     }
     Ok(lived)
+}
+
+// The same over boxes of the table.
+fn walked<R: AllocGlobal + Wait>(rt: &R, table: &Table) -> Result<u32, Fail> {
+    let mut script = script_of(rt.alloc(), table)?;
+    let (boxes, mut more) = supply(rt.alloc(), 128, table)?;
+    lives_four_times(rt, boxes, &mut more, &mut script)
 }
 
 #[test]

@@ -1,11 +1,9 @@
 //! Scripts of 2,000 drawn steps: the tables.
 
-use super::boxes::fill;
-use super::living::{Table, lives, script_of};
+use super::living::{Table, has_lived, script_of};
 use super::steps::Step;
 use super::steps::Step::{Clean, Del, Evict, Flush, Get, Page, Put, Reads, Roll, Turn};
 use super::walking::Rounds;
-use bw_device::{Desk, Segment};
 use std::sync::Wait;
 use std::test::Fail;
 
@@ -83,14 +81,8 @@ const LARGE_PAGES: Table = Table {
 
 // Whether all went as told, and how many steps were walked.
 fn walked<R: AllocGlobal + Wait>(rt: &R, table: &Table) -> Result<(bool, u32), Fail> {
-    let alloc = rt.alloc();
-    let mut desk = Desk::new(alloc, 4096)?;
-    let mut boxes: Vec<Box<dyn Segment>> = Vec::new(alloc);
-    fill(alloc, &mut desk, table.boxes, table.capacity, &mut boxes)?;
-    let mut more: Vec<Box<dyn Segment>> = Vec::new(alloc);
-    fill(alloc, &mut desk, table.more, table.capacity, &mut more)?;
-    let mut script = script_of(alloc, table)?;
-    let (went, _boxes) = lives(rt, boxes, &mut more, &mut script, &SCRIPT)?;
+    let mut script = script_of(rt.alloc(), table)?;
+    let went = has_lived(rt, 4096, table, &mut script, &SCRIPT)?;
     Ok((went, script.steps))
 }
 
