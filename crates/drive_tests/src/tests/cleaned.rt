@@ -7,6 +7,7 @@ use super::reading::reads;
 use super::scripts::Part;
 use super::steps::{Pace, drives};
 use bw_care::recover;
+use bw_device::Segment;
 use bw_drive::OpenGate;
 use bw_store::{Config, Store};
 use std::alloc::Global;
@@ -22,7 +23,25 @@ const PACE: Pace = Pace(64, 4, 3, 1_000_000_000);
 
 const BOXES: u32 = 64;
 
-// Whether each key is in the pages recovered from the boxes, of which some were given up.
+// Whether each key is in the pages recovered from these boxes.
+fn are_read_back<R: Wait>(
+    rt: &R,
+    alloc: Global,
+    boxes: Vec<Box<dyn Segment>>,
+) -> Result<bool, Fail> {
+    let Ok(found) = recover(alloc, boxes) else {
+        return Ok(false);
+    };
+    let Ok((mut store, _)) = Store::reopen(rt, alloc, found, 2, 8, 1) else {
+        return Ok(false);
+    };
+    let are_read = reads(&mut store, 2, PART.1, PART.2);
+    let is_new = store.history().is_empty();
+    let _ = store.shut(rt);
+    Ok(are_read? && is_new)
+}
+
+// The same of all boxes of a store, of which some were given up.
 fn is_recovered<R: Wait>(rt: &R, alloc: Global, store: Store) -> Result<bool, Fail>
     requires { IsSound store holding }
 {
@@ -34,16 +53,7 @@ fn is_recovered<R: Wait>(rt: &R, alloc: Global, store: Store) -> Result<bool, Fa
     for one in spares {
         boxes.push(one)?;
     }
-    let Ok(found) = recover(alloc, boxes) else {
-        return Ok(false);
-    };
-    let Ok((mut store, _)) = Store::reopen(rt, alloc, found, 2, 8, 1) else {
-        return Ok(false);
-    };
-    let are_read = reads(&mut store, 2, PART.1, PART.2);
-    let is_new = store.history().is_empty();
-    let _ = store.shut(rt);
-    Ok(are_read? && few && is_new)
+    Ok(are_read_back(rt, alloc, boxes)? && few)
 }
 
 fn is_driven<R: Threads + Wait>(rt: &R, alloc: Global) -> Result<bool, Fail> {

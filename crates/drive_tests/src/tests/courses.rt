@@ -6,7 +6,11 @@ use super::steps::Step::{Begins, Boxes, Drives, Durable, Learns, Reads, Settles,
 use super::walking::{Table, walked};
 use bw_drive::OpenGate;
 use bw_store::StoreFault;
+use std::alloc::Global;
+use std::process::Abort;
+use std::sync::Wait;
 use std::test::Fail;
+use std::thread::Threads;
 
 /// So many tries that none is the last.
 const MANY: u64 = 1_000_000_000;
@@ -15,7 +19,7 @@ const MANY: u64 = 1_000_000_000;
 const KEYS: u32 = 10_000;
 
 /// All is accepted, and a second run over the same feeds goes on.
-const TWICE: Table = Table {
+const TWICE: &Table = &Table {
     writers: 2,
     places: 8,
     boxes: 8,
@@ -32,7 +36,7 @@ const TWICE: Table = Table {
 };
 
 /// As many writers as there may be.
-const SIXTY_FOUR: Table = Table {
+const SIXTY_FOUR: &Table = &Table {
     writers: 64,
     places: 8,
     boxes: 16,
@@ -45,7 +49,7 @@ const SIXTY_FOUR: Table = Table {
 };
 
 /// A ring of one place each.
-const ONE_PLACE: Table = Table {
+const ONE_PLACE: &Table = &Table {
     writers: 2,
     places: 1,
     boxes: 8,
@@ -58,7 +62,7 @@ const ONE_PLACE: Table = Table {
 };
 
 /// With no try nothing is put, with one no more than a ring holds and the one turn takes.
-const FEW_TRIES: Table = Table {
+const FEW_TRIES: &Table = &Table {
     writers: 2,
     places: 8,
     boxes: 4,
@@ -73,7 +77,7 @@ const FEW_TRIES: Table = Table {
 };
 
 /// The header of the first segment is not written. Later runs are refused too.
-const FIRST_APPEND: Table = Table {
+const FIRST_APPEND: &Table = &Table {
     writers: 2,
     places: 8,
     boxes: 4,
@@ -100,7 +104,7 @@ const FIRST_APPEND: Table = Table {
 };
 
 /// A header and four frames, of one turn each, and then a frame fails.
-const FIFTH_FRAME: Table = Table {
+const FIFTH_FRAME: &Table = &Table {
     writers: 2,
     places: 8,
     boxes: 4,
@@ -121,7 +125,7 @@ const FIFTH_FRAME: Table = Table {
 };
 
 /// The only segment that is live cannot be given up.
-const NOTHING_OLD: Table = Table {
+const NOTHING_OLD: &Table = &Table {
     writers: 2,
     places: 8,
     boxes: 4,
@@ -144,7 +148,7 @@ const NOTHING_OLD: Table = Table {
 };
 
 /// The last spare is kept for a cleaning.
-const NO_SPARE: Table = Table {
+const NO_SPARE: &Table = &Table {
     writers: 2,
     places: 8,
     boxes: 1,
@@ -169,43 +173,32 @@ const NO_SPARE: Table = Table {
     ],
 };
 
+// All steps of a table go as told.
+fn go_as_told<R: Threads + Wait + Abort>(
+    rt: &R,
+    alloc: Global,
+    name: &str,
+    table: &Table,
+) -> Result<(), Fail> {
+    let went = walked(rt, alloc, table, &OpenGate)?;
+    assert_eq!(rt; went, table.steps.len(), "in {name}");
+    Ok(())
+}
+
 #[test]
 fn runs_go_as_told(rt: HostRuntime) -> Result<(), Fail> {
     let alloc = rt.alloc();
-    assert_eq!(rt; walked(&rt, alloc, &TWICE, &OpenGate)?, TWICE.steps.len());
-    assert_eq!(rt;
-        walked(&rt, alloc, &SIXTY_FOUR, &OpenGate)?,
-        SIXTY_FOUR.steps.len()
-    );
-    assert_eq!(rt;
-        walked(&rt, alloc, &ONE_PLACE, &OpenGate)?,
-        ONE_PLACE.steps.len()
-    );
-    assert_eq!(rt;
-        walked(&rt, alloc, &FEW_TRIES, &OpenGate)?,
-        FEW_TRIES.steps.len()
-    );
-    Ok(())
+    go_as_told(&rt, alloc, "twice", TWICE)?;
+    go_as_told(&rt, alloc, "sixty-four", SIXTY_FOUR)?;
+    go_as_told(&rt, alloc, "one place", ONE_PLACE)?;
+    go_as_told(&rt, alloc, "few tries", FEW_TRIES)
 }
 
 #[test]
 fn nothing_follows_a_refusal(rt: HostRuntime) -> Result<(), Fail> {
     let alloc = rt.alloc();
-    assert_eq!(rt;
-        walked(&rt, alloc, &FIRST_APPEND, &OpenGate)?,
-        FIRST_APPEND.steps.len()
-    );
-    assert_eq!(rt;
-        walked(&rt, alloc, &FIFTH_FRAME, &OpenGate)?,
-        FIFTH_FRAME.steps.len()
-    );
-    assert_eq!(rt;
-        walked(&rt, alloc, &NOTHING_OLD, &OpenGate)?,
-        NOTHING_OLD.steps.len()
-    );
-    assert_eq!(rt;
-        walked(&rt, alloc, &NO_SPARE, &OpenGate)?,
-        NO_SPARE.steps.len()
-    );
-    Ok(())
+    go_as_told(&rt, alloc, "first append", FIRST_APPEND)?;
+    go_as_told(&rt, alloc, "fifth frame", FIFTH_FRAME)?;
+    go_as_told(&rt, alloc, "nothing old", NOTHING_OLD)?;
+    go_as_told(&rt, alloc, "no spare", NO_SPARE)
 }

@@ -16,7 +16,7 @@ use std::thread::Threads;
 const PACE: Pace = Pace(64, 4, 3, 1_000_000_000);
 
 /// Two writers of 1,000 records each.
-const THOUSAND: Table = Table {
+const THOUSAND: &Table = &Table {
     writers: 2,
     places: 8,
     boxes: 32,
@@ -30,7 +30,7 @@ const THOUSAND: Table = Table {
 };
 
 /// Two writers of 300 records each.
-const HUNDREDS: Table = Table {
+const HUNDREDS: &Table = &Table {
     writers: 2,
     places: 8,
     boxes: 32,
@@ -46,7 +46,8 @@ const HUNDREDS: Table = Table {
 // Whether two writers find one another before their first record.
 fn meet<R: Threads + Wait>(rt: &R, alloc: Global) -> Result<bool, Fail> {
     let gate = MeetGate::new(alloc, 2, 100_000_000)?;
-    Ok(walked(rt, alloc, &THOUSAND, &gate)? == THOUSAND.steps.len() && gate.met())
+    let went = walked(rt, alloc, THOUSAND, &gate)?;
+    Ok(went == THOUSAND.steps.len() && gate.met())
 }
 
 #[test]
@@ -87,7 +88,7 @@ fn each_record_passes_the_gate(rt: HostRuntime) -> Result<(), Fail> {
         before: AtomicU64::new(0),
         after: AtomicU64::new(0),
     };
-    let walked = walked(&rt, rt.alloc(), &HUNDREDS, &gate)?;
+    let walked = walked(&rt, rt.alloc(), HUNDREDS, &gate)?;
     assert!(rt; walked == HUNDREDS.steps.len());
     // Twice 1 + 2 + .. + 300, and 300 times a million for writer 1.
     assert!(rt; gate.before.load(Ordering::SeqCst) == 300_090_300);
@@ -104,17 +105,28 @@ fn is_met(gate: &MeetGate, writers: &[usize]) -> bool {
     gate.met()
 }
 
+// Whether a gate for so many writers and tries is met as told after each of these visits.
+fn meets(
+    alloc: Global,
+    writers: usize,
+    tries: u64,
+    visits: &[(&[usize], bool)],
+) -> Result<bool, Fail> {
+    let gate = MeetGate::new(alloc, writers, tries)?;
+    for (visitors, told) in visits {
+        if is_met(&gate, *visitors) != *told {
+            return Ok(false);
+        }
+    }
+    Ok(true)
+}
+
 #[test]
 fn a_gate_is_met_where_each_writer_found_all_others(rt: HostRuntime) -> Result<(), Fail> {
     let alloc = rt.alloc();
     // The first writer gave up before the second came.
-    let two = MeetGate::new(alloc, 2, 1000)?;
-    assert!(rt; !is_met(&two, &[0, 0]));
-    assert!(rt; !is_met(&two, &[1, 0, 7]));
-    let one = MeetGate::new(alloc, 1, 1)?;
-    assert!(rt; !is_met(&one, &[1]));
-    assert!(rt; is_met(&one, &[0]));
-    let none = MeetGate::new(alloc, 1, 0)?;
-    assert!(rt; !is_met(&none, &[0]));
+    assert!(rt; meets(alloc, 2, 1000, &[(&[0, 0], false), (&[1, 0, 7], false)])?);
+    assert!(rt; meets(alloc, 1, 1, &[(&[1], false), (&[0], true)])?);
+    assert!(rt; meets(alloc, 1, 0, &[(&[0], false)])?);
     Ok(())
 }

@@ -50,19 +50,43 @@ pub(super) enum Step {
 
 use Step::{Begins, Boxes, Drives, Durable, Learns, Reads, Settles, Splits, Stops};
 
-// Whether each writer's records in the history are all that its feed accepted: so many here, at
-// least and at most.
-fn is_driven(store: &Store, driven: &Driven, part: Part, least: u64, most: u64) -> bool {
-    let Some(begun) = begun(store.history(), part.2) else {
-        return false;
-    };
-    for (accepted, taken) in driven.accepted.as_slice().iter().zip(begun.iter()) {
+// Whether of each writer so many records were accepted here, at least and at most, and all that its
+// feed accepted was taken.
+fn are_taken(accepted: &[u64], taken: &[u32], part: Part, least: u64, most: u64) -> bool {
+    for (accepted, taken) in accepted.iter().zip(taken) {
         let all = accepted.saturating_add(u64::from(part.0));
         if *accepted < least || *accepted > most || all != u64::from(*taken) {
             return false;
         }
     }
-    store.history().len() as u64 == driven.entries
+    true
+}
+
+// Whether each writer's records in the history are all that its feed accepted: so many here, at
+// least and at most.
+fn is_driven(store: &Store, driven: &Driven, part: Part, least: u64, most: u64) -> bool {
+    let is_whole = store.history().len() as u64 == driven.entries;
+    match begun(store.history(), part.2) {
+        Some(taken) => {
+            is_whole && are_taken(driven.accepted.as_slice(), &taken, part, least, most)
+        }
+        None => false,
+    }
+}
+
+// Whether a run of so many feeds that ended well was to end so.
+fn is_told(
+    store: &Store,
+    driven: &Driven,
+    many: usize,
+    part: Part,
+    told: Result<(u64, u64), StoreFault>,
+) -> bool {
+    let are_all = driven.feeds.len() == many && driven.accepted.len() == many;
+    match told {
+        Ok((least, most)) => are_all && is_driven(store, driven, part, least, most),
+        Err(_) => false,
+    }
 }
 
 /// A run, with what its feeds have accepted at least and at most, or its cause: the feeds, and
@@ -96,12 +120,8 @@ pub(super) fn drives<R: Threads + Wait, G: Gate>(
     let scripts = scripts(alloc, many, part)?;
     match drive(rt, store, feeds, scripts, gate, plan, max_turns) {
         Ok(driven) => {
-            let went = match told {
-                Ok((least, most)) => is_driven(store, &driven, part, least, most),
-                Err(_) => false,
-            };
-            let are_all = driven.feeds.len() == many && driven.accepted.len() == many;
-            Ok((driven.feeds, went && are_all))
+            let went = is_told(store, &driven, many, part, told);
+            Ok((driven.feeds, went))
         }
         Err(DriveFault { feeds, cause }) => {
             let went = feeds.len() == many && told == Err(cause);

@@ -49,6 +49,14 @@ fn scripts(alloc: Global, writers: usize) -> Option<Vec<Vec<Record>>>
     Some(scripts)
 }
 
+// Whether all records of the scripts were entered behind `old` ones.
+fn entered(entries: u64, old: u64) -> u8 {
+    match entries.checked_sub(old) {
+        Some(new) if new == 2 * u64::from(RECORDS) => 0,
+        _ => 2,
+    }
+}
+
 // A run over the feeds: all records of the scripts are entered behind `old` ones.
 fn runs_again<R: Threads + Wait>(
     rt: &R,
@@ -65,15 +73,25 @@ fn runs_again<R: Threads + Wait>(
         return 1;
     };
     match drive(rt, store, feeds, scripts, &OpenGate, PLAN, TRIES) {
-        Ok(driven) => match driven.entries.checked_sub(old) {
-            Some(new) if new == 2 * u64::from(RECORDS) => 0,
-            _ => 2,
-        },
+        Ok(driven) => entered(driven.entries, old),
         Err(_) => 3,
     }
 }
 
-// Where a run is refused, the feeds come back: they are settled, and the store is driven again.
+// The feeds of a run that was refused are settled, and the store is driven again.
+fn settles<R: Threads + Wait>(rt: &R, alloc: Global, store: &mut Store, feeds: Vec<Feed>) -> u8
+    requires sound { IsSound store.old holding }
+    requires feeds { map ring_of_feed feeds.items ≡ (kept_by store.old holding).rings }
+    ensures { IsSound store.new holding }
+{
+    let mut feeds = feeds;
+    match store.settle(rt, &mut feeds) {
+        Ok(old) if old <= 2 * u64::from(RECORDS) => runs_again(rt, alloc, store, feeds, old),
+        _ => 6,
+    }
+}
+
+// Where a run is refused, the feeds come back.
 fn runs<R: Threads + Wait>(rt: &R, alloc: Global, store: &mut Store, feeds: Vec<Feed>) -> u8
     requires sound { IsSound store.old holding }
     requires feeds { map ring_of_feed feeds.items ≡ (kept_by store.old holding).rings }
@@ -82,21 +100,20 @@ fn runs<R: Threads + Wait>(rt: &R, alloc: Global, store: &mut Store, feeds: Vec<
     let Some(scripts) = scripts(alloc, feeds.len()) else {
         return 0;
     };
-    let fault = match drive(rt, store, feeds, scripts, &OpenGate, PLAN, TRIES) {
-        Ok(driven) => return if driven.entries == 2 * u64::from(RECORDS) {
-            0
-        } else {
-            4
-        },
-        Err(fault) => fault,
-    };
-    if fault.cause != StoreFault::NoMemory || fault.feeds.len() != 2 {
-        return 5;
-    }
-    let mut feeds = fault.feeds;
-    match store.settle(rt, &mut feeds) {
-        Ok(old) if old <= 2 * u64::from(RECORDS) => runs_again(rt, alloc, store, feeds, old),
-        _ => 6,
+    match drive(rt, store, feeds, scripts, &OpenGate, PLAN, TRIES) {
+        Ok(driven) => {
+            if driven.entries == 2 * u64::from(RECORDS) {
+                0
+            } else {
+                4
+            }
+        }
+        Err(fault) => {
+            if fault.cause != StoreFault::NoMemory || fault.feeds.len() != 2 {
+                return 5;
+            }
+            settles(rt, alloc, store, fault.feeds)
+        }
     }
 }
 
