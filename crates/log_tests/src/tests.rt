@@ -72,6 +72,18 @@ fn second(alloc: Global) -> Result<Buffer, Fail>
     sealed(alloc, 2, blocks.as_slice())
 }
 
+// One more box of this capacity.
+fn add_box(
+    alloc: Global,
+    desk: &mut Desk,
+    capacity: u64,
+    boxes: &mut Vec<Box<dyn Segment>>,
+) -> Result<(), Fail> {
+    let segment = MemSegment::new(alloc, desk.take()?, capacity)?;
+    boxes.push(Box::new(alloc, segment)?)?;
+    Ok(())
+}
+
 // So many boxes of the least capacity.
 fn fill(
     alloc: Global,
@@ -80,8 +92,7 @@ fn fill(
     boxes: &mut Vec<Box<dyn Segment>>,
 ) -> Result<(), Fail> {
     for _ in 0..many {
-        let segment = MemSegment::new(alloc, desk.take()?, 16408)?;
-        boxes.push(Box::new(alloc, segment)?)?;
+        add_box(alloc, desk, 16408, boxes)?;
     }
     Ok(())
 }
@@ -114,7 +125,5 @@ fn fused(
     let mut desk = Desk::new(alloc, 2)?;
     let inner = MemSegment::new(alloc, desk.take()?, 16408)?;
     boxes.push(Box::new(alloc, FuseSegment::new(inner, calls, keep))?)?;
-    let spare = MemSegment::new(alloc, desk.take()?, 16408)?;
-    boxes.push(Box::new(alloc, spare)?)?;
-    Ok(())
+    add_box(alloc, &mut desk, 16408, boxes)
 }

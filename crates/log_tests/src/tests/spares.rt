@@ -2,23 +2,11 @@
 
 ghost use Rattle.log_tests.specs.Views.{IsSound};
 
-use super::fill;
-use bw_device::{Desk, MemSegment, Segment};
+use super::{add_box, fill};
+use bw_device::{Desk, Segment};
 use bw_log::{Log, LogFault};
 use std::alloc::Global;
 use std::test::Fail;
-
-// One more box of this capacity.
-fn add_box(
-    alloc: Global,
-    desk: &mut Desk,
-    capacity: u64,
-    boxes: &mut Vec<Box<dyn Segment>>,
-) -> Result<(), Fail> {
-    let memory = MemSegment::new(alloc, desk.take()?, capacity)?;
-    boxes.push(Box::new(alloc, memory)?)?;
-    Ok(())
-}
 
 // Whether it has three spares, of which the last has lease 3, and nothing else.
 fn is_empty(log: &Log) -> bool
