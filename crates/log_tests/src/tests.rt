@@ -97,6 +97,14 @@ fn fill(
     Ok(())
 }
 
+// A row of so many, of a desk of their own.
+fn boxes_of(alloc: Global, many: u32) -> Result<Vec<Box<dyn Segment>>, Fail> {
+    let mut desk = Desk::new(alloc, many)?;
+    let mut boxes: Vec<Box<dyn Segment>> = Vec::new(alloc);
+    fill(alloc, &mut desk, many, &mut boxes)?;
+    Ok(boxes)
+}
+
 // Whether a page has these keys and values.
 fn has(leaf: &Leaf, pairs: &[(&[u8], &[u8])]) -> bool {
     let held = leaf.pairs.as_slice();

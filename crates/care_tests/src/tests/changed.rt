@@ -41,10 +41,13 @@ fn changed(alloc: Global, hex: &'static str) -> Result<usize, Fail> {
 
 #[test]
 fn each_changed_byte_is_answered(rt: HostRuntime) -> Result<(), Fail> {
-    let alloc = rt.alloc();
-    assert_eq!(rt; changed(alloc, FIRST)?, 76);
-    assert_eq!(rt; changed(alloc, SECOND)?, 289);
-    assert_eq!(rt; changed(alloc, THIRD_NEWER)?, 104);
-    assert_eq!(rt; changed(alloc, GREATEST)?, 52);
+    for (hex, length) in [
+        (FIRST, 76),
+        (SECOND, 289),
+        (THIRD_NEWER, 104),
+        (GREATEST, 52),
+    ] {
+        assert_eq!(rt; changed(rt.alloc(), hex)?, length);
+    }
     Ok(())
 }

@@ -91,28 +91,40 @@ fn goes(
     }
 }
 
-// How many of the steps went as told before one did not; 99 where the boxes were not recovered.
+// The first step that did not go as told.
+fn wrong_step(
+    alloc: Global,
+    desk: &mut Desk,
+    log: &mut Log,
+    more: &mut Vec<Box<dyn Segment>>,
+    steps: &[Step],
+) -> Result<Option<usize>, Fail>
+    requires { IsSoundBeside holding log.old }
+{
+    for (i, step) in steps.iter().enumerate() {
+        if !goes(alloc, desk, log, more, step)? {
+            return Ok(Some(i));
+        }
+    }
+    Ok(None)
+}
+
+// The same over what is recovered from these boxes.
 fn walked(
     alloc: Global,
     desk: &mut Desk,
     boxes: Vec<Box<dyn Segment>>,
     more: &mut Vec<Box<dyn Segment>>,
     steps: &[Step],
-) -> Result<usize, Fail> {
-    let Ok(found) = recover(alloc, boxes) else {
-        return Ok(99);
-    };
-    let mut log = found.log;
-    for (i, step) in steps.iter().enumerate() {
-        if !goes(alloc, desk, &mut log, more, step)? {
-            return Ok(i);
-        }
+) -> Result<Option<usize>, Fail> {
+    match recover(alloc, boxes) {
+        Ok(mut found) => wrong_step(alloc, desk, &mut found.log, more, steps),
+        Err(_) => Err(Fail::from("a refusal of recover")),
     }
-    Ok(steps.len())
 }
 
 /// The bytes that a cleaning leaves, then one with nothing old, then none.
-const TWICE: [Step; 9] = [
+const TWICE: &[Step] = &[
     Cleans(1, 0, 1, 1),
     Back(1),
     Bytes(2, THIRD_OLDER),
@@ -125,7 +137,7 @@ const TWICE: [Step; 9] = [
 ];
 
 /// Two pages of one oldest segment stand in one frame.
-const TWO_PAGES: [Step; 5] = [
+const TWO_PAGES: &[Step] = &[
     Cleans(1, 0, 2, 1),
     Stands(1, 1, 8),
     Page(1, "1 : a=1 b=2 bz=6;"),
@@ -134,7 +146,7 @@ const TWO_PAGES: [Step; 5] = [
 ];
 
 /// No spare is left; with a segment more the same call cleans.
-const NO_SPARE: [Step; 7] = [
+const NO_SPARE: &[Step] = &[
     Refused(CleanFault::Log(LogFault::NoSegment)),
     Page(1, "1 : j=2 k=3;"),
     Stands(3, 0, 4),
@@ -145,7 +157,7 @@ const NO_SPARE: [Step; 7] = [
 ];
 
 /// The cleaner's append fails: no box is dropped, the page is as before, and the log is Failed.
-const FAILED: [Step; 5] = [
+const FAILED: &[Step] = &[
     Refused(CleanFault::Log(LogFault::Device { lease: 2 })),
     Back(0),
     Page(1, "1 : j=2 k=3;"),
@@ -155,6 +167,34 @@ const FAILED: [Step; 5] = [
 
 const NEWER_BEFORE: Piece = Piece::Cut(THIRD_NEWER, 68);
 
+const THIRD_BEFORE: &[Piece] = &[Piece::Whole(THIRD_LOST), Piece::Whole(THIRD_OLDER)];
+
+// The newest segment of the third vector, of this room, which may fail.
+fn add_newer(
+    alloc: Global,
+    desk: &mut Desk,
+    room: u64,
+    calls: u64,
+    keep: u64,
+    boxes: &mut Vec<Box<dyn Segment>>,
+) -> Result<(), Fail> {
+    let newer = bytes_of(alloc, &NEWER_BEFORE)?;
+    add_box(alloc, desk, &newer, room, calls, keep, boxes)
+}
+
+// So many spares.
+fn add_spares(
+    alloc: Global,
+    desk: &mut Desk,
+    many: u32,
+    boxes: &mut Vec<Box<dyn Segment>>,
+) -> Result<(), Fail> {
+    for _ in 0..many {
+        add_box(alloc, desk, &[], 65_560, 99, 0, boxes)?;
+    }
+    Ok(())
+}
+
 // The three segments of the third vector before its cleaning, with a spare, if one is wanted.
 fn third(
     alloc: Global,
@@ -163,31 +203,28 @@ fn third(
     keep: u64,
     spares: u32,
     steps: &[Step],
-) -> Result<usize, Fail> {
+) -> Result<Option<usize>, Fail> {
     let mut desk = Desk::new(alloc, 8)?;
     let mut boxes: Vec<Box<dyn Segment>> = Vec::new(alloc);
-    let older = [Piece::Whole(THIRD_LOST), Piece::Whole(THIRD_OLDER)];
-    add_all(alloc, &mut desk, &older, &mut boxes)?;
-    let newer = bytes_of(alloc, &NEWER_BEFORE)?;
-    add_box(alloc, &mut desk, &newer, room, calls, keep, &mut boxes)?;
-    for _ in 0..spares {
-        add_box(alloc, &mut desk, &[], 65_560, 99, 0, &mut boxes)?;
-    }
+    add_all(alloc, &mut desk, THIRD_BEFORE, &mut boxes)?;
+    add_newer(alloc, &mut desk, room, calls, keep, &mut boxes)?;
+    add_spares(alloc, &mut desk, spares, &mut boxes)?;
     let mut more: Vec<Box<dyn Segment>> = Vec::new(alloc);
-    add_box(alloc, &mut desk, &[], 65_560, 99, 0, &mut more)?;
+    add_spares(alloc, &mut desk, 1, &mut more)?;
     walked(alloc, &mut desk, boxes, &mut more, steps)
 }
 
+const SECOND_AND_MORE: &[Piece] = &[
+    Piece::Whole(SECOND),
+    Piece::Whole(BEHIND_SECOND),
+    Piece::Cut(SECOND, 0),
+];
+
 // The second vector, a segment behind it, and a spare.
-fn second(alloc: Global, steps: &[Step]) -> Result<usize, Fail> {
+fn second(alloc: Global, steps: &[Step]) -> Result<Option<usize>, Fail> {
     let mut desk = Desk::new(alloc, 8)?;
     let mut boxes: Vec<Box<dyn Segment>> = Vec::new(alloc);
-    let pieces = [
-        Piece::Whole(SECOND),
-        Piece::Whole(BEHIND_SECOND),
-        Piece::Cut(SECOND, 0),
-    ];
-    add_all(alloc, &mut desk, &pieces, &mut boxes)?;
+    add_all(alloc, &mut desk, SECOND_AND_MORE, &mut boxes)?;
     let mut more: Vec<Box<dyn Segment>> = Vec::new(alloc);
     walked(alloc, &mut desk, boxes, &mut more, steps)
 }
@@ -195,25 +232,19 @@ fn second(alloc: Global, steps: &[Step]) -> Result<usize, Fail> {
 #[test]
 fn cleanings_go_as_told(rt: HostRuntime) -> Result<(), Fail> {
     let alloc = rt.alloc();
-    assert_eq!(rt; third(alloc, 65_560, 99, 0, 1, &TWICE)?, TWICE.len());
-    assert_eq!(rt; third(alloc, 68, 99, 0, 0, &NO_SPARE)?, NO_SPARE.len());
-    assert_eq!(rt; second(alloc, &TWO_PAGES)?, TWO_PAGES.len());
+    assert_eq!(rt; third(alloc, 65_560, 99, 0, 1, TWICE)?, None);
+    assert_eq!(rt; third(alloc, 68, 99, 0, 0, NO_SPARE)?, None);
+    assert_eq!(rt; second(alloc, TWO_PAGES)?, None);
     Ok(())
-}
-
-// How many bytes of the cleaner's frame of 36 may be kept by an append that fails, with all as told.
-fn failed(alloc: Global) -> Result<u64, Fail> {
-    for keep in 0..37 {
-        // Two reads of a recovery, and one of the page.
-        if third(alloc, 65_560, 3, keep, 1, &FAILED)? != FAILED.len() {
-            return Ok(keep);
-        }
-    }
-    Ok(37)
 }
 
 #[test]
 fn a_failed_append_of_the_cleaner_drops_no_box(rt: HostRuntime) -> Result<(), Fail> {
-    assert_eq!(rt; failed(rt.alloc())?, 37);
+    // The cleaner's frame has 36 bytes.
+    for keep in 0..=36u64 {
+        // Two reads of a recovery, and one of the page.
+        let wrong = third(rt.alloc(), 65_560, 3, keep, 1, FAILED)?;
+        assert_eq!(rt; wrong, None, "keeps {keep}");
+    }
     Ok(())
 }

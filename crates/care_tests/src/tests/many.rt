@@ -76,13 +76,25 @@ fn add_segments(
     add_box(alloc, desk, &[], 65_560, 99, 0, boxes)
 }
 
-// Whether they are cleaned as told, and then recovered again with twenty pages.
-fn is_cleaned(alloc: Global) -> Result<u8, Fail> {
+fn boxes_of(alloc: Global) -> Result<Vec<Box<dyn Segment>>, Fail> {
     let mut desk = Desk::new(alloc, 8)?;
     let mut boxes: Vec<Box<dyn Segment>> = Vec::new(alloc);
     add_segments(alloc, &mut desk, &mut boxes)?;
+    Ok(boxes)
+}
+
+// Whether twenty pages are recovered again, from the cleaner's frames alone.
+fn are_there(alloc: Global, live: Vec<Box<dyn Segment>>) -> bool {
+    match recover(alloc, live) {
+        Ok(again) => again.leaves.count() == 20 && again.first == 3 && again.last == 4,
+        Err(_) => false,
+    }
+}
+
+// The question whose answer is otherwise than told, or 0.
+fn cleaned(alloc: Global, boxes: Vec<Box<dyn Segment>>) -> u8 {
     let Ok(found) = recover(alloc, boxes) else {
-        return Ok(1);
+        return 1;
     };
     let mut log = found.log;
     let told = Cleaned {
@@ -92,20 +104,15 @@ fn is_cleaned(alloc: Global) -> Result<u8, Fail> {
         frames: 2,
     };
     if clean(alloc, &mut log) != Ok(told) {
-        return Ok(2);
+        return 2;
     }
     let (live, _) = log.into_segments();
-    let Ok(again) = recover(alloc, live) else {
-        return Ok(3);
-    };
-    if again.leaves.count() != 20 || again.first != 3 || again.last != 4 {
-        return Ok(4);
-    }
-    Ok(0)
+    if are_there(alloc, live) { 0 } else { 3 }
 }
 
 #[test]
 fn twenty_full_pages_are_cleaned_into_two_frames(rt: HostRuntime) -> Result<(), Fail> {
-    assert_eq!(rt; is_cleaned(rt.alloc())?, 0);
+    let boxes = boxes_of(rt.alloc())?;
+    assert_eq!(rt; cleaned(rt.alloc(), boxes), 0);
     Ok(())
 }

@@ -32,7 +32,7 @@ const ABCD: &str = "1 : a=1 b=2 c=3 d=4;";
 const JK: &str = "1 : j=2 k=3;";
 
 /// Vectors whole, cut, exchanged, doubled, and with a stray byte behind.
-const WORKED: [Row; 17] = [
+const WORKED: &[Row] = &[
     Row(&[Whole(FIRST)], Found(1, 1, 0, 1, 0, 0, KV)),
     Row(
         &[Whole(SECOND)],
@@ -77,7 +77,7 @@ const WORKED: [Row; 17] = [
 ];
 
 /// Hostile boxes: each fault by changed bytes.
-const HOSTILE: [Row; 11] = [
+const HOSTILE: &[Row] = &[
     Row(
         &[With(FIRST, 27, "32")],
         Fault(BadBytes { segment: 0, at: 24 }),
@@ -114,7 +114,7 @@ const HOSTILE: [Row; 11] = [
 
 /// Lists with two faults, of which the earlier one is told: bytes before limits, limits before gaps,
 /// gaps before no frame, and a wrong link before a page at fault.
-const ORDERED: [Row; 4] = [
+const ORDERED: &[Row] = &[
     Row(
         &[
             Whole(FIRST),
@@ -191,22 +191,21 @@ fn goes(alloc: Global, row: &Row) -> Result<bool, Fail> {
     is_told(alloc, &mut desk, boxes, told)
 }
 
-// How many of the rows went as told before one did not.
-fn walked(alloc: Global, rows: &[Row]) -> Result<usize, Fail> {
+// The first row that did not go as told.
+fn wrong_row(alloc: Global, rows: &[Row]) -> Result<Option<usize>, Fail> {
     for (i, row) in rows.iter().enumerate() {
         if !goes(alloc, row)? {
-            return Ok(i);
+            return Ok(Some(i));
         }
     }
-    Ok(rows.len())
+    Ok(None)
 }
 
 // The first of the tables that did not go as told, and its row.
-fn first_wrong(alloc: Global) -> Result<Option<(usize, usize)>, Fail> {
-    for (i, rows) in [&WORKED[..], &HOSTILE[..], &ORDERED[..]].iter().enumerate() {
-        let went = walked(alloc, rows)?;
-        if went != rows.len() {
-            return Ok(Some((i, went)));
+fn first_wrong(alloc: Global, tables: &[&[Row]]) -> Result<Option<(usize, usize)>, Fail> {
+    for (i, rows) in tables.iter().enumerate() {
+        if let Some(row) = wrong_row(alloc, rows)? {
+            return Ok(Some((i, row)));
         }
     }
     Ok(None)
@@ -214,30 +213,31 @@ fn first_wrong(alloc: Global) -> Result<Option<(usize, usize)>, Fail> {
 
 #[test]
 fn worked_boxes_are_told(rt: HostRuntime) -> Result<(), Fail> {
-    assert_eq!(rt; first_wrong(rt.alloc())?, None);
+    assert_eq!(rt; first_wrong(rt.alloc(), &[WORKED, HOSTILE, ORDERED])?, None);
     Ok(())
+}
+
+// A box with just the room for its bytes: a live segment may have less room than a spare.
+fn add_full(
+    alloc: Global,
+    desk: &mut Desk,
+    piece: &Piece,
+    boxes: &mut Vec<Box<dyn Segment>>,
+) -> Result<(), Fail> {
+    let bytes = bytes_of(alloc, piece)?;
+    add_box(alloc, desk, &bytes, bytes.len() as u64, 99, 0, boxes)
 }
 
 // One box with the first vector, and a spare of this room.
 fn with_spare(alloc: Global, piece: &Piece, room: u64, told: &Told) -> Result<bool, Fail> {
     let mut desk = Desk::new(alloc, 8)?;
     let mut boxes: Vec<Box<dyn Segment>> = Vec::new(alloc);
-    let bytes = bytes_of(alloc, piece)?;
-    // A live segment may have less room than a spare: here just what it holds.
-    add_box(
-        alloc,
-        &mut desk,
-        &bytes,
-        bytes.len() as u64,
-        99,
-        0,
-        &mut boxes,
-    )?;
+    add_full(alloc, &mut desk, piece, &mut boxes)?;
     add_box(alloc, &mut desk, &[], room, 99, 0, &mut boxes)?;
     is_told(alloc, &mut desk, boxes, told)
 }
 
-const SPARES: [(Piece, u64, Told); 4] = [
+const SPARES: &[(Piece, u64, Told)] = &[
     (Whole(FIRST), 16_408, Found(1, 1, 0, 1, 1, 0, KV)),
     (Whole(FIRST), 16_407, Fault(BadConfig)),
     (Cut(FIRST, 24), 16_407, Fault(Empty)),
@@ -246,19 +246,29 @@ const SPARES: [(Piece, u64, Told); 4] = [
 
 #[test]
 fn a_small_spare_is_refused_behind_no_frame_and_before_links(rt: HostRuntime) -> Result<(), Fail> {
-    for (piece, room, told) in &SPARES {
+    for (piece, room, told) in SPARES {
         assert!(rt; with_spare(rt.alloc(), piece, *room, told)?);
     }
     Ok(())
 }
 
 // The older box of the third vector, and the newer one, whose call of this number fails.
+fn add_failing(
+    alloc: Global,
+    desk: &mut Desk,
+    calls: u64,
+    boxes: &mut Vec<Box<dyn Segment>>,
+) -> Result<(), Fail> {
+    add_all(alloc, desk, &[Whole(THIRD_OLDER)], boxes)?;
+    let newer = bytes_of(alloc, &Whole(THIRD_NEWER))?;
+    add_box(alloc, desk, &newer, 65_560, calls, 0, boxes)
+}
+
+// The question whose answer is otherwise than told, or 0.
 fn failing(alloc: Global, calls: u64) -> Result<u8, Fail> {
     let mut desk = Desk::new(alloc, 8)?;
     let mut boxes: Vec<Box<dyn Segment>> = Vec::new(alloc);
-    add_all(alloc, &mut desk, &[Whole(THIRD_OLDER)], &mut boxes)?;
-    let newer = bytes_of(alloc, &Whole(THIRD_NEWER))?;
-    add_box(alloc, &mut desk, &newer, 65_560, calls, 0, &mut boxes)?;
+    add_failing(alloc, &mut desk, calls, &mut boxes)?;
     let Err(fault) = recover(alloc, boxes) else {
         return Ok(1);
     };
@@ -281,15 +291,25 @@ fn a_failed_read_counts_and_the_same_boxes_are_recovered_after_it(
     Ok(())
 }
 
-// 4,097 boxes of a bad byte each.
+// So many boxes of a bad byte each.
+fn add_bad(
+    alloc: Global,
+    desk: &mut Desk,
+    many: u32,
+    boxes: &mut Vec<Box<dyn Segment>>,
+) -> Result<(), Fail> {
+    for _ in 0..many {
+        add_box(alloc, desk, b"X", 1, 99, 0, boxes)?;
+    }
+    Ok(())
+}
+
+// 4,097 of them, the last one of another desk.
 fn too_many(alloc: Global) -> Result<bool, Fail> {
     let mut desk = Desk::new(alloc, 4_096)?;
-    let mut other = Desk::new(alloc, 1)?;
     let mut boxes: Vec<Box<dyn Segment>> = Vec::new(alloc);
-    for _ in 0..4_096 {
-        add_box(alloc, &mut desk, b"X", 1, 99, 0, &mut boxes)?;
-    }
-    add_box(alloc, &mut other, b"X", 1, 99, 0, &mut boxes)?;
+    add_bad(alloc, &mut desk, 4_096, &mut boxes)?;
+    add_bad(alloc, &mut Desk::new(alloc, 1)?, 1, &mut boxes)?;
     is_told(alloc, &mut desk, boxes, &Fault(BadConfig))
 }
 

@@ -106,11 +106,11 @@ fn records_go_through(alloc: Global) -> Option<bool> {
 }
 
 /// Keys that share their first bytes: those of the third and fourth are the first eight.
-const NEAR: [&[u8]; 5] = [b"a", b"ab", b"abcdefgh1", b"abcdefgh2", b"b"];
+const NEAR: &[&[u8]] = &[b"a", b"ab", b"abcdefgh1", b"abcdefgh2", b"b"];
 
 /// How many of these a search for a key may step over by the first eight bytes, zeros where a key
 /// has fewer.
-const STEPS: [(&[u8], usize); 8] = [
+const STEPS: &[(&[u8], usize)] = &[
     (b"Z", 0),
     (b"a", 0),
     (b"a\0", 0),

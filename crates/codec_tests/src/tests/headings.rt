@@ -19,7 +19,7 @@ const HEADER: Header = Header {
 };
 
 /// The byte at this index becomes this, and so many bytes are left.
-const HEADINGS: [(usize, u8, usize, HeaderRead); 14] = [
+const HEADINGS: &[(usize, u8, usize, HeaderRead)] = &[
     (0, 0x42, 76, HeaderRead::Whole(HEADER)),
     (0, 0x42, 24, HeaderRead::Whole(HEADER)),
     (0, 0x42, 23, HeaderRead::Part),
@@ -41,7 +41,7 @@ const HEADINGS: [(usize, u8, usize, HeaderRead); 14] = [
 #[test]
 fn a_header_cut_short_is_a_part_of_one(rt: HostRuntime) {
     for (at, to, cut, read) in HEADINGS {
-        let answer = heading_after(rt.alloc(), at, to, cut);
-        assert!(rt; answer == Some(read), "byte {at} as {to}, {cut} bytes");
+        let answer = heading_after(rt.alloc(), *at, *to, *cut);
+        assert!(rt; answer == Some(*read), "byte {at} as {to}, {cut} bytes");
     }
 }

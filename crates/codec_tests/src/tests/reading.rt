@@ -41,7 +41,7 @@ fn found_after(alloc: Global, at: usize, to: u8, cut: usize) -> Option<Found> {
 }
 
 /// The byte at this index becomes this, and so many bytes are left.
-const CHANGED: [(usize, u8, usize, Found); 19] = [
+const CHANGED: &[(usize, u8, usize, Found)] = &[
     (0, 0x46, 52, Found::Whole(52)),
     (0, 0x46, 53, Found::Whole(52)),
     (52, 0x46, 53, Found::Whole(52)),
@@ -67,8 +67,8 @@ const CHANGED: [(usize, u8, usize, Found); 19] = [
 #[test]
 fn a_frame_cut_short_is_a_tail_and_a_changed_one_is_bad(rt: HostRuntime) {
     for (at, to, cut, found) in CHANGED {
-        let answer = found_after(rt.alloc(), at, to, cut);
-        assert!(rt; answer == Some(found), "byte {at} as {to}, {cut} bytes");
+        let answer = found_after(rt.alloc(), *at, *to, *cut);
+        assert!(rt; answer == Some(*found), "byte {at} as {to}, {cut} bytes");
     }
 }
 

@@ -124,7 +124,7 @@ type Row = (
     &'static str,
 );
 
-const BLOCKS: [Row; 12] = [
+const BLOCKS: &[Row] = &[
     (FIRST, (1, 0), Kind::Base, (0, 0), "", ""),
     (FIRST, (1, 1), Kind::Put, (1, 0), "k", "v"),
     (SECOND, (1, 0), Kind::Base, (0, 0), "", ""),

@@ -7,7 +7,7 @@ use std::alloc::Global;
 /// A frame: its count of blocks, and its body in digits.
 type Row = (u32, &'static str, Found);
 
-const BASES: [Row; 11] = [
+const BASES: &[Row] = &[
     (1, "02 01000000 00 0000", Found::Whole(28)),
     // The page: cut, and zero.
     (2, "02 01000000 00 0000 02 010000", Found::Bad),
@@ -37,14 +37,14 @@ const BASES: [Row; 11] = [
     (1, "02 01000000 00 0200 01 6a 01 32 01 6a 01 33", Found::Bad),
 ];
 
-const PAIRS: [Row; 2] = [
+const PAIRS: &[Row] = &[
     // A key of no byte.
     (1, "02 01000000 00 0100 00 00", Found::Bad),
     // No value.
     (1, "02 01000000 00 0100 01 61", Found::Bad),
 ];
 
-const DELTAS: [Row; 15] = [
+const DELTAS: &[Row] = &[
     (
         1,
         "01 01000000 0100000000000000 00000000 0100 01 01 61 00",
@@ -110,7 +110,7 @@ const DELTAS: [Row; 15] = [
     ),
 ];
 
-const SPLITS: [Row; 9] = [
+const SPLITS: &[Row] = &[
     (
         1,
         "03 01000000 0100000000000000 00000000 01 61 02000000 0100 01 61 00",
@@ -161,7 +161,7 @@ const SPLITS: [Row; 9] = [
     ),
 ];
 
-const BODIES: [Row; 6] = [
+const BODIES: &[Row] = &[
     (
         2,
         "02 01000000 00 0000 02 02000000 00 0000",
@@ -180,7 +180,7 @@ const BODIES: [Row; 6] = [
 type Run = (&'static str, u8, &'static str, Found);
 
 /// Low keys, keys and values of the greatest length, and of one byte more.
-const RUNS: [Run; 10] = [
+const RUNS: &[Run] = &[
     ("02 01000000 40", 64, "0000", Found::Whole(92)),
     ("02 01000000 41", 65, "0000", Found::Bad),
     ("02 01000000 00 0100 40", 64, "00", Found::Whole(94)),
@@ -214,7 +214,7 @@ const RUNS: [Run; 10] = [
 ];
 
 /// Counts of so many that room for them all would not be had.
-const COUNTS: [Row; 4] = [
+const COUNTS: &[Row] = &[
     (u32::MAX, "02 01000000 00 0000", Found::Bad),
     (
         1,
@@ -235,41 +235,43 @@ fn found_at(alloc: Global, m: u16, count: u32, body: &[u8]) -> Option<Found> {
     found_in(alloc, m, frame.as_slice())
 }
 
-/// How many rows answer as told before one does not.
-fn walked(alloc: Global, m: u16, rows: &[Row]) -> Option<usize> {
+/// What stands at the front of a frame of a row.
+fn found_by(alloc: Global, m: u16, row: &Row) -> Option<Found> {
+    let body = bytes_of(alloc, row.1)?;
+    found_at(alloc, m, row.0, &body)
+}
+
+/// The same of a frame with a run of bytes.
+fn found_behind(alloc: Global, run: &Run) -> Option<Found> {
+    let body = body_of(alloc, run.0, run.1, run.2)?;
+    found_at(alloc, 4, 1, &body)
+}
+
+/// The first row that does not answer as told.
+fn wrong_row(alloc: Global, m: u16, rows: &[Row]) -> Option<usize> {
     for (i, row) in rows.iter().enumerate() {
-        let body = bytes_of(alloc, row.1)?;
-        if found_at(alloc, m, row.0, body.as_slice()) != Some(row.2) {
+        if found_by(alloc, m, row) != Some(row.2) {
             return Some(i);
         }
     }
-    Some(rows.len())
+    None
 }
 
-/// The same of frames with a run of bytes.
-fn ran(alloc: Global, rows: &[Run]) -> Option<usize> {
-    for (i, row) in rows.iter().enumerate() {
-        let body = body_of(alloc, row.0, row.1, row.2)?;
-        if found_at(alloc, 4, 1, body.as_slice()) != Some(row.3) {
+/// The first run that does not.
+fn wrong_run(alloc: Global, runs: &[Run]) -> Option<usize> {
+    for (i, run) in runs.iter().enumerate() {
+        if found_behind(alloc, run) != Some(run.3) {
             return Some(i);
         }
     }
-    Some(rows.len())
+    None
 }
 
-/// The first of these tables that did not go as told, and how far it went.
-fn first_wrong(alloc: Global) -> Option<(usize, Option<usize>)> {
-    let tables = [
-        &BASES[..],
-        &PAIRS[..],
-        &DELTAS[..],
-        &SPLITS[..],
-        &BODIES[..],
-    ];
+/// The first of these tables that does not answer as told, and its row.
+fn first_wrong(alloc: Global, tables: &[&[Row]]) -> Option<(usize, usize)> {
     for (i, rows) in tables.iter().enumerate() {
-        let went = walked(alloc, 4, rows);
-        if went != Some(rows.len()) {
-            return Some((i, went));
+        if let Some(row) = wrong_row(alloc, 4, rows) {
+            return Some((i, row));
         }
     }
     None
@@ -277,17 +279,14 @@ fn first_wrong(alloc: Global) -> Option<(usize, Option<usize>)> {
 
 #[test]
 fn each_part_of_a_block_is_looked_at(rt: HostRuntime) {
-    assert_eq!(rt; first_wrong(rt.alloc()), None);
-    assert_eq!(rt; ran(rt.alloc(), &RUNS), Some(RUNS.len()));
+    let tables = [BASES, PAIRS, DELTAS, SPLITS, BODIES];
+    assert_eq!(rt; first_wrong(rt.alloc(), &tables), None);
+    assert_eq!(rt; wrong_run(rt.alloc(), RUNS), None);
 }
 
 #[test]
 fn a_count_is_no_reason_to_take_memory(rt: HostRuntime) {
     for m in [4, 32, u16::MAX] {
-        assert_eq!(rt;
-            walked(rt.alloc(), m, &COUNTS),
-            Some(COUNTS.len()),
-            "pages of {m}"
-        );
+        assert_eq!(rt; wrong_row(rt.alloc(), m, COUNTS), None, "pages of {m}");
     }
 }

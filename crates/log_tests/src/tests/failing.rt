@@ -84,6 +84,7 @@ fn second_fails(alloc: Global, keep: u64) -> Result<Option<Remains>, Fail> {
     let Ok(()) = log.append(&frame) else {
         return Ok(None);
     };
+    drop(frame);
     let next = second(alloc)?;
     let Err(LogFault::Device { lease: 0 }) = log.append(&next) else {
         return Ok(None);

@@ -3,10 +3,10 @@
 ghost use Rattle.std.specs.Prelude.{◌≡◌, ◌∷◌, ◌++◌, [], true, IfOk, replicate};
 ghost use Rattle.log_tests.specs.Examples.{filling_blocks, long_put, last_put};
 
-use super::{fill, has, sealed, second};
+use super::{boxes_of, has, sealed, second};
 use bw_buffer::Buffer;
 use bw_codec::{Block, Key, Leaf, Low, Ops, Pairs, Place, Record, Value};
-use bw_device::{Desk, Segment};
+use bw_device::Segment;
 use bw_log::{Log, LogFault};
 use std::alloc::Global;
 use std::test::Fail;
@@ -44,11 +44,14 @@ fn filling(alloc: Global) -> Result<Buffer, Fail>
     sealed(alloc, 1, blocks.as_slice())
 }
 
+// Whether a page has the last of the puts alone.
+fn has_last(leaf: &Leaf) -> bool {
+    has(leaf, &[(b"k", &LAST)])
+}
+
 // The step that went otherwise than told, or 0.
 fn filled(alloc: Global) -> Result<u8, Fail> {
-    let mut desk = Desk::new(alloc, 4)?;
-    let mut boxes: Vec<Box<dyn Segment>> = Vec::new(alloc);
-    fill(alloc, &mut desk, 2, &mut boxes)?;
+    let boxes = boxes_of(alloc, 2)?;
     let Ok(mut log) = Log::new(alloc, boxes, 4, 16384) else {
         return Ok(1);
     };
@@ -59,11 +62,11 @@ fn filled(alloc: Global) -> Result<u8, Fail> {
     let Ok(()) = log.append(&frame) else {
         return Ok(3);
     };
+    drop(frame);
     if log.live_segment(0) != Some((1, 0, 16408)) {
         return Ok(4);
     }
-    let leaf = log.read_page(1)?;
-    if !has(&leaf, &[(b"k", &LAST)]) {
+    if !has_last(&log.read_page(1)?) {
         return Ok(5);
     }
     let next = second(alloc)?;

@@ -167,6 +167,7 @@ pub(crate) fn start(
     let Ok(()) = append(&mut log, &buffer, false) else {
         return Ok(None);
     };
+    drop(buffer);
     let mut leaf = empty_page(alloc);
     change(&mut leaf, &one_put(key, value)?)?;
     Ok(Some((log, leaf)))

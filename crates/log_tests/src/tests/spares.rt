@@ -1,5 +1,6 @@
 // What no clause says: that calls succeed where memory is there, on a log that has no frame yet.
 
+ghost use Rattle.bw_log.specs.Views.{IsSound as IsSoundBeside};
 ghost use Rattle.log_tests.specs.Views.{IsSound};
 
 use super::{add_box, fill};
@@ -8,13 +9,13 @@ use bw_log::{Log, LogFault};
 use std::alloc::Global;
 use std::test::Fail;
 
-// Whether it has three spares, of which the last has lease 3, and nothing else.
+// Whether it has three spares, of which the last has lease 2, and nothing else.
 fn is_empty(log: &Log) -> bool
     requires { IsSound log.now holding }
 {
     log.live() == 0
         && log.spares() == 3
-        && log.spare_leases(2) == Some(3)
+        && log.spare_leases(2) == Some(2)
         && log.live_segment(0).is_none()
         && log.oldest().is_none()
         && log.line(0).is_none()
@@ -37,31 +38,57 @@ fn reads_nothing(alloc: Global, log: &mut Log) -> bool
     dumped == Ok(false) && out.is_empty() && page.err() == Some(LogFault::NoPage)
 }
 
+// Two boxes in one row, and in another one more and one that is a byte too small.
+fn add_boxes(
+    alloc: Global,
+    boxes: &mut Vec<Box<dyn Segment>>,
+    more: &mut Vec<Box<dyn Segment>>,
+) -> Result<(), Fail> {
+    let mut desk = Desk::new(alloc, 4)?;
+    fill(alloc, &mut desk, 2, boxes)?;
+    add_box(alloc, &mut desk, 16_408, more)?;
+    add_box(alloc, &mut desk, 16_407, more)
+}
+
+// Whether a log takes the last box of a row.
+fn is_taken(log: &mut Log, more: &mut Vec<Box<dyn Segment>>) -> bool
+    requires { IsSoundBeside holding log.old }
+    ensures { IsSoundBeside holding log.new }
+{
+    match more.pop() {
+        Some(one) => log.add_segment(one).is_ok(),
+        None => false,
+    }
+}
+
+// Whether it hands back the last box of a row, which is that of lease 3.
+fn is_refused(log: &mut Log, more: &mut Vec<Box<dyn Segment>>) -> bool
+    requires { IsSoundBeside holding log.old }
+    ensures { IsSoundBeside holding log.new }
+{
+    match more.pop() {
+        Some(one) => match log.add_segment(one) {
+            Err((refused, LogFault::BadConfig)) => refused.lease() == 3,
+            _ => false,
+        },
+        None => false,
+    }
+}
+
 // Whether a log of two spares, of leases 0 and 1, hands back a box that is a byte too small, takes
 // one that is not, and hands them all out again.
 fn spares_come_and_go(alloc: Global) -> Result<bool, Fail> {
-    let mut desk = Desk::new(alloc, 4)?;
     let mut boxes: Vec<Box<dyn Segment>> = Vec::new(alloc);
-    fill(alloc, &mut desk, 2, &mut boxes)?;
     let mut more: Vec<Box<dyn Segment>> = Vec::new(alloc);
-    add_box(alloc, &mut desk, 16_407, &mut more)?;
-    add_box(alloc, &mut desk, 16_408, &mut more)?;
+    add_boxes(alloc, &mut boxes, &mut more)?;
     let Ok(mut log) = Log::new(alloc, boxes, 4, 16_384) else {
         return Ok(false);
     };
-    let (Some(large), Some(small)) = (more.pop(), more.pop()) else {
-        return Ok(false);
-    };
-    let Err((refused, LogFault::BadConfig)) = log.add_segment(small) else {
-        return Ok(false);
-    };
-    let Ok(()) = log.add_segment(large) else {
-        return Ok(false);
-    };
+    let come = is_refused(&mut log, &mut more) & is_taken(&mut log, &mut more);
     log.roll();
     let told = is_empty(&log) & reads_nothing(alloc, &mut log);
     let (live, spares) = log.into_segments();
-    Ok(told && refused.lease() == 2 && live.is_empty() && spares.len() == 3)
+    Ok(come && told && live.is_empty() && spares.len() == 3)
 }
 
 #[test]

@@ -2,12 +2,12 @@
 
 ghost use Rattle.std.specs.Prelude.{◌≡◌, true, IfOk};
 ghost use Rattle.log_tests.specs.Views.{IsSound};
-ghost use Rattle.log_tests.specs.Examples.{opening_blocks, third_blocks, fourth_blocks, fifth_blocks};
+ghost use Rattle.log_tests.specs.Examples.{opening_blocks, third_blocks, fourth_blocks, fifth_blocks, split_upper};
 
-use super::{delta, fill, has, sealed, second};
+use super::{boxes_of, delta, has, sealed, second};
 use bw_buffer::Buffer;
 use bw_codec::{Block, Key, Leaf, Low, Pairs, Place, Value};
-use bw_device::{Desk, Segment};
+use bw_device::Segment;
 use bw_log::{Log, LogFault};
 use std::alloc::Global;
 use std::test::Fail;
@@ -44,26 +44,33 @@ fn fourth(alloc: Global) -> Result<Buffer, Fail>
     sealed(alloc, 4, blocks.as_slice())
 }
 
-fn fifth(alloc: Global) -> Result<Buffer, Fail>
-    ensures { IfOk result (λ b.
-        b ≡ record { frame = 5; limit = 16384; blocks = fifth_blocks; is_sealed = true }) }
+// The page that the Split makes.
+fn upper(alloc: Global) -> Result<Leaf, Fail>
+    ensures { IfOk result (λ l. l ≡ split_upper) }
 {
-    let mut low = Vec::new(alloc);
-    low.push(b'c')?;
     let mut pairs = Vec::new(alloc);
     pairs.push((Key::new(b"c")?, Value::new(b"3")?))?;
     pairs.push((Key::new(b"d")?, Value::new(b"4")?))?;
     pairs.push((Key::new(b"e")?, Value::new(b"5")?))?;
+    let mut low = Vec::new(alloc);
+    low.push(b'c')?;
+    Ok(Leaf {
+        page: 2,
+        low: Low::of(low),
+        pairs: Pairs::of(pairs),
+    })
+}
+
+fn fifth(alloc: Global) -> Result<Buffer, Fail>
+    ensures { IfOk result (λ b.
+        b ≡ record { frame = 5; limit = 16384; blocks = fifth_blocks; is_sealed = true }) }
+{
     let mut blocks = Vec::new(alloc);
     blocks.push(delta(alloc, 4, 0, b"e", b"5")?)?;
     blocks.push(Block::Split {
         page: 1,
         back: Place { frame: 5, index: 0 },
-        upper: Leaf {
-            page: 2,
-            low: Low::of(low),
-            pairs: Pairs::of(pairs),
-        },
+        upper: upper(alloc)?,
     })?;
     sealed(alloc, 5, blocks.as_slice())
 }
@@ -93,9 +100,7 @@ const SPELLED: [u8; 289] = [
 
 // The step that went otherwise than told, or 0.
 fn splits(alloc: Global) -> Result<u8, Fail> {
-    let mut desk = Desk::new(alloc, 4)?;
-    let mut boxes: Vec<Box<dyn Segment>> = Vec::new(alloc);
-    fill(alloc, &mut desk, 2, &mut boxes)?;
+    let boxes = boxes_of(alloc, 2)?;
     let Ok(mut log) = Log::new(alloc, boxes, 4, 16384) else {
         return Ok(1);
     };
@@ -103,22 +108,27 @@ fn splits(alloc: Global) -> Result<u8, Fail> {
     let Ok(()) = log.append(&one) else {
         return Ok(2);
     };
+    drop(one);
     let two = second(alloc)?;
     let Ok(()) = log.append(&two) else {
         return Ok(3);
     };
+    drop(two);
     let three = third(alloc)?;
     let Ok(()) = log.append(&three) else {
         return Ok(4);
     };
+    drop(three);
     let four = fourth(alloc)?;
     let Ok(()) = log.append(&four) else {
         return Ok(5);
     };
+    drop(four);
     let five = fifth(alloc)?;
     let Ok(()) = log.append(&five) else {
         return Ok(6);
     };
+    drop(five);
     stands(&mut log, alloc)
 }
 

@@ -1,7 +1,6 @@
 //! A page that leaves memory and comes back.
 
-ghost use Rattle.std.specs.Prelude.{◌≡◌, ◌≤◌, ◌∷◌, [], Some, length, IfOk};
-ghost use Rattle.bw_page.specs.Leaves.{leaf_at};
+ghost use Rattle.std.specs.Prelude.{◌≡◌, ◌∷◌, [], IfOk};
 
 use super::{leads, page_is, put};
 use bw_codec::{Key, Leaf, Low, Pairs, Record, Value};
@@ -75,14 +74,14 @@ fn is_so(alloc: Global, leaves: &Leaves, ask: &Ask) -> Result<bool, Fail> {
     }
 }
 
-/// How many of the questions were answered as told before one was not.
-fn asked(alloc: Global, leaves: &Leaves, asks: &[Ask]) -> Result<usize, Fail> {
+/// The first question that was not answered as told.
+fn wrong_answer(alloc: Global, leaves: &Leaves, asks: &[Ask]) -> Result<Option<usize>, Fail> {
     for (i, ask) in asks.iter().enumerate() {
         if !is_so(alloc, leaves, ask)? {
-            return Ok(i);
+            return Ok(Some(i));
         }
     }
-    Ok(asks.len())
+    Ok(None)
 }
 
 /// Applies a record, if the page at which it is directed is in memory.
@@ -93,14 +92,14 @@ fn applied(leaves: &mut Leaves, change: Record) -> Result<Option<Applied>, Fail>
     Ok(Some(leaves.apply(&change)?))
 }
 
-const BEFORE: [Ask; 4] = [
+const BEFORE: &[Ask] = &[
     Ask::Count(2),
     Ask::Here(1, true),
     Ask::Here(2, true),
     Ask::Page(2, "c: d=4"),
 ];
 
-const AWAY: [Ask; 11] = [
+const AWAY: &[Ask] = &[
     Ask::Count(2),
     Ask::Here(0, false),
     Ask::Here(1, true),
@@ -114,7 +113,7 @@ const AWAY: [Ask; 11] = [
     Ask::Get("d", ""),
 ];
 
-const BACK: [Ask; 5] = [
+const BACK: &[Ask] = &[
     Ask::Here(1, true),
     Ask::Here(2, true),
     Ask::Page(1, ": a=1"),
@@ -122,32 +121,33 @@ const BACK: [Ask; 5] = [
     Ask::Get("d", "4"),
 ];
 
-/// Whether page 2 leaves memory and comes back as told.
-fn goes_and_returns(alloc: Global, leaves: &mut Leaves, kept: Leaf) -> Result<bool, Fail>
-    requires within { 2 ≤ length leaves.old.leaves }
-    requires same { leaf_at 2 leaves.old.leaves ≡ Some kept }
+/// Page 2 leaves memory and comes back: of each table the first question that was not answered as
+/// told.
+fn goes_and_returns(alloc: Global, leaves: &mut Leaves) -> Result<[Option<usize>; 3], Fail>
+    requires { leaves.old.away ≡ [] }
 {
+    let kept = match leaves.page(2) {
+        Some(leaf) if leaves.count() == 2 => leaf.copy()?,
+        _ => return Err(Fail::from("other pages")),
+    };
+    let before = wrong_answer(alloc, leaves, BEFORE)?;
     leaves.put_away(2);
-    let is_away = asked(alloc, leaves, &AWAY)? == AWAY.len();
+    let away = wrong_answer(alloc, leaves, AWAY)?;
     leaves.bring_back(2, kept);
-    Ok(is_away && asked(alloc, leaves, &BACK)? == BACK.len())
+    Ok([before, away, wrong_answer(alloc, leaves, BACK)?])
 }
 
 #[test]
 fn a_page_leaves_memory_and_comes_back(rt: HostRuntime) -> Result<(), Fail> {
     let mut leaves = two_pages(rt.alloc())?;
-    if asked(rt.alloc(), &leaves, &BEFORE)? != BEFORE.len() || leaves.count() != 2 {
-        return Err(Fail::from("before"));
-    }
-    let kept = match leaves.page(2) {
-        Some(leaf) => leaf.copy()?,
-        None => return Ok(()),
-    };
-    assert!(rt; goes_and_returns(rt.alloc(), &mut leaves, kept)?);
+    assert_eq!(rt;
+        goes_and_returns(rt.alloc(), &mut leaves)?,
+        [None, None, None]
+    );
     Ok(())
 }
 
-const CHANGED: [Ask; 4] = [
+const CHANGED: &[Ask] = &[
     Ask::Count(2),
     Ask::Here(2, false),
     Ask::Page(1, ": a=1 b=2"),
@@ -165,12 +165,21 @@ fn changes_one(leaves: &mut Leaves) -> Result<bool, Fail> {
     Ok(none == None && one == Some(told))
 }
 
+/// Page 1 is changed while page 2 is away: the first question that was not answered as told then.
+fn changed_beside(alloc: Global, leaves: &mut Leaves) -> Result<Option<usize>, Fail> {
+    if leaves.count() != 2 {
+        return Err(Fail::from("other pages"));
+    }
+    leaves.put_away(2);
+    if !changes_one(leaves)? {
+        return Err(Fail::from("another change"));
+    }
+    wrong_answer(alloc, leaves, CHANGED)
+}
+
 #[test]
 fn a_page_is_changed_while_another_is_away(rt: HostRuntime) -> Result<(), Fail> {
     let mut leaves = two_pages(rt.alloc())?;
-    assert!(rt; leaves.count() == 2);
-    leaves.put_away(2);
-    assert!(rt; changes_one(&mut leaves)?);
-    assert!(rt; asked(rt.alloc(), &leaves, &CHANGED)? == CHANGED.len());
+    assert_eq!(rt; changed_beside(rt.alloc(), &mut leaves)?, None);
     Ok(())
 }

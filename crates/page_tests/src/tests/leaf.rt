@@ -1,5 +1,8 @@
 //! Calls on one leaf.
 
+ghost use Rattle.std.specs.Prelude.{IsTrue};
+ghost use Rattle.bw_codec.specs.Bytes.{ascends};
+
 use super::away::leaf_of;
 use super::{bare, del, is_shown, put};
 use bw_codec::{Key, Leaf, Record};
@@ -34,18 +37,18 @@ fn goes(alloc: Global, leaf: &mut Leaf, step: &Step) -> Result<bool, Fail> {
     }
 }
 
-/// How many of the steps went as told before one did not.
-fn walked(alloc: Global, steps: &[Step]) -> Result<usize, Fail> {
+/// The first step that did not go as told over an empty page.
+fn wrong_step(alloc: Global, steps: &[Step]) -> Result<Option<usize>, Fail> {
     let mut leaf = empty_page(alloc);
     for (i, step) in steps.iter().enumerate() {
         if !goes(alloc, &mut leaf, step)? {
-            return Ok(i);
+            return Ok(Some(i));
         }
     }
-    Ok(steps.len())
+    Ok(None)
 }
 
-const ONE_LEAF: [Step; 12] = [
+const ONE_LEAF: &[Step] = &[
     Step::Shown(":"),
     Step::Del("b", 0),
     Step::Put("b", "1", 1),
@@ -62,7 +65,7 @@ const ONE_LEAF: [Step; 12] = [
 
 #[test]
 fn a_leaf_is_changed_record_by_record(rt: HostRuntime) -> Result<(), Fail> {
-    assert_eq!(rt; walked(rt.alloc(), &ONE_LEAF)?, ONE_LEAF.len());
+    assert_eq!(rt; wrong_step(rt.alloc(), ONE_LEAF)?, None);
     Ok(())
 }
 
@@ -81,16 +84,17 @@ fn is_cut(alloc: Global, m: u16, keys: &str, lower: &str, upper: &str) -> Result
     if m == 0 || leaf.pairs.as_slice().len() <= usize::from(m) {
         return Ok(false);
     }
-    are_parts(alloc, cut_in_two(alloc, m, leaf, 7)?, lower, upper)
+    let cut = cut_in_two(alloc, m, leaf, 7)?;
+    are_parts(alloc, &cut, lower, upper)
 }
 
-fn are_parts(alloc: Global, cut: Cut, lower: &str, upper: &str) -> Result<bool, Fail> {
+fn are_parts(alloc: Global, cut: &Cut, lower: &str, upper: &str) -> Result<bool, Fail> {
     let pages = cut.lower.page == 1 && cut.upper.page == 7;
     Ok(pages && is_shown(alloc, &cut.lower, lower)? && is_shown(alloc, &cut.upper, upper)?)
 }
 
 /// The most pairs, the keys, and the two parts.
-const CUTS: [(u16, &str, &str, &str); 5] = [
+const CUTS: &[(u16, &str, &str, &str)] = &[
     (4, "abcde", ": a= b=", "c: c= d= e="),
     (4, "abcdef", ": a= b=", "c: c= d= e= f="),
     (5, "abcdef", ": a= b= c=", "d: d= e= f="),
@@ -101,7 +105,7 @@ const CUTS: [(u16, &str, &str, &str); 5] = [
 #[test]
 fn a_leaf_is_cut_in_two(rt: HostRuntime) -> Result<(), Fail> {
     for (m, keys, lower, upper) in CUTS {
-        assert!(rt; is_cut(rt.alloc(), m, keys, lower, upper)?, "at {keys}");
+        assert!(rt; is_cut(rt.alloc(), *m, keys, lower, upper)?, "at {keys}");
     }
     Ok(())
 }
@@ -112,7 +116,7 @@ fn is_kept(alloc: Global, keys: &str, separator: &str, text: &str) -> Result<boo
 }
 
 /// The keys, the first key that goes, and what is kept.
-const KEPT: [(&str, &str, &str); 5] = [
+const KEPT: &[(&str, &str, &str)] = &[
     ("abc", "b", ": a="),
     ("abc", "bb", ": a= b="),
     ("abc", "a", ":"),
@@ -131,14 +135,21 @@ fn pairs_from_a_key_on_are_dropped(rt: HostRuntime) -> Result<(), Fail> {
     Ok(())
 }
 
+/// Whether a key has this value in a leaf; no text where it has none.
+fn tells(leaf: &Leaf, key: &str, text: &str) -> Result<bool, Fail>
+    requires { IsTrue (ascends leaf.now.pairs) }
+{
+    match value_in(leaf, &Key::new(key.as_bytes())?) {
+        Some(found) => Ok(found.as_slice() == text.as_bytes()),
+        None => Ok(text.len() == 0),
+    }
+}
+
 #[test]
 fn a_leaf_tells_the_value_of_a_key(rt: HostRuntime) -> Result<(), Fail> {
     let leaf = leaf_of(rt.alloc(), 1, b"", b"d", b"4")?;
     for (key, text) in [("d", "4"), ("c", ""), ("da", ""), ("e", "")] {
-        match value_in(&leaf, &Key::new(key.as_bytes())?) {
-            Some(found) => assert!(rt; found.as_slice() == text.as_bytes()),
-            None => assert!(rt; text.len() == 0),
-        }
+        assert!(rt; tells(&leaf, key, text)?, "at {key}");
     }
     Ok(())
 }

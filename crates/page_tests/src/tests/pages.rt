@@ -110,22 +110,22 @@ fn goes(alloc: Global, leaves: &mut Leaves, step: &Step) -> Result<bool, Fail>
     }
 }
 
-/// How many of the steps went as told before one did not.
-fn walked(alloc: Global, from: Leaves, steps: &[Step]) -> Result<usize, Fail>
+/// The first step that did not go as told.
+fn walked(alloc: Global, from: Leaves, steps: &[Step]) -> Result<Option<usize>, Fail>
     requires { from.away ≡ [] }
 {
     let mut leaves = from;
     for (i, step) in steps.iter().enumerate() {
         if !goes(alloc, &mut leaves, step)? {
-            return Ok(i);
+            return Ok(Some(i));
         }
     }
-    Ok(steps.len())
+    Ok(None)
 }
 
-const TEN: [&str; 10] = ["a", "b", "c", "d", "e", "f", "g", "aa", "ab", "ac"];
+const TEN: &[&str] = &["a", "b", "c", "d", "e", "f", "g", "aa", "ab", "ac"];
 
-const FOUR: [Step; 27] = [
+const FOUR: &[Step] = &[
     Batch,
     Count(4),
     Page(1, ": a=1 aa=1"),
@@ -155,7 +155,7 @@ const FOUR: [Step; 27] = [
     Get("b", "1"),
 ];
 
-const SINGLE: [Step; 15] = [
+const SINGLE: &[Step] = &[
     Put("a", "1", 1, 0),
     Put("b", "1", 1, 0),
     Put("c", "1", 1, 0),
@@ -173,7 +173,7 @@ const SINGLE: [Step; 15] = [
     Page(4, "ab: ab=1 ac=1 b=1"),
 ];
 
-const FIVE: [Step; 19] = [
+const FIVE: &[Step] = &[
     Put("a", "1", 1, 0),
     Put("b", "1", 1, 0),
     Put("c", "1", 1, 0),
@@ -195,7 +195,7 @@ const FIVE: [Step; 19] = [
     Page(2, "d: d=2 zz=3"),
 ];
 
-const FILLS_4: [Step; 6] = [
+const FILLS_4: &[Step] = &[
     Fill(4),
     Count(1),
     Put("z", "", 1, 2),
@@ -204,7 +204,7 @@ const FILLS_4: [Step; 6] = [
     Step::Pairs(2, 3),
 ];
 
-const FILLS_5: [Step; 6] = [
+const FILLS_5: &[Step] = &[
     Fill(5),
     Count(1),
     Put("z", "", 1, 2),
@@ -213,7 +213,7 @@ const FILLS_5: [Step; 6] = [
     Step::Pairs(2, 3),
 ];
 
-const FILLS_32: [Step; 6] = [
+const FILLS_32: &[Step] = &[
     Fill(32),
     Count(1),
     Put("z", "", 1, 2),
@@ -222,37 +222,46 @@ const FILLS_32: [Step; 6] = [
     Step::Pairs(2, 17),
 ];
 
-/// The same over new leaves.
-fn told(alloc: Global, m: u16, steps: &[Step]) -> Result<bool, Fail>
+/// The same over new leaves of at most so many pairs.
+fn wrong_step(alloc: Global, m: u16, steps: &[Step]) -> Result<Option<usize>, Fail>
     requires { (4 ≤ m) × (m ≤ 32) }
 {
     let leaves = Leaves::one_empty(alloc, m)?;
-    let limit = leaves.limit() == m;
-    Ok(limit && walked(alloc, leaves, steps)? == steps.len())
+    if leaves.limit() != m {
+        return Err(Fail::from("another limit"));
+    }
+    walked(alloc, leaves, steps)
+}
+
+/// Each table over leaves of at most so many pairs: the first that went otherwise than told, and its
+/// step.
+fn first_wrong(alloc: Global, tables: &[(u16, &[Step])]) -> Result<Option<(usize, usize)>, Fail> {
+    for (i, (m, steps)) in tables.iter().enumerate() {
+        if *m < 4 || *m > 32 {
+            return Err(Fail::from("a limit out of range"));
+        }
+        if let Some(step) = wrong_step(alloc, *m, steps)? {
+            return Ok(Some((i, step)));
+        }
+    }
+    Ok(None)
 }
 
 #[test]
-fn leaves_of_four_go_as_told(rt: HostRuntime) -> Result<(), Fail> {
-    assert!(rt; told(rt.alloc(), 4, &FOUR)?);
-    assert!(rt; told(rt.alloc(), 4, &SINGLE)?);
-    Ok(())
-}
-
-#[test]
-fn leaves_of_five_go_as_told(rt: HostRuntime) -> Result<(), Fail> {
-    assert!(rt; told(rt.alloc(), 5, &FIVE)?);
+fn leaves_of_four_and_of_five_go_as_told(rt: HostRuntime) -> Result<(), Fail> {
+    let tables = [(4, FOUR), (4, SINGLE), (5, FIVE)];
+    assert_eq!(rt; first_wrong(rt.alloc(), &tables)?, None);
     Ok(())
 }
 
 #[test]
 fn a_page_is_cut_where_it_has_one_pair_too_many(rt: HostRuntime) -> Result<(), Fail> {
-    assert!(rt; told(rt.alloc(), 4, &FILLS_4)?);
-    assert!(rt; told(rt.alloc(), 5, &FILLS_5)?);
-    assert!(rt; told(rt.alloc(), 32, &FILLS_32)?);
+    let tables = [(4, FILLS_4), (5, FILLS_5), (32, FILLS_32)];
+    assert_eq!(rt; first_wrong(rt.alloc(), &tables)?, None);
     Ok(())
 }
 
-const TAKEN: [Step; 9] = [
+const TAKEN: &[Step] = &[
     Find("b", 1),
     Find("bz", 1),
     Find("c", 2),
@@ -267,6 +276,6 @@ const TAKEN: [Step; 9] = [
 #[test]
 fn leaves_are_taken_as_they_come(rt: HostRuntime) -> Result<(), Fail> {
     let leaves = super::away::two_pages(rt.alloc())?;
-    assert_eq!(rt; walked(rt.alloc(), leaves, &TAKEN)?, TAKEN.len());
+    assert_eq!(rt; walked(rt.alloc(), leaves, TAKEN)?, None);
     Ok(())
 }

@@ -7,6 +7,7 @@ use super::rings::{numbered, one_ring};
 use bw_codec::Record;
 use bw_ring::{Feed, Full, Lane};
 use std::alloc::Global;
+use std::test::Fail;
 
 /// What a caller knows of a peek and the take after it.
 fn peeked_and_taken(lane: &mut Lane) -> Option<(Record, Record)>
@@ -95,20 +96,37 @@ fn goes(feed: &mut Feed, lane: &mut Lane, step: &Step) -> bool
     }
 }
 
-/// How many of the steps went as told before one did not.
-fn walked(alloc: Global, places: usize, steps: &[Step]) -> Option<usize> {
-    let (mut feed, mut lane) = one_ring(alloc, places).ok()?;
+/// The first step that did not go as told.
+fn walked(feed: &mut Feed, lane: &mut Lane, steps: &[Step]) -> Option<usize>
+    requires { IsFeedOf feed.old lane.old }
+{
     for (i, step) in steps.iter().enumerate() {
-        if !goes(&mut feed, &mut lane, step) {
+        if !goes(feed, lane, step) {
             return Some(i);
         }
     }
-    Some(steps.len())
+    None
+}
+
+/// The same over a new ring of so many places.
+fn wrong_step(alloc: Global, places: usize, steps: &[Step]) -> Result<Option<usize>, Fail> {
+    let (mut feed, mut lane) = one_ring(alloc, places)?;
+    Ok(walked(&mut feed, &mut lane, steps))
+}
+
+/// Each table over a ring of so many places: the first that went otherwise than told, and its step.
+fn first_wrong(alloc: Global, tables: &[(usize, &[Step])]) -> Result<Option<(usize, usize)>, Fail> {
+    for (i, (places, steps)) in tables.iter().enumerate() {
+        if let Some(step) = wrong_step(alloc, *places, steps)? {
+            return Ok(Some((i, step)));
+        }
+    }
+    Ok(None)
 }
 
 /// A ring of two places. The feed looks again, so a place that was freed since is found by a put and
 /// by `room`.
-const TWO_PLACES: [Step; 11] = [
+const TWO_PLACES: &[Step] = &[
     Step::Room(2),
     Step::Put(0),
     Step::Put(1),
@@ -123,7 +141,7 @@ const TWO_PLACES: [Step; 11] = [
 ];
 
 /// A peek leaves its record.
-const LOOKS: [Step; 11] = [
+const LOOKS: &[Step] = &[
     Step::Peek(None),
     Step::Take(None),
     Step::Put(7),
@@ -138,7 +156,7 @@ const LOOKS: [Step; 11] = [
 ];
 
 /// What a lane knows stays as it is until it is taken, whatever was put since.
-const KNOWN: [Step; 14] = [
+const KNOWN: &[Step] = &[
     Step::Put(1),
     Step::Put(2),
     Step::Waits(0, None),
@@ -156,12 +174,8 @@ const KNOWN: [Step; 14] = [
 ];
 
 #[test]
-fn ends_go_as_told(rt: HostRuntime) {
-    assert_eq!(rt;
-        walked(rt.alloc(), 2, &TWO_PLACES),
-        Some(TWO_PLACES.len()),
-        "two places"
-    );
-    assert_eq!(rt; walked(rt.alloc(), 4, &LOOKS), Some(LOOKS.len()), "looks");
-    assert_eq!(rt; walked(rt.alloc(), 4, &KNOWN), Some(KNOWN.len()), "known");
+fn ends_go_as_told(rt: HostRuntime) -> Result<(), Fail> {
+    let tables = [(2, TWO_PLACES), (4, LOOKS), (4, KNOWN)];
+    assert_eq!(rt; first_wrong(rt.alloc(), &tables)?, None);
+    Ok(())
 }

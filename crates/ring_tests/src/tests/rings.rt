@@ -28,7 +28,7 @@ pub(crate) fn one_ring(alloc: Global, places: usize) -> Result<(Feed, Lane), Lan
 }
 
 /// Writers and places, and whether there may be so many.
-const CONFIGS: [(usize, usize, bool); 9] = [
+const CONFIGS: &[(usize, usize, bool)] = &[
     (0, 1, false),
     (65, 1, false),
     (1, 0, false),
@@ -51,7 +51,7 @@ fn is_made(alloc: Global, writers: usize, places: usize, told: bool) -> bool {
 #[test]
 fn the_ranges_are_exact(rt: HostRuntime) {
     for (writers, places, told) in CONFIGS {
-        let made = is_made(rt.alloc(), writers, places, told);
+        let made = is_made(rt.alloc(), *writers, *places, *told);
         assert!(rt; made, "{writers} writers, {places} places");
     }
 }

@@ -18,6 +18,23 @@ pub(super) fn fill(
     Ok(())
 }
 
+/// A row of so many.
+pub(super) fn filled(
+    alloc: Global,
+    desk: &mut Desk,
+    many: u32,
+) -> Result<Vec<Box<dyn Segment>>, Fail> {
+    let mut boxes: Vec<Box<dyn Segment>> = Vec::new(alloc);
+    fill(alloc, desk, many, &mut boxes)?;
+    Ok(boxes)
+}
+
+/// A row of so many, of a desk of their own.
+pub(super) fn boxes_of(alloc: Global, many: u32) -> Result<Vec<Box<dyn Segment>>, Fail> {
+    let mut desk = Desk::new(alloc, many)?;
+    filled(alloc, &mut desk, many)
+}
+
 /// A box that fails once, after so many calls.
 pub(super) fn fuse(
     alloc: Global,

@@ -11,7 +11,7 @@ use bw_store::StoreFault;
 use std::test::Fail;
 
 /// A cleaning that writes a page again, then one with nothing to write, then none.
-const THREE_SEGMENTS: [Step; 27] = [
+const THREE_SEGMENTS: &[Step] = &[
     Put(0, b"k", b"1"),
     Turn(9, 1),
     Flush(Some(1)),
@@ -42,7 +42,7 @@ const THREE_SEGMENTS: [Step; 27] = [
 ];
 
 /// What waits is not flushed where nothing is old.
-const NOTHING_OLD: [Step; 12] = [
+const NOTHING_OLD: &[Step] = &[
     Uncleaned(StoreFault::NothingOld),
     Cuts(&[], 0),
     Put(0, b"k", b"v"),
@@ -58,7 +58,7 @@ const NOTHING_OLD: [Step; 12] = [
 ];
 
 /// Where one spare is left, a flush is refused; the flush of a cleaning takes it.
-const THREE_BOXES: [Step; 24] = [
+const THREE_BOXES: &[Step] = &[
     Put(0, b"a", b"1"),
     Turn(9, 1),
     Flush(Some(1)),
@@ -86,7 +86,7 @@ const THREE_BOXES: [Step; 24] = [
 ];
 
 /// The cleaner's append fails: no box is dropped, and pages and values are as before.
-const FAILED: [Step; 17] = [
+const FAILED: &[Step] = &[
     Put(0, b"k", b"1"),
     Turn(9, 1),
     Flush(Some(1)),
@@ -108,11 +108,7 @@ const FAILED: [Step; 17] = [
 
 #[test]
 fn the_oldest_segment_is_given_up(rt: HostRuntime) -> Result<(), Fail> {
-    let tables = [
-        (4, &THREE_SEGMENTS[..]),
-        (4, &NOTHING_OLD[..]),
-        (3, &THREE_BOXES[..]),
-    ];
+    let tables = [(4, THREE_SEGMENTS), (4, NOTHING_OLD), (3, THREE_BOXES)];
     assert_eq!(rt; first_wrong(&rt, &tables)?, None);
     Ok(())
 }
@@ -121,7 +117,7 @@ fn the_oldest_segment_is_given_up(rt: HostRuntime) -> Result<(), Fail> {
 fn a_failed_append_of_the_cleaner_drops_no_box(rt: HostRuntime) -> Result<(), Fail> {
     // A header, a frame and the read of a page pass; the cleaner's frame has 36 bytes.
     for keep in 0..=36u64 {
-        assert_eq!(rt; over_fuse(&rt, 1, 3, keep, &FAILED)?, FAILED.len());
+        assert_eq!(rt; over_fuse(&rt, 1, 3, keep, FAILED)?, None, "keeps {keep}");
     }
     Ok(())
 }

@@ -11,7 +11,7 @@ use std::test::Fail;
 
 /// A page that no frame has yet stays. One that left is read from its segment, which fails once,
 /// and stays away.
-const READ_AGAIN: [Step; 10] = [
+const READ_AGAIN: &[Step] = &[
     Put(0, b"k", b"v"),
     Turn(1, 1),
     Evict(1, Ok(false)),
@@ -25,7 +25,7 @@ const READ_AGAIN: [Step; 10] = [
 ];
 
 /// A turn that cannot bring a page back leaves the record in its ring, and the next one takes it.
-const TURNED_AGAIN: [Step; 9] = [
+const TURNED_AGAIN: &[Step] = &[
     Put(0, b"k", b"v"),
     Turn(1, 1),
     Flush(Some(1)),
@@ -38,7 +38,7 @@ const TURNED_AGAIN: [Step; 9] = [
 ];
 
 /// What no frame has yet stays with a page that leaves; a turn brings the page back.
-const UNFLUSHED: [Step; 21] = [
+const UNFLUSHED: &[Step] = &[
     Put(0, b"a", b"1"),
     Turn(9, 1),
     Flush(Some(1)),
@@ -63,7 +63,7 @@ const UNFLUSHED: [Step; 21] = [
 ];
 
 /// A page that is away is cut; neither part leaves before the frame is appended.
-const CUT: [Step; 21] = [
+const CUT: &[Step] = &[
     Put(0, b"a", b"1"),
     Put(0, b"b", b"2"),
     Put(0, b"c", b"3"),
@@ -88,7 +88,7 @@ const CUT: [Step; 21] = [
 ];
 
 /// A page stays away while it is written again, and is then read from where it stands now.
-const CLEANED: [Step; 16] = [
+const CLEANED: &[Step] = &[
     Put(0, b"a", b"1"),
     Turn(9, 1),
     Flush(Some(1)),
@@ -108,7 +108,7 @@ const CLEANED: [Step; 16] = [
 ];
 
 /// A recovered page may leave at once.
-const OPENED_AGAIN: [Step; 6] = [
+const OPENED_AGAIN: &[Step] = &[
     Evict(1, Ok(true)),
     Page(1, "1 : k=v"),
     Put(0, b"j", b"2"),
@@ -119,27 +119,26 @@ const OPENED_AGAIN: [Step; 6] = [
 
 #[test]
 fn pages_that_are_away_are_read_from_their_segments(rt: HostRuntime) -> Result<(), Fail> {
-    assert_eq!(rt; over_fuse(&rt, 0, 2, 0, &READ_AGAIN)?, READ_AGAIN.len());
-    assert_eq!(rt; over_fuse(&rt, 0, 2, 0, &TURNED_AGAIN)?, TURNED_AGAIN.len());
+    assert_eq!(rt; over_fuse(&rt, 0, 2, 0, READ_AGAIN)?, None);
+    assert_eq!(rt; over_fuse(&rt, 0, 2, 0, TURNED_AGAIN)?, None);
     Ok(())
 }
 
 #[test]
 fn what_no_frame_has_yet_stays_with_its_page(rt: HostRuntime) -> Result<(), Fail> {
-    let tables = [(4, &UNFLUSHED[..]), (4, &CUT[..])];
+    let tables = [(4, UNFLUSHED), (4, CUT)];
     assert_eq!(rt; first_wrong(&rt, &tables)?, None);
     Ok(())
 }
 
 #[test]
 fn pages_stay_away_through_a_cleaning(rt: HostRuntime) -> Result<(), Fail> {
-    assert_eq!(rt; over(&rt, 4, &CLEANED)?, CLEANED.len());
+    assert_eq!(rt; over(&rt, 4, CLEANED)?, None);
     Ok(())
 }
 
 #[test]
 fn recovered_pages_leave_memory(rt: HostRuntime) -> Result<(), Fail> {
-    let walked = over_bytes(&rt, &[FIRST_BYTES], &OPENED_AGAIN)?;
-    assert!(rt; walked == OPENED_AGAIN.len());
+    assert_eq!(rt; over_bytes(&rt, &[FIRST_BYTES], OPENED_AGAIN)?, None);
     Ok(())
 }

@@ -1,18 +1,15 @@
 //! What `open` refuses: the boxes come back.
 
-use super::boxes::fill;
-use bw_device::{Desk, Segment};
+use super::boxes::boxes_of;
+use bw_device::Segment;
 use bw_store::{Config, Store, StoreFault};
 use std::sync::Wait;
 use std::test::Fail;
 
 // Whether a store over two boxes is refused, and both come back.
 fn is_refused<R: AllocGlobal + Wait>(rt: &R, config: &Config) -> Result<bool, Fail> {
-    let alloc = rt.alloc();
-    let mut desk = Desk::new(alloc, 2)?;
-    let mut boxes: Vec<Box<dyn Segment>> = Vec::new(alloc);
-    fill(alloc, &mut desk, 2, &mut boxes)?;
-    match Store::open(rt, alloc, config, boxes) {
+    let boxes = boxes_of(rt.alloc(), 2)?;
+    match Store::open(rt, rt.alloc(), config, boxes) {
         Ok((store, _feeds)) => {
             let _ = store.shut(rt);
             Ok(false)
@@ -22,7 +19,7 @@ fn is_refused<R: AllocGlobal + Wait>(rt: &R, config: &Config) -> Result<bool, Fa
 }
 
 // Writers, places, readers, pairs of a page and bytes of a frame; boxes have room for 16,384.
-const BAD: [(usize, usize, usize, u16, u32); 11] = [
+const BAD: &[(usize, usize, usize, u16, u32)] = &[
     (0, 8, 1, 4, 16384),
     (65, 8, 1, 4, 16384),
     (1, 0, 1, 4, 16384),
@@ -40,11 +37,11 @@ const BAD: [(usize, usize, usize, u16, u32); 11] = [
 fn a_bad_config_is_refused(rt: HostRuntime) -> Result<(), Fail> {
     for (writers, places, readers, m, f) in BAD {
         let config = Config {
-            writers,
-            places,
-            readers,
-            m,
-            f,
+            writers: *writers,
+            places: *places,
+            readers: *readers,
+            m: *m,
+            f: *f,
         };
         assert!(rt; is_refused(&rt, &config)?);
     }

@@ -2,13 +2,12 @@
 
 ghost use Rattle.bw_store.specs.Views.{IsSound};
 
-use super::boxes::fill;
+use super::boxes::boxes_of;
 use super::putting::{is_put, record};
 use bw_codec::{Key, Value};
-use bw_device::{Desk, Segment};
+use bw_device::Segment;
 use bw_ring::Feed;
 use bw_store::{Config, NoReader, ReadFault, Reader, Store};
-use std::alloc::Global;
 use std::sync::Wait;
 use std::test::Fail;
 use std::thread;
@@ -28,13 +27,6 @@ fn config() -> Config {
         m: 4,
         f: 16384,
     }
-}
-
-fn boxes_of(alloc: Global) -> Result<Vec<Box<dyn Segment>>, Fail> {
-    let mut desk = Desk::new(alloc, 8)?;
-    let mut boxes: Vec<Box<dyn Segment>> = Vec::new(alloc);
-    fill(alloc, &mut desk, 8, &mut boxes)?;
-    Ok(boxes)
 }
 
 // Whether a reader answers this value of `k`; no bytes where it has none.
@@ -127,7 +119,7 @@ fn has_one_place(store: &mut Store) -> bool
 
 #[test]
 fn a_reader_sees_what_was_flushed(rt: HostRuntime) -> Result<(), Fail> {
-    let boxes = boxes_of(rt.alloc())?;
+    let boxes = boxes_of(rt.alloc(), 8)?;
     let key = Key::new(b"k")?;
     let Ok((mut store, mut feeds)) = Store::open(&rt, rt.alloc(), &config(), boxes) else {
         return Err(Fail::from("a refusal"));
@@ -195,7 +187,7 @@ fn race<R: Threads + Wait>(
 
 #[test]
 fn no_value_goes_back_beside_the_flusher(rt: HostRuntime) -> Result<(), Fail> {
-    let boxes = boxes_of(rt.alloc())?;
+    let boxes = boxes_of(rt.alloc(), 8)?;
     let Ok((mut store, mut feeds)) = Store::open(&rt, rt.alloc(), &config(), boxes) else {
         return Err(Fail::from("a refusal"));
     };

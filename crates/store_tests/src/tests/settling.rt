@@ -10,7 +10,7 @@ use bw_store::StoreFault;
 use std::test::Fail;
 
 /// Rings of two places.
-const TWO_PLACES: [Step; 9] = [
+const TWO_PLACES: &[Step] = &[
     Put(0, b"a", b"1"),
     Put(0, b"b", b"2"),
     Full(0, b"c", b"3"),
@@ -23,7 +23,7 @@ const TWO_PLACES: [Step; 9] = [
 ];
 
 /// Each of two equal records is an entry.
-const ONE_KEY: [Step; 8] = [
+const ONE_KEY: &[Step] = &[
     Put(0, b"k", b"1"),
     Put(0, b"k", b"1"),
     Del(0, b"k"),
@@ -35,7 +35,7 @@ const ONE_KEY: [Step; 8] = [
 ];
 
 /// What waits is taken lane by lane.
-const WRITERS: [Step; 7] = [
+const WRITERS: &[Step] = &[
     Put(1, b"b", b"1"),
     Put(0, b"a", b"1"),
     Put(1, b"c", b"2"),
@@ -46,7 +46,7 @@ const WRITERS: [Step; 7] = [
 ];
 
 /// A store with nothing to take has its first page to append.
-const EMPTY: [Step; 6] = [
+const EMPTY: &[Step] = &[
     Settle(0),
     Cuts(&[0], 1),
     Page(1, "1 :"),
@@ -56,7 +56,7 @@ const EMPTY: [Step; 6] = [
 ];
 
 /// One spare is not enough to begin a segment: what was taken stays, and one more is.
-const NO_SPARE: [Step; 10] = [
+const NO_SPARE: &[Step] = &[
     Put(0, b"k", b"v"),
     Unsettled(StoreFault::NoSegment),
     History("0 put k v;"),
@@ -70,7 +70,7 @@ const NO_SPARE: [Step; 10] = [
 ];
 
 /// The append fails: what was taken stays, nothing is durable, and no more is taken.
-const FAILED: [Step; 9] = [
+const FAILED: &[Step] = &[
     Put(0, b"k", b"v"),
     Unsettled(StoreFault::Device { lease: 0 }),
     Cuts(&[1], 0),
@@ -83,7 +83,7 @@ const FAILED: [Step; 9] = [
 ];
 
 /// 1,500 records need several frames.
-const FRAMES: [Step; 8] = [
+const FRAMES: &[Step] = &[
     Puts(0, 750),
     Puts(1, 750),
     Settle(1500),
@@ -96,22 +96,27 @@ const FRAMES: [Step; 8] = [
 
 #[test]
 fn all_that_was_accepted_is_settled(rt: HostRuntime) -> Result<(), Fail> {
-    assert_eq!(rt; within(&rt, 4, 2, &TWO_PLACES)?, TWO_PLACES.len());
-    let tables = [(4, &ONE_KEY[..]), (4, &WRITERS[..]), (4, &EMPTY[..])];
+    assert_eq!(rt; within(&rt, 4, 2, TWO_PLACES)?, None);
+    let tables = [(4, ONE_KEY), (4, WRITERS), (4, EMPTY)];
     assert_eq!(rt; first_wrong(&rt, &tables)?, None);
     Ok(())
 }
 
 #[test]
 fn a_refused_settle_keeps_what_it_took(rt: HostRuntime) -> Result<(), Fail> {
-    assert_eq!(rt; over(&rt, 1, &NO_SPARE)?, NO_SPARE.len());
-    assert_eq!(rt; over_fuse(&rt, 0, 0, 10, &FAILED)?, FAILED.len());
-    assert_eq!(rt; over_fuse(&rt, 0, 1, 10, &FAILED)?, FAILED.len());
+    assert_eq!(rt; over(&rt, 1, NO_SPARE)?, None);
+    for calls in 0..=1u64 {
+        assert_eq!(rt;
+            over_fuse(&rt, 0, calls, 10, FAILED)?,
+            None,
+            "after {calls} calls"
+        );
+    }
     Ok(())
 }
 
 #[test]
 fn many_frames_are_settled_and_read_back(rt: HostRuntime) -> Result<(), Fail> {
-    assert_eq!(rt; within(&rt, 12, 1024, &FRAMES)?, FRAMES.len());
+    assert_eq!(rt; within(&rt, 12, 1024, FRAMES)?, None);
     Ok(())
 }

@@ -5,12 +5,11 @@ ghost use Rattle.bw_ring.specs.Ends.{ring_of_feed};
 ghost use Rattle.bw_store.specs.Views.{kept_by, IsSound};
 ghost use Rattle.bw_store.specs.Following.{Follows};
 
-use super::boxes::fill;
+use super::boxes::boxes_of;
 use super::putting::numbered;
-use bw_device::{Desk, Segment};
+use bw_device::Segment;
 use bw_ring::Feed;
 use bw_store::{Config, Entry, Store};
-use std::alloc::Global;
 use std::snapshot::Snapshot;
 use std::sync::Wait;
 use std::test::Fail;
@@ -174,13 +173,6 @@ fn are_settled<R: Threads + Wait>(
     Ok(store.settle(rt, feeds) == Ok(4000) && are_scripts(store.history()))
 }
 
-fn boxes_of(alloc: Global) -> Result<Vec<Box<dyn Segment>>, Fail> {
-    let mut desk = Desk::new(alloc, 40)?;
-    let mut boxes: Vec<Box<dyn Segment>> = Vec::new(alloc);
-    fill(alloc, &mut desk, 40, &mut boxes)?;
-    Ok(boxes)
-}
-
 #[test]
 fn four_writers_in_threads_are_settled(rt: HostRuntime) -> Result<(), Fail> {
     let config = Config {
@@ -190,7 +182,7 @@ fn four_writers_in_threads_are_settled(rt: HostRuntime) -> Result<(), Fail> {
         m: 4,
         f: 16384,
     };
-    let boxes = boxes_of(rt.alloc())?;
+    let boxes = boxes_of(rt.alloc(), 40)?;
     let Ok((mut store, mut feeds)) = Store::open(&rt, rt.alloc(), &config, boxes) else {
         assert!(rt; false);
         return Ok(());

@@ -10,7 +10,7 @@ use super::walking::{first_wrong, over_fuse};
 use bw_store::StoreFault;
 use std::test::Fail;
 
-const FIRST: [Step; 10] = [
+const FIRST: &[Step] = &[
     Put(0, b"k", b"v"),
     Turn(1, 1),
     Flush(Some(1)),
@@ -23,7 +23,7 @@ const FIRST: [Step; 10] = [
     Flush(None),
 ];
 
-const SECOND: [Step; 31] = [
+const SECOND: &[Step] = &[
     Put(0, b"a", b"1"),
     Turn(9, 1),
     Flush(Some(1)),
@@ -58,7 +58,7 @@ const SECOND: [Step; 31] = [
 ];
 
 /// An empty store has its first page to append.
-const EMPTY: [Step; 7] = [
+const EMPTY: &[Step] = &[
     Stands(0, 4),
     Flush(Some(1)),
     Cuts(&[0], 1),
@@ -69,7 +69,7 @@ const EMPTY: [Step; 7] = [
 ];
 
 /// Rounds begin at lane 0, and each writer's records stay in order.
-const WRITERS: [Step; 8] = [
+const WRITERS: &[Step] = &[
     Put(1, b"b", b"1"),
     Put(0, b"a", b"1"),
     Put(1, b"c", b"2"),
@@ -80,7 +80,7 @@ const WRITERS: [Step; 8] = [
     Turn(9, 0),
 ];
 
-const LIMITS: [Step; 10] = [
+const LIMITS: &[Step] = &[
     Turn(0, 0),
     Turn(3, 0),
     Put(0, b"a", b"1"),
@@ -94,7 +94,7 @@ const LIMITS: [Step; 10] = [
 ];
 
 /// One spare is not enough to begin a segment: nothing is changed, and one more is.
-const NO_SPARE: [Step; 11] = [
+const NO_SPARE: &[Step] = &[
     Put(0, b"k", b"v"),
     Turn(1, 1),
     Refused(StoreFault::NoSegment),
@@ -109,7 +109,7 @@ const NO_SPARE: [Step; 11] = [
 ];
 
 /// A closed segment takes no more frames.
-const ROLLED: [Step; 7] = [
+const ROLLED: &[Step] = &[
     Flush(Some(1)),
     Roll,
     Roll,
@@ -120,7 +120,7 @@ const ROLLED: [Step; 7] = [
 ];
 
 /// The append of the frame fails: the cut stays, nothing is durable, and no more is taken.
-const FAILED: [Step; 13] = [
+const FAILED: &[Step] = &[
     Put(0, b"k", b"v"),
     Turn(1, 1),
     Refused(StoreFault::Device { lease: 0 }),
@@ -138,21 +138,21 @@ const FAILED: [Step; 13] = [
 
 #[test]
 fn worked_bytes_are_written(rt: HostRuntime) -> Result<(), Fail> {
-    let tables = [(4, &FIRST[..]), (4, &SECOND[..]), (4, &EMPTY[..])];
+    let tables = [(4, FIRST), (4, SECOND), (4, EMPTY)];
     assert_eq!(rt; first_wrong(&rt, &tables)?, None);
     Ok(())
 }
 
 #[test]
 fn turns_go_round_the_lanes(rt: HostRuntime) -> Result<(), Fail> {
-    let tables = [(4, &WRITERS[..]), (4, &LIMITS[..])];
+    let tables = [(4, WRITERS), (4, LIMITS)];
     assert_eq!(rt; first_wrong(&rt, &tables)?, None);
     Ok(())
 }
 
 #[test]
 fn segments_are_begun_while_two_spares_stand(rt: HostRuntime) -> Result<(), Fail> {
-    let tables = [(1, &NO_SPARE[..]), (4, &ROLLED[..])];
+    let tables = [(1, NO_SPARE), (4, ROLLED)];
     assert_eq!(rt; first_wrong(&rt, &tables)?, None);
     Ok(())
 }
@@ -160,8 +160,10 @@ fn segments_are_begun_while_two_spares_stand(rt: HostRuntime) -> Result<(), Fail
 #[test]
 fn a_failed_append_ends_the_store(rt: HostRuntime) -> Result<(), Fail> {
     for keep in 0..=53u64 {
-        assert_eq!(rt; over_fuse(&rt, 0, 0, keep, &FAILED)?, FAILED.len());
-        assert_eq!(rt; over_fuse(&rt, 0, 1, keep, &FAILED)?, FAILED.len());
+        for calls in 0..=1u64 {
+            let wrong = over_fuse(&rt, 0, calls, keep, FAILED)?;
+            assert_eq!(rt; wrong, None, "keeps {keep} after {calls} calls");
+        }
     }
     Ok(())
 }

@@ -4,43 +4,44 @@ ghost use Rattle.std.specs.Prelude.{◌≡◌, map};
 ghost use Rattle.bw_ring.specs.Ends.{ring_of_feed};
 ghost use Rattle.bw_store.specs.Views.{kept_beside, IsSoundBeside};
 
-use super::boxes::{fill, fuse};
+use super::boxes::{fill, filled, fuse};
 use super::steps::{Step, goes};
 use bw_care::recover;
 use bw_device::{Desk, MemSegment, Segment};
 use bw_ring::Feed;
 use bw_store::{Config, Store};
+use std::alloc::Global;
 use std::sync::Wait;
 use std::test::Fail;
 
-/// How many of the steps went as told before one did not.
-pub(super) fn all_go<R: AllocGlobal + Wait>(
+/// The first step that did not go as told.
+pub(super) fn wrong_step<R: AllocGlobal + Wait>(
     rt: &R,
     store: &mut Store,
     feeds: &mut Vec<Feed>,
     more: &mut Vec<Box<dyn Segment>>,
     steps: &[Step],
-) -> Result<usize, Fail>
+) -> Result<Option<usize>, Fail>
     requires sound { IsSoundBeside store.old holding }
     requires feeds { map ring_of_feed feeds.old.items ≡ (kept_beside store.old holding).rings }
     ensures { IsSoundBeside store.new holding }
 {
     for (i, step) in steps.iter().enumerate() {
         if !goes(rt, rt.alloc(), store, feeds, more, step)? {
-            return Ok(i);
+            return Ok(Some(i));
         }
     }
-    Ok(steps.len())
+    Ok(None)
 }
 
-// The same over a store that is opened over these boxes; 99 where it was not opened.
+// The same over a store that is opened over these boxes.
 fn walked<R: AllocGlobal + Wait>(
     rt: &R,
     boxes: Vec<Box<dyn Segment>>,
     more: &mut Vec<Box<dyn Segment>>,
     places: usize,
     steps: &[Step],
-) -> Result<usize, Fail> {
+) -> Result<Option<usize>, Fail> {
     let config = Config {
         writers: 2,
         places,
@@ -49,11 +50,22 @@ fn walked<R: AllocGlobal + Wait>(
         f: 16384,
     };
     let Ok((mut store, mut feeds)) = Store::open(rt, rt.alloc(), &config, boxes) else {
-        return Ok(99);
+        return Err(Fail::from("a refusal of open"));
     };
-    let went = all_go(rt, &mut store, &mut feeds, more, steps);
+    let wrong = wrong_step(rt, &mut store, &mut feeds, more, steps);
     let _ = store.shut(rt);
-    went
+    wrong
+}
+
+// So many boxes, and one more in reserve.
+fn supply(
+    alloc: Global,
+    many: u32,
+) -> Result<(Vec<Box<dyn Segment>>, Vec<Box<dyn Segment>>), Fail> {
+    let mut desk = Desk::new(alloc, 16)?;
+    let boxes = filled(alloc, &mut desk, many)?;
+    let more = filled(alloc, &mut desk, 1)?;
+    Ok((boxes, more))
 }
 
 /// Over so many boxes, with one more in reserve, and rings of so many places.
@@ -62,13 +74,8 @@ pub(super) fn within<R: AllocGlobal + Wait>(
     many: u32,
     places: usize,
     steps: &[Step],
-) -> Result<usize, Fail> {
-    let alloc = rt.alloc();
-    let mut desk = Desk::new(alloc, 16)?;
-    let mut boxes: Vec<Box<dyn Segment>> = Vec::new(alloc);
-    fill(alloc, &mut desk, many, &mut boxes)?;
-    let mut more: Vec<Box<dyn Segment>> = Vec::new(alloc);
-    fill(alloc, &mut desk, 1, &mut more)?;
+) -> Result<Option<usize>, Fail> {
+    let (boxes, mut more) = supply(rt.alloc(), many)?;
     walked(rt, boxes, &mut more, places, steps)
 }
 
@@ -77,7 +84,7 @@ pub(super) fn over<R: AllocGlobal + Wait>(
     rt: &R,
     many: u32,
     steps: &[Step],
-) -> Result<usize, Fail> {
+) -> Result<Option<usize>, Fail> {
     within(rt, many, 8, steps)
 }
 
@@ -87,12 +94,20 @@ pub(super) fn first_wrong<R: AllocGlobal + Wait>(
     tables: &[(u32, &[Step])],
 ) -> Result<Option<(usize, usize)>, Fail> {
     for (i, (many, steps)) in tables.iter().enumerate() {
-        let went = over(rt, *many, steps)?;
-        if went != steps.len() {
-            return Ok(Some((i, went)));
+        if let Some(step) = over(rt, *many, steps)? {
+            return Ok(Some((i, step)));
         }
     }
     Ok(None)
+}
+
+// So many boxes, then one that fails after so many calls, and a spare.
+fn fused(alloc: Global, many: u32, calls: u64, keep: u64) -> Result<Vec<Box<dyn Segment>>, Fail> {
+    let mut desk = Desk::new(alloc, 8)?;
+    let mut boxes = filled(alloc, &mut desk, many)?;
+    fuse(alloc, &mut desk, calls, keep, &mut boxes)?;
+    fill(alloc, &mut desk, 1, &mut boxes)?;
+    Ok(boxes)
 }
 
 /// Over so many boxes, then one that fails after so many calls, and a spare.
@@ -102,34 +117,51 @@ pub(super) fn over_fuse<R: AllocGlobal + Wait>(
     calls: u64,
     keep: u64,
     steps: &[Step],
-) -> Result<usize, Fail> {
-    let alloc = rt.alloc();
-    let mut desk = Desk::new(alloc, 8)?;
-    let mut boxes: Vec<Box<dyn Segment>> = Vec::new(alloc);
-    fill(alloc, &mut desk, many, &mut boxes)?;
-    fuse(alloc, &mut desk, calls, keep, &mut boxes)?;
-    fill(alloc, &mut desk, 1, &mut boxes)?;
-    let mut more: Vec<Box<dyn Segment>> = Vec::new(alloc);
-    walked(rt, boxes, &mut more, 8, steps)
+) -> Result<Option<usize>, Fail> {
+    let boxes = fused(rt.alloc(), many, calls, keep)?;
+    walked(rt, boxes, &mut Vec::new(rt.alloc()), 8, steps)
 }
 
-// The same over a store that is opened again: 98 where the boxes were not recovered, 99 where no
-// store was opened.
+// The same over a store that is opened again.
 fn walked_again<R: AllocGlobal + Wait>(
     rt: &R,
     boxes: Vec<Box<dyn Segment>>,
     more: &mut Vec<Box<dyn Segment>>,
     steps: &[Step],
-) -> Result<usize, Fail> {
+) -> Result<Option<usize>, Fail> {
     let Ok(recovered) = recover(rt.alloc(), boxes) else {
-        return Ok(98);
+        return Err(Fail::from("a refusal of recover"));
     };
     let Ok((mut store, mut feeds)) = Store::reopen(rt, rt.alloc(), recovered, 2, 8, 1) else {
-        return Ok(99);
+        return Err(Fail::from("a refusal of reopen"));
     };
-    let went = all_go(rt, &mut store, &mut feeds, more, steps);
+    let wrong = wrong_step(rt, &mut store, &mut feeds, more, steps);
     let _ = store.shut(rt);
-    went
+    wrong
+}
+
+// A box with the bytes of a text in hex.
+fn add_bytes(
+    alloc: Global,
+    desk: &mut Desk,
+    text: &'static str,
+    boxes: &mut Vec<Box<dyn Segment>>,
+) -> Result<(), Fail> {
+    let bytes = hex::decode(alloc, text)?;
+    let segment = MemSegment::with_bytes(alloc, desk.take()?, 16408, &bytes)?;
+    boxes.push(Box::new(alloc, segment)?)?;
+    Ok(())
+}
+
+// A box for each of these texts, and two spares.
+fn with_bytes(alloc: Global, texts: &[&'static str]) -> Result<Vec<Box<dyn Segment>>, Fail> {
+    let mut desk = Desk::new(alloc, 8)?;
+    let mut boxes: Vec<Box<dyn Segment>> = Vec::new(alloc);
+    for text in texts {
+        add_bytes(alloc, &mut desk, text, &mut boxes)?;
+    }
+    fill(alloc, &mut desk, 2, &mut boxes)?;
+    Ok(boxes)
 }
 
 /// Over a box for each of these texts in hex, in any order, and two spares.
@@ -137,16 +169,7 @@ pub(super) fn over_bytes<R: AllocGlobal + Wait>(
     rt: &R,
     texts: &[&'static str],
     steps: &[Step],
-) -> Result<usize, Fail> {
-    let alloc = rt.alloc();
-    let mut desk = Desk::new(alloc, 8)?;
-    let mut boxes: Vec<Box<dyn Segment>> = Vec::new(alloc);
-    for text in texts.iter() {
-        let bytes = hex::decode(alloc, *text)?;
-        let segment = MemSegment::with_bytes(alloc, desk.take()?, 16408, &bytes)?;
-        boxes.push(Box::new(alloc, segment)?)?;
-    }
-    fill(alloc, &mut desk, 2, &mut boxes)?;
-    let mut more: Vec<Box<dyn Segment>> = Vec::new(alloc);
-    walked_again(rt, boxes, &mut more, steps)
+) -> Result<Option<usize>, Fail> {
+    let boxes = with_bytes(rt.alloc(), texts)?;
+    walked_again(rt, boxes, &mut Vec::new(rt.alloc()), steps)
 }

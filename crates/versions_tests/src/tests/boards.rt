@@ -26,13 +26,13 @@ fn board(alloc: Global) -> Result<Board, Fail> {
     Ok(board)
 }
 
-const PAGES: [(u32, &str); 3] = [(1, ": a=1 b=2"), (2, "c: c=3 d=4 e=5"), (3, "")];
+const PAGES: &[(u32, &str)] = &[(1, ": a=1 b=2"), (2, "c: c=3 d=4 e=5"), (3, "")];
 
-const VALUES: [(&str, &str); 2] = [("e", "5"), ("x", "")];
+const VALUES: &[(&str, &str)] = &[("e", "5"), ("x", "")];
 
 fn has_pages(alloc: Global, board: &Board) -> Result<bool, Fail> {
     for (page, text) in PAGES {
-        if !is_shown(alloc, board.leaves().page(page), text)? {
+        if !is_shown(alloc, board.leaves().page(*page), text)? {
             return Ok(false);
         }
     }
