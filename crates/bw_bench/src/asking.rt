@@ -2,9 +2,9 @@
 
 ghost use Rattle.bw_store.specs.Views.{IsSound};
 
+use crate::bench::Bench;
 use crate::shape::Shape;
 use crate::stop::Stop;
-use crate::system::System;
 use crate::watch::Meter;
 use bw_store::{Reader, Store};
 
@@ -14,80 +14,93 @@ fn is_right(store: &mut Store, shape: &Shape, put: u64, puts: u64) -> Result<boo
     ensures { IsSound store.new holding }
 {
     let key = shape.key(put)?;
-    match store.get(&key)? {
-        Some(value) => Ok(value == shape.value(shape.last(put, puts))?),
-        None => Ok(false),
-    }
+    let expected = shape.value(shape.last(put, puts))?;
+    Ok(store.get(&key)? == Some(expected))
 }
 
 /// How many of the first so many keys have not the value of the last of so many puts.
-pub fn wrong_of<R: System>(
-    rt: &R,
-    store: &mut Store,
-    shape: &Shape,
-    keys: u64,
-    puts: u64,
-) -> Result<u64, Stop>
+fn wrong_of(bench: &mut Bench<'_>, store: &mut Store, keys: u64, puts: u64) -> Result<u64, Stop>
     requires { IsSound store.old holding }
     ensures { IsSound store.new holding }
 {
+    let shape = bench.options.shape();
     let mut wrong = 0u64;
-    let mut meter = Meter::start(rt, "reading back", keys)?;
+    let mut meter = Meter::start(bench, "reading back", keys);
     'keys: for put in 0..keys {
-        if !is_right(store, shape, put, puts)? {
-            wrong = wrong.saturating_add(1);
-        }
-        meter.tell_some(rt, put)?;
+        let is_wrong = !is_right(store, &shape, put, puts)?;
+        wrong = wrong.saturating_add(u64::from(is_wrong));
+        meter.tell_some(bench, put);
     }
     Ok(wrong)
 }
 
-/// Whether the key of a put has a value.
-fn is_there(store: &mut Store, shape: &Shape, put: u64) -> Result<bool, Stop>
+/// Reads so many keys back: each must have the value of the last of so many puts.
+pub fn read_back(
+    bench: &mut Bench<'_>,
+    store: &mut Store,
+    name: &str,
+    keys: u64,
+    puts: u64,
+) -> Result<(), Stop>
+    requires { IsSound store.old holding }
+    ensures { IsSound store.new holding }
+{
+    let wrong = wrong_of(bench, store, keys, puts)?;
+    bench.tell_wrong(name, keys, wrong)
+}
+
+/// Asks for the key of a put, which has a value.
+fn get_one(store: &mut Store, shape: &Shape, put: u64) -> Result<(), Stop>
     requires { IsSound store.old holding }
     ensures { IsSound store.new holding }
 {
     let key = shape.key(put)?;
-    Ok(store.get(&key)?.is_some())
+    if store.get(&key)?.is_none() {
+        return Err(Stop::Failed("a key without a value"));
+    }
+    Ok(())
 }
 
-/// The nanoseconds in which the store gives a value for the keys of so many puts.
-pub fn get_all<R: System>(
-    rt: &R,
+/// The store gives a value for the keys of so many puts.
+pub fn get_all(
+    bench: &mut Bench<'_>,
     store: &mut Store,
-    shape: &Shape,
-    puts: u64,
     name: &'static str,
-) -> Result<u64, Stop>
+    puts: u64,
+) -> Result<(), Stop>
     requires { IsSound store.old holding }
     ensures { IsSound store.new holding }
 {
-    let mut meter = Meter::start(rt, name, puts)?;
+    let shape = bench.options.shape();
+    let mut meter = Meter::start(bench, name, puts);
     'gets: for put in 0..puts {
-        if !is_there(store, shape, put)? {
-            return Err(Stop::Failed("a key without a value"));
-        }
-        meter.tell_some(rt, put)?;
+        get_one(store, &shape, put)?;
+        meter.tell_some(bench, put);
     }
-    meter.nanos(rt)
+    let nanos = meter.nanos(bench);
+    bench.tell(name, puts, nanos);
+    Ok(())
 }
 
-/// The nanoseconds in which a reader does.
-pub fn read_all<R: System>(
-    rt: &R,
-    reader: &mut Reader,
-    shape: &Shape,
-    puts: u64,
-) -> Result<u64, Stop> {
-    let mut meter = Meter::start(rt, "reader", puts)?;
-    for put in 0..puts {
-        let key = shape.key(put)?;
-        match reader.get(&key) {
-            Ok(Some(_)) => meter.tell_some(rt, put)?,
-            _ => return Err(Stop::Failed("a reader without a value")),
-        }
+fn read_one(reader: &mut Reader, shape: &Shape, put: u64) -> Result<(), Stop> {
+    let key = shape.key(put)?;
+    match reader.get(&key) {
+        Ok(Some(_)) => Ok(()),
+        _ => Err(Stop::Failed("a reader without a value")),
     }
-    meter.nanos(rt)
+}
+
+/// The same of a reader.
+pub fn read_all(bench: &mut Bench<'_>, reader: &mut Reader, puts: u64) -> Result<(), Stop> {
+    let shape = bench.options.shape();
+    let mut meter = Meter::start(bench, "reader", puts);
+    for put in 0..puts {
+        read_one(reader, &shape, put)?;
+        meter.tell_some(bench, put);
+    }
+    let nanos = meter.nanos(bench);
+    bench.tell("get of a reader", puts, nanos);
+    Ok(())
 }
 
 /// Whether there is a page of this number, which then leaves memory.
