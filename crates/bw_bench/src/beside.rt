@@ -72,20 +72,7 @@ fn look_up(mut reader: Reader, shape: Shape, puts: u64) -> Seen {
     seen
 }
 
-/// A reader of the store that begins to look up.
-fn start<R: Threads>(
-    rt: &R,
-    reader: Reader,
-    shape: Shape,
-    puts: u64,
-) -> Result<JoinHandle<Seen>, Stop> {
-    match thread::spawn(rt, move || look_up(reader, shape, puts)) {
-        Ok(thread) => Ok(thread),
-        Err(_) => Err(Stop::Thread),
-    }
-}
-
-/// The same, if there is to be one.
+/// A reader of the store that begins to look up, if there is to be one.
 pub fn start_if<R: Threads>(
     rt: &R,
     store: &mut Store,
@@ -101,7 +88,10 @@ pub fn start_if<R: Threads>(
         return Ok(None);
     }
     let reader = store.reader()?;
-    Ok(Some(start(rt, reader, shape, puts)?))
+    match thread::spawn(rt, move || look_up(reader, shape, puts)) {
+        Ok(thread) => Ok(Some(thread)),
+        Err(_) => Err(Stop::Thread),
+    }
 }
 
 /// What the reader saw, if there is one. Where the puts were refused it is not waited for: it ends

@@ -93,22 +93,43 @@ pub fn memory(
     }
 }
 
-/// Makes the boxes of a course, runs it, and then goes on from the live ones. A function that takes
-/// or gives a box, or a store, makes none.
+/// Runs the course over these boxes, and then goes on from the live ones.
+fn over_and_again<R: Threads + Wait>(
+    rt: &R,
+    bench: &mut Bench<'_>,
+    course: Course,
+    boxes: Vec<Box<dyn Segment>>,
+) -> Result<(), Stop> {
+    let live = over(rt, bench, course, boxes)?;
+    let start = bench.now();
+    reopened(rt, bench, start, live)
+}
+
+/// The same over boxes of so many leases. A function that takes or gives a box, or a store, makes
+/// none.
+fn over_leases<R: Threads + Wait>(
+    rt: &R,
+    bench: &mut Bench<'_>,
+    course: Course,
+    desk: &mut Desk,
+    many: u32,
+) -> Result<(), Stop> {
+    let alloc = bench.alloc();
+    let mut boxes: Vec<Box<dyn Segment>> = Vec::new(alloc);
+    for _ in 0..many {
+        let segment = memory(alloc, desk, CAPACITY, &[])?;
+        boxes.push(Box::new(alloc, segment)?)?;
+    }
+    over_and_again(rt, bench, course, boxes)
+}
+
+/// Runs the course over segments in memory, and then goes on from the live ones.
 pub fn over_memory<R: Threads + Wait>(
     rt: &R,
     bench: &mut Bench<'_>,
     course: Course,
 ) -> Result<(), Stop> {
-    let alloc = bench.alloc();
     let many = count_of(&bench.options);
-    let mut desk = Desk::new(alloc, many)?;
-    let mut boxes: Vec<Box<dyn Segment>> = Vec::new(alloc);
-    for _ in 0..many {
-        let segment = memory(alloc, &mut desk, CAPACITY, &[])?;
-        boxes.push(Box::new(alloc, segment)?)?;
-    }
-    let live = over(rt, bench, course, boxes)?;
-    let start = bench.now();
-    reopened(rt, bench, start, live)
+    let mut desk = Desk::new(bench.alloc(), many)?;
+    over_leases(rt, bench, course, &mut desk, many)
 }

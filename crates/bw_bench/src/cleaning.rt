@@ -103,26 +103,31 @@ fn clean_all(bench: &mut Bench<'_>, log: &mut Log) -> Result<u64, Stop>
     Err(Stop::Failed("a page"))
 }
 
-/// The same of a log of these segments.
-fn clean_pieces(bench: &mut Bench<'_>, pieces: &[&[u8]]) -> Result<u64, Stop> {
-    let alloc = bench.alloc();
-    let mut desk = Desk::new(alloc, 3)?;
-    let mut boxes: Vec<Box<dyn Segment>> = Vec::new(alloc);
-    for piece in pieces {
-        let segment = memory(alloc, &mut desk, CAPACITY, piece)?;
-        boxes.push(Box::new(alloc, segment)?)?;
-    }
-    match recover(alloc, boxes) {
+/// The same of a log in these boxes.
+fn clean_boxes(bench: &mut Bench<'_>, boxes: Vec<Box<dyn Segment>>) -> Result<u64, Stop> {
+    match recover(bench.alloc(), boxes) {
         Ok(mut found) => clean_all(bench, &mut found.log),
         Err(_) => Err(Stop::Failed("a recovery")),
     }
+}
+
+/// The same of a log of these segments.
+fn clean_pieces(bench: &mut Bench<'_>, desk: &mut Desk, pieces: &[&[u8]]) -> Result<u64, Stop> {
+    let alloc = bench.alloc();
+    let mut boxes: Vec<Box<dyn Segment>> = Vec::new(alloc);
+    for piece in pieces {
+        let segment = memory(alloc, desk, CAPACITY, piece)?;
+        boxes.push(Box::new(alloc, segment)?)?;
+    }
+    clean_boxes(bench, boxes)
 }
 
 /// The same of this oldest segment, a newest one without a frame, and a spare.
 fn clean_once(bench: &mut Bench<'_>, bytes: &[u8]) -> Result<u64, Stop> {
     let mut newest = Vec::new(bench.alloc());
     put_header(&mut newest, 2)?;
-    clean_pieces(bench, &[bytes, &newest, &[]])
+    let mut desk = Desk::new(bench.alloc(), 3)?;
+    clean_pieces(bench, &mut desk, &[bytes, &newest, &[]])
 }
 
 fn copy_once(bench: &mut Bench<'_>, bytes: &[u8]) -> Result<u64, Stop> {
@@ -132,25 +137,24 @@ fn copy_once(bench: &mut Bench<'_>, bytes: &[u8]) -> Result<u64, Stop> {
     Ok(bench.since(start))
 }
 
-/// The least nanoseconds of a cleaning and of a copy of its bytes.
-fn least_of(bench: &mut Bench<'_>, bytes: &[u8]) -> Result<(u64, u64), Stop> {
-    let mut least = (u64::MAX, u64::MAX);
-    for _ in 0..ROUNDS {
-        least.0 = least.0.min(clean_once(bench, bytes)?);
-        least.1 = least.1.min(copy_once(bench, bytes)?);
-    }
-    Ok(least)
-}
-
 /// Cleanings of the same segment, and copies of its bytes.
-pub fn cleaning(bench: &mut Bench<'_>) -> Result<(), Stop> {
-    let mut bytes = Vec::new(bench.alloc());
-    put_oldest(bench.alloc(), &mut bytes)?;
-    let (cleaned, copied) = least_of(bench, &bytes)?;
+fn clean_often(bench: &mut Bench<'_>, bytes: &[u8]) -> Result<(), Stop> {
+    let (mut cleaned, mut copied) = (u64::MAX, u64::MAX);
+    for _ in 0..ROUNDS {
+        cleaned = cleaned.min(clean_once(bench, bytes)?);
+        copied = copied.min(copy_once(bench, bytes)?);
+    }
     let pages = FRAMES.saturating_mul(IN_FRAME);
     bench.tell("cleaning, pages", pages, cleaned);
     bench.tell("cleaning, segments", 1, cleaned);
     bench.tell("a copy of the segment", 1, copied);
     bench.tell_each("  the segment", 1, bytes.len() as u64, "bytes");
     Ok(())
+}
+
+/// Makes the segment, and cleans it.
+pub fn cleaning(bench: &mut Bench<'_>) -> Result<(), Stop> {
+    let mut bytes = Vec::new(bench.alloc());
+    put_oldest(bench.alloc(), &mut bytes)?;
+    clean_often(bench, &bytes)
 }

@@ -21,7 +21,7 @@ const SIZES: &[(&str, usize)] = &[
 const APPENDS: u64 = 256;
 
 /// The folder of this name in another.
-fn folder(bench: &Bench<'_>, dir: &str, name: &str) -> Result<Folder, Stop> {
+fn open_folder(bench: &Bench<'_>, dir: &str, name: &str) -> Result<Folder, Stop> {
     let path = format!(in bench.alloc(); "{dir}/{name}")?;
     Ok(Folder::open(bench.system, path.as_str())?)
 }
@@ -36,7 +36,7 @@ fn must_be_empty(bench: &Bench<'_>, folder: &Folder) -> Result<(), Stop> {
 
 /// The same, without segments, so that a run empties nobody's files.
 fn new_folder(bench: &Bench<'_>, dir: &str, name: &str) -> Result<Folder, Stop> {
-    let folder = folder(bench, dir, name)?;
+    let folder = open_folder(bench, dir, name)?;
     must_be_empty(bench, &folder)?;
     Ok(folder)
 }
@@ -111,7 +111,40 @@ pub fn appends(bench: &mut Bench<'_>, dir: &str) -> Result<(), Stop> {
     append_sizes(bench, &folder, &mut desk)
 }
 
-/// Goes on with the boxes of a folder: runs a course over them, or, without one, opens a store.
+/// Runs a course over these boxes; without one it goes on from what they hold.
+fn with_boxes<R: Threads + Wait>(
+    rt: &R,
+    bench: &mut Bench<'_>,
+    course: Option<Course>,
+    start: u64,
+    boxes: Vec<Box<dyn Segment>>,
+) -> Result<(), Stop> {
+    let Some(course) = course else {
+        return reopened(rt, bench, start, boxes);
+    };
+    let _live = over(rt, bench, course, boxes)?;
+    Ok(())
+}
+
+/// The same with the boxes of a folder, which are new for a course.
+fn with_files<R: Threads + Wait>(
+    rt: &R,
+    bench: &mut Bench<'_>,
+    course: Option<Course>,
+    start: u64,
+    folder: &Folder,
+    desk: &mut Desk,
+) -> Result<(), Stop> {
+    let alloc = bench.alloc();
+    let mut boxes: Vec<Box<dyn Segment>> = Vec::new(alloc);
+    for _ in 0..count_of(&bench.options) {
+        let segment = file(bench, folder, desk, course.is_some())?;
+        boxes.push(Box::new(alloc, segment)?)?;
+    }
+    with_boxes(rt, bench, course, start, boxes)
+}
+
+/// The same by leases of a desk.
 fn with_folder<R: Threads + Wait>(
     rt: &R,
     bench: &mut Bench<'_>,
@@ -119,49 +152,12 @@ fn with_folder<R: Threads + Wait>(
     start: u64,
     folder: &Folder,
 ) -> Result<(), Stop> {
-    let alloc = bench.alloc();
-    let many = count_of(&bench.options);
-    let mut desk = Desk::new(alloc, many)?;
-    let mut boxes: Vec<Box<dyn Segment>> = Vec::new(alloc);
-    for _ in 0..many {
-        let segment = file(bench, folder, &mut desk, course.is_some())?;
-        boxes.push(Box::new(alloc, segment)?)?;
-    }
-    match course {
-        Some(course) => {
-            let _live = over(rt, bench, course, boxes)?;
-            Ok(())
-        }
-        None => reopened(rt, bench, start, boxes),
-    }
-}
-
-/// Goes on from the files of a course before, which nobody has open any more.
-fn again<R: Threads + Wait>(
-    rt: &R,
-    bench: &mut Bench<'_>,
-    dir: &str,
-    name: &str,
-) -> Result<(), Stop> {
-    let start = bench.now();
-    let folder = folder(bench, dir, name)?;
-    with_folder(rt, bench, None, start, &folder)
-}
-
-/// Runs the course over new files.
-fn first<R: Threads + Wait>(
-    rt: &R,
-    bench: &mut Bench<'_>,
-    course: Course,
-    dir: &str,
-    name: &str,
-) -> Result<(), Stop> {
-    let folder = new_folder(bench, dir, name)?;
-    with_folder(rt, bench, Some(course), 0, &folder)
+    let mut desk = Desk::new(bench.alloc(), count_of(&bench.options))?;
+    with_files(rt, bench, course, start, folder, &mut desk)
 }
 
 /// Runs the course over files in a new folder of the subject's name, and then goes on from what
-/// they hold. They stay.
+/// they hold, once nobody has them open any more. They stay.
 pub fn over_files<R: Threads + Wait>(
     rt: &R,
     bench: &mut Bench<'_>,
@@ -169,6 +165,10 @@ pub fn over_files<R: Threads + Wait>(
     dir: &str,
     name: &str,
 ) -> Result<(), Stop> {
-    first(rt, bench, course, dir, name)?;
-    again(rt, bench, dir, name)
+    let folder = new_folder(bench, dir, name)?;
+    with_folder(rt, bench, Some(course), 0, &folder)?;
+    drop(folder);
+    let start = bench.now();
+    let folder = open_folder(bench, dir, name)?;
+    with_folder(rt, bench, None, start, &folder)
 }

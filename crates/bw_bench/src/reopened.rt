@@ -1,7 +1,5 @@
 //! A store goes on from the boxes of another.
 
-ghost use Rattle.bw_store.specs.Views.{IsSound};
-
 use crate::asking::read_back;
 use crate::batches::bytes_of;
 use crate::bench::Bench;
@@ -11,27 +9,15 @@ use bw_device::Segment;
 use bw_store::Store;
 use std::sync::Wait;
 
-/// Tells what it took, and reads all keys back.
-fn ask(bench: &mut Bench<'_>, store: &mut Store, recovered: u64, opened: u64) -> Result<(), Stop>
-    requires { IsSound store.old holding }
-    ensures { IsSound store.new holding }
-{
-    let puts = bench.options.puts();
-    bench.tell_each("recover, records", puts, recovered, "ns");
-    bench.tell("open, records", puts, opened);
-    bench.tell_each("  in the log", puts, bytes_of(store), "bytes");
-    let keys = u64::from(bench.options.keys);
-    read_back(bench, store, "open", keys, puts)
-}
-
-/// Recovers what the boxes hold, opens a store over it, and reads all keys back. The time runs from
-/// before the boxes were made.
+/// Recovers what the boxes hold, opens a store over it, tells what it took, and reads all keys back.
+/// The time runs from before the boxes were made.
 pub fn reopened<R: Wait>(
     rt: &R,
     bench: &mut Bench<'_>,
     start: u64,
     boxes: Vec<Box<dyn Segment>>,
 ) -> Result<(), Stop> {
+    let (keys, puts) = (u64::from(bench.options.keys), bench.options.puts());
     let Ok(found) = recover(bench.alloc(), boxes) else {
         return Err(Stop::Failed("a recovery"));
     };
@@ -41,7 +27,10 @@ pub fn reopened<R: Wait>(
         Err(fault) => return Err(Stop::from(fault.cause)),
     };
     let opened = bench.since(start);
-    let went = ask(bench, &mut store, recovered, opened);
+    bench.tell_each("recover, records", puts, recovered, "ns");
+    bench.tell("open, records", puts, opened);
+    bench.tell_each("  in the log", puts, bytes_of(&store), "bytes");
+    let went = read_back(bench, &mut store, "open", keys, puts);
     let _ = store.shut(rt);
     went
 }
