@@ -2,14 +2,13 @@
 
 ghost use Rattle.bw_store.specs.Views.{IsSound};
 
+use crate::bench::Bench;
 use crate::stop::Stop;
-use crate::subject::Pace;
-use crate::system::System;
-use crate::watch::{Meter, since};
+use crate::watch::Meter;
 use bw_codec::Record;
 use bw_ring::Feed;
 use bw_store::Store;
-use std::time::Instant;
+use std::sync::Wait;
 
 /// The nanoseconds of each part of a course.
 #[derive(Clone, Copy)]
@@ -41,19 +40,18 @@ impl Cost {
     }
 }
 
-/// Puts all of a batch: the nanoseconds.
-fn put_all<R: System>(rt: &R, feed: &mut Feed, batch: &[Record]) -> Result<u64, Stop> {
-    let start = Instant::now(rt)?;
+/// Puts all of a batch.
+fn put_all(feed: &mut Feed, batch: &[Record]) -> Result<(), Stop> {
     for item in batch {
         if feed.put(item.copy()).is_err() {
             return Err(Stop::Failed("a full ring"));
         }
     }
-    since(rt, start)
+    Ok(())
 }
 
 /// Takes so many records.
-fn take(store: &mut Store, many: u32) -> Result<(), Stop>
+fn take_all(store: &mut Store, many: u32) -> Result<(), Stop>
     requires { IsSound store.old holding }
     ensures { IsSound store.new holding }
 {
@@ -68,32 +66,28 @@ fn take(store: &mut Store, many: u32) -> Result<(), Stop>
     }
 }
 
-/// The same: the nanoseconds.
-fn take_all<R: System>(rt: &R, store: &mut Store, many: u32) -> Result<u64, Stop>
-    requires { IsSound store.old holding }
-    ensures { IsSound store.new holding }
-{
-    let start = Instant::now(rt)?;
-    take(store, many)?;
-    since(rt, start)
-}
-
 /// Flushes if told: the nanoseconds.
-fn flush_if<R: System>(rt: &R, store: &mut Store, is_due: bool) -> Result<u64, Stop>
+fn flush_if<R: Wait>(
+    rt: &R,
+    bench: &mut Bench<'_>,
+    store: &mut Store,
+    is_due: bool,
+) -> Result<u64, Stop>
     requires { IsSound store.old holding }
     ensures { IsSound store.new holding }
 {
     if !is_due {
         return Ok(0);
     }
-    let start = Instant::now(rt)?;
+    let start = bench.now();
     let _ = store.flush(rt)?;
-    since(rt, start)
+    Ok(bench.since(start))
 }
 
 /// Puts and takes a batch, and flushes it if told.
-fn one_batch<R: System>(
+fn one_batch<R: Wait>(
     rt: &R,
+    bench: &mut Bench<'_>,
     store: &mut Store,
     feed: &mut Feed,
     batch: &[Record],
@@ -103,9 +97,13 @@ fn one_batch<R: System>(
     ensures { IsSound store.new holding }
 {
     let many = u32::try_from(batch.len()).unwrap_or(u32::MAX);
-    let puts = put_all(rt, feed, batch)?;
-    let turns = take_all(rt, store, many)?;
-    let flushes = flush_if(rt, store, is_due)?;
+    let start = bench.now();
+    put_all(feed, batch)?;
+    let puts = bench.since(start);
+    let start = bench.now();
+    take_all(store, many)?;
+    let turns = bench.since(start);
+    let flushes = flush_if(rt, bench, store, is_due)?;
     Ok(Cost {
         puts,
         turns,
@@ -113,29 +111,29 @@ fn one_batch<R: System>(
     })
 }
 
-/// Puts, takes and flushes a script, so many records at once.
-pub fn put_script<R: System>(
+/// Puts and takes a script, a batch at once, and flushes after each, or late: after the last.
+pub fn put_script<R: Wait>(
     rt: &R,
+    bench: &mut Bench<'_>,
     store: &mut Store,
     feed: &mut Feed,
     script: &[Record],
-    size: usize,
-    pace: Pace,
+    is_late: bool,
     name: &'static str,
 ) -> Result<Cost, Stop>
     requires { IsSound store.old holding }
     ensures { IsSound store.new holding }
 {
+    let size = usize::from(bench.options.batch).max(1);
     let mut cost = Cost::NONE;
-    let mut done = 0u64;
-    let mut meter = Meter::start(rt, name, script.len() as u64)?;
-    'batches: for batch in script.chunks(size.max(1)) {
-        cost = cost.and(one_batch(rt, store, feed, batch, pace == Pace::Batches)?);
-        done = done.saturating_add(batch.len() as u64);
-        meter.tell(rt, done)?;
+    let mut done = 0usize;
+    let mut meter = Meter::start(bench, name, script.len() as u64);
+    'batches: for batch in script.chunks(size) {
+        done = done.saturating_add(batch.len());
+        let is_due = !is_late || done == script.len();
+        cost = cost.and(one_batch(rt, bench, store, feed, batch, is_due)?);
+        meter.tell(bench, done as u64);
     }
-    let last = flush_if(rt, store, pace == Pace::Late)?;
-    cost.flushes = cost.flushes.saturating_add(last);
     Ok(cost)
 }
 

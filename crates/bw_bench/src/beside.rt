@@ -5,7 +5,6 @@ ghost use Rattle.bw_store.specs.Views.{kept_by, IsSound};
 
 use crate::shape::Shape;
 use crate::stop::Stop;
-use crate::system::System;
 use bw_codec::Value;
 use bw_store::{Reader, Store};
 use std::thread;
@@ -44,6 +43,19 @@ fn is_over(reader: &mut Reader, shape: &Shape, put: u64) -> bool {
     }
 }
 
+/// Looks up the key of this put.
+fn look_once(reader: &mut Reader, shape: &Shape, put: u64, puts: u64, seen: &mut Seen) {
+    let Ok(key) = shape.key(put) else {
+        return;
+    };
+    seen.lookups = seen.lookups.saturating_add(1);
+    if let Ok(Some(value)) = reader.get(&key) {
+        seen.found = seen.found.saturating_add(1);
+        let is_wrong = !is_put(shape, put, &value, puts);
+        seen.wrong = seen.wrong.saturating_add(u64::from(is_wrong));
+    }
+}
+
 /// Looks up one key after the other until the last of so many puts is there, or the store is shut.
 fn look_up(mut reader: Reader, shape: Shape, puts: u64) -> Seen {
     let mut seen = Seen {
@@ -55,37 +67,16 @@ fn look_up(mut reader: Reader, shape: Shape, puts: u64) -> Seen {
         if put % LOOKS == 0 && is_over(&mut reader, &shape, puts.saturating_sub(1)) {
             break;
         }
-        let Ok(key) = shape.key(put) else {
-            break;
-        };
-        seen.lookups = seen.lookups.saturating_add(1);
-        if let Ok(Some(value)) = reader.get(&key) {
-            seen.found = seen.found.saturating_add(1);
-            let is_wrong = !is_put(&shape, put, &value, puts);
-            seen.wrong = seen.wrong.saturating_add(u64::from(is_wrong));
-        }
+        look_once(&mut reader, &shape, put, puts, &mut seen);
     }
     seen
 }
 
-/// A reader of the store that begins to look up.
-fn start<R: Threads>(
-    rt: &R,
-    reader: Reader,
-    shape: Shape,
-    puts: u64,
-) -> Result<JoinHandle<Seen>, Stop> {
-    match thread::spawn(rt, move || look_up(reader, shape, puts)) {
-        Ok(thread) => Ok(thread),
-        Err(_) => Err(Stop::Thread),
-    }
-}
-
-/// The same, if there is to be one.
-pub fn start_if<R: System>(
+/// A reader of the store that begins to look up, if there is to be one.
+pub fn start_if<R: Threads>(
     rt: &R,
     store: &mut Store,
-    shape: &Shape,
+    shape: Shape,
     puts: u64,
     is_read: bool,
 ) -> Result<Option<JoinHandle<Seen>>, Stop>
@@ -97,12 +88,15 @@ pub fn start_if<R: System>(
         return Ok(None);
     }
     let reader = store.reader()?;
-    Ok(Some(start(rt, reader, *shape, puts)?))
+    match thread::spawn(rt, move || look_up(reader, shape, puts)) {
+        Ok(thread) => Ok(Some(thread)),
+        Err(_) => Err(Stop::Thread),
+    }
 }
 
 /// What the reader saw, if there is one. Where the puts were refused it is not waited for: it ends
 /// once its store is shut.
-pub fn end_if<R: System>(rt: &R, looker: Option<JoinHandle<Seen>>, are_put: bool) -> Option<Seen> {
+pub fn end_if<R: Threads>(rt: &R, looker: Option<JoinHandle<Seen>>, are_put: bool) -> Option<Seen> {
     match looker {
         Some(thread) => {
             if are_put {

@@ -5,16 +5,18 @@ ghost use Rattle.bw_ring.specs.Ends.{ring_of_feed};
 ghost use Rattle.bw_store.specs.Views.{kept_by, IsSound};
 
 use crate::alone::alone;
+use crate::bench::Bench;
 use crate::driven::driven;
 use crate::options::Options;
 use crate::reopened::reopened;
 use crate::stop::Stop;
 use crate::subject::Course;
-use crate::system::System;
-use crate::watch::Meter;
 use bw_device::{Desk, MemSegment, Segment};
 use bw_ring::Feed;
 use bw_store::{Config, Store};
+use std::alloc::Global;
+use std::sync::Wait;
+use std::thread::Threads;
 
 /// How many bytes a segment has room for, all of which it takes when it is made.
 pub const CAPACITY: u64 = 16_777_216;
@@ -30,9 +32,9 @@ pub fn count_of(options: &Options<'_>) -> u32 {
     u32::try_from(full).unwrap_or(u32::MAX).saturating_add(4)
 }
 
-fn config_of(options: &Options<'_>, writers: u16) -> Config {
+fn config_of(options: &Options<'_>, course: Course) -> Config {
     Config {
-        writers: usize::from(writers),
+        writers: usize::from(course.threads.max(1).min(options.writers)),
         places: usize::from(options.batch),
         readers: 4,
         m: 32,
@@ -41,9 +43,9 @@ fn config_of(options: &Options<'_>, writers: u16) -> Config {
 }
 
 /// Runs the course.
-fn go<R: System>(
+fn go<R: Threads + Wait>(
     rt: &R,
-    options: &Options<'_>,
+    bench: &mut Bench<'_>,
     course: Course,
     store: &mut Store,
     feeds: Vec<Feed>,
@@ -52,49 +54,82 @@ fn go<R: System>(
     requires feeds { map ring_of_feed feeds.items ≡ (kept_by store.old holding).rings }
     ensures { IsSound store.new holding }
 {
-    match course {
-        Course::Alone { pace, is_read } => alone(rt, options, store, feeds, pace, is_read),
-        Course::Driven { is_read, .. } => driven(rt, options, store, feeds, is_read),
+    if course.threads == 0 {
+        alone(rt, bench, store, feeds, course)
+    } else {
+        driven(rt, bench, store, feeds, course.is_read)
     }
 }
 
 /// Runs the course over a store of these boxes, and gives the live ones back.
-pub fn over<R: System>(
+pub fn over<R: Threads + Wait>(
     rt: &R,
-    options: &Options<'_>,
+    bench: &mut Bench<'_>,
     course: Course,
     boxes: Vec<Box<dyn Segment>>,
 ) -> Result<Vec<Box<dyn Segment>>, Stop> {
-    let writers = match course {
-        Course::Alone { .. } => 1,
-        Course::Driven { writers, .. } => writers,
-    };
-    let config = config_of(options, writers);
-    let (mut store, feeds) = match Store::open(rt, rt.alloc(), &config, boxes) {
+    let config = config_of(&bench.options, course);
+    let (mut store, feeds) = match Store::open(rt, bench.alloc(), &config, boxes) {
         Ok(opened) => opened,
         Err(fault) => return Err(Stop::from(fault.cause)),
     };
-    let went = go(rt, options, course, &mut store, feeds);
+    let went = go(rt, bench, course, &mut store, feeds);
     let (live, _spares) = store.shut(rt);
     went?;
     Ok(live)
 }
 
-/// Makes the boxes of a course, runs it, and then goes on from the live ones. A function that takes
-/// or gives a box, or a store, makes none.
-pub fn over_memory<R: System>(rt: &R, options: &Options<'_>, course: Course) -> Result<(), Stop> {
-    let alloc = rt.alloc();
-    let many = count_of(options);
-    let mut desk = Desk::new(alloc, many)?;
+/// A segment in memory of the desk's next lease.
+pub fn memory(
+    alloc: Global,
+    desk: &mut Desk,
+    capacity: u64,
+    bytes: &[u8],
+) -> Result<MemSegment, Stop> {
+    let lease = desk.take()?;
+    match MemSegment::with_bytes(alloc, lease, capacity, bytes) {
+        Ok(segment) => Ok(segment),
+        Err(refused) => Err(Stop::from(refused.cause)),
+    }
+}
+
+/// Runs the course over these boxes, and then goes on from the live ones.
+fn over_and_again<R: Threads + Wait>(
+    rt: &R,
+    bench: &mut Bench<'_>,
+    course: Course,
+    boxes: Vec<Box<dyn Segment>>,
+) -> Result<(), Stop> {
+    let live = over(rt, bench, course, boxes)?;
+    let start = bench.now();
+    reopened(rt, bench, start, live)
+}
+
+/// The same over boxes of so many leases. A function that takes or gives a box, or a store, makes
+/// none.
+fn over_leases<R: Threads + Wait>(
+    rt: &R,
+    bench: &mut Bench<'_>,
+    course: Course,
+    desk: &mut Desk,
+    many: u32,
+) -> Result<(), Stop> {
+    let alloc = bench.alloc();
     let mut boxes: Vec<Box<dyn Segment>> = Vec::new(alloc);
     for _ in 0..many {
-        let lease = desk.take()?;
-        match MemSegment::new(alloc, lease, CAPACITY) {
-            Ok(segment) => boxes.push(Box::new(alloc, segment)?)?,
-            Err(refused) => return Err(Stop::from(refused.cause)),
-        }
+        let segment = memory(alloc, desk, CAPACITY, &[])?;
+        boxes.push(Box::new(alloc, segment)?)?;
     }
-    let live = over(rt, options, course, boxes)?;
-    let meter = Meter::start(rt, "open", 1)?;
-    reopened(rt, options, meter, live)
+    over_and_again(rt, bench, course, boxes)
+}
+
+/// Runs the course over segments in memory, and then goes on from the live ones.
+pub fn over_memory<R: Threads + Wait>(
+    rt: &R,
+    bench: &mut Bench<'_>,
+    course: Course,
+) -> Result<(), Stop> {
+    let many = count_of(&bench.options);
+    let mut desk = Desk::new(bench.alloc(), many)?;
+    over_leases(rt, bench, course, &mut desk, many)
 }

@@ -3,14 +3,12 @@
 
 ghost use Rattle.bw_care.specs.Views.{IsSound};
 
-use crate::options::Options;
-use crate::report::{tell, tell_bytes};
+use crate::bench::Bench;
+use crate::boxes::memory;
 use crate::stop::Stop;
-use crate::system::System;
-use crate::watch::Meter;
 use bw_care::{clean, recover};
 use bw_codec::{Header, encode_frame_head, encode_header};
-use bw_device::{Desk, MemSegment, Segment};
+use bw_device::{Desk, Segment};
 use bw_log::Log;
 use std::alloc::{AllocError, Global};
 
@@ -27,23 +25,27 @@ const ROUNDS: u32 = 50;
 
 /// A key of 8 bytes and a value of 16.
 fn put_pair(out: &mut Vec<u8>, key: u64) -> Result<(), AllocError> {
-    out.push(8)?;
-    out.extend_from_slice(&key.to_be_bytes())?;
-    out.push(16)?;
-    out.extend_from_slice(&[b'v'; 16])
+    let mut pair = [b'v'; 26];
+    pair[0] = 8;
+    pair[1..9].copy_from_slice(&key.to_be_bytes());
+    pair[9] = 16;
+    out.extend_from_slice(&pair)
+}
+
+/// What a Base of a page begins with: its number, and its low key, where it has one.
+fn put_low(out: &mut Vec<u8>, page: u32, low: u64) -> Result<(), AllocError> {
+    let [a, b, c, d] = page.to_le_bytes();
+    if page == 1 {
+        return out.extend_from_slice(&[2, a, b, c, d, 0]);
+    }
+    out.extend_from_slice(&[2, a, b, c, d, 8])?;
+    out.extend_from_slice(&low.to_be_bytes())
 }
 
 /// A page of four pairs in a Base, its low key the first of them; that of page 1 has none.
 fn put_base(out: &mut Vec<u8>, page: u32) -> Result<(), AllocError> {
     let first = u64::from(page).saturating_mul(4);
-    out.push(2)?;
-    out.extend_from_slice(&page.to_le_bytes())?;
-    if page == 1 {
-        out.push(0)?;
-    } else {
-        out.push(8)?;
-        out.extend_from_slice(&first.to_be_bytes())?;
-    }
+    put_low(out, page, first)?;
     out.extend_from_slice(&[4, 0])?;
     for key in first..first.saturating_add(4) {
         put_pair(out, key)?;
@@ -51,16 +53,18 @@ fn put_base(out: &mut Vec<u8>, page: u32) -> Result<(), AllocError> {
     Ok(())
 }
 
-/// A frame of the pages behind those of the frames before it.
-fn put_frame(alloc: Global, out: &mut Vec<u8>, number: u64) -> Result<(), AllocError> {
+/// The pages of a frame, behind those of the frames before it.
+fn put_bases(out: &mut Vec<u8>, number: u64) -> Result<(), AllocError> {
     let behind = number.saturating_sub(1).saturating_mul(IN_FRAME);
-    let mut body = Vec::new(alloc);
     for i in 1..=IN_FRAME {
-        put_base(
-            &mut body,
-            u32::try_from(behind.saturating_add(i)).unwrap_or(0),
-        )?;
+        put_base(out, u32::try_from(behind.saturating_add(i)).unwrap_or(0))?;
     }
+    Ok(())
+}
+
+fn put_frame(alloc: Global, out: &mut Vec<u8>, number: u64) -> Result<(), AllocError> {
+    let mut body = Vec::new(alloc);
+    put_bases(&mut body, number)?;
     let length = u32::try_from(body.len()).unwrap_or(0);
     encode_frame_head(number, length, IN_FRAME as u32, out)?;
     out.extend_from_slice(&body)
@@ -75,68 +79,82 @@ fn put_header(out: &mut Vec<u8>, number: u64) -> Result<(), AllocError> {
     encode_header(&header, out)
 }
 
-/// The segment that is cleaned.
-fn oldest(alloc: Global) -> Result<Vec<u8>, AllocError> {
-    let mut bytes = Vec::new(alloc);
-    put_header(&mut bytes, 1)?;
+/// The bytes of the segment that is cleaned.
+fn put_oldest(alloc: Global, out: &mut Vec<u8>) -> Result<(), AllocError> {
+    put_header(out, 1)?;
     for number in 1..=FRAMES {
-        put_frame(alloc, &mut bytes, number)?;
+        put_frame(alloc, out, number)?;
     }
-    Ok(bytes)
+    Ok(())
 }
 
 /// The nanoseconds of a cleaning that writes all pages again.
-fn clean_all<R: System>(rt: &R, log: &mut Log) -> Result<u64, Stop>
+fn clean_all(bench: &mut Bench<'_>, log: &mut Log) -> Result<u64, Stop>
     requires { IsSound log.old holding }
 {
-    let meter = Meter::start(rt, "cleaning", 0)?;
-    let Ok(cleaned) = clean(rt.alloc(), log) else {
+    let start = bench.now();
+    let Ok(cleaned) = clean(bench.alloc(), log) else {
         return Err(Stop::Failed("a cleaning"));
     };
-    let nanos = meter.nanos(rt)?;
+    let nanos = bench.since(start);
     if cleaned.pages as u64 == FRAMES.saturating_mul(IN_FRAME) {
         return Ok(nanos);
     }
     Err(Stop::Failed("a page"))
 }
 
-/// The same of a log with this oldest segment, a newest one without a frame, and a spare.
-fn clean_once<R: System>(rt: &R, bytes: &[u8]) -> Result<u64, Stop> {
-    let alloc = rt.alloc();
-    let mut newest = Vec::new(alloc);
-    put_header(&mut newest, 2)?;
-    let mut desk = Desk::new(alloc, 3)?;
-    let mut boxes: Vec<Box<dyn Segment>> = Vec::new(alloc);
-    for piece in [bytes, &newest, &[]] {
-        match MemSegment::with_bytes(alloc, desk.take()?, CAPACITY, piece) {
-            Ok(segment) => boxes.push(Box::new(alloc, segment)?)?,
-            Err(refused) => return Err(Stop::from(refused.cause)),
-        }
-    }
-    match recover(alloc, boxes) {
-        Ok(mut found) => clean_all(rt, &mut found.log),
+/// The same of a log in these boxes.
+fn clean_boxes(bench: &mut Bench<'_>, boxes: Vec<Box<dyn Segment>>) -> Result<u64, Stop> {
+    match recover(bench.alloc(), boxes) {
+        Ok(mut found) => clean_all(bench, &mut found.log),
         Err(_) => Err(Stop::Failed("a recovery")),
     }
 }
 
-fn copy_once<R: System>(rt: &R, bytes: &[u8]) -> Result<u64, Stop> {
-    let meter = Meter::start(rt, "a copy", 0)?;
-    let mut copy = Vec::new(rt.alloc());
+/// The same of a log of these segments.
+fn clean_pieces(bench: &mut Bench<'_>, desk: &mut Desk, pieces: &[&[u8]]) -> Result<u64, Stop> {
+    let alloc = bench.alloc();
+    let mut boxes: Vec<Box<dyn Segment>> = Vec::new(alloc);
+    for piece in pieces {
+        let segment = memory(alloc, desk, CAPACITY, piece)?;
+        boxes.push(Box::new(alloc, segment)?)?;
+    }
+    clean_boxes(bench, boxes)
+}
+
+/// The same of this oldest segment, a newest one without a frame, and a spare.
+fn clean_once(bench: &mut Bench<'_>, bytes: &[u8]) -> Result<u64, Stop> {
+    let mut newest = Vec::new(bench.alloc());
+    put_header(&mut newest, 2)?;
+    let mut desk = Desk::new(bench.alloc(), 3)?;
+    clean_pieces(bench, &mut desk, &[bytes, &newest, &[]])
+}
+
+fn copy_once(bench: &mut Bench<'_>, bytes: &[u8]) -> Result<u64, Stop> {
+    let start = bench.now();
+    let mut copy = Vec::new(bench.alloc());
     copy.extend_from_slice(bytes)?;
-    meter.nanos(rt)
+    Ok(bench.since(start))
 }
 
 /// Cleanings of the same segment, and copies of its bytes.
-pub fn cleaning<R: System>(rt: &R, options: &Options<'_>) -> Result<(), Stop> {
-    let bytes = oldest(rt.alloc())?;
-    let mut least = (u64::MAX, u64::MAX);
+fn clean_often(bench: &mut Bench<'_>, bytes: &[u8]) -> Result<(), Stop> {
+    let (mut cleaned, mut copied) = (u64::MAX, u64::MAX);
     for _ in 0..ROUNDS {
-        least.0 = least.0.min(clean_once(rt, &bytes)?);
-        least.1 = least.1.min(copy_once(rt, &bytes)?);
+        cleaned = cleaned.min(clean_once(bench, bytes)?);
+        copied = copied.min(copy_once(bench, bytes)?);
     }
     let pages = FRAMES.saturating_mul(IN_FRAME);
-    tell(rt, options, "cleaning, pages", pages, least.0)?;
-    tell(rt, options, "cleaning, segments", 1, least.0)?;
-    tell(rt, options, "a copy of the segment", 1, least.1)?;
-    tell_bytes(rt, options, "  the segment", 1, bytes.len() as u64)
+    bench.tell("cleaning, pages", pages, cleaned);
+    bench.tell("cleaning, segments", 1, cleaned);
+    bench.tell("a copy of the segment", 1, copied);
+    bench.tell_each("  the segment", 1, bytes.len() as u64, "bytes");
+    Ok(())
+}
+
+/// Makes the segment, and cleans it.
+pub fn cleaning(bench: &mut Bench<'_>) -> Result<(), Stop> {
+    let mut bytes = Vec::new(bench.alloc());
+    put_oldest(bench.alloc(), &mut bytes)?;
+    clean_often(bench, &bytes)
 }

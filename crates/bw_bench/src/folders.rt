@@ -1,18 +1,17 @@
 //! Segments in files: appends with their sync, and a store that is opened again from its files.
 
+use crate::bench::Bench;
 use crate::boxes::{CAPACITY, count_of, over};
-use crate::options::Options;
 use crate::reopened::reopened;
-use crate::report::tell;
 use crate::stop::Stop;
 use crate::subject::Course;
-use crate::system::System;
-use crate::watch::Meter;
-use bw_device::{Desk, Lease, Segment};
+use bw_device::{Desk, Segment};
 use bw_file::{FileSegment, Folder};
+use std::sync::Wait;
+use std::thread::Threads;
 
 /// What is appended: as it is told, and its bytes.
-const SIZES: [(&str, usize); 3] = [
+const SIZES: &[(&str, usize)] = &[
     ("append of 4 KiB", 4_096),
     ("append of 16 KiB", 16_384),
     ("append of 64 KiB", 65_536),
@@ -21,12 +20,24 @@ const SIZES: [(&str, usize); 3] = [
 /// How often a size is appended; a segment has room for so many of the greatest.
 const APPENDS: u64 = 256;
 
-/// A folder without segments, so that a run empties nobody's files.
-fn new_folder<R: System>(rt: &R, path: &str) -> Result<Folder, Stop> {
-    let folder = Folder::open(rt, path)?;
-    if !folder.leases(rt)?.is_empty() {
-        return Err(Stop::Failed("a folder that holds segments"));
+/// The folder of this name in another.
+fn open_folder(bench: &Bench<'_>, dir: &str, name: &str) -> Result<Folder, Stop> {
+    let path = format!(in bench.alloc(); "{dir}/{name}")?;
+    Ok(Folder::open(bench.system, path.as_str())?)
+}
+
+fn must_be_empty(bench: &Bench<'_>, folder: &Folder) -> Result<(), Stop> {
+    let leases = folder.leases(bench.system)?;
+    if leases.is_empty() {
+        return Ok(());
     }
+    Err(Stop::Failed("a folder that holds segments"))
+}
+
+/// The same, without segments, so that a run empties nobody's files.
+fn new_folder(bench: &Bench<'_>, dir: &str, name: &str) -> Result<Folder, Stop> {
+    let folder = open_folder(bench, dir, name)?;
+    must_be_empty(bench, &folder)?;
     Ok(folder)
 }
 
@@ -42,99 +53,122 @@ fn append(segment: &mut FileSegment, piece: &[u8]) -> Result<(), Stop> {
     }
 }
 
-/// Appends one size over and over to a file, and waits each time until it stands.
-fn append_all<R: System>(
-    rt: &R,
-    options: &Options<'_>,
-    folder: &Folder,
-    lease: Lease,
-    name: &'static str,
-    size: usize,
-) -> Result<(), Stop> {
-    let mut segment = folder.spare(rt, lease, CAPACITY)?;
-    let mut piece = Vec::new(rt.alloc());
-    piece.resize(size, 7u8)?;
-    let meter = Meter::start(rt, name, APPENDS)?;
+/// Appends a piece over and over.
+fn append_all(segment: &mut FileSegment, piece: &[u8]) -> Result<(), Stop> {
     for _ in 0..APPENDS {
-        append(&mut segment, piece.as_slice())?;
-    }
-    tell(rt, options, name, APPENDS, meter.nanos(rt)?)
-}
-
-/// Appends of each size, to a file of its own each.
-fn appends_in<R: System>(rt: &R, options: &Options<'_>, folder: &Folder) -> Result<(), Stop> {
-    let mut desk = Desk::new(rt.alloc(), 3)?;
-    for (name, size) in SIZES {
-        append_all(rt, options, folder, desk.take()?, name, size)?;
+        append(segment, piece)?;
     }
     Ok(())
 }
 
-/// The same in a new folder.
-pub fn appends<R: System>(rt: &R, options: &Options<'_>, dir: &str) -> Result<(), Stop> {
-    let path = format!(in rt.alloc(); "{dir}/appends")?;
-    let folder = new_folder(rt, path.as_str())?;
-    appends_in(rt, options, &folder)
-}
-
 /// A new file of the next lease, or the one that is there.
-fn file<R: System>(
-    rt: &R,
+fn file(
+    bench: &Bench<'_>,
     folder: &Folder,
     desk: &mut Desk,
     is_new: bool,
 ) -> Result<FileSegment, Stop> {
     let lease = desk.take()?;
     let opened = if is_new {
-        folder.spare(rt, lease, CAPACITY)
+        folder.spare(bench.system, lease, CAPACITY)
     } else {
-        folder.segment(rt, lease, CAPACITY)
+        folder.segment(bench.system, lease, CAPACITY)
     };
     Ok(opened?)
 }
 
-/// Runs a course over new files; without one it goes on from those of a course before, which nobody
-/// has open any more.
-fn with_files<R: System>(
-    rt: &R,
-    options: &Options<'_>,
-    course: Option<Course>,
-    path: &str,
+/// Appends a piece over and over to a new file, and waits each time until it stands.
+fn append_to_file(
+    bench: &mut Bench<'_>,
+    folder: &Folder,
+    desk: &mut Desk,
+    name: &str,
+    piece: &[u8],
 ) -> Result<(), Stop> {
-    let alloc = rt.alloc();
-    let meter = Meter::start(rt, "open", 1)?;
-    let is_new = course.is_some();
-    let folder = if is_new {
-        new_folder(rt, path)?
-    } else {
-        Folder::open(rt, path)?
+    let mut segment = file(bench, folder, desk, true)?;
+    let start = bench.now();
+    append_all(&mut segment, piece)?;
+    let nanos = bench.since(start);
+    bench.tell(name, APPENDS, nanos);
+    Ok(())
+}
+
+/// Appends of each size, to a file of its own each.
+fn append_sizes(bench: &mut Bench<'_>, folder: &Folder, desk: &mut Desk) -> Result<(), Stop> {
+    let bytes = [7u8; 65_536];
+    for (name, size) in SIZES {
+        if let Some(piece) = bytes.get(..*size) {
+            append_to_file(bench, folder, desk, name, piece)?;
+        }
+    }
+    Ok(())
+}
+
+/// The same in a new folder.
+pub fn appends(bench: &mut Bench<'_>, dir: &str) -> Result<(), Stop> {
+    let mut desk = Desk::new(bench.alloc(), 3)?;
+    let folder = new_folder(bench, dir, "appends")?;
+    append_sizes(bench, &folder, &mut desk)
+}
+
+/// Runs a course over these boxes; without one it goes on from what they hold.
+fn with_boxes<R: Threads + Wait>(
+    rt: &R,
+    bench: &mut Bench<'_>,
+    course: Option<Course>,
+    start: u64,
+    boxes: Vec<Box<dyn Segment>>,
+) -> Result<(), Stop> {
+    let Some(course) = course else {
+        return reopened(rt, bench, start, boxes);
     };
-    let many = count_of(options);
-    let mut desk = Desk::new(alloc, many)?;
+    let _live = over(rt, bench, course, boxes)?;
+    Ok(())
+}
+
+/// The same with the boxes of a folder, which are new for a course.
+fn with_files<R: Threads + Wait>(
+    rt: &R,
+    bench: &mut Bench<'_>,
+    course: Option<Course>,
+    start: u64,
+    folder: &Folder,
+    desk: &mut Desk,
+) -> Result<(), Stop> {
+    let alloc = bench.alloc();
     let mut boxes: Vec<Box<dyn Segment>> = Vec::new(alloc);
-    for _ in 0..many {
-        let segment = file(rt, &folder, &mut desk, is_new)?;
+    for _ in 0..count_of(&bench.options) {
+        let segment = file(bench, folder, desk, course.is_some())?;
         boxes.push(Box::new(alloc, segment)?)?;
     }
-    match course {
-        Some(course) => {
-            let _live = over(rt, options, course, boxes)?;
-            Ok(())
-        }
-        None => reopened(rt, options, meter, boxes),
-    }
+    with_boxes(rt, bench, course, start, boxes)
+}
+
+/// The same by leases of a desk.
+fn with_folder<R: Threads + Wait>(
+    rt: &R,
+    bench: &mut Bench<'_>,
+    course: Option<Course>,
+    start: u64,
+    folder: &Folder,
+) -> Result<(), Stop> {
+    let mut desk = Desk::new(bench.alloc(), count_of(&bench.options))?;
+    with_files(rt, bench, course, start, folder, &mut desk)
 }
 
 /// Runs the course over files in a new folder of the subject's name, and then goes on from what
-/// they hold. They stay.
-pub fn over_files<R: System>(
+/// they hold, once nobody has them open any more. They stay.
+pub fn over_files<R: Threads + Wait>(
     rt: &R,
-    options: &Options<'_>,
+    bench: &mut Bench<'_>,
     course: Course,
     dir: &str,
     name: &str,
 ) -> Result<(), Stop> {
-    let path = format!(in rt.alloc(); "{dir}/{name}")?;
-    with_files(rt, options, Some(course), path.as_str())?;
-    with_files(rt, options, None, path.as_str())
+    let folder = new_folder(bench, dir, name)?;
+    with_folder(rt, bench, Some(course), 0, &folder)?;
+    drop(folder);
+    let start = bench.now();
+    let folder = open_folder(bench, dir, name)?;
+    with_folder(rt, bench, None, start, &folder)
 }

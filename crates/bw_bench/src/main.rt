@@ -10,6 +10,7 @@
 mod alone;
 mod asking;
 mod batches;
+mod bench;
 mod beside;
 mod boxes;
 mod cleaning;
@@ -22,60 +23,59 @@ mod report;
 mod shape;
 mod stop;
 mod subject;
-mod system;
 mod watch;
 
+use bench::Bench;
 use clap::Error;
-use options::{Options, is_memory, options_of};
-use std::alloc::Global;
-use std::env::Env;
+use options::{is_memory, options_of};
 use std::io;
 use std::process::ExitCode;
+use std::sync::Wait;
+use std::thread::Threads;
 use stop::Stop;
 use subject::run;
-use system::System;
 
 /// The words after the program's name.
-fn words_of<R: Env + AllocGlobal>(rt: &R, alloc: Global) -> io::Result<Vec<String>> {
-    let mut words = Vec::new(alloc);
-    for word in std::env::args(rt)?.skip(1) {
+fn words_of(system: &HostRuntime) -> io::Result<Vec<String>> {
+    let mut words = Vec::new(system.alloc());
+    for word in std::env::args(system)?.skip(1) {
         words.push(word)?;
     }
     Ok(words)
 }
 
 /// Says why words are no command line.
-fn usage<R: System>(rt: &R, error: &Error) -> Stop {
+fn usage(system: &HostRuntime, error: &Error) -> Stop {
     if is_memory(error) {
         return Stop::NoMemory;
     }
-    match eprintln!(rt; "{error}") {
+    match eprintln!(system; "{error}") {
         Ok(()) => Stop::Usage,
         Err(_) => Stop::Output,
     }
 }
 
-fn start<R: System>(rt: &R, words: &[String]) -> Result<(), Stop> {
-    let alloc = rt.alloc();
-    let mut texts = Vec::new(alloc);
-    for word in words {
-        texts.push(word.as_str())?;
-    }
-    match options_of(alloc, texts.as_slice()) {
-        Ok(options) => run(rt, &options),
-        Err(error) => Err(usage(rt, &error)),
+/// Does what the words after the program's name ask for. The handle by which it may wait is told
+/// apart: only `main` knows that the system is one.
+fn start<R: Threads + Wait>(rt: &R, system: &HostRuntime, words: &[String]) -> Result<(), Stop> {
+    let options = match options_of(system.alloc(), words) {
+        Ok(options) => options,
+        Err(error) => return Err(usage(system, &error)),
+    };
+    match Bench::new(system, options) {
+        Ok(mut bench) => run(rt, &mut bench),
+        Err(_) => Err(Stop::Output),
     }
 }
 
 /// Exit status 0; 1 where a key read back otherwise than it was put; 2 where the words are no
-/// command line; 4 where something was refused; 5 where memory was; 6 where the clock, a thread or
-/// a write failed.
+/// command line; 4 where something was refused; 5 where memory was; 6 where a thread failed, or, at
+/// the end of the subject, where the clock or a write had.
 fn main(rt: HostRuntime) -> ExitCode {
-    let alloc = rt.alloc();
-    let Ok(words) = words_of(&rt, alloc) else {
+    let Ok(words) = words_of(&rt) else {
         return ExitCode::from(2);
     };
-    match start(&rt, words.as_slice()) {
+    match start(&rt, &rt, words.as_slice()) {
         Ok(()) => ExitCode::from(0),
         Err(stop) => {
             let _ = eprintln!(rt; "{stop}");

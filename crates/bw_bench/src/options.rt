@@ -1,6 +1,6 @@
 //! The command line, read by `clap`. Nothing else of the program stands here.
 
-use crate::shape::Shape;
+use crate::shape::{Shape, Span};
 use clap::error::ErrorKind;
 use clap::{Arg, ArgMatches, Command, Error};
 use std::alloc::{AllocError, Global};
@@ -42,6 +42,22 @@ impl Options<'_> {
     pub fn puts(&self) -> u64 {
         u64::from(self.keys).saturating_add(u64::from(self.operations))
     }
+
+    /// The puts of new keys, and those of old ones.
+    pub fn spans(&self) -> (Span, Span) {
+        let keys = u64::from(self.keys);
+        let load = Span {
+            name: "load",
+            from: 0,
+            to: keys,
+        };
+        let update = Span {
+            name: "update",
+            from: keys,
+            to: self.puts(),
+        };
+        (load, update)
+    }
 }
 
 /// The subjects in the order in which they run.
@@ -58,137 +74,93 @@ const SUBJECTS: &[&str] = &[
     "many-beside",
 ];
 
-/// An option whose value is a number.
-#[derive(Clone, Copy)]
-struct Number {
-    name: &'static str,
-    help: &'static str,
-    least: i64,
-    most: i64,
-    default: &'static str,
+/// What an option takes.
+enum Kind {
+    /// A number from one to another, and what it is where none is given.
+    Number(i64, i64, &'static str),
+    Flag,
+    Subject,
+    Folder,
 }
 
-/// Keys, values and operations, then batches and writers.
-const NUMBERS: [Number; 6] = [
-    Number {
+/// A row of the options: the name, what it takes, and the help.
+struct Row {
+    name: &'static str,
+    kind: Kind,
+    help: &'static str,
+}
+
+/// Keys, values and operations, then batches and writers, and then how and where subjects run.
+const ROWS: &[Row] = &[
+    Row {
         name: "keys",
+        kind: Kind::Number(1, 10_000_000, "1000"),
         help: "how many keys of 8 bytes there are",
-        least: 1,
-        most: 10_000_000,
-        default: "1000",
     },
-    Number {
+    Row {
         name: "shared",
+        kind: Kind::Number(0, 56, "0"),
         help: "how many bytes all keys have before those 8",
-        least: 0,
-        most: 56,
-        default: "0",
     },
-    Number {
+    Row {
         name: "value-length",
+        kind: Kind::Number(8, 128, "100"),
         help: "how many bytes a value has",
-        least: 8,
-        most: 128,
-        default: "100",
     },
-    Number {
+    Row {
         name: "operations",
+        kind: Kind::Number(1, 10_000_000, "1000"),
         help: "how many updates and gets there are",
-        least: 1,
-        most: 10_000_000,
-        default: "1000",
     },
-    Number {
+    Row {
         name: "batch",
+        kind: Kind::Number(1, 4096, "64"),
         help: "how many records are put, turned and flushed together",
-        least: 1,
-        most: 4096,
-        default: "64",
     },
-    Number {
+    Row {
         name: "writers",
+        kind: Kind::Number(1, 64, "4"),
         help: "how many writers there are in threads of their own",
-        least: 1,
-        most: 64,
-        default: "4",
+    },
+    Row {
+        name: "times",
+        kind: Kind::Flag,
+        help: "prints nanoseconds and bytes",
+    },
+    Row {
+        name: "only",
+        kind: Kind::Subject,
+        help: "the one subject that is run",
+    },
+    Row {
+        name: "dir",
+        kind: Kind::Folder,
+        help: "keeps segments in files, in a new folder in this one for each subject",
     },
 ];
 
-fn with_number<'a>(
-    alloc: Global,
-    command: Command<'a>,
-    number: Number,
-) -> Result<Command<'a>, AllocError> {
-    let Number {
-        name,
-        help,
-        least,
-        most,
-        default,
-    } = number;
-    let option = Arg::new(alloc, name)
-        .long(name)
-        .help(help)
-        .value_parser(clap::value_parser!(u32).range(least..=most))
-        .default_value(default);
-    command.arg(option)
+fn option_of(alloc: Global, row: &Row) -> Arg<'static> {
+    let option = Arg::new(alloc, row.name).long(row.name).help(row.help);
+    match row.kind {
+        Kind::Number(least, most, default) => option
+            .value_parser(clap::value_parser!(u32).range(least..=most))
+            .default_value(default),
+        Kind::Flag => option.action(clap::ArgAction::SetTrue),
+        Kind::Subject => option.value_name("SUBJECT").value_parser(SUBJECTS),
+        Kind::Folder => option.value_name("FOLDER"),
+    }
 }
 
-fn with_numbers<'a>(alloc: Global, command: Command<'a>) -> Result<Command<'a>, AllocError> {
+fn with_rows<'a>(alloc: Global, command: Command<'a>) -> Result<Command<'a>, AllocError> {
     let mut command = command;
-    for number in NUMBERS {
-        command = with_number(alloc, command, number)?;
+    for row in ROWS {
+        command = command.arg(option_of(alloc, row))?;
     }
     Ok(command)
 }
 
-/// Whether times are printed.
-fn with_times<'a>(alloc: Global, command: Command<'a>) -> Result<Command<'a>, AllocError> {
-    let times = Arg::new(alloc, "times")
-        .long("times")
-        .help("prints nanoseconds and bytes")
-        .action(clap::ArgAction::SetTrue);
-    command.arg(times)
-}
-
-/// Which subject is run.
-fn with_subject<'a>(alloc: Global, command: Command<'a>) -> Result<Command<'a>, AllocError> {
-    let only = Arg::new(alloc, "only")
-        .long("only")
-        .value_name("SUBJECT")
-        .value_parser(SUBJECTS)
-        .help("the one subject that is run");
-    command.arg(only)
-}
-
-/// Where its segments stand.
-fn with_dir<'a>(alloc: Global, command: Command<'a>) -> Result<Command<'a>, AllocError> {
-    let dir = Arg::new(alloc, "dir").long("dir").value_name("FOLDER").help(
-        "keeps segments in files, in a new folder in this one for each subject",
-    );
-    command.arg(dir)
-}
-
-/// What was named by an option.
-fn named<'a>(found: &ArgMatches<'a>, option: &str) -> Option<&'a str> {
-    match found.get_raw(option) {
-        Some(words) => words.first().copied(),
-        None => None,
-    }
-}
-
-/// What the words after the program's name ask for. What they do not give as a parse, help among
-/// it, is clap's error, whose text is for the user.
-pub fn options_of<'a>(alloc: Global, words: &'a [&'a str]) -> Result<Options<'a>, Error> {
-    let command = Command::new(alloc, "bw_bench")
-        .about("Times the page store, and reads back what was put")
-        .no_binary_name(true);
-    let command = with_numbers(alloc, command)?;
-    let command = with_times(alloc, command)?;
-    let command = with_subject(alloc, command)?;
-    let command = with_dir(alloc, command)?;
-    let found = command.try_get_matches_from(words)?;
-    Ok(Options {
+fn found_in<'a>(found: &ArgMatches<'a>) -> Options<'a> {
+    Options {
         keys: found.get_one("keys").unwrap_or(0),
         shared: found.get_one("shared").unwrap_or(0),
         value_length: found.get_one("value-length").unwrap_or(0),
@@ -196,9 +168,19 @@ pub fn options_of<'a>(alloc: Global, words: &'a [&'a str]) -> Result<Options<'a>
         batch: found.get_one("batch").unwrap_or(0),
         writers: found.get_one("writers").unwrap_or(0),
         times: found.get_flag("times"),
-        only: named(&found, "only"),
-        dir: named(&found, "dir"),
-    })
+        only: found.get_str("only"),
+        dir: found.get_str("dir"),
+    }
+}
+
+/// What the words after the program's name ask for. What they do not give as a parse, help among
+/// it, is clap's error, whose text is for the user.
+pub fn options_of<'a>(alloc: Global, words: &'a [String]) -> Result<Options<'a>, Error> {
+    let command = Command::new(alloc, "bw_bench")
+        .about("Times the page store, and reads back what was put")
+        .no_binary_name(true);
+    let found = with_rows(alloc, command)?.try_get_matches_from(words)?;
+    Ok(found_in(&found))
 }
 
 /// Whether clap had too little memory.

@@ -2,13 +2,10 @@
 
 ghost use Rattle.std.specs.Prelude.{◌≡◌, [], IfOk};
 
-use crate::alone::{Span, spans};
-use crate::options::Options;
-use crate::report::{tell, tell_bytes, tell_wrong};
-use crate::shape::{Part, Shape};
+use crate::bench::Bench;
+use crate::shape::{Shape, Span, WHOLE};
 use crate::stop::Stop;
-use crate::system::System;
-use crate::watch::{Meter, resident};
+use crate::watch::resident;
 use bw_codec::Record;
 use bw_page::{ApplyError, Leaves};
 
@@ -46,34 +43,48 @@ fn wrong_of(leaves: &Leaves, shape: &Shape, puts: u64) -> Result<u64, Stop>
     Ok(wrong)
 }
 
-fn apply_span<R: System>(
-    rt: &R,
-    options: &Options<'_>,
+fn apply_script(
+    bench: &mut Bench<'_>,
     leaves: &mut Leaves,
     span: Span,
+    script: &[Record],
 ) -> Result<(), Stop>
     requires { leaves.old.away ≡ [] }
     ensures { leaves.new.away ≡ [] }
 {
-    let shape = options.shape();
-    let whole = Part { writer: 0, of: 1 };
-    let script = shape.script(rt.alloc(), span.from, span.to, whole)?;
-    let before = resident(rt);
-    let meter = Meter::start(rt, span.name, span.count())?;
-    apply_all(leaves, script.as_slice())?;
-    tell(rt, options, span.name, span.count(), meter.nanos(rt)?)?;
-    let grown = resident(rt).saturating_sub(before);
-    tell_bytes(rt, options, "  in memory", span.count(), grown)?;
+    let shape = bench.options.shape();
+    let before = resident(bench);
+    let start = bench.now();
+    apply_all(leaves, script)?;
+    let nanos = bench.since(start);
+    bench.tell(span.name, span.count(), nanos);
+    let grown = resident(bench).saturating_sub(before);
+    bench.tell_each("  in memory", span.count(), grown, "bytes");
     let pages = u64::from(leaves.count());
-    tell_bytes(rt, options, "  in memory, a page", pages, grown)?;
+    bench.tell_each("  in memory, a page", pages, grown, "bytes");
     let wrong = wrong_of(leaves, &shape, span.to)?;
-    tell_wrong(rt, span.name, shape.keys, wrong)
+    bench.tell_wrong(span.name, shape.keys, wrong)
+}
+
+fn apply_span(bench: &mut Bench<'_>, leaves: &mut Leaves, span: Span) -> Result<(), Stop>
+    requires { leaves.old.away ≡ [] }
+    ensures { leaves.new.away ≡ [] }
+{
+    let script = bench.options.shape().script(bench.alloc(), span, WHOLE)?;
+    apply_script(bench, leaves, span, script.as_slice())
+}
+
+fn apply_both(bench: &mut Bench<'_>, leaves: &mut Leaves) -> Result<(), Stop>
+    requires { leaves.old.away ≡ [] }
+    ensures { leaves.new.away ≡ [] }
+{
+    let (load, update) = bench.options.spans();
+    apply_span(bench, leaves, load)?;
+    apply_span(bench, leaves, update)
 }
 
 /// Applies new keys, then old ones.
-pub fn pages<R: System>(rt: &R, options: &Options<'_>) -> Result<(), Stop> {
-    let mut leaves = Leaves::one_empty(rt.alloc(), 32)?;
-    let (load, update) = spans(options);
-    apply_span(rt, options, &mut leaves, load)?;
-    apply_span(rt, options, &mut leaves, update)
+pub fn pages(bench: &mut Bench<'_>) -> Result<(), Stop> {
+    let mut leaves = Leaves::one_empty(bench.alloc(), 32)?;
+    apply_both(bench, &mut leaves)
 }

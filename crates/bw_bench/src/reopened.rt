@@ -1,58 +1,36 @@
 //! A store goes on from the boxes of another.
 
-ghost use Rattle.bw_store.specs.Views.{IsSound};
-
-use crate::asking::wrong_of;
+use crate::asking::read_back;
 use crate::batches::bytes_of;
-use crate::options::Options;
-use crate::report::{tell, tell_bytes, tell_wrong};
+use crate::bench::Bench;
 use crate::stop::Stop;
-use crate::system::System;
-use crate::watch::Meter;
 use bw_care::recover;
 use bw_device::Segment;
 use bw_store::Store;
+use std::sync::Wait;
 
-/// Tells what it took, and reads all keys back.
-fn ask<R: System>(
+/// Recovers what the boxes hold, opens a store over it, tells what it took, and reads all keys back.
+/// The time runs from before the boxes were made.
+pub fn reopened<R: Wait>(
     rt: &R,
-    options: &Options<'_>,
-    store: &mut Store,
-    meter: &Meter,
-    recovered: u64,
-) -> Result<(), Stop>
-    requires { IsSound store.old holding }
-    ensures { IsSound store.new holding }
-{
-    let puts = options.puts();
-    let opened = meter.nanos(rt)?;
-    if options.times {
-        tell(rt, options, "recover, records", puts, recovered)?;
-    }
-    tell(rt, options, "open, records", puts, opened)?;
-    tell_bytes(rt, options, "  in the log", puts, bytes_of(store))?;
-    let shape = options.shape();
-    let wrong = wrong_of(rt, store, &shape, shape.keys, puts)?;
-    tell_wrong(rt, "open", shape.keys, wrong)
-}
-
-/// Recovers what the boxes hold, opens a store over it, and reads all keys back. The meter was
-/// started before the boxes were made.
-pub fn reopened<R: System>(
-    rt: &R,
-    options: &Options<'_>,
-    meter: Meter,
+    bench: &mut Bench<'_>,
+    start: u64,
     boxes: Vec<Box<dyn Segment>>,
 ) -> Result<(), Stop> {
-    let Ok(found) = recover(rt.alloc(), boxes) else {
+    let (keys, puts) = (u64::from(bench.options.keys), bench.options.puts());
+    let Ok(found) = recover(bench.alloc(), boxes) else {
         return Err(Stop::Failed("a recovery"));
     };
-    let recovered = meter.nanos(rt)?;
-    let (mut store, _feeds) = match Store::reopen(rt, rt.alloc(), found, 1, 1, 1) {
+    let recovered = bench.since(start);
+    let (mut store, _feeds) = match Store::reopen(rt, bench.alloc(), found, 1, 1, 1) {
         Ok(opened) => opened,
         Err(fault) => return Err(Stop::from(fault.cause)),
     };
-    let went = ask(rt, options, &mut store, &meter, recovered);
+    let opened = bench.since(start);
+    bench.tell_each("recover, records", puts, recovered, "ns");
+    bench.tell("open, records", puts, opened);
+    bench.tell_each("  in the log", puts, bytes_of(&store), "bytes");
+    let went = read_back(bench, &mut store, "open", keys, puts);
     let _ = store.shut(rt);
     went
 }

@@ -18,6 +18,23 @@ pub struct Part {
     pub of: u64,
 }
 
+/// All puts are one writer's.
+pub const WHOLE: Part = Part { writer: 0, of: 1 };
+
+/// Some puts: their name, the first, and the first that is not among them.
+#[derive(Clone, Copy)]
+pub struct Span {
+    pub name: &'static str,
+    pub from: u64,
+    pub to: u64,
+}
+
+impl Span {
+    pub fn count(&self) -> u64 {
+        self.to.saturating_sub(self.from)
+    }
+}
+
 /// How many keys there are, how many bytes they share, and how long their values are.
 #[derive(Clone, Copy)]
 pub struct Shape {
@@ -48,9 +65,10 @@ impl Shape {
     /// The key of a put.
     pub fn key(&self, put: u64) -> Result<Key, Stop> {
         let mut bytes = [b'k'; 64];
-        let number = self.number(put).to_be_bytes();
-        for (to, from) in bytes.iter_mut().skip(self.shared).zip(number) {
-            *to = from;
+        if let Some(rest) = bytes.get_mut(self.shared..)
+            && let Some(own) = rest.first_chunk_mut()
+        {
+            *own = self.number(put).to_be_bytes();
         }
         match bytes.get(..self.length()) {
             Some(bytes) => Ok(Key::new(bytes)?),
@@ -64,9 +82,7 @@ impl Shape {
         let word = number.wrapping_add(round.wrapping_mul(ROUND));
         let [filler, ..] = number.wrapping_add(round).to_le_bytes();
         let mut bytes = [filler; 128];
-        for (to, from) in bytes.iter_mut().zip(word.to_le_bytes()) {
-            *to = from;
-        }
+        bytes[..8].copy_from_slice(&word.to_le_bytes());
         match bytes.get(..self.value_length) {
             Some(bytes) => Ok(Value::new(bytes)?),
             None => Err(Stop::Failed("a length")),
@@ -82,27 +98,25 @@ impl Shape {
 
     /// The put of which a value of this put's key tells to be, by its round.
     pub fn told(&self, put: u64, value: &Value) -> u64 {
-        let mut round = 0u64;
-        for byte in value.as_slice().iter().skip(4).take(4).rev() {
-            round = round.wrapping_mul(256).wrapping_add(u64::from(*byte));
-        }
-        rest(put, self.keys).saturating_add(round.saturating_mul(self.keys))
+        let round = match value.as_slice() {
+            [_, _, _, _, a, b, c, d, ..] => u32::from_le_bytes([*a, *b, *c, *d]),
+            _ => 0,
+        };
+        rest(put, self.keys).saturating_add(u64::from(round).saturating_mul(self.keys))
     }
 
-    /// The puts from one on and before another that are a writer's.
-    pub fn script(
-        &self,
-        alloc: Global,
-        from: u64,
-        to: u64,
-        part: Part,
-    ) -> Result<Vec<Record>, Stop> {
+    /// The puts of a span that are a writer's.
+    pub fn script(&self, alloc: Global, span: Span, part: Part) -> Result<Vec<Record>, Stop> {
         let mut script = Vec::new(alloc);
-        for put in from..to {
+        for put in span.from..span.to {
             if rest(rest(put, self.keys), part.of) == part.writer {
-                script.push(Record::Put(self.key(put)?, self.value(put)?))?;
+                script.push(self.record(put)?)?;
             }
         }
         Ok(script)
+    }
+
+    fn record(&self, put: u64) -> Result<Record, Stop> {
+        Ok(Record::Put(self.key(put)?, self.value(put)?))
     }
 }

@@ -5,10 +5,9 @@ use bw_device::{NotMade, NotTaken};
 use bw_file::{FolderFault, NotOpened};
 use bw_store::{ReadFault, StoreFault};
 use std::alloc::{AllocError, AllocFailed};
-use std::io;
 use thiserror::Error;
 
-#[derive(Debug, Drop, Error)]
+#[derive(Clone, Copy, Debug, Error)]
 pub enum Stop {
     /// The command line is no parse. Its text was printed.
     #[error("see --help")]
@@ -56,12 +55,6 @@ impl From<AllocError> for Stop {
 impl<T: Drop> From<AllocFailed<T>> for Stop {
     fn from(_error: AllocFailed<T>) -> Stop {
         Stop::NoMemory
-    }
-}
-
-impl From<io::Error> for Stop {
-    fn from(_error: io::Error) -> Stop {
-        Stop::Output
     }
 }
 

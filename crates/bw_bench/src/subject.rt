@@ -1,103 +1,114 @@
 //! The subjects, each over a store of its own.
 
+use crate::bench::Bench;
 use crate::boxes::over_memory;
 use crate::cleaning::cleaning;
 use crate::folders::{appends, over_files};
 use crate::options::Options;
 use crate::pages::pages;
-use crate::report::tell_sizes;
 use crate::stop::Stop;
-use crate::system::System;
-
-/// When what was taken is flushed, and so shown to readers.
-#[derive(Clone, Copy, PartialEq, Eq)]
-pub enum Pace {
-    /// After each batch.
-    Batches,
-    /// Once, after all of them: full frames are appended before.
-    Late,
-}
+use std::sync::Wait;
+use std::thread::Threads;
 
 /// What is done with a store.
 #[derive(Clone, Copy)]
-pub enum Course {
-    /// One writer in the store's own thread, with a reader in another beside it, or without.
-    Alone { pace: Pace, is_read: bool },
-    /// Writers in threads of their own, with a reader beside them, or without.
-    Driven { writers: u16, is_read: bool },
+pub struct Course {
+    /// At most how many of the writers are in threads of their own; 0: the one writer is in the
+    /// store's own thread.
+    pub threads: u16,
+    /// Whether records are flushed once, after all of them, and full frames are appended before;
+    /// else after each batch. Only what was flushed is shown to readers.
+    pub is_late: bool,
+    /// Whether a reader in another thread is beside the writers.
+    pub is_read: bool,
 }
 
-const ALONE: Course = Course::Alone {
-    pace: Pace::Batches,
+const ALONE: Course = Course {
+    threads: 0,
+    is_late: false,
     is_read: false,
 };
 
-const BESIDE: Course = Course::Alone {
-    pace: Pace::Batches,
+const BESIDE: Course = Course {
     is_read: true,
+    ..ALONE
 };
 
-const LATE: Course = Course::Alone {
-    pace: Pace::Late,
-    is_read: false,
+const LATE: Course = Course {
+    is_late: true,
+    ..ALONE
 };
 
-fn is_asked(options: &Options<'_>, name: &str) -> bool {
-    match options.only {
-        Some(only) => only == name,
-        None => true,
-    }
+const ONE: Course = Course {
+    threads: 1,
+    ..ALONE
+};
+
+const ONE_BESIDE: Course = Course {
+    is_read: true,
+    ..ONE
+};
+
+const MANY: Course = Course {
+    threads: u16::MAX,
+    ..ALONE
+};
+
+const MANY_BESIDE: Course = Course {
+    is_read: true,
+    ..MANY
+};
+
+#[derive(Clone, Copy)]
+enum Work {
+    Pages,
+    Cleaning,
+    Appends,
+    Over(Course),
 }
 
-fn run_if<R: System>(
+const SUBJECTS: &[(&str, Work)] = &[
+    ("pages", Work::Pages),
+    ("cleaning", Work::Cleaning),
+    ("appends", Work::Appends),
+    ("alone", Work::Over(ALONE)),
+    ("beside", Work::Over(BESIDE)),
+    ("late", Work::Over(LATE)),
+    ("one", Work::Over(ONE)),
+    ("one-beside", Work::Over(ONE_BESIDE)),
+    ("many", Work::Over(MANY)),
+    ("many-beside", Work::Over(MANY_BESIDE)),
+];
+
+/// Whether the subject is run. Appends are none where segments stand in memory.
+fn is_asked(options: &Options<'_>, name: &str, work: Work) -> bool {
+    let is_there = options.dir.is_some() || !matches!(work, Work::Appends);
+    is_there && options.only.unwrap_or(name) == name
+}
+
+fn run_one<R: Threads + Wait>(
     rt: &R,
-    options: &Options<'_>,
+    bench: &mut Bench<'_>,
     name: &str,
-    course: Course,
+    work: Work,
 ) -> Result<(), Stop> {
-    if !is_asked(options, name) {
-        return Ok(());
-    }
-    println!(rt; "{name}")?;
-    match options.dir {
-        Some(dir) => over_files(rt, options, course, dir, name),
-        None => over_memory(rt, options, course),
-    }
-}
-
-/// Appends have no subject where segments stand in memory.
-fn appends_if<R: System>(rt: &R, options: &Options<'_>) -> Result<(), Stop> {
-    match options.dir {
-        Some(dir) if is_asked(options, "appends") => {
-            println!(rt; "appends")?;
-            appends(rt, options, dir)
-        }
-        _ => Ok(()),
+    match (work, bench.options.dir) {
+        (Work::Pages, _) => pages(bench),
+        (Work::Cleaning, _) => cleaning(bench),
+        (Work::Appends, dir) => appends(bench, dir.unwrap_or(".")),
+        (Work::Over(course), Some(dir)) => over_files(rt, bench, course, dir, name),
+        (Work::Over(course), None) => over_memory(rt, bench, course),
     }
 }
 
 /// Runs all subjects, or the one that is asked for.
-pub fn run<R: System>(rt: &R, options: &Options<'_>) -> Result<(), Stop> {
-    tell_sizes(rt, options)?;
-    if is_asked(options, "pages") {
-        println!(rt; "pages")?;
-        pages(rt, options)?;
-    }
-    if is_asked(options, "cleaning") {
-        println!(rt; "cleaning")?;
-        cleaning(rt, options)?;
-    }
-    appends_if(rt, options)?;
-    for (name, course) in [("alone", ALONE), ("beside", BESIDE), ("late", LATE)] {
-        run_if(rt, options, name, course)?;
-    }
-    for (name, writers, is_read) in [
-        ("one", 1, false),
-        ("one-beside", 1, true),
-        ("many", options.writers, false),
-        ("many-beside", options.writers, true),
-    ] {
-        run_if(rt, options, name, Course::Driven { writers, is_read })?;
+pub fn run<R: Threads + Wait>(rt: &R, bench: &mut Bench<'_>) -> Result<(), Stop> {
+    bench.tell_sizes();
+    for (name, work) in SUBJECTS {
+        if is_asked(&bench.options, name, *work) {
+            bench.tell_name(name);
+            run_one(rt, bench, name, *work).and(bench.end())?;
+        }
     }
     Ok(())
 }

@@ -1,61 +1,50 @@
-//! The clock, progress, and how much memory the process has.
+//! Progress, and how much memory the process has.
 
-use crate::stop::Stop;
-use crate::system::System;
+use crate::bench::Bench;
 use std::fs;
-use std::time::{Duration, Instant};
 
 /// How often a loop over single calls looks at the clock: every so many.
 const LOOKS: u64 = 4096;
 
-fn nanos_of(time: Duration) -> u64 {
-    u64::try_from(time.as_nanos()).unwrap_or(u64::MAX)
-}
-
-/// The nanoseconds since then.
-pub fn since<R: System>(rt: &R, start: Instant) -> Result<u64, Stop> {
-    Ok(nanos_of(start.elapsed(rt)?))
-}
-
 /// Tells on standard error how far a subject is, once for each second that it takes.
-#[derive(Drop)]
+#[derive(Clone, Copy)]
 pub struct Meter {
     name: &'static str,
     all: u64,
-    start: Instant,
+    start: u64,
     told: u64,
 }
 
 impl Meter {
-    pub fn start<R: System>(rt: &R, name: &'static str, all: u64) -> Result<Meter, Stop> {
-        Ok(Meter {
+    pub fn start(bench: &mut Bench<'_>, name: &'static str, all: u64) -> Meter {
+        Meter {
             name,
             all,
-            start: Instant::now(rt)?,
+            start: bench.now(),
             told: 0,
-        })
+        }
     }
 
     /// The nanoseconds since the start.
-    pub fn nanos<R: System>(&self, rt: &R) -> Result<u64, Stop> {
-        since(rt, self.start)
+    pub fn nanos(&self, bench: &mut Bench<'_>) -> u64 {
+        bench.since(self.start)
     }
 
-    pub fn tell<R: System>(&mut self, rt: &R, done: u64) -> Result<(), Stop> {
-        let seconds = self.start.elapsed(rt)?.as_secs();
+    pub fn tell(&mut self, bench: &mut Bench<'_>, done: u64) {
+        let Meter { name, all, .. } = *self;
+        let seconds = self.nanos(bench) / 1_000_000_000;
         if seconds > self.told {
             self.told = seconds;
-            eprintln!(rt; "{}: {} of {}, {} s", self.name, done, self.all, seconds)?;
+            let written = eprintln!(bench.system; "{name}: {done} of {all}, {seconds} s");
+            bench.keep(written);
         }
-        Ok(())
     }
 
     /// The same, at some of the calls alone.
-    pub fn tell_some<R: System>(&mut self, rt: &R, done: u64) -> Result<(), Stop> {
+    pub fn tell_some(&mut self, bench: &mut Bench<'_>, done: u64) {
         if done % LOOKS == 0 {
-            return self.tell(rt, done);
+            self.tell(bench, done);
         }
-        Ok(())
     }
 }
 
@@ -72,15 +61,20 @@ fn number_in(line: &str) -> u64 {
     number
 }
 
-/// How many bytes of the process are in memory, as Linux tells; 0 where it does not.
-pub fn resident<R: System>(rt: &R) -> u64 {
-    let Ok(status) = fs::read_to_string(rt, "/proc/self/status") else {
-        return 0;
-    };
-    for line in status.as_str().lines() {
+/// How many bytes a process has in memory, by the lines of its status.
+fn resident_in(status: &str) -> u64 {
+    for line in status.lines() {
         if line.starts_with("VmRSS") {
             return number_in(line).saturating_mul(1024);
         }
     }
     0
+}
+
+/// How many bytes of the process are in memory, as Linux tells; 0 where it does not.
+pub fn resident(bench: &Bench<'_>) -> u64 {
+    match fs::read_to_string(bench.system, "/proc/self/status") {
+        Ok(status) => resident_in(status.as_str()),
+        Err(_) => 0,
+    }
 }

@@ -3,4 +3,4 @@ use Rattle.std.specs.Prelude.{◌≡◌, vec_len}
 use Rattle.bw_bench.proofs.driven.scripts_of.Given as goal
 
 abbrev pub invariant-writers : goal.invariant-writers
-invariant-writers g l = vec_len l.scripts ≡ l.writer
+invariant-writers l = vec_len l.scripts ≡ l.writer

@@ -1,5 +1,5 @@
 use Rattle.bw_store.specs.Views.{IsSound}
-use Rattle.bw_bench.proofs.asking.wrong_of.Given as goal
+use Rattle.bw_bench.proofs.asking.read_back.Given as goal
 
 abbrev pub invariant-keys : goal.invariant-keys
 invariant-keys g l = IsSound l.store (λ z. (goal.Segment-dyn g z).holding z.1)
