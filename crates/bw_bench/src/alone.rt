@@ -10,6 +10,7 @@ use crate::shape::{Span, WHOLE};
 use crate::stop::Stop;
 use crate::subject::Course;
 use crate::watch::resident;
+use bw_codec::Record;
 use bw_ring::Feed;
 use bw_store::Store;
 use std::sync::Wait;
@@ -26,7 +27,36 @@ fn tell_cost(bench: &mut Bench<'_>, span: Span, cost: Cost) {
     bench.tell_each("  its flushes", count, cost.flushes, "ns");
 }
 
-/// Puts, takes and flushes some puts, a reader beside them or not.
+/// How many bytes the log and the memory have gained over those before.
+fn tell_growth(bench: &mut Bench<'_>, store: &Store, span: Span, before: u64, had: u64)
+    requires { IsSound store.now holding }
+{
+    let added = bytes_of(store).saturating_sub(had);
+    bench.tell_each("  in the log", span.count(), added, "bytes");
+    let grown = resident(bench).saturating_sub(before);
+    bench.tell_each("  in memory, beside the log", span.count(), grown, "bytes");
+}
+
+/// Puts, takes and flushes the script of a span, a reader beside it or not.
+fn put_beside<R: Threads + Wait>(
+    rt: &R,
+    bench: &mut Bench<'_>,
+    store: &mut Store,
+    feed: &mut Feed,
+    course: Course,
+    span: Span,
+    script: &[Record],
+) -> Result<(Cost, Option<Seen>), Stop>
+    requires { IsSound store.old holding }
+    ensures { IsSound store.new holding }
+{
+    let looker = start_if(rt, store, bench.options.shape(), span.to, course.is_read)?;
+    let cost = put_script(rt, bench, store, feed, script, course.is_late, span.name);
+    let seen = end_if(rt, looker, cost.is_ok());
+    Ok((cost?, seen))
+}
+
+/// The same of some puts.
 fn put_all<R: Threads + Wait>(
     rt: &R,
     bench: &mut Bench<'_>,
@@ -38,12 +68,8 @@ fn put_all<R: Threads + Wait>(
     requires { IsSound store.old holding }
     ensures { IsSound store.new holding }
 {
-    let shape = bench.options.shape();
-    let script = shape.script(bench.alloc(), span, WHOLE)?;
-    let looker = start_if(rt, store, shape, span.to, course.is_read)?;
-    let cost = put_script(rt, bench, store, feed, &script, course.is_late, span.name);
-    let seen = end_if(rt, looker, cost.is_ok());
-    Ok((cost?, seen))
+    let script = bench.options.shape().script(bench.alloc(), span, WHOLE)?;
+    put_beside(rt, bench, store, feed, course, span, &script)
 }
 
 /// The same, told; then all keys are read back.
@@ -62,10 +88,7 @@ fn put_span<R: Threads + Wait>(
     let (cost, seen) = put_all(rt, bench, store, feed, course, span)?;
     tell_cost(bench, span, cost);
     bench.tell_seen(seen)?;
-    let added = bytes_of(store).saturating_sub(had);
-    bench.tell_each("  in the log", span.count(), added, "bytes");
-    let grown = resident(bench).saturating_sub(before);
-    bench.tell_each("  in memory, beside the log", span.count(), grown, "bytes");
+    tell_growth(bench, store, span, before, had);
     let keys = u64::from(bench.options.keys);
     read_back(bench, store, span.name, keys, span.to)
 }

@@ -3,6 +3,7 @@
 ghost use Rattle.bw_store.specs.Views.{IsSound};
 
 use crate::bench::Bench;
+use crate::shape::Shape;
 use crate::stop::Stop;
 use crate::watch::Meter;
 use bw_store::{Reader, Store};
@@ -30,6 +31,18 @@ pub fn read_back(
     bench.tell_wrong(name, keys, wrong)
 }
 
+/// Asks for the key of a put, which has a value.
+fn get_one(store: &mut Store, shape: &Shape, put: u64) -> Result<(), Stop>
+    requires { IsSound store.old holding }
+    ensures { IsSound store.new holding }
+{
+    let key = shape.key(put)?;
+    if store.get(&key)?.is_none() {
+        return Err(Stop::Failed("a key without a value"));
+    }
+    Ok(())
+}
+
 /// The store gives a value for the keys of so many puts.
 pub fn get_all(
     bench: &mut Bench<'_>,
@@ -43,9 +56,7 @@ pub fn get_all(
     let shape = bench.options.shape();
     let mut meter = Meter::start(bench, name, puts);
     'gets: for put in 0..puts {
-        if store.get(&shape.key(put)?)?.is_none() {
-            return Err(Stop::Failed("a key without a value"));
-        }
+        get_one(store, &shape, put)?;
         meter.tell_some(bench, put);
     }
     let nanos = meter.nanos(bench);

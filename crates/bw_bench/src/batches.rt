@@ -111,7 +111,7 @@ fn one_batch<R: Wait>(
     })
 }
 
-/// Puts and takes a script, a batch at once, and flushes after each, or late: after the last.
+/// Puts and takes a script, a batch at once, and flushes after each, or once after all of them.
 pub fn put_script<R: Wait>(
     rt: &R,
     bench: &mut Bench<'_>,
@@ -126,14 +126,15 @@ pub fn put_script<R: Wait>(
 {
     let size = usize::from(bench.options.batch).max(1);
     let mut cost = Cost::NONE;
-    let mut done = 0usize;
+    let mut done = 0u64;
     let mut meter = Meter::start(bench, name, script.len() as u64);
     'batches: for batch in script.chunks(size) {
-        done = done.saturating_add(batch.len());
-        let is_due = !is_late || done == script.len();
-        cost = cost.and(one_batch(rt, bench, store, feed, batch, is_due)?);
-        meter.tell(bench, done as u64);
+        cost = cost.and(one_batch(rt, bench, store, feed, batch, !is_late)?);
+        done = done.saturating_add(batch.len() as u64);
+        meter.tell(bench, done);
     }
+    let last = flush_if(rt, bench, store, is_late)?;
+    cost.flushes = cost.flushes.saturating_add(last);
     Ok(cost)
 }
 

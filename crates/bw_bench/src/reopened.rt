@@ -9,8 +9,8 @@ use bw_device::Segment;
 use bw_store::Store;
 use std::sync::Wait;
 
-/// Recovers what the boxes hold, opens a store over it, tells what it took, and reads all keys back.
-/// The time runs from before the boxes were made.
+/// Recovers what the boxes hold, opens a store over it, tells what it took, and reads all keys
+/// back. The time runs from before the boxes were made.
 pub fn reopened<R: Wait>(
     rt: &R,
     bench: &mut Bench<'_>,
