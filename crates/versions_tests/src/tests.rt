@@ -37,25 +37,29 @@ fn del(key: &[u8]) -> Result<Entry, Fail> {
     })
 }
 
-/// The low key, a colon, and each pair after a space.
-fn shown(alloc: Global, leaf: &Leaf) -> Result<Vec<u8>, AllocError> {
-    let mut out = Vec::new(alloc);
-    out.extend_from_slice(leaf.low.as_slice())?;
-    out.push(b':')?;
+/// What is left of a text behind a part of it; none where it does not begin so.
+fn behind<'a>(text: Option<&'a [u8]>, part: &[u8]) -> Option<&'a [u8]> {
+    text?.strip_prefix(part)
+}
+
+/// Whether a text is the low key, a colon, and each pair after a space.
+fn shows(leaf: &Leaf, text: &[u8]) -> bool {
+    let mut rest = behind(behind(Some(text), leaf.low.as_slice()), b":");
     for (key, value) in leaf.pairs.as_slice() {
-        out.push(b' ')?;
-        out.extend_from_slice(key.as_slice())?;
-        out.push(b'=')?;
-        out.extend_from_slice(value.as_slice())?;
+        rest = behind(behind(rest, b" "), key.as_slice());
+        rest = behind(behind(rest, b"="), value.as_slice());
     }
-    Ok(out)
+    match rest {
+        Some(rest) => rest.is_empty(),
+        None => false,
+    }
 }
 
 /// Whether a leaf is shown so; no text where there is none.
-fn is_shown(alloc: Global, leaf: Option<&Leaf>, text: &str) -> Result<bool, Fail> {
+fn is_shown(leaf: Option<&Leaf>, text: &str) -> bool {
     match leaf {
-        Some(leaf) => Ok(shown(alloc, leaf)?.as_slice() == text.as_bytes()),
-        None => Ok(text.len() == 0),
+        Some(leaf) => shows(leaf, text.as_bytes()),
+        None => text.len() == 0,
     }
 }
 

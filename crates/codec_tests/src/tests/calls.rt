@@ -69,15 +69,20 @@ fn copied_leaf(alloc: Global) -> Option<Leaf> {
     })
 }
 
-/// Whether a leaf of these pairs is copied by each call that does so.
-fn leaf_is_copied(alloc: Global) -> Option<bool> {
-    let copy = copied_leaf(alloc)?.copy().ok()?;
+/// Whether a copy has these pairs, and so has a copy of its pairs alone.
+fn is_copy(alloc: Global, copy: &Leaf) -> Option<bool> {
     let pairs = Pairs::copy_of(alloc, copy.pairs.as_slice()).ok()?;
     Some(
         copy.page == 7
             && is_one(copy.low.as_slice(), b'a')
             && are_pairs(pairs.as_slice(), b"ac", b"13"),
     )
+}
+
+/// Whether a leaf of these pairs is copied by each call that does so.
+fn leaf_is_copied(alloc: Global) -> Option<bool> {
+    let leaf = copied_leaf(alloc)?;
+    is_copy(alloc, &leaf.copy().ok()?)
 }
 
 /// The blocks of one Delta that holds these records.

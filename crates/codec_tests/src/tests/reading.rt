@@ -35,7 +35,11 @@ pub(crate) fn found_in(alloc: Global, m: u16, bytes: &[u8]) -> Option<Found> {
 fn found_after(alloc: Global, at: usize, to: u8, cut: usize) -> Option<Found> {
     let mut segment = bytes_of(alloc, FIRST)?;
     segment.push(0).ok()?;
-    let bytes = segment.as_mut_slice().get_mut(24..)?;
+    found_changed(alloc, segment.as_mut_slice().get_mut(24..)?, at, to, cut)
+}
+
+/// The same of the frame and what stands behind it.
+fn found_changed(alloc: Global, bytes: &mut [u8], at: usize, to: u8, cut: usize) -> Option<Found> {
     *bytes.get_mut(at)? = to;
     found_in(alloc, 4, bytes.get(..cut)?)
 }

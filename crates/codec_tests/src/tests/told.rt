@@ -2,7 +2,8 @@
 
 use super::hex::{FIRST, NEWER, OLDER, SECOND, bytes_of};
 use bw_codec::{
-    Block, FrameRead, HeaderRead, Key, Outline, Place, Record, Value, read_frame, read_header,
+    Block, Frame, FrameRead, Header, HeaderRead, Key, Outline, Place, Record, Value, read_frame,
+    read_header,
 };
 use std::alloc::Global;
 
@@ -139,31 +140,39 @@ const BLOCKS: &[Row] = &[
     (NEWER, (4, 0), Kind::Base, (0, 0), "jk", "23"),
 ];
 
-/// Whether the block of a row says what the row tells.
-fn holds(alloc: Global, row: &Row) -> Option<bool> {
-    let (hex, place, kind, told, keys, values) = *row;
-    let bytes = bytes_of(alloc, hex)?;
-    let HeaderRead::Whole(header) = read_header(&bytes) else {
-        return None;
-    };
-    let mut rest = bytes.get(24..)?;
+/// Whether the block of a row says what the row tells, in a frame with this body.
+fn tells(frame: &Frame, body: &[u8], row: &Row) -> Option<bool> {
+    let (_, place, kind, told, keys, values) = *row;
+    let block = frame.blocks.as_slice().get(place.1)?;
+    Some(
+        is_outlined(body, place.1, kind)?
+            && does(block, kind, told)
+            && says(block, kind, told, keys.as_bytes(), values.as_bytes()),
+    )
+}
+
+/// The same in the one of these frames that the row names.
+fn is_told(alloc: Global, frames: &[u8], header: &Header, row: &Row) -> Option<bool> {
+    let mut rest = frames;
     for _ in 0..5 {
-        match read_frame(alloc, rest, &header).ok()? {
-            FrameRead::Whole(frame, used) => {
-                if frame.number == place.0 {
-                    let block = frame.blocks.as_slice().get(place.1)?;
-                    return Some(
-                        is_outlined(rest.get(20..used)?, place.1, kind)?
-                            && does(block, kind, told)
-                            && says(block, kind, told, keys.as_bytes(), values.as_bytes()),
-                    );
-                }
-                rest = rest.get(used..)?;
-            }
-            FrameRead::Tail => return None,
+        let FrameRead::Whole(frame, used) = read_frame(alloc, rest, header).ok()? else {
+            return None;
+        };
+        if frame.number == row.1.0 {
+            return tells(&frame, rest.get(20..used)?, row);
         }
+        rest = rest.get(used..)?;
     }
     None
+}
+
+/// The same in the segment that the row names.
+fn holds(alloc: Global, row: &Row) -> Option<bool> {
+    let bytes = bytes_of(alloc, row.0)?;
+    match read_header(&bytes) {
+        HeaderRead::Whole(header) => is_told(alloc, bytes.get(24..)?, &header, row),
+        _ => None,
+    }
 }
 
 #[test]

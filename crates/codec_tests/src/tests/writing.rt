@@ -40,25 +40,25 @@ fn copy_frame(alloc: Global, bytes: &[u8], header: &Header, out: &mut Vec<u8>) -
     }
 }
 
-/// A segment's header and whole frames, written again from what was read of them.
-fn rewritten(alloc: Global, bytes: &[u8]) -> Option<Vec<u8>> {
+/// Writes a segment's header and whole frames again, from what was read of them.
+fn rewrite(alloc: Global, bytes: &[u8], out: &mut Vec<u8>) -> Option<()> {
     let HeaderRead::Whole(header) = read_header(bytes) else {
         return None;
     };
-    let mut out = Vec::new(alloc);
-    encode_header(&header, &mut out).ok()?;
+    encode_header(&header, out).ok()?;
     let mut rest = bytes.get(HEADER_LEN..)?;
     for _ in 0..5 {
-        let used = copy_frame(alloc, rest, &header, &mut out)?;
+        let used = copy_frame(alloc, rest, &header, out)?;
         rest = rest.get(used..)?;
     }
-    Some(out)
+    Some(())
 }
 
 /// Whether a segment is written again as it stands.
 fn is_rewritten(alloc: Global, hex: &str) -> Option<bool> {
     let bytes = bytes_of(alloc, hex)?;
-    let again = rewritten(alloc, bytes.as_slice())?;
+    let mut again = Vec::new(alloc);
+    rewrite(alloc, &bytes, &mut again)?;
     Some(again.as_slice() == bytes.as_slice())
 }
 

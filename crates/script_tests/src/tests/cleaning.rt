@@ -8,29 +8,29 @@ use bw_device::Segment;
 use std::sync::Wait;
 use std::test::Fail;
 
-const RECORDS: [Step; 8] = [Put, Put, Put, Del, Del, Turn(8), Turn(8), Evict];
+const RECORDS: &[Step] = &[Put, Put, Put, Del, Del, Turn(8), Turn(8), Evict];
 
 /// A segment is given up in each round but the first, and a new one comes in its place.
-const PLANS: [Rounds; 2] = [
+const PLANS: &[Rounds] = &[
     Rounds {
         rounds: 1,
         drawn: 30,
-        deck: &RECORDS,
+        deck: RECORDS,
         then: &[Settle, Roll],
     },
     Rounds {
         rounds: 100,
         drawn: 30,
-        deck: &RECORDS,
+        deck: RECORDS,
         then: &[Settle, Clean, Reads, Add, Roll],
     },
 ];
 
 /// What is recovered goes on.
-const AGAIN: [Rounds; 1] = [Rounds {
+const AGAIN: &[Rounds] = &[Rounds {
     rounds: 2,
     drawn: 30,
-    deck: &RECORDS,
+    deck: RECORDS,
     then: &[Settle, Reads, Roll],
 }];
 
@@ -64,9 +64,9 @@ fn lives_twice<R: AllocGlobal + Wait>(
     more: &mut Vec<Box<dyn Segment>>,
     script: &mut Script,
 ) -> Result<(bool, u32, u32), Fail> {
-    let (went, boxes) = lives(rt, boxes, more, script, &PLANS)?;
+    let (went, boxes) = lives(rt, boxes, more, script, PLANS)?;
     let (cleaned, refusals) = (script.cleaned, script.refusals);
-    let (again, _boxes) = stops_and_lives_on(rt, boxes, more, script, &AGAIN, true)?;
+    let (again, _boxes) = stops_and_lives_on(rt, boxes, more, script, AGAIN, true)?;
     Ok((went && again, cleaned, refusals))
 }
 
@@ -79,7 +79,8 @@ fn walked<R: AllocGlobal + Wait>(rt: &R, table: &Table) -> Result<(bool, u32, u3
 
 #[test]
 fn a_hundred_cleanings_change_no_page(rt: HostRuntime) -> Result<(), Fail> {
-    assert_eq!(rt; walked(&rt, &SMALL_PAGES)?, (true, 100, 0));
-    assert_eq!(rt; walked(&rt, &LARGE_PAGES)?, (true, 100, 0));
+    for table in [&SMALL_PAGES, &LARGE_PAGES] {
+        assert_eq!(rt; walked(&rt, table)?, (true, 100, 0), "seed {}", table.seed);
+    }
     Ok(())
 }

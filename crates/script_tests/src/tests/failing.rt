@@ -10,39 +10,39 @@ use std::alloc::Global;
 use std::sync::Wait;
 use std::test::Fail;
 
-const RECORDS: [Step; 6] = [Put, Put, Put, Put, Del, Turn(12)];
+const RECORDS: &[Step] = &[Put, Put, Put, Put, Del, Turn(12)];
 
-const DECK: [Step; 9] = [Put, Put, Put, Del, Turn(6), Turn(20), Flush, Roll, Clean];
+const DECK: &[Step] = &[Put, Put, Put, Del, Turn(6), Turn(20), Flush, Roll, Clean];
 
 /// What a cleaning writes again has more than one frame; the segment that may fail takes it behind
 /// a header and a frame.
-const NOTHING_WAITS: [Rounds; 2] = [
+const NOTHING_WAITS: &[Rounds] = &[
     Rounds {
         rounds: 1,
         drawn: 500,
-        deck: &RECORDS,
+        deck: RECORDS,
         then: &[Settle, Roll],
     },
     Rounds {
         rounds: 1,
         drawn: 4,
-        deck: &RECORDS,
+        deck: RECORDS,
         then: &[Settle, Break, Ask, Reads],
     },
 ];
 
 /// Some records are taken and not flushed when the cleaning begins.
-const SOME_WAIT: [Rounds; 3] = [
+const SOME_WAIT: &[Rounds] = &[
     Rounds {
         rounds: 1,
         drawn: 100,
-        deck: &RECORDS,
+        deck: RECORDS,
         then: &[Settle, Roll],
     },
     Rounds {
         rounds: 1,
         drawn: 4,
-        deck: &RECORDS,
+        deck: RECORDS,
         then: &[Settle],
     },
     Rounds {
@@ -54,11 +54,11 @@ const SOME_WAIT: [Rounds; 3] = [
 ];
 
 /// The second life.
-const AGAIN: [Rounds; 2] = [
+const AGAIN: &[Rounds] = &[
     Rounds {
         rounds: 1,
         drawn: 60,
-        deck: &DECK,
+        deck: DECK,
         then: &[Reads],
     },
     Rounds {
@@ -88,7 +88,7 @@ fn goes_on<R: AllocGlobal + Wait>(
     script: &mut Script,
     is_kept: bool,
 ) -> Result<bool, Fail> {
-    let (second, boxes) = stops_and_lives_on(rt, boxes, more, script, &AGAIN, is_kept)?;
+    let (second, boxes) = stops_and_lives_on(rt, boxes, more, script, AGAIN, is_kept)?;
     let (third, _boxes) = stops_and_lives_on(rt, boxes, more, script, &[], true)?;
     Ok(second && third)
 }
@@ -145,7 +145,7 @@ fn a_store_goes_on_after_a_cleaning_that_failed(rt: HostRuntime) -> Result<(), F
     for keep in [0u64, u64::MAX] {
         let mut failed = 0u32;
         for calls in 2..8u64 {
-            let (went, is_failed) = walked(&rt, calls, keep, &NOTHING_WAITS, true)?;
+            let (went, is_failed) = walked(&rt, calls, keep, NOTHING_WAITS, true)?;
             assert!(rt; went, "after {calls} calls");
             failed = failed.saturating_add(u32::from(is_failed));
         }
@@ -159,7 +159,7 @@ fn a_store_goes_on_after_a_cleaning_that_failed(rt: HostRuntime) -> Result<(), F
 fn a_store_goes_on_after_the_flush_of_a_cleaning_failed(rt: HostRuntime) -> Result<(), Fail> {
     for (keep, is_kept) in [(0u64, false), (30, false), (u64::MAX, true)] {
         assert_eq!(rt;
-            walked(&rt, 2, keep, &SOME_WAIT, is_kept)?,
+            walked(&rt, 2, keep, SOME_WAIT, is_kept)?,
             (true, true),
             "keeps {keep}"
         );

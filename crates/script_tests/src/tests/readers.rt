@@ -12,7 +12,7 @@ use std::sync::Wait;
 use std::test::Fail;
 
 /// What one store takes and flushes, its own reader sees and the other's does not.
-const STEPS: [Step; 17] = [
+const STEPS: &[Step] = &[
     See(b"", b""),
     Takes(Left, b"1"),
     Takes(Right, b"2"),
@@ -32,14 +32,14 @@ const STEPS: [Step; 17] = [
     See(b"4", b"3"),
 ];
 
-// How many steps went as told before one did not.
-fn all_go<R: Wait>(
+// The first step that did not go as told.
+fn wrong_step<R: Wait>(
     rt: &R,
     left: &mut Store,
     one: &mut Ends,
     right: &mut Store,
     other: &mut Ends,
-) -> Result<usize, Fail>
+) -> Result<Option<usize>, Fail>
     requires left { IsSound left.old holding }
     requires right { IsSound right.old holding }
     ensures left { IsSound left.new holding }
@@ -49,10 +49,10 @@ fn all_go<R: Wait>(
         let is_left = goes(rt, left, one, Left, step)?;
         let is_right = goes(rt, right, other, Right, step)?;
         if !is_left || !is_right || !see(&mut one.reader, &mut other.reader, step)? {
-            return Ok(at);
+            return Ok(Some(at));
         }
     }
-    Ok(STEPS.len())
+    Ok(None)
 }
 
 // The same with the ends of the left store.
@@ -62,14 +62,14 @@ fn go_with<R: Wait>(
     feeds: Vec<Feed>,
     right: &mut Store,
     other: &mut Ends,
-) -> Result<usize, Fail>
+) -> Result<Option<usize>, Fail>
     requires left { IsSound left.old holding }
     requires right { IsSound right.old holding }
     ensures left { IsSound left.new holding }
     ensures right { IsSound right.new holding }
 {
     let mut one = ends_of(left, feeds)?;
-    all_go(rt, left, &mut one, right, other)
+    wrong_step(rt, left, &mut one, right, other)
 }
 
 // The same with a left store over these boxes, which is then shut.
@@ -78,22 +78,22 @@ fn go_against<R: AllocGlobal + Wait>(
     right: &mut Store,
     other: &mut Ends,
     boxes: Vec<Box<dyn Segment>>,
-) -> Result<usize, Fail>
+) -> Result<Option<usize>, Fail>
     requires { IsSoundBeside right.old holding }
     ensures { IsSoundBeside right.new holding }
 {
     let Ok((mut left, feeds)) = Store::open(rt, rt.alloc(), &config(), boxes) else {
         return Err(Fail::from("a refusal"));
     };
-    let went = go_with(rt, &mut left, feeds, right, other);
+    let wrong = go_with(rt, &mut left, feeds, right, other);
     let _ = left.shut(rt);
-    went
+    wrong
 }
 
-// The same where the right store's reader then sees on.
-fn sees_on(reader: &mut Reader, went: Result<usize, Fail>) -> Result<usize, Fail> {
-    let went = went?;
-    Ok(if sees(reader, b"3")? { went } else { 0 })
+// The same where the right store's reader then sees on; the first step where it does not.
+fn sees_on(reader: &mut Reader, wrong: Result<Option<usize>, Fail>) -> Result<Option<usize>, Fail> {
+    let wrong = wrong?;
+    Ok(if sees(reader, b"3")? { wrong } else { Some(0) })
 }
 
 // The same with the ends of the right store.
@@ -102,28 +102,28 @@ fn go_beside<R: AllocGlobal + Wait>(
     right: &mut Store,
     feeds: Vec<Feed>,
     boxes: Vec<Box<dyn Segment>>,
-) -> Result<usize, Fail>
+) -> Result<Option<usize>, Fail>
     requires { IsSoundBeside right.old holding }
     ensures { IsSoundBeside right.new holding }
 {
     let mut other = ends_of(right, feeds)?;
-    let went = go_against(rt, right, &mut other, boxes);
-    sees_on(&mut other.reader, went)
+    let wrong = go_against(rt, right, &mut other, boxes);
+    sees_on(&mut other.reader, wrong)
 }
 
-fn walked<R: AllocGlobal + Wait>(rt: &R) -> Result<usize, Fail> {
+fn walked<R: AllocGlobal + Wait>(rt: &R) -> Result<Option<usize>, Fail> {
     let boxes = boxes_of(rt.alloc())?;
     let more = boxes_of(rt.alloc())?;
     let Ok((mut right, feeds)) = Store::open(rt, rt.alloc(), &config(), boxes) else {
         return Err(Fail::from("a refusal"));
     };
-    let went = go_beside(rt, &mut right, feeds, more);
+    let wrong = go_beside(rt, &mut right, feeds, more);
     let _ = right.shut(rt);
-    went
+    wrong
 }
 
 #[test]
 fn each_reader_sees_its_own_store(rt: HostRuntime) -> Result<(), Fail> {
-    assert_eq!(rt; walked(&rt)?, STEPS.len());
+    assert_eq!(rt; walked(&rt)?, None);
     Ok(())
 }

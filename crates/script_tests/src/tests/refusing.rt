@@ -7,7 +7,7 @@ use std::sync::Wait;
 use std::test::Fail;
 
 /// 1,500 records of two writers, taken by one turn.
-const TURNED: [Rounds; 1] = [Rounds {
+const TURNED: &[Rounds] = &[Rounds {
     rounds: 1,
     drawn: 1500,
     deck: &[Put],
@@ -15,7 +15,7 @@ const TURNED: [Rounds; 1] = [Rounds {
 }];
 
 /// 1,500 more, flushed by fifties.
-const FLUSHED: [Rounds; 2] = [
+const FLUSHED: &[Rounds] = &[
     Rounds {
         rounds: 30,
         drawn: 50,
@@ -52,9 +52,9 @@ fn walked<R: AllocGlobal + Wait>(rt: &R, plans: &[Rounds]) -> Result<(bool, usiz
 #[test]
 fn refused_calls_go_on_with_a_segment_more(rt: HostRuntime) -> Result<(), Fail> {
     // The values alone have more bytes than six segments, and each segment is wanted once.
-    let (went, taken, refusals) = walked(&rt, &TURNED)?;
+    let (went, taken, refusals) = walked(&rt, TURNED)?;
     assert!(rt; went && taken == 1500 && refusals >= 7);
-    let (went, taken, refusals) = walked(&rt, &FLUSHED)?;
+    let (went, taken, refusals) = walked(&rt, FLUSHED)?;
     assert!(rt; went && taken == 1500 && refusals >= 7);
     Ok(())
 }

@@ -10,7 +10,7 @@ use bw_device::Segment;
 use std::sync::Wait;
 use std::test::Fail;
 
-const DECK: [Step; 16] = [
+const DECK: &[Step] = &[
     Put,
     Put,
     Put,
@@ -30,11 +30,11 @@ const DECK: [Step; 16] = [
 ];
 
 /// A life: all is settled at its end.
-const PLANS: [Rounds; 2] = [
+const PLANS: &[Rounds] = &[
     Rounds {
         rounds: 2,
         drawn: 200,
-        deck: &DECK,
+        deck: DECK,
         then: &[Reads, EvictAll],
     },
     Rounds {
@@ -74,10 +74,10 @@ fn lives_four_times<R: AllocGlobal + Wait>(
     more: &mut Vec<Box<dyn Segment>>,
     script: &mut Script,
 ) -> Result<u32, Fail> {
-    let (mut went, mut boxes) = lives(rt, boxes, more, script, &PLANS)?;
+    let (mut went, mut boxes) = lives(rt, boxes, more, script, PLANS)?;
     let mut lived = u32::from(went);
     for _ in 0..3 {
-        (went, boxes) = stops_and_lives_on(rt, boxes, more, script, &PLANS, true)?;
+        (went, boxes) = stops_and_lives_on(rt, boxes, more, script, PLANS, true)?;
         lived = lived.saturating_add(u32::from(went));
     }
     Ok(lived)
@@ -92,7 +92,8 @@ fn walked<R: AllocGlobal + Wait>(rt: &R, table: &Table) -> Result<u32, Fail> {
 
 #[test]
 fn four_lives_are_as_one_map_tells(rt: HostRuntime) -> Result<(), Fail> {
-    assert_eq!(rt; walked(&rt, &SMALL_PAGES)?, 4);
-    assert_eq!(rt; walked(&rt, &LARGE_PAGES)?, 4);
+    for table in [&SMALL_PAGES, &LARGE_PAGES] {
+        assert_eq!(rt; walked(&rt, table)?, 4, "seed {}", table.seed);
+    }
     Ok(())
 }

@@ -8,7 +8,7 @@ use std::sync::Wait;
 use std::test::Fail;
 
 /// What is drawn, each as often as it stands here.
-const DECK: [Step; 24] = [
+const DECK: &[Step] = &[
     Put,
     Put,
     Put,
@@ -36,10 +36,10 @@ const DECK: [Step; 24] = [
 ];
 
 /// 2,000 drawn steps; after each 200 of them all is read.
-const SCRIPT: [Rounds; 1] = [Rounds {
+const SCRIPT: &[Rounds] = &[Rounds {
     rounds: 10,
     drawn: 200,
-    deck: &DECK,
+    deck: DECK,
     then: &[Reads],
 }];
 
@@ -82,7 +82,7 @@ const LARGE_PAGES: Table = Table {
 // Whether all went as told, and how many steps were walked.
 fn walked<R: AllocGlobal + Wait>(rt: &R, table: &Table) -> Result<(bool, u32), Fail> {
     let mut script = script_of(rt.alloc(), table)?;
-    let went = has_lived(rt, 4096, table, &mut script, &SCRIPT)?;
+    let went = has_lived(rt, 4096, table, &mut script, SCRIPT)?;
     Ok((went, script.steps))
 }
 

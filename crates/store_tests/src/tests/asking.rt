@@ -6,7 +6,7 @@ ghost use Rattle.bw_store.specs.Following.{Follows};
 
 use bw_codec::{Key, Leaf, Record};
 use bw_store::{Entry, Store, StoreFault};
-use std::alloc::{AllocError, Global};
+use std::alloc::Global;
 use std::test::Fail;
 
 fn digit(n: u8) -> u8 {
@@ -49,62 +49,61 @@ pub(super) fn are_bytes(
     Ok(spells(&bytes, hex.as_bytes()))
 }
 
-fn show_entry(out: &mut Vec<u8>, entry: &Entry) -> Result<(), AllocError> {
-    out.push(b'0' + (entry.writer % 10) as u8)?;
+// What is left of a text behind a part of it; none where it does not begin so.
+fn behind<'a>(text: Option<&'a [u8]>, part: &[u8]) -> Option<&'a [u8]> {
+    text?.strip_prefix(part)
+}
+
+fn is_at_end(text: Option<&[u8]>) -> bool {
+    match text {
+        Some(rest) => rest.is_empty(),
+        None => false,
+    }
+}
+
+fn behind_entry<'a>(text: Option<&'a [u8]>, entry: &Entry) -> Option<&'a [u8]> {
+    let mut rest = behind(text, &[b'0' + (entry.writer % 10) as u8]);
     match &entry.item {
         Record::Put(key, value) => {
-            out.extend_from_slice(b" put ")?;
-            out.extend_from_slice(key.as_slice())?;
-            out.push(b' ')?;
-            out.extend_from_slice(value.as_slice())?;
+            rest = behind(behind(rest, b" put "), key.as_slice());
+            rest = behind(behind(rest, b" "), value.as_slice());
         }
-        Record::Del(key) => {
-            out.extend_from_slice(b" del ")?;
-            out.extend_from_slice(key.as_slice())?;
-        }
+        Record::Del(key) => rest = behind(behind(rest, b" del "), key.as_slice()),
     }
-    out.push(b';')?;
-    Ok(())
+    behind(rest, b";")
 }
 
 /// Whether the history is so: each entry as its writer, `put` or `del`, key and value.
-pub(super) fn is_history(alloc: Global, entries: &[Entry], text: &str) -> Result<bool, Fail> {
-    let mut out = Vec::new(alloc);
+pub(super) fn is_history(entries: &[Entry], text: &str) -> bool {
+    let mut rest = Some(text.as_bytes());
     for entry in entries {
-        show_entry(&mut out, entry)?;
+        rest = behind_entry(rest, entry);
     }
-    Ok(out.as_slice() == text.as_bytes())
+    is_at_end(rest)
 }
 
-fn show_leaf(out: &mut Vec<u8>, leaf: &Leaf) -> Result<(), AllocError> {
-    out.push(b'0' + (leaf.page % 10) as u8)?;
-    out.push(b' ')?;
-    out.extend_from_slice(leaf.low.as_slice())?;
-    out.push(b':')?;
+fn is_leaf(leaf: &Leaf, text: &str) -> bool {
+    let mut rest = behind(
+        Some(text.as_bytes()),
+        &[b'0' + (leaf.page % 10) as u8, b' '],
+    );
+    rest = behind(behind(rest, leaf.low.as_slice()), b":");
     for (key, value) in leaf.pairs.as_slice() {
-        out.push(b' ')?;
-        out.extend_from_slice(key.as_slice())?;
-        out.push(b'=')?;
-        out.extend_from_slice(value.as_slice())?;
+        rest = behind(behind(rest, b" "), key.as_slice());
+        rest = behind(behind(rest, b"="), value.as_slice());
     }
-    Ok(())
-}
-
-fn is_leaf(alloc: Global, leaf: &Leaf, text: &str) -> Result<bool, Fail> {
-    let mut out = Vec::new(alloc);
-    show_leaf(&mut out, leaf)?;
-    Ok(out.as_slice() == text.as_bytes())
+    is_at_end(rest)
 }
 
 /// Whether a page is so: its number, low key and pairs; with no text, whether there is none.
-pub(super) fn is_page(alloc: Global, store: &mut Store, page: u32, text: &str) -> Result<bool, Fail>
+pub(super) fn is_page(store: &mut Store, page: u32, text: &str) -> bool
     requires { IsSound store.old holding }
     ensures sound { IsSound store.new holding }
     ensures rings { (kept_by store.new holding).rings ≡ (kept_by store.old holding).rings }
 {
     match store.page(page) {
-        Ok(leaf) => is_leaf(alloc, &leaf, text),
-        Err(fault) => Ok(fault == StoreFault::NoPage && text.len() == 0),
+        Ok(leaf) => is_leaf(&leaf, text),
+        Err(fault) => fault == StoreFault::NoPage && text.len() == 0,
     }
 }
 

@@ -117,6 +117,11 @@ fn has_one_place(store: &mut Store) -> bool
     store.reader().is_ok() && matches!(store.reader(), Err(ReadFault::NoReader))
 }
 
+// Whether a reader whose store is shut is told so.
+fn is_refused(mut reader: Reader, key: &Key) -> bool {
+    matches!(reader.get(key), Err(NoReader))
+}
+
 #[test]
 fn a_reader_sees_what_was_flushed(rt: HostRuntime) -> Result<(), Fail> {
     let boxes = boxes_of(rt.alloc(), 8)?;
@@ -128,9 +133,9 @@ fn a_reader_sees_what_was_flushed(rt: HostRuntime) -> Result<(), Fail> {
     let news = reads_news(&rt, &mut store, &key);
     let places = has_one_place(&mut store);
     let _ = store.shut(&rt);
-    let mut reader = seen?;
+    let is_refused = is_refused(seen?, &key);
     assert!(rt; news && places);
-    assert!(rt; matches!(reader.get(&Key::new(b"k")?), Err(NoReader)));
+    assert!(rt; is_refused);
     Ok(())
 }
 

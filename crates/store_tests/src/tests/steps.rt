@@ -116,7 +116,7 @@ fn answers(alloc: Global, store: &mut Store, step: &Step) -> Result<bool, Fail>
     ensures rings { (kept_by store.new holding).rings ≡ (kept_by store.old holding).rings }
 {
     match step {
-        Page(page, text) => is_page(alloc, store, *page, *text),
+        Page(page, text) => Ok(is_page(store, *page, *text)),
         Unread(page, fault) => Ok(is_unread(store, *page, *fault)),
         Evict(page, told) => Ok(store.evict(*page) == *told),
         Get(key, value) => has(store, *key, *value),
@@ -125,7 +125,7 @@ fn answers(alloc: Global, store: &mut Store, step: &Step) -> Result<bool, Fail>
             Ok(store.live_segment(*at) == Some((*number, *lease, *length)))
         }
         Bytes(segment, hex) => are_bytes(alloc, store, *segment, *hex),
-        History(told) => is_history(alloc, store.history(), *told),
+        History(told) => Ok(is_history(store.history(), *told)),
         Cuts(told, durable) => Ok(are_cuts(store.cuts(), *told) && store.durable() == *durable),
         Stands(live, spares) => Ok(store.live() == *live && store.spares() == *spares),
         _ => Ok(false),

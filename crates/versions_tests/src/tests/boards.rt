@@ -30,13 +30,13 @@ const PAGES: &[(u32, &str)] = &[(1, ": a=1 b=2"), (2, "c: c=3 d=4 e=5"), (3, "")
 
 const VALUES: &[(&str, &str)] = &[("e", "5"), ("x", "")];
 
-fn has_pages(alloc: Global, board: &Board) -> Result<bool, Fail> {
+fn has_pages(board: &Board) -> bool {
     for (page, text) in PAGES {
-        if !is_shown(alloc, board.leaves().page(*page), text)? {
-            return Ok(false);
+        if !is_shown(board.leaves().page(*page), text) {
+            return false;
         }
     }
-    Ok(true)
+    true
 }
 
 fn has_values(board: &Board) -> Result<bool, Fail> {
@@ -52,7 +52,6 @@ fn has_values(board: &Board) -> Result<bool, Fail> {
 fn a_board_is_cut_as_leaves_are(rt: HostRuntime) -> Result<(), Fail> {
     batches_are_joined();
     let board = board(rt.alloc())?;
-    assert!(rt; has_pages(rt.alloc(), &board)?);
-    assert!(rt; has_values(&board)?);
+    assert!(rt; has_pages(&board) && has_values(&board)?);
     Ok(())
 }

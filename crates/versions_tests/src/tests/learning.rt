@@ -4,10 +4,9 @@ ghost use Rattle.std.specs.Prelude.{◌≡◌, []};
 ghost use mathlib.Core.List.{IsPrefix};
 ghost use Rattle.bw_versions.specs.Batches.{entries_of};
 
-use super::{is_value, shown, start};
-use bw_codec::{Key, Leaf, Record, Value};
+use super::{is_shown, is_value, start};
+use bw_codec::{Key, Record, Value};
 use bw_versions::{Entry, News, Reader, Versions};
-use std::alloc::Global;
 use std::sync::Wait;
 use std::test::Fail;
 use std::thread;
@@ -54,7 +53,7 @@ fn publish_all<R: Wait>(
 }
 
 // Whether the last value and the first page are there.
-fn has_all(alloc: Global, mut reader: Reader, news: News) -> bool
+fn has_all(mut reader: Reader, news: News) -> bool
     requires { news.book ≡ reader.book }
 {
     reader.learn(news);
@@ -67,22 +66,11 @@ fn has_all(alloc: Global, mut reader: Reader, news: News) -> bool
     let Ok(leaf) = reader.page(1) else {
         return false;
     };
-    is_value(value, "0999") && is_page(alloc, leaf.as_ref(), ": a0000=0000 a0001=0001")
-}
-
-fn is_page(alloc: Global, leaf: Option<&Leaf>, text: &str) -> bool {
-    match leaf {
-        Some(leaf) => match shown(alloc, leaf) {
-            Ok(bytes) => bytes.as_slice() == text.as_bytes(),
-            Err(_) => false,
-        },
-        None => false,
-    }
+    is_value(value, "0999") && is_shown(leaf.as_ref(), ": a0000=0000 a0001=0001")
 }
 
 fn learns<R: Threads + Wait>(
     rt: &R,
-    alloc: Global,
     versions: &mut Versions,
     history: &mut Vec<Entry>,
 ) -> Result<bool, Fail>
@@ -95,7 +83,7 @@ fn learns<R: Threads + Wait>(
         rt,
         move ||
             requires { news.book ≡ reader.book }
-        { has_all(alloc, reader, news) },
+        { has_all(reader, news) },
     );
     match child {
         Ok(child) => Ok(child.join(rt)),
@@ -107,7 +95,7 @@ fn learns<R: Threads + Wait>(
 fn news_go_to_another_thread(rt: HostRuntime) -> Result<(), Fail> {
     let mut history = Vec::new(rt.alloc());
     let mut versions = Versions::open(&rt, rt.alloc(), 1, start(rt.alloc())?)?;
-    let said = learns(&rt, rt.alloc(), &mut versions, &mut history);
+    let said = learns(&rt, &mut versions, &mut history);
     versions.shut(&rt);
     assert!(rt; said?);
     Ok(())

@@ -1,5 +1,7 @@
 //! Two publishers, each with readers of its own.
 
+ghost use Rattle.std.specs.Prelude.{◌≡◌};
+
 use super::{is_value, put, start};
 use bw_codec::Key;
 use bw_versions::{Batch, Entry, Publisher, Reader};
@@ -13,11 +15,18 @@ fn batch(alloc: Global, value: &str) -> Result<Batch, Fail> {
     Ok(Batch::new(Some(start(alloc)?), entries))
 }
 
-fn value_is(mut reader: Reader, text: &str) -> Result<bool, Fail> {
+fn value_is(reader: &mut Reader, text: &str) -> Result<bool, Fail> {
     match reader.get(&Key::new(b"k")?) {
         Ok(value) => Ok(is_value(value, text)),
         Err(_) => Ok(false),
     }
+}
+
+// Whether a batch is published to all readers.
+fn publishes<R: Wait>(rt: &R, publisher: &mut Publisher, batch: Batch) -> bool
+    ensures { publisher.new.entered.book ≡ publisher.old.entered.book }
+{
+    publisher.publish(rt, batch).is_ok() && publisher.catch_up(rt).is_ok()
 }
 
 // Whether a reader that learnt what is published reads the value.
@@ -28,12 +37,9 @@ fn reads<R: Wait>(
     text: &str,
 ) -> Result<bool, Fail> {
     let mut reader = publisher.reader()?;
-    if publisher.publish(rt, batch).is_err() {
-        return Ok(false);
-    }
-    publisher.catch_up(rt)?;
+    let are_told = publishes(rt, publisher, batch);
     reader.learn(publisher.news());
-    value_is(reader, text)
+    Ok(are_told && value_is(&mut reader, text)?)
 }
 
 fn both_publish<R: Wait>(
@@ -45,8 +51,15 @@ fn both_publish<R: Wait>(
     Ok(reads(rt, one, batch(alloc, "1")?, "1")? && reads(rt, other, batch(alloc, "2")?, "2")?)
 }
 
-fn are_values(one: Reader, other: Reader) -> Result<bool, Fail> {
-    Ok(value_is(one, "1")? && value_is(other, "2")?)
+// The same, and whether these readers read it too.
+fn both_are_read<R: Wait>(
+    rt: &R,
+    alloc: Global,
+    (one, first): (&mut Publisher, &mut Reader),
+    (other, second): (&mut Publisher, &mut Reader),
+) -> Result<bool, Fail> {
+    let published = both_publish(rt, alloc, one, other)?;
+    Ok(published && value_is(first, "1")? && value_is(second, "2")?)
 }
 
 // Whether readers that were made before anything was published read what both publish.
@@ -56,12 +69,9 @@ fn both_read<R: Wait>(
     one: &mut Publisher,
     other: &mut Publisher,
 ) -> Result<bool, Fail> {
-    let first = one.reader()?;
-    let second = other.reader()?;
-    if !both_publish(rt, alloc, one, other)? {
-        return Ok(false);
-    }
-    are_values(first, second)
+    let mut first = one.reader()?;
+    let mut second = other.reader()?;
+    both_are_read(rt, alloc, (one, &mut first), (other, &mut second))
 }
 
 fn with_two<R: Wait>(rt: &R, alloc: Global, mut one: Publisher) -> Result<bool, Fail> {

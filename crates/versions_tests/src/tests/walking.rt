@@ -38,12 +38,12 @@ fn value_is(reader: &mut Reader, key: &str, text: &str) -> Result<bool, Fail>
     }
 }
 
-fn page_is(alloc: Global, reader: &mut Reader, page: u32, text: &str) -> Result<bool, Fail>
+fn page_is(reader: &mut Reader, page: u32, text: &str) -> bool
     ensures { reader.new.book ≡ reader.old.book }
 {
     match reader.page(page) {
-        Ok(leaf) => is_shown(alloc, leaf.as_ref(), text),
-        Err(_) => Ok(false),
+        Ok(leaf) => is_shown(leaf.as_ref(), text),
+        Err(_) => false,
     }
 }
 
@@ -84,7 +84,7 @@ fn goes<R: Wait>(
             Ok(true)
         }
         Get(key, text) => value_is(reader, *key, *text),
-        Page(page, text) => page_is(*history.allocator(), reader, *page, *text),
+        Page(page, text) => Ok(page_is(reader, *page, *text)),
     }
 }
 
