@@ -37,7 +37,7 @@ fn put_at(feeds: &mut Vec<Feed>, writer: usize, op: Record) -> bool
 impl Session {
     ghost use Rattle.bw_script.specs.Session.{IsReady, IsReadyBeside};
 
-    /// A session over these new segments, whose leases are the desk's.
+    /// A session over these new segments, whose leases are the site's.
     pub fn open<R: System>(
         rt: &R,
         options: &Options<'_>,

@@ -4,8 +4,8 @@ use crate::home::Site;
 use bw_ring::Feed;
 use bw_store::Store;
 
-/// A store, the feeds of its writers, and where its segments stand and have their leases from. It is
-/// ended by `shut` alone.
+/// A store, the feeds of its writers, and where its segments stand and have their leases from. It
+/// is ended by `shut` alone.
 pub struct Session {
     pub(crate) store: Store,
     pub(crate) feeds: Vec<Feed>,
