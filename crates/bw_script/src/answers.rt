@@ -1,118 +1,75 @@
-//! A command is done, and its answer printed.
+//! What commands come to, and how that is printed.
 
 ghost use Rattle.bw_script.specs.Session.{IsReady};
 
 use crate::calls::LEASES;
+use crate::home::{Made, Site};
 use crate::miss::Miss;
 use crate::printed::{write_dump, write_entry, write_page, write_value};
-use crate::script::{Command, Fault};
 use crate::session::Session;
 use crate::system::System;
-use bw_codec::{Key, Record};
-use bw_device::Segment;
-use std::alloc::Global;
+use bw_codec::{Leaf, Value};
+use bw_store::{Cleaned, Entry};
 use std::io::{self, Write};
 
-fn put<O: Write>(session: &mut Session, output: &mut O, writer: u16, op: Record) -> Result<(), Miss>
-    requires { IsReady session.old holding }
-    ensures { IsReady session.new holding }
-{
-    match session.put(writer, op) {
-        Some(true) => output.write_all(b"ok\n")?,
-        Some(false) => output.write_all(b"full\n")?,
-        None => return Err(Miss::Fault(Fault::BadNumber)),
-    }
-    Ok(())
+/// What a command comes to.
+#[derive(Drop)]
+pub enum Answer {
+    /// Whether a record found a place in its writer's ring.
+    Put(bool),
+    /// How many records a turn took.
+    Took(u32),
+    /// The frame that was appended, if something waited.
+    Frame(Option<u64>),
+    /// The length of the history, once all that was accepted is taken and appended.
+    Settled(u64),
+    Page(Leaf),
+    Value(Option<Value>),
+    /// Whether the page left memory.
+    Evicted(bool),
+    /// What was given up with the oldest segment.
+    Cleaned(Cleaned),
+    Rolled,
+    /// The bytes of a segment.
+    Dump(Vec<u8>),
+    /// A segment that is to be added. It is told of once it is.
+    Spare(Made),
+    // What is printed as the session has it.
+    History,
+    Cuts,
+    Segments,
+    Leases,
 }
 
-fn turn<O: Write>(session: &mut Session, output: &mut O, limit: u32) -> Result<(), Miss>
-    requires { IsReady session.old holding }
-    ensures { IsReady session.new holding }
-{
-    let taken = session.turn(limit)?;
-    writeln!(output, "took {taken}")?;
-    Ok(())
-}
-
-// A turn without a limit ends with a round that took none: the rings are then empty, since nobody
-// puts meanwhile.
-fn flush<R: System, O: Write>(rt: &R, session: &mut Session, output: &mut O) -> Result<(), Miss>
-    requires { IsReady session.old holding }
-    ensures { IsReady session.new holding }
-{
-    let _ = session.turn(u32::MAX)?;
-    match session.flush(rt)? {
-        Some(frame) => writeln!(output, "frame {frame}")?,
-        None => output.write_all(b"no frame\n")?,
-    }
-    Ok(())
-}
-
-fn settle<R: System, O: Write>(rt: &R, session: &mut Session, output: &mut O) -> Result<(), Miss>
-    requires { IsReady session.old holding }
-    ensures { IsReady session.new holding }
-{
-    let length = session.settle(rt)?;
-    writeln!(output, "settled {length}")?;
-    Ok(())
-}
-
-fn page<O: Write>(session: &mut Session, output: &mut O, page: u32) -> Result<(), Miss>
-    requires { IsReady session.old holding }
-    ensures { IsReady session.new holding }
-{
-    let leaf = session.page(page)?;
-    write_page(output, &leaf)?;
-    Ok(())
-}
-
-fn get<O: Write>(session: &mut Session, output: &mut O, key: &Key) -> Result<(), Miss>
-    requires { IsReady session.old holding }
-    ensures { IsReady session.new holding }
-{
-    let value = session.get(key)?;
-    write_value(output, value.as_ref())?;
-    Ok(())
-}
-
-fn evict<O: Write>(session: &mut Session, output: &mut O, page: u32) -> Result<(), Miss>
-    requires { IsReady session.old holding }
-    ensures { IsReady session.new holding }
-{
-    if session.evict(page)? {
-        output.write_all(b"evicted\n")?;
-    } else {
-        output.write_all(b"kept\n")?;
-    }
-    Ok(())
-}
-
-// The file of what was given up is emptied before the next segment can be.
-fn clean<R: System, O: Write>(rt: &R, session: &mut Session, output: &mut O) -> Result<(), Miss>
-    requires { IsReady session.old holding }
-    ensures { IsReady session.new holding }
-{
-    let cleaned = session.clean(rt)?;
+fn write_cleaned<O: Write>(output: &mut O, cleaned: &Cleaned) -> io::Result<()> {
     writeln!(
         output,
         "cleaned segment {} lease {} pages {} frames {}",
         cleaned.segment, cleaned.lease, cleaned.pages, cleaned.frames
-    )?;
-    session.home.empty(rt, cleaned.lease)?;
-    Ok(())
+    )
 }
 
-fn roll<O: Write>(session: &mut Session, output: &mut O) -> Result<(), Miss>
-    requires { IsReady session.old holding }
-    ensures { IsReady session.new holding }
-{
-    session.roll();
-    output.write_all(b"rolled\n")?;
-    Ok(())
+/// An answer that says all by itself.
+fn write_answer<O: Write>(output: &mut O, answer: &Answer) -> io::Result<()> {
+    match answer {
+        Answer::Put(true) => output.write_all(b"ok\n"),
+        Answer::Put(false) => output.write_all(b"full\n"),
+        Answer::Took(count) => writeln!(output, "took {count}"),
+        Answer::Frame(Some(frame)) => writeln!(output, "frame {frame}"),
+        Answer::Frame(None) => output.write_all(b"no frame\n"),
+        Answer::Settled(length) => writeln!(output, "settled {length}"),
+        Answer::Page(leaf) => write_page(output, leaf),
+        Answer::Value(value) => write_value(output, value.as_ref()),
+        Answer::Evicted(true) => output.write_all(b"evicted\n"),
+        Answer::Evicted(false) => output.write_all(b"kept\n"),
+        Answer::Cleaned(cleaned) => write_cleaned(output, cleaned),
+        Answer::Rolled => output.write_all(b"rolled\n"),
+        Answer::Dump(bytes) => write_dump(output, bytes.as_slice()),
+        _ => Ok(()),
+    }
 }
 
-fn history<O: Write>(session: &Session, output: &mut O) -> io::Result<()> {
-    let entries = session.store.history();
+fn write_history<O: Write>(output: &mut O, entries: &[Entry]) -> io::Result<()> {
     writeln!(output, "history {}", entries.len())?;
     for entry in entries {
         write_entry(output, entry)?;
@@ -120,15 +77,15 @@ fn history<O: Write>(session: &Session, output: &mut O) -> io::Result<()> {
     Ok(())
 }
 
-fn cuts<O: Write>(session: &Session, output: &mut O) -> io::Result<()> {
+fn write_cuts<O: Write>(output: &mut O, cuts: &[u64]) -> io::Result<()> {
     output.write_all(b"cuts")?;
-    for cut in session.store.cuts() {
+    for cut in cuts {
         write!(output, " {cut}")?;
     }
     output.write_all(b"\n")
 }
 
-fn segments<O: Write>(session: &Session, output: &mut O) -> io::Result<()>
+fn write_segments<O: Write>(output: &mut O, session: &Session) -> io::Result<()>
     requires { IsReady session.now holding }
 {
     for i in 0..session.store.live() {
@@ -139,71 +96,41 @@ fn segments<O: Write>(session: &Session, output: &mut O) -> io::Result<()>
     writeln!(output, "spares {}", session.store.spares())
 }
 
-fn leases<O: Write>(session: &mut Session, output: &mut O) -> Result<(), Miss>
-    requires { IsReady session.old holding }
-    ensures { IsReady session.new holding }
-{
-    session.collect();
+fn write_leases<O: Write>(output: &mut O, site: &Site) -> io::Result<()> {
     output.write_all(b"out")?;
     for lease in 0..LEASES {
-        if session.desk.is_out(lease) {
+        if site.is_out(lease) {
             write!(output, " {lease}")?;
         }
     }
-    output.write_all(b"\n")?;
-    Ok(())
+    output.write_all(b"\n")
 }
 
-fn dump<O: Write>(
-    alloc: Global,
-    session: &mut Session,
-    output: &mut O,
-    segment: u32,
-) -> Result<(), Miss>
-    requires { IsReady session.old holding }
-    ensures { IsReady session.new holding }
-{
-    let mut bytes = Vec::new(alloc);
-    if !session.dump(segment, &mut bytes)? {
-        return Err(Miss::Fault(Fault::BadNumber));
-    }
-    write_dump(output, &bytes)?;
-    Ok(())
-}
-
-// What is only asked.
-fn ask<O: Write>(session: &Session, output: &mut O, command: &Command) -> io::Result<()>
+/// Prints an answer of this session.
+fn print<O: Write>(output: &mut O, session: &Session, answer: &Answer) -> io::Result<()>
     requires { IsReady session.now holding }
 {
-    match command {
-        Command::History => history(session, output),
-        Command::Cuts => cuts(session, output),
-        _ => segments(session, output),
+    match answer {
+        Answer::History => write_history(output, session.store.history()),
+        Answer::Cuts => write_cuts(output, session.store.cuts()),
+        Answer::Segments => write_segments(output, session),
+        Answer::Leases => write_leases(output, &session.site),
+        _ => write_answer(output, answer),
     }
 }
 
-/// Does what a line asks for, and prints its answer.
-pub fn answer<R: System, O: Write>(
+/// Prints an answer. The file of what was given up is emptied then, before the next segment can be.
+pub fn tell<R: System, O: Write>(
     rt: &R,
-    session: &mut Session,
+    session: &Session,
     output: &mut O,
-    command: Command,
+    answer: &Answer,
 ) -> Result<(), Miss>
-    requires { IsReady session.old holding }
-    ensures { IsReady session.new holding }
+    requires { IsReady session.now holding }
 {
-    match command {
-        Command::Put(writer, op) => put(session, output, writer, op),
-        Command::Turn(limit) => turn(session, output, limit),
-        Command::Flush => flush(rt, session, output),
-        Command::Settle => settle(rt, session, output),
-        Command::Page(number) => page(session, output, number),
-        Command::Evict(number) => evict(session, output, number),
-        Command::Get(key) => get(session, output, &key),
-        Command::Clean => clean(rt, session, output),
-        Command::Roll => roll(session, output),
-        Command::Leases => leases(session, output),
-        Command::Dump(segment) => dump(rt.alloc(), session, output, segment),
-        other => Ok(ask(session, output, &other)?),
+    print(output, session, answer)?;
+    if let Answer::Cleaned(cleaned) = answer {
+        session.site.empty(rt, cleaned.lease)?;
     }
+    Ok(())
 }

@@ -4,17 +4,20 @@ ghost use Rattle.std.specs.Prelude.{◌≡◌, ◌<◌, length, map, vec_len, If
 ghost use Rattle.bw_care.specs.Found.{IsRecovered};
 ghost use Rattle.bw_ring.specs.Ends.{ring_of_feed};
 
-use crate::home::{Home, Made};
+use crate::answers::Answer;
+use crate::home::Site;
 use crate::miss::Miss;
 use crate::options::Options;
 use crate::refusal::Refusal;
+use crate::script::{Command, Fault};
 use crate::session::Session;
 use crate::system::System;
 use bw_care::Recovered;
-use bw_codec::{Key, Leaf, Record, Value};
-use bw_device::{Desk, Segment};
+use bw_codec::{Key, Record};
+use bw_device::Segment;
 use bw_ring::Feed;
-use bw_store::{Cleaned, Config, Store};
+use bw_store::{Config, Store};
+use std::alloc::Global;
 
 /// How many places for readers a store is opened with.
 const READERS: usize = 4;
@@ -34,14 +37,13 @@ fn put_at(feeds: &mut Vec<Feed>, writer: usize, op: Record) -> bool
 impl Session {
     ghost use Rattle.bw_script.specs.Session.{IsReady, IsReadyBeside};
 
-    /// A session over these new segments, whose leases are the desk's.
+    /// A session over these new segments, whose leases are the site's.
     pub fn open<R: System>(
         rt: &R,
         options: &Options<'_>,
         segments: Vec<Box<dyn Segment>>,
-        desk: Desk,
-        home: Home,
-    ) -> Result<Session, Refusal>
+        site: Site,
+    ) -> Result<Session, Miss>
         requires { Unit {0} }
         ensures ready { IfOk result (λ s. IsReadyBeside s holding) }
         ensures writers { IfOk result (λ s. vec_len s.feeds ≡ options.now.writers) }
@@ -55,14 +57,9 @@ impl Session {
         };
         let (store, feeds) = match Store::open(rt, rt.alloc(), &config, segments) {
             Ok(opened) => opened,
-            Err(fault) => return Err(Refusal::from(fault.cause)),
+            Err(fault) => return Err(Miss::from(fault.cause)),
         };
-        Ok(Session {
-            store,
-            feeds,
-            desk,
-            home,
-        })
+        Ok(Session { store, feeds, site })
     }
 
     /// A session that goes on from what was recovered, with the limits of its pages and frames.
@@ -70,9 +67,8 @@ impl Session {
         rt: &R,
         options: &Options<'_>,
         found: Recovered,
-        desk: Desk,
-        home: Home,
-    ) -> Result<Session, Refusal>
+        site: Site,
+    ) -> Result<Session, Miss>
         requires { IsRecovered (λ b. holding (b.vtable, b.value)) found }
         ensures ready { IfOk result (λ s. IsReady s holding) }
         ensures writers { IfOk result (λ s. vec_len s.feeds ≡ options.now.writers) }
@@ -80,111 +76,171 @@ impl Session {
         let writers = usize::from(options.writers);
         let places = usize::from(options.places);
         match Store::reopen(rt, rt.alloc(), found, writers, places, READERS) {
-            Ok((store, feeds)) => Ok(Session {
-                store,
-                feeds,
-                desk,
-                home,
-            }),
-            Err(fault) => Err(Refusal::from(fault.cause)),
+            Ok((store, feeds)) => Ok(Session { store, feeds, site }),
+            Err(fault) => Err(Miss::from(fault.cause)),
         }
     }
 
-    /// Whether the record found a place in its writer's ring; `None` where there is no such writer.
-    pub fn put(&mut self, writer: u16, op: Record) -> Option<bool>
+    /// Whether the record found a place in its writer's ring. It is a fault where there is no such
+    /// writer.
+    fn put(&mut self, writer: u16, op: Record) -> Result<Answer, Miss>
         requires { IsReady self.old holding }
         ensures { IsReady self.new holding }
     {
         let writer = usize::from(writer);
         if writer >= self.feeds.len() {
-            return None;
+            return Err(Miss::Fault(Fault::BadNumber));
         }
-        Some(put_at(&mut self.feeds, writer, op))
+        Ok(Answer::Put(put_at(&mut self.feeds, writer, op)))
     }
 
     /// How many records a turn of this limit took.
-    pub fn turn(&mut self, limit: u32) -> Result<u32, Refusal>
+    fn turn(&mut self, limit: u32) -> Result<Answer, Miss>
         requires { IsReady self.old holding }
         ensures { IsReady self.new holding }
     {
         match self.store.turn(limit) {
-            Ok(taken) => Ok(taken),
-            Err(fault) => Err(Refusal::from(fault.cause)),
+            Ok(taken) => Ok(Answer::Took(taken)),
+            Err(fault) => Err(Miss::from(fault.cause)),
         }
     }
 
-    /// The number of the frame that was appended, if something waited.
-    pub fn flush<R: System>(&mut self, rt: &R) -> Result<Option<u64>, Refusal>
+    /// The number of the frame that was appended, if something waited. All that waits in the rings
+    /// is taken before: a turn without a limit ends with a round that took none, and nobody puts
+    /// meanwhile.
+    fn flush<R: System>(&mut self, rt: &R) -> Result<Answer, Miss>
         requires { IsReady self.old holding }
         ensures { IsReady self.new holding }
     {
-        Ok(self.store.flush(rt)?)
+        let _ = self.turn(u32::MAX)?;
+        match self.store.flush(rt) {
+            Ok(frame) => Ok(Answer::Frame(frame)),
+            Err(fault) => Err(Miss::from(fault)),
+        }
     }
 
     /// The length of the history, once all that was accepted is taken and appended.
-    pub fn settle<R: System>(&mut self, rt: &R) -> Result<u64, Refusal>
+    fn settle<R: System>(&mut self, rt: &R) -> Result<Answer, Miss>
         requires { IsReady self.old holding }
         ensures { IsReady self.new holding }
     {
-        Ok(self.store.settle(rt, &mut self.feeds)?)
+        match self.store.settle(rt, &mut self.feeds) {
+            Ok(length) => Ok(Answer::Settled(length)),
+            Err(fault) => Err(Miss::from(fault)),
+        }
     }
 
     /// A page, as the history leaves it.
-    pub fn page(&mut self, page: u32) -> Result<Leaf, Refusal>
+    fn page(&mut self, page: u32) -> Result<Answer, Miss>
         requires { IsReady self.old holding }
         ensures { IsReady self.new holding }
     {
-        Ok(self.store.page(page)?)
+        match self.store.page(page) {
+            Ok(leaf) => Ok(Answer::Page(leaf)),
+            Err(fault) => Err(Miss::from(fault)),
+        }
     }
 
     /// A key's value, as the history leaves it.
-    pub fn get(&mut self, key: &Key) -> Result<Option<Value>, Refusal>
+    fn get(&mut self, key: &Key) -> Result<Answer, Miss>
         requires { IsReady self.old holding }
         ensures { IsReady self.new holding }
     {
-        Ok(self.store.get(key)?)
+        match self.store.get(key) {
+            Ok(value) => Ok(Answer::Value(value)),
+            Err(fault) => Err(Miss::from(fault)),
+        }
     }
 
     /// Whether the page left memory; it stays where it is away, or where no frame has all of it.
-    pub fn evict(&mut self, page: u32) -> Result<bool, Refusal>
+    fn evict(&mut self, page: u32) -> Result<Answer, Miss>
         requires { IsReady self.old holding }
         ensures { IsReady self.new holding }
     {
-        Ok(self.store.evict(page)?)
+        match self.store.evict(page) {
+            Ok(evicted) => Ok(Answer::Evicted(evicted)),
+            Err(fault) => Err(Miss::from(fault)),
+        }
     }
 
     /// What was given up with the oldest segment.
-    pub fn clean<R: System>(&mut self, rt: &R) -> Result<Cleaned, Refusal>
+    fn clean<R: System>(&mut self, rt: &R) -> Result<Answer, Miss>
         requires { IsReady self.old holding }
         ensures { IsReady self.new holding }
     {
-        Ok(self.store.clean(rt)?)
+        match self.store.clean(rt) {
+            Ok(cleaned) => Ok(Answer::Cleaned(cleaned)),
+            Err(fault) => Err(Miss::from(fault)),
+        }
     }
 
     /// The current segment takes no more frames.
-    pub fn roll(&mut self)
+    fn roll(&mut self) -> Result<Answer, Miss>
         requires { IsReady self.old holding }
         ensures { IsReady self.new holding }
     {
         self.store.roll();
+        Ok(Answer::Rolled)
     }
 
-    /// The bytes of a live segment go behind what the `Vec` has; `false` where none has the number.
-    pub fn dump(&mut self, segment: u32, bytes: &mut Vec<u8>) -> Result<bool, Refusal>
+    /// The bytes of a live segment. It is a fault where none has the number.
+    fn dump(&mut self, alloc: Global, segment: u32) -> Result<Answer, Miss>
         requires { IsReady self.old holding }
         ensures { IsReady self.new holding }
     {
-        Ok(self.store.dump(u64::from(segment), bytes)?)
+        let mut bytes = Vec::new(alloc);
+        match self.store.dump(u64::from(segment), &mut bytes) {
+            Ok(true) => Ok(Answer::Dump(bytes)),
+            Ok(false) => Err(Miss::Fault(Fault::BadNumber)),
+            Err(fault) => Err(Miss::from(fault)),
+        }
     }
 
     /// A new segment of this capacity, with the least lease that is free, once those that came back
     /// are.
-    pub fn spare<R: System>(&mut self, rt: &R, capacity: u64) -> Result<Made, Miss>
+    fn spare<R: System>(&mut self, rt: &R, capacity: u64) -> Result<Answer, Miss>
         requires { IsReady self.old holding }
         ensures { IsReady self.new holding }
     {
-        let _ = self.desk.collect();
-        self.home.spare(rt, &mut self.desk, capacity)
+        Ok(Answer::Spare(self.site.spare(rt, capacity)?))
+    }
+
+    /// The leases that are out: those that came back are free again.
+    fn leases(&mut self) -> Result<Answer, Miss>
+        requires { IsReady self.old holding }
+        ensures { IsReady self.new holding }
+    {
+        self.site.collect();
+        Ok(Answer::Leases)
+    }
+
+    /// Does what a command asks for. A spare has this capacity, and is not added yet.
+    pub fn call<R: System>(
+        &mut self,
+        rt: &R,
+        capacity: u64,
+        command: Command,
+    ) -> Result<Answer, Miss>
+        requires { IsReady self.old holding }
+        ensures { IsReady self.new holding }
+    {
+        match command {
+            Command::Put(writer, op) => self.put(writer, op),
+            Command::Turn(limit) => self.turn(limit),
+            Command::Flush => self.flush(rt),
+            Command::Settle => self.settle(rt),
+            Command::Page(page) => self.page(page),
+            Command::Get(key) => self.get(&key),
+            Command::Evict(page) => self.evict(page),
+            Command::Clean => self.clean(rt),
+            Command::Roll => self.roll(),
+            Command::Add => self.spare(rt, capacity),
+            Command::History => Ok(Answer::History),
+            Command::Cuts => Ok(Answer::Cuts),
+            Command::Segments => Ok(Answer::Segments),
+            Command::Leases => self.leases(),
+            Command::Dump(segment) => self.dump(rt.alloc(), segment),
+        }
     }
 
     /// The store has one more spare.
@@ -198,14 +254,6 @@ impl Session {
         }
     }
 
-    /// Leases that came back are free again.
-    pub fn collect(&mut self)
-        requires { IsReady self.old holding }
-        ensures { IsReady self.new holding }
-    {
-        let _ = self.desk.collect();
-    }
-
     /// Ends the store. Nothing is flushed, and its segments are dropped.
     pub fn shut<R: System>(self, rt: &R)
         requires { IsReady self holding }
@@ -213,8 +261,7 @@ impl Session {
         let Session {
             store,
             feeds: _feeds,
-            desk: _desk,
-            home: _home,
+            site: _site,
         } = self;
         let _ = store.shut(rt);
     }

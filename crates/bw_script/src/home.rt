@@ -6,31 +6,39 @@ use crate::refusal::Refusal;
 use crate::stop::Stop;
 use crate::system::System;
 use bw_device::{Desk, Lease, MemSegment, Segment};
-use bw_file::{FileSegment, Folder, FolderFault};
+use bw_file::{FileSegment, Folder, FolderFault, NotOpened};
 use std::alloc::Global;
 
 /// Where the segments of a run stand.
 #[derive(Drop)]
-pub enum Home {
+enum Home {
     /// In memory, as long as the run lasts.
     Memory,
     /// In files, as long as these keep what they were given.
     Folder(Folder),
 }
 
-/// A segment that was made, before it is boxed.
+/// A segment that was made.
 #[derive(Drop)]
 pub enum Made {
-    Memory(MemSegment),
-    File(FileSegment),
+    Memory(Box<MemSegment>),
+    File(Box<FileSegment>),
 }
 
 impl Made {
-    /// Its lease, and whether it has no bytes.
-    pub fn sight(&self) -> (u32, bool) {
+    /// Its lease.
+    pub fn lease(&self) -> u32 {
         match self {
-            Made::Memory(segment) => (segment.lease(), segment.len() == 0),
-            Made::File(segment) => (segment.lease(), segment.len() == 0),
+            Made::Memory(segment) => segment.lease(),
+            Made::File(segment) => segment.lease(),
+        }
+    }
+
+    /// Whether it has no bytes.
+    pub fn is_empty(&self) -> bool {
+        match self {
+            Made::Memory(segment) => segment.len() == 0,
+            Made::File(segment) => segment.len() == 0,
         }
     }
 }
@@ -53,25 +61,41 @@ pub fn taken(desk: &mut Desk) -> Result<Lease, Refusal> {
 
 fn in_memory(alloc: Global, lease: Lease, capacity: u64) -> Result<Made, Miss> {
     match MemSegment::new(alloc, lease, capacity) {
-        Ok(segment) => Ok(Made::Memory(segment)),
+        Ok(segment) => Ok(Made::Memory(Box::new(alloc, segment)?)),
         Err(refused) => Err(Miss::Refused(Refusal::from(refused.cause))),
     }
 }
 
-impl Home {
+fn in_file(alloc: Global, opened: Result<FileSegment, NotOpened>) -> Result<Made, Miss> {
+    match opened {
+        Ok(segment) => Ok(Made::File(Box::new(alloc, segment)?)),
+        Err(refused) => Err(Miss::from(refused.cause)),
+    }
+}
+
+/// Where the segments of a run stand, and the desk from which they have their leases.
+#[derive(Drop)]
+pub struct Site {
+    home: Home,
+    desk: Desk,
+}
+
+impl Site {
     /// The folder of this path, made where it is missing; memory where there is none.
-    pub fn open<R: System>(rt: &R, dir: Option<&str>) -> Result<Home, FolderFault> {
-        match dir {
-            Some(path) => Ok(Home::Folder(Folder::open(rt, path)?)),
-            None => Ok(Home::Memory),
-        }
+    pub fn open<R: System>(rt: &R, dir: Option<&str>) -> Result<Site, Stop> {
+        let desk = desk_of(rt.alloc())?;
+        let home = match dir {
+            Some(path) => Home::Folder(Folder::open(rt, path)?),
+            None => Home::Memory,
+        };
+        Ok(Site { home, desk })
     }
 
     /// How many segments a run begins with: so many at least, and one for each lease up to the last
     /// that has a file.
     pub fn count<R: System>(&self, rt: &R, least: u16) -> Result<u32, FolderFault> {
         let least = u32::from(least);
-        match self {
+        match &self.home {
             Home::Memory => Ok(least),
             Home::Folder(folder) => match folder.leases(rt)?.last() {
                 Some(last) => Ok(least.max(last.saturating_add(1))),
@@ -81,32 +105,38 @@ impl Home {
     }
 
     /// The segment of the least lease that is free, with what its file has.
-    pub fn segment<R: System>(&self, rt: &R, desk: &mut Desk, capacity: u64) -> Result<Made, Miss> {
-        let lease = taken(desk)?;
-        match self {
+    pub fn segment<R: System>(&mut self, rt: &R, capacity: u64) -> Result<Made, Miss> {
+        let lease = taken(&mut self.desk)?;
+        match &self.home {
             Home::Memory => in_memory(rt.alloc(), lease, capacity),
-            Home::Folder(folder) => match folder.segment(rt, lease, capacity) {
-                Ok(segment) => Ok(Made::File(segment)),
-                Err(refused) => Err(Miss::from(refused.cause)),
-            },
+            Home::Folder(folder) => in_file(rt.alloc(), folder.segment(rt, lease, capacity)),
         }
     }
 
-    /// A new segment of the least lease that is free, over a file of no bytes.
-    pub fn spare<R: System>(&self, rt: &R, desk: &mut Desk, capacity: u64) -> Result<Made, Miss> {
-        let lease = taken(desk)?;
-        match self {
+    /// A new segment of the least lease that is free, once those that came back are, over a file of
+    /// no bytes.
+    pub fn spare<R: System>(&mut self, rt: &R, capacity: u64) -> Result<Made, Miss> {
+        self.collect();
+        let lease = taken(&mut self.desk)?;
+        match &self.home {
             Home::Memory => in_memory(rt.alloc(), lease, capacity),
-            Home::Folder(folder) => match folder.spare(rt, lease, capacity) {
-                Ok(segment) => Ok(Made::File(segment)),
-                Err(refused) => Err(Miss::from(refused.cause)),
-            },
+            Home::Folder(folder) => in_file(rt.alloc(), folder.spare(rt, lease, capacity)),
         }
+    }
+
+    /// Leases that came back are free again.
+    pub fn collect(&mut self) {
+        let _ = self.desk.collect();
+    }
+
+    /// Whether a lease is out.
+    pub fn is_out(&self, lease: u32) -> bool {
+        self.desk.is_out(lease)
     }
 
     /// The file of a lease whose segment was given up has no bytes any more.
     pub fn empty<R: System>(&self, rt: &R, lease: u32) -> Result<(), FolderFault> {
-        match self {
+        match &self.home {
             Home::Memory => Ok(()),
             Home::Folder(folder) => folder.empty(rt, lease),
         }

@@ -28,6 +28,18 @@ fn read_front<R: BufRead>(input: &mut R, most: u64, line: &mut Vec<u8>) -> io::R
     input.take(most).read_until(b'\n', line)
 }
 
+/// Takes its end off a line, and says whether it had one.
+fn cut_end(line: &mut Vec<u8>) -> bool {
+    if line.last() != Some(&b'\n') {
+        return false;
+    }
+    let _ = line.pop();
+    if line.last() == Some(&b'\r') {
+        let _ = line.pop();
+    }
+    true
+}
+
 /// A reader as lines.
 #[derive(Drop)]
 pub struct Lines<R> {
@@ -36,6 +48,8 @@ pub struct Lines<R> {
     /// So many bytes with their LF tell whether a line is too long: one more than the longest line,
     /// a CR and the LF.
     kept: u64,
+    /// How many lines were read.
+    number: u64,
 }
 
 impl<R: Read + Drop> Lines<R> {
@@ -47,6 +61,7 @@ impl<R: Read + Drop> Lines<R> {
             input: BufReader::new(alloc, counted)?,
             line: Vec::new(alloc),
             kept: u64::from(longest) + 3,
+            number: 0,
         })
     }
 
@@ -54,13 +69,9 @@ impl<R: Read + Drop> Lines<R> {
     /// bytes are kept, one at least above the longest.
     pub fn read_line(&mut self) -> io::Result<bool> {
         self.line.clear();
+        self.number = self.number.saturating_add(1);
         let count = read_front(&mut self.input, self.kept, &mut self.line)?;
-        if self.line.last() == Some(&b'\n') {
-            let _ = self.line.pop();
-            if self.line.last() == Some(&b'\r') {
-                let _ = self.line.pop();
-            }
-        } else if count as u64 == self.kept {
+        if !cut_end(&mut self.line) && count as u64 == self.kept {
             let _ = self.input.skip_until(b'\n')?;
         }
         Ok(count > 0)
@@ -69,5 +80,10 @@ impl<R: Read + Drop> Lines<R> {
     /// The line that was read last, without its end.
     pub fn line(&self) -> &[u8] {
         self.line.as_slice()
+    }
+
+    /// The number of that line, from 1.
+    pub fn number(&self) -> u64 {
+        self.number
     }
 }

@@ -2,20 +2,21 @@
 
 use crate::refusal::Refusal;
 use crate::script::Fault;
+use crate::stop::Stop;
 use bw_file::FolderFault;
+use bw_store::StoreFault;
+use std::alloc::AllocFailed;
 use std::io;
 
 /// Why a command has no answer.
-#[derive(Debug, Clone, Copy)]
+#[derive(Clone, Copy)]
 pub enum Miss {
     /// It was refused.
     Refused(Refusal),
     /// Its line is no command after all.
     Fault(Fault),
-    /// The answer could not be written.
-    Output,
-    /// The folder of the segments could not be opened, read or written.
-    Folder(FolderFault),
+    /// Something else ends the run.
+    Ended(Stop),
 }
 
 impl From<Refusal> for Miss {
@@ -24,9 +25,27 @@ impl From<Refusal> for Miss {
     }
 }
 
+impl From<StoreFault> for Miss {
+    fn from(fault: StoreFault) -> Miss {
+        Miss::Refused(Refusal::from(fault))
+    }
+}
+
+impl From<Stop> for Miss {
+    fn from(stop: Stop) -> Miss {
+        Miss::Ended(stop)
+    }
+}
+
 impl From<io::Error> for Miss {
     fn from(_error: io::Error) -> Miss {
-        Miss::Output
+        Miss::Ended(Stop::Output)
+    }
+}
+
+impl<T: Drop> From<AllocFailed<T>> for Miss {
+    fn from(_error: AllocFailed<T>) -> Miss {
+        Miss::Refused(Refusal::NoMemory)
     }
 }
 
@@ -35,7 +54,7 @@ impl From<FolderFault> for Miss {
         match fault {
             FolderFault::NoMemory => Miss::Refused(Refusal::NoMemory),
             FolderFault::BadConfig => Miss::Refused(Refusal::BadConfig),
-            other => Miss::Folder(other),
+            other => Miss::Ended(Stop::Folder(other)),
         }
     }
 }

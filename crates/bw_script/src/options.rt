@@ -5,7 +5,7 @@ use clap::{Arg, ArgMatches, Command, Error};
 use std::alloc::{AllocError, Global};
 
 /// What the command line asks for.
-#[derive(Debug, Clone, Copy, PartialEq, Eq)]
+#[derive(Clone, Copy)]
 pub enum Mode<'a> {
     /// A script is run over a store.
     Replay(Options<'a>),
@@ -27,7 +27,7 @@ impl<'a> Mode<'a> {
 }
 
 /// The options of `replay`, and of `threads` likewise.
-#[derive(Debug, Clone, Copy, PartialEq, Eq)]
+#[derive(Clone, Copy)]
 pub struct Options<'a> {
     /// How many writers there are, numbered from 0: 1 to 64.
     pub writers: u16,
@@ -46,7 +46,7 @@ pub struct Options<'a> {
 }
 
 /// How the writers of `threads` put, and how the store is tended meanwhile.
-#[derive(Debug, Clone, Copy, PartialEq, Eq)]
+#[derive(Clone, Copy)]
 pub struct Pace {
     /// How many records a turn takes at most, 1 to 4,096.
     pub limit: u32,
@@ -67,7 +67,7 @@ const SCAN_DIR: &str =
     among its files";
 
 /// An option whose value is a number.
-#[derive(Debug, Clone, Copy)]
+#[derive(Clone, Copy)]
 struct Number<'a> {
     name: &'a str,
     help: &'a str,
@@ -263,31 +263,44 @@ fn scan_of<'a>(alloc: Global) -> Result<Command<'a>, AllocError> {
     with_dir(alloc, scan, SCAN_DIR)
 }
 
+/// One more mode.
+fn with_mode<'a>(
+    command: Command<'a>,
+    mode: Result<Command<'a>, AllocError>,
+) -> Result<Command<'a>, AllocError> {
+    command.subcommand(mode?)
+}
+
 /// The command `bwlog` with its modes.
 fn command_of<'a>(alloc: Global) -> Result<Command<'a>, AllocError> {
     let command = Command::new(alloc, "bwlog")
         .about("Runs scripts over the page store, and says what segments hold")
         .no_binary_name(true)
         .subcommand_required(true);
-    let command = command.subcommand(replay_of(alloc)?)?;
-    let command = command.subcommand(threads_of(alloc)?)?;
-    command.subcommand(scan_of(alloc)?)
+    let command = with_mode(command, replay_of(alloc))?;
+    let command = with_mode(command, threads_of(alloc))?;
+    with_mode(command, scan_of(alloc))
+}
+
+/// The mode that was found, with what its words say.
+fn mode_in<'a>(matches: &ArgMatches<'a>) -> Mode<'a> {
+    if let Some(found) = matches.subcommand_matches("replay") {
+        return Mode::Replay(found_of(found));
+    }
+    if let Some(found) = matches.subcommand_matches("threads") {
+        return Mode::Threads(found_of(found), pace_of(found));
+    }
+    match matches.subcommand_matches("scan") {
+        Some(found) => Mode::Scan(dir_of(found)),
+        None => Mode::Scan(None),
+    }
 }
 
 /// What the words after the program's name ask for. What they do not give as a parse, help among
 /// it, is clap's error, whose text is for the user.
 pub fn mode_of<'a>(alloc: Global, words: &'a [&'a str]) -> Result<Mode<'a>, Error> {
     let matches = command_of(alloc)?.try_get_matches_from(words)?;
-    if let Some(found) = matches.subcommand_matches("replay") {
-        return Ok(Mode::Replay(found_of(found)));
-    }
-    if let Some(found) = matches.subcommand_matches("threads") {
-        return Ok(Mode::Threads(found_of(found), pace_of(found)));
-    }
-    match matches.subcommand_matches("scan") {
-        Some(found) => Ok(Mode::Scan(dir_of(found))),
-        None => Ok(Mode::Scan(None)),
-    }
+    Ok(mode_in(&matches))
 }
 
 /// Whether clap had too little memory.

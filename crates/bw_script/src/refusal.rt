@@ -4,58 +4,81 @@ use bw_care::RecoverCause;
 use bw_device::{NotMade, NotTaken};
 use bw_store::StoreFault;
 use std::alloc::{AllocError, AllocFailed};
-use thiserror::Error;
+use std::error::Error;
+use std::fmt::{self, Display, Formatter};
 
 /// A refused call. Its `Display` is the line that the program prints.
-#[derive(Debug, Clone, Copy, PartialEq, Eq, Error)]
+#[derive(Debug, Clone, Copy)]
 pub enum Refusal {
     /// A growth was refused in that call.
-    #[error("refused E1 NoMemory")]
     NoMemory,
     /// A segment has to be begun, and too few spares stand.
-    #[error("refused E5 NoSegment")]
     NoSegment,
     /// The segment of this lease failed in that call.
-    #[error("refused E6 Device lease {lease}")]
     Device { lease: u32 },
     /// An append failed before.
-    #[error("refused E7 Failed")]
     Failed,
     /// A counter stands at its greatest value.
-    #[error("refused E8 Spent")]
     Spent,
     /// There is no page of that number.
-    #[error("refused E9 NoPage")]
     NoPage,
     /// A limit lies outside its range, or a segment has too little room for it.
-    #[error("refused E10 BadConfig")]
     BadConfig,
     /// Fewer than two segments are live.
-    #[error("refused E11 NothingOld")]
     NothingOld,
     /// There is no whole frame.
-    #[error("refused E12 Empty")]
     Empty,
     /// Bytes of the segment at this position in the list, from 0, that are neither a header, nor a
     /// frame, nor a tail; they begin at this offset.
-    #[error("refused E13 BadBytes segment {segment} at {at}")]
     BadBytes { segment: u32, at: u64 },
     /// The numbers of segments, or of frames, have a gap.
-    #[error("refused E14 Gap")]
     Gap,
     /// Headers differ in their limits.
-    #[error("refused E15 Mixed")]
     Mixed,
     /// A block of this page does not link back to the one before it.
-    #[error("refused E16 BadLink page {page}")]
     BadLink { page: u32 },
     /// This page is not lawful.
-    #[error("refused E17 Unlawful page {page}")]
     Unlawful { page: u32 },
     /// All leases are out.
-    #[error("refused E20 NoLease")]
     NoLease,
 }
+
+impl Refusal {
+    /// Its number and name.
+    fn name(&self) -> &'static str {
+        match self {
+            Refusal::NoMemory => "E1 NoMemory",
+            Refusal::NoSegment => "E5 NoSegment",
+            Refusal::Device { .. } => "E6 Device",
+            Refusal::Failed => "E7 Failed",
+            Refusal::Spent => "E8 Spent",
+            Refusal::NoPage => "E9 NoPage",
+            Refusal::BadConfig => "E10 BadConfig",
+            Refusal::NothingOld => "E11 NothingOld",
+            Refusal::Empty => "E12 Empty",
+            Refusal::BadBytes { .. } => "E13 BadBytes",
+            Refusal::Gap => "E14 Gap",
+            Refusal::Mixed => "E15 Mixed",
+            Refusal::BadLink { .. } => "E16 BadLink",
+            Refusal::Unlawful { .. } => "E17 Unlawful",
+            Refusal::NoLease => "E20 NoLease",
+        }
+    }
+}
+
+impl Display for Refusal {
+    fn fmt<W: fmt::Write>(&self, f: &mut Formatter<W>) -> fmt::Result {
+        write!(f, "refused {}", self.name())?;
+        match self {
+            Refusal::Device { lease } => write!(f, " lease {lease}"),
+            Refusal::BadBytes { segment, at } => write!(f, " segment {segment} at {at}"),
+            Refusal::BadLink { page } | Refusal::Unlawful { page } => write!(f, " page {page}"),
+            _ => Ok(()),
+        }
+    }
+}
+
+impl Error for Refusal {}
 
 impl From<AllocError> for Refusal {
     fn from(_error: AllocError) -> Refusal {

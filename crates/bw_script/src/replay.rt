@@ -1,10 +1,11 @@
 //! `bwlog replay`: a script over one store, line by line.
 
 ghost use Rattle.std.specs.Prelude.{◌≡◌, vec_len, IfOk};
+ghost use Rattle.bw_care.specs.Views.{IsSound};
 ghost use Rattle.bw_script.specs.Session.{IsReady, IsReadyBeside};
 
-use crate::answers::answer;
-use crate::home::{Home, Made, desk_of};
+use crate::answers::{Answer, tell};
+use crate::home::{Made, Site};
 use crate::lines::{Lines, READS};
 use crate::miss::Miss;
 use crate::options::Options;
@@ -15,43 +16,93 @@ use crate::session::Session;
 use crate::stop::{Stop, missed, no_input, no_output, refuse};
 use crate::system::System;
 use bw_care::recover;
-use bw_device::{Desk, Segment};
+use bw_device::Segment;
 use std::io::{Read, Write};
 
 /// What came of a line.
+#[derive(Drop)]
 enum Done {
     /// There was none.
     End,
-    /// It was answered, and this tells whether by a refusal.
-    Answered(bool),
-    /// It asks for a spare.
-    Add,
+    /// It was answered.
+    Answered,
+    /// It asks for a spare, which was made.
+    Add(Made),
 }
 
-/// Reads a line and does what it asks for, but for a spare.
-fn do_line<R: System, I: Read, O: Write>(
+/// The next command; `None` where no line has a further one.
+fn next_command<I: Read>(lines: &mut Lines<&mut I>, writers: u16) -> Result<Option<Command>, Miss> {
+    for _ in 0..u64::MAX {
+        if !lines.read_line().map_err(no_input)? {
+            break;
+        }
+        match parse(lines.line(), writers) {
+            Ok(None) => {}
+            Ok(command) => return Ok(command),
+            Err(fault) => return Err(Miss::Fault(fault)),
+        }
+    }
+    Ok(None)
+}
+
+/// What came of a line that has this answer.
+fn done_of(answer: Answer) -> Done {
+    match answer {
+        Answer::Spare(made) => Done::Add(made),
+        _ => Done::Answered,
+    }
+}
+
+/// Does what the next command asks for, but that a spare is only made.
+fn do_next<R: System, I: Read, O: Write>(
     rt: &R,
     session: &mut Session,
+    options: &Options<'_>,
     lines: &mut Lines<&mut I>,
     output: &mut O,
-    number: u64,
-    writers: u16,
-) -> Result<Done, Stop>
+) -> Result<Done, Miss>
     requires { IsReady session.old holding }
     ensures { IsReady session.new holding }
 {
-    if !lines.read_line().map_err(no_input)? {
+    let Some(command) = next_command(lines, options.writers)? else {
         return Ok(Done::End);
+    };
+    let answer = session.call(rt, u64::from(options.capacity), command)?;
+    tell(rt, session, output, &answer)?;
+    Ok(done_of(answer))
+}
+
+/// What comes of a script and of its next line: whether something was refused, or what ends it.
+fn joined(end: Result<bool, Stop>, answer: Result<bool, Stop>) -> Result<bool, Stop> {
+    Ok(end? | answer?)
+}
+
+/// Does line by line up to one that asks for a spare, which is handed out; `None` at the script's
+/// end.
+fn next_spare<R: System, I: Read, O: Write>(
+    rt: &R,
+    session: &mut Session,
+    options: &Options<'_>,
+    lines: &mut Lines<&mut I>,
+    output: &mut O,
+    end: &mut Result<bool, Stop>,
+) -> Option<Made>
+    requires { IsReady session.old holding }
+    ensures { IsReady session.new holding }
+{
+    'lines: for _ in 0..u64::MAX {
+        if end.is_err() {
+            return None;
+        }
+        let answer = match do_next(rt, session, options, lines, output) {
+            Ok(Done::End) => return None,
+            Ok(Done::Add(made)) => return Some(made),
+            Ok(Done::Answered) => Ok(false),
+            Err(miss) => missed(output, lines.number(), miss),
+        };
+        *end = joined(*end, answer);
     }
-    match parse(lines.line(), writers) {
-        Ok(None) => Ok(Done::Answered(false)),
-        Ok(Some(Command::Add)) => Ok(Done::Add),
-        Ok(Some(command)) => match answer(rt, session, output, command) {
-            Ok(()) => Ok(Done::Answered(false)),
-            Err(miss) => Ok(Done::Answered(missed(output, number, miss)?)),
-        },
-        Err(fault) => Err(Stop::Fault(number, fault)),
-    }
+    None
 }
 
 /// Says that a spare was added, or why not.
@@ -65,11 +116,6 @@ fn added<O: Write>(output: &mut O, lease: u32, answer: Result<(), Refusal>) -> R
     }
 }
 
-/// What comes of a script and of its next line: whether something was refused, or what ends it.
-fn joined(end: Result<bool, Stop>, answer: Result<bool, Stop>) -> Result<bool, Stop> {
-    Ok(end? | answer?)
-}
-
 /// A new store where all segments are new, and else the one that they hold, of which the two lines
 /// of a scan are printed.
 pub fn begin<R: System, O: Write>(
@@ -77,8 +123,7 @@ pub fn begin<R: System, O: Write>(
     options: &Options<'_>,
     boxes: Vec<Box<dyn Segment>>,
     are_new: bool,
-    desk: Desk,
-    home: Home,
+    site: Site,
     output: &mut O,
 ) -> Result<Session, Miss>
     requires { Unit {0} }
@@ -86,79 +131,70 @@ pub fn begin<R: System, O: Write>(
     ensures writers { IfOk result (λ s. vec_len s.feeds ≡ options.now.writers) }
 {
     if are_new {
-        return Ok(Session::open(rt, options, boxes, desk, home)?);
+        return Session::open(rt, options, boxes, site);
     }
     match recover(rt.alloc(), boxes) {
         Ok(found) => {
             write_found(output, &found)?;
-            Ok(Session::reopen(rt, options, found, desk, home)?)
+            Session::reopen(rt, options, found, site)
         }
         Err(fault) => Err(Miss::Refused(Refusal::from(fault.cause))),
     }
 }
 
+/// Makes a store, or goes on from the one in a folder, and runs the lines over it. Boxes are made
+/// here alone: a function that takes or gives a box, or a store, makes none.
+fn replay_lines<R: System, I: Read, O: Write>(
+    rt: &R,
+    options: &Options<'_>,
+    lines: &mut Lines<&mut I>,
+    output: &mut O,
+) -> Result<bool, Stop> {
+    let mut site = Site::open(rt, options.dir)?;
+    let count = site.count(rt, options.segments)?;
+    let mut boxes: Vec<Box<dyn Segment>> = Vec::new(rt.alloc());
+    let mut are_new = true;
+    for _ in 0..count {
+        let made = match site.segment(rt, u64::from(options.capacity)) {
+            Ok(made) => made,
+            Err(miss) => return missed(output, 0, miss),
+        };
+        are_new &= made.is_empty();
+        let segment: Box<dyn Segment> = match made {
+            Made::Memory(segment) => segment,
+            Made::File(segment) => segment,
+        };
+        boxes.push(segment)?;
+    }
+    let mut session = match begin(rt, options, boxes, are_new, site, output) {
+        Ok(session) => session,
+        Err(miss) => return missed(output, 0, miss),
+    };
+    // The store is shut whatever ends the script.
+    let mut end = Ok(false);
+    'spares: for _ in 0..u64::MAX {
+        let Some(made) = next_spare(rt, &mut session, options, lines, output, &mut end) else {
+            break;
+        };
+        let lease = made.lease();
+        let answer = match made {
+            Made::Memory(segment) => session.add(segment),
+            Made::File(segment) => session.add(segment),
+        };
+        end = joined(end, added(output, lease, answer));
+    }
+    session.shut(rt);
+    end
+}
+
 /// Makes a store, or goes on from the one in a folder, and runs a script over it, line by line;
-/// answers whether something was refused. Boxes are made here alone: a function that takes or gives
-/// a box, or a store, makes none.
+/// answers whether something was refused.
 pub fn replay<R: System, I: Read, O: Write>(
     rt: &R,
     options: &Options<'_>,
     input: &mut I,
     output: &mut O,
 ) -> Result<bool, Stop> {
-    let alloc = rt.alloc();
-    let mut lines = Lines::new(alloc, input, READS, LONGEST).map_err(no_input)?;
-    let mut desk = desk_of(alloc)?;
-    let home = Home::open(rt, options.dir)?;
-    let capacity = u64::from(options.capacity);
-    let writers = options.writers;
-    let mut boxes: Vec<Box<dyn Segment>> = Vec::new(alloc);
-    let mut are_new = true;
-    for _ in 0..home.count(rt, options.segments)? {
-        let made = match home.segment(rt, &mut desk, capacity) {
-            Ok(made) => made,
-            Err(miss) => return missed(output, 0, miss),
-        };
-        are_new &= made.sight().1;
-        match made {
-            Made::Memory(segment) => boxes.push(Box::new(alloc, segment)?)?,
-            Made::File(segment) => boxes.push(Box::new(alloc, segment)?)?,
-        }
-    }
-    let mut session = match begin(rt, options, boxes, are_new, desk, home, output) {
-        Ok(session) => session,
-        Err(miss) => return missed(output, 0, miss),
-    };
-    // The store is shut whatever ends the script.
-    let mut end = Ok(false);
-    'lines: for number in 1..u64::MAX {
-        if end.is_err() {
-            break;
-        }
-        let answer = match do_line(rt, &mut session, &mut lines, output, number, writers) {
-            Ok(Done::End) => break,
-            Ok(Done::Answered(refused)) => Ok(refused),
-            Ok(Done::Add) => match session.spare(rt, capacity) {
-                Ok(made) => {
-                    let lease = made.sight().0;
-                    let answer = match made {
-                        Made::Memory(segment) => match Box::new(alloc, segment) {
-                            Ok(spare) => session.add(spare),
-                            Err(_) => Err(Refusal::NoMemory),
-                        },
-                        Made::File(segment) => match Box::new(alloc, segment) {
-                            Ok(spare) => session.add(spare),
-                            Err(_) => Err(Refusal::NoMemory),
-                        },
-                    };
-                    added(output, lease, answer)
-                }
-                Err(miss) => missed(output, number, miss),
-            },
-            Err(stop) => Err(stop),
-        };
-        end = joined(end, answer);
-    }
-    session.shut(rt);
-    end
+    let mut lines = Lines::new(rt.alloc(), input, READS, LONGEST).map_err(no_input)?;
+    replay_lines(rt, options, &mut lines, output)
 }

@@ -2,11 +2,14 @@
 //! lanes.
 
 ghost use Rattle.std.specs.Prelude.{◌≡◌, vec_len};
+ghost use Rattle.bw_script.specs.Session.{IsReady};
 
 use crate::calls::LEASES;
+use crate::home::Site;
 use crate::options::Pace;
 use crate::refusal::Refusal;
 use crate::session::Session;
+use crate::stop::Stop;
 use crate::system::{Host, System};
 use bw_codec::{Key, Leaf, Record, Value};
 use bw_device::Segment;
@@ -23,6 +26,28 @@ pub struct Run {
     pub entries: u64,
     /// How many records of each writer's script were accepted: its first ones.
     pub accepted: Vec<u64>,
+}
+
+// The leases that are out and not in the row yet go behind those in it.
+fn append_spares(row: &mut Vec<u32>, site: &Site) -> Result<(), AllocError> {
+    for lease in 0..LEASES {
+        if site.is_out(lease) && !row.as_slice().contains(&lease) {
+            row.push(lease)?;
+        }
+    }
+    Ok(())
+}
+
+// The leases of the live segments go behind those in the row.
+fn append_live(row: &mut Vec<u32>, session: &Session) -> Result<(), AllocError>
+    requires { IsReady session.now holding }
+{
+    for i in 0..session.store.live() {
+        if let Some((_, lease, _)) = session.store.live_segment(i) {
+            row.push(lease)?;
+        }
+    }
+    Ok(())
 }
 
 // The pairs of a page go behind those of the pages before it.
@@ -72,14 +97,18 @@ impl Session {
         }
     }
 
-    // A page; `None` where there is none of that number.
-    fn leaf(&mut self, page: u32) -> Result<Option<Leaf>, Refusal>
+    // The pairs of a page go behind those of the pages before it; `false` where there is none of
+    // that number.
+    fn append_page(&mut self, page: u32, pairs: &mut Vec<(Key, Value)>) -> Result<bool, Refusal>
         requires { IsReady self.old holding }
         ensures { IsReady self.new holding }
     {
         match self.store.page(page) {
-            Ok(leaf) => Ok(Some(leaf)),
-            Err(StoreFault::NoPage) => Ok(None),
+            Ok(leaf) => {
+                append(pairs, &leaf)?;
+                Ok(true)
+            }
+            Err(StoreFault::NoPage) => Ok(false),
             Err(fault) => Err(Refusal::from(fault)),
         }
     }
@@ -92,10 +121,9 @@ impl Session {
         let mut pairs = Vec::new(alloc);
         // Fewer pages than that fit the segments of a desk.
         'pages: for page in 1..u32::MAX {
-            let Some(leaf) = self.leaf(page)? else {
+            if !self.append_page(page, &mut pairs)? {
                 return Ok(pairs);
-            };
-            append(&mut pairs, &leaf)?;
+            }
         }
         Ok(pairs)
     }
@@ -108,17 +136,9 @@ impl Session {
         ensures feeds { vec_len self.new.feeds ≡ vec_len self.old.feeds }
     {
         let mut row = Vec::new(alloc);
-        for i in 0..self.store.live() {
-            if let Some((_, lease, _)) = self.store.live_segment(i) {
-                row.push(lease)?;
-            }
-        }
-        let _ = self.desk.collect();
-        for lease in 0..LEASES {
-            if self.desk.is_out(lease) && !row.as_slice().contains(&lease) {
-                row.push(lease)?;
-            }
-        }
+        append_live(&mut row, self)?;
+        self.site.collect();
+        append_spares(&mut row, &self.site)?;
         Ok(row)
     }
 
@@ -128,12 +148,30 @@ impl Session {
         requires { IsReady self.old holding }
         ensures { IsReady self.new holding }
     {
-        let _ = self.desk.collect();
+        self.site.collect();
         for lease in row {
-            if !self.desk.is_out(*lease) {
-                self.home.empty(rt, *lease)?;
+            if !self.site.is_out(*lease) {
+                self.site.empty(rt, *lease)?;
             }
         }
         Ok(())
+    }
+
+    /// Puts each script as `drive` does, and then empties the files of what was given up: no lease
+    /// was taken meanwhile, so these could wait.
+    pub fn drive_tended<R: Host>(
+        &mut self,
+        rt: &R,
+        scripts: Vec<Vec<Record>>,
+        pace: Pace,
+    ) -> Result<Result<Run, Refusal>, Stop>
+        requires ready { IsReady self.old holding }
+        requires one_each { vec_len scripts ≡ vec_len self.old.feeds }
+        ensures { IsReady self.new holding }
+    {
+        let row = self.row(rt.alloc())?;
+        let driven = self.drive(rt, scripts, pace);
+        self.empty(rt, row.as_slice())?;
+        Ok(driven)
     }
 }

@@ -79,6 +79,14 @@ fn write_pages<O: Write>(output: &mut O, leaves: &Leaves) -> io::Result<()> {
     Ok(())
 }
 
+/// All of what was recovered.
+fn write_all<O: Write>(output: &mut O, found: &Recovered) -> io::Result<()>
+    requires { IsSound found.now.log holding }
+{
+    write_found(output, found)?;
+    write_pages(output, &found.leaves)
+}
+
 /// Prints what recovery says of boxes.
 fn tell<O: Write>(
     alloc: Global,
@@ -86,13 +94,50 @@ fn tell<O: Write>(
     output: &mut O,
 ) -> Result<bool, Stop> {
     match recover(alloc, boxes) {
-        Ok(found) => {
-            write_found(output, &found).map_err(no_output)?;
-            write_pages(output, &found.leaves).map_err(no_output)?;
-            Ok(false)
-        }
+        Ok(found) => match write_all(output, &found) {
+            Ok(()) => Ok(false),
+            Err(error) => Err(no_output(error)),
+        },
         Err(fault) => refuse(output, Refusal::from(fault.cause)),
     }
+}
+
+/// Prints what recovery says of segments. Their boxes are made here alone, as in `replay`.
+fn tell_all<O: Write>(
+    alloc: Global,
+    segments: Vec<MemSegment>,
+    output: &mut O,
+) -> Result<bool, Stop> {
+    let mut boxes: Vec<Box<dyn Segment>> = Vec::new(alloc);
+    for segment in segments {
+        boxes.push(Box::new(alloc, segment)?)?;
+    }
+    tell(alloc, boxes, output)
+}
+
+/// The segment of the next line; `None` where there is no further one.
+fn next_segment<I: Read>(
+    alloc: Global,
+    desk: &mut Desk,
+    lines: &mut Lines<&mut I>,
+) -> Result<Option<MemSegment>, Miss> {
+    if !lines.read_line().map_err(no_input)? {
+        return Ok(None);
+    }
+    Ok(Some(segment_of(alloc, desk, lines.line())?))
+}
+
+/// A segment of each line.
+fn segments_of<I: Read>(alloc: Global, lines: &mut Lines<&mut I>) -> Result<Vec<MemSegment>, Miss> {
+    let mut desk = desk_of(alloc)?;
+    let mut segments = Vec::new(alloc);
+    for _ in 0..u64::MAX {
+        match next_segment(alloc, &mut desk, lines)? {
+            Some(segment) => segments.push(segment)?,
+            None => break,
+        }
+    }
+    Ok(segments)
 }
 
 /// Makes a segment of each line, and prints what recovery says of them.
@@ -101,20 +146,11 @@ pub fn scan<R: System, I: Read, O: Write>(
     input: &mut I,
     output: &mut O,
 ) -> Result<bool, Stop> {
-    let alloc = rt.alloc();
-    let mut lines = Lines::new(alloc, input, READS, LONGEST).map_err(no_input)?;
-    let mut desk = desk_of(alloc)?;
-    let mut boxes: Vec<Box<dyn Segment>> = Vec::new(alloc);
-    for number in 1..u64::MAX {
-        if !lines.read_line().map_err(no_input)? {
-            break;
-        }
-        match segment_of(alloc, &mut desk, lines.line()) {
-            Ok(segment) => boxes.push(Box::new(alloc, segment)?)?,
-            Err(miss) => return missed(output, number, miss),
-        }
+    let mut lines = Lines::new(rt.alloc(), input, READS, LONGEST).map_err(no_input)?;
+    match segments_of(rt.alloc(), &mut lines) {
+        Ok(segments) => tell_all(rt.alloc(), segments, output),
+        Err(miss) => missed(output, lines.number(), miss),
     }
-    tell(alloc, boxes, output)
 }
 
 /// A copy of the file of this lease. The leases below it that were not taken yet stay unused.
@@ -136,17 +172,27 @@ fn copy_of<R: System>(
     Err(Miss::Refused(Refusal::NoLease))
 }
 
+/// A copy of the file of each of these leases.
+fn copies_of<R: System>(
+    rt: &R,
+    reader: &FolderReader,
+    desk: &mut Desk,
+    leases: &[u32],
+) -> Result<Vec<MemSegment>, Miss> {
+    let mut copies = Vec::new(rt.alloc());
+    for number in leases {
+        copies.push(copy_of(rt, reader, desk, *number)?)?;
+    }
+    Ok(copies)
+}
+
 /// Prints what recovery says of the segments in a folder, and changes nothing there.
 pub fn scan_folder<R: System, O: Write>(rt: &R, path: &str, output: &mut O) -> Result<bool, Stop> {
-    let alloc = rt.alloc();
     let reader = FolderReader::open(rt, path)?;
-    let mut desk = desk_of(alloc)?;
-    let mut boxes: Vec<Box<dyn Segment>> = Vec::new(alloc);
-    for number in reader.leases(rt)?.as_slice() {
-        match copy_of(rt, &reader, &mut desk, *number) {
-            Ok(copy) => boxes.push(Box::new(alloc, copy)?)?,
-            Err(miss) => return missed(output, 0, miss),
-        }
+    let mut desk = desk_of(rt.alloc())?;
+    let leases = reader.leases(rt)?;
+    match copies_of(rt, &reader, &mut desk, leases.as_slice()) {
+        Ok(copies) => tell_all(rt.alloc(), copies, output),
+        Err(miss) => missed(output, 0, miss),
     }
-    tell(alloc, boxes, output)
 }

@@ -8,7 +8,7 @@ pub const LONGEST: u32 = 4096;
 
 /// Why a line is no command, or no segment of a scan. Where a line has two faults, the one that
 /// stands first here is told.
-#[derive(Debug, Clone, Copy, PartialEq, Eq, Error)]
+#[derive(Debug, Clone, Copy, Error)]
 pub enum Fault {
     /// Over 4,096 bytes; of a scan over 2,097,152.
     #[error("line too long")]
@@ -31,7 +31,7 @@ pub enum Fault {
 }
 
 /// What a line asks for.
-#[derive(Debug, PartialEq, Eq, Drop)]
+#[derive(Drop)]
 pub enum Command {
     /// A writer puts a record.
     Put(u16, Record),
@@ -119,11 +119,14 @@ fn del_of(writers: u16, writer: &str, key: &str) -> Result<Command, Fault> {
     Ok(Command::Put(writer, Record::Del(key)))
 }
 
-/// A command that takes no word.
-fn alone(one: Option<&str>, command: Command) -> Result<Command, Fault> {
-    match one {
-        None => Ok(command),
-        Some(_) => Err(Fault::WrongNumberOfWords),
+/// The command of a name that takes a writer and a record.
+fn record_of(name: &str, words: [Option<&str>; 4], writers: u16) -> Result<Command, Fault> {
+    match words {
+        [Some(writer), Some(key), Some(value), None] if name == "put" => {
+            put_of(writers, writer, key, value)
+        }
+        [Some(writer), Some(key), None, _] if name == "del" => del_of(writers, writer, key),
+        _ => Err(Fault::WrongNumberOfWords),
     }
 }
 
@@ -135,45 +138,50 @@ fn single<'a>(one: Option<&'a str>, two: Option<&'a str>) -> Result<&'a str, Fau
     }
 }
 
+/// The command of a name that takes one word, a key or a number.
+fn asked_of(name: &str, word: &str) -> Result<Command, Fault> {
+    if name == "get" {
+        return Ok(Command::Get(key_of(word)?));
+    }
+    let number = number_of(word)?;
+    match name {
+        "turn" => Ok(Command::Turn(number)),
+        "page" => Ok(Command::Page(number)),
+        "evict" => Ok(Command::Evict(number)),
+        _ => Ok(Command::Dump(number)),
+    }
+}
+
+/// The command of a name that takes no word.
+fn plain_of(name: &str, one: Option<&str>) -> Result<Command, Fault> {
+    let command = match name {
+        "flush" => Command::Flush,
+        "settle" => Command::Settle,
+        "clean" => Command::Clean,
+        "roll" => Command::Roll,
+        "add" => Command::Add,
+        "history" => Command::History,
+        "cuts" => Command::Cuts,
+        "segments" => Command::Segments,
+        "leases" => Command::Leases,
+        _ => return Err(Fault::UnknownCommand),
+    };
+    match one {
+        None => Ok(command),
+        Some(_) => Err(Fault::WrongNumberOfWords),
+    }
+}
+
 /// The command of words that are parted by spaces.
 fn command_of(text: &str, writers: u16) -> Result<Command, Fault> {
     let mut words = text.split_whitespace();
     let name = words.next().unwrap_or("");
     let one = words.next();
     let two = words.next();
-    let three = words.next();
-    let more = words.next();
     match name {
-        "put" => match (one, two, three, more) {
-            (Some(writer), Some(key), Some(value), None) => put_of(writers, writer, key, value),
-            _ => Err(Fault::WrongNumberOfWords),
-        },
-        "del" => match (one, two, three) {
-            (Some(writer), Some(key), None) => del_of(writers, writer, key),
-            _ => Err(Fault::WrongNumberOfWords),
-        },
-        "turn" => Ok(Command::Turn(number_of(single(one, two)?)?)),
-        "page" => Ok(Command::Page(number_of(single(one, two)?)?)),
-        "evict" => Ok(Command::Evict(number_of(single(one, two)?)?)),
-        "dump" => Ok(Command::Dump(number_of(single(one, two)?)?)),
-        "get" => Ok(Command::Get(key_of(single(one, two)?)?)),
+        "put" | "del" => record_of(name, [one, two, words.next(), words.next()], writers),
+        "turn" | "page" | "evict" | "dump" | "get" => asked_of(name, single(one, two)?),
         _ => plain_of(name, one),
-    }
-}
-
-/// The command of a name that takes no word.
-fn plain_of(name: &str, one: Option<&str>) -> Result<Command, Fault> {
-    match name {
-        "flush" => alone(one, Command::Flush),
-        "settle" => alone(one, Command::Settle),
-        "clean" => alone(one, Command::Clean),
-        "roll" => alone(one, Command::Roll),
-        "add" => alone(one, Command::Add),
-        "history" => alone(one, Command::History),
-        "cuts" => alone(one, Command::Cuts),
-        "segments" => alone(one, Command::Segments),
-        "leases" => alone(one, Command::Leases),
-        _ => Err(Fault::UnknownCommand),
     }
 }
 

@@ -8,7 +8,7 @@ use std::alloc::{AllocError, AllocFailed};
 use std::io::{self, ErrorKind, Write};
 
 /// What ends a script before its end, or a run before its script.
-#[derive(Debug, Drop)]
+#[derive(Clone, Copy)]
 pub enum Stop {
     /// The command line is no parse. Its text was printed.
     Usage,
@@ -62,7 +62,7 @@ pub fn no_input(error: io::Error) -> Stop {
 /// Prints a refusal, and answers `true`. What was asked of the program may go on behind it, but not
 /// behind a refused growth.
 pub fn refuse<O: Write>(output: &mut O, refusal: Refusal) -> Result<bool, Stop> {
-    if refusal == Refusal::NoMemory {
+    if matches!(refusal, Refusal::NoMemory) {
         return Err(Stop::NoMemory);
     }
     writeln!(output, "{refusal}").map_err(no_output)?;
@@ -74,7 +74,6 @@ pub fn missed<O: Write>(output: &mut O, number: u64, miss: Miss) -> Result<bool,
     match miss {
         Miss::Refused(refusal) => refuse(output, refusal),
         Miss::Fault(fault) => Err(Stop::Fault(number, fault)),
-        Miss::Output => Err(Stop::Output),
-        Miss::Folder(fault) => Err(Stop::from(fault)),
+        Miss::Ended(stop) => Err(stop),
     }
 }

@@ -3,7 +3,7 @@
 ghost use Rattle.std.specs.Prelude.{◌≡◌, vec_len, IfOk};
 ghost use Rattle.bw_script.specs.Session.{IsReady};
 
-use crate::home::{Home, Made, desk_of};
+use crate::home::{Made, Site};
 use crate::lines::{Lines, READS};
 use crate::options::{Options, Pace};
 use crate::printed::write_pairs;
@@ -17,6 +17,7 @@ use bw_codec::{Key, Record, Value};
 use bw_device::Segment;
 use std::alloc::{AllocError, Global};
 use std::io::{self, Read, Write};
+use std::mem;
 
 // The record goes behind those of its writer.
 fn put_behind(scripts: &mut Vec<Vec<Record>>, writer: u16, item: Record) -> Result<(), AllocError>
@@ -43,7 +44,6 @@ fn empty_scripts(alloc: Global, writers: u16) -> Result<Vec<Vec<Record>>, AllocE
 fn read_record<I: Read>(
     lines: &mut Lines<&mut I>,
     scripts: &mut Vec<Vec<Record>>,
-    number: u64,
     writers: u16,
 ) -> Result<bool, Stop>
     ensures { vec_len scripts.new ≡ vec_len scripts.old }
@@ -54,9 +54,26 @@ fn read_record<I: Read>(
     match parse_record(lines.line(), writers) {
         Ok(Some((writer, item))) => put_behind(scripts, writer, item)?,
         Ok(None) => {}
-        Err(fault) => return Err(Stop::Fault(number, fault)),
+        Err(fault) => return Err(Stop::Fault(lines.number(), fault)),
     }
     Ok(true)
+}
+
+// The script of each writer, from all lines.
+fn read_lines<I: Read>(
+    alloc: Global,
+    lines: &mut Lines<&mut I>,
+    writers: u16,
+) -> Result<Vec<Vec<Record>>, Stop>
+    ensures { IfOk result (λ s. vec_len s ≡ writers) }
+{
+    let mut scripts = empty_scripts(alloc, writers)?;
+    'lines: for _ in 0..u64::MAX {
+        if !read_record(lines, &mut scripts, writers)? {
+            break;
+        }
+    }
+    Ok(scripts)
 }
 
 // The script of each writer, from the whole input.
@@ -68,13 +85,7 @@ fn read_scripts<I: Read>(
     ensures { IfOk result (λ s. vec_len s ≡ writers) }
 {
     let mut lines = Lines::new(alloc, input, READS, LONGEST).map_err(no_input)?;
-    let mut scripts = empty_scripts(alloc, writers)?;
-    'lines: for number in 1..u64::MAX {
-        if !read_record(&mut lines, &mut scripts, number, writers)? {
-            break;
-        }
-    }
-    Ok(scripts)
+    read_lines(alloc, &mut lines, writers)
 }
 
 fn lengths_of(alloc: Global, scripts: &[Vec<Record>]) -> Result<Vec<u64>, AllocError> {
@@ -85,6 +96,16 @@ fn lengths_of(alloc: Global, scripts: &[Vec<Record>]) -> Result<Vec<u64>, AllocE
     Ok(lengths)
 }
 
+/// Prints how many records of each script were accepted, and answers whether a writer gave up.
+fn write_accepted<O: Write>(output: &mut O, accepted: &[u64], lengths: &[u64]) -> io::Result<bool> {
+    let mut gave_up = false;
+    for (writer, (accepted, length)) in accepted.iter().zip(lengths).enumerate() {
+        writeln!(output, "writer {writer} {accepted} of {length}")?;
+        gave_up |= accepted < length;
+    }
+    Ok(gave_up)
+}
+
 /// Prints what a run left, and answers whether a writer gave up.
 fn write_run<O: Write>(
     output: &mut O,
@@ -92,14 +113,29 @@ fn write_run<O: Write>(
     lengths: &[u64],
     pairs: &[(Key, Value)],
 ) -> io::Result<bool> {
-    let mut gave_up = false;
     writeln!(output, "entries {}", run.entries)?;
-    for (writer, (accepted, length)) in run.accepted.iter().zip(lengths).enumerate() {
-        writeln!(output, "writer {writer} {accepted} of {length}")?;
-        gave_up |= accepted < length;
-    }
+    let gave_up = write_accepted(output, run.accepted.as_slice(), lengths)?;
     write_pairs(output, pairs)?;
     Ok(gave_up)
+}
+
+/// Prints what a run left in the store and beside it, and answers whether a writer gave up.
+fn tell_run<R: Host, O: Write>(
+    rt: &R,
+    session: &mut Session,
+    run: &Run,
+    lengths: &[u64],
+    output: &mut O,
+) -> Result<bool, Stop>
+    requires { IsReady session.old holding }
+    ensures { IsReady session.new holding }
+{
+    let mut pairs = match session.pairs(rt.alloc()) {
+        Ok(pairs) => pairs,
+        Err(refusal) => return refuse(output, refusal),
+    };
+    pairs.sort()?;
+    write_run(output, run, lengths, pairs.as_slice()).map_err(no_output)
 }
 
 /// Runs the writers, and prints what came of it: one refusal, or all of it.
@@ -114,27 +150,53 @@ fn run_writers<R: Host, O: Write>(
     requires one_each { vec_len scripts ≡ vec_len session.old.feeds }
     ensures { IsReady session.new holding }
 {
-    let alloc = rt.alloc();
-    let lengths = lengths_of(alloc, scripts.as_slice())?;
-    let row = session.row(alloc)?;
-    let driven = session.drive(rt, scripts, pace);
-    // No lease was taken meanwhile, so the files of what was given up can wait to be emptied.
-    session.empty(rt, row.as_slice())?;
-    let run = match driven {
-        Ok(run) => run,
-        Err(refusal) => return refuse(output, refusal),
+    let lengths = lengths_of(rt.alloc(), scripts.as_slice())?;
+    match session.drive_tended(rt, scripts, pace)? {
+        Ok(run) => tell_run(rt, session, &run, lengths.as_slice(), output),
+        Err(refusal) => refuse(output, refusal),
+    }
+}
+
+/// Makes a store, or goes on from the one in a folder, and runs all writers over it. The scripts
+/// are taken out. Boxes are made here alone, as in `replay`.
+fn run_scripts<R: Host, O: Write>(
+    rt: &R,
+    options: &Options<'_>,
+    pace: Pace,
+    scripts: &mut Vec<Vec<Record>>,
+    output: &mut O,
+) -> Result<bool, Stop>
+    requires { vec_len scripts.old ≡ options.now.writers }
+{
+    let mut site = Site::open(rt, options.dir)?;
+    let count = site.count(rt, options.segments)?;
+    let mut boxes: Vec<Box<dyn Segment>> = Vec::new(rt.alloc());
+    let mut are_new = true;
+    for _ in 0..count {
+        let made = match site.segment(rt, u64::from(options.capacity)) {
+            Ok(made) => made,
+            Err(miss) => return missed(output, 0, miss),
+        };
+        are_new &= made.is_empty();
+        let segment: Box<dyn Segment> = match made {
+            Made::Memory(segment) => segment,
+            Made::File(segment) => segment,
+        };
+        boxes.push(segment)?;
+    }
+    let mut session = match begin(rt, options, boxes, are_new, site, output) {
+        Ok(session) => session,
+        Err(miss) => return missed(output, 0, miss),
     };
-    let mut pairs = match session.pairs(alloc) {
-        Ok(pairs) => pairs,
-        Err(refusal) => return refuse(output, refusal),
-    };
-    pairs.sort()?;
-    write_run(output, &run, lengths.as_slice(), pairs.as_slice()).map_err(no_output)
+    // The store is shut whatever ends the run.
+    let scripts = mem::replace(scripts, Vec::new(rt.alloc()));
+    let end = run_writers(rt, &mut session, scripts, pace, output);
+    session.shut(rt);
+    end
 }
 
 /// Reads the writers' scripts, makes a store, or goes on from the one in a folder, and runs all
-/// writers over it; answers whether something was refused, or a writer gave up. Boxes are made here
-/// alone, as in `replay`.
+/// writers over it; answers whether something was refused, or a writer gave up.
 pub fn threads<R: Host, I: Read, O: Write>(
     rt: &R,
     options: &Options<'_>,
@@ -142,29 +204,6 @@ pub fn threads<R: Host, I: Read, O: Write>(
     input: &mut I,
     output: &mut O,
 ) -> Result<bool, Stop> {
-    let alloc = rt.alloc();
-    let scripts = read_scripts(alloc, input, options.writers)?;
-    let mut desk = desk_of(alloc)?;
-    let home = Home::open(rt, options.dir)?;
-    let mut boxes: Vec<Box<dyn Segment>> = Vec::new(alloc);
-    let mut are_new = true;
-    for _ in 0..home.count(rt, options.segments)? {
-        let made = match home.segment(rt, &mut desk, u64::from(options.capacity)) {
-            Ok(made) => made,
-            Err(miss) => return missed(output, 0, miss),
-        };
-        are_new &= made.sight().1;
-        match made {
-            Made::Memory(segment) => boxes.push(Box::new(alloc, segment)?)?,
-            Made::File(segment) => boxes.push(Box::new(alloc, segment)?)?,
-        }
-    }
-    let mut session = match begin(rt, options, boxes, are_new, desk, home, output) {
-        Ok(session) => session,
-        Err(miss) => return missed(output, 0, miss),
-    };
-    // The store is shut whatever ends the run.
-    let end = run_writers(rt, &mut session, scripts, pace, output);
-    session.shut(rt);
-    end
+    let mut scripts = read_scripts(rt.alloc(), input, options.writers)?;
+    run_scripts(rt, options, pace, &mut scripts, output)
 }
