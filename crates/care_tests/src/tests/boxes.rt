@@ -3,7 +3,7 @@
 use bw_codec::Leaf;
 use bw_device::{Desk, FuseSegment, MemSegment, Segment};
 use bw_page::Leaves;
-use std::alloc::{AllocError, Global};
+use std::alloc::Global;
 use std::test::Fail;
 
 /// The bytes of one box, by a text in hex.
@@ -91,36 +91,41 @@ pub(super) fn add_all(
     Ok(())
 }
 
-// One page: its number, its low key, and each pair after a space.
-fn show(out: &mut Vec<u8>, leaf: &Leaf) -> Result<(), AllocError> {
-    out.push(b'0' + (leaf.page % 10) as u8)?;
-    out.push(b' ')?;
-    out.extend_from_slice(leaf.low.as_slice())?;
-    out.push(b':')?;
+// What is left of a text behind a part of it; none where it does not begin so.
+fn behind<'a>(text: Option<&'a [u8]>, part: &[u8]) -> Option<&'a [u8]> {
+    text?.strip_prefix(part)
+}
+
+// The same behind one page: its number, its low key, and each pair after a space.
+fn behind_page<'a>(text: Option<&'a [u8]>, leaf: &Leaf) -> Option<&'a [u8]> {
+    let mut rest = behind(text, &[b'0' + (leaf.page % 10) as u8, b' ']);
+    rest = behind(behind(rest, leaf.low.as_slice()), b":");
     for (key, value) in leaf.pairs.as_slice() {
-        out.push(b' ')?;
-        out.extend_from_slice(key.as_slice())?;
-        out.push(b'=')?;
-        out.extend_from_slice(value.as_slice())?;
+        rest = behind(behind(rest, b" "), key.as_slice());
+        rest = behind(behind(rest, b"="), value.as_slice());
     }
-    out.push(b';')?;
-    Ok(())
+    behind(rest, b";")
+}
+
+fn is_at_end(text: Option<&[u8]>) -> bool {
+    match text {
+        Some(rest) => rest.is_empty(),
+        None => false,
+    }
 }
 
 /// Whether one page is shown so.
-pub(super) fn is_shown(alloc: Global, leaf: &Leaf, text: &str) -> Result<bool, Fail> {
-    let mut out = Vec::new(alloc);
-    show(&mut out, leaf)?;
-    Ok(out.as_slice() == text.as_bytes())
+pub(super) fn is_shown(leaf: &Leaf, text: &str) -> bool {
+    is_at_end(behind_page(Some(text.as_bytes()), leaf))
 }
 
 /// Whether all pages are shown so.
-pub(super) fn are_shown(alloc: Global, leaves: &Leaves, text: &str) -> Result<bool, Fail> {
-    let mut out = Vec::new(alloc);
+pub(super) fn are_shown(leaves: &Leaves, text: &str) -> bool {
+    let mut rest = Some(text.as_bytes());
     for index in 0..leaves.count() {
         if let Some(leaf) = leaves.page(index + 1) {
-            show(&mut out, leaf)?;
+            rest = behind_page(rest, leaf);
         }
     }
-    Ok(out.as_slice() == text.as_bytes())
+    is_at_end(rest)
 }

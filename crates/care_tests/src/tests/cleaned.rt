@@ -32,12 +32,12 @@ enum Step {
 
 use Step::{Add, Back, Bytes, Cleans, Page, Refused, Stands};
 
-fn is_page(alloc: Global, log: &mut Log, page: u32, text: &str) -> Result<bool, Fail>
+fn is_page(log: &mut Log, page: u32, text: &str) -> Result<bool, Fail>
     requires { IsSound log.old holding }
     ensures { IsSound log.new holding }
 {
     let leaf = log.read_page(page)?;
-    is_shown(alloc, &leaf, text)
+    Ok(is_shown(&leaf, text))
 }
 
 fn are_bytes(alloc: Global, log: &mut Log, segment: u64, hex: &'static str) -> Result<bool, Fail>
@@ -82,7 +82,7 @@ fn goes(
         }
         Refused(fault) => Ok(clean(alloc, log) == Err(*fault)),
         Back(count) => Ok(desk.collect() == *count),
-        Page(page, text) => is_page(alloc, log, *page, text),
+        Page(page, text) => is_page(log, *page, text),
         Bytes(segment, hex) => are_bytes(alloc, log, *segment, *hex),
         Stands(live, spares, next) => Ok(
             log.live() == *live && log.spares() == *spares && log.next_frame() == Some(*next),

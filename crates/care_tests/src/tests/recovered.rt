@@ -132,12 +132,7 @@ const ORDERED: &[Row] = &[
 ];
 
 // Whether it was found as told, where it was; the desk tells how many boxes were dropped.
-fn is_found(
-    alloc: Global,
-    found: &bw_care::Recovered,
-    returned: u32,
-    told: &Told,
-) -> Result<bool, Fail>
+fn is_found(found: &bw_care::Recovered, returned: u32, told: &Told) -> bool
     requires { IsSound found.now.log holding }
 {
     match told {
@@ -149,9 +144,9 @@ fn is_found(
                 found.dropped,
                 returned,
             ] == [*live, *spares, *dropped, *dropped];
-            Ok(numbers && counts && are_shown(alloc, &found.leaves, pages)?)
+            numbers && counts && are_shown(&found.leaves, pages)
         }
-        Fault(_) => Ok(false),
+        Fault(_) => false,
     }
 }
 
@@ -164,21 +159,16 @@ fn is_fault(cause: RecoverCause, told: &Told) -> bool {
 }
 
 // Whether the boxes are told so; a fault hands all of them back, in order.
-fn is_told(
-    alloc: Global,
-    desk: &mut Desk,
-    boxes: Vec<Box<dyn Segment>>,
-    told: &Told,
-) -> Result<bool, Fail> {
+fn is_told(alloc: Global, desk: &mut Desk, boxes: Vec<Box<dyn Segment>>, told: &Told) -> bool {
     let count = boxes.len();
     match recover(alloc, boxes) {
         Ok(found) => {
             let returned = desk.collect();
-            is_found(alloc, &found, returned, told)
+            is_found(&found, returned, told)
         }
         Err(fault) => {
             let back = fault.boxes.len() == count && desk.collect() == 0;
-            Ok(back && is_fault(fault.cause, told))
+            back && is_fault(fault.cause, told)
         }
     }
 }
@@ -188,7 +178,7 @@ fn goes(alloc: Global, row: &Row) -> Result<bool, Fail> {
     let mut boxes: Vec<Box<dyn Segment>> = Vec::new(alloc);
     let Row(pieces, told) = row;
     add_all(alloc, &mut desk, pieces, &mut boxes)?;
-    is_told(alloc, &mut desk, boxes, told)
+    Ok(is_told(alloc, &mut desk, boxes, told))
 }
 
 // The first row that did not go as told.
@@ -234,7 +224,7 @@ fn with_spare(alloc: Global, piece: &Piece, room: u64, told: &Told) -> Result<bo
     let mut boxes: Vec<Box<dyn Segment>> = Vec::new(alloc);
     add_full(alloc, &mut desk, piece, &mut boxes)?;
     add_box(alloc, &mut desk, &[], room, 99, 0, &mut boxes)?;
-    is_told(alloc, &mut desk, boxes, told)
+    Ok(is_told(alloc, &mut desk, boxes, told))
 }
 
 const SPARES: &[(Piece, u64, Told)] = &[
@@ -275,7 +265,7 @@ fn failing(alloc: Global, calls: u64) -> Result<u8, Fail> {
     if fault.cause != (RecoverCause::Device { lease: 1 }) {
         return Ok(2);
     }
-    if !is_told(alloc, &mut desk, fault.boxes, &Found(2, 4, 0, 2, 0, 0, JK))? {
+    if !is_told(alloc, &mut desk, fault.boxes, &Found(2, 4, 0, 2, 0, 0, JK)) {
         return Ok(3);
     }
     Ok(0)
@@ -310,7 +300,7 @@ fn too_many(alloc: Global) -> Result<bool, Fail> {
     let mut boxes: Vec<Box<dyn Segment>> = Vec::new(alloc);
     add_bad(alloc, &mut desk, 4_096, &mut boxes)?;
     add_bad(alloc, &mut Desk::new(alloc, 1)?, 1, &mut boxes)?;
-    is_told(alloc, &mut desk, boxes, &Fault(BadConfig))
+    Ok(is_told(alloc, &mut desk, boxes, &Fault(BadConfig)))
 }
 
 #[test]

@@ -180,8 +180,7 @@ fn go_as_told<R: Threads + Wait + Abort>(
     name: &str,
     table: &Table,
 ) -> Result<(), Fail> {
-    let went = walked(rt, alloc, table, &OpenGate)?;
-    assert_eq!(rt; went, table.steps.len(), "in {name}");
+    assert_eq!(rt; walked(rt, alloc, table, &OpenGate)?, None, "in {name}");
     Ok(())
 }
 

@@ -26,15 +26,15 @@ pub(super) struct Table {
     pub(super) steps: &'static [Step],
 }
 
-// How many of the steps went as told before one did not.
-fn all_go<R: Threads + Wait, G: Gate>(
+// The first step that did not go as told.
+fn wrong_step<R: Threads + Wait, G: Gate>(
     rt: &R,
     alloc: Global,
     store: &mut Store,
     feeds: Vec<Feed>,
     steps: &[Step],
     gate: &G,
-) -> Result<usize, Fail>
+) -> Result<Option<usize>, Fail>
     requires sound { IsSound store.old holding }
     requires feeds { map ring_of_feed feeds.items ≡ (kept_by store.old holding).rings }
     ensures { IsSound store.new holding }
@@ -44,20 +44,19 @@ fn all_go<R: Threads + Wait, G: Gate>(
         let (back, went) = goes(rt, alloc, store, feeds, gate, step)?;
         feeds = back;
         if !went {
-            return Ok(i);
+            return Ok(Some(i));
         }
     }
-    Ok(steps.len())
+    Ok(None)
 }
 
-/// How many of the table's steps went as told, through this gate, before one did not; 99 where the
-/// store was not opened.
+/// The first of the table's steps that did not go as told, through this gate.
 pub(super) fn walked<R: Threads + Wait, G: Gate>(
     rt: &R,
     alloc: Global,
     table: &Table,
     gate: &G,
-) -> Result<usize, Fail> {
+) -> Result<Option<usize>, Fail> {
     let boxes = boxes(alloc, table.boxes, table.capacity, table.fuse)?;
     let config = Config {
         writers: table.writers,
@@ -67,9 +66,9 @@ pub(super) fn walked<R: Threads + Wait, G: Gate>(
         f: 16384,
     };
     let Ok((mut store, feeds)) = Store::open(rt, alloc, &config, boxes) else {
-        return Ok(99);
+        return Err(Fail::from("a refusal of open"));
     };
-    let went = all_go(rt, alloc, &mut store, feeds, table.steps, gate);
+    let wrong = wrong_step(rt, alloc, &mut store, feeds, table.steps, gate);
     let _ = store.shut(rt);
-    went
+    wrong
 }

@@ -5,7 +5,7 @@ use super::steps::Act::{
     Append, Copy, Empty, Holds, Leave, Look, Open, Segment, Spare, Stop, Write,
 };
 use super::steps::Told::{Done, System};
-use super::steps::{Act, Row, Stand, Told, at, clear, goes, walked};
+use super::steps::{Act, Row, Stand, Told, at, clear, goes, wrong_row};
 use super::watched::Watched;
 use std::test::Fail;
 
@@ -89,7 +89,7 @@ const TRIALS: &[Trial] = &[
 ];
 
 fn all_go(rt: &Watched<HostRuntime>, stand: &mut Stand, rows: &[Row]) -> Result<bool, Fail> {
-    Ok(walked(rt, stand, rows)? == rows.len())
+    Ok(wrong_row(rt, stand, rows)?.is_none())
 }
 
 // How the step goes where its call of this number fails.
@@ -134,21 +134,21 @@ fn is_told(rt: HostRuntime, path: &'static str, trial: &Trial, number: u64) -> R
     is_fault(&watched, &mut stand, trial, number)
 }
 
-// How many of the calls were told before one was not.
-fn each_is_told(rt: HostRuntime, path: &'static str, trial: &Trial) -> Result<u64, Fail> {
+// The first call that was not told.
+fn wrong_call(rt: HostRuntime, path: &'static str, trial: &Trial) -> Result<Option<u64>, Fail> {
     for number in 0..=trial.2 {
         if !is_told(rt, path, trial, number)? {
-            return Ok(number);
+            return Ok(Some(number));
         }
     }
     clear(rt, path);
-    Ok(99)
+    Ok(None)
 }
 
 #[test]
 fn each_failed_call_is_told(rt: HostRuntime) -> Result<(), Fail> {
     for (i, trial) in TRIALS.iter().enumerate() {
-        assert_eq!(rt; each_is_told(rt, "failing", trial)?, 99, "in trial {i}");
+        assert_eq!(rt; wrong_call(rt, "failing", trial)?, None, "in trial {i}");
     }
     Ok(())
 }

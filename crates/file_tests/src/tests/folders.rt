@@ -7,7 +7,7 @@ use super::steps::Act::{
     NoFile, Open, Segment, Spare, Stop, Write,
 };
 use super::steps::Told::{BadConfig, Done, InUse, No, System, TooLong};
-use super::steps::{Act, Row, at, clear, walked};
+use super::steps::{Act, Row, at, clear, wrong_row};
 use super::watched::Watched;
 use bw_device::MAX_CAPACITY;
 use std::process::Abort;
@@ -162,11 +162,11 @@ const FULL: &[Row] = &[
     Row(File("segment-0000.bw", "abc"), Done, ""),
 ];
 
-// How many of the rows went as told before one did not, where nothing stands yet.
-fn told(rt: HostRuntime, path: &'static str, rows: &[Row]) -> Result<usize, Fail> {
+// The first row that did not go as told, where nothing stands yet.
+fn walked(rt: HostRuntime, path: &'static str, rows: &[Row]) -> Result<Option<usize>, Fail> {
     let watched = Watched::new(rt)?;
     let mut stand = at(path);
-    walked(&watched, &mut stand, rows)
+    wrong_row(&watched, &mut stand, rows)
 }
 
 // Each of the rows goes as told, in a folder of their own.
@@ -177,9 +177,9 @@ fn go_as_told<R: Abort>(
     rows: &[Row],
 ) -> Result<(), Fail> {
     clear(rt, path);
-    let went = told(rt, path, rows)?;
+    let wrong = walked(rt, path, rows)?;
     clear(rt, path);
-    assert_eq!(test; went, rows.len(), "in {path}");
+    assert_eq!(test; wrong, None, "in {path}");
     Ok(())
 }
 

@@ -332,19 +332,19 @@ pub(super) fn goes(rt: &Watched<HostRuntime>, stand: &mut Stand, act: &Act) -> R
     }
 }
 
-/// How many of the rows went as told before one did not.
-pub(super) fn walked(
+/// The first row that did not go as told.
+pub(super) fn wrong_row(
     rt: &Watched<HostRuntime>,
     stand: &mut Stand,
     rows: &[Row],
-) -> Result<usize, Fail> {
+) -> Result<Option<usize>, Fail> {
     for (i, row) in rows.iter().enumerate() {
         let Row(act, told, letters) = row;
         let went = goes(rt, stand, act)?;
         let made = rt.watch().take_letters();
         if went != *told || made != number_of(letters) {
-            return Ok(i);
+            return Ok(Some(i));
         }
     }
-    Ok(rows.len())
+    Ok(None)
 }

@@ -17,7 +17,7 @@ use std::sync::Wait;
 use std::test::Fail;
 
 /// Each call of a store.
-const FIRST: [Step; 20] = [
+const FIRST: &[Step] = &[
     Put(b"k", b"1"),
     Turn,
     Flush,
@@ -41,7 +41,7 @@ const FIRST: [Step; 20] = [
 ];
 
 /// And of one that was opened again: its page leaves memory, and a turn brings it back.
-const AGAIN: [Step; 8] = [
+const AGAIN: &[Step] = &[
     Page(2),
     Evict,
     Put(b"l", b"4"),
@@ -88,7 +88,7 @@ fn ends<R: AllocGlobal + Wait>(rt: &R, store: Store, feeds: Vec<Feed>) -> u8
 {
     let mut store = store;
     let mut feeds = feeds;
-    let went = walk(rt, &mut store, &mut feeds, &AGAIN);
+    let went = walk(rt, &mut store, &mut feeds, AGAIN);
     let _ = store.shut(rt);
     if went { 0 } else { 9 }
 }
@@ -134,7 +134,7 @@ fn lives<R: AllocGlobal + Wait>(rt: &R, store: Store, feeds: Vec<Feed>) -> u8
 {
     let mut store = store;
     let mut feeds = feeds;
-    let went = walk(rt, &mut store, &mut feeds, &FIRST);
+    let went = walk(rt, &mut store, &mut feeds, FIRST);
     let (live, _spares) = store.shut(rt);
     if went { recovers(rt, live) } else { 4 }
 }

@@ -48,10 +48,14 @@ fn has_values(board: &Board) -> Result<bool, Fail> {
     Ok(true)
 }
 
+fn is_cut(alloc: Global) -> Result<bool, Fail> {
+    let board = board(alloc)?;
+    Ok(has_pages(&board) && has_values(&board)?)
+}
+
 #[test]
 fn a_board_is_cut_as_leaves_are(rt: HostRuntime) -> Result<(), Fail> {
     batches_are_joined();
-    let board = board(rt.alloc())?;
-    assert!(rt; has_pages(&board) && has_values(&board)?);
+    assert!(rt; is_cut(rt.alloc())?);
     Ok(())
 }

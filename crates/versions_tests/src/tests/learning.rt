@@ -52,11 +52,15 @@ fn publish_all<R: Wait>(
     Ok(())
 }
 
-// Whether the last value and the first page are there.
+// Whether the last value and the first page are there for a reader that learns these news.
 fn has_all(mut reader: Reader, news: News) -> bool
     requires { news.book ≡ reader.book }
 {
     reader.learn(news);
+    has_last(&mut reader)
+}
+
+fn has_last(reader: &mut Reader) -> bool {
     let Ok(key) = Key::new(b"b0999") else {
         return false;
     };
