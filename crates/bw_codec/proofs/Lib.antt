@@ -3,6 +3,7 @@ pub mod Format
 pub mod BlockFormat
 pub mod FrontFormat
 pub mod Heading
+pub mod FrameHead
 pub mod HeadRows
 pub mod Adding
 pub mod Lengths

@@ -149,6 +149,15 @@ away_more old new page blocks step logged apart p away =
       | false ↦ λ other e. logged p e
     ] refl (sym (step p) ∙ away)
 
+pub away_less : (old new : Shown) (page : ℕ) (blocks : List Block)
+    → ((p : ℕ) → is_away p new ≡ (if p == page then false else is_away p old)) → ((p : ℕ) → is_away p old ≡ true → is_made p blocks ≡ false)
+    → (p : ℕ) → is_away p new ≡ true → is_made p blocks ≡ false
+away_less old new page blocks step logged p away =
+    elim (p == page) as (λ b. (if b then false else is_away p old) ≡ true → is_made p blocks ≡ false) [
+      | true ↦ λ e. absurd cc
+      | false ↦ λ e. logged p e
+    ] (sym (step p) ∙ away)
+
 -- ---- a leaf and its value
 
 leaf_lawful : (m : ℕ) (leaves : List Leaf) (p : ℕ) (leaf : Leaf) → All (IsBase m) leaves → leaf_at p leaves ≡ Some leaf → IsBase m leaf

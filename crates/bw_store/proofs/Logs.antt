@@ -8,6 +8,7 @@ use Rattle.bw_buffer.specs.Filling.{frame_of}
 use Rattle.bw_log.specs.declared.fault.LogFault.{LogFault}
 use Rattle.bw_log.specs.declared.fault.LogFault.TheVariants as log
 use Rattle.bw_log.specs.Contents as logs
+use Rattle.bw_log.specs.Reads.{IsKept}
 use Rattle.bw_store.specs.declared.fault.StoreFault.TheVariants.{BadConfig}
 use Rattle.bw_store.specs.Faults.{fault_of}
 use Rattle.bw_store.specs.Following.{Follows}
@@ -23,6 +24,17 @@ pub record CountsAs (old new : logs.Contents) : Type 0 where
   pub next : new.next ≡ old.next
   pub failed : new.is_failed ≡ old.is_failed
   pub frames : logs.counted new ≡ logs.counted old
+
+-- a read counts the same frames, refused or not
+pub read_counts : (old new : logs.Contents) → logs.IsSound new → IsKept old new → CountsAs old new
+read_counts old new sound kept = record {
+  sound = sound;
+  m = ap (λ (i : logs.Image). i.m) kept.same;
+  f = ap (λ (i : logs.Image). i.f) kept.same;
+  next = ap (λ (i : logs.Image). i.next) kept.same;
+  failed = ap (λ (i : logs.Image). i.is_failed) kept.same;
+  frames = kept.counts;
+}
 
 pub log_sound : (s : Kept) (new : logs.Contents) → IsSound s → CountsAs s.log new → IsSound (with_log s new)
 log_sound s new h c = record {

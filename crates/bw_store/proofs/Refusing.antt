@@ -1,15 +1,17 @@
 -- Why a record or a flush was refused.
 
 use Rattle.std.proofs.Common.{◌≡◌, ℕ, Bool, true, false, Option, Some, None, Ok, Err, length, inl, inr, refl, sym, ap, ◌∙◌, subst}
+use Rattle.std.proofs.lemmas.Bool.{ne_eqb}
 use Rattle.std.specs.Prelude.{◌==◌, ◌&&◌, nat_lt, is_none, if◌then◌else◌}
 use Rattle.bw_codec.specs.Grammar.{frame_bytes}
 use Rattle.bw_buffer.specs.Filling.{frame_of}
-use Rattle.bw_log.specs.Appends.{wants_segment, spares_wanted, is_spent}
+use Rattle.bw_log.specs.Appends.{wants_segment, spares_wanted, is_spent, refusal, Checks}
+use Rattle.bw_log.specs.declared.fault.LogFault.{LogFault}
 use Rattle.bw_log.specs.declared.fault.LogFault.TheVariants as logs
 use Rattle.bw_store.specs.declared.fault.StoreFault.{StoreFault}
 use Rattle.bw_store.specs.declared.fault.StoreFault.TheVariants.{NoMemory, BadConfig, NoSegment, Device, Failed, Spent, NoPage, NothingOld}
 use Rattle.bw_store.specs.Kept.{Kept}
-use Rattle.bw_store.specs.Faults.{FlushAnswers, FlushLeaves, flush_refusal, refusal_by, fault_of}
+use Rattle.bw_store.specs.Faults.{FlushAnswers, FlushLeaves, IsRefused, flush_refusal, refusal_by, fault_of}
 use Rattle.bw_store.specs.Taking.{MayFlush, IsWanting, IsSpentAt, IsUnplanned, Refuses, Works}
 
 -- a flush that answers Ok was not of a failed store
@@ -101,6 +103,47 @@ is_cause : (takes_last : Bool) (s : Kept) (fault : StoreFault) → (FlushAnswers
     → IsFlushCause s.log.is_failed (Some fault)
 is_cause takes_last s fault never a =
     subst (IsFlushCause s.log.is_failed) (same_answer (refusal_by takes_last s) fault never a) (flush_cause takes_last s)
+
+-- ---- what the log refused before the append
+
+pub checked : (r : Option LogFault) (fault : LogFault) → Checks r (Err fault) → IsRefused r (fault_of fault)
+checked (Some cause) fault a = cc
+checked None fault (inl e) = absurd cc
+checked None fault (inr e) = cc
+
+abbrev log_cause : (failed wants spent : Bool) → Option LogFault
+log_cause failed wants spent = if failed then Some logs.Failed else if wants then Some logs.NoSegment else if spent then Some logs.Spent else None
+
+cause_answers : (failed none empty wants spent : Bool) (cause : StoreFault) → failed ≡ false → none ≡ false → empty ≡ false
+    → IsRefused (log_cause failed wants spent) cause → FlushAnswers (cause_of failed none empty wants spent) (Err cause)
+cause_answers true none empty wants spent cause f n e r = absurd cc
+cause_answers false true empty wants spent cause f n e r = absurd cc
+cause_answers false false true wants spent cause f n e r = absurd cc
+cause_answers false false false true spent cause f n e r = cc
+cause_answers false false false false true cause f n e r = cc
+cause_answers false false false false false cause f n e r = subst (λ (x : StoreFault). FlushAnswers None (Err x)) (sym r) tt
+
+cause_leaves : (failed wants spent : Bool) (old new : Kept) (cause : StoreFault) → IsRefused (log_cause failed wants spent) cause → new ≡ old
+    → FlushLeaves old (Err cause) new
+cause_leaves true wants spent old new cause r same = subst (λ (x : StoreFault). FlushLeaves old (Err x) new) (sym r) same
+cause_leaves false true spent old new cause r same = subst (λ (x : StoreFault). FlushLeaves old (Err x) new) (sym r) same
+cause_leaves false false true old new cause r same = subst (λ (x : StoreFault). FlushLeaves old (Err x) new) (sym r) same
+cause_leaves false false false old new cause r same = subst (λ (x : StoreFault). FlushLeaves old (Err x) new) (sym r) same
+
+pub prepared_answers : (takes_last : Bool) (s : Kept) (cause : StoreFault) → s.log.is_failed ≡ false → is_none s.log.next ≡ false
+    → (length s.making.blocks ≡ 0 → ⊥) → IsRefused (refusal s.log (length (frame_bytes (frame_of s.making))) takes_last) cause
+    → FlushAnswers (refusal_by takes_last s) (Err cause)
+prepared_answers takes_last s cause f n some r =
+    cause_answers s.log.is_failed (is_none s.log.next) (length s.making.blocks == 0)
+    (wants_segment s.log (length (frame_bytes (frame_of s.making))) && nat_lt (length s.log.spares) (spares_wanted takes_last))
+    (is_spent s.log (length (frame_bytes (frame_of s.making)))) cause f n (ne_eqb (length s.making.blocks) 0 some) r
+
+pub prepared_leaves : (takes_last : Bool) (old new : Kept) (cause : StoreFault)
+    → IsRefused (refusal old.log (length (frame_bytes (frame_of old.making))) takes_last) cause → new ≡ old → FlushLeaves old (Err cause) new
+prepared_leaves takes_last old new cause r same =
+    cause_leaves old.log.is_failed
+    (wants_segment old.log (length (frame_bytes (frame_of old.making))) && nat_lt (length old.log.spares) (spares_wanted takes_last))
+    (is_spent old.log (length (frame_bytes (frame_of old.making)))) old new cause r same
 
 -- no flush tells that too few segments are live
 pub never_nothing : (takes_last : Bool) (s : Kept) → FlushAnswers (refusal_by takes_last s) (Err NothingOld) → ⊥

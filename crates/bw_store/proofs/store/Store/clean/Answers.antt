@@ -1,7 +1,12 @@
-use Rattle.std.proofs.Common.{◌∙◌}
+use Rattle.std.proofs.Common.{inl, ◌∙◌}
 use Rattle.std.proofs.lemmas.Result.{err_from_is_err_and}
 use Rattle.bw_store.proofs.Showing.{clean_hides, clean_shows, hides_follows, shows_follows, shows_roster}
 use Rattle.bw_store.proofs.store.Store.clean.Goals as goal
+
+pub returns-in_err-cleaned-clause-leaves : goal.returns-in_err-cleaned-clause-leaves
+returns-in_err-cleaned-clause-leaves g c =
+    let p = err_from_is_err_and c.from_residual.result c.from_residual.ensures.1 in
+    rw (p.1, p.2) (inl c.in_err-cleaned.ensures.leaves)
 
 pub returns-in_err-publish-clause-leaves : goal.returns-in_err-publish-clause-leaves
 returns-in_err-publish-clause-leaves g c =

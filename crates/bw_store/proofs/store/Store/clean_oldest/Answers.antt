@@ -1,10 +1,14 @@
-use Rattle.std.proofs.Common.{true, length, refl, ap, ◌∙◌, arith}
+use Rattle.std.proofs.Common.{◌≡◌, true, Err, length, refl, subst, ap, ◌∙◌, arith}
 use Rattle.std.proofs.lemmas.Result.{err_from_is_err_and}
 use Rattle.bw_log.specs.Contents.{roster}
+use Rattle.bw_store.specs.declared.fault.StoreFault.{StoreFault}
+use Rattle.bw_store.specs.declared.fault.StoreFault.TheVariants.{NothingOld}
+use Rattle.bw_store.specs.Faults.{FlushAnswers, refusal_by}
 use Rattle.bw_store.specs.Kept.{Kept}
 use Rattle.bw_store.specs.Emptied.{Emptied}
 use Rattle.bw_store.specs.Views.{kept_by}
 use Rattle.bw_store.proofs.FollowMore.{follows_as, follows_left}
+use Rattle.bw_store.proofs.Refusing.{never_nothing}
 use Rattle.bw_store.proofs.SettledMore.{settled_by}
 use Rattle.bw_store.proofs.CleanedMore.{live_stay, move_follows, move_boxes, clean_leaves, reserve_leaves, follows_via, not_nothing}
 use Rattle.bw_store.proofs.store.Store.clean_oldest.Goals as goal
@@ -14,6 +18,16 @@ returns-then-live-lt2-clause-follows g c = (follows_as _ _ refl).follows
 
 pub returns-in_err-flush_making-clause-follows : goal.returns-in_err-flush_making-clause-follows
 returns-in_err-flush_making-clause-follows g c = (follows_left _ _ _ c.flush_making.ensures.leaves).follows
+
+pub returns-in_err-flush_making-clause-nothing_old : goal.returns-in_err-flush_making-clause-nothing_old
+returns-in_err-flush_making-clause-nothing_old g c =
+    let p = err_from_is_err_and c.from_residual.result c.from_residual.ensures.1 in
+    let old = kept_by c.args.self.now (λ z. (goal.Segment-dyn g z).holding z.1) in
+    let live = c.live.ensures in
+    let many = c.if-live-lt2.false in
+    let never : (c.in_err-flush_making.field-0.0 ≡ NothingOld) → ⊥ =
+        λ e. never_nothing true old (subst (λ (x : StoreFault). FlushAnswers (refusal_by true old) (Err x)) e c.in_err-flush_making.ensures.answers) in
+    rw (p.1, p.2) (λ e. absurd (never cc), λ few. absurd (omega arith))
 
 pub returns-in_err-reserve_cuts-clause-follows : goal.returns-in_err-reserve_cuts-clause-follows
 returns-in_err-reserve_cuts-clause-follows g c = rw c.reserve_cuts.ensures.same (follows_left _ _ _ c.flush_making.ensures.leaves).follows

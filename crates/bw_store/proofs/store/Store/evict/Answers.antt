@@ -1,8 +1,10 @@
-use Rattle.std.proofs.Common.{◌∙◌, List, length, ap, sym, arith}
+use Rattle.std.proofs.Common.{◌∙◌, Bool, List, length, ap, sym, arith}
+use Rattle.std.specs.Prelude.{not, ◌&&◌}
 use Rattle.bw_codec.specs.declared.leaf.Leaf.{Leaf}
-use Rattle.bw_store.specs.Tails.{tails_for}
+use Rattle.bw_store.specs.Tails.{is_made, tails_for}
 use Rattle.bw_store.proofs.TailLists.{as_many, tail_here}
-use Rattle.bw_store.proofs.AwayPages.{none_made, away_more, kept_apart}
+use Rattle.bw_store.specs.Views.{kept_by}
+use Rattle.bw_store.proofs.AwayPages.{here_or_away, never_none, none_made, away_more, kept_apart}
 use Rattle.bw_store.proofs.store.Store.evict.Goals as goal
 
 pub index-requires : goal.index-requires
@@ -13,6 +15,22 @@ index-requires g c =
     let count = c.count.ensures.value in
     let shown = ap length c.as_slice.ensures.value in
     omega arith
+
+pub returns-then-not-is_here-clause-left : goal.returns-then-not-is_here-clause-left
+returns-then-not-is_here-clause-left g c =
+    let low = c.if-page-eq0.false in
+    let high = c.if-page-count.false in
+    let count = c.count.ensures.value in
+    let here = here_or_away c.args.self.now.leaves c.args.page c.is_here.result c.is_here.ensures (omega arith) (omega arith) in
+    sym (ap (λ (b : Bool). b && not (is_made c.args.page c.args.self.now.making.blocks)) (sym here ∙ c.if-not-is_here.true))
+
+pub returns-then-not-is_here-clause-no_page : goal.returns-then-not-is_here-clause-no_page
+returns-then-not-is_here-clause-no_page g c =
+    let low = c.if-page-eq0.false in
+    let high = c.if-page-count.false in
+    let count = c.count.ensures.value in
+    let s = kept_by c.args.self.now (λ z. (goal.Segment-dyn g z).holding z.1) in
+    (λ e. absurd cc, λ none. absurd (never_none s c.requires c.args.page (omega arith) (omega arith) none))
 
 pub returns-then-is_none-clause-left : goal.returns-then-is_none-clause-left
 returns-then-is_none-clause-left g c =

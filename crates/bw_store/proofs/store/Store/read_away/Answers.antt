@@ -3,9 +3,15 @@ use Rattle.bw_codec.specs.declared.record.Record.{Record}
 use Rattle.bw_codec.specs.declared.leaf.Leaf.{Leaf}
 use Rattle.bw_page.specs.Leaves.{all_changed}
 use Rattle.bw_store.specs.Views.{kept_by}
+use Rattle.bw_store.proofs.Logs.{log_sound, read_counts}
 use Rattle.bw_store.proofs.TailLists.{as_many, tail_stays, not_gone, records_are}
 use Rattle.bw_store.proofs.AwayPages.{away_page, on_log, read_refused}
 use Rattle.bw_store.proofs.store.Store.read_away.Goals as goal
+
+pub returns-in-Err-clause-sound : goal.returns-in-Err-clause-sound
+returns-in-Err-clause-sound g c =
+    let s = kept_by c.args.self.now (λ z. (goal.Segment-dyn g z).holding z.1) in
+    log_sound s _ c.requires.sound (read_counts s.log _ c.in-Err.ensures.sound c.in-Err.ensures.kept)
 
 pub returns-in-Err-clause-leaves : goal.returns-in-Err-clause-leaves
 returns-in-Err-clause-leaves g c =

@@ -1,0 +1,13 @@
+use Rattle.std.proofs.Common.{List, length, ap, sym, ◌∙◌}
+use Rattle.bw_codec.specs.declared.leaf.Leaf.{Leaf}
+use Rattle.bw_store.specs.Tails.{tails_for}
+use Rattle.bw_store.proofs.AwayPages.{away_less}
+use Rattle.bw_store.proofs.store.Store.fetch.Goals as goal
+
+pub invariant_of-self : goal.invariant_of-self
+invariant_of-self g c =
+    let read = c.read_away.new.self in
+    record {
+      tailed = read.tailed ∙ ap (λ (ls : List Leaf). tails_for (length ls) read.making.blocks) (sym c.bring_back.ensures.leaves);
+      logged = away_less read.leaves c.bring_back.new.self c.find-page.result read.making.blocks c.bring_back.ensures.away read.logged;
+    }
