@@ -26,7 +26,7 @@ returns-in_err-flush_making-clause-nothing_old g c =
     let live = c.live.ensures in
     let many = c.if-live-lt2.false in
     let never : (c.in_err-flush_making.field-0.0 ≡ NothingOld) → ⊥ =
-        λ e. never_nothing true old (subst (λ (x : StoreFault). FlushAnswers (refusal_by true old) (Err x)) e c.in_err-flush_making.ensures.answers) in
+    λ e. never_nothing true old (subst (λ (x : StoreFault). FlushAnswers (refusal_by true old) (Err x)) e c.in_err-flush_making.ensures.answers) in
     rw (p.1, p.2) (λ e. absurd (never cc), λ few. absurd (omega arith))
 
 pub returns-in_err-reserve_cuts-clause-follows : goal.returns-in_err-reserve_cuts-clause-follows
