@@ -120,6 +120,15 @@ header_again h rest law =
     let lawful : is_header (header_in bytes) ≡ true = ap is_header is.0 ∙ passes h law in
     rw (long, is.1, lawful, is.0) refl
 
+-- numbers that are no lawful header
+pub no_header_there : (h : Header) (bytes : List ℕ) → agrees bytes segment_word ≡ true → 24 ≤ length bytes → little_number 2 (drop 18 bytes) ≡ 0
+    → h ≡ header_in bytes → is_header h ≡ false → heading.Bad ≡ heading_of bytes
+unfolding heading_of
+no_header_there h bytes word many zero is unlawful =
+    let long : nat_lt (length bytes) 24 ≡ false = le-ltb (length bytes) 24 many in
+    let bad : is_header (header_in bytes) ≡ false = ap is_header (sym is) ∙ unlawful in
+    rw (word, long, zero, bad) refl
+
 pub one_header_spelling : OneHeaderSpelling
 one_header_spelling a b x y law_a law_b same =
     let reads : heading.Whole a ≡ heading.Whole b = sym (header_again a x law_a) ∙ ap heading_of same ∙ header_again b y law_b in
