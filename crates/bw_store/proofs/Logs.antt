@@ -1,10 +1,11 @@
 -- A store whose log changed, but not in what it counts.
 
-use Rattle.std.proofs.Common.{false, ◌≡◌, ◌+◌, ◌<◌, inl, inr, List, [], refl, sym, ap, ◌∙◌, subst, arith, append-nil}
+use Rattle.std.proofs.Common.{false, ◌≡◌, ◌+◌, ◌<◌, inl, inr, List, [], ◌∷◌, ◌++◌, refl, sym, ap, ◌∙◌, subst, arith, append-nil}
 use Rattle.std.specs.List.{AllByRecursion as All}
 use Rattle.bw_codec.specs.declared.block.Frame.{Frame}
 use Rattle.bw_page.specs.Standing.{Stand}
 use Rattle.bw_buffer.specs.Filling.{frame_of}
+use Rattle.bw_device.specs.Holding.{Holding}
 use Rattle.bw_log.specs.declared.fault.LogFault.{LogFault}
 use Rattle.bw_log.specs.declared.fault.LogFault.TheVariants as log
 use Rattle.bw_log.specs.Contents as logs
@@ -80,6 +81,17 @@ log_follows s new = record {
 -- a log whose current segment was closed
 pub rolled_counts : (old new : logs.Contents) → logs.IsSound new → new ≡ record old { is_open = false } → CountsAs old new
 rolled_counts old new sound is = record {
+  sound = sound;
+  m = ap (λ (c : logs.Contents). c.m) is;
+  f = ap (λ (c : logs.Contents). c.f) is;
+  next = ap (λ (c : logs.Contents). c.next) is;
+  failed = ap (λ (c : logs.Contents). c.is_failed) is;
+  frames = ap (λ (c : logs.Contents). logs.counted c) is;
+}
+
+-- a log with one more spare
+pub added_counts : (old new : logs.Contents) (box : Holding) → logs.IsSound new → new ≡ record old { spares = old.spares ++ box ∷ [] } → CountsAs old new
+added_counts old new box sound is = record {
   sound = sound;
   m = ap (λ (c : logs.Contents). c.m) is;
   f = ap (λ (c : logs.Contents). c.f) is;

@@ -16,3 +16,9 @@ returns-clause-refused g c = rw (c.store-1.given.1 (search rules)) (c.finish.ens
 
 pub returns-clause-runs : goal.returns-clause-runs
 returns-clause-runs g c = rw (c.store-1.given.1 (search rules)) (c.finish.ensures.runs _ (search rules))
+
+pub returns-clause-settled : goal.returns-clause-settled
+returns-clause-settled g c = rw (c.store-1.given.1 (search rules)) c.finish.ensures.settled
+
+pub returns-clause-sound : goal.returns-clause-sound
+returns-clause-sound g c = rw (c.store-1.given.1 (search rules)) c.finish.ensures.sound

@@ -1,7 +1,11 @@
 use Rattle.std.proofs.Common.{◌∙◌, ap, sym}
 use Rattle.bw_store.specs.Faults.{fault_of}
-use Rattle.bw_store.proofs.Logs.{log_follows, only_bad}
+use Rattle.bw_store.proofs.Logs.{added_counts, log_follows, log_sound, only_bad}
 use Rattle.bw_store.proofs.store.Store.add_segment.Goals as goal
+
+pub returns-in-Ok-clause-sound : goal.returns-in-Ok-clause-sound
+returns-in-Ok-clause-sound g c =
+    log_sound _ _ c.requires (added_counts _ _ _ c.in-Ok.ensures.sound c.in-Ok.ensures.added)
 
 pub returns-in-Ok-clause-follows : goal.returns-in-Ok-clause-follows
 returns-in-Ok-clause-follows g c = log_follows _ _

@@ -1,4 +1,5 @@
-use Rattle.bw_store.proofs.Logs.{log_follows}
+use Rattle.bw_store.specs.Views.{kept_by}
+use Rattle.bw_store.proofs.Logs.{log_follows, log_sound, read_counts}
 use Rattle.bw_store.proofs.store.Store.dump.Goals as goal
 
 pub returns-in-Ok-clause-follows : goal.returns-in-Ok-clause-follows
@@ -6,3 +7,8 @@ returns-in-Ok-clause-follows g c = log_follows _ _
 
 pub returns-in-Err-clause-follows : goal.returns-in-Err-clause-follows
 returns-in-Err-clause-follows g c = log_follows _ _
+
+pub returns-in-Err-clause-sound : goal.returns-in-Err-clause-sound
+returns-in-Err-clause-sound g c =
+    let s = kept_by c.args.self.now (λ z. (goal.Segment-dyn g z).holding z.1) in
+    log_sound s _ c.requires (read_counts s.log _ c.in-Err.ensures.sound c.in-Err.ensures.kept)
