@@ -2,12 +2,13 @@
 
 use Rattle.std.proofs.Common.{◌≡◌, ℕ, ◌+◌, ◌-◌, ◌*◌, ◌^◌, ◌<◌, ◌≤◌, true, false, Option, Some, None, Result, Ok, Err, inl, inr, List, [], ◌∷◌}
 use Rattle.std.proofs.Common.{Bool, length, refl, sym, ap, ◌∙◌, subst, arith, if◌then◌else◌, length-append, append-nil}
-use Rattle.std.specs.Prelude.{nat_le, IfOk, OnOk}
+use Rattle.std.specs.Prelude.{nat_le, IfOk, IfErr, OnOk, OnErr}
 use Rattle.bw_store.specs.declared.planning.Plan.{Plan}
 use Rattle.bw_store.specs.Planning.{listed}
 use Rattle.bw_store.specs.declared.fault.StoreFault.{StoreFault}
 use Rattle.bw_store.specs.Faults.{FlushLeaves}
-use Rattle.bw_store.specs.Taking.{MayFlush, Took}
+use Rattle.bw_store.specs.Taking.{MayFlush, ItemLeaves, IsWanting, Works}
+use Rattle.bw_store.proofs.Refusing.{entered_not}
 use Rattle.bw_store.specs.Taken.{taken}
 use Rattle.std.specs.List.{AllByRecursion as All, flat_map}
 use Rattle.bw_codec.specs.Grammar.{body_bytes, block_bytes, op_bytes, pair_bytes, IsBlock, IsOp, IsPair}
@@ -190,10 +191,9 @@ pub flushed_or_not : (old new : Kept) (o : Option ℕ) → FlushLeaves old (Ok o
 flushed_or_not old new None f = inl f.0
 flushed_or_not old new (Some n) f = inr (n, f)
 
-pub took_now : {lane : ℕ} {old new : Kept} (item : Record) (back : Place) → old.log.is_failed ≡ false → new ≡ taken old lane item back → Took lane old new
-took_now {lane} {old} {new} item back works is = record { item = item; back = back; middle = old; flushes = inl refl; works = works; is = is }
-
-pub took_later : {lane : ℕ} {old new : Kept} (middle : Kept) (item : Record) (back : Place) (o : Option ℕ) → FlushLeaves old (Ok o) middle
-    → middle.log.is_failed ≡ false → new ≡ taken middle lane item back → Took lane old new
-took_later {lane} {old} {new} middle item back o f works is =
-    record { item = item; back = back; middle = middle; flushes = flushed_or_not old middle o f; works = works; is = is }
+-- a record that was to be entered, behind a flush or not
+pub entered_or_not : (lane : ℕ) (old middle new : Kept) (item : Record) (back : Place) (r : Result (Unit {0}) StoreFault) → Works old → MayFlush old middle
+    → middle.log.is_failed ≡ false → OnOk r (new ≡ taken middle lane item back) → OnErr r (new ≡ middle) → IfErr r (IsWanting middle) → ItemLeaves lane old r new
+entered_or_not lane old middle new item back (Ok x) was may works is same w =
+    record { item = item; back = back; middle = middle; flushes = may; works = works; is = is }
+entered_or_not lane old middle new item back (Err cause) was may works is same w = entered_not old middle new cause was may same w

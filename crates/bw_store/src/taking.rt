@@ -72,15 +72,32 @@ impl Store {
     {
         self.goes_on()?;
         let page = self.fetch(item.key())?;
+        self.take_here(lane, item, page)
+    }
+
+    // The same, where the page at which it is directed is in memory.
+    fn take_here(&mut self, lane: usize, item: Record, page: u32) -> Result<(), StoreFault>
+        requires sound { IsSound self.old holding }
+        requires inside { lane < length self.old.intake.lanes.items }
+        requires comes { IsNext self.old.intake.lanes.items lane item }
+        requires here { IsHere (key_of item) self.old.leaves }
+        requires page { page ≡ directed_at self.old.leaves.leaves item }
+        ensures sound { IsSound self.new holding }
+        ensures count { length self.new.intake.lanes.items ≡ length self.old.intake.lanes.items }
+        ensures given { OnOk result (map given self.new.intake.lanes.items
+            ≡ map given self.old.intake.lanes.items) }
+        ensures known { OnOk result
+            (TookKnown lane self.old.intake.lanes.items self.new.intake.lanes.items) }
+        ensures leaves { ItemLeaves lane (kept_by self.old holding) result
+            (kept_by self.new holding) }
+    {
         let plan = self.plan(page, &item)?;
         if length_of(plan.blocks.as_slice()) <= self.making.room() as usize {
-            self.enter(lane, item, plan.page, plan.back, plan.blocks.as_slice())?;
-            return Ok(());
+            return self.enter(lane, item, plan.page, plan.back, plan.blocks.as_slice());
         }
         self.flush_making(false)?;
         let plan = self.plan(page, &item)?;
-        self.enter(lane, item, plan.page, plan.back, plan.blocks.as_slice())?;
-        Ok(())
+        self.enter(lane, item, plan.page, plan.back, plan.blocks.as_slice())
     }
 
     // A copy of the record that a lane gives next.

@@ -8,6 +8,7 @@ use Rattle.crossbeam_utils.specs.Register.{TurnsAt, Admits, Forks, Merges}
 use Rattle.atomic_table.proofs.Lists.{at_set, at_snoc}
 use Rattle.bw_versions.specs.Reach.{Reach}
 use Rattle.bw_versions.specs.VersionData.{VersionData}
+use Rattle.bw_versions.specs.Heard.{Beyond}
 use Rattle.bw_versions.specs.Keeping.{Fits, Keeps, Sees, Follows, applied, last_mark, fresh}
 use Rattle.bw_versions.specs.declared.operation.Operation.{Operation}
 use Rattle.bw_versions.proofs.Fronts.{prefix_self, prefix_trans}
@@ -46,6 +47,11 @@ turns seat v x y own later views h at =
 -- a look: the rule says itself that the mark is the board's
 pub looks : (seat : ℕ) (v : Option Reach) (x : VersionData) → TurnsAt Keeps seat v x x Sees
 looks seat v x views h at = turns seat v x x h.0 (refl, prefix_self x.mark.log) views h at
+
+-- what a look saw begins with what its seat had seen
+pub looked : (m : Reach) (v w : Option Reach) (x : VersionData) → Beyond m v → Sees v x x w → Beyond m (Some x.mark)
+looked m None w x b s = absurd b
+looked m (Some p) w x b s = (sym s.1.0 ∙ b.0, prefix_trans m.log p.log x.mark.log b.1 s.1.1)
 
 -- ---- operations
 
