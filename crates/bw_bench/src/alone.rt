@@ -19,7 +19,7 @@ use std::thread::Threads;
 /// Of how many keys one is asked for when all pages are away.
 const KEYS_AWAY: u64 = 16;
 
-fn tell_cost(bench: &mut Bench<'_>, span: Span, cost: Cost) {
+fn tell_cost(bench: &Bench, span: Span, cost: Cost) {
     let count = span.count();
     bench.tell(span.name, count, cost.all());
     bench.tell_each("  its puts", count, cost.puts, "ns");
@@ -28,7 +28,7 @@ fn tell_cost(bench: &mut Bench<'_>, span: Span, cost: Cost) {
 }
 
 /// How many bytes the log and the memory have gained over those before.
-fn tell_growth(bench: &mut Bench<'_>, store: &Store, span: Span, before: u64, had: u64)
+fn tell_growth(bench: &Bench, store: &Store, span: Span, before: u64, had: u64)
     requires { IsSound store.now holding }
 {
     let added = bytes_of(store).saturating_sub(had);
@@ -40,7 +40,7 @@ fn tell_growth(bench: &mut Bench<'_>, store: &Store, span: Span, before: u64, ha
 /// Puts, takes and flushes the script of a span, a reader beside it or not.
 fn put_beside<R: Threads + Wait>(
     rt: &R,
-    bench: &mut Bench<'_>,
+    bench: &Bench,
     store: &mut Store,
     feed: &mut Feed,
     course: Course,
@@ -59,7 +59,7 @@ fn put_beside<R: Threads + Wait>(
 /// The same of some puts.
 fn put_all<R: Threads + Wait>(
     rt: &R,
-    bench: &mut Bench<'_>,
+    bench: &Bench,
     store: &mut Store,
     feed: &mut Feed,
     course: Course,
@@ -68,14 +68,14 @@ fn put_all<R: Threads + Wait>(
     requires { IsSound store.old holding }
     ensures { IsSound store.new holding }
 {
-    let script = bench.options.shape().script(bench.alloc(), span, WHOLE)?;
+    let script = bench.options.shape().script(bench.alloc, span, WHOLE)?;
     put_beside(rt, bench, store, feed, course, span, &script)
 }
 
 /// The same, told; then all keys are read back.
 fn put_span<R: Threads + Wait>(
     rt: &R,
-    bench: &mut Bench<'_>,
+    bench: &Bench,
     store: &mut Store,
     feed: &mut Feed,
     course: Course,
@@ -94,7 +94,7 @@ fn put_span<R: Threads + Wait>(
 }
 
 /// Gets of the store, and of a reader.
-fn gets(bench: &mut Bench<'_>, store: &mut Store) -> Result<(), Stop>
+fn gets(bench: &Bench, store: &mut Store) -> Result<(), Stop>
     requires { IsSound store.old holding }
     ensures { IsSound store.new holding }
 {
@@ -105,7 +105,7 @@ fn gets(bench: &mut Bench<'_>, store: &mut Store) -> Result<(), Stop>
 }
 
 /// Pages leave memory, and some values are asked for.
-fn gets_away(bench: &mut Bench<'_>, store: &mut Store) -> Result<(), Stop>
+fn gets_away(bench: &Bench, store: &mut Store) -> Result<(), Stop>
     requires { IsSound store.old holding }
     ensures { IsSound store.new holding }
 {
@@ -122,7 +122,7 @@ fn gets_away(bench: &mut Bench<'_>, store: &mut Store) -> Result<(), Stop>
 /// New keys, then old ones; and where there is nothing beside and readers see all, gets.
 fn put_and_get<R: Threads + Wait>(
     rt: &R,
-    bench: &mut Bench<'_>,
+    bench: &Bench,
     store: &mut Store,
     feed: &mut Feed,
     course: Course,
@@ -143,7 +143,7 @@ fn put_and_get<R: Threads + Wait>(
 /// The same by the last of the feeds.
 pub fn alone<R: Threads + Wait>(
     rt: &R,
-    bench: &mut Bench<'_>,
+    bench: &Bench,
     store: &mut Store,
     mut feeds: Vec<Feed>,
     course: Course,

@@ -10,9 +10,9 @@ use bw_store::{Reader, Store};
 
 /// Reads so many keys back: each must have the value of the last of so many puts.
 pub fn read_back(
-    bench: &mut Bench<'_>,
+    bench: &Bench,
     store: &mut Store,
-    name: &str,
+    name: &'static str,
     keys: u64,
     puts: u64,
 ) -> Result<(), Stop>
@@ -32,31 +32,25 @@ pub fn read_back(
 }
 
 /// Asks for the key of a put, which has a value.
-fn get_one(store: &mut Store, shape: &Shape, put: u64) -> Result<(), Stop>
+fn get_one(store: &mut Store, shape: Shape, put: u64) -> Result<(), Stop>
     requires { IsSound store.old holding }
     ensures { IsSound store.new holding }
 {
-    let key = shape.key(put)?;
-    if store.get(&key)?.is_none() {
-        return Err(Stop::Failed("a key without a value"));
+    match store.get(&shape.key(put)?)? {
+        Some(_) => Ok(()),
+        None => Err(Stop::Failed("a key without a value")),
     }
-    Ok(())
 }
 
 /// The store gives a value for the keys of so many puts.
-pub fn get_all(
-    bench: &mut Bench<'_>,
-    store: &mut Store,
-    name: &'static str,
-    puts: u64,
-) -> Result<(), Stop>
+pub fn get_all(bench: &Bench, store: &mut Store, name: &'static str, puts: u64) -> Result<(), Stop>
     requires { IsSound store.old holding }
     ensures { IsSound store.new holding }
 {
     let shape = bench.options.shape();
     let mut meter = Meter::start(bench, name, puts);
     'gets: for put in 0..puts {
-        get_one(store, &shape, put)?;
+        get_one(store, shape, put)?;
         meter.tell_some(bench, put);
     }
     let nanos = meter.nanos(bench);
@@ -65,7 +59,7 @@ pub fn get_all(
 }
 
 /// A reader does.
-pub fn read_all(bench: &mut Bench<'_>, reader: &mut Reader, puts: u64) -> Result<(), Stop> {
+pub fn read_all(bench: &Bench, reader: &mut Reader, puts: u64) -> Result<(), Stop> {
     let shape = bench.options.shape();
     let mut meter = Meter::start(bench, "reader", puts);
     for put in 0..puts {

@@ -25,13 +25,13 @@ impl Cost {
         flushes: 0,
     };
 
-    pub fn all(&self) -> u64 {
+    pub fn all(self) -> u64 {
         self.puts
             .saturating_add(self.turns)
             .saturating_add(self.flushes)
     }
 
-    fn and(&self, more: Cost) -> Cost {
+    fn and(self, more: Cost) -> Cost {
         Cost {
             puts: self.puts.saturating_add(more.puts),
             turns: self.turns.saturating_add(more.turns),
@@ -67,12 +67,7 @@ fn take_all(store: &mut Store, many: u32) -> Result<(), Stop>
 }
 
 /// Flushes if told: the nanoseconds.
-fn flush_if<R: Wait>(
-    rt: &R,
-    bench: &mut Bench<'_>,
-    store: &mut Store,
-    is_due: bool,
-) -> Result<u64, Stop>
+fn flush_if<R: Wait>(rt: &R, bench: &Bench, store: &mut Store, is_due: bool) -> Result<u64, Stop>
     requires { IsSound store.old holding }
     ensures { IsSound store.new holding }
 {
@@ -87,7 +82,7 @@ fn flush_if<R: Wait>(
 /// Puts and takes a batch, and flushes it if told.
 fn one_batch<R: Wait>(
     rt: &R,
-    bench: &mut Bench<'_>,
+    bench: &Bench,
     store: &mut Store,
     feed: &mut Feed,
     batch: &[Record],
@@ -111,10 +106,10 @@ fn one_batch<R: Wait>(
     })
 }
 
-/// Puts and takes a script, a batch at once, and flushes after each, or once after all of them.
+/// Puts and takes a script, a batch at once, and flushes after each, or once after the last.
 pub fn put_script<R: Wait>(
     rt: &R,
-    bench: &mut Bench<'_>,
+    bench: &Bench,
     store: &mut Store,
     feed: &mut Feed,
     script: &[Record],
@@ -127,14 +122,14 @@ pub fn put_script<R: Wait>(
     let size = usize::from(bench.options.batch).max(1);
     let mut cost = Cost::NONE;
     let mut done = 0u64;
-    let mut meter = Meter::start(bench, name, script.len() as u64);
+    let all = script.len() as u64;
+    let mut meter = Meter::start(bench, name, all);
     'batches: for batch in script.chunks(size) {
-        cost = cost.and(one_batch(rt, bench, store, feed, batch, !is_late)?);
         done = done.saturating_add(batch.len() as u64);
+        let is_due = !is_late || done == all;
+        cost = cost.and(one_batch(rt, bench, store, feed, batch, is_due)?);
         meter.tell(bench, done);
     }
-    let last = flush_if(rt, bench, store, is_late)?;
-    cost.flushes = cost.flushes.saturating_add(last);
     Ok(cost)
 }
 

@@ -23,7 +23,7 @@ pub struct Seen {
 }
 
 /// Whether a value is one of the puts of its key.
-fn is_put(shape: &Shape, put: u64, value: &Value, puts: u64) -> bool {
+fn is_put(shape: Shape, put: u64, value: &Value, puts: u64) -> bool {
     let told = shape.told(put, value);
     match shape.value(told) {
         Ok(expected) => told < puts && *value == expected,
@@ -32,7 +32,7 @@ fn is_put(shape: &Shape, put: u64, value: &Value, puts: u64) -> bool {
 }
 
 /// Whether the reader finds the value of this put, or nothing any more.
-fn is_over(reader: &mut Reader, shape: &Shape, put: u64) -> bool {
+fn is_over(reader: &mut Reader, shape: Shape, put: u64) -> bool {
     let (Ok(key), Ok(last)) = (shape.key(put), shape.value(put)) else {
         return true;
     };
@@ -44,7 +44,7 @@ fn is_over(reader: &mut Reader, shape: &Shape, put: u64) -> bool {
 }
 
 /// Looks up the key of this put.
-fn look_once(reader: &mut Reader, shape: &Shape, put: u64, puts: u64, seen: &mut Seen) {
+fn look_once(reader: &mut Reader, shape: Shape, put: u64, puts: u64, seen: &mut Seen) {
     let Ok(key) = shape.key(put) else {
         return;
     };
@@ -64,10 +64,10 @@ fn look_up(mut reader: Reader, shape: Shape, puts: u64) -> Seen {
         wrong: 0,
     };
     for put in 0..u64::MAX {
-        if put % LOOKS == 0 && is_over(&mut reader, &shape, puts.saturating_sub(1)) {
+        if put % LOOKS == 0 && is_over(&mut reader, shape, puts.saturating_sub(1)) {
             break;
         }
-        look_once(&mut reader, &shape, put, puts, &mut seen);
+        look_once(&mut reader, shape, put, puts, &mut seen);
     }
     seen
 }

@@ -26,13 +26,13 @@ pub const CAPACITY: u64 = 16_777_216;
 const EACH: u64 = 400;
 
 /// How many segments hold all puts, with two spares more.
-pub fn count_of(options: &Options<'_>) -> u32 {
+pub fn count_of(options: Options) -> u32 {
     let bytes = options.puts().saturating_mul(EACH);
     let full = bytes / CAPACITY;
     u32::try_from(full).unwrap_or(u32::MAX).saturating_add(4)
 }
 
-fn config_of(options: &Options<'_>, course: Course) -> Config {
+fn config_of(options: Options, course: Course) -> Config {
     Config {
         writers: usize::from(course.threads.max(1).min(options.writers)),
         places: usize::from(options.batch),
@@ -45,7 +45,7 @@ fn config_of(options: &Options<'_>, course: Course) -> Config {
 /// Runs the course.
 fn go<R: Threads + Wait>(
     rt: &R,
-    bench: &mut Bench<'_>,
+    bench: &Bench,
     course: Course,
     store: &mut Store,
     feeds: Vec<Feed>,
@@ -64,12 +64,12 @@ fn go<R: Threads + Wait>(
 /// Runs the course over a store of these boxes, and gives the live ones back.
 pub fn over<R: Threads + Wait>(
     rt: &R,
-    bench: &mut Bench<'_>,
+    bench: &Bench,
     course: Course,
     boxes: Vec<Box<dyn Segment>>,
 ) -> Result<Vec<Box<dyn Segment>>, Stop> {
-    let config = config_of(&bench.options, course);
-    let (mut store, feeds) = match Store::open(rt, bench.alloc(), &config, boxes) {
+    let config = config_of(bench.options, course);
+    let (mut store, feeds) = match Store::open(rt, bench.alloc, &config, boxes) {
         Ok(opened) => opened,
         Err(fault) => return Err(Stop::from(fault.cause)),
     };
@@ -85,10 +85,10 @@ pub fn memory(
     desk: &mut Desk,
     capacity: u64,
     bytes: &[u8],
-) -> Result<MemSegment, Stop> {
+) -> Result<Box<MemSegment>, Stop> {
     let lease = desk.take()?;
     match MemSegment::with_bytes(alloc, lease, capacity, bytes) {
-        Ok(segment) => Ok(segment),
+        Ok(segment) => Ok(Box::new(alloc, segment)?),
         Err(refused) => Err(Stop::from(refused.cause)),
     }
 }
@@ -96,7 +96,7 @@ pub fn memory(
 /// Runs the course over these boxes, and then goes on from the live ones.
 fn over_and_again<R: Threads + Wait>(
     rt: &R,
-    bench: &mut Bench<'_>,
+    bench: &Bench,
     course: Course,
     boxes: Vec<Box<dyn Segment>>,
 ) -> Result<(), Stop> {
@@ -109,27 +109,22 @@ fn over_and_again<R: Threads + Wait>(
 /// none.
 fn over_leases<R: Threads + Wait>(
     rt: &R,
-    bench: &mut Bench<'_>,
+    bench: &Bench,
     course: Course,
     desk: &mut Desk,
     many: u32,
 ) -> Result<(), Stop> {
-    let alloc = bench.alloc();
+    let alloc = bench.alloc;
     let mut boxes: Vec<Box<dyn Segment>> = Vec::new(alloc);
     for _ in 0..many {
-        let segment = memory(alloc, desk, CAPACITY, &[])?;
-        boxes.push(Box::new(alloc, segment)?)?;
+        boxes.push(memory(alloc, desk, CAPACITY, &[])?)?;
     }
     over_and_again(rt, bench, course, boxes)
 }
 
 /// Runs the course over segments in memory, and then goes on from the live ones.
-pub fn over_memory<R: Threads + Wait>(
-    rt: &R,
-    bench: &mut Bench<'_>,
-    course: Course,
-) -> Result<(), Stop> {
-    let many = count_of(&bench.options);
-    let mut desk = Desk::new(bench.alloc(), many)?;
+pub fn over_memory<R: Threads + Wait>(rt: &R, bench: &Bench, course: Course) -> Result<(), Stop> {
+    let many = count_of(bench.options);
+    let mut desk = Desk::new(bench.alloc, many)?;
     over_leases(rt, bench, course, &mut desk, many)
 }

@@ -89,11 +89,11 @@ fn put_oldest(alloc: Global, out: &mut Vec<u8>) -> Result<(), AllocError> {
 }
 
 /// The nanoseconds of a cleaning that writes all pages again.
-fn clean_all(bench: &mut Bench<'_>, log: &mut Log) -> Result<u64, Stop>
+fn clean_all(bench: &Bench, log: &mut Log) -> Result<u64, Stop>
     requires { IsSound log.old holding }
 {
     let start = bench.now();
-    let Ok(cleaned) = clean(bench.alloc(), log) else {
+    let Ok(cleaned) = clean(bench.alloc, log) else {
         return Err(Stop::Failed("a cleaning"));
     };
     let nanos = bench.since(start);
@@ -104,41 +104,40 @@ fn clean_all(bench: &mut Bench<'_>, log: &mut Log) -> Result<u64, Stop>
 }
 
 /// The same of a log in these boxes.
-fn clean_boxes(bench: &mut Bench<'_>, boxes: Vec<Box<dyn Segment>>) -> Result<u64, Stop> {
-    match recover(bench.alloc(), boxes) {
+fn clean_boxes(bench: &Bench, boxes: Vec<Box<dyn Segment>>) -> Result<u64, Stop> {
+    match recover(bench.alloc, boxes) {
         Ok(mut found) => clean_all(bench, &mut found.log),
         Err(_) => Err(Stop::Failed("a recovery")),
     }
 }
 
 /// The same of a log of these segments.
-fn clean_pieces(bench: &mut Bench<'_>, desk: &mut Desk, pieces: &[&[u8]]) -> Result<u64, Stop> {
-    let alloc = bench.alloc();
+fn clean_pieces(bench: &Bench, desk: &mut Desk, pieces: &[&[u8]]) -> Result<u64, Stop> {
+    let alloc = bench.alloc;
     let mut boxes: Vec<Box<dyn Segment>> = Vec::new(alloc);
     for piece in pieces {
-        let segment = memory(alloc, desk, CAPACITY, piece)?;
-        boxes.push(Box::new(alloc, segment)?)?;
+        boxes.push(memory(alloc, desk, CAPACITY, piece)?)?;
     }
     clean_boxes(bench, boxes)
 }
 
 /// The same of this oldest segment, a newest one without a frame, and a spare.
-fn clean_once(bench: &mut Bench<'_>, bytes: &[u8]) -> Result<u64, Stop> {
-    let mut newest = Vec::new(bench.alloc());
+fn clean_once(bench: &Bench, bytes: &[u8]) -> Result<u64, Stop> {
+    let mut newest = Vec::new(bench.alloc);
     put_header(&mut newest, 2)?;
-    let mut desk = Desk::new(bench.alloc(), 3)?;
+    let mut desk = Desk::new(bench.alloc, 3)?;
     clean_pieces(bench, &mut desk, &[bytes, &newest, &[]])
 }
 
-fn copy_once(bench: &mut Bench<'_>, bytes: &[u8]) -> Result<u64, Stop> {
+fn copy_once(bench: &Bench, bytes: &[u8]) -> Result<u64, Stop> {
     let start = bench.now();
-    let mut copy = Vec::new(bench.alloc());
+    let mut copy = Vec::new(bench.alloc);
     copy.extend_from_slice(bytes)?;
     Ok(bench.since(start))
 }
 
 /// Cleanings of the same segment, and copies of its bytes.
-fn clean_often(bench: &mut Bench<'_>, bytes: &[u8]) -> Result<(), Stop> {
+fn clean_often(bench: &Bench, bytes: &[u8]) -> Result<(), Stop> {
     let (mut cleaned, mut copied) = (u64::MAX, u64::MAX);
     for _ in 0..ROUNDS {
         cleaned = cleaned.min(clean_once(bench, bytes)?);
@@ -153,8 +152,8 @@ fn clean_often(bench: &mut Bench<'_>, bytes: &[u8]) -> Result<(), Stop> {
 }
 
 /// Makes the segment, and cleans it.
-pub fn cleaning(bench: &mut Bench<'_>) -> Result<(), Stop> {
-    let mut bytes = Vec::new(bench.alloc());
-    put_oldest(bench.alloc(), &mut bytes)?;
+pub fn cleaning(bench: &Bench) -> Result<(), Stop> {
+    let mut bytes = Vec::new(bench.alloc);
+    put_oldest(bench.alloc, &mut bytes)?;
     clean_often(bench, &bytes)
 }

@@ -1,12 +1,12 @@
 //! Writers in threads of their own.
 
-ghost use Rattle.std.specs.Prelude.{◌≡◌, map, vec_len, IfOk};
+ghost use Rattle.std.specs.Prelude.{◌≡◌, ◌+◌, map, vec_len, IfOk, OnOk};
 ghost use Rattle.bw_ring.specs.Ends.{ring_of_feed};
 ghost use Rattle.bw_store.specs.Views.{kept_by, IsSound};
 
 use crate::asking::read_back;
 use crate::bench::Bench;
-use crate::beside::{end_if, start_if};
+use crate::beside::{Seen, end_if, start_if};
 use crate::shape::{Part, Span};
 use crate::stop::Stop;
 use bw_codec::Record;
@@ -19,18 +19,30 @@ use std::thread::Threads;
 /// How often a writer tries to put a record, and how many turns a run has.
 const TRIES: u64 = 1_000_000_000_000;
 
+/// Adds the puts of one writer.
+fn add_script(
+    bench: &Bench,
+    scripts: &mut Vec<Vec<Record>>,
+    span: Span,
+    part: Part,
+) -> Result<(), Stop>
+    ensures { OnOk result (vec_len scripts.new ≡ vec_len scripts.old + 1) }
+{
+    let script = bench.options.shape().script(bench.alloc, span, part)?;
+    Ok(scripts.push(script)?)
+}
+
 /// The puts of each writer.
-fn scripts_of(bench: &Bench<'_>, span: Span, writers: usize) -> Result<Vec<Vec<Record>>, Stop>
+fn scripts_of(bench: &Bench, span: Span, writers: usize) -> Result<Vec<Vec<Record>>, Stop>
     ensures { IfOk result (λ scripts. vec_len scripts ≡ writers) }
 {
-    let shape = bench.options.shape();
-    let mut scripts: Vec<Vec<Record>> = Vec::new(bench.alloc());
+    let mut scripts: Vec<Vec<Record>> = Vec::new(bench.alloc);
     'writers: for writer in 0..writers {
         let part = Part {
             writer: writer as u64,
             of: writers as u64,
         };
-        scripts.push(shape.script(bench.alloc(), span, part)?)?;
+        add_script(bench, &mut scripts, span, part)?;
     }
     Ok(scripts)
 }
@@ -38,7 +50,7 @@ fn scripts_of(bench: &Bench<'_>, span: Span, writers: usize) -> Result<Vec<Vec<R
 /// Runs the writers, and answers the feeds and the nanoseconds.
 fn drive_span<R: Threads + Wait>(
     rt: &R,
-    bench: &mut Bench<'_>,
+    bench: &Bench,
     store: &mut Store,
     feeds: Vec<Feed>,
     span: Span,
@@ -65,7 +77,7 @@ fn drive_span<R: Threads + Wait>(
 /// Drives the puts of new keys and those of old ones, and answers the nanoseconds of each.
 fn drive_both<R: Threads + Wait>(
     rt: &R,
-    bench: &mut Bench<'_>,
+    bench: &Bench,
     store: &mut Store,
     feeds: Vec<Feed>,
 ) -> Result<(u64, u64), Stop>
@@ -79,10 +91,30 @@ fn drive_both<R: Threads + Wait>(
     Ok((first, second))
 }
 
+/// The same, a reader beside or not: the nanoseconds of each, and what the reader saw.
+fn drive_beside<R: Threads + Wait>(
+    rt: &R,
+    bench: &Bench,
+    store: &mut Store,
+    feeds: Vec<Feed>,
+    is_read: bool,
+) -> Result<(u64, u64, Option<Seen>), Stop>
+    requires sound { IsSound store.old holding }
+    requires feeds { map ring_of_feed feeds.items ≡ (kept_by store.old holding).rings }
+    ensures { IsSound store.new holding }
+{
+    let options = bench.options;
+    let looker = start_if(rt, store, options.shape(), options.puts(), is_read)?;
+    let went = drive_both(rt, bench, store, feeds);
+    let seen = end_if(rt, looker, went.is_ok());
+    let (first, second) = went?;
+    Ok((first, second, seen))
+}
+
 /// New keys, then old ones, and reads all keys back.
 pub fn driven<R: Threads + Wait>(
     rt: &R,
-    bench: &mut Bench<'_>,
+    bench: &Bench,
     store: &mut Store,
     feeds: Vec<Feed>,
     is_read: bool,
@@ -91,11 +123,8 @@ pub fn driven<R: Threads + Wait>(
     requires feeds { map ring_of_feed feeds.items ≡ (kept_by store.old holding).rings }
     ensures { IsSound store.new holding }
 {
+    let (first, second, seen) = drive_beside(rt, bench, store, feeds, is_read)?;
     let (load, update) = bench.options.spans();
-    let looker = start_if(rt, store, bench.options.shape(), update.to, is_read)?;
-    let went = drive_both(rt, bench, store, feeds);
-    let seen = end_if(rt, looker, went.is_ok());
-    let (first, second) = went?;
     bench.tell(load.name, load.count(), first);
     bench.tell(update.name, update.count(), second);
     bench.tell_seen(seen)?;

@@ -21,13 +21,13 @@ const SIZES: &[(&str, usize)] = &[
 const APPENDS: u64 = 256;
 
 /// The folder of this name in another.
-fn open_folder(bench: &Bench<'_>, dir: &str, name: &str) -> Result<Folder, Stop> {
-    let path = format!(in bench.alloc(); "{dir}/{name}")?;
-    Ok(Folder::open(bench.system, path.as_str())?)
+fn open_folder(bench: &Bench, dir: &str, name: &'static str) -> Result<Folder, Stop> {
+    let path = format!(in bench.alloc; "{dir}/{name}")?;
+    Ok(Folder::open(&bench.system, path.as_str())?)
 }
 
-fn must_be_empty(bench: &Bench<'_>, folder: &Folder) -> Result<(), Stop> {
-    let leases = folder.leases(bench.system)?;
+fn must_be_empty(bench: &Bench, folder: &Folder) -> Result<(), Stop> {
+    let leases = folder.leases(&bench.system)?;
     if leases.is_empty() {
         return Ok(());
     }
@@ -35,7 +35,7 @@ fn must_be_empty(bench: &Bench<'_>, folder: &Folder) -> Result<(), Stop> {
 }
 
 /// The same, without segments, so that a run empties nobody's files.
-fn new_folder(bench: &Bench<'_>, dir: &str, name: &str) -> Result<Folder, Stop> {
+fn new_folder(bench: &Bench, dir: &str, name: &'static str) -> Result<Folder, Stop> {
     let folder = open_folder(bench, dir, name)?;
     must_be_empty(bench, &folder)?;
     Ok(folder)
@@ -63,26 +63,26 @@ fn append_all(segment: &mut FileSegment, piece: &[u8]) -> Result<(), Stop> {
 
 /// A new file of the next lease, or the one that is there.
 fn file(
-    bench: &Bench<'_>,
+    bench: &Bench,
     folder: &Folder,
     desk: &mut Desk,
     is_new: bool,
 ) -> Result<FileSegment, Stop> {
     let lease = desk.take()?;
     let opened = if is_new {
-        folder.spare(bench.system, lease, CAPACITY)
+        folder.spare(&bench.system, lease, CAPACITY)
     } else {
-        folder.segment(bench.system, lease, CAPACITY)
+        folder.segment(&bench.system, lease, CAPACITY)
     };
     Ok(opened?)
 }
 
 /// Appends a piece over and over to a new file, and waits each time until it stands.
 fn append_to_file(
-    bench: &mut Bench<'_>,
+    bench: &Bench,
     folder: &Folder,
     desk: &mut Desk,
-    name: &str,
+    name: &'static str,
     piece: &[u8],
 ) -> Result<(), Stop> {
     let mut segment = file(bench, folder, desk, true)?;
@@ -94,10 +94,10 @@ fn append_to_file(
 }
 
 /// Appends of each size, to a file of its own each.
-fn append_sizes(bench: &mut Bench<'_>, folder: &Folder, desk: &mut Desk) -> Result<(), Stop> {
+fn append_sizes(bench: &Bench, folder: &Folder, desk: &mut Desk) -> Result<(), Stop> {
     let bytes = [7u8; 65_536];
-    for (name, size) in SIZES {
-        if let Some(piece) = bytes.get(..*size) {
+    for &(name, size) in SIZES {
+        if let Some(piece) = bytes.get(..size) {
             append_to_file(bench, folder, desk, name, piece)?;
         }
     }
@@ -105,8 +105,8 @@ fn append_sizes(bench: &mut Bench<'_>, folder: &Folder, desk: &mut Desk) -> Resu
 }
 
 /// The same in a new folder.
-pub fn appends(bench: &mut Bench<'_>, dir: &str) -> Result<(), Stop> {
-    let mut desk = Desk::new(bench.alloc(), 3)?;
+pub fn appends(bench: &Bench, dir: &str) -> Result<(), Stop> {
+    let mut desk = Desk::new(bench.alloc, 3)?;
     let folder = new_folder(bench, dir, "appends")?;
     append_sizes(bench, &folder, &mut desk)
 }
@@ -114,30 +114,32 @@ pub fn appends(bench: &mut Bench<'_>, dir: &str) -> Result<(), Stop> {
 /// Runs a course over these boxes; without one it goes on from what they hold.
 fn with_boxes<R: Threads + Wait>(
     rt: &R,
-    bench: &mut Bench<'_>,
+    bench: &Bench,
     course: Option<Course>,
     start: u64,
     boxes: Vec<Box<dyn Segment>>,
 ) -> Result<(), Stop> {
-    let Some(course) = course else {
-        return reopened(rt, bench, start, boxes);
-    };
-    let _live = over(rt, bench, course, boxes)?;
-    Ok(())
+    match course {
+        Some(course) => {
+            let _live = over(rt, bench, course, boxes)?;
+            Ok(())
+        }
+        None => reopened(rt, bench, start, boxes),
+    }
 }
 
 /// The same with the boxes of a folder, which are new for a course.
 fn with_files<R: Threads + Wait>(
     rt: &R,
-    bench: &mut Bench<'_>,
+    bench: &Bench,
     course: Option<Course>,
     start: u64,
     folder: &Folder,
     desk: &mut Desk,
 ) -> Result<(), Stop> {
-    let alloc = bench.alloc();
+    let alloc = bench.alloc;
     let mut boxes: Vec<Box<dyn Segment>> = Vec::new(alloc);
-    for _ in 0..count_of(&bench.options) {
+    for _ in 0..count_of(bench.options) {
         let segment = file(bench, folder, desk, course.is_some())?;
         boxes.push(Box::new(alloc, segment)?)?;
     }
@@ -147,12 +149,12 @@ fn with_files<R: Threads + Wait>(
 /// The same by leases of a desk.
 fn with_folder<R: Threads + Wait>(
     rt: &R,
-    bench: &mut Bench<'_>,
+    bench: &Bench,
     course: Option<Course>,
     start: u64,
     folder: &Folder,
 ) -> Result<(), Stop> {
-    let mut desk = Desk::new(bench.alloc(), count_of(&bench.options))?;
+    let mut desk = Desk::new(bench.alloc, count_of(bench.options))?;
     with_files(rt, bench, course, start, folder, &mut desk)
 }
 
@@ -160,10 +162,10 @@ fn with_folder<R: Threads + Wait>(
 /// they hold, once nobody has them open any more. They stay.
 pub fn over_files<R: Threads + Wait>(
     rt: &R,
-    bench: &mut Bench<'_>,
+    bench: &Bench,
     course: Course,
     dir: &str,
-    name: &str,
+    name: &'static str,
 ) -> Result<(), Stop> {
     let folder = new_folder(bench, dir, name)?;
     with_folder(rt, bench, Some(course), 0, &folder)?;

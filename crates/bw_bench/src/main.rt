@@ -36,16 +36,16 @@ use stop::Stop;
 use subject::run;
 
 /// The words after the program's name.
-fn words_of(system: &HostRuntime) -> io::Result<Vec<String>> {
+fn words_of(system: HostRuntime) -> io::Result<Vec<String>> {
     let mut words = Vec::new(system.alloc());
-    for word in std::env::args(system)?.skip(1) {
+    for word in std::env::args(&system)?.skip(1) {
         words.push(word)?;
     }
     Ok(words)
 }
 
 /// Says why words are no command line.
-fn usage(system: &HostRuntime, error: &Error) -> Stop {
+fn usage(system: HostRuntime, error: &Error) -> Stop {
     if is_memory(error) {
         return Stop::NoMemory;
     }
@@ -57,13 +57,13 @@ fn usage(system: &HostRuntime, error: &Error) -> Stop {
 
 /// Does what the words after the program's name ask for. The handle by which it may wait is told
 /// apart: only `main` knows that the system is one.
-fn start<R: Threads + Wait>(rt: &R, system: &HostRuntime, words: &[String]) -> Result<(), Stop> {
-    let options = match options_of(system.alloc(), words) {
-        Ok(options) => options,
+fn start<R: Threads + Wait>(rt: &R, system: HostRuntime, words: &[String]) -> Result<(), Stop> {
+    let (options, scope) = match options_of(system.alloc(), words) {
+        Ok(asked) => asked,
         Err(error) => return Err(usage(system, &error)),
     };
     match Bench::new(system, options) {
-        Ok(mut bench) => run(rt, &mut bench),
+        Ok(bench) => run(rt, &bench, scope),
         Err(_) => Err(Stop::Output),
     }
 }
@@ -72,10 +72,10 @@ fn start<R: Threads + Wait>(rt: &R, system: &HostRuntime, words: &[String]) -> R
 /// command line; 4 where something was refused; 5 where memory was; 6 where a thread failed, or, at
 /// the end of the subject, where the clock or a write had.
 fn main(rt: HostRuntime) -> ExitCode {
-    let Ok(words) = words_of(&rt) else {
+    let Ok(words) = words_of(rt) else {
         return ExitCode::from(2);
     };
-    match start(&rt, &rt, words.as_slice()) {
+    match start(&rt, rt, words.as_slice()) {
         Ok(()) => ExitCode::from(0),
         Err(stop) => {
             let _ = eprintln!(rt; "{stop}");

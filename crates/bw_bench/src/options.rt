@@ -7,7 +7,7 @@ use std::alloc::{AllocError, Global};
 
 /// What a run does.
 #[derive(Clone, Copy)]
-pub struct Options<'a> {
+pub struct Options {
     /// How many keys there are, 1 to 10,000,000.
     pub keys: u32,
     /// How many bytes all keys share before those that tell them apart, 0 to 56.
@@ -22,15 +22,11 @@ pub struct Options<'a> {
     pub writers: u16,
     /// Whether times are printed.
     pub times: bool,
-    /// The one subject that is run.
-    pub only: Option<&'a str>,
-    /// The folder in which each subject makes one for its segments; none: they stand in memory.
-    pub dir: Option<&'a str>,
 }
 
-impl Options<'_> {
+impl Options {
     /// The keys and values.
-    pub fn shape(&self) -> Shape {
+    pub fn shape(self) -> Shape {
         Shape {
             keys: u64::from(self.keys),
             shared: usize::from(self.shared),
@@ -39,12 +35,12 @@ impl Options<'_> {
     }
 
     /// How many puts there are, of new keys and of old ones.
-    pub fn puts(&self) -> u64 {
+    pub fn puts(self) -> u64 {
         u64::from(self.keys).saturating_add(u64::from(self.operations))
     }
 
     /// The puts of new keys, and those of old ones.
-    pub fn spans(&self) -> (Span, Span) {
+    pub fn spans(self) -> (Span, Span) {
         let keys = u64::from(self.keys);
         let load = Span {
             name: "load",
@@ -58,6 +54,15 @@ impl Options<'_> {
         };
         (load, update)
     }
+}
+
+/// Which subjects are run, and where.
+#[derive(Clone, Copy)]
+pub struct Scope<'a> {
+    /// The one subject that is run.
+    pub only: Option<&'a str>,
+    /// The folder in which each subject makes one for its segments; none: they stand in memory.
+    pub dir: Option<&'a str>,
 }
 
 /// The subjects in the order in which they run.
@@ -139,16 +144,23 @@ const ROWS: &[Row] = &[
     },
 ];
 
-fn option_of(alloc: Global, row: &Row) -> Arg<'static> {
-    let option = Arg::new(alloc, row.name).long(row.name).help(row.help);
-    match row.kind {
-        Kind::Number(least, most, default) => option
-            .value_parser(clap::value_parser!(u32).range(least..=most))
-            .default_value(default),
+fn number(option: Arg<'static>, least: i64, most: i64, default: &'static str) -> Arg<'static> {
+    let range = clap::value_parser!(u32).range(least..=most);
+    option.value_parser(range).default_value(default)
+}
+
+fn of_kind(option: Arg<'static>, kind: &Kind) -> Arg<'static> {
+    match *kind {
+        Kind::Number(least, most, default) => number(option, least, most, default),
         Kind::Flag => option.action(clap::ArgAction::SetTrue),
         Kind::Subject => option.value_name("SUBJECT").value_parser(SUBJECTS),
         Kind::Folder => option.value_name("FOLDER"),
     }
+}
+
+fn option_of(alloc: Global, row: &Row) -> Arg<'static> {
+    let option = Arg::new(alloc, row.name).long(row.name).help(row.help);
+    of_kind(option, &row.kind)
 }
 
 fn with_rows<'a>(alloc: Global, command: Command<'a>) -> Result<Command<'a>, AllocError> {
@@ -159,7 +171,7 @@ fn with_rows<'a>(alloc: Global, command: Command<'a>) -> Result<Command<'a>, All
     Ok(command)
 }
 
-fn found_in<'a>(found: &ArgMatches<'a>) -> Options<'a> {
+fn found_in(found: &ArgMatches<'_>) -> Options {
     Options {
         keys: found.get_one("keys").unwrap_or(0),
         shared: found.get_one("shared").unwrap_or(0),
@@ -168,6 +180,11 @@ fn found_in<'a>(found: &ArgMatches<'a>) -> Options<'a> {
         batch: found.get_one("batch").unwrap_or(0),
         writers: found.get_one("writers").unwrap_or(0),
         times: found.get_flag("times"),
+    }
+}
+
+fn scope_in<'a>(found: &ArgMatches<'a>) -> Scope<'a> {
+    Scope {
         only: found.get_str("only"),
         dir: found.get_str("dir"),
     }
@@ -175,12 +192,12 @@ fn found_in<'a>(found: &ArgMatches<'a>) -> Options<'a> {
 
 /// What the words after the program's name ask for. What they do not give as a parse, help among
 /// it, is clap's error, whose text is for the user.
-pub fn options_of<'a>(alloc: Global, words: &'a [String]) -> Result<Options<'a>, Error> {
+pub fn options_of<'a>(alloc: Global, words: &'a [String]) -> Result<(Options, Scope<'a>), Error> {
     let command = Command::new(alloc, "bw_bench")
         .about("Times the page store, and reads back what was put")
         .no_binary_name(true);
     let found = with_rows(alloc, command)?.try_get_matches_from(words)?;
-    Ok(found_in(&found))
+    Ok((found_in(&found), scope_in(&found)))
 }
 
 /// Whether clap had too little memory.

@@ -31,7 +31,7 @@ fn apply_all(leaves: &mut Leaves, script: &[Record]) -> Result<(), Stop>
 }
 
 /// How many keys have not the value of the last of so many puts.
-fn wrong_of(leaves: &Leaves, shape: &Shape, puts: u64) -> Result<u64, Stop>
+fn wrong_of(leaves: &Leaves, shape: Shape, puts: u64) -> Result<u64, Stop>
     requires { leaves.now.away ≡ [] }
 {
     let mut wrong = 0u64;
@@ -44,7 +44,7 @@ fn wrong_of(leaves: &Leaves, shape: &Shape, puts: u64) -> Result<u64, Stop>
 }
 
 fn apply_script(
-    bench: &mut Bench<'_>,
+    bench: &Bench,
     leaves: &mut Leaves,
     span: Span,
     script: &[Record],
@@ -62,19 +62,19 @@ fn apply_script(
     bench.tell_each("  in memory", span.count(), grown, "bytes");
     let pages = u64::from(leaves.count());
     bench.tell_each("  in memory, a page", pages, grown, "bytes");
-    let wrong = wrong_of(leaves, &shape, span.to)?;
+    let wrong = wrong_of(leaves, shape, span.to)?;
     bench.tell_wrong(span.name, shape.keys, wrong)
 }
 
-fn apply_span(bench: &mut Bench<'_>, leaves: &mut Leaves, span: Span) -> Result<(), Stop>
+fn apply_span(bench: &Bench, leaves: &mut Leaves, span: Span) -> Result<(), Stop>
     requires { leaves.old.away ≡ [] }
     ensures { leaves.new.away ≡ [] }
 {
-    let script = bench.options.shape().script(bench.alloc(), span, WHOLE)?;
+    let script = bench.options.shape().script(bench.alloc, span, WHOLE)?;
     apply_script(bench, leaves, span, script.as_slice())
 }
 
-fn apply_both(bench: &mut Bench<'_>, leaves: &mut Leaves) -> Result<(), Stop>
+fn apply_both(bench: &Bench, leaves: &mut Leaves) -> Result<(), Stop>
     requires { leaves.old.away ≡ [] }
     ensures { leaves.new.away ≡ [] }
 {
@@ -84,7 +84,7 @@ fn apply_both(bench: &mut Bench<'_>, leaves: &mut Leaves) -> Result<(), Stop>
 }
 
 /// Applies new keys, then old ones.
-pub fn pages(bench: &mut Bench<'_>) -> Result<(), Stop> {
-    let mut leaves = Leaves::one_empty(bench.alloc(), 32)?;
+pub fn pages(bench: &Bench) -> Result<(), Stop> {
+    let mut leaves = Leaves::one_empty(bench.alloc, 32)?;
     apply_both(bench, &mut leaves)
 }

@@ -1,5 +1,7 @@
 //! A store goes on from the boxes of another.
 
+ghost use Rattle.bw_store.specs.Views.{IsSound};
+
 use crate::asking::read_back;
 use crate::batches::bytes_of;
 use crate::bench::Bench;
@@ -9,28 +11,37 @@ use bw_device::Segment;
 use bw_store::Store;
 use std::sync::Wait;
 
+/// Tells what the two steps took from the start on, and reads all keys back.
+fn tell_opened(bench: &Bench, store: &mut Store, recovered: u64, opened: u64) -> Result<(), Stop>
+    requires { IsSound store.old holding }
+    ensures { IsSound store.new holding }
+{
+    let (keys, puts) = (u64::from(bench.options.keys), bench.options.puts());
+    bench.tell_each("recover, records", puts, recovered, "ns");
+    bench.tell("open, records", puts, opened);
+    bench.tell_each("  in the log", puts, bytes_of(store), "bytes");
+    read_back(bench, store, "open", keys, puts)
+}
+
 /// Recovers what the boxes hold, opens a store over it, tells what it took, and reads all keys
 /// back. The time runs from before the boxes were made.
 pub fn reopened<R: Wait>(
     rt: &R,
-    bench: &mut Bench<'_>,
+    bench: &Bench,
     start: u64,
     boxes: Vec<Box<dyn Segment>>,
 ) -> Result<(), Stop> {
-    let (keys, puts) = (u64::from(bench.options.keys), bench.options.puts());
-    let Ok(found) = recover(bench.alloc(), boxes) else {
+    let Ok(found) = recover(bench.alloc, boxes) else {
         return Err(Stop::Failed("a recovery"));
     };
     let recovered = bench.since(start);
-    let (mut store, _feeds) = match Store::reopen(rt, bench.alloc(), found, 1, 1, 1) {
-        Ok(opened) => opened,
-        Err(fault) => return Err(Stop::from(fault.cause)),
-    };
-    let opened = bench.since(start);
-    bench.tell_each("recover, records", puts, recovered, "ns");
-    bench.tell("open, records", puts, opened);
-    bench.tell_each("  in the log", puts, bytes_of(&store), "bytes");
-    let went = read_back(bench, &mut store, "open", keys, puts);
-    let _ = store.shut(rt);
-    went
+    match Store::reopen(rt, bench.alloc, found, 1, 1, 1) {
+        Ok((mut store, _feeds)) => {
+            let opened = bench.since(start);
+            let went = tell_opened(bench, &mut store, recovered, opened);
+            let _ = store.shut(rt);
+            went
+        }
+        Err(fault) => Err(Stop::from(fault.cause)),
+    }
 }

@@ -13,9 +13,9 @@ fn none_of(wrong: u64) -> Result<(), Stop> {
     Ok(())
 }
 
-impl Bench<'_> {
+impl Bench {
     /// What the run was asked for.
-    pub fn tell_sizes(&mut self) {
+    pub fn tell_sizes(&self) {
         let Options {
             keys,
             value_length,
@@ -33,13 +33,13 @@ impl Bench<'_> {
     }
 
     /// The name of a subject.
-    pub fn tell_name(&mut self, name: &str) {
+    pub fn tell_name(&self, name: &'static str) {
         let written = println!(self.system; "{name}");
         self.keep(written);
     }
 
     /// How often something was done, and what each took of all that it took; only with times.
-    pub fn tell_each(&mut self, name: &str, count: u64, all: u64, unit: &str) {
+    pub fn tell_each(&self, name: &'static str, count: u64, all: u64, unit: &'static str) {
         if self.options.times {
             let each = all.checked_div(count).unwrap_or(0);
             let written = println!(self.system; "{name:<36}{count:>10}{each:>10} {unit}");
@@ -49,7 +49,7 @@ impl Bench<'_> {
 
     /// How often something was done, and with times the nanoseconds, of which all of it took so
     /// many.
-    pub fn tell(&mut self, name: &str, count: u64, nanos: u64) {
+    pub fn tell(&self, name: &'static str, count: u64, nanos: u64) {
         if self.options.times {
             self.tell_each(name, count, nanos, "ns");
         } else {
@@ -60,14 +60,14 @@ impl Bench<'_> {
 
     /// How many keys were read back, and how many of them otherwise than they were put: none may
     /// be.
-    pub fn tell_wrong(&mut self, name: &str, keys: u64, wrong: u64) -> Result<(), Stop> {
+    pub fn tell_wrong(&self, name: &'static str, keys: u64, wrong: u64) -> Result<(), Stop> {
         let written = println!(self.system; "{name}: {keys} read back, {wrong} wrong");
         self.keep(written);
         none_of(wrong)
     }
 
     /// What a reader beside saw, if there was one: no value that was not put.
-    pub fn tell_seen(&mut self, seen: Option<Seen>) -> Result<(), Stop> {
+    pub fn tell_seen(&self, seen: Option<Seen>) -> Result<(), Stop> {
         let Some(seen) = seen else {
             return Ok(());
         };

@@ -30,7 +30,7 @@ pub struct Span {
 }
 
 impl Span {
-    pub fn count(&self) -> u64 {
+    pub fn count(self) -> u64 {
         self.to.saturating_sub(self.from)
     }
 }
@@ -49,21 +49,21 @@ fn rest(number: u64, divisor: u64) -> u64 {
 
 impl Shape {
     /// How often the key of a put was put before.
-    pub fn round(&self, put: u64) -> u64 {
+    pub fn round(self, put: u64) -> u64 {
         put.checked_div(self.keys).unwrap_or(0)
     }
 
-    fn number(&self, put: u64) -> u64 {
+    fn number(self, put: u64) -> u64 {
         rest(put.wrapping_mul(PRIME), self.keys)
     }
 
     /// How many bytes a key has.
-    pub fn length(&self) -> usize {
+    pub fn length(self) -> usize {
         self.shared.saturating_add(8)
     }
 
     /// The key of a put.
-    pub fn key(&self, put: u64) -> Result<Key, Stop> {
+    pub fn key(self, put: u64) -> Result<Key, Stop> {
         let mut bytes = [b'k'; 64];
         if let Some(rest) = bytes.get_mut(self.shared..)
             && let Some(own) = rest.first_chunk_mut()
@@ -77,7 +77,7 @@ impl Shape {
     }
 
     /// The value of a put: the number of its key, its round, and a filler of both.
-    pub fn value(&self, put: u64) -> Result<Value, Stop> {
+    pub fn value(self, put: u64) -> Result<Value, Stop> {
         let (number, round) = (self.number(put), self.round(put));
         let word = number.wrapping_add(round.wrapping_mul(ROUND));
         let [filler, ..] = number.wrapping_add(round).to_le_bytes();
@@ -90,14 +90,14 @@ impl Shape {
     }
 
     /// The last put of the same key among the first so many.
-    pub fn last(&self, put: u64, puts: u64) -> u64 {
+    pub fn last(self, put: u64, puts: u64) -> u64 {
         let place = rest(put, self.keys);
         let rounds = self.round(puts.saturating_sub(1).saturating_sub(place));
         place.saturating_add(rounds.saturating_mul(self.keys))
     }
 
     /// The put of which a value of this put's key tells to be, by its round.
-    pub fn told(&self, put: u64, value: &Value) -> u64 {
+    pub fn told(self, put: u64, value: &Value) -> u64 {
         let round = match value.as_slice() {
             [_, _, _, _, a, b, c, d, ..] => u32::from_le_bytes([*a, *b, *c, *d]),
             _ => 0,
@@ -106,7 +106,7 @@ impl Shape {
     }
 
     /// The puts of a span that are a writer's.
-    pub fn script(&self, alloc: Global, span: Span, part: Part) -> Result<Vec<Record>, Stop> {
+    pub fn script(self, alloc: Global, span: Span, part: Part) -> Result<Vec<Record>, Stop> {
         let mut script = Vec::new(alloc);
         for put in span.from..span.to {
             if rest(rest(put, self.keys), part.of) == part.writer {
@@ -116,7 +116,7 @@ impl Shape {
         Ok(script)
     }
 
-    fn record(&self, put: u64) -> Result<Record, Stop> {
+    fn record(self, put: u64) -> Result<Record, Stop> {
         Ok(Record::Put(self.key(put)?, self.value(put)?))
     }
 }

@@ -4,7 +4,7 @@ use crate::bench::Bench;
 use crate::boxes::over_memory;
 use crate::cleaning::cleaning;
 use crate::folders::{appends, over_files};
-use crate::options::Options;
+use crate::options::Scope;
 use crate::pages::pages;
 use crate::stop::Stop;
 use std::sync::Wait;
@@ -81,18 +81,19 @@ const SUBJECTS: &[(&str, Work)] = &[
 ];
 
 /// Whether the subject is run. Appends are none where segments stand in memory.
-fn is_asked(options: &Options<'_>, name: &str, work: Work) -> bool {
-    let is_there = options.dir.is_some() || !matches!(work, Work::Appends);
-    is_there && options.only.unwrap_or(name) == name
+fn is_asked(scope: Scope<'_>, name: &'static str, work: Work) -> bool {
+    let is_there = scope.dir.is_some() || !matches!(work, Work::Appends);
+    is_there && scope.only.unwrap_or(name) == name
 }
 
 fn run_one<R: Threads + Wait>(
     rt: &R,
-    bench: &mut Bench<'_>,
-    name: &str,
+    bench: &Bench,
+    dir: Option<&str>,
+    name: &'static str,
     work: Work,
 ) -> Result<(), Stop> {
-    match (work, bench.options.dir) {
+    match (work, dir) {
         (Work::Pages, _) => pages(bench),
         (Work::Cleaning, _) => cleaning(bench),
         (Work::Appends, dir) => appends(bench, dir.unwrap_or(".")),
@@ -102,12 +103,12 @@ fn run_one<R: Threads + Wait>(
 }
 
 /// Runs all subjects, or the one that is asked for.
-pub fn run<R: Threads + Wait>(rt: &R, bench: &mut Bench<'_>) -> Result<(), Stop> {
+pub fn run<R: Threads + Wait>(rt: &R, bench: &Bench, scope: Scope<'_>) -> Result<(), Stop> {
     bench.tell_sizes();
-    for (name, work) in SUBJECTS {
-        if is_asked(&bench.options, name, *work) {
+    for &(name, work) in SUBJECTS {
+        if is_asked(scope, name, work) {
             bench.tell_name(name);
-            run_one(rt, bench, name, *work).and(bench.end())?;
+            run_one(rt, bench, scope.dir, name, work).and(bench.end())?;
         }
     }
     Ok(())

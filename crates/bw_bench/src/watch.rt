@@ -16,7 +16,7 @@ pub struct Meter {
 }
 
 impl Meter {
-    pub fn start(bench: &mut Bench<'_>, name: &'static str, all: u64) -> Meter {
+    pub fn start(bench: &Bench, name: &'static str, all: u64) -> Meter {
         Meter {
             name,
             all,
@@ -26,11 +26,11 @@ impl Meter {
     }
 
     /// The nanoseconds since the start.
-    pub fn nanos(&self, bench: &mut Bench<'_>) -> u64 {
+    pub fn nanos(self, bench: &Bench) -> u64 {
         bench.since(self.start)
     }
 
-    pub fn tell(&mut self, bench: &mut Bench<'_>, done: u64) {
+    pub fn tell(&mut self, bench: &Bench, done: u64) {
         let Meter { name, all, .. } = *self;
         let seconds = self.nanos(bench) / 1_000_000_000;
         if seconds > self.told {
@@ -41,7 +41,7 @@ impl Meter {
     }
 
     /// The same, at some of the calls alone.
-    pub fn tell_some(&mut self, bench: &mut Bench<'_>, done: u64) {
+    pub fn tell_some(&mut self, bench: &Bench, done: u64) {
         if done % LOOKS == 0 {
             self.tell(bench, done);
         }
@@ -72,8 +72,8 @@ fn resident_in(status: &str) -> u64 {
 }
 
 /// How many bytes of the process are in memory, as Linux tells; 0 where it does not.
-pub fn resident(bench: &Bench<'_>) -> u64 {
-    match fs::read_to_string(bench.system, "/proc/self/status") {
+pub fn resident(bench: &Bench) -> u64 {
+    match fs::read_to_string(&bench.system, "/proc/self/status") {
         Ok(status) => resident_in(status.as_str()),
         Err(_) => 0,
     }
