@@ -2,7 +2,7 @@
 # make try    runs the same script without any proof, in seconds
 # make test   the gate: the pages against the tests, every proof from nothing, the wrong bodies, the tests, the program
 # make wrong  tries the wrong bodies outside the gate, in a copy of the repository
-# make memory proves the tests of memory_tests, and runs them with each allocation refused in turn, by a shim that cc makes
+# make memory proves the tests of drive_tests, and runs those of its module memory with each allocation refused in turn, by a shim that cc makes
 # make bench  times the store at a million keys, each subject in a process of its own, and then over files (docs/TESTING.md, "Measured")
 # make peers  times other stores under the same load: LMDB and LevelDB, by their C libraries (liblmdb-dev, libleveldb-dev) and rustc
 # make crash  kills the program that make run built in mid-run, and looks at what its folder holds
@@ -29,7 +29,7 @@ wrong:
 	done && rt must-fail $$(ls wrong)
 
 memory:
-	cd crates/memory_tests && rt test
+	cd crates/drive_tests && rt test
 	python3 docs/refuse.py
 
 bench:

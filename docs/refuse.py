@@ -1,4 +1,4 @@
-"""Runs each test of memory_tests once for each allocation that it makes, and refuses that one.
+"""Runs each test of drive_tests `memory` once for each allocation that it makes, and refuses that one.
 
 A test has to pass whichever allocation is refused: the call that wanted it answers want of memory, and
 the same call, made again, ends as it should. `make memory` builds the tests and calls this.
@@ -10,7 +10,7 @@ import sys
 import tempfile
 
 HERE = os.path.dirname(os.path.abspath(__file__))
-TESTS = os.path.join(HERE, "..", "crates", "memory_tests", "out", "memory_tests_tests")
+TESTS = os.path.join(HERE, "..", "crates", "drive_tests", "out", "drive_tests_tests")
 
 
 def run(folder, name, number):
@@ -56,7 +56,10 @@ def main():
         subprocess.run(["cc", "-O2", "-shared", "-fPIC", "-o", shim, source], check=True)
         listed = subprocess.run([TESTS, "--list"], capture_output=True, check=True)
         lines = listed.stdout.decode().split("\n")
-        names = [line.removesuffix(": test") for line in lines if line.endswith(": test")]
+        tests = [line.removesuffix(": test") for line in lines if line.endswith(": test")]
+        names = [name for name in tests if "memory::" in name]
+        if not names:
+            sys.exit("no test of the module memory is listed")
         failed = 0
         for name in names:
             made, wrong = refuse_all(folder, name)

@@ -1,4 +1,4 @@
-//! Tests of `bw_codec` and `bw_buffer` from outside: of what no clause says.
+//! Tests of `bw_codec`, `bw_buffer` and `bw_ring` from outside: of what no clause says.
 #![tactic(auto)]
 
 #[cfg(test)]

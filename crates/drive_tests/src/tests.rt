@@ -4,6 +4,7 @@ mod boxes;
 mod cleaned;
 mod courses;
 mod meeting;
+mod memory;
 mod reading;
 mod readme;
 mod scripts;

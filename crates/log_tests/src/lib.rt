@@ -1,5 +1,5 @@
-//! What no clause of the log says, tried from outside: that its calls succeed where memory is
-//! there, which box takes what, and the worked bytes.
+//! What no clause of segments, desks and the log says, tried from outside: that calls succeed where memory
+//! is there, that a lease comes back when it is dropped, which box takes what, and the worked bytes.
 #![tactic(auto)]
 
 #[cfg(test)]

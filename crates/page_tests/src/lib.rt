@@ -1,4 +1,5 @@
-//! Tests of `bw_page` from outside: worked rows, and each public call once with ample memory.
+//! Tests of `bw_page` and `bw_versions` from outside: worked rows, each public call once with ample memory,
+//! and readers beside a writer in another thread.
 #![tactic(auto)]
 
 #[cfg(test)]

@@ -1,14 +1,15 @@
-//! Worked rows as tables of steps, each walked to the first step that goes otherwise than told.
+//! Worked rows as tables of steps, each walked to the first step that goes otherwise than told: pages, chains, and what readers see.
 
 mod away;
 mod chains;
 mod leaf;
 mod pages;
 mod reading;
+mod versions;
 
 use bw_codec::{Key, Leaf, Low, Pairs, Record, Value};
 use bw_page::Leaves;
-use std::alloc::{AllocError, Global};
+use std::alloc::Global;
 use std::test::Fail;
 
 fn put(key: &[u8], value: &[u8]) -> Result<Record, Fail> {
@@ -28,30 +29,29 @@ fn bare(alloc: Global, page: u32, low: &[u8]) -> Result<Leaf, Fail> {
     })
 }
 
-/// The low key, a colon, and each pair after a space.
-fn shown(alloc: Global, leaf: &Leaf) -> Result<Vec<u8>, AllocError> {
-    let mut out = Vec::new(alloc);
-    out.extend_from_slice(leaf.low.as_slice())?;
-    out.push(b':')?;
+/// What is left of a text behind a part of it; none where it does not begin so.
+fn behind<'a>(text: Option<&'a [u8]>, part: &[u8]) -> Option<&'a [u8]> {
+    text?.strip_prefix(part)
+}
+
+/// Whether a text is the low key, a colon, and each pair after a space.
+fn shows(leaf: &Leaf, text: &[u8]) -> bool {
+    let mut rest = behind(behind(Some(text), leaf.low.as_slice()), b":");
     for (key, value) in leaf.pairs.as_slice() {
-        out.push(b' ')?;
-        out.extend_from_slice(key.as_slice())?;
-        out.push(b'=')?;
-        out.extend_from_slice(value.as_slice())?;
+        rest = behind(behind(rest, b" "), key.as_slice());
+        rest = behind(behind(rest, b"="), value.as_slice());
     }
-    Ok(out)
+    match rest {
+        Some(rest) => rest.is_empty(),
+        None => false,
+    }
 }
 
-/// Whether a leaf is shown so.
-fn is_shown(alloc: Global, leaf: &Leaf, text: &str) -> Result<bool, Fail> {
-    Ok(shown(alloc, leaf)?.as_slice() == text.as_bytes())
-}
-
-/// Whether a page is shown so; no text where it is not in memory.
-fn page_is(alloc: Global, leaves: &Leaves, page: u32, text: &str) -> Result<bool, Fail> {
-    match leaves.page(page) {
-        Some(leaf) => is_shown(alloc, leaf, text),
-        None => Ok(text.len() == 0),
+/// Whether a page is shown so; no text where there is none, or it is not in memory.
+fn is_shown(leaf: Option<&Leaf>, text: &str) -> bool {
+    match leaf {
+        Some(leaf) => shows(leaf, text.as_bytes()),
+        None => text.len() == 0,
     }
 }
 

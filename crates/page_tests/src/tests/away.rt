@@ -2,7 +2,7 @@
 
 ghost use Rattle.std.specs.Prelude.{◌≡◌, ◌∷◌, [], IfOk};
 
-use super::{leads, page_is, put};
+use super::{is_shown, leads, put};
 use bw_codec::{Key, Leaf, Low, Pairs, Record, Value};
 use bw_page::{Applied, Leaves};
 use std::alloc::Global;
@@ -45,7 +45,7 @@ pub(super) fn two_pages(alloc: Global) -> Result<Leaves, Fail>
 enum Ask {
     Count(u32),
     Here(u32, bool),
-    /// A page as `shown`; no text where it is not in memory.
+    /// A page as `is_shown` has it; no text where it is not in memory.
     Page(u32, &'static str),
     /// The page of a key.
     Find(&'static str, u32),
@@ -64,20 +64,20 @@ fn has(leaves: &Leaves, key: &str, text: &str) -> Result<bool, Fail> {
     }
 }
 
-fn is_so(alloc: Global, leaves: &Leaves, ask: &Ask) -> Result<bool, Fail> {
+fn is_so(leaves: &Leaves, ask: &Ask) -> Result<bool, Fail> {
     match ask {
         Ask::Count(count) => Ok(leaves.count() == *count),
         Ask::Here(page, told) => Ok(leaves.is_here(*page) == *told),
-        Ask::Page(page, text) => page_is(alloc, leaves, *page, text),
+        Ask::Page(page, text) => Ok(is_shown(leaves.page(*page), text)),
         Ask::Find(key, page) => leads(leaves, key, *page),
         Ask::Get(key, text) => has(leaves, key, text),
     }
 }
 
 /// The first question that was not answered as told.
-fn wrong_answer(alloc: Global, leaves: &Leaves, asks: &[Ask]) -> Result<Option<usize>, Fail> {
+fn wrong_answer(leaves: &Leaves, asks: &[Ask]) -> Result<Option<usize>, Fail> {
     for (i, ask) in asks.iter().enumerate() {
-        if !is_so(alloc, leaves, ask)? {
+        if !is_so(leaves, ask)? {
             return Ok(Some(i));
         }
     }
@@ -123,27 +123,24 @@ const BACK: &[Ask] = &[
 
 /// Page 2 leaves memory and comes back: of each table the first question that was not answered as
 /// told.
-fn goes_and_returns(alloc: Global, leaves: &mut Leaves) -> Result<[Option<usize>; 3], Fail>
+fn goes_and_returns(leaves: &mut Leaves) -> Result<[Option<usize>; 3], Fail>
     requires { leaves.old.away ≡ [] }
 {
     let kept = match leaves.page(2) {
         Some(leaf) if leaves.count() == 2 => leaf.copy()?,
         _ => return Err(Fail::from("other pages")),
     };
-    let before = wrong_answer(alloc, leaves, BEFORE)?;
+    let before = wrong_answer(leaves, BEFORE)?;
     leaves.put_away(2);
-    let away = wrong_answer(alloc, leaves, AWAY)?;
+    let away = wrong_answer(leaves, AWAY)?;
     leaves.bring_back(2, kept);
-    Ok([before, away, wrong_answer(alloc, leaves, BACK)?])
+    Ok([before, away, wrong_answer(leaves, BACK)?])
 }
 
 #[test]
 fn a_page_leaves_memory_and_comes_back(rt: HostRuntime) -> Result<(), Fail> {
     let mut leaves = two_pages(rt.alloc())?;
-    assert_eq!(rt;
-        goes_and_returns(rt.alloc(), &mut leaves)?,
-        [None, None, None]
-    );
+    assert_eq!(rt; goes_and_returns(&mut leaves)?, [None, None, None]);
     Ok(())
 }
 
@@ -166,7 +163,7 @@ fn changes_one(leaves: &mut Leaves) -> Result<bool, Fail> {
 }
 
 /// Page 1 is changed while page 2 is away: the first question that was not answered as told then.
-fn changed_beside(alloc: Global, leaves: &mut Leaves) -> Result<Option<usize>, Fail> {
+fn changed_beside(leaves: &mut Leaves) -> Result<Option<usize>, Fail> {
     if leaves.count() != 2 {
         return Err(Fail::from("other pages"));
     }
@@ -174,12 +171,12 @@ fn changed_beside(alloc: Global, leaves: &mut Leaves) -> Result<Option<usize>, F
     if !changes_one(leaves)? {
         return Err(Fail::from("another change"));
     }
-    wrong_answer(alloc, leaves, CHANGED)
+    wrong_answer(leaves, CHANGED)
 }
 
 #[test]
 fn a_page_is_changed_while_another_is_away(rt: HostRuntime) -> Result<(), Fail> {
     let mut leaves = two_pages(rt.alloc())?;
-    assert_eq!(rt; changed_beside(rt.alloc(), &mut leaves)?, None);
+    assert_eq!(rt; changed_beside(&mut leaves)?, None);
     Ok(())
 }

@@ -34,16 +34,16 @@ fn prepended(chain: &mut Chain, key: &str, value: &str) -> Result<bool, Fail> {
     Ok(true)
 }
 
-fn content(alloc: Global, chain: &Chain, below: &mut Leaf, text: &str) -> Result<bool, Fail> {
+fn content(chain: &Chain, below: &mut Leaf, text: &str) -> Result<bool, Fail> {
     let leaf = chain.content(below)?;
-    let is_so = is_shown(alloc, &leaf, text)?;
+    let is_so = is_shown(Some(&leaf), text);
     *below = leaf;
     Ok(is_so)
 }
 
 fn alone(alloc: Global, chain: &Chain, text: &str) -> Result<bool, Fail> {
     let leaf = chain.content(&empty_page(alloc))?;
-    is_shown(alloc, &leaf, text)
+    Ok(is_shown(Some(&leaf), text))
 }
 
 /// Whether the step went as told.
@@ -66,7 +66,7 @@ fn goes(alloc: Global, chain: &mut Chain, below: &mut Leaf, step: &Step) -> Resu
         }
         Step::Deltas(count) => Ok(chain.deltas() == *count),
         Step::EndsOnLog(told) => Ok(chain.ends_on_log() == *told),
-        Step::Content(text) => content(alloc, chain, below, text),
+        Step::Content(text) => content(chain, below, text),
         Step::Alone(text) => alone(alloc, chain, text),
     }
 }

@@ -27,13 +27,13 @@ fn changed(leaf: &mut Leaf, record: Record, count: usize) -> Result<bool, Fail> 
 }
 
 /// Whether the step went as told.
-fn goes(alloc: Global, leaf: &mut Leaf, step: &Step) -> Result<bool, Fail> {
+fn goes(leaf: &mut Leaf, step: &Step) -> Result<bool, Fail> {
     match step {
         Step::Put(key, value, count) => {
             changed(leaf, put(key.as_bytes(), value.as_bytes())?, *count)
         }
         Step::Del(key, count) => changed(leaf, del(key.as_bytes())?, *count),
-        Step::Shown(text) => is_shown(alloc, leaf, text),
+        Step::Shown(text) => Ok(is_shown(Some(leaf), text)),
     }
 }
 
@@ -41,7 +41,7 @@ fn goes(alloc: Global, leaf: &mut Leaf, step: &Step) -> Result<bool, Fail> {
 fn wrong_step(alloc: Global, steps: &[Step]) -> Result<Option<usize>, Fail> {
     let mut leaf = empty_page(alloc);
     for (i, step) in steps.iter().enumerate() {
-        if !goes(alloc, &mut leaf, step)? {
+        if !goes(&mut leaf, step)? {
             return Ok(Some(i));
         }
     }
@@ -85,12 +85,12 @@ fn is_cut(alloc: Global, m: u16, keys: &str, lower: &str, upper: &str) -> Result
         return Ok(false);
     }
     let cut = cut_in_two(alloc, m, leaf, 7)?;
-    are_parts(alloc, &cut, lower, upper)
+    Ok(are_parts(&cut, lower, upper))
 }
 
-fn are_parts(alloc: Global, cut: &Cut, lower: &str, upper: &str) -> Result<bool, Fail> {
+fn are_parts(cut: &Cut, lower: &str, upper: &str) -> bool {
     let pages = cut.lower.page == 1 && cut.upper.page == 7;
-    Ok(pages && is_shown(alloc, &cut.lower, lower)? && is_shown(alloc, &cut.upper, upper)?)
+    pages && is_shown(Some(&cut.lower), lower) && is_shown(Some(&cut.upper), upper)
 }
 
 /// The most pairs, the keys, and the two parts.
@@ -112,7 +112,7 @@ fn a_leaf_is_cut_in_two(rt: HostRuntime) -> Result<(), Fail> {
 
 fn is_kept(alloc: Global, keys: &str, separator: &str, text: &str) -> Result<bool, Fail> {
     let leaf = keep_below(lettered(alloc, keys)?, separator.as_bytes());
-    is_shown(alloc, &leaf, text)
+    Ok(is_shown(Some(&leaf), text))
 }
 
 /// The keys, the first key that goes, and what is kept.
@@ -162,6 +162,6 @@ fn records_are_applied_in_their_order(rt: HostRuntime) -> Result<(), Fail> {
     records.push(put(b"a", b"3")?)?;
     records.push(del(b"b")?)?;
     let after = change_all(bare(rt.alloc(), 1, b"")?, records.as_slice())?;
-    assert!(rt; is_shown(rt.alloc(), &after, ": a=3")?);
+    assert!(rt; is_shown(Some(&after), ": a=3"));
     Ok(())
 }

@@ -2,7 +2,7 @@
 
 ghost use Rattle.std.specs.Prelude.{◌≤◌, ◌≡◌, [], OnOk};
 
-use super::{del, leads, page_is, put};
+use super::{del, is_shown, leads, put};
 use bw_codec::{Key, Record};
 use bw_page::{Applied, Leaves};
 use std::alloc::Global;
@@ -19,7 +19,7 @@ pub(super) enum Step {
     Fill(u16),
     /// As many pages.
     Count(u32),
-    /// A page as `shown`; no text where there is none.
+    /// A page as `is_shown` has it; no text where there is none.
     Page(u32, &'static str),
     /// How many pairs a page has.
     Pairs(u32, usize),
@@ -101,7 +101,7 @@ fn goes(alloc: Global, leaves: &mut Leaves, step: &Step) -> Result<bool, Fail>
         Step::Del(key, page) => applied(leaves, del(key.as_bytes())?, *page, 0),
         Step::Fill(count) => filled(leaves, *count),
         Step::Count(count) => Ok(leaves.count() == *count),
-        Step::Page(page, text) => page_is(alloc, leaves, *page, text),
+        Step::Page(page, text) => Ok(is_shown(leaves.page(*page), text)),
         Step::Pairs(page, count) => Ok(pairs(leaves, *page) == *count),
         Step::Find(key, page) => leads(leaves, key, *page),
         Step::Get(key, text) => has(leaves, key, text),

@@ -42,10 +42,8 @@ fn blocks(alloc: Global) -> Result<Vec<Block>, Fail> {
 
 /// Whether these blocks make such a page; no text where they never set it.
 fn is_read(alloc: Global, page: u32, text: &str) -> Result<bool, Fail> {
-    match read_blocks(page, None, blocks(alloc)?)? {
-        Some(leaf) => is_shown(alloc, &leaf, text),
-        None => Ok(text.len() == 0),
-    }
+    let leaf = read_blocks(page, None, blocks(alloc)?)?;
+    Ok(is_shown(leaf.as_ref(), text))
 }
 
 #[test]

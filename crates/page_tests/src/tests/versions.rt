@@ -1,6 +1,8 @@
-//! Worked rows as tables of steps, each walked to the first step that goes otherwise than told.
+//! Versions of the pages, as publishers tell them and readers see them.
 
 ghost use Rattle.std.specs.Prelude.{◌≡◌, [], IfOk};
+ghost use mathlib.Core.List.{IsPrefix};
+ghost use Rattle.bw_versions.specs.Batches.{entries_of};
 
 mod boards;
 mod ending;
@@ -10,10 +12,12 @@ mod publishers;
 mod threads;
 mod walking;
 
-use bw_codec::{Key, Leaf, Record, Value};
+use super::is_shown;
+use bw_codec::{Key, Record, Value};
 use bw_page::Leaves;
-use bw_versions::Entry;
+use bw_versions::{Entry, Versions};
 use std::alloc::{AllocError, Global};
+use std::sync::Wait;
 use std::test::Fail;
 
 /// Page 1 without any pair.
@@ -37,30 +41,14 @@ fn del(key: &[u8]) -> Result<Entry, Fail> {
     })
 }
 
-/// What is left of a text behind a part of it; none where it does not begin so.
-fn behind<'a>(text: Option<&'a [u8]>, part: &[u8]) -> Option<&'a [u8]> {
-    text?.strip_prefix(part)
-}
-
-/// Whether a text is the low key, a colon, and each pair after a space.
-fn shows(leaf: &Leaf, text: &[u8]) -> bool {
-    let mut rest = behind(behind(Some(text), leaf.low.as_slice()), b":");
-    for (key, value) in leaf.pairs.as_slice() {
-        rest = behind(behind(rest, b" "), key.as_slice());
-        rest = behind(behind(rest, b"="), value.as_slice());
-    }
-    match rest {
-        Some(rest) => rest.is_empty(),
-        None => false,
-    }
-}
-
-/// Whether a leaf is shown so; no text where there is none.
-fn is_shown(leaf: Option<&Leaf>, text: &str) -> bool {
-    match leaf {
-        Some(leaf) => shows(leaf, text.as_bytes()),
-        None => text.len() == 0,
-    }
+/// Publishes the history. This says of it only what a test asks for: each body that calls the
+/// publication itself would prove all of its contract.
+fn publish<R: Wait>(rt: &R, versions: &mut Versions, history: &[Entry]) -> Result<(), AllocError>
+    requires begins { IsPrefix (entries_of versions.old.entered) history.now }
+    ensures begins { IsPrefix (entries_of versions.new.entered) history.now }
+    ensures book { versions.new.book ≡ versions.old.book }
+{
+    versions.publish_up_to(rt, history)
 }
 
 /// Whether a value is so; no text where there is none.

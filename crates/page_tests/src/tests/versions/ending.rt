@@ -3,7 +3,7 @@
 ghost use mathlib.Core.List.{IsPrefix};
 ghost use Rattle.bw_versions.specs.Batches.{entries_of};
 
-use super::{is_value, put, start};
+use super::{is_value, publish, put, start};
 use bw_codec::Key;
 use bw_versions::{Entry, NoReader, ReadFault, Reader, Versions};
 use std::sync::Wait;
@@ -17,7 +17,7 @@ fn publish_one<R: Wait>(
     requires { IsPrefix (entries_of versions.old.entered) history.old.items }
 {
     history.push(put(b"k", b"v")?)?;
-    versions.publish_up_to(rt, history.as_slice())?;
+    publish(rt, versions, history.as_slice())?;
     Ok(())
 }
 

@@ -4,7 +4,7 @@ ghost use Rattle.std.specs.Prelude.{◌≡◌, []};
 ghost use mathlib.Core.List.{IsPrefix};
 ghost use Rattle.bw_versions.specs.Batches.{entries_of};
 
-use super::{is_shown, is_value, start};
+use super::{is_shown, is_value, publish, start};
 use bw_codec::{Key, Record, Value};
 use bw_versions::{Entry, News, Reader, Versions};
 use std::sync::Wait;
@@ -45,10 +45,10 @@ fn publish_all<R: Wait>(
         history.push(entry(0, b'a', number)?)?;
         history.push(entry(1, b'b', number)?)?;
         if number % STEP == 0 {
-            versions.publish_up_to(rt, history.as_slice())?;
+            publish(rt, versions, history.as_slice())?;
         }
     }
-    versions.publish_up_to(rt, history.as_slice())?;
+    publish(rt, versions, history.as_slice())?;
     Ok(())
 }
 

@@ -4,7 +4,7 @@ ghost use Rattle.std.specs.Prelude.{◌≡◌, []};
 ghost use mathlib.Core.List.{IsPrefix};
 ghost use Rattle.bw_versions.specs.Batches.{entries_of};
 
-use super::{put, start};
+use super::{publish, put, start};
 use bw_codec::{Key, Value};
 use bw_versions::{Entry, Reader, Versions};
 use std::sync::Wait;
@@ -48,7 +48,7 @@ fn publish_all<R: Wait>(
     let mut refused = 0u32;
     for value in 0..VALUES {
         history.push(put(b"k", &value.to_be_bytes())?)?;
-        if versions.publish_up_to(rt, history.as_slice()).is_err() {
+        if publish(rt, versions, history.as_slice()).is_err() {
             refused = refused.saturating_add(1);
         }
     }

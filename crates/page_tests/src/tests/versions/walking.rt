@@ -4,7 +4,7 @@ ghost use Rattle.std.specs.Prelude.{◌≡◌, ◌≤◌};
 ghost use mathlib.Core.List.{IsPrefix};
 ghost use Rattle.bw_versions.specs.Batches.{entries_of};
 
-use super::{del, is_shown, is_value, put, start};
+use super::{del, is_shown, is_value, publish, put, start};
 use bw_codec::Key;
 use bw_versions::{Entry, Reader, Versions};
 use std::alloc::Global;
@@ -53,7 +53,7 @@ fn published<R: Wait>(rt: &R, versions: &mut Versions, history: &[Entry]) -> boo
     ensures begins { IsPrefix (entries_of versions.new.entered) history.now }
     ensures book { versions.new.book ≡ versions.old.book }
 {
-    versions.publish_up_to(rt, history).is_ok() || versions.publish_up_to(rt, history).is_ok()
+    publish(rt, versions, history).is_ok() || publish(rt, versions, history).is_ok()
 }
 
 /// Whether the step went as told.

@@ -1,7 +1,7 @@
 use Rattle.std.specs.Prelude.{◌≡◌, map}
 use Rattle.bw_ring.specs.Ends.{ring_of_feed}
 use Rattle.bw_store.specs.Views.{kept_by, IsSound}
-use Rattle.memory_tests.proofs.tests.stores.walk.Given as goal
+use Rattle.drive_tests.proofs.tests.memory.stores.walk.Given as goal
 
 abbrev pub invariant-loop-step : goal.invariant-loop-step
 invariant-loop-step g l =

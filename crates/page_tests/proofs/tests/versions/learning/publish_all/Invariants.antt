@@ -1,7 +1,7 @@
 use Rattle.std.proofs.Common.{◌≡◌}
 use mathlib.Core.List.{IsPrefix}
 use Rattle.bw_versions.specs.Batches.{entries_of}
-use Rattle.versions_tests.proofs.tests.learning.publish_all.Given as goal
+use Rattle.page_tests.proofs.tests.versions.learning.publish_all.Given as goal
 
 abbrev pub invariant-loop-number : goal.invariant-loop-number
 invariant-loop-number g l = record {

@@ -1,6 +1,6 @@
 use mathlib.Core.List.{IsPrefix}
 use Rattle.bw_versions.specs.Batches.{entries_of}
-use Rattle.versions_tests.proofs.tests.threads.publish_all.Given as goal
+use Rattle.page_tests.proofs.tests.versions.threads.publish_all.Given as goal
 
 abbrev pub invariant-loop-value : goal.invariant-loop-value
 invariant-loop-value g l = IsPrefix (entries_of l.versions.entered) l.history.items

@@ -1,7 +1,7 @@
 use Rattle.std.proofs.Common.{◌≡◌}
 use mathlib.Core.List.{IsPrefix}
 use Rattle.bw_versions.specs.Batches.{entries_of}
-use Rattle.versions_tests.proofs.tests.walking.wrong_step.Given as goal
+use Rattle.page_tests.proofs.tests.versions.walking.wrong_step.Given as goal
 
 abbrev pub invariant-loop-i : goal.invariant-loop-i
 invariant-loop-i g l = record {
