@@ -7,11 +7,11 @@
 //! segment is decoded once, and each of them is spelled as a Base behind its bytes. A page that a
 //! later frame touches is read by its links.
 
-ghost use Rattle.std.specs.Prelude.{◌≡◌, ◌≢◌, ◌<◌, ◌≤◌, ◌↔◌, Some, None, Err, true, false, length, slice_get, slice_index, replicate, IfOk, IfSome, IsTrue};
+ghost use Rattle.std.specs.Prelude.{◌≡◌, ◌≢◌, ◌<◌, ◌≤◌, ◌↔◌, ◌++◌, [], Some, None, Err, true, false, length, slice_get, slice_index, replicate, IfOk, IfSome, IsTrue};
 ghost use Rattle.std.specs.List.{AllByRecursion};
 ghost use Rattle.std.specs.BTreeMap as tree;
 ghost use Rattle.std.specs.Ordering.{nat_cmp};
-ghost use Rattle.bw_codec.specs.Grammar.{IsBlock};
+ghost use Rattle.bw_codec.specs.Grammar.{block_bytes, IsBlock};
 ghost use Rattle.bw_codec.specs.declared.block.Block.TheVariants.{Base};
 ghost use Rattle.bw_codec.specs.declared.leaf.Leaf.{Leaf as LeafValue};
 ghost use Rattle.bw_page.specs.Standing.{blocks_of};
@@ -29,7 +29,7 @@ use crate::forward::read_segment;
 use crate::moving::{is_old, last_old};
 use crate::reading::{Line, take_line};
 use bw_codec::limits::HEAD_LEN;
-use bw_codec::{Block, Outline, Place, encode_block};
+use bw_codec::{Block, Leaf, Outline, Place, encode_block};
 use bw_device::Segment;
 use bw_log::{FrameAt, Log, LogFault};
 use std::alloc::{AllocError, Global};
@@ -230,6 +230,15 @@ fn is_some_wanted(log: &Log, last: u64, spots: &[Spot], pages: &[u32]) -> bool
     false
 }
 
+// Spells a page as a Base behind the bytes, unless memory is refused.
+fn encode_base(leaf: Leaf, bytes: &mut Vec<u8>) -> bool
+    requires { IsBlock 32 (Base leaf) }
+    ensures added { IsTrue result → bytes.new.items ≡ bytes.old.items ++ block_bytes (Base leaf) }
+    ensures unchanged { result ≡ false → bytes.new.items ≡ bytes.old.items }
+{
+    encode_block(&Block::Base(leaf), bytes).is_ok()
+}
+
 // Takes a page out of the map and spells it as a Base behind the bytes; none where the map does not
 // have it or memory is refused.
 fn spell(lines: &mut BTreeMap<u32, Line>, page: u32, bytes: &mut Vec<u8>) -> Option<Spot>
@@ -242,7 +251,9 @@ fn spell(lines: &mut BTreeMap<u32, Line>, page: u32, bytes: &mut Vec<u8>) -> Opt
 {
     let (_, leaf) = take_line(lines, page);
     let at = bytes.len();
-    encode_block(&Block::Base(leaf?), bytes).ok()?;
+    if !encode_base(leaf?, bytes) {
+        return None;
+    }
     let len = bytes.len() - at;
     Some(Spot { at, len })
 }
@@ -294,6 +305,16 @@ fn spell_rest(alloc: Global, log: &Log, bytes: &mut Vec<u8>, spots: &mut [Spot],
     }
 }
 
+// No bytes and no spots.
+fn nothing(alloc: Global) -> Ahead
+    ensures { result.spots.items ≡ [] }
+{
+    Ahead {
+        bytes: Vec::new(alloc),
+        spots: Vec::new(alloc),
+    }
+}
+
 /// Where the pages' Bases stand: in the oldest segment, which is read once, or spelled behind its
 /// bytes. A page has no spot where a later frame touches it, and none has one where the segment is
 /// longer than 16 MiB or memory is refused.
@@ -308,18 +329,14 @@ pub(crate) fn read_ahead(alloc: Global, log: &mut Log, pages: &[u32]) -> Result<
     ensures stops { ReadStops (λ _. Unit {0}) (seen log.old holding) result (seen log.new holding) }
     ensures paged { result ≢ Err LogFault.NoPage }
 {
-    let none = Ahead {
-        bytes: Vec::new(alloc),
-        spots: Vec::new(alloc),
-    };
     if pages.is_empty() {
-        return Ok(none);
+        return Ok(nothing(alloc));
     }
     let Some(mut bytes) = oldest_bytes(alloc, log)? else {
-        return Ok(none);
+        return Ok(nothing(alloc));
     };
     let Ok(mut spots) = find_spots(alloc, log, &bytes, pages) else {
-        return Ok(none);
+        return Ok(nothing(alloc));
     };
     spell_rest(alloc, log, &mut bytes, &mut spots, pages);
     Ok(Ahead { bytes, spots })

@@ -1,9 +1,8 @@
 -- What the head of a frame reads as, where its numbers are known.
 
-use Rattle.std.proofs.Common.{◌≡◌, ℕ, List, Bool, true, false, Some, None, length, ◌-◌, refl, sym}
+use Rattle.std.proofs.Common.{◌≡◌, ℕ, List, true, false, Some, None, length, ◌-◌, refl, sym}
 use Rattle.std.proofs.lemmas.List.{take_rest}
 use Rattle.std.specs.Prelude.{take, drop}
-use Rattle.bw_codec.specs.declared.block.Head.{Head}
 use Rattle.bw_codec.specs.Grammar.{agrees, frame_word, is_head}
 use Rattle.bw_codec.specs.Reading.{number_at, head_at}
 

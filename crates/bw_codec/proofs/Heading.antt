@@ -129,6 +129,15 @@ no_header_there h bytes word many zero is unlawful =
     let bad : is_header (header_in bytes) ≡ false = ap is_header (sym is) ∙ unlawful in
     rw (word, long, zero, bad) refl
 
+-- numbers that are a lawful header
+pub header_told : (h : Header) (bytes : List ℕ) → agrees bytes segment_word ≡ true → 24 ≤ length bytes → little_number 2 (drop 18 bytes) ≡ 0
+    → h ≡ header_in bytes → is_header h ≡ true → heading.Whole h ≡ heading_of bytes
+unfolding heading_of
+header_told h bytes word many zero is lawful =
+    let long : nat_lt (length bytes) 24 ≡ false = le-ltb (length bytes) 24 many in
+    let good : is_header (header_in bytes) ≡ true = ap is_header (sym is) ∙ lawful in
+    rw (word, long, zero, good) (ap heading.Whole is)
+
 pub one_header_spelling : OneHeaderSpelling
 one_header_spelling a b x y law_a law_b same =
     let reads : heading.Whole a ≡ heading.Whole b = sym (header_again a x law_a) ∙ ap heading_of same ∙ header_again b y law_b in

@@ -1,19 +1,20 @@
 -- Chains: the newest mark, what stands above it, and what an eviction and a consolidation leave.
 
-use Rattle.std.proofs.Common.{◌≡◌, ℕ, ◌+◌, ◌<◌, true, false, Option, Some, None, is_some, List, [], ◌∷◌, ◌++◌, length, drop, refl, sym, ap, ◌∙◌, subst, arith}
+use Rattle.std.proofs.Common.{◌≡◌, ℕ, ◌+◌, ◌<◌, ◌-◌, ltb, true, false, Option, Some, None, is_some, List, [], ◌∷◌, ◌++◌, length, get_or, take, drop, refl, sym, ap, ◌∙◌, subst, arith}
 use Rattle.std.proofs.Common.{append-nil, append_assoc, length-append}
 use Rattle.std.specs.Prelude.{reverse}
 use Rattle.std.specs.List.{list_any}
 use Rattle.std.specs.Option.{option_map, IfSome}
-use Rattle.std.proofs.lemmas.List.{reverse-append, drop-append-le, drop_all}
+use Rattle.std.proofs.lemmas.List.{reverse-append, drop-append-le, drop_all, drop_more, take-append-drop}
+use Rattle.std.proofs.lemmas.Bool.{false≢true}
 use Rattle.bw_codec.specs.declared.block.Place.{Place}
 use Rattle.bw_codec.specs.declared.leaf.Leaf.{Leaf}
 use Rattle.bw_codec.specs.declared.record.Record.{Record}
 use Rattle.bw_page.specs.declared.chain.Link.{Link}
 use Rattle.bw_page.specs.declared.chain.Link.TheVariants.{Delta, Flushed}
-use Rattle.bw_page.specs.declared.chain.End.TheVariants.{OnLog}
+use Rattle.bw_page.specs.declared.chain.End.TheVariants.{Whole, OnLog}
 use Rattle.bw_page.specs.Leaves.{changed}
-use Rattle.bw_page.specs.Links.{Chained, ground_of, told, content_of, is_flushed, under, cut, from_mark, evicted}
+use Rattle.bw_page.specs.Links.{Chained, ground_of, told, content_of, is_flushed, under, cut, from_mark, evicted, consolidated, consolidated_by}
 use Rattle.bw_page.specs.Marks.{mark_after}
 
 -- what stands above a mark, of links that stand oldest first
@@ -100,3 +101,26 @@ evicts c links place e = record {
 
 pub stays : (c : Chained) → cut c.links ≡ None → (false ≡ list_any is_flushed c.links) × (evicted c ≡ None)
 stays c e = (sym (flushed-cut c.links ∙ ap is_some e), ap (option_map (λ x. record c { links = x.0; end = OnLog x.1 })) e)
+
+-- ---- a consolidation
+
+-- the newest link alone, of links that stand oldest first
+pub newest_left : (links : List Link) (newest : Link) → true ≡ ltb 0 (length links) → newest ≡ get_or links (length links - 1) newest
+    → drop (length links - 1) links ≡ newest ∷ []
+newest_left [] newest some is = absurd (false≢true (sym some))
+newest_left (x ∷ links) newest some is =
+    let n = length (x ∷ links) - 1 in
+    drop_more (x ∷ links) n newest (omega arith) ∙ (λ i. sym is i ∷ drop_all (n + 1) (x ∷ links) (omega arith) i)
+
+-- the newest link comes first, where links stand newest first
+pub newest_first : (links : List Link) (newest : Link) → true ≡ ltb 0 (length links) → newest ≡ get_or links (length links - 1) newest
+    → reverse links ≡ newest ∷ reverse (take (length links - 1) links)
+newest_first links newest some is =
+    let n = length links - 1 in
+    ap reverse (sym (take-append-drop n links) ∙ ap (λ rest. take n links ++ rest) (newest_left links newest some is))
+    ∙ reverse-append (take n links) (newest ∷ [])
+
+-- a chain whose newest link is flushed
+pub consolidates : (c : Chained) (place : Place) (rest : List Link) (below : Leaf) → c.links ≡ Flushed place ∷ rest
+    → consolidated c below ≡ Some (record c { links = Flushed place ∷ []; end = Whole (content_of c below) })
+consolidates c place rest below e = ap (λ links. consolidated_by c links below) e

@@ -1,6 +1,6 @@
 //! A leaf changed in its place, and a leaf cut in two by the split rule.
 
-ghost use Rattle.std.specs.Prelude.{◌≡◌, ◌<◌, ◌≤◌, ◌+◌, ◌++◌, false, [], ◌∷◌, length, slice_set, Some, if◌then◌else◌, OnOk, OnErr, IfOk};
+ghost use Rattle.std.specs.Prelude.{◌≡◌, ◌<◌, ◌≤◌, ◌+◌, ◌/◌, ◌++◌, false, [], ◌∷◌, length, slice_set, Some, if◌then◌else◌, OnOk, OnErr, IfOk};
 ghost use Rattle.std.specs.Ordering.{eq_by_cmp};
 ghost use Rattle.bw_codec.specs.declared.leaf.Leaf.{Leaf as LeafValue};
 ghost use Rattle.bw_page.specs.Leaves.{Bytes, order, changed, lower_of, upper_of};
@@ -31,17 +31,33 @@ pub fn cut_in_two(alloc: Global, m: u16, leaf: Leaf, page: u32) -> Result<Cut, A
     ensures lower { IfOk result (λ c. c.lower ≡ lower_of m leaf) }
     ensures upper { IfOk result (λ c. c.upper ≡ upper_of m page leaf) }
 {
-    let half = (usize::from(m) + 1) / 2;
+    let half = half_of(m);
+    let upper = upper_part(alloc, m, &leaf, page)?;
     let mut lower = leaf;
-    let pairs = Pairs::copy_of(alloc, &lower.pairs.as_slice()[half..])?;
     lower.pairs.truncate(half);
+    Ok(Cut { lower, upper })
+}
+
+// How many pairs stay in a leaf that is cut.
+fn half_of(m: u16) -> usize
+    ensures { result ≡ (m + 1) / 2 }
+{
+    (usize::from(m) + 1) / 2
+}
+
+// The part of a leaf that becomes a new page.
+fn upper_part(alloc: Global, m: u16, leaf: &Leaf, page: u32) -> Result<Leaf, AllocError>
+    requires some { 1 ≤ m }
+    requires over { m < length leaf.now.pairs }
+    ensures { IfOk result (λ upper. upper ≡ upper_of m page leaf.now) }
+{
+    let pairs = Pairs::copy_of(alloc, &leaf.pairs.as_slice()[half_of(m)..])?;
     let low = Vec::from_slice(alloc, pairs.as_slice()[0].0.as_slice())?;
-    let upper = Leaf {
+    Ok(Leaf {
         page,
         low: Low::of(low),
         pairs,
-    };
-    Ok(Cut { lower, upper })
+    })
 }
 
 /// The parts of a leaf that was cut in two, with the low key of the upper one.

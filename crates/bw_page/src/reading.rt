@@ -2,6 +2,7 @@
 
 ghost use Rattle.std.specs.Prelude.{◌≡◌, IfOk};
 ghost use Rattle.std.specs.List.{fold};
+ghost use Rattle.std.specs.Option.{option_map};
 ghost use Rattle.bw_page.specs.Leaves.{all_changed};
 ghost use Rattle.bw_page.specs.Standing.{after, kept_below};
 
@@ -19,6 +20,16 @@ pub fn change_all(leaf: Leaf, records: &[Record]) -> Result<Leaf, AllocError>
         change(&mut leaf, record)?;
     }
     Ok(leaf)
+}
+
+// The records of a Delta, where the page was set.
+fn change_some(was: Option<Leaf>, records: &[Record]) -> Result<Option<Leaf>, AllocError>
+    ensures { IfOk result (λ leaf. leaf ≡ option_map (all_changed records.now) was) }
+{
+    match was {
+        Some(leaf) => Ok(Some(change_all(leaf, records)?)),
+        None => Ok(None),
+    }
 }
 
 /// The leaf without its pairs from a key on. It is never refused; where memory is wanting it only has
@@ -51,10 +62,7 @@ pub fn read_block(page: u32, was: Option<Leaf>, block: Block) -> Result<Option<L
             if of != page {
                 return Ok(was);
             }
-            match was {
-                Some(leaf) => Ok(Some(change_all(leaf, ops.as_slice())?)),
-                None => Ok(None),
-            }
+            change_some(was, ops.as_slice())
         }
         Block::Base(leaf) => Ok(if leaf.page == page { Some(leaf) } else { was }),
         Block::Split {

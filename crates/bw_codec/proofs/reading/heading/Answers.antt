@@ -1,9 +1,9 @@
-use Rattle.std.proofs.Common.{◌≡◌, ℕ, List, drop, ap, sym, ◌∙◌, arith}
+use Rattle.std.proofs.Common.{◌≡◌, drop, ap, sym, ◌∙◌, arith}
 use Rattle.std.proofs.lemmas.List.{take_rest}
 use Rattle.byteorder.specs.Endian.{little_number}
 use Rattle.bw_codec.specs.declared.block.Header.{Header}
 use Rattle.bw_codec.specs.Reading.{header_in}
-use Rattle.bw_codec.proofs.Heading.{no_header_there}
+use Rattle.bw_codec.proofs.Heading.{no_header_there, header_told}
 use Rattle.bw_codec.proofs.reading.heading.Goals as goal
 
 pub returns-else-is_lawful : goal.returns-else-is_lawful
@@ -15,4 +15,18 @@ returns-else-is_lawful c =
     let f : c.read_u32.result ≡ little_number 4 (drop 20 bytes) = c.read_u32.ensures ∙ ap (little_number 4) (take_rest bytes 20) in
     let zero = ap (little_number 2) (sym (take_rest bytes 18)) ∙ sym c.read_u16.ensures ∙ c.if-read_u16-ne0.false in
     let header : Header = record { number = c.read_u64.result; m = c.read_u16-2.result; f = c.read_u32.result } in
-    no_header_there header bytes (search) (omega arith) zero (cc) (sym c.is_lawful.ensures ∙ c.if-is_lawful.false)
+    let word = sym c.begins_as.ensures ∙ c.if-not-begins_as.false in
+    no_header_there header bytes word (omega arith) zero (cc) (sym c.is_lawful.ensures ∙ c.if-is_lawful.false)
+
+pub returns-then-is_lawful : goal.returns-then-is_lawful
+returns-then-is_lawful c =
+    let bytes = c.args.bytes.now in
+    let long = c.if-bytes-lt-HEADER_LEN.false in
+    let number : c.read_u64.result ≡ little_number 8 (drop 8 bytes) = c.read_u64.ensures ∙ ap (little_number 8) (take_rest bytes 8) in
+    let m : c.read_u16-2.result ≡ little_number 2 (drop 16 bytes) = c.read_u16-2.ensures ∙ ap (little_number 2) (take_rest bytes 16) in
+    let f : c.read_u32.result ≡ little_number 4 (drop 20 bytes) = c.read_u32.ensures ∙ ap (little_number 4) (take_rest bytes 20) in
+    let zero = ap (little_number 2) (sym (take_rest bytes 18)) ∙ sym c.read_u16.ensures ∙ c.if-read_u16-ne0.false in
+    let header : Header = record { number = c.read_u64.result; m = c.read_u16-2.result; f = c.read_u32.result } in
+    let word = sym c.begins_as.ensures ∙ c.if-not-begins_as.false in
+    let is : header ≡ header_in bytes = λ i. record { number = number i; m = m i; f = f i } in
+    header_told header bytes word (omega arith) zero is (sym c.is_lawful.ensures ∙ c.if-is_lawful.true)
