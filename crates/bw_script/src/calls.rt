@@ -94,15 +94,23 @@ impl Session {
         Ok(Answer::Put(put_at(&mut self.feeds, writer, op)))
     }
 
+    // How many records a turn of this limit took.
+    fn take(&mut self, limit: u32) -> Result<u32, Miss>
+        requires { IsReady self.old holding }
+        ensures { IsReady self.new holding }
+    {
+        match self.store.turn(limit) {
+            Ok(taken) => Ok(taken),
+            Err(fault) => Err(Miss::from(fault.cause)),
+        }
+    }
+
     /// How many records a turn of this limit took.
     fn turn(&mut self, limit: u32) -> Result<Answer, Miss>
         requires { IsReady self.old holding }
         ensures { IsReady self.new holding }
     {
-        match self.store.turn(limit) {
-            Ok(taken) => Ok(Answer::Took(taken)),
-            Err(fault) => Err(Miss::from(fault.cause)),
-        }
+        Ok(Answer::Took(self.take(limit)?))
     }
 
     /// The number of the frame that was appended, if something waited. All that waits in the rings
@@ -112,7 +120,7 @@ impl Session {
         requires { IsReady self.old holding }
         ensures { IsReady self.new holding }
     {
-        let _ = self.turn(u32::MAX)?;
+        let _ = self.take(u32::MAX)?;
         match self.store.flush(rt) {
             Ok(frame) => Ok(Answer::Frame(frame)),
             Err(fault) => Err(Miss::from(fault)),

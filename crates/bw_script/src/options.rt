@@ -58,158 +58,190 @@ pub struct Pace {
     pub tries: u32,
 }
 
-const STORE_DIR: &str =
-    "a folder for the segments, made where it is missing, and gone on from where it is there; \
-    refused E13 then tells a lease";
-
-const SCAN_DIR: &str =
-    "a folder whose segments are looked at, in place of lines; refused E13 then tells a position \
-    among its files";
-
-/// An option whose value is a number.
+/// What an option takes.
 #[derive(Clone, Copy)]
-struct Number<'a> {
-    name: &'a str,
-    help: &'a str,
-    least: i64,
-    most: i64,
-    default: &'a str,
+enum Kind {
+    /// A number from one to another, and what it is where none is given.
+    Number(i64, i64, &'static str),
+    Folder,
 }
 
-fn with_number<'a>(
-    alloc: Global,
-    command: Command<'a>,
-    number: Number<'a>,
-) -> Result<Command<'a>, AllocError> {
-    let Number {
-        name,
-        help,
-        least,
-        most,
-        default,
-    } = number;
-    let option = Arg::new(alloc, name)
-        .long(name)
-        .help(help)
-        .value_parser(clap::value_parser!(u32).range(least..=most))
-        .default_value(default);
-    command.arg(option)
+/// An option: its name, what it takes, and the help.
+#[derive(Clone, Copy)]
+struct Row {
+    name: &'static str,
+    kind: Kind,
+    help: &'static str,
 }
 
-fn with_numbers<'a>(
-    alloc: Global,
-    command: Command<'a>,
-    numbers: &[Number<'a>],
-) -> Result<Command<'a>, AllocError> {
-    let mut command = command;
-    for number in numbers {
-        command = with_number(alloc, command, *number)?;
-    }
-    Ok(command)
-}
+const WRITERS: Row = Row {
+    name: "writers",
+    kind: Kind::Number(1, 64, "1"),
+    help: "how many writers there are, numbered from 0",
+};
 
-/// The folder of the segments.
-fn with_dir<'a>(
-    alloc: Global,
-    command: Command<'a>,
-    help: &'a str,
-) -> Result<Command<'a>, AllocError> {
-    let dir = Arg::new(alloc, "dir")
-        .long("dir")
-        .value_name("FOLDER")
-        .help(help);
-    command.arg(dir)
-}
+const PLACES: Row = Row {
+    name: "places",
+    kind: Kind::Number(1, 4096, "8"),
+    help: "how many records of a writer may wait",
+};
 
-/// The numbers of a store, of so many writers and segments if not told otherwise.
-fn numbers_of<'a>(writers: &'a str, segments: &'a str) -> [Number<'a>; 6] {
-    [
-        Number {
-            name: "writers",
-            help: "how many writers there are, numbered from 0",
-            least: 1,
-            most: 64,
-            default: writers,
-        },
-        Number {
-            name: "places",
-            help: "how many records of a writer may wait",
-            least: 1,
-            most: 4096,
-            default: "8",
-        },
-        Number {
-            name: "m",
-            help: "the most pairs that a page holds",
-            least: 4,
-            most: 32,
-            default: "4",
-        },
-        Number {
-            name: "frame",
-            help: "the most bytes that a frame has",
-            least: 16384,
-            most: 65536,
-            default: "16384",
-        },
-        Number {
-            name: "segments",
-            help: "how many segments there are at the beginning",
-            least: 2,
-            most: 64,
-            default: segments,
-        },
-        Number {
-            name: "capacity",
-            help: "how many bytes a segment has room for",
-            least: 16408,
-            most: 16777216,
-            default: "65536",
-        },
-    ]
-}
+const M: Row = Row {
+    name: "m",
+    kind: Kind::Number(4, 32, "4"),
+    help: "the most pairs that a page holds",
+};
 
-/// How the store is tended, and how often a record is tried.
-const PACE: [Number<'static>; 4] = [
-    Number {
-        name: "limit",
-        help: "how many records a turn takes at most",
-        least: 1,
-        most: 4096,
-        default: "64",
+const FRAME: Row = Row {
+    name: "frame",
+    kind: Kind::Number(16384, 65536, "16384"),
+    help: "the most bytes that a frame has",
+};
+
+const SEGMENTS: Row = Row {
+    name: "segments",
+    kind: Kind::Number(2, 64, "4"),
+    help: "how many segments there are at the beginning",
+};
+
+const CAPACITY: Row = Row {
+    name: "capacity",
+    kind: Kind::Number(16408, 16777216, "65536"),
+    help: "how many bytes a segment has room for",
+};
+
+const STORE_DIR: Row = Row {
+    name: "dir",
+    kind: Kind::Folder,
+    help: "a folder for the segments, made where it is missing, and gone on from where it is there; \
+        refused E13 then tells a lease",
+};
+
+const SCAN_DIR: Row = Row {
+    name: "dir",
+    kind: Kind::Folder,
+    help: "a folder whose segments are looked at, in place of lines; refused E13 then tells a \
+        position among its files",
+};
+
+const LIMIT: Row = Row {
+    name: "limit",
+    kind: Kind::Number(1, 4096, "64"),
+    help: "how many records a turn takes at most",
+};
+
+const FLUSH_EVERY: Row = Row {
+    name: "flush-every",
+    kind: Kind::Number(1, 4096, "4"),
+    help: "after how many turns a flush comes",
+};
+
+const CLEAN_AT: Row = Row {
+    name: "clean-at",
+    kind: Kind::Number(0, 64, "3"),
+    help: "how many live segments there are where the oldest is given up, 0 for never",
+};
+
+const TRIES: Row = Row {
+    name: "tries",
+    kind: Kind::Number(1, 1000000000, "1000000000"),
+    help: "how often a record is tried, and how many turns there are, at most",
+};
+
+/// The store of a script.
+const REPLAY: [Row; 7] = [WRITERS, PLACES, M, FRAME, SEGMENTS, CAPACITY, STORE_DIR];
+
+/// The store of several writers, then how it is tended, and how often a record is tried.
+const THREADS: [Row; 11] = [
+    Row {
+        kind: Kind::Number(1, 64, "2"),
+        ..WRITERS
     },
-    Number {
-        name: "flush-every",
-        help: "after how many turns a flush comes",
-        least: 1,
-        most: 4096,
-        default: "4",
+    PLACES,
+    M,
+    FRAME,
+    Row {
+        kind: Kind::Number(2, 64, "32"),
+        ..SEGMENTS
     },
-    Number {
-        name: "clean-at",
-        help: "how many live segments there are where the oldest is given up, 0 for never",
-        least: 0,
-        most: 64,
-        default: "3",
+    CAPACITY,
+    STORE_DIR,
+    LIMIT,
+    FLUSH_EVERY,
+    CLEAN_AT,
+    TRIES,
+];
+
+/// A mode of the program: its name, what it does, and its options in the order of the help.
+struct Form {
+    name: &'static str,
+    about: &'static str,
+    options: &'static [Row],
+}
+
+const FORMS: [Form; 3] = [
+    Form {
+        name: "replay",
+        about: "Runs a script from standard input",
+        options: &REPLAY,
     },
-    Number {
-        name: "tries",
-        help: "how often a record is tried, and how many turns there are, at most",
-        least: 1,
-        most: 1000000000,
-        default: "1000000000",
+    Form {
+        name: "threads",
+        about: "Runs the puts and deletes of standard input, each writer's in a thread of its own",
+        options: &THREADS,
+    },
+    Form {
+        name: "scan",
+        about: "Says what segments hold, one in hex on each line of standard input",
+        options: &[SCAN_DIR],
     },
 ];
 
-/// A store of so many writers and segments, if not told otherwise.
-fn with_store<'a>(
-    alloc: Global,
-    command: Command<'a>,
-    writers: &'a str,
-    segments: &'a str,
-) -> Result<Command<'a>, AllocError> {
-    let command = with_numbers(alloc, command, &numbers_of(writers, segments))?;
-    with_dir(alloc, command, STORE_DIR)
+fn with_number<'a>(option: Arg<'a>, least: i64, most: i64, default: &'a str) -> Arg<'a> {
+    option
+        .value_parser(clap::value_parser!(u32).range(least..=most))
+        .default_value(default)
+}
+
+fn option_of<'a>(alloc: Global, row: &Row) -> Arg<'a> {
+    let option = Arg::new(alloc, row.name).long(row.name).help(row.help);
+    match row.kind {
+        Kind::Number(least, most, default) => with_number(option, least, most, default),
+        Kind::Folder => option.value_name("FOLDER"),
+    }
+}
+
+fn options_of<'a>(alloc: Global, rows: &[Row]) -> Result<Vec<Arg<'a>>, AllocError> {
+    let mut options = Vec::new(alloc);
+    for row in rows {
+        options.push(option_of(alloc, row))?;
+    }
+    Ok(options)
+}
+
+fn form_of<'a>(alloc: Global, form: &Form) -> Result<Command<'a>, AllocError> {
+    let options = options_of(alloc, form.options)?;
+    Command::new(alloc, form.name)
+        .about(form.about)
+        .args(options)
+}
+
+fn forms_of<'a>(alloc: Global) -> Result<Vec<Command<'a>>, AllocError> {
+    let mut forms = Vec::new(alloc);
+    for form in &FORMS {
+        forms.push(form_of(alloc, form)?)?;
+    }
+    Ok(forms)
+}
+
+/// The command `bwlog` with its modes.
+fn command_of<'a>(alloc: Global) -> Result<Command<'a>, AllocError> {
+    let forms = forms_of(alloc)?;
+    Command::new(alloc, "bwlog")
+        .about("Runs scripts over the page store, and says what segments hold")
+        .no_binary_name(true)
+        .subcommand_required(true)
+        .subcommands(forms)
 }
 
 /// The folder that was named.
@@ -241,45 +273,6 @@ fn pace_of<'a>(found: &ArgMatches<'a>) -> Pace {
         clean_at: found.get_one("clean-at").unwrap_or(0),
         tries: found.get_one("tries").unwrap_or(0),
     }
-}
-
-fn replay_of<'a>(alloc: Global) -> Result<Command<'a>, AllocError> {
-    let replay = Command::new(alloc, "replay").about("Runs a script from standard input");
-    with_store(alloc, replay, "1", "4")
-}
-
-fn threads_of<'a>(alloc: Global) -> Result<Command<'a>, AllocError> {
-    let threads = Command::new(alloc, "threads").about(
-        "Runs the puts and deletes of standard input, each writer's in a thread of its own",
-    );
-    let threads = with_store(alloc, threads, "2", "32")?;
-    with_numbers(alloc, threads, &PACE)
-}
-
-fn scan_of<'a>(alloc: Global) -> Result<Command<'a>, AllocError> {
-    let scan = Command::new(alloc, "scan").about(
-        "Says what segments hold, one in hex on each line of standard input",
-    );
-    with_dir(alloc, scan, SCAN_DIR)
-}
-
-/// One more mode.
-fn with_mode<'a>(
-    command: Command<'a>,
-    mode: Result<Command<'a>, AllocError>,
-) -> Result<Command<'a>, AllocError> {
-    command.subcommand(mode?)
-}
-
-/// The command `bwlog` with its modes.
-fn command_of<'a>(alloc: Global) -> Result<Command<'a>, AllocError> {
-    let command = Command::new(alloc, "bwlog")
-        .about("Runs scripts over the page store, and says what segments hold")
-        .no_binary_name(true)
-        .subcommand_required(true);
-    let command = with_mode(command, replay_of(alloc))?;
-    let command = with_mode(command, threads_of(alloc))?;
-    with_mode(command, scan_of(alloc))
 }
 
 /// The mode that was found, with what its words say.
