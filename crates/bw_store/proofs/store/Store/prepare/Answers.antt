@@ -1,4 +1,4 @@
-use Rattle.std.proofs.Common.{ℕ, List, length, subst}
+use Rattle.std.proofs.Common.{ℕ, List, length, subst, refl}
 use Rattle.std.proofs.lemmas.Result.{err_from_is_err_and}
 use Rattle.bw_log.specs.Appends.{refusal}
 use Rattle.bw_store.specs.Faults.{IsRefused, fault_of}
@@ -13,3 +13,12 @@ returns-in_err-ready-clause-refused g c =
     rw (p.1, p.2) (subst (λ (bytes : List ℕ). IsRefused
     (refusal (kept_by c.args.self.now (λ z. (goal.Segment-dyn g z).holding z.1)).log (length bytes) c.args.takes_last) (fault_of fault))
     c.bytes.ensures.value (checked _ fault c.in_err-ready.ensures.checks))
+
+pub returns-in_err-ready-clause-same : goal.returns-in_err-ready-clause-same
+returns-in_err-ready-clause-same g c = rw (c.ready.ensures.same) refl
+
+pub returns-in_err-reserve-clause-same : goal.returns-in_err-reserve-clause-same
+returns-in_err-reserve-clause-same g c = rw (c.ready.ensures.same, c.reserve.ensures.items) refl
+
+pub returns-clause-same : goal.returns-clause-same
+returns-clause-same g c = rw (c.ready.ensures.same, c.reserve.ensures.items) refl
