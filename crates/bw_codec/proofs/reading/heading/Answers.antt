@@ -1,10 +1,25 @@
-use Rattle.std.proofs.Common.{◌≡◌, drop, ap, sym, ◌∙◌, arith}
+use Rattle.std.proofs.Common.{◌≡◌, ◌==◌, ◌<◌, ℕ, true, false, List, length, drop, refl, ap, sym, ◌∙◌, arith}
+use Rattle.std.proofs.lemmas.Bool.{lt-ltb, eqb-false}
 use Rattle.std.proofs.lemmas.List.{take_rest}
 use Rattle.byteorder.specs.Endian.{little_number}
 use Rattle.bw_codec.specs.declared.block.Header.{Header}
-use Rattle.bw_codec.specs.Reading.{header_in}
+use Rattle.bw_codec.specs.Grammar.{agrees, segment_word}
+use Rattle.bw_codec.specs.Reading.{header_in, heading_of}
+use Rattle.bw_codec.specs.declared.block.HeaderRead.TheVariants.{Part}
 use Rattle.bw_codec.proofs.Heading.{no_header_there, header_told}
 use Rattle.bw_codec.proofs.reading.heading.Goals as goal
+
+-- some bytes that agree with the word, too few for a header
+part_there : (bytes : List ℕ) → agrees bytes segment_word ≡ true → length bytes < 24 → (length bytes == 0) ≡ false → Part ≡ heading_of bytes
+unfolding heading_of
+part_there bytes word short some =
+    let more : 0 < length bytes = omega (arith, eqb-false (length bytes) 0 some) in
+    rw (word, lt-ltb (length bytes) 24 short, lt-ltb 0 (length bytes) more) refl
+
+pub returns-else-is_empty : goal.returns-else-is_empty
+returns-else-is_empty c =
+    part_there c.args.bytes.now (sym c.begins_as.ensures ∙ c.if-not-begins_as.false) c.if-bytes-lt-HEADER_LEN.true
+    (sym c.is_empty.ensures ∙ c.if-is_empty.false)
 
 pub returns-else-is_lawful : goal.returns-else-is_lawful
 returns-else-is_lawful c =

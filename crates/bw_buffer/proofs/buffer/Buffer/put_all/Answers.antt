@@ -2,6 +2,7 @@ use Rattle.std.proofs.Common.{◌≡◌, ◌∙◌, ℕ, ◌+◌, ◌-◌, ◌++
 use Rattle.std.proofs.lemmas.List.{length-map}
 use Rattle.bw_codec.specs.Grammar.{body_bytes, head_bytes}
 use Rattle.bw_codec.specs.declared.block.Block.{Block}
+use Rattle.bw_codec.specs.declared.block.Place.{Place}
 use Rattle.bw_buffer.specs.Filling.{Filling}
 use Rattle.bw_buffer.specs.Marks.{mark_of}
 use Rattle.bw_buffer.specs.Laid.{blocks_in}
@@ -17,7 +18,25 @@ returns-then-not-fit-clause-no_room c =
     let told = room_told c.self.inside c.args.self.now body (c.self.inside.limit - length c.as_slice.result.now) c.fit.result c.self.invariant c.self.view_is
     room c.fit.ensures in
     let no : c.fit.result ≡ false = cc in
-    (λ _. (sym (ap (λ (f : Filling). f.is_sealed) c.self.view_is) ∙ c.if-self.false, told.0 no), λ _. refl)
+    let seal = ap (λ (f : Filling). f.is_sealed) c.self.view_is in
+    let unsealed : c.args.self.now.is_sealed ≡ false = cc in
+    (λ _. (unsealed, told.0 no), λ _. refl)
+
+pub returns-then-not-fit-clause-sealed : goal.returns-then-not-fit-clause-sealed
+returns-then-not-fit-clause-sealed c =
+    let seal = ap (λ (f : Filling). f.is_sealed) c.self.view_is in
+    let unsealed : c.args.self.now.is_sealed ≡ false = cc in
+    (λ e. absurd cc, λ t. absurd cc)
+
+pub lay_out-requires-clause-lawful : goal.lay_out-requires-clause-lawful
+lay_out-requires-clause-lawful c = c.requires.lawful
+
+pub lay_out-requires-clause-room : goal.lay_out-requires-clause-room
+lay_out-requires-clause-room c =
+    let fits = room_inside c.self.inside (length (body_bytes c.args.blocks.now)) (c.self.inside.limit - length c.as_slice.result.now) c.self.invariant
+    (ap (λ (l : List ℕ). c.self.inside.limit - length l) c.as_slice.ensures.value) (let yes : c.fit.result ≡ true = cc in sym yes ∙ c.fit.ensures) in
+    let room = c.self.invariant.room in
+    omega arith
 
 pub mark_all-requires : goal.mark_all-requires
 mark_all-requires c =
@@ -97,3 +116,14 @@ returns-clause-no_room c =
     let yes : c.fit.result ≡ true = cc in
     let under = told.1 yes in
     (λ e. absurd cc, λ long. absurd (let over = long.1 in omega arith))
+
+pub returns-clause-place : goal.returns-clause-place
+returns-clause-place c =
+    ap (λ (n : ℕ). let p : Place = record { frame = c.self.inside.frame; index = n } in p) (sym c.self.invariant.counted)
+    ∙ ap (λ (f : Filling). let p : Place = record { frame = f.frame; index = length f.blocks } in p) c.self.view_is
+
+pub returns-clause-sealed : goal.returns-clause-sealed
+returns-clause-sealed c =
+    let seal = ap (λ (f : Filling). f.is_sealed) c.self.view_is in
+    let unsealed : c.args.self.now.is_sealed ≡ false = cc in
+    (λ e. absurd cc, λ t. absurd cc)
