@@ -64,3 +64,11 @@ returns-clause-spent g c spent =
     let all = subst (λ is. Ran c.args.self.now (map g.T.HasRecord.record_of is) c.loop-item.self c.loop-item.journal.items)
     (take_all c.loop-item.item-index c.args.items.now c.loop-item-test.false) c.loop-item.invariant.ran in
     absurd (none_spent _ _ _ _ all spent)
+
+pub take_back-requires : goal.take_back-requires
+take_back-requires g c = (
+  c.args.self.now,
+  map g.T.HasRecord.record_of (take c.loop-item.item-index c.args.items.now),
+  subst (λ (f : Shown). Ran c.args.self.now (map g.T.HasRecord.record_of (take c.loop-item.item-index c.args.items.now)) f c.loop-item.journal.items)
+      (sym c.in-Err.ensures.unchanged) c.loop-item.invariant.ran,
+)

@@ -1,4 +1,4 @@
-use Rattle.std.proofs.Common.{◌+◌, ◌∙◌, ap, refl, length, arith}
+use Rattle.std.proofs.Common.{ℕ, ◌+◌, ◌<◌, ◌∙◌, ap, refl, subst, length, arith}
 use Rattle.bw_page.specs.Shown.{Shown}
 use Rattle.bw_page.proofs.Closed.{same_filed, same_gets, over_at, found_at, within_at, Follows, follows_whole, follows_cut, whole_by, cut_by}
 use Rattle.bw_page.proofs.leaves.Leaves.apply_at.Goals as goal
@@ -69,3 +69,13 @@ pub change-requires-clause-found_within : goal.change-requires-clause-found_with
 change-requires-clause-found_within c =
     within_at c.self.inside c.self.invariant c.args.self.now c.self.view_is c.args.change.now c.requires.lawful c.args.at c.args.count
     c.requires.page c.requires.pairs c.args.found c.requires.ends
+
+pub returns-then-pages-clause-only_spent : goal.returns-then-pages-clause-only_spent
+returns-then-pages-clause-only_spent c e =
+    let m = ap (λ (f : Shown). f.m) c.self.view_is in
+    let over : c.self.inside.m < c.args.count = subst (λ n. n < c.args.count) c.from.ensures c.if-count-from.false in
+    let list = ap (λ (f : Shown). length f.leaves) c.self.view_is in
+    let pages = c.len-pages.ensures.value in
+    let full = c.if-pages.true in
+    let count = c.self.invariant.count in
+    (subst (λ (x : ℕ × ℕ). x.0 < x.1) (λ i. (m i, c.requires.pairs i)) over, omega arith)

@@ -1,0 +1,23 @@
+use Rattle.std.proofs.Common.{◌≡◌, ◌+◌, ◌-◌, ◌∙◌, ap, subst, length, arith}
+use Rattle.bw_codec.specs.Record.{key_of}
+use Rattle.bw_codec.specs.declared.leaf.Leaf.{Leaf}
+use Rattle.bw_page.specs.Leaves.{home, changed_pairs}
+use Rattle.bw_page.specs.Seek.{seek_of, IsWithin}
+use Rattle.bw_page.proofs.leaves.Leaves.aim.Goals as goal
+
+pub returns : goal.returns
+returns c =
+    let leaf : c.home_on-leaf.result.now ≡ home (key_of c.args.change.now) c.args.self.now.leaves =
+    c.home_on-leaf.ensures.home ∙ ap (λ k. home k c.args.self.now.leaves) c.key.ensures.value in
+    let pairs = c.as_slice-pairs.ensures ∙ ap (λ (l : Leaf). l.pairs) leaf in
+    let within = c.home_on-leaf.ensures.within in
+    let page : c.home_on-leaf.result.now.page - 1 + 1 ≡ c.home_on-leaf.result.now.page = omega arith in
+    record {
+      here = c.requires.here;
+      page = page ∙ ap (λ (l : Leaf). l.page) leaf;
+      within = omega arith;
+      lawful = c.key.ensures.lawful;
+      pairs = c.count_found-count.ensures ∙ ap (λ ps. length (changed_pairs c.args.change.now ps)) pairs;
+      sought = c.find_key-found.ensures.found ∙ (λ i. seek_of ((c.as_slice.ensures.value ∙ c.key-2.ensures.value) i) (leaf i).pairs);
+      ends = subst (λ (l : Leaf). IsWithin (length l.pairs) c.find_key-found.result) leaf c.find_key-found.ensures.within;
+    }
