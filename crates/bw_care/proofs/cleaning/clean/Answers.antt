@@ -32,3 +32,21 @@ pub returns-clause-stands : goal.returns-clause-stands
 returns-clause-stands g c = λ leaves stand.
     same_m _ _ _ _ _ c.in-Ok-move_pages.frames leaves c.in-Ok-move_pages.ensures.moved
     (c.give_up_oldest.ensures.stands leaves (moved_stand _ _ _ _ c.in-Ok-move_pages.frames leaves c.in-Ok-move_pages.ensures.moved stand))
+
+pub returns-then-is_failed-clause-nothing_old : goal.returns-then-is_failed-clause-nothing_old
+returns-then-is_failed-clause-nothing_old g c =
+    let two : 2 ≤ length (seen c.args.log.now (λ b. (goal.Segment-dyn g b).holding b.1)).live = omega (arith, c.if-live-lt2.false, c.live.ensures) in
+    (λ e. absurd cc, λ few. absurd (omega (arith, few, two)))
+
+pub returns-then-is_failed-clause-failed : goal.returns-then-is_failed-clause-failed
+returns-then-is_failed-clause-failed g c =
+    let two : 2 ≤ length (seen c.args.log.now (λ b. (goal.Segment-dyn g b).holding b.1)).live = omega (arith, c.if-live-lt2.false, c.live.ensures) in
+    (λ _. (two, sym c.if-is_failed.ensures), λ _. refl)
+
+pub returns-then-is_failed-clause-refused : goal.returns-then-is_failed-clause-refused
+returns-then-is_failed-clause-refused g c =
+    let two : 2 ≤ length (seen c.args.log.now (λ b. (goal.Segment-dyn g b).holding b.1)).live = omega (arith, c.if-live-lt2.false, c.live.ensures) in
+    (refl, two, sym c.if-is_failed.ensures)
+
+pub returns-in-Err-move_pages-clause-cleaned : goal.returns-in-Err-move_pages-clause-cleaned
+returns-in-Err-move_pages-clause-cleaned g c = tt

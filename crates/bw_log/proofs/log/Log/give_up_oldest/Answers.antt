@@ -20,3 +20,10 @@ returns-clause-stands g c =
     (left_boxes _ _ c.args.self.now.live.items c.remove.new.self.items c.retain.new.self.items refl c.remove.ensures.items c.requires.sound
     (two_boxes _ c.args.self.now.live.items c.requires.two) c.requires.works c.requires.bases
     (filter_same _ (λ line. not (line.segment == c.args.self.now.number)) _ (λ x b f' h. search rules) _ _ c.retain.ensures.filtered)).stands
+
+pub returns-clause-given_up : goal.returns-clause-given_up
+returns-clause-given_up g c =
+    let rest = (left_boxes _ _ c.args.self.now.live.items c.remove.new.self.items c.retain.new.self.items refl c.remove.ensures.items c.requires.sound
+    (two_boxes _ c.args.self.now.live.items c.requires.two) c.requires.works c.requires.bases
+    (filter_same _ (λ line. not (line.segment == c.args.self.now.number)) _ (λ x b f' h. search rules) _ _ c.retain.ensures.filtered)).rest in
+    rw rest refl
