@@ -12,7 +12,7 @@ EXAMPLES = [
     "crates/log_tests/src/tests/readme.rt",
     "crates/drive_tests/src/tests/readme.rt",
 ]
-VECTORS = "crates/care_tests/src/tests/vectors.rt"
+VECTORS = "crates/log_tests/src/tests/care/vectors.rt"
 STORED = "crates/bwlog/data/store/segment-0000.bw"
 
 

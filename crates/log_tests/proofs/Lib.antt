@@ -4,3 +4,4 @@ pub mod SplitExample
 pub mod Vectors
 pub mod SmallBox
 pub mod OnePage
+pub mod WorkedBoxes

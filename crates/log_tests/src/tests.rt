@@ -13,6 +13,7 @@ use bw_device::{Desk, FuseSegment, MemSegment, Segment};
 use std::alloc::Global;
 use std::test::Fail;
 
+mod care;
 mod devices;
 mod failing;
 mod filled;

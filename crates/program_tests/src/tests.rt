@@ -2,6 +2,7 @@
 
 mod command_line;
 mod faults;
+mod files;
 mod folders;
 mod lengths;
 mod scans;

@@ -1,38 +1,43 @@
-//! Boxes of the least capacity.
+//! Boxes in memory.
 
 use bw_device::{Desk, FuseSegment, MemSegment, Segment};
 use std::alloc::Global;
 use std::test::Fail;
+
+/// The least capacity of a box for frames of 16,384 bytes.
+pub(super) const LEAST: u64 = 16408;
 
 /// So many boxes.
 pub(super) fn fill(
     alloc: Global,
     desk: &mut Desk,
     many: u32,
+    capacity: u64,
     boxes: &mut Vec<Box<dyn Segment>>,
 ) -> Result<(), Fail> {
     for _ in 0..many {
-        let segment = MemSegment::new(alloc, desk.take()?, 16408)?;
+        let segment = MemSegment::new(alloc, desk.take()?, capacity)?;
         boxes.push(Box::new(alloc, segment)?)?;
     }
     Ok(())
 }
 
-/// A row of so many.
+/// A row of so many boxes.
 pub(super) fn filled(
     alloc: Global,
     desk: &mut Desk,
     many: u32,
+    capacity: u64,
 ) -> Result<Vec<Box<dyn Segment>>, Fail> {
     let mut boxes: Vec<Box<dyn Segment>> = Vec::new(alloc);
-    fill(alloc, desk, many, &mut boxes)?;
+    fill(alloc, desk, many, capacity, &mut boxes)?;
     Ok(boxes)
 }
 
-/// A row of so many, of a desk of their own.
+/// A row of so many of the least capacity, of a desk of their own.
 pub(super) fn boxes_of(alloc: Global, many: u32) -> Result<Vec<Box<dyn Segment>>, Fail> {
     let mut desk = Desk::new(alloc, many)?;
-    filled(alloc, &mut desk, many)
+    filled(alloc, &mut desk, many, LEAST)
 }
 
 /// A box that fails once, after so many calls.
@@ -41,9 +46,10 @@ pub(super) fn fuse(
     desk: &mut Desk,
     calls: u64,
     keep: u64,
+    capacity: u64,
     boxes: &mut Vec<Box<dyn Segment>>,
 ) -> Result<(), Fail> {
-    let inner = MemSegment::new(alloc, desk.take()?, 16408)?;
+    let inner = MemSegment::new(alloc, desk.take()?, capacity)?;
     boxes.push(Box::new(alloc, FuseSegment::new(inner, calls, keep))?)?;
     Ok(())
 }

@@ -1,10 +1,42 @@
-//! What `open` refuses: the boxes come back.
+//! Stores are opened; and what `open` refuses: the boxes come back.
+
+ghost use Rattle.std.specs.Prelude.{◌≡◌, map, IfOk};
+ghost use Rattle.bw_ring.specs.Ends.{ring_of_feed};
+ghost use Rattle.bw_store.specs.Views.{kept_beside, IsSoundBeside};
 
 use super::boxes::boxes_of;
 use bw_device::Segment;
+use bw_ring::Feed;
 use bw_store::{Config, Store, StoreFault};
 use std::sync::Wait;
 use std::test::Fail;
+
+/// The numbers of a store whose pages have at most four pairs.
+pub(super) fn config_of(writers: usize, places: usize, readers: usize) -> Config {
+    Config {
+        writers,
+        places,
+        readers,
+        m: 4,
+        f: 16384,
+    }
+}
+
+/// A store over these boxes, and a feed for each of its writers.
+pub(super) fn opened<R: AllocGlobal + Wait>(
+    rt: &R,
+    config: &Config,
+    boxes: Vec<Box<dyn Segment>>,
+) -> Result<(Store, Vec<Feed>), Fail>
+    ensures sound { IfOk result (λ r. IsSoundBeside r.0 holding) }
+    ensures feeds { IfOk result (λ r.
+        map ring_of_feed r.1.items ≡ (kept_beside r.0 holding).rings) }
+{
+    match Store::open(rt, rt.alloc(), config, boxes) {
+        Ok(made) => Ok(made),
+        Err(_fault) => Err(Fail::from("a refusal of open")),
+    }
+}
 
 // Whether a store over two boxes is refused, and both come back.
 fn is_refused<R: AllocGlobal + Wait>(rt: &R, config: &Config) -> Result<bool, Fail> {

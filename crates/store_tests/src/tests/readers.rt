@@ -3,11 +3,12 @@
 ghost use Rattle.bw_store.specs.Views.{IsSound};
 
 use super::boxes::boxes_of;
+use super::opening::{config_of, opened};
 use super::putting::{is_put, record};
 use bw_codec::{Key, Value};
 use bw_device::Segment;
 use bw_ring::Feed;
-use bw_store::{Config, NoReader, ReadFault, Reader, Store};
+use bw_store::{NoReader, ReadFault, Reader, Store};
 use std::sync::Wait;
 use std::test::Fail;
 use std::thread;
@@ -18,16 +19,6 @@ const READS: u32 = 10_000;
 
 /// How many values of one key are put, taken and flushed meanwhile.
 const VALUES: u8 = 200;
-
-fn config() -> Config {
-    Config {
-        writers: 1,
-        places: 8,
-        readers: 3,
-        m: 4,
-        f: 16384,
-    }
-}
 
 // Whether a reader answers this value of `k`; no bytes where it has none.
 fn reads(reader: &mut Reader, value: &[u8]) -> Result<bool, Fail> {
@@ -126,9 +117,7 @@ fn is_refused(mut reader: Reader, key: &Key) -> bool {
 fn a_reader_sees_what_was_flushed(rt: HostRuntime) -> Result<(), Fail> {
     let boxes = boxes_of(rt.alloc(), 8)?;
     let key = Key::new(b"k")?;
-    let Ok((mut store, mut feeds)) = Store::open(&rt, rt.alloc(), &config(), boxes) else {
-        return Err(Fail::from("a refusal"));
-    };
+    let (mut store, mut feeds) = opened(&rt, &config_of(1, 8, 3), boxes)?;
     let seen = sees_flushes(&rt, &mut store, &mut feeds);
     let news = reads_news(&rt, &mut store, &key);
     let places = has_one_place(&mut store);
@@ -193,9 +182,7 @@ fn race<R: Threads + Wait>(
 #[test]
 fn no_value_goes_back_beside_the_flusher(rt: HostRuntime) -> Result<(), Fail> {
     let boxes = boxes_of(rt.alloc(), 8)?;
-    let Ok((mut store, mut feeds)) = Store::open(&rt, rt.alloc(), &config(), boxes) else {
-        return Err(Fail::from("a refusal"));
-    };
+    let (mut store, mut feeds) = opened(&rt, &config_of(1, 8, 3), boxes)?;
     let said = race(&rt, &mut store, &mut feeds);
     let _ = store.shut(&rt);
     assert_eq!(rt; said?, (0, 0));

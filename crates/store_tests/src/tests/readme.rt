@@ -4,7 +4,7 @@ ghost use Rattle.std.specs.Prelude.{◌≡◌, map};
 ghost use Rattle.bw_ring.specs.Ends.{ring_of_feed};
 ghost use Rattle.bw_store.specs.Views.{kept_by, IsSound};
 
-use super::boxes::fill;
+use super::boxes::{LEAST, fill};
 use super::threads::OfOneRing;
 use bw_codec::{Key, Record, Value};
 use bw_device::{Desk, Segment};
@@ -51,7 +51,7 @@ fn is_there<R: AllocGlobal + Threads + Wait>(rt: &R) -> Result<Option<Value>, Fa
     let alloc = rt.alloc();
     let mut desk = Desk::new(alloc, 2)?;
     let mut boxes: Vec<Box<dyn Segment>> = Vec::new(alloc);
-    fill(alloc, &mut desk, 2, &mut boxes)?;
+    fill(alloc, &mut desk, 2, LEAST, &mut boxes)?;
     let config = Config {
         writers: 1,
         places: 8,

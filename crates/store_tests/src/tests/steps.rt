@@ -69,7 +69,8 @@ fn are_cuts(cuts: &[u64], told: &[u64]) -> bool {
     cuts.len() == told.len() && cuts.iter().zip(told).all(|(a, b)| *a == *b)
 }
 
-fn is_added(store: &mut Store, more: &mut Vec<Box<dyn Segment>>) -> bool
+/// Whether the store has a segment more.
+pub(super) fn is_added(store: &mut Store, more: &mut Vec<Box<dyn Segment>>) -> bool
     requires { IsSoundBeside store.old holding }
     ensures sound { IsSoundBeside store.new holding }
     ensures follows { Follows (kept_beside store.old holding) (kept_beside store.new holding) }

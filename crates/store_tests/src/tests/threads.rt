@@ -6,10 +6,11 @@ ghost use Rattle.bw_store.specs.Views.{kept_by, IsSound};
 ghost use Rattle.bw_store.specs.Following.{Follows};
 
 use super::boxes::boxes_of;
+use super::opening::{config_of, opened};
 use super::putting::numbered;
 use bw_device::Segment;
 use bw_ring::Feed;
-use bw_store::{Config, Entry, Store};
+use bw_store::{Entry, Store};
 use std::snapshot::Snapshot;
 use std::sync::Wait;
 use std::test::Fail;
@@ -175,18 +176,8 @@ fn are_settled<R: Threads + Wait>(
 
 #[test]
 fn four_writers_in_threads_are_settled(rt: HostRuntime) -> Result<(), Fail> {
-    let config = Config {
-        writers: 4,
-        places: 256,
-        readers: 1,
-        m: 4,
-        f: 16384,
-    };
     let boxes = boxes_of(rt.alloc(), 40)?;
-    let Ok((mut store, mut feeds)) = Store::open(&rt, rt.alloc(), &config, boxes) else {
-        assert!(rt; false);
-        return Ok(());
-    };
+    let (mut store, mut feeds) = opened(&rt, &config_of(4, 256, 1), boxes)?;
     let settled = are_settled(&rt, &mut store, &mut feeds);
     let _ = store.shut(&rt);
     assert!(rt; settled?);

@@ -4,18 +4,19 @@ ghost use Rattle.std.specs.Prelude.{◌≡◌, map};
 ghost use Rattle.bw_ring.specs.Ends.{ring_of_feed};
 ghost use Rattle.bw_store.specs.Views.{kept_beside, IsSoundBeside};
 
-use super::boxes::{fill, filled, fuse};
+use super::boxes::{LEAST, fill, filled, fuse};
+use super::opening::{config_of, opened};
 use super::steps::{Step, goes};
-use bw_care::recover;
+use bw_care::{Recovered, recover};
 use bw_device::{Desk, MemSegment, Segment};
 use bw_ring::Feed;
-use bw_store::{Config, Store};
+use bw_store::Store;
 use std::alloc::Global;
 use std::sync::Wait;
 use std::test::Fail;
 
-/// The first step that did not go as told.
-pub(super) fn wrong_step<R: AllocGlobal + Wait>(
+// The first step that did not go as told.
+fn wrong_step<R: AllocGlobal + Wait>(
     rt: &R,
     store: &mut Store,
     feeds: &mut Vec<Feed>,
@@ -34,27 +35,73 @@ pub(super) fn wrong_step<R: AllocGlobal + Wait>(
     Ok(None)
 }
 
-// The same over a store that is opened over these boxes.
-fn walked<R: AllocGlobal + Wait>(
+/// All boxes in one row.
+pub(super) fn joined(
+    live: Vec<Box<dyn Segment>>,
+    spares: Vec<Box<dyn Segment>>,
+) -> Result<Vec<Box<dyn Segment>>, Fail> {
+    let mut boxes = live;
+    for spare in spares {
+        boxes.push(spare)?;
+    }
+    Ok(boxes)
+}
+
+/// The first step of a life that did not go as told, and all boxes behind it.
+pub(super) type Left = (Option<usize>, Vec<Box<dyn Segment>>);
+
+// What a life left of the boxes that came out of its store.
+fn left_by(
+    wrong: Result<Option<usize>, Fail>,
+    live: Vec<Box<dyn Segment>>,
+    spares: Vec<Box<dyn Segment>>,
+) -> Result<Left, Fail> {
+    Ok((wrong?, joined(live, spares)?))
+}
+
+/// The steps over a store of these boxes, with rings of so many places and these segments in reserve.
+/// The boxes then come out of it.
+pub(super) fn lives<R: AllocGlobal + Wait>(
     rt: &R,
     boxes: Vec<Box<dyn Segment>>,
     more: &mut Vec<Box<dyn Segment>>,
     places: usize,
     steps: &[Step],
-) -> Result<Option<usize>, Fail> {
-    let config = Config {
-        writers: 2,
-        places,
-        readers: 1,
-        m: 4,
-        f: 16384,
-    };
-    let Ok((mut store, mut feeds)) = Store::open(rt, rt.alloc(), &config, boxes) else {
-        return Err(Fail::from("a refusal of open"));
-    };
+) -> Result<Left, Fail> {
+    let (mut store, mut feeds) = opened(rt, &config_of(2, places, 1), boxes)?;
     let wrong = wrong_step(rt, &mut store, &mut feeds, more, steps);
-    let _ = store.shut(rt);
-    wrong
+    let (live, spares) = store.shut(rt);
+    left_by(wrong, live, spares)
+}
+
+// Whether frames 1 to `last` were found, without a tail; where it is not told, any.
+fn are_found(recovered: &Recovered, last: Option<u64>) -> bool {
+    match last {
+        Some(last) => (recovered.first, recovered.last, recovered.tail) == (1, last, 0),
+        None => true,
+    }
+}
+
+/// The steps over a store of what is recovered from these boxes, frames 1 to `last`.
+pub(super) fn lives_on<R: AllocGlobal + Wait>(
+    rt: &R,
+    boxes: Vec<Box<dyn Segment>>,
+    last: Option<u64>,
+    steps: &[Step],
+) -> Result<Left, Fail> {
+    let Ok(recovered) = recover(rt.alloc(), boxes) else {
+        return Err(Fail::from("a refusal of recover"));
+    };
+    if !are_found(&recovered, last) {
+        return Err(Fail::from("other frames"));
+    }
+    let Ok((mut store, mut feeds)) = Store::reopen(rt, rt.alloc(), recovered, 2, 8, 1) else {
+        return Err(Fail::from("a refusal of reopen"));
+    };
+    let mut more: Vec<Box<dyn Segment>> = Vec::new(rt.alloc());
+    let wrong = wrong_step(rt, &mut store, &mut feeds, &mut more, steps);
+    let (live, spares) = store.shut(rt);
+    left_by(wrong, live, spares)
 }
 
 // So many boxes, and one more in reserve.
@@ -63,8 +110,8 @@ fn supply(
     many: u32,
 ) -> Result<(Vec<Box<dyn Segment>>, Vec<Box<dyn Segment>>), Fail> {
     let mut desk = Desk::new(alloc, 16)?;
-    let boxes = filled(alloc, &mut desk, many)?;
-    let more = filled(alloc, &mut desk, 1)?;
+    let boxes = filled(alloc, &mut desk, many, LEAST)?;
+    let more = filled(alloc, &mut desk, 1, LEAST)?;
     Ok((boxes, more))
 }
 
@@ -76,7 +123,8 @@ pub(super) fn within<R: AllocGlobal + Wait>(
     steps: &[Step],
 ) -> Result<Option<usize>, Fail> {
     let (boxes, mut more) = supply(rt.alloc(), many)?;
-    walked(rt, boxes, &mut more, places, steps)
+    let (wrong, _boxes) = lives(rt, boxes, &mut more, places, steps)?;
+    Ok(wrong)
 }
 
 /// The same with eight places.
@@ -104,9 +152,9 @@ pub(super) fn first_wrong<R: AllocGlobal + Wait>(
 // So many boxes, then one that fails after so many calls, and a spare.
 fn fused(alloc: Global, many: u32, calls: u64, keep: u64) -> Result<Vec<Box<dyn Segment>>, Fail> {
     let mut desk = Desk::new(alloc, 8)?;
-    let mut boxes = filled(alloc, &mut desk, many)?;
-    fuse(alloc, &mut desk, calls, keep, &mut boxes)?;
-    fill(alloc, &mut desk, 1, &mut boxes)?;
+    let mut boxes = filled(alloc, &mut desk, many, LEAST)?;
+    fuse(alloc, &mut desk, calls, keep, LEAST, &mut boxes)?;
+    fill(alloc, &mut desk, 1, LEAST, &mut boxes)?;
     Ok(boxes)
 }
 
@@ -119,25 +167,8 @@ pub(super) fn over_fuse<R: AllocGlobal + Wait>(
     steps: &[Step],
 ) -> Result<Option<usize>, Fail> {
     let boxes = fused(rt.alloc(), many, calls, keep)?;
-    walked(rt, boxes, &mut Vec::new(rt.alloc()), 8, steps)
-}
-
-// The same over a store that is opened again.
-fn walked_again<R: AllocGlobal + Wait>(
-    rt: &R,
-    boxes: Vec<Box<dyn Segment>>,
-    more: &mut Vec<Box<dyn Segment>>,
-    steps: &[Step],
-) -> Result<Option<usize>, Fail> {
-    let Ok(recovered) = recover(rt.alloc(), boxes) else {
-        return Err(Fail::from("a refusal of recover"));
-    };
-    let Ok((mut store, mut feeds)) = Store::reopen(rt, rt.alloc(), recovered, 2, 8, 1) else {
-        return Err(Fail::from("a refusal of reopen"));
-    };
-    let wrong = wrong_step(rt, &mut store, &mut feeds, more, steps);
-    let _ = store.shut(rt);
-    wrong
+    let (wrong, _boxes) = lives(rt, boxes, &mut Vec::new(rt.alloc()), 8, steps)?;
+    Ok(wrong)
 }
 
 // A box with the bytes of a text in hex.
@@ -148,7 +179,7 @@ fn add_bytes(
     boxes: &mut Vec<Box<dyn Segment>>,
 ) -> Result<(), Fail> {
     let bytes = hex::decode(alloc, text)?;
-    let segment = MemSegment::with_bytes(alloc, desk.take()?, 16408, &bytes)?;
+    let segment = MemSegment::with_bytes(alloc, desk.take()?, LEAST, &bytes)?;
     boxes.push(Box::new(alloc, segment)?)?;
     Ok(())
 }
@@ -160,7 +191,7 @@ fn with_bytes(alloc: Global, texts: &[&'static str]) -> Result<Vec<Box<dyn Segme
     for text in texts {
         add_bytes(alloc, &mut desk, text, &mut boxes)?;
     }
-    fill(alloc, &mut desk, 2, &mut boxes)?;
+    fill(alloc, &mut desk, 2, LEAST, &mut boxes)?;
     Ok(boxes)
 }
 
@@ -171,5 +202,6 @@ pub(super) fn over_bytes<R: AllocGlobal + Wait>(
     steps: &[Step],
 ) -> Result<Option<usize>, Fail> {
     let boxes = with_bytes(rt.alloc(), texts)?;
-    walked_again(rt, boxes, &mut Vec::new(rt.alloc()), steps)
+    let (wrong, _boxes) = lives_on(rt, boxes, None, steps)?;
+    Ok(wrong)
 }

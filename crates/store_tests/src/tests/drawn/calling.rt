@@ -1,0 +1,147 @@
+//! Calls that may want a segment, and then go on with one more.
+
+ghost use Rattle.std.specs.Prelude.{◌≡◌, map};
+ghost use Rattle.bw_ring.specs.Ends.{ring_of_feed};
+ghost use Rattle.bw_store.specs.Views.{kept_by, kept_beside, IsSound, IsSoundBeside};
+ghost use Rattle.bw_store.specs.Following.{Follows};
+
+use super::steps::Step::{Flush, Settle, Turn};
+use super::steps::{Script, Step};
+use crate::tests::steps::is_added;
+use bw_device::Segment;
+use bw_ring::Feed;
+use bw_store::{Store, StoreFault};
+use std::sync::Wait;
+use std::test::Fail;
+
+/// How a call went.
+#[derive(Clone, Copy)]
+enum Went {
+    AsTold,
+    Otherwise,
+    /// As told so far, but for want of a segment.
+    Wanting,
+}
+
+fn as_told(as_told: bool) -> Went {
+    if as_told {
+        Went::AsTold
+    } else {
+        Went::Otherwise
+    }
+}
+
+fn wanting(as_told: bool, cause: StoreFault) -> Went {
+    if as_told && cause == StoreFault::NoSegment {
+        Went::Wanting
+    } else {
+        Went::Otherwise
+    }
+}
+
+fn turns(store: &mut Store, script: &mut Script, limit: u32) -> Result<Went, Fail>
+    requires { IsSound store.old holding }
+    ensures sound { IsSound store.new holding }
+    ensures follows { Follows (kept_by store.old holding) (kept_by store.new holding) }
+{
+    match store.turn(limit) {
+        Ok(taken) => Ok(as_told(script.model.turn(limit)? == taken)),
+        Err(fault) => {
+            let taken = script.model.turn(fault.taken)?;
+            Ok(wanting(taken == fault.taken, fault.cause))
+        }
+    }
+}
+
+fn flushes<R: Wait>(rt: &R, store: &mut Store, script: &mut Script) -> Went
+    requires { IsSound store.old holding }
+    ensures sound { IsSound store.new holding }
+    ensures follows { Follows (kept_by store.old holding) (kept_by store.new holding) }
+{
+    match store.flush(rt) {
+        Ok(frame) => as_told(script.model.flush() == frame.is_some()),
+        Err(cause) => wanting(true, cause),
+    }
+}
+
+fn cleans<R: Wait>(rt: &R, store: &mut Store, script: &mut Script) -> Went
+    requires { IsSound store.old holding }
+    ensures sound { IsSound store.new holding }
+    ensures follows { Follows (kept_by store.old holding) (kept_by store.new holding) }
+{
+    if store.live() < 2 {
+        return as_told(store.clean(rt) == Err(StoreFault::NothingOld));
+    }
+    match store.clean(rt) {
+        Ok(cleaned) => {
+            let _ = script.model.flush();
+            script.cleaned = script.cleaned.saturating_add(1);
+            as_told(cleaned.segment == u64::from(script.cleaned))
+        }
+        Err(cause) => wanting(true, cause),
+    }
+}
+
+fn settles<R: Wait>(
+    rt: &R,
+    store: &mut Store,
+    feeds: &mut Vec<Feed>,
+    script: &mut Script,
+) -> Result<Went, Fail>
+    requires sound { IsSound store.old holding }
+    requires feeds { map ring_of_feed feeds.old.items ≡ (kept_by store.old holding).rings }
+    ensures sound { IsSound store.new holding }
+    ensures feeds { map ring_of_feed feeds.new.items ≡ (kept_by store.new holding).rings }
+{
+    match store.settle(rt, feeds) {
+        Ok(entries) => Ok(as_told(script.model.settle()? == entries)),
+        Err(cause) => Ok(wanting(true, cause)),
+    }
+}
+
+fn calls<R: Wait>(
+    rt: &R,
+    store: &mut Store,
+    feeds: &mut Vec<Feed>,
+    script: &mut Script,
+    step: Step,
+) -> Result<Went, Fail>
+    requires sound { IsSound store.old holding }
+    requires feeds { map ring_of_feed feeds.old.items ≡ (kept_by store.old holding).rings }
+    ensures sound { IsSound store.new holding }
+    ensures feeds { map ring_of_feed feeds.new.items ≡ (kept_by store.new holding).rings }
+{
+    match step {
+        Turn(limit) => turns(store, script, limit),
+        Flush => Ok(flushes(rt, store, script)),
+        Settle => settles(rt, store, feeds, script),
+        _ => Ok(cleans(rt, store, script)),
+    }
+}
+
+/// Whether the call goes as told, with a segment more each time that it wants one.
+pub(super) fn tries<R: Wait>(
+    rt: &R,
+    store: &mut Store,
+    feeds: &mut Vec<Feed>,
+    more: &mut Vec<Box<dyn Segment>>,
+    script: &mut Script,
+    step: Step,
+) -> Result<bool, Fail>
+    requires sound { IsSoundBeside store.old holding }
+    requires feeds { map ring_of_feed feeds.old.items ≡ (kept_beside store.old holding).rings }
+    ensures sound { IsSoundBeside store.new holding }
+    ensures feeds { map ring_of_feed feeds.new.items ≡ (kept_beside store.new holding).rings }
+{
+    'tries: for _ in 0..100 {
+        match calls(rt, store, feeds, script, step)? {
+            Went::AsTold => return Ok(true),
+            Went::Otherwise => return Ok(false),
+            Went::Wanting => script.refusals = script.refusals.saturating_add(1),
+        }
+        if !is_added(store, more) {
+            return Ok(false);
+        }
+    }
+    Ok(false)
+}

@@ -1,0 +1,172 @@
+//! A store lives, stops, and lives on from its boxes.
+
+ghost use Rattle.bw_care.specs.Found.{IsRecovered};
+ghost use Rattle.bw_store.specs.Views.{IsSoundBeside};
+
+use super::draws::Draw;
+use super::model::Model;
+use super::seen::Seen;
+use super::steps::Script;
+use super::walking::{Rounds, all_go};
+use crate::tests::boxes::filled;
+use crate::tests::opening::opened;
+use crate::tests::walking::joined;
+use bw_care::{Recovered, recover};
+use bw_device::{Desk, Segment};
+use bw_page::Leaves;
+use bw_store::{Config, Store};
+use std::alloc::Global;
+use std::sync::Wait;
+use std::test::Fail;
+
+/// What a store is opened with, and what its script draws from.
+#[derive(Clone, Copy)]
+pub(super) struct Table {
+    pub(super) seed: u64,
+    pub(super) m: u16,
+    pub(super) keys: u32,
+    pub(super) are_shared: bool,
+    /// The places of each writer's ring.
+    pub(super) places: usize,
+    /// How many boxes it is opened over, how many more there are, and the capacity of each.
+    pub(super) boxes: u32,
+    pub(super) more: u32,
+    pub(super) capacity: u64,
+}
+
+pub(super) fn script_of(alloc: Global, table: &Table) -> Result<Script, Fail> {
+    Ok(Script {
+        draw: Draw(table.seed),
+        model: Model::new(alloc, table.places)?,
+        m: table.m,
+        keys: table.keys,
+        are_shared: table.are_shared,
+        pages: 1,
+        steps: 0,
+        refusals: 0,
+        cleaned: 0,
+        is_refused: false,
+        is_failed: false,
+    })
+}
+
+/// How a life ended: whether all went as told, and all boxes.
+pub(super) type Left = (bool, Vec<Box<dyn Segment>>);
+
+/// The boxes that a store of the table is opened over, and those that there are more.
+pub(super) type Supply = (Vec<Box<dyn Segment>>, Vec<Box<dyn Segment>>);
+
+/// Boxes of the table, of one desk with so many leases.
+pub(super) fn supply(alloc: Global, leases: u32, table: &Table) -> Result<Supply, Fail> {
+    let mut desk = Desk::new(alloc, leases)?;
+    let boxes = filled(alloc, &mut desk, table.boxes, table.capacity)?;
+    let more = filled(alloc, &mut desk, table.more, table.capacity)?;
+    Ok((boxes, more))
+}
+
+// What a life left of the boxes that came out of its store.
+fn left_by(
+    went: Result<bool, Fail>,
+    told: bool,
+    live: Vec<Box<dyn Segment>>,
+    spares: Vec<Box<dyn Segment>>,
+) -> Result<Left, Fail> {
+    let went = went?;
+    Ok((went && told, joined(live, spares)?))
+}
+
+/// Whether all goes as told over a store of these boxes, which then come out of it.
+pub(super) fn lives<R: AllocGlobal + Wait>(
+    rt: &R,
+    boxes: Vec<Box<dyn Segment>>,
+    more: &mut Vec<Box<dyn Segment>>,
+    script: &mut Script,
+    plans: &[Rounds],
+) -> Result<Left, Fail> {
+    let config = Config {
+        writers: 2,
+        places: script.model.places(),
+        readers: 1,
+        m: script.m,
+        f: 16384,
+    };
+    let (mut store, mut feeds) = opened(rt, &config, boxes)?;
+    let went = all_go(rt, &mut store, &mut feeds, more, script, plans);
+    let (live, spares) = store.shut(rt);
+    left_by(went, true, live, spares)
+}
+
+// Whether these pages are the map's.
+fn are_told(alloc: Global, leaves: &Leaves, script: &Script) -> Result<bool, Fail> {
+    let mut seen = Seen::new(alloc, script.m);
+    for page in 1..=leaves.count() {
+        let Some(leaf) = leaves.page(page) else {
+            return Ok(false);
+        };
+        if !seen.read(leaf)? {
+            return Ok(false);
+        }
+    }
+    seen.are(alloc, script.model.values())
+}
+
+// The same over what was recovered, whose pages are the map's or not.
+fn goes_on<R: AllocGlobal + Wait>(
+    rt: &R,
+    recovered: Recovered,
+    told: bool,
+    more: &mut Vec<Box<dyn Segment>>,
+    script: &mut Script,
+    plans: &[Rounds],
+) -> Result<Left, Fail>
+    requires { IsRecovered holding recovered }
+{
+    let places = script.model.places();
+    let Ok((mut store, mut feeds)) = Store::reopen(rt, rt.alloc(), recovered, 2, places, 1) else {
+        return Err(Fail::from("a refusal of reopen"));
+    };
+    let went = all_go(rt, &mut store, &mut feeds, more, script, plans);
+    let (live, spares) = store.shut(rt);
+    left_by(went, told, live, spares)
+}
+
+// The same over what is recovered from them, whose pages have to be the map's.
+fn lives_on<R: AllocGlobal + Wait>(
+    rt: &R,
+    boxes: Vec<Box<dyn Segment>>,
+    more: &mut Vec<Box<dyn Segment>>,
+    script: &mut Script,
+    plans: &[Rounds],
+) -> Result<Left, Fail> {
+    let Ok(recovered) = recover(rt.alloc(), boxes) else {
+        return Err(Fail::from("a refusal of recover"));
+    };
+    let told = are_told(rt.alloc(), &recovered.leaves, script)?;
+    goes_on(rt, recovered, told, more, script, plans)
+}
+
+/// One life over boxes of the table: whether all went as told.
+pub(super) fn has_lived<R: AllocGlobal + Wait>(
+    rt: &R,
+    leases: u32,
+    table: &Table,
+    script: &mut Script,
+    plans: &[Rounds],
+) -> Result<bool, Fail> {
+    let (boxes, mut more) = supply(rt.alloc(), leases, table)?;
+    let (went, _boxes) = lives(rt, boxes, &mut more, script, plans)?;
+    Ok(went)
+}
+
+/// A life after a stop; with `is_whole` all that was taken is in frames.
+pub(super) fn stops_and_lives_on<R: AllocGlobal + Wait>(
+    rt: &R,
+    boxes: Vec<Box<dyn Segment>>,
+    more: &mut Vec<Box<dyn Segment>>,
+    script: &mut Script,
+    plans: &[Rounds],
+    is_whole: bool,
+) -> Result<Left, Fail> {
+    script.model.stop(rt.alloc(), is_whole)?;
+    lives_on(rt, boxes, more, script, plans)
+}
