@@ -5,7 +5,9 @@ use Rattle.bw_codec.specs.declared.record.Record.{Record}
 use Rattle.bw_ring.specs.declared.feed.Feed.{Feed}
 use Rattle.bw_ring.specs.Ends.{accepted, ring_of_feed}
 use Rattle.bw_drive.specs.declared.writers.Job.{Job}
+use Rattle.bw_drive.specs.declared.writers.Writer.{Writer}
 use Rattle.bw_drive.specs.declared.writers.Written.{Written}
+use Rattle.bw_drive.specs.Pending.{job_of}
 use Rattle.std.specs.declared.alloc.Global.{Global}
 use Rattle.std.specs.declared.vec.Vec.{Vec}
 use Rattle.bw_drive.specs.Written.{IsWritten, after_scripts, AreWithin, texts, WroteSome, ring_of_job, given_before, script_of}
@@ -82,3 +84,11 @@ none_wrote old new scripts len e = (
     within = none_within old scripts len;
   },
 )
+
+-- ---- all have ended
+
+-- where no writer is left, all jobs are done
+pub all_done : (jobs : List Job) (left : List Writer) (feeds : List Feed) (counts : List ℕ) (had : HaveEnded jobs (map job_of left) feeds counts)
+    → length left ≡ 0 → had.done ≡ jobs
+all_done jobs [] feeds counts had none = sym (append-nil had.done) ∙ had.whole
+all_done jobs (w ∷ ws) feeds counts had none = absurd (omega arith)

@@ -10,3 +10,15 @@ returns-in-Err-settle-clause-runs g c = λ first ran. runs_kept _ first _ _ ran 
 pub returns-in-Err-settle-clause-refused : goal.returns-in-Err-settle-clause-refused
 returns-in-Err-settle-clause-refused g c =
     λ first ran before. stops_last _ first _ _ c.in-Err-settle.cause ran c.in-Err-settle.ensures.refused
+
+pub returns-in-Ok-clause-settled : goal.returns-in-Ok-clause-settled
+returns-in-Ok-clause-settled g c =
+    let e = c.in-Ok.ensures in
+    record {
+      exactly = e.exactly;
+      writers = e.writers;
+      settled = record { stands = e.pages; whole = e.whole; cut = e.last_cut };
+      shares = e.shares;
+      answer = e.answer;
+      published = e.published;
+    }

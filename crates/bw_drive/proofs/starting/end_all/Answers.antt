@@ -1,10 +1,11 @@
--- One writer more has ended.
+-- One writer more has ended, and at last all have.
 
-use Rattle.std.proofs.Common.{ℕ, ◌≡◌, [], ◌∷◌, ◌++◌, ap, length, map, sym, subst, arith, List}
+use Rattle.std.proofs.Common.{ℕ, ◌≡◌, [], ◌∷◌, ◌++◌, ap, ◌∙◌, length, map, sym, subst, arith, List}
 use Rattle.bw_ring.specs.declared.feed.Feed.{Feed}
 use Rattle.bw_drive.specs.declared.writers.Job.{Job}
 use Rattle.bw_drive.specs.Pending.{job_of}
-use Rattle.bw_drive.proofs.Ends.{HaveEnded, one_more}
+use Rattle.bw_drive.specs.Written.{after_scripts, ring_of_job, given_before, script_of}
+use Rattle.bw_drive.proofs.Ends.{HaveEnded, one_more, all_done}
 use Rattle.bw_drive.proofs.starting.end_all.Goals as goal
 
 pub ends-preserved : goal.ends-preserved
@@ -21,3 +22,14 @@ ends-preserved g c =
       feeds_room = omega (arith, ap length c.in-Some.ensures.items);
       counts_room = omega (arith, ap length c.in-Some.ensures.items);
     }
+
+pub returns-clause-rings : goal.returns-clause-rings
+returns-clause-rings g c =
+    let had = c.ends.invariant.some in
+    had.rings ∙ ap (map ring_of_job) (all_done _ _ _ _ had (omega (arith, c.ends.writers.ok, c.in_default.ensures.cases.0)))
+
+pub returns-clause-accepted : goal.returns-clause-accepted
+returns-clause-accepted g c =
+    let had = c.ends.invariant.some in
+    had.gave ∙ ap (λ js. after_scripts (map given_before js) (map script_of js) c.ends.counts.items)
+    (all_done _ _ _ _ had (omega (arith, c.ends.writers.ok, c.in_default.ensures.cases.0)))

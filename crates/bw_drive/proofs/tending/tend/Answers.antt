@@ -1,4 +1,4 @@
-use Rattle.std.proofs.Common.{inr}
+use Rattle.std.proofs.Common.{inl, inr, refl}
 use Rattle.std.proofs.lemmas.Result.{err_from_is_err_and}
 use Rattle.bw_drive.proofs.Runs.{runs_none, runs_then, stops_then}
 use Rattle.bw_drive.proofs.tending.tend.Goals as goal
@@ -19,3 +19,6 @@ pub returns-in_err-turn_and_tend-clause-refused : goal.returns-in_err-turn_and_t
 returns-in_err-turn_and_tend-clause-refused g c =
     let p = err_from_is_err_and c.from_residual.result c.from_residual.ensures.1 in
     rw (p.1, p.2) (inr (stops_then _ _ _ _ c.in_err-turn_and_tend.field-0.0 c.turns.invariant.1 c.in_err-turn_and_tend.ensures.refused))
+
+pub returns-then-not-are_all-clause-refused : goal.returns-then-not-are_all-clause-refused
+returns-then-not-are_all-clause-refused g c = inl (refl, refl)
