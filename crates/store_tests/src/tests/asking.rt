@@ -32,21 +32,13 @@ fn spells(bytes: &[u8], hex: &[u8]) -> bool {
 }
 
 /// Whether these are the bytes of a live segment.
-pub(super) fn are_bytes(
-    alloc: Global,
-    store: &mut Store,
-    segment: u64,
-    hex: &str,
-) -> Result<bool, Fail>
+pub(super) fn are_bytes(alloc: Global, store: &mut Store, segment: u64, hex: &str) -> bool
     requires { IsSound store.old holding }
     ensures sound { IsSound store.new holding }
     ensures follows { Follows (kept_by store.old holding) (kept_by store.new holding) }
 {
     let mut bytes = Vec::new(alloc);
-    let Ok(true) = store.dump(segment, &mut bytes) else {
-        return Ok(false);
-    };
-    Ok(spells(&bytes, hex.as_bytes()))
+    store.dump(segment, &mut bytes) == Ok(true) && spells(&bytes, hex.as_bytes())
 }
 
 // What is left of a text behind a part of it; none where it does not begin so.
@@ -103,7 +95,8 @@ pub(super) fn is_page(store: &mut Store, page: u32, text: &str) -> bool
 {
     match store.page(page) {
         Ok(leaf) => is_leaf(&leaf, text),
-        Err(fault) => fault == StoreFault::NoPage && text.len() == 0,
+        Err(StoreFault::NoPage) => text.len() == 0,
+        Err(_) => false,
     }
 }
 

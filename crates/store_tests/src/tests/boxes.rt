@@ -40,6 +40,18 @@ pub(super) fn boxes_of(alloc: Global, many: u32) -> Result<Vec<Box<dyn Segment>>
     filled(alloc, &mut desk, many, LEAST)
 }
 
+// A segment that fails once, after so many calls.
+fn fused(
+    alloc: Global,
+    desk: &mut Desk,
+    calls: u64,
+    keep: u64,
+    capacity: u64,
+) -> Result<FuseSegment, Fail> {
+    let inner = MemSegment::new(alloc, desk.take()?, capacity)?;
+    Ok(FuseSegment::new(inner, calls, keep))
+}
+
 /// A box that fails once, after so many calls.
 pub(super) fn fuse(
     alloc: Global,
@@ -49,7 +61,7 @@ pub(super) fn fuse(
     capacity: u64,
     boxes: &mut Vec<Box<dyn Segment>>,
 ) -> Result<(), Fail> {
-    let inner = MemSegment::new(alloc, desk.take()?, capacity)?;
-    boxes.push(Box::new(alloc, FuseSegment::new(inner, calls, keep))?)?;
+    let segment = fused(alloc, desk, calls, keep, capacity)?;
+    boxes.push(Box::new(alloc, segment)?)?;
     Ok(())
 }

@@ -1,10 +1,12 @@
 //! Stores are opened; and what `open` refuses: the boxes come back.
 
 ghost use Rattle.std.specs.Prelude.{◌≡◌, map, IfOk};
+ghost use Rattle.bw_care.specs.Found.{IsRecovered};
 ghost use Rattle.bw_ring.specs.Ends.{ring_of_feed};
-ghost use Rattle.bw_store.specs.Views.{kept_beside, IsSoundBeside};
+ghost use Rattle.bw_store.specs.Views.{kept_by, kept_beside, IsSound, IsSoundBeside};
 
 use super::boxes::boxes_of;
+use bw_care::Recovered;
 use bw_device::Segment;
 use bw_ring::Feed;
 use bw_store::{Config, Store, StoreFault};
@@ -35,6 +37,24 @@ pub(super) fn opened<R: AllocGlobal + Wait>(
     match Store::open(rt, rt.alloc(), config, boxes) {
         Ok(made) => Ok(made),
         Err(_fault) => Err(Fail::from("a refusal of open")),
+    }
+}
+
+/// A store of two writers that goes on from what was recovered, and their feeds, each with a ring
+/// of so many places.
+pub(super) fn reopened<R: AllocGlobal + Wait>(
+    rt: &R,
+    recovered: Recovered,
+    places: usize,
+) -> Result<(Store, Vec<Feed>), Fail>
+    requires { IsRecovered (λ b. holding (b.vtable, b.value)) recovered }
+    ensures sound { IfOk result (λ r. IsSound r.0 holding) }
+    ensures feeds { IfOk result (λ r.
+        map ring_of_feed r.1.items ≡ (kept_by r.0 holding).rings) }
+{
+    match Store::reopen(rt, rt.alloc(), recovered, 2, places, 1) {
+        Ok(made) => Ok(made),
+        Err(_fault) => Err(Fail::from("a refusal of reopen")),
     }
 }
 

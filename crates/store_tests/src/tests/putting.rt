@@ -20,13 +20,13 @@ pub(super) fn record(key: &[u8], value: Option<&[u8]>) -> Result<Record, Fail> {
 /// is too.
 pub(super) fn numbered(writer: u8, number: u32) -> Record {
     let [_, high, middle, low] = number.to_be_bytes();
-    match (
-        Key::new(&[writer, high, middle, low]),
-        Value::new(&[middle, low]),
-    ) {
-        (Ok(key), Ok(value)) => Record::Put(key, value),
-        _ => unreachable!(),
-    }
+    let Ok(key) = Key::new(&[writer, high, middle, low]) else {
+        unreachable!()
+    };
+    let Ok(value) = Value::new(&[middle, low]) else {
+        unreachable!()
+    };
+    Record::Put(key, value)
 }
 
 /// Whether a writer's feed takes the record.

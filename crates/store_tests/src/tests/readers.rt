@@ -62,12 +62,24 @@ fn is_seen<R: Wait>(
     ensures { IsSound store.new holding }
 {
     let (old, new, frame) = step;
-    let taken = is_taken(store, feeds, new)?;
-    let still = reads(reader, old)?;
-    let flushed = flushes(rt, store, Some(frame));
-    let seen = reads(reader, new)?;
-    let idle = flushes(rt, store, None);
-    Ok(taken && still && flushed && seen && idle)
+    let before = is_taken(store, feeds, new)? & reads(reader, old)?;
+    let after = flushes(rt, store, Some(frame)) & reads(reader, new)?;
+    Ok(before & after & flushes(rt, store, None))
+}
+
+// Both values are seen as they are flushed, and not before.
+fn are_seen<R: Wait>(
+    rt: &R,
+    store: &mut Store,
+    feeds: &mut Vec<Feed>,
+    reader: &mut Reader,
+) -> Result<bool, Fail>
+    requires { IsSound store.old holding }
+    ensures { IsSound store.new holding }
+{
+    let first = is_seen(rt, store, feeds, reader, (b"", b"1", 1))?;
+    let second = is_seen(rt, store, feeds, reader, (b"1", b"2", 2))?;
+    Ok(first && second)
 }
 
 // A reader sees what was flushed, and not what was only taken.
@@ -76,9 +88,7 @@ fn sees_flushes<R: Wait>(rt: &R, store: &mut Store, feeds: &mut Vec<Feed>) -> Re
     ensures { IsSound store.new holding }
 {
     let mut reader = store.reader()?;
-    let first = is_seen(rt, store, feeds, &mut reader, (b"", b"1", 1))?;
-    let second = is_seen(rt, store, feeds, &mut reader, (b"1", b"2", 2))?;
-    if first && second {
+    if are_seen(rt, store, feeds, &mut reader)? {
         return Ok(reader);
     }
     Err(Fail::from("a reader sees otherwise"))
@@ -169,8 +179,8 @@ fn race<R: Threads + Wait>(
     requires { IsSound store.old holding }
     ensures { IsSound store.new holding }
 {
-    let reader = store.reader()?;
     let key = Key::new(b"k")?;
+    let reader = store.reader()?;
     let Ok(child) = thread::spawn(rt, move || read_all(reader, key)) else {
         return Err(Fail::from("a thread"));
     };

@@ -66,7 +66,7 @@ use Step::{
 };
 
 fn are_cuts(cuts: &[u64], told: &[u64]) -> bool {
-    cuts.len() == told.len() && cuts.iter().zip(told).all(|(a, b)| *a == *b)
+    cuts == told
 }
 
 /// Whether the store has a segment more.
@@ -125,7 +125,7 @@ fn answers(alloc: Global, store: &mut Store, step: &Step) -> Result<bool, Fail>
         Live(at, number, lease, length) => {
             Ok(store.live_segment(*at) == Some((*number, *lease, *length)))
         }
-        Bytes(segment, hex) => are_bytes(alloc, store, *segment, *hex),
+        Bytes(segment, hex) => Ok(are_bytes(alloc, store, *segment, *hex)),
         History(told) => Ok(is_history(store.history(), *told)),
         Cuts(told, durable) => Ok(are_cuts(store.cuts(), *told) && store.durable() == *durable),
         Stands(live, spares) => Ok(store.live() == *live && store.spares() == *spares),

@@ -43,8 +43,7 @@ fn fused(alloc: Global) -> Result<Vec<Box<dyn Segment>>, Fail> {
 // The first step of each life that did not go as told.
 fn three_lives<R: AllocGlobal + Wait>(rt: &R) -> Result<[Option<usize>; 3], Fail> {
     let boxes = fused(rt.alloc())?;
-    let mut more: Vec<Box<dyn Segment>> = Vec::new(rt.alloc());
-    let (first, boxes) = lives(rt, boxes, &mut more, 8, FAILED)?;
+    let (first, boxes) = lives(rt, boxes, &mut Vec::new(rt.alloc()), 8, FAILED)?;
     let (second, boxes) = lives_on(rt, boxes, Some(1), AGAIN)?;
     let (third, _boxes) = lives_on(rt, boxes, Some(2), LAST)?;
     Ok([first, second, third])

@@ -1,6 +1,6 @@
 //! Writers in threads of their own, while the store turns.
 
-ghost use Rattle.std.specs.Prelude.{◌≡◌, ◌++◌, ◌∷◌, [], map, IfOk, IfSome, OnOk};
+ghost use Rattle.std.specs.Prelude.{◌≡◌, ◌++◌, ◌∷◌, [], map, IfOk, OnOk};
 ghost use Rattle.bw_ring.specs.Ends.{ring_of_feed};
 ghost use Rattle.bw_store.specs.Views.{kept_by, IsSound};
 ghost use Rattle.bw_store.specs.Following.{Follows};
@@ -33,6 +33,12 @@ pub(super) struct OfOneRing(pub(super) Snapshot<Feed>);
 impl Promise<Feed> for OfOneRing {
     ghost kept_by = { λ p feed. ring_of_feed feed ≡ ring_of_feed p.0.value };
 }
+
+/// The threads of two writers, the one whose feed was the last before the other.
+type Pair = (
+    PromisedHandle<Feed, OfOneRing>,
+    PromisedHandle<Feed, OfOneRing>,
+);
 
 fn put_script(feed: Feed, letter: u8) -> Feed
     ensures { ring_of_feed result ≡ ring_of_feed feed }
@@ -67,14 +73,14 @@ fn leaves<R: Threads>(
     rt: &R,
     feeds: &mut Vec<Feed>,
     letter: u8,
-) -> Result<Option<PromisedHandle<Feed, OfOneRing>>, Fail>
-    ensures { IfOk result (λ o. IfSome o (λ h. map ring_of_feed feeds.old.items
-        ≡ map ring_of_feed feeds.new.items ++ ring_of_feed h.promise.0.value ∷ [])) }
+) -> Result<PromisedHandle<Feed, OfOneRing>, Fail>
+    ensures { IfOk result (λ h. map ring_of_feed feeds.old.items
+        ≡ map ring_of_feed feeds.new.items ++ ring_of_feed h.promise.0.value ∷ []) }
 {
     let Some(feed) = feeds.pop() else {
-        return Ok(None);
+        return Err(Fail::from("no feed"));
     };
-    Ok(Some(start(rt, feed, letter)?))
+    start(rt, feed, letter)
 }
 
 // A feed comes back, as the last.
@@ -89,6 +95,28 @@ fn returns<R: Threads>(
     let feed = writer.join(rt);
     feeds.push(feed)?;
     Ok(())
+}
+
+// The last two feeds go to threads of their own, the last one first.
+fn two_leave<R: Threads>(rt: &R, feeds: &mut Vec<Feed>, letters: (u8, u8)) -> Result<Pair, Fail>
+    ensures { IfOk result (λ h. map ring_of_feed feeds.old.items
+        ≡ (map ring_of_feed feeds.new.items ++ ring_of_feed h.1.promise.0.value ∷ [])
+        ++ ring_of_feed h.0.promise.0.value ∷ []) }
+{
+    let last = leaves(rt, feeds, letters.0)?;
+    let before = leaves(rt, feeds, letters.1)?;
+    Ok((last, before))
+}
+
+// They come back, in the order in which they were.
+fn two_return<R: Threads>(rt: &R, feeds: &mut Vec<Feed>, pair: Pair) -> Result<(), Fail>
+    ensures { OnOk result (map ring_of_feed feeds.new.items
+        ≡ (map ring_of_feed feeds.old.items ++ ring_of_feed pair.1.promise.0.value ∷ [])
+        ++ ring_of_feed pair.0.promise.0.value ∷ []) }
+{
+    let (last, before) = pair;
+    returns(rt, feeds, before)?;
+    returns(rt, feeds, last)
 }
 
 // Whether a turn was not refused.
@@ -141,7 +169,7 @@ fn are_scripts(entries: &[Entry]) -> bool {
         }
         *number = number.saturating_add(1);
     }
-    next.iter().all(|n| *n == RECORDS)
+    next == [RECORDS; 4]
 }
 
 // Whether all that four writers put meanwhile is settled, each writer's records in order.
@@ -154,23 +182,11 @@ fn are_settled<R: Threads + Wait>(
     requires feeds { map ring_of_feed feeds.old.items ≡ (kept_by store.old holding).rings }
     ensures { IsSound store.new holding }
 {
-    let Some(d) = leaves(rt, feeds, b'd')? else {
-        return Ok(false);
-    };
-    let Some(c) = leaves(rt, feeds, b'c')? else {
-        return Ok(false);
-    };
-    let Some(b) = leaves(rt, feeds, b'b')? else {
-        return Ok(false);
-    };
-    let Some(a) = leaves(rt, feeds, b'a')? else {
-        return Ok(false);
-    };
+    let later = two_leave(rt, feeds, (b'd', b'c'))?;
+    let earlier = two_leave(rt, feeds, (b'b', b'a'))?;
     take_meanwhile(store);
-    returns(rt, feeds, a)?;
-    returns(rt, feeds, b)?;
-    returns(rt, feeds, c)?;
-    returns(rt, feeds, d)?;
+    two_return(rt, feeds, earlier)?;
+    two_return(rt, feeds, later)?;
     Ok(store.settle(rt, feeds) == Ok(4000) && are_scripts(store.history()))
 }
 

@@ -1,11 +1,12 @@
 //! Tables are walked.
 
-ghost use Rattle.std.specs.Prelude.{◌≡◌, map};
+ghost use Rattle.std.specs.Prelude.{◌≡◌, map, IfOk};
+ghost use Rattle.bw_care.specs.Found.{IsRecovered};
 ghost use Rattle.bw_ring.specs.Ends.{ring_of_feed};
 ghost use Rattle.bw_store.specs.Views.{kept_beside, IsSoundBeside};
 
 use super::boxes::{LEAST, fill, filled, fuse};
-use super::opening::{config_of, opened};
+use super::opening::{config_of, opened, reopened};
 use super::steps::{Step, goes};
 use bw_care::{Recovered, recover};
 use bw_device::{Desk, MemSegment, Segment};
@@ -40,10 +41,8 @@ pub(super) fn joined(
     live: Vec<Box<dyn Segment>>,
     spares: Vec<Box<dyn Segment>>,
 ) -> Result<Vec<Box<dyn Segment>>, Fail> {
-    let mut boxes = live;
-    for spare in spares {
-        boxes.push(spare)?;
-    }
+    let (mut boxes, mut spares) = (live, spares);
+    boxes.append(&mut spares)?;
     Ok(boxes)
 }
 
@@ -59,8 +58,24 @@ fn left_by(
     Ok((wrong?, joined(live, spares)?))
 }
 
-/// The steps over a store of these boxes, with rings of so many places and these segments in reserve.
-/// The boxes then come out of it.
+// The steps over a store with these segments in reserve. Its boxes then come out of it.
+fn lives_in<R: AllocGlobal + Wait>(
+    rt: &R,
+    mut store: Store,
+    mut feeds: Vec<Feed>,
+    more: &mut Vec<Box<dyn Segment>>,
+    steps: &[Step],
+) -> Result<Left, Fail>
+    requires sound { IsSoundBeside store holding }
+    requires feeds { map ring_of_feed feeds.items ≡ (kept_beside store holding).rings }
+{
+    let wrong = wrong_step(rt, &mut store, &mut feeds, more, steps);
+    let (live, spares) = store.shut(rt);
+    left_by(wrong, live, spares)
+}
+
+/// The steps over a store of these boxes, with rings of so many places and these segments in
+/// reserve. The boxes then come out of it.
 pub(super) fn lives<R: AllocGlobal + Wait>(
     rt: &R,
     boxes: Vec<Box<dyn Segment>>,
@@ -68,10 +83,8 @@ pub(super) fn lives<R: AllocGlobal + Wait>(
     places: usize,
     steps: &[Step],
 ) -> Result<Left, Fail> {
-    let (mut store, mut feeds) = opened(rt, &config_of(2, places, 1), boxes)?;
-    let wrong = wrong_step(rt, &mut store, &mut feeds, more, steps);
-    let (live, spares) = store.shut(rt);
-    left_by(wrong, live, spares)
+    let (store, feeds) = opened(rt, &config_of(2, places, 1), boxes)?;
+    lives_in(rt, store, feeds, more, steps)
 }
 
 // Whether frames 1 to `last` were found, without a tail; where it is not told, any.
@@ -82,6 +95,23 @@ fn are_found(recovered: &Recovered, last: Option<u64>) -> bool {
     }
 }
 
+/// What is recovered from these boxes, frames 1 to `last`; where it is not told, any.
+pub(super) fn recovered_from(
+    alloc: Global,
+    boxes: Vec<Box<dyn Segment>>,
+    last: Option<u64>,
+) -> Result<Recovered, Fail>
+    ensures { IfOk result (λ r. IsRecovered holding r) }
+{
+    let Ok(recovered) = recover(alloc, boxes) else {
+        return Err(Fail::from("a refusal of recover"));
+    };
+    if !are_found(&recovered, last) {
+        return Err(Fail::from("other frames"));
+    }
+    Ok(recovered)
+}
+
 /// The steps over a store of what is recovered from these boxes, frames 1 to `last`.
 pub(super) fn lives_on<R: AllocGlobal + Wait>(
     rt: &R,
@@ -89,19 +119,9 @@ pub(super) fn lives_on<R: AllocGlobal + Wait>(
     last: Option<u64>,
     steps: &[Step],
 ) -> Result<Left, Fail> {
-    let Ok(recovered) = recover(rt.alloc(), boxes) else {
-        return Err(Fail::from("a refusal of recover"));
-    };
-    if !are_found(&recovered, last) {
-        return Err(Fail::from("other frames"));
-    }
-    let Ok((mut store, mut feeds)) = Store::reopen(rt, rt.alloc(), recovered, 2, 8, 1) else {
-        return Err(Fail::from("a refusal of reopen"));
-    };
-    let mut more: Vec<Box<dyn Segment>> = Vec::new(rt.alloc());
-    let wrong = wrong_step(rt, &mut store, &mut feeds, &mut more, steps);
-    let (live, spares) = store.shut(rt);
-    left_by(wrong, live, spares)
+    let recovered = recovered_from(rt.alloc(), boxes, last)?;
+    let (store, feeds) = reopened(rt, recovered, 8)?;
+    lives_in(rt, store, feeds, &mut Vec::new(rt.alloc()), steps)
 }
 
 // So many boxes, and one more in reserve.

@@ -14,7 +14,16 @@ pub(super) fn is_evicted(store: &mut Store, page: u32, pages: u32) -> bool
     if page == 0 {
         return store.evict(page) == Err(StoreFault::NoPage);
     }
-    page > pages || store.evict(page).is_ok() && store.evict(page) == Ok(false)
+    page > pages || is_away(store, page)
+}
+
+// Whether a page may leave memory, and does not leave it again.
+fn is_away(store: &mut Store, page: u32) -> bool
+    requires { IsSound store.old holding }
+    ensures sound { IsSound store.new holding }
+    ensures rings { (kept_by store.new holding).rings ≡ (kept_by store.old holding).rings }
+{
+    store.evict(page).is_ok() && store.evict(page) == Ok(false)
 }
 
 /// The same of each page.

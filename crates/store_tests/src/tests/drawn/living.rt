@@ -1,7 +1,8 @@
 //! A store lives, stops, and lives on from its boxes.
 
-ghost use Rattle.bw_care.specs.Found.{IsRecovered};
-ghost use Rattle.bw_store.specs.Views.{IsSoundBeside};
+ghost use Rattle.std.specs.Prelude.{◌≡◌, map};
+ghost use Rattle.bw_ring.specs.Ends.{ring_of_feed};
+ghost use Rattle.bw_store.specs.Views.{kept_beside, IsSoundBeside};
 
 use super::draws::Draw;
 use super::model::Model;
@@ -9,11 +10,11 @@ use super::seen::Seen;
 use super::steps::Script;
 use super::walking::{Rounds, all_go};
 use crate::tests::boxes::filled;
-use crate::tests::opening::opened;
-use crate::tests::walking::joined;
-use bw_care::{Recovered, recover};
+use crate::tests::opening::{opened, reopened};
+use crate::tests::walking::{joined, recovered_from};
 use bw_device::{Desk, Segment};
 use bw_page::Leaves;
+use bw_ring::Feed;
 use bw_store::{Config, Store};
 use std::alloc::Global;
 use std::sync::Wait;
@@ -67,12 +68,27 @@ pub(super) fn supply(alloc: Global, leases: u32, table: &Table) -> Result<Supply
 // What a life left of the boxes that came out of its store.
 fn left_by(
     went: Result<bool, Fail>,
-    told: bool,
     live: Vec<Box<dyn Segment>>,
     spares: Vec<Box<dyn Segment>>,
 ) -> Result<Left, Fail> {
-    let went = went?;
-    Ok((went && told, joined(live, spares)?))
+    Ok((went?, joined(live, spares)?))
+}
+
+// Whether all goes as told over a store, whose boxes then come out of it.
+fn lives_in<R: AllocGlobal + Wait>(
+    rt: &R,
+    mut store: Store,
+    mut feeds: Vec<Feed>,
+    more: &mut Vec<Box<dyn Segment>>,
+    script: &mut Script,
+    plans: &[Rounds],
+) -> Result<Left, Fail>
+    requires sound { IsSoundBeside store holding }
+    requires feeds { map ring_of_feed feeds.items ≡ (kept_beside store holding).rings }
+{
+    let went = all_go(rt, &mut store, &mut feeds, more, script, plans);
+    let (live, spares) = store.shut(rt);
+    left_by(went, live, spares)
 }
 
 /// Whether all goes as told over a store of these boxes, which then come out of it.
@@ -90,10 +106,8 @@ pub(super) fn lives<R: AllocGlobal + Wait>(
         m: script.m,
         f: 16384,
     };
-    let (mut store, mut feeds) = opened(rt, &config, boxes)?;
-    let went = all_go(rt, &mut store, &mut feeds, more, script, plans);
-    let (live, spares) = store.shut(rt);
-    left_by(went, true, live, spares)
+    let (store, feeds) = opened(rt, &config, boxes)?;
+    lives_in(rt, store, feeds, more, script, plans)
 }
 
 // Whether these pages are the map's.
@@ -107,27 +121,7 @@ fn are_told(alloc: Global, leaves: &Leaves, script: &Script) -> Result<bool, Fai
             return Ok(false);
         }
     }
-    seen.are(alloc, script.model.values())
-}
-
-// The same over what was recovered, whose pages are the map's or not.
-fn goes_on<R: AllocGlobal + Wait>(
-    rt: &R,
-    recovered: Recovered,
-    told: bool,
-    more: &mut Vec<Box<dyn Segment>>,
-    script: &mut Script,
-    plans: &[Rounds],
-) -> Result<Left, Fail>
-    requires { IsRecovered holding recovered }
-{
-    let places = script.model.places();
-    let Ok((mut store, mut feeds)) = Store::reopen(rt, rt.alloc(), recovered, 2, places, 1) else {
-        return Err(Fail::from("a refusal of reopen"));
-    };
-    let went = all_go(rt, &mut store, &mut feeds, more, script, plans);
-    let (live, spares) = store.shut(rt);
-    left_by(went, told, live, spares)
+    Ok(seen.are(script.model.values()))
 }
 
 // The same over what is recovered from them, whose pages have to be the map's.
@@ -138,11 +132,11 @@ fn lives_on<R: AllocGlobal + Wait>(
     script: &mut Script,
     plans: &[Rounds],
 ) -> Result<Left, Fail> {
-    let Ok(recovered) = recover(rt.alloc(), boxes) else {
-        return Err(Fail::from("a refusal of recover"));
-    };
+    let recovered = recovered_from(rt.alloc(), boxes, None)?;
     let told = are_told(rt.alloc(), &recovered.leaves, script)?;
-    goes_on(rt, recovered, told, more, script, plans)
+    let (store, feeds) = reopened(rt, recovered, script.model.places())?;
+    let (went, boxes) = lives_in(rt, store, feeds, more, script, plans)?;
+    Ok((went && told, boxes))
 }
 
 /// One life over boxes of the table: whether all went as told.

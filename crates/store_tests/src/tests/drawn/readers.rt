@@ -34,6 +34,26 @@ const STEPS: &[Step] = &[
     See(b"4", b"3"),
 ];
 
+// Whether a step goes as told at both stores.
+fn go_both<R: Wait>(
+    rt: &R,
+    left: &mut Store,
+    one: &mut Ends,
+    right: &mut Store,
+    other: &mut Ends,
+    step: &Step,
+) -> Result<bool, Fail>
+    requires left { IsSound left.old holding }
+    requires right { IsSound right.old holding }
+    ensures left { IsSound left.new holding }
+    ensures right { IsSound right.new holding }
+{
+    let is_left = goes(rt, left, one, Left, step)?;
+    let is_right = goes(rt, right, other, Right, step)?;
+    let is_seen = see(&mut one.reader, &mut other.reader, step)?;
+    Ok(is_left && is_right && is_seen)
+}
+
 // The first step that did not go as told.
 fn wrong_step<R: Wait>(
     rt: &R,
@@ -48,9 +68,7 @@ fn wrong_step<R: Wait>(
     ensures right { IsSound right.new holding }
 {
     'steps: for (at, step) in STEPS.iter().enumerate() {
-        let is_left = goes(rt, left, one, Left, step)?;
-        let is_right = goes(rt, right, other, Right, step)?;
-        if !is_left || !is_right || !see(&mut one.reader, &mut other.reader, step)? {
+        if !go_both(rt, left, one, right, other, step)? {
             return Ok(Some(at));
         }
     }

@@ -77,7 +77,7 @@ pub(super) fn reads(alloc: Global, store: &mut Store, script: &mut Script) -> Re
         return Ok(false);
     }
     script.pages = seen.pages();
-    if !seen.are(alloc, script.model.values())? {
+    if !seen.are(script.model.values()) {
         return Ok(false);
     }
     are_got(store, script)

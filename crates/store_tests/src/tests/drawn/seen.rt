@@ -79,16 +79,15 @@ impl Seen {
     }
 
     /// Whether the pairs of all pages are the map's, in its order.
-    pub(super) fn are(&self, alloc: Global, values: &BTreeMap<u32, u32>) -> Result<bool, Fail> {
-        let mut pairs = Vec::new(alloc);
+    pub(super) fn are(&self, values: &BTreeMap<u32, u32>) -> bool {
+        let mut told = values.iter();
         for (place, value) in self.pairs.iter() {
-            pairs.push(((*place & 0xffff_ffff) as u32, *value))?;
+            let key = (*place & 0xffff_ffff) as u32;
+            if told.next() != Some((&key, value)) {
+                return false;
+            }
         }
-        let mut told = Vec::new(alloc);
-        for (key, value) in values.iter() {
-            told.push((*key, *value))?;
-        }
-        Ok(pairs == told)
+        told.next().is_none()
     }
 }
 
