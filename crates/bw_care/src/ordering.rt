@@ -15,7 +15,7 @@ use bw_log::FrameAt;
 use std::alloc::{AllocError, Global};
 
 /// What was read of a segment.
-#[derive(Debug, Drop)]
+#[derive(Drop)]
 pub struct Found {
     /// The position of its box among those handed in.
     pub index: usize,

@@ -21,7 +21,7 @@ use std::alloc::{AllocError, Global};
 use std::collections::BTreeMap;
 
 /// A page that was touched: where its last blocks stand, and what it is if it was set.
-#[derive(Debug, Drop)]
+#[derive(Drop)]
 pub struct Line {
     pub place: Place,
     /// The last block that sets it; frame 0 where none did.
@@ -123,7 +123,7 @@ pub fn links_back(lines: &BTreeMap<u32, Line>, first: u64, page: u32, back: Plac
 }
 
 /// Why blocks cannot be read.
-#[derive(Debug, Clone, Copy, PartialEq, Eq)]
+#[derive(Clone, Copy)]
 pub enum ReadFault {
     NoMemory,
     /// A block of this page does not link back to the one before it.

@@ -12,7 +12,7 @@ use bw_log::FrameAt;
 use std::alloc::{AllocError, AllocFailed, Global};
 
 /// Why bytes cannot be read.
-#[derive(Debug, Clone, Copy, PartialEq, Eq)]
+#[derive(Clone, Copy)]
 pub enum ScanFault {
     NoMemory,
     /// What stands here is neither a frame nor a tail.
@@ -40,7 +40,7 @@ impl<T: Drop> From<AllocFailed<T>> for ScanFault {
 }
 
 /// What stands behind a header.
-#[derive(Debug, Drop)]
+#[derive(Drop)]
 pub struct Behind {
     /// Where the whole frames stand, each in segment 0.
     pub lines: Vec<FrameAt>,
@@ -91,7 +91,7 @@ pub fn read_behind(alloc: Global, bytes: &[u8], m: u16, f: u32) -> Result<Behind
 }
 
 /// What one box is.
-#[derive(Debug, Drop)]
+#[derive(Drop)]
 pub enum Scan {
     Bare,
     Part,

@@ -14,3 +14,14 @@ mod threads;
 mod told;
 mod writing;
 mod wrong;
+
+use std::alloc::Global;
+use std::fmt::Display;
+
+/// Whether a refusal is told by this text.
+fn is_text<D: Display>(alloc: Global, what: &D, text: &str) -> bool {
+    match format!(in alloc; "{what}") {
+        Ok(shown) => shown.as_str() == text,
+        Err(_) => false,
+    }
+}

@@ -1,5 +1,6 @@
 // Each call once, where memory is there.
 
+use super::is_text;
 use super::told::{Kind, are_pairs, is_one, says};
 use bw_buffer::PutError;
 use bw_codec::{
@@ -7,7 +8,6 @@ use bw_codec::{
     Record, Value, is_before,
 };
 use std::alloc::Global;
-use std::test::Fail;
 
 #[test]
 fn keys_have_1_to_64_bytes_and_values_0_to_128(rt: HostRuntime) {
@@ -187,21 +187,11 @@ fn each_call_succeeds(rt: HostRuntime) {
 }
 
 #[test]
-fn the_refusals_of_bytes_have_texts(rt: HostRuntime) -> Result<(), Fail> {
-    let length = format!(in rt.alloc(); "{}", LengthError { given: 65 })?;
-    let memory = format!(in rt.alloc(); "{}", CodecFault::NoMemory)?;
-    let bytes = format!(in rt.alloc(); "{}", CodecFault::BadBytes)?;
-    assert!(rt; length.as_str() == "a length of 65 bytes is out of range");
-    assert!(rt; memory.as_str() == "out of memory");
-    assert!(rt; bytes.as_str() == "unlawful bytes");
-    Ok(())
-}
-
-#[test]
-fn the_refusals_of_blocks_have_texts(rt: HostRuntime) -> Result<(), Fail> {
-    let sealed = format!(in rt.alloc(); "{}", PutError::Sealed)?;
-    let no_room = format!(in rt.alloc(); "{}", PutError::NoRoom)?;
-    assert!(rt; sealed.as_str() == "the buffer is sealed");
-    assert!(rt; no_room.as_str() == "the blocks do not fit the frame");
-    Ok(())
+fn the_refusals_have_texts(rt: HostRuntime) {
+    let length = LengthError { given: 65 };
+    assert!(rt; is_text(rt.alloc(), &length, "a length of 65 bytes is out of range"));
+    assert!(rt; is_text(rt.alloc(), &CodecFault::NoMemory, "out of memory"));
+    assert!(rt; is_text(rt.alloc(), &CodecFault::BadBytes, "unlawful bytes"));
+    assert!(rt; is_text(rt.alloc(), &PutError::Sealed, "the buffer is sealed"));
+    assert!(rt; is_text(rt.alloc(), &PutError::NoRoom, "the blocks do not fit the frame"));
 }

@@ -5,7 +5,7 @@ use bw_codec::{CodecFault, FrameRead, Header, read_frame};
 use std::alloc::Global;
 
 /// What reading finds.
-#[derive(Debug, Clone, Copy, PartialEq, Eq)]
+#[derive(Clone, Copy, PartialEq, Eq)]
 pub(crate) enum Found {
     Whole(usize),
     Tail,

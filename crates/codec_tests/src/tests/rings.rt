@@ -3,10 +3,10 @@
 ghost use Rattle.std.specs.Prelude.{IfOk};
 ghost use Rattle.bw_ring.specs.Ends.{IsFeedOf};
 
+use super::is_text;
 use bw_codec::{Key, Record};
 use bw_ring::{Feed, Full, Lane, LanesError, lanes};
 use std::alloc::Global;
-use std::test::Fail;
 
 /// A record that tells its number.
 pub(crate) fn numbered(number: u32) -> Record {
@@ -57,12 +57,9 @@ fn the_ranges_are_exact(rt: HostRuntime) {
 }
 
 #[test]
-fn the_refusals_have_texts(rt: HostRuntime) -> Result<(), Fail> {
-    let full = format!(in rt.alloc(); "{}", Full(numbered(0)))?;
-    let config = format!(in rt.alloc(); "{}", LanesError::BadConfig)?;
-    let memory = format!(in rt.alloc(); "{}", LanesError::NoMemory)?;
-    assert!(rt; full.as_str() == "the ring is full");
-    assert!(rt; config.as_str() == "the number of writers or of places is out of range");
-    assert!(rt; memory.as_str() == "memory ran out");
-    Ok(())
+fn the_refusals_have_texts(rt: HostRuntime) {
+    let range = "the number of writers or of places is out of range";
+    assert!(rt; is_text(rt.alloc(), &Full(numbered(0)), "the ring is full"));
+    assert!(rt; is_text(rt.alloc(), &LanesError::BadConfig, range));
+    assert!(rt; is_text(rt.alloc(), &LanesError::NoMemory, "memory ran out"));
 }

@@ -8,7 +8,7 @@ use bw_codec::{
 use std::alloc::Global;
 
 /// The kinds of blocks; a Delta here has one put.
-#[derive(Debug, Clone, Copy, PartialEq, Eq)]
+#[derive(Clone, Copy, PartialEq, Eq)]
 pub(crate) enum Kind {
     Base,
     Put,
