@@ -193,5 +193,11 @@ fn the_refusals_have_texts(rt: HostRuntime) {
     assert!(rt; is_text(rt.alloc(), &CodecFault::NoMemory, "out of memory"));
     assert!(rt; is_text(rt.alloc(), &CodecFault::BadBytes, "unlawful bytes"));
     assert!(rt; is_text(rt.alloc(), &PutError::Sealed, "the buffer is sealed"));
-    assert!(rt; is_text(rt.alloc(), &PutError::NoRoom, "the blocks do not fit the frame"));
+    assert!(rt;
+        is_text(
+            rt.alloc(),
+            &PutError::NoRoom,
+            "the blocks do not fit the frame"
+        )
+    );
 }
