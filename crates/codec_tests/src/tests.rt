@@ -17,6 +17,17 @@ mod wrong;
 
 use std::alloc::Global;
 use std::fmt::Display;
+use std::process::Abort;
+
+/// All rows went as told; a failure tells the first that did not.
+fn went(rt: &impl Abort, wrong: Option<usize>) {
+    assert_eq!(rt; wrong, None);
+}
+
+/// All tables went as told; a failure tells the first that did not, and its row.
+fn all_went(rt: &impl Abort, wrong: Option<(usize, usize)>) {
+    assert_eq!(rt; wrong, None);
+}
 
 /// Whether a refusal is told by this text.
 fn is_text<D: Display>(alloc: Global, what: &D, text: &str) -> bool {

@@ -5,6 +5,7 @@ ghost use Rattle.std.specs.List.{AllByRecursion};
 ghost use Rattle.bw_codec.specs.Grammar.{IsBlock};
 
 use super::hex::{bytes_of, framed};
+use super::{all_went, went};
 use bw_buffer::{Buffer, Mark, PutError};
 use bw_codec::{Block, Blocks, FrameRead, Header, Place, encode_block, read_frame};
 use std::alloc::Global;
@@ -71,19 +72,35 @@ fn blocks_in(alloc: Global, bytes: &[u8]) -> Option<Blocks>
     }
 }
 
+/// The same of bytes as digits.
+fn blocks_of(alloc: Global, hex: &str) -> Option<Blocks>
+    ensures some { IfSome result (λ blocks. 1 ≤ length blocks) }
+    ensures lawful { IfSome result (λ blocks. AllByRecursion (IsBlock 32) blocks) }
+{
+    let bytes = bytes_of(alloc, hex)?;
+    blocks_in(alloc, &bytes)
+}
+
+/// Whether a put was answered as told.
+fn is_told(answer: Result<Place, PutError>, told: Result<(u64, u32), PutError>) -> bool {
+    match (answer, told) {
+        (Ok(place), Ok((frame, index))) => place.frame == frame && place.index == index,
+        (Err(error), Err(told)) => error == told,
+        _ => false,
+    }
+}
+
 fn puts(
     alloc: Global,
     buffer: &mut Buffer,
     hex: &str,
     told: Result<(u64, u32), PutError>,
 ) -> Option<bool> {
-    let bytes = bytes_of(alloc, hex)?;
-    let blocks = blocks_in(alloc, &bytes)?;
+    let blocks = blocks_of(alloc, hex)?;
     let before = Vec::from_slice(alloc, buffer.bytes()).ok()?;
-    match buffer.put_all(blocks.as_slice()) {
-        Ok(Place { frame, index }) => Some(told == Ok((frame, index))),
-        Err(error) => Some(told == Err(error) && before.as_slice() == buffer.bytes()),
-    }
+    let answer = buffer.put_all(blocks.as_slice());
+    let stays = answer.is_ok() || before.as_slice() == buffer.bytes();
+    Some(is_told(answer, told) && stays)
 }
 
 fn copies(
@@ -92,7 +109,7 @@ fn copies(
     hex: &str,
     told: Result<(u64, u32), PutError>,
 ) -> Option<bool> {
-    let blocks = blocks_in(alloc, &bytes_of(alloc, hex)?)?;
+    let blocks = blocks_of(alloc, hex)?;
     let [first, ..] = blocks.as_slice() else {
         return Some(false);
     };
@@ -101,10 +118,7 @@ fn copies(
     };
     let mut bytes = Vec::new(alloc);
     encode_block(first, &mut bytes).ok()?;
-    match buffer.put_base(&bytes, leaf.page) {
-        Ok(Place { frame, index }) => Some(told == Ok((frame, index))),
-        Err(error) => Some(told == Err(error)),
-    }
+    Some(is_told(buffer.put_base(&bytes, leaf.page), told))
 }
 
 /// The frame of one Delta that puts a key and a value of so many bytes.
@@ -129,8 +143,7 @@ fn fills(alloc: Global, buffer: &mut Buffer, lengths: (u8, u8), times: u32) -> O
 }
 
 fn tells_room(alloc: Global, buffer: &Buffer, hex: &str, told: bool) -> Option<bool> {
-    let bytes = bytes_of(alloc, hex)?;
-    let blocks = blocks_in(alloc, &bytes)?;
+    let blocks = blocks_of(alloc, hex)?;
     Some(buffer.has_room(blocks.as_slice()) == told)
 }
 
@@ -279,7 +292,7 @@ fn first_wrong(alloc: Global, tables: &[&[Step]]) -> Option<(usize, usize)> {
 #[test]
 fn buffers_go_as_told(rt: HostRuntime) {
     let tables = [SEALED, COPIED, COPIED_TO_THE_END, FULL, WORKED];
-    assert_eq!(rt; first_wrong(rt.alloc(), &tables), None);
+    all_went(&rt, first_wrong(rt.alloc(), &tables));
 }
 
 /// Whether a new buffer of this number gives the bytes whose blocks it takes, before and after the
@@ -294,10 +307,27 @@ fn gives_again(alloc: Global, number: u64, hex: &'static str) -> bool {
     wrong_step(alloc, number, &steps).is_none()
 }
 
+/// Frames by their numbers.
+const FRAMES: &[(u64, &str)] = &[
+    (1, EMPTY),
+    (1, PUT_A),
+    (2, PUT_B),
+    (3, PUT_C),
+    (4, PUT_D),
+    (5, SPLIT),
+];
+
+/// The first frame that a buffer gives otherwise.
+fn wrong_frame(alloc: Global) -> Option<usize> {
+    for (i, (number, hex)) in FRAMES.iter().enumerate() {
+        if !gives_again(alloc, *number, hex) {
+            return Some(i);
+        }
+    }
+    None
+}
+
 #[test]
 fn frames_made_by_buffers_are_the_worked_bytes(rt: HostRuntime) {
-    assert!(rt; gives_again(rt.alloc(), 1, EMPTY));
-    for (i, hex) in [PUT_A, PUT_B, PUT_C, PUT_D, SPLIT].iter().enumerate() {
-        assert!(rt; gives_again(rt.alloc(), i as u64 + 1, hex), "at {hex}");
-    }
+    went(&rt, wrong_frame(rt.alloc()));
 }

@@ -1,7 +1,7 @@
 // Each call once, where memory is there.
 
-use super::is_text;
 use super::told::{Kind, are_pairs, is_one, says};
+use super::{is_text, went};
 use bw_buffer::PutError;
 use bw_codec::{
     Block, Blocks, CodecFault, Head, Header, Key, Leaf, LengthError, Low, Ops, Pairs, Place,
@@ -9,23 +9,38 @@ use bw_codec::{
 };
 use std::alloc::Global;
 
+/// Counts of bytes, and whether a key and a value may have so many.
+const LENGTHS: &[(usize, bool, bool)] = &[
+    (0, false, true),
+    (1, true, true),
+    (64, true, true),
+    (65, false, true),
+    (128, false, true),
+    (129, false, false),
+];
+
+/// Whether so many bytes are a key or a value, or neither, as told.
+fn are_taken(count: usize, is_key: bool, is_value: bool) -> bool {
+    let all = [0x61; 129];
+    match all.get(..count) {
+        Some(bytes) => Key::new(bytes).is_ok() == is_key && Value::new(bytes).is_ok() == is_value,
+        None => false,
+    }
+}
+
+/// The first row that is answered otherwise than told.
+fn wrong_length() -> Option<usize> {
+    for (i, (count, is_key, is_value)) in LENGTHS.iter().enumerate() {
+        if !are_taken(*count, *is_key, *is_value) {
+            return Some(i);
+        }
+    }
+    None
+}
+
 #[test]
 fn keys_have_1_to_64_bytes_and_values_0_to_128(rt: HostRuntime) {
-    let bytes = [0x61; 129];
-    for (count, is_key, is_value) in [
-        (0, false, true),
-        (1, true, true),
-        (64, true, true),
-        (65, false, true),
-        (128, false, true),
-        (129, false, false),
-    ] {
-        assert!(rt; Key::new(&bytes[..count]).is_ok() == is_key, "at {count}");
-        assert!(rt;
-            Value::new(&bytes[..count]).is_ok() == is_value,
-            "at {count}"
-        );
-    }
+    went(&rt, wrong_length());
 }
 
 /// A key and a value of these bytes.

@@ -3,6 +3,7 @@
 ghost use Rattle.std.specs.Prelude.{◌≡◌, IfSome};
 ghost use Rattle.bw_ring.specs.Ends.{ring_of_feed, ring_of_lane, IsFeedOf};
 
+use super::all_went;
 use super::rings::{numbered, one_ring};
 use bw_codec::Record;
 use bw_ring::{Feed, Full, Lane};
@@ -176,6 +177,6 @@ const KNOWN: &[Step] = &[
 #[test]
 fn ends_go_as_told(rt: HostRuntime) -> Result<(), Fail> {
     let tables = [(2, TWO_PLACES), (4, LOOKS), (4, KNOWN)];
-    assert_eq!(rt; first_wrong(rt.alloc(), &tables)?, None);
+    all_went(&rt, first_wrong(rt.alloc(), &tables)?);
     Ok(())
 }

@@ -1,6 +1,7 @@
 // Frames that are whole, that were cut, or that are bad.
 
 use super::hex::{FIRST, bytes_of};
+use super::went;
 use bw_codec::{CodecFault, FrameRead, Header, read_frame};
 use std::alloc::Global;
 
@@ -68,12 +69,19 @@ const CHANGED: &[(usize, u8, usize, Found)] = &[
     (16, 0x00, 52, Found::Bad),
 ];
 
+/// The first row of which something else is found.
+fn wrong_change(alloc: Global) -> Option<usize> {
+    for (i, (at, to, cut, found)) in CHANGED.iter().enumerate() {
+        if found_after(alloc, *at, *to, *cut) != Some(*found) {
+            return Some(i);
+        }
+    }
+    None
+}
+
 #[test]
 fn a_frame_cut_short_is_a_tail_and_a_changed_one_is_bad(rt: HostRuntime) {
-    for (at, to, cut, found) in CHANGED {
-        let answer = found_after(rt.alloc(), *at, *to, *cut);
-        assert!(rt; answer == Some(*found), "byte {at} as {to}, {cut} bytes");
-    }
+    went(&rt, wrong_change(rt.alloc()));
 }
 
 // ---- heads
@@ -84,16 +92,37 @@ fn found_of(alloc: Global, hex: &str) -> Option<Found> {
     found_in(alloc, 4, bytes.as_slice())
 }
 
+/// Heads of a body of 2^32 - 1 bytes, of one beyond the limit, and of the limit's.
+const HEADS: &[(&str, Found)] = &[
+    (
+        "46524d31 0100000000000000 ffffffff 01000000 02 01000000 00 0000",
+        Found::Bad,
+    ),
+    (
+        "46524d31 0100000000000000 ffffffff ffffffff 02 01000000 00 0000",
+        Found::Bad,
+    ),
+    (
+        "46524d31 0100000000000000 ed3f0000 01000000 02 01000000 00 0000",
+        Found::Bad,
+    ),
+    (
+        "46524d31 0100000000000000 ec3f0000 ffffffff 02 01000000 00 0000",
+        Found::Tail,
+    ),
+];
+
+/// The first head at which something else is found.
+fn wrong_head(alloc: Global) -> Option<usize> {
+    for (i, (hex, found)) in HEADS.iter().enumerate() {
+        if found_of(alloc, hex) != Some(*found) {
+            return Some(i);
+        }
+    }
+    None
+}
+
 #[test]
 fn a_body_of_the_greatest_length_is_bad(rt: HostRuntime) {
-    let bad = [
-        "46524d31 0100000000000000 ffffffff 01000000 02 01000000 00 0000",
-        "46524d31 0100000000000000 ffffffff ffffffff 02 01000000 00 0000",
-        "46524d31 0100000000000000 ed3f0000 01000000 02 01000000 00 0000",
-    ];
-    for hex in bad {
-        assert!(rt; found_of(rt.alloc(), hex) == Some(Found::Bad), "at {hex}");
-    }
-    let cut = "46524d31 0100000000000000 ec3f0000 ffffffff 02 01000000 00 0000";
-    assert!(rt; found_of(rt.alloc(), cut) == Some(Found::Tail));
+    went(&rt, wrong_head(rt.alloc()));
 }

@@ -3,7 +3,7 @@
 ghost use Rattle.std.specs.Prelude.{IfOk};
 ghost use Rattle.bw_ring.specs.Ends.{IsFeedOf};
 
-use super::is_text;
+use super::{is_text, went};
 use bw_codec::{Key, Record};
 use bw_ring::{Feed, Full, Lane, LanesError, lanes};
 use std::alloc::Global;
@@ -48,12 +48,19 @@ fn is_made(alloc: Global, writers: usize, places: usize, told: bool) -> bool {
     }
 }
 
+/// The first row that is answered otherwise than told.
+fn wrong_config(alloc: Global) -> Option<usize> {
+    for (i, (writers, places, told)) in CONFIGS.iter().enumerate() {
+        if !is_made(alloc, *writers, *places, *told) {
+            return Some(i);
+        }
+    }
+    None
+}
+
 #[test]
 fn the_ranges_are_exact(rt: HostRuntime) {
-    for (writers, places, told) in CONFIGS {
-        let made = is_made(rt.alloc(), *writers, *places, *told);
-        assert!(rt; made, "{writers} writers, {places} places");
-    }
+    went(&rt, wrong_config(rt.alloc()));
 }
 
 #[test]

@@ -1,6 +1,7 @@
 // What the worked bytes tell, block by block.
 
 use super::hex::{FIRST, NEWER, OLDER, SECOND, bytes_of};
+use super::went;
 use bw_codec::{
     Block, Frame, FrameRead, Header, HeaderRead, Key, Outline, Place, Record, Value, read_frame,
     read_header,
@@ -175,9 +176,17 @@ fn holds(alloc: Global, row: &Row) -> Option<bool> {
     }
 }
 
+/// The first block that is not as told.
+fn wrong_block(alloc: Global) -> Option<usize> {
+    for (i, row) in BLOCKS.iter().enumerate() {
+        if holds(alloc, row) != Some(true) {
+            return Some(i);
+        }
+    }
+    None
+}
+
 #[test]
 fn the_worked_bytes_hold_what_they_tell(rt: HostRuntime) {
-    for (i, row) in BLOCKS.iter().enumerate() {
-        assert!(rt; holds(rt.alloc(), row) == Some(true), "row {i}");
-    }
+    went(&rt, wrong_block(rt.alloc()));
 }

@@ -4,6 +4,7 @@ ghost use Rattle.std.specs.List.{AllByRecursion};
 ghost use Rattle.bw_codec.specs.Grammar.{IsBlock};
 
 use super::hex::{FIRST, LAST, NEWER, OLDER, SECOND, bytes_of};
+use super::went;
 use bw_codec::limits::{HEAD_LEN, HEADER_LEN};
 use bw_codec::{
     Block, Frame, FrameRead, Header, HeaderRead, Leaf, Low, Pairs, block_length, encode_block,
@@ -62,11 +63,20 @@ fn is_rewritten(alloc: Global, hex: &str) -> Option<bool> {
     Some(again.as_slice() == bytes.as_slice())
 }
 
+/// The first segment that is written otherwise.
+fn wrong_segment(alloc: Global) -> Option<usize> {
+    let segments = [FIRST, SECOND, OLDER, NEWER, LAST];
+    for (i, hex) in segments.iter().enumerate() {
+        if is_rewritten(alloc, hex) != Some(true) {
+            return Some(i);
+        }
+    }
+    None
+}
+
 #[test]
 fn the_worked_bytes_are_read_and_written_again(rt: HostRuntime) {
-    for hex in [FIRST, SECOND, OLDER, NEWER, LAST] {
-        assert!(rt; is_rewritten(rt.alloc(), hex) == Some(true), "at {hex}");
-    }
+    went(&rt, wrong_segment(rt.alloc()));
 }
 
 /// Whether these bytes are an empty page 1, written without memory.

@@ -2,6 +2,7 @@
 
 use super::hex::{body_of, bytes_of, framed};
 use super::reading::{Found, found_in};
+use super::{all_went, went};
 use std::alloc::Global;
 
 /// A frame: its count of blocks, and its body in digits.
@@ -280,13 +281,13 @@ fn first_wrong(alloc: Global, tables: &[&[Row]]) -> Option<(usize, usize)> {
 #[test]
 fn each_part_of_a_block_is_looked_at(rt: HostRuntime) {
     let tables = [BASES, PAIRS, DELTAS, SPLITS, BODIES];
-    assert_eq!(rt; first_wrong(rt.alloc(), &tables), None);
-    assert_eq!(rt; wrong_run(rt.alloc(), RUNS), None);
+    all_went(&rt, first_wrong(rt.alloc(), &tables));
+    went(&rt, wrong_run(rt.alloc(), RUNS));
 }
 
 #[test]
 fn a_count_is_no_reason_to_take_memory(rt: HostRuntime) {
     for m in [4, 32, u16::MAX] {
-        assert_eq!(rt; wrong_row(rt.alloc(), m, COUNTS), None, "pages of {m}");
+        went(&rt, wrong_row(rt.alloc(), m, COUNTS));
     }
 }
