@@ -10,7 +10,18 @@ mod versions;
 use bw_codec::{Key, Leaf, Low, Pairs, Record, Value};
 use bw_page::Leaves;
 use std::alloc::Global;
+use std::process::Abort;
 use std::test::Fail;
+
+/// All steps went as told; a failure tells the first that did not.
+fn went(rt: &impl Abort, wrong: Option<usize>) {
+    assert_eq!(rt; wrong, None);
+}
+
+/// All tables went as told; a failure tells the first that did not, and its step.
+fn all_went(rt: &impl Abort, wrong: Option<(usize, usize)>) {
+    assert_eq!(rt; wrong, None);
+}
 
 fn put(key: &[u8], value: &[u8]) -> Result<Record, Fail> {
     Ok(Record::Put(Key::new(key)?, Value::new(value)?))

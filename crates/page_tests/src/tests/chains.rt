@@ -1,6 +1,6 @@
 //! Calls on one chain.
 
-use super::{is_shown, put};
+use super::{all_went, is_shown, put, went};
 use bw_codec::{Leaf, Place};
 use bw_page::{Chain, empty_page};
 use std::alloc::Global;
@@ -165,13 +165,13 @@ const RESTED: &[Step] = &[
 #[test]
 fn chains_go_as_told(rt: HostRuntime) -> Result<(), Fail> {
     let tables = [EVICTION, CONSOLIDATION, RESERVED, RESTED];
-    assert_eq!(rt; first_wrong(rt.alloc(), &tables)?, None);
+    all_went(&rt, first_wrong(rt.alloc(), &tables)?);
     Ok(())
 }
 
 #[test]
 fn a_chain_on_the_log_goes_as_told(rt: HostRuntime) -> Result<(), Fail> {
     let chain = Chain::on_log(rt.alloc(), FIRST);
-    assert_eq!(rt; wrong_step(rt.alloc(), chain, ON_LOG)?, None);
+    went(&rt, wrong_step(rt.alloc(), chain, ON_LOG)?);
     Ok(())
 }

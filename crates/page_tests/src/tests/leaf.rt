@@ -4,7 +4,7 @@ ghost use Rattle.std.specs.Prelude.{IsTrue};
 ghost use Rattle.bw_codec.specs.Bytes.{ascends};
 
 use super::away::leaf_of;
-use super::{bare, del, is_shown, put};
+use super::{bare, del, is_shown, put, went};
 use bw_codec::{Key, Leaf, Record};
 use bw_page::{Cut, change, change_all, count_after, cut_in_two, empty_page, keep_below, value_in};
 use std::alloc::Global;
@@ -65,7 +65,7 @@ const ONE_LEAF: &[Step] = &[
 
 #[test]
 fn a_leaf_is_changed_record_by_record(rt: HostRuntime) -> Result<(), Fail> {
-    assert_eq!(rt; wrong_step(rt.alloc(), ONE_LEAF)?, None);
+    went(&rt, wrong_step(rt.alloc(), ONE_LEAF)?);
     Ok(())
 }
 
@@ -154,14 +154,34 @@ fn a_leaf_tells_the_value_of_a_key(rt: HostRuntime) -> Result<(), Fail> {
     Ok(())
 }
 
+/// Puts, and a delete where there is no value.
+fn records(alloc: Global, changes: &[(&str, Option<&str>)]) -> Result<Vec<Record>, Fail> {
+    let mut records = Vec::new(alloc);
+    for (key, value) in changes {
+        let record = match value {
+            Some(value) => put(key.as_bytes(), value.as_bytes())?,
+            None => del(key.as_bytes())?,
+        };
+        records.push(record)?;
+    }
+    Ok(records)
+}
+
+/// Whether an empty page is shown so after these changes.
+fn becomes(alloc: Global, changes: &[(&str, Option<&str>)], text: &str) -> Result<bool, Fail> {
+    let records = records(alloc, changes)?;
+    let after = change_all(bare(alloc, 1, b"")?, records.as_slice())?;
+    Ok(is_shown(Some(&after), text))
+}
+
 #[test]
 fn records_are_applied_in_their_order(rt: HostRuntime) -> Result<(), Fail> {
-    let mut records = Vec::new(rt.alloc());
-    records.push(put(b"a", b"1")?)?;
-    records.push(put(b"b", b"2")?)?;
-    records.push(put(b"a", b"3")?)?;
-    records.push(del(b"b")?)?;
-    let after = change_all(bare(rt.alloc(), 1, b"")?, records.as_slice())?;
-    assert!(rt; is_shown(Some(&after), ": a=3"));
+    let changes = [
+        ("a", Some("1")),
+        ("b", Some("2")),
+        ("a", Some("3")),
+        ("b", None),
+    ];
+    assert!(rt; becomes(rt.alloc(), &changes, ": a=3")?);
     Ok(())
 }

@@ -2,7 +2,7 @@
 
 ghost use Rattle.std.specs.Prelude.{◌≤◌, ◌≡◌, [], OnOk};
 
-use super::{del, is_shown, leads, put};
+use super::{all_went, del, is_shown, leads, put, went};
 use bw_codec::{Key, Record};
 use bw_page::{Applied, Leaves};
 use std::alloc::Global;
@@ -250,14 +250,14 @@ fn first_wrong(alloc: Global, tables: &[(u16, &[Step])]) -> Result<Option<(usize
 #[test]
 fn leaves_of_four_and_of_five_go_as_told(rt: HostRuntime) -> Result<(), Fail> {
     let tables = [(4, FOUR), (4, SINGLE), (5, FIVE)];
-    assert_eq!(rt; first_wrong(rt.alloc(), &tables)?, None);
+    all_went(&rt, first_wrong(rt.alloc(), &tables)?);
     Ok(())
 }
 
 #[test]
 fn a_page_is_cut_where_it_has_one_pair_too_many(rt: HostRuntime) -> Result<(), Fail> {
     let tables = [(4, FILLS_4), (5, FILLS_5), (32, FILLS_32)];
-    assert_eq!(rt; first_wrong(rt.alloc(), &tables)?, None);
+    all_went(&rt, first_wrong(rt.alloc(), &tables)?);
     Ok(())
 }
 
@@ -276,6 +276,6 @@ const TAKEN: &[Step] = &[
 #[test]
 fn leaves_are_taken_as_they_come(rt: HostRuntime) -> Result<(), Fail> {
     let leaves = super::away::two_pages(rt.alloc())?;
-    assert_eq!(rt; walked(rt.alloc(), leaves, TAKEN)?, None);
+    went(&rt, walked(rt.alloc(), leaves, TAKEN)?);
     Ok(())
 }
