@@ -112,6 +112,7 @@ impl Store {
             versions,
         } = self;
         versions.shut(rt);
-        log.into_segments()
+        let (live, spares) = log.into_segments();
+        (live, spares)
     }
 }
