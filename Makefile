@@ -9,6 +9,8 @@
 
 PROGRAM = crates/bwlog
 BENCH = --keys 1000000 --operations 1000000
+# One check a processor, each at one job: two jobs for one check cost a quarter more time of the processors.
+JOBS = $(shell n=$$(nproc); echo $$((n < 4 ? n : 4)))
 SUBJECTS = pages cleaning alone beside late one one-beside many many-beside
 
 .PHONY: run try test wrong memory bench peers crash
@@ -21,7 +23,7 @@ try:
 
 test:
 	python3 docs/same.py
-	rt ci
+	RT_JOBS=$(JOBS) rt ci
 
 wrong:
 	copy=$$(mktemp -d) && git clone -q . $$copy && cd $$copy && for crate in wrong/*; do \

@@ -3,8 +3,8 @@
 ghost use Rattle.std.specs.Prelude.{◌≡◌, IfSome};
 ghost use Rattle.bw_ring.specs.Ends.{ring_of_feed, ring_of_lane, IsFeedOf};
 
-use super::all_went;
 use super::rings::{numbered, one_ring};
+use crate::tests::all_went;
 use bw_codec::Record;
 use bw_ring::{Feed, Full, Lane};
 use std::alloc::Global;

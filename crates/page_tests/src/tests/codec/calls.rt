@@ -1,7 +1,8 @@
 // Each call once, where memory is there.
 
+use super::is_text;
 use super::told::{Kind, are_pairs, is_one, says};
-use super::{is_text, went};
+use crate::tests::went;
 use bw_buffer::PutError;
 use bw_codec::{
     Block, Blocks, CodecFault, Head, Header, Key, Leaf, LengthError, Low, Ops, Pairs, Place,

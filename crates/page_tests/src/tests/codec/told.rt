@@ -1,7 +1,7 @@
 // What the worked bytes tell, block by block.
 
 use super::hex::{FIRST, NEWER, OLDER, SECOND, bytes_of};
-use super::went;
+use crate::tests::went;
 use bw_codec::{
     Block, Frame, FrameRead, Header, HeaderRead, Key, Outline, Place, Record, Value, read_frame,
     read_header,

@@ -5,7 +5,7 @@ ghost use Rattle.std.specs.List.{AllByRecursion};
 ghost use Rattle.bw_codec.specs.Grammar.{IsBlock};
 
 use super::hex::{bytes_of, framed};
-use super::{all_went, went};
+use crate::tests::{all_went, went};
 use bw_buffer::{Buffer, Mark, PutError};
 use bw_codec::{Block, Blocks, FrameRead, Header, Place, encode_block, read_frame};
 use std::alloc::Global;

@@ -1,7 +1,7 @@
 // Frames that are whole, that were cut, or that are bad.
 
 use super::hex::{FIRST, bytes_of};
-use super::went;
+use crate::tests::went;
 use bw_codec::{CodecFault, FrameRead, Header, read_frame};
 use std::alloc::Global;
 

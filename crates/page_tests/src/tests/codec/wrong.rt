@@ -2,7 +2,7 @@
 
 use super::hex::{body_of, bytes_of, framed};
 use super::reading::{Found, found_in};
-use super::{all_went, went};
+use crate::tests::{all_went, went};
 use std::alloc::Global;
 
 /// A frame: its count of blocks, and its body in digits.

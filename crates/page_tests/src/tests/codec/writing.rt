@@ -4,7 +4,7 @@ ghost use Rattle.std.specs.List.{AllByRecursion};
 ghost use Rattle.bw_codec.specs.Grammar.{IsBlock};
 
 use super::hex::{FIRST, LAST, NEWER, OLDER, SECOND, bytes_of};
-use super::went;
+use crate::tests::went;
 use bw_codec::limits::{HEAD_LEN, HEADER_LEN};
 use bw_codec::{
     Block, Frame, FrameRead, Header, HeaderRead, Leaf, Low, Pairs, block_length, encode_block,

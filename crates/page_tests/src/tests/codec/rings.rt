@@ -3,7 +3,8 @@
 ghost use Rattle.std.specs.Prelude.{IfOk};
 ghost use Rattle.bw_ring.specs.Ends.{IsFeedOf};
 
-use super::{is_text, went};
+use super::is_text;
+use crate::tests::went;
 use bw_codec::{Key, Record};
 use bw_ring::{Feed, Full, Lane, LanesError, lanes};
 use std::alloc::Global;

@@ -1,7 +1,7 @@
 // What a segment begins with.
 
 use super::hex::{FIRST, bytes_of};
-use super::went;
+use crate::tests::went;
 use bw_codec::{Header, HeaderRead, read_header};
 use std::alloc::Global;
 
