@@ -102,11 +102,19 @@ const CUTS: &[(u16, &str, &str, &str)] = &[
     (2, "xyz", ": x=", "y: y= z="),
 ];
 
+/// The first of these leaves that is not cut as told.
+fn wrong_cut(alloc: Global) -> Result<Option<usize>, Fail> {
+    for (i, (m, keys, lower, upper)) in CUTS.iter().enumerate() {
+        if !is_cut(alloc, *m, keys, lower, upper)? {
+            return Ok(Some(i));
+        }
+    }
+    Ok(None)
+}
+
 #[test]
 fn a_leaf_is_cut_in_two(rt: HostRuntime) -> Result<(), Fail> {
-    for (m, keys, lower, upper) in CUTS {
-        assert!(rt; is_cut(rt.alloc(), *m, keys, lower, upper)?, "at {keys}");
-    }
+    went(&rt, wrong_cut(rt.alloc())?);
     Ok(())
 }
 
@@ -124,14 +132,19 @@ const KEPT: &[(&str, &str, &str)] = &[
     ("", "a", ":"),
 ];
 
+/// The first of these leaves that keeps other pairs.
+fn wrong_kept(alloc: Global) -> Result<Option<usize>, Fail> {
+    for (i, (keys, separator, text)) in KEPT.iter().enumerate() {
+        if !is_kept(alloc, keys, separator, text)? {
+            return Ok(Some(i));
+        }
+    }
+    Ok(None)
+}
+
 #[test]
 fn pairs_from_a_key_on_are_dropped(rt: HostRuntime) -> Result<(), Fail> {
-    for (keys, separator, text) in KEPT {
-        assert!(rt;
-            is_kept(rt.alloc(), keys, separator, text)?,
-            "at {separator}"
-        );
-    }
+    went(&rt, wrong_kept(rt.alloc())?);
     Ok(())
 }
 
@@ -145,12 +158,25 @@ fn tells(leaf: &Leaf, key: &str, text: &str) -> Result<bool, Fail>
     }
 }
 
+/// Keys, and their values in a leaf of `d` alone.
+const TOLD: &[(&str, &str)] = &[("d", "4"), ("c", ""), ("da", ""), ("e", "")];
+
+/// The first key whose value is told otherwise.
+fn wrong_value(leaf: &Leaf) -> Result<Option<usize>, Fail>
+    requires { IsTrue (ascends leaf.now.pairs) }
+{
+    for (i, (key, text)) in TOLD.iter().enumerate() {
+        if !tells(leaf, key, text)? {
+            return Ok(Some(i));
+        }
+    }
+    Ok(None)
+}
+
 #[test]
 fn a_leaf_tells_the_value_of_a_key(rt: HostRuntime) -> Result<(), Fail> {
     let leaf = leaf_of(rt.alloc(), 1, b"", b"d", b"4")?;
-    for (key, text) in [("d", "4"), ("c", ""), ("da", ""), ("e", "")] {
-        assert!(rt; tells(&leaf, key, text)?, "at {key}");
-    }
+    went(&rt, wrong_value(&leaf)?);
     Ok(())
 }
 

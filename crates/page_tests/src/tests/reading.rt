@@ -1,6 +1,6 @@
 //! One page, read forwards over blocks.
 
-use super::{bare, is_shown, put};
+use super::{bare, is_shown, put, went};
 use bw_codec::{Block, Leaf, Ops, Place};
 use bw_page::{change, read_blocks};
 use std::alloc::Global;
@@ -46,10 +46,21 @@ fn is_read(alloc: Global, page: u32, text: &str) -> Result<bool, Fail> {
     Ok(is_shown(leaf.as_ref(), text))
 }
 
+/// The pages; no text where the blocks never set one.
+const PAGES: &[(u32, &str)] = &[(1, ": a=1"), (2, "b: b=2"), (3, "")];
+
+/// The first page that is read otherwise.
+fn wrong_page(alloc: Global) -> Result<Option<usize>, Fail> {
+    for (i, (page, text)) in PAGES.iter().enumerate() {
+        if !is_read(alloc, *page, text)? {
+            return Ok(Some(i));
+        }
+    }
+    Ok(None)
+}
+
 #[test]
 fn blocks_are_read_page_by_page(rt: HostRuntime) -> Result<(), Fail> {
-    for (page, text) in [(1, ": a=1"), (2, "b: b=2"), (3, "")] {
-        assert!(rt; is_read(rt.alloc(), page, text)?, "at {page}");
-    }
+    went(&rt, wrong_page(rt.alloc())?);
     Ok(())
 }
