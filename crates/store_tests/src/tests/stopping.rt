@@ -3,6 +3,7 @@
 use super::boxes::{LEAST, fill, fuse};
 use super::steps::Step;
 use super::steps::Step::{Cuts, Flush, Page, Put, Refused, Turn};
+use super::telling::comes_to;
 use super::walking::{lives, lives_on};
 use bw_device::{Desk, Segment};
 use bw_store::StoreFault;
@@ -51,6 +52,5 @@ fn three_lives<R: AllocGlobal + Wait>(rt: &R) -> Result<[Option<usize>; 3], Fail
 
 #[test]
 fn a_store_goes_on_from_its_own_boxes(rt: HostRuntime) -> Result<(), Fail> {
-    assert_eq!(rt; three_lives(&rt)?, [None, None, None]);
-    Ok(())
+    comes_to(&rt, three_lives(&rt), [None, None, None])
 }

@@ -11,7 +11,7 @@ use super::steps::Script;
 use super::walking::{Rounds, all_go};
 use crate::tests::boxes::filled;
 use crate::tests::opening::{opened, reopened};
-use crate::tests::walking::{joined, recovered_from};
+use crate::tests::walking::{left_by, recovered_from};
 use bw_device::{Desk, Segment};
 use bw_page::Leaves;
 use bw_ring::Feed;
@@ -63,15 +63,6 @@ pub(super) fn supply(alloc: Global, leases: u32, table: &Table) -> Result<Supply
     let boxes = filled(alloc, &mut desk, table.boxes, table.capacity)?;
     let more = filled(alloc, &mut desk, table.more, table.capacity)?;
     Ok((boxes, more))
-}
-
-// What a life left of the boxes that came out of its store.
-fn left_by(
-    went: Result<bool, Fail>,
-    live: Vec<Box<dyn Segment>>,
-    spares: Vec<Box<dyn Segment>>,
-) -> Result<Left, Fail> {
-    Ok((went?, joined(live, spares)?))
 }
 
 // Whether all goes as told over a store, whose boxes then come out of it.

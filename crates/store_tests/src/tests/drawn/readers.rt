@@ -4,9 +4,11 @@ ghost use Rattle.bw_store.specs.Views.{IsSound, IsSoundBeside};
 
 use super::sides::Side::{Left, Right};
 use super::sides::Step::{Flushes, See, Takes};
-use super::sides::{Ends, Step, ends_of, goes, see, sees};
+use super::sides::{Ends, Step, ends_of, goes, see};
 use crate::tests::boxes::boxes_of;
 use crate::tests::opening::{config_of, opened};
+use crate::tests::readers::reads;
+use crate::tests::telling::comes_to;
 use bw_device::Segment;
 use bw_ring::Feed;
 use bw_store::{Reader, Store};
@@ -111,7 +113,7 @@ fn go_against<R: AllocGlobal + Wait>(
 // The same where the right store's reader then sees on; the first step where it does not.
 fn sees_on(reader: &mut Reader, wrong: Result<Option<usize>, Fail>) -> Result<Option<usize>, Fail> {
     let wrong = wrong?;
-    Ok(if sees(reader, b"3")? { wrong } else { Some(0) })
+    Ok(if reads(reader, b"3")? { wrong } else { Some(0) })
 }
 
 // The same with the ends of the right store.
@@ -140,6 +142,5 @@ fn walked<R: AllocGlobal + Wait>(rt: &R) -> Result<Option<usize>, Fail> {
 
 #[test]
 fn each_reader_sees_its_own_store(rt: HostRuntime) -> Result<(), Fail> {
-    assert_eq!(rt; walked(&rt)?, None);
-    Ok(())
+    comes_to(&rt, walked(&rt), None)
 }
