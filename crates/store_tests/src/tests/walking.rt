@@ -5,7 +5,7 @@ ghost use Rattle.bw_care.specs.Found.{IsRecovered};
 ghost use Rattle.bw_ring.specs.Ends.{ring_of_feed};
 ghost use Rattle.bw_store.specs.Views.{kept_beside, IsSoundBeside};
 
-use super::boxes::{LEAST, fill, filled, fuse};
+use super::boxes::{LEAST, fill, row_with_fuse, supply};
 use super::opening::{config_of, opened, reopened};
 use super::steps::{Step, goes};
 use bw_care::{Recovered, recover};
@@ -23,21 +23,21 @@ fn wrong_step<R: AllocGlobal + Wait>(
     feeds: &mut Vec<Feed>,
     more: &mut Vec<Box<dyn Segment>>,
     steps: &[Step],
-) -> Result<Option<usize>, Fail>
+) -> Option<usize>
     requires sound { IsSoundBeside store.old holding }
     requires feeds { map ring_of_feed feeds.old.items ≡ (kept_beside store.old holding).rings }
     ensures { IsSoundBeside store.new holding }
 {
     for (i, step) in steps.iter().enumerate() {
-        if !goes(rt, rt.alloc(), store, feeds, more, step)? {
-            return Ok(Some(i));
+        if !goes(rt, rt.alloc(), store, feeds, more, step) {
+            return Some(i);
         }
     }
-    Ok(None)
+    None
 }
 
-// All boxes in one row.
-fn joined(
+/// All boxes in one row.
+pub(super) fn joined(
     live: Vec<Box<dyn Segment>>,
     spares: Vec<Box<dyn Segment>>,
 ) -> Result<Vec<Box<dyn Segment>>, Fail> {
@@ -48,15 +48,6 @@ fn joined(
 
 /// The first step of a life that did not go as told, and all boxes behind it.
 pub(super) type Left = (Option<usize>, Vec<Box<dyn Segment>>);
-
-/// How a life went, and all boxes that came out of its store.
-pub(super) fn left_by<T: Drop>(
-    went: Result<T, Fail>,
-    live: Vec<Box<dyn Segment>>,
-    spares: Vec<Box<dyn Segment>>,
-) -> Result<(T, Vec<Box<dyn Segment>>), Fail> {
-    Ok((went?, joined(live, spares)?))
-}
 
 // The steps over a store with these segments in reserve. Its boxes then come out of it.
 fn lives_in<R: AllocGlobal + Wait>(
@@ -71,7 +62,7 @@ fn lives_in<R: AllocGlobal + Wait>(
 {
     let wrong = wrong_step(rt, &mut store, &mut feeds, more, steps);
     let (live, spares) = store.shut(rt);
-    left_by(wrong, live, spares)
+    Ok((wrong, joined(live, spares)?))
 }
 
 /// The steps over a store of these boxes, with rings of so many places and these segments in
@@ -124,17 +115,6 @@ pub(super) fn lives_on<R: AllocGlobal + Wait>(
     lives_in(rt, store, feeds, &mut Vec::new(rt.alloc()), steps)
 }
 
-// So many boxes, and one more in reserve.
-fn supply(
-    alloc: Global,
-    many: u32,
-) -> Result<(Vec<Box<dyn Segment>>, Vec<Box<dyn Segment>>), Fail> {
-    let mut desk = Desk::new(alloc, 16)?;
-    let boxes = filled(alloc, &mut desk, many, LEAST)?;
-    let more = filled(alloc, &mut desk, 1, LEAST)?;
-    Ok((boxes, more))
-}
-
 // Over so many boxes, with one more in reserve, and rings of so many places.
 fn within<R: AllocGlobal + Wait>(
     rt: &R,
@@ -142,18 +122,20 @@ fn within<R: AllocGlobal + Wait>(
     places: usize,
     steps: &[Step],
 ) -> Result<Option<usize>, Fail> {
-    let (boxes, mut more) = supply(rt.alloc(), many)?;
+    let (boxes, mut more) = supply(rt.alloc(), 16, (many, 1), LEAST)?;
     let (wrong, _boxes) = lives(rt, boxes, &mut more, places, steps)?;
     Ok(wrong)
 }
 
-// So many boxes, then one that fails after so many calls, and a spare.
-fn fused(alloc: Global, many: u32, calls: u64, keep: u64) -> Result<Vec<Box<dyn Segment>>, Fail> {
+/// So many boxes of the least capacity, one that fails after so many calls, and so many more.
+pub(super) fn fused(
+    alloc: Global,
+    many: (u32, u32),
+    calls: u64,
+    keep: u64,
+) -> Result<Vec<Box<dyn Segment>>, Fail> {
     let mut desk = Desk::new(alloc, 8)?;
-    let mut boxes = filled(alloc, &mut desk, many, LEAST)?;
-    fuse(alloc, &mut desk, calls, keep, LEAST, &mut boxes)?;
-    fill(alloc, &mut desk, 1, LEAST, &mut boxes)?;
-    Ok(boxes)
+    row_with_fuse(alloc, &mut desk, many, calls, keep, LEAST)
 }
 
 // Over so many boxes, then one that fails after so many calls, and a spare.
@@ -164,7 +146,7 @@ fn over_fuse<R: AllocGlobal + Wait>(
     keep: u64,
     steps: &[Step],
 ) -> Result<Option<usize>, Fail> {
-    let boxes = fused(rt.alloc(), many, calls, keep)?;
+    let boxes = fused(rt.alloc(), (many, 1), calls, keep)?;
     let (wrong, _boxes) = lives(rt, boxes, &mut Vec::new(rt.alloc()), 8, steps)?;
     Ok(wrong)
 }

@@ -1,6 +1,6 @@
 //! A store of three segments is cleaned a hundred times: the tables.
 
-use super::living::{Table, lives, script_of, stops_and_lives_on, supply};
+use super::living::{Table, lives, script_of, stops_and_lives_on, supply_of};
 use super::steps::Step::{Add, Clean, Del, Evict, Put, Reads, Roll, Settle, Turn};
 use super::steps::{Script, Step};
 use super::walking::Rounds;
@@ -74,7 +74,7 @@ fn lives_twice<R: AllocGlobal + Wait>(
 // The same over boxes of the table.
 fn walked<R: AllocGlobal + Wait>(rt: &R, table: &Table) -> Result<(bool, u32, u32), Fail> {
     let mut script = script_of(rt.alloc(), table)?;
-    let (boxes, mut more) = supply(rt.alloc(), 128, table)?;
+    let (boxes, mut more) = supply_of(rt.alloc(), 128, table)?;
     lives_twice(rt, boxes, &mut more, &mut script)
 }
 

@@ -4,10 +4,9 @@ use super::living::{Table, lives, script_of, stops_and_lives_on};
 use super::steps::Step::{Ask, Break, Clean, Del, Flush, Put, Reads, Roll, Settle, Turn};
 use super::steps::{Script, Step};
 use super::walking::Rounds;
-use crate::tests::boxes::{fill, filled, fuse};
+use crate::tests::boxes::{filled, row_with_fuse};
 use crate::tests::telling::comes_to;
 use bw_device::{Desk, Segment};
-use std::alloc::Global;
 use std::sync::Wait;
 use std::test::Fail;
 
@@ -114,19 +113,6 @@ fn lives_thrice<R: AllocGlobal + Wait>(
     Ok((first && went, is_failed))
 }
 
-// A row of boxes, of which the second fails once, after so many calls.
-fn fused(
-    alloc: Global,
-    desk: &mut Desk,
-    calls: u64,
-    keep: u64,
-) -> Result<Vec<Box<dyn Segment>>, Fail> {
-    let mut boxes = filled(alloc, desk, TABLE.boxes, TABLE.capacity)?;
-    fuse(alloc, desk, calls, keep, TABLE.capacity, &mut boxes)?;
-    fill(alloc, desk, 2, TABLE.capacity, &mut boxes)?;
-    Ok(boxes)
-}
-
 // The three lives of a store whose second segment fails.
 fn walked<R: AllocGlobal + Wait>(
     rt: &R,
@@ -136,7 +122,8 @@ fn walked<R: AllocGlobal + Wait>(
     is_kept: bool,
 ) -> Result<(bool, bool), Fail> {
     let mut desk = Desk::new(rt.alloc(), 64)?;
-    let boxes = fused(rt.alloc(), &mut desk, calls, keep)?;
+    let many = (TABLE.boxes, 2);
+    let boxes = row_with_fuse(rt.alloc(), &mut desk, many, calls, keep, TABLE.capacity)?;
     let mut more = filled(rt.alloc(), &mut desk, TABLE.more, TABLE.capacity)?;
     lives_thrice(rt, boxes, &mut more, plans, is_kept)
 }

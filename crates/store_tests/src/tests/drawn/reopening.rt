@@ -1,6 +1,6 @@
 //! Stores that go on from their own boxes, with a script in each life: the tables.
 
-use super::living::{Table, lives, script_of, stops_and_lives_on, supply};
+use super::living::{Table, lives, script_of, stops_and_lives_on, supply_of};
 use super::steps::Step::{
     Clean, Del, Evict, EvictAll, Flush, Get, Page, Put, Reads, Roll, Settle, Turn,
 };
@@ -87,7 +87,7 @@ fn lives_four_times<R: AllocGlobal + Wait>(
 // The same over boxes of the table.
 fn walked<R: AllocGlobal + Wait>(rt: &R, table: &Table) -> Result<u32, Fail> {
     let mut script = script_of(rt.alloc(), table)?;
-    let (boxes, mut more) = supply(rt.alloc(), 128, table)?;
+    let (boxes, mut more) = supply_of(rt.alloc(), 128, table)?;
     lives_four_times(rt, boxes, &mut more, &mut script)
 }
 

@@ -49,24 +49,21 @@ pub(super) fn goes<R: Wait>(
     ends: &mut Ends,
     side: Side,
     step: &Step,
-) -> Result<bool, Fail>
+) -> bool
     requires { IsSound store.old holding }
     ensures { IsSound store.new holding }
 {
     match step {
         Takes(of, value) if *of == side => is_taken(store, &mut ends.feeds, *value),
-        Flushes(of) if *of == side => Ok(store.flush(rt).is_ok()),
-        _ => Ok(true),
+        Flushes(of) if *of == side => store.flush(rt).is_ok(),
+        _ => true,
     }
 }
 
 /// Whether the readers see as told.
-pub(super) fn see(left: &mut Reader, right: &mut Reader, step: &Step) -> Result<bool, Fail> {
+pub(super) fn see(left: &mut Reader, right: &mut Reader, step: &Step) -> bool {
     match step {
-        See(one, other) => {
-            let is_seen = reads(left, *one)?;
-            Ok(reads(right, *other)? && is_seen)
-        }
-        _ => Ok(true),
+        See(one, other) => reads(left, *one) & reads(right, *other),
+        _ => true,
     }
 }
