@@ -61,15 +61,6 @@ pub(super) fn supply_of(alloc: Global, leases: u32, table: &Table) -> Result<Sup
     supply(alloc, leases, (table.boxes, table.more), table.capacity)
 }
 
-// What a life left of the boxes that came out of its store.
-fn left_by(
-    went: Result<bool, Fail>,
-    live: Vec<Box<dyn Segment>>,
-    spares: Vec<Box<dyn Segment>>,
-) -> Result<Left, Fail> {
-    Ok((went?, joined(live, spares)?))
-}
-
 // Whether all goes as told over a store, whose boxes then come out of it.
 fn lives_in<R: AllocGlobal + Wait>(
     rt: &R,
@@ -84,7 +75,7 @@ fn lives_in<R: AllocGlobal + Wait>(
 {
     let went = all_go(rt, &mut store, &mut feeds, more, script, plans);
     let (live, spares) = store.shut(rt);
-    left_by(went, live, spares)
+    Ok((went, joined(live, spares)?))
 }
 
 /// Whether all goes as told over a store of these boxes, which then come out of it.
@@ -107,17 +98,17 @@ pub(super) fn lives<R: AllocGlobal + Wait>(
 }
 
 // Whether these pages are the map's.
-fn are_told(alloc: Global, leaves: &Leaves, script: &Script) -> Result<bool, Fail> {
+fn are_told(alloc: Global, leaves: &Leaves, script: &Script) -> bool {
     let mut seen = Seen::new(alloc, script.m);
     for page in 1..=leaves.count() {
         let Some(leaf) = leaves.page(page) else {
-            return Ok(false);
+            return false;
         };
-        if !seen.read(leaf)? {
-            return Ok(false);
+        if !seen.read(leaf) {
+            return false;
         }
     }
-    Ok(seen.are(script.model.values()))
+    seen.are(script.model.values())
 }
 
 // What is recovered from these boxes, whose pages have to be the map's.
@@ -129,7 +120,7 @@ fn recovered_as_told(
     ensures { IfOk result (λ r. IsRecovered holding r) }
 {
     let recovered = recovered_from(alloc, boxes, None)?;
-    if !are_told(alloc, &recovered.leaves, script)? {
+    if !are_told(alloc, &recovered.leaves, script) {
         return Err(Fail::from("other pages are recovered"));
     }
     Ok(recovered)

@@ -9,7 +9,6 @@ use bw_device::Segment;
 use bw_ring::Feed;
 use bw_store::Store;
 use std::sync::Wait;
-use std::test::Fail;
 
 /// So many rounds: in each so many steps are drawn from a deck, and some more follow.
 #[derive(Clone, Copy)]
@@ -22,13 +21,13 @@ pub(super) struct Rounds {
 
 /// Where a script stands in its plans: in which of them, in which of its rounds, and at which step.
 #[derive(Clone, Copy)]
-pub(super) struct Stand {
+struct Place {
     plan: usize,
     round: u32,
     at: u32,
 }
 
-// The step of a round at a place: a drawn one, or one that follows; none at the end.
+// The step of a round at a number: a drawn one, or one that follows; none at the end.
 fn step_at(script: &mut Script, plan: &Rounds, at: u32) -> Option<Step> {
     if at < plan.drawn {
         let card = script.draw.below(1_000_000) as usize;
@@ -38,27 +37,27 @@ fn step_at(script: &mut Script, plan: &Rounds, at: u32) -> Option<Step> {
 }
 
 // The next step of a plan; none where its rounds are walked.
-fn next_of(script: &mut Script, plan: &Rounds, stand: &mut Stand) -> Option<Step> {
-    'rounds: for _ in stand.round..plan.rounds {
-        let at = stand.at;
-        stand.at = at.saturating_add(1);
+fn next_of(script: &mut Script, plan: &Rounds, place: &mut Place) -> Option<Step> {
+    'rounds: for _ in place.round..plan.rounds {
+        let at = place.at;
+        place.at = at.saturating_add(1);
         if let Some(step) = step_at(script, plan, at) {
             return Some(step);
         }
-        stand.round = stand.round.saturating_add(1);
-        stand.at = 0;
+        place.round = place.round.saturating_add(1);
+        place.at = 0;
     }
     None
 }
 
 // The next step of all plans.
-fn next(script: &mut Script, plans: &[Rounds], stand: &mut Stand) -> Option<Step> {
-    'plans: for at in stand.plan..plans.len() {
-        if let Some(step) = next_of(script, plans.get(at)?, stand) {
+fn next(script: &mut Script, plans: &[Rounds], place: &mut Place) -> Option<Step> {
+    'plans: for at in place.plan..plans.len() {
+        if let Some(step) = next_of(script, plans.get(at)?, place) {
             script.steps = script.steps.saturating_add(1);
             return Some(step);
         }
-        *stand = Stand {
+        *place = Place {
             plan: at.saturating_add(1),
             round: 0,
             at: 0,
@@ -75,23 +74,23 @@ pub(super) fn all_go<R: AllocGlobal + Wait>(
     more: &mut Vec<Box<dyn Segment>>,
     script: &mut Script,
     plans: &[Rounds],
-) -> Result<bool, Fail>
+) -> bool
     requires sound { IsSoundBeside store.old holding }
     requires feeds { map ring_of_feed feeds.old.items ≡ (kept_beside store.old holding).rings }
     ensures { IsSoundBeside store.new holding }
 {
-    let mut stand = Stand {
+    let mut place = Place {
         plan: 0,
         round: 0,
         at: 0,
     };
     'steps: for _ in 0..1_000_000u32 {
-        let Some(step) = next(script, plans, &mut stand) else {
-            return Ok(true);
+        let Some(step) = next(script, plans, &mut place) else {
+            return true;
         };
-        if !goes(rt, store, feeds, more, script, step)? {
-            return Ok(false);
+        if !goes(rt, store, feeds, more, script, step) {
+            return false;
         }
     }
-    Ok(false)
+    false
 }
