@@ -14,6 +14,7 @@ mod reopening;
 mod settling;
 mod steps;
 mod stopping;
+mod telling;
 mod threads;
 mod turning;
 mod vectors;

@@ -7,7 +7,6 @@ ghost use Rattle.bw_store.specs.Following.{Follows};
 use bw_codec::{Key, Leaf, Record};
 use bw_store::{Entry, Store, StoreFault};
 use std::alloc::Global;
-use std::test::Fail;
 
 fn digit(n: u8) -> u8 {
     match n {
@@ -113,14 +112,17 @@ pub(super) fn is_unread(store: &mut Store, page: u32, fault: StoreFault) -> bool
 }
 
 /// Whether a key has this value; with no text, whether it has none.
-pub(super) fn has(store: &mut Store, key: &[u8], text: &[u8]) -> Result<bool, Fail>
+pub(super) fn has(store: &mut Store, key: &[u8], text: &[u8]) -> bool
     requires { IsSound store.old holding }
     ensures sound { IsSound store.new holding }
     ensures rings { (kept_by store.new holding).rings ≡ (kept_by store.old holding).rings }
 {
-    let key = Key::new(key)?;
-    match store.get(&key)? {
-        Some(value) => Ok(value.as_slice() == text),
-        None => Ok(text.len() == 0),
+    let Ok(key) = Key::new(key) else {
+        return false;
+    };
+    match store.get(&key) {
+        Ok(Some(value)) => value.as_slice() == text,
+        Ok(None) => text.len() == 0,
+        Err(_) => false,
     }
 }

@@ -52,8 +52,8 @@ fn fused(
     Ok(FuseSegment::new(inner, calls, keep))
 }
 
-/// A box that fails once, after so many calls.
-pub(super) fn fuse(
+// A box that fails once, after so many calls.
+fn fuse(
     alloc: Global,
     desk: &mut Desk,
     calls: u64,
@@ -64,4 +64,35 @@ pub(super) fn fuse(
     let segment = fused(alloc, desk, calls, keep, capacity)?;
     boxes.push(Box::new(alloc, segment)?)?;
     Ok(())
+}
+
+/// So many boxes, one that fails once, after so many calls, and so many more.
+pub(super) fn row_with_fuse(
+    alloc: Global,
+    desk: &mut Desk,
+    many: (u32, u32),
+    calls: u64,
+    keep: u64,
+    capacity: u64,
+) -> Result<Vec<Box<dyn Segment>>, Fail> {
+    let mut boxes = filled(alloc, desk, many.0, capacity)?;
+    fuse(alloc, desk, calls, keep, capacity, &mut boxes)?;
+    fill(alloc, desk, many.1, capacity, &mut boxes)?;
+    Ok(boxes)
+}
+
+/// The boxes that a store is opened over, and those that there are more.
+pub(super) type Supply = (Vec<Box<dyn Segment>>, Vec<Box<dyn Segment>>);
+
+/// So many boxes of each, of one desk with so many leases.
+pub(super) fn supply(
+    alloc: Global,
+    leases: u32,
+    many: (u32, u32),
+    capacity: u64,
+) -> Result<Supply, Fail> {
+    let mut desk = Desk::new(alloc, leases)?;
+    let boxes = filled(alloc, &mut desk, many.0, capacity)?;
+    let more = filled(alloc, &mut desk, many.1, capacity)?;
+    Ok((boxes, more))
 }

@@ -5,8 +5,9 @@ use super::steps::Step::{
     Add, Bytes, Clean, Cuts, Flush, Get, History, Live, Page, Put, Refused, Roll, Settle, Stands,
     Turn, Uncleaned,
 };
+use super::telling::comes_to;
 use super::vectors::{THIRD_NEWER, THIRD_OLDER};
-use super::walking::{first_wrong, over_fuse};
+use super::walking::{Stand, first_wrong, over_fuses};
 use bw_store::StoreFault;
 use std::test::Fail;
 
@@ -106,18 +107,19 @@ const FAILED: &[Step] = &[
     Page(1, "1 : j=2 k=1"),
 ];
 
+const TABLES: &[(Stand, &[Step])] = &[
+    (Stand::Boxes(4, 8), THREE_SEGMENTS),
+    (Stand::Boxes(4, 8), NOTHING_OLD),
+    (Stand::Boxes(3, 8), THREE_BOXES),
+];
+
 #[test]
 fn the_oldest_segment_is_given_up(rt: HostRuntime) -> Result<(), Fail> {
-    let tables = [(4, THREE_SEGMENTS), (4, NOTHING_OLD), (3, THREE_BOXES)];
-    assert_eq!(rt; first_wrong(&rt, &tables)?, None);
-    Ok(())
+    comes_to(&rt, first_wrong(&rt, TABLES), None)
 }
 
 #[test]
 fn a_failed_append_of_the_cleaner_drops_no_box(rt: HostRuntime) -> Result<(), Fail> {
     // A header, a frame and the read of a page pass; the cleaner's frame has 36 bytes.
-    for keep in 0..=36u64 {
-        assert_eq!(rt; over_fuse(&rt, 1, 3, keep, FAILED)?, None, "keeps {keep}");
-    }
-    Ok(())
+    comes_to(&rt, over_fuses(&rt, 1, 3, (0, 36), FAILED), None)
 }

@@ -4,8 +4,9 @@ use super::steps::Step;
 use super::steps::Step::{
     Clean, Del, Evict, Flush, Get, Page, Put, Roll, Settle, Stands, Stops, Turn, Unread,
 };
+use super::telling::comes_to;
 use super::vectors::FIRST_BYTES;
-use super::walking::{first_wrong, over, over_bytes, over_fuse};
+use super::walking::{Stand, first_wrong};
 use bw_store::StoreFault;
 use std::test::Fail;
 
@@ -117,28 +118,16 @@ const OPENED_AGAIN: &[Step] = &[
     Page(1, "1 : j=2 k=v"),
 ];
 
-#[test]
-fn pages_that_are_away_are_read_from_their_segments(rt: HostRuntime) -> Result<(), Fail> {
-    assert_eq!(rt; over_fuse(&rt, 0, 2, 0, READ_AGAIN)?, None);
-    assert_eq!(rt; over_fuse(&rt, 0, 2, 0, TURNED_AGAIN)?, None);
-    Ok(())
-}
+const TABLES: &[(Stand, &[Step])] = &[
+    (Stand::Fuse(0, 2, 0), READ_AGAIN),
+    (Stand::Fuse(0, 2, 0), TURNED_AGAIN),
+    (Stand::Boxes(4, 8), UNFLUSHED),
+    (Stand::Boxes(4, 8), CUT),
+    (Stand::Boxes(4, 8), CLEANED),
+    (Stand::Bytes(&[FIRST_BYTES]), OPENED_AGAIN),
+];
 
 #[test]
-fn what_no_frame_has_yet_stays_with_its_page(rt: HostRuntime) -> Result<(), Fail> {
-    let tables = [(4, UNFLUSHED), (4, CUT)];
-    assert_eq!(rt; first_wrong(&rt, &tables)?, None);
-    Ok(())
-}
-
-#[test]
-fn pages_stay_away_through_a_cleaning(rt: HostRuntime) -> Result<(), Fail> {
-    assert_eq!(rt; over(&rt, 4, CLEANED)?, None);
-    Ok(())
-}
-
-#[test]
-fn recovered_pages_leave_memory(rt: HostRuntime) -> Result<(), Fail> {
-    assert_eq!(rt; over_bytes(&rt, &[FIRST_BYTES], OPENED_AGAIN)?, None);
-    Ok(())
+fn pages_that_left_memory_are_read_from_their_segments(rt: HostRuntime) -> Result<(), Fail> {
+    comes_to(&rt, first_wrong(&rt, TABLES), None)
 }

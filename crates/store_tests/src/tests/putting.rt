@@ -3,12 +3,11 @@
 ghost use Rattle.std.specs.Prelude.{◌≡◌, ◌<◌, length, map};
 ghost use Rattle.bw_ring.specs.Ends.{ring_of_feed};
 
-use bw_codec::{Key, Record, Value};
+use bw_codec::{Key, LengthError, Record, Value};
 use bw_ring::Feed;
-use std::test::Fail;
 
 /// A put, or with no value a delete.
-pub(super) fn record(key: &[u8], value: Option<&[u8]>) -> Result<Record, Fail> {
+pub(super) fn record(key: &[u8], value: Option<&[u8]>) -> Result<Record, LengthError> {
     let key = Key::new(key)?;
     match value {
         Some(value) => Ok(Record::Put(key, Value::new(value)?)),

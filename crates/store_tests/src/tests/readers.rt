@@ -5,6 +5,7 @@ ghost use Rattle.bw_store.specs.Views.{IsSound};
 use super::boxes::boxes_of;
 use super::opening::{config_of, opened};
 use super::putting::{is_put, record};
+use super::telling::comes_to;
 use bw_codec::{Key, Value};
 use bw_device::Segment;
 use bw_ring::Feed;
@@ -20,26 +21,34 @@ const READS: u32 = 10_000;
 /// How many values of one key are put, taken and flushed meanwhile.
 const VALUES: u8 = 200;
 
-// Whether a reader answers this value of `k`; no bytes where it has none.
-fn reads(reader: &mut Reader, value: &[u8]) -> Result<bool, Fail> {
-    match reader.get(&Key::new(b"k")?) {
-        Ok(Some(found)) => Ok(found.as_slice() == value),
-        Ok(None) => Ok(value.is_empty()),
-        Err(NoReader) => Ok(false),
+/// Whether a reader answers this value of `k`; no bytes where it has none.
+pub(super) fn reads(reader: &mut Reader, value: &[u8]) -> bool {
+    let Ok(key) = Key::new(b"k") else {
+        return false;
+    };
+    match reader.get(&key) {
+        Ok(Some(found)) => found.as_slice() == value,
+        Ok(None) => value.is_empty(),
+        Err(NoReader) => false,
     }
 }
 
-// Whether a put of `k` is accepted and taken.
-fn is_taken(store: &mut Store, feeds: &mut Vec<Feed>, value: &[u8]) -> Result<bool, Fail>
+/// Whether a put of `k` is accepted and taken.
+pub(super) fn is_taken(store: &mut Store, feeds: &mut Vec<Feed>, value: &[u8]) -> bool
     requires { IsSound store.old holding }
     ensures { IsSound store.new holding }
 {
-    let item = record(b"k", Some(value))?;
+    let Ok(item) = record(b"k", Some(value)) else {
+        return false;
+    };
     if feeds.as_slice().len() == 0 {
-        return Ok(false);
+        return false;
     }
     let put = is_put(feeds, 0, item);
-    Ok(store.turn(8) == Ok(1) && put)
+    match store.turn(8) {
+        Ok(taken) => put & (taken == 1),
+        Err(_) => false,
+    }
 }
 
 // Whether a flush answers so.
@@ -57,29 +66,24 @@ fn is_seen<R: Wait>(
     feeds: &mut Vec<Feed>,
     reader: &mut Reader,
     step: (&[u8], &[u8], u64),
-) -> Result<bool, Fail>
+) -> bool
     requires { IsSound store.old holding }
     ensures { IsSound store.new holding }
 {
     let (old, new, frame) = step;
-    let before = is_taken(store, feeds, new)? & reads(reader, old)?;
-    let after = flushes(rt, store, Some(frame)) & reads(reader, new)?;
-    Ok(before & after & flushes(rt, store, None))
+    let before = is_taken(store, feeds, new) & reads(reader, old);
+    let after = flushes(rt, store, Some(frame)) & reads(reader, new);
+    before & after & flushes(rt, store, None)
 }
 
 // Both values are seen as they are flushed, and not before.
-fn are_seen<R: Wait>(
-    rt: &R,
-    store: &mut Store,
-    feeds: &mut Vec<Feed>,
-    reader: &mut Reader,
-) -> Result<bool, Fail>
+fn are_seen<R: Wait>(rt: &R, store: &mut Store, feeds: &mut Vec<Feed>, reader: &mut Reader) -> bool
     requires { IsSound store.old holding }
     ensures { IsSound store.new holding }
 {
-    let first = is_seen(rt, store, feeds, reader, (b"", b"1", 1))?;
-    let second = is_seen(rt, store, feeds, reader, (b"1", b"2", 2))?;
-    Ok(first && second)
+    let first = is_seen(rt, store, feeds, reader, (b"", b"1", 1));
+    let second = is_seen(rt, store, feeds, reader, (b"1", b"2", 2));
+    first & second
 }
 
 // A reader sees what was flushed, and not what was only taken.
@@ -88,26 +92,21 @@ fn sees_flushes<R: Wait>(rt: &R, store: &mut Store, feeds: &mut Vec<Feed>) -> Re
     ensures { IsSound store.new holding }
 {
     let mut reader = store.reader()?;
-    if are_seen(rt, store, feeds, &mut reader)? {
+    if are_seen(rt, store, feeds, &mut reader) {
         return Ok(reader);
     }
     Err(Fail::from("a reader sees otherwise"))
 }
 
 // A reader that learnt the last news reads what they tell.
-fn reads_news<R: Wait>(rt: &R, store: &mut Store, key: &Key) -> bool
+fn reads_news<R: Wait>(rt: &R, store: &mut Store) -> Result<bool, Fail>
     requires { IsSound store.old holding }
     ensures { IsSound store.new holding }
 {
-    let Ok(mut reader) = store.reader() else {
-        return false;
-    };
+    let mut reader = store.reader()?;
     let flushed = store.flush(rt).is_ok();
     reader.learn(store.news());
-    match reader.get(key) {
-        Ok(Some(value)) => flushed && value.as_slice() == b"2".as_slice(),
-        _ => false,
-    }
+    Ok(reads(&mut reader, b"2") & flushed)
 }
 
 // One reader more is made, and then none.
@@ -118,24 +117,34 @@ fn has_one_place(store: &mut Store) -> bool
     store.reader().is_ok() && matches!(store.reader(), Err(ReadFault::NoReader))
 }
 
+// A reader sees what was flushed and what the last news tell, and one more has a place beside it.
+fn serves<R: Wait>(rt: &R, store: &mut Store, feeds: &mut Vec<Feed>) -> Result<Reader, Fail>
+    requires { IsSound store.old holding }
+    ensures { IsSound store.new holding }
+{
+    let reader = sees_flushes(rt, store, feeds)?;
+    let news = reads_news(rt, store)?;
+    let places = has_one_place(store);
+    if news & places {
+        return Ok(reader);
+    }
+    Err(Fail::from("other news or places"))
+}
+
 // Whether a reader whose store is shut is told so.
-fn is_refused(mut reader: Reader, key: &Key) -> bool {
-    matches!(reader.get(key), Err(NoReader))
+fn is_refused(reader: Result<Reader, Fail>) -> Result<bool, Fail> {
+    let mut reader = reader?;
+    let key = Key::new(b"k")?;
+    Ok(matches!(reader.get(&key), Err(NoReader)))
 }
 
 #[test]
 fn a_reader_sees_what_was_flushed(rt: HostRuntime) -> Result<(), Fail> {
     let boxes = boxes_of(rt.alloc(), 8)?;
-    let key = Key::new(b"k")?;
     let (mut store, mut feeds) = opened(&rt, &config_of(1, 8, 3), boxes)?;
-    let seen = sees_flushes(&rt, &mut store, &mut feeds);
-    let news = reads_news(&rt, &mut store, &key);
-    let places = has_one_place(&mut store);
+    let reader = serves(&rt, &mut store, &mut feeds);
     let _ = store.shut(&rt);
-    let is_refused = is_refused(seen?, &key);
-    assert!(rt; news && places);
-    assert!(rt; is_refused);
-    Ok(())
+    comes_to(&rt, is_refused(reader), true)
 }
 
 // How many reads were refused or went back.
@@ -158,19 +167,20 @@ fn read_all(mut reader: Reader, key: Key) -> u32 {
 }
 
 // How many of the values were not taken and flushed.
-fn flush_all<R: Wait>(rt: &R, store: &mut Store, feeds: &mut Vec<Feed>) -> Result<u32, Fail>
+fn flush_all<R: Wait>(rt: &R, store: &mut Store, feeds: &mut Vec<Feed>) -> u32
     requires { IsSound store.old holding }
     ensures { IsSound store.new holding }
 {
     let mut wrong = 0u32;
     for value in 0..VALUES {
-        let taken = is_taken(store, feeds, &[value])?;
-        let flushed = store.flush(rt) == Ok(Some(u64::from(value) + 1));
+        let taken = is_taken(store, feeds, &[value]);
+        let flushed = flushes(rt, store, Some(u64::from(value) + 1));
         wrong = wrong.saturating_add(u32::from(!taken || !flushed));
     }
-    Ok(wrong)
+    wrong
 }
 
+// How many of the values were not taken and flushed, and how many reads beside it were wrong.
 fn race<R: Threads + Wait>(
     rt: &R,
     store: &mut Store,
@@ -186,7 +196,7 @@ fn race<R: Threads + Wait>(
     };
     let flushed = flush_all(rt, store, feeds);
     let wrong = child.join(rt);
-    Ok((flushed?, wrong))
+    Ok((flushed, wrong))
 }
 
 #[test]
@@ -195,6 +205,5 @@ fn no_value_goes_back_beside_the_flusher(rt: HostRuntime) -> Result<(), Fail> {
     let (mut store, mut feeds) = opened(&rt, &config_of(1, 8, 3), boxes)?;
     let said = race(&rt, &mut store, &mut feeds);
     let _ = store.shut(&rt);
-    assert_eq!(rt; said?, (0, 0));
-    Ok(())
+    comes_to(&rt, said, (0, 0))
 }

@@ -6,7 +6,6 @@ ghost use Rattle.bw_store.specs.Views.{kept_by, IsSound};
 use super::putting::numbered;
 use bw_codec::{Leaf, Record};
 use bw_store::{Store, StoreFault};
-use std::test::Fail;
 
 // How many pairs a leaf has, if each is the put of a number.
 fn count_in(leaf: &Leaf) -> Option<u32> {
@@ -25,7 +24,7 @@ fn count_in(leaf: &Leaf) -> Option<u32> {
 }
 
 // How many pairs a page has; none where there is no such page.
-fn pairs_of(store: &mut Store, page: u32) -> Result<Option<u32>, Fail>
+fn pairs_of(store: &mut Store, page: u32) -> Result<Option<u32>, StoreFault>
     requires { IsSound store.old holding }
     ensures sound { IsSound store.new holding }
     ensures rings { (kept_by store.new holding).rings ≡ (kept_by store.old holding).rings }
@@ -33,12 +32,12 @@ fn pairs_of(store: &mut Store, page: u32) -> Result<Option<u32>, Fail>
     match store.page(page) {
         Ok(leaf) => Ok(count_in(&leaf)),
         Err(StoreFault::NoPage) => Ok(None),
-        Err(fault) => Err(fault.into()),
+        Err(fault) => Err(fault),
     }
 }
 
 // How many pairs all pages have.
-fn pairs(store: &mut Store) -> Result<u32, Fail>
+fn pairs(store: &mut Store) -> Result<u32, StoreFault>
     requires { IsSound store.old holding }
     ensures sound { IsSound store.new holding }
     ensures rings { (kept_by store.new holding).rings ≡ (kept_by store.old holding).rings }
@@ -54,31 +53,36 @@ fn pairs(store: &mut Store) -> Result<u32, Fail>
 }
 
 // Whether the key of a put has its value.
-fn is_read(store: &mut Store, writer: u8, number: u32) -> Result<bool, Fail>
+fn is_read(store: &mut Store, writer: u8, number: u32) -> bool
     requires { IsSound store.old holding }
     ensures sound { IsSound store.new holding }
     ensures rings { (kept_by store.new holding).rings ≡ (kept_by store.old holding).rings }
 {
     let Record::Put(key, value) = numbered(writer, number) else {
-        return Ok(false);
+        return false;
     };
-    Ok(store.get(&key)? == Some(value))
+    match store.get(&key) {
+        Ok(Some(found)) => found == value,
+        _ => false,
+    }
 }
 
 /// Whether all pages together have the first so many puts of writers 0 and 1 and no more, and so
 /// has each key.
-pub(super) fn reads(store: &mut Store, many: u32) -> Result<bool, Fail>
+pub(super) fn reads(store: &mut Store, many: u32) -> bool
     requires { IsSound store.old holding }
     ensures sound { IsSound store.new holding }
     ensures rings { (kept_by store.new holding).rings ≡ (kept_by store.old holding).rings }
 {
     'numbers: for number in 0..many {
-        if !is_read(store, b'a', number)? {
-            return Ok(false);
-        }
-        if !is_read(store, b'b', number)? {
-            return Ok(false);
+        let first = is_read(store, b'a', number);
+        let second = is_read(store, b'b', number);
+        if !(first & second) {
+            return false;
         }
     }
-    Ok(pairs(store)? == many.saturating_mul(2))
+    match pairs(store) {
+        Ok(count) => count == many.saturating_mul(2),
+        Err(_) => false,
+    }
 }

@@ -4,8 +4,9 @@ use super::steps::Step;
 use super::steps::Step::{
     Bytes, Clean, Cuts, Flush, Get, History, Live, Page, Put, Refused, Roll, Settle, Stands,
 };
+use super::telling::comes_to;
 use super::vectors::{FIRST_BYTES, GREATEST, THIRD_NEWER, THIRD_OLDER};
-use super::walking::over_bytes;
+use super::walking::{Stand, first_wrong};
 use bw_store::StoreFault;
 use std::test::Fail;
 
@@ -41,21 +42,13 @@ const AFTER_THE_THIRD: &[Step] = &[
 /// After the greatest frame number there is no further one, even where nothing waits.
 const AFTER_THE_GREATEST: &[Step] = &[Page(1, "1 :"), Refused(StoreFault::Spent)];
 
+const TABLES: &[(Stand, &[Step])] = &[
+    (Stand::Bytes(&[FIRST_BYTES]), AFTER_THE_FIRST),
+    (Stand::Bytes(&[THIRD_OLDER, THIRD_NEWER]), AFTER_THE_THIRD),
+    (Stand::Bytes(&[GREATEST]), AFTER_THE_GREATEST),
+];
+
 #[test]
 fn a_store_goes_on_from_worked_segments(rt: HostRuntime) -> Result<(), Fail> {
-    assert_eq!(rt; over_bytes(&rt, &[FIRST_BYTES], AFTER_THE_FIRST)?, None);
-    Ok(())
-}
-
-#[test]
-fn a_store_goes_on_from_a_cleaned_log(rt: HostRuntime) -> Result<(), Fail> {
-    let wrong = over_bytes(&rt, &[THIRD_OLDER, THIRD_NEWER], AFTER_THE_THIRD)?;
-    assert_eq!(rt; wrong, None);
-    Ok(())
-}
-
-#[test]
-fn a_store_after_the_greatest_frame_is_spent(rt: HostRuntime) -> Result<(), Fail> {
-    assert_eq!(rt; over_bytes(&rt, &[GREATEST], AFTER_THE_GREATEST)?, None);
-    Ok(())
+    comes_to(&rt, first_wrong(&rt, TABLES), None)
 }

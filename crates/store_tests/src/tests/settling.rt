@@ -5,7 +5,8 @@ use super::steps::Step::{
     Add, Cuts, Del, Flush, Full, Get, History, Page, Put, Puts, Reads, Settle, Stands, Stops, Turn,
     Unsettled,
 };
-use super::walking::{first_wrong, over, over_fuse, within};
+use super::telling::comes_to;
+use super::walking::{Stand, first_wrong};
 use bw_store::StoreFault;
 use std::test::Fail;
 
@@ -94,29 +95,27 @@ const FRAMES: &[Step] = &[
     Reads(750),
 ];
 
+const SETTLED: &[(Stand, &[Step])] = &[
+    (Stand::Boxes(4, 2), TWO_PLACES),
+    (Stand::Boxes(4, 8), ONE_KEY),
+    (Stand::Boxes(4, 8), WRITERS),
+    (Stand::Boxes(4, 8), EMPTY),
+    (Stand::Boxes(12, 1024), FRAMES),
+];
+
 #[test]
 fn all_that_was_accepted_is_settled(rt: HostRuntime) -> Result<(), Fail> {
-    assert_eq!(rt; within(&rt, 4, 2, TWO_PLACES)?, None);
-    let tables = [(4, ONE_KEY), (4, WRITERS), (4, EMPTY)];
-    assert_eq!(rt; first_wrong(&rt, &tables)?, None);
-    Ok(())
+    comes_to(&rt, first_wrong(&rt, SETTLED), None)
 }
+
+/// The append of the header fails, or that of the frame.
+const REFUSED: &[(Stand, &[Step])] = &[
+    (Stand::Boxes(1, 8), NO_SPARE),
+    (Stand::Fuse(0, 0, 10), FAILED),
+    (Stand::Fuse(0, 1, 10), FAILED),
+];
 
 #[test]
 fn a_refused_settle_keeps_what_it_took(rt: HostRuntime) -> Result<(), Fail> {
-    assert_eq!(rt; over(&rt, 1, NO_SPARE)?, None);
-    for calls in 0..=1u64 {
-        assert_eq!(rt;
-            over_fuse(&rt, 0, calls, 10, FAILED)?,
-            None,
-            "after {calls} calls"
-        );
-    }
-    Ok(())
-}
-
-#[test]
-fn many_frames_are_settled_and_read_back(rt: HostRuntime) -> Result<(), Fail> {
-    assert_eq!(rt; within(&rt, 12, 1024, FRAMES)?, None);
-    Ok(())
+    comes_to(&rt, first_wrong(&rt, REFUSED), None)
 }

@@ -1,6 +1,6 @@
 //! One call, with what it has to answer.
 
-ghost use Rattle.std.specs.Prelude.{◌≡◌, map};
+ghost use Rattle.std.specs.Prelude.{◌≡◌, ◌<◌, length, map};
 ghost use Rattle.bw_ring.specs.Ends.{ring_of_feed};
 ghost use Rattle.bw_store.specs.Views.{kept_by, kept_beside, IsSound, IsSoundBeside};
 ghost use Rattle.bw_store.specs.Following.{Follows};
@@ -13,7 +13,6 @@ use bw_ring::Feed;
 use bw_store::{Cleaned, Store, StoreFault, TurnFault};
 use std::alloc::Global;
 use std::sync::Wait;
-use std::test::Fail;
 
 #[derive(Drop)]
 pub(super) enum Step {
@@ -92,44 +91,61 @@ fn takes(store: &mut Store, limit: u32, told: Result<u32, TurnFault>) -> bool
     }
 }
 
+// Whether a record finds a place, or none, as told.
+fn puts_one(
+    feeds: &mut Vec<Feed>,
+    writer: usize,
+    key: &[u8],
+    value: Option<&[u8]>,
+    told: bool,
+) -> bool
+    requires { writer < length feeds.old.items }
+    ensures { map ring_of_feed feeds.new.items ≡ map ring_of_feed feeds.old.items }
+{
+    match record(key, value) {
+        Ok(item) => is_put(feeds, writer, item) == told,
+        Err(_) => false,
+    }
+}
+
 // A step of a writer.
-fn puts(feeds: &mut Vec<Feed>, step: &Step) -> Result<bool, Fail>
+fn puts(feeds: &mut Vec<Feed>, step: &Step) -> bool
     ensures { map ring_of_feed feeds.new.items ≡ map ring_of_feed feeds.old.items }
 {
     let count = feeds.as_slice().len();
     match step {
         Put(writer, key, value) if *writer < count => {
-            Ok(is_put(feeds, *writer, record(*key, Some(*value))?))
+            puts_one(feeds, *writer, *key, Some(*value), true)
         }
         Full(writer, key, value) if *writer < count => {
-            Ok(!is_put(feeds, *writer, record(*key, Some(*value))?))
+            puts_one(feeds, *writer, *key, Some(*value), false)
         }
-        Del(writer, key) if *writer < count => Ok(is_put(feeds, *writer, record(*key, None)?)),
-        Puts(writer, many) if *writer < count => Ok(are_put(feeds, *writer, *many)),
-        _ => Ok(false),
+        Del(writer, key) if *writer < count => puts_one(feeds, *writer, *key, None, true),
+        Puts(writer, many) if *writer < count => are_put(feeds, *writer, *many),
+        _ => false,
     }
 }
 
 // A step that only asks.
-fn answers(alloc: Global, store: &mut Store, step: &Step) -> Result<bool, Fail>
+fn answers(alloc: Global, store: &mut Store, step: &Step) -> bool
     requires { IsSound store.old holding }
     ensures sound { IsSound store.new holding }
     ensures rings { (kept_by store.new holding).rings ≡ (kept_by store.old holding).rings }
 {
     match step {
-        Page(page, text) => Ok(is_page(store, *page, *text)),
-        Unread(page, fault) => Ok(is_unread(store, *page, *fault)),
-        Evict(page, told) => Ok(store.evict(*page) == *told),
+        Page(page, text) => is_page(store, *page, *text),
+        Unread(page, fault) => is_unread(store, *page, *fault),
+        Evict(page, told) => store.evict(*page) == *told,
         Get(key, value) => has(store, *key, *value),
         Reads(many) => reads(store, *many),
         Live(at, number, lease, length) => {
-            Ok(store.live_segment(*at) == Some((*number, *lease, *length)))
+            store.live_segment(*at) == Some((*number, *lease, *length))
         }
-        Bytes(segment, hex) => Ok(are_bytes(alloc, store, *segment, *hex)),
-        History(told) => Ok(is_history(store.history(), *told)),
-        Cuts(told, durable) => Ok(are_cuts(store.cuts(), *told) && store.durable() == *durable),
-        Stands(live, spares) => Ok(store.live() == *live && store.spares() == *spares),
-        _ => Ok(false),
+        Bytes(segment, hex) => are_bytes(alloc, store, *segment, *hex),
+        History(told) => is_history(store.history(), *told),
+        Cuts(told, durable) => are_cuts(store.cuts(), *told) & (store.durable() == *durable),
+        Stands(live, spares) => (store.live() == *live) & (store.spares() == *spares),
+        _ => false,
     }
 }
 
@@ -175,7 +191,7 @@ pub(super) fn goes<R: Wait>(
     feeds: &mut Vec<Feed>,
     more: &mut Vec<Box<dyn Segment>>,
     step: &Step,
-) -> Result<bool, Fail>
+) -> bool
     requires sound { IsSoundBeside store.old holding }
     requires feeds { map ring_of_feed feeds.old.items ≡ (kept_beside store.old holding).rings }
     ensures sound { IsSoundBeside store.new holding }
@@ -184,11 +200,11 @@ pub(super) fn goes<R: Wait>(
     match step {
         Put(..) | Del(..) | Full(..) | Puts(..) => puts(feeds, step),
         Turn(..) | Stops(..) | Flush(..) | Refused(..) | Clean(..) | Uncleaned(..) | Roll => {
-            Ok(changes(rt, store, step))
+            changes(rt, store, step)
         }
-        Settle(count) => Ok(store.settle(rt, feeds) == Ok(*count)),
-        Unsettled(fault) => Ok(store.settle(rt, feeds) == Err(*fault)),
-        Add => Ok(is_added(store, more)),
+        Settle(count) => store.settle(rt, feeds) == Ok(*count),
+        Unsettled(fault) => store.settle(rt, feeds) == Err(*fault),
+        Add => is_added(store, more),
         _ => answers(alloc, store, step),
     }
 }

@@ -1,12 +1,10 @@
 //! A store stops, and goes on from its boxes.
 
-use super::boxes::{LEAST, fill, fuse};
 use super::steps::Step;
 use super::steps::Step::{Cuts, Flush, Page, Put, Refused, Turn};
-use super::walking::{lives, lives_on};
-use bw_device::{Desk, Segment};
+use super::telling::comes_to;
+use super::walking::{fused, lives, lives_on};
 use bw_store::StoreFault;
-use std::alloc::Global;
 use std::sync::Wait;
 use std::test::Fail;
 
@@ -31,18 +29,10 @@ const AGAIN: &[Step] = &[
 
 const LAST: &[Step] = &[Page(1, "1 : j=w k=v"), Flush(None)];
 
-// A box whose second call fails, with all bytes kept, and three spares.
-fn fused(alloc: Global) -> Result<Vec<Box<dyn Segment>>, Fail> {
-    let mut desk = Desk::new(alloc, 8)?;
-    let mut boxes: Vec<Box<dyn Segment>> = Vec::new(alloc);
-    fuse(alloc, &mut desk, 1, 52, LEAST, &mut boxes)?;
-    fill(alloc, &mut desk, 3, LEAST, &mut boxes)?;
-    Ok(boxes)
-}
-
 // The first step of each life that did not go as told.
 fn three_lives<R: AllocGlobal + Wait>(rt: &R) -> Result<[Option<usize>; 3], Fail> {
-    let boxes = fused(rt.alloc())?;
+    // The second call of the first box fails, with all bytes kept.
+    let boxes = fused(rt.alloc(), (0, 3), 1, 52)?;
     let (first, boxes) = lives(rt, boxes, &mut Vec::new(rt.alloc()), 8, FAILED)?;
     let (second, boxes) = lives_on(rt, boxes, Some(1), AGAIN)?;
     let (third, _boxes) = lives_on(rt, boxes, Some(2), LAST)?;
@@ -51,6 +41,5 @@ fn three_lives<R: AllocGlobal + Wait>(rt: &R) -> Result<[Option<usize>; 3], Fail
 
 #[test]
 fn a_store_goes_on_from_its_own_boxes(rt: HostRuntime) -> Result<(), Fail> {
-    assert_eq!(rt; three_lives(&rt)?, [None, None, None]);
-    Ok(())
+    comes_to(&rt, three_lives(&rt), [None, None, None])
 }

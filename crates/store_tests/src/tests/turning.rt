@@ -5,8 +5,9 @@ use super::steps::Step::{
     Add, Bytes, Cuts, Flush, Get, History, Live, Page, Put, Refused, Roll, Stands, Stops, Turn,
     Unsettled,
 };
+use super::telling::comes_to;
 use super::vectors::{FIRST_BYTES, SECOND_BYTES};
-use super::walking::{first_wrong, over_fuse};
+use super::walking::{Stand, first_wrong, over_fuses};
 use bw_store::StoreFault;
 use std::test::Fail;
 
@@ -136,34 +137,27 @@ const FAILED: &[Step] = &[
     Get(b"j", b""),
 ];
 
+const TABLES: &[(Stand, &[Step])] = &[
+    (Stand::Boxes(4, 8), FIRST),
+    (Stand::Boxes(4, 8), SECOND),
+    (Stand::Boxes(4, 8), EMPTY),
+    (Stand::Boxes(4, 8), WRITERS),
+    (Stand::Boxes(4, 8), LIMITS),
+    (Stand::Boxes(1, 8), NO_SPARE),
+    (Stand::Boxes(4, 8), ROLLED),
+];
+
 #[test]
-fn worked_bytes_are_written(rt: HostRuntime) -> Result<(), Fail> {
-    let tables = [(4, FIRST), (4, SECOND), (4, EMPTY)];
-    assert_eq!(rt; first_wrong(&rt, &tables)?, None);
-    Ok(())
+fn turns_and_flushes_go_as_told(rt: HostRuntime) -> Result<(), Fail> {
+    comes_to(&rt, first_wrong(&rt, TABLES), None)
 }
 
 #[test]
-fn turns_go_round_the_lanes(rt: HostRuntime) -> Result<(), Fail> {
-    let tables = [(4, WRITERS), (4, LIMITS)];
-    assert_eq!(rt; first_wrong(&rt, &tables)?, None);
-    Ok(())
+fn a_failed_append_of_a_header_ends_the_store(rt: HostRuntime) -> Result<(), Fail> {
+    comes_to(&rt, over_fuses(&rt, 0, 0, (0, 53), FAILED), None)
 }
 
 #[test]
-fn segments_are_begun_while_two_spares_stand(rt: HostRuntime) -> Result<(), Fail> {
-    let tables = [(1, NO_SPARE), (4, ROLLED)];
-    assert_eq!(rt; first_wrong(&rt, &tables)?, None);
-    Ok(())
-}
-
-#[test]
-fn a_failed_append_ends_the_store(rt: HostRuntime) -> Result<(), Fail> {
-    for keep in 0..=53u64 {
-        for calls in 0..=1u64 {
-            let wrong = over_fuse(&rt, 0, calls, keep, FAILED)?;
-            assert_eq!(rt; wrong, None, "keeps {keep} after {calls} calls");
-        }
-    }
-    Ok(())
+fn a_failed_append_of_a_frame_ends_the_store(rt: HostRuntime) -> Result<(), Fail> {
+    comes_to(&rt, over_fuses(&rt, 0, 1, (0, 53), FAILED), None)
 }

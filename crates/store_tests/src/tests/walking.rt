@@ -5,7 +5,7 @@ ghost use Rattle.bw_care.specs.Found.{IsRecovered};
 ghost use Rattle.bw_ring.specs.Ends.{ring_of_feed};
 ghost use Rattle.bw_store.specs.Views.{kept_beside, IsSoundBeside};
 
-use super::boxes::{LEAST, fill, filled, fuse};
+use super::boxes::{LEAST, fill, row_with_fuse, supply};
 use super::opening::{config_of, opened, reopened};
 use super::steps::{Step, goes};
 use bw_care::{Recovered, recover};
@@ -23,17 +23,17 @@ fn wrong_step<R: AllocGlobal + Wait>(
     feeds: &mut Vec<Feed>,
     more: &mut Vec<Box<dyn Segment>>,
     steps: &[Step],
-) -> Result<Option<usize>, Fail>
+) -> Option<usize>
     requires sound { IsSoundBeside store.old holding }
     requires feeds { map ring_of_feed feeds.old.items ≡ (kept_beside store.old holding).rings }
     ensures { IsSoundBeside store.new holding }
 {
     for (i, step) in steps.iter().enumerate() {
-        if !goes(rt, rt.alloc(), store, feeds, more, step)? {
-            return Ok(Some(i));
+        if !goes(rt, rt.alloc(), store, feeds, more, step) {
+            return Some(i);
         }
     }
-    Ok(None)
+    None
 }
 
 /// All boxes in one row.
@@ -49,15 +49,6 @@ pub(super) fn joined(
 /// The first step of a life that did not go as told, and all boxes behind it.
 pub(super) type Left = (Option<usize>, Vec<Box<dyn Segment>>);
 
-// What a life left of the boxes that came out of its store.
-fn left_by(
-    wrong: Result<Option<usize>, Fail>,
-    live: Vec<Box<dyn Segment>>,
-    spares: Vec<Box<dyn Segment>>,
-) -> Result<Left, Fail> {
-    Ok((wrong?, joined(live, spares)?))
-}
-
 // The steps over a store with these segments in reserve. Its boxes then come out of it.
 fn lives_in<R: AllocGlobal + Wait>(
     rt: &R,
@@ -71,7 +62,7 @@ fn lives_in<R: AllocGlobal + Wait>(
 {
     let wrong = wrong_step(rt, &mut store, &mut feeds, more, steps);
     let (live, spares) = store.shut(rt);
-    left_by(wrong, live, spares)
+    Ok((wrong, joined(live, spares)?))
 }
 
 /// The steps over a store of these boxes, with rings of so many places and these segments in
@@ -124,71 +115,57 @@ pub(super) fn lives_on<R: AllocGlobal + Wait>(
     lives_in(rt, store, feeds, &mut Vec::new(rt.alloc()), steps)
 }
 
-// So many boxes, and one more in reserve.
-fn supply(
-    alloc: Global,
-    many: u32,
-) -> Result<(Vec<Box<dyn Segment>>, Vec<Box<dyn Segment>>), Fail> {
-    let mut desk = Desk::new(alloc, 16)?;
-    let boxes = filled(alloc, &mut desk, many, LEAST)?;
-    let more = filled(alloc, &mut desk, 1, LEAST)?;
-    Ok((boxes, more))
-}
-
-/// Over so many boxes, with one more in reserve, and rings of so many places.
-pub(super) fn within<R: AllocGlobal + Wait>(
+// Over so many boxes, with one more in reserve, and rings of so many places.
+fn within<R: AllocGlobal + Wait>(
     rt: &R,
     many: u32,
     places: usize,
     steps: &[Step],
 ) -> Result<Option<usize>, Fail> {
-    let (boxes, mut more) = supply(rt.alloc(), many)?;
+    let (boxes, mut more) = supply(rt.alloc(), 16, (many, 1), LEAST)?;
     let (wrong, _boxes) = lives(rt, boxes, &mut more, places, steps)?;
     Ok(wrong)
 }
 
-/// The same with eight places.
-pub(super) fn over<R: AllocGlobal + Wait>(
-    rt: &R,
-    many: u32,
-    steps: &[Step],
-) -> Result<Option<usize>, Fail> {
-    within(rt, many, 8, steps)
-}
-
-/// Each table over so many boxes: the first that went otherwise than told, and its step.
-pub(super) fn first_wrong<R: AllocGlobal + Wait>(
-    rt: &R,
-    tables: &[(u32, &[Step])],
-) -> Result<Option<(usize, usize)>, Fail> {
-    for (i, (many, steps)) in tables.iter().enumerate() {
-        if let Some(step) = over(rt, *many, steps)? {
-            return Ok(Some((i, step)));
-        }
-    }
-    Ok(None)
-}
-
-// So many boxes, then one that fails after so many calls, and a spare.
-fn fused(alloc: Global, many: u32, calls: u64, keep: u64) -> Result<Vec<Box<dyn Segment>>, Fail> {
+/// So many boxes of the least capacity, one that fails after so many calls, and so many more.
+pub(super) fn fused(
+    alloc: Global,
+    many: (u32, u32),
+    calls: u64,
+    keep: u64,
+) -> Result<Vec<Box<dyn Segment>>, Fail> {
     let mut desk = Desk::new(alloc, 8)?;
-    let mut boxes = filled(alloc, &mut desk, many, LEAST)?;
-    fuse(alloc, &mut desk, calls, keep, LEAST, &mut boxes)?;
-    fill(alloc, &mut desk, 1, LEAST, &mut boxes)?;
-    Ok(boxes)
+    row_with_fuse(alloc, &mut desk, many, calls, keep, LEAST)
 }
 
-/// Over so many boxes, then one that fails after so many calls, and a spare.
-pub(super) fn over_fuse<R: AllocGlobal + Wait>(
+// Over so many boxes, then one that fails after so many calls, and a spare.
+fn over_fuse<R: AllocGlobal + Wait>(
     rt: &R,
     many: u32,
     calls: u64,
     keep: u64,
     steps: &[Step],
 ) -> Result<Option<usize>, Fail> {
-    let boxes = fused(rt.alloc(), many, calls, keep)?;
+    let boxes = fused(rt.alloc(), (many, 1), calls, keep)?;
     let (wrong, _boxes) = lives(rt, boxes, &mut Vec::new(rt.alloc()), 8, steps)?;
     Ok(wrong)
+}
+
+/// The same where the failing box keeps, one time after the other, each of these numbers of bytes
+/// (the least and the greatest): the first that went otherwise than told, and its step.
+pub(super) fn over_fuses<R: AllocGlobal + Wait>(
+    rt: &R,
+    many: u32,
+    calls: u64,
+    keeps: (u64, u64),
+    steps: &[Step],
+) -> Result<Option<(u64, usize)>, Fail> {
+    for keep in keeps.0..=keeps.1 {
+        if let Some(step) = over_fuse(rt, many, calls, keep, steps)? {
+            return Ok(Some((keep, step)));
+        }
+    }
+    Ok(None)
 }
 
 // A box with the bytes of a text in hex.
@@ -215,8 +192,8 @@ fn with_bytes(alloc: Global, texts: &[&'static str]) -> Result<Vec<Box<dyn Segme
     Ok(boxes)
 }
 
-/// Over a box for each of these texts in hex, in any order, and two spares.
-pub(super) fn over_bytes<R: AllocGlobal + Wait>(
+// Over what is recovered from a box for each of these texts in hex, in any order, and two spares.
+fn over_bytes<R: AllocGlobal + Wait>(
     rt: &R,
     texts: &[&'static str],
     steps: &[Step],
@@ -224,4 +201,42 @@ pub(super) fn over_bytes<R: AllocGlobal + Wait>(
     let boxes = with_bytes(rt.alloc(), texts)?;
     let (wrong, _boxes) = lives_on(rt, boxes, None, steps)?;
     Ok(wrong)
+}
+
+/// What a table's store stands over.
+#[derive(Drop)]
+pub(super) enum Stand {
+    /// So many boxes, one more in reserve, and rings of so many places.
+    Boxes(u32, usize),
+    /// So many boxes, then one that fails after so many calls and keeps so many bytes of an append,
+    /// and a spare.
+    Fuse(u32, u64, u64),
+    /// A box for each of these texts in hex, in any order, and two spares: the store goes on from
+    /// what is recovered.
+    Bytes(&'static [&'static str]),
+}
+
+fn over<R: AllocGlobal + Wait>(
+    rt: &R,
+    stand: &Stand,
+    steps: &[Step],
+) -> Result<Option<usize>, Fail> {
+    match stand {
+        Stand::Boxes(many, places) => within(rt, *many, *places, steps),
+        Stand::Fuse(many, calls, keep) => over_fuse(rt, *many, *calls, *keep, steps),
+        Stand::Bytes(texts) => over_bytes(rt, *texts, steps),
+    }
+}
+
+/// The first table that went otherwise than told, and its step.
+pub(super) fn first_wrong<R: AllocGlobal + Wait>(
+    rt: &R,
+    tables: &[(Stand, &[Step])],
+) -> Result<Option<(usize, usize)>, Fail> {
+    for (i, (stand, steps)) in tables.iter().enumerate() {
+        if let Some(step) = over(rt, stand, *steps)? {
+            return Ok(Some((i, step)));
+        }
+    }
+    Ok(None)
 }

@@ -12,7 +12,6 @@ use bw_device::Segment;
 use bw_ring::Feed;
 use bw_store::{Store, StoreFault};
 use std::sync::Wait;
-use std::test::Fail;
 
 /// How a call went.
 #[derive(Clone, Copy)]
@@ -39,17 +38,14 @@ fn wanting(as_told: bool, cause: StoreFault) -> Went {
     }
 }
 
-fn turns(store: &mut Store, script: &mut Script, limit: u32) -> Result<Went, Fail>
+fn turns(store: &mut Store, script: &mut Script, limit: u32) -> Went
     requires { IsSound store.old holding }
     ensures sound { IsSound store.new holding }
     ensures follows { Follows (kept_by store.old holding) (kept_by store.new holding) }
 {
     match store.turn(limit) {
-        Ok(taken) => Ok(as_told(script.model.turn(limit)? == taken)),
-        Err(fault) => {
-            let taken = script.model.turn(fault.taken)?;
-            Ok(wanting(taken == fault.taken, fault.cause))
-        }
+        Ok(taken) => as_told(script.model.turn(limit) == taken),
+        Err(fault) => wanting(script.model.turn(fault.taken) == fault.taken, fault.cause),
     }
 }
 
@@ -82,20 +78,15 @@ fn cleans<R: Wait>(rt: &R, store: &mut Store, script: &mut Script) -> Went
     }
 }
 
-fn settles<R: Wait>(
-    rt: &R,
-    store: &mut Store,
-    feeds: &mut Vec<Feed>,
-    script: &mut Script,
-) -> Result<Went, Fail>
+fn settles<R: Wait>(rt: &R, store: &mut Store, feeds: &mut Vec<Feed>, script: &mut Script) -> Went
     requires sound { IsSound store.old holding }
     requires feeds { map ring_of_feed feeds.old.items ≡ (kept_by store.old holding).rings }
     ensures sound { IsSound store.new holding }
     ensures feeds { map ring_of_feed feeds.new.items ≡ (kept_by store.new holding).rings }
 {
     match store.settle(rt, feeds) {
-        Ok(entries) => Ok(as_told(script.model.settle()? == entries)),
-        Err(cause) => Ok(wanting(true, cause)),
+        Ok(entries) => as_told(script.model.settle() == entries),
+        Err(cause) => wanting(true, cause),
     }
 }
 
@@ -105,7 +96,7 @@ fn calls<R: Wait>(
     feeds: &mut Vec<Feed>,
     script: &mut Script,
     step: Step,
-) -> Result<Went, Fail>
+) -> Went
     requires sound { IsSound store.old holding }
     requires feeds { map ring_of_feed feeds.old.items ≡ (kept_by store.old holding).rings }
     ensures sound { IsSound store.new holding }
@@ -113,9 +104,9 @@ fn calls<R: Wait>(
 {
     match step {
         Turn(limit) => turns(store, script, limit),
-        Flush => Ok(flushes(rt, store, script)),
+        Flush => flushes(rt, store, script),
         Settle => settles(rt, store, feeds, script),
-        _ => Ok(cleans(rt, store, script)),
+        _ => cleans(rt, store, script),
     }
 }
 
@@ -127,21 +118,21 @@ pub(super) fn tries<R: Wait>(
     more: &mut Vec<Box<dyn Segment>>,
     script: &mut Script,
     step: Step,
-) -> Result<bool, Fail>
+) -> bool
     requires sound { IsSoundBeside store.old holding }
     requires feeds { map ring_of_feed feeds.old.items ≡ (kept_beside store.old holding).rings }
     ensures sound { IsSoundBeside store.new holding }
     ensures feeds { map ring_of_feed feeds.new.items ≡ (kept_beside store.new holding).rings }
 {
     'tries: for _ in 0..100 {
-        match calls(rt, store, feeds, script, step)? {
-            Went::AsTold => return Ok(true),
-            Went::Otherwise => return Ok(false),
+        match calls(rt, store, feeds, script, step) {
+            Went::AsTold => return true,
+            Went::Otherwise => return false,
             Went::Wanting => script.refusals = script.refusals.saturating_add(1),
         }
         if !is_added(store, more) {
-            return Ok(false);
+            return false;
         }
     }
-    Ok(false)
+    false
 }

@@ -1,16 +1,15 @@
 //! Keys and values as numbers.
 
-use bw_codec::{Key, Value};
-use std::test::Fail;
+use bw_codec::{Key, LengthError, Value};
 
 /// The key of a number, below 131,072: in the order of the numbers, and each even one's key is a
 /// beginning of the next one's.
-pub(super) fn key_of(number: u32) -> Result<Key, Fail> {
+pub(super) fn key_of(number: u32) -> Result<Key, LengthError> {
     let [_, _, high, low] = (number / 2).to_be_bytes();
     if number % 2 == 0 {
-        Ok(Key::new(&[b'k', high, low])?)
+        Key::new(&[b'k', high, low])
     } else {
-        Ok(Key::new(&[b'k', high, low, b'+'])?)
+        Key::new(&[b'k', high, low, b'+'])
     }
 }
 
@@ -27,23 +26,23 @@ pub(super) fn number_of(key: &[u8]) -> Option<u32> {
 }
 
 /// The value of a number: its four bytes, and up to 124 more.
-pub(super) fn value_of(number: u32) -> Result<Value, Fail> {
+pub(super) fn value_of(number: u32) -> Result<Value, LengthError> {
     let [a, b, c, d] = number.to_be_bytes();
     let mut bytes = [d; 128];
     bytes[0] = a;
     bytes[1] = b;
     bytes[2] = c;
-    Ok(Value::new(&bytes[..4 + (number % 125) as usize])?)
+    Value::new(&bytes[..4 + (number % 125) as usize])
 }
 
 /// The number of a value.
-pub(super) fn number_in(value: &Value) -> Result<Option<u32>, Fail> {
+pub(super) fn number_in(value: &Value) -> Option<u32> {
     let [a, b, c, d, ..] = value.as_slice() else {
-        return Ok(None);
+        return None;
     };
     let number = u32::from_be_bytes([*a, *b, *c, *d]);
-    if value_of(number)? == *value {
-        return Ok(Some(number));
+    match value_of(number) {
+        Ok(whole) if whole == *value => Some(number),
+        _ => None,
     }
-    Ok(None)
 }

@@ -4,9 +4,9 @@ use super::living::{Table, lives, script_of, stops_and_lives_on};
 use super::steps::Step::{Ask, Break, Clean, Del, Flush, Put, Reads, Roll, Settle, Turn};
 use super::steps::{Script, Step};
 use super::walking::Rounds;
-use crate::tests::boxes::{fill, filled, fuse};
+use crate::tests::boxes::{filled, row_with_fuse};
+use crate::tests::telling::comes_to;
 use bw_device::{Desk, Segment};
-use std::alloc::Global;
 use std::sync::Wait;
 use std::test::Fail;
 
@@ -113,19 +113,6 @@ fn lives_thrice<R: AllocGlobal + Wait>(
     Ok((first && went, is_failed))
 }
 
-// A row of boxes, of which the second fails once, after so many calls.
-fn fused(
-    alloc: Global,
-    desk: &mut Desk,
-    calls: u64,
-    keep: u64,
-) -> Result<Vec<Box<dyn Segment>>, Fail> {
-    let mut boxes = filled(alloc, desk, TABLE.boxes, TABLE.capacity)?;
-    fuse(alloc, desk, calls, keep, TABLE.capacity, &mut boxes)?;
-    fill(alloc, desk, 2, TABLE.capacity, &mut boxes)?;
-    Ok(boxes)
-}
-
 // The three lives of a store whose second segment fails.
 fn walked<R: AllocGlobal + Wait>(
     rt: &R,
@@ -135,34 +122,47 @@ fn walked<R: AllocGlobal + Wait>(
     is_kept: bool,
 ) -> Result<(bool, bool), Fail> {
     let mut desk = Desk::new(rt.alloc(), 64)?;
-    let boxes = fused(rt.alloc(), &mut desk, calls, keep)?;
+    let many = (TABLE.boxes, 2);
+    let boxes = row_with_fuse(rt.alloc(), &mut desk, many, calls, keep, TABLE.capacity)?;
     let mut more = filled(rt.alloc(), &mut desk, TABLE.more, TABLE.capacity)?;
     lives_thrice(rt, boxes, &mut more, plans, is_kept)
 }
 
+// The first number of calls after which not all went as told; and whether more than one append
+// failed: the cleaner appends more than one frame, and each of these fails.
+fn fails_after_each<R: AllocGlobal + Wait>(rt: &R, keep: u64) -> Result<(Option<u64>, bool), Fail> {
+    let mut failed = 0u32;
+    for calls in 2..8u64 {
+        let (went, is_failed) = walked(rt, calls, keep, NOTHING_WAITS, true)?;
+        if !went {
+            return Ok((Some(calls), false));
+        }
+        failed = failed.saturating_add(u32::from(is_failed));
+    }
+    Ok((None, failed > 1))
+}
+
 #[test]
 fn a_store_goes_on_after_a_cleaning_that_failed(rt: HostRuntime) -> Result<(), Fail> {
-    for keep in [0u64, u64::MAX] {
-        let mut failed = 0u32;
-        for calls in 2..8u64 {
-            let (went, is_failed) = walked(&rt, calls, keep, NOTHING_WAITS, true)?;
-            assert!(rt; went, "after {calls} calls");
-            failed = failed.saturating_add(u32::from(is_failed));
+    comes_to(&rt, fails_after_each(&rt, 0), (None, true))?;
+    comes_to(&rt, fails_after_each(&rt, u64::MAX), (None, true))
+}
+
+// How many bytes a failed flush keeps, and whether these are all.
+const KEEPS: &[(u64, bool)] = &[(0, false), (30, false), (u64::MAX, true)];
+
+// What a flush kept that did not fail, or after which not all went as told.
+fn fails_keeping_each<R: AllocGlobal + Wait>(rt: &R) -> Result<Option<u64>, Fail> {
+    for (keep, is_kept) in KEEPS {
+        let (went, is_failed) = walked(rt, 2, *keep, SOME_WAIT, *is_kept)?;
+        if !went || !is_failed {
+            return Ok(Some(*keep));
         }
-        // The cleaner appends more than one frame, and each of these failed.
-        assert!(rt; failed > 1);
     }
-    Ok(())
+    Ok(None)
 }
 
 #[test]
 fn a_store_goes_on_after_the_flush_of_a_cleaning_failed(rt: HostRuntime) -> Result<(), Fail> {
-    for (keep, is_kept) in [(0u64, false), (30, false), (u64::MAX, true)] {
-        assert_eq!(rt;
-            walked(&rt, 2, keep, SOME_WAIT, is_kept)?,
-            (true, true),
-            "keeps {keep}"
-        );
-    }
-    Ok(())
+    comes_to(&rt, fails_keeping_each(&rt), None)
 }

@@ -1,6 +1,7 @@
 //! A store lives, stops, and lives on from its boxes.
 
-ghost use Rattle.std.specs.Prelude.{◌≡◌, map};
+ghost use Rattle.std.specs.Prelude.{◌≡◌, map, IfOk};
+ghost use Rattle.bw_care.specs.Found.{IsRecovered};
 ghost use Rattle.bw_ring.specs.Ends.{ring_of_feed};
 ghost use Rattle.bw_store.specs.Views.{kept_beside, IsSoundBeside};
 
@@ -9,10 +10,11 @@ use super::model::Model;
 use super::seen::Seen;
 use super::steps::Script;
 use super::walking::{Rounds, all_go};
-use crate::tests::boxes::filled;
+use crate::tests::boxes::{Supply, supply};
 use crate::tests::opening::{opened, reopened};
 use crate::tests::walking::{joined, recovered_from};
-use bw_device::{Desk, Segment};
+use bw_care::Recovered;
+use bw_device::Segment;
 use bw_page::Leaves;
 use bw_ring::Feed;
 use bw_store::{Config, Store};
@@ -54,24 +56,9 @@ pub(super) fn script_of(alloc: Global, table: &Table) -> Result<Script, Fail> {
 /// How a life ended: whether all went as told, and all boxes.
 pub(super) type Left = (bool, Vec<Box<dyn Segment>>);
 
-/// The boxes that a store of the table is opened over, and those that there are more.
-pub(super) type Supply = (Vec<Box<dyn Segment>>, Vec<Box<dyn Segment>>);
-
 /// Boxes of the table, of one desk with so many leases.
-pub(super) fn supply(alloc: Global, leases: u32, table: &Table) -> Result<Supply, Fail> {
-    let mut desk = Desk::new(alloc, leases)?;
-    let boxes = filled(alloc, &mut desk, table.boxes, table.capacity)?;
-    let more = filled(alloc, &mut desk, table.more, table.capacity)?;
-    Ok((boxes, more))
-}
-
-// What a life left of the boxes that came out of its store.
-fn left_by(
-    went: Result<bool, Fail>,
-    live: Vec<Box<dyn Segment>>,
-    spares: Vec<Box<dyn Segment>>,
-) -> Result<Left, Fail> {
-    Ok((went?, joined(live, spares)?))
+pub(super) fn supply_of(alloc: Global, leases: u32, table: &Table) -> Result<Supply, Fail> {
+    supply(alloc, leases, (table.boxes, table.more), table.capacity)
 }
 
 // Whether all goes as told over a store, whose boxes then come out of it.
@@ -88,7 +75,7 @@ fn lives_in<R: AllocGlobal + Wait>(
 {
     let went = all_go(rt, &mut store, &mut feeds, more, script, plans);
     let (live, spares) = store.shut(rt);
-    left_by(went, live, spares)
+    Ok((went, joined(live, spares)?))
 }
 
 /// Whether all goes as told over a store of these boxes, which then come out of it.
@@ -111,20 +98,35 @@ pub(super) fn lives<R: AllocGlobal + Wait>(
 }
 
 // Whether these pages are the map's.
-fn are_told(alloc: Global, leaves: &Leaves, script: &Script) -> Result<bool, Fail> {
+fn are_told(alloc: Global, leaves: &Leaves, script: &Script) -> bool {
     let mut seen = Seen::new(alloc, script.m);
     for page in 1..=leaves.count() {
         let Some(leaf) = leaves.page(page) else {
-            return Ok(false);
+            return false;
         };
-        if !seen.read(leaf)? {
-            return Ok(false);
+        if !seen.read(leaf) {
+            return false;
         }
     }
-    Ok(seen.are(script.model.values()))
+    seen.are(script.model.values())
 }
 
-// The same over what is recovered from them, whose pages have to be the map's.
+// What is recovered from these boxes, whose pages have to be the map's.
+fn recovered_as_told(
+    alloc: Global,
+    boxes: Vec<Box<dyn Segment>>,
+    script: &Script,
+) -> Result<Recovered, Fail>
+    ensures { IfOk result (λ r. IsRecovered holding r) }
+{
+    let recovered = recovered_from(alloc, boxes, None)?;
+    if !are_told(alloc, &recovered.leaves, script) {
+        return Err(Fail::from("other pages are recovered"));
+    }
+    Ok(recovered)
+}
+
+// The same over what is recovered from them.
 fn lives_on<R: AllocGlobal + Wait>(
     rt: &R,
     boxes: Vec<Box<dyn Segment>>,
@@ -132,11 +134,9 @@ fn lives_on<R: AllocGlobal + Wait>(
     script: &mut Script,
     plans: &[Rounds],
 ) -> Result<Left, Fail> {
-    let recovered = recovered_from(rt.alloc(), boxes, None)?;
-    let told = are_told(rt.alloc(), &recovered.leaves, script)?;
+    let recovered = recovered_as_told(rt.alloc(), boxes, script)?;
     let (store, feeds) = reopened(rt, recovered, script.model.places())?;
-    let (went, boxes) = lives_in(rt, store, feeds, more, script, plans)?;
-    Ok((went && told, boxes))
+    lives_in(rt, store, feeds, more, script, plans)
 }
 
 /// One life over boxes of the table: whether all went as told.
@@ -147,7 +147,7 @@ pub(super) fn has_lived<R: AllocGlobal + Wait>(
     script: &mut Script,
     plans: &[Rounds],
 ) -> Result<bool, Fail> {
-    let (boxes, mut more) = supply(rt.alloc(), leases, table)?;
+    let (boxes, mut more) = supply_of(rt.alloc(), leases, table)?;
     let (went, _boxes) = lives(rt, boxes, &mut more, script, plans)?;
     Ok(went)
 }

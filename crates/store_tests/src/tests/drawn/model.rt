@@ -54,51 +54,46 @@ impl Model {
     }
 
     /// A writer puts a change; whether its ring has a place.
-    pub(super) fn put(&mut self, writer: usize, change: Change) -> Result<bool, Fail> {
+    pub(super) fn put(&mut self, writer: usize, change: Change) -> bool {
         let places = self.places;
         match self.rings.get_mut(writer) {
-            Some(ring) if ring.len() < places => {
-                ring.push_back(change)?;
-                Ok(true)
-            }
-            _ => Ok(false),
+            Some(ring) if ring.len() < places => ring.push_back(change).is_ok(),
+            _ => false,
         }
     }
 
-    fn enter(&mut self, change: Change) -> Result<(), Fail> {
-        self.entries.push(change)?;
-        set(&mut self.values, change)
+    fn enter(&mut self, change: Change) -> bool {
+        self.entries.push(change).is_ok() && set(&mut self.values, change)
     }
 
     // The first change of a writer's ring is taken, where there is one.
-    fn take(&mut self, writer: usize) -> Result<bool, Fail> {
+    fn take(&mut self, writer: usize) -> bool {
         let first = match self.rings.get_mut(writer) {
             Some(ring) => ring.pop_front(),
             None => None,
         };
         let Some(change) = first else {
-            return Ok(false);
+            return false;
         };
         self.waits = true;
-        self.enter(change)?;
-        Ok(true)
+        self.enter(change)
     }
 
     /// How many a turn takes: in rounds, one of each writer's ring, no more than the limit.
-    pub(super) fn turn(&mut self, limit: u32) -> Result<u32, Fail> {
+    pub(super) fn turn(&mut self, limit: u32) -> u32 {
         let mut taken = 0u32;
         for _ in 0..limit {
             let before = taken;
             for writer in 0..2usize {
-                if taken < limit && self.take(writer)? {
+                if taken < limit && self.take(writer) {
                     taken = taken.saturating_add(1);
                 }
             }
             if taken == before {
-                return Ok(taken);
+                return taken;
             }
         }
-        Ok(taken)
+        taken
     }
 
     /// All that was taken is in frames; whether there was something to append.
@@ -110,10 +105,10 @@ impl Model {
     }
 
     /// All is taken and in frames: how long the store's history is.
-    pub(super) fn settle(&mut self) -> Result<u64, Fail> {
-        let _ = self.turn(u32::MAX)?;
+    pub(super) fn settle(&mut self) -> u64 {
+        let _ = self.turn(u32::MAX);
         let _ = self.flush();
-        Ok(self.entries.len().saturating_sub(self.opened) as u64)
+        self.entries.len().saturating_sub(self.opened) as u64
     }
 
     /// The store stops, and another goes on from its boxes: the rings are gone, and what was taken
@@ -128,7 +123,9 @@ impl Model {
         self.waits = false;
         self.values = BTreeMap::new(alloc);
         for change in self.entries.as_slice() {
-            set(&mut self.values, *change)?;
+            if !set(&mut self.values, *change) {
+                return Err(Fail::from("memory"));
+            }
         }
         Ok(())
     }
@@ -149,14 +146,13 @@ impl Model {
     }
 }
 
-fn set(values: &mut BTreeMap<u32, u32>, change: Change) -> Result<(), Fail> {
+// Whether there was memory for a key's value.
+fn set(values: &mut BTreeMap<u32, u32>, change: Change) -> bool {
     match change.value {
-        Some(value) => {
-            let _ = values.insert(change.key, value)?;
-        }
+        Some(value) => values.insert(change.key, value).is_ok(),
         None => {
             let _ = values.remove(&change.key);
+            true
         }
     }
-    Ok(())
 }

@@ -8,9 +8,8 @@ use super::model::Change;
 use super::steps::Step::Put;
 use super::steps::{Script, Step};
 use crate::tests::putting::is_put;
-use bw_codec::Record;
+use bw_codec::{LengthError, Record};
 use bw_ring::Feed;
-use std::test::Fail;
 
 // A drawn writer's key.
 fn key_for(script: &mut Script, writer: u32) -> u32 {
@@ -21,7 +20,7 @@ fn key_for(script: &mut Script, writer: u32) -> u32 {
     (drawn / 2).saturating_mul(2).saturating_add(writer)
 }
 
-fn record_of(change: Change) -> Result<Record, Fail> {
+fn record_of(change: Change) -> Result<Record, LengthError> {
     let key = key_of(change.key)?;
     match change.value {
         Some(value) => Ok(Record::Put(key, value_of(value)?)),
@@ -30,7 +29,7 @@ fn record_of(change: Change) -> Result<Record, Fail> {
 }
 
 /// Whether a drawn writer's record is taken by its ring where that has a place, and only there.
-pub(super) fn puts(feeds: &mut Vec<Feed>, script: &mut Script, step: Step) -> Result<bool, Fail>
+pub(super) fn puts(feeds: &mut Vec<Feed>, script: &mut Script, step: Step) -> bool
     ensures { map ring_of_feed feeds.new.items ≡ map ring_of_feed feeds.old.items }
 {
     let writer = script.draw.below(2);
@@ -43,8 +42,11 @@ pub(super) fn puts(feeds: &mut Vec<Feed>, script: &mut Script, step: Step) -> Re
     };
     let writer = writer as usize;
     if writer >= feeds.as_slice().len() {
-        return Ok(false);
+        return false;
     }
-    let has_place = script.model.put(writer, change)?;
-    Ok(is_put(feeds, writer, record_of(change)?) == has_place)
+    let has_place = script.model.put(writer, change);
+    match record_of(change) {
+        Ok(item) => is_put(feeds, writer, item) == has_place,
+        Err(_) => false,
+    }
 }

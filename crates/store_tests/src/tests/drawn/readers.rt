@@ -4,9 +4,11 @@ ghost use Rattle.bw_store.specs.Views.{IsSound, IsSoundBeside};
 
 use super::sides::Side::{Left, Right};
 use super::sides::Step::{Flushes, See, Takes};
-use super::sides::{Ends, Step, ends_of, goes, see, sees};
+use super::sides::{Ends, Step, ends_of, goes, see};
 use crate::tests::boxes::boxes_of;
 use crate::tests::opening::{config_of, opened};
+use crate::tests::readers::reads;
+use crate::tests::telling::comes_to;
 use bw_device::Segment;
 use bw_ring::Feed;
 use bw_store::{Reader, Store};
@@ -42,16 +44,16 @@ fn go_both<R: Wait>(
     right: &mut Store,
     other: &mut Ends,
     step: &Step,
-) -> Result<bool, Fail>
+) -> bool
     requires left { IsSound left.old holding }
     requires right { IsSound right.old holding }
     ensures left { IsSound left.new holding }
     ensures right { IsSound right.new holding }
 {
-    let is_left = goes(rt, left, one, Left, step)?;
-    let is_right = goes(rt, right, other, Right, step)?;
-    let is_seen = see(&mut one.reader, &mut other.reader, step)?;
-    Ok(is_left && is_right && is_seen)
+    let is_left = goes(rt, left, one, Left, step);
+    let is_right = goes(rt, right, other, Right, step);
+    let is_seen = see(&mut one.reader, &mut other.reader, step);
+    is_left & is_right & is_seen
 }
 
 // The first step that did not go as told.
@@ -61,18 +63,18 @@ fn wrong_step<R: Wait>(
     one: &mut Ends,
     right: &mut Store,
     other: &mut Ends,
-) -> Result<Option<usize>, Fail>
+) -> Option<usize>
     requires left { IsSound left.old holding }
     requires right { IsSound right.old holding }
     ensures left { IsSound left.new holding }
     ensures right { IsSound right.new holding }
 {
     'steps: for (at, step) in STEPS.iter().enumerate() {
-        if !go_both(rt, left, one, right, other, step)? {
-            return Ok(Some(at));
+        if !go_both(rt, left, one, right, other, step) {
+            return Some(at);
         }
     }
-    Ok(None)
+    None
 }
 
 // The same with the ends of the left store.
@@ -89,7 +91,7 @@ fn go_with<R: Wait>(
     ensures right { IsSound right.new holding }
 {
     let mut one = ends_of(left, feeds)?;
-    wrong_step(rt, left, &mut one, right, other)
+    Ok(wrong_step(rt, left, &mut one, right, other))
 }
 
 // The same with a left store over these boxes, which is then shut.
@@ -111,7 +113,7 @@ fn go_against<R: AllocGlobal + Wait>(
 // The same where the right store's reader then sees on; the first step where it does not.
 fn sees_on(reader: &mut Reader, wrong: Result<Option<usize>, Fail>) -> Result<Option<usize>, Fail> {
     let wrong = wrong?;
-    Ok(if sees(reader, b"3")? { wrong } else { Some(0) })
+    Ok(if reads(reader, b"3") { wrong } else { Some(0) })
 }
 
 // The same with the ends of the right store.
@@ -140,6 +142,5 @@ fn walked<R: AllocGlobal + Wait>(rt: &R) -> Result<Option<usize>, Fail> {
 
 #[test]
 fn each_reader_sees_its_own_store(rt: HostRuntime) -> Result<(), Fail> {
-    assert_eq!(rt; walked(&rt)?, None);
-    Ok(())
+    comes_to(&rt, walked(&rt), None)
 }

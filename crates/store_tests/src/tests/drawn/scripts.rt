@@ -4,6 +4,7 @@ use super::living::{Table, has_lived, script_of};
 use super::steps::Step;
 use super::steps::Step::{Clean, Del, Evict, Flush, Get, Page, Put, Reads, Roll, Turn};
 use super::walking::Rounds;
+use crate::tests::telling::comes_to;
 use std::sync::Wait;
 use std::test::Fail;
 
@@ -88,18 +89,15 @@ fn walked<R: AllocGlobal + Wait>(rt: &R, table: &Table) -> Result<(bool, u32), F
 
 #[test]
 fn few_keys_are_as_a_map_tells(rt: HostRuntime) -> Result<(), Fail> {
-    assert_eq!(rt; walked(&rt, &FEW_KEYS)?, (true, 2010));
-    Ok(())
+    comes_to(&rt, walked(&rt, &FEW_KEYS), (true, 2010))
 }
 
 #[test]
 fn many_keys_are_as_a_map_tells(rt: HostRuntime) -> Result<(), Fail> {
-    assert_eq!(rt; walked(&rt, &MANY_KEYS)?, (true, 2010));
-    Ok(())
+    comes_to(&rt, walked(&rt, &MANY_KEYS), (true, 2010))
 }
 
 #[test]
 fn large_pages_are_as_a_map_tells(rt: HostRuntime) -> Result<(), Fail> {
-    assert_eq!(rt; walked(&rt, &LARGE_PAGES)?, (true, 2010));
-    Ok(())
+    comes_to(&rt, walked(&rt, &LARGE_PAGES), (true, 2010))
 }

@@ -4,7 +4,6 @@ use super::coding::{number_in, number_of};
 use bw_codec::{Key, Leaf, Value};
 use std::alloc::Global;
 use std::collections::BTreeMap;
-use std::test::Fail;
 
 /// The pairs of the pages that were read, in the order of the pages' low keys: each value behind
 /// its page's low key and its own.
@@ -24,11 +23,10 @@ fn least_of(leaf: &Leaf) -> Option<u32> {
     Some(number_of(leaf.low.as_slice())?.saturating_add(1))
 }
 
-fn numbers_of(key: &Key, value: &Value) -> Result<Option<(u32, u32)>, Fail> {
-    match (number_of(key.as_slice()), number_in(value)?) {
-        (Some(key), Some(value)) => Ok(Some((key, value))),
-        _ => Ok(None),
-    }
+fn numbers_of(key: &Key, value: &Value) -> Option<(u32, u32)> {
+    let key = number_of(key.as_slice())?;
+    let value = number_in(value)?;
+    Some((key, value))
 }
 
 impl Seen {
@@ -54,28 +52,26 @@ impl Seen {
 
     /// Reads the next page; whether it is lawful: its number, no more pairs than it may have, and
     /// keys that ascend from its low key on.
-    pub(super) fn read(&mut self, leaf: &Leaf) -> Result<bool, Fail> {
+    pub(super) fn read(&mut self, leaf: &Leaf) -> bool {
         let Some(low) = least_of(leaf) else {
-            return Ok(false);
+            return false;
         };
         if !self.is_next(leaf, low) {
-            return Ok(false);
+            return false;
         }
         self.pages = self.pages.saturating_add(1);
         let mut least = low;
         for (key, value) in leaf.pairs.as_slice() {
-            let Some((key, value)) = numbers_of(key, value)? else {
-                return Ok(false);
+            let Some((key, value)) = numbers_of(key, value) else {
+                return false;
             };
-            if key.saturating_add(1) < least {
-                return Ok(false);
+            let place = u64::from(low) << 32 | u64::from(key);
+            if key.saturating_add(1) < least || self.pairs.insert(place, value).is_err() {
+                return false;
             }
             least = key.saturating_add(2);
-            let _ = self
-                .pairs
-                .insert(u64::from(low) << 32 | u64::from(key), value)?;
         }
-        Ok(true)
+        true
     }
 
     /// Whether the pairs of all pages are the map's, in its order.
@@ -92,14 +88,14 @@ impl Seen {
 }
 
 /// Whether a page has no other pairs than the map's.
-pub(super) fn has_only(leaf: &Leaf, values: &BTreeMap<u32, u32>) -> Result<bool, Fail> {
+pub(super) fn has_only(leaf: &Leaf, values: &BTreeMap<u32, u32>) -> bool {
     for (key, value) in leaf.pairs.as_slice() {
-        let Some((key, value)) = numbers_of(key, value)? else {
-            return Ok(false);
+        let Some((key, value)) = numbers_of(key, value) else {
+            return false;
         };
         if values.get(&key).copied() != Some(value) {
-            return Ok(false);
+            return false;
         }
     }
-    Ok(true)
+    true
 }

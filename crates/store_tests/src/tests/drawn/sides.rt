@@ -2,9 +2,9 @@
 
 ghost use Rattle.bw_store.specs.Views.{IsSound};
 
-use bw_codec::{Key, Record, Value};
+use crate::tests::readers::{is_taken, reads};
 use bw_ring::Feed;
-use bw_store::{NoReader, Reader, Store};
+use bw_store::{Reader, Store};
 use std::sync::Wait;
 use std::test::Fail;
 
@@ -26,15 +26,6 @@ pub(super) enum Step {
 
 use Step::{Flushes, See, Takes};
 
-/// Whether a reader sees this value of `k`.
-pub(super) fn sees(reader: &mut Reader, value: &[u8]) -> Result<bool, Fail> {
-    match reader.get(&Key::new(b"k")?) {
-        Ok(Some(found)) => Ok(found.as_slice() == value),
-        Ok(None) => Ok(value.is_empty()),
-        Err(NoReader) => Ok(false),
-    }
-}
-
 /// A store's feed and reader.
 #[derive(Drop)]
 pub(super) struct Ends {
@@ -51,14 +42,6 @@ pub(super) fn ends_of(store: &mut Store, feeds: Vec<Feed>) -> Result<Ends, Fail>
     Ok(Ends { feeds, reader })
 }
 
-fn is_put(feeds: &mut Vec<Feed>, value: &[u8]) -> Result<bool, Fail> {
-    let item = Record::Put(Key::new(b"k")?, Value::new(value)?);
-    match feeds.get_mut(0) {
-        Some(feed) => Ok(feed.put(item).is_ok()),
-        None => Ok(false),
-    }
-}
-
 /// Whether a store takes and flushes as told.
 pub(super) fn goes<R: Wait>(
     rt: &R,
@@ -66,27 +49,21 @@ pub(super) fn goes<R: Wait>(
     ends: &mut Ends,
     side: Side,
     step: &Step,
-) -> Result<bool, Fail>
+) -> bool
     requires { IsSound store.old holding }
     ensures { IsSound store.new holding }
 {
     match step {
-        Takes(of, value) if *of == side => {
-            let put = is_put(&mut ends.feeds, *value)?;
-            Ok(store.turn(8) == Ok(1) && put)
-        }
-        Flushes(of) if *of == side => Ok(store.flush(rt).is_ok()),
-        _ => Ok(true),
+        Takes(of, value) if *of == side => is_taken(store, &mut ends.feeds, *value),
+        Flushes(of) if *of == side => store.flush(rt).is_ok(),
+        _ => true,
     }
 }
 
 /// Whether the readers see as told.
-pub(super) fn see(left: &mut Reader, right: &mut Reader, step: &Step) -> Result<bool, Fail> {
+pub(super) fn see(left: &mut Reader, right: &mut Reader, step: &Step) -> bool {
     match step {
-        See(one, other) => {
-            let is_seen = sees(left, *one)?;
-            Ok(sees(right, *other)? && is_seen)
-        }
-        _ => Ok(true),
+        See(one, other) => reads(left, *one) & reads(right, *other),
+        _ => true,
     }
 }

@@ -17,7 +17,6 @@ use bw_ring::Feed;
 use bw_store::Store;
 use std::alloc::Global;
 use std::sync::Wait;
-use std::test::Fail;
 
 #[derive(Clone, Copy)]
 pub(super) enum Step {
@@ -77,7 +76,7 @@ pub(super) struct Script {
 }
 
 // A step that the store answers alone.
-fn answers(alloc: Global, store: &mut Store, script: &mut Script, step: Step) -> Result<bool, Fail>
+fn answers(alloc: Global, store: &mut Store, script: &mut Script, step: Step) -> bool
     requires { IsSound store.old holding }
     ensures sound { IsSound store.new holding }
     ensures rings { (kept_by store.new holding).rings ≡ (kept_by store.old holding).rings }
@@ -85,9 +84,9 @@ fn answers(alloc: Global, store: &mut Store, script: &mut Script, step: Step) ->
     match step {
         Evict => {
             let page = script.draw.below(script.pages.saturating_add(1));
-            Ok(is_evicted(store, page, script.pages))
+            is_evicted(store, page, script.pages)
         }
-        EvictAll => Ok(are_evicted(store, script.pages)),
+        EvictAll => are_evicted(store, script.pages),
         Get => {
             let key = script.draw.below(script.keys);
             is_got(store, script, key)
@@ -98,7 +97,7 @@ fn answers(alloc: Global, store: &mut Store, script: &mut Script, step: Step) ->
         }
         Roll => {
             store.roll();
-            Ok(true)
+            true
         }
         _ => reads(alloc, store, script),
     }
@@ -112,7 +111,7 @@ pub(super) fn goes<R: AllocGlobal + Wait>(
     more: &mut Vec<Box<dyn Segment>>,
     script: &mut Script,
     step: Step,
-) -> Result<bool, Fail>
+) -> bool
     requires sound { IsSoundBeside store.old holding }
     requires feeds { map ring_of_feed feeds.old.items ≡ (kept_beside store.old holding).rings }
     ensures sound { IsSoundBeside store.new holding }
@@ -121,9 +120,9 @@ pub(super) fn goes<R: AllocGlobal + Wait>(
     match step {
         Put | Del => puts(feeds, script, step),
         Turn(_) | Flush | Settle | Clean => tries(rt, store, feeds, more, script, step),
-        Break => Ok(breaks(rt, store, script)),
-        Ask => Ok(asks(rt, store, script)),
-        Add => Ok(is_added(store, more)),
+        Break => breaks(rt, store, script),
+        Ask => asks(rt, store, script),
+        Add => is_added(store, more),
         _ => answers(rt.alloc(), store, script, step),
     }
 }

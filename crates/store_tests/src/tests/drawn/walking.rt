@@ -9,7 +9,6 @@ use bw_device::Segment;
 use bw_ring::Feed;
 use bw_store::Store;
 use std::sync::Wait;
-use std::test::Fail;
 
 /// So many rounds: in each so many steps are drawn from a deck, and some more follow.
 #[derive(Clone, Copy)]
@@ -20,8 +19,16 @@ pub(super) struct Rounds {
     pub(super) then: &'static [Step],
 }
 
-// The next step of a round: a drawn one, or one that follows; none at the end.
-fn next(script: &mut Script, plan: &Rounds, at: u32) -> Option<Step> {
+/// Where a script stands in its plans: in which of them, in which of its rounds, and at which step.
+#[derive(Clone, Copy)]
+struct Place {
+    plan: usize,
+    round: u32,
+    at: u32,
+}
+
+// The step of a round at a number: a drawn one, or one that follows; none at the end.
+fn step_at(script: &mut Script, plan: &Rounds, at: u32) -> Option<Step> {
     if at < plan.drawn {
         let card = script.draw.below(1_000_000) as usize;
         return plan.deck.get(card % plan.deck.len().max(1)).copied();
@@ -29,52 +36,34 @@ fn next(script: &mut Script, plan: &Rounds, at: u32) -> Option<Step> {
     plan.then.get((at - plan.drawn) as usize).copied()
 }
 
-// Whether all steps of a round go as told.
-fn goes_round<R: AllocGlobal + Wait>(
-    rt: &R,
-    store: &mut Store,
-    feeds: &mut Vec<Feed>,
-    more: &mut Vec<Box<dyn Segment>>,
-    script: &mut Script,
-    plan: &Rounds,
-) -> Result<bool, Fail>
-    requires sound { IsSoundBeside store.old holding }
-    requires feeds { map ring_of_feed feeds.old.items ≡ (kept_beside store.old holding).rings }
-    ensures sound { IsSoundBeside store.new holding }
-    ensures feeds { map ring_of_feed feeds.new.items ≡ (kept_beside store.new holding).rings }
-{
-    'steps: for at in 0..1_000_000u32 {
-        let Some(step) = next(script, plan, at) else {
-            return Ok(true);
-        };
-        script.steps = script.steps.saturating_add(1);
-        if !goes(rt, store, feeds, more, script, step)? {
-            return Ok(false);
+// The next step of a plan; none where its rounds are walked.
+fn next_of(script: &mut Script, plan: &Rounds, place: &mut Place) -> Option<Step> {
+    'rounds: for _ in place.round..plan.rounds {
+        let at = place.at;
+        place.at = at.saturating_add(1);
+        if let Some(step) = step_at(script, plan, at) {
+            return Some(step);
         }
+        place.round = place.round.saturating_add(1);
+        place.at = 0;
     }
-    Ok(false)
+    None
 }
 
-// Whether so many rounds go as told.
-fn go_on<R: AllocGlobal + Wait>(
-    rt: &R,
-    store: &mut Store,
-    feeds: &mut Vec<Feed>,
-    more: &mut Vec<Box<dyn Segment>>,
-    script: &mut Script,
-    plan: &Rounds,
-) -> Result<bool, Fail>
-    requires sound { IsSoundBeside store.old holding }
-    requires feeds { map ring_of_feed feeds.old.items ≡ (kept_beside store.old holding).rings }
-    ensures sound { IsSoundBeside store.new holding }
-    ensures feeds { map ring_of_feed feeds.new.items ≡ (kept_beside store.new holding).rings }
-{
-    'rounds: for _ in 0..plan.rounds {
-        if !goes_round(rt, store, feeds, more, script, plan)? {
-            return Ok(false);
+// The next step of all plans.
+fn next(script: &mut Script, plans: &[Rounds], place: &mut Place) -> Option<Step> {
+    'plans: for at in place.plan..plans.len() {
+        if let Some(step) = next_of(script, plans.get(at)?, place) {
+            script.steps = script.steps.saturating_add(1);
+            return Some(step);
         }
+        *place = Place {
+            plan: at.saturating_add(1),
+            round: 0,
+            at: 0,
+        };
     }
-    Ok(true)
+    None
 }
 
 /// Whether all plans go as told, one after the other.
@@ -85,15 +74,23 @@ pub(super) fn all_go<R: AllocGlobal + Wait>(
     more: &mut Vec<Box<dyn Segment>>,
     script: &mut Script,
     plans: &[Rounds],
-) -> Result<bool, Fail>
+) -> bool
     requires sound { IsSoundBeside store.old holding }
     requires feeds { map ring_of_feed feeds.old.items ≡ (kept_beside store.old holding).rings }
     ensures { IsSoundBeside store.new holding }
 {
-    'plans: for plan in plans {
-        if !go_on(rt, store, feeds, more, script, plan)? {
-            return Ok(false);
+    let mut place = Place {
+        plan: 0,
+        round: 0,
+        at: 0,
+    };
+    'steps: for _ in 0..1_000_000u32 {
+        let Some(step) = next(script, plans, &mut place) else {
+            return true;
+        };
+        if !goes(rt, store, feeds, more, script, step) {
+            return false;
         }
     }
-    Ok(true)
+    false
 }
