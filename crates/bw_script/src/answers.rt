@@ -8,7 +8,6 @@ use crate::miss::Miss;
 use crate::printed::{write_dump, write_entry, write_page, write_value};
 use crate::printer::Printer;
 use crate::session::Session;
-use crate::stop::Stop;
 use crate::system::System;
 use bw_codec::{Leaf, Value};
 use bw_store::{Cleaned, Entry};
@@ -108,7 +107,7 @@ fn write_leases<O: Write>(out: &mut Printer<'_, O>, site: &Site) {
     out.text(b"\n");
 }
 
-/// Prints an answer of this session.
+/// Writes an answer of this session.
 fn write_all<O: Write>(out: &mut Printer<'_, O>, session: &Session, answer: &Answer)
     requires { IsReady session.now holding }
 {
@@ -121,14 +120,6 @@ fn write_all<O: Write>(out: &mut Printer<'_, O>, session: &Session, answer: &Ans
     }
 }
 
-fn print<O: Write>(output: &mut O, session: &Session, answer: &Answer) -> Result<(), Stop>
-    requires { IsReady session.now holding }
-{
-    let mut out = Printer::new(output);
-    write_all(&mut out, session, answer);
-    out.end()
-}
-
 /// Prints an answer. The file of what was given up is emptied then, before the next segment can be.
 pub fn tell<R: System, O: Write>(
     rt: &R,
@@ -138,7 +129,9 @@ pub fn tell<R: System, O: Write>(
 ) -> Result<(), Miss>
     requires { IsReady session.now holding }
 {
-    print(output, session, answer)?;
+    let mut out = Printer::new(output);
+    write_all(&mut out, session, answer);
+    out.end()?;
     if let Answer::Cleaned(cleaned) = answer {
         session.site.empty(rt, cleaned.lease)?;
     }

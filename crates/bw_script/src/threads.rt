@@ -162,25 +162,8 @@ fn run_writers<R: Host, O: Write>(
     }
 }
 
-/// Runs all writers over a store, which is shut whatever ends the run. The scripts are taken out.
-fn run_store<R: Host, O: Write>(
-    rt: &R,
-    mut session: Session,
-    scripts: &mut Vec<Vec<Record>>,
-    pace: Pace,
-    output: &mut O,
-) -> Result<bool, Stop>
-    requires ready { IsReady session holding }
-    requires one_each { vec_len scripts.old ≡ vec_len session.feeds }
-{
-    let scripts = mem::replace(scripts, Vec::new(rt.alloc()));
-    let end = run_writers(rt, &mut session, scripts, pace, output);
-    session.shut(rt);
-    end
-}
-
-/// Makes a store, or goes on from the one in a folder, and runs all writers over it. Boxes are made
-/// here alone, as in `replay`.
+/// Makes a store, or goes on from the one in a folder, and runs all writers over it. The scripts
+/// are taken out. Boxes are made here alone, as in `replay`.
 fn run_scripts<R: Host, O: Write>(
     rt: &R,
     options: &Options<'_>,
@@ -206,10 +189,15 @@ fn run_scripts<R: Host, O: Write>(
         };
         boxes.push(segment)?;
     }
-    match begin(rt, options, boxes, are_new, site, output) {
-        Ok(session) => run_store(rt, session, scripts, pace, output),
-        Err(miss) => missed(output, 0, miss),
-    }
+    let mut session = match begin(rt, options, boxes, are_new, site, output) {
+        Ok(session) => session,
+        Err(miss) => return missed(output, 0, miss),
+    };
+    // The store is shut whatever ends the run.
+    let scripts = mem::replace(scripts, Vec::new(rt.alloc()));
+    let end = run_writers(rt, &mut session, scripts, pace, output);
+    session.shut(rt);
+    end
 }
 
 /// Reads the writers' scripts, makes a store, or goes on from the one in a folder, and runs all
