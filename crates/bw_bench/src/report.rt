@@ -2,7 +2,6 @@
 
 use crate::bench::Bench;
 use crate::beside::Seen;
-use crate::options::Options;
 use crate::stop::Stop;
 
 /// No value may be wrong.
@@ -14,28 +13,35 @@ fn none_of(wrong: u64) -> Result<(), Stop> {
 }
 
 impl Bench {
+    /// Prints a text, and a number behind it.
+    fn print(&self, text: &str, number: u64) {
+        let written = print!(self.system; "{text}{number}");
+        self.keep(written);
+    }
+
+    /// Prints a text.
+    fn print_text(&self, text: &str) {
+        let written = self.system.print(text);
+        self.keep(written);
+    }
+
     /// What the run was asked for.
     pub fn tell_sizes(&self) {
-        let Options {
-            keys,
-            value_length,
-            operations,
-            batch,
-            writers,
-            ..
-        } = self.options;
-        let length = self.options.shape().length();
-        let written = println!(self.system;
-            "{keys} keys of {length} bytes, values of {value_length}, {operations} operations\n\
-            batches of {batch}, {writers} writers"
-        );
-        self.keep(written);
+        let options = self.options;
+        self.print("", u64::from(options.keys));
+        self.print(" keys of ", options.shape().length() as u64);
+        self.print(" bytes, values of ", u64::from(options.value_length));
+        self.print(", ", u64::from(options.operations));
+        self.print_text(" operations\n");
+        self.print("batches of ", u64::from(options.batch));
+        self.print(", ", u64::from(options.writers));
+        self.print_text(" writers\n");
     }
 
     /// The name of a subject.
     pub fn tell_name(&self, name: &'static str) {
-        let written = println!(self.system; "{name}");
-        self.keep(written);
+        self.print_text(name);
+        self.print_text("\n");
     }
 
     /// How often something was done, and what each took of all that it took; only with times.
@@ -53,16 +59,19 @@ impl Bench {
         if self.options.times {
             self.tell_each(name, count, nanos, "ns");
         } else {
-            let written = println!(self.system; "{name}: {count}");
-            self.keep(written);
+            self.print_text(name);
+            self.print(": ", count);
+            self.print_text("\n");
         }
     }
 
     /// How many keys were read back, and how many of them otherwise than they were put: none may
     /// be.
     pub fn tell_wrong(&self, name: &'static str, keys: u64, wrong: u64) -> Result<(), Stop> {
-        let written = println!(self.system; "{name}: {keys} read back, {wrong} wrong");
-        self.keep(written);
+        self.print_text(name);
+        self.print(": ", keys);
+        self.print(" read back, ", wrong);
+        self.print_text(" wrong\n");
         none_of(wrong)
     }
 
@@ -72,14 +81,12 @@ impl Bench {
             return Ok(());
         };
         if self.options.times {
-            let written = println!(self.system;
-                "  beside it {} look-ups, {} found",
-                seen.lookups, seen.found
-            );
-            self.keep(written);
+            self.print("  beside it ", seen.lookups);
+            self.print(" look-ups, ", seen.found);
+            self.print_text(" found\n");
         }
-        let written = println!(self.system; "  a reader beside: {} wrong", seen.wrong);
-        self.keep(written);
+        self.print("  a reader beside: ", seen.wrong);
+        self.print_text(" wrong\n");
         none_of(seen.wrong)
     }
 }

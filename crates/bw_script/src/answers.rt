@@ -6,11 +6,12 @@ use crate::calls::LEASES;
 use crate::home::{Made, Site};
 use crate::miss::Miss;
 use crate::printed::{write_dump, write_entry, write_page, write_value};
+use crate::printer::Printer;
 use crate::session::Session;
 use crate::system::System;
 use bw_codec::{Leaf, Value};
 use bw_store::{Cleaned, Entry};
-use std::io::{self, Write};
+use std::io::Write;
 
 /// What a command comes to.
 #[derive(Drop)]
@@ -41,81 +42,81 @@ pub enum Answer {
     Leases,
 }
 
-fn write_cleaned<O: Write>(output: &mut O, cleaned: &Cleaned) -> io::Result<()> {
-    writeln!(
-        output,
-        "cleaned segment {} lease {} pages {} frames {}",
-        cleaned.segment, cleaned.lease, cleaned.pages, cleaned.frames
-    )
+fn write_cleaned<O: Write>(out: &mut Printer<'_, O>, cleaned: &Cleaned) {
+    out.named("cleaned segment ", cleaned.segment);
+    out.named(" lease ", cleaned.lease);
+    out.named(" pages ", cleaned.pages);
+    out.line(" frames ", cleaned.frames);
 }
 
 /// An answer that says all by itself.
-fn write_answer<O: Write>(output: &mut O, answer: &Answer) -> io::Result<()> {
+fn write_answer<O: Write>(out: &mut Printer<'_, O>, answer: &Answer) {
     match answer {
-        Answer::Put(true) => output.write_all(b"ok\n"),
-        Answer::Put(false) => output.write_all(b"full\n"),
-        Answer::Took(count) => writeln!(output, "took {count}"),
-        Answer::Frame(Some(frame)) => writeln!(output, "frame {frame}"),
-        Answer::Frame(None) => output.write_all(b"no frame\n"),
-        Answer::Settled(length) => writeln!(output, "settled {length}"),
-        Answer::Page(leaf) => write_page(output, leaf),
-        Answer::Value(value) => write_value(output, value.as_ref()),
-        Answer::Evicted(true) => output.write_all(b"evicted\n"),
-        Answer::Evicted(false) => output.write_all(b"kept\n"),
-        Answer::Cleaned(cleaned) => write_cleaned(output, cleaned),
-        Answer::Rolled => output.write_all(b"rolled\n"),
-        Answer::Dump(bytes) => write_dump(output, bytes.as_slice()),
-        _ => Ok(()),
+        Answer::Put(true) => out.text(b"ok\n"),
+        Answer::Put(false) => out.text(b"full\n"),
+        Answer::Took(count) => out.line("took ", *count),
+        Answer::Frame(Some(frame)) => out.line("frame ", *frame),
+        Answer::Frame(None) => out.text(b"no frame\n"),
+        Answer::Settled(length) => out.line("settled ", *length),
+        Answer::Page(leaf) => write_page(out, leaf),
+        Answer::Value(value) => write_value(out, value.as_ref()),
+        Answer::Evicted(true) => out.text(b"evicted\n"),
+        Answer::Evicted(false) => out.text(b"kept\n"),
+        Answer::Cleaned(cleaned) => write_cleaned(out, cleaned),
+        Answer::Rolled => out.text(b"rolled\n"),
+        Answer::Dump(bytes) => write_dump(out, bytes.as_slice()),
+        _ => {}
     }
 }
 
-fn write_history<O: Write>(output: &mut O, entries: &[Entry]) -> io::Result<()> {
-    writeln!(output, "history {}", entries.len())?;
+fn write_history<O: Write>(out: &mut Printer<'_, O>, entries: &[Entry]) {
+    out.line("history ", entries.len());
     for entry in entries {
-        write_entry(output, entry)?;
+        write_entry(out, entry);
     }
-    Ok(())
 }
 
-fn write_cuts<O: Write>(output: &mut O, cuts: &[u64]) -> io::Result<()> {
-    output.write_all(b"cuts")?;
+fn write_cuts<O: Write>(out: &mut Printer<'_, O>, cuts: &[u64]) {
+    out.text(b"cuts");
     for cut in cuts {
-        write!(output, " {cut}")?;
+        out.named(" ", *cut);
     }
-    output.write_all(b"\n")
+    out.text(b"\n");
 }
 
-fn write_segments<O: Write>(output: &mut O, session: &Session) -> io::Result<()>
+fn write_segments<O: Write>(out: &mut Printer<'_, O>, session: &Session)
     requires { IsReady session.now holding }
 {
     for i in 0..session.store.live() {
         if let Some((segment, lease, length)) = session.store.live_segment(i) {
-            writeln!(output, "segment {segment} lease {lease} bytes {length}")?;
+            out.named("segment ", segment);
+            out.named(" lease ", lease);
+            out.line(" bytes ", length);
         }
     }
-    writeln!(output, "spares {}", session.store.spares())
+    out.line("spares ", session.store.spares());
 }
 
-fn write_leases<O: Write>(output: &mut O, site: &Site) -> io::Result<()> {
-    output.write_all(b"out")?;
+fn write_leases<O: Write>(out: &mut Printer<'_, O>, site: &Site) {
+    out.text(b"out");
     for lease in 0..LEASES {
         if site.is_out(lease) {
-            write!(output, " {lease}")?;
+            out.named(" ", lease);
         }
     }
-    output.write_all(b"\n")
+    out.text(b"\n");
 }
 
-/// Prints an answer of this session.
-fn print<O: Write>(output: &mut O, session: &Session, answer: &Answer) -> io::Result<()>
+/// Writes an answer of this session.
+fn write_all<O: Write>(out: &mut Printer<'_, O>, session: &Session, answer: &Answer)
     requires { IsReady session.now holding }
 {
     match answer {
-        Answer::History => write_history(output, session.store.history()),
-        Answer::Cuts => write_cuts(output, session.store.cuts()),
-        Answer::Segments => write_segments(output, session),
-        Answer::Leases => write_leases(output, &session.site),
-        _ => write_answer(output, answer),
+        Answer::History => write_history(out, session.store.history()),
+        Answer::Cuts => write_cuts(out, session.store.cuts()),
+        Answer::Segments => write_segments(out, session),
+        Answer::Leases => write_leases(out, &session.site),
+        _ => write_answer(out, answer),
     }
 }
 
@@ -128,7 +129,9 @@ pub fn tell<R: System, O: Write>(
 ) -> Result<(), Miss>
     requires { IsReady session.now holding }
 {
-    print(output, session, answer)?;
+    let mut out = Printer::new(output);
+    write_all(&mut out, session, answer);
+    out.end()?;
     if let Answer::Cleaned(cleaned) = answer {
         session.site.empty(rt, cleaned.lease)?;
     }

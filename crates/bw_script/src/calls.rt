@@ -8,7 +8,6 @@ use crate::answers::Answer;
 use crate::home::Site;
 use crate::miss::Miss;
 use crate::options::Options;
-use crate::refusal::Refusal;
 use crate::script::{Command, Fault};
 use crate::session::Session;
 use crate::system::System;
@@ -248,17 +247,6 @@ impl Session {
             Command::Segments => Ok(Answer::Segments),
             Command::Leases => self.leases(),
             Command::Dump(segment) => self.dump(rt.alloc(), segment),
-        }
-    }
-
-    /// The store has one more spare.
-    pub fn add(&mut self, spare: Box<dyn Segment>) -> Result<(), Refusal>
-        requires { IsReadyBeside self.old holding }
-        ensures { IsReadyBeside self.new holding }
-    {
-        match self.store.add_segment(spare) {
-            Ok(()) => Ok(()),
-            Err((_, cause)) => Err(Refusal::from(cause)),
         }
     }
 

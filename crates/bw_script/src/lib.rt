@@ -13,6 +13,7 @@ mod lines;
 mod miss;
 mod options;
 mod printed;
+mod printer;
 mod program;
 mod refusal;
 mod replay;

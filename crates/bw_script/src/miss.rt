@@ -6,7 +6,6 @@ use crate::stop::Stop;
 use bw_file::FolderFault;
 use bw_store::StoreFault;
 use std::alloc::AllocFailed;
-use std::io;
 
 /// Why a command has no answer.
 #[derive(Clone, Copy)]
@@ -34,12 +33,6 @@ impl From<StoreFault> for Miss {
 impl From<Stop> for Miss {
     fn from(stop: Stop) -> Miss {
         Miss::Ended(stop)
-    }
-}
-
-impl From<io::Error> for Miss {
-    fn from(_error: io::Error) -> Miss {
-        Miss::Ended(Stop::Output)
     }
 }
 

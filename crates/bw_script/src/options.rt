@@ -211,37 +211,24 @@ fn option_of<'a>(alloc: Global, row: &Row) -> Arg<'a> {
     }
 }
 
-fn options_of<'a>(alloc: Global, rows: &[Row]) -> Result<Vec<Arg<'a>>, AllocError> {
-    let mut options = Vec::new(alloc);
-    for row in rows {
-        options.push(option_of(alloc, row))?;
-    }
-    Ok(options)
-}
-
 fn form_of<'a>(alloc: Global, form: &Form) -> Result<Command<'a>, AllocError> {
-    let options = options_of(alloc, form.options)?;
-    Command::new(alloc, form.name)
-        .about(form.about)
-        .args(options)
-}
-
-fn forms_of<'a>(alloc: Global) -> Result<Vec<Command<'a>>, AllocError> {
-    let mut forms = Vec::new(alloc);
-    for form in &FORMS {
-        forms.push(form_of(alloc, form)?)?;
+    let mut command = Command::new(alloc, form.name).about(form.about);
+    for row in form.options {
+        command = command.arg(option_of(alloc, row))?;
     }
-    Ok(forms)
+    Ok(command)
 }
 
 /// The command `bwlog` with its modes.
 fn command_of<'a>(alloc: Global) -> Result<Command<'a>, AllocError> {
-    let forms = forms_of(alloc)?;
-    Command::new(alloc, "bwlog")
+    let mut command = Command::new(alloc, "bwlog")
         .about("Runs scripts over the page store, and says what segments hold")
         .no_binary_name(true)
-        .subcommand_required(true)
-        .subcommands(forms)
+        .subcommand_required(true);
+    for form in &FORMS {
+        command = command.subcommand(form_of(alloc, form)?)?;
+    }
+    Ok(command)
 }
 
 /// The folder that was named.

@@ -1,18 +1,18 @@
 //! What is printed: words, pages, entries and dumps. No memory is taken.
 
+use crate::printer::Printer;
 use bw_codec::{Key, Leaf, Record, Value};
 use bw_store::Entry;
-use std::io::{self, Write};
+use std::io::Write;
 
 /// Bytes as lower-case hex digits.
-pub fn write_hex<W: Write>(output: &mut W, bytes: &[u8]) -> io::Result<()> {
+fn write_hex<O: Write>(out: &mut Printer<'_, O>, bytes: &[u8]) {
     for byte in bytes {
         let mut digits = [0u8; 2];
         if hex::encode_to_slice([*byte].as_slice(), &mut digits).is_ok() {
-            output.write_all(&digits)?;
+            out.text(&digits);
         }
     }
-    Ok(())
 }
 
 /// Whether bytes are printed as they are.
@@ -25,75 +25,78 @@ fn is_plain(bytes: &[u8]) -> bool {
 }
 
 /// A key, value or low key: its bytes where that is plain, and else `0x` and hex digits.
-pub fn write_word<W: Write>(output: &mut W, bytes: &[u8]) -> io::Result<()> {
+fn write_word<O: Write>(out: &mut Printer<'_, O>, bytes: &[u8]) {
     if is_plain(bytes) {
-        return output.write_all(bytes);
+        out.text(bytes);
+    } else {
+        out.text(b"0x");
+        write_hex(out, bytes);
     }
-    output.write_all(b"0x")?;
-    write_hex(output, bytes)
 }
 
 /// A key, `=` and its value.
-fn write_pair<W: Write>(output: &mut W, key: &Key, value: &Value) -> io::Result<()> {
-    write_word(output, key.as_slice())?;
-    output.write_all(b"=")?;
-    write_word(output, value.as_slice())
+fn write_pair<O: Write>(out: &mut Printer<'_, O>, key: &Key, value: &Value) {
+    write_word(out, key.as_slice());
+    out.text(b"=");
+    write_word(out, value.as_slice());
 }
 
 /// A page's line.
-pub fn write_page<W: Write>(output: &mut W, leaf: &Leaf) -> io::Result<()> {
-    write!(output, "page {} low ", leaf.page)?;
-    write_word(output, leaf.low.as_slice())?;
-    write!(output, " pairs {}", leaf.pairs.as_slice().len())?;
-    for (key, value) in leaf.pairs.as_slice() {
-        output.write_all(b" ")?;
-        write_pair(output, key, value)?;
+pub fn write_page<O: Write>(out: &mut Printer<'_, O>, leaf: &Leaf) {
+    let pairs = leaf.pairs.as_slice();
+    out.named("page ", leaf.page);
+    out.text(b" low ");
+    write_word(out, leaf.low.as_slice());
+    out.named(" pairs ", pairs.len());
+    for (key, value) in pairs {
+        out.text(b" ");
+        write_pair(out, key, value);
     }
-    output.write_all(b"\n")
+    out.text(b"\n");
 }
 
 /// The number of pairs, and a line for each.
-pub fn write_pairs<W: Write>(output: &mut W, pairs: &[(Key, Value)]) -> io::Result<()> {
-    writeln!(output, "pairs {}", pairs.len())?;
+pub fn write_pairs<O: Write>(out: &mut Printer<'_, O>, pairs: &[(Key, Value)]) {
+    out.line("pairs ", pairs.len());
     for (key, value) in pairs {
-        write_pair(output, key, value)?;
-        output.write_all(b"\n")?;
+        write_pair(out, key, value);
+        out.text(b"\n");
     }
-    Ok(())
 }
 
 /// The line of a key's value.
-pub fn write_value<W: Write>(output: &mut W, value: Option<&Value>) -> io::Result<()> {
+pub fn write_value<O: Write>(out: &mut Printer<'_, O>, value: Option<&Value>) {
     match value {
         Some(value) => {
-            output.write_all(b"value ")?;
-            write_word(output, value.as_slice())?;
-            output.write_all(b"\n")
+            out.text(b"value ");
+            write_word(out, value.as_slice());
+            out.text(b"\n");
         }
-        None => output.write_all(b"none\n"),
+        None => out.text(b"none\n"),
     }
 }
 
 /// The line of an entry of the history.
-pub fn write_entry<W: Write>(output: &mut W, entry: &Entry) -> io::Result<()> {
+pub fn write_entry<O: Write>(out: &mut Printer<'_, O>, entry: &Entry) {
+    out.named("", entry.writer);
     match &entry.item {
         Record::Put(key, value) => {
-            write!(output, "{} put ", entry.writer)?;
-            write_word(output, key.as_slice())?;
-            output.write_all(b" ")?;
-            write_word(output, value.as_slice())?;
+            out.text(b" put ");
+            write_word(out, key.as_slice());
+            out.text(b" ");
+            write_word(out, value.as_slice());
         }
         Record::Del(key) => {
-            write!(output, "{} del ", entry.writer)?;
-            write_word(output, key.as_slice())?;
+            out.text(b" del ");
+            write_word(out, key.as_slice());
         }
     }
-    output.write_all(b"\n")
+    out.text(b"\n");
 }
 
 /// A dump's line.
-pub fn write_dump<W: Write>(output: &mut W, bytes: &[u8]) -> io::Result<()> {
-    output.write_all(b"dump ")?;
-    write_hex(output, bytes)?;
-    output.write_all(b"\n")
+pub fn write_dump<O: Write>(out: &mut Printer<'_, O>, bytes: &[u8]) {
+    out.text(b"dump ");
+    write_hex(out, bytes);
+    out.text(b"\n");
 }

@@ -2,6 +2,7 @@
 //! status.
 
 use crate::options::{Mode, is_memory, mode_of};
+use crate::printer::{Printer, print};
 use crate::refusal::Refusal;
 use crate::replay::replay;
 use crate::scan::{scan, scan_folder};
@@ -9,7 +10,7 @@ use crate::stop::Stop;
 use crate::system::Host;
 use crate::threads::threads;
 use clap::Error;
-use std::io::{self, Read, Write};
+use std::io::{Read, Write};
 
 /// Does what the command line asks for.
 fn start<R: Host, I: Read, O: Write>(
@@ -37,38 +38,64 @@ fn usage<E: Write>(error: &Error, errors: &mut E) -> Stop {
     }
 }
 
+/// Says why a run ended at a fault, without its input, or without its folder.
+fn tell_stop<E: Write>(errors: &mut E, dir: &str, stop: Stop) -> Result<(), Stop> {
+    let mut out = Printer::new(errors);
+    match stop {
+        Stop::Fault(number, fault) => {
+            out.named("script line ", number);
+            out.line(": ", fault);
+        }
+        Stop::Folder(fault) => {
+            out.named("folder ", dir);
+            out.line(": ", fault);
+        }
+        _ => out.text(b"input failed\n"),
+    }
+    out.end()
+}
+
 /// Prints what an end has to say, and gives its exit status.
 fn status_of<O: Write, E: Write>(
     end: Result<bool, Stop>,
     dir: &str,
     output: &mut O,
     errors: &mut E,
-) -> io::Result<u8> {
+) -> u8 {
     match end {
-        Ok(false) => Ok(0),
-        Err(Stop::Usage) => Ok(2),
-        Err(Stop::Fault(number, fault)) => {
-            // What earlier lines printed stands before the fault, wherever the two streams end.
-            output.flush()?;
-            writeln!(errors, "script line {number}: {fault}")?;
-            Ok(3)
+        Ok(false) => 0,
+        Ok(true) => 4,
+        Err(Stop::Usage) => 2,
+        Err(Stop::Output) => 6,
+        Err(Stop::NoMemory) => match print(output, "", Refusal::NoMemory) {
+            Ok(()) => 5,
+            Err(_) => 6,
+        },
+        Err(stop) => {
+            // What earlier lines printed stands before it, wherever the two streams end.
+            let is_told = output.flush().is_ok() && tell_stop(errors, dir, stop).is_ok();
+            match stop {
+                Stop::Fault(..) if is_told => 3,
+                _ => 6,
+            }
         }
-        Ok(true) => Ok(4),
-        Err(Stop::NoMemory) => {
-            writeln!(output, "{}", Refusal::NoMemory)?;
-            Ok(5)
+    }
+}
+
+/// Runs the program up to the last flush of its outputs.
+fn status_in<R: Host, I: Read, O: Write, E: Write>(
+    rt: &R,
+    words: &[&str],
+    input: &mut I,
+    output: &mut O,
+    errors: &mut E,
+) -> u8 {
+    match mode_of(rt.alloc(), words) {
+        Ok(mode) => {
+            let end = start(rt, &mode, input, output);
+            status_of(end, mode.dir().unwrap_or(""), output, errors)
         }
-        Err(Stop::Input) => {
-            output.flush()?;
-            errors.write_all(b"input failed\n")?;
-            Ok(6)
-        }
-        Err(Stop::Output) => Ok(6),
-        Err(Stop::Folder(fault)) => {
-            output.flush()?;
-            writeln!(errors, "folder {dir}: {fault}")?;
-            Ok(6)
-        }
+        Err(error) => status_of(Err(usage(&error, errors)), "", output, errors),
     }
 }
 
@@ -83,17 +110,8 @@ pub fn run<R: Host, I: Read, O: Write, E: Write>(
     output: &mut O,
     errors: &mut E,
 ) -> u8 {
-    let status = match mode_of(rt.alloc(), words) {
-        Ok(mode) => {
-            let end = start(rt, &mode, input, output);
-            status_of(end, mode.dir().unwrap_or(""), output, errors)
-        }
-        Err(error) => status_of(Err(usage(&error, errors)), "", output, errors),
-    };
-    let printed = output.flush();
-    let told = errors.flush();
-    match (status, printed, told) {
-        (Ok(status), Ok(()), Ok(())) => status,
-        _ => 6,
-    }
+    let status = status_in(rt, words, input, output, errors);
+    let is_printed = output.flush().is_ok();
+    let is_told = errors.flush().is_ok();
+    if is_printed && is_told { status } else { 6 }
 }

@@ -4,11 +4,10 @@ use bw_care::RecoverCause;
 use bw_device::{NotMade, NotTaken};
 use bw_store::StoreFault;
 use std::alloc::{AllocError, AllocFailed};
-use std::error::Error;
 use std::fmt::{self, Display, Formatter};
 
 /// A refused call. Its `Display` is the line that the program prints.
-#[derive(Debug, Clone, Copy)]
+#[derive(Clone, Copy)]
 pub enum Refusal {
     /// A growth was refused in that call.
     NoMemory,
@@ -77,8 +76,6 @@ impl Display for Refusal {
         }
     }
 }
-
-impl Error for Refusal {}
 
 impl From<AllocError> for Refusal {
     fn from(_error: AllocError) -> Refusal {

@@ -1,6 +1,7 @@
 //! `bwlog replay`: a script over one store, line by line.
 
 ghost use Rattle.std.specs.Prelude.{◌≡◌, vec_len, IfOk};
+ghost use Rattle.bw_care.specs.Found.{IsRecovered};
 ghost use Rattle.bw_care.specs.Views.{IsSound};
 ghost use Rattle.bw_script.specs.Session.{IsReady, IsReadyBeside};
 
@@ -9,14 +10,16 @@ use crate::home::{Made, Site};
 use crate::lines::{Lines, READS};
 use crate::miss::Miss;
 use crate::options::Options;
+use crate::printer::print;
 use crate::refusal::Refusal;
-use crate::scan::write_found;
+use crate::scan::print_found;
 use crate::script::{Command, LONGEST, parse};
 use crate::session::Session;
-use crate::stop::{Stop, missed, no_input, no_output, refuse};
+use crate::stop::{Stop, missed, no_input, refuse};
 use crate::system::System;
-use bw_care::recover;
+use bw_care::{Recovered, recover};
 use bw_device::Segment;
+use std::alloc::Global;
 use std::io::{Read, Write};
 
 /// What came of a line.
@@ -105,14 +108,40 @@ fn next_spare<R: System, I: Read, O: Write>(
     None
 }
 
-/// Says that a spare was added, or why not.
-fn added<O: Write>(output: &mut O, lease: u32, answer: Result<(), Refusal>) -> Result<bool, Stop> {
-    match answer {
+/// Adds a spare, and says so, or why not.
+fn add_spare<O: Write>(
+    session: &mut Session,
+    lease: u32,
+    spare: Box<dyn Segment>,
+    output: &mut O,
+) -> Result<bool, Stop>
+    requires { IsReadyBeside session.old holding }
+    ensures { IsReadyBeside session.new holding }
+{
+    match session.store.add_segment(spare) {
         Ok(()) => {
-            writeln!(output, "added {lease}").map_err(no_output)?;
+            print(output, "added ", lease)?;
             Ok(false)
         }
-        Err(refusal) => refuse(output, refusal),
+        Err((_, cause)) => refuse(output, Refusal::from(cause)),
+    }
+}
+
+/// What boxes hold, of which the two lines of a scan are printed.
+fn found_in<O: Write>(
+    alloc: Global,
+    boxes: Vec<Box<dyn Segment>>,
+    output: &mut O,
+) -> Result<Recovered, Miss>
+    requires { Unit {0} }
+    ensures { IfOk result (λ found. IsRecovered holding found) }
+{
+    match recover(alloc, boxes) {
+        Ok(found) => {
+            print_found(output, &found)?;
+            Ok(found)
+        }
+        Err(fault) => Err(Miss::Refused(Refusal::from(fault.cause))),
     }
 }
 
@@ -133,13 +162,8 @@ pub fn begin<R: System, O: Write>(
     if are_new {
         return Session::open(rt, options, boxes, site);
     }
-    match recover(rt.alloc(), boxes) {
-        Ok(found) => {
-            write_found(output, &found)?;
-            Session::reopen(rt, options, found, site)
-        }
-        Err(fault) => Err(Miss::Refused(Refusal::from(fault.cause))),
-    }
+    let found = found_in(rt.alloc(), boxes, output)?;
+    Session::reopen(rt, options, found, site)
 }
 
 /// Makes a store, or goes on from the one in a folder, and runs the lines over it. Boxes are made
@@ -177,11 +201,11 @@ fn replay_lines<R: System, I: Read, O: Write>(
             break;
         };
         let lease = made.lease();
-        let answer = match made {
-            Made::Memory(segment) => session.add(segment),
-            Made::File(segment) => session.add(segment),
+        let spare: Box<dyn Segment> = match made {
+            Made::Memory(segment) => segment,
+            Made::File(segment) => segment,
         };
-        end = joined(end, added(output, lease, answer));
+        end = joined(end, add_spare(&mut session, lease, spare, output));
     }
     session.shut(rt);
     end

@@ -7,9 +7,10 @@ use crate::home::{desk_of, taken};
 use crate::lines::{Lines, READS};
 use crate::miss::Miss;
 use crate::printed::write_page;
+use crate::printer::Printer;
 use crate::refusal::Refusal;
 use crate::script::{Fault, are_printable};
-use crate::stop::{Stop, missed, no_input, no_output, refuse};
+use crate::stop::{Stop, missed, no_input, refuse};
 use crate::system::System;
 use bw_care::{Recovered, recover};
 use bw_device::{Desk, MemSegment, Segment};
@@ -17,7 +18,7 @@ use bw_file::FolderReader;
 use bw_page::Leaves;
 use hex::FromHexError;
 use std::alloc::Global;
-use std::io::{self, Read, Write};
+use std::io::{Read, Write};
 
 /// The most bytes of a line.
 const LONGEST: u32 = 2_097_152;
@@ -52,39 +53,43 @@ fn segment_of(alloc: Global, desk: &mut Desk, line: &[u8]) -> Result<MemSegment,
 }
 
 /// The two lines of what was recovered: its segments, and its frames.
-pub fn write_found<O: Write>(output: &mut O, found: &Recovered) -> io::Result<()>
+fn write_found<O: Write>(out: &mut Printer<'_, O>, found: &Recovered)
     requires { IsSound found.now.log holding }
 {
-    writeln!(
-        output,
-        "segments {} spares {} dropped {}",
-        found.log.live(),
-        found.log.spares(),
-        found.dropped
-    )?;
-    writeln!(
-        output,
-        "frames {} {} tail {}",
-        found.first, found.last, found.tail
-    )
+    out.named("segments ", found.log.live());
+    out.named(" spares ", found.log.spares());
+    out.line(" dropped ", found.dropped);
+    out.named("frames ", found.first);
+    out.named(" ", found.last);
+    out.line(" tail ", found.tail);
+}
+
+/// Prints these lines alone.
+pub fn print_found<O: Write>(output: &mut O, found: &Recovered) -> Result<(), Stop>
+    requires { IsSound found.now.log holding }
+{
+    let mut out = Printer::new(output);
+    write_found(&mut out, found);
+    out.end()
 }
 
 /// All pages, by number.
-fn write_pages<O: Write>(output: &mut O, leaves: &Leaves) -> io::Result<()> {
+fn write_pages<O: Write>(out: &mut Printer<'_, O>, leaves: &Leaves) {
     for index in 0..leaves.count() {
         if let Some(leaf) = leaves.page(index + 1) {
-            write_page(output, leaf)?;
+            write_page(out, leaf);
         }
     }
-    Ok(())
 }
 
-/// All of what was recovered.
-fn write_all<O: Write>(output: &mut O, found: &Recovered) -> io::Result<()>
+/// Prints all of what was recovered.
+fn print_all<O: Write>(output: &mut O, found: &Recovered) -> Result<(), Stop>
     requires { IsSound found.now.log holding }
 {
-    write_found(output, found)?;
-    write_pages(output, &found.leaves)
+    let mut out = Printer::new(output);
+    write_found(&mut out, found);
+    write_pages(&mut out, &found.leaves);
+    out.end()
 }
 
 /// Prints what recovery says of boxes.
@@ -94,10 +99,10 @@ fn tell<O: Write>(
     output: &mut O,
 ) -> Result<bool, Stop> {
     match recover(alloc, boxes) {
-        Ok(found) => match write_all(output, &found) {
-            Ok(()) => Ok(false),
-            Err(error) => Err(no_output(error)),
-        },
+        Ok(found) => {
+            print_all(output, &found)?;
+            Ok(false)
+        }
         Err(fault) => refuse(output, Refusal::from(fault.cause)),
     }
 }

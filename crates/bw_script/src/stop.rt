@@ -1,6 +1,7 @@
 //! What ends a run before its end, and what is printed of it.
 
 use crate::miss::Miss;
+use crate::printer::print;
 use crate::refusal::Refusal;
 use crate::script::Fault;
 use bw_file::FolderFault;
@@ -45,11 +46,6 @@ impl From<FolderFault> for Stop {
     }
 }
 
-/// An error of a write.
-pub fn no_output(_error: io::Error) -> Stop {
-    Stop::Output
-}
-
 /// An error of a read, or of a growth for what was read.
 pub fn no_input(error: io::Error) -> Stop {
     if error.kind() == ErrorKind::OutOfMemory {
@@ -65,7 +61,7 @@ pub fn refuse<O: Write>(output: &mut O, refusal: Refusal) -> Result<bool, Stop> 
     if matches!(refusal, Refusal::NoMemory) {
         return Err(Stop::NoMemory);
     }
-    writeln!(output, "{refusal}").map_err(no_output)?;
+    print(output, "", refusal)?;
     Ok(true)
 }
 

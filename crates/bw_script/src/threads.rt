@@ -7,16 +7,17 @@ use crate::home::{Made, Site};
 use crate::lines::{Lines, READS};
 use crate::options::{Options, Pace};
 use crate::printed::write_pairs;
+use crate::printer::Printer;
 use crate::replay::begin;
 use crate::running::Run;
 use crate::script::{LONGEST, parse_record};
 use crate::session::Session;
-use crate::stop::{Stop, missed, no_input, no_output, refuse};
+use crate::stop::{Stop, missed, no_input, refuse};
 use crate::system::Host;
 use bw_codec::{Key, Record, Value};
 use bw_device::Segment;
 use std::alloc::{AllocError, Global};
-use std::io::{self, Read, Write};
+use std::io::{Read, Write};
 use std::mem;
 
 // The record goes behind those of its writer.
@@ -97,25 +98,29 @@ fn lengths_of(alloc: Global, scripts: &[Vec<Record>]) -> Result<Vec<u64>, AllocE
 }
 
 /// Prints how many records of each script were accepted, and answers whether a writer gave up.
-fn write_accepted<O: Write>(output: &mut O, accepted: &[u64], lengths: &[u64]) -> io::Result<bool> {
+fn write_accepted<O: Write>(out: &mut Printer<'_, O>, accepted: &[u64], lengths: &[u64]) -> bool {
     let mut gave_up = false;
     for (writer, (accepted, length)) in accepted.iter().zip(lengths).enumerate() {
-        writeln!(output, "writer {writer} {accepted} of {length}")?;
+        out.named("writer ", writer);
+        out.named(" ", *accepted);
+        out.line(" of ", *length);
         gave_up |= accepted < length;
     }
-    Ok(gave_up)
+    gave_up
 }
 
 /// Prints what a run left, and answers whether a writer gave up.
-fn write_run<O: Write>(
+fn print_run<O: Write>(
     output: &mut O,
     run: &Run,
     lengths: &[u64],
     pairs: &[(Key, Value)],
-) -> io::Result<bool> {
-    writeln!(output, "entries {}", run.entries)?;
-    let gave_up = write_accepted(output, run.accepted.as_slice(), lengths)?;
-    write_pairs(output, pairs)?;
+) -> Result<bool, Stop> {
+    let mut out = Printer::new(output);
+    out.line("entries ", run.entries);
+    let gave_up = write_accepted(&mut out, run.accepted.as_slice(), lengths);
+    write_pairs(&mut out, pairs);
+    out.end()?;
     Ok(gave_up)
 }
 
@@ -135,7 +140,7 @@ fn tell_run<R: Host, O: Write>(
         Err(refusal) => return refuse(output, refusal),
     };
     pairs.sort()?;
-    write_run(output, run, lengths, pairs.as_slice()).map_err(no_output)
+    print_run(output, run, lengths, pairs.as_slice())
 }
 
 /// Runs the writers, and prints what came of it: one refusal, or all of it.

@@ -1,7 +1,7 @@
 use Rattle.std.proofs.Common.{refl}
 use Rattle.bw_script.proofs.Readings.{ready_by_kind, ready_from_kind}
 use Rattle.bw_script.proofs.replay.replay_lines.Goals as goal
-use Rattle.bw_script.proofs.replay.replay_lines.Goals.{in-Memory-made, in-File-made, else-spares-test, then-spares-test+in_default}
+use Rattle.bw_script.proofs.replay.replay_lines.Goals.{else-spares-test, then-spares-test+in_default}
 
 pub spares-init : goal.spares-init
 spares-init g c = ready_by_kind (record { first = λ _ _ _. refl; second = λ _ _ _. refl }) c.in-Ok-begin.ensures.ready
@@ -11,11 +11,7 @@ next_spare-requires g c = ready_from_kind (record { first = λ _ _ _. refl; seco
 
 -- whichever segment is added
 pub spares-preserved : goal.spares-preserved
-spares-preserved g c =
-    elim c.match-made-2.branch [
-      | in-Memory-made w ↦ rw w.session-is (ready_by_kind (record { first = λ _ _ _. refl; second = λ _ _ _. refl }) w.add-answer.ensures)
-      | in-File-made w ↦ rw w.session-is (ready_by_kind (record { first = λ _ _ _. refl; second = λ _ _ _. refl }) w.add-answer-in-File-made.ensures)
-    ]
+spares-preserved g c = ready_by_kind (record { first = λ _ _ _. refl; second = λ _ _ _. refl }) c.add_spare.ensures
 
 pub shut-requires : goal.shut-requires
 shut-requires g c =

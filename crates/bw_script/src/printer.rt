@@ -1,0 +1,64 @@
+//! An output to which lines are written piece by piece.
+
+use crate::stop::Stop;
+use std::fmt::Display;
+use std::io::Write;
+
+/// An output that keeps in mind whether a write failed: behind that one it writes nothing.
+pub struct Printer<'a, O> {
+    output: &'a mut O,
+    has_failed: bool,
+}
+
+impl<'a, O: Write> Printer<'a, O> {
+    /// Nothing was written yet.
+    pub fn new(output: &'a mut O) -> Printer<'a, O> {
+        Printer {
+            output,
+            has_failed: false,
+        }
+    }
+
+    /// Writes bytes as they are.
+    pub fn text(&mut self, text: &[u8]) {
+        if !self.has_failed {
+            self.has_failed = self.output.write_all(text).is_err();
+        }
+    }
+
+    /// Writes a text, and a number or a name behind it.
+    pub fn named<D: Display + Copy + Drop>(&mut self, text: &str, value: D) {
+        if !self.has_failed {
+            self.has_failed = write!(self.output, "{text}{value}").is_err();
+        }
+    }
+
+    /// The same, and the end of the line.
+    pub fn line<D: Display + Copy + Drop>(&mut self, text: &str, value: D) {
+        self.named(text, value);
+        self.text(b"\n");
+    }
+
+    /// Whether all was written.
+    pub fn end(self) -> Result<(), Stop> {
+        let Printer {
+            output: _output,
+            has_failed,
+        } = self;
+        if has_failed {
+            return Err(Stop::Output);
+        }
+        Ok(())
+    }
+}
+
+/// Prints a line of a text with a number or a name behind it.
+pub fn print<O: Write, D: Display + Copy + Drop>(
+    output: &mut O,
+    text: &str,
+    value: D,
+) -> Result<(), Stop> {
+    let mut out = Printer::new(output);
+    out.line(text, value);
+    out.end()
+}
