@@ -5,45 +5,32 @@ use bw_device::{NotMade, NotTaken};
 use bw_file::{FolderFault, NotOpened};
 use bw_store::{ReadFault, StoreFault};
 use std::alloc::{AllocError, AllocFailed};
-use std::fmt::{self, Display, Formatter};
+use thiserror::Error;
 
-#[derive(Clone, Copy)]
+#[derive(Clone, Copy, Debug, Error)]
 pub enum Stop {
     /// The command line is no parse. Its text was printed.
+    #[error("see --help")]
     Usage,
+    #[error("out of memory")]
     NoMemory,
     /// The store, its log or its segments refused.
+    #[error("refused: {0}")]
     Refused(StoreFault),
     /// A folder or a file was not opened.
+    #[error("refused: {0}")]
     Folder(FolderFault),
     /// Something else was refused.
+    #[error("refused: {0}")]
     Failed(&'static str),
     /// So many keys read back otherwise than they were put.
+    #[error("wrong values: {0}")]
     Wrong(u64),
     /// The clock, or a write.
+    #[error("the clock or an output failed")]
     Output,
+    #[error("no thread could be made")]
     Thread,
-}
-
-/// A text, and what it is of.
-fn told<W: fmt::Write, D: Display>(f: &mut Formatter<W>, text: &str, what: &D) -> fmt::Result {
-    f.write_str(text)?;
-    what.fmt(f)
-}
-
-impl Display for Stop {
-    fn fmt<W: fmt::Write>(&self, f: &mut Formatter<W>) -> fmt::Result {
-        match self {
-            Stop::Usage => f.write_str("see --help"),
-            Stop::NoMemory => f.write_str("out of memory"),
-            Stop::Refused(fault) => told(f, "refused: ", fault),
-            Stop::Folder(fault) => told(f, "refused: ", fault),
-            Stop::Failed(what) => told(f, "refused: ", what),
-            Stop::Wrong(count) => told(f, "wrong values: ", count),
-            Stop::Output => f.write_str("the clock or an output failed"),
-            Stop::Thread => f.write_str("no thread could be made"),
-        }
-    }
 }
 
 impl Stop {

@@ -4,10 +4,11 @@ use bw_care::RecoverCause;
 use bw_device::{NotMade, NotTaken};
 use bw_store::StoreFault;
 use std::alloc::{AllocError, AllocFailed};
+use std::error::Error;
 use std::fmt::{self, Display, Formatter};
 
 /// A refused call. Its `Display` is the line that the program prints.
-#[derive(Clone, Copy)]
+#[derive(Debug, Clone, Copy)]
 pub enum Refusal {
     /// A growth was refused in that call.
     NoMemory,
@@ -76,6 +77,8 @@ impl Display for Refusal {
         }
     }
 }
+
+impl Error for Refusal {}
 
 impl From<AllocError> for Refusal {
     fn from(_error: AllocError) -> Refusal {

@@ -1,40 +1,33 @@
 //! One line of a script: a command, nothing, or a fault.
 
 use bw_codec::{Key, Record, Value};
-use std::fmt::{self, Display, Formatter};
+use thiserror::Error;
 
 /// The most bytes of a line that is not skipped.
 pub const LONGEST: u32 = 4096;
 
 /// Why a line is no command, or no segment of a scan. Where a line has two faults, the one that
 /// stands first here is told.
-#[derive(Clone, Copy)]
+#[derive(Debug, Clone, Copy, Error)]
 pub enum Fault {
     /// Over 4,096 bytes; of a scan over 2,097,152.
+    #[error("line too long")]
     LineTooLong,
     /// A byte outside 0x20 to 0x7e.
+    #[error("bad byte")]
     BadByte,
     /// The first word is no command.
+    #[error("unknown command")]
     UnknownCommand,
     /// The command takes more words, or fewer.
+    #[error("wrong number of words")]
     WrongNumberOfWords,
     /// A number's word is no number, or out of range there.
+    #[error("bad number")]
     BadNumber,
     /// A key's or value's word is no hex, or of a length out of range; a line of a scan is no hex.
+    #[error("bad word")]
     BadWord,
-}
-
-impl Display for Fault {
-    fn fmt<W: fmt::Write>(&self, f: &mut Formatter<W>) -> fmt::Result {
-        f.write_str(match self {
-            Fault::LineTooLong => "line too long",
-            Fault::BadByte => "bad byte",
-            Fault::UnknownCommand => "unknown command",
-            Fault::WrongNumberOfWords => "wrong number of words",
-            Fault::BadNumber => "bad number",
-            Fault::BadWord => "bad word",
-        })
-    }
 }
 
 /// What a line asks for.
