@@ -93,9 +93,7 @@ fn around(
     after: &str,
 ) -> Result<Vec<u8>, AllocError> {
     let mut script = Vec::from_slice(alloc, before.as_bytes())?;
-    for _ in 0..count {
-        script.push(byte)?;
-    }
+    script.resize(before.len().saturating_add(count), byte)?;
     script.extend_from_slice(after.as_bytes())?;
     Ok(script)
 }
@@ -125,21 +123,21 @@ fn flush_answers<R: Host>(
     words: &[&str],
     count: usize,
     output: &str,
-) -> Result<bool, AllocError> {
+) -> Result<bool, Fail> {
     let line = around(rt.alloc(), "put 0 k ", b'v', 128, "\n")?;
     let script = repeated(rt.alloc(), line.as_slice(), count, "flush\n")?;
     Ok(prints_last(rt, words, script.as_slice(), output))
 }
 
-/// Whether a script of so many times a byte between two texts ends so.
-fn long_ends<R: Host>(
+/// Whether a script that was made ends so without options.
+fn made_ends<R: Host>(
     rt: &R,
-    (before, byte, count, after): (&str, u8, usize, &str),
+    script: Result<Vec<u8>, AllocError>,
     status: u8,
     output: &str,
     errors: &str,
-) -> Result<bool, AllocError> {
-    let script = around(rt.alloc(), before, byte, count, after)?;
+) -> Result<bool, Fail> {
+    let script = script?;
     Ok(ends(rt, PLAIN, &mut script.as_slice(), status, output, errors))
 }
 
@@ -151,51 +149,69 @@ fn repeated_ends<R: Host>(
     count: usize,
     status: u8,
     output: &str,
-) -> Result<bool, AllocError> {
+) -> Result<bool, Fail> {
     let script = repeated(rt.alloc(), line.as_bytes(), count, "")?;
     Ok(ends(rt, words, &mut script.as_slice(), status, output, ""))
 }
 
-/// Whether the row goes as told.
-fn goes<R: Host>(rt: &R, row: &Row) -> Result<bool, AllocError> {
+/// Whether a row of one text goes as told.
+fn text_goes<R: Host>(rt: &R, row: &Row) -> bool {
     match row {
-        Row::Prints(script, status, output) => {
-            Ok(text_ends(rt, PLAIN, script, *status, output, ""))
-        }
-        Row::Fault(script, output, errors) => Ok(text_ends(rt, PLAIN, script, 3, output, errors)),
-        Row::Long(before, byte, count, after, output) => {
-            long_ends(rt, (before, *byte, *count, after), 0, output, "")
-        }
-        Row::LongFault(before, byte, count, after, errors) => {
-            long_ends(rt, (before, *byte, *count, after), 3, "", errors)
-        }
-        Row::Records(words, count, output) => flush_answers(rt, words, *count, output),
+        Row::Prints(script, status, output) => text_ends(rt, PLAIN, script, *status, output, ""),
+        Row::Fault(script, output, errors) => text_ends(rt, PLAIN, script, 3, output, errors),
         Row::Under(words, script, status, output) => {
-            Ok(text_ends(rt, words, script, *status, output, ""))
+            text_ends(rt, words, script, *status, output, "")
         }
-        Row::UnderFault(words, script, errors) => {
-            Ok(text_ends(rt, words, script, 3, "", errors))
+        Row::UnderFault(words, script, errors) => text_ends(rt, words, script, 3, "", errors),
+        Row::NoParse(words) => is_no_parse(rt, words),
+        _ => false,
+    }
+}
+
+/// What is asked in one row of a table.
+trait Case {
+    /// Whether the row goes as told.
+    fn goes<R: Host>(&self, rt: &R) -> Result<bool, Fail>;
+}
+
+impl Case for Row {
+    fn goes<R: Host>(&self, rt: &R) -> Result<bool, Fail> {
+        match self {
+            Row::Long(before, byte, count, after, output) => {
+                let script = around(rt.alloc(), before, *byte, *count, after);
+                made_ends(rt, script, 0, output, "")
+            }
+            Row::LongFault(before, byte, count, after, errors) => {
+                let script = around(rt.alloc(), before, *byte, *count, after);
+                made_ends(rt, script, 3, "", errors)
+            }
+            Row::Records(words, count, output) => flush_answers(rt, words, *count, output),
+            Row::Repeated(words, line, count, status, output) => {
+                repeated_ends(rt, words, line, *count, *status, output)
+            }
+            _ => Ok(text_goes(rt, self)),
         }
-        Row::Repeated(words, line, count, status, output) => {
-            repeated_ends(rt, words, line, *count, *status, output)
-        }
-        Row::NoParse(words) => Ok(is_no_parse(rt, words)),
     }
 }
 
 /// How many of the rows went as told before one did not.
-fn walked<R: Host>(rt: &R, rows: &[Row]) -> Result<usize, AllocError> {
+fn walked<R: Host, C: Case>(rt: &R, rows: &[C]) -> Result<usize, Fail> {
     for (i, row) in rows.iter().enumerate() {
-        if !goes(rt, row)? {
+        if !row.goes(rt)? {
             return Ok(i);
         }
     }
     Ok(rows.len())
 }
 
-/// All rows go as told.
-fn go_as_told<R: Host + Abort>(rt: &R, rows: &[Row]) -> Result<(), Fail> {
+/// All of so many rows went as told, and none of them otherwise.
+fn all_went<R: Abort>(rt: &R, went: usize, all: usize, place: &str) {
+    assert_eq!(rt; went, all, "in {place}");
+}
+
+/// All rows of the table go as told.
+fn go_as_told<R: Host + Abort, C: Case>(rt: &R, table: &str, rows: &[C]) -> Result<(), Fail> {
     let went = walked(rt, rows)?;
-    assert_eq!(rt; went, rows.len());
+    all_went(rt, went, rows.len(), table);
     Ok(())
 }

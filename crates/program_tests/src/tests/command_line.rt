@@ -122,5 +122,5 @@ const COMMAND_LINES: &[Row] = &[
 
 #[test]
 fn command_lines_are_answered(rt: HostRuntime) -> Result<(), Fail> {
-    go_as_told(&rt, COMMAND_LINES)
+    go_as_told(&rt, "command lines", COMMAND_LINES)
 }

@@ -85,5 +85,5 @@ const FAULTS: &[Row] = &[
 
 #[test]
 fn a_fault_ends_the_script(rt: HostRuntime) -> Result<(), Fail> {
-    go_as_told(&rt, FAULTS)
+    go_as_told(&rt, "faults", FAULTS)
 }

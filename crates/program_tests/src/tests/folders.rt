@@ -1,6 +1,6 @@
 //! Runs one after the other over one folder: what a run leaves, the next one finds.
 
-use super::{prints_last, text_ends};
+use super::{Case, go_as_told, prints_last, text_ends};
 use bw_file::Folder;
 use bw_script::Host;
 use std::fs::{self, OpenOptions};
@@ -329,80 +329,72 @@ const UNOPENED: &[Step] = &[
     ),
 ];
 
-fn make<R: Host>(rt: &R, path: &str) -> io::Result<bool> {
-    fs::create_dir(rt, path)?;
-    Ok(true)
-}
-
-fn write<R: Host>(rt: &R, path: &str, text: &str) -> io::Result<bool> {
-    fs::write(rt, path, text.as_bytes())?;
-    Ok(true)
-}
-
-fn lengthen<R: Host>(rt: &R, path: &str, len: u64) -> io::Result<bool> {
+fn lengthen<R: Host>(rt: &R, path: &str, len: u64) -> io::Result<()> {
     let file = OpenOptions::new().write(true).open(rt, path)?;
-    file.set_len(len)?;
-    Ok(true)
+    file.set_len(len)
 }
 
-fn holds<R: Host>(rt: &R, path: &str, text: &str) -> io::Result<bool> {
-    Ok(fs::read(rt, path)?.as_slice() == text.as_bytes())
-}
-
-/// Whether a run ends so while the folder that its last word names is open here.
-fn ends_beside<R: Host>(rt: &R, words: &[&str], status: u8, errors: &str) -> bool {
-    let path = words.last().copied().unwrap_or("");
-    match Folder::open(rt, path) {
-        Ok(_held) => text_ends(rt, words, "", status, "", errors),
+fn holds<R: Host>(rt: &R, path: &str, text: &str) -> bool {
+    match fs::read(rt, path) {
+        Ok(bytes) => bytes.as_slice() == text.as_bytes(),
         Err(_) => false,
     }
 }
 
-/// Whether the step goes as told.
-fn goes<R: Host>(rt: &R, step: &Step) -> io::Result<bool> {
+/// The folder that a run's last word names.
+fn last<'a>(words: &[&'a str]) -> &'a str {
+    words.last().copied().unwrap_or("")
+}
+
+/// Whether a run ends so while the folder that its last word names is open here.
+fn ends_beside<R: Host>(rt: &R, words: &[&str], status: u8, errors: &str) -> bool {
+    let held = Folder::open(rt, last(words));
+    held.is_ok() & text_ends(rt, words, "", status, "", errors)
+}
+
+/// Whether a step of one who stands outside goes as told.
+fn goes_outside<R: Host>(rt: &R, step: &Step) -> bool {
     match step {
-        Run(words, script, status, output, errors) => {
-            Ok(text_ends(rt, words, script, *status, output, errors))
-        }
-        Last(words, script, output) => Ok(prints_last(rt, words, script.as_bytes(), output)),
-        Beside(words, status, errors) => Ok(ends_beside(rt, words, *status, errors)),
-        Make(path) => make(rt, path),
-        Write(path, text) => write(rt, path, text),
-        Lengthen(path, len) => lengthen(rt, path, *len),
+        Make(path) => fs::create_dir(rt, path).is_ok(),
+        Write(path, text) => fs::write(rt, path, text.as_bytes()).is_ok(),
+        Lengthen(path, len) => lengthen(rt, path, *len).is_ok(),
         Holds(path, text) => holds(rt, path, text),
+        _ => false,
     }
 }
 
-/// How many of the steps went as told before one did not, in a folder that was not there.
-fn walked<R: Host>(rt: &R, path: &str, steps: &[Step]) -> io::Result<usize> {
-    let _ = fs::remove_dir_all(rt, path);
-    for (i, step) in steps.iter().enumerate() {
-        if !goes(rt, step)? {
-            return Ok(i);
+impl Case for Step {
+    fn goes<R: Host>(&self, rt: &R) -> Result<bool, Fail> {
+        match self {
+            Run(words, script, status, output, errors) => {
+                Ok(text_ends(rt, words, script, *status, output, errors))
+            }
+            Last(words, script, output) => Ok(prints_last(rt, words, script.as_bytes(), output)),
+            Beside(words, status, errors) => Ok(ends_beside(rt, words, *status, errors)),
+            _ => Ok(goes_outside(rt, self)),
         }
     }
-    let _ = fs::remove_dir_all(rt, path);
-    Ok(steps.len())
 }
 
-/// All steps go as told.
-fn go_as_told<R: Host + Abort>(rt: &R, path: &str, steps: &[Step]) -> Result<(), Fail> {
-    let went = walked(rt, path, steps)?;
-    assert_eq!(rt; went, steps.len(), "in {path}");
+/// All steps go as told, in a folder that was not there.
+fn go_from_new<R: Host + Abort>(rt: &R, path: &str, steps: &[Step]) -> Result<(), Fail> {
+    let _ = fs::remove_dir_all(rt, path);
+    go_as_told(rt, path, steps)?;
+    let _ = fs::remove_dir_all(rt, path);
     Ok(())
 }
 
 #[test]
 fn a_folder_keeps_what_was_flushed(rt: HostRuntime) -> Result<(), Fail> {
-    go_as_told(&rt, "kept", KEPT)?;
-    go_as_told(&rt, "given_up", GIVEN_UP)?;
-    go_as_told(&rt, "limits", LIMITS)?;
-    go_as_told(&rt, "written", WRITTEN)?;
-    go_as_told(&rt, "tended", TENDED)
+    go_from_new(&rt, "kept", KEPT)?;
+    go_from_new(&rt, "given_up", GIVEN_UP)?;
+    go_from_new(&rt, "limits", LIMITS)?;
+    go_from_new(&rt, "written", WRITTEN)?;
+    go_from_new(&rt, "tended", TENDED)
 }
 
 #[test]
 fn a_folder_that_cannot_be_gone_on_from_stays(rt: HostRuntime) -> Result<(), Fail> {
-    go_as_told(&rt, "hostile", HOSTILE)?;
-    go_as_told(&rt, "unopened", UNOPENED)
+    go_from_new(&rt, "hostile", HOSTILE)?;
+    go_from_new(&rt, "unopened", UNOPENED)
 }

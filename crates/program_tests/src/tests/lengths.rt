@@ -72,5 +72,5 @@ const LENGTHS: &[Row] = &[
 
 #[test]
 fn lengths_of_lines_words_and_frames_are_bounded(rt: HostRuntime) -> Result<(), Fail> {
-    go_as_told(&rt, LENGTHS)
+    go_as_told(&rt, "lengths", LENGTHS)
 }

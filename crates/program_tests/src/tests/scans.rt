@@ -1,21 +1,31 @@
 //! Segments in hex, and what a scan prints of them.
 
-use super::ends;
+use super::{Case, ends, go_as_told};
 use bw_script::Host;
 use std::alloc::{AllocError, Global};
-use std::process::Abort;
 use std::test::*;
+
+/// What a line is made of: one of the segments below, or a text.
+#[derive(Drop)]
+enum Text {
+    First,
+    Second,
+    Older,
+    Newer,
+    Greatest,
+    This(&'static str),
+}
 
 /// One line of a scan, or many.
 #[derive(Drop)]
 enum Line {
-    Whole(&'static str),
+    Whole(Text),
     /// So many bytes of a segment, from the first on.
-    Cut(&'static str, usize),
+    Cut(Text, usize),
     /// A segment with other bytes from an offset on.
-    With(&'static str, usize, &'static str),
+    With(Text, usize, &'static str),
     /// A segment with more behind.
-    Behind(&'static str, &'static str),
+    Behind(Text, &'static str),
     /// So many lines of this text.
     Lines(&'static str, usize),
     /// One line of this text so many times.
@@ -27,6 +37,7 @@ enum Line {
 struct Row(&'static [Line], u8, &'static str, &'static str);
 
 use Line::{Behind, Cut, Lines, Long, Whole, With};
+use Text::{First, Greatest, Newer, Older, Second, This};
 
 /// One frame: the empty page 1, and a record that puts k=v.
 const FIRST: &str =
@@ -70,70 +81,70 @@ const BAD_FRAME: &str = "refused E13 BadBytes segment 0 at 24\n";
 /// bytes and a part of a header.
 const WORKED: &[Row] = &[
     Row(&[], 4, "refused E12 Empty\n", ""),
-    Row(&[Whole("")], 4, "refused E12 Empty\n", ""),
-    Row(&[Whole(FIRST)], 0, ONE, ""),
+    Row(&[Whole(This(""))], 4, "refused E12 Empty\n", ""),
+    Row(&[Whole(First)], 0, ONE, ""),
     Row(
-        &[Whole(SECOND)],
+        &[Whole(Second)],
         0,
         "segments 1 spares 0 dropped 0\nframes 1 5 tail 0\npage 1 low 0x pairs 2 a=1 b=2\n\
          page 2 low c pairs 3 c=3 d=4 e=5\n",
         "",
     ),
     Row(
-        &[Cut(SECOND, 288)],
+        &[Cut(Second, 288)],
         0,
         "segments 1 spares 0 dropped 0\nframes 1 4 tail 80\n\
          page 1 low 0x pairs 4 a=1 b=2 c=3 d=4\n",
         "",
     ),
-    Row(&[Cut(SECOND, 75)], 4, "refused E12 Empty\n", ""),
-    Row(&[Cut(SECOND, 24)], 4, "refused E12 Empty\n", ""),
-    Row(&[Cut(SECOND, 23)], 4, "refused E12 Empty\n", ""),
+    Row(&[Cut(Second, 75)], 4, "refused E12 Empty\n", ""),
+    Row(&[Cut(Second, 24)], 4, "refused E12 Empty\n", ""),
+    Row(&[Cut(Second, 23)], 4, "refused E12 Empty\n", ""),
     Row(
-        &[Whole(GREATEST)],
+        &[Whole(Greatest)],
         0,
         "segments 1 spares 0 dropped 0\n\
          frames 18446744073709551615 18446744073709551615 tail 0\npage 1 low 0x pairs 0\n",
         "",
     ),
-    Row(&[With(FIRST, 27, "32")], 4, BAD_FRAME, ""),
+    Row(&[With(First, 27, "32")], 4, BAD_FRAME, ""),
     Row(
-        &[Behind(FIRST, "58")],
+        &[Behind(First, "58")],
         4,
         "refused E13 BadBytes segment 0 at 76\n",
         "",
     ),
     Row(
-        &[Behind(FIRST, "46")],
+        &[Behind(First, "46")],
         0,
         "segments 1 spares 0 dropped 0\nframes 1 1 tail 1\npage 1 low 0x pairs 1 k=v\n",
         "",
     ),
-    Row(&[Whole(OLDER), Whole(NEWER)], 0, CLEANED, ""),
-    Row(&[Whole(NEWER), Whole(OLDER)], 0, CLEANED, ""),
-    Row(&[Whole(OLDER)], 4, "refused E17 Unlawful page 1\n", ""),
+    Row(&[Whole(Older), Whole(Newer)], 0, CLEANED, ""),
+    Row(&[Whole(Newer), Whole(Older)], 0, CLEANED, ""),
+    Row(&[Whole(Older)], 4, "refused E17 Unlawful page 1\n", ""),
     Row(
-        &[Whole(OLDER), Cut(NEWER, 103)],
+        &[Whole(Older), Cut(Newer, 103)],
         4,
         "refused E17 Unlawful page 1\n",
         "",
     ),
-    Row(&[Whole(OLDER), Whole(OLDER)], 4, "refused E14 Gap\n", ""),
+    Row(&[Whole(Older), Whole(Older)], 4, "refused E14 Gap\n", ""),
     Row(
-        &[Whole(FIRST), Whole(OLDER)],
+        &[Whole(First), Whole(Older)],
         0,
         "segments 2 spares 0 dropped 0\nframes 1 2 tail 0\npage 1 low 0x pairs 2 j=2 k=v\n",
         "",
     ),
     Row(
-        &[Whole(""), Whole(FIRST), Whole("42574c")],
+        &[Whole(This("")), Whole(First), Whole(This("42574c"))],
         0,
         "segments 1 spares 1 dropped 1\nframes 1 1 tail 0\npage 1 low 0x pairs 1 k=v\n",
         "",
     ),
     // Hex is read in either case.
     Row(
-        &[With(FIRST, 2, "4C4F"), Whole("\r")],
+        &[With(First, 2, "4C4F"), Whole(This("\r"))],
         0,
         "segments 1 spares 1 dropped 0\nframes 1 1 tail 0\npage 1 low 0x pairs 1 k=v\n",
         "",
@@ -143,46 +154,46 @@ const WORKED: &[Row] = &[
 /// Bytes that no store writes.
 const HOSTILE: &[Row] = &[
     Row(
-        &[With(FIRST, 16, "03")],
+        &[With(First, 16, "03")],
         4,
         "refused E13 BadBytes segment 0 at 0\n",
         "",
     ),
     Row(
-        &[Whole(FIRST), With(OLDER, 27, "32")],
+        &[Whole(First), With(Older, 27, "32")],
         4,
         "refused E13 BadBytes segment 1 at 24\n",
         "",
     ),
-    Row(&[With(FIRST, 36, "ffffffff")], 4, BAD_FRAME, ""),
-    Row(&[With(FIRST, 40, "ffffffff")], 4, BAD_FRAME, ""),
-    Row(&[Whole(FIRST), Whole(NEWER)], 4, "refused E14 Gap\n", ""),
+    Row(&[With(First, 36, "ffffffff")], 4, BAD_FRAME, ""),
+    Row(&[With(First, 40, "ffffffff")], 4, BAD_FRAME, ""),
+    Row(&[Whole(First), Whole(Newer)], 4, "refused E14 Gap\n", ""),
     Row(
-        &[Whole(FIRST), With(OLDER, 16, "05")],
+        &[Whole(First), With(Older, 16, "05")],
         4,
         "refused E15 Mixed\n",
         "",
     ),
     Row(
-        &[Whole(FIRST), With(OLDER, 57, "00")],
+        &[Whole(First), With(Older, 57, "00")],
         4,
         "refused E16 BadLink page 1\n",
         "",
     ),
     Row(
-        &[With(FIRST, 53, "03")],
+        &[With(First, 53, "03")],
         4,
         "refused E16 BadLink page 3\n",
         "",
     ),
     Row(
-        &[With(GREATEST, 45, "02")],
+        &[With(Greatest, 45, "02")],
         4,
         "refused E17 Unlawful page 1\n",
         "",
     ),
     Row(
-        &[With(GREATEST, 45, "ffffffff")],
+        &[With(Greatest, 45, "ffffffff")],
         4,
         "refused E17 Unlawful page 1\n",
         "",
@@ -198,17 +209,17 @@ const HOSTILE: &[Row] = &[
 
 /// Lines that are no segment, and more of them than there are leases.
 const FAULTS: &[Row] = &[
-    Row(&[Whole("zz")], 3, "", "script line 1: bad word\n"),
-    Row(&[Whole("4")], 3, "", "script line 1: bad word\n"),
-    Row(&[Whole("0x42")], 3, "", "script line 1: bad word\n"),
-    Row(&[Whole("42 57")], 3, "", "script line 1: bad word\n"),
+    Row(&[Whole(This("zz"))], 3, "", "script line 1: bad word\n"),
+    Row(&[Whole(This("4"))], 3, "", "script line 1: bad word\n"),
+    Row(&[Whole(This("0x42"))], 3, "", "script line 1: bad word\n"),
+    Row(&[Whole(This("42 57"))], 3, "", "script line 1: bad word\n"),
     Row(
-        &[Whole(FIRST), Whole("# a")],
+        &[Whole(First), Whole(This("# a"))],
         3,
         "",
         "script line 2: bad word\n",
     ),
-    Row(&[Whole("42\t")], 3, "", "script line 1: bad byte\n"),
+    Row(&[Whole(This("42\t"))], 3, "", "script line 1: bad byte\n"),
     Row(
         &[Long("58", 1_048_576), Long("586", 699_051)],
         3,
@@ -226,7 +237,7 @@ const FAULTS: &[Row] = &[
     Row(&[Lines("", 66)], 4, "refused E20 NoLease\n", ""),
     // A line that is no segment asks for no lease.
     Row(
-        &[Lines("", 64), Whole("zz")],
+        &[Lines("", 64), Whole(This("zz"))],
         3,
         "",
         "script line 65: bad word\n",
@@ -249,34 +260,61 @@ fn add_times(
     Ok(())
 }
 
-/// The digits of a segment with others from the byte at an offset on.
-fn add_with(input: &mut Vec<u8>, digits: &[u8], at: usize, with: &[u8]) -> Result<(), AllocError> {
-    let front = digits.len().min(at.saturating_mul(2));
-    let back = digits.len().min(front.saturating_add(with.len()));
-    input.extend_from_slice(&digits[..front])?;
-    input.extend_from_slice(with)?;
-    input.extend_from_slice(&digits[back..])?;
-    Ok(())
+fn digits(text: &Text) -> &'static [u8] {
+    let digits = match text {
+        First => FIRST,
+        Second => SECOND,
+        Older => OLDER,
+        Newer => NEWER,
+        Greatest => GREATEST,
+        This(digits) => *digits,
+    };
+    digits.as_bytes()
 }
 
-/// One line, without its end.
+/// So many digits, or all.
+fn until(digits: &[u8], count: usize) -> &[u8] {
+    &digits[..digits.len().min(count)]
+}
+
+/// The digits behind so many.
+fn behind(digits: &[u8], count: usize) -> &[u8] {
+    &digits[digits.len().min(count)..]
+}
+
+/// One line of three parts.
+fn add_line(
+    input: &mut Vec<u8>,
+    front: &[u8],
+    middle: &[u8],
+    back: &[u8],
+) -> Result<(), AllocError> {
+    input.extend_from_slice(front)?;
+    input.extend_from_slice(middle)?;
+    input.extend_from_slice(back)?;
+    Ok(input.push(b'\n')?)
+}
+
+/// One line, with other digits from the byte at an offset on.
+fn add_with(input: &mut Vec<u8>, digits: &[u8], at: usize, with: &[u8]) -> Result<(), AllocError> {
+    let front = at.saturating_mul(2);
+    let back = front.saturating_add(with.len());
+    add_line(input, until(digits, front), with, behind(digits, back))
+}
+
+/// One line, or as many as are told.
 fn add(input: &mut Vec<u8>, line: &Line) -> Result<(), AllocError> {
     match line {
-        Whole(hex) => input.extend_from_slice(hex.as_bytes())?,
-        Cut(hex, len) => {
-            let len = hex.len().min(len.saturating_mul(2));
-            input.extend_from_slice(&hex.as_bytes()[..len])?;
+        Whole(text) => add_line(input, digits(text), b"", b""),
+        Cut(text, len) => add_line(input, until(digits(text), len.saturating_mul(2)), b"", b""),
+        With(text, at, with) => add_with(input, digits(text), *at, with.as_bytes()),
+        Behind(text, more) => add_line(input, digits(text), more.as_bytes(), b""),
+        Lines(text, count) => add_times(input, text, *count, true),
+        Long(text, count) => {
+            add_times(input, text, *count, false)?;
+            Ok(input.push(b'\n')?)
         }
-        With(hex, at, with) => add_with(input, hex.as_bytes(), *at, with.as_bytes())?,
-        Behind(hex, more) => {
-            input.extend_from_slice(hex.as_bytes())?;
-            input.extend_from_slice(more.as_bytes())?;
-        }
-        Lines(text, count) => return add_times(input, text, *count, true),
-        Long(text, count) => add_times(input, text, *count, false)?,
     }
-    input.push(b'\n')?;
-    Ok(())
 }
 
 fn input_of(alloc: Global, lines: &[Line]) -> Result<Vec<u8>, AllocError> {
@@ -287,44 +325,28 @@ fn input_of(alloc: Global, lines: &[Line]) -> Result<Vec<u8>, AllocError> {
     Ok(input)
 }
 
-/// Whether the row goes as told.
-fn goes<R: Host>(rt: &R, row: &Row) -> Result<bool, AllocError> {
-    let Row(lines, status, output, errors) = row;
-    let input = input_of(rt.alloc(), *lines)?;
-    Ok(ends(
-        rt,
-        &["scan"],
-        &mut input.as_slice(),
-        *status,
-        output,
-        errors,
-    ))
-}
-
-/// How many of the rows went as told before one did not.
-fn walked<R: Host>(rt: &R, rows: &[Row]) -> Result<usize, AllocError> {
-    for (i, row) in rows.iter().enumerate() {
-        if !goes(rt, row)? {
-            return Ok(i);
-        }
+impl Case for Row {
+    fn goes<R: Host>(&self, rt: &R) -> Result<bool, Fail> {
+        let Row(lines, status, output, errors) = self;
+        let input = input_of(rt.alloc(), *lines)?;
+        Ok(ends(
+            rt,
+            &["scan"],
+            &mut input.as_slice(),
+            *status,
+            output,
+            errors,
+        ))
     }
-    Ok(rows.len())
-}
-
-/// All rows go as told.
-fn go_as_told<R: Host + Abort>(rt: &R, rows: &[Row]) -> Result<(), Fail> {
-    let went = walked(rt, rows)?;
-    assert_eq!(rt; went, rows.len());
-    Ok(())
 }
 
 #[test]
 fn scans_print_what_segments_hold(rt: HostRuntime) -> Result<(), Fail> {
-    go_as_told(&rt, WORKED)?;
-    go_as_told(&rt, HOSTILE)
+    go_as_told(&rt, "worked", WORKED)?;
+    go_as_told(&rt, "hostile", HOSTILE)
 }
 
 #[test]
 fn a_line_that_is_no_segment_ends_the_scan(rt: HostRuntime) -> Result<(), Fail> {
-    go_as_told(&rt, FAULTS)
+    go_as_told(&rt, "faults", FAULTS)
 }

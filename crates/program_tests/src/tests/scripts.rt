@@ -138,5 +138,5 @@ const SCRIPTS: &[Row] = &[
 
 #[test]
 fn scripts_print_their_answers(rt: HostRuntime) -> Result<(), Fail> {
-    go_as_told(&rt, SCRIPTS)
+    go_as_told(&rt, "scripts", SCRIPTS)
 }

@@ -1,10 +1,9 @@
 //! Streams that fail, once a row, and where the run ends then.
 
-use super::{PLAIN, ends};
+use super::{Case, PLAIN, ends, go_as_told};
 use bw_script::{Host, LONGEST, Lines, run};
 use std::alloc::Global;
 use std::io::{self, ErrorKind, Read, Write};
-use std::process::Abort;
 use std::test::*;
 
 /// Gives its text a byte a read, and fails each time at `cut`. With interruptions the first read of
@@ -121,7 +120,7 @@ fn are_read<R: Read + Drop>(lines: &mut Lines<R>, is_enough: bool) -> io::Result
     }
 }
 
-fn reads_end(alloc: Global, reads: u64, is_enough: bool) -> io::Result<bool> {
+fn reads_end(alloc: Global, reads: u64, is_enough: bool) -> Result<bool, Fail> {
     let mut input = Failing {
         text: b"a\nb",
         at: 0,
@@ -130,38 +129,22 @@ fn reads_end(alloc: Global, reads: u64, is_enough: bool) -> io::Result<bool> {
         is_interrupted: false,
     };
     let mut lines = Lines::new(alloc, &mut input, reads, LONGEST)?;
-    are_read(&mut lines, is_enough)
+    Ok(are_read(&mut lines, is_enough)?)
 }
 
-/// Whether the row goes as told.
-fn goes<R: Host>(rt: &R, row: &Row) -> io::Result<bool> {
-    match row {
-        Row::Input(cut, status, output, errors) => {
-            Ok(input_ends(rt, *cut, *status, output, errors))
-        }
-        Row::Output(script, left, can_flush, status) => {
-            Ok(output_ends(rt, script, *left, *can_flush, *status))
-        }
-        Row::Errors(word, script, status) => Ok(errors_end(rt, word, script, *status)),
-        Row::Reads(reads, is_enough) => reads_end(rt.alloc(), *reads, *is_enough),
-    }
-}
-
-/// How many of the rows went as told before one did not.
-fn walked<R: Host>(rt: &R, rows: &[Row]) -> io::Result<usize> {
-    for (i, row) in rows.iter().enumerate() {
-        if !goes(rt, row)? {
-            return Ok(i);
+impl Case for Row {
+    fn goes<R: Host>(&self, rt: &R) -> Result<bool, Fail> {
+        match self {
+            Row::Input(cut, status, output, errors) => {
+                Ok(input_ends(rt, *cut, *status, output, errors))
+            }
+            Row::Output(script, left, can_flush, status) => {
+                Ok(output_ends(rt, script, *left, *can_flush, *status))
+            }
+            Row::Errors(word, script, status) => Ok(errors_end(rt, word, script, *status)),
+            Row::Reads(reads, is_enough) => reads_end(rt.alloc(), *reads, *is_enough),
         }
     }
-    Ok(rows.len())
-}
-
-/// All rows go as told.
-fn go_as_told<R: Host + Abort>(rt: &R, rows: &[Row]) -> Result<(), Fail> {
-    let went = walked(rt, rows)?;
-    assert_eq!(rt; went, rows.len());
-    Ok(())
 }
 
 const STREAMS: &[Row] = &[
@@ -196,5 +179,5 @@ const STREAMS: &[Row] = &[
 
 #[test]
 fn a_failed_stream_ends_the_run(rt: HostRuntime) -> Result<(), Fail> {
-    go_as_told(&rt, STREAMS)
+    go_as_told(&rt, "streams", STREAMS)
 }

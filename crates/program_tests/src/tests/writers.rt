@@ -174,80 +174,85 @@ const FAULTS: &[Row] = &[
 
 #[test]
 fn runs_of_writers_print_what_they_left(rt: HostRuntime) -> Result<(), Fail> {
-    go_as_told(&rt, RUNS)?;
-    go_as_told(&rt, FAULTS)
+    go_as_told(&rt, "runs", RUNS)?;
+    go_as_told(&rt, "faults", FAULTS)
 }
 
-/// The puts of a number, of two writers in turn: the keys are the writer's letter and four digits,
-/// which are the value, too.
-fn add_puts(script: &mut Vec<u8>, number: u32) -> io::Result<()> {
-    writeln!(script, "put 0 a{number:04} {number:04}")?;
-    writeln!(script, "put 1 b{number:04} {number:04}")
+/// One line: a text, four digits, another text and the same digits.
+fn add_line(out: &mut Vec<u8>, before: &str, number: u32, between: &str) -> io::Result<()> {
+    writeln!(out, "{before}{number:04}{between}{number:04}")
 }
 
-/// So many puts of two writers.
+/// So many puts of two writers in turn: the keys are the writer's letter and four digits, which are
+/// the value, too.
 fn script_of(alloc: Global, count: u32) -> io::Result<Vec<u8>> {
     let mut script = Vec::new(alloc);
     for number in 0..count {
-        add_puts(&mut script, number)?;
+        add_line(&mut script, "put 0 a", number, " ")?;
+        add_line(&mut script, "put 1 b", number, " ")?;
     }
     Ok(script)
 }
 
-/// What is printed before the pairs where all of these are accepted.
-fn add_counts(output: &mut Vec<u8>, count: u32) -> io::Result<()> {
-    let both = u64::from(count) * 2;
-    writeln!(output, "entries {both}")?;
-    writeln!(output, "writer 0 {count} of {count}")?;
-    writeln!(output, "writer 1 {count} of {count}")?;
-    writeln!(output, "pairs {both}")
-}
+/// What is printed before the pairs where a thousand puts of each are accepted.
+const COUNTS: &str = "entries 2000\nwriter 0 1000 of 1000\nwriter 1 1000 of 1000\npairs 2000\n";
 
 /// The pairs of a writer's letter.
-fn add_pairs(output: &mut Vec<u8>, letter: char, count: u32) -> io::Result<()> {
+fn add_pairs(output: &mut Vec<u8>, letter: &str, count: u32) -> io::Result<()> {
     for number in 0..count {
-        writeln!(output, "{letter}{number:04}={number:04}")?;
+        add_line(output, letter, number, "=")?;
     }
     Ok(())
 }
 
-/// What is printed where all of these are accepted.
-fn output_of(alloc: Global, count: u32) -> io::Result<Vec<u8>> {
-    let mut output = Vec::new(alloc);
-    add_counts(&mut output, count)?;
-    add_pairs(&mut output, 'a', count)?;
-    add_pairs(&mut output, 'b', count)?;
+/// What is printed where a thousand puts of each are accepted.
+fn output_of(alloc: Global) -> io::Result<Vec<u8>> {
+    let mut output = Vec::from_slice(alloc, COUNTS.as_bytes())?;
+    add_pairs(&mut output, "a", 1000)?;
+    add_pairs(&mut output, "b", 1000)?;
     Ok(output)
 }
 
-/// Whether all puts of two writers are accepted and printed.
-fn all_are_printed<R: Host>(rt: &R, words: &[&str], count: u32) -> io::Result<bool> {
-    let script = script_of(rt.alloc(), count)?;
-    let output = output_of(rt.alloc(), count)?;
-    let Ok(text) = std::str::from_utf8(output.as_slice()) else {
-        return Ok(false);
-    };
-    Ok(ends(rt, words, &mut script.as_slice(), 0, text, ""))
+/// Whether the script prints this, and tells nothing.
+fn prints<R: Host>(rt: &R, script: &[u8], output: &[u8]) -> bool {
+    match std::str::from_utf8(output) {
+        Ok(text) => {
+            let mut input = script;
+            ends(rt, &["threads"], &mut input, 0, text, "")
+        }
+        Err(_) => false,
+    }
+}
+
+/// Whether a thousand puts of each of two writers are accepted and printed.
+fn all_are_printed<R: Host>(rt: &R) -> io::Result<bool> {
+    let script = script_of(rt.alloc(), 1000)?;
+    let output = output_of(rt.alloc())?;
+    Ok(prints(rt, script.as_slice(), output.as_slice()))
 }
 
 #[test]
 fn two_writers_put_a_thousand_records_each(rt: HostRuntime) -> Result<(), Fail> {
-    assert!(rt; all_are_printed(&rt, &["threads"], 1000)?);
+    assert!(rt; all_are_printed(&rt)?);
     Ok(())
 }
 
-/// Whether one writer gave up, be it before the only turn or behind it.
-fn gives_up<R: Host>(rt: &R) -> bool {
-    let words = ["threads", "--writers=1", "--places=1", "--tries=1"];
-    let script = b"put 0 a 1\nput 0 b 2\nput 0 c 3\n".as_slice();
+const GIVES_UP: &[&str] = &["threads", "--writers=1", "--places=1", "--tries=1"];
+
+/// Whether this is printed where one writer gave up, be it before the only turn or behind it.
+fn is_given_up(printed: &[u8]) -> bool {
     let before = "entries 1\nwriter 0 1 of 3\npairs 1\na=1\n";
     let behind = "entries 2\nwriter 0 2 of 3\npairs 2\na=1\nb=2\n";
+    printed == before.as_bytes() || printed == behind.as_bytes()
+}
+
+/// Whether one writer gives up.
+fn gives_up<R: Host>(rt: &R) -> bool {
+    let mut input = b"put 0 a 1\nput 0 b 2\nput 0 c 3\n".as_slice();
     let mut printed = Vec::new(rt.alloc());
     let mut told = Vec::new(rt.alloc());
-    let mut input = script;
-    let answer = run(rt, &words, &mut input, &mut printed, &mut told);
-    let is_so = printed.as_slice() == before.as_bytes() || printed.as_slice() == behind.as_bytes();
-    (answer == 4) & is_so & told.is_empty()
+    let answer = run(rt, GIVES_UP, &mut input, &mut printed, &mut told);
+    (answer == 4) & is_given_up(printed.as_slice()) & told.is_empty()
 }
 
 #[test]

@@ -1,21 +1,24 @@
 //! Each call of the system failing in turn: it is told as the system's fault, and afterwards the step
 //! is done.
 
+use super::super::all_went;
 use super::steps::Act::{
     Append, Copy, Empty, Holds, Leave, Look, Open, Segment, Spare, Stop, Write,
 };
 use super::steps::Told::{Done, System};
-use super::steps::{Act, Row, Stand, Told, at, clear, goes, wrong_row};
+use super::steps::{Act, Row, Stand, Told, at, clear, goes, walked};
 use super::watched::Watched;
 use std::test::Fail;
 
-/// A step, what goes before it, how many calls it makes, and what goes after one of them failed.
+/// A name, what goes before a step, the step, how many calls it makes, and what goes after one of
+/// them failed.
 #[derive(Drop)]
-struct Trial(&'static [Row], Act, u64, &'static [Row]);
+struct Trial(&'static str, &'static [Row], Act, usize, &'static [Row]);
 
 const TRIALS: &[Trial] = &[
-    Trial(&[], Open, 6, &[Row(Open, Done, "doaool")]),
+    Trial("open", &[], Open, 6, &[Row(Open, Done, "doaool")]),
     Trial(
+        "segment",
         &[
             Row(Open, Done, "doaool"),
             Row(Write("segment-0000.bw", "abc"), Done, ""),
@@ -28,6 +31,7 @@ const TRIALS: &[Trial] = &[
         ],
     ),
     Trial(
+        "spare",
         &[
             Row(Open, Done, "doaool"),
             Row(Write("segment-0001.bw", "abc"), Done, ""),
@@ -40,6 +44,7 @@ const TRIALS: &[Trial] = &[
         ],
     ),
     Trial(
+        "empty",
         &[
             Row(Open, Done, "doaool"),
             Row(Write("segment-0000.bw", "abc"), Done, ""),
@@ -52,6 +57,7 @@ const TRIALS: &[Trial] = &[
         ],
     ),
     Trial(
+        "append",
         &[
             Row(Open, Done, "doaool"),
             Row(Segment(0, 64), Done, "olama"),
@@ -70,12 +76,14 @@ const TRIALS: &[Trial] = &[
         ],
     ),
     Trial(
+        "look",
         &[Row(Open, Done, "doaool"), Row(Leave, Done, "")],
         Look,
         3,
         &[Row(Look, Done, "pok")],
     ),
     Trial(
+        "copy",
         &[
             Row(Open, Done, "doaool"),
             Row(Leave, Done, ""),
@@ -89,7 +97,7 @@ const TRIALS: &[Trial] = &[
 ];
 
 fn all_go(rt: &Watched<HostRuntime>, stand: &mut Stand, rows: &[Row]) -> Result<bool, Fail> {
-    Ok(wrong_row(rt, stand, rows)?.is_none())
+    Ok(walked(rt, stand, rows)? == rows.len())
 }
 
 // How the step goes where its call of this number fails.
@@ -97,9 +105,9 @@ fn went(
     rt: &Watched<HostRuntime>,
     stand: &mut Stand,
     act: &Act,
-    number: u64,
+    number: usize,
 ) -> Result<Told, Fail> {
-    rt.watch().fail_after(number, 0);
+    rt.watch().fail_after(number as u64, 0);
     let went = goes(rt, stand, act)?;
     rt.watch().heal();
     rt.watch().take_letters();
@@ -112,9 +120,9 @@ fn is_fault(
     rt: &Watched<HostRuntime>,
     stand: &mut Stand,
     trial: &Trial,
-    number: u64,
+    number: usize,
 ) -> Result<bool, Fail> {
-    let Trial(before, act, calls, after) = trial;
+    let Trial(_, before, act, calls, after) = trial;
     let made = all_go(rt, stand, *before)?;
     let went = went(rt, stand, act, number)?;
     if number == *calls {
@@ -126,29 +134,45 @@ fn is_fault(
     all_go(rt, stand, *after)
 }
 
-// The same in a folder of its own.
-fn is_told(rt: HostRuntime, path: &'static str, trial: &Trial, number: u64) -> Result<bool, Fail> {
-    clear(rt, path);
-    let watched = Watched::new(rt)?;
+// The same where nothing stands yet.
+fn is_fault_from_none(
+    rt: &Watched<HostRuntime>,
+    path: &'static str,
+    trial: &Trial,
+    number: usize,
+) -> Result<bool, Fail> {
     let mut stand = at(path);
-    is_fault(&watched, &mut stand, trial, number)
+    is_fault(rt, &mut stand, trial, number)
 }
 
-// The first call that was not told.
-fn wrong_call(rt: HostRuntime, path: &'static str, trial: &Trial) -> Result<Option<u64>, Fail> {
-    for number in 0..=trial.2 {
+// The same in a folder of its own.
+fn is_told(
+    rt: HostRuntime,
+    path: &'static str,
+    trial: &Trial,
+    number: usize,
+) -> Result<bool, Fail> {
+    clear(rt, path);
+    let watched = Watched::new(rt)?;
+    is_fault_from_none(&watched, path, trial, number)
+}
+
+// How many calls were told before one was not; one more than the step makes where all were.
+fn told(rt: HostRuntime, path: &'static str, trial: &Trial) -> Result<usize, Fail> {
+    for number in 0..=trial.3 {
         if !is_told(rt, path, trial, number)? {
-            return Ok(Some(number));
+            return Ok(number);
         }
     }
     clear(rt, path);
-    Ok(None)
+    Ok(trial.3.saturating_add(1))
 }
 
 #[test]
 fn each_failed_call_is_told(rt: HostRuntime) -> Result<(), Fail> {
-    for (i, trial) in TRIALS.iter().enumerate() {
-        assert_eq!(rt; wrong_call(rt, "failing", trial)?, None, "in trial {i}");
+    for trial in TRIALS {
+        let told = told(rt, "failing", trial)?;
+        all_went(&rt, told, trial.3.saturating_add(1), trial.0);
     }
     Ok(())
 }

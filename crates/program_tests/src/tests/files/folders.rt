@@ -2,12 +2,13 @@
 //! l takes a lock, k takes one beside other readers, m asks for a length, r reads, w writes, c cuts,
 //! s waits until the bytes stand, a until the length or the name stands too.
 
+use super::super::all_went;
 use super::steps::Act::{
     Append, Copy, Empty, Fail as Failing, File, Full, Holds, Leave, Lengthen, Look, LookAway, Make,
     NoFile, Open, Segment, Spare, Stop, Write,
 };
 use super::steps::Told::{BadConfig, Done, InUse, No, System, TooLong};
-use super::steps::{Act, Row, at, clear, wrong_row};
+use super::steps::{Act, Row, at, clear, walked};
 use super::watched::Watched;
 use bw_device::MAX_CAPACITY;
 use std::process::Abort;
@@ -162,11 +163,14 @@ const FULL: &[Row] = &[
     Row(File("segment-0000.bw", "abc"), Done, ""),
 ];
 
-// The first row that did not go as told, where nothing stands yet.
-fn walked(rt: HostRuntime, path: &'static str, rows: &[Row]) -> Result<Option<usize>, Fail> {
-    let watched = Watched::new(rt)?;
+// How many of the rows went as told, where nothing stands yet.
+fn walked_from_none(
+    rt: &Watched<HostRuntime>,
+    path: &'static str,
+    rows: &[Row],
+) -> Result<usize, Fail> {
     let mut stand = at(path);
-    wrong_row(&watched, &mut stand, rows)
+    walked(rt, &mut stand, rows)
 }
 
 // Each of the rows goes as told, in a folder of their own.
@@ -177,9 +181,10 @@ fn go_as_told<R: Abort>(
     rows: &[Row],
 ) -> Result<(), Fail> {
     clear(rt, path);
-    let wrong = walked(rt, path, rows)?;
+    let watched = Watched::new(rt)?;
+    let went = walked_from_none(&watched, path, rows)?;
     clear(rt, path);
-    assert_eq!(test; wrong, None, "in {path}");
+    all_went(test, went, rows.len(), path);
     Ok(())
 }
 

@@ -1,6 +1,7 @@
 //! Which leases have a file: by the names of the files alone.
 
-use bw_file::{Folder, FolderReader};
+use super::steps::{clear, path_of};
+use bw_file::{Folder, FolderFault, FolderReader};
 use std::fs;
 use std::test::Fail;
 
@@ -20,7 +21,7 @@ const NAMES: &[&str] = &[
 ];
 
 fn write_one(rt: &HostRuntime, path: &str, name: &str) -> Result<(), Fail> {
-    let file = format!(in rt.alloc(); "{path}/{name}")?;
+    let file = path_of(rt.alloc(), path, name)?;
     Ok(fs::write(rt, file.as_str(), "")?)
 }
 
@@ -31,28 +32,41 @@ fn write_all(rt: &HostRuntime, path: &str) -> Result<(), Fail> {
     Ok(())
 }
 
+// Whether there are files for these leases.
+fn are_so(leases: Result<Vec<u32>, FolderFault>, told: &[u32]) -> bool {
+    match leases {
+        Ok(leases) => leases.as_slice() == told,
+        Err(_) => false,
+    }
+}
+
 // Whether a folder that is open has files for these leases.
-fn has(rt: &HostRuntime, path: &str, told: &[u32]) -> Result<bool, Fail> {
-    let folder = Folder::open(rt, path)?;
-    let leases = folder.leases(rt)?;
-    Ok(leases.as_slice() == told)
+fn has(rt: &HostRuntime, path: &str, told: &[u32]) -> bool {
+    match Folder::open(rt, path) {
+        Ok(folder) => are_so(folder.leases(rt), told),
+        Err(_) => false,
+    }
 }
 
 // The same of one that is only looked at.
-fn shows(rt: &HostRuntime, path: &str, told: &[u32]) -> Result<bool, Fail> {
-    let reader = FolderReader::open(rt, path)?;
-    let leases = reader.leases(rt)?;
-    Ok(leases.as_slice() == told)
+fn shows(rt: &HostRuntime, path: &str, told: &[u32]) -> bool {
+    match FolderReader::open(rt, path) {
+        Ok(reader) => are_so(reader.leases(rt), told),
+        Err(_) => false,
+    }
+}
+
+// The same of both.
+fn are_listed(rt: &HostRuntime, path: &str, told: &[u32]) -> bool {
+    has(rt, path, told) && shows(rt, path, told)
 }
 
 #[test]
 fn the_leases_with_a_file_are_listed(rt: HostRuntime) -> Result<(), Fail> {
-    let _ = fs::remove_dir_all(&rt, "listed");
-    assert!(rt; has(&rt, "listed", &[])?);
-    assert!(rt; shows(&rt, "listed", &[])?);
+    clear(rt, "listed");
+    assert!(rt; are_listed(&rt, "listed", &[]));
     write_all(&rt, "listed")?;
-    assert!(rt; has(&rt, "listed", &[0, 7, 4095])?);
-    assert!(rt; shows(&rt, "listed", &[0, 7, 4095])?);
-    let _ = fs::remove_dir_all(&rt, "listed");
+    assert!(rt; are_listed(&rt, "listed", &[0, 7, 4095]));
+    clear(rt, "listed");
     Ok(())
 }

@@ -2,12 +2,13 @@
 
 ghost use Rattle.bw_care.specs.Views.{IsSound};
 
-use super::steps::clear;
+use super::steps::{clear, path_of};
 use super::watched::{Watched, WatchedFile};
 use bw_care::{RecoverCause, Recovered, recover};
-use bw_codec::Leaf;
+use bw_codec::{Key, Leaf, Value};
 use bw_device::{Desk, Segment};
 use bw_file::Folder;
+use bw_page::Leaves;
 use std::alloc::Global;
 use std::fs;
 use std::test::Fail;
@@ -74,28 +75,35 @@ const WORKED: &[Row] = &[
     Row(&[Piece(FIRST, 78)], Fault(BadBytes { segment: 0, at: 76 })),
 ];
 
+/// The names of the first files.
+const NAMES: [&str; 3] = ["segment-0000.bw", "segment-0001.bw", "segment-0002.bw"];
+
+fn bytes_of(alloc: Global, piece: &Piece) -> Result<Vec<u8>, Fail> {
+    let mut bytes = hex::decode(alloc, piece.0)?;
+    bytes.truncate(piece.1);
+    Ok(bytes)
+}
+
 fn write_file(
     rt: &Watched<HostRuntime>,
     path: &str,
-    number: usize,
+    name: &str,
     piece: &Piece,
 ) -> Result<(), Fail> {
-    let mut bytes = hex::decode(rt.alloc(), piece.0)?;
-    bytes.truncate(piece.1);
-    let name = format!(in rt.alloc(); "{path}/segment-{number:04}.bw")?;
-    fs::write(rt.system(), name.as_str(), bytes.as_slice())?;
-    Ok(())
+    let bytes = bytes_of(rt.alloc(), piece)?;
+    let file = path_of(rt.alloc(), path, name)?;
+    Ok(fs::write(rt.system(), file.as_str(), bytes.as_slice())?)
 }
 
-/// A folder with these files.
+/// A folder with these files, three at most.
 pub(super) fn write_files(
     rt: &Watched<HostRuntime>,
     path: &str,
     pieces: &[Piece],
 ) -> Result<(), Fail> {
     fs::create_dir(rt.system(), path)?;
-    for (number, piece) in pieces.iter().enumerate() {
-        write_file(rt, path, number, piece)?;
+    for (name, piece) in NAMES.iter().zip(pieces) {
+        write_file(rt, path, *name, piece)?;
     }
     Ok(())
 }
@@ -125,7 +133,7 @@ fn add_boxes(
 }
 
 /// Boxes over the files of leases 0 to n - 1.
-pub(super) fn boxes_of(
+fn boxes_of(
     rt: &Watched<HostRuntime>,
     folder: &Folder<WatchedFile>,
     n: usize,
@@ -136,13 +144,38 @@ pub(super) fn boxes_of(
     Ok(boxes)
 }
 
+/// The folder, and boxes over its files of leases 0 to n - 1.
+pub(super) fn opened(
+    rt: &Watched<HostRuntime>,
+    path: &str,
+    n: usize,
+) -> Result<(Folder<WatchedFile>, Vec<Box<dyn Segment>>), Fail> {
+    let folder = Folder::open(rt, path)?;
+    let boxes = boxes_of(rt, &folder, n)?;
+    Ok((folder, boxes))
+}
+
+fn is_pair(key: &Key, value: &Value, told: &(&'static str, &'static str)) -> bool {
+    key.as_slice() == told.0.as_bytes() && value.as_slice() == told.1.as_bytes()
+}
+
 // Whether the page has these pairs.
 fn has_pairs(leaf: &Leaf, told: &[(&'static str, &'static str)]) -> bool {
     let pairs = leaf.pairs.as_slice();
+    for (pair, told) in pairs.iter().zip(told) {
+        if !is_pair(&pair.0, &pair.1, told) {
+            return false;
+        }
+    }
     pairs.len() == told.len()
-        && pairs.iter().zip(told).all(|(pair, told)| {
-            pair.0.as_slice() == told.0.as_bytes() && pair.1.as_slice() == told.1.as_bytes()
-        })
+}
+
+// Whether there is one page, with these pairs.
+fn is_page(leaves: &Leaves, told: &[(&'static str, &'static str)]) -> bool {
+    match leaves.page(1) {
+        Some(leaf) => leaves.count() == 1 && has_pairs(leaf, told),
+        None => false,
+    }
 }
 
 // Whether it was found as told.
@@ -152,13 +185,11 @@ fn is_found(found: &Recovered, told: &Said) -> bool
     let Found(first, last, tail, live, spares, dropped, pairs) = told else {
         return false;
     };
-    let numbers = [found.first, found.last, found.tail] == [*first, *last, *tail];
-    let counts = [found.log.live(), found.log.spares(), found.dropped]
-        == [*live, *spares, *dropped];
-    match found.leaves.page(1) {
-        Some(leaf) => { numbers && counts && found.leaves.count() == 1 && has_pairs(leaf, *pairs) }
-        None => false,
-    }
+    let numbers = (found.first == *first) & (found.last == *last) & (found.tail == *tail);
+    let counts = (found.log.live() == *live)
+        & (found.log.spares() == *spares)
+        & (found.dropped == *dropped);
+    numbers & counts & is_page(&found.leaves, *pairs)
 }
 
 fn is_fault(cause: RecoverCause, told: &Said) -> bool {
@@ -182,8 +213,7 @@ pub(super) fn is_told(
     n: usize,
     told: &Said,
 ) -> Result<bool, Fail> {
-    let folder = Folder::open(rt, path)?;
-    let boxes = boxes_of(rt, &folder, n)?;
+    let (_folder, boxes) = opened(rt, path, n)?;
     Ok(is_recovered(rt.alloc(), boxes, told))
 }
 

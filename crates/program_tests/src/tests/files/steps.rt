@@ -46,7 +46,7 @@ pub(super) enum Act {
 }
 
 /// How a step went: done, or the fault; `No` where something else is held than told.
-#[derive(Clone, Copy, Debug, PartialEq, Eq)]
+#[derive(Clone, Copy, PartialEq, Eq)]
 pub(super) enum Told {
     Done,
     No,
@@ -202,7 +202,8 @@ fn holds(one: &mut dyn Segment, held: &[u8]) -> bool {
     if one.len() != n as u64 || one.failures() == u64::MAX {
         return false;
     }
-    one.read(0, &mut out[..n]).is_ok() && &out[..n] == held
+    let front = &mut out[..n];
+    one.read(0, front).is_ok() && *front == *held
 }
 
 fn at_place(stand: &mut Stand, place: u32) -> Option<&mut FileSegment<WatchedFile>> {
@@ -246,58 +247,70 @@ fn copy(
     }
 }
 
-// The path of a file of the folder.
-fn path_of(alloc: Global, stand: &Stand, name: &str) -> Result<String, AllocError> {
-    let folder = stand.path;
+/// The path of a file of a folder.
+pub(super) fn path_of(alloc: Global, folder: &str, name: &str) -> Result<String, AllocError> {
     format!(in alloc; "{folder}/{name}")
 }
 
-fn write(rt: &Watched<HostRuntime>, stand: &Stand, name: &str, text: &str) -> Result<Told, Fail> {
-    let path = path_of(rt.alloc(), stand, name)?;
-    fs::write(rt.system(), path.as_str(), text)?;
-    Ok(Told::Done)
+// Whether the file holds this, and no more.
+fn has(rt: &HostRuntime, path: &str, text: &str) -> bool {
+    match fs::read(rt, path) {
+        Ok(bytes) => bytes.as_slice() == text.as_bytes(),
+        Err(_) => false,
+    }
 }
 
-fn has(rt: &Watched<HostRuntime>, stand: &Stand, name: &str, text: &str) -> Result<Told, Fail> {
-    let path = path_of(rt.alloc(), stand, name)?;
-    let bytes = fs::read(rt.system(), path.as_str())?;
-    Ok(done_if(bytes.as_slice() == text.as_bytes()))
+fn is_missing(rt: &HostRuntime, path: &str) -> bool {
+    match fs::exists(rt, path) {
+        Ok(is_there) => !is_there,
+        Err(_) => false,
+    }
 }
 
-fn is_missing(rt: &Watched<HostRuntime>, stand: &Stand, name: &str) -> Result<Told, Fail> {
-    let path = path_of(rt.alloc(), stand, name)?;
-    Ok(done_if(!fs::exists(rt.system(), path.as_str())?))
+fn lengthen(rt: &HostRuntime, path: &str) -> bool {
+    match OpenOptions::new().write(true).open(rt, path) {
+        Ok(file) => file.set_len(MAX_CAPACITY + 1).is_ok(),
+        Err(_) => false,
+    }
 }
 
-fn lengthen(rt: &Watched<HostRuntime>, stand: &Stand) -> Result<Told, Fail> {
-    let path = path_of(rt.alloc(), stand, "segment-0000.bw")?;
-    let file = OpenOptions::new()
-        .write(true)
-        .open(rt.system(), path.as_str())?;
-    file.set_len(MAX_CAPACITY + 1)?;
-    Ok(Told::Done)
-}
-
-// A step of one who stands outside.
-fn goes_outside(rt: &Watched<HostRuntime>, stand: &Stand, act: &Act) -> Result<Told, Fail> {
+// The name of the file that a step of one who stands outside is about.
+fn name_of(act: &Act) -> &'static str {
     match act {
-        Act::Make => {
-            fs::create_dir(rt.system(), stand.path)?;
-            Ok(Told::Done)
-        }
-        Act::Write(name, text) => write(rt, stand, name, text),
-        Act::File(name, text) => has(rt, stand, name, text),
-        Act::NoFile(name) => is_missing(rt, stand, name),
-        Act::Lengthen => lengthen(rt, stand),
+        Act::Write(name, _) => *name,
+        Act::File(name, _) => *name,
+        Act::NoFile(name) => *name,
+        _ => "segment-0000.bw",
+    }
+}
+
+// Whether a step on a file of this path goes well.
+fn goes_on(rt: &HostRuntime, path: &str, act: &Act) -> bool {
+    match act {
+        Act::Write(_, text) => fs::write(rt, path, *text).is_ok(),
+        Act::File(_, text) => has(rt, path, *text),
+        Act::NoFile(_) => is_missing(rt, path),
+        Act::Lengthen => lengthen(rt, path),
+        _ => false,
+    }
+}
+
+// Whether a step of one who stands outside goes well.
+fn goes_outside(rt: &Watched<HostRuntime>, folder: &str, act: &Act) -> Result<bool, AllocError> {
+    match act {
+        Act::Make => Ok(fs::create_dir(rt.system(), folder).is_ok()),
         Act::Fail(passes, keep) => {
             rt.watch().fail_after(*passes, *keep);
-            Ok(Told::Done)
+            Ok(true)
         }
         Act::Full(is_full) => {
             rt.watch().fill(*is_full);
-            Ok(Told::Done)
+            Ok(true)
         }
-        _ => Ok(Told::No),
+        _ => {
+            let path = path_of(rt.alloc(), folder, name_of(act))?;
+            Ok(goes_on(rt.system(), path.as_str(), act))
+        }
     }
 }
 
@@ -328,23 +341,23 @@ pub(super) fn goes(rt: &Watched<HostRuntime>, stand: &mut Stand, act: &Act) -> R
         Act::Holds(place, held, failures) => Ok(holds_at(stand, *place, held, *failures)),
         Act::Copy(lease, capacity, held) => copy(rt, stand, *lease, *capacity, held),
         Act::Empty(lease) => Ok(empty(rt, stand, *lease)),
-        _ => goes_outside(rt, stand, act),
+        _ => Ok(done_if(goes_outside(rt, stand.path, act)?)),
     }
 }
 
-/// The first row that did not go as told.
-pub(super) fn wrong_row(
+/// How many of the rows went as told before one did not.
+pub(super) fn walked(
     rt: &Watched<HostRuntime>,
     stand: &mut Stand,
     rows: &[Row],
-) -> Result<Option<usize>, Fail> {
+) -> Result<usize, Fail> {
     for (i, row) in rows.iter().enumerate() {
         let Row(act, told, letters) = row;
         let went = goes(rt, stand, act)?;
         let made = rt.watch().take_letters();
         if went != *told || made != number_of(letters) {
-            return Ok(Some(i));
+            return Ok(i);
         }
     }
-    Ok(None)
+    Ok(rows.len())
 }

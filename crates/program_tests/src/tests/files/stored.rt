@@ -5,8 +5,8 @@ ghost use Rattle.bw_care.specs.Views.{IsSound as IsSoundLog};
 ghost use Rattle.bw_store.specs.Views.{IsSound};
 
 use super::recovered::Said::Found;
-use super::recovered::{Piece, Said, boxes_of, is_told, write_files};
-use super::steps::clear;
+use super::recovered::{Piece, Said, is_told, opened, write_files};
+use super::steps::{clear, path_of};
 use super::watched::{Watched, WatchedFile};
 use bw_care::{Cleaned, clean, recover};
 use bw_codec::{Key, Record, Value};
@@ -15,6 +15,7 @@ use bw_file::Folder;
 use bw_log::Log;
 use bw_ring::Feed;
 use bw_store::{Config, Store, StoreFault};
+use std::alloc::Global;
 use std::fs;
 use std::sync::Wait;
 use std::test::Fail;
@@ -33,11 +34,13 @@ const BOTH: &str =
 const SECOND_LENGTH: u64 = 44;
 
 // Whether writer 0 could put a record.
-fn is_put(feeds: &mut [Feed], pair: (&[u8], &[u8])) -> Result<bool, Fail> {
-    let item = Record::Put(Key::new(pair.0)?, Value::new(pair.1)?);
+fn is_put(feeds: &mut [Feed], (key, value): (&[u8], &[u8])) -> bool {
+    let (Ok(key), Ok(value)) = (Key::new(key), Value::new(value)) else {
+        return false;
+    };
     match feeds.first_mut() {
-        Some(feed) => Ok(feed.put(item).is_ok()),
-        None => Ok(false),
+        Some(feed) => feed.put(Record::Put(key, value)).is_ok(),
+        None => false,
     }
 }
 
@@ -46,15 +49,25 @@ fn is_taken(store: &mut Store) -> bool
     requires { IsSound store.old holding }
     ensures { IsSound store.new holding }
 {
-    store.turn(1) == Ok(1)
+    match store.turn(1) {
+        Ok(count) => count == 1,
+        Err(_) => false,
+    }
 }
 
-// Whether a flush answers so.
-fn answers<R: Wait>(rt: &R, store: &mut Store, told: Result<Option<u64>, StoreFault>) -> bool
+/// The answer of a flush that fails on the segment of lease 0. No frame has this number.
+const FAILS: u64 = 0;
+
+// Whether a flush answers so: the number of its frame, or that it fails.
+fn answers<R: Wait>(rt: &R, store: &mut Store, told: u64) -> bool
     requires { IsSound store.old holding }
     ensures { IsSound store.new holding }
 {
-    store.flush(rt) == told
+    match store.flush(rt) {
+        Ok(Some(number)) => told == number,
+        Ok(None) => false,
+        Err(fault) => told == FAILS && fault == StoreFault::Device { lease: 0 },
+    }
 }
 
 // Whether a record of writer 0 is taken, and its flush then answers so.
@@ -63,15 +76,15 @@ fn is_flushed<R: Wait>(
     store: &mut Store,
     feeds: &mut [Feed],
     pair: (&[u8], &[u8]),
-    told: Result<Option<u64>, StoreFault>,
-) -> Result<bool, Fail>
+    told: u64,
+) -> bool
     requires { IsSound store.old holding }
     ensures { IsSound store.new holding }
 {
-    let put = is_put(feeds, pair)?;
+    let put = is_put(feeds, pair);
     let taken = is_taken(store);
     let flushed = answers(rt, store, told);
-    Ok(put && taken && flushed)
+    put & taken & flushed
 }
 
 // Two flushes: the first one passes, and the second one as long as no call of it is to fail.
@@ -82,18 +95,15 @@ fn are_flushed<R: Wait>(
     feeds: &mut [Feed],
     passes: u64,
     keep: u64,
-) -> Result<bool, Fail>
+) -> bool
     requires { IsSound store.old holding }
     ensures { IsSound store.new holding }
 {
-    let first = is_flushed(wait, store, feeds, (b"k", b"v"), Ok(Some(1)))?;
+    let first = is_flushed(wait, store, feeds, (b"k", b"v"), 1);
     rt.watch().fail_after(passes, keep);
-    let told = if passes < 2 {
-        Err(StoreFault::Device { lease: 0 })
-    } else {
-        Ok(Some(2))
-    };
-    Ok(first && is_flushed(wait, store, feeds, (b"j", b"w"), told)?)
+    let told = if passes < 2 { FAILS } else { 2 };
+    let second = is_flushed(wait, store, feeds, (b"j", b"w"), told);
+    first & second
 }
 
 const CONFIG: Config = Config {
@@ -111,9 +121,9 @@ fn lives_over<R: Wait>(
     boxes: Vec<Box<dyn Segment>>,
     passes: u64,
     keep: u64,
-) -> Result<bool, Fail> {
+) -> bool {
     let Ok((mut store, mut feeds)) = Store::open(wait, rt.alloc(), &CONFIG, boxes) else {
-        return Ok(false);
+        return false;
     };
     let flushed = are_flushed(wait, rt, &mut store, &mut feeds, passes, keep);
     let _ = store.shut(wait);
@@ -128,14 +138,13 @@ fn lives<R: Wait>(
     passes: u64,
     keep: u64,
 ) -> Result<bool, Fail> {
-    let folder = Folder::open(rt, path)?;
-    let boxes = boxes_of(rt, &folder, 2)?;
-    lives_over(wait, rt, boxes, passes, keep)
+    let (_folder, boxes) = opened(rt, path, 2)?;
+    Ok(lives_over(wait, rt, boxes, passes, keep))
 }
 
 // The bytes of the first file.
 fn bytes_of(rt: &Watched<HostRuntime>, path: &str) -> Result<Vec<u8>, Fail> {
-    let name = format!(in rt.alloc(); "{path}/segment-0000.bw")?;
+    let name = path_of(rt.alloc(), path, "segment-0000.bw")?;
     Ok(fs::read(rt.system(), name.as_str())?)
 }
 
@@ -209,37 +218,45 @@ const TWO: &[Piece] = &[
 
 const JK: &[(&str, &str)] = &[("j", "2"), ("k", "1")];
 
-// Whether the older of two segments is given up, and its file is then emptied where that is asked,
-// while the log stands.
-fn is_given_up(
-    rt: &Watched<HostRuntime>,
-    folder: &Folder<WatchedFile>,
-    log: &mut Log,
-    empties: bool,
-) -> Result<bool, Fail>
+/// What the cleaning of the older one tells.
+const GIVEN_UP: Cleaned = Cleaned {
+    segment: 1,
+    lease: 0,
+    pages: 1,
+    frames: 1,
+};
+
+// Whether the older of two segments is given up.
+fn is_given_up(alloc: Global, log: &mut Log) -> bool
     requires { IsSoundLog log.old holding }
 {
-    let told = Cleaned {
-        segment: 1,
-        lease: 0,
-        pages: 1,
-        frames: 1,
-    };
-    let cleaned = clean(rt.alloc(), log) == Ok(told);
-    if empties {
-        folder.empty(rt, 0)?;
+    match clean(alloc, log) {
+        Ok(cleaned) => cleaned == GIVEN_UP,
+        Err(_) => false,
     }
-    Ok(cleaned)
 }
 
-// The same of the log that is recovered from the files.
-fn is_cleaned(rt: &Watched<HostRuntime>, path: &str, empties: bool) -> Result<bool, Fail> {
-    let folder = Folder::open(rt, path)?;
-    let boxes = boxes_of(rt, &folder, 3)?;
+// The same of the log that is recovered from the boxes. The file is then emptied where that is asked,
+// while the log stands.
+fn is_cleaned_over(
+    rt: &Watched<HostRuntime>,
+    folder: &Folder<WatchedFile>,
+    boxes: Vec<Box<dyn Segment>>,
+    empties: bool,
+) -> bool {
     match recover(rt.alloc(), boxes) {
-        Ok(mut found) => is_given_up(rt, &folder, &mut found.log, empties),
-        Err(_) => Ok(false),
+        Ok(mut found) => {
+            let given_up = is_given_up(rt.alloc(), &mut found.log);
+            given_up & (!empties || folder.empty(rt, 0).is_ok())
+        }
+        Err(_) => false,
     }
+}
+
+// The same of the files.
+fn is_cleaned(rt: &Watched<HostRuntime>, path: &str, empties: bool) -> Result<bool, Fail> {
+    let (folder, boxes) = opened(rt, path, 3)?;
+    Ok(is_cleaned_over(rt, &folder, boxes, empties))
 }
 
 // Whether the files tell so after a cleaning and a stop, before the file is emptied or behind it.
