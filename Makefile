@@ -9,7 +9,7 @@
 
 PROGRAM = crates/bwlog
 BENCH = --keys 1000000 --operations 1000000
-# One check a processor, each at one job: two jobs for one check cost a quarter more time of the processors.
+# One check a processor, each at one job: two jobs for one check cost a tenth more time of the processors.
 JOBS = $(shell n=$$(nproc); echo $$((n < 4 ? n : 4)))
 SUBJECTS = pages cleaning alone beside late one one-beside many many-beside
 
