@@ -1,0 +1,187 @@
+#!/usr/bin/env python3
+"""Runs the built program over the cases of cases/*.toml, and compares its exit status and all that it prints and tells.
+
+It takes the programs to run (none: those that `rt ci` or `make run` leaves under out/, one of each compiler). Each file of cases is run in an
+empty folder of its own, from its first case to its last, by each program; what a run leaves there, the next one finds. The first
+case that goes otherwise ends the whole with status 1.
+
+A file's keys before its first case stand for each case that does not give them. A case is a run:
+
+  words          the words of the command line
+  script         what is read: a text, or pieces that stand one behind the other
+  lines          the same, with an end of the line behind each piece
+  status         the exit status (0 where it is not given)
+  prints         what stands on standard output, to the last byte (nothing where it is not given)
+  prints_last    how that ends, in place of `prints`
+  prints_either  a list of texts, one of which it is, in place of `prints`
+  tells          what stands on standard error, to the last byte (nothing where it is not given)
+  is_told        true: something stands there, in place of `tells`
+  beside         a folder, whose lock is held while the program runs
+
+or a step of one who stands outside:
+
+  make           a folder that is made
+  write, text    a file that is written, and what it then holds
+  lengthen, bytes  a file that gets this length
+  file, holds    a file, and what it has to hold
+
+A piece is a text, or a table:
+
+  text, times              a text so many times
+  line, times              a line so many times; {0} in it is its number, from 0 on
+  of, times                a text that the file's table `texts` names, once or so many times
+  of, first                of such a text, which is bytes in hex, so many bytes
+  of, at, with             such bytes, with others from the byte at an offset on
+  of, behind               such bytes, with others behind
+"""
+
+import fcntl
+import os
+import subprocess
+import sys
+import tempfile
+import tomllib
+
+HERE = os.path.dirname(os.path.abspath(__file__))
+CASES = os.path.join(HERE, "cases")
+BUILT = [os.path.join(HERE, "out", name) for name in ("bwlog", "bwlog.by-rattle")]
+LIMIT = 60
+RUN = {"words", "script", "lines", "status", "prints", "prints_last", "prints_either", "tells", "is_told", "beside"}
+OUTSIDE = [{"make"}, {"write", "text"}, {"lengthen", "bytes"}, {"file", "holds"}]
+
+
+def changed(text, piece):
+    """A named text, as a piece wants it. An offset and a length in bytes are two digits each."""
+    keys = set(piece) - {"of"}
+    if keys == {"first"}:
+        return text[: 2 * piece["first"]]
+    if keys == {"at", "with"}:
+        at = 2 * piece["at"]
+        return text[:at] + piece["with"] + text[at + len(piece["with"]) :]
+    if keys == {"behind"}:
+        return text + piece["behind"]
+    if keys - {"times"}:
+        raise ValueError("no such piece: %s" % piece)
+    return text * piece.get("times", 1)
+
+
+def text_of(piece, texts):
+    """The text of a piece, or of pieces one behind the other."""
+    if isinstance(piece, str):
+        return piece
+    if isinstance(piece, list):
+        return "".join(text_of(it, texts) for it in piece)
+    if "of" in piece:
+        return changed(texts[piece["of"]], piece)
+    if set(piece) == {"line", "times"}:
+        return "".join(piece["line"].format(number) + "\n" for number in range(piece["times"]))
+    if set(piece) == {"text", "times"}:
+        return piece["text"] * piece["times"]
+    raise ValueError("no such piece: %s" % piece)
+
+
+def script_of(case, texts):
+    if "lines" in case:
+        return "".join(ended(piece, texts) for piece in case["lines"])
+    return text_of(case.get("script", ""), texts)
+
+
+def ended(piece, texts):
+    """A piece with an end of the line behind it; lines have theirs."""
+    has_ends = isinstance(piece, dict) and "line" in piece
+    return text_of(piece, texts) + ("" if has_ends else "\n")
+
+
+def is_printed(case, output, texts):
+    if "prints_last" in case:
+        return output.endswith(case["prints_last"].encode())
+    if "prints_either" in case:
+        return output in [text.encode() for text in case["prints_either"]]
+    return output == text_of(case.get("prints", ""), texts).encode()
+
+
+def is_told(case, errors):
+    if case.get("is_told", False):
+        return errors != b""
+    return errors == case.get("tells", "").encode()
+
+
+def run(program, case, texts, folder):
+    """What went otherwise in a run, or nothing."""
+    answer = subprocess.run(
+        [program, *case["words"]],
+        input=script_of(case, texts).encode(),
+        capture_output=True,
+        cwd=folder,
+        timeout=LIMIT,
+    )
+    told = []
+    if answer.returncode != case.get("status", 0):
+        told.append("its status is %d" % answer.returncode)
+    if not is_printed(case, answer.stdout, texts):
+        told.append("it printed %r" % answer.stdout)
+    if not is_told(case, answer.stderr):
+        told.append("it told %r" % answer.stderr)
+    return told
+
+
+def run_beside(program, case, texts, folder):
+    """The same while somebody holds the folder's lock."""
+    with open(os.path.join(folder, case["beside"], "lock"), "rb") as lock:
+        fcntl.flock(lock, fcntl.LOCK_EX | fcntl.LOCK_NB)
+        return run(program, case, texts, folder)
+
+
+def stand_outside(case, folder):
+    """A step that is no run: what went otherwise, or nothing."""
+    if "make" in case:
+        os.mkdir(os.path.join(folder, case["make"]))
+    elif "write" in case:
+        with open(os.path.join(folder, case["write"]), "w", encoding="utf-8") as file:
+            file.write(case["text"])
+    elif "lengthen" in case:
+        os.truncate(os.path.join(folder, case["lengthen"]), case["bytes"])
+    else:
+        with open(os.path.join(folder, case["file"]), "rb") as file:
+            held = file.read()
+        if held != case["holds"].encode():
+            return ["the file holds %r" % held]
+    return []
+
+
+def walk(program, given):
+    """Goes through a file's cases. What went otherwise in the first that did, with its number from 1 on, or nothing."""
+    cases, texts = given.pop("cases"), given.pop("texts", {})
+    with tempfile.TemporaryDirectory() as folder:
+        for number, case in enumerate(cases, 1):
+            if set(case) in OUTSIDE:
+                told = stand_outside(case, folder)
+            else:
+                case = {**given, **case}
+                if set(case) - RUN:
+                    raise ValueError("no such key: %s" % (set(case) - RUN))
+                told = (run_beside if "beside" in case else run)(program, case, texts, folder)
+            if told:
+                return ["case %d: %s" % (number, "; ".join(told)), *("  %s = %r" % it for it in case.items())], number
+    return [], len(cases)
+
+
+def main():
+    programs = sys.argv[1:] or [it for it in BUILT if os.path.isfile(it)]
+    if not programs:
+        print("there is no program under out/: make run builds it")
+        return 1
+    count = 0
+    for name in sorted(os.listdir(CASES)):
+        for program in programs:
+            with open(os.path.join(CASES, name), "rb") as file:
+                told, walked = walk(os.path.abspath(program), tomllib.load(file))
+            if told:
+                print("%s, %s, %s" % (os.path.basename(program), name, "\n".join(told)))
+                return 1
+            count += walked
+    print("cases: %d went as told, by %s" % (count, " and ".join(os.path.basename(it) for it in programs)))
+    return 0
+
+
+sys.exit(main())
