@@ -9,11 +9,10 @@ mod pages;
 mod reading;
 mod versions;
 
-use bw_codec::{Key, Leaf, Low, Pairs, Record, Value};
+use bw_codec::{Key, Leaf, Record, Value};
 use bw_page::Leaves;
 use std::alloc::Global;
 use std::process::Abort;
-use std::test::Fail;
 
 /// All steps went as told; a failure tells the first that did not.
 fn went(rt: &impl Abort, wrong: Option<usize>) {
@@ -25,21 +24,66 @@ fn all_went(rt: &impl Abort, wrong: Option<(usize, usize)>) {
     assert_eq!(rt; wrong, None);
 }
 
-fn put(key: &[u8], value: &[u8]) -> Result<Record, Fail> {
-    Ok(Record::Put(Key::new(key)?, Value::new(value)?))
+/// A row of a table.
+trait Row {
+    /// Whether it is answered as told; `None` where memory was wanted.
+    fn goes(&self, alloc: Global) -> Option<bool>;
 }
 
-fn del(key: &[u8]) -> Result<Record, Fail> {
-    Ok(Record::Del(Key::new(key)?))
+/// The first row that does not go as told.
+fn wrong_row<R: Row>(alloc: Global, rows: &[R]) -> Option<usize> {
+    for (i, row) in rows.iter().enumerate() {
+        if row.goes(alloc) != Some(true) {
+            return Some(i);
+        }
+    }
+    None
 }
 
-/// A page without any pair.
-fn bare(alloc: Global, page: u32, low: &[u8]) -> Result<Leaf, Fail> {
-    Ok(Leaf {
-        page,
-        low: Low::of(Vec::from_slice(alloc, low)?),
-        pairs: Pairs::of(Vec::new(alloc)),
-    })
+/// A table of steps.
+trait Table {
+    /// The first step that does not go as told.
+    fn wrong_step(&self, alloc: Global) -> Option<usize>;
+}
+
+/// The first table that does not go as told, and its step.
+fn wrong_table<T: Table>(alloc: Global, tables: &[T]) -> Option<(usize, usize)> {
+    for (i, table) in tables.iter().enumerate() {
+        if let Some(step) = table.wrong_step(alloc) {
+            return Some((i, step));
+        }
+    }
+    None
+}
+
+/// All of these hold; a failure tells the first that does not.
+fn all_hold(rt: &impl Abort, said: &[bool]) {
+    for (i, holds) in said.iter().enumerate() {
+        if !*holds {
+            went(rt, Some(i));
+        }
+    }
+}
+
+fn put(key: &[u8], value: &[u8]) -> Option<Record> {
+    Some(Record::Put(Key::new(key).ok()?, Value::new(value).ok()?))
+}
+
+fn del(key: &[u8]) -> Option<Record> {
+    Some(Record::Del(Key::new(key).ok()?))
+}
+
+/// Puts, and a delete where there is no value.
+fn records(alloc: Global, changes: &[(&str, Option<&str>)]) -> Option<Vec<Record>> {
+    let mut records = Vec::new(alloc);
+    for (key, value) in changes {
+        let record = match value {
+            Some(value) => put(key.as_bytes(), value.as_bytes()),
+            None => del(key.as_bytes()),
+        };
+        records.push(record?).ok()?;
+    }
+    Some(records)
 }
 
 /// What is left of a text behind a part of it; none where it does not begin so.
@@ -69,6 +113,9 @@ fn is_shown(leaf: Option<&Leaf>, text: &str) -> bool {
 }
 
 /// Whether a record of this key is directed at this page.
-fn leads(leaves: &Leaves, key: &str, page: u32) -> Result<bool, Fail> {
-    Ok(leaves.find(&Key::new(key.as_bytes())?) == page)
+fn leads(leaves: &Leaves, key: &str, page: u32) -> bool {
+    match Key::new(key.as_bytes()) {
+        Ok(key) => leaves.find(&key) == page,
+        Err(_) => false,
+    }
 }

@@ -2,27 +2,28 @@
 
 ghost use Rattle.std.specs.Prelude.{◌≡◌, ◌∷◌, [], IfOk};
 
-use super::{is_shown, leads, put, went};
-use bw_codec::{Key, Leaf, Low, Pairs, Record, Value};
+use super::{all_went, is_shown, leads, put};
+use bw_codec::{Key, Leaf, Low, Pairs, Value};
 use bw_page::{Applied, Leaves};
-use std::alloc::Global;
-use std::test::Fail;
+use std::alloc::{AllocError, Global};
 
-/// A leaf of one pair.
+/// A leaf of one pair. A key or a value of another length is refused as well.
 pub(super) fn leaf_of(
     alloc: Global,
     page: u32,
     low: &[u8],
     key: &[u8],
     value: &[u8],
-) -> Result<Leaf, Fail>
+) -> Result<Leaf, AllocError>
     ensures { IfOk result (λ l.
         l ≡ record { page = page; low = low.now; pairs = (key.now, value.now) ∷ [] }) }
 {
-    let mut from = Vec::new(alloc);
-    from.extend_from_slice(low)?;
+    let (Ok(key), Ok(value)) = (Key::new(key), Value::new(value)) else {
+        return Err(AllocError);
+    };
+    let from = Vec::from_slice(alloc, low)?;
     let mut pairs = Vec::new(alloc);
-    pairs.push((Key::new(key)?, Value::new(value)?))?;
+    pairs.push((key, value))?;
     Ok(Leaf {
         page,
         low: Low::of(from),
@@ -31,13 +32,13 @@ pub(super) fn leaf_of(
 }
 
 /// Page 1 with `a`, and page 2 from `c` on with `d`.
-pub(super) fn two_pages(alloc: Global) -> Result<Leaves, Fail>
+pub(super) fn two_pages(alloc: Global) -> Result<Leaves, AllocError>
     ensures { IfOk result (λ l. l.away ≡ []) }
 {
     let mut leaves = Vec::new(alloc);
     leaves.push(leaf_of(alloc, 1, b"", b"a", b"1")?)?;
     leaves.push(leaf_of(alloc, 2, b"c", b"d", b"4")?)?;
-    Ok(Leaves::of(leaves, 4)?)
+    Leaves::of(leaves, 4)
 }
 
 /// What is asked of leaves, of which some may be away, with the answer.
@@ -53,43 +54,37 @@ enum Ask {
     Get(&'static str, &'static str),
 }
 
-fn has(leaves: &Leaves, key: &str, text: &str) -> Result<bool, Fail> {
-    let key = Key::new(key.as_bytes())?;
+fn has(leaves: &Leaves, key: &str, text: &str) -> bool {
+    let Ok(key) = Key::new(key.as_bytes()) else {
+        return false;
+    };
     if !leaves.is_here(leaves.find(&key)) {
-        return Ok(text.len() == 0);
+        return text.len() == 0;
     }
     match leaves.get(&key) {
-        Some(found) => Ok(found.as_slice() == text.as_bytes()),
-        None => Ok(false),
+        Some(found) => found.as_slice() == text.as_bytes(),
+        None => false,
     }
 }
 
-fn is_so(leaves: &Leaves, ask: &Ask) -> Result<bool, Fail> {
+fn is_so(leaves: &Leaves, ask: &Ask) -> bool {
     match ask {
-        Ask::Count(count) => Ok(leaves.count() == *count),
-        Ask::Here(page, told) => Ok(leaves.is_here(*page) == *told),
-        Ask::Page(page, text) => Ok(is_shown(leaves.page(*page), text)),
+        Ask::Count(count) => leaves.count() == *count,
+        Ask::Here(page, told) => leaves.is_here(*page) == *told,
+        Ask::Page(page, text) => is_shown(leaves.page(*page), text),
         Ask::Find(key, page) => leads(leaves, key, *page),
         Ask::Get(key, text) => has(leaves, key, text),
     }
 }
 
-/// The first question that was not answered as told.
-fn wrong_answer(leaves: &Leaves, asks: &[Ask]) -> Result<Option<usize>, Fail> {
+/// The first question that was not answered as told, behind the number of its table.
+fn wrong_answer(leaves: &Leaves, table: usize, asks: &[Ask]) -> Option<(usize, usize)> {
     for (i, ask) in asks.iter().enumerate() {
-        if !is_so(leaves, ask)? {
-            return Ok(Some(i));
+        if !is_so(leaves, ask) {
+            return Some((table, i));
         }
     }
-    Ok(None)
-}
-
-/// Applies a record, if the page at which it is directed is in memory.
-fn applied(leaves: &mut Leaves, change: Record) -> Result<Option<Applied>, Fail> {
-    if !leaves.is_here(leaves.find(change.key())) {
-        return Ok(None);
-    }
-    Ok(Some(leaves.apply(&change)?))
+    None
 }
 
 const BEFORE: &[Ask] = &[
@@ -121,27 +116,28 @@ const BACK: &[Ask] = &[
     Ask::Get("d", "4"),
 ];
 
-/// Page 2 leaves memory and comes back: of each table the first question that was not answered as
-/// told.
-fn goes_and_returns(leaves: &mut Leaves) -> Result<[Option<usize>; 3], Fail>
+/// What a failure tells where the pages were others, so that nothing was asked.
+const OTHER_PAGES: (usize, usize) = (9, 0);
+
+/// What a failure tells where the change was another.
+const OTHER_CHANGE: (usize, usize) = (9, 1);
+
+/// Page 2 leaves memory and comes back: the first question that was not answered as told.
+fn goes_and_returns(leaves: &mut Leaves) -> Option<(usize, usize)>
     requires { leaves.old.away ≡ [] }
 {
     let kept = match leaves.page(2) {
-        Some(leaf) if leaves.count() == 2 => leaf.copy()?,
-        _ => return Err(Fail::from("other pages")),
+        Some(leaf) if leaves.count() == 2 => leaf.copy(),
+        _ => return Some(OTHER_PAGES),
     };
-    let before = wrong_answer(leaves, BEFORE)?;
+    let Ok(kept) = kept else {
+        return Some(OTHER_PAGES);
+    };
+    let before = wrong_answer(leaves, 0, BEFORE);
     leaves.put_away(2);
-    let away = wrong_answer(leaves, AWAY)?;
+    let away = wrong_answer(leaves, 1, AWAY);
     leaves.bring_back(2, kept);
-    Ok([before, away, wrong_answer(leaves, BACK)?])
-}
-
-#[test]
-fn a_page_leaves_memory_and_comes_back(rt: HostRuntime) -> Result<(), Fail> {
-    let mut leaves = two_pages(rt.alloc())?;
-    assert_eq!(rt; goes_and_returns(&mut leaves)?, [None, None, None]);
-    Ok(())
+    before.or(away).or(wrong_answer(leaves, 2, BACK))
 }
 
 const CHANGED: &[Ask] = &[
@@ -151,32 +147,51 @@ const CHANGED: &[Ask] = &[
     Ask::Page(2, ""),
 ];
 
+/// What a record of this key and value does, if the page at which it is directed is in memory.
+fn applied(leaves: &mut Leaves, key: &[u8], value: &[u8]) -> Option<Option<Applied>> {
+    let change = put(key, value)?;
+    if !leaves.is_here(leaves.find(change.key())) {
+        return Some(None);
+    }
+    Some(Some(leaves.apply(&change).ok()?))
+}
+
 /// Whether a record of the page that is away is left alone, and one of the other page applied.
-fn changes_one(leaves: &mut Leaves) -> Result<bool, Fail> {
-    let none = applied(leaves, put(b"d", b"5")?)?;
-    let one = applied(leaves, put(b"b", b"2")?)?;
+fn changes_one(leaves: &mut Leaves) -> bool {
     let told = Applied {
         page: 1,
         made: None,
     };
-    Ok(none == None && one == Some(told))
+    applied(leaves, b"d", b"5") == Some(None) && applied(leaves, b"b", b"2") == Some(Some(told))
 }
 
 /// Page 1 is changed while page 2 is away: the first question that was not answered as told then.
-fn changed_beside(leaves: &mut Leaves) -> Result<Option<usize>, Fail> {
+fn changed_beside(leaves: &mut Leaves) -> Option<(usize, usize)> {
     if leaves.count() != 2 {
-        return Err(Fail::from("other pages"));
+        return Some(OTHER_PAGES);
     }
     leaves.put_away(2);
-    if !changes_one(leaves)? {
-        return Err(Fail::from("another change"));
+    if !changes_one(leaves) {
+        return Some(OTHER_CHANGE);
     }
-    wrong_answer(leaves, CHANGED)
+    wrong_answer(leaves, 0, CHANGED)
+}
+
+/// The same over two pages that are there.
+fn first_wrong(alloc: Global, comes_back: bool) -> Option<(usize, usize)> {
+    match two_pages(alloc) {
+        Ok(mut leaves) if comes_back => goes_and_returns(&mut leaves),
+        Ok(mut leaves) => changed_beside(&mut leaves),
+        Err(_) => Some(OTHER_PAGES),
+    }
 }
 
 #[test]
-fn a_page_is_changed_while_another_is_away(rt: HostRuntime) -> Result<(), Fail> {
-    let mut leaves = two_pages(rt.alloc())?;
-    went(&rt, changed_beside(&mut leaves)?);
-    Ok(())
+fn a_page_leaves_memory_and_comes_back(rt: HostRuntime) {
+    all_went(&rt, first_wrong(rt.alloc(), true));
+}
+
+#[test]
+fn a_page_is_changed_while_another_is_away(rt: HostRuntime) {
+    all_went(&rt, first_wrong(rt.alloc(), false));
 }

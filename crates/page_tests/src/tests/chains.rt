@@ -1,10 +1,9 @@
 //! Calls on one chain.
 
-use super::{all_went, is_shown, put, went};
+use super::{Table, all_went, is_shown, put, went, wrong_table};
 use bw_codec::{Leaf, Place};
 use bw_page::{Chain, empty_page};
 use std::alloc::Global;
-use std::test::Fail;
 
 /// One call on a chain, with what it has to answer.
 #[derive(Drop)]
@@ -29,73 +28,72 @@ const FIRST: Place = Place { frame: 1, index: 1 };
 
 const SECOND: Place = Place { frame: 2, index: 0 };
 
-fn prepended(chain: &mut Chain, key: &str, value: &str) -> Result<bool, Fail> {
-    chain.prepend(put(key.as_bytes(), value.as_bytes())?)?;
-    Ok(true)
+fn prepended(chain: &mut Chain, key: &str, value: &str) -> bool {
+    match put(key.as_bytes(), value.as_bytes()) {
+        Some(record) => chain.prepend(record).is_ok(),
+        None => false,
+    }
 }
 
-fn content(chain: &Chain, below: &mut Leaf, text: &str) -> Result<bool, Fail> {
-    let leaf = chain.content(below)?;
-    let is_so = is_shown(Some(&leaf), text);
+fn consolidates(chain: &mut Chain, below: &Leaf, told: bool) -> bool {
+    match chain.consolidate(below) {
+        Ok(acts) => acts == told,
+        Err(_) => false,
+    }
+}
+
+fn content(chain: &Chain, below: &mut Leaf, text: &str) -> bool {
+    let Ok(leaf) = chain.content(below) else {
+        return false;
+    };
     *below = leaf;
-    Ok(is_so)
+    is_shown(Some(below), text)
 }
 
-fn alone(alloc: Global, chain: &Chain, text: &str) -> Result<bool, Fail> {
-    let leaf = chain.content(&empty_page(alloc))?;
-    Ok(is_shown(Some(&leaf), text))
+fn alone(alloc: Global, chain: &Chain, text: &str) -> bool {
+    match chain.content(&empty_page(alloc)) {
+        Ok(leaf) => is_shown(Some(&leaf), text),
+        Err(_) => false,
+    }
 }
 
 /// Whether the step went as told.
-fn goes(alloc: Global, chain: &mut Chain, below: &mut Leaf, step: &Step) -> Result<bool, Fail> {
+fn goes(alloc: Global, chain: &mut Chain, below: &mut Leaf, step: &Step) -> bool {
     match step {
         Step::Put(key, value) => prepended(chain, key, value),
-        Step::Mark(place) => {
-            chain.mark_flushed(*place)?;
-            Ok(true)
-        }
+        Step::Mark(place) => chain.mark_flushed(*place).is_ok(),
         Step::Rest(place) => {
             chain.rest_on(*place);
-            Ok(true)
+            true
         }
-        Step::Evict(told) => Ok(chain.evict() == *told),
-        Step::Consolidate(told) => Ok(chain.consolidate(below)? == *told),
-        Step::Reserve(more) => {
-            chain.reserve(*more)?;
-            Ok(true)
-        }
-        Step::Deltas(count) => Ok(chain.deltas() == *count),
-        Step::EndsOnLog(told) => Ok(chain.ends_on_log() == *told),
+        Step::Evict(told) => chain.evict() == *told,
+        Step::Consolidate(told) => consolidates(chain, below, *told),
+        Step::Reserve(more) => chain.reserve(*more).is_ok(),
+        Step::Deltas(count) => chain.deltas() == *count,
+        Step::EndsOnLog(told) => chain.ends_on_log() == *told,
         Step::Content(text) => content(chain, below, text),
         Step::Alone(text) => alone(alloc, chain, text),
     }
 }
 
 /// The first step that did not go as told.
-fn walked(alloc: Global, chain: &mut Chain, steps: &[Step]) -> Result<Option<usize>, Fail> {
+fn wrong_step(alloc: Global, from: Chain, steps: &[Step]) -> Option<usize> {
+    let mut chain = from;
     let mut below = empty_page(alloc);
     for (i, step) in steps.iter().enumerate() {
-        if !goes(alloc, chain, &mut below, step)? {
-            return Ok(Some(i));
+        if !goes(alloc, &mut chain, &mut below, step) {
+            return Some(i);
         }
     }
-    Ok(None)
+    None
 }
 
-fn wrong_step(alloc: Global, from: Chain, steps: &[Step]) -> Result<Option<usize>, Fail> {
-    let mut chain = from;
-    walked(alloc, &mut chain, steps)
-}
-
-/// Each table over an empty page: the first that went otherwise than told, and its step.
-fn first_wrong(alloc: Global, tables: &[&[Step]]) -> Result<Option<(usize, usize)>, Fail> {
-    for (i, steps) in tables.iter().enumerate() {
+impl Table for &'static [Step] {
+    /// The same over an empty page.
+    fn wrong_step(&self, alloc: Global) -> Option<usize> {
         let whole = Chain::whole(alloc, empty_page(alloc));
-        if let Some(step) = wrong_step(alloc, whole, steps)? {
-            return Ok(Some((i, step)));
-        }
+        wrong_step(alloc, whole, *self)
     }
-    Ok(None)
 }
 
 /// What was not flushed stays above the log's page.
@@ -162,16 +160,15 @@ const RESTED: &[Step] = &[
     Step::Content(": a=1 b=2 c=3"),
 ];
 
+const TABLES: &[&[Step]] = &[EVICTION, CONSOLIDATION, RESERVED, RESTED];
+
 #[test]
-fn chains_go_as_told(rt: HostRuntime) -> Result<(), Fail> {
-    let tables = [EVICTION, CONSOLIDATION, RESERVED, RESTED];
-    all_went(&rt, first_wrong(rt.alloc(), &tables)?);
-    Ok(())
+fn chains_go_as_told(rt: HostRuntime) {
+    all_went(&rt, wrong_table(rt.alloc(), TABLES));
 }
 
 #[test]
-fn a_chain_on_the_log_goes_as_told(rt: HostRuntime) -> Result<(), Fail> {
+fn a_chain_on_the_log_goes_as_told(rt: HostRuntime) {
     let chain = Chain::on_log(rt.alloc(), FIRST);
-    went(&rt, wrong_step(rt.alloc(), chain, ON_LOG)?);
-    Ok(())
+    went(&rt, wrong_step(rt.alloc(), chain, ON_LOG));
 }

@@ -1,12 +1,12 @@
 //! Calls on all leaves, of which each is in memory.
 
-ghost use Rattle.std.specs.Prelude.{◌≤◌, ◌≡◌, [], OnOk};
+ghost use Rattle.std.specs.Prelude.{◌≤◌, ◌≡◌, []};
 
-use super::{all_went, del, is_shown, leads, put, went};
+use super::away::two_pages;
+use super::{Table, all_went, del, is_shown, leads, put, records, went, wrong_table};
 use bw_codec::{Key, Record};
 use bw_page::{Applied, Leaves};
 use std::alloc::Global;
-use std::test::Fail;
 
 /// One call on leaves, with what it has to answer.
 #[derive(Drop)]
@@ -35,42 +35,51 @@ pub(super) enum Step {
 
 use Step::{Batch, Copy, Count, Del, Fill, Find, Get, Page, Put};
 
-fn applied(leaves: &mut Leaves, change: Record, page: u32, made: u32) -> Result<bool, Fail>
+fn applied(leaves: &mut Leaves, change: Option<Record>, page: u32, made: u32) -> bool
     requires { leaves.old.away ≡ [] }
-    ensures { OnOk result (leaves.new.away ≡ []) }
+    ensures { leaves.new.away ≡ [] }
 {
+    let Some(change) = change else {
+        return false;
+    };
     let made = if made == 0 { None } else { Some(made) };
-    Ok(leaves.apply(&change)? == Applied { page, made })
+    leaves.apply(&change) == Ok(Applied { page, made })
 }
 
-fn filled(leaves: &mut Leaves, count: u16) -> Result<bool, Fail>
+fn filled(leaves: &mut Leaves, count: u16) -> bool
     requires { leaves.old.away ≡ [] }
-    ensures { OnOk result (leaves.new.away ≡ []) }
+    ensures { leaves.new.away ≡ [] }
 {
     for i in 0..count {
-        leaves.apply(&put(&[b'0' + (i / 10 % 10) as u8, b'0' + (i % 10) as u8], b"")?)?;
+        let Some(change) = put(&[b'0' + (i / 10 % 10) as u8, b'0' + (i % 10) as u8], b"") else {
+            return false;
+        };
+        if leaves.apply(&change).is_err() {
+            return false;
+        }
     }
-    Ok(true)
+    true
 }
 
-fn batch(alloc: Global, leaves: &mut Leaves) -> Result<bool, Fail>
+fn batch(alloc: Global, leaves: &mut Leaves) -> bool
     requires { leaves.old.away ≡ [] }
-    ensures { OnOk result (leaves.new.away ≡ []) }
+    ensures { leaves.new.away ≡ [] }
 {
-    let mut batch = Vec::new(alloc);
-    for key in TEN {
-        batch.push(put(key.as_bytes(), b"1")?)?;
+    match records(alloc, TEN) {
+        Some(records) => leaves.apply_all(records.as_slice()).is_ok(),
+        None => false,
     }
-    leaves.apply_all(batch.as_slice())?;
-    Ok(true)
 }
 
-fn has(leaves: &Leaves, key: &str, text: &str) -> Result<bool, Fail>
+fn has(leaves: &Leaves, key: &str, text: &str) -> bool
     requires { leaves.now.away ≡ [] }
 {
-    match leaves.get(&Key::new(key.as_bytes())?) {
-        Some(found) => Ok(found.as_slice() == text.as_bytes()),
-        None => Ok(text.len() == 0),
+    let Ok(key) = Key::new(key.as_bytes()) else {
+        return false;
+    };
+    match leaves.get(&key) {
+        Some(found) => found.as_slice() == text.as_bytes(),
+        None => text.len() == 0,
     }
 }
 
@@ -81,28 +90,31 @@ fn pairs(leaves: &Leaves, page: u32) -> usize {
     }
 }
 
-fn copied(leaves: &mut Leaves) -> Result<bool, Fail>
+fn copied(leaves: &mut Leaves) -> bool
     requires { leaves.old.away ≡ [] }
-    ensures { OnOk result (leaves.new.away ≡ []) }
+    ensures { leaves.new.away ≡ [] }
 {
-    *leaves = leaves.copy()?;
-    Ok(true)
+    let Ok(copy) = leaves.copy() else {
+        return false;
+    };
+    *leaves = copy;
+    true
 }
 
 /// Whether the step went as told.
-fn goes(alloc: Global, leaves: &mut Leaves, step: &Step) -> Result<bool, Fail>
+fn goes(alloc: Global, leaves: &mut Leaves, step: &Step) -> bool
     requires { leaves.old.away ≡ [] }
-    ensures { OnOk result (leaves.new.away ≡ []) }
+    ensures { leaves.new.away ≡ [] }
 {
     match step {
         Step::Put(key, value, page, made) => {
-            applied(leaves, put(key.as_bytes(), value.as_bytes())?, *page, *made)
+            applied(leaves, put(key.as_bytes(), value.as_bytes()), *page, *made)
         }
-        Step::Del(key, page) => applied(leaves, del(key.as_bytes())?, *page, 0),
+        Step::Del(key, page) => applied(leaves, del(key.as_bytes()), *page, 0),
         Step::Fill(count) => filled(leaves, *count),
-        Step::Count(count) => Ok(leaves.count() == *count),
-        Step::Page(page, text) => Ok(is_shown(leaves.page(*page), text)),
-        Step::Pairs(page, count) => Ok(pairs(leaves, *page) == *count),
+        Step::Count(count) => leaves.count() == *count,
+        Step::Page(page, text) => is_shown(leaves.page(*page), text),
+        Step::Pairs(page, count) => pairs(leaves, *page) == *count,
         Step::Find(key, page) => leads(leaves, key, *page),
         Step::Get(key, text) => has(leaves, key, text),
         Step::Batch => batch(alloc, leaves),
@@ -111,19 +123,30 @@ fn goes(alloc: Global, leaves: &mut Leaves, step: &Step) -> Result<bool, Fail>
 }
 
 /// The first step that did not go as told.
-fn walked(alloc: Global, from: Leaves, steps: &[Step]) -> Result<Option<usize>, Fail>
+fn walked(alloc: Global, from: Leaves, steps: &[Step]) -> Option<usize>
     requires { from.away ≡ [] }
 {
     let mut leaves = from;
     for (i, step) in steps.iter().enumerate() {
-        if !goes(alloc, &mut leaves, step)? {
-            return Ok(Some(i));
+        if !goes(alloc, &mut leaves, step) {
+            return Some(i);
         }
     }
-    Ok(None)
+    None
 }
 
-const TEN: &[&str] = &["a", "b", "c", "d", "e", "f", "g", "aa", "ab", "ac"];
+const TEN: &[(&str, Option<&str>)] = &[
+    ("a", Some("1")),
+    ("b", Some("1")),
+    ("c", Some("1")),
+    ("d", Some("1")),
+    ("e", Some("1")),
+    ("f", Some("1")),
+    ("g", Some("1")),
+    ("aa", Some("1")),
+    ("ab", Some("1")),
+    ("ac", Some("1")),
+];
 
 const FOUR: &[Step] = &[
     Batch,
@@ -222,43 +245,35 @@ const FILLS_32: &[Step] = &[
     Step::Pairs(2, 17),
 ];
 
-/// The same over new leaves of at most so many pairs.
-fn wrong_step(alloc: Global, m: u16, steps: &[Step]) -> Result<Option<usize>, Fail>
-    requires { (4 ≤ m) × (m ≤ 32) }
-{
-    let leaves = Leaves::one_empty(alloc, m)?;
-    if leaves.limit() != m {
-        return Err(Fail::from("another limit"));
-    }
-    walked(alloc, leaves, steps)
-}
+/// Steps over new leaves of at most so many pairs.
+type OfLimit = (u16, &'static [Step]);
 
-/// Each table over leaves of at most so many pairs: the first that went otherwise than told, and its
-/// step.
-fn first_wrong(alloc: Global, tables: &[(u16, &[Step])]) -> Result<Option<(usize, usize)>, Fail> {
-    for (i, (m, steps)) in tables.iter().enumerate() {
-        if *m < 4 || *m > 32 {
-            return Err(Fail::from("a limit out of range"));
+impl Table for OfLimit {
+    /// The same; the first step where the leaves were not made.
+    fn wrong_step(&self, alloc: Global) -> Option<usize> {
+        let (m, steps) = *self;
+        if m < 4 || m > 32 {
+            return Some(0);
         }
-        if let Some(step) = wrong_step(alloc, *m, steps)? {
-            return Ok(Some((i, step)));
+        match Leaves::one_empty(alloc, m) {
+            Ok(leaves) if leaves.limit() == m => walked(alloc, leaves, steps),
+            _ => Some(0),
         }
     }
-    Ok(None)
 }
 
-#[test]
-fn leaves_of_four_and_of_five_go_as_told(rt: HostRuntime) -> Result<(), Fail> {
-    let tables = [(4, FOUR), (4, SINGLE), (5, FIVE)];
-    all_went(&rt, first_wrong(rt.alloc(), &tables)?);
-    Ok(())
-}
+const TABLES: &[OfLimit] = &[(4, FOUR), (4, SINGLE), (5, FIVE)];
 
 #[test]
-fn a_page_is_cut_where_it_has_one_pair_too_many(rt: HostRuntime) -> Result<(), Fail> {
-    let tables = [(4, FILLS_4), (5, FILLS_5), (32, FILLS_32)];
-    all_went(&rt, first_wrong(rt.alloc(), &tables)?);
-    Ok(())
+fn leaves_of_four_and_of_five_go_as_told(rt: HostRuntime) {
+    all_went(&rt, wrong_table(rt.alloc(), TABLES));
+}
+
+const FILLS: &[OfLimit] = &[(4, FILLS_4), (5, FILLS_5), (32, FILLS_32)];
+
+#[test]
+fn a_page_is_cut_where_it_has_one_pair_too_many(rt: HostRuntime) {
+    all_went(&rt, wrong_table(rt.alloc(), FILLS));
 }
 
 const TAKEN: &[Step] = &[
@@ -273,9 +288,15 @@ const TAKEN: &[Step] = &[
     Page(3, ""),
 ];
 
+/// The first step that did not go as told over two pages that are taken.
+fn taken_wrong(alloc: Global) -> Option<usize> {
+    match two_pages(alloc) {
+        Ok(leaves) => walked(alloc, leaves, TAKEN),
+        Err(_) => Some(0),
+    }
+}
+
 #[test]
-fn leaves_are_taken_as_they_come(rt: HostRuntime) -> Result<(), Fail> {
-    let leaves = super::away::two_pages(rt.alloc())?;
-    went(&rt, walked(rt.alloc(), leaves, TAKEN)?);
-    Ok(())
+fn leaves_are_taken_as_they_come(rt: HostRuntime) {
+    went(&rt, taken_wrong(rt.alloc()));
 }

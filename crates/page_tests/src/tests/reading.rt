@@ -1,66 +1,53 @@
 //! One page, read forwards over blocks.
 
-use super::{bare, is_shown, put, went};
-use bw_codec::{Block, Leaf, Ops, Place};
-use bw_page::{change, read_blocks};
+use super::away::leaf_of;
+use super::{Row, is_shown, records, went, wrong_row};
+use bw_codec::{Block, Ops, Place};
+use bw_page::{empty_page, read_blocks};
 use std::alloc::Global;
-use std::test::Fail;
 
 const BACK: Place = Place { frame: 1, index: 0 };
 
 /// A Delta of page 1 that puts `a` and `b`.
-fn delta(alloc: Global) -> Result<Block, Fail> {
-    let mut ops = Vec::new(alloc);
-    ops.push(put(b"a", b"1")?)?;
-    ops.push(put(b"b", b"2")?)?;
-    Ok(Block::Delta {
+fn delta(alloc: Global) -> Option<Block> {
+    Some(Block::Delta {
         page: 1,
         back: BACK,
-        ops: Ops::of(ops),
+        ops: Ops::of(records(alloc, &[("a", Some("1")), ("b", Some("2"))])?),
     })
 }
 
 /// A Split of page 1 that makes page 2 from `b` on.
-fn split(alloc: Global) -> Result<Block, Fail> {
-    let mut upper: Leaf = bare(alloc, 2, b"b")?;
-    change(&mut upper, &put(b"b", b"2")?)?;
-    Ok(Block::Split {
+fn split(alloc: Global) -> Option<Block> {
+    Some(Block::Split {
         page: 1,
         back: BACK,
-        upper,
+        upper: leaf_of(alloc, 2, b"b", b"b", b"2").ok()?,
     })
 }
 
 /// Page 1 set, changed and cut in two.
-fn blocks(alloc: Global) -> Result<Vec<Block>, Fail> {
+fn blocks(alloc: Global) -> Option<Vec<Block>> {
     let mut blocks = Vec::new(alloc);
-    blocks.push(Block::Base(bare(alloc, 1, b"")?))?;
-    blocks.push(delta(alloc)?)?;
-    blocks.push(split(alloc)?)?;
-    Ok(blocks)
+    blocks.push(Block::Base(empty_page(alloc))).ok()?;
+    blocks.push(delta(alloc)?).ok()?;
+    blocks.push(split(alloc)?).ok()?;
+    Some(blocks)
 }
 
-/// Whether these blocks make such a page; no text where they never set it.
-fn is_read(alloc: Global, page: u32, text: &str) -> Result<bool, Fail> {
-    let leaf = read_blocks(page, None, blocks(alloc)?)?;
-    Ok(is_shown(leaf.as_ref(), text))
-}
+/// A page that the blocks make; no text where they never set it.
+type Page = (u32, &'static str);
 
-/// The pages; no text where the blocks never set one.
-const PAGES: &[(u32, &str)] = &[(1, ": a=1"), (2, "b: b=2"), (3, "")];
-
-/// The first page that is read otherwise.
-fn wrong_page(alloc: Global) -> Result<Option<usize>, Fail> {
-    for (i, (page, text)) in PAGES.iter().enumerate() {
-        if !is_read(alloc, *page, text)? {
-            return Ok(Some(i));
-        }
+impl Row for Page {
+    fn goes(&self, alloc: Global) -> Option<bool> {
+        let leaf = read_blocks(self.0, None, blocks(alloc)?).ok()?;
+        Some(is_shown(leaf.as_ref(), self.1))
     }
-    Ok(None)
 }
+
+const PAGES: &[Page] = &[(1, ": a=1"), (2, "b: b=2"), (3, "")];
 
 #[test]
-fn blocks_are_read_page_by_page(rt: HostRuntime) -> Result<(), Fail> {
-    went(&rt, wrong_page(rt.alloc())?);
-    Ok(())
+fn blocks_are_read_page_by_page(rt: HostRuntime) {
+    went(&rt, wrong_row(rt.alloc(), PAGES));
 }

@@ -1,6 +1,6 @@
 //! Versions of the pages, as publishers tell them and readers see them.
 
-ghost use Rattle.std.specs.Prelude.{◌≡◌, [], IfOk};
+ghost use Rattle.std.specs.Prelude.{◌≡◌, ◌≤◌, [], IfOk, IfSome};
 ghost use mathlib.Core.List.{IsPrefix};
 ghost use Rattle.bw_versions.specs.Batches.{entries_of};
 
@@ -12,13 +12,13 @@ mod publishers;
 mod threads;
 mod walking;
 
-use super::is_shown;
+use super::{is_shown, put};
 use bw_codec::{Key, Record, Value};
 use bw_page::Leaves;
-use bw_versions::{Entry, Versions};
+use bw_versions::{Entry, Reader, Versions};
 use std::alloc::{AllocError, Global};
 use std::sync::Wait;
-use std::test::Fail;
+use std::thread::Threads;
 
 /// Page 1 without any pair.
 fn start(alloc: Global) -> Result<Leaves, AllocError>
@@ -27,28 +27,108 @@ fn start(alloc: Global) -> Result<Leaves, AllocError>
     Leaves::one_empty(alloc, 4)
 }
 
-fn put(key: &[u8], value: &[u8]) -> Result<Entry, Fail> {
-    Ok(Entry {
-        writer: 0,
-        item: Record::Put(Key::new(key)?, Value::new(value)?),
+/// One writer's puts.
+fn entries(alloc: Global, pairs: &[(&str, &str)]) -> Option<Vec<Entry>> {
+    let mut entries = Vec::new(alloc);
+    for (key, value) in pairs {
+        let item = put(key.as_bytes(), value.as_bytes())?;
+        entries.push(Entry { writer: 0, item }).ok()?;
+    }
+    Some(entries)
+}
+
+/// Versions of one empty page, and a history of which they publish a beginning.
+struct Stand {
+    versions: Versions,
+    history: Vec<Entry>,
+}
+
+/// Nothing is published, and so many readers may be made.
+fn opened<R: AllocGlobal + Wait>(rt: &R, places: usize) -> Option<Stand>
+    requires { (1 ≤ places) × (places ≤ 64) }
+    ensures { IfSome result (λ stand. stand.versions.entered ≡ []) }
+{
+    let alloc = rt.alloc();
+    let start = start(alloc).ok()?;
+    Some(Stand {
+        versions: Versions::open(rt, alloc, places, start).ok()?,
+        history: Vec::new(alloc),
     })
 }
 
-fn del(key: &[u8]) -> Result<Entry, Fail> {
-    Ok(Entry {
-        writer: 0,
-        item: Record::Del(Key::new(key)?),
-    })
+/// Enters a writer's record in the history.
+fn enter(stand: &mut Stand, writer: u16, record: Option<Record>) -> bool
+    requires begins { IsPrefix (entries_of stand.old.versions.entered) stand.old.history.items }
+    ensures begins { IsPrefix (entries_of stand.new.versions.entered) stand.new.history.items }
+    ensures same { stand.new.versions ≡ stand.old.versions }
+{
+    match record {
+        Some(item) => stand.history.push(Entry { writer, item }).is_ok(),
+        None => false,
+    }
 }
 
 /// Publishes the history. This says of it only what a test asks for: each body that calls the
 /// publication itself would prove all of its contract.
-fn publish<R: Wait>(rt: &R, versions: &mut Versions, history: &[Entry]) -> Result<(), AllocError>
-    requires begins { IsPrefix (entries_of versions.old.entered) history.now }
-    ensures begins { IsPrefix (entries_of versions.new.entered) history.now }
-    ensures book { versions.new.book ≡ versions.old.book }
+fn publish<R: Wait>(rt: &R, stand: &mut Stand) -> bool
+    requires begins { IsPrefix (entries_of stand.old.versions.entered) stand.old.history.items }
+    ensures begins { IsPrefix (entries_of stand.new.versions.entered) stand.new.history.items }
+    ensures book { stand.new.versions.book ≡ stand.old.versions.book }
 {
-    versions.publish_up_to(rt, history)
+    stand
+        .versions
+        .publish_up_to(rt, stand.history.as_slice())
+        .is_ok()
+}
+
+/// Ends the versions.
+fn shut<R: Wait>(rt: &R, stand: Stand) {
+    let Stand {
+        versions,
+        history: _history,
+    } = stand;
+    versions.shut(rt);
+}
+
+/// What is done with versions of one empty page, which are shut afterwards.
+#[derive(Drop)]
+enum Case {
+    /// One reader beside publications.
+    Steps(&'static [walking::Step]),
+    /// A reader in a thread of its own, beside publications.
+    Race,
+    /// A reader in a thread of its own that learnt the last news.
+    Learns,
+    /// Four readers, where three may be made.
+    Places,
+}
+
+fn does<R: Threads + Wait>(rt: &R, stand: &mut Stand, case: &Case) -> Option<usize>
+    requires { stand.old.versions.entered ≡ [] }
+{
+    match case {
+        Case::Steps(steps) => walking::walked(rt, stand, steps),
+        Case::Race => lone(threads::race(rt, stand)),
+        Case::Learns => lone(learning::learns(rt, stand)),
+        Case::Places => lone(places::made(stand) == Some(3)),
+    }
+}
+
+/// The only step, where it did not go as told.
+fn lone(went: bool) -> Option<usize> {
+    if went { None } else { Some(0) }
+}
+
+/// The first step that did not go as told; the first where the versions were not made.
+fn over<R: AllocGlobal + Threads + Wait>(rt: &R, places: usize, case: &Case) -> Option<usize>
+    requires { (1 ≤ places) × (places ≤ 64) }
+{
+    let Some(mut stand) = opened(rt, places) else {
+        return Some(0);
+    };
+    let wrong = does(rt, &mut stand, case);
+    shut(rt, stand);
+    wrong
 }
 
 /// Whether a value is so; no text where there is none.
@@ -56,5 +136,28 @@ fn is_value(value: Option<Value>, text: &str) -> bool {
     match value {
         Some(value) => value.as_slice() == text.as_bytes(),
         None => text.len() == 0,
+    }
+}
+
+/// Whether a reader reads this value of a key; no text where there is none.
+fn value_is(reader: &mut Reader, key: &str, text: &str) -> bool
+    ensures { reader.new.book ≡ reader.old.book }
+{
+    let Ok(key) = Key::new(key.as_bytes()) else {
+        return false;
+    };
+    match reader.get(&key) {
+        Ok(value) => is_value(value, text),
+        Err(_) => false,
+    }
+}
+
+/// Whether a reader reads this page; no text where there is none.
+fn page_is(reader: &mut Reader, page: u32, text: &str) -> bool
+    ensures { reader.new.book ≡ reader.old.book }
+{
+    match reader.page(page) {
+        Ok(leaf) => is_shown(leaf.as_ref(), text),
+        Err(_) => false,
     }
 }

@@ -5,7 +5,7 @@ ghost use Rattle.std.specs.List.{AllByRecursion};
 ghost use Rattle.bw_codec.specs.Grammar.{IsBlock};
 
 use super::hex::{bytes_of, framed};
-use crate::tests::{all_went, went};
+use crate::tests::{self, all_went, went, wrong_row, wrong_table};
 use bw_buffer::{Buffer, Mark, PutError};
 use bw_codec::{Block, Blocks, FrameRead, Header, Place, encode_block, read_frame};
 use std::alloc::Global;
@@ -279,36 +279,39 @@ const WORKED: &[Step] = &[
     Step::Gives(SPLIT),
 ];
 
-/// The first of these tables that did not go as told, and its step.
-fn first_wrong(alloc: Global, tables: &[&[Step]]) -> Option<(usize, usize)> {
-    for (i, steps) in tables.iter().enumerate() {
-        if let Some(step) = wrong_step(alloc, 1, steps) {
-            return Some((i, step));
-        }
+impl tests::Table for &'static [Step] {
+    /// The same with a new buffer of frame 1.
+    fn wrong_step(&self, alloc: Global) -> Option<usize> {
+        wrong_step(alloc, 1, *self)
     }
-    None
 }
+
+const TABLES: &[&[Step]] = &[SEALED, COPIED, COPIED_TO_THE_END, FULL, WORKED];
 
 #[test]
 fn buffers_go_as_told(rt: HostRuntime) {
-    let tables = [SEALED, COPIED, COPIED_TO_THE_END, FULL, WORKED];
-    all_went(&rt, first_wrong(rt.alloc(), &tables));
+    all_went(&rt, wrong_table(rt.alloc(), TABLES));
 }
 
-/// Whether a new buffer of this number gives the bytes whose blocks it takes, before and after the
-/// seal.
-fn gives_again(alloc: Global, number: u64, hex: &'static str) -> bool {
-    let steps = [
-        Step::Put(hex, Ok((number, 0))),
-        Step::Gives(hex),
-        Step::Seal,
-        Step::Gives(hex),
-    ];
-    wrong_step(alloc, number, &steps).is_none()
+/// A frame by its number.
+type Numbered = (u64, &'static str);
+
+impl tests::Row for Numbered {
+    /// Whether a new buffer of this number gives the bytes whose blocks it takes, before and after
+    /// the seal.
+    fn goes(&self, alloc: Global) -> Option<bool> {
+        let (number, hex) = *self;
+        let steps = [
+            Step::Put(hex, Ok((number, 0))),
+            Step::Gives(hex),
+            Step::Seal,
+            Step::Gives(hex),
+        ];
+        Some(wrong_step(alloc, number, &steps).is_none())
+    }
 }
 
-/// Frames by their numbers.
-const FRAMES: &[(u64, &str)] = &[
+const FRAMES: &[Numbered] = &[
     (1, EMPTY),
     (1, PUT_A),
     (2, PUT_B),
@@ -317,17 +320,7 @@ const FRAMES: &[(u64, &str)] = &[
     (5, SPLIT),
 ];
 
-/// The first frame that a buffer gives otherwise.
-fn wrong_frame(alloc: Global) -> Option<usize> {
-    for (i, (number, hex)) in FRAMES.iter().enumerate() {
-        if !gives_again(alloc, *number, hex) {
-            return Some(i);
-        }
-    }
-    None
-}
-
 #[test]
 fn frames_made_by_buffers_are_the_worked_bytes(rt: HostRuntime) {
-    went(&rt, wrong_frame(rt.alloc()));
+    went(&rt, wrong_row(rt.alloc(), FRAMES));
 }

@@ -2,16 +2,26 @@
 
 use super::is_text;
 use super::told::{Kind, are_pairs, is_one, says};
-use crate::tests::went;
+use crate::tests::{Row, all_hold, put, records, went, wrong_row};
 use bw_buffer::PutError;
 use bw_codec::{
-    Block, Blocks, CodecFault, Head, Header, Key, Leaf, LengthError, Low, Ops, Pairs, Place,
-    Record, Value, is_before,
+    Block, Blocks, CodecFault, Head, Header, Key, Leaf, LengthError, Low, Ops, Pairs, Place, Value,
+    is_before,
 };
 use std::alloc::Global;
 
-/// Counts of bytes, and whether a key and a value may have so many.
-const LENGTHS: &[(usize, bool, bool)] = &[
+/// A count of bytes, and whether a key and a value may have so many.
+type Length = (usize, bool, bool);
+
+impl Row for Length {
+    fn goes(&self, _alloc: Global) -> Option<bool> {
+        let all = [0x61; 129];
+        let bytes = all.get(..self.0)?;
+        Some(Key::new(bytes).is_ok() == self.1 && Value::new(bytes).is_ok() == self.2)
+    }
+}
+
+const LENGTHS: &[Length] = &[
     (0, false, true),
     (1, true, true),
     (64, true, true),
@@ -20,28 +30,9 @@ const LENGTHS: &[(usize, bool, bool)] = &[
     (129, false, false),
 ];
 
-/// Whether so many bytes are a key or a value, or neither, as told.
-fn are_taken(count: usize, is_key: bool, is_value: bool) -> bool {
-    let all = [0x61; 129];
-    match all.get(..count) {
-        Some(bytes) => Key::new(bytes).is_ok() == is_key && Value::new(bytes).is_ok() == is_value,
-        None => false,
-    }
-}
-
-/// The first row that is answered otherwise than told.
-fn wrong_length() -> Option<usize> {
-    for (i, (count, is_key, is_value)) in LENGTHS.iter().enumerate() {
-        if !are_taken(*count, *is_key, *is_value) {
-            return Some(i);
-        }
-    }
-    None
-}
-
 #[test]
 fn keys_have_1_to_64_bytes_and_values_0_to_128(rt: HostRuntime) {
-    went(&rt, wrong_length());
+    went(&rt, wrong_row(rt.alloc(), LENGTHS));
 }
 
 /// A key and a value of these bytes.
@@ -49,26 +40,34 @@ fn pair_of(key: &[u8], value: &[u8]) -> Option<(Key, Value)> {
     Some((Key::new(key).ok()?, Value::new(value).ok()?))
 }
 
-/// The pairs a=1 and c=3, built and changed by each call that does so.
-fn changed_pairs(alloc: Global) -> Option<Pairs> {
+/// Pairs, each with the place at which it is inserted.
+const INSERTED: &[(usize, &[u8], &[u8])] = &[
+    (0, b"c", b"3"),
+    (0, b"a", b"0"),
+    (1, b"b", b"2"),
+    (3, b"d", b"4"),
+];
+
+fn inserted_pairs(alloc: Global) -> Option<Pairs> {
     let mut pairs = Pairs::of(Vec::new(alloc));
-    for (at, key, value) in [
-        (0, b"c", b"3"),
-        (0, b"a", b"0"),
-        (1, b"b", b"2"),
-        (3, b"d", b"4"),
-    ] {
-        if pairs.as_slice().len() < at {
+    for (at, key, value) in INSERTED {
+        let (key, value) = pair_of(*key, *value)?;
+        if pairs.as_slice().len() < *at {
             return None;
         }
-        let pair = pair_of(key, value)?;
-        pairs.insert(at, pair.0, pair.1).ok()?;
+        pairs.insert(*at, key, value).ok()?;
     }
+    Some(pairs)
+}
+
+/// The pairs a=1 and c=3, built and changed by each call that does so.
+fn changed_pairs(alloc: Global) -> Option<Pairs> {
+    let mut pairs = inserted_pairs(alloc)?;
     if pairs.as_slice().len() != 4 {
         return None;
     }
-    let pair = pair_of(b"a", b"1")?;
-    pairs.replace(0, pair.0, pair.1);
+    let (key, value) = pair_of(b"a", b"1")?;
+    pairs.replace(0, key, value);
     pairs.remove(1);
     pairs.truncate(2);
     Some(pairs)
@@ -101,29 +100,28 @@ fn leaf_is_copied(alloc: Global) -> Option<bool> {
     is_copy(alloc, &leaf.copy().ok()?)
 }
 
-/// The blocks of one Delta that holds these records.
-fn delta_of(alloc: Global, ops: Ops) -> Option<Blocks> {
-    let back = Place { frame: 1, index: 0 };
-    let mut blocks = Vec::new(alloc);
-    blocks.push(Block::Delta { page: 1, back, ops }).ok()?;
-    Some(Blocks::of(Blocks::of(blocks).into_vec()))
-}
+const BACK: Place = Place { frame: 1, index: 0 };
 
-/// Whether a Delta of these records says that k has the value v.
+/// Whether the blocks of one Delta of these records say that k has the value v.
 fn puts_k(alloc: Global, ops: Ops) -> Option<bool> {
-    let blocks = delta_of(alloc, ops)?;
-    let first = blocks.as_slice().get(0)?;
-    Some(says(first, Kind::Put, (1, 0), b"k", b"v"))
+    let delta = Block::Delta {
+        page: 1,
+        back: BACK,
+        ops,
+    };
+    let mut blocks = Vec::new(alloc);
+    blocks.push(delta).ok()?;
+    let blocks = Blocks::of(Blocks::of(blocks).into_vec());
+    Some(says(blocks.as_slice().get(0)?, Kind::Put, BACK, b"k", b"v"))
 }
 
 /// Whether records and the blocks that hold them are handed in and out.
 fn records_go_through(alloc: Global) -> Option<bool> {
-    let (key, value) = pair_of(b"k", b"v")?;
-    let put = Record::Put(key, value);
+    let put = put(b"k", b"v")?;
     let same = put.copy() == put && is_one(put.key().as_slice(), b'k');
-    let mut items = Vec::new(alloc);
-    items.push(put.copy()).ok()?;
-    Some(same && puts_k(alloc, Ops::of(items))? && puts_k(alloc, Ops::one(put))?)
+    let one = puts_k(alloc, Ops::one(put));
+    let all = puts_k(alloc, Ops::of(records(alloc, &[("k", Some("v"))])?));
+    Some(same && one? && all?)
 }
 
 /// Keys that share their first bytes: those of the third and fourth are the first eight.
@@ -157,17 +155,16 @@ fn are_stepped(pairs: &Pairs) -> bool {
         .all(|(key, count)| pairs.skipped(*key) == *count)
 }
 
-/// Whether a search steps over pairs however these came about.
-fn keys_are_stepped_over(alloc: Global) -> Option<bool> {
+/// Whether a search steps over pairs that were made, and over a copy of them.
+fn near_are_stepped_over(alloc: Global) -> Option<bool> {
     let made = near_pairs(alloc)?;
-    let copied = made.copy().ok()?;
+    Some(are_stepped(&made) && are_stepped(&made.copy().ok()?))
+}
+
+/// Whether it steps over pairs that were changed.
+fn changed_are_stepped_over(alloc: Global) -> Option<bool> {
     let changed = changed_pairs(alloc)?;
-    Some(
-        are_stepped(&made)
-            && are_stepped(&copied)
-            && changed.skipped(b"c") == 1
-            && changed.skipped(b"d") == 2,
-    )
+    Some(changed.skipped(b"c") == 1 && changed.skipped(b"d") == 2)
 }
 
 /// Whether heads and keys are told by the calls that answer yes or no.
@@ -196,24 +193,27 @@ fn questions_are_answered() -> Option<bool> {
 
 #[test]
 fn each_call_succeeds(rt: HostRuntime) {
-    assert!(rt; questions_are_answered() == Some(true));
-    assert!(rt; leaf_is_copied(rt.alloc()) == Some(true));
-    assert!(rt; records_go_through(rt.alloc()) == Some(true));
-    assert!(rt; keys_are_stepped_over(rt.alloc()) == Some(true));
+    let alloc = rt.alloc();
+    let said = [
+        questions_are_answered() == Some(true),
+        leaf_is_copied(alloc) == Some(true),
+        records_go_through(alloc) == Some(true),
+        near_are_stepped_over(alloc) == Some(true),
+        changed_are_stepped_over(alloc) == Some(true),
+    ];
+    all_hold(&rt, &said);
 }
 
 #[test]
 fn the_refusals_have_texts(rt: HostRuntime) {
+    let alloc = rt.alloc();
     let length = LengthError { given: 65 };
-    assert!(rt; is_text(rt.alloc(), &length, "a length of 65 bytes is out of range"));
-    assert!(rt; is_text(rt.alloc(), &CodecFault::NoMemory, "out of memory"));
-    assert!(rt; is_text(rt.alloc(), &CodecFault::BadBytes, "unlawful bytes"));
-    assert!(rt; is_text(rt.alloc(), &PutError::Sealed, "the buffer is sealed"));
-    assert!(rt;
-        is_text(
-            rt.alloc(),
-            &PutError::NoRoom,
-            "the blocks do not fit the frame"
-        )
-    );
+    let said = [
+        is_text(alloc, &length, "a length of 65 bytes is out of range"),
+        is_text(alloc, &CodecFault::NoMemory, "out of memory"),
+        is_text(alloc, &CodecFault::BadBytes, "unlawful bytes"),
+        is_text(alloc, &PutError::Sealed, "the buffer is sealed"),
+        is_text(alloc, &PutError::NoRoom, "the blocks do not fit the frame"),
+    ];
+    all_hold(&rt, &said);
 }

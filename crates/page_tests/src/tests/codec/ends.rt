@@ -4,11 +4,10 @@ ghost use Rattle.std.specs.Prelude.{◌≡◌, IfSome};
 ghost use Rattle.bw_ring.specs.Ends.{ring_of_feed, ring_of_lane, IsFeedOf};
 
 use super::rings::{numbered, one_ring};
-use crate::tests::all_went;
+use crate::tests::{Table, all_went, wrong_table};
 use bw_codec::Record;
 use bw_ring::{Feed, Full, Lane};
 use std::alloc::Global;
-use std::test::Fail;
 
 /// What a caller knows of a peek and the take after it.
 fn peeked_and_taken(lane: &mut Lane) -> Option<(Record, Record)>
@@ -109,20 +108,17 @@ fn walked(feed: &mut Feed, lane: &mut Lane, steps: &[Step]) -> Option<usize>
     None
 }
 
-/// The same over a new ring of so many places.
-fn wrong_step(alloc: Global, places: usize, steps: &[Step]) -> Result<Option<usize>, Fail> {
-    let (mut feed, mut lane) = one_ring(alloc, places)?;
-    Ok(walked(&mut feed, &mut lane, steps))
-}
+/// Steps over a new ring of so many places.
+type OfPlaces = (usize, &'static [Step]);
 
-/// Each table over a ring of so many places: the first that went otherwise than told, and its step.
-fn first_wrong(alloc: Global, tables: &[(usize, &[Step])]) -> Result<Option<(usize, usize)>, Fail> {
-    for (i, (places, steps)) in tables.iter().enumerate() {
-        if let Some(step) = wrong_step(alloc, *places, steps)? {
-            return Ok(Some((i, step)));
+impl Table for OfPlaces {
+    /// The same; the first step where the ring was not made.
+    fn wrong_step(&self, alloc: Global) -> Option<usize> {
+        match one_ring(alloc, self.0) {
+            Ok((mut feed, mut lane)) => walked(&mut feed, &mut lane, self.1),
+            Err(_) => Some(0),
         }
     }
-    Ok(None)
 }
 
 /// A ring of two places. The feed looks again, so a place that was freed since is found by a put and
@@ -174,9 +170,9 @@ const KNOWN: &[Step] = &[
     Step::Take(Some(3)),
 ];
 
+const TABLES: &[OfPlaces] = &[(2, TWO_PLACES), (4, LOOKS), (4, KNOWN)];
+
 #[test]
-fn ends_go_as_told(rt: HostRuntime) -> Result<(), Fail> {
-    let tables = [(2, TWO_PLACES), (4, LOOKS), (4, KNOWN)];
-    all_went(&rt, first_wrong(rt.alloc(), &tables)?);
-    Ok(())
+fn ends_go_as_told(rt: HostRuntime) {
+    all_went(&rt, wrong_table(rt.alloc(), TABLES));
 }

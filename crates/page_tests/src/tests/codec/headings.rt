@@ -1,16 +1,19 @@
 // What a segment begins with.
 
-use super::hex::{FIRST, bytes_of};
-use crate::tests::went;
+use super::hex::changed;
+use crate::tests::{Row, went, wrong_row};
 use bw_codec::{Header, HeaderRead, read_header};
 use std::alloc::Global;
 
-/// What a segment of the first one's bytes begins with, where one byte was changed and the bytes from
-/// an index on were cut off.
-fn heading_after(alloc: Global, at: usize, to: u8, cut: usize) -> Option<HeaderRead> {
-    let mut segment = bytes_of(alloc, FIRST)?;
-    *segment.as_mut_slice().get_mut(at)? = to;
-    Some(read_header(segment.as_slice().get(..cut)?))
+/// The byte at this index becomes this, and so many bytes are left.
+type Heading = (usize, u8, usize, HeaderRead);
+
+impl Row for Heading {
+    /// Whether a segment of the first one's bytes begins with this then.
+    fn goes(&self, alloc: Global) -> Option<bool> {
+        let segment = changed(alloc, self.0, self.1)?;
+        Some(read_header(segment.as_slice().get(..self.2)?) == self.3)
+    }
 }
 
 const HEADER: Header = Header {
@@ -19,8 +22,7 @@ const HEADER: Header = Header {
     f: 16384,
 };
 
-/// The byte at this index becomes this, and so many bytes are left.
-const HEADINGS: &[(usize, u8, usize, HeaderRead)] = &[
+const HEADINGS: &[Heading] = &[
     (0, 0x42, 76, HeaderRead::Whole(HEADER)),
     (0, 0x42, 24, HeaderRead::Whole(HEADER)),
     (0, 0x42, 23, HeaderRead::Part),
@@ -39,17 +41,7 @@ const HEADINGS: &[(usize, u8, usize, HeaderRead)] = &[
     (8, 0x00, 23, HeaderRead::Part),
 ];
 
-/// The first row that is not read as told.
-fn wrong_row(alloc: Global) -> Option<usize> {
-    for (i, (at, to, cut, read)) in HEADINGS.iter().enumerate() {
-        if heading_after(alloc, *at, *to, *cut) != Some(*read) {
-            return Some(i);
-        }
-    }
-    None
-}
-
 #[test]
 fn a_header_cut_short_is_a_part_of_one(rt: HostRuntime) {
-    went(&rt, wrong_row(rt.alloc()));
+    went(&rt, wrong_row(rt.alloc(), HEADINGS));
 }

@@ -76,6 +76,14 @@ pub(crate) fn bytes_of(alloc: Global, hex: &str) -> Option<Vec<u8>> {
     Some(bytes)
 }
 
+/// The first segment and one byte more, where one byte of them was changed.
+pub(crate) fn changed(alloc: Global, at: usize, to: u8) -> Option<Vec<u8>> {
+    let mut bytes = bytes_of(alloc, FIRST)?;
+    bytes.push(0).ok()?;
+    *bytes.as_mut_slice().get_mut(at)? = to;
+    Some(bytes)
+}
+
 /// A body: what the digits in front spell, so many bytes `61`, and what the digits behind spell.
 pub(crate) fn body_of(alloc: Global, front: &str, many: u8, behind: &str) -> Option<Vec<u8>> {
     let mut bytes = Vec::new(alloc);

@@ -1,7 +1,7 @@
 // Frames that are whole, that were cut, or that are bad.
 
-use super::hex::{FIRST, bytes_of};
-use crate::tests::went;
+use super::hex::{bytes_of, changed};
+use crate::tests::{Row, went, wrong_row};
 use bw_codec::{CodecFault, FrameRead, Header, read_frame};
 use std::alloc::Global;
 
@@ -31,22 +31,20 @@ pub(crate) fn found_in(alloc: Global, m: u16, bytes: &[u8]) -> Option<Found> {
 
 // ---- a frame that was cut, or one of whose bytes was changed
 
-/// What stands at the front of the first segment's frame where one byte was changed and the bytes
-/// from an index on were cut off. One byte stands behind the frame.
-fn found_after(alloc: Global, at: usize, to: u8, cut: usize) -> Option<Found> {
-    let mut segment = bytes_of(alloc, FIRST)?;
-    segment.push(0).ok()?;
-    found_changed(alloc, segment.as_mut_slice().get_mut(24..)?, at, to, cut)
+/// The byte at this index of the first segment's frame, or the one behind it, becomes this, and so
+/// many bytes are left.
+type Change = (usize, u8, usize, Found);
+
+impl Row for Change {
+    /// Whether this stands at the front then.
+    fn goes(&self, alloc: Global) -> Option<bool> {
+        let segment = changed(alloc, self.0.checked_add(24)?, self.1)?;
+        let found = found_in(alloc, 4, segment.as_slice().get(24..)?.get(..self.2)?)?;
+        Some(found == self.3)
+    }
 }
 
-/// The same of the frame and what stands behind it.
-fn found_changed(alloc: Global, bytes: &mut [u8], at: usize, to: u8, cut: usize) -> Option<Found> {
-    *bytes.get_mut(at)? = to;
-    found_in(alloc, 4, bytes.get(..cut)?)
-}
-
-/// The byte at this index becomes this, and so many bytes are left.
-const CHANGED: &[(usize, u8, usize, Found)] = &[
+const CHANGED: &[Change] = &[
     (0, 0x46, 52, Found::Whole(52)),
     (0, 0x46, 53, Found::Whole(52)),
     (52, 0x46, 53, Found::Whole(52)),
@@ -69,31 +67,25 @@ const CHANGED: &[(usize, u8, usize, Found)] = &[
     (16, 0x00, 52, Found::Bad),
 ];
 
-/// The first row of which something else is found.
-fn wrong_change(alloc: Global) -> Option<usize> {
-    for (i, (at, to, cut, found)) in CHANGED.iter().enumerate() {
-        if found_after(alloc, *at, *to, *cut) != Some(*found) {
-            return Some(i);
-        }
-    }
-    None
-}
-
 #[test]
 fn a_frame_cut_short_is_a_tail_and_a_changed_one_is_bad(rt: HostRuntime) {
-    went(&rt, wrong_change(rt.alloc()));
+    went(&rt, wrong_row(rt.alloc(), CHANGED));
 }
 
 // ---- heads
 
-/// What stands at the front of these digits.
-fn found_of(alloc: Global, hex: &str) -> Option<Found> {
-    let bytes = bytes_of(alloc, hex)?;
-    found_in(alloc, 4, bytes.as_slice())
+/// Digits, and what stands at their front.
+type Digits = (&'static str, Found);
+
+impl Row for Digits {
+    fn goes(&self, alloc: Global) -> Option<bool> {
+        let bytes = bytes_of(alloc, self.0)?;
+        Some(found_in(alloc, 4, bytes.as_slice())? == self.1)
+    }
 }
 
 /// Heads of a body of 2^32 - 1 bytes, of one beyond the limit, and of the limit's.
-const HEADS: &[(&str, Found)] = &[
+const HEADS: &[Digits] = &[
     (
         "46524d31 0100000000000000 ffffffff 01000000 02 01000000 00 0000",
         Found::Bad,
@@ -112,17 +104,7 @@ const HEADS: &[(&str, Found)] = &[
     ),
 ];
 
-/// The first head at which something else is found.
-fn wrong_head(alloc: Global) -> Option<usize> {
-    for (i, (hex, found)) in HEADS.iter().enumerate() {
-        if found_of(alloc, hex) != Some(*found) {
-            return Some(i);
-        }
-    }
-    None
-}
-
 #[test]
 fn a_body_of_the_greatest_length_is_bad(rt: HostRuntime) {
-    went(&rt, wrong_head(rt.alloc()));
+    went(&rt, wrong_row(rt.alloc(), HEADS));
 }

@@ -4,7 +4,7 @@ ghost use Rattle.std.specs.Prelude.{IfOk};
 ghost use Rattle.bw_ring.specs.Ends.{IsFeedOf};
 
 use super::is_text;
-use crate::tests::went;
+use crate::tests::{Row, all_hold, went, wrong_row};
 use bw_codec::{Key, Record};
 use bw_ring::{Feed, Full, Lane, LanesError, lanes};
 use std::alloc::Global;
@@ -29,7 +29,20 @@ pub(crate) fn one_ring(alloc: Global, places: usize) -> Result<(Feed, Lane), Lan
 }
 
 /// Writers and places, and whether there may be so many.
-const CONFIGS: &[(usize, usize, bool)] = &[
+type Config = (usize, usize, bool);
+
+impl Row for Config {
+    /// Whether rings are made, or refused, as told.
+    fn goes(&self, alloc: Global) -> Option<bool> {
+        let (writers, places, told) = *self;
+        Some(match lanes(alloc, writers, places) {
+            Ok((feeds, ends)) => told && feeds.len() == writers && ends.len() == writers,
+            Err(error) => !told && error == LanesError::BadConfig,
+        })
+    }
+}
+
+const CONFIGS: &[Config] = &[
     (0, 1, false),
     (65, 1, false),
     (1, 0, false),
@@ -41,33 +54,18 @@ const CONFIGS: &[(usize, usize, bool)] = &[
     (3, 8, true),
 ];
 
-/// Whether rings are made, or refused, as told.
-fn is_made(alloc: Global, writers: usize, places: usize, told: bool) -> bool {
-    match lanes(alloc, writers, places) {
-        Ok((feeds, ends)) => told && feeds.len() == writers && ends.len() == writers,
-        Err(error) => !told && error == LanesError::BadConfig,
-    }
-}
-
-/// The first row that is answered otherwise than told.
-fn wrong_config(alloc: Global) -> Option<usize> {
-    for (i, (writers, places, told)) in CONFIGS.iter().enumerate() {
-        if !is_made(alloc, *writers, *places, *told) {
-            return Some(i);
-        }
-    }
-    None
-}
-
 #[test]
 fn the_ranges_are_exact(rt: HostRuntime) {
-    went(&rt, wrong_config(rt.alloc()));
+    went(&rt, wrong_row(rt.alloc(), CONFIGS));
 }
 
 #[test]
 fn the_refusals_have_texts(rt: HostRuntime) {
     let range = "the number of writers or of places is out of range";
-    assert!(rt; is_text(rt.alloc(), &Full(numbered(0)), "the ring is full"));
-    assert!(rt; is_text(rt.alloc(), &LanesError::BadConfig, range));
-    assert!(rt; is_text(rt.alloc(), &LanesError::NoMemory, "memory ran out"));
+    let said = [
+        is_text(rt.alloc(), &Full(numbered(0)), "the ring is full"),
+        is_text(rt.alloc(), &LanesError::BadConfig, range),
+        is_text(rt.alloc(), &LanesError::NoMemory, "memory ran out"),
+    ];
+    all_hold(&rt, &said);
 }

@@ -1,15 +1,13 @@
 // A ring between two threads.
 
 ghost use Rattle.std.specs.Prelude.{◌≡◌};
-ghost use Rattle.bw_ring.specs.Ends.{ring_of_feed, ring_of_lane};
+ghost use Rattle.bw_ring.specs.Ends.{ring_of_feed, ring_of_lane, IsFeedOf};
 
 use super::rings::{numbered, one_ring};
 use bw_ring::{Feed, Lane};
-use std::process::Abort;
 use std::snapshot::Snapshot;
-use std::test::Fail;
 use std::thread;
-use std::thread::Promise;
+use std::thread::{Promise, Threads};
 
 /// How many records go through the ring of 8 places.
 const RECORDS: u32 = 1000;
@@ -45,7 +43,8 @@ fn put_numbered(feed: Feed) -> Feed
     feed
 }
 
-fn take_numbered(rt: &impl Abort, lane: &mut Lane, first: u32, end: u32)
+/// Whether records of these numbers are taken, in their order.
+fn take_numbered(lane: &mut Lane, first: u32, end: u32) -> bool
     ensures { ring_of_lane lane.new ≡ ring_of_lane lane.old }
 {
     let mut next = first;
@@ -55,26 +54,43 @@ fn take_numbered(rt: &impl Abort, lane: &mut Lane, first: u32, end: u32)
         }
         match lane.take() {
             Some(item) => {
-                assert_eq!(rt; item, numbered(next));
+                if item != numbered(next) {
+                    return false;
+                }
                 next += 1;
             }
             None => thread::yield_now(),
         }
     }
-    assert_eq!(rt; next, end);
+    next == end
+}
+
+/// Whether the records that are left are known beside the feed, and taken, and then none is left.
+fn is_left(feed: &mut Feed, lane: &mut Lane) -> bool
+    requires { IsFeedOf feed.old lane.old }
+{
+    let left = RECORDS - TAKEN_MEANWHILE;
+    lane.rest_beside(feed) == left as usize
+        && take_numbered(lane, TAKEN_MEANWHILE, RECORDS)
+        && lane.rest_beside(feed) == 0
+        && lane.peek().is_none()
+}
+
+/// Whether all records are taken in their order, most of them while the feed is away.
+fn go_through<R: AllocGlobal + Threads>(rt: &R) -> Option<bool> {
+    let Ok((feed, mut lane)) = one_ring(rt.alloc(), 8) else {
+        return None;
+    };
+    let promise = OfOneRing(Snapshot::of(&feed));
+    let Ok(writer) = thread::spawn_with(rt, promise, move || put_numbered(feed)) else {
+        return None;
+    };
+    let meanwhile = take_numbered(&mut lane, 0, TAKEN_MEANWHILE);
+    let mut feed = writer.join(rt);
+    Some(meanwhile && is_left(&mut feed, &mut lane))
 }
 
 #[test]
-fn a_feed_in_a_thread_of_its_own_is_taken_in_order(rt: HostRuntime) -> Result<(), Fail> {
-    let (feed, mut lane) = one_ring(rt.alloc(), 8)?;
-    let promise = OfOneRing(Snapshot::of(&feed));
-    let writer = thread::spawn_with(&rt, promise, move || put_numbered(feed))?;
-    take_numbered(&rt, &mut lane, 0, TAKEN_MEANWHILE);
-    let mut feed = writer.join(&rt);
-    let left = RECORDS - TAKEN_MEANWHILE;
-    assert_eq!(rt; lane.rest_beside(&mut feed), left as usize);
-    take_numbered(&rt, &mut lane, TAKEN_MEANWHILE, RECORDS);
-    assert_eq!(rt; lane.rest_beside(&mut feed), 0);
-    assert!(rt; lane.peek().is_none());
-    Ok(())
+fn a_feed_in_a_thread_of_its_own_is_taken_in_order(rt: HostRuntime) {
+    assert!(rt; go_through(&rt) == Some(true));
 }

@@ -1,7 +1,7 @@
 // What the worked bytes tell, block by block.
 
 use super::hex::{FIRST, NEWER, OLDER, SECOND, bytes_of};
-use crate::tests::went;
+use crate::tests::{self, went, wrong_row};
 use bw_codec::{
     Block, Frame, FrameRead, Header, HeaderRead, Key, Outline, Place, Record, Value, read_frame,
     read_header,
@@ -50,13 +50,7 @@ fn are_put(ops: &[Record], keys: &[u8], values: &[u8]) -> bool {
 
 /// Whether a block of page 1 is of this kind, with this back place, these keys and these values.
 /// The new page of a Split is 2.
-pub(crate) fn says(
-    block: &Block,
-    kind: Kind,
-    told: (u64, u32),
-    keys: &[u8],
-    values: &[u8],
-) -> bool {
+pub(crate) fn says(block: &Block, kind: Kind, told: Place, keys: &[u8], values: &[u8]) -> bool {
     match block {
         Block::Base(leaf) => {
             kind == Kind::Base
@@ -67,13 +61,13 @@ pub(crate) fn says(
         Block::Delta { page, back, ops } => {
             kind == Kind::Put
                 && *page == 1
-                && (back.frame, back.index) == told
+                && *back == told
                 && are_put(ops.as_slice(), keys, values)
         }
         Block::Split { page, back, upper } => {
             kind == Kind::Split
                 && *page == 1
-                && (back.frame, back.index) == told
+                && *back == told
                 && upper.page == 2
                 && Some(upper.low.as_slice()) == keys.get(..1)
                 && are_pairs(upper.pairs.as_slice(), keys, values)
@@ -82,11 +76,7 @@ pub(crate) fn says(
 }
 
 /// Whether a block tells by its calls what its kind does to pages 1, 2 and 3.
-fn does(block: &Block, kind: Kind, told: (u64, u32)) -> bool {
-    let back = Place {
-        frame: told.0,
-        index: told.1,
-    };
+fn does(block: &Block, kind: Kind, back: Place) -> bool {
     let link = if kind == Kind::Base { None } else { Some(back) };
     block.touches(1)
         && block.touches(2) == (kind == Kind::Split)
@@ -141,14 +131,18 @@ const BLOCKS: &[Row] = &[
     (NEWER, (4, 0), Kind::Base, (0, 0), "jk", "23"),
 ];
 
-/// Whether the block of a row says what the row tells, in a frame with this body.
-fn tells(frame: &Frame, body: &[u8], row: &Row) -> Option<bool> {
-    let (_, place, kind, told, keys, values) = *row;
-    let block = frame.blocks.as_slice().get(place.1)?;
+/// Whether the block of a row says what the row tells, in a frame with this body, if that is there.
+fn tells(frame: &Frame, body: Option<&[u8]>, row: &Row) -> Option<bool> {
+    let (_, (_, at), kind, (frame_back, index), keys, values) = *row;
+    let back = Place {
+        frame: frame_back,
+        index,
+    };
+    let block = frame.blocks.as_slice().get(at)?;
     Some(
-        is_outlined(body, place.1, kind)?
-            && does(block, kind, told)
-            && says(block, kind, told, keys.as_bytes(), values.as_bytes()),
+        is_outlined(body?, at, kind)?
+            && does(block, kind, back)
+            && says(block, kind, back, keys.as_bytes(), values.as_bytes()),
     )
 }
 
@@ -160,33 +154,25 @@ fn is_told(alloc: Global, frames: &[u8], header: &Header, row: &Row) -> Option<b
             return None;
         };
         if frame.number == row.1.0 {
-            return tells(&frame, rest.get(20..used)?, row);
+            return tells(&frame, rest.get(20..used), row);
         }
         rest = rest.get(used..)?;
     }
     None
 }
 
-/// The same in the segment that the row names.
-fn holds(alloc: Global, row: &Row) -> Option<bool> {
-    let bytes = bytes_of(alloc, row.0)?;
-    match read_header(&bytes) {
-        HeaderRead::Whole(header) => is_told(alloc, bytes.get(24..)?, &header, row),
-        _ => None,
-    }
-}
-
-/// The first block that is not as told.
-fn wrong_block(alloc: Global) -> Option<usize> {
-    for (i, row) in BLOCKS.iter().enumerate() {
-        if holds(alloc, row) != Some(true) {
-            return Some(i);
+impl tests::Row for Row {
+    /// The same in the segment that the row names.
+    fn goes(&self, alloc: Global) -> Option<bool> {
+        let bytes = bytes_of(alloc, self.0)?;
+        match read_header(&bytes) {
+            HeaderRead::Whole(header) => is_told(alloc, bytes.get(24..)?, &header, self),
+            _ => None,
         }
     }
-    None
 }
 
 #[test]
 fn the_worked_bytes_hold_what_they_tell(rt: HostRuntime) {
-    went(&rt, wrong_block(rt.alloc()));
+    went(&rt, wrong_row(rt.alloc(), BLOCKS));
 }

@@ -4,19 +4,20 @@ ghost use Rattle.std.specs.List.{AllByRecursion};
 ghost use Rattle.bw_codec.specs.Grammar.{IsBlock};
 
 use super::hex::{FIRST, LAST, NEWER, OLDER, SECOND, bytes_of};
-use crate::tests::went;
+use crate::tests::{Row, behind, went, wrong_row};
 use bw_codec::limits::{HEAD_LEN, HEADER_LEN};
 use bw_codec::{
-    Block, Frame, FrameRead, Header, HeaderRead, Leaf, Low, Pairs, block_length, encode_block,
-    encode_frame_head, encode_header, frame_cells, header_cells, read_frame, read_header,
-    write_block,
+    Block, Frame, FrameRead, Header, HeaderRead, block_length, encode_block, encode_frame_head,
+    encode_header, frame_cells, header_cells, read_frame, read_header, write_block,
 };
+use bw_page::empty_page;
 use std::alloc::Global;
 
-/// Whether a frame could be written.
-fn write_frame(frame: &Frame, body: u32, out: &mut Vec<u8>) -> Option<()>
+/// Whether a frame of so many bytes could be written.
+fn write_frame(frame: &Frame, used: usize, out: &mut Vec<u8>) -> Option<()>
     requires { AllByRecursion (IsBlock 32) frame.now.blocks }
 {
+    let body = u32::try_from(used.checked_sub(HEAD_LEN)?).ok()?;
     let count = u32::try_from(frame.blocks.as_slice().len()).ok()?;
     encode_frame_head(frame.number, body, count, out).ok()?;
     for block in frame.blocks.as_slice() {
@@ -33,8 +34,7 @@ fn copy_frame(alloc: Global, bytes: &[u8], header: &Header, out: &mut Vec<u8>) -
     }
     match read_frame(alloc, bytes, header).ok()? {
         FrameRead::Whole(frame, used) => {
-            let body = u32::try_from(used.checked_sub(HEAD_LEN)?).ok()?;
-            write_frame(&frame, body, out)?;
+            write_frame(&frame, used, out)?;
             Some(used)
         }
         FrameRead::Tail => Some(0),
@@ -55,37 +55,26 @@ fn rewrite(alloc: Global, bytes: &[u8], out: &mut Vec<u8>) -> Option<()> {
     Some(())
 }
 
-/// Whether a segment is written again as it stands.
-fn is_rewritten(alloc: Global, hex: &str) -> Option<bool> {
-    let bytes = bytes_of(alloc, hex)?;
-    let mut again = Vec::new(alloc);
-    rewrite(alloc, &bytes, &mut again)?;
-    Some(again.as_slice() == bytes.as_slice())
+impl Row for &'static str {
+    /// Whether a segment of these digits is written again as it stands.
+    fn goes(&self, alloc: Global) -> Option<bool> {
+        let bytes = bytes_of(alloc, *self)?;
+        let mut again = Vec::new(alloc);
+        rewrite(alloc, &bytes, &mut again)?;
+        Some(again.as_slice() == bytes.as_slice())
+    }
 }
 
-/// The first segment that is written otherwise.
-fn wrong_segment(alloc: Global) -> Option<usize> {
-    let segments = [FIRST, SECOND, OLDER, NEWER, LAST];
-    for (i, hex) in segments.iter().enumerate() {
-        if is_rewritten(alloc, hex) != Some(true) {
-            return Some(i);
-        }
-    }
-    None
-}
+const SEGMENTS: &[&str] = &[FIRST, SECOND, OLDER, NEWER, LAST];
 
 #[test]
 fn the_worked_bytes_are_read_and_written_again(rt: HostRuntime) {
-    went(&rt, wrong_segment(rt.alloc()));
+    went(&rt, wrong_row(rt.alloc(), SEGMENTS));
 }
 
 /// Whether these bytes are an empty page 1, written without memory.
 fn is_written(alloc: Global, bytes: &[u8]) -> Option<bool> {
-    let base = Block::Base(Leaf {
-        page: 1,
-        low: Low::of(Vec::new(alloc)),
-        pairs: Pairs::of(Vec::new(alloc)),
-    });
+    let base = Block::Base(empty_page(alloc));
     let mut out = Vec::with_capacity(alloc, block_length(&base)).ok()?;
     write_block(&base, &mut out);
     Some(bytes == out.as_slice())
@@ -94,9 +83,9 @@ fn is_written(alloc: Global, bytes: &[u8]) -> Option<bool> {
 /// Whether the first segment's head, its frame's, and its first block are written as they stand there
 /// by the calls that take no memory.
 fn are_written(alloc: Global, bytes: &[u8]) -> Option<bool> {
-    let (header, frame) = (header_cells(1, 4, 16_384), frame_cells(1, 32, 2));
-    let heads = bytes.get(..24)? == header.as_slice() && bytes.get(24..44)? == frame.as_slice();
-    Some(heads && is_written(alloc, bytes.get(44..52)?)?)
+    let rest = behind(Some(bytes), header_cells(1, 4, 16_384).as_slice());
+    let rest = behind(rest, frame_cells(1, 32, 2).as_slice());
+    is_written(alloc, rest?.get(..8)?)
 }
 
 fn parts_are_written(alloc: Global) -> Option<bool> {

@@ -2,7 +2,7 @@
 
 use super::hex::{body_of, bytes_of, framed};
 use super::reading::{Found, found_in};
-use crate::tests::{all_went, went};
+use crate::tests::{self, all_went, went};
 use std::alloc::Global;
 
 /// A frame: its count of blocks, and its body in digits.
@@ -242,10 +242,12 @@ fn found_by(alloc: Global, m: u16, row: &Row) -> Option<Found> {
     found_at(alloc, m, row.0, &body)
 }
 
-/// The same of a frame with a run of bytes.
-fn found_behind(alloc: Global, run: &Run) -> Option<Found> {
-    let body = body_of(alloc, run.0, run.1, run.2)?;
-    found_at(alloc, 4, 1, &body)
+impl tests::Row for Run {
+    /// The same of a frame with a run of bytes, where this is found.
+    fn goes(&self, alloc: Global) -> Option<bool> {
+        let body = body_of(alloc, self.0, self.1, self.2)?;
+        Some(found_at(alloc, 4, 1, &body)? == self.3)
+    }
 }
 
 /// The first row that does not answer as told.
@@ -258,31 +260,19 @@ fn wrong_row(alloc: Global, m: u16, rows: &[Row]) -> Option<usize> {
     None
 }
 
-/// The first run that does not.
-fn wrong_run(alloc: Global, runs: &[Run]) -> Option<usize> {
-    for (i, run) in runs.iter().enumerate() {
-        if found_behind(alloc, run) != Some(run.3) {
-            return Some(i);
-        }
+impl tests::Table for &'static [Row] {
+    /// The same where a page has at most four pairs.
+    fn wrong_step(&self, alloc: Global) -> Option<usize> {
+        wrong_row(alloc, 4, *self)
     }
-    None
 }
 
-/// The first of these tables that does not answer as told, and its row.
-fn first_wrong(alloc: Global, tables: &[&[Row]]) -> Option<(usize, usize)> {
-    for (i, rows) in tables.iter().enumerate() {
-        if let Some(row) = wrong_row(alloc, 4, rows) {
-            return Some((i, row));
-        }
-    }
-    None
-}
+const TABLES: &[&[Row]] = &[BASES, PAIRS, DELTAS, SPLITS, BODIES];
 
 #[test]
 fn each_part_of_a_block_is_looked_at(rt: HostRuntime) {
-    let tables = [BASES, PAIRS, DELTAS, SPLITS, BODIES];
-    all_went(&rt, first_wrong(rt.alloc(), &tables));
-    went(&rt, wrong_run(rt.alloc(), RUNS));
+    all_went(&rt, tests::wrong_table(rt.alloc(), TABLES));
+    went(&rt, tests::wrong_row(rt.alloc(), RUNS));
 }
 
 #[test]

@@ -2,33 +2,36 @@
 
 ghost use Rattle.std.specs.Prelude.{◌≡◌, []};
 
-use super::{is_shown, is_value, put, start};
+use super::{entries, is_shown, is_value, start};
 use bw_codec::Key;
-use bw_versions::{Board, Entry, batches_are_joined};
+use bw_versions::{Board, batches_are_joined};
 use std::alloc::Global;
-use std::test::Fail;
 
-fn five(alloc: Global) -> Result<Vec<Entry>, Fail> {
-    let mut entries = Vec::new(alloc);
-    for (key, value) in [("a", "1"), ("b", "2"), ("c", "3"), ("d", "4"), ("e", "5")] {
-        entries.push(put(key.as_bytes(), value.as_bytes())?)?;
-    }
-    Ok(entries)
+/// The entries of five keys in two parts, of which the second is published twice.
+const PARTS: &[&[(&str, &str)]] = &[
+    &[("a", "1"), ("b", "2")],
+    &[("c", "3"), ("d", "4"), ("e", "5")],
+    &[("c", "3"), ("d", "4"), ("e", "5")],
+];
+
+fn board(alloc: Global) -> Option<Board> {
+    let start = start(alloc).ok()?;
+    Board::new(alloc, &start).ok()
 }
 
-// A board of five entries, published in two parts, of which the second is published twice.
-fn board(alloc: Global) -> Result<Board, Fail> {
-    let entries = five(alloc)?;
-    let mut board = Board::new(alloc, &start(alloc)?)?;
-    for (from, to) in [(0, 2), (2, 5), (2, 5)] {
-        board.publish(entries.get(from..to).unwrap_or(&[]))?;
+fn publish_all(alloc: Global, board: &mut Board) -> bool {
+    for part in PARTS {
+        let Some(entries) = entries(alloc, part) else {
+            return false;
+        };
+        if board.publish(entries.as_slice()).is_err() {
+            return false;
+        }
     }
-    Ok(board)
+    true
 }
 
 const PAGES: &[(u32, &str)] = &[(1, ": a=1 b=2"), (2, "c: c=3 d=4 e=5"), (3, "")];
-
-const VALUES: &[(&str, &str)] = &[("e", "5"), ("x", "")];
 
 fn has_pages(board: &Board) -> bool {
     for (page, text) in PAGES {
@@ -39,23 +42,21 @@ fn has_pages(board: &Board) -> bool {
     true
 }
 
-fn has_values(board: &Board) -> Result<bool, Fail> {
-    for (key, value) in VALUES {
-        if !is_value(board.get(&Key::new(key.as_bytes())?), value) {
-            return Ok(false);
-        }
+fn has(board: &Board, key: &str, value: &str) -> bool {
+    match Key::new(key.as_bytes()) {
+        Ok(key) => is_value(board.get(&key), value),
+        Err(_) => false,
     }
-    Ok(true)
 }
 
-fn is_cut(alloc: Global) -> Result<bool, Fail> {
-    let board = board(alloc)?;
-    Ok(has_pages(&board) && has_values(&board)?)
+fn is_cut(alloc: Global) -> Option<bool> {
+    let mut board = board(alloc)?;
+    let published = publish_all(alloc, &mut board);
+    Some(published && has_pages(&board) && has(&board, "e", "5") && has(&board, "x", ""))
 }
 
 #[test]
-fn a_board_is_cut_as_leaves_are(rt: HostRuntime) -> Result<(), Fail> {
+fn a_board_is_cut_as_leaves_are(rt: HostRuntime) {
     batches_are_joined();
-    assert!(rt; is_cut(rt.alloc())?);
-    Ok(())
+    assert!(rt; is_cut(rt.alloc()) == Some(true));
 }

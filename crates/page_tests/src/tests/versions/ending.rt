@@ -1,58 +1,41 @@
 //! A reader that outlives its store's versions.
 
-ghost use mathlib.Core.List.{IsPrefix};
-ghost use Rattle.bw_versions.specs.Batches.{entries_of};
+ghost use Rattle.std.specs.Prelude.{◌≡◌, []};
 
-use super::{is_value, publish, put, start};
+use super::{Stand, enter, opened, publish, put, shut, value_is};
 use bw_codec::Key;
-use bw_versions::{Entry, NoReader, ReadFault, Reader, Versions};
+use bw_versions::{ReadFault, Reader};
 use std::sync::Wait;
-use std::test::Fail;
-
-fn publish_one<R: Wait>(
-    rt: &R,
-    versions: &mut Versions,
-    history: &mut Vec<Entry>,
-) -> Result<(), Fail>
-    requires { IsPrefix (entries_of versions.old.entered) history.old.items }
-{
-    history.push(put(b"k", b"v")?)?;
-    publish(rt, versions, history.as_slice())?;
-    Ok(())
-}
 
 // A reader that saw the entry.
-fn seen<R: Wait>(rt: &R, versions: &mut Versions, history: &mut Vec<Entry>) -> Result<Reader, Fail>
-    requires { IsPrefix (entries_of versions.old.entered) history.old.items }
+fn seen<R: Wait>(rt: &R, stand: &mut Stand) -> Option<Reader>
+    requires { stand.old.versions.entered ≡ [] }
 {
-    let mut reader = versions.reader()?;
-    publish_one(rt, versions, history)?;
-    let Ok(value) = reader.get(&Key::new(b"k")?) else {
-        return Err(Fail::from("a refusal"));
-    };
-    if is_value(value, "v") {
-        return Ok(reader);
+    let mut reader = stand.versions.reader().ok()?;
+    let told = enter(stand, 0, put(b"k", b"v")) && publish(rt, stand);
+    if told && value_is(&mut reader, "k", "v") {
+        return Some(reader);
     }
-    Err(Fail::from("another value"))
+    None
 }
 
 // Whether each call of a reader is refused, the first one once more at the end.
-fn is_refused(mut reader: Reader) -> Result<bool, Fail> {
-    let key = Key::new(b"k")?;
-    Ok(
-        matches!(reader.get(&key), Err(NoReader))
-            && matches!(reader.page(1), Err(ReadFault::NoReader))
-            && matches!(reader.get(&key), Err(NoReader)),
-    )
+fn is_refused(reader: &mut Reader) -> Option<bool> {
+    let key = Key::new(b"k").ok()?;
+    let first = reader.get(&key).is_err();
+    let second = matches!(reader.page(1), Err(ReadFault::NoReader));
+    let third = reader.get(&key).is_err();
+    Some(first && second && third)
+}
+
+fn outlives<R: AllocGlobal + Wait>(rt: &R) -> Option<bool> {
+    let mut stand = opened(rt, 1)?;
+    let seen = seen(rt, &mut stand);
+    shut(rt, stand);
+    is_refused(&mut seen?)
 }
 
 #[test]
-fn a_reader_is_refused_once_its_versions_are_shut(rt: HostRuntime) -> Result<(), Fail> {
-    let alloc = rt.alloc();
-    let mut history = Vec::new(alloc);
-    let mut versions = Versions::open(&rt, alloc, 1, start(alloc)?)?;
-    let seen = seen(&rt, &mut versions, &mut history);
-    versions.shut(&rt);
-    assert!(rt; is_refused(seen?)?);
-    Ok(())
+fn a_reader_is_refused_once_its_versions_are_shut(rt: HostRuntime) {
+    assert!(rt; outlives(&rt) == Some(true));
 }

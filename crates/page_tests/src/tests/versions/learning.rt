@@ -4,11 +4,11 @@ ghost use Rattle.std.specs.Prelude.{◌≡◌, []};
 ghost use mathlib.Core.List.{IsPrefix};
 ghost use Rattle.bw_versions.specs.Batches.{entries_of};
 
-use super::{is_shown, is_value, publish, start};
-use bw_codec::{Key, Record, Value};
-use bw_versions::{Entry, News, Reader, Versions};
+use super::{Case, Stand, enter, over, page_is, publish, put, value_is};
+use crate::tests::went;
+use bw_codec::Record;
+use bw_versions::{News, Reader};
 use std::sync::Wait;
-use std::test::Fail;
 use std::thread;
 use std::thread::Threads;
 
@@ -24,32 +24,25 @@ fn digits(number: u16) -> [u8; 4] {
 }
 
 // A key of a letter and four digits, with the digits as its value.
-fn entry(writer: u16, letter: u8, number: u16) -> Result<Entry, Fail> {
+fn record_of(letter: u8, number: u16) -> Option<Record> {
     let [a, b, c, d] = digits(number);
-    Ok(Entry {
-        writer,
-        item: Record::Put(Key::new(&[letter, a, b, c, d])?, Value::new(&[a, b, c, d])?),
-    })
+    put(&[letter, a, b, c, d], &[a, b, c, d])
 }
 
 // Publishes both writers' records, a part of them at a time.
-fn publish_all<R: Wait>(
-    rt: &R,
-    versions: &mut Versions,
-    history: &mut Vec<Entry>,
-) -> Result<(), Fail>
-    requires { IsPrefix (entries_of versions.old.entered) history.old.items }
-    ensures { versions.new.book ≡ versions.old.book }
+fn publish_all<R: Wait>(rt: &R, stand: &mut Stand) -> bool
+    requires { IsPrefix (entries_of stand.old.versions.entered) stand.old.history.items }
+    ensures { stand.new.versions.book ≡ stand.old.versions.book }
 {
     for number in 0..EACH {
-        history.push(entry(0, b'a', number)?)?;
-        history.push(entry(1, b'b', number)?)?;
-        if number % STEP == 0 {
-            publish(rt, versions, history.as_slice())?;
+        let one = enter(stand, 0, record_of(b'a', number));
+        let other = enter(stand, 1, record_of(b'b', number));
+        let is_due = number % STEP == 0 || number == EACH - 1;
+        if !one || !other || is_due && !publish(rt, stand) {
+            return false;
         }
     }
-    publish(rt, versions, history.as_slice())?;
-    Ok(())
+    true
 }
 
 // Whether the last value and the first page are there for a reader that learns these news.
@@ -57,32 +50,17 @@ fn has_all(mut reader: Reader, news: News) -> bool
     requires { news.book ≡ reader.book }
 {
     reader.learn(news);
-    has_last(&mut reader)
+    value_is(&mut reader, "b0999", "0999") && page_is(&mut reader, 1, ": a0000=0000 a0001=0001")
 }
 
-fn has_last(reader: &mut Reader) -> bool {
-    let Ok(key) = Key::new(b"b0999") else {
-        return false;
-    };
-    let Ok(value) = reader.get(&key) else {
-        return false;
-    };
-    let Ok(leaf) = reader.page(1) else {
-        return false;
-    };
-    is_value(value, "0999") && is_shown(leaf.as_ref(), ": a0000=0000 a0001=0001")
-}
-
-fn learns<R: Threads + Wait>(
-    rt: &R,
-    versions: &mut Versions,
-    history: &mut Vec<Entry>,
-) -> Result<bool, Fail>
-    requires { versions.old.entered ≡ [] }
+pub(super) fn learns<R: Threads + Wait>(rt: &R, stand: &mut Stand) -> bool
+    requires { stand.old.versions.entered ≡ [] }
 {
-    let reader = versions.reader()?;
-    publish_all(rt, versions, history)?;
-    let news = versions.news();
+    let Ok(reader) = stand.versions.reader() else {
+        return false;
+    };
+    let published = publish_all(rt, stand);
+    let news = stand.versions.news();
     let child = thread::spawn(
         rt,
         move ||
@@ -90,17 +68,12 @@ fn learns<R: Threads + Wait>(
         { has_all(reader, news) },
     );
     match child {
-        Ok(child) => Ok(child.join(rt)),
-        Err(_) => Err(Fail::from("a thread")),
+        Ok(child) => child.join(rt) && published,
+        Err(_) => false,
     }
 }
 
 #[test]
-fn news_go_to_another_thread(rt: HostRuntime) -> Result<(), Fail> {
-    let mut history = Vec::new(rt.alloc());
-    let mut versions = Versions::open(&rt, rt.alloc(), 1, start(rt.alloc())?)?;
-    let said = learns(&rt, &mut versions, &mut history);
-    versions.shut(&rt);
-    assert!(rt; said?);
-    Ok(())
+fn news_go_to_another_thread(rt: HostRuntime) {
+    went(&rt, over(&rt, 1, &Case::Learns));
 }

@@ -1,33 +1,24 @@
 //! More readers than places.
 
-use super::start;
-use bw_versions::{ReadFault, Versions};
-use std::test::Fail;
+use super::{Case, Stand, over};
+use crate::tests::went;
+use bw_versions::ReadFault;
 
-// How many of four readers were made, where each is dropped before the next.
-fn made(versions: &mut Versions) -> Result<usize, Fail> {
+// How many of four readers were made, where each is dropped before the next; `None` where memory
+// was wanted.
+pub(super) fn made(stand: &mut Stand) -> Option<usize> {
     let mut made = 0usize;
     for _ in 0..4u32 {
-        match versions.reader() {
+        match stand.versions.reader() {
             Ok(_) => made = made.saturating_add(1),
-            Err(fault) => is_no_place(fault)?,
+            Err(ReadFault::NoReader) => {}
+            Err(ReadFault::NoMemory) => return None,
         }
     }
-    Ok(made)
-}
-
-fn is_no_place(fault: ReadFault) -> Result<(), Fail> {
-    match fault {
-        ReadFault::NoReader => Ok(()),
-        ReadFault::NoMemory => Err(Fail::from("no memory")),
-    }
+    Some(made)
 }
 
 #[test]
-fn a_dropped_reader_frees_no_place(rt: HostRuntime) -> Result<(), Fail> {
-    let mut versions = Versions::open(&rt, rt.alloc(), 3, start(rt.alloc())?)?;
-    let made = made(&mut versions);
-    versions.shut(&rt);
-    assert_eq!(rt; made?, 3);
-    Ok(())
+fn a_dropped_reader_frees_no_place(rt: HostRuntime) {
+    went(&rt, over(&rt, 3, &Case::Places));
 }

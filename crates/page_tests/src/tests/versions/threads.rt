@@ -4,11 +4,11 @@ ghost use Rattle.std.specs.Prelude.{◌≡◌, []};
 ghost use mathlib.Core.List.{IsPrefix};
 ghost use Rattle.bw_versions.specs.Batches.{entries_of};
 
-use super::{publish, put, start};
+use super::{Case, Stand, enter, over, publish, put};
+use crate::tests::went;
 use bw_codec::{Key, Value};
-use bw_versions::{Entry, Reader, Versions};
+use bw_versions::Reader;
 use std::sync::Wait;
-use std::test::Fail;
 use std::thread;
 use std::thread::Threads;
 
@@ -19,7 +19,10 @@ const READS: u32 = 10_000;
 const VALUES: u16 = 2_000;
 
 // How many reads were refused or went back.
-fn read_all(mut reader: Reader, key: Key) -> u32 {
+fn read_all(mut reader: Reader) -> u32 {
+    let Ok(key) = Key::new(b"k") else {
+        return READS;
+    };
     let mut last: Option<Value> = None;
     let mut wrong = 0u32;
     for _ in 0..READS {
@@ -37,47 +40,33 @@ fn read_all(mut reader: Reader, key: Key) -> u32 {
     wrong
 }
 
-// Publishes the values one by one; answers how many publications were refused.
-fn publish_all<R: Wait>(
-    rt: &R,
-    versions: &mut Versions,
-    history: &mut Vec<Entry>,
-) -> Result<u32, Fail>
-    requires { IsPrefix (entries_of versions.old.entered) history.old.items }
+// Publishes the values one by one; whether no publication was refused.
+fn publish_all<R: Wait>(rt: &R, stand: &mut Stand) -> bool
+    requires { IsPrefix (entries_of stand.old.versions.entered) stand.old.history.items }
 {
-    let mut refused = 0u32;
     for value in 0..VALUES {
-        history.push(put(b"k", &value.to_be_bytes())?)?;
-        if publish(rt, versions, history.as_slice()).is_err() {
-            refused = refused.saturating_add(1);
+        if !enter(stand, 0, put(b"k", &value.to_be_bytes())) || !publish(rt, stand) {
+            return false;
         }
     }
-    Ok(refused)
+    true
 }
 
-fn race<R: Threads + Wait>(
-    rt: &R,
-    versions: &mut Versions,
-    history: &mut Vec<Entry>,
-) -> Result<(u32, u32), Fail>
-    requires { versions.old.entered ≡ [] }
+// Whether no publication was refused, and no read beside them was or went back.
+pub(super) fn race<R: Threads + Wait>(rt: &R, stand: &mut Stand) -> bool
+    requires { stand.old.versions.entered ≡ [] }
 {
-    let reader = versions.reader()?;
-    let key = Key::new(b"k")?;
-    let Ok(child) = thread::spawn(rt, move || read_all(reader, key)) else {
-        return Err(Fail::from("a thread"));
+    let Ok(reader) = stand.versions.reader() else {
+        return false;
     };
-    let refused = publish_all(rt, versions, history);
-    let wrong = child.join(rt);
-    Ok((refused?, wrong))
+    let Ok(child) = thread::spawn(rt, move || read_all(reader)) else {
+        return false;
+    };
+    let published = publish_all(rt, stand);
+    child.join(rt) == 0 && published
 }
 
 #[test]
-fn a_value_never_goes_back(rt: HostRuntime) -> Result<(), Fail> {
-    let mut history = Vec::new(rt.alloc());
-    let mut versions = Versions::open(&rt, rt.alloc(), 4, start(rt.alloc())?)?;
-    let said = race(&rt, &mut versions, &mut history);
-    versions.shut(&rt);
-    assert_eq!(rt; said?, (0, 0));
-    Ok(())
+fn a_value_never_goes_back(rt: HostRuntime) {
+    went(&rt, over(&rt, 4, &Case::Race));
 }

@@ -1,20 +1,17 @@
 //! One reader beside publications, step by step.
 
-ghost use Rattle.std.specs.Prelude.{◌≡◌, ◌≤◌};
+ghost use Rattle.std.specs.Prelude.{◌≡◌, []};
 ghost use mathlib.Core.List.{IsPrefix};
 ghost use Rattle.bw_versions.specs.Batches.{entries_of};
 
-use super::{del, is_shown, is_value, publish, put, start};
-use crate::tests::went;
-use bw_codec::Key;
-use bw_versions::{Entry, Reader, Versions};
-use std::alloc::Global;
+use super::{Case, Stand, enter, over, page_is, publish, put, value_is};
+use crate::tests::{del, went};
+use bw_versions::Reader;
 use std::sync::Wait;
-use std::test::Fail;
 
 /// One call, with what it has to answer.
 #[derive(Drop)]
-enum Step {
+pub(super) enum Step {
     /// Enters a record in the history.
     Put(&'static str, &'static str),
     Del(&'static str),
@@ -30,107 +27,48 @@ enum Step {
 
 use Step::{Del, Get, Learn, Page, Publish, Put};
 
-fn value_is(reader: &mut Reader, key: &str, text: &str) -> Result<bool, Fail>
-    ensures { reader.new.book ≡ reader.old.book }
-{
-    match reader.get(&Key::new(key.as_bytes())?) {
-        Ok(value) => Ok(is_value(value, text)),
-        Err(_) => Ok(false),
-    }
-}
-
-fn page_is(reader: &mut Reader, page: u32, text: &str) -> bool
-    ensures { reader.new.book ≡ reader.old.book }
-{
-    match reader.page(page) {
-        Ok(leaf) => is_shown(leaf.as_ref(), text),
-        Err(_) => false,
-    }
-}
-
 // The second try is for a run in which a growth of the first is refused.
-fn published<R: Wait>(rt: &R, versions: &mut Versions, history: &[Entry]) -> bool
-    requires begins { IsPrefix (entries_of versions.old.entered) history.now }
-    ensures begins { IsPrefix (entries_of versions.new.entered) history.now }
-    ensures book { versions.new.book ≡ versions.old.book }
+fn published<R: Wait>(rt: &R, stand: &mut Stand) -> bool
+    requires begins { IsPrefix (entries_of stand.old.versions.entered) stand.old.history.items }
+    ensures begins { IsPrefix (entries_of stand.new.versions.entered) stand.new.history.items }
+    ensures book { stand.new.versions.book ≡ stand.old.versions.book }
 {
-    publish(rt, versions, history).is_ok() || publish(rt, versions, history).is_ok()
+    publish(rt, stand) || publish(rt, stand)
 }
 
 /// Whether the step went as told.
-fn goes<R: Wait>(
-    rt: &R,
-    versions: &mut Versions,
-    history: &mut Vec<Entry>,
-    reader: &mut Reader,
-    step: &Step,
-) -> Result<bool, Fail>
-    requires begins { IsPrefix (entries_of versions.old.entered) history.old.items }
-    requires own { reader.old.book ≡ versions.old.book }
-    ensures begins { IsPrefix (entries_of versions.new.entered) history.new.items }
-    ensures own { reader.new.book ≡ versions.new.book }
+fn goes<R: Wait>(rt: &R, stand: &mut Stand, reader: &mut Reader, step: &Step) -> bool
+    requires begins { IsPrefix (entries_of stand.old.versions.entered) stand.old.history.items }
+    requires own { reader.old.book ≡ stand.old.versions.book }
+    ensures begins { IsPrefix (entries_of stand.new.versions.entered) stand.new.history.items }
+    ensures own { reader.new.book ≡ stand.new.versions.book }
 {
     match step {
-        Put(key, value) => {
-            history.push(put(key.as_bytes(), value.as_bytes())?)?;
-            Ok(true)
-        }
-        Del(key) => {
-            history.push(del(key.as_bytes())?)?;
-            Ok(true)
-        }
-        Publish => Ok(published(rt, versions, history.as_slice())),
+        Put(key, value) => enter(stand, 0, put(key.as_bytes(), value.as_bytes())),
+        Del(key) => enter(stand, 0, del(key.as_bytes())),
+        Publish => published(rt, stand),
         Learn => {
-            reader.learn(versions.news());
-            Ok(true)
+            reader.learn(stand.versions.news());
+            true
         }
         Get(key, text) => value_is(reader, *key, *text),
-        Page(page, text) => Ok(page_is(reader, *page, *text)),
+        Page(page, text) => page_is(reader, *page, *text),
     }
 }
 
-/// The first step that did not go as told.
-fn wrong_step<R: Wait>(
-    rt: &R,
-    versions: &mut Versions,
-    history: &mut Vec<Entry>,
-    reader: &mut Reader,
-    steps: &[Step],
-) -> Result<Option<usize>, Fail>
-    requires begins { IsPrefix (entries_of versions.old.entered) history.old.items }
-    requires own { reader.old.book ≡ versions.old.book }
+/// The first step that did not go as told with a new reader.
+pub(super) fn walked<R: Wait>(rt: &R, stand: &mut Stand, steps: &[Step]) -> Option<usize>
+    requires { stand.old.versions.entered ≡ [] }
 {
+    let Ok(mut reader) = stand.versions.reader() else {
+        return Some(0);
+    };
     for (i, step) in steps.iter().enumerate() {
-        if !goes(rt, versions, history, reader, step)? {
-            return Ok(Some(i));
+        if !goes(rt, stand, &mut reader, step) {
+            return Some(i);
         }
     }
-    Ok(None)
-}
-
-/// The same with a new reader.
-fn walked<R: Wait>(
-    rt: &R,
-    versions: &mut Versions,
-    history: &mut Vec<Entry>,
-    steps: &[Step],
-) -> Result<Option<usize>, Fail>
-    requires { IsPrefix (entries_of versions.old.entered) history.old.items }
-{
-    let mut reader = versions.reader()?;
-    wrong_step(rt, versions, history, &mut reader, steps)
-}
-
-/// The same over versions of one empty page, which are shut in the end.
-fn over<R: AllocGlobal + Wait>(rt: &R, places: usize, steps: &[Step]) -> Result<Option<usize>, Fail>
-    requires { (1 ≤ places) × (places ≤ 64) }
-{
-    let alloc = rt.alloc();
-    let mut versions = Versions::open(rt, alloc, places, start(alloc)?)?;
-    let mut history = Vec::new(alloc);
-    let said = walked(rt, &mut versions, &mut history, steps);
-    versions.shut(rt);
-    said
+    None
 }
 
 const FIRST: &[Step] = &[
@@ -204,10 +142,9 @@ const TOLD: &[Step] = &[
 ];
 
 #[test]
-fn a_reader_reads_what_is_published(rt: HostRuntime) -> Result<(), Fail> {
-    went(&rt, over(&rt, 1, FIRST)?);
-    went(&rt, over(&rt, 2, SPLIT)?);
-    went(&rt, over(&rt, 64, DELETED)?);
-    went(&rt, over(&rt, 1, TOLD)?);
-    Ok(())
+fn a_reader_reads_what_is_published(rt: HostRuntime) {
+    went(&rt, over(&rt, 1, &Case::Steps(FIRST)));
+    went(&rt, over(&rt, 2, &Case::Steps(SPLIT)));
+    went(&rt, over(&rt, 64, &Case::Steps(DELETED)));
+    went(&rt, over(&rt, 1, &Case::Steps(TOLD)));
 }

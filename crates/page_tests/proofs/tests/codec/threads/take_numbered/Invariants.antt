@@ -4,4 +4,4 @@ use Rattle.bw_ring.specs.Ends.{ring_of_lane}
 use Rattle.page_tests.proofs.tests.codec.threads.take_numbered.Given as goal
 
 abbrev pub invariant-tries : goal.invariant-tries
-invariant-tries g l = ring_of_lane l.lane ≡ ring_of_lane l.fn.lane
+invariant-tries l = ring_of_lane l.lane ≡ ring_of_lane l.fn.lane

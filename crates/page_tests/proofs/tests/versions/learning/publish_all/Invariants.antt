@@ -5,6 +5,6 @@ use Rattle.page_tests.proofs.tests.versions.learning.publish_all.Given as goal
 
 abbrev pub invariant-loop-number : goal.invariant-loop-number
 invariant-loop-number g l = record {
-  begins : IsPrefix (entries_of l.versions.entered) l.history.items;
-  book : l.versions.book ≡ l.fn.versions.book;
+  begins : IsPrefix (entries_of l.stand.versions.entered) l.stand.history.items;
+  book : l.stand.versions.book ≡ l.fn.stand.versions.book;
 }
