@@ -1,12 +1,12 @@
 //! Runs that end well, by their own tries or by a refusal: the tables.
 
+use super::all_went;
 use super::scripts::Part;
-use super::steps::Pace;
-use super::steps::Step::{Begins, Boxes, Drives, Durable, Learns, Reads, Settles, Stops};
+use super::steps::Step::{Begins, Boxes, Drives, Durable, Learns, Reads, Settles};
+use super::steps::{Pace, Run};
 use super::walking::{Table, walked};
 use bw_drive::OpenGate;
 use bw_store::StoreFault;
-use std::alloc::Global;
 use std::process::Abort;
 use std::sync::Wait;
 use std::test::Fail;
@@ -20,15 +20,16 @@ const KEYS: u32 = 10_000;
 
 /// All is accepted, and a second run over the same feeds goes on.
 const TWICE: &Table = &Table {
+    name: "twice",
     writers: 2,
     places: 8,
     boxes: 8,
     capacity: 65536,
     fuse: None,
     steps: &[
-        Drives(Part(0, 300, KEYS), Pace(64, 4, 0, MANY), 300, 300),
+        Drives(Run(Part(0, 300, KEYS), Pace(64, 4, 0, MANY), Ok((300, 300)))),
         Reads(2, 300, KEYS),
-        Drives(Part(300, 200, KEYS), Pace(1, 1, 0, MANY), 200, 200),
+        Drives(Run(Part(300, 200, KEYS), Pace(1, 1, 0, MANY), Ok((200, 200)))),
         Reads(2, 500, KEYS),
         Learns(2, 500, KEYS),
         Boxes(8, 8),
@@ -37,66 +38,70 @@ const TWICE: &Table = &Table {
 
 /// As many writers as there may be.
 const SIXTY_FOUR: &Table = &Table {
+    name: "sixty-four",
     writers: 64,
     places: 8,
     boxes: 16,
     capacity: 65536,
     fuse: None,
     steps: &[
-        Drives(Part(0, 100, KEYS), Pace(64, 4, 0, MANY), 100, 100),
+        Drives(Run(Part(0, 100, KEYS), Pace(64, 4, 0, MANY), Ok((100, 100)))),
         Reads(64, 100, KEYS),
     ],
 };
 
 /// A ring of one place each.
 const ONE_PLACE: &Table = &Table {
+    name: "one place",
     writers: 2,
     places: 1,
     boxes: 8,
     capacity: 65536,
     fuse: None,
     steps: &[
-        Drives(Part(0, 300, KEYS), Pace(64, 4, 0, MANY), 300, 300),
+        Drives(Run(Part(0, 300, KEYS), Pace(64, 4, 0, MANY), Ok((300, 300)))),
         Reads(2, 300, KEYS),
     ],
 };
 
 /// With no try nothing is put, with one no more than a ring holds and the one turn takes.
 const FEW_TRIES: &Table = &Table {
+    name: "few tries",
     writers: 2,
     places: 8,
     boxes: 4,
     capacity: 65536,
     fuse: None,
     steps: &[
-        Drives(Part(0, 1000, KEYS), Pace(64, 4, 0, 0), 0, 0),
-        Drives(Part(0, 0, KEYS), Pace(64, 4, 0, MANY), 0, 0),
-        Drives(Part(0, 1000, KEYS), Pace(1, 1, 0, 1), 8, 9),
+        Drives(Run(Part(0, 1000, KEYS), Pace(64, 4, 0, 0), Ok((0, 0)))),
+        Drives(Run(Part(0, 0, KEYS), Pace(64, 4, 0, MANY), Ok((0, 0)))),
+        Drives(Run(Part(0, 1000, KEYS), Pace(1, 1, 0, 1), Ok((8, 9)))),
         Boxes(4, 1),
     ],
 };
 
 /// The header of the first segment is not written. Later runs are refused too.
 const FIRST_APPEND: &Table = &Table {
+    name: "first append",
     writers: 2,
     places: 8,
     boxes: 4,
     capacity: 65536,
     fuse: Some(0),
     steps: &[
-        Stops(
+        Drives(Run(
             Part(0, 1000, KEYS),
             Pace(64, 1, 0, MANY),
-            StoreFault::Device { lease: 0 },
-        ),
+            Err(StoreFault::Device { lease: 0 }),
+        )),
         Begins(KEYS, 64),
         Durable(0, 0),
         Boxes(4, 0),
-        Stops(
+        Drives(Run(
             Part(0, 1000, KEYS),
             Pace(64, 1, 0, MANY),
-            StoreFault::Failed,
-        ),
+            Err(StoreFault::Failed),
+        )),
         Settles(Err(StoreFault::Failed)),
         Begins(KEYS, 64),
         Boxes(4, 0),
@@ -105,17 +110,18 @@ const FIRST_APPEND: &Table = &Table {
 
 /// A header and four frames, of one turn each, and then a frame fails.
 const FIFTH_FRAME: &Table = &Table {
+    name: "fifth frame",
     writers: 2,
     places: 8,
     boxes: 4,
     capacity: 65536,
     fuse: Some(5),
     steps: &[
-        Stops(
+        Drives(Run(
             Part(0, 1000, KEYS),
             Pace(16, 1, 0, MANY),
-            StoreFault::Device { lease: 0 },
-        ),
+            Err(StoreFault::Device { lease: 0 }),
+        )),
         Durable(4, 4),
         Begins(KEYS, 80),
         Boxes(4, 1),
@@ -126,17 +132,18 @@ const FIFTH_FRAME: &Table = &Table {
 
 /// The only segment that is live cannot be given up.
 const NOTHING_OLD: &Table = &Table {
+    name: "nothing old",
     writers: 2,
     places: 8,
     boxes: 4,
     capacity: 65536,
     fuse: None,
     steps: &[
-        Stops(
+        Drives(Run(
             Part(0, 1000, KEYS),
             Pace(64, 1, 1, MANY),
-            StoreFault::NothingOld,
-        ),
+            Err(StoreFault::NothingOld),
+        )),
         Durable(1, 1),
         Begins(KEYS, 64),
         Boxes(4, 1),
@@ -149,55 +156,49 @@ const NOTHING_OLD: &Table = &Table {
 
 /// The last spare is kept for a cleaning.
 const NO_SPARE: &Table = &Table {
+    name: "no spare",
     writers: 2,
     places: 8,
     boxes: 1,
     capacity: 65536,
     fuse: None,
     steps: &[
-        Stops(
+        Drives(Run(
             Part(0, 1000, KEYS),
             Pace(64, 1, 0, MANY),
-            StoreFault::NoSegment,
-        ),
+            Err(StoreFault::NoSegment),
+        )),
         Begins(KEYS, 64),
         Durable(0, 0),
         Settles(Err(StoreFault::NoSegment)),
-        Stops(
+        Drives(Run(
             Part(0, 0, KEYS),
             Pace(64, 1, 0, MANY),
-            StoreFault::NoSegment,
-        ),
+            Err(StoreFault::NoSegment),
+        )),
         Begins(KEYS, 80),
         Boxes(1, 0),
     ],
 };
 
-// All steps of a table go as told.
-fn go_as_told<R: Threads + Wait + Abort>(
+// All steps of each table go as told.
+fn go_as_told<R: AllocGlobal + Threads + Wait + Abort>(
     rt: &R,
-    alloc: Global,
-    name: &str,
-    table: &Table,
+    tables: &[&Table],
 ) -> Result<(), Fail> {
-    assert_eq!(rt; walked(rt, alloc, table, &OpenGate)?, None, "in {name}");
+    for table in tables {
+        let (went, _) = walked(rt, *table, &OpenGate)?;
+        all_went(rt, went, table.steps.len(), table.name);
+    }
     Ok(())
 }
 
 #[test]
 fn runs_go_as_told(rt: HostRuntime) -> Result<(), Fail> {
-    let alloc = rt.alloc();
-    go_as_told(&rt, alloc, "twice", TWICE)?;
-    go_as_told(&rt, alloc, "sixty-four", SIXTY_FOUR)?;
-    go_as_told(&rt, alloc, "one place", ONE_PLACE)?;
-    go_as_told(&rt, alloc, "few tries", FEW_TRIES)
+    go_as_told(&rt, &[TWICE, SIXTY_FOUR, ONE_PLACE, FEW_TRIES])
 }
 
 #[test]
 fn nothing_follows_a_refusal(rt: HostRuntime) -> Result<(), Fail> {
-    let alloc = rt.alloc();
-    go_as_told(&rt, alloc, "first append", FIRST_APPEND)?;
-    go_as_told(&rt, alloc, "fifth frame", FIFTH_FRAME)?;
-    go_as_told(&rt, alloc, "nothing old", NOTHING_OLD)?;
-    go_as_told(&rt, alloc, "no spare", NO_SPARE)
+    go_as_told(&rt, &[FIRST_APPEND, FIFTH_FRAME, NOTHING_OLD, NO_SPARE])
 }

@@ -1,10 +1,9 @@
 //! Writers run at once, and each record passes the gate.
 
-ghost use Rattle.bw_store.specs.Views.{IsSound};
-
+use super::all_went;
 use super::scripts::Part;
-use super::steps::Pace;
 use super::steps::Step::{Drives, Reads, Splits};
+use super::steps::{Pace, Run};
 use super::walking::{Table, walked};
 use bw_drive::{Gate, MeetGate};
 use std::alloc::Global;
@@ -17,13 +16,14 @@ const PACE: Pace = Pace(64, 4, 3, 1_000_000_000);
 
 /// Two writers of 1,000 records each.
 const THOUSAND: &Table = &Table {
+    name: "a thousand",
     writers: 2,
     places: 8,
     boxes: 32,
     capacity: 65536,
     fuse: None,
     steps: &[
-        Drives(Part(0, 1000, 10_000), PACE, 1000, 1000),
+        Drives(Run(Part(0, 1000, 10_000), PACE, Ok((1000, 1000)))),
         Reads(2, 1000, 10_000),
         Splits,
     ],
@@ -31,31 +31,36 @@ const THOUSAND: &Table = &Table {
 
 /// Two writers of 300 records each.
 const HUNDREDS: &Table = &Table {
+    name: "hundreds",
     writers: 2,
     places: 8,
     boxes: 32,
     capacity: 65536,
     fuse: None,
     steps: &[
-        Drives(Part(0, 300, 10_000), PACE, 300, 300),
+        Drives(Run(Part(0, 300, 10_000), PACE, Ok((300, 300)))),
         Reads(2, 300, 10_000),
         Splits,
     ],
 };
 
 // Whether two writers find one another before their first record.
-fn meet<R: Threads + Wait>(rt: &R, alloc: Global) -> Result<bool, Fail> {
-    let gate = MeetGate::new(alloc, 2, 100_000_000)?;
-    let wrong = walked(rt, alloc, THOUSAND, &gate)?;
-    Ok(wrong.is_none() && gate.met())
+fn meet<R: AllocGlobal + Threads + Wait>(rt: &R) -> Result<bool, Fail> {
+    let gate = MeetGate::new(rt.alloc(), 2, 100_000_000)?;
+    let (went, _) = walked(rt, THOUSAND, &gate)?;
+    Ok(went == THOUSAND.steps.len() && gate.met())
 }
 
 #[test]
 fn two_writers_run_at_once(rt: HostRuntime) -> Result<(), Fail> {
-    let alloc = rt.alloc();
-    for run in 0..20 {
-        assert!(rt; meet(&rt, alloc)?, "run {run}");
+    let mut met: usize = 0;
+    for _ in 0..20 {
+        if !meet(&rt)? {
+            break;
+        }
+        met = met.saturating_add(1);
     }
+    all_went(&rt, met, 20, "meetings");
     Ok(())
 }
 
@@ -88,10 +93,14 @@ fn each_record_passes_the_gate(rt: HostRuntime) -> Result<(), Fail> {
         before: AtomicU64::new(0),
         after: AtomicU64::new(0),
     };
-    assert_eq!(rt; walked(&rt, rt.alloc(), HUNDREDS, &gate)?, None);
+    let (went, _) = walked(&rt, HUNDREDS, &gate)?;
+    all_went(&rt, went, HUNDREDS.steps.len(), HUNDREDS.name);
     // Twice 1 + 2 + .. + 300, and 300 times a million for writer 1.
-    assert!(rt; gate.before.load(Ordering::SeqCst) == 300_090_300);
-    assert!(rt; gate.after.load(Ordering::SeqCst) == 300_090_300);
+    let (before, after) = (
+        gate.before.load(Ordering::SeqCst),
+        gate.after.load(Ordering::SeqCst),
+    );
+    assert!(rt; before == 300_090_300 && after == 300_090_300);
     Ok(())
 }
 
@@ -104,28 +113,37 @@ fn is_met(gate: &MeetGate, writers: &[usize]) -> bool {
     gate.met()
 }
 
-// Whether a gate for so many writers and tries is met as told after each of these visits.
-fn meets(
-    alloc: Global,
-    writers: usize,
-    tries: u64,
-    visits: &[(&[usize], bool)],
-) -> Result<bool, Fail> {
-    let gate = MeetGate::new(alloc, writers, tries)?;
-    for (visitors, told) in visits {
+/// A gate for so many writers and tries, who visits it, and whether it is met then.
+#[derive(Drop)]
+struct Visits(
+    &'static str,
+    usize,
+    u64,
+    &'static [(&'static [usize], bool)],
+);
+
+const VISITS: &[Visits] = &[
+    // The first writer gave up before the second came.
+    Visits("two", 2, 1000, &[(&[0, 0], false), (&[1, 0, 7], false)]),
+    Visits("one", 1, 1, &[(&[1], false), (&[0], true)]),
+    Visits("no try", 1, 0, &[(&[0], false)]),
+];
+
+// How many visits left the gate as told before one did not.
+fn meets(alloc: Global, visits: &Visits) -> Result<usize, Fail> {
+    let gate = MeetGate::new(alloc, visits.1, visits.2)?;
+    for (i, (visitors, told)) in visits.3.iter().enumerate() {
         if is_met(&gate, *visitors) != *told {
-            return Ok(false);
+            return Ok(i);
         }
     }
-    Ok(true)
+    Ok(visits.3.len())
 }
 
 #[test]
 fn a_gate_is_met_where_each_writer_found_all_others(rt: HostRuntime) -> Result<(), Fail> {
-    let alloc = rt.alloc();
-    // The first writer gave up before the second came.
-    assert!(rt; meets(alloc, 2, 1000, &[(&[0, 0], false), (&[1, 0, 7], false)])?);
-    assert!(rt; meets(alloc, 1, 1, &[(&[1], false), (&[0], true)])?);
-    assert!(rt; meets(alloc, 1, 0, &[(&[0], false)])?);
+    for visits in VISITS {
+        all_went(&rt, meets(rt.alloc(), visits)?, visits.3.len(), visits.0);
+    }
     Ok(())
 }

@@ -4,101 +4,86 @@ ghost use Rattle.std.specs.Prelude.{◌≡◌};
 ghost use Rattle.bw_store.specs.Views.{kept_by, IsSound};
 
 use super::scripts::numbered;
-use bw_codec::Record;
+use bw_codec::{Leaf, Record};
 use bw_store::{Reader, Store, StoreFault};
-use std::test::Fail;
 
-// How many pairs a page has; none where there is no such page.
-fn pairs_of(store: &mut Store, page: u32) -> Result<Option<u32>, Fail>
+// How many pairs a page has.
+fn pairs_of(store: &mut Store, page: u32) -> Result<u64, StoreFault>
     requires { IsSound store.old holding }
     ensures sound { IsSound store.new holding }
     ensures rings { (kept_by store.new holding).rings ≡ (kept_by store.old holding).rings }
 {
-    match store.page(page) {
-        Ok(leaf) => Ok(Some(leaf.pairs.as_slice().len() as u32)),
-        Err(StoreFault::NoPage) => Ok(None),
-        Err(fault) => Err(fault.into()),
-    }
+    Ok(store.page(page)?.pairs.as_slice().len() as u64)
 }
 
-// How many pairs all pages have.
-fn pairs(store: &mut Store) -> Result<u32, Fail>
+// Whether all pages have so many pairs.
+fn have_pairs(store: &mut Store, told: u64) -> bool
     requires { IsSound store.old holding }
     ensures sound { IsSound store.new holding }
     ensures rings { (kept_by store.new holding).rings ≡ (kept_by store.old holding).rings }
 {
-    let mut count: u32 = 0;
+    let mut count: u64 = 0;
     'pages: for page in 1..100_000 {
-        let Some(more) = pairs_of(store, page)? else {
-            return Ok(count);
-        };
-        count = count.saturating_add(more);
+        match pairs_of(store, page) {
+            Ok(more) => count = count.saturating_add(more),
+            Err(fault) => return fault == StoreFault::NoPage && count == told,
+        }
     }
-    Ok(count)
+    false
 }
 
 // Whether the key of a put has its value.
-fn is_read(store: &mut Store, writer: usize, number: u32, keys: u32) -> Result<bool, Fail>
+fn is_read(store: &mut Store, writer: usize, number: u32, keys: u32) -> bool
     requires { IsSound store.old holding }
     ensures sound { IsSound store.new holding }
     ensures rings { (kept_by store.new holding).rings ≡ (kept_by store.old holding).rings }
 {
-    let Record::Put(key, value) = numbered(writer, number, keys) else {
-        return Ok(false);
-    };
-    Ok(store.get(&key)? == Some(value))
-}
-
-// Whether each key of a writer's first so many records has the value of the last of them.
-fn has_read(store: &mut Store, writer: usize, records: u32, keys: u32) -> Result<bool, Fail>
-    requires { IsSound store.old holding }
-    ensures sound { IsSound store.new holding }
-    ensures rings { (kept_by store.new holding).rings ≡ (kept_by store.old holding).rings }
-{
-    'numbers: for number in records.saturating_sub(keys)..records {
-        if !is_read(store, writer, number, keys)? {
-            return Ok(false);
-        }
+    match numbered(writer, number, keys) {
+        Record::Put(key, value) => store.get(&key) == Ok(Some(value)),
+        _ => false,
     }
-    Ok(true)
 }
 
 /// Whether all pages together have the last value of each key of the first so many records of so
 /// many writers, and no more.
-pub(super) fn reads(
-    store: &mut Store,
-    writers: usize,
-    records: u32,
-    keys: u32,
-) -> Result<bool, Fail>
+pub(super) fn reads(store: &mut Store, writers: usize, records: u32, keys: u32) -> bool
     requires { IsSound store.old holding }
     ensures sound { IsSound store.new holding }
     ensures rings { (kept_by store.new holding).rings ≡ (kept_by store.old holding).rings }
 {
-    'writers: for writer in 0..writers {
-        if !has_read(store, writer, records, keys)? {
-            return Ok(false);
+    let each = records.min(keys);
+    let all = writers.saturating_mul(each as usize);
+    'puts: for put in 0..all {
+        let (writer, number) = (put / each.max(1) as usize, put % each.max(1) as usize);
+        if !is_read(store, writer, records - each + number as u32, keys) {
+            return false;
         }
     }
-    let each = u64::from(records.min(keys));
-    Ok(u64::from(pairs(store)?) == each.saturating_mul(writers as u64))
+    have_pairs(store, all as u64)
 }
 
 /// Whether the first page has the first two records of writer 0, and no more.
-pub(super) fn is_split(store: &mut Store) -> Result<bool, Fail>
+pub(super) fn is_split(store: &mut Store) -> bool
     requires { IsSound store.old holding }
     ensures sound { IsSound store.new holding }
     ensures rings { (kept_by store.new holding).rings ≡ (kept_by store.old holding).rings }
 {
-    let leaf = store.page(1)?;
+    match store.page(1) {
+        Ok(leaf) => are_two(&leaf),
+        Err(_) => false,
+    }
+}
+
+// Whether these are the first two records of writer 0.
+fn are_two(leaf: &Leaf) -> bool {
     let mut next: u32 = 0;
     for (key, value) in leaf.pairs.as_slice() {
         if Record::Put(key.copy(), value.copy()) != numbered(0, next, 10_000) {
-            return Ok(false);
+            return false;
         }
         next = next.saturating_add(1);
     }
-    Ok(next == 2)
+    next == 2
 }
 
 // Whether a reader has a writer's record of this number.
@@ -112,6 +97,16 @@ fn is_seen(reader: &mut Reader, writer: usize, number: u32, keys: u32) -> bool {
     }
 }
 
+// Whether a reader has each writer's record of this number.
+fn are_seen(reader: &mut Reader, writers: usize, number: u32, keys: u32) -> bool {
+    for writer in 0..writers {
+        if !is_seen(reader, writer, number, keys) {
+            return false;
+        }
+    }
+    true
+}
+
 /// Whether a new reader that learnt the last news sees the last record of each writer.
 pub(super) fn learns(store: &mut Store, writers: usize, records: u32, keys: u32) -> bool
     requires { IsSound store.old holding }
@@ -122,5 +117,5 @@ pub(super) fn learns(store: &mut Store, writers: usize, records: u32, keys: u32)
         return false;
     };
     reader.learn(store.news());
-    (0..writers).all(|writer| is_seen(&mut reader, writer, records.saturating_sub(1), keys))
+    are_seen(&mut reader, writers, records.saturating_sub(1), keys)
 }

@@ -4,12 +4,11 @@ ghost use Rattle.std.specs.Prelude.{◌≡◌, vec_len, IfOk};
 
 use bw_codec::{Key, Record, Value};
 use bw_store::Entry;
-use std::alloc::Global;
-use std::test::Fail;
+use std::alloc::{AllocError, Global};
 
 /// A part of each writer's records: from which number on, how many, and how many keys they have in
 /// turn.
-#[derive(Debug, Clone, Copy)]
+#[derive(Clone, Copy)]
 pub(super) struct Part(pub(super) u32, pub(super) u32, pub(super) u32);
 
 fn digits(number: u32) -> [u8; 4] {
@@ -28,7 +27,7 @@ pub(super) fn numbered(writer: usize, number: u32, keys: u32) -> Record {
     }
 }
 
-fn script(alloc: Global, writer: usize, part: Part) -> Result<Vec<Record>, Fail> {
+fn script(alloc: Global, writer: usize, part: Part) -> Result<Vec<Record>, AllocError> {
     let Part(from, records, keys) = part;
     let mut script = Vec::new(alloc);
     for number in from..from.saturating_add(records) {
@@ -38,7 +37,11 @@ fn script(alloc: Global, writer: usize, part: Part) -> Result<Vec<Record>, Fail>
 }
 
 /// A script for each of so many writers.
-pub(super) fn scripts(alloc: Global, writers: usize, part: Part) -> Result<Vec<Vec<Record>>, Fail>
+pub(super) fn scripts(
+    alloc: Global,
+    writers: usize,
+    part: Part,
+) -> Result<Vec<Vec<Record>>, AllocError>
     ensures { IfOk result (λ s. vec_len s ≡ writers) }
 {
     let mut scripts = Vec::new(alloc);

@@ -1,6 +1,6 @@
 //! One call, with what it has to answer.
 
-ghost use Rattle.std.specs.Prelude.{◌≡◌, map, IfOk};
+ghost use Rattle.std.specs.Prelude.{◌≡◌, map};
 ghost use Rattle.bw_ring.specs.Ends.{ring_of_feed};
 ghost use Rattle.bw_store.specs.Views.{kept_by, IsSound};
 
@@ -9,14 +9,12 @@ use super::scripts::{Part, begun, scripts};
 use bw_drive::{DriveFault, Driven, Gate, Plan, drive};
 use bw_ring::Feed;
 use bw_store::{Store, StoreFault};
-use std::alloc::Global;
 use std::sync::Wait;
-use std::test::Fail;
 use std::thread::Threads;
 
 /// How a run goes: a turn's limit, after how many turns it flushes, where it cleans, and how often
 /// each side tries.
-#[derive(Debug, Clone, Copy)]
+#[derive(Clone, Copy)]
 pub(super) struct Pace(
     pub(super) u32,
     pub(super) u32,
@@ -24,12 +22,18 @@ pub(super) struct Pace(
     pub(super) u64,
 );
 
+/// A run, and how it ends: of each writer's records so many are accepted, at least and at most, or
+/// it has this cause.
+#[derive(Clone, Copy)]
+pub(super) struct Run(
+    pub(super) Part,
+    pub(super) Pace,
+    pub(super) Result<(u64, u64), StoreFault>,
+);
+
 #[derive(Drop)]
 pub(super) enum Step {
-    /// Of each writer's records so many are accepted, at least and at most.
-    Drives(Part, Pace, u64, u64),
-    /// The run ends with this cause.
-    Stops(Part, Pace, StoreFault),
+    Drives(Run),
     /// All is taken and flushed, or refused.
     Settles(Result<(), StoreFault>),
     /// The history is the first records of each writer, and has so many entries at most.
@@ -48,7 +52,7 @@ pub(super) enum Step {
     Splits,
 }
 
-use Step::{Begins, Boxes, Drives, Durable, Learns, Reads, Settles, Splits, Stops};
+use Step::{Begins, Boxes, Drives, Durable, Learns, Reads, Settles, Splits};
 
 // Whether of each writer so many records were accepted here, at least and at most, and all that its
 // feed accepted was taken.
@@ -89,43 +93,37 @@ fn is_told(
     }
 }
 
-/// A run, with what its feeds have accepted at least and at most, or its cause: the feeds, and
-/// whether it went as told.
-pub(super) fn drives<R: Threads + Wait, G: Gate>(
+/// A run: the feeds, and whether it went as told.
+pub(super) fn drives<R: AllocGlobal + Threads + Wait, G: Gate>(
     rt: &R,
-    alloc: Global,
     store: &mut Store,
     feeds: Vec<Feed>,
     gate: &G,
-    part: Part,
-    pace: Pace,
-    told: Result<(u64, u64), StoreFault>,
-) -> Result<(Vec<Feed>, bool), Fail>
+    run: &Run,
+) -> (Vec<Feed>, bool)
     requires sound { IsSound store.old holding }
     requires feeds { map ring_of_feed feeds.items ≡ (kept_by store.old holding).rings }
     ensures sound { IsSound store.new holding }
-    ensures feeds { IfOk result (λ r.
-        map ring_of_feed r.0.items ≡ (kept_by store.new holding).rings) }
+    ensures feeds { map ring_of_feed result.0.items ≡ (kept_by store.new holding).rings }
 {
-    let Pace(limit, flush_every, clean_at, max_turns) = pace;
-    if limit == 0 || flush_every == 0 {
-        return Ok((feeds, false));
-    }
+    let Run(part, Pace(limit, flush_every, clean_at, max_turns), told) = *run;
+    let many = feeds.len();
+    let Ok(scripts) = scripts(rt.alloc(), many, part) else {
+        return (feeds, false);
+    };
     let plan = Plan {
-        limit,
-        flush_every,
+        limit: limit.max(1),
+        flush_every: flush_every.max(1),
         clean_at,
     };
-    let many = feeds.len();
-    let scripts = scripts(alloc, many, part)?;
     match drive(rt, store, feeds, scripts, gate, plan, max_turns) {
         Ok(driven) => {
             let went = is_told(store, &driven, many, part, told);
-            Ok((driven.feeds, went))
+            (driven.feeds, went)
         }
         Err(DriveFault { feeds, cause }) => {
             let went = feeds.len() == many && told == Err(cause);
-            Ok((feeds, went))
+            (feeds, went)
         }
     }
 }
@@ -149,7 +147,7 @@ fn settles<R: Wait>(
 }
 
 // A step that only asks.
-fn answers(store: &mut Store, step: &Step) -> Result<bool, Fail>
+fn answers(store: &mut Store, step: &Step) -> bool
     requires { IsSound store.old holding }
     ensures sound { IsSound store.new holding }
     ensures rings { (kept_by store.new holding).rings ≡ (kept_by store.old holding).rings }
@@ -157,59 +155,43 @@ fn answers(store: &mut Store, step: &Step) -> Result<bool, Fail>
     match step {
         Begins(keys, most) => {
             let history = store.history();
-            Ok(history.len() <= *most && begun(history, *keys).is_some())
+            history.len() <= *most && begun(history, *keys).is_some()
         }
-        Durable(least, most) => Ok(*least <= store.durable() && store.durable() <= *most),
+        Durable(least, most) => *least <= store.durable() && store.durable() <= *most,
         Boxes(all, live) => {
             let (here, spares) = (store.live(), store.spares());
-            Ok(here <= *live && here.saturating_add(spares) == *all)
+            here <= *live && here.saturating_add(spares) == *all
         }
         Splits => is_split(store),
         Reads(writers, records, keys) => reads(store, *writers, *records, *keys),
-        Learns(writers, records, keys) => Ok(learns(store, *writers, *records, *keys)),
-        _ => Ok(false),
+        Learns(writers, records, keys) => learns(store, *writers, *records, *keys),
+        _ => false,
     }
 }
 
 /// What a step leaves of the feeds, and whether it goes as told.
-pub(super) fn goes<R: Threads + Wait, G: Gate>(
+pub(super) fn goes<R: AllocGlobal + Threads + Wait, G: Gate>(
     rt: &R,
-    alloc: Global,
     store: &mut Store,
     feeds: Vec<Feed>,
     gate: &G,
     step: &Step,
-) -> Result<(Vec<Feed>, bool), Fail>
+) -> (Vec<Feed>, bool)
     requires sound { IsSound store.old holding }
     requires feeds { map ring_of_feed feeds.items ≡ (kept_by store.old holding).rings }
     ensures sound { IsSound store.new holding }
-    ensures feeds { IfOk result (λ r.
-        map ring_of_feed r.0.items ≡ (kept_by store.new holding).rings) }
+    ensures feeds { map ring_of_feed result.0.items ≡ (kept_by store.new holding).rings }
 {
-    let mut feeds = feeds;
     match step {
-        Drives(part, pace, least, most) => {
-            drives(
-                rt,
-                alloc,
-                store,
-                feeds,
-                gate,
-                *part,
-                *pace,
-                Ok((*least, *most)),
-            )
-        }
-        Stops(part, pace, cause) => {
-            drives(rt, alloc, store, feeds, gate, *part, *pace, Err(*cause))
-        }
+        Drives(run) => drives(rt, store, feeds, gate, run),
         Settles(told) => {
+            let mut feeds = feeds;
             let went = settles(rt, store, &mut feeds, *told);
-            Ok((feeds, went))
+            (feeds, went)
         }
         _ => {
-            let went = answers(store, step)?;
-            Ok((feeds, went))
+            let went = answers(store, step);
+            (feeds, went)
         }
     }
 }

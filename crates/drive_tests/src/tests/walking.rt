@@ -6,10 +6,10 @@ ghost use Rattle.bw_store.specs.Views.{kept_by, IsSound};
 
 use super::boxes::boxes;
 use super::steps::{Step, goes};
+use bw_device::Segment;
 use bw_drive::Gate;
 use bw_ring::Feed;
 use bw_store::{Config, Store};
-use std::alloc::Global;
 use std::sync::Wait;
 use std::test::Fail;
 use std::thread::Threads;
@@ -17,6 +17,7 @@ use std::thread::Threads;
 /// A store, its boxes and its steps.
 #[derive(Drop)]
 pub(super) struct Table {
+    pub(super) name: &'static str,
     pub(super) writers: usize,
     pub(super) places: usize,
     pub(super) boxes: u32,
@@ -26,38 +27,40 @@ pub(super) struct Table {
     pub(super) steps: &'static [Step],
 }
 
-// The first step that did not go as told.
-fn wrong_step<R: Threads + Wait, G: Gate>(
+/// How many of the steps went as told before one did not.
+fn walk<R: AllocGlobal + Threads + Wait, G: Gate>(
     rt: &R,
-    alloc: Global,
     store: &mut Store,
     feeds: Vec<Feed>,
     steps: &[Step],
     gate: &G,
-) -> Result<Option<usize>, Fail>
+) -> usize
     requires sound { IsSound store.old holding }
     requires feeds { map ring_of_feed feeds.items ≡ (kept_by store.old holding).rings }
     ensures { IsSound store.new holding }
 {
     let mut feeds = feeds;
     for (i, step) in steps.iter().enumerate() {
-        let (back, went) = goes(rt, alloc, store, feeds, gate, step)?;
+        let (back, went) = goes(rt, store, feeds, gate, step);
         feeds = back;
         if !went {
-            return Ok(Some(i));
+            return i;
         }
     }
-    Ok(None)
+    steps.len()
 }
 
-/// The first of the table's steps that did not go as told, through this gate.
-pub(super) fn walked<R: Threads + Wait, G: Gate>(
+/// Live segments, and spares.
+pub(super) type Left = (Vec<Box<dyn Segment>>, Vec<Box<dyn Segment>>);
+
+/// How many of the table's steps went as told before one did not, through this gate; and the boxes
+/// of the store behind them.
+pub(super) fn walked<R: AllocGlobal + Threads + Wait, G: Gate>(
     rt: &R,
-    alloc: Global,
     table: &Table,
     gate: &G,
-) -> Result<Option<usize>, Fail> {
-    let boxes = boxes(alloc, table.boxes, table.capacity, table.fuse)?;
+) -> Result<(usize, Left), Fail> {
+    let boxes = boxes(rt.alloc(), table.boxes, table.capacity, table.fuse)?;
     let config = Config {
         writers: table.writers,
         places: table.places,
@@ -65,10 +68,9 @@ pub(super) fn walked<R: Threads + Wait, G: Gate>(
         m: 4,
         f: 16384,
     };
-    let Ok((mut store, feeds)) = Store::open(rt, alloc, &config, boxes) else {
+    let Ok((mut store, feeds)) = Store::open(rt, rt.alloc(), &config, boxes) else {
         return Err(Fail::from("a refusal of open"));
     };
-    let wrong = wrong_step(rt, alloc, &mut store, feeds, table.steps, gate);
-    let _ = store.shut(rt);
-    wrong
+    let went = walk(rt, &mut store, feeds, table.steps, gate);
+    Ok((went, store.shut(rt)))
 }

@@ -6,8 +6,8 @@ use super::steps::Act::{
     Append, Copy, Empty, Holds, Leave, Look, Open, Segment, Spare, Stop, Write,
 };
 use super::steps::Told::{Done, System};
-use super::steps::{Act, Row, Stand, Told, at, clear, goes, walked};
-use super::watched::Watched;
+use super::steps::{Act, Row, Stand, Told, at, goes, walked};
+use super::watched::clear;
 use std::test::Fail;
 
 /// A name, what goes before a step, the step, how many calls it makes, and what goes after one of
@@ -96,83 +96,49 @@ const TRIALS: &[Trial] = &[
     ),
 ];
 
-fn all_go(rt: &Watched<HostRuntime>, stand: &mut Stand, rows: &[Row]) -> Result<bool, Fail> {
-    Ok(walked(rt, stand, rows)? == rows.len())
-}
-
 // How the step goes where its call of this number fails.
-fn went(
-    rt: &Watched<HostRuntime>,
-    stand: &mut Stand,
-    act: &Act,
-    number: usize,
-) -> Result<Told, Fail> {
-    rt.watch().fail_after(number as u64, 0);
-    let went = goes(rt, stand, act)?;
-    rt.watch().heal();
-    rt.watch().take_letters();
-    Ok(went)
+fn went(stand: &mut Stand, act: &Act, number: usize) -> Told {
+    stand.rt.watch().fail_after(number as u64, 0);
+    let went = goes(stand, act);
+    stand.rt.watch().heal();
+    stand.rt.watch().take_letters();
+    went
 }
 
 // Whether the step is told as the system's fault where the call of this number fails, and is done
 // where no call has this number.
-fn is_fault(
-    rt: &Watched<HostRuntime>,
-    stand: &mut Stand,
-    trial: &Trial,
-    number: usize,
-) -> Result<bool, Fail> {
+fn is_fault(stand: &mut Stand, trial: &Trial, number: usize) -> bool {
     let Trial(_, before, act, calls, after) = trial;
-    let made = all_go(rt, stand, *before)?;
-    let went = went(rt, stand, act, number)?;
+    let made = walked(stand, *before) == before.len();
+    let went = went(stand, act, number);
     if number == *calls {
-        return Ok(made && went == Done);
+        return made && went == Done;
     }
-    if !made || went != System {
-        return Ok(false);
-    }
-    all_go(rt, stand, *after)
-}
-
-// The same where nothing stands yet.
-fn is_fault_from_none(
-    rt: &Watched<HostRuntime>,
-    path: &'static str,
-    trial: &Trial,
-    number: usize,
-) -> Result<bool, Fail> {
-    let mut stand = at(path);
-    is_fault(rt, &mut stand, trial, number)
+    made && went == System && walked(stand, *after) == after.len()
 }
 
 // The same in a folder of its own.
-fn is_told(
-    rt: HostRuntime,
-    path: &'static str,
-    trial: &Trial,
-    number: usize,
-) -> Result<bool, Fail> {
-    clear(rt, path);
-    let watched = Watched::new(rt)?;
-    is_fault_from_none(&watched, path, trial, number)
+fn is_told(rt: HostRuntime, trial: &Trial, number: usize) -> Result<bool, Fail> {
+    let mut stand = at(rt, "failing")?;
+    Ok(is_fault(&mut stand, trial, number))
 }
 
 // How many calls were told before one was not; one more than the step makes where all were.
-fn told(rt: HostRuntime, path: &'static str, trial: &Trial) -> Result<usize, Fail> {
+fn told(rt: HostRuntime, trial: &Trial) -> Result<usize, Fail> {
     for number in 0..=trial.3 {
-        if !is_told(rt, path, trial, number)? {
+        if !is_told(rt, trial, number)? {
             return Ok(number);
         }
     }
-    clear(rt, path);
     Ok(trial.3.saturating_add(1))
 }
 
 #[test]
 fn each_failed_call_is_told(rt: HostRuntime) -> Result<(), Fail> {
     for trial in TRIALS {
-        let told = told(rt, "failing", trial)?;
+        let told = told(rt, trial)?;
         all_went(&rt, told, trial.3.saturating_add(1), trial.0);
     }
+    clear(rt, "failing");
     Ok(())
 }

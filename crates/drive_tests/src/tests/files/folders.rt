@@ -2,16 +2,13 @@
 //! l takes a lock, k takes one beside other readers, m asks for a length, r reads, w writes, c cuts,
 //! s waits until the bytes stand, a until the length or the name stands too.
 
-use super::super::all_went;
 use super::steps::Act::{
     Append, Copy, Empty, Fail as Failing, File, Full, Holds, Leave, Lengthen, Look, LookAway, Make,
     NoFile, Open, Segment, Spare, Stop, Write,
 };
 use super::steps::Told::{BadConfig, Done, InUse, No, System, TooLong};
-use super::steps::{Act, Row, at, clear, walked};
-use super::watched::Watched;
+use super::steps::{Row, go_as_told};
 use bw_device::MAX_CAPACITY;
-use std::process::Abort;
 use std::test::Fail;
 
 /// What was appended is there again after a stop, twice, and none of it after the file was emptied.
@@ -163,46 +160,21 @@ const FULL: &[Row] = &[
     Row(File("segment-0000.bw", "abc"), Done, ""),
 ];
 
-// How many of the rows went as told, where nothing stands yet.
-fn walked_from_none(
-    rt: &Watched<HostRuntime>,
-    path: &'static str,
-    rows: &[Row],
-) -> Result<usize, Fail> {
-    let mut stand = at(path);
-    walked(rt, &mut stand, rows)
-}
-
-// Each of the rows goes as told, in a folder of their own.
-fn go_as_told<R: Abort>(
-    test: &R,
-    rt: HostRuntime,
-    path: &'static str,
-    rows: &[Row],
-) -> Result<(), Fail> {
-    clear(rt, path);
-    let watched = Watched::new(rt)?;
-    let went = walked_from_none(&watched, path, rows)?;
-    clear(rt, path);
-    all_went(test, went, rows.len(), path);
-    Ok(())
-}
-
 #[test]
 fn what_was_appended_is_there_again(rt: HostRuntime) -> Result<(), Fail> {
-    go_as_told(&rt, rt, "kept", KEPT)?;
-    go_as_told(&rt, rt, "limits", LIMITS)
+    go_as_told(&rt, rt, &[("kept", KEPT), ("limits", LIMITS)])
 }
 
 #[test]
 fn a_folder_is_open_once_and_a_reader_writes_nothing(rt: HostRuntime) -> Result<(), Fail> {
-    go_as_told(&rt, rt, "once", ONCE)?;
-    go_as_told(&rt, rt, "read", READ)
+    go_as_told(&rt, rt, &[("once", ONCE), ("read", READ)])
 }
 
 #[test]
 fn a_failed_append_closes_its_folder(rt: HostRuntime) -> Result<(), Fail> {
-    go_as_told(&rt, rt, "closed", CLOSED)?;
-    go_as_told(&rt, rt, "unsynced", UNSYNCED)?;
-    go_as_told(&rt, rt, "full", FULL)
+    go_as_told(
+        &rt,
+        rt,
+        &[("closed", CLOSED), ("unsynced", UNSYNCED), ("full", FULL)],
+    )
 }

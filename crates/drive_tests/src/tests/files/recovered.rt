@@ -2,7 +2,10 @@
 
 ghost use Rattle.bw_care.specs.Views.{IsSound};
 
-use super::steps::{clear, path_of};
+use super::steps::Act::{Bytes, Cleans, Make, Tells};
+use super::steps::Told::Done;
+use super::steps::{Act, Row, Table, go_as_told};
+use super::stored::is_cleaned_over;
 use super::watched::{Watched, WatchedFile};
 use bw_care::{RecoverCause, Recovered, recover};
 use bw_codec::{Key, Leaf, Value};
@@ -10,10 +13,9 @@ use bw_device::{Desk, Segment};
 use bw_file::Folder;
 use bw_page::Leaves;
 use std::alloc::Global;
-use std::fs;
 use std::test::Fail;
 
-/// What is told of a folder.
+/// What recovery tells of a folder.
 #[derive(Drop)]
 pub(super) enum Said {
     /// The first and the last frame, tail bytes, live segments, spares, boxes dropped, and the pairs
@@ -24,14 +26,6 @@ pub(super) enum Said {
 
 use RecoverCause::{BadBytes, Empty};
 use Said::{Fault, Found};
-
-/// A file: its bytes in hex, and how many of them stand in it.
-#[derive(Drop)]
-pub(super) struct Piece(pub(super) &'static str, pub(super) usize);
-
-/// Files of leases 0, 1, .., and what is told.
-#[derive(Drop)]
-struct Row(&'static [Piece], Said);
 
 /// One frame: the empty page 1, and a record that puts k=v. Two bytes of 0 follow, and a stray one.
 const FIRST: &str =
@@ -56,103 +50,112 @@ const KV: &[(&str, &str)] = &[("k", "v")];
 const ABCD: &[(&str, &str)] = &[("a", "1"), ("b", "2"), ("c", "3"), ("d", "4")];
 
 /// Files whole, torn at the end, without a frame, with a part of a header, and with bytes that are
-/// no segment's.
-const WORKED: &[Row] = &[
-    Row(&[Piece(FIRST, 76)], Found(1, 1, 0, 1, 0, 0, KV)),
-    Row(&[Piece(SECOND, 288)], Found(1, 4, 80, 1, 0, 0, ABCD)),
-    Row(
-        &[Piece(FIRST, 0), Piece(FIRST, 76), Piece(FIRST, 3)],
-        Found(1, 1, 0, 1, 1, 1, KV),
+/// no segment's. Each is told a second time: what one opening read, a later one reads too.
+const WORKED: &[Table] = &[
+    (
+        "worked-whole",
+        &[
+            Row(Make, Done, ""),
+            Row(Bytes("segment-0000.bw", FIRST, 76), Done, ""),
+            Row(Tells(1, Found(1, 1, 0, 1, 0, 0, KV)), Done, ""),
+            Row(Tells(1, Found(1, 1, 0, 1, 0, 0, KV)), Done, ""),
+        ],
     ),
-    Row(&[], Fault(Empty)),
-    Row(&[Piece(FIRST, 0)], Fault(Empty)),
-    Row(&[Piece(FIRST, 24), Piece(FIRST, 0)], Fault(Empty)),
-    Row(&[Piece(TEXT, 28)], Fault(BadBytes { segment: 0, at: 0 })),
-    Row(
-        &[Piece(FIRST, 76), Piece(TEXT, 28)],
-        Fault(BadBytes { segment: 1, at: 0 }),
+    (
+        "worked-torn",
+        &[
+            Row(Make, Done, ""),
+            Row(Bytes("segment-0000.bw", SECOND, 288), Done, ""),
+            Row(Tells(1, Found(1, 4, 80, 1, 0, 0, ABCD)), Done, ""),
+            Row(Tells(1, Found(1, 4, 80, 1, 0, 0, ABCD)), Done, ""),
+        ],
     ),
-    Row(&[Piece(FIRST, 78)], Fault(BadBytes { segment: 0, at: 76 })),
+    (
+        "worked-one-of-three",
+        &[
+            Row(Make, Done, ""),
+            Row(Bytes("segment-0000.bw", FIRST, 0), Done, ""),
+            Row(Bytes("segment-0001.bw", FIRST, 76), Done, ""),
+            Row(Bytes("segment-0002.bw", FIRST, 3), Done, ""),
+            Row(Tells(3, Found(1, 1, 0, 1, 1, 1, KV)), Done, ""),
+            Row(Tells(3, Found(1, 1, 0, 1, 1, 1, KV)), Done, ""),
+        ],
+    ),
+    (
+        "worked-no-file",
+        &[
+            Row(Make, Done, ""),
+            Row(Tells(0, Fault(Empty)), Done, ""),
+            Row(Tells(0, Fault(Empty)), Done, ""),
+        ],
+    ),
+    (
+        "worked-empty",
+        &[
+            Row(Make, Done, ""),
+            Row(Bytes("segment-0000.bw", FIRST, 0), Done, ""),
+            Row(Tells(1, Fault(Empty)), Done, ""),
+            Row(Tells(1, Fault(Empty)), Done, ""),
+        ],
+    ),
+    (
+        "worked-header",
+        &[
+            Row(Make, Done, ""),
+            Row(Bytes("segment-0000.bw", FIRST, 24), Done, ""),
+            Row(Bytes("segment-0001.bw", FIRST, 0), Done, ""),
+            Row(Tells(2, Fault(Empty)), Done, ""),
+            Row(Tells(2, Fault(Empty)), Done, ""),
+        ],
+    ),
+    (
+        "worked-text",
+        &[
+            Row(Make, Done, ""),
+            Row(Bytes("segment-0000.bw", TEXT, 28), Done, ""),
+            Row(Tells(1, Fault(BadBytes { segment: 0, at: 0 })), Done, ""),
+            Row(Tells(1, Fault(BadBytes { segment: 0, at: 0 })), Done, ""),
+        ],
+    ),
+    (
+        "worked-text-behind",
+        &[
+            Row(Make, Done, ""),
+            Row(Bytes("segment-0000.bw", FIRST, 76), Done, ""),
+            Row(Bytes("segment-0001.bw", TEXT, 28), Done, ""),
+            Row(Tells(2, Fault(BadBytes { segment: 1, at: 0 })), Done, ""),
+            Row(Tells(2, Fault(BadBytes { segment: 1, at: 0 })), Done, ""),
+        ],
+    ),
+    (
+        "worked-stray",
+        &[
+            Row(Make, Done, ""),
+            Row(Bytes("segment-0000.bw", FIRST, 78), Done, ""),
+            Row(Tells(1, Fault(BadBytes { segment: 0, at: 76 })), Done, ""),
+            Row(Tells(1, Fault(BadBytes { segment: 0, at: 76 })), Done, ""),
+        ],
+    ),
 ];
 
-/// The names of the first files.
-const NAMES: [&str; 3] = ["segment-0000.bw", "segment-0001.bw", "segment-0002.bw"];
-
-fn bytes_of(alloc: Global, piece: &Piece) -> Result<Vec<u8>, Fail> {
-    let mut bytes = hex::decode(alloc, piece.0)?;
-    bytes.truncate(piece.1);
-    Ok(bytes)
-}
-
-fn write_file(
-    rt: &Watched<HostRuntime>,
-    path: &str,
-    name: &str,
-    piece: &Piece,
-) -> Result<(), Fail> {
-    let bytes = bytes_of(rt.alloc(), piece)?;
-    let file = path_of(rt.alloc(), path, name)?;
-    Ok(fs::write(rt.system(), file.as_str(), bytes.as_slice())?)
-}
-
-/// A folder with these files, three at most.
-pub(super) fn write_files(
-    rt: &Watched<HostRuntime>,
-    path: &str,
-    pieces: &[Piece],
-) -> Result<(), Fail> {
-    fs::create_dir(rt.system(), path)?;
-    for (name, piece) in NAMES.iter().zip(pieces) {
-        write_file(rt, path, *name, piece)?;
-    }
-    Ok(())
-}
-
-/// One more box, over the file of the next lease.
-fn add_box(
-    rt: &Watched<HostRuntime>,
-    folder: &Folder<WatchedFile>,
-    desk: &mut Desk,
-    boxes: &mut Vec<Box<dyn Segment>>,
-) -> Result<(), Fail> {
-    let segment = folder.segment(rt, desk.take()?, 16_408)?;
-    Ok(boxes.push(Box::new(rt.alloc(), segment)?)?)
-}
-
-fn add_boxes(
-    rt: &Watched<HostRuntime>,
-    folder: &Folder<WatchedFile>,
-    desk: &mut Desk,
-    n: usize,
-    boxes: &mut Vec<Box<dyn Segment>>,
-) -> Result<(), Fail> {
-    for _ in 0..n {
-        add_box(rt, folder, desk, boxes)?;
-    }
-    Ok(())
+// One more box, over the file of the next lease.
+fn box_of(rt: &Watched, folder: &Folder<WatchedFile>, desk: &mut Desk) -> Option<Box<dyn Segment>> {
+    let segment = folder.segment(rt, desk.take().ok()?, 16_408).ok()?;
+    Some(Box::new(rt.alloc(), segment).ok()?)
 }
 
 /// Boxes over the files of leases 0 to n - 1.
-fn boxes_of(
-    rt: &Watched<HostRuntime>,
+pub(super) fn boxes_of(
+    rt: &Watched,
     folder: &Folder<WatchedFile>,
     n: usize,
-) -> Result<Vec<Box<dyn Segment>>, Fail> {
-    let mut desk = Desk::new(rt.alloc(), 8)?;
+) -> Option<Vec<Box<dyn Segment>>> {
+    let mut desk = Desk::new(rt.alloc(), 8).ok()?;
     let mut boxes: Vec<Box<dyn Segment>> = Vec::new(rt.alloc());
-    add_boxes(rt, folder, &mut desk, n, &mut boxes)?;
-    Ok(boxes)
-}
-
-/// The folder, and boxes over its files of leases 0 to n - 1.
-pub(super) fn opened(
-    rt: &Watched<HostRuntime>,
-    path: &str,
-    n: usize,
-) -> Result<(Folder<WatchedFile>, Vec<Box<dyn Segment>>), Fail> {
-    let folder = Folder::open(rt, path)?;
-    let boxes = boxes_of(rt, &folder, n)?;
-    Ok((folder, boxes))
+    for _ in 0..n {
+        boxes.push(box_of(rt, folder, &mut desk)?).ok()?;
+    }
+    Some(boxes)
 }
 
 fn is_pair(key: &Key, value: &Value, told: &(&'static str, &'static str)) -> bool {
@@ -206,35 +209,43 @@ fn is_recovered(alloc: Global, boxes: Vec<Box<dyn Segment>>, told: &Said) -> boo
     }
 }
 
-/// Whether recovery tells so of the files of leases 0 to n - 1.
-pub(super) fn is_told(
-    rt: &Watched<HostRuntime>,
-    path: &str,
-    n: usize,
-    told: &Said,
-) -> Result<bool, Fail> {
-    let (_folder, boxes) = opened(rt, path, n)?;
-    Ok(is_recovered(rt.alloc(), boxes, told))
+// Whether the step goes well over these boxes of the folder.
+fn goes_with(
+    rt: &Watched,
+    folder: &Folder<WatchedFile>,
+    boxes: Vec<Box<dyn Segment>>,
+    act: &Act,
+) -> bool {
+    match act {
+        Tells(_, told) => is_recovered(rt.alloc(), boxes, told),
+        Cleans(empties) => is_cleaned_over(rt, folder, boxes, *empties),
+        _ => false,
+    }
 }
 
-fn are_told(rt: &Watched<HostRuntime>, path: &str, row: &Row) -> Result<bool, Fail> {
-    let Row(pieces, told) = row;
-    write_files(rt, path, *pieces)?;
-    // A second time: what one opening read, a later one reads too.
-    Ok(is_told(rt, path, pieces.len(), told)? && is_told(rt, path, pieces.len(), told)?)
+// Whether the step goes well in the folder, which is opened for it, over boxes of its first leases.
+fn goes_opened(rt: &Watched, act: &Act) -> bool {
+    let n = match act {
+        Tells(n, _) => *n,
+        _ => 3,
+    };
+    let Ok(folder) = Folder::open(rt, rt.path()) else {
+        return false;
+    };
+    match boxes_of(rt, &folder, n) {
+        Some(boxes) => goes_with(rt, &folder, boxes, act),
+        None => false,
+    }
 }
 
-fn goes(rt: HostRuntime, path: &'static str, row: &Row) -> Result<bool, Fail> {
-    clear(rt, path);
-    let watched = Watched::new(rt)?;
-    are_told(&watched, path, row)
+/// Whether a step goes well that opens the folder for itself. Which calls it makes is not told.
+pub(super) fn goes_over(rt: &Watched, act: &Act) -> bool {
+    let went = goes_opened(rt, act);
+    rt.watch().take_letters();
+    went
 }
 
 #[test]
 fn worked_files_are_told(rt: HostRuntime) -> Result<(), Fail> {
-    for (i, row) in WORKED.iter().enumerate() {
-        assert!(rt; goes(rt, "worked", row)?, "in row {i}");
-    }
-    clear(rt, "worked");
-    Ok(())
+    go_as_told(&rt, rt, WORKED)
 }

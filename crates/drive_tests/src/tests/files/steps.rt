@@ -1,10 +1,14 @@
 //! Steps on one folder with up to two of its segments, and how each goes.
 
-use super::watched::{Watched, WatchedFile, number_of};
+use super::super::all_went;
+use super::listed::are_listed;
+use super::recovered::{Said, goes_over};
+use super::watched::{Watched, WatchedFile, clear, number_of};
 use bw_device::{Desk, Lease, MAX_CAPACITY, Segment};
-use bw_file::{FileSegment, Folder, FolderFault, FolderReader};
+use bw_file::{FileSegment, Folder, FolderFault, FolderReader, NotOpened};
 use std::alloc::{AllocError, Global};
 use std::fs::{self, OpenOptions};
+use std::process::Abort;
 use std::test::Fail;
 
 /// One step. Segments have a place, 0 or 1, which is also their lease.
@@ -37,12 +41,22 @@ pub(super) enum Act {
     Make,
     /// A file of the folder is written from outside.
     Write(&'static str, &'static str),
+    /// The same with so many first bytes of these, which are in hex.
+    Bytes(&'static str, &'static str, usize),
     /// A file of the folder has these bytes, and no more.
     File(&'static str, &'static str),
+    /// The file of the first lease has so many first bytes of these, which are in hex, and no more.
+    First(&'static str, usize),
     /// No file of this name stands.
     NoFile(&'static str),
     /// The file of the first lease becomes longer than a segment may be.
     Lengthen,
+    /// There are files for these leases.
+    Listed(&'static [u32]),
+    /// Recovery tells so of the files of the first so many leases. The calls are not told.
+    Tells(usize, Said),
+    /// The older of two segments is given up, and with true its file is emptied then.
+    Cleans(bool),
 }
 
 /// How a step went: done, or the fault; `No` where something else is held than told.
@@ -61,10 +75,10 @@ pub(super) enum Told {
 #[derive(Drop)]
 pub(super) struct Row(pub(super) Act, pub(super) Told, pub(super) &'static str);
 
-/// What stands of a folder.
+/// A folder, and what stands of it.
 #[derive(Drop)]
 pub(super) struct Stand {
-    path: &'static str,
+    pub(super) rt: Watched,
     folder: Option<Folder<WatchedFile>>,
     reader: Option<FolderReader<WatchedFile>>,
     first: Option<FileSegment<WatchedFile>>,
@@ -72,19 +86,14 @@ pub(super) struct Stand {
 }
 
 /// Nothing stands yet.
-pub(super) fn at(path: &'static str) -> Stand {
-    Stand {
-        path,
+pub(super) fn at(rt: HostRuntime, path: &'static str) -> Result<Stand, Fail> {
+    Ok(Stand {
+        rt: Watched::new(rt, path)?,
         folder: None,
         reader: None,
         first: None,
         second: None,
-    }
-}
-
-/// The folder and its files are gone, if they were there.
-pub(super) fn clear(rt: HostRuntime, path: &str) {
-    let _ = fs::remove_dir_all(&rt, path);
+    })
 }
 
 fn fault(cause: FolderFault) -> Told {
@@ -102,17 +111,16 @@ fn done_if(is: bool) -> Told {
 }
 
 // The lease 0 or 1 of a desk of its own.
-fn lease_of(alloc: Global, number: u32) -> Result<Lease, Fail> {
-    let mut desk = Desk::new(alloc, 2)?;
-    let first = desk.take()?;
-    if number == 0 {
-        return Ok(first);
+fn lease_of(alloc: Global, number: u32) -> Option<Lease> {
+    let mut desk = Desk::new(alloc, 2).ok()?;
+    if number != 0 {
+        let _ = desk.take();
     }
-    Ok(desk.take()?)
+    desk.take().ok()
 }
 
-fn open(rt: &Watched<HostRuntime>, stand: &mut Stand) -> Told {
-    match Folder::open(rt, stand.path) {
+fn open(stand: &mut Stand) -> Told {
+    match Folder::open(&stand.rt, stand.rt.path()) {
         Ok(folder) => {
             stand.folder = Some(folder);
             Told::Done
@@ -121,8 +129,8 @@ fn open(rt: &Watched<HostRuntime>, stand: &mut Stand) -> Told {
     }
 }
 
-fn look(rt: &Watched<HostRuntime>, stand: &mut Stand) -> Told {
-    match FolderReader::open(rt, stand.path) {
+fn look(stand: &mut Stand) -> Told {
+    match FolderReader::open(&stand.rt, stand.rt.path()) {
         Ok(reader) => {
             stand.reader = Some(reader);
             Told::Done
@@ -132,66 +140,43 @@ fn look(rt: &Watched<HostRuntime>, stand: &mut Stand) -> Told {
 }
 
 // Puts a segment that was opened at its place.
-fn put(stand: &mut Stand, place: u32, one: FileSegment<WatchedFile>) -> Told {
-    if place == 0 {
-        stand.first = Some(one);
+fn placed(
+    stand: &mut Stand,
+    place: u32,
+    opened: Result<FileSegment<WatchedFile>, NotOpened>,
+) -> Told {
+    match opened {
+        Ok(one) => {
+            if place == 0 {
+                stand.first = Some(one);
+            } else {
+                stand.second = Some(one);
+            }
+            Told::Done
+        }
+        Err(refused) => fault(refused.cause),
+    }
+}
+
+fn segment(stand: &mut Stand, place: u32, capacity: u64, is_spare: bool) -> Told {
+    let (Some(folder), Some(lease)) = (&stand.folder, lease_of(stand.rt.alloc(), place)) else {
+        return Told::No;
+    };
+    let opened = if is_spare {
+        folder.spare(&stand.rt, lease, capacity)
     } else {
-        stand.second = Some(one);
-    }
-    Told::Done
-}
-
-fn segment(
-    rt: &Watched<HostRuntime>,
-    stand: &mut Stand,
-    place: u32,
-    capacity: u64,
-) -> Result<Told, Fail> {
-    let lease = lease_of(rt.alloc(), place)?;
-    let Some(folder) = &stand.folder else {
-        return Ok(Told::No);
+        folder.segment(&stand.rt, lease, capacity)
     };
-    match folder.segment(rt, lease, capacity) {
-        Ok(one) => Ok(put(stand, place, one)),
-        Err(refused) => Ok(fault(refused.cause)),
-    }
+    placed(stand, place, opened)
 }
 
-fn spare(
-    rt: &Watched<HostRuntime>,
-    stand: &mut Stand,
-    place: u32,
-    capacity: u64,
-) -> Result<Told, Fail> {
-    let lease = lease_of(rt.alloc(), place)?;
-    let Some(folder) = &stand.folder else {
-        return Ok(Told::No);
-    };
-    match folder.spare(rt, lease, capacity) {
-        Ok(one) => Ok(put(stand, place, one)),
-        Err(refused) => Ok(fault(refused.cause)),
-    }
-}
-
-fn empty(rt: &Watched<HostRuntime>, stand: &Stand, lease: u32) -> Told {
+fn empty(stand: &Stand, lease: u32) -> Told {
     let Some(folder) = &stand.folder else {
         return Told::No;
     };
-    match folder.empty(rt, lease) {
+    match folder.empty(&stand.rt, lease) {
         Ok(()) => Told::Done,
         Err(cause) => fault(cause),
-    }
-}
-
-// Adds the piece where there is room for it.
-fn append(one: &mut dyn Segment, piece: &[u8]) -> Told {
-    let room = one.capacity() - one.len();
-    if room < piece.len() as u64 || one.failures() == u64::MAX {
-        return Told::No;
-    }
-    match one.append(piece) {
-        Ok(()) => Told::Done,
-        Err(_) => Told::System,
     }
 }
 
@@ -214,10 +199,18 @@ fn at_place(stand: &mut Stand, place: u32) -> Option<&mut FileSegment<WatchedFil
     }
 }
 
-fn append_at(stand: &mut Stand, place: u32, piece: &str) -> Told {
-    match at_place(stand, place) {
-        Some(one) => append(one, piece.as_bytes()),
-        None => Told::No,
+// Adds the piece where there is room for it.
+fn append(stand: &mut Stand, place: u32, piece: &str) -> Told {
+    let Some(one) = at_place(stand, place) else {
+        return Told::No;
+    };
+    let room = one.capacity() - one.len();
+    if room < piece.len() as u64 || one.failures() == u64::MAX {
+        return Told::No;
+    }
+    match one.append(piece.as_bytes()) {
+        Ok(()) => Told::Done,
+        Err(_) => Told::System,
     }
 }
 
@@ -230,33 +223,47 @@ fn holds_at(stand: &mut Stand, place: u32, held: &str, failures: u64) -> Told {
     }
 }
 
-fn copy(
-    rt: &Watched<HostRuntime>,
-    stand: &Stand,
-    number: u32,
-    capacity: u64,
-    held: &str,
-) -> Result<Told, Fail> {
-    let lease = lease_of(rt.alloc(), number)?;
-    let Some(reader) = &stand.reader else {
-        return Ok(Told::No);
+fn copy(stand: &Stand, number: u32, capacity: u64, held: &str) -> Told {
+    let (Some(reader), Some(lease)) = (&stand.reader, lease_of(stand.rt.alloc(), number)) else {
+        return Told::No;
     };
-    match reader.copy(rt, lease, capacity) {
-        Ok(mut one) => Ok(done_if(one.lease() == number && holds(&mut one, held.as_bytes()))),
-        Err(refused) => Ok(fault(refused.cause)),
+    match reader.copy(&stand.rt, lease, capacity) {
+        Ok(mut one) => done_if(one.lease() == number && holds(&mut one, held.as_bytes())),
+        Err(refused) => fault(refused.cause),
     }
 }
 
-/// The path of a file of a folder.
-pub(super) fn path_of(alloc: Global, folder: &str, name: &str) -> Result<String, AllocError> {
+// The path of a file of a folder.
+fn path_of(alloc: Global, folder: &str, name: &str) -> Result<String, AllocError> {
     format!(in alloc; "{folder}/{name}")
 }
 
 // Whether the file holds this, and no more.
-fn has(rt: &HostRuntime, path: &str, text: &str) -> bool {
+fn has(rt: &HostRuntime, path: &str, told: &[u8]) -> bool {
     match fs::read(rt, path) {
-        Ok(bytes) => bytes.as_slice() == text.as_bytes(),
+        Ok(bytes) => bytes.as_slice() == told,
         Err(_) => false,
+    }
+}
+
+// So many first bytes of these.
+fn bytes_of(alloc: Global, hex: &'static str, n: usize) -> Option<Vec<u8>> {
+    let mut bytes = hex::decode(alloc, hex).ok()?;
+    bytes.truncate(n);
+    Some(bytes)
+}
+
+// Whether such bytes are written to a file, or stand in it.
+fn goes_in_hex(rt: &HostRuntime, path: &str, hex: &'static str, n: usize, writes: bool) -> bool {
+    match bytes_of(rt.alloc(), hex, n) {
+        Some(bytes) => {
+            if writes {
+                fs::write(rt, path, bytes.as_slice()).is_ok()
+            } else {
+                has(rt, path, bytes.as_slice())
+            }
+        }
+        None => false,
     }
 }
 
@@ -278,6 +285,7 @@ fn lengthen(rt: &HostRuntime, path: &str) -> bool {
 fn name_of(act: &Act) -> &'static str {
     match act {
         Act::Write(name, _) => *name,
+        Act::Bytes(name, _, _) => *name,
         Act::File(name, _) => *name,
         Act::NoFile(name) => *name,
         _ => "segment-0000.bw",
@@ -288,76 +296,99 @@ fn name_of(act: &Act) -> &'static str {
 fn goes_on(rt: &HostRuntime, path: &str, act: &Act) -> bool {
     match act {
         Act::Write(_, text) => fs::write(rt, path, *text).is_ok(),
-        Act::File(_, text) => has(rt, path, *text),
+        Act::Bytes(_, hex, n) => goes_in_hex(rt, path, *hex, *n, true),
+        Act::File(_, text) => has(rt, path, text.as_bytes()),
+        Act::First(hex, n) => goes_in_hex(rt, path, *hex, *n, false),
         Act::NoFile(_) => is_missing(rt, path),
         Act::Lengthen => lengthen(rt, path),
         _ => false,
     }
 }
 
-// Whether a step of one who stands outside goes well.
-fn goes_outside(rt: &Watched<HostRuntime>, folder: &str, act: &Act) -> Result<bool, AllocError> {
+/// Whether a step goes well of one who stands outside, or who opens the folder anew.
+pub(super) fn goes_outside(rt: &Watched, act: &Act) -> bool {
     match act {
-        Act::Make => Ok(fs::create_dir(rt.system(), folder).is_ok()),
+        Act::Make => fs::create_dir(rt.system(), rt.path()).is_ok(),
         Act::Fail(passes, keep) => {
             rt.watch().fail_after(*passes, *keep);
-            Ok(true)
+            true
         }
         Act::Full(is_full) => {
             rt.watch().fill(*is_full);
-            Ok(true)
+            true
         }
-        _ => {
-            let path = path_of(rt.alloc(), folder, name_of(act))?;
-            Ok(goes_on(rt.system(), path.as_str(), act))
-        }
+        Act::Listed(leases) => are_listed(rt.system(), rt.path(), *leases),
+        Act::Tells(_, _) | Act::Cleans(_) => goes_over(rt, act),
+        _ => match path_of(rt.alloc(), rt.path(), name_of(act)) {
+            Ok(path) => goes_on(rt.system(), path.as_str(), act),
+            Err(_) => false,
+        },
     }
 }
 
 /// How the step goes.
-pub(super) fn goes(rt: &Watched<HostRuntime>, stand: &mut Stand, act: &Act) -> Result<Told, Fail> {
+pub(super) fn goes(stand: &mut Stand, act: &Act) -> Told {
     match act {
-        Act::Open => Ok(open(rt, stand)),
-        Act::Look => Ok(look(rt, stand)),
+        Act::Open => open(stand),
+        Act::Look => look(stand),
         Act::Leave => {
             stand.folder = None;
-            Ok(Told::Done)
+            Told::Done
         }
         Act::LookAway => {
             stand.reader = None;
-            Ok(Told::Done)
+            Told::Done
         }
-        Act::Segment(place, capacity) => segment(rt, stand, *place, *capacity),
-        Act::Spare(place, capacity) => spare(rt, stand, *place, *capacity),
+        Act::Segment(place, capacity) => segment(stand, *place, *capacity, false),
+        Act::Spare(place, capacity) => segment(stand, *place, *capacity, true),
         Act::Stop(place) => {
             if *place == 0 {
                 stand.first = None;
             } else {
                 stand.second = None;
             }
-            Ok(Told::Done)
+            Told::Done
         }
-        Act::Append(place, piece) => Ok(append_at(stand, *place, piece)),
-        Act::Holds(place, held, failures) => Ok(holds_at(stand, *place, held, *failures)),
-        Act::Copy(lease, capacity, held) => copy(rt, stand, *lease, *capacity, held),
-        Act::Empty(lease) => Ok(empty(rt, stand, *lease)),
-        _ => Ok(done_if(goes_outside(rt, stand.path, act)?)),
+        Act::Append(place, piece) => append(stand, *place, piece),
+        Act::Holds(place, held, failures) => holds_at(stand, *place, held, *failures),
+        Act::Copy(lease, capacity, held) => copy(stand, *lease, *capacity, held),
+        Act::Empty(lease) => empty(stand, *lease),
+        _ => done_if(goes_outside(&stand.rt, act)),
     }
 }
 
 /// How many of the rows went as told before one did not.
-pub(super) fn walked(
-    rt: &Watched<HostRuntime>,
-    stand: &mut Stand,
-    rows: &[Row],
-) -> Result<usize, Fail> {
+pub(super) fn walked(stand: &mut Stand, rows: &[Row]) -> usize {
     for (i, row) in rows.iter().enumerate() {
         let Row(act, told, letters) = row;
-        let went = goes(rt, stand, act)?;
-        let made = rt.watch().take_letters();
+        let went = goes(stand, act);
+        let made = stand.rt.watch().take_letters();
         if went != *told || made != number_of(letters) {
-            return Ok(i);
+            return i;
         }
     }
-    Ok(rows.len())
+    rows.len()
+}
+
+/// A folder, and what goes in it.
+pub(super) type Table = (&'static str, &'static [Row]);
+
+// How many of the rows went as told in a folder of their own.
+fn walked_in(rt: HostRuntime, path: &'static str, rows: &[Row]) -> Result<usize, Fail> {
+    let mut stand = at(rt, path)?;
+    Ok(walked(&mut stand, rows))
+}
+
+/// Each row of each table goes as told.
+pub(super) fn go_as_told<R: Abort>(
+    test: &R,
+    rt: HostRuntime,
+    tables: &[Table],
+) -> Result<(), Fail> {
+    for (path, rows) in tables {
+        let went = walked_in(rt, *path, *rows)?;
+        clear(rt, *path);
+        all_went(test, went, rows.len(), *path);
+    }
+    Ok(())
 }

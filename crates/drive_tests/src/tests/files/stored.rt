@@ -4,10 +4,13 @@
 ghost use Rattle.bw_care.specs.Views.{IsSound as IsSoundLog};
 ghost use Rattle.bw_store.specs.Views.{IsSound};
 
+use super::super::all_went;
 use super::recovered::Said::Found;
-use super::recovered::{Piece, Said, is_told, opened, write_files};
-use super::steps::{clear, path_of};
-use super::watched::{Watched, WatchedFile};
+use super::recovered::{Said, boxes_of};
+use super::steps::Act::{Bytes, Cleans, First, Make, Tells};
+use super::steps::Told::Done;
+use super::steps::{Row, go_as_told, goes_outside};
+use super::watched::{Watched, WatchedFile, clear};
 use bw_care::{Cleaned, clean, recover};
 use bw_codec::{Key, Record, Value};
 use bw_device::Segment;
@@ -15,8 +18,6 @@ use bw_file::Folder;
 use bw_log::Log;
 use bw_ring::Feed;
 use bw_store::{Config, Store, StoreFault};
-use std::alloc::Global;
-use std::fs;
 use std::sync::Wait;
 use std::test::Fail;
 
@@ -90,7 +91,7 @@ fn is_flushed<R: Wait>(
 // Two flushes: the first one passes, and the second one as long as no call of it is to fail.
 fn are_flushed<R: Wait>(
     wait: &R,
-    rt: &Watched<HostRuntime>,
+    rt: &Watched,
     store: &mut Store,
     feeds: &mut [Feed],
     passes: u64,
@@ -117,7 +118,7 @@ const CONFIG: Config = Config {
 // A life of a store over these boxes, until it is shut.
 fn lives_over<R: Wait>(
     wait: &R,
-    rt: &Watched<HostRuntime>,
+    rt: &Watched,
     boxes: Vec<Box<dyn Segment>>,
     passes: u64,
     keep: u64,
@@ -131,90 +132,70 @@ fn lives_over<R: Wait>(
 }
 
 // A life of a store over two files of the folder.
-fn lives<R: Wait>(
-    wait: &R,
-    rt: &Watched<HostRuntime>,
-    path: &str,
-    passes: u64,
-    keep: u64,
-) -> Result<bool, Fail> {
-    let (_folder, boxes) = opened(rt, path, 2)?;
-    Ok(lives_over(wait, rt, boxes, passes, keep))
+fn lives<R: Wait>(wait: &R, rt: &Watched, passes: u64, keep: u64) -> bool {
+    let Ok(folder) = Folder::open(rt, rt.path()) else {
+        return false;
+    };
+    match boxes_of(rt, &folder, 2) {
+        Some(boxes) => lives_over(wait, rt, boxes, passes, keep),
+        None => false,
+    }
 }
 
-// The bytes of the first file.
-fn bytes_of(rt: &Watched<HostRuntime>, path: &str) -> Result<Vec<u8>, Fail> {
-    let name = path_of(rt.alloc(), path, "segment-0000.bw")?;
-    Ok(fs::read(rt.system(), name.as_str())?)
+// What is told where so many bytes of the second frame stand, which is a frame if it is whole.
+fn said_of(of_second: u64) -> Said {
+    if of_second == SECOND_LENGTH {
+        Found(1, 2, 0, 1, 1, 0, JKV)
+    } else {
+        Found(1, 1, of_second, 1, 1, 0, KV)
+    }
 }
 
-// Whether the first file has the first bytes of both frames, so many of the second.
-fn has_bytes(rt: &Watched<HostRuntime>, path: &str, of_second: u64) -> Result<bool, Fail> {
-    let bytes = bytes_of(rt, path)?;
-    let mut told = hex::decode(rt.alloc(), BOTH)?;
-    told.truncate(76 + of_second.min(SECOND_LENGTH) as usize);
-    Ok(bytes.as_slice() == told.as_slice())
-}
-
-// Whether the files have so many bytes of the second frame, and tell so.
-fn tells(rt: &Watched<HostRuntime>, path: &str, of_second: u64, told: &Said) -> Result<bool, Fail> {
-    Ok(has_bytes(rt, path, of_second)? && is_told(rt, path, 2, told)?)
-}
-
-// Whether after a life whose call of this number failed the files tell so.
+// Whether behind a life whose call of this number failed the first file has so many bytes of the
+// second frame, and the files tell so.
 fn is_there<R: Wait>(
     wait: &R,
     rt: HostRuntime,
-    path: &'static str,
-    (passes, keep): (u64, u64),
+    passes: u64,
+    keep: u64,
     of_second: u64,
-    told: &Said,
 ) -> Result<bool, Fail> {
-    clear(rt, path);
-    let watched = Watched::new(rt)?;
-    let lived = lives(wait, &watched, path, passes, keep)?;
-    if !lived {
-        return Ok(false);
-    }
-    tells(&watched, path, of_second, told)
-}
-
-const BOTH_FOUND: &Said = &Found(1, 2, 0, 1, 1, 0, JKV);
-
-// The same where so many bytes of the second frame were kept, which is then no frame.
-fn is_cut<R: Wait>(wait: &R, rt: HostRuntime, path: &'static str, keep: u64) -> Result<bool, Fail> {
-    let first = Found(1, 1, keep, 1, 1, 0, KV);
-    is_there(wait, rt, path, (0, keep), keep, &first)
+    let rt = &Watched::new(rt, "stored")?;
+    let length = 76 + of_second.min(SECOND_LENGTH) as usize;
+    Ok(
+        lives(wait, rt, passes, keep)
+            && goes_outside(rt, &First(BOTH, length))
+            && goes_outside(rt, &Tells(2, said_of(of_second))),
+    )
 }
 
 #[test]
 fn what_was_flushed_is_there_after_a_stop(rt: HostRuntime) -> Result<(), Fail> {
-    // No call fails; or the sync, or the write behind its last byte: the frame was not promised, and
-    // is there.
-    for fails in [(99, 0), (1, 0), (0, SECOND_LENGTH)] {
-        let is_there = is_there(&rt, rt, "stored", fails, SECOND_LENGTH, BOTH_FOUND)?;
-        assert!(rt; is_there, "after {} calls", fails.0);
+    // No call fails; or the sync: the frame was not promised, and is there.
+    for passes in [99, 1] {
+        assert!(rt; is_there(&rt, rt, passes, 0, SECOND_LENGTH)?);
     }
-    for keep in 0..SECOND_LENGTH {
-        assert!(rt; is_cut(&rt, rt, "stored", keep)?, "at {keep}");
+    // Or the write, behind each of its bytes and behind its last one.
+    let mut there: usize = 0;
+    for keep in 0..=SECOND_LENGTH {
+        if !is_there(&rt, rt, 0, keep, keep)? {
+            break;
+        }
+        there = there.saturating_add(1);
     }
     clear(rt, "stored");
+    all_went(&rt, there, SECOND_LENGTH as usize + 1, "stored");
     Ok(())
 }
 
 /// Two segments: k=1 on the empty page 1, then j=2.
-const TWO: &[Piece] = &[
-    Piece(
-        "42574c4f475347310100000000000000040000000040000046524d3101000000000000002000000002000000\
-        02010000000000000101000000010000000000000000000000010001016b0131",
-        76,
-    ),
-    Piece(
-        "42574c4f475347310200000000000000040000000040000046524d3102000000000000001800000001000000\
-        0101000000010000000000000001000000010001016a0132",
-        68,
-    ),
-];
+const OLDER: &str =
+    "42574c4f475347310100000000000000040000000040000046524d3101000000000000002000000002000000\
+    02010000000000000101000000010000000000000000000000010001016b0131";
+
+const NEWER: &str =
+    "42574c4f475347310200000000000000040000000040000046524d3102000000000000001800000001000000\
+    0101000000010000000000000001000000010001016a0132";
 
 const JK: &[(&str, &str)] = &[("j", "2"), ("k", "1")];
 
@@ -226,55 +207,47 @@ const GIVEN_UP: Cleaned = Cleaned {
     frames: 1,
 };
 
-// Whether the older of two segments is given up.
-fn is_given_up(alloc: Global, log: &mut Log) -> bool
+// Whether the older of two segments is given up. The file is then emptied where that is asked, while
+// the log stands.
+fn is_given_up(rt: &Watched, folder: &Folder<WatchedFile>, log: &mut Log, empties: bool) -> bool
     requires { IsSoundLog log.old holding }
 {
-    match clean(alloc, log) {
-        Ok(cleaned) => cleaned == GIVEN_UP,
-        Err(_) => false,
-    }
+    let given_up = clean(rt.alloc(), log) == Ok(GIVEN_UP);
+    given_up & (!empties || folder.empty(rt, 0).is_ok())
 }
 
-// The same of the log that is recovered from the boxes. The file is then emptied where that is asked,
-// while the log stands.
-fn is_cleaned_over(
-    rt: &Watched<HostRuntime>,
+/// The same of the log that is recovered from the boxes.
+pub(super) fn is_cleaned_over(
+    rt: &Watched,
     folder: &Folder<WatchedFile>,
     boxes: Vec<Box<dyn Segment>>,
     empties: bool,
 ) -> bool {
     match recover(rt.alloc(), boxes) {
-        Ok(mut found) => {
-            let given_up = is_given_up(rt.alloc(), &mut found.log);
-            given_up & (!empties || folder.empty(rt, 0).is_ok())
-        }
+        Ok(mut found) => is_given_up(rt, folder, &mut found.log, empties),
         Err(_) => false,
     }
 }
 
-// The same of the files.
-fn is_cleaned(rt: &Watched<HostRuntime>, path: &str, empties: bool) -> Result<bool, Fail> {
-    let (folder, boxes) = opened(rt, path, 3)?;
-    Ok(is_cleaned_over(rt, &folder, boxes, empties))
-}
+/// A cleaning and a stop, before the file is emptied.
+const GIVEN: &[Row] = &[
+    Row(Make, Done, ""),
+    Row(Bytes("segment-0000.bw", OLDER, 76), Done, ""),
+    Row(Bytes("segment-0001.bw", NEWER, 68), Done, ""),
+    Row(Cleans(false), Done, ""),
+    Row(Tells(3, Found(1, 3, 0, 2, 1, 0, JK)), Done, ""),
+];
 
-// Whether the files tell so after a cleaning and a stop, before the file is emptied or behind it.
-fn is_there_cleaned(rt: HostRuntime, empties: bool, told: &Said) -> Result<bool, Fail> {
-    clear(rt, "cleaned");
-    let watched = Watched::new(rt)?;
-    write_files(&watched, "cleaned", TWO)?;
-    Ok(is_cleaned(&watched, "cleaned", empties)? && is_told(&watched, "cleaned", 3, told)?)
-}
-
-const TWO_LIVE: &Said = &Found(1, 3, 0, 2, 1, 0, JK);
-
-const ONE_LIVE: &Said = &Found(2, 3, 0, 1, 2, 0, JK);
+/// The same behind it.
+const EMPTIED: &[Row] = &[
+    Row(Make, Done, ""),
+    Row(Bytes("segment-0000.bw", OLDER, 76), Done, ""),
+    Row(Bytes("segment-0001.bw", NEWER, 68), Done, ""),
+    Row(Cleans(true), Done, ""),
+    Row(Tells(3, Found(2, 3, 0, 1, 2, 0, JK)), Done, ""),
+];
 
 #[test]
 fn a_segment_that_was_given_up_is_gone_once_its_file_is_empty(rt: HostRuntime) -> Result<(), Fail> {
-    assert!(rt; is_there_cleaned(rt, false, TWO_LIVE)?);
-    assert!(rt; is_there_cleaned(rt, true, ONE_LIVE)?);
-    clear(rt, "cleaned");
-    Ok(())
+    go_as_told(&rt, rt, &[("given", GIVEN), ("emptied", EMPTIED)])
 }

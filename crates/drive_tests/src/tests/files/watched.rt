@@ -1,13 +1,14 @@
 //! A runtime whose files say what is asked of them, and of which one call fails.
 
 use bw_file::SegmentFile;
-use std::alloc::{Alloc, AllocError, Allocator};
-use std::fs::{File, Metadata, OpenFile, OpenOptions, TryLockError};
+use std::alloc::{Alloc, Allocator, Global};
+use std::fs::{self, File, Metadata, OpenFile, OpenOptions, TryLockError};
 use std::io::{self, ErrorKind, Read, Seek, SeekFrom, Write};
 use std::os::unix::fs::FileExt;
 use std::rt::Files;
 use std::sync::Arc;
 use std::sync::atomic::{AtomicBool, AtomicU64, Ordering};
+use std::test::Fail;
 
 /// What was asked, and what is to fail.
 #[derive(Drop)]
@@ -20,6 +21,8 @@ pub(super) struct Watch {
     keep: AtomicU64,
     /// Whether writes go to a device that is full.
     is_full: AtomicBool,
+    /// That device.
+    full: File,
 }
 
 /// Such letters as a number.
@@ -33,12 +36,13 @@ pub(super) fn number_of(letters: &str) -> u64 {
 
 impl Watch {
     /// No call was made, and none is to fail.
-    pub(super) fn new() -> Watch {
+    fn new(full: File) -> Watch {
         Watch {
             letters: AtomicU64::new(0),
             passes: AtomicU64::new(u64::MAX),
             keep: AtomicU64::new(0),
             is_full: AtomicBool::new(false),
+            full,
         }
     }
 
@@ -93,17 +97,25 @@ impl Watch {
     }
 }
 
-/// The system's files, watched.
+/// The system's files, watched, and a folder.
 #[derive(Drop)]
-pub(super) struct Watched<R> {
-    rt: R,
+pub(super) struct Watched {
+    rt: HostRuntime,
+    path: &'static str,
     watch: Arc<Watch>,
 }
 
-impl<R: AllocGlobal + Drop> Watched<R> {
-    pub(super) fn new(rt: R) -> Result<Watched<R>, AllocError> {
-        let watch = Arc::new(rt.alloc(), Watch::new())?;
-        Ok(Watched { rt, watch })
+impl Watched {
+    /// The folder and its files are gone, if they were there.
+    pub(super) fn new(rt: HostRuntime, path: &'static str) -> Result<Watched, Fail> {
+        clear(rt, path);
+        let full = OpenOptions::new().write(true).open(&rt, "/dev/full")?;
+        let watch = Arc::new(rt.alloc(), Watch::new(full))?;
+        Ok(Watched { rt, path, watch })
+    }
+
+    pub(super) fn path(&self) -> &'static str {
+        self.path
     }
 
     pub(super) fn watch(&self) -> &Watch {
@@ -111,36 +123,38 @@ impl<R: AllocGlobal + Drop> Watched<R> {
     }
 
     /// The system, unwatched.
-    pub(super) fn system(&self) -> &R {
+    pub(super) fn system(&self) -> &HostRuntime {
         &self.rt
     }
 }
 
-impl<R: Alloc> Alloc for Watched<R> {
-    type A = R::A;
+/// A folder and its files are gone, if they were there.
+pub(super) fn clear(rt: HostRuntime, path: &str) {
+    let _ = fs::remove_dir_all(&rt, path);
+}
 
-    fn alloc(&self) -> R::A {
+impl Alloc for Watched {
+    type A = Global;
+
+    fn alloc(&self) -> Global {
         self.rt.alloc()
     }
 }
 
-impl<R: Files<File = File>> Files for Watched<R> {
+impl Files for Watched {
     type File = WatchedFile;
 
-    type Dir = R::Dir;
+    type Dir = <HostRuntime as Files>::Dir;
 
     fn open_file(&self, how: &OpenOptions, path: &str) -> io::Result<WatchedFile> {
         self.watch.ask(b'o')?;
-        let file = self.rt.open_file(how, path)?;
-        let full = OpenOptions::new().write(true).open(&self.rt, "/dev/full")?;
         Ok(WatchedFile {
-            file,
-            full,
+            file: self.rt.open_file(how, path)?,
             watch: self.watch.clone()?,
         })
     }
 
-    fn open_dir(&self, path: &str) -> io::Result<R::Dir> {
+    fn open_dir(&self, path: &str) -> io::Result<<HostRuntime as Files>::Dir> {
         self.rt.open_dir(path)
     }
 
@@ -183,8 +197,6 @@ impl<R: Files<File = File>> Files for Watched<R> {
 #[derive(Drop)]
 pub(super) struct WatchedFile {
     file: File,
-    /// The device that is full.
-    full: File,
     watch: Arc<Watch>,
 }
 
@@ -197,7 +209,7 @@ impl FileExt for WatchedFile {
     fn write_at(&self, buf: &[u8], offset: u64) -> io::Result<usize> {
         if self.watch.passes(b'w') {
             if self.watch.is_full.load(Ordering::SeqCst) {
-                return self.full.write_at(buf, offset);
+                return self.watch.full.write_at(buf, offset);
             }
             return self.file.write_at(buf, offset);
         }

@@ -1,5 +1,9 @@
 //! The three segments of the third vector as boxes.
 
+ghost use Rattle.std.specs.Prelude.{IfOk};
+ghost use Rattle.bw_care.specs.Found.{IsRecovered};
+
+use bw_care::{RecoverCause, Recovered, recover};
 use bw_device::{Desk, MemSegment, Segment};
 use std::alloc::Global;
 
@@ -37,14 +41,31 @@ fn add(
 }
 
 /// A box for each text; an empty text is a spare. None where memory for them is refused.
-pub(super) fn add_all(
-    alloc: Global,
-    desk: &mut Desk,
-    texts: &[&'static str],
-    boxes: &mut Vec<Box<dyn Segment>>,
-) -> Option<()> {
+pub(super) fn boxes(alloc: Global, texts: &[&'static str]) -> Option<Vec<Box<dyn Segment>>> {
+    let mut desk = Desk::new(alloc, 8).ok()?;
+    let mut boxes: Vec<Box<dyn Segment>> = Vec::new(alloc);
     for text in texts {
-        add(alloc, desk, *text, boxes)?;
+        add(alloc, &mut desk, *text, &mut boxes)?;
     }
-    Some(())
+    Some(boxes)
+}
+
+/// What is recovered from boxes, once more where memory was refused: all of them came back then. A
+/// number where it is otherwise.
+pub(super) fn recovered(alloc: Global, boxes: Vec<Box<dyn Segment>>) -> Result<Recovered, u8>
+    ensures { IfOk result (λ r. IsRecovered holding r) }
+{
+    let count = boxes.len();
+    match recover(alloc, boxes) {
+        Ok(found) => Ok(found),
+        Err(fault) => {
+            if fault.cause != RecoverCause::NoMemory || fault.boxes.len() != count {
+                return Err(5);
+            }
+            match recover(alloc, fault.boxes) {
+                Ok(found) => Ok(found),
+                Err(_) => Err(6),
+            }
+        }
+    }
 }

@@ -30,19 +30,23 @@ fn segment(rt: HostRuntime, folder: &Folder, lease: Lease) -> Option<FileSegment
     }
 }
 
-fn count(rt: HostRuntime, folder: &Folder) -> Option<usize> {
+// Whether the folder has files for one lease.
+fn has_one(rt: HostRuntime, folder: &Folder) -> bool {
     match folder.leases(&rt) {
-        Ok(leases) => Some(leases.len()),
-        Err(FolderFault::NoMemory) => Some(folder.leases(&rt).ok()?.len()),
-        Err(_) => None,
+        Ok(leases) => leases.len() == 1,
+        Err(FolderFault::NoMemory) => match folder.leases(&rt) {
+            Ok(leases) => leases.len() == 1,
+            Err(_) => false,
+        },
+        Err(_) => false,
     }
 }
 
-fn empties(rt: HostRuntime, folder: &Folder) -> Option<()> {
+fn empties(rt: HostRuntime, folder: &Folder) -> bool {
     match folder.empty(&rt, 0) {
-        Ok(()) => Some(()),
-        Err(FolderFault::NoMemory) => folder.empty(&rt, 0).ok(),
-        Err(_) => None,
+        Ok(()) => true,
+        Err(FolderFault::NoMemory) => folder.empty(&rt, 0).is_ok(),
+        Err(_) => false,
     }
 }
 
@@ -55,35 +59,56 @@ fn lease(desk: &mut Desk) -> Option<Lease> {
 }
 
 // A segment that holds so many bytes takes more, without memory.
-fn appends(rt: HostRuntime, desk: &mut Desk, held: u64) -> Option<()> {
-    let folder = opens(rt)?;
-    let mut segment = segment(rt, &folder, lease(desk)?)?;
+fn appends(segment: &mut FileSegment, held: u64) -> bool {
     if segment.len() != held || segment.capacity() != 100 || segment.failures() != 0 {
-        return None;
+        return false;
     }
-    if held > 90 || segment.append(BYTES).is_err() {
-        return None;
-    }
-    (count(rt, &folder)? == 1).then_some(())
+    held <= 90 && segment.append(BYTES).is_ok()
 }
 
-// The same over three lives of a folder, the last behind its segment was given up.
-fn lives(rt: HostRuntime, desk: &mut Desk) -> Option<()> {
-    appends(rt, desk, 0)?;
+// The same of the segment of this lease.
+fn appends_at(rt: HostRuntime, folder: &Folder, lease: Lease, held: u64) -> bool {
+    match segment(rt, folder, lease) {
+        Some(mut one) => appends(&mut one, held) && has_one(rt, folder),
+        None => false,
+    }
+}
+
+// The same in the folder, opened, with the lease of its segment.
+fn lives(rt: HostRuntime, desk: &mut Desk, held: u64) -> bool {
     desk.collect();
-    appends(rt, desk, 10)?;
-    desk.collect();
-    empties(rt, &opens(rt)?)?;
-    appends(rt, desk, 0)
+    match (opens(rt), lease(desk)) {
+        (Some(folder), Some(lease)) => appends_at(rt, &folder, lease, held),
+        _ => false,
+    }
+}
+
+// Whether the file of the segment is given up.
+fn gives_up(rt: HostRuntime) -> bool {
+    match opens(rt) {
+        Some(folder) => empties(rt, &folder),
+        None => false,
+    }
+}
+
+// Three lives of a folder, the last behind its segment was given up; a desk may be refused too.
+fn live(rt: HostRuntime) -> bool {
+    match Desk::new(rt.alloc(), 1) {
+        Ok(mut desk) => {
+            lives(rt, &mut desk, 0)
+                && lives(rt, &mut desk, 10)
+                && gives_up(rt)
+                && lives(rt, &mut desk, 0)
+        }
+        Err(_) => true,
+    }
 }
 
 #[test]
 fn a_folder_is_opened_where_memory_was_refused(rt: HostRuntime) -> Result<(), Fail> {
     let _ = fs::remove_dir_all(&rt, PATH);
-    if let Ok(desk) = Desk::new(rt.alloc(), 1) {
-        let mut desk = desk;
-        assert!(rt; lives(rt, &mut desk).is_some());
-    }
+    let lived = live(rt);
     let _ = fs::remove_dir_all(&rt, PATH);
+    assert!(rt; lived);
     Ok(())
 }

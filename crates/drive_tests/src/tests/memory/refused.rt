@@ -2,68 +2,43 @@
 
 ghost use Rattle.bw_care.specs.Views.{IsSound};
 
-use super::boxes::{LOST, NEWER, OLDER, add_all};
-use bw_care::{CleanFault, Cleaned, RecoverCause, Recovered, clean, recover};
-use bw_codec::Leaf;
-use bw_device::{Desk, Segment};
+use super::boxes::{LOST, NEWER, OLDER, boxes, recovered};
+use bw_care::{CleanFault, Cleaned, Recovered, clean, recover};
+use bw_codec::{Key, Leaf, Value};
 use bw_log::{Log, LogFault};
 use std::alloc::Global;
 use std::test::Fail;
 
+fn is_pair(pair: &(Key, Value), key: &[u8], value: &[u8]) -> bool {
+    pair.0.as_slice() == key && pair.1.as_slice() == value
+}
+
 // Whether this is the page with j=2 and k=3.
 fn is_page(leaf: &Leaf) -> bool {
-    let told: [(&[u8], &[u8]); 2] = [(b"j", b"2"), (b"k", b"3")];
-    let held = leaf.pairs.as_slice();
-    held.len() == told.len()
-        && held
-            .iter()
-            .zip(&told)
-            .all(|(a, b)| a.0.as_slice() == b.0 && a.1.as_slice() == b.1)
+    match leaf.pairs.as_slice() {
+        [first, second] => is_pair(first, b"j", b"2") && is_pair(second, b"k", b"3"),
+        _ => false,
+    }
 }
 
 fn is_found(found: &Recovered) -> bool {
     found.leaves.page(1).is_some_and(is_page)
 }
 
-// The same boxes, once more.
-fn recovered_again(alloc: Global, boxes: Vec<Box<dyn Segment>>) -> u8 {
-    match recover(alloc, boxes) {
-        Ok(found) => { if is_found(&found) { 0 } else { 3 } }
-        Err(_) => 4,
-    }
-}
-
-// Recovers boxes, once more where memory was refused: all of them came back then.
-fn recovered(alloc: Global, boxes: Vec<Box<dyn Segment>>) -> u8 {
-    let count = boxes.len();
-    match recover(alloc, boxes) {
-        Ok(found) => { if is_found(&found) { 0 } else { 1 } }
-        Err(fault) => {
-            if fault.cause != RecoverCause::NoMemory || fault.boxes.len() != count {
-                return 2;
-            }
-            recovered_again(alloc, fault.boxes)
-        }
-    }
-}
-
 // Whether what was refused is told; the boxes themselves may be refused too.
-fn recovers(alloc: Global, desk: &mut Desk) -> u8 {
-    let mut boxes: Vec<Box<dyn Segment>> = Vec::new(alloc);
-    match add_all(alloc, desk, &["", NEWER, LOST, OLDER], &mut boxes) {
-        Some(()) => recovered(alloc, boxes),
-        None => 0,
+fn recovers(alloc: Global) -> u8 {
+    let Some(boxes) = boxes(alloc, &["", NEWER, LOST, OLDER]) else {
+        return 0;
+    };
+    match recovered(alloc, boxes) {
+        Ok(found) => { if is_found(&found) { 0 } else { 1 } }
+        Err(step) => step,
     }
 }
 
 #[test]
 fn a_refused_recovery_hands_all_boxes_back_and_then_ends(rt: HostRuntime) -> Result<(), Fail> {
-    let alloc = rt.alloc();
-    if let Ok(desk) = Desk::new(alloc, 8) {
-        let mut desk = desk;
-        let step = recovers(alloc, &mut desk);
-        assert!(rt; step == 0);
-    }
+    assert!(rt; recovers(rt.alloc()) == 0);
     Ok(())
 }
 
@@ -118,9 +93,8 @@ fn cleaned(alloc: Global, log: &mut Log) -> u8
     }
 }
 
-fn cleans(alloc: Global, desk: &mut Desk) -> u8 {
-    let mut boxes: Vec<Box<dyn Segment>> = Vec::new(alloc);
-    let Some(()) = add_all(alloc, desk, &[LOST, OLDER, NEWER, ""], &mut boxes) else {
+fn cleans(alloc: Global) -> u8 {
+    let Some(boxes) = boxes(alloc, &[LOST, OLDER, NEWER, ""]) else {
         return 0;
     };
     match recover(alloc, boxes) {
@@ -134,11 +108,6 @@ fn cleans(alloc: Global, desk: &mut Desk) -> u8 {
 
 #[test]
 fn a_refused_cleaning_gives_nothing_up_and_then_ends(rt: HostRuntime) -> Result<(), Fail> {
-    let alloc = rt.alloc();
-    if let Ok(desk) = Desk::new(alloc, 8) {
-        let mut desk = desk;
-        let step = cleans(alloc, &mut desk);
-        assert!(rt; step == 0);
-    }
+    assert!(rt; cleans(rt.alloc()) == 0);
     Ok(())
 }

@@ -6,7 +6,7 @@ ghost use Rattle.bw_store.specs.Views.{kept_by, IsSound};
 
 use bw_codec::{Key, Leaf, Record, Value};
 use bw_ring::Feed;
-use bw_store::{Store, StoreFault};
+use bw_store::{Reader, Store, StoreFault};
 use std::alloc::Global;
 use std::sync::Wait;
 
@@ -51,58 +51,29 @@ fn put_one(feed: &mut Feed, item: Record) -> bool
     feed.put(item).is_ok()
 }
 
-fn turns(store: &mut Store) -> bool
+fn turn(store: &mut Store) -> Result<bool, StoreFault>
     requires { IsSound store.old holding }
     ensures sound { IsSound store.new holding }
     ensures rings { (kept_by store.new holding).rings ≡ (kept_by store.old holding).rings }
 {
     match store.turn(9) {
-        Ok(_) => true,
-        Err(fault) => fault.cause == StoreFault::NoMemory && store.turn(9).is_ok(),
+        Ok(_) => Ok(true),
+        Err(fault) => Err(fault.cause),
     }
 }
 
-fn flushes<R: Wait>(rt: &R, store: &mut Store) -> bool
+// A cleaning that was refused behind its end, where only the publication is left, is not made
+// again.
+fn clean<R: Wait>(rt: &R, store: &mut Store, live: u32) -> Result<bool, StoreFault>
     requires { IsSound store.old holding }
     ensures sound { IsSound store.new holding }
     ensures rings { (kept_by store.new holding).rings ≡ (kept_by store.old holding).rings }
 {
-    match store.flush(rt) {
-        Ok(_) => true,
-        Err(fault) => fault == StoreFault::NoMemory && store.flush(rt).is_ok(),
+    if store.live() == live {
+        return Ok(store.flush(rt)?.is_none());
     }
-}
-
-// The number of entries, of which none is lost and none is taken twice.
-fn settles<R: Wait>(rt: &R, store: &mut Store, feeds: &mut Vec<Feed>, told: u64) -> bool
-    requires sound { IsSound store.old holding }
-    requires feeds { map ring_of_feed feeds.old.items ≡ (kept_by store.old holding).rings }
-    ensures sound { IsSound store.new holding }
-    ensures feeds { map ring_of_feed feeds.new.items ≡ (kept_by store.new holding).rings }
-{
-    match store.settle(rt, feeds) {
-        Ok(entries) => entries == told,
-        Err(StoreFault::NoMemory) => store.settle(rt, feeds) == Ok(told),
-        Err(_) => false,
-    }
-}
-
-// A cleaning that is refused behind its end, where only the publication is left, is not made again.
-fn cleans<R: Wait>(rt: &R, store: &mut Store, live: u32) -> bool
-    requires { IsSound store.old holding }
-    ensures sound { IsSound store.new holding }
-    ensures rings { (kept_by store.new holding).rings ≡ (kept_by store.old holding).rings }
-{
-    match store.clean(rt) {
-        Ok(_) => store.live() == live,
-        Err(StoreFault::NoMemory) => {
-            if store.live() == live {
-                return store.flush(rt) == Ok(None);
-            }
-            store.clean(rt).is_ok() && store.live() == live
-        }
-        Err(_) => false,
-    }
+    store.clean(rt)?;
+    Ok(store.live() == live)
 }
 
 fn is_page(store: &mut Store, pairs: usize) -> Result<bool, StoreFault>
@@ -114,100 +85,95 @@ fn is_page(store: &mut Store, pairs: usize) -> Result<bool, StoreFault>
     Ok(leaf.pairs.as_slice().len() == pairs)
 }
 
-fn pages(store: &mut Store, pairs: usize) -> bool
+fn has(store: &mut Store, key: &[u8], value: &[u8]) -> Result<bool, StoreFault>
     requires { IsSound store.old holding }
     ensures sound { IsSound store.new holding }
     ensures rings { (kept_by store.new holding).rings ≡ (kept_by store.old holding).rings }
 {
-    match is_page(store, pairs) {
-        Ok(is) => is,
-        Err(StoreFault::NoMemory) => is_page(store, pairs) == Ok(true),
-        Err(_) => false,
-    }
-}
-
-fn has(store: &mut Store, key: &Key, value: &[u8]) -> Result<bool, StoreFault>
-    requires { IsSound store.old holding }
-    ensures sound { IsSound store.new holding }
-    ensures rings { (kept_by store.new holding).rings ≡ (kept_by store.old holding).rings }
-{
-    match store.get(key)? {
+    let Ok(key) = Key::new(key) else {
+        return Ok(false);
+    };
+    match store.get(&key)? {
         Some(found) => Ok(found.as_slice() == value),
         None => Ok(false),
     }
 }
 
-fn gets(store: &mut Store, key: &[u8], value: &[u8]) -> bool
-    requires { IsSound store.old holding }
-    ensures sound { IsSound store.new holding }
-    ensures rings { (kept_by store.new holding).rings ≡ (kept_by store.old holding).rings }
-{
+fn is_seen(reader: &mut Reader, key: &[u8], value: &[u8]) -> bool {
     let Ok(key) = Key::new(key) else {
         return false;
     };
-    match has(store, &key, value) {
-        Ok(is) => is,
-        Err(StoreFault::NoMemory) => has(store, &key, value) == Ok(true),
-        Err(_) => false,
+    match reader.get(&key) {
+        Ok(Some(found)) => found.as_slice() == value,
+        _ => false,
     }
 }
 
-// What a new reader answers, which takes no memory; none where it was not made.
-fn seen(store: &mut Store, key: &Key, value: &[u8]) -> Option<bool>
+// A new reader looks up without memory; it takes some to be made.
+fn sees(store: &mut Store, key: &[u8], value: &[u8]) -> Result<bool, StoreFault>
     requires { IsSound store.old holding }
     ensures sound { IsSound store.new holding }
     ensures rings { (kept_by store.new holding).rings ≡ (kept_by store.old holding).rings }
 {
-    let mut reader = store.reader().ok()?;
-    match reader.get(key) {
-        Ok(Some(found)) => Some(found.as_slice() == value),
-        _ => Some(false),
+    match store.reader() {
+        Ok(mut reader) => Ok(is_seen(&mut reader, key, value)),
+        Err(_) => Err(StoreFault::NoMemory),
     }
 }
 
-fn sees(store: &mut Store, key: &[u8], value: &[u8]) -> bool
+fn dumps(
+    alloc: Global,
+    store: &mut Store,
+    segment: u64,
+    told: &'static str,
+) -> Result<bool, StoreFault>
     requires { IsSound store.old holding }
     ensures sound { IsSound store.new holding }
     ensures rings { (kept_by store.new holding).rings ≡ (kept_by store.old holding).rings }
 {
-    let Ok(key) = Key::new(key) else {
-        return false;
+    let Ok(told) = hex::decode(alloc, told) else {
+        return Err(StoreFault::NoMemory);
     };
-    match seen(store, &key, value) {
-        Some(is) => is,
-        None => seen(store, &key, value) == Some(true),
-    }
-}
-
-fn is_same(bytes: &[u8], told: &[u8]) -> bool {
-    bytes.len() == told.len() && bytes.iter().zip(told).all(|(a, b)| *a == *b)
-}
-
-fn dumps(alloc: Global, store: &mut Store, segment: u64, told: &'static str) -> Option<bool>
-    requires { IsSound store.old holding }
-    ensures sound { IsSound store.new holding }
-    ensures rings { (kept_by store.new holding).rings ≡ (kept_by store.old holding).rings }
-{
-    let told = hex::decode(alloc, told).ok()?;
     let mut bytes = Vec::new(alloc);
-    match store.dump(segment, &mut bytes) {
-        Ok(found) => Some(found && is_same(&bytes, &told)),
-        Err(_) => None,
-    }
+    let found = store.dump(segment, &mut bytes)?;
+    Ok(found && bytes.as_slice() == told.as_slice())
 }
 
-fn is_dumped(alloc: Global, store: &mut Store, segment: u64, told: &'static str) -> bool
-    requires { IsSound store.old holding }
+// One call, with what it answers: whether the step went as told, or why the call was refused.
+fn tries<R: Wait>(
+    rt: &R,
+    alloc: Global,
+    store: &mut Store,
+    feeds: &mut Vec<Feed>,
+    step: &Step,
+) -> Result<bool, StoreFault>
+    requires sound { IsSound store.old holding }
+    requires feeds { map ring_of_feed feeds.old.items ≡ (kept_by store.old holding).rings }
     ensures sound { IsSound store.new holding }
-    ensures rings { (kept_by store.new holding).rings ≡ (kept_by store.old holding).rings }
+    ensures feeds { map ring_of_feed feeds.new.items ≡ (kept_by store.new holding).rings }
 {
-    match dumps(alloc, store, segment, told) {
-        Some(is) => is,
-        None => dumps(alloc, store, segment, told) == Some(true),
+    match step {
+        Put(key, value) => Ok(is_put(feeds, *key, *value)),
+        Turn => turn(store),
+        Flush => {
+            store.flush(rt)?;
+            Ok(true)
+        }
+        Settle(entries) => Ok(store.settle(rt, feeds)? == *entries),
+        Roll => {
+            store.roll();
+            Ok(true)
+        }
+        Evict => Ok(store.evict(1) == Ok(true)),
+        Page(pairs) => is_page(store, *pairs),
+        Get(key, value) => has(store, *key, *value),
+        Sees(key, value) => sees(store, *key, *value),
+        Clean(live) => clean(rt, store, *live),
+        Bytes(segment, told) => dumps(alloc, store, *segment, *told),
     }
 }
 
-/// Whether the step goes as told, at once or when it is made again.
+/// Whether the step goes as told, at once or when it is made again where memory was refused.
 pub(super) fn goes<R: Wait>(
     rt: &R,
     alloc: Global,
@@ -220,20 +186,9 @@ pub(super) fn goes<R: Wait>(
     ensures sound { IsSound store.new holding }
     ensures feeds { map ring_of_feed feeds.new.items ≡ (kept_by store.new holding).rings }
 {
-    match step {
-        Put(key, value) => is_put(feeds, *key, *value),
-        Turn => turns(store),
-        Flush => flushes(rt, store),
-        Settle(entries) => settles(rt, store, feeds, *entries),
-        Roll => {
-            store.roll();
-            true
-        }
-        Evict => store.evict(1) == Ok(true),
-        Page(pairs) => pages(store, *pairs),
-        Get(key, value) => gets(store, *key, *value),
-        Sees(key, value) => sees(store, *key, *value),
-        Clean(live) => cleans(rt, store, *live),
-        Bytes(segment, told) => is_dumped(alloc, store, *segment, *told),
+    match tries(rt, alloc, store, feeds, step) {
+        Ok(went) => went,
+        Err(StoreFault::NoMemory) => tries(rt, alloc, store, feeds, step) == Ok(true),
+        Err(_) => false,
     }
 }

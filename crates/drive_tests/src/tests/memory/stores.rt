@@ -5,11 +5,11 @@ ghost use Rattle.bw_ring.specs.Ends.{ring_of_feed};
 ghost use Rattle.bw_care.specs.Found.{IsRecovered};
 ghost use Rattle.bw_store.specs.Views.{kept_by, IsSound};
 
-use super::boxes::{CLEANED, OLDER, add_all};
+use super::boxes::{CLEANED, OLDER, boxes, recovered};
 use super::steps::Step::{Bytes, Clean, Evict, Flush, Get, Page, Put, Roll, Sees, Settle, Turn};
 use super::steps::{Step, goes};
-use bw_care::{RecoverCause, Recovered, recover};
-use bw_device::{Desk, Segment};
+use bw_care::Recovered;
+use bw_device::Segment;
 use bw_ring::Feed;
 use bw_store::{Config, Store, StoreFault};
 use std::alloc::Global;
@@ -52,15 +52,13 @@ const AGAIN: &[Step] = &[
     Sees(b"l", b"4"),
 ];
 
-fn config() -> Config {
-    Config {
-        writers: 1,
-        places: 4,
-        readers: 2,
-        m: 4,
-        f: 16384,
-    }
-}
+const CONFIG: &Config = &Config {
+    writers: 1,
+    places: 4,
+    readers: 2,
+    m: 4,
+    f: 16384,
+};
 
 // Whether all steps go as told.
 fn walk<R: AllocGlobal + Wait>(
@@ -112,18 +110,9 @@ fn reopens<R: AllocGlobal + Wait>(rt: &R, recovered: Recovered) -> u8
 }
 
 fn recovers<R: AllocGlobal + Wait>(rt: &R, boxes: Vec<Box<dyn Segment>>) -> u8 {
-    let count = boxes.len();
-    match recover(rt.alloc(), boxes) {
+    match recovered(rt.alloc(), boxes) {
         Ok(found) => reopens(rt, found),
-        Err(fault) => {
-            if fault.cause != RecoverCause::NoMemory || fault.boxes.len() != count {
-                return 5;
-            }
-            match recover(rt.alloc(), fault.boxes) {
-                Ok(found) => reopens(rt, found),
-                Err(_) => 6,
-            }
-        }
+        Err(step) => step,
     }
 }
 
@@ -142,13 +131,13 @@ fn lives<R: AllocGlobal + Wait>(rt: &R, store: Store, feeds: Vec<Feed>) -> u8
 // Opens a store; once more where memory was refused: all boxes came back then.
 fn opens<R: AllocGlobal + Wait>(rt: &R, boxes: Vec<Box<dyn Segment>>) -> u8 {
     let count = boxes.len();
-    match Store::open(rt, rt.alloc(), &config(), boxes) {
+    match Store::open(rt, rt.alloc(), CONFIG, boxes) {
         Ok((store, feeds)) => lives(rt, store, feeds),
         Err(fault) => {
             if fault.cause != StoreFault::NoMemory || fault.segments.len() != count {
                 return 2;
             }
-            match Store::open(rt, rt.alloc(), &config(), fault.segments) {
+            match Store::open(rt, rt.alloc(), CONFIG, fault.segments) {
                 Ok((store, feeds)) => lives(rt, store, feeds),
                 Err(_) => 3,
             }
@@ -157,20 +146,15 @@ fn opens<R: AllocGlobal + Wait>(rt: &R, boxes: Vec<Box<dyn Segment>>) -> u8 {
 }
 
 // Whether what was refused is told; the boxes themselves may be refused too.
-fn lives_over<R: AllocGlobal + Wait>(rt: &R, desk: &mut Desk) -> u8 {
-    let mut boxes: Vec<Box<dyn Segment>> = Vec::new(rt.alloc());
-    match add_all(rt.alloc(), desk, &["", "", "", ""], &mut boxes) {
-        Some(()) => opens(rt, boxes),
+fn lives_over<R: AllocGlobal + Wait>(rt: &R) -> u8 {
+    match boxes(rt.alloc(), &["", "", "", ""]) {
+        Some(boxes) => opens(rt, boxes),
         None => 0,
     }
 }
 
 #[test]
 fn a_store_goes_on_where_memory_was_refused(rt: HostRuntime) -> Result<(), Fail> {
-    if let Ok(desk) = Desk::new(rt.alloc(), 8) {
-        let mut desk = desk;
-        let step = lives_over(&rt, &mut desk);
-        assert!(rt; step == 0);
-    }
+    assert!(rt; lives_over(&rt) == 0);
     Ok(())
 }

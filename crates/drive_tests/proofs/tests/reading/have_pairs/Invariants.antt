@@ -1,6 +1,6 @@
 use Rattle.std.specs.Prelude.{◌≡◌}
 use Rattle.bw_store.specs.Views.{kept_by, IsSound}
-use Rattle.drive_tests.proofs.tests.reading.pairs.Given as goal
+use Rattle.drive_tests.proofs.tests.reading.have_pairs.Given as goal
 
 abbrev pub invariant-pages : goal.invariant-pages
 invariant-pages g l =
