@@ -16,7 +16,8 @@ use Rattle.bw_device.specs.Holding.{Holding}
 use Rattle.bw_buffer.specs.Filling.{Filling, frame_of}
 use Rattle.bw_log.specs.Limits.{fresh}
 use Rattle.bw_log.specs.Appends.{MayFollow, Appended, IsSameLog}
-use Rattle.log_tests.specs.Examples.{first_blocks, first_example, second_blocks, split_frame_2, first_leaf, second_leaf}
+use Rattle.log_tests.specs.OnePage.{Counts}
+use Rattle.log_tests.specs.Examples.{first_blocks, first_example, second_blocks, split_frame_2, first_leaf}
 
 pub first_lawful : (m : ℕ) → 1 ≤ m → AllByRecursion (IsBlock m) first_blocks
 first_lawful m some = (
@@ -74,29 +75,6 @@ first_stands = record {
   all = λ p h. (not_one p h, (not_one p h, tt));
 }
 
-second_stands : Stand 4 (first_example ∷ split_frame_2 ∷ []) (second_leaf ∷ [])
-second_stands = record {
-  some = omega arith;
-  lawful = record {
-    pages = (refl, tt);
-    first = refl;
-    lows = ((λ _. refl, tt), tt);
-    each = (
-      record {
-        page = (lit≤ tt, lit< tt);
-        low = lit≤ tt;
-        count = lit≤ tt;
-        pairs = (((lit≤ tt, lit≤ tt), lit≤ tt), (((lit≤ tt, lit≤ tt), lit≤ tt), tt));
-        ascends = refl;
-      },
-      tt,
-    );
-    homes = ((refl, (refl, tt)), tt);
-  };
-  each = λ p l h. subst (λ n. content n (blocks_of (first_example ∷ split_frame_2 ∷ [])) ≡ leaf_at n (second_leaf ∷ [])) (sym (only_one p l h)) refl;
-  all = λ p h. (not_one p h, (not_one p h, (not_one p h, tt)));
-}
-
 -- a frame may follow where it may follow these frames
 pub follows_of : (c : Contents) (all : List Frame) (x : Frame) (leaves : List Leaf) → IsSound c → counted c ≡ all → c.m ≡ 4 → c.f ≡ 16384
     → next_of all ≡ Some x.number → IsFrame 4 16384 x → AreLinked (all ++ x ∷ []) → Stand 4 (all ++ x ∷ []) leaves → MayFollow c x
@@ -113,18 +91,7 @@ follows_of c all x leaves sound counts m f next lawful links stands =
 pub first_follows : (c : Contents) → IsSound c → counted c ≡ [] → c.m ≡ 4 → c.f ≡ 16384 → MayFollow c first_example
 first_follows c sound counts m f = follows_of c [] first_example (first_leaf ∷ []) sound counts m f refl first_frame_lawful refl first_stands
 
-pub second_follows : (c : Contents) → IsSound c → counted c ≡ first_example ∷ [] → c.m ≡ 4 → c.f ≡ 16384 → MayFollow c split_frame_2
-second_follows c sound counts m f = follows_of c (first_example ∷ []) split_frame_2 (second_leaf ∷ []) sound counts m f refl second_frame_lawful
-    refl second_stands
-
 -- ---- as the tests find a log
-
--- a log that counts these frames
-pub record Counts (c : Contents) (all : List Frame) : Type 0 where
-  pub sound : IsSound c
-  pub frames : counted c ≡ all
-  pub m : c.m ≡ 4
-  pub f : c.f ≡ 16384
 
 pub new_counts : (c : Contents) (spares : List Holding) → IsSound c → c ≡ fresh 4 16384 spares → Counts c []
 new_counts c spares sound is = record { sound = sound; frames = ap counted is; m = ap (λ (x : Contents). x.m) is; f = ap (λ (x : Contents). x.f) is }
@@ -138,24 +105,6 @@ more_counts old new all x counts sound added same = record {
   f = same.f ∙ counts.f;
 }
 
-pub closed_counts : (old new : Contents) (all : List Frame) → Counts old all → IsSound new → new ≡ record old { is_open = false } → Counts new all
-closed_counts old new all counts sound is =
-    record { sound = sound; frames = ap counted is ∙ counts.frames; m = ap (λ (x : Contents). x.m) is ∙ counts.m; f = ap (λ (x : Contents). x.f) is ∙ counts.f }
-
-pub spare_counts : (old new : Contents) (all : List Frame) (h : Holding) → Counts old all → IsSound new
-    → new ≡ record old { spares = old.spares ++ h ∷ [] } → Counts new all
-spare_counts old new all h counts sound is =
-    record { sound = sound; frames = ap counted is ∙ counts.frames; m = ap (λ (x : Contents). x.m) is ∙ counts.m; f = ap (λ (x : Contents). x.f) is ∙ counts.f }
-
-pub same_counts : (old new : Contents) (all : List Frame) → Counts old all → new ≡ old → Counts new all
-same_counts old new all counts is = subst (λ (c : Contents). Counts c all) (sym is) counts
-
 pub first_on : (c : Contents) (frame : Filling) → Counts c [] → frame ≡ record { frame = 1; limit = 16384; blocks = first_blocks; is_sealed = true }
     → MayFollow c (frame_of frame)
 first_on c frame counts is = subst (λ (f : Filling). MayFollow c (frame_of f)) (sym is) (first_follows c counts.sound counts.frames counts.m counts.f)
-
-pub second_on : (c : Contents) (first frame : Filling) → first ≡ record { frame = 1; limit = 16384; blocks = first_blocks; is_sealed = true }
-    → Counts c (frame_of first ∷ []) → frame ≡ record { frame = 2; limit = 16384; blocks = second_blocks; is_sealed = true } → MayFollow c (frame_of frame)
-second_on c first frame first_is counts is =
-    subst (λ (f : Filling). MayFollow c (frame_of f)) (sym is)
-    (second_follows c counts.sound (counts.frames ∙ ap (λ (f : Filling). frame_of f ∷ []) first_is) counts.m counts.f)

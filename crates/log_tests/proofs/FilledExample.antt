@@ -1,22 +1,20 @@
 -- A frame of 16,384 bytes may be the first.
 
-use Rattle.std.proofs.Common.{◌≡◌, ℕ, suc, zero, ◌+◌, ◌≤◌, lit≤, lit<, List, [], ◌∷◌, ◌++◌, replicate, refl, sym, ap, subst, ◌∙◌, arith}
+use Rattle.std.proofs.Common.{◌≡◌, ℕ, suc, zero, ◌+◌, ◌≤◌, lit≤, lit<, true, List, [], ◌∷◌, ◌++◌, replicate, refl, sym, ap, subst, ◌∙◌, arith}
 use Rattle.std.proofs.lemmas.List.{replicate_more}
 use Rattle.std.specs.List.{AllByRecursion}
 use Rattle.bw_codec.specs.Bytes.{number_bytes}
 use Rattle.bw_codec.specs.Grammar.{IsOp, IsBlock, IsFrame}
 use Rattle.bw_codec.specs.declared.record.Record.{Record}
-use Rattle.bw_codec.specs.declared.record.Record.TheVariants.{Put}
 use Rattle.bw_codec.specs.declared.block.Block.{Block}
-use Rattle.bw_codec.specs.declared.block.Block.TheVariants.{Delta, Base}
-use Rattle.bw_codec.specs.declared.block.Frame.{Frame}
-use Rattle.bw_page.specs.Leaves.{leaf_at}
+use Rattle.bw_codec.specs.declared.block.Block.TheVariants.{Delta}
+use Rattle.bw_buffer.specs.Filling.{Filling}
+use Rattle.bw_codec.specs.declared.leaf.Leaf.{Leaf}
+use Rattle.bw_page.specs.Leaves.{changed, leaf_at}
 use Rattle.bw_page.specs.Standing.{content, blocks_of, Stand}
-use Rattle.bw_log.specs.Contents.{Contents}
-use Rattle.bw_log.specs.Appends.{MayFollow}
 use Rattle.log_tests.specs.Examples.{long_put, last_put, filling_blocks, filling_example, filling_leaf}
-use Rattle.log_tests.proofs.Exampled.{only_one, not_one, follows_of, Counts}
-use Rattle.log_tests.proofs.SplitExample.{follows_as}
+use Rattle.log_tests.specs.OnePage.{Opens, first_with, leaf_with}
+use Rattle.log_tests.proofs.Exampled.{only_one, not_one}
 
 -- so many puts and the last one
 puts_lawful : (n : ℕ) → AllByRecursion IsOp (replicate n long_put ++ last_put ∷ [])
@@ -24,17 +22,16 @@ puts_lawful zero = (((lit≤ tt, lit≤ tt), lit≤ tt), tt)
 puts_lawful (suc n) = (((lit≤ tt, lit≤ tt), lit≤ tt), puts_lawful n)
 
 -- one more put after so many
-pub one_more : (n : ℕ) (items new : List Record) (key value : List ℕ) → items ≡ replicate n long_put → key ≡ 107 ∷ [] → value ≡ replicate 128 118
-    → new ≡ items ++ Put key value ∷ [] → new ≡ replicate (n + 1) long_put
-one_more n items new key value so_far key_is value_is pushed =
-    pushed ∙ ap (λ (k : List ℕ). items ++ Put k value ∷ []) key_is ∙ ap (λ (v : List ℕ). items ++ Put (107 ∷ []) v ∷ []) value_is
-    ∙ ap (λ (l : List Record). l ++ long_put ∷ []) so_far ∙ replicate_more n long_put
+pub one_more : (n : ℕ) (items new : List Record) (r : Record) → items ≡ replicate n long_put → r ≡ long_put → new ≡ items ++ r ∷ []
+    → new ≡ replicate (n + 1) long_put
+one_more n items new r so_far is pushed =
+    pushed ∙ ap (λ (k : Record). items ++ k ∷ []) is ∙ ap (λ (l : List Record). l ++ long_put ∷ []) so_far ∙ replicate_more n long_put
 
 -- the last one
-pub last_one : (n : ℕ) (items new : List Record) (key value : List ℕ) → items ≡ replicate n long_put → n ≡ 123 → key ≡ 107 ∷ [] → value ≡ replicate 97 119
-    → new ≡ items ++ Put key value ∷ [] → new ≡ replicate 123 long_put ++ last_put ∷ []
-last_one n items new key value so_far all key_is value_is pushed =
-    pushed ∙ ap (λ (k : List ℕ). items ++ Put k value ∷ []) key_is ∙ ap (λ (v : List ℕ). items ++ Put (107 ∷ []) v ∷ []) value_is
+pub last_one : (n : ℕ) (items new : List Record) (r : Record) → items ≡ replicate n long_put → n ≡ 123 → r ≡ last_put → new ≡ items ++ r ∷ []
+    → new ≡ replicate 123 long_put ++ last_put ∷ []
+last_one n items new r so_far all is pushed =
+    pushed ∙ ap (λ (k : Record). items ++ k ∷ []) is
     ∙ ap (λ (l : List Record). l ++ last_put ∷ []) (so_far ∙ ap (λ (k : ℕ). replicate k long_put) all)
 
 filling_lawful : (m : ℕ) → 1 ≤ m → AllByRecursion (IsBlock m) filling_blocks
@@ -51,20 +48,14 @@ filling_lawful m some = (
   ),
 )
 
--- the blocks as they are put together
-pub filling_is : (now none one two : List Block) (low : List ℕ) (pairs : List (List ℕ × List ℕ)) (ops : List Record) → none ≡ [] → low ≡ [] → pairs ≡ []
-    → ops ≡ replicate 123 long_put ++ last_put ∷ [] → one ≡ none ++ Base (record { page = 1; low = low; pairs = pairs }) ∷ []
-    → two ≡ one ++ Delta 1 (record { frame = 1; index = 0 }) ops ∷ [] → now ≡ two → AllByRecursion (IsBlock 32) now
-filling_is now none one two low pairs ops none_is low_is pairs_is ops_is one_is two_is now_is =
-    let all : now ≡ filling_blocks = now_is
-    ∙ two_is
-    ∙ ap (λ (o : List Record). one ++ Delta 1 (record { frame = 1; index = 0 }) o ∷ []) ops_is
-    ∙ ap (λ (l : List Block). l ++ Delta 1 (record { frame = 1; index = 0 }) (replicate 123 long_put ++ last_put ∷ []) ∷ [])
-    (one_is
-    ∙ ap (λ (l : List Block). l ++ Base (record { page = 1; low = low; pairs = pairs }) ∷ []) none_is
-    ∙ ap (λ (b : List ℕ). Base (record { page = 1; low = b; pairs = pairs }) ∷ []) low_is
-    ∙ ap (λ (b : List (List ℕ × List ℕ)). Base (record { page = 1; low = []; pairs = b }) ∷ []) pairs_is) in
-    subst (λ (l : List Block). AllByRecursion (IsBlock 32) l) (sym all) (filling_lawful 32 (lit≤ tt))
+abbrev all_puts : List Record
+all_puts = replicate 123 long_put ++ last_put ∷ []
+
+abbrev delta_of : List Record → Block
+delta_of ops = Delta 1 (record { frame = 1; index = 0 }) ops
+
+pub puts_fit : (ops : List Record) → ops ≡ all_puts → IsBlock 32 (delta_of ops)
+puts_fit ops is = subst (λ (o : List Record). IsBlock 32 (delta_of o)) (sym is) ((filling_lawful 32 (lit≤ tt)).1.0)
 
 filling_frame_lawful : IsFrame 4 16384 filling_example
 unfolding number_bytes
@@ -87,6 +78,22 @@ filling_stands = record {
   all = λ p h. (not_one p h, (not_one p h, tt));
 }
 
-pub filling_on : (c : Contents) (x : Frame) → x ≡ filling_example → Counts c [] → MayFollow c x
-filling_on c x is k = follows_as c x filling_example is
-    (follows_of c [] filling_example (filling_leaf ∷ []) k.sound k.frames k.m k.f refl filling_frame_lawful refl filling_stands)
+filling_opens : Opens (record { frame = 1; limit = 16384; blocks = filling_blocks; is_sealed = true }) filling_leaf
+filling_opens = record {
+  sealed = refl;
+  limit = refl;
+  number = refl;
+  lawful = filling_frame_lawful;
+  linked = refl;
+  is = refl;
+  stands = filling_stands;
+}
+
+-- as they are made
+pub full_opens : (b : Filling) (ops : List Record) (leaf empty : Leaf) (r : Record) → ops ≡ all_puts
+    → b ≡ record { frame = 1; limit = 16384; blocks = first_with ops; is_sealed = true } → r ≡ last_put → empty ≡ leaf_with [] → leaf ≡ changed r empty
+    → Opens b leaf
+full_opens b ops leaf empty r ops_is is r_is none page =
+    let frame_is = is ∙ ap (λ (o : List Record). record { frame = 1; limit = 16384; blocks = first_with o; is_sealed = true }) ops_is in
+    let page_is : leaf ≡ filling_leaf = page ∙ ap (λ (l : Leaf). changed r l) none ∙ ap (λ (k : Record). changed k (leaf_with [])) r_is in
+    subst (λ (f : Filling). Opens f leaf) (sym frame_is) (subst (Opens (record { frame = 1; limit = 16384; blocks = filling_blocks; is_sealed = true })) (sym page_is) filling_opens)

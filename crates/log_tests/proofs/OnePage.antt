@@ -19,7 +19,6 @@ use Rattle.bw_page.proofs.Law.{applied-lawful, applied-whole}
 use Rattle.bw_buffer.specs.Filling.{Filling, frame_of}
 use Rattle.bw_buffer.proofs.Holding.{few_blocks}
 use Rattle.bw_codec.specs.Bytes.{number_bytes}
-use Rattle.bw_log.specs.Limits.{fresh}
 use Rattle.bw_log.specs.Places.{all_placed, place_of, base_of, fault_of, bad_link, first_number, AreLinked}
 use Rattle.bw_log.specs.Contents.{Contents, Image, counted, IsSound}
 use Rattle.bw_log.specs.Appends.{MayFollow, AfterAppend}
@@ -33,7 +32,7 @@ use Rattle.bw_log.proofs.Growing.{frame_with, linked_push}
 use Rattle.bw_log.proofs.Reread.{length-frame}
 use Rattle.bw_log.proofs.Torn.{some_is}
 use Rattle.bw_log.proofs.Walks.{blocks_more, content_push}
-use Rattle.log_tests.specs.OnePage.{leaf_with, put_of, first_of, put_after, frame_of_one, HoldsOne}
+use Rattle.log_tests.specs.OnePage.{leaf_with, put_of, first_with, put_after, frame_of_one, Counts, HoldsOne, Opens}
 use Rattle.log_tests.proofs.Exampled.{only_one, not_one, follows_of}
 
 -- ---- one block more, behind frames that stand for one page
@@ -233,7 +232,10 @@ base_left old new n leaf copy buffer blocks one is spelled same left =
 abbrev pub first_page : ℕ → ℕ → Leaf
 first_page key value = leaf_with ((key ∷ [], value ∷ []) ∷ [])
 
-first_of_lawful : (key value : ℕ) → IsFrame 4 16384 (record { number = 1; blocks = first_of key value })
+abbrev first_blocks_of : ℕ → ℕ → List Block
+first_blocks_of key value = first_with (put_of key value ∷ [])
+
+first_of_lawful : (key value : ℕ) → IsFrame 4 16384 (record { number = 1; blocks = first_blocks_of key value })
 unfolding number_bytes
 first_of_lawful key value = record {
   head = record { numbered = (lit≤ tt, lit< tt); fits = (lit≤ tt, lit≤ tt); some = (lit≤ tt, lit< tt) };
@@ -251,7 +253,7 @@ first_of_lawful key value = record {
   );
 }
 
-first_of_stands : (key value : ℕ) → Stand 4 (record { number = 1; blocks = first_of key value } ∷ []) (first_page key value ∷ [])
+first_of_stands : (key value : ℕ) → Stand 4 (record { number = 1; blocks = first_blocks_of key value } ∷ []) (first_page key value ∷ [])
 first_of_stands key value = record {
   some = lit≤ tt;
   lawful = record {
@@ -262,17 +264,44 @@ first_of_stands key value = record {
     homes = ((refl, tt), tt);
   };
   each = λ p from to.
-      subst (λ n. content n (blocks_of (record { number = 1; blocks = first_of key value } ∷ [])) ≡ leaf_at n (first_page key value ∷ []))
+      subst (λ n. content n (blocks_of (record { number = 1; blocks = first_blocks_of key value } ∷ [])) ≡ leaf_at n (first_page key value ∷ []))
       (sym (only_one p from to)) refl;
   all = λ p from. (not_one p from, (not_one p from, tt));
 }
 
-pub start_on : (c : Contents) (spares : List Holding) (key value : ℕ) (buffer : Filling) → IsSound c → c ≡ fresh 4 16384 spares
-    → buffer ≡ filled 1 (first_of key value) → MayFollow c (frame_of buffer)
-start_on c spares key value buffer sound new is =
-    subst (λ (b : Filling). MayFollow c (frame_of b)) (sym is)
-    (follows_of c [] (record { number = 1; blocks = first_of key value }) (first_page key value ∷ []) sound (ap counted new)
-    (ap (λ (d : Contents). d.m) new) (ap (λ (d : Contents). d.f) new) refl (first_of_lawful key value) refl (first_of_stands key value))
+first_opens : (key value : ℕ) → Opens (filled 1 (first_blocks_of key value)) (first_page key value)
+first_opens key value = record {
+  sealed = refl;
+  limit = refl;
+  number = refl;
+  lawful = first_of_lawful key value;
+  linked = refl;
+  is = refl;
+  stands = first_of_stands key value;
+}
+
+-- as they are made
+pub opens_as : (b : Filling) (ops : List Record) (key value : ℕ) (leaf empty : Leaf) (r : Record) → ops ≡ put_of key value ∷ []
+    → b ≡ filled 1 (first_with ops) → r ≡ put_of key value → empty ≡ leaf_with [] → leaf ≡ changed r empty → Opens b leaf
+opens_as b ops key value leaf empty r ops_is is r_is none page =
+    let frame_is = is ∙ ap (λ (o : List Record). filled 1 (first_with o)) ops_is in
+    let page_is : leaf ≡ first_page key value = page ∙ ap (λ (l : Leaf). changed r l) none ∙ ap (λ (k : Record). changed k (leaf_with [])) r_is in
+    subst (λ (f : Filling). Opens f leaf) (sym frame_is) (subst (Opens (filled 1 (first_blocks_of key value))) (sym page_is) (first_opens key value))
+
+-- such a frame may follow where none is counted
+pub opens_follows : (c : Contents) (b : Filling) (leaf : Leaf) → Counts c [] → Opens b leaf → MayFollow c (frame_of b)
+opens_follows c b leaf k o =
+    follows_of c [] (frame_of b) (leaf ∷ []) k.sound k.frames k.m k.f (ap Some (sym o.number)) o.lawful o.linked o.stands
+
+pub opens_left : (old new : Contents) (b : Filling) (leaf : Leaf) → Counts old [] → Opens b leaf → AfterAppend old (frame_of b) false (Ok tt) new
+    → HoldsOne new leaf
+opens_left old new b leaf k o left = record {
+  sound = left.sound;
+  m = left.log.m ∙ k.m;
+  f = left.log.f ∙ k.f;
+  is = o.is;
+  stands = subst (λ (l : List Frame). Stand 4 l (leaf ∷ [])) (sym (left.added.frames ∙ ap (λ (l : List Frame). l ++ frame_of b ∷ []) k.frames)) o.stands;
+}
 
 -- ---- what stands in the oldest segment
 

@@ -1,6 +1,6 @@
 -- The frames of the vector of a page that is split in two may be appended one after the other.
 
-use Rattle.std.proofs.Common.{◌≡◌, ℕ, suc, zero, ◌≤◌, ◌==◌, ◌||◌, lit≤, lit<, false, List, [], ◌∷◌, ◌++◌, refl, sym, ap, subst, ◌∙◌, arith}
+use Rattle.std.proofs.Common.{◌≡◌, ℕ, suc, zero, ◌+◌, ◌≤◌, ◌==◌, ◌||◌, lit≤, lit<, Ok, false, List, [], ◌∷◌, ◌++◌, refl, sym, ap, subst, ◌∙◌, arith}
 use Rattle.std.proofs.lemmas.Bool.{ne_eqb}
 use Rattle.bw_codec.specs.Bytes.{number_bytes}
 use Rattle.bw_codec.specs.Grammar.{IsFrame}
@@ -8,10 +8,11 @@ use Rattle.bw_codec.specs.declared.leaf.Leaf.{Leaf}
 use Rattle.bw_codec.specs.declared.block.Frame.{Frame}
 use Rattle.bw_page.specs.Leaves.{leaf_at}
 use Rattle.bw_page.specs.Standing.{content, blocks_of, Stand}
-use Rattle.bw_log.specs.Contents.{Contents, IsSound}
-use Rattle.bw_log.specs.Appends.{MayFollow, Appended, IsSameLog}
-use Rattle.log_tests.specs.Examples.{split_frame_2, split_frame_1, split_frame_3, split_frame_4, split_frame_5, leaf_with, split_upper}
-use Rattle.log_tests.proofs.Exampled.{only_one, not_one, follows_of, Counts, more_counts, second_frame_lawful}
+use Rattle.bw_log.specs.Contents.{Contents}
+use Rattle.bw_log.specs.Appends.{MayFollow, AfterAppend}
+use Rattle.log_tests.specs.Examples.{split_frame_2, split_frame_1, split_frame_3, split_frame_4, split_frame_5, split_blocks, split_frames, leaf_with, split_upper}
+use Rattle.log_tests.specs.OnePage.{Counts}
+use Rattle.log_tests.proofs.Exampled.{only_one, not_one, follows_of, more_counts, second_frame_lawful}
 
 opening_lawful : IsFrame 4 16384 split_frame_1
 unfolding number_bytes
@@ -249,30 +250,55 @@ five_stand = record {
   all = λ p h. (untouched p h, (untouched p h, (untouched p h, (untouched p h, (untouched p h, (untouched p h, (unsplit p h, tt)))))));
 }
 
--- a frame that was appended is counted
-pub counts_as : (old new : Contents) (all : List Frame) (x y : Frame) → x ≡ y → Counts old all → IsSound new → Appended old x new → IsSameLog old new
-    → Counts new (all ++ y ∷ [])
-counts_as old new all x y is counts sound added same = subst (λ (f : Frame). Counts new (all ++ f ∷ [])) is (more_counts old new all x counts sound added same)
-
 pub follows_as : (c : Contents) (x y : Frame) → x ≡ y → MayFollow c y → MayFollow c x
 follows_as c x y is follows = subst (λ (f : Frame). MayFollow c f) (sym is) follows
 
-pub opening_on : (c : Contents) (x : Frame) → x ≡ split_frame_1 → Counts c [] → MayFollow c x
+opening_on : (c : Contents) (x : Frame) → x ≡ split_frame_1 → Counts c [] → MayFollow c x
 opening_on c x is k = follows_as c x split_frame_1 is
     (follows_of c [] split_frame_1 (one_leaf ∷ []) k.sound k.frames k.m k.f refl opening_lawful refl one_stands)
 
-pub then_second : (c : Contents) (x : Frame) → x ≡ split_frame_2 → Counts c one_frame → MayFollow c x
+then_second : (c : Contents) (x : Frame) → x ≡ split_frame_2 → Counts c one_frame → MayFollow c x
 then_second c x is k = follows_as c x split_frame_2 is
     (follows_of c one_frame split_frame_2 (two_leaf ∷ []) k.sound k.frames k.m k.f refl second_frame_lawful refl two_stand)
 
-pub then_third : (c : Contents) (x : Frame) → x ≡ split_frame_3 → Counts c two_frames → MayFollow c x
+then_third : (c : Contents) (x : Frame) → x ≡ split_frame_3 → Counts c two_frames → MayFollow c x
 then_third c x is k = follows_as c x split_frame_3 is
     (follows_of c two_frames split_frame_3 (three_leaf ∷ []) k.sound k.frames k.m k.f refl third_lawful refl three_stand)
 
-pub then_fourth : (c : Contents) (x : Frame) → x ≡ split_frame_4 → Counts c three_frames → MayFollow c x
+then_fourth : (c : Contents) (x : Frame) → x ≡ split_frame_4 → Counts c three_frames → MayFollow c x
 then_fourth c x is k = follows_as c x split_frame_4 is
     (follows_of c three_frames split_frame_4 (four_leaf ∷ []) k.sound k.frames k.m k.f refl fourth_lawful refl four_stand)
 
-pub then_fifth : (c : Contents) (x : Frame) → x ≡ split_frame_5 → Counts c four_frames → MayFollow c x
+then_fifth : (c : Contents) (x : Frame) → x ≡ split_frame_5 → Counts c four_frames → MayFollow c x
 then_fifth c x is k = follows_as c x split_frame_5 is
     (follows_of c four_frames split_frame_5 two_leaves k.sound k.frames k.m k.f refl fifth_lawful refl five_stand)
+
+-- ---- by their numbers
+
+abbrev pub split_frame : ℕ → Frame
+split_frame n = record { number = n; blocks = split_blocks n }
+
+pub split_follows : (c : Contents) (x : Frame) (n : ℕ) → 1 ≤ n → n ≤ 5 → x ≡ split_frame n → Counts c (split_frames n) → MayFollow c x
+split_follows c x zero from to is k = absurd (omega arith)
+split_follows c x (suc zero) from to is k = opening_on c x is k
+split_follows c x (suc (suc zero)) from to is k = then_second c x is k
+split_follows c x (suc (suc (suc zero))) from to is k = then_third c x is k
+split_follows c x (suc (suc (suc (suc zero)))) from to is k = then_fourth c x is k
+split_follows c x (suc (suc (suc (suc (suc zero))))) from to is k = then_fifth c x is k
+split_follows c x (suc (suc (suc (suc (suc (suc n)))))) from to is k = absurd (omega arith)
+
+one_more : (n : ℕ) → 1 ≤ n → n ≤ 5 → split_frames n ++ split_frame n ∷ [] ≡ split_frames (n + 1)
+one_more zero from to = absurd (omega arith)
+one_more (suc zero) from to = refl
+one_more (suc (suc zero)) from to = refl
+one_more (suc (suc (suc zero))) from to = refl
+one_more (suc (suc (suc (suc zero)))) from to = refl
+one_more (suc (suc (suc (suc (suc zero))))) from to = refl
+one_more (suc (suc (suc (suc (suc (suc n)))))) from to = absurd (omega arith)
+
+-- one more frame was appended
+pub split_counts : (old new : Contents) (x : Frame) (n : ℕ) → 1 ≤ n → n ≤ 5 → x ≡ split_frame n → Counts old (split_frames n)
+    → AfterAppend old x false (Ok tt) new → Counts new (split_frames (n + 1))
+split_counts old new x n from to is k left =
+    subst (Counts new) (ap (λ (f : Frame). split_frames n ++ f ∷ []) is ∙ one_more n from to)
+    (more_counts old new (split_frames n) x k left.sound left.added left.log)

@@ -1,6 +1,6 @@
 -- The frames that the tests append.
 
-use Rattle.std.specs.Prelude.{ℕ, List, [], ◌∷◌, ◌++◌, replicate}
+use Rattle.std.specs.Prelude.{ℕ, ◌==◌, if◌then◌else◌, List, [], ◌∷◌, ◌++◌, replicate}
 use Rattle.bw_codec.specs.declared.record.Record.{Record}
 use Rattle.bw_codec.specs.declared.record.Record.TheVariants.{Put}
 use Rattle.bw_codec.specs.declared.leaf.Leaf.{Leaf}
@@ -22,12 +22,9 @@ second_blocks = Delta 1 (record { frame = 1; index = 1 }) (Put (98 ∷ []) (50 �
 abbrev pub split_frame_2 : Frame
 split_frame_2 = record { number = 2; blocks = second_blocks }
 
--- page 1 after each
+-- page 1 after it
 abbrev pub first_leaf : Leaf
 first_leaf = record { page = 1; low = []; pairs = (107 ∷ [], 118 ∷ []) ∷ [] }
-
-abbrev pub second_leaf : Leaf
-second_leaf = record { page = 1; low = []; pairs = (98 ∷ [], 50 ∷ []) ∷ (107 ∷ [], 118 ∷ []) ∷ [] }
 
 -- ---- the vector of a page that is split in two
 
@@ -61,6 +58,25 @@ split_frame_4 = record { number = 4; blocks = fourth_blocks }
 
 abbrev pub split_frame_5 : Frame
 split_frame_5 = record { number = 5; blocks = fifth_blocks }
+
+-- what each of the five frames has, by its number
+abbrev pub split_blocks : ℕ → List Block
+split_blocks n =
+    if n == 1 then opening_blocks
+    else if n == 2 then second_blocks
+    else if n == 3 then third_blocks
+    else if n == 4 then fourth_blocks
+    else fifth_blocks
+
+-- the frames before the one of this number, and all of them
+abbrev pub split_frames : ℕ → List Frame
+split_frames n =
+    if n == 1 then []
+    else if n == 2 then split_frame_1 ∷ []
+    else if n == 3 then split_frame_1 ∷ split_frame_2 ∷ []
+    else if n == 4 then split_frame_1 ∷ split_frame_2 ∷ split_frame_3 ∷ []
+    else if n == 5 then split_frame_1 ∷ split_frame_2 ∷ split_frame_3 ∷ split_frame_4 ∷ []
+    else split_frame_1 ∷ split_frame_2 ∷ split_frame_3 ∷ split_frame_4 ∷ split_frame_5 ∷ []
 
 -- page 1 with these pairs
 abbrev pub leaf_with : List (List ℕ × List ℕ) → Leaf

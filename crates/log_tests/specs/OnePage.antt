@@ -1,16 +1,19 @@
 -- A log of one page, as the walker keeps it beside the page that it has to be.
 
-use Rattle.std.specs.Prelude.{ℕ, ◌≡◌, List, [], ◌∷◌}
+use Rattle.std.specs.Prelude.{ℕ, ◌≡◌, true, List, [], ◌∷◌}
 use Rattle.bw_codec.specs.declared.block.Block.{Block}
 use Rattle.bw_codec.specs.declared.block.Block.TheVariants.{Delta, Base}
+use Rattle.bw_codec.specs.Grammar.{IsFrame}
 use Rattle.bw_codec.specs.declared.block.Frame.{Frame}
 use Rattle.bw_codec.specs.declared.block.Place.{Place}
 use Rattle.bw_codec.specs.declared.record.Record.{Record}
 use Rattle.bw_codec.specs.declared.record.Record.TheVariants.{Put}
 use Rattle.bw_codec.specs.declared.leaf.Leaf.{Leaf}
+use Rattle.bw_buffer.specs.Filling.{Filling, frame_of}
 use Rattle.bw_page.specs.Leaves.{Pairs}
 use Rattle.bw_page.specs.Standing.{Stand}
 use Rattle.bw_log.specs.Contents.{Contents, IsSound, counted}
+use Rattle.bw_log.specs.Places.{AreLinked}
 
 -- page 1 with these pairs
 abbrev pub leaf_with : Pairs → Leaf
@@ -20,9 +23,9 @@ leaf_with pairs = record { page = 1; low = []; pairs = pairs }
 abbrev pub put_of : ℕ → ℕ → Record
 put_of key value = Put (key ∷ []) (value ∷ [])
 
--- the frames' first blocks: an empty page 1, and its first pair
-abbrev pub first_of : ℕ → ℕ → List Block
-first_of key value = Base (leaf_with []) ∷ Delta 1 (record { frame = 1; index = 0 }) (put_of key value ∷ []) ∷ []
+-- the blocks of a first frame: an empty page 1, and its first changes
+abbrev pub first_with : List Record → List Block
+first_with ops = Base (leaf_with []) ∷ Delta 1 (record { frame = 1; index = 0 }) ops ∷ []
 
 -- a frame of one block
 abbrev pub frame_of_one : ℕ → Block → Frame
@@ -39,3 +42,20 @@ pub record HoldsOne (c : Contents) (leaf : Leaf) : Type 0 where
   pub f : c.f ≡ 16384
   pub is : leaf ≡ leaf_with leaf.pairs
   pub stands : Stand 4 (counted c) (leaf ∷ [])
+
+-- a log of the tests' limits that counts these frames
+pub record Counts (c : Contents) (all : List Frame) : Type 0 where
+  pub sound : IsSound c
+  pub frames : counted c ≡ all
+  pub m : c.m ≡ 4
+  pub f : c.f ≡ 16384
+
+-- a sealed frame that may be the first, and leaves this page and no other
+pub record Opens (b : Filling) (leaf : Leaf) : Type 0 where
+  pub sealed : b.is_sealed ≡ true
+  pub limit : b.limit ≡ 16384
+  pub number : b.frame ≡ 1
+  pub lawful : IsFrame 4 16384 (frame_of b)
+  pub linked : AreLinked (frame_of b ∷ [])
+  pub is : leaf ≡ leaf_with leaf.pairs
+  pub stands : Stand 4 (frame_of b ∷ []) (leaf ∷ [])

@@ -1,16 +1,14 @@
 // What no clause says: that calls succeed where memory is there, and which box takes what.
 
-ghost use Rattle.std.specs.Prelude.{◌≡◌, ◌<◌, ◌≤◌, ◌∷◌, [], true, length, IfOk};
+ghost use Rattle.std.specs.Prelude.{◌≡◌, ◌≤◌, true, length, IfOk};
 ghost use Rattle.std.specs.List.{AllByRecursion};
 ghost use Rattle.bw_codec.specs.Grammar.{IsBlock};
-ghost use Rattle.bw_codec.specs.declared.block.Block.TheVariants.{Delta};
-ghost use Rattle.bw_codec.specs.declared.record.Record.TheVariants.{Put};
-ghost use Rattle.log_tests.specs.Examples.{first_blocks, second_blocks};
 
 use bw_buffer::Buffer;
-use bw_codec::{Block, Key, Leaf, Low, Ops, Pairs, Place, Record, Value};
+use bw_codec::{Block, Leaf};
 use bw_device::{Desk, FuseSegment, MemSegment, Segment};
 use std::alloc::Global;
+use std::process::Abort;
 use std::test::Fail;
 
 mod care;
@@ -23,18 +21,9 @@ mod spares;
 mod splits;
 mod walking;
 
-// A Delta of page 1 that puts one value.
-fn delta(alloc: Global, frame: u64, index: u32, key: &[u8], value: &[u8]) -> Result<Block, Fail>
-    ensures { IfOk result (λ b.
-        b ≡ Delta 1 (record { frame = frame; index = index }) (Put key.now value.now ∷ [])) }
-{
-    let mut ops = Vec::new(alloc);
-    ops.push(Record::Put(Key::new(key)?, Value::new(value)?))?;
-    Ok(Block::Delta {
-        page: 1,
-        back: Place { frame, index },
-        ops: Ops::of(ops),
-    })
+/// All tables went as told; a failure tells the first that did not, and its row.
+fn all_went(rt: &impl Abort, wrong: Option<(usize, usize)>) {
+    assert_eq!(rt; wrong, None);
 }
 
 // A sealed buffer of these blocks.
@@ -51,89 +40,85 @@ fn sealed(alloc: Global, frame: u64, blocks: &[Block]) -> Result<Buffer, Fail>
     Ok(buffer)
 }
 
-fn first(alloc: Global) -> Result<Buffer, Fail>
-    ensures { IfOk result (λ b.
-        b ≡ record { frame = 1; limit = 16384; blocks = first_blocks; is_sealed = true }) }
-{
-    let mut blocks = Vec::new(alloc);
-    blocks.push(Block::Base(Leaf {
-        page: 1,
-        low: Low::of(Vec::new(alloc)),
-        pairs: Pairs::of(Vec::new(alloc)),
-    }))?;
-    blocks.push(delta(alloc, 1, 0, b"k", b"v")?)?;
-    sealed(alloc, 1, blocks.as_slice())
+/// A desk, and boxes with leases of it.
+#[derive(Drop)]
+struct Yard {
+    desk: Desk,
+    boxes: Vec<Box<dyn Segment>>,
 }
 
-fn second(alloc: Global) -> Result<Buffer, Fail>
-    ensures { IfOk result (λ b.
-        b ≡ record { frame = 2; limit = 16384; blocks = second_blocks; is_sealed = true }) }
-{
-    let mut blocks = Vec::new(alloc);
-    blocks.push(delta(alloc, 1, 1, b"b", b"2")?)?;
-    sealed(alloc, 2, blocks.as_slice())
+/// A yard without a box.
+fn empty_yard(alloc: Global, leases: u32) -> Result<Yard, Fail> {
+    Ok(Yard {
+        desk: Desk::new(alloc, leases)?,
+        boxes: Vec::new(alloc),
+    })
 }
 
-// One more box of this capacity.
+/// After how many of its calls a box fails, once, and how many bytes of an append it then keeps;
+/// one that never does is made without a fuse.
+type Fuse = (u64, u64);
+
+const NEVER: Fuse = (u64::MAX, 0);
+
+/// One more box of this room, which holds these bytes.
 fn add_box(
     alloc: Global,
-    desk: &mut Desk,
-    capacity: u64,
-    boxes: &mut Vec<Box<dyn Segment>>,
+    yard: &mut Yard,
+    bytes: &[u8],
+    room: u64,
+    fuse: Fuse,
 ) -> Result<(), Fail> {
-    let segment = MemSegment::new(alloc, desk.take()?, capacity)?;
-    boxes.push(Box::new(alloc, segment)?)?;
+    let segment = MemSegment::with_bytes(alloc, yard.desk.take()?, room, bytes)?;
+    let one: Box<dyn Segment> = if fuse.0 < u64::MAX {
+        Box::new(alloc, FuseSegment::new(segment, fuse.0, fuse.1))?
+    } else {
+        Box::new(alloc, segment)?
+    };
+    yard.boxes.push(one)?;
     Ok(())
 }
 
-// So many boxes of the least capacity.
-fn fill(
+/// So many boxes more of this room, of which each holds these bytes.
+fn add_boxes(
     alloc: Global,
-    desk: &mut Desk,
+    yard: &mut Yard,
     many: u32,
-    boxes: &mut Vec<Box<dyn Segment>>,
+    bytes: &[u8],
+    room: u64,
 ) -> Result<(), Fail> {
     for _ in 0..many {
-        add_box(alloc, desk, 16408, boxes)?;
+        add_box(alloc, yard, bytes, room, NEVER)?;
     }
     Ok(())
 }
 
-// A row of so many, of a desk of their own.
-fn boxes_of(alloc: Global, many: u32) -> Result<Vec<Box<dyn Segment>>, Fail> {
-    let mut desk = Desk::new(alloc, many)?;
-    let mut boxes: Vec<Box<dyn Segment>> = Vec::new(alloc);
-    fill(alloc, &mut desk, many, &mut boxes)?;
-    Ok(boxes)
+/// A yard of a box of the least capacity, which fails so, and so many more, with leases from 0 on.
+fn yard_of(alloc: Global, more: u32, fuse: Fuse) -> Result<Yard, Fail> {
+    let mut full = empty_yard(alloc, 8)?;
+    add_box(alloc, &mut full, &[], 16_408, fuse)?;
+    add_boxes(alloc, &mut full, more, &[], 16_408)?;
+    Ok(full)
+}
+
+/// What stands in a yard, and the yard with one more box of this room in its place.
+fn taken_out(alloc: Global, full: Yard, room: u64) -> Result<(Vec<Box<dyn Segment>>, Yard), Fail> {
+    let Yard { desk, boxes } = full;
+    let mut beside = Yard {
+        desk,
+        boxes: Vec::new(alloc),
+    };
+    add_box(alloc, &mut beside, &[], room, NEVER)?;
+    Ok((boxes, beside))
 }
 
 // Whether a page has these keys and values.
 fn has(leaf: &Leaf, pairs: &[(&[u8], &[u8])]) -> bool {
     let held = leaf.pairs.as_slice();
+    for (a, b) in held.iter().zip(pairs) {
+        if a.0.as_slice() != b.0 || a.1.as_slice() != b.1 {
+            return false;
+        }
+    }
     held.len() == pairs.len()
-        && held
-            .iter()
-            .zip(pairs)
-            .all(|(a, b)| a.0.as_slice() == b.0 && a.1.as_slice() == b.1)
-}
-
-// Whether a page has these pairs, of which each is a byte at a byte.
-fn has_pairs(leaf: &Leaf, pairs: &[(u8, u8)]) -> bool {
-    let held = leaf.pairs.as_slice();
-    held.len() == pairs.len()
-        && held.iter().zip(pairs).all(|(a, b)| a.0.as_slice() == [b.0].as_slice()
-            && a.1.as_slice() == [b.1].as_slice())
-}
-
-// A segment that fails once, after so many calls, and a spare.
-fn fused(
-    alloc: Global,
-    calls: u64,
-    keep: u64,
-    boxes: &mut Vec<Box<dyn Segment>>,
-) -> Result<(), Fail> {
-    let mut desk = Desk::new(alloc, 2)?;
-    let inner = MemSegment::new(alloc, desk.take()?, 16408)?;
-    boxes.push(Box::new(alloc, FuseSegment::new(inner, calls, keep))?)?;
-    add_box(alloc, &mut desk, 16408, boxes)
 }

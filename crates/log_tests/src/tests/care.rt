@@ -1,9 +1,9 @@
 //! The cleaner and recovery: worked boxes as tables of rows, each walked to the first row that goes
 //! otherwise than told.
 
-mod boxes;
+pub(super) mod boxes;
 mod changed;
 mod cleaned;
 mod many;
 mod recovered;
-mod vectors;
+pub(super) mod vectors;

@@ -1,138 +1,158 @@
 // What stands behind an append that failed, whatever beginning of its piece the box kept.
 
-ghost use Rattle.log_tests.specs.Views.{IsSound};
+ghost use Rattle.std.specs.Prelude.{[], OnOk};
+ghost use Rattle.log_tests.specs.OnePage.{Counts};
+ghost use Rattle.log_tests.specs.Views.{seen, IsSound};
 
-use super::{first, fused, has, second};
+use super::care::boxes::is_shown;
+use super::page::{begin, new_log, opening, put};
+use super::walking::begun;
+use super::{all_went, yard_of};
 use bw_device::Segment;
 use bw_log::{Log, LogFault};
 use std::alloc::Global;
 use std::test::Fail;
 
-// What a failed log still tells.
-#[derive(Debug, Clone, Copy, PartialEq, Eq)]
-struct Remains {
+// An append that fails: in which call of its box, over how many bytes, and of how many.
+#[derive(Drop)]
+struct Row {
+    calls: u64,
+    before: u32,
+    piece: u32,
     live: u32,
     spares: u32,
-    next: Option<u64>,
+    next: u64,
     // Whether page 1 is as the first frame left it.
     is_read: bool,
-    // The length of the box with lease 0, the first of the roster.
-    len: Option<u64>,
 }
 
-fn left(log: Log) -> Remains
+const ROWS: &[Row] = &[
+    // The first append fails in its header: the box stays a spare.
+    Row {
+        calls: 0,
+        before: 0,
+        piece: 24,
+        live: 0,
+        spares: 2,
+        next: 1,
+        is_read: false,
+    },
+    // The first append fails in its frame, which does not count.
+    Row {
+        calls: 1,
+        before: 24,
+        piece: 52,
+        live: 1,
+        spares: 1,
+        next: 1,
+        is_read: false,
+    },
+    // The second append fails in its frame: the page reads as before it.
+    Row {
+        calls: 2,
+        before: 76,
+        piece: 44,
+        live: 1,
+        spares: 1,
+        next: 2,
+        is_read: true,
+    },
+];
+
+// Whether the box with lease 0, the first of the roster, has so many bytes.
+fn has_len(log: Log, len: u64) -> bool
     requires { IsSound log holding }
 {
-    let mut log = log;
-    let (live, spares, next) = (log.live(), log.spares(), log.next_frame());
-    let is_read = match log.read_page(1) {
-        Ok(leaf) => has(&leaf, &[(b"k", b"v")]),
-        Err(_) => false,
-    };
     let (begun, waiting) = log.into_segments();
-    let len = match (begun.first(), waiting.first()) {
-        (Some(one), _) => {
-            if one.lease() == 0 {
-                Some(one.len())
-            } else {
-                None
+    let first = match begun.first() {
+        Some(one) => Some(one),
+        None => waiting.first(),
+    };
+    match first {
+        Some(one) => one.lease() == 0 && one.len() == len,
+        None => false,
+    }
+}
+
+// Whether page 1 is as the first frame left it.
+fn is_read(log: &mut Log) -> bool
+    requires { IsSound log.old holding }
+    ensures { IsSound log.new holding }
+{
+    match log.read_page(1) {
+        Ok(leaf) => is_shown(&leaf, "1 : k=v;"),
+        Err(_) => false,
+    }
+}
+
+// Whether a failed log still tells the row.
+fn tells(log: &mut Log, row: &Row) -> bool
+    requires { IsSound log.old holding }
+    ensures { IsSound log.new holding }
+{
+    if log.live() != row.live || log.spares() != row.spares || log.limit() < 52 {
+        return false;
+    }
+    if log.next_frame() != Some(row.next) {
+        return false;
+    }
+    if log.ready(52, false) != Err(LogFault::Failed) {
+        return false;
+    }
+    is_read(log) == row.is_read
+}
+
+// Whether the first append fails.
+fn first_fails(alloc: Global, log: &mut Log) -> Result<bool, Fail>
+    requires { Counts (seen log.old holding) [] }
+    ensures { OnOk result (IsSound log.new holding) }
+{
+    let (frame, leaf) = opening(alloc)?;
+    Ok(begin(log, &frame, &leaf) == Err(LogFault::Device { lease: 0 }))
+}
+
+// Whether the second append fails.
+fn second_fails(alloc: Global, log: &mut Log) -> Result<bool, Fail>
+    requires { Counts (seen log.old holding) [] }
+    ensures { OnOk result (IsSound log.new holding) }
+{
+    let mut leaf = begun(alloc, log, false)?;
+    Ok(put(alloc, log, &mut leaf, b'b', b'2')? == Some(LogFault::Device { lease: 0 }))
+}
+
+// Whether the append of the row fails, and what stands then is told so.
+fn fails(alloc: Global, log: &mut Log, row: &Row) -> Result<bool, Fail>
+    requires { Counts (seen log.old holding) [] }
+    ensures { OnOk result (IsSound log.new holding) }
+{
+    if row.calls < 2 {
+        Ok(first_fails(alloc, log)? && tells(log, row))
+    } else {
+        Ok(second_fails(alloc, log)? && tells(log, row))
+    }
+}
+
+// Whether the row goes as told where the box keeps so many bytes of the piece.
+fn goes(alloc: Global, row: &Row, keep: u64) -> Result<bool, Fail> {
+    let mut log = new_log(alloc, yard_of(alloc, 1, (row.calls, keep))?.boxes)?;
+    let len = u64::from(row.before) + keep.min(u64::from(row.piece));
+    Ok(fails(alloc, &mut log, row)? && has_len(log, len))
+}
+
+// The first row that does not go as told, and the bytes that the box kept.
+fn first_wrong(alloc: Global) -> Result<Option<(usize, usize)>, Fail> {
+    for (i, row) in ROWS.iter().enumerate() {
+        for keep in 0..=u64::from(row.piece) + 1 {
+            if !goes(alloc, row, keep)? {
+                return Ok(Some((i, keep as usize)));
             }
         }
-        (None, Some(one)) => {
-            if one.lease() == 0 {
-                Some(one.len())
-            } else {
-                None
-            }
-        }
-        (None, None) => None,
-    };
-    Remains {
-        live,
-        spares,
-        next,
-        is_read,
-        len,
     }
-}
-
-// The first append fails, in its header or in its frame.
-fn first_fails(alloc: Global, calls: u64, keep: u64) -> Result<Option<Remains>, Fail> {
-    let mut boxes: Vec<Box<dyn Segment>> = Vec::new(alloc);
-    fused(alloc, calls, keep, &mut boxes)?;
-    let Ok(mut log) = Log::new(alloc, boxes, 4, 16384) else {
-        return Ok(None);
-    };
-    let frame = first(alloc)?;
-    let Err(LogFault::Device { lease: 0 }) = log.append(&frame) else {
-        return Ok(None);
-    };
-    let Err(LogFault::Failed) = log.ready(52, false) else {
-        return Ok(None);
-    };
-    Ok(Some(left(log)))
-}
-
-// The second append fails, in its frame.
-fn second_fails(alloc: Global, keep: u64) -> Result<Option<Remains>, Fail> {
-    let mut boxes: Vec<Box<dyn Segment>> = Vec::new(alloc);
-    fused(alloc, 2, keep, &mut boxes)?;
-    let Ok(mut log) = Log::new(alloc, boxes, 4, 16384) else {
-        return Ok(None);
-    };
-    let frame = first(alloc)?;
-    let Ok(()) = log.append(&frame) else {
-        return Ok(None);
-    };
-    drop(frame);
-    let next = second(alloc)?;
-    let Err(LogFault::Device { lease: 0 }) = log.append(&next) else {
-        return Ok(None);
-    };
-    Ok(Some(left(log)))
+    Ok(None)
 }
 
 #[test]
-fn a_box_whose_header_failed_stays_a_spare(rt: HostRuntime) -> Result<(), Fail> {
-    for keep in 0..=25u64 {
-        let told = Remains {
-            live: 0,
-            spares: 2,
-            next: Some(1),
-            is_read: false,
-            len: Some(keep.min(24)),
-        };
-        assert_eq!(rt; first_fails(rt.alloc(), 0, keep)?, Some(told));
-    }
-    Ok(())
-}
-
-#[test]
-fn a_frame_that_failed_does_not_count(rt: HostRuntime) -> Result<(), Fail> {
-    for keep in 0..=53u64 {
-        let told = Remains {
-            live: 1,
-            spares: 1,
-            next: Some(1),
-            is_read: false,
-            len: Some(24 + keep.min(52)),
-        };
-        assert_eq!(rt; first_fails(rt.alloc(), 1, keep)?, Some(told));
-    }
-    Ok(())
-}
-
-#[test]
-fn a_page_reads_as_before_a_failed_frame(rt: HostRuntime) -> Result<(), Fail> {
-    for keep in 0..=45u64 {
-        let told = Remains {
-            live: 1,
-            spares: 1,
-            next: Some(2),
-            is_read: true,
-            len: Some(76 + keep.min(44)),
-        };
-        assert_eq!(rt; second_fails(rt.alloc(), keep)?, Some(told));
-    }
+fn what_stands_behind_a_failed_append_is_as_told(rt: HostRuntime) -> Result<(), Fail> {
+    all_went(&rt, first_wrong(rt.alloc())?);
     Ok(())
 }

@@ -1,11 +1,13 @@
 // A log of one page: each call on it leaves one page, which is known.
 
-ghost use Rattle.std.specs.Prelude.{◌≡◌, ◌≤◌, ◌∷◌, [], true, IfOk, IfSome, OnOk};
+ghost use Rattle.std.specs.Prelude.{◌≡◌, ◌≤◌, ◌∷◌, [], true, IfOk, OnOk};
+ghost use Rattle.bw_codec.specs.Grammar.{IsBlock};
+ghost use Rattle.bw_codec.specs.declared.block.Block.TheVariants.{Delta};
 ghost use Rattle.bw_buffer.specs.Filling.{frame_of};
 ghost use Rattle.bw_log.specs.Appends.{MayFollow, AfterAppend};
 ghost use Rattle.bw_log.specs.Views.{seen_by};
 ghost use Rattle.log_tests.specs.Views.{seen, IsSound};
-ghost use Rattle.log_tests.specs.OnePage.{HoldsOne, first_of, put_after, put_of};
+ghost use Rattle.log_tests.specs.OnePage.{Counts, HoldsOne, Opens, first_with, put_after, put_of};
 
 use super::sealed;
 use bw_buffer::Buffer;
@@ -22,7 +24,7 @@ fn one_put(key: u8, value: u8) -> Result<Record, Fail>
     Ok(Record::Put(Key::new(&[key])?, Value::new(&[value])?))
 }
 
-fn ops_of(alloc: Global, key: u8, value: u8) -> Result<Ops, Fail>
+pub(crate) fn ops_of(alloc: Global, key: u8, value: u8) -> Result<Ops, Fail>
     ensures { IfOk result (λ ops. ops ≡ put_of key value ∷ []) }
 {
     let mut ops = Vec::new(alloc);
@@ -31,7 +33,13 @@ fn ops_of(alloc: Global, key: u8, value: u8) -> Result<Ops, Fail>
 }
 
 // A sealed frame of one Delta of page 1.
-fn put_frame(alloc: Global, number: u64, back: Place, key: u8, value: u8) -> Result<Buffer, Fail>
+pub(crate) fn put_frame(
+    alloc: Global,
+    number: u64,
+    back: Place,
+    key: u8,
+    value: u8,
+) -> Result<Buffer, Fail>
     requires number { 1 ≤ number }
     requires back { 1 ≤ back.frame }
     ensures made { IfOk result (λ b. b ≡ record {
@@ -50,23 +58,24 @@ fn put_frame(alloc: Global, number: u64, back: Place, key: u8, value: u8) -> Res
     sealed(alloc, number, blocks.as_slice())
 }
 
-// The first frame: page 1 empty, then with one pair.
-fn first_frame(alloc: Global, key: u8, value: u8) -> Result<Buffer, Fail>
+/// The first frame: page 1 empty, then with these changes.
+pub(crate) fn first_frame(alloc: Global, ops: Ops) -> Result<Buffer, Fail>
+    requires { IsBlock 32 (Delta 1 (record { frame = 1; index = 0 }) ops) }
     ensures { IfOk result (λ b.
-        b ≡ record { frame = 1; limit = 16384; blocks = first_of key value; is_sealed = true }) }
+        b ≡ record { frame = 1; limit = 16384; blocks = first_with ops; is_sealed = true }) }
 {
     let mut blocks = Vec::new(alloc);
     blocks.push(Block::Base(empty_page(alloc)))?;
     blocks.push(Block::Delta {
         page: 1,
         back: Place { frame: 1, index: 0 },
-        ops: ops_of(alloc, key, value)?,
+        ops,
     })?;
     sealed(alloc, 1, blocks.as_slice())
 }
 
-// As an ordinary append, or as the cleaner's.
-fn append(log: &mut Log, buffer: &Buffer, takes_last: bool) -> Result<(), LogFault>
+/// As an ordinary append, or as the cleaner's.
+pub(crate) fn append(log: &mut Log, buffer: &Buffer, takes_last: bool) -> Result<(), LogFault>
     requires sound { IsSound log.old holding }
     requires sealed { buffer.now.is_sealed ≡ true }
     requires limit { buffer.now.limit ≡ (seen log.old holding).f }
@@ -150,25 +159,33 @@ pub(crate) fn give_up(log: &mut Log, leaf: &Leaf) -> bool
     true
 }
 
-/// A log over these boxes, with its first frame.
-pub(crate) fn start(
-    alloc: Global,
-    boxes: Vec<Box<dyn Segment>>,
-    key: u8,
-    value: u8,
-) -> Result<Option<(Log, Leaf)>, Fail>
+/// A log over these boxes.
+pub(crate) fn new_log(alloc: Global, boxes: Vec<Box<dyn Segment>>) -> Result<Log, Fail>
     requires { Unit {0} }
-    ensures { IfOk result (λ r. IfSome r (λ s. HoldsOne (seen_by holding s.0) s.1)) }
+    ensures { IfOk result (λ l. Counts (seen_by holding l) []) }
 {
-    let Ok(mut log) = Log::new(alloc, boxes, 4, 16384) else {
-        return Ok(None);
-    };
-    let buffer = first_frame(alloc, key, value)?;
-    let Ok(()) = append(&mut log, &buffer, false) else {
-        return Ok(None);
-    };
-    drop(buffer);
+    match Log::new(alloc, boxes, 4, 16384) {
+        Ok(log) => Ok(log),
+        Err(_) => Err(Fail::from("no log")),
+    }
+}
+
+/// A first frame, which puts k=v, and the page that it leaves.
+pub(crate) fn opening(alloc: Global) -> Result<(Buffer, Leaf), Fail>
+    ensures { IfOk result (λ o. Opens o.0 o.1) }
+{
+    let frame = first_frame(alloc, ops_of(alloc, b'k', b'v')?)?;
     let mut leaf = empty_page(alloc);
-    change(&mut leaf, &one_put(key, value)?)?;
-    Ok(Some((log, leaf)))
+    change(&mut leaf, &one_put(b'k', b'v')?)?;
+    Ok((frame, leaf))
+}
+
+/// Appends a first frame, which leaves this page.
+pub(crate) fn begin(log: &mut Log, frame: &Buffer, leaf: &Leaf) -> Result<(), LogFault>
+    requires empty { Counts (seen log.old holding) [] }
+    requires opens { Opens frame.now leaf.now }
+    ensures sound { IsSound log.new holding }
+    ensures begun { OnOk result (HoldsOne (seen log.new holding) leaf.now) }
+{
+    append(log, frame, false)
 }

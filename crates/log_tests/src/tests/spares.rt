@@ -3,8 +3,10 @@
 ghost use Rattle.bw_log.specs.Views.{IsSound as IsSoundBeside};
 ghost use Rattle.log_tests.specs.Views.{IsSound};
 
-use super::{add_box, fill};
-use bw_device::{Desk, Segment};
+use super::care::boxes::is_added;
+use super::page::new_log;
+use super::{NEVER, Yard, add_box, taken_out, yard_of};
+use bw_device::Segment;
 use bw_log::{Log, LogFault};
 use std::alloc::Global;
 use std::test::Fail;
@@ -38,35 +40,12 @@ fn reads_nothing(alloc: Global, log: &mut Log) -> bool
     dumped == Ok(false) && out.is_empty() && page.err() == Some(LogFault::NoPage)
 }
 
-// Two boxes in one row, and in another one more and one that is a byte too small.
-fn add_boxes(
-    alloc: Global,
-    boxes: &mut Vec<Box<dyn Segment>>,
-    more: &mut Vec<Box<dyn Segment>>,
-) -> Result<(), Fail> {
-    let mut desk = Desk::new(alloc, 4)?;
-    fill(alloc, &mut desk, 2, boxes)?;
-    add_box(alloc, &mut desk, 16_408, more)?;
-    add_box(alloc, &mut desk, 16_407, more)
-}
-
-// Whether a log takes the last box of a row.
-fn is_taken(log: &mut Log, more: &mut Vec<Box<dyn Segment>>) -> bool
+// Whether it hands back the last box of a yard, which is that of lease 3.
+fn is_refused(log: &mut Log, more: &mut Yard) -> bool
     requires { IsSoundBeside holding log.old }
     ensures { IsSoundBeside holding log.new }
 {
-    match more.pop() {
-        Some(one) => log.add_segment(one).is_ok(),
-        None => false,
-    }
-}
-
-// Whether it hands back the last box of a row, which is that of lease 3.
-fn is_refused(log: &mut Log, more: &mut Vec<Box<dyn Segment>>) -> bool
-    requires { IsSoundBeside holding log.old }
-    ensures { IsSoundBeside holding log.new }
-{
-    match more.pop() {
+    match more.boxes.pop() {
         Some(one) => match log.add_segment(one) {
             Err((refused, LogFault::BadConfig)) => refused.lease() == 3,
             _ => false,
@@ -78,13 +57,10 @@ fn is_refused(log: &mut Log, more: &mut Vec<Box<dyn Segment>>) -> bool
 // Whether a log of two spares, of leases 0 and 1, hands back a box that is a byte too small, takes
 // one that is not, and hands them all out again.
 fn spares_come_and_go(alloc: Global) -> Result<bool, Fail> {
-    let mut boxes: Vec<Box<dyn Segment>> = Vec::new(alloc);
-    let mut more: Vec<Box<dyn Segment>> = Vec::new(alloc);
-    add_boxes(alloc, &mut boxes, &mut more)?;
-    let Ok(mut log) = Log::new(alloc, boxes, 4, 16_384) else {
-        return Ok(false);
-    };
-    let come = is_refused(&mut log, &mut more) & is_taken(&mut log, &mut more);
+    let (boxes, mut more) = taken_out(alloc, yard_of(alloc, 1, NEVER)?, 16_408)?;
+    add_box(alloc, &mut more, &[], 16_407, NEVER)?;
+    let mut log = new_log(alloc, boxes)?;
+    let come = is_refused(&mut log, &mut more) & is_added(&mut log, &mut more);
     log.roll();
     let told = is_empty(&log) & reads_nothing(alloc, &mut log);
     let (live, spares) = log.into_segments();

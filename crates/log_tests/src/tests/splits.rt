@@ -1,10 +1,14 @@
 // The vector of a page that is split in two, appended by buffers.
 
-ghost use Rattle.std.specs.Prelude.{◌≡◌, true, IfOk};
-ghost use Rattle.log_tests.specs.Views.{IsSound};
-ghost use Rattle.log_tests.specs.Examples.{opening_blocks, third_blocks, fourth_blocks, fifth_blocks, split_upper};
+ghost use Rattle.std.specs.Prelude.{◌≡◌, ◌+◌, ◌≤◌, ◌∷◌, ◌++◌, [], true, IfOk, OnOk};
+ghost use Rattle.log_tests.specs.Views.{seen, IsSound};
+ghost use Rattle.log_tests.specs.OnePage.{Counts};
+ghost use Rattle.log_tests.specs.Examples.{fifth_blocks, split_blocks, split_frames, split_upper};
 
-use super::{boxes_of, delta, has, sealed, second};
+use super::care::boxes::{are_bytes, is_page};
+use super::care::vectors::SECOND;
+use super::page::{append, first_frame, new_log, ops_of, put_frame};
+use super::{NEVER, sealed, yard_of};
 use bw_buffer::Buffer;
 use bw_codec::{Block, Key, Leaf, Low, Pairs, Place, Value};
 use bw_device::Segment;
@@ -12,36 +16,13 @@ use bw_log::{Log, LogFault};
 use std::alloc::Global;
 use std::test::Fail;
 
-fn opening(alloc: Global) -> Result<Buffer, Fail>
-    ensures { IfOk result (λ b.
-        b ≡ record { frame = 1; limit = 16384; blocks = opening_blocks; is_sealed = true }) }
+// One more pair of a byte at a byte.
+fn push_pair(pairs: &mut Vec<(Key, Value)>, key: u8, value: u8) -> Result<(), Fail>
+    ensures { OnOk result (pairs.new.items
+        ≡ pairs.old.items ++ (key ∷ [], value ∷ []) ∷ []) }
 {
-    let mut blocks = Vec::new(alloc);
-    blocks.push(Block::Base(Leaf {
-        page: 1,
-        low: Low::of(Vec::new(alloc)),
-        pairs: Pairs::of(Vec::new(alloc)),
-    }))?;
-    blocks.push(delta(alloc, 1, 0, b"a", b"1")?)?;
-    sealed(alloc, 1, blocks.as_slice())
-}
-
-fn third(alloc: Global) -> Result<Buffer, Fail>
-    ensures { IfOk result (λ b.
-        b ≡ record { frame = 3; limit = 16384; blocks = third_blocks; is_sealed = true }) }
-{
-    let mut blocks = Vec::new(alloc);
-    blocks.push(delta(alloc, 2, 0, b"c", b"3")?)?;
-    sealed(alloc, 3, blocks.as_slice())
-}
-
-fn fourth(alloc: Global) -> Result<Buffer, Fail>
-    ensures { IfOk result (λ b.
-        b ≡ record { frame = 4; limit = 16384; blocks = fourth_blocks; is_sealed = true }) }
-{
-    let mut blocks = Vec::new(alloc);
-    blocks.push(delta(alloc, 3, 0, b"d", b"4")?)?;
-    sealed(alloc, 4, blocks.as_slice())
+    pairs.push((Key::new(&[key])?, Value::new(&[value])?))?;
+    Ok(())
 }
 
 // The page that the Split makes.
@@ -49,14 +30,12 @@ fn upper(alloc: Global) -> Result<Leaf, Fail>
     ensures { IfOk result (λ l. l ≡ split_upper) }
 {
     let mut pairs = Vec::new(alloc);
-    pairs.push((Key::new(b"c")?, Value::new(b"3")?))?;
-    pairs.push((Key::new(b"d")?, Value::new(b"4")?))?;
-    pairs.push((Key::new(b"e")?, Value::new(b"5")?))?;
-    let mut low = Vec::new(alloc);
-    low.push(b'c')?;
+    push_pair(&mut pairs, b'c', b'3')?;
+    push_pair(&mut pairs, b'd', b'4')?;
+    push_pair(&mut pairs, b'e', b'5')?;
     Ok(Leaf {
         page: 2,
-        low: Low::of(low),
+        low: Low::of(Vec::from_slice(alloc, b"c")?),
         pairs: Pairs::of(pairs),
     })
 }
@@ -66,7 +45,11 @@ fn fifth(alloc: Global) -> Result<Buffer, Fail>
         b ≡ record { frame = 5; limit = 16384; blocks = fifth_blocks; is_sealed = true }) }
 {
     let mut blocks = Vec::new(alloc);
-    blocks.push(delta(alloc, 4, 0, b"e", b"5")?)?;
+    blocks.push(Block::Delta {
+        page: 1,
+        back: Place { frame: 4, index: 0 },
+        ops: ops_of(alloc, b'e', b'5')?,
+    })?;
     blocks.push(Block::Split {
         page: 1,
         back: Place { frame: 5, index: 0 },
@@ -75,91 +58,35 @@ fn fifth(alloc: Global) -> Result<Buffer, Fail>
     sealed(alloc, 5, blocks.as_slice())
 }
 
-// The segment's bytes, header and five frames.
-const SPELLED: [u8; 289] = [
-    0x42, 0x57, 0x4c, 0x4f, 0x47, 0x53, 0x47, 0x31, 0x01, 0x00, 0x00, 0x00, 0x00, 0x00, 0x00, 0x00,
-    0x04, 0x00, 0x00, 0x00, 0x00, 0x40, 0x00, 0x00, 0x46, 0x52, 0x4d, 0x31, 0x01, 0x00, 0x00, 0x00,
-    0x00, 0x00, 0x00, 0x00, 0x20, 0x00, 0x00, 0x00, 0x02, 0x00, 0x00, 0x00, 0x02, 0x01, 0x00, 0x00,
-    0x00, 0x00, 0x00, 0x00, 0x01, 0x01, 0x00, 0x00, 0x00, 0x01, 0x00, 0x00, 0x00, 0x00, 0x00, 0x00,
-    0x00, 0x00, 0x00, 0x00, 0x00, 0x01, 0x00, 0x01, 0x01, 0x61, 0x01, 0x31, 0x46, 0x52, 0x4d, 0x31,
-    0x02, 0x00, 0x00, 0x00, 0x00, 0x00, 0x00, 0x00, 0x18, 0x00, 0x00, 0x00, 0x01, 0x00, 0x00, 0x00,
-    0x01, 0x01, 0x00, 0x00, 0x00, 0x01, 0x00, 0x00, 0x00, 0x00, 0x00, 0x00, 0x00, 0x01, 0x00, 0x00,
-    0x00, 0x01, 0x00, 0x01, 0x01, 0x62, 0x01, 0x32, 0x46, 0x52, 0x4d, 0x31, 0x03, 0x00, 0x00, 0x00,
-    0x00, 0x00, 0x00, 0x00, 0x18, 0x00, 0x00, 0x00, 0x01, 0x00, 0x00, 0x00, 0x01, 0x01, 0x00, 0x00,
-    0x00, 0x02, 0x00, 0x00, 0x00, 0x00, 0x00, 0x00, 0x00, 0x00, 0x00, 0x00, 0x00, 0x01, 0x00, 0x01,
-    0x01, 0x63, 0x01, 0x33, 0x46, 0x52, 0x4d, 0x31, 0x04, 0x00, 0x00, 0x00, 0x00, 0x00, 0x00, 0x00,
-    0x18, 0x00, 0x00, 0x00, 0x01, 0x00, 0x00, 0x00, 0x01, 0x01, 0x00, 0x00, 0x00, 0x03, 0x00, 0x00,
-    0x00, 0x00, 0x00, 0x00, 0x00, 0x00, 0x00, 0x00, 0x00, 0x01, 0x00, 0x01, 0x01, 0x64, 0x01, 0x34,
-    0x46, 0x52, 0x4d, 0x31, 0x05, 0x00, 0x00, 0x00, 0x00, 0x00, 0x00, 0x00, 0x3d, 0x00, 0x00, 0x00,
-    0x02, 0x00, 0x00, 0x00, 0x01, 0x01, 0x00, 0x00, 0x00, 0x04, 0x00, 0x00, 0x00, 0x00, 0x00, 0x00,
-    0x00, 0x00, 0x00, 0x00, 0x00, 0x01, 0x00, 0x01, 0x01, 0x65, 0x01, 0x35, 0x03, 0x01, 0x00, 0x00,
-    0x00, 0x05, 0x00, 0x00, 0x00, 0x00, 0x00, 0x00, 0x00, 0x00, 0x00, 0x00, 0x00, 0x01, 0x63, 0x02,
-    0x00, 0x00, 0x00, 0x03, 0x00, 0x01, 0x63, 0x01, 0x33, 0x01, 0x64, 0x01, 0x34, 0x01, 0x65, 0x01,
-    0x35,
-];
-
-// The step that went otherwise than told, or 0.
-fn splits(alloc: Global) -> Result<u8, Fail> {
-    let boxes = boxes_of(alloc, 2)?;
-    let Ok(mut log) = Log::new(alloc, boxes, 4, 16384) else {
-        return Ok(1);
-    };
-    let one = opening(alloc)?;
-    let Ok(()) = log.append(&one) else {
-        return Ok(2);
-    };
-    drop(one);
-    let two = second(alloc)?;
-    let Ok(()) = log.append(&two) else {
-        return Ok(3);
-    };
-    drop(two);
-    let three = third(alloc)?;
-    let Ok(()) = log.append(&three) else {
-        return Ok(4);
-    };
-    drop(three);
-    let four = fourth(alloc)?;
-    let Ok(()) = log.append(&four) else {
-        return Ok(5);
-    };
-    drop(four);
-    let five = fifth(alloc)?;
-    let Ok(()) = log.append(&five) else {
-        return Ok(6);
-    };
-    drop(five);
-    stands(&mut log, alloc)
+// The vector's frame of this number, of five.
+fn frame_of(alloc: Global, number: u64) -> Result<Buffer, Fail>
+    ensures { IfOk result (λ b. b ≡ record {
+      frame = number;
+      limit = 16384;
+      blocks = split_blocks number;
+      is_sealed = true;
+    }) }
+{
+    match number {
+        1 => first_frame(alloc, ops_of(alloc, b'a', b'1')?),
+        2 => put_frame(alloc, 2, Place { frame: 1, index: 1 }, b'b', b'2'),
+        3 => put_frame(alloc, 3, Place { frame: 2, index: 0 }, b'c', b'3'),
+        4 => put_frame(alloc, 4, Place { frame: 3, index: 0 }, b'd', b'4'),
+        5 => fifth(alloc),
+        _ => Err(Fail::from("no such frame")),
+    }
 }
 
-// Whether the segment has these bytes.
-fn is_spelled(log: &mut Log, alloc: Global) -> Result<bool, Fail>
-    requires { IsSound log.old holding }
-    ensures { IsSound log.new holding }
+// Appends the vector's frame of this number.
+fn append_next(alloc: Global, log: &mut Log, number: u64) -> Result<(), Fail>
+    requires from { 1 ≤ number }
+    requires to { number ≤ 5 }
+    requires counts { Counts (seen log.old holding) (split_frames number) }
+    ensures { OnOk result (Counts (seen log.new holding) (split_frames (number + 1))) }
 {
-    let mut bytes = Vec::new(alloc);
-    Ok(log.dump(1, &mut bytes)? && bytes.as_slice() == &SPELLED[..])
-}
-
-// Whether the lower page has its two pairs.
-fn has_lower(log: &mut Log) -> Result<bool, Fail>
-    requires { IsSound log.old holding }
-    ensures { IsSound log.new holding }
-{
-    let lower = log.read_page(1)?;
-    Ok(has(&lower, &[(b"a", b"1"), (b"b", b"2")]))
-}
-
-// Whether the upper one has its low and its three.
-fn has_upper(log: &mut Log) -> Result<bool, Fail>
-    requires { IsSound log.old holding }
-    ensures { IsSound log.new holding }
-{
-    let upper = log.read_page(2)?;
-    Ok(
-        upper.low.as_slice() == b"c".as_slice()
-            && has(&upper, &[(b"c", b"3"), (b"d", b"4"), (b"e", b"5")]),
-    )
+    let frame = frame_of(alloc, number)?;
+    append(log, &frame, false)?;
+    Ok(())
 }
 
 // Whether both were last touched by the Split, and there is no third.
@@ -178,27 +105,41 @@ fn has_places(log: &mut Log) -> bool
         && log.read_page(3).err() == Some(LogFault::NoPage)
 }
 
-// The same of what stands then.
-fn stands(log: &mut Log, alloc: Global) -> Result<u8, Fail>
+// Appends all five.
+fn append_all(alloc: Global, log: &mut Log) -> Result<(), Fail>
+    requires { Counts (seen log.old holding) [] }
+    ensures { OnOk result (IsSound log.new holding) }
+{
+    for number in 1..6 {
+        append_next(alloc, log, number)?;
+    }
+    Ok(())
+}
+
+// Whether the segment's bytes, both pages and their places stand then.
+fn stands(alloc: Global, log: &mut Log) -> Result<bool, Fail>
     requires { IsSound log.old holding }
 {
-    if !is_spelled(log, alloc)? {
-        return Ok(7);
+    if !are_bytes(alloc, log, 1, SECOND)? {
+        return Ok(false);
     }
-    if !has_lower(log)? {
-        return Ok(8);
+    if !is_page(log, 1, "1 : a=1 b=2;")? {
+        return Ok(false);
     }
-    if !has_upper(log)? {
-        return Ok(9);
+    if !is_page(log, 2, "2 c: c=3 d=4 e=5;")? {
+        return Ok(false);
     }
-    if !has_places(log) {
-        return Ok(10);
-    }
-    Ok(0)
+    Ok(has_places(log))
+}
+
+fn splits(alloc: Global) -> Result<bool, Fail> {
+    let mut log = new_log(alloc, yard_of(alloc, 1, NEVER)?.boxes)?;
+    append_all(alloc, &mut log)?;
+    stands(alloc, &mut log)
 }
 
 #[test]
 fn a_split_page_is_read_back(rt: HostRuntime) -> Result<(), Fail> {
-    assert_eq!(rt; splits(rt.alloc())?, 0);
+    assert!(rt; splits(rt.alloc())?);
     Ok(())
 }

@@ -1,14 +1,18 @@
 // The walker: steps on a log of one page, each with what it has to answer.
 
-ghost use Rattle.std.specs.Prelude.{OnOk, IfSome};
+ghost use Rattle.std.specs.Prelude.{[], IfOk, OnOk};
 ghost use Rattle.bw_log.specs.Views.{seen_by};
 ghost use Rattle.log_tests.specs.Views.{seen};
-ghost use Rattle.log_tests.specs.OnePage.{HoldsOne};
+ghost use Rattle.log_tests.specs.OnePage.{Counts, HoldsOne, Opens};
 
-use super::page::{give_up, put, rewrite, start};
-use super::{fill, fused, has_pairs};
+use super::care::boxes::{is_shown, is_spelled};
+use super::care::vectors::{FIRST, THIRD_NEWER, THIRD_OLDER};
+use super::filled::full_opening;
+use super::page::{begin, give_up, new_log, opening, put, rewrite};
+use super::{Fuse, NEVER, Yard, all_went, taken_out, yard_of};
+use bw_buffer::Buffer;
 use bw_codec::{Leaf, Place};
-use bw_device::{Desk, Segment};
+use bw_device::Segment;
 use bw_log::{Log, LogFault};
 use std::alloc::Global;
 use std::test::Fail;
@@ -29,8 +33,8 @@ enum Step {
     GiveUp(bool),
     /// How many leases come back.
     Collect(u32),
-    /// The page's pairs, of which each is a byte at a byte.
-    Read(&'static [(u8, u8)]),
+    /// The page as a text.
+    Read(&'static str),
     /// The lease of the segment that fails.
     ReadFails(u32),
     NoPage(u32),
@@ -40,28 +44,21 @@ enum Step {
     Places(Place, Place),
     Next(u64),
     Oldest(u64, u64),
-    /// A segment's bytes; none where it is not live.
-    Dump(u64, &'static [u8]),
-    /// How many bytes a segment holds.
-    Dumped(u64, usize),
+    /// A segment's bytes in hex; none where it is not live.
+    Dump(u64, &'static str),
     Works,
-    /// Whether a frame of so many bytes could be appended, and by the cleaner.
-    Ready(u32, Option<LogFault>, Option<LogFault>),
+    /// What refuses a frame of so many bytes.
+    Ready(u32, Option<LogFault>),
+    /// The same of a frame of the cleaner's.
+    ReadyCare(u32, Option<LogFault>),
 }
 
-// What is handed to a log later, and the desk of all leases.
-#[derive(Drop)]
-struct Yard {
-    desk: Desk,
-    shelf: Vec<Box<dyn Segment>>,
-}
-
-// Whether the log takes the last box of the shelf.
+// Whether the log takes the last box of the yard.
 fn adds(log: &mut Log, yard: &mut Yard, leaf: &Leaf) -> bool
     requires { HoldsOne (seen_by holding log.old) leaf.now }
     ensures { HoldsOne (seen_by holding log.new) leaf.now }
 {
-    let Some(one) = yard.shelf.pop() else {
+    let Some(one) = yard.boxes.pop() else {
         return false;
     };
     match log.add_segment(one) {
@@ -89,12 +86,12 @@ fn puts(
     Ok(true)
 }
 
-fn reads(log: &mut Log, leaf: &Leaf, pairs: &[(u8, u8)]) -> Result<bool, Fail>
+fn reads(log: &mut Log, leaf: &Leaf, text: &str) -> Result<bool, Fail>
     requires { HoldsOne (seen log.old holding) leaf.now }
     ensures { OnOk result (HoldsOne (seen log.new holding) leaf.now) }
 {
     let read = log.read_page(1)?;
-    Ok(has_pairs(&read, pairs))
+    Ok(is_shown(&read, text))
 }
 
 fn refuses(log: &mut Log, leaf: &Leaf, page: u32, told: LogFault) -> bool
@@ -107,23 +104,29 @@ fn refuses(log: &mut Log, leaf: &Leaf, page: u32, told: LogFault) -> bool
     }
 }
 
-fn dumps(alloc: Global, log: &mut Log, leaf: &Leaf, segment: u64) -> Result<Vec<u8>, Fail>
+fn dumps(
+    alloc: Global,
+    log: &mut Log,
+    leaf: &Leaf,
+    segment: u64,
+    hex: &'static str,
+) -> Result<bool, Fail>
     requires { HoldsOne (seen log.old holding) leaf.now }
     ensures { OnOk result (HoldsOne (seen log.new holding) leaf.now) }
 {
     let mut bytes = Vec::new(alloc);
     let _ = log.dump(segment, &mut bytes)?;
-    Ok(bytes)
+    is_spelled(alloc, &bytes, hex)
 }
 
-fn is_ready(log: &mut Log, leaf: &Leaf, len: u32, takes_last: bool) -> Option<LogFault>
+fn is_ready(log: &mut Log, leaf: &Leaf, len: u32, takes_last: bool, told: Option<LogFault>) -> bool
     requires { HoldsOne (seen log.old holding) leaf.now }
     ensures { HoldsOne (seen log.new holding) leaf.now }
 {
     if len > log.limit() {
-        return Some(LogFault::BadConfig);
+        return false;
     }
-    log.ready(len, takes_last).err()
+    log.ready(len, takes_last).err() == told
 }
 
 fn rolls(log: &mut Log, leaf: &Leaf)
@@ -190,17 +193,12 @@ fn goes(
         Step::Add(told) => Ok(adds(log, yard, leaf) == *told),
         Step::GiveUp(told) => Ok(give_up(log, leaf) == *told),
         Step::Collect(told) => Ok(yard.desk.collect() == *told),
-        Step::Read(pairs) => reads(log, leaf, pairs),
+        Step::Read(text) => reads(log, leaf, text),
         Step::ReadFails(lease) => Ok(refuses(log, leaf, 1, LogFault::Device { lease: *lease })),
         Step::NoPage(page) => Ok(refuses(log, leaf, *page, LogFault::NoPage)),
-        Step::Dump(segment, told) => Ok(dumps(alloc, log, leaf, *segment)?.as_slice() == *told),
-        Step::Dumped(segment, told) => Ok(dumps(alloc, log, leaf, *segment)?.len() == *told),
-        Step::Ready(len, told, care) => {
-            Ok(
-                is_ready(log, leaf, *len, false) == *told
-                    && is_ready(log, leaf, *len, true) == *care,
-            )
-        }
+        Step::Dump(segment, told) => dumps(alloc, log, leaf, *segment, *told),
+        Step::Ready(len, told) => Ok(is_ready(log, leaf, *len, false, *told)),
+        Step::ReadyCare(len, told) => Ok(is_ready(log, leaf, *len, true, *told)),
         _ => Ok(tells(log, leaf, step)),
     }
 }
@@ -223,66 +221,50 @@ fn wrong_step(
     Ok(None)
 }
 
-// The same of a log that was begun.
-fn walked(
-    alloc: Global,
-    yard: &mut Yard,
-    begun: Option<(Log, Leaf)>,
-    steps: &[Step],
-) -> Result<Option<usize>, Fail>
-    requires { IfSome begun (λ s. HoldsOne (seen_by holding s.0) s.1) }
+// Over what a table walks: the fuse of the first box, how many more there are, all of the least
+// capacity with leases from 0 on, and whether the first frame fills its segment. One more box
+// stands in the yard.
+#[derive(Drop)]
+struct Table(Fuse, u32, bool, &'static [Step]);
+
+fn opening_of(alloc: Global, fills: bool) -> Result<(Buffer, Leaf), Fail>
+    ensures { IfOk result (λ o. Opens o.0 o.1) }
 {
-    match begun {
-        Some((mut log, mut leaf)) => wrong_step(alloc, &mut log, yard, &mut leaf, steps),
-        None => Err(Fail::from("no log")),
+    if fills {
+        full_opening(alloc)
+    } else {
+        opening(alloc)
     }
 }
 
-// A yard with one box on the shelf, of a desk that gave out so many before.
-fn yard_beside(alloc: Global, many: u32, boxes: &mut Vec<Box<dyn Segment>>) -> Result<Yard, Fail> {
-    let mut desk = Desk::new(alloc, 8)?;
-    fill(alloc, &mut desk, many, boxes)?;
-    let mut shelf: Vec<Box<dyn Segment>> = Vec::new(alloc);
-    fill(alloc, &mut desk, 1, &mut shelf)?;
-    Ok(Yard { desk, shelf })
+/// Appends a first frame, and answers the page that it leaves.
+pub(crate) fn begun(alloc: Global, log: &mut Log, fills: bool) -> Result<Leaf, Fail>
+    requires { Counts (seen log.old holding) [] }
+    ensures { IfOk result (λ leaf. HoldsOne (seen log.new holding) leaf) }
+{
+    let (frame, leaf) = opening_of(alloc, fills)?;
+    begin(log, &frame, &leaf)?;
+    Ok(leaf)
 }
 
-// The same over so many boxes of the least capacity, with leases from 0 on, and one frame. One more
-// box stands on the shelf.
-fn walked_over(alloc: Global, many: u32, steps: &[Step]) -> Result<Option<usize>, Fail> {
-    let mut boxes: Vec<Box<dyn Segment>> = Vec::new(alloc);
-    let mut yard = yard_beside(alloc, many, &mut boxes)?;
-    let begun = start(alloc, boxes, b'k', b'v')?;
-    walked(alloc, &mut yard, begun, steps)
+// The first step of a table that did not go as told.
+fn walked(alloc: Global, table: &Table) -> Result<Option<usize>, Fail> {
+    let Table(fuse, more, fills, steps) = table;
+    let (boxes, mut beside) = taken_out(alloc, yard_of(alloc, *more, *fuse)?, 16_408)?;
+    let mut log = new_log(alloc, boxes)?;
+    let mut leaf = begun(alloc, &mut log, *fills)?;
+    wrong_step(alloc, &mut log, &mut beside, &mut leaf, steps)
 }
 
-// Each table over so many boxes: the first that went otherwise than told, and its step.
-fn first_wrong(alloc: Global, tables: &[(u32, &[Step])]) -> Result<Option<(usize, usize)>, Fail> {
-    for (i, (many, steps)) in tables.iter().enumerate() {
-        if let Some(step) = walked_over(alloc, *many, steps)? {
+// The first of the tables that went otherwise than told, and its step.
+fn first_wrong(alloc: Global, tables: &[Table]) -> Result<Option<(usize, usize)>, Fail> {
+    for (i, table) in tables.iter().enumerate() {
+        if let Some(step) = walked(alloc, table)? {
             return Ok(Some((i, step)));
         }
     }
     Ok(None)
 }
-
-// The steps over a segment that fails in the call after so many, and keeps so many bytes of an
-// append, and a spare.
-fn walked_to_a_fault(
-    alloc: Global,
-    calls: u64,
-    keep: u64,
-    steps: &[Step],
-) -> Result<Option<usize>, Fail> {
-    let mut boxes: Vec<Box<dyn Segment>> = Vec::new(alloc);
-    fused(alloc, calls, keep, &mut boxes)?;
-    let begun = start(alloc, boxes, b'k', b'v')?;
-    let desk = Desk::new(alloc, 1)?;
-    let shelf = Vec::new(alloc);
-    walked(alloc, &mut Yard { desk, shelf }, begun, steps)
-}
-
-const K_V: (u8, u8) = (b'k', b'v');
 
 // Of two boxes, a new segment wants one more.
 const A_SECOND_SEGMENT: &[Step] = &[
@@ -291,7 +273,7 @@ const A_SECOND_SEGMENT: &[Step] = &[
     Step::Boxes(&[(1, 0, 76)], &[1]),
     Step::Add(true),
     Step::Put(b'b', b'2', None),
-    Step::Read(&[(b'b', b'2'), K_V]),
+    Step::Read("1 : b=2 k=v;"),
     Step::NoPage(2),
     Step::NoPage(0),
     Step::Boxes(&[(1, 0, 76), (2, 1, 68)], &[2]),
@@ -302,41 +284,22 @@ const A_SECOND_SEGMENT: &[Step] = &[
 // The third call of the segment, a read, fails.
 const A_FAILED_READ: &[Step] = &[
     Step::ReadFails(0),
-    Step::Read(&[K_V]),
+    Step::Read("1 : k=v;"),
     Step::Works,
-    Step::Dumped(1, 76),
-    Step::Dumped(2, 0),
+    Step::Dump(1, FIRST),
+    Step::Dump(2, ""),
 ];
 
 // The third call of the segment, an append, fails.
 const A_FAILED_APPEND: &[Step] = &[
     Step::Put(b'b', b'2', Some(LogFault::Device { lease: 0 })),
     Step::Next(2),
-    Step::Read(&[K_V]),
+    Step::Read("1 : k=v;"),
     Step::Put(b'b', b'2', Some(LogFault::Failed)),
-    Step::Ready(44, Some(LogFault::Failed), Some(LogFault::Failed)),
+    Step::Ready(44, Some(LogFault::Failed)),
+    Step::ReadyCare(44, Some(LogFault::Failed)),
     Step::GiveUp(false),
     Step::Boxes(&[(1, 0, 86)], &[1]),
-];
-
-// The second segment, whose frame links back to the first.
-const SECOND: [u8; 68] = [
-    0x42, 0x57, 0x4c, 0x4f, 0x47, 0x53, 0x47, 0x31, 0x02, 0x00, 0x00, 0x00, 0x00, 0x00, 0x00, 0x00,
-    0x04, 0x00, 0x00, 0x00, 0x00, 0x40, 0x00, 0x00, 0x46, 0x52, 0x4d, 0x31, 0x02, 0x00, 0x00, 0x00,
-    0x00, 0x00, 0x00, 0x00, 0x18, 0x00, 0x00, 0x00, 0x01, 0x00, 0x00, 0x00, 0x01, 0x01, 0x00, 0x00,
-    0x00, 0x01, 0x00, 0x00, 0x00, 0x00, 0x00, 0x00, 0x00, 0x01, 0x00, 0x00, 0x00, 0x01, 0x00, 0x01,
-    0x01, 0x6a, 0x01, 0x32,
-];
-
-// The third, with a frame of its own and the cleaner's.
-const THIRD: [u8; 104] = [
-    0x42, 0x57, 0x4c, 0x4f, 0x47, 0x53, 0x47, 0x31, 0x03, 0x00, 0x00, 0x00, 0x00, 0x00, 0x00, 0x00,
-    0x04, 0x00, 0x00, 0x00, 0x00, 0x40, 0x00, 0x00, 0x46, 0x52, 0x4d, 0x31, 0x03, 0x00, 0x00, 0x00,
-    0x00, 0x00, 0x00, 0x00, 0x18, 0x00, 0x00, 0x00, 0x01, 0x00, 0x00, 0x00, 0x01, 0x01, 0x00, 0x00,
-    0x00, 0x02, 0x00, 0x00, 0x00, 0x00, 0x00, 0x00, 0x00, 0x00, 0x00, 0x00, 0x00, 0x01, 0x00, 0x01,
-    0x01, 0x6b, 0x01, 0x33, 0x46, 0x52, 0x4d, 0x31, 0x04, 0x00, 0x00, 0x00, 0x00, 0x00, 0x00, 0x00,
-    0x10, 0x00, 0x00, 0x00, 0x01, 0x00, 0x00, 0x00, 0x02, 0x01, 0x00, 0x00, 0x00, 0x00, 0x02, 0x00,
-    0x01, 0x6a, 0x01, 0x32, 0x01, 0x6b, 0x01, 0x33,
 ];
 
 // The page's older places are given up with their segments, whose boxes are dropped.
@@ -352,15 +315,17 @@ const GIVEN_UP: &[Step] = &[
     Step::GiveUp(true),
     Step::Collect(1),
     Step::Boxes(&[(2, 1, 68), (3, 2, 104)], &[3]),
-    Step::Dump(1, &[]),
-    Step::Dump(2, &SECOND),
-    Step::Dump(3, &THIRD),
-    Step::Read(&[(b'j', b'2'), (b'k', b'3')]),
+    Step::Dump(1, ""),
+    // Its frame links back to the first segment.
+    Step::Dump(2, THIRD_OLDER),
+    // With a frame of its own and the cleaner's.
+    Step::Dump(3, THIRD_NEWER),
+    Step::Read("1 : j=2 k=3;"),
     Step::Places(Place { frame: 4, index: 0 }, Place { frame: 4, index: 0 }),
     Step::Next(5),
     Step::Works,
     Step::GiveUp(true),
-    Step::Read(&[(b'j', b'2'), (b'k', b'3')]),
+    Step::Read("1 : j=2 k=3;"),
 ];
 
 // A page whose blocks stand in 70 frames.
@@ -374,20 +339,31 @@ const MANY_FRAMES: &[Step] = &[
         },
         Place { frame: 1, index: 0 },
     ),
-    Step::Read(&[K_V]),
+    Step::Read("1 : k=v;"),
+];
+
+// The last of 124 puts at k in one frame, which fills its segment to the last byte.
+const FILLED: &[Step] = &[
+    Step::Boxes(&[(1, 0, 16_408)], &[1]),
+    Step::Read(
+        "1 : k=wwwwwwwwwwwwwwwwwwwwwwwwwwwwwwwwwwwwwwwwwwwwwwww\
+        wwwwwwwwwwwwwwwwwwwwwwwwwwwwwwwwwwwwwwwwwwwwwwwww;",
+    ),
+    Step::Ready(44, Some(LogFault::NoSegment)),
+    Step::ReadyCare(44, None),
+];
+
+const TABLES: &[Table] = &[
+    Table(NEVER, 1, false, A_SECOND_SEGMENT),
+    Table(NEVER, 3, false, GIVEN_UP),
+    Table(NEVER, 1, false, MANY_FRAMES),
+    Table(NEVER, 1, true, FILLED),
+    Table((2, 0), 1, false, A_FAILED_READ),
+    Table((2, 10), 1, false, A_FAILED_APPEND),
 ];
 
 #[test]
 fn logs_of_one_page_go_as_told(rt: HostRuntime) -> Result<(), Fail> {
-    let tables = [(2, A_SECOND_SEGMENT), (4, GIVEN_UP), (2, MANY_FRAMES)];
-    assert_eq!(rt; first_wrong(rt.alloc(), &tables)?, None);
-    Ok(())
-}
-
-#[test]
-fn logs_whose_segment_fails_go_as_told(rt: HostRuntime) -> Result<(), Fail> {
-    let alloc = rt.alloc();
-    assert_eq!(rt; walked_to_a_fault(alloc, 2, 0, A_FAILED_READ)?, None);
-    assert_eq!(rt; walked_to_a_fault(alloc, 2, 10, A_FAILED_APPEND)?, None);
+    all_went(&rt, first_wrong(rt.alloc(), TABLES)?);
     Ok(())
 }

@@ -1,10 +1,18 @@
 //! Boxes made of hex, and pages shown as text.
 
+ghost use Rattle.bw_log.specs.Views.{IsSound as IsSoundBeside};
+ghost use Rattle.log_tests.specs.Views.{IsSound};
+
+use super::super::{Fuse, NEVER, Yard, add_box, empty_yard};
 use bw_codec::Leaf;
-use bw_device::{Desk, FuseSegment, MemSegment, Segment};
+use bw_device::Segment;
+use bw_log::Log;
 use bw_page::Leaves;
 use std::alloc::Global;
 use std::test::Fail;
+
+/// More room than any box of a vector needs.
+pub(super) const AMPLE: u64 = 65_560;
 
 /// The bytes of one box, by a text in hex.
 #[derive(Drop)]
@@ -14,81 +22,78 @@ pub(super) enum Piece {
     /// So many of its bytes, from the first on.
     Cut(&'static str, usize),
     /// With other bytes from an offset on.
-    With(&'static str, usize, &'static str),
+    With(&'static str, usize, &'static [u8]),
     /// With more bytes behind.
-    Behind(&'static str, &'static str),
+    Behind(&'static str, &'static [u8]),
 }
 
-// The bytes of a text with others from an offset on.
-fn changed(alloc: Global, hex: &str, at: usize, with: &str) -> Result<Vec<u8>, Fail> {
-    let mut bytes = hex::decode(alloc, hex)?;
-    let with = hex::decode(alloc, with)?;
+// Other bytes from an offset on, as far as there are any.
+fn change(bytes: &mut Vec<u8>, at: usize, with: &[u8]) {
     for (i, byte) in with.iter().enumerate() {
         if i < bytes.len() && at < bytes.len() - i {
             bytes[at + i] = *byte;
         }
     }
+}
+
+fn text_of(piece: &Piece) -> &'static str {
+    match piece {
+        Piece::Whole(hex) => *hex,
+        Piece::Cut(hex, _) => *hex,
+        Piece::With(hex, _, _) => *hex,
+        Piece::Behind(hex, _) => *hex,
+    }
+}
+
+// The bytes of a piece.
+fn bytes_of(alloc: Global, piece: &Piece) -> Result<Vec<u8>, Fail> {
+    let mut bytes = hex::decode(alloc, text_of(piece))?;
+    match piece {
+        Piece::Whole(_) => {}
+        Piece::Cut(_, len) => bytes.truncate(*len),
+        Piece::With(_, at, with) => change(&mut bytes, *at, *with),
+        Piece::Behind(_, more) => bytes.extend_from_slice(*more)?,
+    }
     Ok(bytes)
 }
 
-/// The bytes of a piece.
-pub(super) fn bytes_of(alloc: Global, piece: &Piece) -> Result<Vec<u8>, Fail> {
-    match piece {
-        Piece::Whole(hex) => Ok(hex::decode(alloc, *hex)?),
-        Piece::Cut(hex, len) => {
-            let mut bytes = hex::decode(alloc, *hex)?;
-            bytes.truncate(*len);
-            Ok(bytes)
-        }
-        Piece::With(hex, at, with) => changed(alloc, hex, *at, with),
-        Piece::Behind(hex, more) => {
-            let mut bytes = hex::decode(alloc, *hex)?;
-            bytes.extend_from_slice(&hex::decode(alloc, *more)?)?;
-            Ok(bytes)
-        }
-    }
+/// Whether these are the bytes of a text in hex.
+pub(crate) fn is_spelled(alloc: Global, bytes: &[u8], hex: &str) -> Result<bool, Fail> {
+    Ok(bytes == hex::decode(alloc, hex)?.as_slice())
 }
 
-/// The room of a box: 65,560 bytes, or its length where that is more.
-fn room_of(bytes: &[u8]) -> u64 {
-    if bytes.len() > 65_560 {
-        bytes.len() as u64
-    } else {
-        65_560
-    }
-}
-
-/// One more box, which holds these bytes. Its calls fail after so many, where that is less than 99.
-pub(super) fn add_box(
+// One more box, for a piece.
+fn add_piece(
     alloc: Global,
-    desk: &mut Desk,
-    bytes: &[u8],
+    yard: &mut Yard,
+    piece: &Piece,
     room: u64,
-    calls: u64,
-    keep: u64,
-    boxes: &mut Vec<Box<dyn Segment>>,
+    fuse: Fuse,
 ) -> Result<(), Fail> {
-    let segment = MemSegment::with_bytes(alloc, desk.take()?, room, bytes)?;
-    if calls < 99 {
-        boxes.push(Box::new(alloc, FuseSegment::new(segment, calls, keep))?)?;
-    } else {
-        boxes.push(Box::new(alloc, segment)?)?;
-    }
-    Ok(())
+    let bytes = bytes_of(alloc, piece)?;
+    add_box(alloc, yard, &bytes, room, fuse)
 }
 
-/// A box for each piece.
-pub(super) fn add_all(
-    alloc: Global,
-    desk: &mut Desk,
-    pieces: &[Piece],
-    boxes: &mut Vec<Box<dyn Segment>>,
-) -> Result<(), Fail> {
+/// A yard with a box of ample room for each piece.
+pub(super) fn boxes_of(alloc: Global, pieces: &[Piece]) -> Result<Yard, Fail> {
+    let mut full = empty_yard(alloc, 8)?;
     for piece in pieces {
-        let bytes = bytes_of(alloc, piece)?;
-        add_box(alloc, desk, &bytes, room_of(&bytes), 99, 0, boxes)?;
+        add_piece(alloc, &mut full, piece, AMPLE, NEVER)?;
     }
-    Ok(())
+    Ok(full)
+}
+
+/// A piece, the room of its box, and whether that is the one that fails.
+pub(super) type Kept = (Piece, u64, bool);
+
+/// A yard with a box for each of these, of which one fails so.
+pub(super) fn boxes_with(alloc: Global, fuse: Fuse, all: &[Kept]) -> Result<Yard, Fail> {
+    let mut full = empty_yard(alloc, 8)?;
+    for (piece, room, fails) in all {
+        let fuse = if *fails { fuse } else { NEVER };
+        add_piece(alloc, &mut full, piece, *room, fuse)?;
+    }
+    Ok(full)
 }
 
 // What is left of a text behind a part of it; none where it does not begin so.
@@ -115,7 +120,7 @@ fn is_at_end(text: Option<&[u8]>) -> bool {
 }
 
 /// Whether one page is shown so.
-pub(super) fn is_shown(leaf: &Leaf, text: &str) -> bool {
+pub(crate) fn is_shown(leaf: &Leaf, text: &str) -> bool {
     is_at_end(behind_page(Some(text.as_bytes()), leaf))
 }
 
@@ -128,4 +133,39 @@ pub(super) fn are_shown(leaves: &Leaves, text: &str) -> bool {
         }
     }
     is_at_end(rest)
+}
+
+/// Whether a page of a log is shown so.
+pub(crate) fn is_page(log: &mut Log, page: u32, text: &str) -> Result<bool, Fail>
+    requires { IsSound log.old holding }
+    ensures { IsSound log.new holding }
+{
+    let leaf = log.read_page(page)?;
+    Ok(is_shown(&leaf, text))
+}
+
+/// Whether a segment is live and has the bytes of this text in hex.
+pub(crate) fn are_bytes(
+    alloc: Global,
+    log: &mut Log,
+    segment: u64,
+    hex: &'static str,
+) -> Result<bool, Fail>
+    requires { IsSound log.old holding }
+    ensures { IsSound log.new holding }
+{
+    let mut bytes = Vec::new(alloc);
+    let live = log.dump(segment, &mut bytes)?;
+    Ok(live && is_spelled(alloc, &bytes, hex)?)
+}
+
+/// Whether a log takes the last box of a yard.
+pub(crate) fn is_added(log: &mut Log, yard: &mut Yard) -> bool
+    requires { IsSoundBeside holding log.old }
+    ensures { IsSoundBeside holding log.new }
+{
+    match yard.boxes.pop() {
+        Some(one) => log.add_segment(one).is_ok(),
+        None => false,
+    }
 }

@@ -1,13 +1,13 @@
 //! Cleanings of logs that were recovered from worked segments.
 
-ghost use Rattle.std.specs.Prelude.{OnOk};
-ghost use Rattle.bw_care.specs.Views.{IsSound};
 ghost use Rattle.bw_log.specs.Views.{IsSound as IsSoundBeside};
+ghost use Rattle.log_tests.specs.Views.{IsSound};
 
-use super::boxes::{Piece, add_all, add_box, bytes_of, is_shown};
+use super::super::{Fuse, NEVER, Yard, all_went, taken_out};
+use super::boxes::{AMPLE, Kept, Piece, are_bytes, boxes_with, is_added, is_page};
 use super::vectors::{BEHIND_SECOND, SECOND, THIRD_LOST, THIRD_NEWER, THIRD_OLDER};
 use bw_care::{CleanFault, Cleaned, clean, recover};
-use bw_device::{Desk, Segment};
+use bw_device::Segment;
 use bw_log::{Log, LogFault};
 use std::alloc::Global;
 use std::test::Fail;
@@ -30,43 +30,17 @@ enum Step {
     Add,
 }
 
+use Piece::{Cut, Whole};
 use Step::{Add, Back, Bytes, Cleans, Page, Refused, Stands};
 
-fn is_page(log: &mut Log, page: u32, text: &str) -> Result<bool, Fail>
+fn cleans(alloc: Global, log: &mut Log, told: Result<Cleaned, CleanFault>) -> bool
     requires { IsSound log.old holding }
     ensures { IsSound log.new holding }
 {
-    let leaf = log.read_page(page)?;
-    Ok(is_shown(&leaf, text))
+    clean(alloc, log) == told
 }
 
-fn are_bytes(alloc: Global, log: &mut Log, segment: u64, hex: &'static str) -> Result<bool, Fail>
-    requires { IsSound log.old holding }
-    ensures { IsSound log.new holding }
-{
-    let told = bytes_of(alloc, &Piece::Whole(hex))?;
-    let mut bytes = Vec::new(alloc);
-    let live = log.dump(segment, &mut bytes)?;
-    Ok(live && bytes.as_slice() == told.as_slice())
-}
-
-fn is_added(log: &mut Log, more: &mut Vec<Box<dyn Segment>>) -> bool
-    requires { IsSoundBeside holding log.old }
-    ensures { IsSoundBeside holding log.new }
-{
-    match more.pop() {
-        Some(one) => log.add_segment(one).is_ok(),
-        None => false,
-    }
-}
-
-fn goes(
-    alloc: Global,
-    desk: &mut Desk,
-    log: &mut Log,
-    more: &mut Vec<Box<dyn Segment>>,
-    step: &Step,
-) -> Result<bool, Fail>
+fn goes(alloc: Global, yard: &mut Yard, log: &mut Log, step: &Step) -> Result<bool, Fail>
     requires { IsSoundBeside holding log.old }
     ensures { IsSoundBeside holding log.new }
 {
@@ -78,49 +52,34 @@ fn goes(
                 pages: *pages,
                 frames: *frames,
             };
-            Ok(clean(alloc, log) == Ok(told))
+            Ok(cleans(alloc, log, Ok(told)))
         }
-        Refused(fault) => Ok(clean(alloc, log) == Err(*fault)),
-        Back(count) => Ok(desk.collect() == *count),
+        Refused(fault) => Ok(cleans(alloc, log, Err(*fault))),
+        Back(count) => Ok(yard.desk.collect() == *count),
         Page(page, text) => is_page(log, *page, text),
         Bytes(segment, hex) => are_bytes(alloc, log, *segment, *hex),
         Stands(live, spares, next) => Ok(
             log.live() == *live && log.spares() == *spares && log.next_frame() == Some(*next),
         ),
-        Add => Ok(is_added(log, more)),
+        Add => Ok(is_added(log, yard)),
     }
 }
 
 // The first step that did not go as told.
 fn wrong_step(
     alloc: Global,
-    desk: &mut Desk,
+    yard: &mut Yard,
     log: &mut Log,
-    more: &mut Vec<Box<dyn Segment>>,
     steps: &[Step],
 ) -> Result<Option<usize>, Fail>
     requires { IsSoundBeside holding log.old }
 {
     for (i, step) in steps.iter().enumerate() {
-        if !goes(alloc, desk, log, more, step)? {
+        if !goes(alloc, yard, log, step)? {
             return Ok(Some(i));
         }
     }
     Ok(None)
-}
-
-// The same over what is recovered from these boxes.
-fn walked(
-    alloc: Global,
-    desk: &mut Desk,
-    boxes: Vec<Box<dyn Segment>>,
-    more: &mut Vec<Box<dyn Segment>>,
-    steps: &[Step],
-) -> Result<Option<usize>, Fail> {
-    match recover(alloc, boxes) {
-        Ok(mut found) => wrong_step(alloc, desk, &mut found.log, more, steps),
-        Err(_) => Err(Fail::from("a refusal of recover")),
-    }
 }
 
 /// The bytes that a cleaning leaves, then one with nothing old, then none.
@@ -165,86 +124,82 @@ const FAILED: &[Step] = &[
     Refused(CleanFault::Log(LogFault::Failed)),
 ];
 
-const NEWER_BEFORE: Piece = Piece::Cut(THIRD_NEWER, 68);
+/// Segments and spares, and how what is recovered from them goes.
+#[derive(Drop)]
+struct Table(&'static [Kept], &'static [Step]);
 
-const THIRD_BEFORE: &[Piece] = &[Piece::Whole(THIRD_LOST), Piece::Whole(THIRD_OLDER)];
-
-// The newest segment of the third vector, of this room, which may fail.
-fn add_newer(
-    alloc: Global,
-    desk: &mut Desk,
-    room: u64,
-    calls: u64,
-    keep: u64,
-    boxes: &mut Vec<Box<dyn Segment>>,
-) -> Result<(), Fail> {
-    let newer = bytes_of(alloc, &NEWER_BEFORE)?;
-    add_box(alloc, desk, &newer, room, calls, keep, boxes)
-}
-
-// So many spares.
-fn add_spares(
-    alloc: Global,
-    desk: &mut Desk,
-    many: u32,
-    boxes: &mut Vec<Box<dyn Segment>>,
-) -> Result<(), Fail> {
-    for _ in 0..many {
-        add_box(alloc, desk, &[], 65_560, 99, 0, boxes)?;
-    }
-    Ok(())
-}
-
-// The three segments of the third vector before its cleaning, with a spare, if one is wanted.
-fn third(
-    alloc: Global,
-    room: u64,
-    calls: u64,
-    keep: u64,
-    spares: u32,
-    steps: &[Step],
-) -> Result<Option<usize>, Fail> {
-    let mut desk = Desk::new(alloc, 8)?;
-    let mut boxes: Vec<Box<dyn Segment>> = Vec::new(alloc);
-    add_all(alloc, &mut desk, THIRD_BEFORE, &mut boxes)?;
-    add_newer(alloc, &mut desk, room, calls, keep, &mut boxes)?;
-    add_spares(alloc, &mut desk, spares, &mut boxes)?;
-    let mut more: Vec<Box<dyn Segment>> = Vec::new(alloc);
-    add_spares(alloc, &mut desk, 1, &mut more)?;
-    walked(alloc, &mut desk, boxes, &mut more, steps)
-}
-
-const SECOND_AND_MORE: &[Piece] = &[
-    Piece::Whole(SECOND),
-    Piece::Whole(BEHIND_SECOND),
-    Piece::Cut(SECOND, 0),
+/// The third vector before its cleaning, and a spare.
+const THIRD: &[Kept] = &[
+    (Whole(THIRD_LOST), AMPLE, false),
+    (Whole(THIRD_OLDER), AMPLE, false),
+    (Cut(THIRD_NEWER, 68), AMPLE, true),
+    (Cut(THIRD_NEWER, 0), AMPLE, false),
 ];
 
-// The second vector, a segment behind it, and a spare.
-fn second(alloc: Global, steps: &[Step]) -> Result<Option<usize>, Fail> {
-    let mut desk = Desk::new(alloc, 8)?;
-    let mut boxes: Vec<Box<dyn Segment>> = Vec::new(alloc);
-    add_all(alloc, &mut desk, SECOND_AND_MORE, &mut boxes)?;
-    let mut more: Vec<Box<dyn Segment>> = Vec::new(alloc);
-    walked(alloc, &mut desk, boxes, &mut more, steps)
+/// The same with no room in the newest segment and no spare.
+const FULL: &[Kept] = &[
+    (Whole(THIRD_LOST), AMPLE, false),
+    (Whole(THIRD_OLDER), AMPLE, false),
+    (Cut(THIRD_NEWER, 68), 68, false),
+];
+
+/// The second vector, a segment behind it, and a spare.
+const SECOND_AND_MORE: &[Kept] = &[
+    (Whole(SECOND), AMPLE, false),
+    (Whole(BEHIND_SECOND), AMPLE, false),
+    (Cut(SECOND, 0), AMPLE, false),
+];
+
+const TABLES: &[Table] = &[
+    Table(THIRD, TWICE),
+    Table(FULL, NO_SPARE),
+    Table(SECOND_AND_MORE, TWO_PAGES),
+];
+
+// The first step of a table that did not go as told, with one more box in the yard.
+fn walked(
+    alloc: Global,
+    boxes: &[Kept],
+    fuse: Fuse,
+    steps: &[Step],
+) -> Result<Option<usize>, Fail> {
+    let (boxes, mut beside) = taken_out(alloc, boxes_with(alloc, fuse, boxes)?, AMPLE)?;
+    match recover(alloc, boxes) {
+        Ok(mut found) => wrong_step(alloc, &mut beside, &mut found.log, steps),
+        Err(_) => Err(Fail::from("a refusal of recover")),
+    }
+}
+
+// The first of the tables that did not go as told, and its step.
+fn first_wrong(alloc: Global) -> Result<Option<(usize, usize)>, Fail> {
+    for (i, Table(boxes, steps)) in TABLES.iter().enumerate() {
+        if let Some(step) = walked(alloc, *boxes, NEVER, *steps)? {
+            return Ok(Some((i, step)));
+        }
+    }
+    Ok(None)
 }
 
 #[test]
 fn cleanings_go_as_told(rt: HostRuntime) -> Result<(), Fail> {
-    let alloc = rt.alloc();
-    assert_eq!(rt; third(alloc, 65_560, 99, 0, 1, TWICE)?, None);
-    assert_eq!(rt; third(alloc, 68, 99, 0, 0, NO_SPARE)?, None);
-    assert_eq!(rt; second(alloc, TWO_PAGES)?, None);
+    all_went(&rt, first_wrong(rt.alloc())?);
     Ok(())
+}
+
+// The first step that did not go as told where the cleaner's append fails, behind the bytes kept.
+fn first_failing(alloc: Global) -> Result<Option<(usize, usize)>, Fail> {
+    // The cleaner's frame has 36 bytes.
+    for keep in 0..=36usize {
+        // Two reads of a recovery, and one of the page.
+        if let Some(step) = walked(alloc, THIRD, (3, keep as u64), FAILED)? {
+            return Ok(Some((keep, step)));
+        }
+    }
+    Ok(None)
 }
 
 #[test]
 fn a_failed_append_of_the_cleaner_drops_no_box(rt: HostRuntime) -> Result<(), Fail> {
-    // The cleaner's frame has 36 bytes.
-    for keep in 0..=36u64 {
-        // Two reads of a recovery, and one of the page.
-        let wrong = third(rt.alloc(), 65_560, 3, keep, 1, FAILED)?;
-        assert_eq!(rt; wrong, None, "keeps {keep}");
-    }
+    all_went(&rt, first_failing(rt.alloc())?);
     Ok(())
 }

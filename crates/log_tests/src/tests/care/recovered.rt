@@ -2,7 +2,8 @@
 
 ghost use Rattle.bw_care.specs.Views.{IsSound};
 
-use super::boxes::{Piece, add_all, add_box, are_shown, bytes_of};
+use super::super::{NEVER, Yard, add_box, add_boxes, all_went, empty_yard};
+use super::boxes::{AMPLE, Kept, Piece, are_shown, boxes_of, boxes_with};
 use super::vectors::{FIRST, GREATEST, SECOND, THIRD_NEWER, THIRD_OLDER};
 use bw_care::{RecoverCause, recover};
 use bw_device::{Desk, Segment};
@@ -17,10 +18,25 @@ enum Told {
     Fault(RecoverCause),
 }
 
+/// A list of boxes.
+#[derive(Drop)]
+enum Boxes {
+    /// One of ample room for each piece.
+    Ample(&'static [Piece]),
+    /// One for each of these.
+    Each(&'static [Kept]),
+    /// The older one of the third vector and the newer one, behind a recovery that the newer one's
+    /// call of this number failed, which told so.
+    Again(u64),
+    /// 4,097 of a bad byte each, one of them of another desk.
+    Many,
+}
+
 /// Boxes, and what is told of them.
 #[derive(Drop)]
-struct Row(&'static [Piece], Told);
+struct Row(Boxes, Told);
 
+use Boxes::{Again, Ample, Each, Many};
 use Piece::{Behind, Cut, Whole, With};
 use RecoverCause::{BadBytes, BadConfig, BadLink, Empty, Gap, Mixed, Unlawful};
 use Told::{Fault, Found};
@@ -33,45 +49,48 @@ const JK: &str = "1 : j=2 k=3;";
 
 /// Vectors whole, cut, exchanged, doubled, and with a stray byte behind.
 const WORKED: &[Row] = &[
-    Row(&[Whole(FIRST)], Found(1, 1, 0, 1, 0, 0, KV)),
+    Row(Ample(&[Whole(FIRST)]), Found(1, 1, 0, 1, 0, 0, KV)),
     Row(
-        &[Whole(SECOND)],
+        Ample(&[Whole(SECOND)]),
         Found(1, 5, 0, 1, 0, 0, "1 : a=1 b=2;2 c: c=3 d=4 e=5;"),
     ),
-    Row(&[Cut(SECOND, 288)], Found(1, 4, 80, 1, 0, 0, ABCD)),
-    Row(&[Cut(SECOND, 75)], Fault(Empty)),
-    Row(&[Cut(SECOND, 24)], Fault(Empty)),
-    Row(&[Cut(SECOND, 23)], Fault(Empty)),
-    Row(&[], Fault(Empty)),
+    Row(Ample(&[Cut(SECOND, 288)]), Found(1, 4, 80, 1, 0, 0, ABCD)),
+    Row(Ample(&[Cut(SECOND, 75)]), Fault(Empty)),
+    Row(Ample(&[Cut(SECOND, 24)]), Fault(Empty)),
+    Row(Ample(&[Cut(SECOND, 23)]), Fault(Empty)),
+    Row(Ample(&[]), Fault(Empty)),
     Row(
-        &[Whole(GREATEST)],
+        Ample(&[Whole(GREATEST)]),
         Found(u64::MAX, u64::MAX, 0, 1, 0, 0, "1 :;"),
     ),
     Row(
-        &[Behind(FIRST, "58")],
+        Ample(&[Behind(FIRST, &[0x58])]),
         Fault(BadBytes { segment: 0, at: 76 }),
     ),
-    Row(&[Behind(FIRST, "46")], Found(1, 1, 1, 1, 0, 0, KV)),
     Row(
-        &[Whole(THIRD_OLDER), Whole(THIRD_NEWER)],
+        Ample(&[Behind(FIRST, &[0x46])]),
+        Found(1, 1, 1, 1, 0, 0, KV),
+    ),
+    Row(
+        Ample(&[Whole(THIRD_OLDER), Whole(THIRD_NEWER)]),
         Found(2, 4, 0, 2, 0, 0, JK),
     ),
     Row(
-        &[Whole(THIRD_NEWER), Whole(THIRD_OLDER)],
+        Ample(&[Whole(THIRD_NEWER), Whole(THIRD_OLDER)]),
         Found(2, 4, 0, 2, 0, 0, JK),
     ),
-    Row(&[Whole(THIRD_OLDER)], Fault(Unlawful { page: 1 })),
+    Row(Ample(&[Whole(THIRD_OLDER)]), Fault(Unlawful { page: 1 })),
     Row(
-        &[Whole(THIRD_OLDER), Cut(THIRD_NEWER, 103)],
+        Ample(&[Whole(THIRD_OLDER), Cut(THIRD_NEWER, 103)]),
         Fault(Unlawful { page: 1 }),
     ),
-    Row(&[Whole(THIRD_OLDER), Whole(THIRD_OLDER)], Fault(Gap)),
+    Row(Ample(&[Whole(THIRD_OLDER), Whole(THIRD_OLDER)]), Fault(Gap)),
     Row(
-        &[Whole(FIRST), Whole(THIRD_OLDER)],
+        Ample(&[Whole(FIRST), Whole(THIRD_OLDER)]),
         Found(1, 2, 0, 2, 0, 0, "1 : j=2 k=v;"),
     ),
     Row(
-        &[Cut(FIRST, 0), Whole(FIRST), Cut(FIRST, 3)],
+        Ample(&[Cut(FIRST, 0), Whole(FIRST), Cut(FIRST, 3)]),
         Found(1, 1, 0, 1, 1, 1, KV),
     ),
 ];
@@ -79,35 +98,44 @@ const WORKED: &[Row] = &[
 /// Hostile boxes: each fault by changed bytes.
 const HOSTILE: &[Row] = &[
     Row(
-        &[With(FIRST, 27, "32")],
+        Ample(&[With(FIRST, 27, &[0x32])]),
         Fault(BadBytes { segment: 0, at: 24 }),
     ),
     Row(
-        &[With(FIRST, 16, "03")],
+        Ample(&[With(FIRST, 16, &[0x03])]),
         Fault(BadBytes { segment: 0, at: 0 }),
     ),
     Row(
-        &[Whole(FIRST), With(THIRD_OLDER, 27, "32")],
+        Ample(&[Whole(FIRST), With(THIRD_OLDER, 27, &[0x32])]),
         Fault(BadBytes { segment: 1, at: 24 }),
     ),
     Row(
-        &[With(FIRST, 36, "ffffffff")],
+        Ample(&[With(FIRST, 36, &[0xff, 0xff, 0xff, 0xff])]),
         Fault(BadBytes { segment: 0, at: 24 }),
     ),
     Row(
-        &[With(FIRST, 40, "ffffffff")],
+        Ample(&[With(FIRST, 40, &[0xff, 0xff, 0xff, 0xff])]),
         Fault(BadBytes { segment: 0, at: 24 }),
     ),
-    Row(&[Whole(FIRST), Whole(THIRD_NEWER)], Fault(Gap)),
-    Row(&[Whole(FIRST), With(THIRD_OLDER, 16, "05")], Fault(Mixed)),
+    Row(Ample(&[Whole(FIRST), Whole(THIRD_NEWER)]), Fault(Gap)),
     Row(
-        &[Whole(FIRST), With(THIRD_OLDER, 57, "00")],
+        Ample(&[Whole(FIRST), With(THIRD_OLDER, 16, &[0x05])]),
+        Fault(Mixed),
+    ),
+    Row(
+        Ample(&[Whole(FIRST), With(THIRD_OLDER, 57, &[0x00])]),
         Fault(BadLink { page: 1 }),
     ),
-    Row(&[With(FIRST, 53, "03")], Fault(BadLink { page: 3 })),
-    Row(&[With(GREATEST, 45, "02")], Fault(Unlawful { page: 1 })),
     Row(
-        &[With(GREATEST, 45, "ffffffff")],
+        Ample(&[With(FIRST, 53, &[0x03])]),
+        Fault(BadLink { page: 3 }),
+    ),
+    Row(
+        Ample(&[With(GREATEST, 45, &[0x02])]),
+        Fault(Unlawful { page: 1 }),
+    ),
+    Row(
+        Ample(&[With(GREATEST, 45, &[0xff, 0xff, 0xff, 0xff])]),
         Fault(Unlawful { page: 1 }),
     ),
 ];
@@ -116,17 +144,20 @@ const HOSTILE: &[Row] = &[
 /// gaps before no frame, and a wrong link before a page at fault.
 const ORDERED: &[Row] = &[
     Row(
-        &[
+        Ample(&[
             Whole(FIRST),
-            With(THIRD_OLDER, 16, "05"),
-            With(FIRST, 27, "32"),
-        ],
+            With(THIRD_OLDER, 16, &[0x05]),
+            With(FIRST, 27, &[0x32]),
+        ]),
         Fault(BadBytes { segment: 2, at: 24 }),
     ),
-    Row(&[Whole(FIRST), With(THIRD_NEWER, 16, "05")], Fault(Mixed)),
-    Row(&[Cut(FIRST, 24), Cut(THIRD_NEWER, 24)], Fault(Gap)),
     Row(
-        &[With(FIRST, 53, "03"), Cut(THIRD_OLDER, 24)],
+        Ample(&[Whole(FIRST), With(THIRD_NEWER, 16, &[0x05])]),
+        Fault(Mixed),
+    ),
+    Row(Ample(&[Cut(FIRST, 24), Cut(THIRD_NEWER, 24)]), Fault(Gap)),
+    Row(
+        Ample(&[With(FIRST, 53, &[0x03]), Cut(THIRD_OLDER, 24)]),
         Fault(BadLink { page: 3 }),
     ),
 ];
@@ -158,8 +189,44 @@ fn is_fault(cause: RecoverCause, told: &Told) -> bool {
     }
 }
 
-// Whether the boxes are told so; a fault hands all of them back, in order.
-fn is_told(alloc: Global, desk: &mut Desk, boxes: Vec<Box<dyn Segment>>, told: &Told) -> bool {
+/// Live segments of the room that their bytes need, which may be less than that of a spare, and a
+/// spare.
+const SPARES: &[Row] = &[
+    Row(
+        Each(&[(Whole(FIRST), 76, false), (Cut(FIRST, 0), 16_408, false)]),
+        Found(1, 1, 0, 1, 1, 0, KV),
+    ),
+    Row(
+        Each(&[(Whole(FIRST), 76, false), (Cut(FIRST, 0), 16_407, false)]),
+        Fault(BadConfig),
+    ),
+    Row(
+        Each(&[(Cut(FIRST, 24), 24, false), (Cut(FIRST, 0), 16_407, false)]),
+        Fault(Empty),
+    ),
+    Row(
+        Each(&[
+            (With(FIRST, 53, &[0x03]), 76, false),
+            (Cut(FIRST, 0), 16_407, false),
+        ]),
+        Fault(BadConfig),
+    ),
+];
+
+const AGAIN: &[Kept] = &[
+    (Whole(THIRD_OLDER), AMPLE, false),
+    (Whole(THIRD_NEWER), AMPLE, true),
+];
+
+/// Each read of the newer box fails, and counts.
+const FAILING: &[Row] = &[
+    Row(Again(0), Found(2, 4, 0, 2, 0, 0, JK)),
+    Row(Again(1), Found(2, 4, 0, 2, 0, 0, JK)),
+];
+
+// Whether the boxes of a yard are told so; a fault hands all of them back, in order.
+fn is_told(alloc: Global, full: Yard, told: &Told) -> bool {
+    let Yard { mut desk, boxes } = full;
     let count = boxes.len();
     match recover(alloc, boxes) {
         Ok(found) => {
@@ -173,18 +240,45 @@ fn is_told(alloc: Global, desk: &mut Desk, boxes: Vec<Box<dyn Segment>>, told: &
     }
 }
 
-fn goes(alloc: Global, row: &Row) -> Result<bool, Fail> {
-    let mut desk = Desk::new(alloc, 8)?;
-    let mut boxes: Vec<Box<dyn Segment>> = Vec::new(alloc);
-    let Row(pieces, told) = row;
-    add_all(alloc, &mut desk, pieces, &mut boxes)?;
-    Ok(is_told(alloc, &mut desk, boxes, told))
+// The same boxes behind a recovery that the second of them failed.
+fn failed(alloc: Global, full: Yard) -> Result<Yard, Fail> {
+    let Yard { desk, boxes } = full;
+    match recover(alloc, boxes) {
+        Ok(_) => Err(Fail::from("no fault")),
+        Err(fault) => {
+            if fault.cause != (RecoverCause::Device { lease: 1 }) {
+                return Err(Fail::from("another fault"));
+            }
+            Ok(Yard {
+                desk,
+                boxes: fault.boxes,
+            })
+        }
+    }
+}
+
+// A box of another desk, then 4,096 of this one.
+fn too_many(alloc: Global) -> Result<Yard, Fail> {
+    let mut full = empty_yard(alloc, 1)?;
+    add_box(alloc, &mut full, b"X", 1, NEVER)?;
+    full.desk = Desk::new(alloc, 4_096)?;
+    add_boxes(alloc, &mut full, 4_096, b"X", 1)?;
+    Ok(full)
+}
+
+fn made(alloc: Global, boxes: &Boxes) -> Result<Yard, Fail> {
+    match boxes {
+        Ample(pieces) => boxes_of(alloc, *pieces),
+        Each(all) => boxes_with(alloc, NEVER, *all),
+        Again(calls) => failed(alloc, boxes_with(alloc, (*calls, 0), AGAIN)?),
+        Many => too_many(alloc),
+    }
 }
 
 // The first row that did not go as told.
 fn wrong_row(alloc: Global, rows: &[Row]) -> Result<Option<usize>, Fail> {
-    for (i, row) in rows.iter().enumerate() {
-        if !goes(alloc, row)? {
+    for (i, Row(boxes, told)) in rows.iter().enumerate() {
+        if !is_told(alloc, made(alloc, boxes)?, told) {
             return Ok(Some(i));
         }
     }
@@ -201,110 +295,19 @@ fn first_wrong(alloc: Global, tables: &[&[Row]]) -> Result<Option<(usize, usize)
     Ok(None)
 }
 
-#[test]
-fn worked_boxes_are_told(rt: HostRuntime) -> Result<(), Fail> {
-    assert_eq!(rt; first_wrong(rt.alloc(), &[WORKED, HOSTILE, ORDERED])?, None);
-    Ok(())
-}
-
-// A box with just the room for its bytes: a live segment may have less room than a spare.
-fn add_full(
-    alloc: Global,
-    desk: &mut Desk,
-    piece: &Piece,
-    boxes: &mut Vec<Box<dyn Segment>>,
-) -> Result<(), Fail> {
-    let bytes = bytes_of(alloc, piece)?;
-    add_box(alloc, desk, &bytes, bytes.len() as u64, 99, 0, boxes)
-}
-
-// One box with the first vector, and a spare of this room.
-fn with_spare(alloc: Global, piece: &Piece, room: u64, told: &Told) -> Result<bool, Fail> {
-    let mut desk = Desk::new(alloc, 8)?;
-    let mut boxes: Vec<Box<dyn Segment>> = Vec::new(alloc);
-    add_full(alloc, &mut desk, piece, &mut boxes)?;
-    add_box(alloc, &mut desk, &[], room, 99, 0, &mut boxes)?;
-    Ok(is_told(alloc, &mut desk, boxes, told))
-}
-
-const SPARES: &[(Piece, u64, Told)] = &[
-    (Whole(FIRST), 16_408, Found(1, 1, 0, 1, 1, 0, KV)),
-    (Whole(FIRST), 16_407, Fault(BadConfig)),
-    (Cut(FIRST, 24), 16_407, Fault(Empty)),
-    (With(FIRST, 53, "03"), 16_407, Fault(BadConfig)),
+const TABLES: &[&[Row]] = &[
+    WORKED,
+    HOSTILE,
+    ORDERED,
+    // A small spare is refused behind no frame and before links.
+    SPARES,
+    FAILING,
+    // Too many boxes are refused before any byte.
+    &[Row(Many, Fault(BadConfig))],
 ];
 
 #[test]
-fn a_small_spare_is_refused_behind_no_frame_and_before_links(rt: HostRuntime) -> Result<(), Fail> {
-    for (piece, room, told) in SPARES {
-        assert!(rt; with_spare(rt.alloc(), piece, *room, told)?);
-    }
-    Ok(())
-}
-
-// The older box of the third vector, and the newer one, whose call of this number fails.
-fn add_failing(
-    alloc: Global,
-    desk: &mut Desk,
-    calls: u64,
-    boxes: &mut Vec<Box<dyn Segment>>,
-) -> Result<(), Fail> {
-    add_all(alloc, desk, &[Whole(THIRD_OLDER)], boxes)?;
-    let newer = bytes_of(alloc, &Whole(THIRD_NEWER))?;
-    add_box(alloc, desk, &newer, 65_560, calls, 0, boxes)
-}
-
-// The question whose answer is otherwise than told, or 0.
-fn failing(alloc: Global, calls: u64) -> Result<u8, Fail> {
-    let mut desk = Desk::new(alloc, 8)?;
-    let mut boxes: Vec<Box<dyn Segment>> = Vec::new(alloc);
-    add_failing(alloc, &mut desk, calls, &mut boxes)?;
-    let Err(fault) = recover(alloc, boxes) else {
-        return Ok(1);
-    };
-    if fault.cause != (RecoverCause::Device { lease: 1 }) {
-        return Ok(2);
-    }
-    if !is_told(alloc, &mut desk, fault.boxes, &Found(2, 4, 0, 2, 0, 0, JK)) {
-        return Ok(3);
-    }
-    Ok(0)
-}
-
-#[test]
-fn a_failed_read_counts_and_the_same_boxes_are_recovered_after_it(
-    rt: HostRuntime,
-) -> Result<(), Fail> {
-    let alloc = rt.alloc();
-    assert_eq!(rt; failing(alloc, 0)?, 0);
-    assert_eq!(rt; failing(alloc, 1)?, 0);
-    Ok(())
-}
-
-// So many boxes of a bad byte each.
-fn add_bad(
-    alloc: Global,
-    desk: &mut Desk,
-    many: u32,
-    boxes: &mut Vec<Box<dyn Segment>>,
-) -> Result<(), Fail> {
-    for _ in 0..many {
-        add_box(alloc, desk, b"X", 1, 99, 0, boxes)?;
-    }
-    Ok(())
-}
-
-// 4,097 of them, the last one of another desk.
-fn too_many(alloc: Global) -> Result<bool, Fail> {
-    let mut desk = Desk::new(alloc, 4_096)?;
-    let mut boxes: Vec<Box<dyn Segment>> = Vec::new(alloc);
-    add_bad(alloc, &mut desk, 4_096, &mut boxes)?;
-    add_bad(alloc, &mut Desk::new(alloc, 1)?, 1, &mut boxes)?;
-    Ok(is_told(alloc, &mut desk, boxes, &Fault(BadConfig)))
-}
-
-#[test]
-fn too_many_boxes_are_refused_before_any_byte(rt: HostRuntime) -> Result<(), Fail> {
-    assert!(rt; too_many(rt.alloc())?);
+fn worked_boxes_are_told(rt: HostRuntime) -> Result<(), Fail> {
+    all_went(&rt, first_wrong(rt.alloc(), TABLES)?);
     Ok(())
 }

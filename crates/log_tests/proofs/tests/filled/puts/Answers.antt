@@ -6,7 +6,7 @@ pub loop-init : goal.loop-init
 loop-init c = c.new-ops.ensures.items
 
 pub loop-preserved : goal.loop-preserved
-loop-preserved c = one_more _ _ _ _ _ c.loop.invariant c.in_ok-new.ensures.ok c.in_ok-new-2.ensures.ok c.in_ok-push.ensures.items
+loop-preserved c = one_more _ _ _ _ c.loop.invariant c.in_ok-put_at_k.ensures c.in_ok-push.ensures.items
 
 pub returns : goal.returns
-returns c = c.of.ensures ∙ last_one _ _ _ _ _ c.loop.invariant (omega arith) c.in_ok-new-3.ensures.ok c.in_ok-new-4.ensures.ok c.in_ok-push-2.ensures.items
+returns c = c.of.ensures ∙ last_one _ _ _ _ c.loop.invariant (omega arith) c.in_ok-put_at_k-2.ensures c.in_ok-push-2.ensures.items
