@@ -2,97 +2,104 @@
 
 use bw_device::{Desk, FuseSegment, MemSegment, Segment};
 use std::alloc::Global;
-use std::test::Fail;
 
 /// The least capacity of a box for frames of 16,384 bytes.
 pub(super) const LEAST: u64 = 16408;
 
-/// So many boxes.
-pub(super) fn fill(
+/// Where boxes of one capacity come from.
+#[derive(Drop)]
+pub(super) struct Maker {
     alloc: Global,
-    desk: &mut Desk,
-    many: u32,
+    desk: Desk,
     capacity: u64,
-    boxes: &mut Vec<Box<dyn Segment>>,
-) -> Result<(), Fail> {
-    for _ in 0..many {
-        let segment = MemSegment::new(alloc, desk.take()?, capacity)?;
-        boxes.push(Box::new(alloc, segment)?)?;
+}
+
+pub(super) fn maker_of(alloc: Global, capacity: u64) -> Option<Maker> {
+    Some(Maker {
+        alloc,
+        desk: Desk::new(alloc, 128).ok()?,
+        capacity,
+    })
+}
+
+impl Maker {
+    /// A box more, with these bytes.
+    fn push(&mut self, bytes: &[u8], boxes: &mut Vec<Box<dyn Segment>>) -> Option<()> {
+        let lease = self.desk.take().ok()?;
+        let segment = MemSegment::with_bytes(self.alloc, lease, self.capacity, bytes).ok()?;
+        boxes.push(Box::new(self.alloc, segment).ok()?).ok()
     }
-    Ok(())
-}
 
-/// A row of so many boxes.
-pub(super) fn filled(
-    alloc: Global,
-    desk: &mut Desk,
-    many: u32,
-    capacity: u64,
-) -> Result<Vec<Box<dyn Segment>>, Fail> {
-    let mut boxes: Vec<Box<dyn Segment>> = Vec::new(alloc);
-    fill(alloc, desk, many, capacity, &mut boxes)?;
-    Ok(boxes)
-}
+    /// A box more, with the bytes of a text in hex.
+    pub(super) fn push_hex(
+        &mut self,
+        text: &'static str,
+        boxes: &mut Vec<Box<dyn Segment>>,
+    ) -> Option<()> {
+        let bytes = hex::decode(self.alloc, text).ok()?;
+        self.push(&bytes, boxes)
+    }
 
-/// A row of so many of the least capacity, of a desk of their own.
-pub(super) fn boxes_of(alloc: Global, many: u32) -> Result<Vec<Box<dyn Segment>>, Fail> {
-    let mut desk = Desk::new(alloc, many)?;
-    filled(alloc, &mut desk, many, LEAST)
-}
+    /// So many boxes more.
+    pub(super) fn fill(&mut self, many: u32, boxes: &mut Vec<Box<dyn Segment>>) -> Option<()> {
+        for _ in 0..many {
+            self.push(&[], boxes)?;
+        }
+        Some(())
+    }
 
-// A segment that fails once, after so many calls.
-fn fused(
-    alloc: Global,
-    desk: &mut Desk,
-    calls: u64,
-    keep: u64,
-    capacity: u64,
-) -> Result<FuseSegment, Fail> {
-    let inner = MemSegment::new(alloc, desk.take()?, capacity)?;
-    Ok(FuseSegment::new(inner, calls, keep))
-}
-
-// A box that fails once, after so many calls.
-fn fuse(
-    alloc: Global,
-    desk: &mut Desk,
-    calls: u64,
-    keep: u64,
-    capacity: u64,
-    boxes: &mut Vec<Box<dyn Segment>>,
-) -> Result<(), Fail> {
-    let segment = fused(alloc, desk, calls, keep, capacity)?;
-    boxes.push(Box::new(alloc, segment)?)?;
-    Ok(())
-}
-
-/// So many boxes, one that fails once, after so many calls, and so many more.
-pub(super) fn row_with_fuse(
-    alloc: Global,
-    desk: &mut Desk,
-    many: (u32, u32),
-    calls: u64,
-    keep: u64,
-    capacity: u64,
-) -> Result<Vec<Box<dyn Segment>>, Fail> {
-    let mut boxes = filled(alloc, desk, many.0, capacity)?;
-    fuse(alloc, desk, calls, keep, capacity, &mut boxes)?;
-    fill(alloc, desk, many.1, capacity, &mut boxes)?;
-    Ok(boxes)
+    // A box that fails once, after so many calls, and keeps so many bytes of an append.
+    fn fuse(&mut self, fuse: (u64, u64), boxes: &mut Vec<Box<dyn Segment>>) -> Option<()> {
+        let lease = self.desk.take().ok()?;
+        let inner = MemSegment::new(self.alloc, lease, self.capacity).ok()?;
+        let segment = FuseSegment::new(inner, fuse.0, fuse.1);
+        boxes.push(Box::new(self.alloc, segment).ok()?).ok()
+    }
 }
 
 /// The boxes that a store is opened over, and those that there are more.
-pub(super) type Supply = (Vec<Box<dyn Segment>>, Vec<Box<dyn Segment>>);
+#[derive(Drop)]
+pub(super) struct Supply {
+    pub(super) boxes: Vec<Box<dyn Segment>>,
+    pub(super) more: Vec<Box<dyn Segment>>,
+}
 
-/// So many boxes of each, of one desk with so many leases.
-pub(super) fn supply(
-    alloc: Global,
-    leases: u32,
-    many: (u32, u32),
-    capacity: u64,
-) -> Result<Supply, Fail> {
-    let mut desk = Desk::new(alloc, leases)?;
-    let boxes = filled(alloc, &mut desk, many.0, capacity)?;
-    let more = filled(alloc, &mut desk, many.1, capacity)?;
-    Ok((boxes, more))
+/// Which boxes there are, each of this capacity.
+#[derive(Clone, Copy)]
+pub(super) struct Row {
+    pub(super) boxes: u32,
+    /// Behind them one that fails once, after so many calls, and keeps so many bytes of an append.
+    pub(super) fuse: Option<(u64, u64)>,
+    /// So many behind that one.
+    pub(super) behind: u32,
+    /// So many more.
+    pub(super) more: u32,
+    pub(super) capacity: u64,
+}
+
+/// So many boxes of the least capacity, and so many more.
+pub(super) fn plain(boxes: u32, more: u32) -> Row {
+    Row {
+        boxes,
+        fuse: None,
+        behind: 0,
+        more,
+        capacity: LEAST,
+    }
+}
+
+/// The boxes of a row, of one desk.
+pub(super) fn supplied(alloc: Global, row: &Row) -> Option<Supply> {
+    let mut maker = maker_of(alloc, row.capacity)?;
+    let mut supply = Supply {
+        boxes: Vec::new(alloc),
+        more: Vec::new(alloc),
+    };
+    maker.fill(row.boxes, &mut supply.boxes)?;
+    if let Some(fuse) = row.fuse {
+        maker.fuse(fuse, &mut supply.boxes)?;
+    }
+    maker.fill(row.behind, &mut supply.boxes)?;
+    maker.fill(row.more, &mut supply.more)?;
+    Some(supply)
 }

@@ -5,11 +5,10 @@ use super::steps::Step::{
     Add, Bytes, Clean, Cuts, Flush, Get, History, Live, Page, Put, Refused, Roll, Settle, Stands,
     Turn, Uncleaned,
 };
-use super::telling::comes_to;
+use super::telling::all_went;
 use super::vectors::{THIRD_NEWER, THIRD_OLDER};
-use super::walking::{Stand, first_wrong, over_fuses};
+use super::walking::{Stand, first_wrong};
 use bw_store::StoreFault;
-use std::test::Fail;
 
 /// A cleaning that writes a page again, then one with nothing to write, then none.
 const THREE_SEGMENTS: &[Step] = &[
@@ -114,12 +113,14 @@ const TABLES: &[(Stand, &[Step])] = &[
 ];
 
 #[test]
-fn the_oldest_segment_is_given_up(rt: HostRuntime) -> Result<(), Fail> {
-    comes_to(&rt, first_wrong(&rt, TABLES), None)
+fn the_oldest_segment_is_given_up(rt: HostRuntime) {
+    all_went(&rt, first_wrong(&rt, TABLES));
 }
 
+/// A header, a frame and the read of a page pass; the cleaner's frame has 36 bytes.
+const FAILS: &[(Stand, &[Step])] = &[(Stand::Fuse(1, 3, (0, 36)), FAILED)];
+
 #[test]
-fn a_failed_append_of_the_cleaner_drops_no_box(rt: HostRuntime) -> Result<(), Fail> {
-    // A header, a frame and the read of a page pass; the cleaner's frame has 36 bytes.
-    comes_to(&rt, over_fuses(&rt, 1, 3, (0, 36), FAILED), None)
+fn a_failed_append_of_the_cleaner_drops_no_box(rt: HostRuntime) {
+    all_went(&rt, first_wrong(&rt, FAILS));
 }

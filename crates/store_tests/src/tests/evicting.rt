@@ -4,11 +4,10 @@ use super::steps::Step;
 use super::steps::Step::{
     Clean, Del, Evict, Flush, Get, Page, Put, Roll, Settle, Stands, Stops, Turn, Unread,
 };
-use super::telling::comes_to;
+use super::telling::all_went;
 use super::vectors::FIRST_BYTES;
 use super::walking::{Stand, first_wrong};
 use bw_store::StoreFault;
-use std::test::Fail;
 
 /// A page that no frame has yet stays. One that left is read from its segment, which fails once,
 /// and stays away.
@@ -119,8 +118,8 @@ const OPENED_AGAIN: &[Step] = &[
 ];
 
 const TABLES: &[(Stand, &[Step])] = &[
-    (Stand::Fuse(0, 2, 0), READ_AGAIN),
-    (Stand::Fuse(0, 2, 0), TURNED_AGAIN),
+    (Stand::Fuse(0, 2, (0, 0)), READ_AGAIN),
+    (Stand::Fuse(0, 2, (0, 0)), TURNED_AGAIN),
     (Stand::Boxes(4, 8), UNFLUSHED),
     (Stand::Boxes(4, 8), CUT),
     (Stand::Boxes(4, 8), CLEANED),
@@ -128,6 +127,6 @@ const TABLES: &[(Stand, &[Step])] = &[
 ];
 
 #[test]
-fn pages_that_left_memory_are_read_from_their_segments(rt: HostRuntime) -> Result<(), Fail> {
-    comes_to(&rt, first_wrong(&rt, TABLES), None)
+fn pages_that_left_memory_are_read_from_their_segments(rt: HostRuntime) {
+    all_went(&rt, first_wrong(&rt, TABLES));
 }

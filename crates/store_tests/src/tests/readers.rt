@@ -1,17 +1,15 @@
 //! Readers beside a store: what is published is what was flushed.
 
-ghost use Rattle.bw_store.specs.Views.{IsSound};
+ghost use Rattle.bw_store.specs.Views.{IsSound, IsSoundBeside};
 
-use super::boxes::boxes_of;
-use super::opening::{config_of, opened};
+use super::boxes::{plain, supplied};
+use super::opening::{Held, config_of, opened, shut};
 use super::putting::{is_put, record};
-use super::telling::comes_to;
+use super::telling::holds;
 use bw_codec::{Key, Value};
-use bw_device::Segment;
 use bw_ring::Feed;
 use bw_store::{NoReader, ReadFault, Reader, Store};
 use std::sync::Wait;
-use std::test::Fail;
 use std::thread;
 use std::thread::Threads;
 
@@ -62,51 +60,30 @@ fn flushes<R: Wait>(rt: &R, store: &mut Store, told: Option<u64>) -> bool
 // A value is taken: a reader sees the old one still, and this one once it is flushed.
 fn is_seen<R: Wait>(
     rt: &R,
-    store: &mut Store,
-    feeds: &mut Vec<Feed>,
+    opened: &mut Held,
     reader: &mut Reader,
     step: (&[u8], &[u8], u64),
 ) -> bool
-    requires { IsSound store.old holding }
-    ensures { IsSound store.new holding }
+    requires { IsSoundBeside opened.old.store holding }
+    ensures { IsSoundBeside opened.new.store holding }
 {
     let (old, new, frame) = step;
-    let before = is_taken(store, feeds, new) & reads(reader, old);
-    let after = flushes(rt, store, Some(frame)) & reads(reader, new);
-    before & after & flushes(rt, store, None)
-}
-
-// Both values are seen as they are flushed, and not before.
-fn are_seen<R: Wait>(rt: &R, store: &mut Store, feeds: &mut Vec<Feed>, reader: &mut Reader) -> bool
-    requires { IsSound store.old holding }
-    ensures { IsSound store.new holding }
-{
-    let first = is_seen(rt, store, feeds, reader, (b"", b"1", 1));
-    let second = is_seen(rt, store, feeds, reader, (b"1", b"2", 2));
-    first & second
-}
-
-// A reader sees what was flushed, and not what was only taken.
-fn sees_flushes<R: Wait>(rt: &R, store: &mut Store, feeds: &mut Vec<Feed>) -> Result<Reader, Fail>
-    requires { IsSound store.old holding }
-    ensures { IsSound store.new holding }
-{
-    let mut reader = store.reader()?;
-    if are_seen(rt, store, feeds, &mut reader) {
-        return Ok(reader);
-    }
-    Err(Fail::from("a reader sees otherwise"))
+    let before = is_taken(&mut opened.store, &mut opened.feeds, new) & reads(reader, old);
+    let after = flushes(rt, &mut opened.store, Some(frame)) & reads(reader, new);
+    before & after & flushes(rt, &mut opened.store, None)
 }
 
 // A reader that learnt the last news reads what they tell.
-fn reads_news<R: Wait>(rt: &R, store: &mut Store) -> Result<bool, Fail>
+fn reads_news<R: Wait>(rt: &R, store: &mut Store) -> bool
     requires { IsSound store.old holding }
     ensures { IsSound store.new holding }
 {
-    let mut reader = store.reader()?;
+    let Ok(mut reader) = store.reader() else {
+        return false;
+    };
     let flushed = store.flush(rt).is_ok();
     reader.learn(store.news());
-    Ok(reads(&mut reader, b"2") & flushed)
+    reads(&mut reader, b"2") & flushed
 }
 
 // One reader more is made, and then none.
@@ -117,38 +94,60 @@ fn has_one_place(store: &mut Store) -> bool
     store.reader().is_ok() && matches!(store.reader(), Err(ReadFault::NoReader))
 }
 
-// A reader sees what was flushed and what the last news tell, and one more has a place beside it.
-fn serves<R: Wait>(rt: &R, store: &mut Store, feeds: &mut Vec<Feed>) -> Result<Reader, Fail>
-    requires { IsSound store.old holding }
-    ensures { IsSound store.new holding }
+// A reader sees what was flushed, and not what was only taken, and what the last news tell; one
+// more has a place beside it.
+fn serves<R: Wait>(rt: &R, opened: &mut Held) -> Option<Reader>
+    requires { IsSoundBeside opened.old.store holding }
+    ensures { IsSoundBeside opened.new.store holding }
 {
-    let reader = sees_flushes(rt, store, feeds)?;
-    let news = reads_news(rt, store)?;
-    let places = has_one_place(store);
-    if news & places {
-        return Ok(reader);
+    let Ok(mut reader) = opened.store.reader() else {
+        return None;
+    };
+    let first = is_seen(rt, opened, &mut reader, (b"", b"1", 1));
+    let second = is_seen(rt, opened, &mut reader, (b"1", b"2", 2));
+    let news = reads_news(rt, &mut opened.store);
+    let places = has_one_place(&mut opened.store);
+    if first & second & news & places {
+        Some(reader)
+    } else {
+        None
     }
-    Err(Fail::from("other news or places"))
 }
 
-// Whether a reader whose store is shut is told so.
-fn is_refused(reader: Result<Reader, Fail>) -> Result<bool, Fail> {
-    let mut reader = reader?;
-    let key = Key::new(b"k")?;
-    Ok(matches!(reader.get(&key), Err(NoReader)))
+// Whether a reader was served and, now that its store is shut, is told so.
+fn is_refused(reader: Option<Reader>) -> bool {
+    let Ok(key) = Key::new(b"k") else {
+        return false;
+    };
+    match reader {
+        Some(mut reader) => matches!(reader.get(&key), Err(NoReader)),
+        None => false,
+    }
+}
+
+// Whether the readers of a store see what they should, in a life of it.
+fn is_served<R: AllocGlobal + Wait>(rt: &R) -> bool {
+    let Some(mut supply) = supplied(rt.alloc(), &plain(8, 0)) else {
+        return false;
+    };
+    let Some(mut opened) = opened(rt, &config_of(1, 8, 3), &mut supply) else {
+        return false;
+    };
+    let reader = serves(rt, &mut opened);
+    let _ = shut(rt, opened, &mut supply);
+    is_refused(reader)
 }
 
 #[test]
-fn a_reader_sees_what_was_flushed(rt: HostRuntime) -> Result<(), Fail> {
-    let boxes = boxes_of(rt.alloc(), 8)?;
-    let (mut store, mut feeds) = opened(&rt, &config_of(1, 8, 3), boxes)?;
-    let reader = serves(&rt, &mut store, &mut feeds);
-    let _ = store.shut(&rt);
-    comes_to(&rt, is_refused(reader), true)
+fn a_reader_sees_what_was_flushed(rt: HostRuntime) {
+    holds(&rt, is_served(&rt));
 }
 
 // How many reads were refused or went back.
-fn read_all(mut reader: Reader, key: Key) -> u32 {
+fn read_all(mut reader: Reader) -> u32 {
+    let Ok(key) = Key::new(b"k") else {
+        return READS;
+    };
     let mut last: Option<Value> = None;
     let mut wrong = 0u32;
     for _ in 0..READS {
@@ -166,44 +165,49 @@ fn read_all(mut reader: Reader, key: Key) -> u32 {
     wrong
 }
 
-// How many of the values were not taken and flushed.
-fn flush_all<R: Wait>(rt: &R, store: &mut Store, feeds: &mut Vec<Feed>) -> u32
-    requires { IsSound store.old holding }
-    ensures { IsSound store.new holding }
+// Whether all the values were taken and flushed.
+fn flush_all<R: Wait>(rt: &R, opened: &mut Held) -> bool
+    requires { IsSoundBeside opened.old.store holding }
+    ensures { IsSoundBeside opened.new.store holding }
 {
-    let mut wrong = 0u32;
+    let mut went = true;
     for value in 0..VALUES {
-        let taken = is_taken(store, feeds, &[value]);
-        let flushed = flushes(rt, store, Some(u64::from(value) + 1));
-        wrong = wrong.saturating_add(u32::from(!taken || !flushed));
+        let taken = is_taken(&mut opened.store, &mut opened.feeds, &[value]);
+        let flushed = flushes(rt, &mut opened.store, Some(u64::from(value) + 1));
+        went &= taken & flushed;
     }
-    wrong
+    went
 }
 
-// How many of the values were not taken and flushed, and how many reads beside it were wrong.
-fn race<R: Threads + Wait>(
-    rt: &R,
-    store: &mut Store,
-    feeds: &mut Vec<Feed>,
-) -> Result<(u32, u32), Fail>
-    requires { IsSound store.old holding }
-    ensures { IsSound store.new holding }
+// Whether all the values were taken and flushed, and no read beside it was wrong.
+fn race<R: Threads + Wait>(rt: &R, opened: &mut Held) -> bool
+    requires { IsSoundBeside opened.old.store holding }
+    ensures { IsSoundBeside opened.new.store holding }
 {
-    let key = Key::new(b"k")?;
-    let reader = store.reader()?;
-    let Ok(child) = thread::spawn(rt, move || read_all(reader, key)) else {
-        return Err(Fail::from("a thread"));
+    let Ok(reader) = opened.store.reader() else {
+        return false;
     };
-    let flushed = flush_all(rt, store, feeds);
-    let wrong = child.join(rt);
-    Ok((flushed, wrong))
+    let Ok(child) = thread::spawn(rt, move || read_all(reader)) else {
+        return false;
+    };
+    let flushed = flush_all(rt, opened);
+    child.join(rt) == 0 && flushed
+}
+
+// The same in a life of a store.
+fn is_raced<R: AllocGlobal + Threads + Wait>(rt: &R) -> bool {
+    let Some(mut supply) = supplied(rt.alloc(), &plain(8, 0)) else {
+        return false;
+    };
+    let Some(mut opened) = opened(rt, &config_of(1, 8, 3), &mut supply) else {
+        return false;
+    };
+    let went = race(rt, &mut opened);
+    let _ = shut(rt, opened, &mut supply);
+    went
 }
 
 #[test]
-fn no_value_goes_back_beside_the_flusher(rt: HostRuntime) -> Result<(), Fail> {
-    let boxes = boxes_of(rt.alloc(), 8)?;
-    let (mut store, mut feeds) = opened(&rt, &config_of(1, 8, 3), boxes)?;
-    let said = race(&rt, &mut store, &mut feeds);
-    let _ = store.shut(&rt);
-    comes_to(&rt, said, (0, 0))
+fn no_value_goes_back_beside_the_flusher(rt: HostRuntime) {
+    holds(&rt, is_raced(&rt));
 }

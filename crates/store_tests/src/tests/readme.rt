@@ -4,10 +4,11 @@ ghost use Rattle.std.specs.Prelude.{◌≡◌, map};
 ghost use Rattle.bw_ring.specs.Ends.{ring_of_feed};
 ghost use Rattle.bw_store.specs.Views.{kept_by, IsSound};
 
-use super::boxes::{LEAST, fill};
+use super::boxes::{Supply, plain, supplied};
+use super::telling::holds;
 use super::threads::OfOneRing;
 use bw_codec::{Key, Record, Value};
-use bw_device::{Desk, Segment};
+use bw_device::Segment;
 use bw_ring::Feed;
 use bw_store::{Config, Store};
 use std::snapshot::Snapshot;
@@ -49,9 +50,9 @@ fn example<R: Threads + Wait>(
 // The same over a new store of one writer.
 fn is_there<R: AllocGlobal + Threads + Wait>(rt: &R) -> Result<Option<Value>, Fail> {
     let alloc = rt.alloc();
-    let mut desk = Desk::new(alloc, 2)?;
-    let mut boxes: Vec<Box<dyn Segment>> = Vec::new(alloc);
-    fill(alloc, &mut desk, 2, LEAST, &mut boxes)?;
+    let Some(Supply { boxes, more: _more }) = supplied(alloc, &plain(2, 0)) else {
+        return Ok(None);
+    };
     let config = Config {
         writers: 1,
         places: 8,
@@ -69,7 +70,10 @@ fn is_there<R: AllocGlobal + Threads + Wait>(rt: &R) -> Result<Option<Value>, Fa
 
 #[test]
 fn the_example_of_readme_reads_its_value(rt: HostRuntime) -> Result<(), Fail> {
-    let value = is_there(&rt)?;
-    assert!(rt; value == Some(Value::new(b"v")?));
+    let read = match is_there(&rt)? {
+        Some(value) => value.as_slice() == b"v".as_slice(),
+        None => false,
+    };
+    holds(&rt, read);
     Ok(())
 }

@@ -4,11 +4,10 @@ use super::steps::Step;
 use super::steps::Step::{
     Bytes, Clean, Cuts, Flush, Get, History, Live, Page, Put, Refused, Roll, Settle, Stands,
 };
-use super::telling::comes_to;
+use super::telling::all_went;
 use super::vectors::{FIRST_BYTES, GREATEST, THIRD_NEWER, THIRD_OLDER};
 use super::walking::{Stand, first_wrong};
 use bw_store::StoreFault;
-use std::test::Fail;
 
 /// After the first worked segment: frame 2 in a segment of its own has the bytes of the third.
 const AFTER_THE_FIRST: &[Step] = &[
@@ -49,6 +48,6 @@ const TABLES: &[(Stand, &[Step])] = &[
 ];
 
 #[test]
-fn a_store_goes_on_from_worked_segments(rt: HostRuntime) -> Result<(), Fail> {
-    comes_to(&rt, first_wrong(&rt, TABLES), None)
+fn a_store_goes_on_from_worked_segments(rt: HostRuntime) {
+    all_went(&rt, first_wrong(&rt, TABLES));
 }

@@ -5,10 +5,9 @@ use super::steps::Step::{
     Add, Cuts, Del, Flush, Full, Get, History, Page, Put, Puts, Reads, Settle, Stands, Stops, Turn,
     Unsettled,
 };
-use super::telling::comes_to;
+use super::telling::all_went;
 use super::walking::{Stand, first_wrong};
 use bw_store::StoreFault;
-use std::test::Fail;
 
 /// Rings of two places.
 const TWO_PLACES: &[Step] = &[
@@ -104,18 +103,18 @@ const SETTLED: &[(Stand, &[Step])] = &[
 ];
 
 #[test]
-fn all_that_was_accepted_is_settled(rt: HostRuntime) -> Result<(), Fail> {
-    comes_to(&rt, first_wrong(&rt, SETTLED), None)
+fn all_that_was_accepted_is_settled(rt: HostRuntime) {
+    all_went(&rt, first_wrong(&rt, SETTLED));
 }
 
 /// The append of the header fails, or that of the frame.
 const REFUSED: &[(Stand, &[Step])] = &[
     (Stand::Boxes(1, 8), NO_SPARE),
-    (Stand::Fuse(0, 0, 10), FAILED),
-    (Stand::Fuse(0, 1, 10), FAILED),
+    (Stand::Fuse(0, 0, (10, 10)), FAILED),
+    (Stand::Fuse(0, 1, (10, 10)), FAILED),
 ];
 
 #[test]
-fn a_refused_settle_keeps_what_it_took(rt: HostRuntime) -> Result<(), Fail> {
-    comes_to(&rt, first_wrong(&rt, REFUSED), None)
+fn a_refused_settle_keeps_what_it_took(rt: HostRuntime) {
+    all_went(&rt, first_wrong(&rt, REFUSED));
 }

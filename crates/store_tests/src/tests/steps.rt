@@ -6,6 +6,7 @@ ghost use Rattle.bw_store.specs.Views.{kept_by, kept_beside, IsSound, IsSoundBes
 ghost use Rattle.bw_store.specs.Following.{Follows};
 
 use super::asking::{are_bytes, has, is_history, is_page, is_unread};
+use super::opening::Held;
 use super::putting::{are_put, is_put, record};
 use super::reading::reads;
 use bw_device::Segment;
@@ -184,27 +185,22 @@ fn changes<R: Wait>(rt: &R, store: &mut Store, step: &Step) -> bool
 }
 
 /// Whether the step goes as told.
-pub(super) fn goes<R: Wait>(
-    rt: &R,
-    alloc: Global,
-    store: &mut Store,
-    feeds: &mut Vec<Feed>,
-    more: &mut Vec<Box<dyn Segment>>,
-    step: &Step,
-) -> bool
-    requires sound { IsSoundBeside store.old holding }
-    requires feeds { map ring_of_feed feeds.old.items ≡ (kept_beside store.old holding).rings }
-    ensures sound { IsSoundBeside store.new holding }
-    ensures feeds { map ring_of_feed feeds.new.items ≡ (kept_beside store.new holding).rings }
+pub(super) fn goes<R: Wait>(rt: &R, alloc: Global, opened: &mut Held, step: &Step) -> bool
+    requires sound { IsSoundBeside opened.old.store holding }
+    requires feeds { map ring_of_feed opened.old.feeds.items
+        ≡ (kept_beside opened.old.store holding).rings }
+    ensures sound { IsSoundBeside opened.new.store holding }
+    ensures feeds { map ring_of_feed opened.new.feeds.items
+        ≡ (kept_beside opened.new.store holding).rings }
 {
     match step {
-        Put(..) | Del(..) | Full(..) | Puts(..) => puts(feeds, step),
+        Put(..) | Del(..) | Full(..) | Puts(..) => puts(&mut opened.feeds, step),
         Turn(..) | Stops(..) | Flush(..) | Refused(..) | Clean(..) | Uncleaned(..) | Roll => {
-            changes(rt, store, step)
+            changes(rt, &mut opened.store, step)
         }
-        Settle(count) => store.settle(rt, feeds) == Ok(*count),
-        Unsettled(fault) => store.settle(rt, feeds) == Err(*fault),
-        Add => is_added(store, more),
-        _ => answers(alloc, store, step),
+        Settle(count) => opened.store.settle(rt, &mut opened.feeds) == Ok(*count),
+        Unsettled(fault) => opened.store.settle(rt, &mut opened.feeds) == Err(*fault),
+        Add => is_added(&mut opened.store, &mut opened.more),
+        _ => answers(alloc, &mut opened.store, step),
     }
 }

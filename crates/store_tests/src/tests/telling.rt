@@ -1,15 +1,18 @@
-//! What a walk came to, against what is told.
+//! How a walk went is told.
 
-use std::fmt::Debug;
 use std::process::Abort;
-use std::test::Fail;
 
-/// The walk came to what is told.
-pub(super) fn comes_to<T: Debug + PartialEq + Drop>(
-    rt: &impl Abort,
-    found: Result<T, Fail>,
-    told: T,
-) -> Result<(), Fail> {
-    assert_eq!(rt; found?, told);
-    Ok(())
+/// All tables went as told; a failure tells the first that did not, and its step.
+pub(super) fn all_went(rt: &impl Abort, wrong: Option<(usize, usize)>) {
+    assert_eq!(rt; wrong, None);
+}
+
+/// All steps went as told; a failure tells the first that did not.
+pub(super) fn went(rt: &impl Abort, wrong: Option<usize>) {
+    assert_eq!(rt; wrong, None);
+}
+
+/// This holds.
+pub(super) fn holds(rt: &impl Abort, said: bool) {
+    assert!(rt; said);
 }

@@ -1,19 +1,18 @@
 //! Writers in threads of their own, while the store turns.
 
-ghost use Rattle.std.specs.Prelude.{◌≡◌, ◌++◌, ◌∷◌, [], map, IfOk, OnOk};
+ghost use Rattle.std.specs.Prelude.{◌≡◌, ◌++◌, ◌∷◌, [], map, IfSome};
 ghost use Rattle.bw_ring.specs.Ends.{ring_of_feed};
-ghost use Rattle.bw_store.specs.Views.{kept_by, IsSound};
+ghost use Rattle.bw_store.specs.Views.{kept_by, kept_beside, IsSound, IsSoundBeside};
 ghost use Rattle.bw_store.specs.Following.{Follows};
 
-use super::boxes::boxes_of;
-use super::opening::{config_of, opened};
+use super::boxes::{plain, supplied};
+use super::opening::{Held, config_of, opened, shut};
 use super::putting::numbered;
-use bw_device::Segment;
+use super::telling::holds;
 use bw_ring::Feed;
 use bw_store::{Entry, Store};
 use std::snapshot::Snapshot;
 use std::sync::Wait;
-use std::test::Fail;
 use std::thread;
 use std::thread::{Promise, PromisedHandle, Threads};
 
@@ -57,15 +56,14 @@ fn put_script(feed: Feed, letter: u8) -> Feed
     feed
 }
 
-fn start<R: Threads>(
-    rt: &R,
-    feed: Feed,
-    letter: u8,
-) -> Result<PromisedHandle<Feed, OfOneRing>, Fail>
-    ensures { IfOk result (λ h. ring_of_feed h.promise.0.value ≡ ring_of_feed feed) }
+fn start<R: Threads>(rt: &R, feed: Feed, letter: u8) -> Option<PromisedHandle<Feed, OfOneRing>>
+    ensures { IfSome result (λ h. ring_of_feed h.promise.0.value ≡ ring_of_feed feed) }
 {
     let promise = OfOneRing(Snapshot::of(&feed));
-    Ok(thread::spawn_with(rt, promise, move || { put_script(feed, letter) })?)
+    match thread::spawn_with(rt, promise, move || { put_script(feed, letter) }) {
+        Ok(writer) => Some(writer),
+        Err(_) => None,
+    }
 }
 
 // The last feed goes to a thread.
@@ -73,14 +71,14 @@ fn leaves<R: Threads>(
     rt: &R,
     feeds: &mut Vec<Feed>,
     letter: u8,
-) -> Result<PromisedHandle<Feed, OfOneRing>, Fail>
-    ensures { IfOk result (λ h. map ring_of_feed feeds.old.items
+) -> Option<PromisedHandle<Feed, OfOneRing>>
+    ensures { IfSome result (λ h. map ring_of_feed feeds.old.items
         ≡ map ring_of_feed feeds.new.items ++ ring_of_feed h.promise.0.value ∷ []) }
 {
-    let Some(feed) = feeds.pop() else {
-        return Err(Fail::from("no feed"));
-    };
-    start(rt, feed, letter)
+    match feeds.pop() {
+        Some(feed) => start(rt, feed, letter),
+        None => None,
+    }
 }
 
 // A feed comes back, as the last.
@@ -88,29 +86,30 @@ fn returns<R: Threads>(
     rt: &R,
     feeds: &mut Vec<Feed>,
     writer: PromisedHandle<Feed, OfOneRing>,
-) -> Result<(), Fail>
-    ensures { OnOk result (map ring_of_feed feeds.new.items
+) -> Option<()>
+    ensures { IfSome result (λ _. map ring_of_feed feeds.new.items
         ≡ map ring_of_feed feeds.old.items ++ ring_of_feed writer.promise.0.value ∷ []) }
 {
-    let feed = writer.join(rt);
-    feeds.push(feed)?;
-    Ok(())
+    match feeds.push(writer.join(rt)) {
+        Ok(()) => Some(()),
+        Err(_) => None,
+    }
 }
 
 // The last two feeds go to threads of their own, the last one first.
-fn two_leave<R: Threads>(rt: &R, feeds: &mut Vec<Feed>, letters: (u8, u8)) -> Result<Pair, Fail>
-    ensures { IfOk result (λ h. map ring_of_feed feeds.old.items
+fn two_leave<R: Threads>(rt: &R, feeds: &mut Vec<Feed>, letters: (u8, u8)) -> Option<Pair>
+    ensures { IfSome result (λ h. map ring_of_feed feeds.old.items
         ≡ (map ring_of_feed feeds.new.items ++ ring_of_feed h.1.promise.0.value ∷ [])
         ++ ring_of_feed h.0.promise.0.value ∷ []) }
 {
     let last = leaves(rt, feeds, letters.0)?;
     let before = leaves(rt, feeds, letters.1)?;
-    Ok((last, before))
+    Some((last, before))
 }
 
 // They come back, in the order in which they were.
-fn two_return<R: Threads>(rt: &R, feeds: &mut Vec<Feed>, pair: Pair) -> Result<(), Fail>
-    ensures { OnOk result (map ring_of_feed feeds.new.items
+fn two_return<R: Threads>(rt: &R, feeds: &mut Vec<Feed>, pair: Pair) -> Option<()>
+    ensures { IfSome result (λ _. map ring_of_feed feeds.new.items
         ≡ (map ring_of_feed feeds.old.items ++ ring_of_feed pair.1.promise.0.value ∷ [])
         ++ ring_of_feed pair.0.promise.0.value ∷ []) }
 {
@@ -173,29 +172,41 @@ fn are_scripts(entries: &[Entry]) -> bool {
 }
 
 // Whether all that four writers put meanwhile is settled, each writer's records in order.
-fn are_settled<R: Threads + Wait>(
-    rt: &R,
-    store: &mut Store,
-    feeds: &mut Vec<Feed>,
-) -> Result<bool, Fail>
-    requires sound { IsSound store.old holding }
-    requires feeds { map ring_of_feed feeds.old.items ≡ (kept_by store.old holding).rings }
-    ensures { IsSound store.new holding }
+fn are_settled<R: Threads + Wait>(rt: &R, opened: &mut Held) -> bool
+    requires sound { IsSoundBeside opened.old.store holding }
+    requires feeds { map ring_of_feed opened.old.feeds.items
+        ≡ (kept_beside opened.old.store holding).rings }
+    ensures { IsSoundBeside opened.new.store holding }
 {
-    let later = two_leave(rt, feeds, (b'd', b'c'))?;
-    let earlier = two_leave(rt, feeds, (b'b', b'a'))?;
-    take_meanwhile(store);
-    two_return(rt, feeds, earlier)?;
-    two_return(rt, feeds, later)?;
-    Ok(store.settle(rt, feeds) == Ok(4000) && are_scripts(store.history()))
+    let Some(later) = two_leave(rt, &mut opened.feeds, (b'd', b'c')) else {
+        return false;
+    };
+    let Some(earlier) = two_leave(rt, &mut opened.feeds, (b'b', b'a')) else {
+        return false;
+    };
+    take_meanwhile(&mut opened.store);
+    let Some(()) = two_return(rt, &mut opened.feeds, earlier) else {
+        return false;
+    };
+    let Some(()) = two_return(rt, &mut opened.feeds, later) else {
+        return false;
+    };
+    opened.store.settle(rt, &mut opened.feeds) == Ok(4000) && are_scripts(opened.store.history())
+}
+
+fn go_meanwhile<R: AllocGlobal + Threads + Wait>(rt: &R) -> bool {
+    let Some(mut supply) = supplied(rt.alloc(), &plain(40, 0)) else {
+        return false;
+    };
+    let Some(mut opened) = opened(rt, &config_of(4, 256, 1), &mut supply) else {
+        return false;
+    };
+    let settled = are_settled(rt, &mut opened);
+    let _ = shut(rt, opened, &mut supply);
+    settled
 }
 
 #[test]
-fn four_writers_in_threads_are_settled(rt: HostRuntime) -> Result<(), Fail> {
-    let boxes = boxes_of(rt.alloc(), 40)?;
-    let (mut store, mut feeds) = opened(&rt, &config_of(4, 256, 1), boxes)?;
-    let settled = are_settled(&rt, &mut store, &mut feeds);
-    let _ = store.shut(&rt);
-    assert!(rt; settled?);
-    Ok(())
+fn four_writers_in_threads_are_settled(rt: HostRuntime) {
+    holds(&rt, go_meanwhile(&rt));
 }

@@ -5,11 +5,10 @@ use super::steps::Step::{
     Add, Bytes, Cuts, Flush, Get, History, Live, Page, Put, Refused, Roll, Stands, Stops, Turn,
     Unsettled,
 };
-use super::telling::comes_to;
+use super::telling::all_went;
 use super::vectors::{FIRST_BYTES, SECOND_BYTES};
-use super::walking::{Stand, first_wrong, over_fuses};
+use super::walking::{Stand, first_wrong};
 use bw_store::StoreFault;
-use std::test::Fail;
 
 const FIRST: &[Step] = &[
     Put(0, b"k", b"v"),
@@ -148,16 +147,17 @@ const TABLES: &[(Stand, &[Step])] = &[
 ];
 
 #[test]
-fn turns_and_flushes_go_as_told(rt: HostRuntime) -> Result<(), Fail> {
-    comes_to(&rt, first_wrong(&rt, TABLES), None)
+fn turns_and_flushes_go_as_told(rt: HostRuntime) {
+    all_went(&rt, first_wrong(&rt, TABLES));
 }
 
-#[test]
-fn a_failed_append_of_a_header_ends_the_store(rt: HostRuntime) -> Result<(), Fail> {
-    comes_to(&rt, over_fuses(&rt, 0, 0, (0, 53), FAILED), None)
-}
+/// The append of a header fails, or that of a frame.
+const FAILS: &[(Stand, &[Step])] = &[
+    (Stand::Fuse(0, 0, (0, 53)), FAILED),
+    (Stand::Fuse(0, 1, (0, 53)), FAILED),
+];
 
 #[test]
-fn a_failed_append_of_a_frame_ends_the_store(rt: HostRuntime) -> Result<(), Fail> {
-    comes_to(&rt, over_fuses(&rt, 0, 1, (0, 53), FAILED), None)
+fn a_failed_append_of_a_header_or_a_frame_ends_the_store(rt: HostRuntime) {
+    all_went(&rt, first_wrong(&rt, FAILS));
 }

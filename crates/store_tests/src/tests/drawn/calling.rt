@@ -7,9 +7,8 @@ ghost use Rattle.bw_store.specs.Following.{Follows};
 
 use super::steps::Step::{Flush, Settle, Turn};
 use super::steps::{Script, Step};
+use crate::tests::opening::Held;
 use crate::tests::steps::is_added;
-use bw_device::Segment;
-use bw_ring::Feed;
 use bw_store::{Store, StoreFault};
 use std::sync::Wait;
 
@@ -78,59 +77,52 @@ fn cleans<R: Wait>(rt: &R, store: &mut Store, script: &mut Script) -> Went
     }
 }
 
-fn settles<R: Wait>(rt: &R, store: &mut Store, feeds: &mut Vec<Feed>, script: &mut Script) -> Went
-    requires sound { IsSound store.old holding }
-    requires feeds { map ring_of_feed feeds.old.items ≡ (kept_by store.old holding).rings }
-    ensures sound { IsSound store.new holding }
-    ensures feeds { map ring_of_feed feeds.new.items ≡ (kept_by store.new holding).rings }
+fn settles<R: Wait>(rt: &R, opened: &mut Held, script: &mut Script) -> Went
+    requires sound { IsSoundBeside opened.old.store holding }
+    requires feeds { map ring_of_feed opened.old.feeds.items
+        ≡ (kept_beside opened.old.store holding).rings }
+    ensures sound { IsSoundBeside opened.new.store holding }
+    ensures feeds { map ring_of_feed opened.new.feeds.items
+        ≡ (kept_beside opened.new.store holding).rings }
 {
-    match store.settle(rt, feeds) {
+    match opened.store.settle(rt, &mut opened.feeds) {
         Ok(entries) => as_told(script.model.settle() == entries),
         Err(cause) => wanting(true, cause),
     }
 }
 
-fn calls<R: Wait>(
-    rt: &R,
-    store: &mut Store,
-    feeds: &mut Vec<Feed>,
-    script: &mut Script,
-    step: Step,
-) -> Went
-    requires sound { IsSound store.old holding }
-    requires feeds { map ring_of_feed feeds.old.items ≡ (kept_by store.old holding).rings }
-    ensures sound { IsSound store.new holding }
-    ensures feeds { map ring_of_feed feeds.new.items ≡ (kept_by store.new holding).rings }
+fn calls<R: Wait>(rt: &R, opened: &mut Held, script: &mut Script, step: Step) -> Went
+    requires sound { IsSoundBeside opened.old.store holding }
+    requires feeds { map ring_of_feed opened.old.feeds.items
+        ≡ (kept_beside opened.old.store holding).rings }
+    ensures sound { IsSoundBeside opened.new.store holding }
+    ensures feeds { map ring_of_feed opened.new.feeds.items
+        ≡ (kept_beside opened.new.store holding).rings }
 {
     match step {
-        Turn(limit) => turns(store, script, limit),
-        Flush => flushes(rt, store, script),
-        Settle => settles(rt, store, feeds, script),
-        _ => cleans(rt, store, script),
+        Turn(limit) => turns(&mut opened.store, script, limit),
+        Flush => flushes(rt, &mut opened.store, script),
+        Settle => settles(rt, opened, script),
+        _ => cleans(rt, &mut opened.store, script),
     }
 }
 
 /// Whether the call goes as told, with a segment more each time that it wants one.
-pub(super) fn tries<R: Wait>(
-    rt: &R,
-    store: &mut Store,
-    feeds: &mut Vec<Feed>,
-    more: &mut Vec<Box<dyn Segment>>,
-    script: &mut Script,
-    step: Step,
-) -> bool
-    requires sound { IsSoundBeside store.old holding }
-    requires feeds { map ring_of_feed feeds.old.items ≡ (kept_beside store.old holding).rings }
-    ensures sound { IsSoundBeside store.new holding }
-    ensures feeds { map ring_of_feed feeds.new.items ≡ (kept_beside store.new holding).rings }
+pub(super) fn tries<R: Wait>(rt: &R, opened: &mut Held, script: &mut Script, step: Step) -> bool
+    requires sound { IsSoundBeside opened.old.store holding }
+    requires feeds { map ring_of_feed opened.old.feeds.items
+        ≡ (kept_beside opened.old.store holding).rings }
+    ensures sound { IsSoundBeside opened.new.store holding }
+    ensures feeds { map ring_of_feed opened.new.feeds.items
+        ≡ (kept_beside opened.new.store holding).rings }
 {
     'tries: for _ in 0..100 {
-        match calls(rt, store, feeds, script, step) {
+        match calls(rt, opened, script, step) {
             Went::AsTold => return true,
             Went::Otherwise => return false,
             Went::Wanting => script.refusals = script.refusals.saturating_add(1),
         }
-        if !is_added(store, more) {
+        if !is_added(&mut opened.store, &mut opened.more) {
             return false;
         }
     }

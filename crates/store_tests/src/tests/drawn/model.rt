@@ -2,7 +2,6 @@
 
 use std::alloc::Global;
 use std::collections::{BTreeMap, VecDeque};
-use std::test::Fail;
 
 /// A key with its value from then on; with none, it has no value.
 #[derive(Clone, Copy)]
@@ -26,18 +25,18 @@ pub(super) struct Model {
     waits: bool,
 }
 
-fn rings_of(alloc: Global, writers: u32) -> Result<Vec<VecDeque<Change>>, Fail> {
+fn rings_of(alloc: Global, writers: u32) -> Option<Vec<VecDeque<Change>>> {
     let mut rings = Vec::new(alloc);
     for _ in 0..writers {
-        rings.push(VecDeque::new(alloc))?;
+        rings.push(VecDeque::new(alloc)).ok()?;
     }
-    Ok(rings)
+    Some(rings)
 }
 
 impl Model {
     /// Of an empty store with two writers.
-    pub(super) fn new(alloc: Global, places: usize) -> Result<Model, Fail> {
-        Ok(Model {
+    pub(super) fn new(alloc: Global, places: usize) -> Option<Model> {
+        Some(Model {
             rings: rings_of(alloc, 2)?,
             places,
             entries: Vec::new(alloc),
@@ -113,8 +112,12 @@ impl Model {
 
     /// The store stops, and another goes on from its boxes: the rings are gone, and what was taken
     /// since the last flush, but for a whole frame of it.
-    pub(super) fn stop(&mut self, alloc: Global, is_whole: bool) -> Result<(), Fail> {
-        self.rings = rings_of(alloc, 2)?;
+    /// Whether there was memory.
+    pub(super) fn stop(&mut self, alloc: Global, is_whole: bool) -> bool {
+        let Some(rings) = rings_of(alloc, 2) else {
+            return false;
+        };
+        self.rings = rings;
         if !is_whole {
             self.entries.truncate(self.durable);
         }
@@ -124,10 +127,10 @@ impl Model {
         self.values = BTreeMap::new(alloc);
         for change in self.entries.as_slice() {
             if !set(&mut self.values, *change) {
-                return Err(Fail::from("memory"));
+                return false;
             }
         }
-        Ok(())
+        true
     }
 
     /// How many records were taken.

@@ -1,10 +1,11 @@
 //! Turns and flushes that want a segment, and go on with one more: the tables.
 
-use super::living::{Table, has_lived, script_of};
+use super::living::{Table, begun, lives};
 use super::steps::Step::{Flush, Put, Reads, Turn};
 use super::walking::Rounds;
+use crate::tests::boxes::Row;
+use crate::tests::telling::holds;
 use std::sync::Wait;
-use std::test::Fail;
 
 /// 1,500 records of two writers, taken by one turn.
 const TURNED: &[Rounds] = &[Rounds {
@@ -37,24 +38,30 @@ const TABLE: Table = Table {
     keys: 1000,
     are_shared: true,
     places: 1024,
-    boxes: 1,
-    more: 40,
-    capacity: 16408,
+    row: Row {
+        boxes: 1,
+        fuse: None,
+        behind: 0,
+        more: 40,
+        capacity: 16408,
+    },
 };
 
-// Whether all went as told, how many records were taken, and how often a segment was wanted.
-fn walked<R: AllocGlobal + Wait>(rt: &R, plans: &[Rounds]) -> Result<(bool, usize, u32), Fail> {
-    let mut script = script_of(rt.alloc(), &TABLE)?;
-    let went = has_lived(rt, 64, &TABLE, &mut script, plans)?;
-    Ok((went, script.model.taken(), script.refusals))
+// Whether all went as told and all records were taken, and a segment was wanted so often: the
+// values alone have more bytes than six segments, and each segment is wanted once.
+fn has_gone<R: AllocGlobal + Wait>(rt: &R, plans: &[Rounds]) -> bool {
+    match begun(rt.alloc(), &TABLE) {
+        Some(mut life) => {
+            lives(rt, &mut life, plans)
+                && life.script.model.taken() == 1500
+                && life.script.refusals >= 7
+        }
+        None => false,
+    }
 }
 
 #[test]
-fn refused_calls_go_on_with_a_segment_more(rt: HostRuntime) -> Result<(), Fail> {
-    // The values alone have more bytes than six segments, and each segment is wanted once.
-    let (went, taken, refusals) = walked(&rt, TURNED)?;
-    assert!(rt; went && taken == 1500 && refusals >= 7);
-    let (went, taken, refusals) = walked(&rt, FLUSHED)?;
-    assert!(rt; went && taken == 1500 && refusals >= 7);
-    Ok(())
+fn refused_calls_go_on_with_a_segment_more(rt: HostRuntime) {
+    holds(&rt, has_gone(&rt, TURNED));
+    holds(&rt, has_gone(&rt, FLUSHED));
 }

@@ -1,15 +1,14 @@
 //! Stores that go on from their own boxes, with a script in each life: the tables.
 
-use super::living::{Table, lives, script_of, stops_and_lives_on, supply_of};
+use super::living::{Table, begun, lives, stops_and_lives_on};
+use super::steps::Step;
 use super::steps::Step::{
     Clean, Del, Evict, EvictAll, Flush, Get, Page, Put, Reads, Roll, Settle, Turn,
 };
-use super::steps::{Script, Step};
 use super::walking::Rounds;
-use crate::tests::telling::comes_to;
-use bw_device::Segment;
+use crate::tests::boxes::Row;
+use crate::tests::telling::holds;
 use std::sync::Wait;
-use std::test::Fail;
 
 const DECK: &[Step] = &[
     Put,
@@ -52,9 +51,13 @@ const SMALL_PAGES: Table = Table {
     keys: 100,
     are_shared: false,
     places: 8,
-    boxes: 4,
-    more: 100,
-    capacity: 16408,
+    row: Row {
+        boxes: 4,
+        fuse: None,
+        behind: 0,
+        more: 100,
+        capacity: 16408,
+    },
 };
 
 const LARGE_PAGES: Table = Table {
@@ -63,40 +66,29 @@ const LARGE_PAGES: Table = Table {
     keys: 200,
     are_shared: false,
     places: 8,
-    boxes: 4,
-    more: 100,
-    capacity: 20000,
+    row: Row {
+        boxes: 4,
+        fuse: None,
+        behind: 0,
+        more: 100,
+        capacity: 20000,
+    },
 };
 
-// In how many of four lives over these boxes all went as told.
-fn lives_four_times<R: AllocGlobal + Wait>(
-    rt: &R,
-    boxes: Vec<Box<dyn Segment>>,
-    more: &mut Vec<Box<dyn Segment>>,
-    script: &mut Script,
-) -> Result<u32, Fail> {
-    let (mut went, mut boxes) = lives(rt, boxes, more, script, PLANS)?;
-    let mut lived = u32::from(went);
+// Whether all went as told in four lives.
+fn lives_four_times<R: AllocGlobal + Wait>(rt: &R, table: &Table) -> bool {
+    let Some(mut life) = begun(rt.alloc(), table) else {
+        return false;
+    };
+    let mut went = lives(rt, &mut life, PLANS);
     for _ in 0..3 {
-        (went, boxes) = stops_and_lives_on(rt, boxes, more, script, PLANS, true)?;
-        lived = lived.saturating_add(u32::from(went));
+        went &= stops_and_lives_on(rt, &mut life, PLANS, true);
     }
-    Ok(lived)
-}
-
-// The same over boxes of the table.
-fn walked<R: AllocGlobal + Wait>(rt: &R, table: &Table) -> Result<u32, Fail> {
-    let mut script = script_of(rt.alloc(), table)?;
-    let (boxes, mut more) = supply_of(rt.alloc(), 128, table)?;
-    lives_four_times(rt, boxes, &mut more, &mut script)
+    went
 }
 
 #[test]
-fn four_lives_of_small_pages_are_as_one_map_tells(rt: HostRuntime) -> Result<(), Fail> {
-    comes_to(&rt, walked(&rt, &SMALL_PAGES), 4)
-}
-
-#[test]
-fn four_lives_of_large_pages_are_as_one_map_tells(rt: HostRuntime) -> Result<(), Fail> {
-    comes_to(&rt, walked(&rt, &LARGE_PAGES), 4)
+fn four_lives_of_small_pages_and_of_large_ones_are_as_one_map_tells(rt: HostRuntime) {
+    holds(&rt, lives_four_times(&rt, &SMALL_PAGES));
+    holds(&rt, lives_four_times(&rt, &LARGE_PAGES));
 }

@@ -1,12 +1,12 @@
 //! Scripts of 2,000 drawn steps: the tables.
 
-use super::living::{Table, has_lived, script_of};
+use super::living::{Table, begun, lives};
 use super::steps::Step;
 use super::steps::Step::{Clean, Del, Evict, Flush, Get, Page, Put, Reads, Roll, Turn};
 use super::walking::Rounds;
-use crate::tests::telling::comes_to;
+use crate::tests::boxes::Row;
+use crate::tests::telling::holds;
 use std::sync::Wait;
-use std::test::Fail;
 
 /// What is drawn, each as often as it stands here.
 const DECK: &[Step] = &[
@@ -51,9 +51,13 @@ const FEW_KEYS: Table = Table {
     keys: 24,
     are_shared: true,
     places: 8,
-    boxes: 4,
-    more: 100,
-    capacity: 16408,
+    row: Row {
+        boxes: 4,
+        fuse: None,
+        behind: 0,
+        more: 100,
+        capacity: 16408,
+    },
 };
 
 /// Many keys, in pages of at most four.
@@ -63,9 +67,13 @@ const MANY_KEYS: Table = Table {
     keys: 400,
     are_shared: true,
     places: 8,
-    boxes: 4,
-    more: 100,
-    capacity: 16408,
+    row: Row {
+        boxes: 4,
+        fuse: None,
+        behind: 0,
+        more: 100,
+        capacity: 16408,
+    },
 };
 
 /// Large pages.
@@ -75,29 +83,26 @@ const LARGE_PAGES: Table = Table {
     keys: 400,
     are_shared: true,
     places: 8,
-    boxes: 4,
-    more: 100,
-    capacity: 20000,
+    row: Row {
+        boxes: 4,
+        fuse: None,
+        behind: 0,
+        more: 100,
+        capacity: 20000,
+    },
 };
 
-// Whether all went as told, and how many steps were walked.
-fn walked<R: AllocGlobal + Wait>(rt: &R, table: &Table) -> Result<(bool, u32), Fail> {
-    let mut script = script_of(rt.alloc(), table)?;
-    let went = has_lived(rt, 4096, table, &mut script, SCRIPT)?;
-    Ok((went, script.steps))
+// Whether all went as told, in so many steps.
+fn has_gone<R: AllocGlobal + Wait>(rt: &R, table: &Table) -> bool {
+    match begun(rt.alloc(), table) {
+        Some(mut life) => lives(rt, &mut life, SCRIPT) && life.script.steps == 2010,
+        None => false,
+    }
 }
 
 #[test]
-fn few_keys_are_as_a_map_tells(rt: HostRuntime) -> Result<(), Fail> {
-    comes_to(&rt, walked(&rt, &FEW_KEYS), (true, 2010))
-}
-
-#[test]
-fn many_keys_are_as_a_map_tells(rt: HostRuntime) -> Result<(), Fail> {
-    comes_to(&rt, walked(&rt, &MANY_KEYS), (true, 2010))
-}
-
-#[test]
-fn large_pages_are_as_a_map_tells(rt: HostRuntime) -> Result<(), Fail> {
-    comes_to(&rt, walked(&rt, &LARGE_PAGES), (true, 2010))
+fn few_keys_many_keys_and_large_pages_are_as_a_map_tells(rt: HostRuntime) {
+    holds(&rt, has_gone(&rt, &FEW_KEYS));
+    holds(&rt, has_gone(&rt, &MANY_KEYS));
+    holds(&rt, has_gone(&rt, &LARGE_PAGES));
 }

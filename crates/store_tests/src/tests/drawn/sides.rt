@@ -1,12 +1,11 @@
-//! One of two stores side by side, with its feed and its reader.
+//! One of two stores side by side, with its reader.
 
-ghost use Rattle.bw_store.specs.Views.{IsSound};
+ghost use Rattle.bw_store.specs.Views.{IsSoundBeside};
 
+use crate::tests::opening::Held;
 use crate::tests::readers::{is_taken, reads};
-use bw_ring::Feed;
-use bw_store::{Reader, Store};
+use bw_store::Reader;
 use std::sync::Wait;
-use std::test::Fail;
 
 /// Which of the two stores.
 #[derive(Clone, Copy, PartialEq, Eq)]
@@ -26,36 +25,22 @@ pub(super) enum Step {
 
 use Step::{Flushes, See, Takes};
 
-/// A store's feed and reader.
-#[derive(Drop)]
-pub(super) struct Ends {
-    feeds: Vec<Feed>,
+/// A store and its reader.
+pub(super) struct Sided {
+    pub(super) opened: Held,
     pub(super) reader: Reader,
 }
 
-/// The ends of a store that gave out no reader yet.
-pub(super) fn ends_of(store: &mut Store, feeds: Vec<Feed>) -> Result<Ends, Fail>
-    requires { IsSound store.old holding }
-    ensures { IsSound store.new holding }
-{
-    let reader = store.reader()?;
-    Ok(Ends { feeds, reader })
-}
-
 /// Whether a store takes and flushes as told.
-pub(super) fn goes<R: Wait>(
-    rt: &R,
-    store: &mut Store,
-    ends: &mut Ends,
-    side: Side,
-    step: &Step,
-) -> bool
-    requires { IsSound store.old holding }
-    ensures { IsSound store.new holding }
+pub(super) fn goes<R: Wait>(rt: &R, sided: &mut Sided, side: Side, step: &Step) -> bool
+    requires { IsSoundBeside sided.old.opened.store holding }
+    ensures { IsSoundBeside sided.new.opened.store holding }
 {
     match step {
-        Takes(of, value) if *of == side => is_taken(store, &mut ends.feeds, *value),
-        Flushes(of) if *of == side => store.flush(rt).is_ok(),
+        Takes(of, value) if *of == side => {
+            is_taken(&mut sided.opened.store, &mut sided.opened.feeds, *value)
+        }
+        Flushes(of) if *of == side => sided.opened.store.flush(rt).is_ok(),
         _ => true,
     }
 }

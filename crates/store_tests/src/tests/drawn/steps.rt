@@ -11,9 +11,8 @@ use super::evicting::{are_evicted, is_evicted};
 use super::model::Model;
 use super::putting::puts;
 use super::reading::{is_got, is_page, reads};
+use crate::tests::opening::Held;
 use crate::tests::steps::is_added;
-use bw_device::Segment;
-use bw_ring::Feed;
 use bw_store::Store;
 use std::alloc::Global;
 use std::sync::Wait;
@@ -106,23 +105,23 @@ fn answers(alloc: Global, store: &mut Store, script: &mut Script, step: Step) ->
 /// Whether the step goes as the map tells.
 pub(super) fn goes<R: AllocGlobal + Wait>(
     rt: &R,
-    store: &mut Store,
-    feeds: &mut Vec<Feed>,
-    more: &mut Vec<Box<dyn Segment>>,
+    opened: &mut Held,
     script: &mut Script,
     step: Step,
 ) -> bool
-    requires sound { IsSoundBeside store.old holding }
-    requires feeds { map ring_of_feed feeds.old.items ≡ (kept_beside store.old holding).rings }
-    ensures sound { IsSoundBeside store.new holding }
-    ensures feeds { map ring_of_feed feeds.new.items ≡ (kept_beside store.new holding).rings }
+    requires sound { IsSoundBeside opened.old.store holding }
+    requires feeds { map ring_of_feed opened.old.feeds.items
+        ≡ (kept_beside opened.old.store holding).rings }
+    ensures sound { IsSoundBeside opened.new.store holding }
+    ensures feeds { map ring_of_feed opened.new.feeds.items
+        ≡ (kept_beside opened.new.store holding).rings }
 {
     match step {
-        Put | Del => puts(feeds, script, step),
-        Turn(_) | Flush | Settle | Clean => tries(rt, store, feeds, more, script, step),
-        Break => breaks(rt, store, script),
-        Ask => asks(rt, store, script),
-        Add => is_added(store, more),
-        _ => answers(rt.alloc(), store, script, step),
+        Put | Del => puts(&mut opened.feeds, script, step),
+        Turn(_) | Flush | Settle | Clean => tries(rt, opened, script, step),
+        Break => breaks(rt, &mut opened.store, script),
+        Ask => asks(rt, &mut opened.store, script),
+        Add => is_added(&mut opened.store, &mut opened.more),
+        _ => answers(rt.alloc(), &mut opened.store, script, step),
     }
 }

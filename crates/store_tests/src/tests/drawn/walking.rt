@@ -5,9 +5,7 @@ ghost use Rattle.bw_ring.specs.Ends.{ring_of_feed};
 ghost use Rattle.bw_store.specs.Views.{kept_beside, IsSoundBeside};
 
 use super::steps::{Script, Step, goes};
-use bw_device::Segment;
-use bw_ring::Feed;
-use bw_store::Store;
+use crate::tests::opening::Held;
 use std::sync::Wait;
 
 /// So many rounds: in each so many steps are drawn from a deck, and some more follow.
@@ -69,15 +67,14 @@ fn next(script: &mut Script, plans: &[Rounds], place: &mut Place) -> Option<Step
 /// Whether all plans go as told, one after the other.
 pub(super) fn all_go<R: AllocGlobal + Wait>(
     rt: &R,
-    store: &mut Store,
-    feeds: &mut Vec<Feed>,
-    more: &mut Vec<Box<dyn Segment>>,
+    opened: &mut Held,
     script: &mut Script,
     plans: &[Rounds],
 ) -> bool
-    requires sound { IsSoundBeside store.old holding }
-    requires feeds { map ring_of_feed feeds.old.items ≡ (kept_beside store.old holding).rings }
-    ensures { IsSoundBeside store.new holding }
+    requires sound { IsSoundBeside opened.old.store holding }
+    requires feeds { map ring_of_feed opened.old.feeds.items
+        ≡ (kept_beside opened.old.store holding).rings }
+    ensures { IsSoundBeside opened.new.store holding }
 {
     let mut place = Place {
         plan: 0,
@@ -88,7 +85,7 @@ pub(super) fn all_go<R: AllocGlobal + Wait>(
         let Some(step) = next(script, plans, &mut place) else {
             return true;
         };
-        if !goes(rt, store, feeds, more, script, step) {
+        if !goes(rt, opened, script, step) {
             return false;
         }
     }

@@ -5,5 +5,5 @@ use Rattle.store_tests.proofs.tests.drawn.calling.tries.Given as goal
 
 abbrev pub invariant-tries : goal.invariant-tries
 invariant-tries g l =
-    IsSound l.store (λ z. (goal.Segment-dyn g z).holding z.1)
-    × (map ring_of_feed l.feeds.items ≡ (kept_by l.store (λ z. (goal.Segment-dyn g z).holding z.1)).rings)
+    IsSound l.opened.store (λ z. (goal.Segment-dyn g z).holding z.1)
+    × (map ring_of_feed l.opened.feeds.items ≡ (kept_by l.opened.store (λ z. (goal.Segment-dyn g z).holding z.1)).rings)
