@@ -7,7 +7,7 @@ case that goes otherwise ends the whole with status 1.
 
 A file's keys before its first case stand for each case that does not give them. A case is a run:
 
-  words          the words of the command line
+  words          the words of the command line, each a text, or a table with its bytes in hex, as { hex = "ff" }
   script         what is read: a text, or pieces that stand one behind the other
   lines          the same, with an end of the line behind each piece
   status         the exit status (0 where it is not given)
@@ -17,6 +17,7 @@ A file's keys before its first case stand for each case that does not give them.
   tells          what stands on standard error, to the last byte (nothing where it is not given)
   is_told        true: something stands there, in place of `tells`
   beside         a folder, whose lock is held while the program runs
+  memory         how many MB of addresses the process may have
 
 or a step of one who stands outside:
 
@@ -37,6 +38,7 @@ A piece is a text, or a table:
 
 import fcntl
 import os
+import resource
 import subprocess
 import sys
 import tempfile
@@ -46,7 +48,7 @@ HERE = os.path.dirname(os.path.abspath(__file__))
 CASES = os.path.join(HERE, "cases")
 BUILT = [os.path.join(HERE, "out", name) for name in ("bwlog", "bwlog.by-rattle")]
 LIMIT = 60
-RUN = {"words", "script", "lines", "status", "prints", "prints_last", "prints_either", "tells", "is_told", "beside"}
+RUN = {"words", "script", "lines", "status", "prints", "prints_last", "prints_either", "tells", "is_told", "beside", "memory"}
 OUTSIDE = [{"make"}, {"write", "text"}, {"lengthen", "bytes"}, {"file", "holds"}]
 
 
@@ -106,14 +108,22 @@ def is_told(case, errors):
     return errors == case.get("tells", "").encode()
 
 
+def limit_memory(case):
+    if "memory" in case:
+        most = case["memory"] << 20
+        resource.setrlimit(resource.RLIMIT_AS, (most, most))
+
+
 def run(program, case, texts, folder):
     """What went otherwise in a run, or nothing."""
+    words = [it if isinstance(it, str) else bytes.fromhex(it["hex"]) for it in case["words"]]
     answer = subprocess.run(
-        [program, *case["words"]],
+        [program, *words],
         input=script_of(case, texts).encode(),
         capture_output=True,
         cwd=folder,
         timeout=LIMIT,
+        preexec_fn=lambda: limit_memory(case),
     )
     told = []
     if answer.returncode != case.get("status", 0):
