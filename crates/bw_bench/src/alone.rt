@@ -2,7 +2,7 @@
 
 ghost use Rattle.bw_store.specs.Views.{IsSound};
 
-use crate::asking::{evict_all, get_all, read_all, read_back};
+use crate::asking::{evict_all, get_all, read_all, read_back, reader_of};
 use crate::batches::{Cost, bytes_of, put_script};
 use crate::bench::Bench;
 use crate::beside::{Seen, end_if, start_if};
@@ -46,14 +46,14 @@ fn put_beside<R: Threads + Wait>(
     course: Course,
     span: Span,
     script: &[Record],
-) -> Result<(Cost, Option<Seen>), Stop>
+) -> Option<(Cost, Option<Seen>)>
     requires { IsSound store.old holding }
     ensures { IsSound store.new holding }
 {
-    let looker = start_if(rt, store, bench.options.shape(), span.to, course.is_read)?;
+    let looker = start_if(rt, bench, store, span.to, course.is_read)?;
     let cost = put_script(rt, bench, store, feed, script, course.is_late, span.name);
-    let seen = end_if(rt, looker, cost.is_ok());
-    Ok((cost?, seen))
+    let seen = end_if(rt, looker, cost.is_some());
+    Some((cost?, seen))
 }
 
 /// The same of some puts.
@@ -64,7 +64,7 @@ fn put_all<R: Threads + Wait>(
     feed: &mut Feed,
     course: Course,
     span: Span,
-) -> Result<(Cost, Option<Seen>), Stop>
+) -> Option<(Cost, Option<Seen>)>
     requires { IsSound store.old holding }
     ensures { IsSound store.new holding }
 {
@@ -80,7 +80,7 @@ fn put_span<R: Threads + Wait>(
     feed: &mut Feed,
     course: Course,
     span: Span,
-) -> Result<(), Stop>
+) -> Option<()>
     requires { IsSound store.old holding }
     ensures { IsSound store.new holding }
 {
@@ -94,23 +94,23 @@ fn put_span<R: Threads + Wait>(
 }
 
 /// Gets of the store, and of a reader.
-fn gets(bench: &Bench, store: &mut Store) -> Result<(), Stop>
+fn gets(bench: &Bench, store: &mut Store) -> Option<()>
     requires { IsSound store.old holding }
     ensures { IsSound store.new holding }
 {
     let count = u64::from(bench.options.operations);
     get_all(bench, store, "get", count)?;
-    let mut reader = store.reader()?;
+    let mut reader = reader_of(bench, store)?;
     read_all(bench, &mut reader, count)
 }
 
 /// Pages leave memory, and some values are asked for.
-fn gets_away(bench: &Bench, store: &mut Store) -> Result<(), Stop>
+fn gets_away(bench: &Bench, store: &mut Store) -> Option<()>
     requires { IsSound store.old holding }
     ensures { IsSound store.new holding }
 {
     let start = bench.now();
-    let pages = evict_all(store)?;
+    let pages = evict_all(bench, store)?;
     let nanos = bench.since(start);
     bench.tell_each("evict, pages", pages, nanos, "ns");
     let count = (u64::from(bench.options.keys) / KEYS_AWAY).max(1);
@@ -126,7 +126,7 @@ fn put_and_get<R: Threads + Wait>(
     store: &mut Store,
     feed: &mut Feed,
     course: Course,
-) -> Result<(), Stop>
+) -> Option<()>
     requires { IsSound store.old holding }
     ensures { IsSound store.new holding }
 {
@@ -134,7 +134,7 @@ fn put_and_get<R: Threads + Wait>(
     put_span(rt, bench, store, feed, course, load)?;
     put_span(rt, bench, store, feed, course, update)?;
     if course.is_read || course.is_late {
-        return Ok(());
+        return Some(());
     }
     gets(bench, store)?;
     gets_away(bench, store)
@@ -147,12 +147,12 @@ pub fn alone<R: Threads + Wait>(
     store: &mut Store,
     mut feeds: Vec<Feed>,
     course: Course,
-) -> Result<(), Stop>
+) -> Option<()>
     requires { IsSound store.old holding }
     ensures { IsSound store.new holding }
 {
     match feeds.pop() {
         Some(mut feed) => put_and_get(rt, bench, store, &mut feed, course),
-        None => Err(Stop::Failed("a feed")),
+        None => bench.stop(Stop::Refused, "a store without a writer"),
     }
 }

@@ -31,55 +31,54 @@ impl Cost {
             .saturating_add(self.flushes)
     }
 
-    fn and(self, more: Cost) -> Cost {
+    /// With the parts of one more batch, which stand between these times.
+    fn and(self, start: u64, put: u64, taken: u64, flushed: u64) -> Cost {
         Cost {
-            puts: self.puts.saturating_add(more.puts),
-            turns: self.turns.saturating_add(more.turns),
-            flushes: self.flushes.saturating_add(more.flushes),
+            puts: self.puts.saturating_add(put.saturating_sub(start)),
+            turns: self.turns.saturating_add(taken.saturating_sub(put)),
+            flushes: self.flushes.saturating_add(flushed.saturating_sub(taken)),
         }
     }
 }
 
 /// Puts all of a batch.
-fn put_all(feed: &mut Feed, batch: &[Record]) -> Result<(), Stop> {
+fn put_all(bench: &Bench, feed: &mut Feed, batch: &[Record]) -> Option<()> {
     for item in batch {
         if feed.put(item.copy()).is_err() {
-            return Err(Stop::Failed("a full ring"));
+            return bench.stop(Stop::Refused, "a full ring");
         }
     }
-    Ok(())
+    Some(())
 }
 
 /// Takes so many records.
-fn take_all(store: &mut Store, many: u32) -> Result<(), Stop>
+fn take_all(bench: &Bench, store: &mut Store, many: usize) -> Option<()>
     requires { IsSound store.old holding }
     ensures { IsSound store.new holding }
 {
+    let many = u32::try_from(many).unwrap_or(u32::MAX);
     match store.turn(many) {
-        Ok(taken) => {
-            if taken == many {
-                return Ok(());
-            }
-            Err(Stop::Failed("a turn that took fewer"))
-        }
-        Err(fault) => Err(Stop::from(fault.cause)),
+        Ok(taken) if taken == many => Some(()),
+        Ok(_) => bench.stop(Stop::Refused, "a turn that took fewer"),
+        Err(fault) => bench.refused(fault.cause),
     }
 }
 
-/// Flushes if told: the nanoseconds.
-fn flush_if<R: Wait>(rt: &R, bench: &Bench, store: &mut Store, is_due: bool) -> Result<u64, Stop>
+/// Flushes if told.
+fn flush_if<R: Wait>(rt: &R, bench: &Bench, store: &mut Store, is_due: bool) -> Option<()>
     requires { IsSound store.old holding }
     ensures { IsSound store.new holding }
 {
     if !is_due {
-        return Ok(0);
+        return Some(());
     }
-    let start = bench.now();
-    let _ = store.flush(rt)?;
-    Ok(bench.since(start))
+    match store.flush(rt) {
+        Ok(_) => Some(()),
+        Err(fault) => bench.refused(fault),
+    }
 }
 
-/// Puts and takes a batch, and flushes it if told.
+/// Puts and takes a batch, and flushes it if told: with its cost.
 fn one_batch<R: Wait>(
     rt: &R,
     bench: &Bench,
@@ -87,23 +86,18 @@ fn one_batch<R: Wait>(
     feed: &mut Feed,
     batch: &[Record],
     is_due: bool,
-) -> Result<Cost, Stop>
+    cost: Cost,
+) -> Option<Cost>
     requires { IsSound store.old holding }
     ensures { IsSound store.new holding }
 {
-    let many = u32::try_from(batch.len()).unwrap_or(u32::MAX);
     let start = bench.now();
-    put_all(feed, batch)?;
-    let puts = bench.since(start);
-    let start = bench.now();
-    take_all(store, many)?;
-    let turns = bench.since(start);
-    let flushes = flush_if(rt, bench, store, is_due)?;
-    Ok(Cost {
-        puts,
-        turns,
-        flushes,
-    })
+    put_all(bench, feed, batch)?;
+    let put = bench.now();
+    take_all(bench, store, batch.len())?;
+    let taken = bench.now();
+    flush_if(rt, bench, store, is_due)?;
+    Some(cost.and(start, put, taken, bench.now()))
 }
 
 /// Puts and takes a script, a batch at once, and flushes after each, or once after the last.
@@ -115,7 +109,7 @@ pub fn put_script<R: Wait>(
     script: &[Record],
     is_late: bool,
     name: &'static str,
-) -> Result<Cost, Stop>
+) -> Option<Cost>
     requires { IsSound store.old holding }
     ensures { IsSound store.new holding }
 {
@@ -127,10 +121,10 @@ pub fn put_script<R: Wait>(
     'batches: for batch in script.chunks(size) {
         done = done.saturating_add(batch.len() as u64);
         let is_due = !is_late || done == all;
-        cost = cost.and(one_batch(rt, bench, store, feed, batch, is_due)?);
+        cost = one_batch(rt, bench, store, feed, batch, is_due, cost)?;
         meter.tell(bench, done);
     }
-    Ok(cost)
+    Some(cost)
 }
 
 /// The bytes of all live segments.

@@ -1,20 +1,28 @@
-//! What each subject is given: the system, what was asked for, and a clock.
+//! What each subject is given: the system, what was asked for, and a clock; and where it tells why
+//! it goes no further.
+
+ghost use Rattle.std.specs.Prelude.{IsNone};
 
 use crate::options::Options;
 use crate::stop::Stop;
+use bw_file::FolderFault;
+use bw_store::StoreFault;
 use std::alloc::Global;
 use std::cell::Cell;
+use std::fmt::Display;
 use std::io;
 use std::time::Instant;
 
-/// The system and what was asked of the program. A line that is not written and a clock that is not
-/// read stop nothing at once: `end` tells of them.
+/// The system and what was asked of the program. A subject that goes no further answers nothing,
+/// and has told here why, but for want of memory, of which nobody tells. A line that is not written
+/// and a clock that is not read stop nothing at once: `end` tells of them.
 #[derive(Drop)]
 pub struct Bench {
     pub system: HostRuntime,
     pub alloc: Global,
     pub options: Options,
     start: Instant,
+    stop: Cell<Stop>,
     has_failed: Cell<bool>,
 }
 
@@ -25,6 +33,7 @@ impl Bench {
             alloc: system.alloc(),
             options,
             start: Instant::now(&system)?,
+            stop: Cell::new(Stop::NoMemory),
             has_failed: Cell::new(false),
         })
     }
@@ -52,11 +61,41 @@ impl Bench {
         self.now().saturating_sub(start)
     }
 
-    /// Refuses to go on where the clock or a write failed.
-    pub fn end(&self) -> Result<(), Stop> {
-        if self.has_failed.get() {
-            return Err(Stop::Output);
+    /// Tells what is in the way, and that nothing more is done.
+    pub fn stop<T>(&self, stop: Stop, what: impl Display + Copy + Drop) -> Option<T>
+        ensures { IsNone result }
+    {
+        let written = eprintln!(self.system; "{what}");
+        self.keep(written);
+        self.stop.set(stop);
+        None
+    }
+
+    /// Tells what a store refuses, and that nothing more is done.
+    pub fn refused<T>(&self, fault: StoreFault) -> Option<T>
+        ensures { IsNone result }
+    {
+        match fault {
+            StoreFault::NoMemory => None,
+            other => self.stop(Stop::Refused, other),
         }
-        Ok(())
+    }
+
+    /// The same of a folder or of a file in it.
+    pub fn not_opened<T>(&self, fault: FolderFault) -> Option<T>
+        ensures { IsNone result }
+    {
+        match fault {
+            FolderFault::NoMemory => None,
+            other => self.stop(Stop::Refused, other),
+        }
+    }
+
+    /// What ends the run, where a subject answered this.
+    pub fn end(&self, went: Option<()>) -> Result<(), Stop> {
+        if self.has_failed.get() {
+            return Err(Stop::System);
+        }
+        went.ok_or(self.stop.get())
     }
 }

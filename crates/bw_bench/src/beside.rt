@@ -3,6 +3,8 @@
 ghost use Rattle.std.specs.Prelude.{◌≡◌};
 ghost use Rattle.bw_store.specs.Views.{kept_by, IsSound};
 
+use crate::asking::reader_of;
+use crate::bench::Bench;
 use crate::shape::Shape;
 use crate::stop::Stop;
 use bw_codec::Value;
@@ -26,14 +28,14 @@ pub struct Seen {
 fn is_put(shape: Shape, put: u64, value: &Value, puts: u64) -> bool {
     let told = shape.told(put, value);
     match shape.value(told) {
-        Ok(expected) => told < puts && *value == expected,
-        Err(_) => false,
+        Some(expected) => told < puts && *value == expected,
+        None => false,
     }
 }
 
 /// Whether the reader finds the value of this put, or nothing any more.
 fn is_over(reader: &mut Reader, shape: Shape, put: u64) -> bool {
-    let (Ok(key), Ok(last)) = (shape.key(put), shape.value(put)) else {
+    let (Some(key), Some(last)) = (shape.key(put), shape.value(put)) else {
         return true;
     };
     match reader.get(&key) {
@@ -45,7 +47,7 @@ fn is_over(reader: &mut Reader, shape: Shape, put: u64) -> bool {
 
 /// Looks up the key of this put.
 fn look_once(reader: &mut Reader, shape: Shape, put: u64, puts: u64, seen: &mut Seen) {
-    let Ok(key) = shape.key(put) else {
+    let Some(key) = shape.key(put) else {
         return;
     };
     seen.lookups = seen.lookups.saturating_add(1);
@@ -72,25 +74,26 @@ fn look_up(mut reader: Reader, shape: Shape, puts: u64) -> Seen {
     seen
 }
 
-/// A reader of the store that begins to look up, if there is to be one.
+/// A reader of the store that begins to look up the keys of so many puts, if there is to be one.
 pub fn start_if<R: Threads>(
     rt: &R,
+    bench: &Bench,
     store: &mut Store,
-    shape: Shape,
     puts: u64,
     is_read: bool,
-) -> Result<Option<JoinHandle<Seen>>, Stop>
+) -> Option<Option<JoinHandle<Seen>>>
     requires { IsSound store.old holding }
     ensures sound { IsSound store.new holding }
     ensures rings { (kept_by store.new holding).rings ≡ (kept_by store.old holding).rings }
 {
     if !is_read {
-        return Ok(None);
+        return Some(None);
     }
-    let reader = store.reader()?;
+    let shape = bench.options.shape();
+    let reader = reader_of(bench, store)?;
     match thread::spawn(rt, move || look_up(reader, shape, puts)) {
-        Ok(thread) => Ok(Some(thread)),
-        Err(_) => Err(Stop::Thread),
+        Ok(thread) => Some(Some(thread)),
+        Err(_) => bench.stop(Stop::System, "no thread could be made"),
     }
 }
 

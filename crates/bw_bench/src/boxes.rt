@@ -9,7 +9,6 @@ use crate::bench::Bench;
 use crate::driven::driven;
 use crate::options::Options;
 use crate::reopened::reopened;
-use crate::stop::Stop;
 use crate::subject::Course;
 use bw_device::{Desk, MemSegment, Segment};
 use bw_ring::Feed;
@@ -49,7 +48,7 @@ fn go<R: Threads + Wait>(
     course: Course,
     store: &mut Store,
     feeds: Vec<Feed>,
-) -> Result<(), Stop>
+) -> Option<()>
     requires sound { IsSound store.old holding }
     requires feeds { map ring_of_feed feeds.items ≡ (kept_by store.old holding).rings }
     ensures { IsSound store.new holding }
@@ -67,30 +66,28 @@ pub fn over<R: Threads + Wait>(
     bench: &Bench,
     course: Course,
     boxes: Vec<Box<dyn Segment>>,
-) -> Result<Vec<Box<dyn Segment>>, Stop> {
+) -> Option<Vec<Box<dyn Segment>>> {
     let config = config_of(bench.options, course);
     let (mut store, feeds) = match Store::open(rt, bench.alloc, &config, boxes) {
         Ok(opened) => opened,
-        Err(fault) => return Err(Stop::from(fault.cause)),
+        Err(fault) => return bench.refused(fault.cause),
     };
     let went = go(rt, bench, course, &mut store, feeds);
     let (live, _spares) = store.shut(rt);
     went?;
-    Ok(live)
+    Some(live)
 }
 
-/// A segment in memory of the desk's next lease.
+/// A segment in memory of the desk's next lease. It has one.
 pub fn memory(
     alloc: Global,
     desk: &mut Desk,
     capacity: u64,
     bytes: &[u8],
-) -> Result<Box<MemSegment>, Stop> {
-    let lease = desk.take()?;
-    match MemSegment::with_bytes(alloc, lease, capacity, bytes) {
-        Ok(segment) => Ok(Box::new(alloc, segment)?),
-        Err(refused) => Err(Stop::from(refused.cause)),
-    }
+) -> Option<Box<MemSegment>> {
+    let lease = desk.take().ok()?;
+    let segment = MemSegment::with_bytes(alloc, lease, capacity, bytes).ok()?;
+    Box::new(alloc, segment).ok()
 }
 
 /// Runs the course over these boxes, and then goes on from the live ones.
@@ -99,10 +96,9 @@ fn over_and_again<R: Threads + Wait>(
     bench: &Bench,
     course: Course,
     boxes: Vec<Box<dyn Segment>>,
-) -> Result<(), Stop> {
+) -> Option<()> {
     let live = over(rt, bench, course, boxes)?;
-    let start = bench.now();
-    reopened(rt, bench, start, live)
+    reopened(rt, bench, bench.now(), live)
 }
 
 /// The same over boxes of so many leases. A function that takes or gives a box, or a store, makes
@@ -113,18 +109,17 @@ fn over_leases<R: Threads + Wait>(
     course: Course,
     desk: &mut Desk,
     many: u32,
-) -> Result<(), Stop> {
-    let alloc = bench.alloc;
-    let mut boxes: Vec<Box<dyn Segment>> = Vec::new(alloc);
+) -> Option<()> {
+    let mut boxes: Vec<Box<dyn Segment>> = Vec::new(bench.alloc);
     for _ in 0..many {
-        boxes.push(memory(alloc, desk, CAPACITY, &[])?)?;
+        boxes.push(memory(bench.alloc, desk, CAPACITY, &[])?).ok()?;
     }
     over_and_again(rt, bench, course, boxes)
 }
 
 /// Runs the course over segments in memory, and then goes on from the live ones.
-pub fn over_memory<R: Threads + Wait>(rt: &R, bench: &Bench, course: Course) -> Result<(), Stop> {
+pub fn over_memory<R: Threads + Wait>(rt: &R, bench: &Bench, course: Course) -> Option<()> {
     let many = count_of(bench.options);
-    let mut desk = Desk::new(bench.alloc, many)?;
+    let mut desk = Desk::new(bench.alloc, many).ok()?;
     over_leases(rt, bench, course, &mut desk, many)
 }

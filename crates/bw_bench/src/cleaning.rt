@@ -89,55 +89,55 @@ fn put_oldest(alloc: Global, out: &mut Vec<u8>) -> Result<(), AllocError> {
 }
 
 /// The nanoseconds of a cleaning that writes all pages again.
-fn clean_all(bench: &Bench, log: &mut Log) -> Result<u64, Stop>
+fn clean_all(bench: &Bench, log: &mut Log) -> Option<u64>
     requires { IsSound log.old holding }
 {
     let start = bench.now();
     let Ok(cleaned) = clean(bench.alloc, log) else {
-        return Err(Stop::Failed("a cleaning"));
+        return bench.stop(Stop::Refused, "a cleaning");
     };
     let nanos = bench.since(start);
     if cleaned.pages as u64 == FRAMES.saturating_mul(IN_FRAME) {
-        return Ok(nanos);
+        return Some(nanos);
     }
-    Err(Stop::Failed("a page"))
+    bench.stop(Stop::Refused, "a page that is not cleaned")
 }
 
 /// The same of a log in these boxes.
-fn clean_boxes(bench: &Bench, boxes: Vec<Box<dyn Segment>>) -> Result<u64, Stop> {
+fn clean_boxes(bench: &Bench, boxes: Vec<Box<dyn Segment>>) -> Option<u64> {
     match recover(bench.alloc, boxes) {
         Ok(mut found) => clean_all(bench, &mut found.log),
-        Err(_) => Err(Stop::Failed("a recovery")),
+        Err(_) => bench.stop(Stop::Refused, "a recovery"),
     }
 }
 
 /// The same of a log of these segments.
-fn clean_pieces(bench: &Bench, desk: &mut Desk, pieces: &[&[u8]]) -> Result<u64, Stop> {
+fn clean_pieces(bench: &Bench, desk: &mut Desk, pieces: &[&[u8]]) -> Option<u64> {
     let alloc = bench.alloc;
     let mut boxes: Vec<Box<dyn Segment>> = Vec::new(alloc);
     for piece in pieces {
-        boxes.push(memory(alloc, desk, CAPACITY, piece)?)?;
+        boxes.push(memory(alloc, desk, CAPACITY, piece)?).ok()?;
     }
     clean_boxes(bench, boxes)
 }
 
 /// The same of this oldest segment, a newest one without a frame, and a spare.
-fn clean_once(bench: &Bench, bytes: &[u8]) -> Result<u64, Stop> {
+fn clean_once(bench: &Bench, bytes: &[u8]) -> Option<u64> {
     let mut newest = Vec::new(bench.alloc);
-    put_header(&mut newest, 2)?;
-    let mut desk = Desk::new(bench.alloc, 3)?;
+    put_header(&mut newest, 2).ok()?;
+    let mut desk = Desk::new(bench.alloc, 3).ok()?;
     clean_pieces(bench, &mut desk, &[bytes, &newest, &[]])
 }
 
-fn copy_once(bench: &Bench, bytes: &[u8]) -> Result<u64, Stop> {
+fn copy_once(bench: &Bench, bytes: &[u8]) -> Option<u64> {
     let start = bench.now();
     let mut copy = Vec::new(bench.alloc);
-    copy.extend_from_slice(bytes)?;
-    Ok(bench.since(start))
+    copy.extend_from_slice(bytes).ok()?;
+    Some(bench.since(start))
 }
 
 /// Cleanings of the same segment, and copies of its bytes.
-fn clean_often(bench: &Bench, bytes: &[u8]) -> Result<(), Stop> {
+fn clean_often(bench: &Bench, bytes: &[u8]) -> Option<()> {
     let (mut cleaned, mut copied) = (u64::MAX, u64::MAX);
     for _ in 0..ROUNDS {
         cleaned = cleaned.min(clean_once(bench, bytes)?);
@@ -148,12 +148,12 @@ fn clean_often(bench: &Bench, bytes: &[u8]) -> Result<(), Stop> {
     bench.tell("cleaning, segments", 1, cleaned);
     bench.tell("a copy of the segment", 1, copied);
     bench.tell_each("  the segment", 1, bytes.len() as u64, "bytes");
-    Ok(())
+    Some(())
 }
 
 /// Makes the segment, and cleans it.
-pub fn cleaning(bench: &Bench) -> Result<(), Stop> {
+pub fn cleaning(bench: &Bench) -> Option<()> {
     let mut bytes = Vec::new(bench.alloc);
-    put_oldest(bench.alloc, &mut bytes)?;
+    put_oldest(bench.alloc, &mut bytes).ok()?;
     clean_often(bench, &bytes)
 }

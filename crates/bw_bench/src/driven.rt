@@ -1,6 +1,6 @@
 //! Writers in threads of their own.
 
-ghost use Rattle.std.specs.Prelude.{◌≡◌, ◌+◌, map, vec_len, IfOk, OnOk};
+ghost use Rattle.std.specs.Prelude.{◌≡◌, map, vec_len, IfSome};
 ghost use Rattle.bw_ring.specs.Ends.{ring_of_feed};
 ghost use Rattle.bw_store.specs.Views.{kept_by, IsSound};
 
@@ -8,7 +8,6 @@ use crate::asking::read_back;
 use crate::bench::Bench;
 use crate::beside::{Seen, end_if, start_if};
 use crate::shape::{Part, Span};
-use crate::stop::Stop;
 use bw_codec::Record;
 use bw_drive::{OpenGate, Plan, drive};
 use bw_ring::Feed;
@@ -19,22 +18,9 @@ use std::thread::Threads;
 /// How often a writer tries to put a record, and how many turns a run has.
 const TRIES: u64 = 1_000_000_000_000;
 
-/// Adds the puts of one writer.
-fn add_script(
-    bench: &Bench,
-    scripts: &mut Vec<Vec<Record>>,
-    span: Span,
-    part: Part,
-) -> Result<(), Stop>
-    ensures { OnOk result (vec_len scripts.new ≡ vec_len scripts.old + 1) }
-{
-    let script = bench.options.shape().script(bench.alloc, span, part)?;
-    Ok(scripts.push(script)?)
-}
-
 /// The puts of each writer.
-fn scripts_of(bench: &Bench, span: Span, writers: usize) -> Result<Vec<Vec<Record>>, Stop>
-    ensures { IfOk result (λ scripts. vec_len scripts ≡ writers) }
+fn scripts_of(bench: &Bench, span: Span, writers: usize) -> Option<Vec<Vec<Record>>>
+    ensures { IfSome result (λ scripts. vec_len scripts ≡ writers) }
 {
     let mut scripts: Vec<Vec<Record>> = Vec::new(bench.alloc);
     'writers: for writer in 0..writers {
@@ -42,9 +28,10 @@ fn scripts_of(bench: &Bench, span: Span, writers: usize) -> Result<Vec<Vec<Recor
             writer: writer as u64,
             of: writers as u64,
         };
-        add_script(bench, &mut scripts, span, part)?;
+        let script = bench.options.shape().script(bench.alloc, span, part)?;
+        scripts.push(script).ok()?;
     }
-    Ok(scripts)
+    Some(scripts)
 }
 
 /// Runs the writers, and answers the feeds and the nanoseconds.
@@ -54,11 +41,11 @@ fn drive_span<R: Threads + Wait>(
     store: &mut Store,
     feeds: Vec<Feed>,
     span: Span,
-) -> Result<(Vec<Feed>, u64), Stop>
+) -> Option<(Vec<Feed>, u64)>
     requires sound { IsSound store.old holding }
     requires feeds { map ring_of_feed feeds.items ≡ (kept_by store.old holding).rings }
     ensures sound { IsSound store.new holding }
-    ensures feeds { IfOk result (λ r.
+    ensures feeds { IfSome result (λ r.
         map ring_of_feed r.0.items ≡ (kept_by store.new holding).rings) }
 {
     let plan = Plan {
@@ -69,8 +56,8 @@ fn drive_span<R: Threads + Wait>(
     let scripts = scripts_of(bench, span, feeds.len())?;
     let start = bench.now();
     match drive(rt, store, feeds, scripts, &OpenGate, plan, TRIES) {
-        Ok(driven) => Ok((driven.feeds, bench.since(start))),
-        Err(fault) => Err(Stop::from(fault.cause)),
+        Ok(driven) => Some((driven.feeds, bench.since(start))),
+        Err(fault) => bench.refused(fault.cause),
     }
 }
 
@@ -80,7 +67,7 @@ fn drive_both<R: Threads + Wait>(
     bench: &Bench,
     store: &mut Store,
     feeds: Vec<Feed>,
-) -> Result<(u64, u64), Stop>
+) -> Option<(u64, u64)>
     requires sound { IsSound store.old holding }
     requires feeds { map ring_of_feed feeds.items ≡ (kept_by store.old holding).rings }
     ensures { IsSound store.new holding }
@@ -88,7 +75,7 @@ fn drive_both<R: Threads + Wait>(
     let (load, update) = bench.options.spans();
     let (feeds, first) = drive_span(rt, bench, store, feeds, load)?;
     let (_feeds, second) = drive_span(rt, bench, store, feeds, update)?;
-    Ok((first, second))
+    Some((first, second))
 }
 
 /// The same, a reader beside or not: the nanoseconds of each, and what the reader saw.
@@ -98,17 +85,16 @@ fn drive_beside<R: Threads + Wait>(
     store: &mut Store,
     feeds: Vec<Feed>,
     is_read: bool,
-) -> Result<(u64, u64, Option<Seen>), Stop>
+) -> Option<(u64, u64, Option<Seen>)>
     requires sound { IsSound store.old holding }
     requires feeds { map ring_of_feed feeds.items ≡ (kept_by store.old holding).rings }
     ensures { IsSound store.new holding }
 {
-    let options = bench.options;
-    let looker = start_if(rt, store, options.shape(), options.puts(), is_read)?;
+    let looker = start_if(rt, bench, store, bench.options.puts(), is_read)?;
     let went = drive_both(rt, bench, store, feeds);
-    let seen = end_if(rt, looker, went.is_ok());
+    let seen = end_if(rt, looker, went.is_some());
     let (first, second) = went?;
-    Ok((first, second, seen))
+    Some((first, second, seen))
 }
 
 /// New keys, then old ones, and reads all keys back.
@@ -118,7 +104,7 @@ pub fn driven<R: Threads + Wait>(
     store: &mut Store,
     feeds: Vec<Feed>,
     is_read: bool,
-) -> Result<(), Stop>
+) -> Option<()>
     requires sound { IsSound store.old holding }
     requires feeds { map ring_of_feed feeds.items ≡ (kept_by store.old holding).rings }
     ensures { IsSound store.new holding }

@@ -21,60 +21,60 @@ const SIZES: &[(&str, usize)] = &[
 const APPENDS: u64 = 256;
 
 /// The folder of this name in another.
-fn open_folder(bench: &Bench, dir: &str, name: &'static str) -> Result<Folder, Stop> {
-    let path = format!(in bench.alloc; "{dir}/{name}")?;
-    Ok(Folder::open(&bench.system, path.as_str())?)
+fn open_folder(bench: &Bench, dir: &str, name: &'static str) -> Option<Folder> {
+    let path = format!(in bench.alloc; "{dir}/{name}").ok()?;
+    match Folder::open(&bench.system, path.as_str()) {
+        Ok(folder) => Some(folder),
+        Err(fault) => bench.not_opened(fault),
+    }
 }
 
-fn must_be_empty(bench: &Bench, folder: &Folder) -> Result<(), Stop> {
-    let leases = folder.leases(&bench.system)?;
-    if leases.is_empty() {
-        return Ok(());
+fn must_be_empty(bench: &Bench, folder: &Folder) -> Option<()> {
+    match folder.leases(&bench.system) {
+        Ok(leases) if leases.is_empty() => Some(()),
+        Ok(_) => bench.stop(Stop::Refused, "a folder that holds segments"),
+        Err(fault) => bench.not_opened(fault),
     }
-    Err(Stop::Failed("a folder that holds segments"))
 }
 
 /// The same, without segments, so that a run empties nobody's files.
-fn new_folder(bench: &Bench, dir: &str, name: &'static str) -> Result<Folder, Stop> {
+fn new_folder(bench: &Bench, dir: &str, name: &'static str) -> Option<Folder> {
     let folder = open_folder(bench, dir, name)?;
     must_be_empty(bench, &folder)?;
-    Ok(folder)
+    Some(folder)
 }
 
-/// Appends a piece, where the segment has room for it.
-fn append(segment: &mut FileSegment, piece: &[u8]) -> Result<(), Stop> {
-    let (held, capacity) = (segment.len(), segment.capacity());
-    if held > capacity || piece.len() as u64 > capacity - held || segment.failures() > 0 {
-        return Err(Stop::Failed("an append beyond a segment"));
-    }
-    match segment.append(piece) {
-        Ok(()) => Ok(()),
-        Err(_) => Err(Stop::Failed("an append")),
-    }
-}
-
-/// Appends a piece over and over.
-fn append_all(segment: &mut FileSegment, piece: &[u8]) -> Result<(), Stop> {
-    for _ in 0..APPENDS {
-        append(segment, piece)?;
-    }
-    Ok(())
-}
-
-/// A new file of the next lease, or the one that is there.
-fn file(
-    bench: &Bench,
-    folder: &Folder,
-    desk: &mut Desk,
-    is_new: bool,
-) -> Result<FileSegment, Stop> {
-    let lease = desk.take()?;
+/// A new file of the next lease, or the one that is there. The desk has a lease.
+fn file(bench: &Bench, folder: &Folder, desk: &mut Desk, is_new: bool) -> Option<FileSegment> {
+    let lease = desk.take().ok()?;
     let opened = if is_new {
         folder.spare(&bench.system, lease, CAPACITY)
     } else {
         folder.segment(&bench.system, lease, CAPACITY)
     };
-    Ok(opened?)
+    match opened {
+        Ok(segment) => Some(segment),
+        Err(refused) => bench.not_opened(refused.cause),
+    }
+}
+
+/// Appends a piece, where the segment has room for it.
+fn append(segment: &mut FileSegment, piece: &[u8]) -> bool {
+    let (held, capacity) = (segment.len(), segment.capacity());
+    if held > capacity || piece.len() as u64 > capacity - held || segment.failures() > 0 {
+        return false;
+    }
+    segment.append(piece).is_ok()
+}
+
+/// Appends a piece over and over.
+fn append_all(bench: &Bench, segment: &mut FileSegment, piece: &[u8]) -> Option<()> {
+    for _ in 0..APPENDS {
+        if !append(segment, piece) {
+            return bench.stop(Stop::Refused, "an append");
+        }
+    }
+    Some(())
 }
 
 /// Appends a piece over and over to a new file, and waits each time until it stands.
@@ -84,29 +84,26 @@ fn append_to_file(
     desk: &mut Desk,
     name: &'static str,
     piece: &[u8],
-) -> Result<(), Stop> {
+) -> Option<()> {
     let mut segment = file(bench, folder, desk, true)?;
     let start = bench.now();
-    append_all(&mut segment, piece)?;
-    let nanos = bench.since(start);
-    bench.tell(name, APPENDS, nanos);
-    Ok(())
+    append_all(bench, &mut segment, piece)?;
+    bench.tell(name, APPENDS, bench.since(start));
+    Some(())
 }
 
 /// Appends of each size, to a file of its own each.
-fn append_sizes(bench: &Bench, folder: &Folder, desk: &mut Desk) -> Result<(), Stop> {
+fn append_sizes(bench: &Bench, folder: &Folder, desk: &mut Desk) -> Option<()> {
     let bytes = [7u8; 65_536];
     for &(name, size) in SIZES {
-        if let Some(piece) = bytes.get(..size) {
-            append_to_file(bench, folder, desk, name, piece)?;
-        }
+        append_to_file(bench, folder, desk, name, bytes.get(..size)?)?;
     }
-    Ok(())
+    Some(())
 }
 
 /// The same in a new folder.
-pub fn appends(bench: &Bench, dir: &str) -> Result<(), Stop> {
-    let mut desk = Desk::new(bench.alloc, 3)?;
+pub fn appends(bench: &Bench, dir: &str) -> Option<()> {
+    let mut desk = Desk::new(bench.alloc, 3).ok()?;
     let folder = new_folder(bench, dir, "appends")?;
     append_sizes(bench, &folder, &mut desk)
 }
@@ -118,11 +115,11 @@ fn with_boxes<R: Threads + Wait>(
     course: Option<Course>,
     start: u64,
     boxes: Vec<Box<dyn Segment>>,
-) -> Result<(), Stop> {
+) -> Option<()> {
     match course {
         Some(course) => {
             let _live = over(rt, bench, course, boxes)?;
-            Ok(())
+            Some(())
         }
         None => reopened(rt, bench, start, boxes),
     }
@@ -136,12 +133,11 @@ fn with_files<R: Threads + Wait>(
     start: u64,
     folder: &Folder,
     desk: &mut Desk,
-) -> Result<(), Stop> {
-    let alloc = bench.alloc;
-    let mut boxes: Vec<Box<dyn Segment>> = Vec::new(alloc);
+) -> Option<()> {
+    let mut boxes: Vec<Box<dyn Segment>> = Vec::new(bench.alloc);
     for _ in 0..count_of(bench.options) {
         let segment = file(bench, folder, desk, course.is_some())?;
-        boxes.push(Box::new(alloc, segment)?)?;
+        boxes.push(Box::new(bench.alloc, segment).ok()?).ok()?;
     }
     with_boxes(rt, bench, course, start, boxes)
 }
@@ -153,8 +149,8 @@ fn with_folder<R: Threads + Wait>(
     course: Option<Course>,
     start: u64,
     folder: &Folder,
-) -> Result<(), Stop> {
-    let mut desk = Desk::new(bench.alloc, count_of(bench.options))?;
+) -> Option<()> {
+    let mut desk = Desk::new(bench.alloc, count_of(bench.options)).ok()?;
     with_files(rt, bench, course, start, folder, &mut desk)
 }
 
@@ -166,7 +162,7 @@ pub fn over_files<R: Threads + Wait>(
     course: Course,
     dir: &str,
     name: &'static str,
-) -> Result<(), Stop> {
+) -> Option<()> {
     let folder = new_folder(bench, dir, name)?;
     with_folder(rt, bench, Some(course), 0, &folder)?;
     drop(folder);

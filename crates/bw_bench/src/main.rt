@@ -49,9 +49,9 @@ fn usage(system: HostRuntime, error: &Error) -> Stop {
     if is_memory(error) {
         return Stop::NoMemory;
     }
-    match eprintln!(system; "{error}") {
+    match eprintln!(system; "{error}\nsee --help") {
         Ok(()) => Stop::Usage,
-        Err(_) => Stop::Output,
+        Err(_) => Stop::System,
     }
 }
 
@@ -64,7 +64,7 @@ fn start<R: Threads + Wait>(rt: &R, system: HostRuntime, words: &[String]) -> Re
     };
     match Bench::new(system, options) {
         Ok(bench) => run(rt, &bench, scope),
-        Err(_) => Err(Stop::Output),
+        Err(_) => Err(Stop::System),
     }
 }
 
@@ -78,7 +78,9 @@ fn main(rt: HostRuntime) -> ExitCode {
     match start(&rt, rt, words.as_slice()) {
         Ok(()) => ExitCode::from(0),
         Err(stop) => {
-            let _ = eprintln!(rt; "{stop}");
+            if matches!(stop, Stop::NoMemory) {
+                let _ = rt.eprintln("out of memory");
+            }
             ExitCode::from(stop.status())
         }
     }

@@ -9,29 +9,22 @@ use crate::watch::resident;
 use bw_codec::Record;
 use bw_page::{ApplyError, Leaves};
 
-fn apply_one(leaves: &mut Leaves, item: &Record) -> Result<(), Stop>
-    requires { leaves.old.away ≡ [] }
-    ensures { leaves.new.away ≡ [] }
-{
-    match leaves.apply(item) {
-        Ok(_) => Ok(()),
-        Err(ApplyError::NoMemory) => Err(Stop::NoMemory),
-        Err(ApplyError::Spent) => Err(Stop::Failed("a page")),
-    }
-}
-
-fn apply_all(leaves: &mut Leaves, script: &[Record]) -> Result<(), Stop>
+fn apply_all(bench: &Bench, leaves: &mut Leaves, script: &[Record]) -> Option<()>
     requires { leaves.old.away ≡ [] }
     ensures { leaves.new.away ≡ [] }
 {
     'records: for item in script {
-        apply_one(leaves, item)?;
+        match leaves.apply(item) {
+            Ok(_) => {}
+            Err(ApplyError::NoMemory) => return None,
+            Err(fault) => return bench.stop(Stop::Refused, fault),
+        }
     }
-    Ok(())
+    Some(())
 }
 
 /// How many keys have not the value of the last of so many puts.
-fn wrong_of(leaves: &Leaves, shape: Shape, puts: u64) -> Result<u64, Stop>
+fn wrong_of(leaves: &Leaves, shape: Shape, puts: u64) -> Option<u64>
     requires { leaves.now.away ≡ [] }
 {
     let mut wrong = 0u64;
@@ -40,22 +33,17 @@ fn wrong_of(leaves: &Leaves, shape: Shape, puts: u64) -> Result<u64, Stop>
         let expected = shape.value(shape.last(put, puts))?;
         wrong = wrong.saturating_add(u64::from(found != Some(expected)));
     }
-    Ok(wrong)
+    Some(wrong)
 }
 
-fn apply_script(
-    bench: &Bench,
-    leaves: &mut Leaves,
-    span: Span,
-    script: &[Record],
-) -> Result<(), Stop>
+fn apply_script(bench: &Bench, leaves: &mut Leaves, span: Span, script: &[Record]) -> Option<()>
     requires { leaves.old.away ≡ [] }
     ensures { leaves.new.away ≡ [] }
 {
     let shape = bench.options.shape();
     let before = resident(bench);
     let start = bench.now();
-    apply_all(leaves, script)?;
+    apply_all(bench, leaves, script)?;
     let nanos = bench.since(start);
     bench.tell(span.name, span.count(), nanos);
     let grown = resident(bench).saturating_sub(before);
@@ -66,7 +54,7 @@ fn apply_script(
     bench.tell_wrong(span.name, shape.keys, wrong)
 }
 
-fn apply_span(bench: &Bench, leaves: &mut Leaves, span: Span) -> Result<(), Stop>
+fn apply_span(bench: &Bench, leaves: &mut Leaves, span: Span) -> Option<()>
     requires { leaves.old.away ≡ [] }
     ensures { leaves.new.away ≡ [] }
 {
@@ -74,7 +62,7 @@ fn apply_span(bench: &Bench, leaves: &mut Leaves, span: Span) -> Result<(), Stop
     apply_script(bench, leaves, span, script.as_slice())
 }
 
-fn apply_both(bench: &Bench, leaves: &mut Leaves) -> Result<(), Stop>
+fn apply_both(bench: &Bench, leaves: &mut Leaves) -> Option<()>
     requires { leaves.old.away ≡ [] }
     ensures { leaves.new.away ≡ [] }
 {
@@ -84,7 +72,7 @@ fn apply_both(bench: &Bench, leaves: &mut Leaves) -> Result<(), Stop>
 }
 
 /// Applies new keys, then old ones.
-pub fn pages(bench: &Bench) -> Result<(), Stop> {
-    let mut leaves = Leaves::one_empty(bench.alloc, 32)?;
+pub fn pages(bench: &Bench) -> Option<()> {
+    let mut leaves = Leaves::one_empty(bench.alloc, 32).ok()?;
     apply_both(bench, &mut leaves)
 }

@@ -12,7 +12,7 @@ use bw_store::Store;
 use std::sync::Wait;
 
 /// Tells what the two steps took from the start on, and reads all keys back.
-fn tell_opened(bench: &Bench, store: &mut Store, recovered: u64, opened: u64) -> Result<(), Stop>
+fn tell_opened(bench: &Bench, store: &mut Store, recovered: u64, opened: u64) -> Option<()>
     requires { IsSound store.old holding }
     ensures { IsSound store.new holding }
 {
@@ -30,9 +30,9 @@ pub fn reopened<R: Wait>(
     bench: &Bench,
     start: u64,
     boxes: Vec<Box<dyn Segment>>,
-) -> Result<(), Stop> {
+) -> Option<()> {
     let Ok(found) = recover(bench.alloc, boxes) else {
-        return Err(Stop::Failed("a recovery"));
+        return bench.stop(Stop::Refused, "a recovery");
     };
     let recovered = bench.since(start);
     match Store::reopen(rt, bench.alloc, found, 1, 1, 1) {
@@ -42,6 +42,6 @@ pub fn reopened<R: Wait>(
             let _ = store.shut(rt);
             went
         }
-        Err(fault) => Err(Stop::from(fault.cause)),
+        Err(fault) => bench.refused(fault.cause),
     }
 }

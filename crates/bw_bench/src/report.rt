@@ -4,15 +4,15 @@ use crate::bench::Bench;
 use crate::beside::Seen;
 use crate::stop::Stop;
 
-/// No value may be wrong.
-fn none_of(wrong: u64) -> Result<(), Stop> {
-    if wrong > 0 {
-        return Err(Stop::Wrong(wrong));
-    }
-    Ok(())
-}
-
 impl Bench {
+    /// No value may be wrong.
+    fn none_of(&self, wrong: u64) -> Option<()> {
+        if wrong > 0 {
+            return self.stop(Stop::Wrong, "wrong values");
+        }
+        Some(())
+    }
+
     /// Prints a text, and a number behind it.
     fn print(&self, text: &str, number: u64) {
         let written = print!(self.system; "{text}{number}");
@@ -67,18 +67,18 @@ impl Bench {
 
     /// How many keys were read back, and how many of them otherwise than they were put: none may
     /// be.
-    pub fn tell_wrong(&self, name: &'static str, keys: u64, wrong: u64) -> Result<(), Stop> {
+    pub fn tell_wrong(&self, name: &'static str, keys: u64, wrong: u64) -> Option<()> {
         self.print_text(name);
         self.print(": ", keys);
         self.print(" read back, ", wrong);
         self.print_text(" wrong\n");
-        none_of(wrong)
+        self.none_of(wrong)
     }
 
     /// What a reader beside saw, if there was one: no value that was not put.
-    pub fn tell_seen(&self, seen: Option<Seen>) -> Result<(), Stop> {
+    pub fn tell_seen(&self, seen: Option<Seen>) -> Option<()> {
         let Some(seen) = seen else {
-            return Ok(());
+            return Some(());
         };
         if self.options.times {
             self.print("  beside it ", seen.lookups);
@@ -87,6 +87,6 @@ impl Bench {
         }
         self.print("  a reader beside: ", seen.wrong);
         self.print_text(" wrong\n");
-        none_of(seen.wrong)
+        self.none_of(seen.wrong)
     }
 }

@@ -1,7 +1,6 @@
 //! Keys and values of a run. Puts are numbered from 0: the first `keys` of them are of new keys,
 //! each of them once, and every `keys` more put the same keys again in the same order.
 
-use crate::stop::Stop;
 use bw_codec::{Key, Record, Value};
 use std::alloc::Global;
 
@@ -62,31 +61,25 @@ impl Shape {
         self.shared.saturating_add(8)
     }
 
-    /// The key of a put.
-    pub fn key(self, put: u64) -> Result<Key, Stop> {
+    /// The key of a put. The options keep to the lengths that a key and a value may have.
+    pub fn key(self, put: u64) -> Option<Key> {
         let mut bytes = [b'k'; 64];
         if let Some(rest) = bytes.get_mut(self.shared..)
             && let Some(own) = rest.first_chunk_mut()
         {
             *own = self.number(put).to_be_bytes();
         }
-        match bytes.get(..self.length()) {
-            Some(bytes) => Ok(Key::new(bytes)?),
-            None => Err(Stop::Failed("a length")),
-        }
+        Key::new(bytes.get(..self.length())?).ok()
     }
 
     /// The value of a put: the number of its key, its round, and a filler of both.
-    pub fn value(self, put: u64) -> Result<Value, Stop> {
+    pub fn value(self, put: u64) -> Option<Value> {
         let (number, round) = (self.number(put), self.round(put));
         let word = number.wrapping_add(round.wrapping_mul(ROUND));
         let [filler, ..] = number.wrapping_add(round).to_le_bytes();
         let mut bytes = [filler; 128];
         bytes[..8].copy_from_slice(&word.to_le_bytes());
-        match bytes.get(..self.value_length) {
-            Some(bytes) => Ok(Value::new(bytes)?),
-            None => Err(Stop::Failed("a length")),
-        }
+        Value::new(bytes.get(..self.value_length)?).ok()
     }
 
     /// The last put of the same key among the first so many.
@@ -106,17 +99,17 @@ impl Shape {
     }
 
     /// The puts of a span that are a writer's.
-    pub fn script(self, alloc: Global, span: Span, part: Part) -> Result<Vec<Record>, Stop> {
+    pub fn script(self, alloc: Global, span: Span, part: Part) -> Option<Vec<Record>> {
         let mut script = Vec::new(alloc);
         for put in span.from..span.to {
             if rest(rest(put, self.keys), part.of) == part.writer {
-                script.push(self.record(put)?)?;
+                script.push(self.record(put)?).ok()?;
             }
         }
-        Ok(script)
+        Some(script)
     }
 
-    fn record(self, put: u64) -> Result<Record, Stop> {
-        Ok(Record::Put(self.key(put)?, self.value(put)?))
+    fn record(self, put: u64) -> Option<Record> {
+        Some(Record::Put(self.key(put)?, self.value(put)?))
     }
 }

@@ -92,7 +92,7 @@ fn run_one<R: Threads + Wait>(
     dir: Option<&str>,
     name: &'static str,
     work: Work,
-) -> Result<(), Stop> {
+) -> Option<()> {
     match (work, dir) {
         (Work::Pages, _) => pages(bench),
         (Work::Cleaning, _) => cleaning(bench),
@@ -108,7 +108,7 @@ pub fn run<R: Threads + Wait>(rt: &R, bench: &Bench, scope: Scope<'_>) -> Result
     for &(name, work) in SUBJECTS {
         if is_asked(scope, name, work) {
             bench.tell_name(name);
-            run_one(rt, bench, scope.dir, name, work).and(bench.end())?;
+            bench.end(run_one(rt, bench, scope.dir, name, work))?;
         }
     }
     Ok(())
