@@ -1,6 +1,6 @@
 -- A log of one page takes one more frame, and stays one through each other call.
 
-use Rattle.std.proofs.Common.{◌≡◌, ℕ, ◌+◌, ◌^◌, ◌<◌, ◌≤◌, ◌==◌, ◌&&◌, drop, lit≤, lit<, Bool, true, false, Option, Some, None, Ok, Err, MatchOption, eq-eqb}
+use Rattle.std.proofs.Common.{◌≡◌, ℕ, ◌+◌, ◌^◌, ◌<◌, ◌≤◌, ◌==◌, ◌&&◌, drop, lit≤, lit<, Bool, true, false, Option, Some, None, Result, Ok, Err, MatchOption, eq-eqb}
 use Rattle.std.proofs.Common.{List, [], ◌∷◌, ◌++◌, length, slice_get, refl, sym, ap, subst, ◌∙◌, append-nil, arith, length-append}
 use Rattle.std.proofs.lemmas.Bool.{and_from}
 use Rattle.std.specs.List.{AllByRecursion}
@@ -226,6 +226,12 @@ base_left old new n leaf copy buffer blocks one is spelled same left =
     let made : buffer ≡ filled n (Base leaf ∷ []) = is ∙ ap (filled n) (spelled ∙ ap (λ (l : Leaf). Base l ∷ []) same) in
     holds_more old new (frame_of buffer) true leaf leaf one left one.is
     (subst (λ (b : Filling). Stand 4 (counted old ++ frame_of b ∷ []) (leaf ∷ [])) (sym made) (base_stands old n leaf one))
+
+-- the same whatever the append answers
+pub base_after : (old new : Contents) (n : ℕ) (leaf copy : Leaf) (buffer : Filling) (blocks : List Block) (answer : Result (Unit {0}) LogFault) → HoldsOne old leaf
+    → buffer ≡ filled n blocks → blocks ≡ Base copy ∷ [] → copy ≡ leaf → AfterAppend old (frame_of buffer) true answer new → HoldsOne new leaf
+base_after old new n leaf copy buffer blocks (Ok tt) one is spelled same left = base_left old new n leaf copy buffer blocks one is spelled same left
+base_after old new n leaf copy buffer blocks (Err fault) one is spelled same left = holds_refused old new (frame_of buffer) true fault leaf one left
 
 -- ---- the first frame
 

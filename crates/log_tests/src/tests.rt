@@ -1,6 +1,6 @@
 // What no clause says: that calls succeed where memory is there, and which box takes what.
 
-ghost use Rattle.std.specs.Prelude.{◌≡◌, ◌≤◌, true, length, IfOk};
+ghost use Rattle.std.specs.Prelude.{◌≡◌, ◌≤◌, true, length, IfSome};
 ghost use Rattle.std.specs.List.{AllByRecursion};
 ghost use Rattle.bw_codec.specs.Grammar.{IsBlock};
 
@@ -8,8 +8,8 @@ use bw_buffer::Buffer;
 use bw_codec::{Block, Leaf};
 use bw_device::{Desk, FuseSegment, MemSegment, Segment};
 use std::alloc::Global;
+use std::mem;
 use std::process::Abort;
-use std::test::Fail;
 
 mod care;
 mod devices;
@@ -26,31 +26,55 @@ fn all_went(rt: &impl Abort, wrong: Option<(usize, usize)>) {
     assert_eq!(rt; wrong, None);
 }
 
+/// A table of rows or steps.
+trait Table {
+    /// The first row that does not go as told; the first one where memory was wanted before it.
+    fn wrong_row(&self, alloc: Global) -> Option<usize>;
+}
+
+/// The first table that does not go as told, and its row.
+fn first_wrong<T: Table>(alloc: Global, tables: &[T]) -> Option<(usize, usize)> {
+    for (i, table) in tables.iter().enumerate() {
+        if let Some(row) = table.wrong_row(alloc) {
+            return Some((i, row));
+        }
+    }
+    None
+}
+
 // A sealed buffer of these blocks.
-fn sealed(alloc: Global, frame: u64, blocks: &[Block]) -> Result<Buffer, Fail>
+fn sealed(alloc: Global, frame: u64, blocks: &[Block]) -> Option<Buffer>
     requires numbered { 1 ≤ frame }
     requires some { 1 ≤ length blocks.now }
     requires lawful { AllByRecursion (IsBlock 32) blocks.now }
-    ensures { IfOk result (λ b.
+    ensures { IfSome result (λ b.
         b ≡ record { frame = frame; limit = 16384; blocks = blocks.now; is_sealed = true }) }
 {
-    let mut buffer = Buffer::new(alloc, frame, 16384)?;
-    buffer.put_all(blocks)?;
-    buffer.seal();
-    Ok(buffer)
+    let Ok(mut buffer) = Buffer::new(alloc, frame, 16384) else {
+        return None;
+    };
+    match buffer.put_all(blocks) {
+        Ok(_) => {
+            buffer.seal();
+            Some(buffer)
+        }
+        Err(_) => None,
+    }
 }
 
 /// A desk, and boxes with leases of it.
 #[derive(Drop)]
 struct Yard {
+    alloc: Global,
     desk: Desk,
     boxes: Vec<Box<dyn Segment>>,
 }
 
 /// A yard without a box.
-fn empty_yard(alloc: Global, leases: u32) -> Result<Yard, Fail> {
-    Ok(Yard {
-        desk: Desk::new(alloc, leases)?,
+fn empty_yard(alloc: Global, leases: u32) -> Option<Yard> {
+    Some(Yard {
+        alloc,
+        desk: Desk::new(alloc, leases).ok()?,
         boxes: Vec::new(alloc),
     })
 }
@@ -62,54 +86,38 @@ type Fuse = (u64, u64);
 const NEVER: Fuse = (u64::MAX, 0);
 
 /// One more box of this room, which holds these bytes.
-fn add_box(
-    alloc: Global,
-    yard: &mut Yard,
-    bytes: &[u8],
-    room: u64,
-    fuse: Fuse,
-) -> Result<(), Fail> {
-    let segment = MemSegment::with_bytes(alloc, yard.desk.take()?, room, bytes)?;
+fn add_box(yard: &mut Yard, bytes: &[u8], room: u64, fuse: Fuse) -> Option<()> {
+    let alloc = yard.alloc;
+    let segment = MemSegment::with_bytes(alloc, yard.desk.take().ok()?, room, bytes).ok()?;
     let one: Box<dyn Segment> = if fuse.0 < u64::MAX {
-        Box::new(alloc, FuseSegment::new(segment, fuse.0, fuse.1))?
+        Box::new(alloc, FuseSegment::new(segment, fuse.0, fuse.1)).ok()?
     } else {
-        Box::new(alloc, segment)?
+        Box::new(alloc, segment).ok()?
     };
-    yard.boxes.push(one)?;
-    Ok(())
+    yard.boxes.push(one).ok()
 }
 
 /// So many boxes more of this room, of which each holds these bytes.
-fn add_boxes(
-    alloc: Global,
-    yard: &mut Yard,
-    many: u32,
-    bytes: &[u8],
-    room: u64,
-) -> Result<(), Fail> {
+fn add_boxes(yard: &mut Yard, many: u32, bytes: &[u8], room: u64) -> Option<()> {
     for _ in 0..many {
-        add_box(alloc, yard, bytes, room, NEVER)?;
+        add_box(yard, bytes, room, NEVER)?;
     }
-    Ok(())
+    Some(())
 }
 
 /// A yard of a box of the least capacity, which fails so, and so many more, with leases from 0 on.
-fn yard_of(alloc: Global, more: u32, fuse: Fuse) -> Result<Yard, Fail> {
+fn yard_of(alloc: Global, more: u32, fuse: Fuse) -> Option<Yard> {
     let mut full = empty_yard(alloc, 8)?;
-    add_box(alloc, &mut full, &[], 16_408, fuse)?;
-    add_boxes(alloc, &mut full, more, &[], 16_408)?;
-    Ok(full)
+    add_box(&mut full, &[], 16_408, fuse)?;
+    add_boxes(&mut full, more, &[], 16_408)?;
+    Some(full)
 }
 
-/// What stands in a yard, and the yard with one more box of this room in its place.
-fn taken_out(alloc: Global, full: Yard, room: u64) -> Result<(Vec<Box<dyn Segment>>, Yard), Fail> {
-    let Yard { desk, boxes } = full;
-    let mut beside = Yard {
-        desk,
-        boxes: Vec::new(alloc),
-    };
-    add_box(alloc, &mut beside, &[], room, NEVER)?;
-    Ok((boxes, beside))
+/// What stood in a yard, in which one more box of this room stands then.
+fn taken_out(yard: &mut Yard, room: u64) -> Option<Vec<Box<dyn Segment>>> {
+    let boxes = mem::replace(&mut yard.boxes, Vec::new(yard.alloc));
+    add_box(yard, &[], room, NEVER)?;
+    Some(boxes)
 }
 
 // Whether a page has these keys and values.

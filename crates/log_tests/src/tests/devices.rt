@@ -1,11 +1,10 @@
 // Segments, fuses and desks, in rows.
 
-use super::{NEVER, Yard, add_box, all_went, empty_yard};
+use super::{NEVER, Table, Yard, add_box, all_went, empty_yard, first_wrong};
 use bw_device::{
     Desk, FuseSegment, Lease, MAX_CAPACITY, MAX_LEASES, MemSegment, NotMade, NotTaken, Segment,
 };
 use std::alloc::Global;
-use std::test::Fail;
 
 /// One case over a desk, with what it has to answer.
 #[derive(Drop)]
@@ -57,82 +56,80 @@ fn has(one: &dyn Segment, lease: u32, len: usize, failures: u64) -> bool {
         && one.failures() == failures
 }
 
-// A segment of 8 bytes that fails as told.
-fn fuse(alloc: Global, calls: u64, keep: u64) -> Result<FuseSegment, Fail> {
-    let lease = Desk::new(alloc, 1)?.take()?;
-    Ok(FuseSegment::new(MemSegment::new(alloc, lease, 8)?, calls, keep))
+// Whether two appends and two reads of a segment that fails so go as told, and leave these bytes.
+fn burns(alloc: Global, fuse: (u64, u64), passes: &[bool; 4], held: &[u8]) -> Option<bool> {
+    let lease = Desk::new(alloc, 1).ok()?.take().ok()?;
+    let mut one = FuseSegment::new(MemSegment::new(alloc, lease, 8).ok()?, fuse.0, fuse.1);
+    let goes = appends(&mut one, b"abcd", passes[0])
+        && appends(&mut one, b"efgh", passes[1])
+        && reads(&mut one, held, passes[2])
+        && reads(&mut one, held, passes[3])
+        && has(&one, 0, held.len(), 1);
+    Some(goes)
 }
 
-// Whether two appends and two reads go as told, and leave these bytes.
-fn burns(one: &mut FuseSegment, passes: &[bool; 4], held: &[u8]) -> bool {
-    appends(one, b"abcd", passes[0])
-        && appends(one, b"efgh", passes[1])
-        && reads(one, held, passes[2])
-        && reads(one, held, passes[3])
-        && has(one, 0, held.len(), 1)
-}
-
-// Whether each call of a box of 8 bytes with three in it succeeds.
-fn each_call_succeeds(one: &mut dyn Segment, lease: u32) -> bool {
-    has(one, lease, 3, 0)
-        && appends(one, b"defgh", true)
-        && reads(one, b"abcdefgh", true)
-        && has(one, lease, 8, 0)
-}
-
-// Whether each call of the box with this lease succeeds, where it stands at its number.
+// Whether each call of the box of 8 bytes with this lease, with three bytes in it, succeeds, where
+// it stands at its number.
 fn succeeds(boxes: &mut [Box<dyn Segment>], lease: u32) -> bool {
     match boxes.get_mut(lease as usize) {
-        Some(one) => each_call_succeeds(&mut **one, lease),
+        Some(one) => has(&**one, lease, 3, 0)
+            && appends(&mut **one, b"defgh", true)
+            && reads(&mut **one, b"abcdefgh", true)
+            && has(&**one, lease, 8, 0),
         None => false,
     }
 }
 
 // Whether each call of a box of either kind succeeds, and the leases come back only when the boxes
 // are dropped.
-fn both_succeed(alloc: Global) -> Result<bool, Fail> {
+fn both_succeed(alloc: Global) -> Option<bool> {
     let mut full = empty_yard(alloc, 2)?;
-    add_box(alloc, &mut full, b"abc", 8, NEVER)?;
-    add_box(alloc, &mut full, b"abc", 8, (9, 0))?;
+    add_box(&mut full, b"abc", 8, NEVER)?;
+    add_box(&mut full, b"abc", 8, (9, 0))?;
     let Yard {
         mut desk,
         mut boxes,
+        ..
     } = full;
     let succeed = succeeds(boxes.as_mut_slice(), 0) && succeeds(boxes.as_mut_slice(), 1);
     let stay = desk.collect() == 0;
     drop(boxes);
-    Ok(succeed && stay && desk.collect() == 2)
+    Some(succeed && stay && desk.collect() == 2)
 }
 
 // Whether no segment is made, for the capacity, and the first lease comes back.
-fn is_refused(alloc: Global, desk: &mut Desk, capacity: u64) -> Result<bool, Fail> {
-    match MemSegment::with_bytes(alloc, desk.take()?, capacity, b"abc") {
-        Ok(_) => Ok(false),
-        Err(refused) => Ok(refused.cause == NotMade::BadConfig && refused.lease.number() == 0),
+fn is_refused(alloc: Global, desk: &mut Desk, capacity: u64) -> Option<bool> {
+    match MemSegment::with_bytes(alloc, desk.take().ok()?, capacity, b"abc") {
+        Ok(_) => Some(false),
+        Err(refused) => Some(refused.cause == NotMade::BadConfig && refused.lease.number() == 0),
     }
 }
 
-// So many leases of a desk, by their numbers.
-fn leases_of(alloc: Global, desk: &mut Desk, many: u32) -> Result<Vec<Option<Lease>>, Fail> {
+// So many leases of a desk, which are all, by their numbers; none where another one is taken.
+fn leases_of(alloc: Global, desk: &mut Desk, many: u32) -> Option<Vec<Option<Lease>>> {
     let mut leases = Vec::new(alloc);
     for number in 0..many {
-        let lease = desk.take()?;
+        let lease = desk.take().ok()?;
         if lease.number() != number {
-            return Err(Fail::from("another lease"));
+            return None;
         }
-        leases.push(Some(lease))?;
+        leases.push(Some(lease)).ok()?;
     }
-    Ok(leases)
+    if desk.take().err() != Some(NotTaken::NoLease) {
+        return None;
+    }
+    Some(leases)
 }
 
-// What is collected where the leases are dropped in this order and collected where told, as long as
-// each is out until then.
+// What is collected where three leases, which are all, are dropped in this order and collected
+// where told, as long as each is out until then.
 fn collected(
+    alloc: Global,
     desk: &mut Desk,
-    leases: &mut [Option<Lease>],
     order: &[u32; 3],
     collects: &[bool; 3],
 ) -> Option<[u32; 3]> {
+    let mut leases = leases_of(alloc, desk, 3)?;
     let mut told = [0; 3];
     for i in 0..3 {
         if let Some(lease) = leases.get_mut(order[i] as usize) {
@@ -156,77 +153,63 @@ const WAYS: &[([bool; 3], [u32; 3])] = &[
     ([true, true, true], [1, 1, 1]),
 ];
 
-// Whether three leases, which are all, come back when they are dropped in this order.
-fn come_back(alloc: Global, desk: &mut Desk, order: &[u32; 3]) -> Result<bool, Fail> {
+// Whether three leases come back when they are dropped in this order.
+fn come_back(alloc: Global, desk: &mut Desk, order: &[u32; 3]) -> bool {
     for (collects, told) in WAYS {
-        let mut leases = leases_of(alloc, desk, 3)?;
-        if desk.take().err() != Some(NotTaken::NoLease)
-            || collected(desk, &mut leases, order, collects) != Some(*told)
-        {
-            return Ok(false);
+        if collected(alloc, desk, order, collects) != Some(*told) {
+            return false;
         }
     }
-    Ok(true)
-}
-
-// Whether leases 0 and 2 are taken one after the other.
-fn are_next(desk: &mut Desk) -> Result<bool, Fail> {
-    let first = desk.take()?;
-    let second = desk.take()?;
-    Ok(first.number() == 0 && second.number() == 2)
+    true
 }
 
 // Whether leases 0 and 2 are taken, where lease 1 came back and is not collected yet.
-fn least_is_taken(alloc: Global, desk: &mut Desk) -> Result<bool, Fail> {
-    let mut leases = leases_of(alloc, desk, 3)?;
-    let answers = collected(desk, &mut leases, &[2, 0, 1], &[false, true, false]);
-    Ok(answers == Some([0, 2, 0]) && are_next(desk)?)
+fn least_is_taken(alloc: Global, desk: &mut Desk) -> Option<bool> {
+    let answers = collected(alloc, desk, &[2, 0, 1], &[false, true, false])?;
+    let first = desk.take().ok()?;
+    let second = desk.take().ok()?;
+    Some(answers == [0, 2, 0] && first.number() == 0 && second.number() == 2)
 }
 
 // Whether all leases are given out in order, come back when they are dropped, and are free from
 // then on, the last one too.
-fn all_come_back(alloc: Global, desk: &mut Desk) -> Result<bool, Fail> {
+fn all_come_back(alloc: Global, desk: &mut Desk) -> Option<bool> {
     let leases = leases_of(alloc, desk, MAX_LEASES)?;
-    let full = desk.take().err() == Some(NotTaken::NoLease) && desk.is_out(MAX_LEASES - 1);
-    let held = desk.collect() == 0;
+    let held = desk.is_out(MAX_LEASES - 1) && desk.collect() == 0;
     drop(leases);
-    Ok(full && held && desk.collect() == MAX_LEASES && !desk.is_out(MAX_LEASES - 1))
+    Some(held && desk.collect() == MAX_LEASES && !desk.is_out(MAX_LEASES - 1))
 }
 
 // Whether the row goes as told.
-fn goes(alloc: Global, desk: &mut Desk, row: &Row) -> Result<bool, Fail> {
+fn goes(alloc: Global, desk: &mut Desk, row: &Row) -> Option<bool> {
     match row {
         Fuse(calls, keep, passes, held) => {
-            Ok(burns(&mut fuse(alloc, *calls, *keep)?, passes, held.as_bytes()))
+            burns(alloc, (*calls, *keep), passes, held.as_bytes())
         }
         Boxes => both_succeed(alloc),
-        Row::NotMade(capacity) => Ok(is_refused(alloc, desk, *capacity)? && desk.collect() == 1),
-        Row::Desk(many, told) => Ok(Desk::new(alloc, *many).err() == *told),
-        Order(order) => come_back(alloc, desk, order),
+        Row::NotMade(capacity) => Some(is_refused(alloc, desk, *capacity)? && desk.collect() == 1),
+        Row::Desk(many, told) => Some(Desk::new(alloc, *many).err() == *told),
+        Order(order) => Some(come_back(alloc, desk, order)),
         Least => least_is_taken(alloc, desk),
         All => all_come_back(alloc, desk),
     }
 }
 
-// The first row over a desk of so many leases that does not go as told.
-fn wrong_row(alloc: Global, many: u32, rows: &[Row]) -> Result<Option<usize>, Fail> {
-    let mut desk = Desk::new(alloc, many)?;
-    for (i, row) in rows.iter().enumerate() {
-        if !goes(alloc, &mut desk, row)? {
-            return Ok(Some(i));
-        }
-    }
-    Ok(None)
-}
+// Rows over a desk of so many leases.
+type OfLeases = (u32, &'static [Row]);
 
-// The first of the tables that does not go as told, each over a desk of so many, and its row.
-fn first_wrong(alloc: Global, tables: &[(u32, &[Row])]) -> Result<Option<(usize, usize)>, Fail> {
-    for (i, (many, rows)) in tables.iter().enumerate() {
-        if let Some(row) = wrong_row(alloc, *many, rows)? {
-            return Ok(Some((i, row)));
+impl Table for OfLeases {
+    fn wrong_row(&self, alloc: Global) -> Option<usize> {
+        let Ok(mut desk) = Desk::new(alloc, self.0) else {
+            return Some(0);
+        };
+        for (i, row) in self.1.iter().enumerate() {
+            if goes(alloc, &mut desk, row) != Some(true) {
+                return Some(i);
+            }
         }
+        None
     }
-    Ok(None)
 }
 
 const FUSES: &[Row] = &[
@@ -264,7 +247,7 @@ const ORDERS: &[Row] = &[
     Order([2, 1, 0]),
 ];
 
-const TABLES: &[(u32, &[Row])] = &[
+const TABLES: &[OfLeases] = &[
     (1, FUSES),
     (1, &[Boxes]),
     (1, NOT_MADE),
@@ -275,7 +258,6 @@ const TABLES: &[(u32, &[Row])] = &[
 ];
 
 #[test]
-fn segments_fuses_and_desks_go_as_told(rt: HostRuntime) -> Result<(), Fail> {
-    all_went(&rt, first_wrong(rt.alloc(), TABLES)?);
-    Ok(())
+fn segments_fuses_and_desks_go_as_told(rt: HostRuntime) {
+    all_went(&rt, first_wrong(rt.alloc(), TABLES));
 }

@@ -1,17 +1,16 @@
 // What stands behind an append that failed, whatever beginning of its piece the box kept.
 
-ghost use Rattle.std.specs.Prelude.{[], OnOk};
+ghost use Rattle.std.specs.Prelude.{[], OnSome};
 ghost use Rattle.log_tests.specs.OnePage.{Counts};
 ghost use Rattle.log_tests.specs.Views.{seen, IsSound};
 
-use super::care::boxes::is_shown;
-use super::page::{begin, new_log, opening, put};
+use super::care::boxes::is_page;
+use super::page::{begin, log_over, opening, put};
 use super::walking::begun;
-use super::{all_went, yard_of};
+use super::{Table, all_went, first_wrong};
 use bw_device::Segment;
 use bw_log::{Log, LogFault};
 use std::alloc::Global;
-use std::test::Fail;
 
 // An append that fails: in which call of its box, over how many bytes, and of how many.
 #[derive(Drop)]
@@ -74,17 +73,6 @@ fn has_len(log: Log, len: u64) -> bool
     }
 }
 
-// Whether page 1 is as the first frame left it.
-fn is_read(log: &mut Log) -> bool
-    requires { IsSound log.old holding }
-    ensures { IsSound log.new holding }
-{
-    match log.read_page(1) {
-        Ok(leaf) => is_shown(&leaf, "1 : k=v;"),
-        Err(_) => false,
-    }
-}
-
 // Whether a failed log still tells the row.
 fn tells(log: &mut Log, row: &Row) -> bool
     requires { IsSound log.old holding }
@@ -99,60 +87,67 @@ fn tells(log: &mut Log, row: &Row) -> bool
     if log.ready(52, false) != Err(LogFault::Failed) {
         return false;
     }
-    is_read(log) == row.is_read
+    is_page(log, 1, "1 : k=v;") == row.is_read
 }
 
 // Whether the first append fails.
-fn first_fails(alloc: Global, log: &mut Log) -> Result<bool, Fail>
+fn first_fails(alloc: Global, log: &mut Log) -> Option<bool>
     requires { Counts (seen log.old holding) [] }
-    ensures { OnOk result (IsSound log.new holding) }
+    ensures { OnSome result (IsSound log.new holding) }
 {
     let (frame, leaf) = opening(alloc)?;
-    Ok(begin(log, &frame, &leaf) == Err(LogFault::Device { lease: 0 }))
+    Some(begin(log, &frame, &leaf) == Err(LogFault::Device { lease: 0 }))
 }
 
 // Whether the second append fails.
-fn second_fails(alloc: Global, log: &mut Log) -> Result<bool, Fail>
+fn second_fails(alloc: Global, log: &mut Log) -> Option<bool>
     requires { Counts (seen log.old holding) [] }
-    ensures { OnOk result (IsSound log.new holding) }
+    ensures { OnSome result (IsSound log.new holding) }
 {
     let mut leaf = begun(alloc, log, false)?;
-    Ok(put(alloc, log, &mut leaf, b'b', b'2')? == Some(LogFault::Device { lease: 0 }))
+    put(
+        alloc,
+        log,
+        &mut leaf,
+        b'b',
+        b'2',
+        Some(LogFault::Device { lease: 0 }),
+    )
 }
 
-// Whether the append of the row fails, and what stands then is told so.
-fn fails(alloc: Global, log: &mut Log, row: &Row) -> Result<bool, Fail>
+// Whether the append of the row fails.
+fn fails(alloc: Global, log: &mut Log, row: &Row) -> Option<bool>
     requires { Counts (seen log.old holding) [] }
-    ensures { OnOk result (IsSound log.new holding) }
+    ensures { OnSome result (IsSound log.new holding) }
 {
     if row.calls < 2 {
-        Ok(first_fails(alloc, log)? && tells(log, row))
+        first_fails(alloc, log)
     } else {
-        Ok(second_fails(alloc, log)? && tells(log, row))
+        second_fails(alloc, log)
     }
 }
 
-// Whether the row goes as told where the box keeps so many bytes of the piece.
-fn goes(alloc: Global, row: &Row, keep: u64) -> Result<bool, Fail> {
-    let mut log = new_log(alloc, yard_of(alloc, 1, (row.calls, keep))?.boxes)?;
+// The same where the box keeps so many bytes of the piece, and what stands then is told so.
+fn goes(alloc: Global, row: &Row, keep: u64) -> Option<bool> {
+    let (mut log, _more) = log_over(alloc, 1, (row.calls, keep))?;
+    let fails = fails(alloc, &mut log, row)?;
     let len = u64::from(row.before) + keep.min(u64::from(row.piece));
-    Ok(fails(alloc, &mut log, row)? && has_len(log, len))
+    Some(fails && tells(&mut log, row) && has_len(log, len))
 }
 
-// The first row that does not go as told, and the bytes that the box kept.
-fn first_wrong(alloc: Global) -> Result<Option<(usize, usize)>, Fail> {
-    for (i, row) in ROWS.iter().enumerate() {
-        for keep in 0..=u64::from(row.piece) + 1 {
-            if !goes(alloc, row, keep)? {
-                return Ok(Some((i, keep as usize)));
+impl Table for Row {
+    /// The bytes that the box kept where it does not go as told.
+    fn wrong_row(&self, alloc: Global) -> Option<usize> {
+        for keep in 0..=u64::from(self.piece) + 1 {
+            if goes(alloc, self, keep) != Some(true) {
+                return Some(keep as usize);
             }
         }
+        None
     }
-    Ok(None)
 }
 
 #[test]
-fn what_stands_behind_a_failed_append_is_as_told(rt: HostRuntime) -> Result<(), Fail> {
-    all_went(&rt, first_wrong(rt.alloc())?);
-    Ok(())
+fn what_stands_behind_a_failed_append_is_as_told(rt: HostRuntime) {
+    all_went(&rt, first_wrong(rt.alloc(), ROWS));
 }

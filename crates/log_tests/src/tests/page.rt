@@ -1,35 +1,47 @@
 // A log of one page: each call on it leaves one page, which is known.
 
-ghost use Rattle.std.specs.Prelude.{◌≡◌, ◌≤◌, ◌∷◌, [], true, IfOk, OnOk};
+ghost use Rattle.std.specs.Prelude.{◌≡◌, ◌≤◌, ◌∷◌, [], true, IfSome, OnOk, OnSome};
 ghost use Rattle.bw_codec.specs.Grammar.{IsBlock};
 ghost use Rattle.bw_codec.specs.declared.block.Block.TheVariants.{Delta};
+ghost use Rattle.bw_codec.specs.declared.record.Record.TheVariants.{Put};
 ghost use Rattle.bw_buffer.specs.Filling.{frame_of};
 ghost use Rattle.bw_log.specs.Appends.{MayFollow, AfterAppend};
 ghost use Rattle.bw_log.specs.Views.{seen_by};
 ghost use Rattle.log_tests.specs.Views.{seen, IsSound};
 ghost use Rattle.log_tests.specs.OnePage.{Counts, HoldsOne, Opens, first_with, put_after, put_of};
 
-use super::sealed;
+use super::{Fuse, Yard, sealed, taken_out, yard_of};
 use bw_buffer::Buffer;
 use bw_codec::{Block, Key, Leaf, Ops, Place, Record, Value};
 use bw_device::Segment;
 use bw_log::{Log, LogFault};
 use bw_page::{change, count_after, empty_page};
 use std::alloc::Global;
-use std::test::Fail;
 
-fn one_put(key: u8, value: u8) -> Result<Record, Fail>
-    ensures { IfOk result (λ r. r ≡ put_of key value) }
+/// A put of this value at this key.
+pub(crate) fn record_of(key: &[u8], value: &[u8]) -> Option<Record>
+    ensures { IfSome result (λ r. r ≡ Put key.now value.now) }
 {
-    Ok(Record::Put(Key::new(&[key])?, Value::new(&[value])?))
+    let Ok(key) = Key::new(key) else {
+        return None;
+    };
+    let Ok(value) = Value::new(value) else {
+        return None;
+    };
+    Some(Record::Put(key, value))
 }
 
-pub(crate) fn ops_of(alloc: Global, key: u8, value: u8) -> Result<Ops, Fail>
-    ensures { IfOk result (λ ops. ops ≡ put_of key value ∷ []) }
+// A put of one byte at one byte.
+fn one_put(key: u8, value: u8) -> Option<Record>
+    ensures { IfSome result (λ r. r ≡ put_of key value) }
 {
-    let mut ops = Vec::new(alloc);
-    ops.push(one_put(key, value)?)?;
-    Ok(Ops::of(ops))
+    record_of(&[key], &[value])
+}
+
+pub(crate) fn ops_of(key: u8, value: u8) -> Option<Ops>
+    ensures { IfSome result (λ ops. ops ≡ put_of key value ∷ []) }
+{
+    Some(Ops::one(one_put(key, value)?))
 }
 
 // A sealed frame of one Delta of page 1.
@@ -39,39 +51,36 @@ pub(crate) fn put_frame(
     back: Place,
     key: u8,
     value: u8,
-) -> Result<Buffer, Fail>
+) -> Option<Buffer>
     requires number { 1 ≤ number }
     requires back { 1 ≤ back.frame }
-    ensures made { IfOk result (λ b. b ≡ record {
+    ensures made { IfSome result (λ b. b ≡ record {
       frame = number;
       limit = 16384;
       blocks = put_after back key value ∷ [];
       is_sealed = true;
     }) }
 {
-    let mut blocks = Vec::new(alloc);
-    blocks.push(Block::Delta {
-        page: 1,
-        back,
-        ops: ops_of(alloc, key, value)?,
-    })?;
-    sealed(alloc, number, blocks.as_slice())
+    let ops = ops_of(key, value)?;
+    let block = Block::Delta { page: 1, back, ops };
+    sealed(alloc, number, &[block])
 }
 
 /// The first frame: page 1 empty, then with these changes.
-pub(crate) fn first_frame(alloc: Global, ops: Ops) -> Result<Buffer, Fail>
+pub(crate) fn first_frame(alloc: Global, ops: Ops) -> Option<Buffer>
     requires { IsBlock 32 (Delta 1 (record { frame = 1; index = 0 }) ops) }
-    ensures { IfOk result (λ b.
+    ensures { IfSome result (λ b.
         b ≡ record { frame = 1; limit = 16384; blocks = first_with ops; is_sealed = true }) }
 {
-    let mut blocks = Vec::new(alloc);
-    blocks.push(Block::Base(empty_page(alloc)))?;
-    blocks.push(Block::Delta {
-        page: 1,
-        back: Place { frame: 1, index: 0 },
-        ops,
-    })?;
-    sealed(alloc, 1, blocks.as_slice())
+    let blocks = [
+        Block::Base(empty_page(alloc)),
+        Block::Delta {
+            page: 1,
+            back: Place { frame: 1, index: 0 },
+            ops,
+        },
+    ];
+    sealed(alloc, 1, &blocks)
 }
 
 /// As an ordinary append, or as the cleaner's.
@@ -90,58 +99,57 @@ pub(crate) fn append(log: &mut Log, buffer: &Buffer, takes_last: bool) -> Result
     }
 }
 
-/// Puts one pair, if that leaves four pairs at most; what refused it, if anything did.
+/// Puts one pair, if that leaves four pairs at most; whether the append is refused as told.
 pub(crate) fn put(
     alloc: Global,
     log: &mut Log,
     leaf: &mut Leaf,
     key: u8,
     value: u8,
-) -> Result<Option<LogFault>, Fail>
+    told: Option<LogFault>,
+) -> Option<bool>
     requires { HoldsOne (seen log.old holding) leaf.old }
-    ensures { OnOk result (HoldsOne (seen log.new holding) leaf.new) }
+    ensures { OnSome result (HoldsOne (seen log.new holding) leaf.new) }
 {
     let change_of = one_put(key, value)?;
-    let Some(back) = log.place_of(1) else {
-        return Ok(Some(LogFault::NoPage));
-    };
-    let Some(number) = log.next_frame() else {
-        return Ok(Some(LogFault::Spent));
+    let (Some(back), Some(number)) = (log.place_of(1), log.next_frame()) else {
+        return None;
     };
     if back.frame == 0 || number == 0 || count_after(leaf, &change_of) > 4 {
-        return Ok(Some(LogFault::BadConfig));
+        return None;
     }
     let buffer = put_frame(alloc, number, back, key, value)?;
     // Tells the proof that the frame is within its limit.
     let _ = buffer.bytes();
     match append(log, &buffer, false) {
-        Ok(()) => {
-            change(leaf, &change_of)?;
-            Ok(None)
-        }
-        Err(fault) => Ok(Some(fault)),
+        Ok(()) => match change(leaf, &change_of) {
+            Ok(()) => Some(told.is_none()),
+            Err(_) => None,
+        },
+        Err(fault) => Some(told == Some(fault)),
     }
 }
 
-/// Writes the page again as it stands, as the cleaner does.
-pub(crate) fn rewrite(alloc: Global, log: &mut Log, leaf: &Leaf) -> Result<Option<LogFault>, Fail>
+/// Writes the page again as it stands, as the cleaner does; whether that is refused as told.
+pub(crate) fn rewrite(
+    alloc: Global,
+    log: &mut Log,
+    leaf: &Leaf,
+    told: Option<LogFault>,
+) -> Option<bool>
     requires { HoldsOne (seen log.old holding) leaf.now }
-    ensures { OnOk result (HoldsOne (seen log.new holding) leaf.now) }
+    ensures { OnSome result (HoldsOne (seen log.new holding) leaf.now) }
 {
-    let Some(number) = log.next_frame() else {
-        return Ok(Some(LogFault::Spent));
-    };
+    let number = log.next_frame()?;
     if number == 0 {
-        return Ok(Some(LogFault::BadConfig));
+        return None;
     }
-    let mut blocks = Vec::new(alloc);
-    blocks.push(Block::Base(leaf.copy()?))?;
-    let buffer = sealed(alloc, number, blocks.as_slice())?;
+    let Ok(copy) = leaf.copy() else {
+        return None;
+    };
+    let buffer = sealed(alloc, number, &[Block::Base(copy)])?;
     let _ = buffer.bytes();
-    match append(log, &buffer, true) {
-        Ok(()) => Ok(None),
-        Err(fault) => Ok(Some(fault)),
-    }
+    Some(append(log, &buffer, true).err() == told)
 }
 
 /// Gives up the oldest segment, if the page does not need it.
@@ -159,25 +167,31 @@ pub(crate) fn give_up(log: &mut Log, leaf: &Leaf) -> bool
     true
 }
 
-/// A log over these boxes.
-pub(crate) fn new_log(alloc: Global, boxes: Vec<Box<dyn Segment>>) -> Result<Log, Fail>
+/// A log over a box that fails so and so many more, all of the least capacity with leases from 0
+/// on, and a yard with one more box.
+pub(crate) fn log_over(alloc: Global, more: u32, fuse: Fuse) -> Option<(Log, Yard)>
     requires { Unit {0} }
-    ensures { IfOk result (λ l. Counts (seen_by holding l) []) }
+    ensures { IfSome result (λ o. Counts (seen_by holding o.0) []) }
 {
+    let mut yard = yard_of(alloc, more, fuse)?;
+    let boxes = taken_out(&mut yard, 16_408)?;
     match Log::new(alloc, boxes, 4, 16384) {
-        Ok(log) => Ok(log),
-        Err(_) => Err(Fail::from("no log")),
+        Ok(log) => Some((log, yard)),
+        Err(_) => None,
     }
 }
 
 /// A first frame, which puts k=v, and the page that it leaves.
-pub(crate) fn opening(alloc: Global) -> Result<(Buffer, Leaf), Fail>
-    ensures { IfOk result (λ o. Opens o.0 o.1) }
+pub(crate) fn opening(alloc: Global) -> Option<(Buffer, Leaf)>
+    ensures { IfSome result (λ o. Opens o.0 o.1) }
 {
-    let frame = first_frame(alloc, ops_of(alloc, b'k', b'v')?)?;
+    let frame = first_frame(alloc, ops_of(b'k', b'v')?)?;
     let mut leaf = empty_page(alloc);
-    change(&mut leaf, &one_put(b'k', b'v')?)?;
-    Ok((frame, leaf))
+    let change_of = one_put(b'k', b'v')?;
+    match change(&mut leaf, &change_of) {
+        Ok(()) => Some((frame, leaf)),
+        Err(_) => None,
+    }
 }
 
 /// Appends a first frame, which leaves this page.

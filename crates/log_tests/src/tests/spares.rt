@@ -4,12 +4,11 @@ ghost use Rattle.bw_log.specs.Views.{IsSound as IsSoundBeside};
 ghost use Rattle.log_tests.specs.Views.{IsSound};
 
 use super::care::boxes::is_added;
-use super::page::new_log;
-use super::{NEVER, Yard, add_box, taken_out, yard_of};
+use super::page::log_over;
+use super::{NEVER, Yard, add_box};
 use bw_device::Segment;
 use bw_log::{Log, LogFault};
 use std::alloc::Global;
-use std::test::Fail;
 
 // Whether it has three spares, of which the last has lease 2, and nothing else.
 fn is_empty(log: &Log) -> bool
@@ -56,19 +55,17 @@ fn is_refused(log: &mut Log, more: &mut Yard) -> bool
 
 // Whether a log of two spares, of leases 0 and 1, hands back a box that is a byte too small, takes
 // one that is not, and hands them all out again.
-fn spares_come_and_go(alloc: Global) -> Result<bool, Fail> {
-    let (boxes, mut more) = taken_out(alloc, yard_of(alloc, 1, NEVER)?, 16_408)?;
-    add_box(alloc, &mut more, &[], 16_407, NEVER)?;
-    let mut log = new_log(alloc, boxes)?;
+fn spares_come_and_go(alloc: Global) -> Option<bool> {
+    let (mut log, mut more) = log_over(alloc, 1, NEVER)?;
+    add_box(&mut more, &[], 16_407, NEVER)?;
     let come = is_refused(&mut log, &mut more) & is_added(&mut log, &mut more);
     log.roll();
     let told = is_empty(&log) & reads_nothing(alloc, &mut log);
     let (live, spares) = log.into_segments();
-    Ok(come && told && live.is_empty() && spares.len() == 3)
+    Some(come && told && live.is_empty() && spares.len() == 3)
 }
 
 #[test]
-fn spares_are_taken_and_handed_out_again(rt: HostRuntime) -> Result<(), Fail> {
-    assert!(rt; spares_come_and_go(rt.alloc())?);
-    Ok(())
+fn spares_are_taken_and_handed_out_again(rt: HostRuntime) {
+    assert!(rt; spares_come_and_go(rt.alloc()) == Some(true));
 }

@@ -1,6 +1,6 @@
 // The walker: steps on a log of one page, each with what it has to answer.
 
-ghost use Rattle.std.specs.Prelude.{[], IfOk, OnOk};
+ghost use Rattle.std.specs.Prelude.{[], IfSome, OnSome};
 ghost use Rattle.bw_log.specs.Views.{seen_by};
 ghost use Rattle.log_tests.specs.Views.{seen};
 ghost use Rattle.log_tests.specs.OnePage.{Counts, HoldsOne, Opens};
@@ -8,14 +8,13 @@ ghost use Rattle.log_tests.specs.OnePage.{Counts, HoldsOne, Opens};
 use super::care::boxes::{is_shown, is_spelled};
 use super::care::vectors::{FIRST, THIRD_NEWER, THIRD_OLDER};
 use super::filled::full_opening;
-use super::page::{begin, give_up, new_log, opening, put, rewrite};
-use super::{Fuse, NEVER, Yard, all_went, taken_out, yard_of};
+use super::page::{begin, give_up, log_over, opening, put, rewrite};
+use super::{Fuse, NEVER, Table, Yard, all_went, first_wrong};
 use bw_buffer::Buffer;
 use bw_codec::{Leaf, Place};
 use bw_device::Segment;
 use bw_log::{Log, LogFault};
 use std::alloc::Global;
-use std::test::Fail;
 
 /// One step, with what it has to answer.
 #[derive(Drop)]
@@ -67,6 +66,7 @@ fn adds(log: &mut Log, yard: &mut Yard, leaf: &Leaf) -> bool
     }
 }
 
+// Whether so many puts are not refused.
 fn puts(
     alloc: Global,
     log: &mut Log,
@@ -74,49 +74,41 @@ fn puts(
     key: u8,
     value: u8,
     many: u32,
-) -> Result<bool, Fail>
+) -> Option<bool>
     requires { HoldsOne (seen log.old holding) leaf.old }
-    ensures { OnOk result (HoldsOne (seen log.new holding) leaf.new) }
+    ensures { OnSome result (HoldsOne (seen log.new holding) leaf.new) }
 {
     for _i in 0..many {
-        if put(alloc, log, leaf, key, value)? != None {
-            return Ok(false);
+        if !put(alloc, log, leaf, key, value, None)? {
+            return Some(false);
         }
     }
-    Ok(true)
+    Some(true)
 }
 
-fn reads(log: &mut Log, leaf: &Leaf, text: &str) -> Result<bool, Fail>
-    requires { HoldsOne (seen log.old holding) leaf.now }
-    ensures { OnOk result (HoldsOne (seen log.new holding) leaf.now) }
-{
-    let read = log.read_page(1)?;
-    Ok(is_shown(&read, text))
-}
-
-fn refuses(log: &mut Log, leaf: &Leaf, page: u32, told: LogFault) -> bool
+// Whether a page is read as this text, or refused so.
+fn reads(log: &mut Log, leaf: &Leaf, page: u32, told: Result<&'static str, LogFault>) -> bool
     requires { HoldsOne (seen log.old holding) leaf.now }
     ensures { HoldsOne (seen log.new holding) leaf.now }
 {
     match log.read_page(page) {
-        Ok(_) => false,
-        Err(fault) => fault == told,
+        Ok(read) => match told {
+            Ok(text) => is_shown(&read, text),
+            Err(_) => false,
+        },
+        Err(fault) => told.err() == Some(fault),
     }
 }
 
-fn dumps(
-    alloc: Global,
-    log: &mut Log,
-    leaf: &Leaf,
-    segment: u64,
-    hex: &'static str,
-) -> Result<bool, Fail>
+fn dumps(alloc: Global, log: &mut Log, leaf: &Leaf, segment: u64, hex: &'static str) -> bool
     requires { HoldsOne (seen log.old holding) leaf.now }
-    ensures { OnOk result (HoldsOne (seen log.new holding) leaf.now) }
+    ensures { HoldsOne (seen log.new holding) leaf.now }
 {
     let mut bytes = Vec::new(alloc);
-    let _ = log.dump(segment, &mut bytes)?;
-    is_spelled(alloc, &bytes, hex)
+    match log.dump(segment, &mut bytes) {
+        Ok(_) => is_spelled(alloc, &bytes, hex),
+        Err(_) => false,
+    }
 }
 
 fn is_ready(log: &mut Log, leaf: &Leaf, len: u32, takes_last: bool, told: Option<LogFault>) -> bool
@@ -172,63 +164,49 @@ fn tells(log: &Log, leaf: &Leaf, step: &Step) -> bool
 }
 
 // Whether the step went as told.
-fn goes(
-    alloc: Global,
-    log: &mut Log,
-    yard: &mut Yard,
-    leaf: &mut Leaf,
-    step: &Step,
-) -> Result<bool, Fail>
+fn goes(log: &mut Log, yard: &mut Yard, leaf: &mut Leaf, step: &Step) -> Option<bool>
     requires { HoldsOne (seen_by holding log.old) leaf.old }
-    ensures { OnOk result (HoldsOne (seen_by holding log.new) leaf.new) }
+    ensures { OnSome result (HoldsOne (seen_by holding log.new) leaf.new) }
 {
+    let alloc = yard.alloc;
     match step {
-        Step::Put(key, value, told) => Ok(put(alloc, log, leaf, *key, *value)? == *told),
+        Step::Put(key, value, told) => put(alloc, log, leaf, *key, *value, *told),
         Step::Puts(key, value, many) => puts(alloc, log, leaf, *key, *value, *many),
-        Step::Rewrite(told) => Ok(rewrite(alloc, log, leaf)? == *told),
+        Step::Rewrite(told) => rewrite(alloc, log, leaf, *told),
         Step::Roll => {
             rolls(log, leaf);
-            Ok(true)
+            Some(true)
         }
-        Step::Add(told) => Ok(adds(log, yard, leaf) == *told),
-        Step::GiveUp(told) => Ok(give_up(log, leaf) == *told),
-        Step::Collect(told) => Ok(yard.desk.collect() == *told),
-        Step::Read(text) => reads(log, leaf, text),
-        Step::ReadFails(lease) => Ok(refuses(log, leaf, 1, LogFault::Device { lease: *lease })),
-        Step::NoPage(page) => Ok(refuses(log, leaf, *page, LogFault::NoPage)),
-        Step::Dump(segment, told) => dumps(alloc, log, leaf, *segment, *told),
-        Step::Ready(len, told) => Ok(is_ready(log, leaf, *len, false, *told)),
-        Step::ReadyCare(len, told) => Ok(is_ready(log, leaf, *len, true, *told)),
-        _ => Ok(tells(log, leaf, step)),
+        Step::Add(told) => Some(adds(log, yard, leaf) == *told),
+        Step::GiveUp(told) => Some(give_up(log, leaf) == *told),
+        Step::Collect(told) => Some(yard.desk.collect() == *told),
+        Step::Read(text) => Some(reads(log, leaf, 1, Ok(*text))),
+        Step::ReadFails(lease) => {
+            Some(reads(log, leaf, 1, Err(LogFault::Device { lease: *lease })))
+        }
+        Step::NoPage(page) => Some(reads(log, leaf, *page, Err(LogFault::NoPage))),
+        Step::Dump(segment, told) => Some(dumps(alloc, log, leaf, *segment, *told)),
+        Step::Ready(len, told) => Some(is_ready(log, leaf, *len, false, *told)),
+        Step::ReadyCare(len, told) => Some(is_ready(log, leaf, *len, true, *told)),
+        _ => Some(tells(log, leaf, step)),
     }
 }
 
 // The first step that did not go as told.
-fn wrong_step(
-    alloc: Global,
-    log: &mut Log,
-    yard: &mut Yard,
-    leaf: &mut Leaf,
-    steps: &[Step],
-) -> Result<Option<usize>, Fail>
+fn wrong_step(log: &mut Log, yard: &mut Yard, leaf: &mut Leaf, steps: &[Step]) -> Option<usize>
     requires { HoldsOne (seen_by holding log.old) leaf.old }
 {
     for (i, step) in steps.iter().enumerate() {
-        if !goes(alloc, log, yard, leaf, step)? {
-            return Ok(Some(i));
+        match goes(log, yard, leaf, step) {
+            Some(true) => {}
+            _ => return Some(i),
         }
     }
-    Ok(None)
+    None
 }
 
-// Over what a table walks: the fuse of the first box, how many more there are, all of the least
-// capacity with leases from 0 on, and whether the first frame fills its segment. One more box
-// stands in the yard.
-#[derive(Drop)]
-struct Table(Fuse, u32, bool, &'static [Step]);
-
-fn opening_of(alloc: Global, fills: bool) -> Result<(Buffer, Leaf), Fail>
-    ensures { IfOk result (λ o. Opens o.0 o.1) }
+fn opening_of(alloc: Global, fills: bool) -> Option<(Buffer, Leaf)>
+    ensures { IfSome result (λ o. Opens o.0 o.1) }
 {
     if fills {
         full_opening(alloc)
@@ -238,32 +216,33 @@ fn opening_of(alloc: Global, fills: bool) -> Result<(Buffer, Leaf), Fail>
 }
 
 /// Appends a first frame, and answers the page that it leaves.
-pub(crate) fn begun(alloc: Global, log: &mut Log, fills: bool) -> Result<Leaf, Fail>
+pub(crate) fn begun(alloc: Global, log: &mut Log, fills: bool) -> Option<Leaf>
     requires { Counts (seen log.old holding) [] }
-    ensures { IfOk result (λ leaf. HoldsOne (seen log.new holding) leaf) }
+    ensures { IfSome result (λ leaf. HoldsOne (seen log.new holding) leaf) }
 {
     let (frame, leaf) = opening_of(alloc, fills)?;
-    begin(log, &frame, &leaf)?;
-    Ok(leaf)
-}
-
-// The first step of a table that did not go as told.
-fn walked(alloc: Global, table: &Table) -> Result<Option<usize>, Fail> {
-    let Table(fuse, more, fills, steps) = table;
-    let (boxes, mut beside) = taken_out(alloc, yard_of(alloc, *more, *fuse)?, 16_408)?;
-    let mut log = new_log(alloc, boxes)?;
-    let mut leaf = begun(alloc, &mut log, *fills)?;
-    wrong_step(alloc, &mut log, &mut beside, &mut leaf, steps)
-}
-
-// The first of the tables that went otherwise than told, and its step.
-fn first_wrong(alloc: Global, tables: &[Table]) -> Result<Option<(usize, usize)>, Fail> {
-    for (i, table) in tables.iter().enumerate() {
-        if let Some(step) = walked(alloc, table)? {
-            return Ok(Some((i, step)));
-        }
+    match begin(log, &frame, &leaf) {
+        Ok(()) => Some(leaf),
+        Err(_) => None,
     }
-    Ok(None)
+}
+
+// Over what steps walk: the fuse of the first box, how many more there are, all of the least
+// capacity with leases from 0 on, and whether the first frame fills its segment. One more box
+// stands in the yard.
+#[derive(Drop)]
+struct Walk(Fuse, u32, bool, &'static [Step]);
+
+impl Table for Walk {
+    fn wrong_row(&self, alloc: Global) -> Option<usize> {
+        let Some((mut log, mut yard)) = log_over(alloc, self.1, self.0) else {
+            return Some(0);
+        };
+        let Some(mut leaf) = begun(alloc, &mut log, self.2) else {
+            return Some(0);
+        };
+        wrong_step(&mut log, &mut yard, &mut leaf, self.3)
+    }
 }
 
 // Of two boxes, a new segment wants one more.
@@ -353,17 +332,16 @@ const FILLED: &[Step] = &[
     Step::ReadyCare(44, None),
 ];
 
-const TABLES: &[Table] = &[
-    Table(NEVER, 1, false, A_SECOND_SEGMENT),
-    Table(NEVER, 3, false, GIVEN_UP),
-    Table(NEVER, 1, false, MANY_FRAMES),
-    Table(NEVER, 1, true, FILLED),
-    Table((2, 0), 1, false, A_FAILED_READ),
-    Table((2, 10), 1, false, A_FAILED_APPEND),
+const TABLES: &[Walk] = &[
+    Walk(NEVER, 1, false, A_SECOND_SEGMENT),
+    Walk(NEVER, 3, false, GIVEN_UP),
+    Walk(NEVER, 1, false, MANY_FRAMES),
+    Walk(NEVER, 1, true, FILLED),
+    Walk((2, 0), 1, false, A_FAILED_READ),
+    Walk((2, 10), 1, false, A_FAILED_APPEND),
 ];
 
 #[test]
-fn logs_of_one_page_go_as_told(rt: HostRuntime) -> Result<(), Fail> {
-    all_went(&rt, first_wrong(rt.alloc(), TABLES)?);
-    Ok(())
+fn logs_of_one_page_go_as_told(rt: HostRuntime) {
+    all_went(&rt, first_wrong(rt.alloc(), TABLES));
 }

@@ -9,7 +9,6 @@ use bw_device::Segment;
 use bw_log::Log;
 use bw_page::Leaves;
 use std::alloc::Global;
-use std::test::Fail;
 
 /// More room than any box of a vector needs.
 pub(super) const AMPLE: u64 = 65_560;
@@ -36,64 +35,58 @@ fn change(bytes: &mut Vec<u8>, at: usize, with: &[u8]) {
     }
 }
 
-fn text_of(piece: &Piece) -> &'static str {
-    match piece {
+// The bytes of a piece.
+fn bytes_of(alloc: Global, piece: &Piece) -> Option<Vec<u8>> {
+    let hex = match piece {
         Piece::Whole(hex) => *hex,
         Piece::Cut(hex, _) => *hex,
         Piece::With(hex, _, _) => *hex,
         Piece::Behind(hex, _) => *hex,
-    }
-}
-
-// The bytes of a piece.
-fn bytes_of(alloc: Global, piece: &Piece) -> Result<Vec<u8>, Fail> {
-    let mut bytes = hex::decode(alloc, text_of(piece))?;
+    };
+    let mut bytes = hex::decode(alloc, hex).ok()?;
     match piece {
         Piece::Whole(_) => {}
         Piece::Cut(_, len) => bytes.truncate(*len),
         Piece::With(_, at, with) => change(&mut bytes, *at, *with),
-        Piece::Behind(_, more) => bytes.extend_from_slice(*more)?,
+        Piece::Behind(_, more) => bytes.extend_from_slice(*more).ok()?,
     }
-    Ok(bytes)
+    Some(bytes)
 }
 
 /// Whether these are the bytes of a text in hex.
-pub(crate) fn is_spelled(alloc: Global, bytes: &[u8], hex: &str) -> Result<bool, Fail> {
-    Ok(bytes == hex::decode(alloc, hex)?.as_slice())
+pub(crate) fn is_spelled(alloc: Global, bytes: &[u8], hex: &str) -> bool {
+    match hex::decode(alloc, hex) {
+        Ok(told) => bytes == told.as_slice(),
+        Err(_) => false,
+    }
 }
 
 // One more box, for a piece.
-fn add_piece(
-    alloc: Global,
-    yard: &mut Yard,
-    piece: &Piece,
-    room: u64,
-    fuse: Fuse,
-) -> Result<(), Fail> {
-    let bytes = bytes_of(alloc, piece)?;
-    add_box(alloc, yard, &bytes, room, fuse)
+fn add_piece(yard: &mut Yard, piece: &Piece, room: u64, fuse: Fuse) -> Option<()> {
+    let bytes = bytes_of(yard.alloc, piece)?;
+    add_box(yard, &bytes, room, fuse)
 }
 
 /// A yard with a box of ample room for each piece.
-pub(super) fn boxes_of(alloc: Global, pieces: &[Piece]) -> Result<Yard, Fail> {
+pub(super) fn boxes_of(alloc: Global, pieces: &[Piece]) -> Option<Yard> {
     let mut full = empty_yard(alloc, 8)?;
     for piece in pieces {
-        add_piece(alloc, &mut full, piece, AMPLE, NEVER)?;
+        add_piece(&mut full, piece, AMPLE, NEVER)?;
     }
-    Ok(full)
+    Some(full)
 }
 
 /// A piece, the room of its box, and whether that is the one that fails.
 pub(super) type Kept = (Piece, u64, bool);
 
 /// A yard with a box for each of these, of which one fails so.
-pub(super) fn boxes_with(alloc: Global, fuse: Fuse, all: &[Kept]) -> Result<Yard, Fail> {
+pub(super) fn boxes_with(alloc: Global, fuse: Fuse, all: &[Kept]) -> Option<Yard> {
     let mut full = empty_yard(alloc, 8)?;
     for (piece, room, fails) in all {
         let fuse = if *fails { fuse } else { NEVER };
-        add_piece(alloc, &mut full, piece, *room, fuse)?;
+        add_piece(&mut full, piece, *room, fuse)?;
     }
-    Ok(full)
+    Some(full)
 }
 
 // What is left of a text behind a part of it; none where it does not begin so.
@@ -135,28 +128,27 @@ pub(super) fn are_shown(leaves: &Leaves, text: &str) -> bool {
     is_at_end(rest)
 }
 
-/// Whether a page of a log is shown so.
-pub(crate) fn is_page(log: &mut Log, page: u32, text: &str) -> Result<bool, Fail>
+/// Whether a page of a log is read, and shown so.
+pub(crate) fn is_page(log: &mut Log, page: u32, text: &str) -> bool
     requires { IsSound log.old holding }
     ensures { IsSound log.new holding }
 {
-    let leaf = log.read_page(page)?;
-    Ok(is_shown(&leaf, text))
+    match log.read_page(page) {
+        Ok(leaf) => is_shown(&leaf, text),
+        Err(_) => false,
+    }
 }
 
 /// Whether a segment is live and has the bytes of this text in hex.
-pub(crate) fn are_bytes(
-    alloc: Global,
-    log: &mut Log,
-    segment: u64,
-    hex: &'static str,
-) -> Result<bool, Fail>
+pub(crate) fn are_bytes(alloc: Global, log: &mut Log, segment: u64, hex: &'static str) -> bool
     requires { IsSound log.old holding }
     ensures { IsSound log.new holding }
 {
     let mut bytes = Vec::new(alloc);
-    let live = log.dump(segment, &mut bytes)?;
-    Ok(live && is_spelled(alloc, &bytes, hex)?)
+    match log.dump(segment, &mut bytes) {
+        Ok(live) => live && is_spelled(alloc, &bytes, hex),
+        Err(_) => false,
+    }
 }
 
 /// Whether a log takes the last box of a yard.

@@ -1,71 +1,58 @@
 //! Each byte of each vector changed: recovery never stops short, and hands the box back or finds
 //! leaves, which are lawful by their type.
 
-use super::super::{NEVER, add_box, all_went, empty_yard};
+use super::super::{NEVER, Table, add_box, all_went, empty_yard, first_wrong};
 use super::vectors::{FIRST, GREATEST, SECOND, THIRD_NEWER};
 use bw_care::recover;
 use bw_device::Segment;
 use std::alloc::Global;
-use std::test::Fail;
 
-// Whether one box is answered.
-fn are_answered(alloc: Global, boxes: Vec<Box<dyn Segment>>) -> bool {
-    match recover(alloc, boxes) {
-        Ok(found) => found.leaves.count() > 0 && found.log.live() == 1,
-        Err(fault) => fault.boxes.len() == 1,
+// Whether one box with these bytes is answered.
+fn is_answered(alloc: Global, bytes: &[u8]) -> Option<bool> {
+    let mut one = empty_yard(alloc, 1)?;
+    add_box(&mut one, bytes, 1_000, NEVER)?;
+    match recover(alloc, one.boxes) {
+        Ok(found) => Some(found.leaves.count() > 0 && found.log.live() == 1),
+        Err(fault) => Some(fault.boxes.len() == 1),
     }
 }
 
-// The same of one with these bytes.
-fn is_answered(alloc: Global, bytes: &[u8]) -> Result<bool, Fail> {
-    let mut one = empty_yard(alloc, 1)?;
-    add_box(alloc, &mut one, bytes, 1_000, NEVER)?;
-    Ok(are_answered(alloc, one.boxes))
-}
-
 // The first byte that was changed to one of these values without an answer.
-fn first_unanswered(alloc: Global, bytes: &mut [u8]) -> Result<Option<usize>, Fail> {
+fn first_unanswered(alloc: Global, bytes: &mut [u8]) -> Option<usize> {
     for at in 0..bytes.len() {
         let kept = bytes[at];
         for byte in [0x00, 0x01, 0x7f, 0xff] {
             bytes[at] = byte;
-            if !is_answered(alloc, bytes)? {
-                return Ok(Some(at));
+            if is_answered(alloc, bytes) != Some(true) {
+                return Some(at);
             }
         }
         bytes[at] = kept;
     }
-    Ok(None)
+    None
 }
 
-// The same of a vector of so many bytes.
-fn wrong_byte(alloc: Global, hex: &str, length: usize) -> Result<Option<usize>, Fail> {
-    let mut bytes = hex::decode(alloc, hex)?;
-    if bytes.len() != length {
-        return Ok(Some(length));
+// A vector of so many bytes.
+type OfBytes = (&'static str, usize);
+
+impl Table for OfBytes {
+    /// The first byte that was changed without an answer.
+    fn wrong_row(&self, alloc: Global) -> Option<usize> {
+        match hex::decode(alloc, self.0) {
+            Ok(mut bytes) if bytes.len() == self.1 => first_unanswered(alloc, bytes.as_mut_slice()),
+            _ => Some(self.1),
+        }
     }
-    first_unanswered(alloc, bytes.as_mut_slice())
 }
 
-const VECTORS: &[(&str, usize)] = &[
+const VECTORS: &[OfBytes] = &[
     (FIRST, 76),
     (SECOND, 289),
     (THIRD_NEWER, 104),
     (GREATEST, 52),
 ];
 
-// The first vector with a byte that was changed without an answer.
-fn first_wrong(alloc: Global) -> Result<Option<(usize, usize)>, Fail> {
-    for (i, (hex, length)) in VECTORS.iter().enumerate() {
-        if let Some(byte) = wrong_byte(alloc, hex, *length)? {
-            return Ok(Some((i, byte)));
-        }
-    }
-    Ok(None)
-}
-
 #[test]
-fn each_changed_byte_is_answered(rt: HostRuntime) -> Result<(), Fail> {
-    all_went(&rt, first_wrong(rt.alloc())?);
-    Ok(())
+fn each_changed_byte_is_answered(rt: HostRuntime) {
+    all_went(&rt, first_wrong(rt.alloc(), VECTORS));
 }

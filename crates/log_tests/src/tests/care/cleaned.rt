@@ -3,14 +3,13 @@
 ghost use Rattle.bw_log.specs.Views.{IsSound as IsSoundBeside};
 ghost use Rattle.log_tests.specs.Views.{IsSound};
 
-use super::super::{Fuse, NEVER, Yard, all_went, taken_out};
+use super::super::{Fuse, NEVER, Table, Yard, all_went, first_wrong, taken_out};
 use super::boxes::{AMPLE, Kept, Piece, are_bytes, boxes_with, is_added, is_page};
 use super::vectors::{BEHIND_SECOND, SECOND, THIRD_LOST, THIRD_NEWER, THIRD_OLDER};
 use bw_care::{CleanFault, Cleaned, clean, recover};
 use bw_device::Segment;
 use bw_log::{Log, LogFault};
 use std::alloc::Global;
-use std::test::Fail;
 
 /// One call on a log, with what it has to answer.
 #[derive(Drop)]
@@ -33,17 +32,19 @@ enum Step {
 use Piece::{Cut, Whole};
 use Step::{Add, Back, Bytes, Cleans, Page, Refused, Stands};
 
-fn cleans(alloc: Global, log: &mut Log, told: Result<Cleaned, CleanFault>) -> bool
+/// Whether a cleaning answers as told.
+pub(super) fn cleans(alloc: Global, log: &mut Log, told: Result<Cleaned, CleanFault>) -> bool
     requires { IsSound log.old holding }
     ensures { IsSound log.new holding }
 {
     clean(alloc, log) == told
 }
 
-fn goes(alloc: Global, yard: &mut Yard, log: &mut Log, step: &Step) -> Result<bool, Fail>
+fn goes(yard: &mut Yard, log: &mut Log, step: &Step) -> bool
     requires { IsSoundBeside holding log.old }
     ensures { IsSoundBeside holding log.new }
 {
+    let alloc = yard.alloc;
     match step {
         Cleans(segment, lease, pages, frames) => {
             let told = Cleaned {
@@ -52,34 +53,29 @@ fn goes(alloc: Global, yard: &mut Yard, log: &mut Log, step: &Step) -> Result<bo
                 pages: *pages,
                 frames: *frames,
             };
-            Ok(cleans(alloc, log, Ok(told)))
+            cleans(alloc, log, Ok(told))
         }
-        Refused(fault) => Ok(cleans(alloc, log, Err(*fault))),
-        Back(count) => Ok(yard.desk.collect() == *count),
+        Refused(fault) => cleans(alloc, log, Err(*fault)),
+        Back(count) => yard.desk.collect() == *count,
         Page(page, text) => is_page(log, *page, text),
         Bytes(segment, hex) => are_bytes(alloc, log, *segment, *hex),
-        Stands(live, spares, next) => Ok(
-            log.live() == *live && log.spares() == *spares && log.next_frame() == Some(*next),
-        ),
-        Add => Ok(is_added(log, yard)),
+        Stands(live, spares, next) => {
+            log.live() == *live && log.spares() == *spares && log.next_frame() == Some(*next)
+        }
+        Add => is_added(log, yard),
     }
 }
 
 // The first step that did not go as told.
-fn wrong_step(
-    alloc: Global,
-    yard: &mut Yard,
-    log: &mut Log,
-    steps: &[Step],
-) -> Result<Option<usize>, Fail>
+fn wrong_step(yard: &mut Yard, log: &mut Log, steps: &[Step]) -> Option<usize>
     requires { IsSoundBeside holding log.old }
 {
     for (i, step) in steps.iter().enumerate() {
-        if !goes(alloc, yard, log, step)? {
-            return Ok(Some(i));
+        if !goes(yard, log, step) {
+            return Some(i);
         }
     }
-    Ok(None)
+    None
 }
 
 /// The bytes that a cleaning leaves, then one with nothing old, then none.
@@ -124,10 +120,6 @@ const FAILED: &[Step] = &[
     Refused(CleanFault::Log(LogFault::Failed)),
 ];
 
-/// Segments and spares, and how what is recovered from them goes.
-#[derive(Drop)]
-struct Table(&'static [Kept], &'static [Step]);
-
 /// The third vector before its cleaning, and a spare.
 const THIRD: &[Kept] = &[
     (Whole(THIRD_LOST), AMPLE, false),
@@ -150,56 +142,49 @@ const SECOND_AND_MORE: &[Kept] = &[
     (Cut(SECOND, 0), AMPLE, false),
 ];
 
-const TABLES: &[Table] = &[
-    Table(THIRD, TWICE),
-    Table(FULL, NO_SPARE),
-    Table(SECOND_AND_MORE, TWO_PAGES),
+// The first step that did not go as told over what is recovered from segments and spares, of which
+// one fails so, with one more box in the yard.
+fn walked(alloc: Global, kept: &[Kept], fuse: Fuse, steps: &[Step]) -> Option<usize> {
+    let Some(mut yard) = boxes_with(alloc, fuse, kept) else {
+        return Some(0);
+    };
+    let Some(boxes) = taken_out(&mut yard, AMPLE) else {
+        return Some(0);
+    };
+    match recover(alloc, boxes) {
+        Ok(mut found) => wrong_step(&mut yard, &mut found.log, steps),
+        Err(_) => Some(0),
+    }
+}
+
+/// Segments and spares, and how what is recovered from them goes.
+#[derive(Drop)]
+struct Cleaning(&'static [Kept], &'static [Step]);
+
+impl Table for Cleaning {
+    fn wrong_row(&self, alloc: Global) -> Option<usize> {
+        walked(alloc, self.0, NEVER, self.1)
+    }
+}
+
+const TABLES: &[Cleaning] = &[
+    Cleaning(THIRD, TWICE),
+    Cleaning(FULL, NO_SPARE),
+    Cleaning(SECOND_AND_MORE, TWO_PAGES),
 ];
 
-// The first step of a table that did not go as told, with one more box in the yard.
-fn walked(
-    alloc: Global,
-    boxes: &[Kept],
-    fuse: Fuse,
-    steps: &[Step],
-) -> Result<Option<usize>, Fail> {
-    let (boxes, mut beside) = taken_out(alloc, boxes_with(alloc, fuse, boxes)?, AMPLE)?;
-    match recover(alloc, boxes) {
-        Ok(mut found) => wrong_step(alloc, &mut beside, &mut found.log, steps),
-        Err(_) => Err(Fail::from("a refusal of recover")),
-    }
-}
-
-// The first of the tables that did not go as told, and its step.
-fn first_wrong(alloc: Global) -> Result<Option<(usize, usize)>, Fail> {
-    for (i, Table(boxes, steps)) in TABLES.iter().enumerate() {
-        if let Some(step) = walked(alloc, *boxes, NEVER, *steps)? {
-            return Ok(Some((i, step)));
-        }
-    }
-    Ok(None)
+#[test]
+fn cleanings_go_as_told(rt: HostRuntime) {
+    all_went(&rt, first_wrong(rt.alloc(), TABLES));
 }
 
 #[test]
-fn cleanings_go_as_told(rt: HostRuntime) -> Result<(), Fail> {
-    all_went(&rt, first_wrong(rt.alloc())?);
-    Ok(())
-}
-
-// The first step that did not go as told where the cleaner's append fails, behind the bytes kept.
-fn first_failing(alloc: Global) -> Result<Option<(usize, usize)>, Fail> {
-    // The cleaner's frame has 36 bytes.
+fn a_failed_append_of_the_cleaner_drops_no_box(rt: HostRuntime) {
+    // The cleaner's frame has 36 bytes, of which each number is kept.
     for keep in 0..=36usize {
         // Two reads of a recovery, and one of the page.
-        if let Some(step) = walked(alloc, THIRD, (3, keep as u64), FAILED)? {
-            return Ok(Some((keep, step)));
+        if let Some(step) = walked(rt.alloc(), THIRD, (3, keep as u64), FAILED) {
+            all_went(&rt, Some((keep, step)));
         }
     }
-    Ok(None)
-}
-
-#[test]
-fn a_failed_append_of_the_cleaner_drops_no_box(rt: HostRuntime) -> Result<(), Fail> {
-    all_went(&rt, first_failing(rt.alloc())?);
-    Ok(())
 }

@@ -2,13 +2,12 @@
 
 ghost use Rattle.bw_care.specs.Views.{IsSound};
 
-use super::super::{NEVER, Yard, add_box, add_boxes, all_went, empty_yard};
+use super::super::{NEVER, Table, Yard, add_box, add_boxes, all_went, empty_yard, first_wrong};
 use super::boxes::{AMPLE, Kept, Piece, are_shown, boxes_of, boxes_with};
 use super::vectors::{FIRST, GREATEST, SECOND, THIRD_NEWER, THIRD_OLDER};
 use bw_care::{RecoverCause, recover};
 use bw_device::{Desk, Segment};
 use std::alloc::Global;
-use std::test::Fail;
 
 /// What is told of a list of boxes.
 #[derive(Drop)]
@@ -181,14 +180,6 @@ fn is_found(found: &bw_care::Recovered, returned: u32, told: &Told) -> bool
     }
 }
 
-// Whether this is the fault told.
-fn is_fault(cause: RecoverCause, told: &Told) -> bool {
-    match told {
-        Found(_, _, _, _, _, _, _) => false,
-        Fault(fault) => *fault == cause,
-    }
-}
-
 /// Live segments of the room that their bytes need, which may be less than that of a spare, and a
 /// spare.
 const SPARES: &[Row] = &[
@@ -224,33 +215,17 @@ const FAILING: &[Row] = &[
     Row(Again(1), Found(2, 4, 0, 2, 0, 0, JK)),
 ];
 
-// Whether the boxes of a yard are told so; a fault hands all of them back, in order.
-fn is_told(alloc: Global, full: Yard, told: &Told) -> bool {
-    let Yard { mut desk, boxes } = full;
-    let count = boxes.len();
-    match recover(alloc, boxes) {
-        Ok(found) => {
-            let returned = desk.collect();
-            is_found(&found, returned, told)
-        }
-        Err(fault) => {
-            let back = fault.boxes.len() == count && desk.collect() == 0;
-            back && is_fault(fault.cause, told)
-        }
-    }
-}
-
 // The same boxes behind a recovery that the second of them failed.
-fn failed(alloc: Global, full: Yard) -> Result<Yard, Fail> {
-    let Yard { desk, boxes } = full;
-    match recover(alloc, boxes) {
-        Ok(_) => Err(Fail::from("no fault")),
+fn failed(alloc: Global, full: Yard) -> Option<Yard> {
+    match recover(alloc, full.boxes) {
+        Ok(_) => None,
         Err(fault) => {
             if fault.cause != (RecoverCause::Device { lease: 1 }) {
-                return Err(Fail::from("another fault"));
+                return None;
             }
-            Ok(Yard {
-                desk,
+            Some(Yard {
+                alloc,
+                desk: full.desk,
                 boxes: fault.boxes,
             })
         }
@@ -258,15 +233,15 @@ fn failed(alloc: Global, full: Yard) -> Result<Yard, Fail> {
 }
 
 // A box of another desk, then 4,096 of this one.
-fn too_many(alloc: Global) -> Result<Yard, Fail> {
+fn too_many(alloc: Global) -> Option<Yard> {
     let mut full = empty_yard(alloc, 1)?;
-    add_box(alloc, &mut full, b"X", 1, NEVER)?;
-    full.desk = Desk::new(alloc, 4_096)?;
-    add_boxes(alloc, &mut full, 4_096, b"X", 1)?;
-    Ok(full)
+    add_box(&mut full, b"X", 1, NEVER)?;
+    full.desk = Desk::new(alloc, 4_096).ok()?;
+    add_boxes(&mut full, 4_096, b"X", 1)?;
+    Some(full)
 }
 
-fn made(alloc: Global, boxes: &Boxes) -> Result<Yard, Fail> {
+fn made(alloc: Global, boxes: &Boxes) -> Option<Yard> {
     match boxes {
         Ample(pieces) => boxes_of(alloc, *pieces),
         Each(all) => boxes_with(alloc, NEVER, *all),
@@ -275,27 +250,41 @@ fn made(alloc: Global, boxes: &Boxes) -> Result<Yard, Fail> {
     }
 }
 
-// The first row that did not go as told.
-fn wrong_row(alloc: Global, rows: &[Row]) -> Result<Option<usize>, Fail> {
-    for (i, Row(boxes, told)) in rows.iter().enumerate() {
-        if !is_told(alloc, made(alloc, boxes)?, told) {
-            return Ok(Some(i));
+// Whether the boxes are told so; a fault hands all of them back, in order.
+fn is_told(alloc: Global, boxes: &Boxes, told: &Told) -> Option<bool> {
+    let Yard {
+        mut desk,
+        boxes,
+        ..
+    } = made(alloc, boxes)?;
+    let count = boxes.len();
+    match recover(alloc, boxes) {
+        Ok(found) => {
+            let returned = desk.collect();
+            Some(is_found(&found, returned, told))
+        }
+        Err(fault) => {
+            let back = fault.boxes.len() == count && desk.collect() == 0;
+            match told {
+                Fault(cause) => Some(back && fault.cause == *cause),
+                _ => Some(false),
+            }
         }
     }
-    Ok(None)
 }
 
-// The first of the tables that did not go as told, and its row.
-fn first_wrong(alloc: Global, tables: &[&[Row]]) -> Result<Option<(usize, usize)>, Fail> {
-    for (i, rows) in tables.iter().enumerate() {
-        if let Some(row) = wrong_row(alloc, rows)? {
-            return Ok(Some((i, row)));
+impl Table for &'static [Row] {
+    fn wrong_row(&self, alloc: Global) -> Option<usize> {
+        for (i, Row(boxes, told)) in self.iter().enumerate() {
+            if is_told(alloc, boxes, told) != Some(true) {
+                return Some(i);
+            }
         }
+        None
     }
-    Ok(None)
 }
 
-const TABLES: &[&[Row]] = &[
+const TABLES: &[&'static [Row]] = &[
     WORKED,
     HOSTILE,
     ORDERED,
@@ -307,7 +296,6 @@ const TABLES: &[&[Row]] = &[
 ];
 
 #[test]
-fn worked_boxes_are_told(rt: HostRuntime) -> Result<(), Fail> {
-    all_went(&rt, first_wrong(rt.alloc(), TABLES)?);
-    Ok(())
+fn worked_boxes_are_told(rt: HostRuntime) {
+    all_went(&rt, first_wrong(rt.alloc(), TABLES));
 }

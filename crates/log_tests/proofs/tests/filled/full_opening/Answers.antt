@@ -4,5 +4,5 @@ use Rattle.log_tests.proofs.tests.filled.full_opening.Goals as goal
 pub first_frame-requires : goal.first_frame-requires
 first_frame-requires c = puts_fit _ c.in_ok-puts.ensures
 
-pub returns : goal.returns
-returns c = full_opens _ _ _ _ _ c.in_ok-puts.ensures c.in_ok-frame.ensures c.in_ok-put_at_k.ensures c.empty_page-leaf.ensures c.in_ok-change.ensures.ok
+pub returns-in-Ok : goal.returns-in-Ok
+returns-in-Ok c = full_opens _ _ _ _ _ c.in_ok-puts.ensures c.in_ok-frame.ensures c.in_ok-change_of.ensures c.empty_page-leaf.ensures c.in-Ok.ensures.ok

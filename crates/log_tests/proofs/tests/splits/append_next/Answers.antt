@@ -7,6 +7,6 @@ pub append-requires-clause-follows : goal.append-requires-clause-follows
 append-requires-clause-follows g c =
     split_follows _ _ _ c.requires.from c.requires.to (ap (λ (f : Filling). frame_of f) c.in_ok-frame.ensures) c.requires.counts
 
-pub returns : goal.returns
-returns g c =
-    split_counts _ _ _ _ c.requires.from c.requires.to (ap (λ (f : Filling). frame_of f) c.in_ok-frame.ensures) c.requires.counts c.in_ok-append.ensures
+pub returns-in-Ok : goal.returns-in-Ok
+returns-in-Ok g c =
+    split_counts _ _ _ _ c.requires.from c.requires.to (ap (λ (f : Filling). frame_of f) c.in_ok-frame.ensures) c.requires.counts c.in-Ok.ensures
