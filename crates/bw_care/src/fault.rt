@@ -5,6 +5,7 @@ ghost use Rattle.bw_care.specs.declared.fault.RecoverCause.TheVariants.{NoMemory
 
 use bw_log::LogFault;
 use std::alloc::{AllocError, AllocFailed};
+use std::fmt::{self, Display, Formatter};
 use thiserror::Error;
 
 /// Why a cleaning was refused. What stands then is said at `clean`.
@@ -23,35 +24,50 @@ pub enum CleanFault {
 #[derive(Debug, Clone, Copy, PartialEq, Eq, Error)]
 pub enum RecoverCause {
     /// A growth was refused.
-    #[error("out of memory")]
     NoMemory,
     /// There are too many boxes, or a box is too large, or a spare too small.
-    #[error("boxes that no log takes")]
     BadConfig,
     /// The segment with this lease failed in this call, and counts it.
-    #[error("the segment of lease {lease} failed")]
     Device { lease: u32 },
     /// One more failure of a box that has to be read could not be counted.
-    #[error("a counter is at its greatest value")]
     Spent,
     /// There is no whole frame.
-    #[error("no whole frame")]
     Empty,
     /// Bytes of this box that are neither a header, nor a frame, nor a tail.
-    #[error("segment {segment} cannot be read at {at}")]
     BadBytes { segment: u32, at: u64 },
     /// The numbers of segments, or of frames, have a gap.
-    #[error("a gap in the numbers")]
     Gap,
     /// Headers differ in their limits.
-    #[error("headers differ")]
     Mixed,
     /// A block of this page does not link back to the one before it.
-    #[error("a wrong link of page {page}")]
     BadLink { page: u32 },
     /// This page is not lawful.
-    #[error("page {page} is not lawful")]
     Unlawful { page: u32 },
+}
+
+// By hand, since a derived one writes in each variant, which is dear to prove.
+impl Display for RecoverCause {
+    fn fmt<W: fmt::Write>(&self, f: &mut Formatter<W>) -> fmt::Result {
+        let text = match self {
+            RecoverCause::NoMemory => "out of memory",
+            RecoverCause::BadConfig => "boxes that no log takes",
+            RecoverCause::Device { lease } => return write!(
+                f,
+                "the segment of lease {lease} failed"
+            ),
+            RecoverCause::Spent => "a counter is at its greatest value",
+            RecoverCause::Empty => "no whole frame",
+            RecoverCause::BadBytes { segment, at } => return write!(
+                f,
+                "segment {segment} cannot be read at {at}"
+            ),
+            RecoverCause::Gap => "a gap in the numbers",
+            RecoverCause::Mixed => "headers differ",
+            RecoverCause::BadLink { page } => return write!(f, "a wrong link of page {page}"),
+            RecoverCause::Unlawful { page } => return write!(f, "page {page} is not lawful"),
+        };
+        f.write_str(text)
+    }
 }
 
 impl From<AllocError> for RecoverCause {

@@ -10,35 +10,45 @@ use bw_device::Segment;
 use bw_log::LogFault;
 use bw_page::ApplyError;
 use std::alloc::AllocError;
+use std::fmt::{self, Display, Formatter};
 use thiserror::Error;
 
 /// Why a call on a store was refused.
 #[derive(Debug, Clone, Copy, PartialEq, Eq, Error)]
 pub enum StoreFault {
     /// E1: a growth was refused.
-    #[error("out of memory")]
     NoMemory,
     /// E10: a number is out of its range, or a box is no spare.
-    #[error("limits or boxes that no store takes")]
     BadConfig,
     /// E5: a segment has to be begun, and too few spares stand.
-    #[error("no segment")]
     NoSegment,
     /// E6: the segment of this lease failed in this call.
-    #[error("the segment of lease {lease} failed")]
     Device { lease: u32 },
     /// E7: an append of this store's log failed before.
-    #[error("an append failed before")]
     Failed,
     /// E8: a frame, a segment, a page or a failure has no further number.
-    #[error("a counter is at its greatest value")]
     Spent,
     /// E9: the number is 0 or above the number of pages.
-    #[error("no such page")]
     NoPage,
     /// E11: fewer than two segments are live.
-    #[error("fewer than two live segments")]
     NothingOld,
+}
+
+// By hand, since a derived one writes in each variant, which is dear to prove.
+impl Display for StoreFault {
+    fn fmt<W: fmt::Write>(&self, f: &mut Formatter<W>) -> fmt::Result {
+        let text = match self {
+            StoreFault::NoMemory => "out of memory",
+            StoreFault::BadConfig => "limits or boxes that no store takes",
+            StoreFault::NoSegment => "no segment",
+            StoreFault::Device { lease } => return write!(f, "the segment of lease {lease} failed"),
+            StoreFault::Failed => "an append failed before",
+            StoreFault::Spent => "a counter is at its greatest value",
+            StoreFault::NoPage => "no such page",
+            StoreFault::NothingOld => "fewer than two live segments",
+        };
+        f.write_str(text)
+    }
 }
 
 /// Why no store was opened, with the boxes that were handed in.
