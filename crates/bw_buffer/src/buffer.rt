@@ -17,7 +17,7 @@ use std::alloc::{AllocError, Global};
 use std::marker::Model;
 
 /// A frame in the making.
-#[derive(Debug, Drop)]
+#[derive(Drop)]
 pub struct Buffer {
     /// The frame's number, from 1.
     frame: u64,

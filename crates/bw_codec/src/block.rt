@@ -18,7 +18,7 @@ pub struct Place {
 }
 
 /// What became of a page.
-#[derive(Debug, Drop)]
+#[derive(Drop)]
 pub enum Block {
     /// The page was changed by these records, after the block at `back`.
     Delta { page: u32, back: Place, ops: Ops },
@@ -71,7 +71,7 @@ impl Block {
 }
 
 /// Blocks, in the order in which they apply.
-#[derive(Debug, Drop)]
+#[derive(Drop)]
 pub struct Blocks {
     items: Vec<Block>,
 }
@@ -109,7 +109,7 @@ impl Blocks {
 }
 
 /// What one flush wrote.
-#[derive(Debug, Drop)]
+#[derive(Drop)]
 pub struct Frame {
     /// From 1, one after the other over all segments of a log.
     pub number: u64,
@@ -175,7 +175,7 @@ pub enum HeaderRead {
 }
 
 /// What stands at the front of the bytes behind a header or a frame.
-#[derive(Debug, Drop)]
+#[derive(Drop)]
 pub enum FrameRead {
     /// A frame, in so many bytes.
     Whole(Frame, usize),

@@ -9,7 +9,7 @@ use std::alloc::{AllocError, Global};
 use std::marker::Model;
 
 /// The low key of a page: 0 to 64 bytes, empty for page 1 alone. No key of the page is below it.
-#[derive(Debug, Drop)]
+#[derive(Drop)]
 pub struct Low {
     bytes: Vec<u8>,
 }
@@ -58,7 +58,7 @@ impl Low {
 /// Beside them stands a row with the first eight bytes of each key as a number, which a search reads
 /// in place of most keys. It takes memory of its own, and where that is refused there is none: then
 /// a search is slower, and nothing else changes.
-#[derive(Debug, Drop)]
+#[derive(Drop)]
 pub struct Pairs {
     items: Vec<(Key, Value)>,
     row: Vec<u64>,
@@ -172,7 +172,7 @@ impl Pairs {
 }
 
 /// A page: its number from 1, its low key, and its pairs.
-#[derive(Debug, Drop)]
+#[derive(Drop)]
 pub struct Leaf {
     /// From 1.
     pub page: u32,

@@ -47,14 +47,14 @@ impl Record {
     }
 }
 
-#[derive(Debug, Drop)]
+#[derive(Drop)]
 enum Items {
     One([Record; 1]),
     Many(Vec<Record>),
 }
 
 /// Records, in the order in which they apply. One alone takes no memory.
-#[derive(Debug, Drop)]
+#[derive(Drop)]
 pub struct Ops {
     items: Items,
 }

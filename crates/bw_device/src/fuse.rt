@@ -5,7 +5,7 @@ use crate::memory::MemSegment;
 use crate::segments::{Fault, Segment};
 
 /// A segment in memory of which one append or read fails, for tests of what stands on segments.
-#[derive(Debug, Drop)]
+#[derive(Drop)]
 pub struct FuseSegment {
     inner: MemSegment,
     /// How many appends and reads pass before the one that fails; `None` once that one has failed.

@@ -49,7 +49,7 @@ type Slot = Option<Arc<AtomicBool>>;
 ///
 /// Contracts see it as the list that says of each number whether it is out. A lease that was
 /// dropped is out until the next `collect`.
-#[derive(Debug, Drop)]
+#[derive(Drop)]
 pub struct Desk {
     slots: Vec<Slot>,
 }

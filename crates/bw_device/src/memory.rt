@@ -17,7 +17,7 @@ pub const MAX_CAPACITY: u64 = 1_073_741_824;
 const FILLER: u8 = 0xff;
 
 /// A segment in memory, which never fails. When it is dropped, its lease comes back.
-#[derive(Debug, Drop)]
+#[derive(Drop)]
 pub struct MemSegment {
     lease: Lease,
     /// In bytes.

@@ -13,7 +13,7 @@ pub trait Gate: Sync {
 }
 
 /// Lets every record pass.
-#[derive(Debug, Clone, Copy)]
+#[derive(Clone, Copy)]
 pub struct OpenGate;
 
 impl Gate for OpenGate {

@@ -26,7 +26,7 @@ const LAST: usize = 65_560;
 /// A folder with a file for each segment, named by its lease, which nobody else has open.
 ///
 /// It is open as long as it or one of its segments stands. A drop changes no file.
-#[derive(Debug, Drop)]
+#[derive(Drop)]
 pub struct Folder<F = File> {
     path: String,
     /// By which new names come to stand.

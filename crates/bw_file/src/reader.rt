@@ -18,7 +18,7 @@ use std::rt::Files;
 
 /// A folder that is open for reading: no file of it is made or written, and no `Folder` is open on
 /// it at the same time.
-#[derive(Debug, Drop)]
+#[derive(Drop)]
 pub struct FolderReader<F = File> {
     path: String,
     /// Held beside other readers. A folder that was never opened to be written has no such file.

@@ -9,7 +9,7 @@ use std::sync::Arc;
 use std::sync::atomic::{AtomicBool, Ordering};
 
 /// What a folder and its segments share.
-#[derive(Debug, Drop)]
+#[derive(Drop)]
 pub(crate) struct Shared<F> {
     /// Held as long as the folder or a segment of it stands, so that nobody else opens it.
     lock: F,
@@ -34,7 +34,7 @@ impl<F> Shared<F> {
 /// that folder fails too, until the folder is opened again and the files are read: no segment may go
 /// on from the copies where a file went on from the piece. A drop closes the file and leaves its
 /// bytes.
-#[derive(Debug, Drop)]
+#[derive(Drop)]
 pub struct FileSegment<F = File> {
     copy: MemSegment,
     file: F,

@@ -27,7 +27,7 @@ pub struct PageAt {
 /// What a scan found: limits, the oldest live segment's number, whether the newest takes frames,
 /// where each whole frame stands (its segment by position among the live ones), and where each page
 /// does.
-#[derive(Debug, Drop)]
+#[derive(Drop)]
 pub struct Tables {
     pub m: u16,
     pub f: u32,

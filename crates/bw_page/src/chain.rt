@@ -13,7 +13,7 @@ use std::alloc::{AllocError, Global};
 use std::marker::Model;
 
 /// One link of a chain.
-#[derive(Debug, Drop)]
+#[derive(Drop)]
 pub enum Link {
     /// The page was changed by this record.
     Delta(Record),
@@ -22,7 +22,7 @@ pub enum Link {
 }
 
 /// What a chain ends in.
-#[derive(Debug, Drop)]
+#[derive(Drop)]
 pub enum End {
     /// The whole page.
     Whole(Leaf),

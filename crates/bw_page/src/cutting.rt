@@ -15,7 +15,7 @@ use bw_codec::{Key, Leaf, Low, Pairs, Record};
 use std::alloc::{AllocError, Global};
 
 /// A leaf that was cut in two.
-#[derive(Debug, Drop)]
+#[derive(Drop)]
 pub struct Cut {
     /// The part that stays.
     pub lower: Leaf,
