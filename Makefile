@@ -1,7 +1,7 @@
 # make run    proves and builds bwlog, and runs the first script
 # make try    runs the same script without any proof, in seconds
 # make test   the gate: the pages against the tests, every proof, the wrong bodies, the tests, the programs (from nothing, but for what this machine has passed); then the
-#             program that it built over the cases of crates/bwlog/cases
+#             program that it built over the cases of crates/bwlog/cases, and over drawn scripts beside a map
 # make wrong  tries the wrong bodies outside the gate, in a copy of the repository
 # make memory proves the tests of drive_tests, and runs those of its module memory with each allocation refused in turn, by a shim that cc makes
 # make bench  times the store at a million keys, each subject in a process of its own, and then over files (docs/TESTING.md, "Measured")
@@ -26,6 +26,7 @@ test:
 	python3 docs/same.py
 	RT_JOBS=$(JOBS) rt ci
 	python3 $(PROGRAM)/cases.py
+	python3 $(PROGRAM)/drawn.py
 
 wrong:
 	copy=$$(mktemp -d) && git clone -q . $$copy && cd $$copy && for crate in wrong/*; do \

@@ -2,8 +2,8 @@
 
 ghost use Rattle.bw_store.specs.Views.{IsSoundBeside};
 
-use crate::tests::opening::Held;
-use crate::tests::readers::{is_taken, reads};
+use super::opening::Held;
+use super::readers::{is_taken, reads};
 use bw_store::Reader;
 use std::sync::Wait;
 

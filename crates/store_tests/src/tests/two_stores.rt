@@ -3,13 +3,13 @@
 ghost use Rattle.std.specs.Prelude.{IfSome};
 ghost use Rattle.bw_store.specs.Views.{IsSoundBeside};
 
+use super::boxes::{Supply, plain, supplied};
+use super::opening::{config_of, opened, shut};
+use super::readers::reads;
 use super::sides::Side::{Left, Right};
 use super::sides::Step::{Flushes, See, Takes};
 use super::sides::{Sided, Step, goes, see};
-use crate::tests::boxes::{Supply, plain, supplied};
-use crate::tests::opening::{config_of, opened, shut};
-use crate::tests::readers::reads;
-use crate::tests::telling::went;
+use super::telling::went;
 use std::sync::Wait;
 
 /// What one store takes and flushes, its own reader sees and the other's does not.
