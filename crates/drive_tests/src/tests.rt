@@ -14,10 +14,16 @@ mod steps;
 mod streams;
 mod walking;
 
+use std::fs;
 use std::process::Abort;
 use std::test::*;
 
-/// All of so many rows went as told, and none of them otherwise.
-fn all_went<R: Abort>(rt: &R, went: usize, all: usize, place: &str) {
-    assert_eq!(rt; went, all, "in {place}");
+/// A folder and its files are gone, if they were there.
+fn clear(rt: HostRuntime, path: &str) {
+    let _ = fs::remove_dir_all(&rt, path);
+}
+
+/// All went as told; a failure tells the first table that did not, and its step.
+fn all_went(rt: &impl Abort, wrong: Option<(&'static str, usize)>) {
+    assert_eq!(rt; wrong, None);
 }

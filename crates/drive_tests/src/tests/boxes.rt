@@ -2,35 +2,45 @@
 
 use bw_device::{Desk, FuseSegment, MemSegment, Segment};
 use std::alloc::Global;
-use std::test::Fail;
 
-// One more box, which fails after so many calls, if told.
+// One more box, with the bytes of a text in hex, which fails after so many calls, if told.
 fn one(
     alloc: Global,
     desk: &mut Desk,
+    text: &'static str,
     capacity: u64,
     fuse: Option<u64>,
-) -> Result<Box<dyn Segment>, Fail> {
-    let segment = MemSegment::new(alloc, desk.take()?, capacity)?;
+) -> Option<Box<dyn Segment>> {
+    let bytes = hex::decode(alloc, text).ok()?;
+    let segment = MemSegment::with_bytes(alloc, desk.take().ok()?, capacity, &bytes).ok()?;
     match fuse {
-        Some(calls) => Ok(Box::new(alloc, FuseSegment::new(segment, calls, 0))?),
-        None => Ok(Box::new(alloc, segment)?),
+        Some(calls) => Some(Box::new(alloc, FuseSegment::new(segment, calls, 0)).ok()?),
+        None => Some(Box::new(alloc, segment).ok()?),
     }
 }
 
-/// So many boxes with leases 0, 1, ..; the first one fails once, after so many calls, if told.
+/// So many boxes with leases 0, 1, .., of which the first ones have the bytes of these texts in hex,
+/// and the others none; the first one fails once, after so many calls, if told. None where memory for
+/// them is refused.
 pub(super) fn boxes(
     alloc: Global,
-    many: u32,
+    many: usize,
+    texts: &[&'static str],
     capacity: u64,
     fuse: Option<u64>,
-) -> Result<Vec<Box<dyn Segment>>, Fail> {
-    let mut desk = Desk::new(alloc, 64)?;
+) -> Option<Vec<Box<dyn Segment>>> {
+    let mut desk = Desk::new(alloc, 64).ok()?;
     let mut boxes: Vec<Box<dyn Segment>> = Vec::new(alloc);
     let mut fuse = fuse;
-    for _ in 0..many {
-        boxes.push(one(alloc, &mut desk, capacity, fuse)?)?;
+    for i in 0..many {
+        let text = match texts.get(i) {
+            Some(text) => *text,
+            None => "",
+        };
+        boxes
+            .push(one(alloc, &mut desk, text, capacity, fuse)?)
+            .ok()?;
         fuse = None;
     }
-    Ok(boxes)
+    Some(boxes)
 }

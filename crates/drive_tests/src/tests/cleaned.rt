@@ -4,13 +4,13 @@ use super::reading::reads;
 use super::scripts::Part;
 use super::steps::Step::Drives;
 use super::steps::{Pace, Run};
-use super::walking::{Left, Table, walked};
+use super::walking::{Table, walked};
 use bw_care::recover;
 use bw_device::Segment;
 use bw_drive::OpenGate;
 use bw_store::Store;
 use std::sync::Wait;
-use std::test::Fail;
+use std::thread::Threads;
 
 /// 2,000 records of each writer, over 100 keys in turn.
 const PART: Part = Part(0, 2000, 100);
@@ -43,20 +43,18 @@ fn are_read_back<R: AllocGlobal + Wait>(rt: &R, boxes: Vec<Box<dyn Segment>>) ->
     are_read
 }
 
-// The same of all boxes of a store, of which some were given up.
-fn is_recovered<R: AllocGlobal + Wait>(rt: &R, left: Left) -> Result<bool, Fail> {
-    let (mut boxes, mut spares) = left;
+// The same of all boxes that the table leaves, of which some were given up.
+fn is_recovered<R: AllocGlobal + Threads + Wait>(rt: &R) -> bool {
+    let Ok((mut boxes, mut spares)) = walked(rt, TABLE, &OpenGate) else {
+        return false;
+    };
     // What was put fills seven segments at least, and one may have been begun since the last
     // cleaning.
     let few = boxes.len() <= 4 && boxes.len() + spares.len() + 3 <= BOXES as usize;
-    boxes.append(&mut spares)?;
-    Ok(are_read_back(rt, boxes) && few)
+    few && boxes.append(&mut spares).is_ok() && are_read_back(rt, boxes)
 }
 
 #[test]
-fn a_run_with_cleanings_is_recovered(rt: HostRuntime) -> Result<(), Fail> {
-    let (went, left) = walked(&rt, TABLE, &OpenGate)?;
-    let is_recovered = is_recovered(&rt, left)?;
-    assert!(rt; went == 1 && is_recovered);
-    Ok(())
+fn a_run_with_cleanings_is_recovered(rt: HostRuntime) {
+    assert!(rt; is_recovered(&rt));
 }

@@ -9,7 +9,6 @@ use bw_drive::{Gate, MeetGate};
 use std::alloc::Global;
 use std::sync::Wait;
 use std::sync::atomic::{AtomicU64, Ordering};
-use std::test::Fail;
 use std::thread::Threads;
 
 const PACE: Pace = Pace(64, 4, 3, 1_000_000_000);
@@ -45,23 +44,26 @@ const HUNDREDS: &Table = &Table {
 };
 
 // Whether two writers find one another before their first record.
-fn meet<R: AllocGlobal + Threads + Wait>(rt: &R) -> Result<bool, Fail> {
-    let gate = MeetGate::new(rt.alloc(), 2, 100_000_000)?;
-    let (went, _) = walked(rt, THOUSAND, &gate)?;
-    Ok(went == THOUSAND.steps.len() && gate.met())
+fn meet<R: AllocGlobal + Threads + Wait>(rt: &R) -> bool {
+    match MeetGate::new(rt.alloc(), 2, 100_000_000) {
+        Ok(gate) => walked(rt, THOUSAND, &gate).is_ok() && gate.met(),
+        Err(_) => false,
+    }
+}
+
+// The first of twenty meetings in which they do not.
+fn wrong_meeting<R: AllocGlobal + Threads + Wait>(rt: &R) -> Option<(&'static str, usize)> {
+    for meeting in 0..20 {
+        if !meet(rt) {
+            return Some((THOUSAND.name, meeting));
+        }
+    }
+    None
 }
 
 #[test]
-fn two_writers_run_at_once(rt: HostRuntime) -> Result<(), Fail> {
-    let mut met: usize = 0;
-    for _ in 0..20 {
-        if !meet(&rt)? {
-            break;
-        }
-        met = met.saturating_add(1);
-    }
-    all_went(&rt, met, 20, "meetings");
-    Ok(())
+fn two_writers_run_at_once(rt: HostRuntime) {
+    all_went(&rt, wrong_meeting(&rt));
 }
 
 /// Adds up what it is told: the writer, and the number of each record from 1 on.
@@ -87,30 +89,28 @@ impl Gate for Sums {
     }
 }
 
-#[test]
-fn each_record_passes_the_gate(rt: HostRuntime) -> Result<(), Fail> {
+// The first step that does not go as told, and the one behind the last where the sums are others.
+fn wrong_sums<R: AllocGlobal + Threads + Wait>(rt: &R) -> Option<(&'static str, usize)> {
     let gate = Sums {
         before: AtomicU64::new(0),
         after: AtomicU64::new(0),
     };
-    let (went, _) = walked(&rt, HUNDREDS, &gate)?;
-    all_went(&rt, went, HUNDREDS.steps.len(), HUNDREDS.name);
+    if let Err(step) = walked(rt, HUNDREDS, &gate) {
+        return Some((HUNDREDS.name, step));
+    }
+    let before = gate.before.load(Ordering::SeqCst);
+    let after = gate.after.load(Ordering::SeqCst);
     // Twice 1 + 2 + .. + 300, and 300 times a million for writer 1.
-    let (before, after) = (
-        gate.before.load(Ordering::SeqCst),
-        gate.after.load(Ordering::SeqCst),
-    );
-    assert!(rt; before == 300_090_300 && after == 300_090_300);
-    Ok(())
+    if before == 300_090_300 && after == 300_090_300 {
+        None
+    } else {
+        Some((HUNDREDS.name, HUNDREDS.steps.len()))
+    }
 }
 
-// Whether the writers that came so far leave the gate so.
-fn is_met(gate: &MeetGate, writers: &[usize]) -> bool {
-    for writer in writers {
-        gate.before(*writer, 0);
-        gate.after(*writer, 0);
-    }
-    gate.met()
+#[test]
+fn each_record_passes_the_gate(rt: HostRuntime) {
+    all_went(&rt, wrong_sums(&rt));
 }
 
 /// A gate for so many writers and tries, who visits it, and whether it is met then.
@@ -129,21 +129,26 @@ const VISITS: &[Visits] = &[
     Visits("no try", 1, 0, &[(&[0], false)]),
 ];
 
-// How many visits left the gate as told before one did not.
-fn meets(alloc: Global, visits: &Visits) -> Result<usize, Fail> {
-    let gate = MeetGate::new(alloc, visits.1, visits.2)?;
-    for (i, (visitors, told)) in visits.3.iter().enumerate() {
-        if is_met(&gate, *visitors) != *told {
-            return Ok(i);
+// The first visit that left its gate otherwise than told: the first one where there was no gate.
+fn wrong_visit(alloc: Global) -> Option<(&'static str, usize)> {
+    for visits in VISITS {
+        let Ok(gate) = MeetGate::new(alloc, visits.1, visits.2) else {
+            return Some((visits.0, 0));
+        };
+        for (i, (visitors, told)) in visits.3.iter().enumerate() {
+            for writer in *visitors {
+                gate.before(*writer, 0);
+                gate.after(*writer, 0);
+            }
+            if gate.met() != *told {
+                return Some((visits.0, i));
+            }
         }
     }
-    Ok(visits.3.len())
+    None
 }
 
 #[test]
-fn a_gate_is_met_where_each_writer_found_all_others(rt: HostRuntime) -> Result<(), Fail> {
-    for visits in VISITS {
-        all_went(&rt, meets(rt.alloc(), visits)?, visits.3.len(), visits.0);
-    }
-    Ok(())
+fn a_gate_is_met_where_each_writer_found_all_others(rt: HostRuntime) {
+    all_went(&rt, wrong_visit(rt.alloc()));
 }

@@ -9,9 +9,8 @@ use super::scripts::{Part, scripts};
 use bw_drive::{OpenGate, Plan, drive};
 use bw_ring::Feed;
 use bw_store::{Config, Store};
-use std::alloc::Global;
+use std::alloc::{AllocError, Global};
 use std::sync::Wait;
-use std::test::Fail;
 use std::thread::Threads;
 
 // How many entries the history has once each writer has put its part.
@@ -21,7 +20,7 @@ fn example<R: Threads + Wait>(
     store: &mut Store,
     feeds: Vec<Feed>,
     part: Part,
-) -> Result<Option<u64>, Fail>
+) -> Result<Option<u64>, AllocError>
     requires sound { IsSound store.old holding }
     requires feeds { map ring_of_feed feeds.items ≡ (kept_by store.old holding).rings }
     ensures { IsSound store.new holding }
@@ -40,8 +39,10 @@ fn example<R: Threads + Wait>(
 }
 
 // The same over a new store of two writers.
-fn is_settled<R: Threads + Wait>(rt: &R, alloc: Global) -> Result<bool, Fail> {
-    let boxes = boxes(alloc, 4, 65536, None)?;
+fn is_settled<R: Threads + Wait>(rt: &R, alloc: Global) -> bool {
+    let Some(boxes) = boxes(alloc, 4, &[], 65536, None) else {
+        return false;
+    };
     let config = Config {
         writers: 2,
         places: 8,
@@ -50,15 +51,14 @@ fn is_settled<R: Threads + Wait>(rt: &R, alloc: Global) -> Result<bool, Fail> {
         f: 16384,
     };
     let Ok((mut store, feeds)) = Store::open(rt, alloc, &config, boxes) else {
-        return Ok(false);
+        return false;
     };
     let entries = example(rt, alloc, &mut store, feeds, Part(0, 10, 10));
     let _ = store.shut(rt);
-    Ok(entries? == Some(20))
+    matches!(entries, Ok(Some(20)))
 }
 
 #[test]
-fn the_example_of_readme_settles(rt: HostRuntime) -> Result<(), Fail> {
-    assert!(rt; is_settled(&rt, rt.alloc())?);
-    Ok(())
+fn the_example_of_readme_settles(rt: HostRuntime) {
+    assert!(rt; is_settled(&rt, rt.alloc()));
 }

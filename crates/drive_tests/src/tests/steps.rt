@@ -66,30 +66,20 @@ fn are_taken(accepted: &[u64], taken: &[u32], part: Part, least: u64, most: u64)
     true
 }
 
-// Whether each writer's records in the history are all that its feed accepted: so many here, at
-// least and at most.
-fn is_driven(store: &Store, driven: &Driven, part: Part, least: u64, most: u64) -> bool {
-    let is_whole = store.history().len() as u64 == driven.entries;
+// Whether a run of so many feeds that ended well was to end so: each writer's records in the history
+// are all that its feed accepted, so many here, at least and at most.
+fn is_told(store: &Store, driven: &Driven, many: usize, run: &Run) -> bool {
+    let Run(part, _, Ok((least, most))) = run else {
+        return false;
+    };
+    let are_all = driven.feeds.len() == many
+        && driven.accepted.len() == many
+        && driven.entries == store.history().len() as u64;
     match begun(store.history(), part.2) {
         Some(taken) => {
-            is_whole && are_taken(driven.accepted.as_slice(), &taken, part, least, most)
+            are_all && are_taken(driven.accepted.as_slice(), &taken, *part, *least, *most)
         }
         None => false,
-    }
-}
-
-// Whether a run of so many feeds that ended well was to end so.
-fn is_told(
-    store: &Store,
-    driven: &Driven,
-    many: usize,
-    part: Part,
-    told: Result<(u64, u64), StoreFault>,
-) -> bool {
-    let are_all = driven.feeds.len() == many && driven.accepted.len() == many;
-    match told {
-        Ok((least, most)) => are_all && is_driven(store, driven, part, least, most),
-        Err(_) => false,
     }
 }
 
@@ -118,7 +108,7 @@ pub(super) fn drives<R: AllocGlobal + Threads + Wait, G: Gate>(
     };
     match drive(rt, store, feeds, scripts, gate, plan, max_turns) {
         Ok(driven) => {
-            let went = is_told(store, &driven, many, part, told);
+            let went = is_told(store, &driven, many, run);
             (driven.feeds, went)
         }
         Err(DriveFault { feeds, cause }) => {

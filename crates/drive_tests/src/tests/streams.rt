@@ -4,7 +4,6 @@ use super::all_went;
 use bw_script::{Host, LONGEST, Lines, run};
 use std::alloc::Global;
 use std::io::{self, ErrorKind, Read, Write};
-use std::test::*;
 
 const PLAIN: &[&str] = &["replay"];
 
@@ -113,21 +112,15 @@ fn errors_end<R: Host>(rt: &R, word: &str, script: &str, status: u8) -> bool {
     run(rt, &[word], &mut input, &mut printed, &mut told) == status
 }
 
-fn is_read<R: Read + Drop>(lines: &mut Lines<R>, text: &str) -> io::Result<bool> {
-    Ok(lines.read_line()? && lines.line() == text.as_bytes())
-}
-
-fn are_read<R: Read + Drop>(lines: &mut Lines<R>, is_enough: bool) -> io::Result<bool> {
-    if !is_read(lines, "a")? {
-        return Ok(false);
-    }
-    match is_read(lines, "b") {
-        Ok(is_last) => Ok(is_enough && is_last),
-        Err(_) => Ok(!is_enough),
+// Whether the next line is this one; none where the reading failed.
+fn is_read<R: Read + Drop>(lines: &mut Lines<R>, text: &str) -> Option<bool> {
+    match lines.read_line() {
+        Ok(is_line) => Some(is_line && lines.line() == text.as_bytes()),
+        Err(_) => None,
     }
 }
 
-fn reads_end(alloc: Global, reads: u64, is_enough: bool) -> Result<bool, Fail> {
+fn reads_end(alloc: Global, reads: u64, is_enough: bool) -> bool {
     let mut input = Failing {
         text: b"a\nb",
         at: 0,
@@ -135,32 +128,33 @@ fn reads_end(alloc: Global, reads: u64, is_enough: bool) -> Result<bool, Fail> {
         has_interruptions: false,
         is_interrupted: false,
     };
-    let mut lines = Lines::new(alloc, &mut input, reads, LONGEST)?;
-    Ok(are_read(&mut lines, is_enough)?)
+    let Ok(mut lines) = Lines::new(alloc, &mut input, reads, LONGEST) else {
+        return false;
+    };
+    let told = if is_enough { Some(true) } else { None };
+    is_read(&mut lines, "a") == Some(true) && is_read(&mut lines, "b") == told
 }
 
 /// Whether the row goes as told.
-fn goes<R: Host>(rt: &R, row: &Row) -> Result<bool, Fail> {
+fn goes<R: Host>(rt: &R, row: &Row) -> bool {
     match row {
-        Row::Input(cut, status, output, errors) => {
-            Ok(input_ends(rt, *cut, *status, output, errors))
-        }
+        Row::Input(cut, status, output, errors) => input_ends(rt, *cut, *status, output, errors),
         Row::Output(script, left, can_flush, status) => {
-            Ok(output_ends(rt, script, *left, *can_flush, *status))
+            output_ends(rt, script, *left, *can_flush, *status)
         }
-        Row::Errors(word, script, status) => Ok(errors_end(rt, word, script, *status)),
+        Row::Errors(word, script, status) => errors_end(rt, word, script, *status),
         Row::Reads(reads, is_enough) => reads_end(rt.alloc(), *reads, *is_enough),
     }
 }
 
-/// How many of the rows went as told before one did not.
-fn walked<R: Host>(rt: &R, rows: &[Row]) -> Result<usize, Fail> {
-    for (i, row) in rows.iter().enumerate() {
-        if !goes(rt, row)? {
-            return Ok(i);
+// The first row that does not go as told.
+fn wrong_row<R: Host>(rt: &R) -> Option<(&'static str, usize)> {
+    for (i, row) in STREAMS.iter().enumerate() {
+        if !goes(rt, row) {
+            return Some(("streams", i));
         }
     }
-    Ok(rows.len())
+    None
 }
 
 const STREAMS: &[Row] = &[
@@ -194,8 +188,6 @@ const STREAMS: &[Row] = &[
 ];
 
 #[test]
-fn a_failed_stream_ends_the_run(rt: HostRuntime) -> Result<(), Fail> {
-    let went = walked(&rt, STREAMS)?;
-    all_went(&rt, went, STREAMS.len(), "streams");
-    Ok(())
+fn a_failed_stream_ends_the_run(rt: HostRuntime) {
+    all_went(&rt, wrong_row(&rt));
 }

@@ -11,7 +11,6 @@ use bw_drive::Gate;
 use bw_ring::Feed;
 use bw_store::{Config, Store};
 use std::sync::Wait;
-use std::test::Fail;
 use std::thread::Threads;
 
 /// A store, its boxes and its steps.
@@ -27,14 +26,14 @@ pub(super) struct Table {
     pub(super) steps: &'static [Step],
 }
 
-/// How many of the steps went as told before one did not.
-fn walk<R: AllocGlobal + Threads + Wait, G: Gate>(
+/// The first step that did not go as told.
+fn wrong_step<R: AllocGlobal + Threads + Wait, G: Gate>(
     rt: &R,
     store: &mut Store,
     feeds: Vec<Feed>,
     steps: &[Step],
     gate: &G,
-) -> usize
+) -> Option<usize>
     requires sound { IsSound store.old holding }
     requires feeds { map ring_of_feed feeds.items ≡ (kept_by store.old holding).rings }
     ensures { IsSound store.new holding }
@@ -44,23 +43,31 @@ fn walk<R: AllocGlobal + Threads + Wait, G: Gate>(
         let (back, went) = goes(rt, store, feeds, gate, step);
         feeds = back;
         if !went {
-            return i;
+            return Some(i);
         }
     }
-    steps.len()
+    None
 }
 
 /// Live segments, and spares.
 pub(super) type Left = (Vec<Box<dyn Segment>>, Vec<Box<dyn Segment>>);
 
-/// How many of the table's steps went as told before one did not, through this gate; and the boxes
-/// of the store behind them.
+/// The boxes of the store behind the table's steps, where all of them went as told through this gate;
+/// and else the first that did not, which is the first one where there was no store.
 pub(super) fn walked<R: AllocGlobal + Threads + Wait, G: Gate>(
     rt: &R,
     table: &Table,
     gate: &G,
-) -> Result<(usize, Left), Fail> {
-    let boxes = boxes(rt.alloc(), table.boxes, table.capacity, table.fuse)?;
+) -> Result<Left, usize> {
+    let Some(boxes) = boxes(
+        rt.alloc(),
+        table.boxes as usize,
+        &[],
+        table.capacity,
+        table.fuse,
+    ) else {
+        return Err(0);
+    };
     let config = Config {
         writers: table.writers,
         places: table.places,
@@ -69,8 +76,12 @@ pub(super) fn walked<R: AllocGlobal + Threads + Wait, G: Gate>(
         f: 16384,
     };
     let Ok((mut store, feeds)) = Store::open(rt, rt.alloc(), &config, boxes) else {
-        return Err(Fail::from("a refusal of open"));
+        return Err(0);
     };
-    let went = walk(rt, &mut store, feeds, table.steps, gate);
-    Ok((went, store.shut(rt)))
+    let wrong = wrong_step(rt, &mut store, feeds, table.steps, gate);
+    let left = store.shut(rt);
+    match wrong {
+        Some(step) => Err(step),
+        None => Ok(left),
+    }
 }

@@ -1,14 +1,12 @@
 //! Each call of the system failing in turn: it is told as the system's fault, and afterwards the step
 //! is done.
 
-use super::super::all_went;
+use super::super::{all_went, clear};
 use super::steps::Act::{
     Append, Copy, Empty, Holds, Leave, Look, Open, Segment, Spare, Stop, Write,
 };
 use super::steps::Told::{Done, System};
-use super::steps::{Act, Row, Stand, Told, at, goes, walked};
-use super::watched::clear;
-use std::test::Fail;
+use super::steps::{Act, Row, Stand, Told, at, goes, wrong_row};
 
 /// A name, what goes before a step, the step, how many calls it makes, and what goes after one of
 /// them failed.
@@ -98,10 +96,10 @@ const TRIALS: &[Trial] = &[
 
 // How the step goes where its call of this number fails.
 fn went(stand: &mut Stand, act: &Act, number: usize) -> Told {
-    stand.rt.watch().fail_after(number as u64, 0);
+    stand.rt.watch.fail_after(number as u64, 0);
     let went = goes(stand, act);
-    stand.rt.watch().heal();
-    stand.rt.watch().take_letters();
+    stand.rt.watch.fail_after(u64::MAX, 0);
+    stand.rt.watch.take_letters();
     went
 }
 
@@ -109,36 +107,39 @@ fn went(stand: &mut Stand, act: &Act, number: usize) -> Told {
 // where no call has this number.
 fn is_fault(stand: &mut Stand, trial: &Trial, number: usize) -> bool {
     let Trial(_, before, act, calls, after) = trial;
-    let made = walked(stand, *before) == before.len();
+    if wrong_row(stand, *before).is_some() {
+        return false;
+    }
     let went = went(stand, act, number);
     if number == *calls {
-        return made && went == Done;
+        went == Done
+    } else {
+        went == System && wrong_row(stand, *after).is_none()
     }
-    made && went == System && walked(stand, *after) == after.len()
 }
 
 // The same in a folder of its own.
-fn is_told(rt: HostRuntime, trial: &Trial, number: usize) -> Result<bool, Fail> {
-    let mut stand = at(rt, "failing")?;
-    Ok(is_fault(&mut stand, trial, number))
+fn is_told(rt: HostRuntime, trial: &Trial, number: usize) -> bool {
+    match at(rt, "failing") {
+        Some(mut stand) => is_fault(&mut stand, trial, number),
+        None => false,
+    }
 }
 
-// How many calls were told before one was not; one more than the step makes where all were.
-fn told(rt: HostRuntime, trial: &Trial) -> Result<usize, Fail> {
-    for number in 0..=trial.3 {
-        if !is_told(rt, trial, number)? {
-            return Ok(number);
+// The first trial of which a call was not told, and the number of the call.
+fn wrong_call(rt: HostRuntime) -> Option<(&'static str, usize)> {
+    for trial in TRIALS {
+        for number in 0..=trial.3 {
+            if !is_told(rt, trial, number) {
+                return Some((trial.0, number));
+            }
         }
     }
-    Ok(trial.3.saturating_add(1))
+    None
 }
 
 #[test]
-fn each_failed_call_is_told(rt: HostRuntime) -> Result<(), Fail> {
-    for trial in TRIALS {
-        let told = told(rt, trial)?;
-        all_went(&rt, told, trial.3.saturating_add(1), trial.0);
-    }
+fn each_failed_call_is_told(rt: HostRuntime) {
+    all_went(&rt, wrong_call(rt));
     clear(rt, "failing");
-    Ok(())
 }

@@ -2,14 +2,14 @@
 //! l takes a lock, k takes one beside other readers, m asks for a length, r reads, w writes, c cuts,
 //! s waits until the bytes stand, a until the length or the name stands too.
 
+use super::super::all_went;
 use super::steps::Act::{
     Append, Copy, Empty, Fail as Failing, File, Full, Holds, Leave, Lengthen, Look, LookAway, Make,
     NoFile, Open, Segment, Spare, Stop, Write,
 };
 use super::steps::Told::{BadConfig, Done, InUse, No, System, TooLong};
-use super::steps::{Row, go_as_told};
+use super::steps::{Row, Table, wrong_table};
 use bw_device::MAX_CAPACITY;
-use std::test::Fail;
 
 /// What was appended is there again after a stop, twice, and none of it after the file was emptied.
 const KEPT: &[Row] = &[
@@ -160,21 +160,23 @@ const FULL: &[Row] = &[
     Row(File("segment-0000.bw", "abc"), Done, ""),
 ];
 
+const APPENDED: &[Table] = &[("kept", KEPT), ("limits", LIMITS)];
+
+const OPENED: &[Table] = &[("once", ONCE), ("read", READ)];
+
+const REFUSED: &[Table] = &[("closed", CLOSED), ("unsynced", UNSYNCED), ("full", FULL)];
+
 #[test]
-fn what_was_appended_is_there_again(rt: HostRuntime) -> Result<(), Fail> {
-    go_as_told(&rt, rt, &[("kept", KEPT), ("limits", LIMITS)])
+fn what_was_appended_is_there_again(rt: HostRuntime) {
+    all_went(&rt, wrong_table(rt, APPENDED));
 }
 
 #[test]
-fn a_folder_is_open_once_and_a_reader_writes_nothing(rt: HostRuntime) -> Result<(), Fail> {
-    go_as_told(&rt, rt, &[("once", ONCE), ("read", READ)])
+fn a_folder_is_open_once_and_a_reader_writes_nothing(rt: HostRuntime) {
+    all_went(&rt, wrong_table(rt, OPENED));
 }
 
 #[test]
-fn a_failed_append_closes_its_folder(rt: HostRuntime) -> Result<(), Fail> {
-    go_as_told(
-        &rt,
-        rt,
-        &[("closed", CLOSED), ("unsynced", UNSYNCED), ("full", FULL)],
-    )
+fn a_failed_append_closes_its_folder(rt: HostRuntime) {
+    all_went(&rt, wrong_table(rt, REFUSED));
 }

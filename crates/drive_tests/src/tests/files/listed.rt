@@ -1,10 +1,10 @@
 //! Which leases have a file: by the names of the files alone.
 
+use super::super::all_went;
 use super::steps::Act::{Listed, Write};
 use super::steps::Told::Done;
-use super::steps::{Row, go_as_told};
-use bw_file::{Folder, FolderFault, FolderReader};
-use std::test::Fail;
+use super::steps::{Row, Table, wrong_table};
+use bw_file::{Folder, FolderReader};
 
 /// Names of three leases, of none of a desk's, and of other files.
 const LISTED: &[Row] = &[
@@ -23,36 +23,29 @@ const LISTED: &[Row] = &[
     Row(Listed(&[0, 7, 4095]), Done, ""),
 ];
 
-// Whether there are files for these leases.
-fn are_so(leases: Result<Vec<u32>, FolderFault>, told: &[u32]) -> bool {
-    match leases {
-        Ok(leases) => leases.as_slice() == told,
-        Err(_) => false,
+const TABLES: &[Table] = &[("listed", LISTED)];
+
+// The leases with a file, by a folder that is open, or by one that is only looked at.
+fn leases_of(rt: &HostRuntime, path: &str, looks: bool) -> Option<Vec<u32>> {
+    if looks {
+        FolderReader::open(rt, path).ok()?.leases(rt).ok()
+    } else {
+        Folder::open(rt, path).ok()?.leases(rt).ok()
     }
 }
 
-// Whether a folder that is open has files for these leases.
-fn has(rt: &HostRuntime, path: &str, told: &[u32]) -> bool {
-    match Folder::open(rt, path) {
-        Ok(folder) => are_so(folder.leases(rt), told),
-        Err(_) => false,
-    }
-}
-
-// The same of one that is only looked at.
-fn shows(rt: &HostRuntime, path: &str, told: &[u32]) -> bool {
-    match FolderReader::open(rt, path) {
-        Ok(reader) => are_so(reader.leases(rt), told),
-        Err(_) => false,
-    }
-}
-
-/// The same of both.
+/// Whether there are files for these leases, by both.
 pub(super) fn are_listed(rt: &HostRuntime, path: &str, told: &[u32]) -> bool {
-    has(rt, path, told) && shows(rt, path, told)
+    for looks in [false, true] {
+        match leases_of(rt, path, looks) {
+            Some(leases) if leases.as_slice() == told => {}
+            _ => return false,
+        }
+    }
+    true
 }
 
 #[test]
-fn the_leases_with_a_file_are_listed(rt: HostRuntime) -> Result<(), Fail> {
-    go_as_told(&rt, rt, &[("listed", LISTED)])
+fn the_leases_with_a_file_are_listed(rt: HostRuntime) {
+    all_went(&rt, wrong_table(rt, TABLES));
 }

@@ -2,18 +2,16 @@
 
 ghost use Rattle.bw_care.specs.Views.{IsSound};
 
+use super::super::all_went;
 use super::steps::Act::{Bytes, Cleans, Make, Tells};
 use super::steps::Told::Done;
-use super::steps::{Act, Row, Table, go_as_told};
-use super::stored::is_cleaned_over;
+use super::steps::{Act, Row, Table, wrong_table};
+use super::stored::is_given_up;
 use super::watched::{Watched, WatchedFile};
 use bw_care::{RecoverCause, Recovered, recover};
-use bw_codec::{Key, Leaf, Value};
 use bw_device::{Desk, Segment};
 use bw_file::Folder;
 use bw_page::Leaves;
-use std::alloc::Global;
-use std::test::Fail;
 
 /// What recovery tells of a folder.
 #[derive(Drop)]
@@ -158,27 +156,18 @@ pub(super) fn boxes_of(
     Some(boxes)
 }
 
-fn is_pair(key: &Key, value: &Value, told: &(&'static str, &'static str)) -> bool {
-    key.as_slice() == told.0.as_bytes() && value.as_slice() == told.1.as_bytes()
-}
-
-// Whether the page has these pairs.
-fn has_pairs(leaf: &Leaf, told: &[(&'static str, &'static str)]) -> bool {
+// Whether there is one page, with these pairs.
+fn is_page(leaves: &Leaves, told: &[(&'static str, &'static str)]) -> bool {
+    let Some(leaf) = leaves.page(1) else {
+        return false;
+    };
     let pairs = leaf.pairs.as_slice();
-    for (pair, told) in pairs.iter().zip(told) {
-        if !is_pair(&pair.0, &pair.1, told) {
+    for ((key, value), (told_key, told_value)) in pairs.iter().zip(told) {
+        if key.as_slice() != told_key.as_bytes() || value.as_slice() != told_value.as_bytes() {
             return false;
         }
     }
-    pairs.len() == told.len()
-}
-
-// Whether there is one page, with these pairs.
-fn is_page(leaves: &Leaves, told: &[(&'static str, &'static str)]) -> bool {
-    match leaves.page(1) {
-        Some(leaf) => leaves.count() == 1 && has_pairs(leaf, told),
-        None => false,
-    }
+    leaves.count() == 1 && pairs.len() == told.len()
 }
 
 // Whether it was found as told.
@@ -195,41 +184,37 @@ fn is_found(found: &Recovered, told: &Said) -> bool
     numbers & counts & is_page(&found.leaves, *pairs)
 }
 
-fn is_fault(cause: RecoverCause, told: &Said) -> bool {
-    match told {
-        Found(_, _, _, _, _, _, _) => false,
-        Fault(fault) => *fault == cause,
+fn is_fault(cause: RecoverCause, act: &Act) -> bool {
+    match act {
+        Tells(_, Fault(told)) => cause == *told,
+        _ => false,
     }
 }
 
-fn is_recovered(alloc: Global, boxes: Vec<Box<dyn Segment>>, told: &Said) -> bool {
-    match recover(alloc, boxes) {
-        Ok(found) => is_found(&found, told),
-        Err(fault) => is_fault(fault.cause, told),
-    }
-}
-
-// Whether the step goes well over these boxes of the folder.
+// Whether the step goes well over what is recovered from these boxes of the folder.
 fn goes_with(
     rt: &Watched,
     folder: &Folder<WatchedFile>,
     boxes: Vec<Box<dyn Segment>>,
     act: &Act,
 ) -> bool {
-    match act {
-        Tells(_, told) => is_recovered(rt.alloc(), boxes, told),
-        Cleans(empties) => is_cleaned_over(rt, folder, boxes, *empties),
-        _ => false,
+    match recover(rt.alloc(), boxes) {
+        Ok(mut found) => match act {
+            Tells(_, told) => is_found(&found, told),
+            Cleans(empties) => is_given_up(rt, folder, &mut found.log, *empties),
+            _ => false,
+        },
+        Err(fault) => is_fault(fault.cause, act),
     }
 }
 
-// Whether the step goes well in the folder, which is opened for it, over boxes of its first leases.
-fn goes_opened(rt: &Watched, act: &Act) -> bool {
+/// Whether the step goes well in the folder, which is opened for it, over boxes of its first leases.
+pub(super) fn goes_opened(rt: &Watched, act: &Act) -> bool {
     let n = match act {
         Tells(n, _) => *n,
         _ => 3,
     };
-    let Ok(folder) = Folder::open(rt, rt.path()) else {
+    let Ok(folder) = Folder::open(rt, rt.path) else {
         return false;
     };
     match boxes_of(rt, &folder, n) {
@@ -238,14 +223,7 @@ fn goes_opened(rt: &Watched, act: &Act) -> bool {
     }
 }
 
-/// Whether a step goes well that opens the folder for itself. Which calls it makes is not told.
-pub(super) fn goes_over(rt: &Watched, act: &Act) -> bool {
-    let went = goes_opened(rt, act);
-    rt.watch().take_letters();
-    went
-}
-
 #[test]
-fn worked_files_are_told(rt: HostRuntime) -> Result<(), Fail> {
-    go_as_told(&rt, rt, WORKED)
+fn worked_files_are_told(rt: HostRuntime) {
+    all_went(&rt, wrong_table(rt, WORKED));
 }

@@ -1,15 +1,13 @@
 //! Steps on one folder with up to two of its segments, and how each goes.
 
-use super::super::all_went;
+use super::super::clear;
 use super::listed::are_listed;
-use super::recovered::{Said, goes_over};
-use super::watched::{Watched, WatchedFile, clear, number_of};
+use super::recovered::{Said, goes_opened};
+use super::watched::{Watched, WatchedFile, number_of};
 use bw_device::{Desk, Lease, MAX_CAPACITY, Segment};
 use bw_file::{FileSegment, Folder, FolderFault, FolderReader, NotOpened};
-use std::alloc::{AllocError, Global};
+use std::alloc::Global;
 use std::fs::{self, OpenOptions};
-use std::process::Abort;
-use std::test::Fail;
 
 /// One step. Segments have a place, 0 or 1, which is also their lease.
 #[derive(Drop)]
@@ -86,8 +84,8 @@ pub(super) struct Stand {
 }
 
 /// Nothing stands yet.
-pub(super) fn at(rt: HostRuntime, path: &'static str) -> Result<Stand, Fail> {
-    Ok(Stand {
+pub(super) fn at(rt: HostRuntime, path: &'static str) -> Option<Stand> {
+    Some(Stand {
         rt: Watched::new(rt, path)?,
         folder: None,
         reader: None,
@@ -120,7 +118,7 @@ fn lease_of(alloc: Global, number: u32) -> Option<Lease> {
 }
 
 fn open(stand: &mut Stand) -> Told {
-    match Folder::open(&stand.rt, stand.rt.path()) {
+    match Folder::open(&stand.rt, stand.rt.path) {
         Ok(folder) => {
             stand.folder = Some(folder);
             Told::Done
@@ -130,7 +128,7 @@ fn open(stand: &mut Stand) -> Told {
 }
 
 fn look(stand: &mut Stand) -> Told {
-    match FolderReader::open(&stand.rt, stand.rt.path()) {
+    match FolderReader::open(&stand.rt, stand.rt.path) {
         Ok(reader) => {
             stand.reader = Some(reader);
             Told::Done
@@ -233,43 +231,21 @@ fn copy(stand: &Stand, number: u32, capacity: u64, held: &str) -> Told {
     }
 }
 
-// The path of a file of a folder.
-fn path_of(alloc: Global, folder: &str, name: &str) -> Result<String, AllocError> {
-    format!(in alloc; "{folder}/{name}")
-}
-
-// Whether the file holds this, and no more.
-fn has(rt: &HostRuntime, path: &str, told: &[u8]) -> bool {
+// Whether these bytes are written to a file, or it holds them and no more.
+fn goes_with(rt: &HostRuntime, path: &str, bytes: &[u8], writes: bool) -> bool {
+    if writes {
+        return fs::write(rt, path, bytes).is_ok();
+    }
     match fs::read(rt, path) {
-        Ok(bytes) => bytes.as_slice() == told,
+        Ok(held) => held.as_slice() == bytes,
         Err(_) => false,
     }
 }
 
-// So many first bytes of these.
-fn bytes_of(alloc: Global, hex: &'static str, n: usize) -> Option<Vec<u8>> {
-    let mut bytes = hex::decode(alloc, hex).ok()?;
-    bytes.truncate(n);
-    Some(bytes)
-}
-
-// Whether such bytes are written to a file, or stand in it.
+// The same with so many first bytes of these.
 fn goes_in_hex(rt: &HostRuntime, path: &str, hex: &'static str, n: usize, writes: bool) -> bool {
-    match bytes_of(rt.alloc(), hex, n) {
-        Some(bytes) => {
-            if writes {
-                fs::write(rt, path, bytes.as_slice()).is_ok()
-            } else {
-                has(rt, path, bytes.as_slice())
-            }
-        }
-        None => false,
-    }
-}
-
-fn is_missing(rt: &HostRuntime, path: &str) -> bool {
-    match fs::exists(rt, path) {
-        Ok(is_there) => !is_there,
+    match hex::decode(rt.alloc(), hex) {
+        Ok(bytes) => goes_with(rt, path, &bytes[..n.min(bytes.len())], writes),
         Err(_) => false,
     }
 }
@@ -295,11 +271,11 @@ fn name_of(act: &Act) -> &'static str {
 // Whether a step on a file of this path goes well.
 fn goes_on(rt: &HostRuntime, path: &str, act: &Act) -> bool {
     match act {
-        Act::Write(_, text) => fs::write(rt, path, *text).is_ok(),
+        Act::Write(_, text) => goes_with(rt, path, text.as_bytes(), true),
         Act::Bytes(_, hex, n) => goes_in_hex(rt, path, *hex, *n, true),
-        Act::File(_, text) => has(rt, path, text.as_bytes()),
+        Act::File(_, text) => goes_with(rt, path, text.as_bytes(), false),
         Act::First(hex, n) => goes_in_hex(rt, path, *hex, *n, false),
-        Act::NoFile(_) => is_missing(rt, path),
+        Act::NoFile(_) => matches!(fs::exists(rt, path), Ok(false)),
         Act::Lengthen => lengthen(rt, path),
         _ => false,
     }
@@ -308,19 +284,23 @@ fn goes_on(rt: &HostRuntime, path: &str, act: &Act) -> bool {
 /// Whether a step goes well of one who stands outside, or who opens the folder anew.
 pub(super) fn goes_outside(rt: &Watched, act: &Act) -> bool {
     match act {
-        Act::Make => fs::create_dir(rt.system(), rt.path()).is_ok(),
+        Act::Make => fs::create_dir(&rt.rt, rt.path).is_ok(),
         Act::Fail(passes, keep) => {
-            rt.watch().fail_after(*passes, *keep);
+            rt.watch.fail_after(*passes, *keep);
             true
         }
         Act::Full(is_full) => {
-            rt.watch().fill(*is_full);
+            rt.watch.fill(*is_full);
             true
         }
-        Act::Listed(leases) => are_listed(rt.system(), rt.path(), *leases),
-        Act::Tells(_, _) | Act::Cleans(_) => goes_over(rt, act),
-        _ => match path_of(rt.alloc(), rt.path(), name_of(act)) {
-            Ok(path) => goes_on(rt.system(), path.as_str(), act),
+        Act::Listed(leases) => are_listed(&rt.rt, rt.path, *leases),
+        Act::Tells(_, _) | Act::Cleans(_) => {
+            let went = goes_opened(rt, act);
+            rt.watch.take_letters();
+            went
+        }
+        _ => match format!(in rt.alloc(); "{}/{}", rt.path, name_of(act)) {
+            Ok(path) => goes_on(&rt.rt, path.as_str(), act),
             Err(_) => false,
         },
     }
@@ -357,38 +337,39 @@ pub(super) fn goes(stand: &mut Stand, act: &Act) -> Told {
     }
 }
 
-/// How many of the rows went as told before one did not.
-pub(super) fn walked(stand: &mut Stand, rows: &[Row]) -> usize {
+/// The first row that did not go as told.
+pub(super) fn wrong_row(stand: &mut Stand, rows: &[Row]) -> Option<usize> {
     for (i, row) in rows.iter().enumerate() {
         let Row(act, told, letters) = row;
         let went = goes(stand, act);
-        let made = stand.rt.watch().take_letters();
+        let made = stand.rt.watch.take_letters();
         if went != *told || made != number_of(letters) {
-            return i;
+            return Some(i);
         }
     }
-    rows.len()
+    None
 }
 
 /// A folder, and what goes in it.
 pub(super) type Table = (&'static str, &'static [Row]);
 
-// How many of the rows went as told in a folder of their own.
-fn walked_in(rt: HostRuntime, path: &'static str, rows: &[Row]) -> Result<usize, Fail> {
-    let mut stand = at(rt, path)?;
-    Ok(walked(&mut stand, rows))
+// The first row that did not go as told in a folder of its own, and the first one where there was no
+// folder.
+fn wrong_in(rt: HostRuntime, path: &'static str, rows: &[Row]) -> Option<usize> {
+    match at(rt, path) {
+        Some(mut stand) => wrong_row(&mut stand, rows),
+        None => Some(0),
+    }
 }
 
-/// Each row of each table goes as told.
-pub(super) fn go_as_told<R: Abort>(
-    test: &R,
-    rt: HostRuntime,
-    tables: &[Table],
-) -> Result<(), Fail> {
+/// The first table that did not go as told in a folder of its own, and its row.
+pub(super) fn wrong_table(rt: HostRuntime, tables: &[Table]) -> Option<(&'static str, usize)> {
     for (path, rows) in tables {
-        let went = walked_in(rt, *path, *rows)?;
+        let wrong = wrong_in(rt, *path, *rows);
         clear(rt, *path);
-        all_went(test, went, rows.len(), *path);
+        if let Some(row) = wrong {
+            return Some((*path, row));
+        }
     }
-    Ok(())
+    None
 }

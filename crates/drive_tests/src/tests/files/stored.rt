@@ -4,14 +4,14 @@
 ghost use Rattle.bw_care.specs.Views.{IsSound as IsSoundLog};
 ghost use Rattle.bw_store.specs.Views.{IsSound};
 
-use super::super::all_went;
+use super::super::{all_went, clear};
 use super::recovered::Said::Found;
 use super::recovered::{Said, boxes_of};
 use super::steps::Act::{Bytes, Cleans, First, Make, Tells};
 use super::steps::Told::Done;
-use super::steps::{Row, go_as_told, goes_outside};
-use super::watched::{Watched, WatchedFile, clear};
-use bw_care::{Cleaned, clean, recover};
+use super::steps::{Row, Table, goes_outside, wrong_table};
+use super::watched::{Watched, WatchedFile};
+use bw_care::{Cleaned, clean};
 use bw_codec::{Key, Record, Value};
 use bw_device::Segment;
 use bw_file::Folder;
@@ -19,7 +19,6 @@ use bw_log::Log;
 use bw_ring::Feed;
 use bw_store::{Config, Store, StoreFault};
 use std::sync::Wait;
-use std::test::Fail;
 
 const KV: &[(&str, &str)] = &[("k", "v")];
 
@@ -88,21 +87,24 @@ fn is_flushed<R: Wait>(
     put & taken & flushed
 }
 
+/// After so many calls of a second flush one fails, a write with so many bytes kept.
+#[derive(Clone, Copy)]
+struct Stop(u64, u64);
+
 // Two flushes: the first one passes, and the second one as long as no call of it is to fail.
 fn are_flushed<R: Wait>(
     wait: &R,
     rt: &Watched,
     store: &mut Store,
     feeds: &mut [Feed],
-    passes: u64,
-    keep: u64,
+    stop: Stop,
 ) -> bool
     requires { IsSound store.old holding }
     ensures { IsSound store.new holding }
 {
     let first = is_flushed(wait, store, feeds, (b"k", b"v"), 1);
-    rt.watch().fail_after(passes, keep);
-    let told = if passes < 2 { FAILS } else { 2 };
+    rt.watch.fail_after(stop.0, stop.1);
+    let told = if stop.0 < 2 { FAILS } else { 2 };
     let second = is_flushed(wait, store, feeds, (b"j", b"w"), told);
     first & second
 }
@@ -116,28 +118,22 @@ const CONFIG: Config = Config {
 };
 
 // A life of a store over these boxes, until it is shut.
-fn lives_over<R: Wait>(
-    wait: &R,
-    rt: &Watched,
-    boxes: Vec<Box<dyn Segment>>,
-    passes: u64,
-    keep: u64,
-) -> bool {
+fn lives_over<R: Wait>(wait: &R, rt: &Watched, boxes: Vec<Box<dyn Segment>>, stop: Stop) -> bool {
     let Ok((mut store, mut feeds)) = Store::open(wait, rt.alloc(), &CONFIG, boxes) else {
         return false;
     };
-    let flushed = are_flushed(wait, rt, &mut store, &mut feeds, passes, keep);
+    let flushed = are_flushed(wait, rt, &mut store, &mut feeds, stop);
     let _ = store.shut(wait);
     flushed
 }
 
 // A life of a store over two files of the folder.
-fn lives<R: Wait>(wait: &R, rt: &Watched, passes: u64, keep: u64) -> bool {
-    let Ok(folder) = Folder::open(rt, rt.path()) else {
+fn lives<R: Wait>(wait: &R, rt: &Watched, stop: Stop) -> bool {
+    let Ok(folder) = Folder::open(rt, rt.path) else {
         return false;
     };
     match boxes_of(rt, &folder, 2) {
-        Some(boxes) => lives_over(wait, rt, boxes, passes, keep),
+        Some(boxes) => lives_over(wait, rt, boxes, stop),
         None => false,
     }
 }
@@ -151,41 +147,40 @@ fn said_of(of_second: u64) -> Said {
     }
 }
 
-// Whether behind a life whose call of this number failed the first file has so many bytes of the
-// second frame, and the files tell so.
-fn is_there<R: Wait>(
-    wait: &R,
-    rt: HostRuntime,
-    passes: u64,
-    keep: u64,
-    of_second: u64,
-) -> Result<bool, Fail> {
-    let rt = &Watched::new(rt, "stored")?;
+// Whether behind a life with such a stop the first file has so many bytes of the second frame, and
+// the files tell so.
+fn is_there<R: Wait>(wait: &R, rt: HostRuntime, stop: Stop, of_second: u64) -> bool {
+    let Some(rt) = Watched::new(rt, "stored") else {
+        return false;
+    };
     let length = 76 + of_second.min(SECOND_LENGTH) as usize;
-    Ok(
-        lives(wait, rt, passes, keep)
-            && goes_outside(rt, &First(BOTH, length))
-            && goes_outside(rt, &Tells(2, said_of(of_second))),
-    )
+    lives(wait, &rt, stop)
+        && goes_outside(&rt, &First(BOTH, length))
+        && goes_outside(&rt, &Tells(2, said_of(of_second)))
+}
+
+// The first stop behind which it is otherwise: how many calls passed, or how many bytes were kept.
+fn wrong_stop<R: Wait>(wait: &R, rt: HostRuntime) -> Option<(&'static str, usize)> {
+    // No call fails; or the sync: the frame was not promised, and is there.
+    for passes in [99, 1] {
+        if !is_there(wait, rt, Stop(passes, 0), SECOND_LENGTH) {
+            return Some(("passed", passes as usize));
+        }
+    }
+    // Or the write, behind each of its bytes and behind its last one.
+    for keep in 0..=SECOND_LENGTH {
+        if !is_there(wait, rt, Stop(0, keep), keep) {
+            return Some(("kept", keep as usize));
+        }
+    }
+    None
 }
 
 #[test]
-fn what_was_flushed_is_there_after_a_stop(rt: HostRuntime) -> Result<(), Fail> {
-    // No call fails; or the sync: the frame was not promised, and is there.
-    for passes in [99, 1] {
-        assert!(rt; is_there(&rt, rt, passes, 0, SECOND_LENGTH)?);
-    }
-    // Or the write, behind each of its bytes and behind its last one.
-    let mut there: usize = 0;
-    for keep in 0..=SECOND_LENGTH {
-        if !is_there(&rt, rt, 0, keep, keep)? {
-            break;
-        }
-        there = there.saturating_add(1);
-    }
+fn what_was_flushed_is_there_after_a_stop(rt: HostRuntime) {
+    let wrong = wrong_stop(&rt, rt);
     clear(rt, "stored");
-    all_went(&rt, there, SECOND_LENGTH as usize + 1, "stored");
-    Ok(())
+    all_went(&rt, wrong);
 }
 
 /// Two segments: k=1 on the empty page 1, then j=2.
@@ -207,26 +202,18 @@ const GIVEN_UP: Cleaned = Cleaned {
     frames: 1,
 };
 
-// Whether the older of two segments is given up. The file is then emptied where that is asked, while
-// the log stands.
-fn is_given_up(rt: &Watched, folder: &Folder<WatchedFile>, log: &mut Log, empties: bool) -> bool
+/// Whether the older of two segments is given up. The file is then emptied where that is asked, while
+/// the log stands.
+pub(super) fn is_given_up(
+    rt: &Watched,
+    folder: &Folder<WatchedFile>,
+    log: &mut Log,
+    empties: bool,
+) -> bool
     requires { IsSoundLog log.old holding }
 {
     let given_up = clean(rt.alloc(), log) == Ok(GIVEN_UP);
     given_up & (!empties || folder.empty(rt, 0).is_ok())
-}
-
-/// The same of the log that is recovered from the boxes.
-pub(super) fn is_cleaned_over(
-    rt: &Watched,
-    folder: &Folder<WatchedFile>,
-    boxes: Vec<Box<dyn Segment>>,
-    empties: bool,
-) -> bool {
-    match recover(rt.alloc(), boxes) {
-        Ok(mut found) => is_given_up(rt, folder, &mut found.log, empties),
-        Err(_) => false,
-    }
 }
 
 /// A cleaning and a stop, before the file is emptied.
@@ -247,7 +234,9 @@ const EMPTIED: &[Row] = &[
     Row(Tells(3, Found(2, 3, 0, 1, 2, 0, JK)), Done, ""),
 ];
 
+const CLEANED: &[Table] = &[("given", GIVEN), ("emptied", EMPTIED)];
+
 #[test]
-fn a_segment_that_was_given_up_is_gone_once_its_file_is_empty(rt: HostRuntime) -> Result<(), Fail> {
-    go_as_told(&rt, rt, &[("given", GIVEN), ("emptied", EMPTIED)])
+fn a_segment_that_was_given_up_is_gone_once_its_file_is_empty(rt: HostRuntime) {
+    all_went(&rt, wrong_table(rt, CLEANED));
 }

@@ -1,14 +1,14 @@
 //! A runtime whose files say what is asked of them, and of which one call fails.
 
+use super::super::clear;
 use bw_file::SegmentFile;
 use std::alloc::{Alloc, Allocator, Global};
-use std::fs::{self, File, Metadata, OpenFile, OpenOptions, TryLockError};
+use std::fs::{File, Metadata, OpenFile, OpenOptions, TryLockError};
 use std::io::{self, ErrorKind, Read, Seek, SeekFrom, Write};
 use std::os::unix::fs::FileExt;
 use std::rt::Files;
 use std::sync::Arc;
 use std::sync::atomic::{AtomicBool, AtomicU64, Ordering};
-use std::test::Fail;
 
 /// What was asked, and what is to fail.
 #[derive(Drop)]
@@ -46,7 +46,8 @@ impl Watch {
         }
     }
 
-    /// After so many more calls one fails; if it is a write it keeps so many bytes.
+    /// After so many more calls one fails, and none after `u64::MAX`; if it is a write it keeps so
+    /// many bytes.
     pub(super) fn fail_after(&self, passes: u64, keep: u64) {
         self.passes.store(passes, Ordering::SeqCst);
         self.keep.store(keep, Ordering::SeqCst);
@@ -55,11 +56,6 @@ impl Watch {
     /// Whether the system has room for what is written from here on.
     pub(super) fn fill(&self, is_full: bool) {
         self.is_full.store(is_full, Ordering::SeqCst);
-    }
-
-    /// No call is to fail any more.
-    pub(super) fn heal(&self) {
-        self.passes.store(u64::MAX, Ordering::SeqCst);
     }
 
     /// The letters of the calls since the last look, as a number.
@@ -76,7 +72,7 @@ impl Watch {
         self.letters.store(letters, Ordering::SeqCst);
         match self.passes.load(Ordering::SeqCst) {
             0 => {
-                self.heal();
+                self.passes.store(u64::MAX, Ordering::SeqCst);
                 false
             }
             u64::MAX => true,
@@ -100,37 +96,20 @@ impl Watch {
 /// The system's files, watched, and a folder.
 #[derive(Drop)]
 pub(super) struct Watched {
-    rt: HostRuntime,
-    path: &'static str,
-    watch: Arc<Watch>,
+    /// The system, unwatched.
+    pub(super) rt: HostRuntime,
+    pub(super) path: &'static str,
+    pub(super) watch: Arc<Watch>,
 }
 
 impl Watched {
     /// The folder and its files are gone, if they were there.
-    pub(super) fn new(rt: HostRuntime, path: &'static str) -> Result<Watched, Fail> {
+    pub(super) fn new(rt: HostRuntime, path: &'static str) -> Option<Watched> {
         clear(rt, path);
-        let full = OpenOptions::new().write(true).open(&rt, "/dev/full")?;
-        let watch = Arc::new(rt.alloc(), Watch::new(full))?;
-        Ok(Watched { rt, path, watch })
+        let full = OpenOptions::new().write(true).open(&rt, "/dev/full").ok()?;
+        let watch = Arc::new(rt.alloc(), Watch::new(full)).ok()?;
+        Some(Watched { rt, path, watch })
     }
-
-    pub(super) fn path(&self) -> &'static str {
-        self.path
-    }
-
-    pub(super) fn watch(&self) -> &Watch {
-        &self.watch
-    }
-
-    /// The system, unwatched.
-    pub(super) fn system(&self) -> &HostRuntime {
-        &self.rt
-    }
-}
-
-/// A folder and its files are gone, if they were there.
-pub(super) fn clear(rt: HostRuntime, path: &str) {
-    let _ = fs::remove_dir_all(&rt, path);
 }
 
 impl Alloc for Watched {

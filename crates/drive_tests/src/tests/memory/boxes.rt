@@ -4,7 +4,7 @@ ghost use Rattle.std.specs.Prelude.{IfOk};
 ghost use Rattle.bw_care.specs.Found.{IsRecovered};
 
 use bw_care::{RecoverCause, Recovered, recover};
-use bw_device::{Desk, MemSegment, Segment};
+use bw_device::Segment;
 use std::alloc::Global;
 
 /// The oldest segment: the empty page 1, and k=1.
@@ -28,27 +28,8 @@ pub(super) const CLEANED: &str =
     0101000000020000000000000000000000010001016b013346524d3104000000000000001000000001000000\
     0201000000000200016a0132016b0133";
 
-fn add(
-    alloc: Global,
-    desk: &mut Desk,
-    hex: &'static str,
-    boxes: &mut Vec<Box<dyn Segment>>,
-) -> Option<()> {
-    let bytes = hex::decode(alloc, hex).ok()?;
-    let segment = MemSegment::with_bytes(alloc, desk.take().ok()?, 65_560, &bytes).ok()?;
-    boxes.push(Box::new(alloc, segment).ok()?).ok()?;
-    Some(())
-}
-
-/// A box for each text; an empty text is a spare. None where memory for them is refused.
-pub(super) fn boxes(alloc: Global, texts: &[&'static str]) -> Option<Vec<Box<dyn Segment>>> {
-    let mut desk = Desk::new(alloc, 8).ok()?;
-    let mut boxes: Vec<Box<dyn Segment>> = Vec::new(alloc);
-    for text in texts {
-        add(alloc, &mut desk, *text, &mut boxes)?;
-    }
-    Some(boxes)
-}
+/// The capacity of each box.
+pub(super) const CAPACITY: u64 = 65_560;
 
 /// What is recovered from boxes, once more where memory was refused: all of them came back then. A
 /// number where it is otherwise.

@@ -4,14 +4,14 @@ ghost use Rattle.std.specs.Prelude.{◌≡◌, map};
 ghost use Rattle.bw_ring.specs.Ends.{ring_of_feed};
 ghost use Rattle.bw_store.specs.Views.{kept_by, IsSound};
 
+use super::super::boxes::boxes;
 use super::super::scripts::{Part, scripts};
-use super::boxes::boxes;
+use super::boxes::CAPACITY;
 use bw_drive::{OpenGate, Plan, drive};
 use bw_ring::Feed;
 use bw_store::{Config, Store, StoreFault};
 use std::alloc::Global;
 use std::sync::Wait;
-use std::test::Fail;
 use std::thread::Threads;
 
 const PLAN: Plan = Plan {
@@ -102,7 +102,7 @@ fn runs<R: Threads + Wait>(rt: &R, alloc: Global, store: &mut Store, feeds: Vec<
 // Whether what was refused is told; what is made before the store may be refused too.
 fn is_driven<R: AllocGlobal + Threads + Wait>(rt: &R) -> u8 {
     let alloc = rt.alloc();
-    let Some(boxes) = boxes(alloc, &["", "", "", ""]) else {
+    let Some(boxes) = boxes(alloc, 4, &[], CAPACITY, None) else {
         return 0;
     };
     let Ok((mut store, feeds)) = Store::open(rt, alloc, CONFIG, boxes) else {
@@ -114,7 +114,6 @@ fn is_driven<R: AllocGlobal + Threads + Wait>(rt: &R) -> u8 {
 }
 
 #[test]
-fn a_refused_run_hands_the_feeds_back(rt: HostRuntime) -> Result<(), Fail> {
+fn a_refused_run_hands_the_feeds_back(rt: HostRuntime) {
     assert!(rt; is_driven(&rt) == 0);
-    Ok(())
 }

@@ -1,9 +1,8 @@
 //! Segments in files: a call that was refused memory is made again, over the same files.
 
+use super::super::clear;
 use bw_device::{Desk, Lease, NotTaken, Segment};
 use bw_file::{FileSegment, Folder, FolderFault};
-use std::fs;
-use std::test::Fail;
 
 const PATH: &str = "refused";
 
@@ -42,14 +41,6 @@ fn has_one(rt: HostRuntime, folder: &Folder) -> bool {
     }
 }
 
-fn empties(rt: HostRuntime, folder: &Folder) -> bool {
-    match folder.empty(&rt, 0) {
-        Ok(()) => true,
-        Err(FolderFault::NoMemory) => folder.empty(&rt, 0).is_ok(),
-        Err(_) => false,
-    }
-}
-
 fn lease(desk: &mut Desk) -> Option<Lease> {
     match desk.take() {
         Ok(lease) => Some(lease),
@@ -60,10 +51,8 @@ fn lease(desk: &mut Desk) -> Option<Lease> {
 
 // A segment that holds so many bytes takes more, without memory.
 fn appends(segment: &mut FileSegment, held: u64) -> bool {
-    if segment.len() != held || segment.capacity() != 100 || segment.failures() != 0 {
-        return false;
-    }
-    held <= 90 && segment.append(BYTES).is_ok()
+    let is_so = (segment.len() == held) & (segment.capacity() == 100) & (segment.failures() == 0);
+    is_so && held <= 90 && segment.append(BYTES).is_ok()
 }
 
 // The same of the segment of this lease.
@@ -77,17 +66,24 @@ fn appends_at(rt: HostRuntime, folder: &Folder, lease: Lease, held: u64) -> bool
 // The same in the folder, opened, with the lease of its segment.
 fn lives(rt: HostRuntime, desk: &mut Desk, held: u64) -> bool {
     desk.collect();
-    match (opens(rt), lease(desk)) {
-        (Some(folder), Some(lease)) => appends_at(rt, &folder, lease, held),
-        _ => false,
+    let Some(folder) = opens(rt) else {
+        return false;
+    };
+    match lease(desk) {
+        Some(lease) => appends_at(rt, &folder, lease, held),
+        None => false,
     }
 }
 
 // Whether the file of the segment is given up.
 fn gives_up(rt: HostRuntime) -> bool {
-    match opens(rt) {
-        Some(folder) => empties(rt, &folder),
-        None => false,
+    let Some(folder) = opens(rt) else {
+        return false;
+    };
+    match folder.empty(&rt, 0) {
+        Ok(()) => true,
+        Err(FolderFault::NoMemory) => folder.empty(&rt, 0).is_ok(),
+        Err(_) => false,
     }
 }
 
@@ -105,10 +101,9 @@ fn live(rt: HostRuntime) -> bool {
 }
 
 #[test]
-fn a_folder_is_opened_where_memory_was_refused(rt: HostRuntime) -> Result<(), Fail> {
-    let _ = fs::remove_dir_all(&rt, PATH);
+fn a_folder_is_opened_where_memory_was_refused(rt: HostRuntime) {
+    clear(rt, PATH);
     let lived = live(rt);
-    let _ = fs::remove_dir_all(&rt, PATH);
+    clear(rt, PATH);
     assert!(rt; lived);
-    Ok(())
 }

@@ -5,7 +5,8 @@ ghost use Rattle.bw_ring.specs.Ends.{ring_of_feed};
 ghost use Rattle.bw_care.specs.Found.{IsRecovered};
 ghost use Rattle.bw_store.specs.Views.{kept_by, IsSound};
 
-use super::boxes::{CLEANED, OLDER, boxes, recovered};
+use super::super::boxes::boxes;
+use super::boxes::{CAPACITY, CLEANED, OLDER, recovered};
 use super::steps::Step::{Bytes, Clean, Evict, Flush, Get, Page, Put, Roll, Sees, Settle, Turn};
 use super::steps::{Step, goes};
 use bw_care::Recovered;
@@ -14,7 +15,6 @@ use bw_ring::Feed;
 use bw_store::{Config, Store, StoreFault};
 use std::alloc::Global;
 use std::sync::Wait;
-use std::test::Fail;
 
 /// Each call of a store.
 const FIRST: &[Step] = &[
@@ -128,8 +128,12 @@ fn lives<R: AllocGlobal + Wait>(rt: &R, store: Store, feeds: Vec<Feed>) -> u8
     if went { recovers(rt, live) } else { 4 }
 }
 
-// Opens a store; once more where memory was refused: all boxes came back then.
-fn opens<R: AllocGlobal + Wait>(rt: &R, boxes: Vec<Box<dyn Segment>>) -> u8 {
+// Opens a store; once more where memory was refused: all boxes came back then. The boxes themselves
+// may be refused too.
+fn opens<R: AllocGlobal + Wait>(rt: &R) -> u8 {
+    let Some(boxes) = boxes(rt.alloc(), 4, &[], CAPACITY, None) else {
+        return 0;
+    };
     let count = boxes.len();
     match Store::open(rt, rt.alloc(), CONFIG, boxes) {
         Ok((store, feeds)) => lives(rt, store, feeds),
@@ -145,16 +149,7 @@ fn opens<R: AllocGlobal + Wait>(rt: &R, boxes: Vec<Box<dyn Segment>>) -> u8 {
     }
 }
 
-// Whether what was refused is told; the boxes themselves may be refused too.
-fn lives_over<R: AllocGlobal + Wait>(rt: &R) -> u8 {
-    match boxes(rt.alloc(), &["", "", "", ""]) {
-        Some(boxes) => opens(rt, boxes),
-        None => 0,
-    }
-}
-
 #[test]
-fn a_store_goes_on_where_memory_was_refused(rt: HostRuntime) -> Result<(), Fail> {
-    assert!(rt; lives_over(&rt) == 0);
-    Ok(())
+fn a_store_goes_on_where_memory_was_refused(rt: HostRuntime) {
+    assert!(rt; opens(&rt) == 0);
 }

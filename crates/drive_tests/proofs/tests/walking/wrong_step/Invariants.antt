@@ -1,7 +1,7 @@
 use Rattle.std.specs.Prelude.{◌≡◌, map}
 use Rattle.bw_ring.specs.Ends.{ring_of_feed}
 use Rattle.bw_store.specs.Views.{kept_by, IsSound}
-use Rattle.drive_tests.proofs.tests.walking.walk.Given as goal
+use Rattle.drive_tests.proofs.tests.walking.wrong_step.Given as goal
 
 abbrev pub invariant-loop-i : goal.invariant-loop-i
 invariant-loop-i g l =
