@@ -35,6 +35,11 @@ def check(is_told, *what):
         raise Otherwise(" ".join(str(it) for it in what))
 
 
+def below(draw, limit):
+    """A drawn number, the same on each machine: of its draws python keeps those of `random` alone as they are."""
+    return int(draw.random() * limit)
+
+
 def key_of(number):
     """In the order of the numbers; each even number's key is a beginning of the next one's."""
     return b"k" + (number // 2).to_bytes(2, "big") + (b"+" if number % 2 else b"")
@@ -75,7 +80,6 @@ class Model:
         self.rings = (collections.deque(), collections.deque())
         self.opened = len(self.entries)
         self.waits = is_new
-        self.cuts = 0
 
     def stop(self, is_whole):
         """The store is gone, and with it what was taken since the last flush, but for a whole frame of it."""
@@ -145,7 +149,7 @@ def pairs_of(line, number, most):
 
 
 class Life:
-    """One run of `replay`, which is made anew from its beginning for each round of lines."""
+    """One run of `replay`, which is made anew, with a segment more, from its beginning on where a call wants one."""
 
     def __init__(self, table, folder=None, limit=None):
         self.table, self.model, self.draw, self.m = table, table.model, table.draw, table.m
@@ -159,7 +163,7 @@ class Life:
         self.done = 0
         self.at = 0 if self.model.waits else 2
         self.is_failed = False
-        self.length = 0
+        self.live = 0
 
     def close(self):
         if self.before:
@@ -253,7 +257,8 @@ class Life:
         if self.limit is not None and answer.startswith("refused E6 Device lease "):
             self.is_failed = True
             return None
-        if answer == "refused E11 NothingOld":
+        check((answer == "refused E11 NothingOld") == (self.live < 2), line, answer, self.live)
+        if self.live < 2:
             return None
         self.model.flush()
         self.model.cleaned += 1
@@ -288,6 +293,7 @@ class Life:
             return check(answer == "refused E9 NoPage", line, answer)
         if answer == "refused E9 NoPage":
             return self.no_page(line, int(page))
+        check(int(page) < self.table.most, "more pages than are asked for")
         _, pairs = pairs_of(answer, int(page), self.m)
         check(all(self.model.values.get(key) == value for key, value in pairs), line, answer)
 
@@ -306,46 +312,50 @@ class Life:
         check(self.next_answer().startswith("added "), line)
 
     def of_segments(self, line):
-        """The live segments, of which the last one's length is kept."""
+        """How many are live."""
+        self.live = 0
         answer = self.next_answer()
         while answer.startswith("segment "):
-            self.length = int(answer.split(" ")[5])
+            self.live += 1
             answer = self.next_answer()
         check(answer.startswith("spares "), line, answer)
 
     # What is drawn.
 
     def key(self, writer):
-        drawn = self.draw.randrange(self.table.keys)
+        drawn = below(self.draw, self.table.keys)
         return word(key_of(drawn if self.table.are_shared else drawn // 2 * 2 + writer))
 
     def drawn(self, card):
         """The lines of a card."""
         self.table.steps += 1
-        writer = self.draw.randrange(2)
+        writer = below(self.draw, 2)
         if card == "put":
             return ["put %d %s %s" % (writer, self.key(writer), word(value_of(self.table.steps)))]
         if card == "del":
             return ["del %d %s" % (writer, self.key(writer))]
         if card.startswith("turn "):
-            return ["turn %d" % self.draw.randrange(int(card[5:]))]
+            return ["turn %d" % below(self.draw, int(card[5:]))]
         if card == "evict":
-            return ["evict %d" % self.draw.randrange(self.table.most // 4)] * 2
+            return ["evict %d" % below(self.draw, self.table.most // 4)] * 2
         if card == "page":
-            return ["page %d" % self.draw.randrange(self.table.most // 4)]
+            return ["page %d" % below(self.draw, self.table.most // 4)]
         if card == "get":
             return ["get " + self.key(writer)]
-        return [card]
+        return self.following(card)
 
     def lines_of(self, rounds, drawn, deck, then):
         """So many rounds: in each so many cards are drawn from a deck, and some more follow."""
         for _ in range(rounds):
             for _ in range(drawn):
-                yield from self.drawn(self.draw.choice(deck))
+                yield from self.drawn(deck[below(self.draw, len(deck))])
             for step in then:
                 yield from self.following(step)
 
     def following(self, step):
+        """The lines of a step that is not drawn."""
+        if step == "clean":
+            return ["segments", "clean"]
         if step == "read all":
             return ["get " + word(key_of(it)) for it in range(self.table.keys)] + ["page %d" % it for it in range(1, self.table.most + 1)]
         if step == "evict all":
