@@ -5,6 +5,8 @@ use Rattle.std.proofs.Common.{length-append}
 use Rattle.std.proofs.lemmas.List.{take_more, take_all, take-append-drop, flat_map_more}
 use Rattle.std.proofs.lemmas.Grind.{flat_map-append}
 use Rattle.std.specs.List.{flat_map}
+use Rattle.std.specs.Prelude.{if◌then◌else◌, Result, Ok, Err, OnOk, is_ok}
+use Rattle.std.specs.declared.alloc.AllocError.{AllocError}
 use Rattle.std.specs.declared.vec.Vec.{Vec}
 use Rattle.std.specs.declared.alloc.Global.{Global}
 use Rattle.bw_codec.specs.Writing.{HasRoom, Adds}
@@ -66,3 +68,8 @@ adds_next f a b c xs i x inside is first next =
 pub adds_all : {X : Type 0} (f : X → List ℕ) (a b : Vec ℕ Global) (xs : List X) (i : ℕ) → length xs ≤ i → Adds a b (flat_map f (take i xs))
     → Adds a b (flat_map f xs)
 adds_all f a b xs i end adds = adds_as a b (flat_map f (take i xs)) (flat_map f xs) (ap (flat_map f) (take_all i xs end)) adds
+
+-- what a growth that may be refused leaves where it was not
+pub grown : (r : Result (Unit {0}) AllocError) (items more old : List ℕ) → items ≡ (if is_ok r then more else old) → OnOk r (items ≡ more)
+grown (Ok done) items more old is = is
+grown (Err refused) items more old is = tt

@@ -1,7 +1,9 @@
-use Rattle.std.proofs.Common.{length, arith, subst}
-use Rattle.bw_codec.specs.Grammar.{block_bytes}
-use Rattle.bw_codec.specs.Writing.{HasRoom}
+use Rattle.std.proofs.Common.{[], ◌∷◌, ◌++◌, length, arith, subst, sym}
+use Rattle.bw_codec.specs.Bytes.{number_bytes}
+use Rattle.bw_codec.specs.Grammar.{place_bytes, upper_bytes, block_bytes}
+use Rattle.bw_codec.specs.Writing.{HasRoom, Adds}
 use Rattle.bw_codec.specs.declared.block.Block.{Block}
+use Rattle.bw_codec.proofs.Adding.{adds_then}
 use Rattle.bw_codec.proofs.FrontFormat.{length-number}
 use Rattle.bw_codec.proofs.Lengths.{length-delta, length-base, length-split}
 use Rattle.bw_codec.proofs.writing.write_block.Goals as goal
@@ -43,3 +45,13 @@ push_place-requires-in-Split c =
       c.push_four-in-Split.ensures.len,
       c.push_four-in-Split.ensures.capacity,
     )
+
+pub returns-in-Split : goal.returns-in-Split
+returns-in-Split c =
+    let numbers = number_bytes 4 c.in-Split.page in
+    let back = place_bytes c.in-Split.back in
+    let upper = upper_bytes c.in-Split.upper in
+    let tail = adds_then _ _ _ back upper c.push_place-in-Split.ensures c.push_upper.ensures in
+    let numbered = adds_then _ _ _ numbers (back ++ upper) c.push_four-in-Split.ensures tail in
+    let split = adds_then _ _ _ (3 ∷ []) (numbers ++ (back ++ upper)) c.push-in-Split.ensures numbered in
+    subst (λ (b : Block). Adds c.args.out.now c.push_upper.new.out (block_bytes b)) (sym c.in-Split.is) split
