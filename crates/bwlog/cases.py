@@ -18,6 +18,9 @@ A file's keys before its first case stand for each case that does not give them.
   is_told        true: something stands there, in place of `tells`
   beside         a folder, whose lock is held while the program runs
   memory         how many MB of addresses the process may have
+  fails_behind   what is read ends in an error of the system behind so many bytes of the script
+  takes          standard output is a file, and the system refuses bytes behind so many: `prints` is what it took
+  errors_take    the same of standard error, and `tells`
 
 or a step of one who stands outside:
 
@@ -36,9 +39,12 @@ A piece is a text, or a table:
   of, behind               such bytes, with others behind
 """
 
+import contextlib
 import fcntl
 import os
 import resource
+import signal
+import socket
 import subprocess
 import sys
 import tempfile
@@ -48,7 +54,7 @@ HERE = os.path.dirname(os.path.abspath(__file__))
 CASES = os.path.join(HERE, "cases")
 BUILT = [os.path.join(HERE, "out", name) for name in ("bwlog", "bwlog.by-rattle")]
 LIMIT = 60
-RUN = {"words", "script", "lines", "status", "prints", "prints_last", "prints_either", "tells", "is_told", "beside", "memory"}
+RUN = {"words", "script", "lines", "status", "prints", "prints_last", "prints_either", "tells", "is_told", "beside", "memory", "fails_behind", "takes", "errors_take"}
 OUTSIDE = [{"make"}, {"write", "text"}, {"lengthen", "bytes"}, {"file", "holds"}]
 
 
@@ -108,30 +114,56 @@ def is_told(case, errors):
     return errors == case.get("tells", "").encode()
 
 
-def limit_memory(case):
+def set_limits(case):
+    """What the process may have: so many bytes of addresses, and files of so many."""
     if "memory" in case:
         most = case["memory"] << 20
         resource.setrlimit(resource.RLIMIT_AS, (most, most))
+    for key in ("takes", "errors_take"):
+        if key in case:
+            signal.signal(signal.SIGXFSZ, signal.SIG_IGN)
+            resource.setrlimit(resource.RLIMIT_FSIZE, (case[key], case[key]))
+
+
+def failing(text):
+    """A stream that has this text and then fails: an end of a pair whose other end was closed while it had bytes that nobody read."""
+    end, other = socket.socketpair()
+    end.sendall(b"unread")
+    other.sendall(text)
+    other.close()
+    return end
+
+
+def ended_run(program, case, texts, folder):
+    """A run that has ended: its exit status, what it printed and what it told."""
+    words = [it if isinstance(it, str) else bytes.fromhex(it["hex"]) for it in case["words"]]
+    text = script_of(case, texts).encode()
+    with contextlib.ExitStack() as stack:
+        given = {"input": text}
+        if "fails_behind" in case:
+            given = {"stdin": stack.enter_context(failing(text[: case["fails_behind"]]))}
+        files = [stack.enter_context(tempfile.TemporaryFile()) if key in case else None for key in ("takes", "errors_take")]
+        output, errors = [file or subprocess.PIPE for file in files]
+        answer = subprocess.run(
+            [program, *words], stdout=output, stderr=errors, cwd=folder, timeout=LIMIT, preexec_fn=lambda: set_limits(case), **given
+        )
+        for file in files:
+            if file:
+                file.seek(0)
+        printed, told = [file.read() if file else piped for file, piped in zip(files, (answer.stdout, answer.stderr))]
+    return answer.returncode, printed, told
 
 
 def run(program, case, texts, folder):
     """What went otherwise in a run, or nothing."""
-    words = [it if isinstance(it, str) else bytes.fromhex(it["hex"]) for it in case["words"]]
-    answer = subprocess.run(
-        [program, *words],
-        input=script_of(case, texts).encode(),
-        capture_output=True,
-        cwd=folder,
-        timeout=LIMIT,
-        preexec_fn=lambda: limit_memory(case),
-    )
+    status, output, errors = ended_run(program, case, texts, folder)
     told = []
-    if answer.returncode != case.get("status", 0):
-        told.append("its status is %d" % answer.returncode)
-    if not is_printed(case, answer.stdout, texts):
-        told.append("it printed %r" % answer.stdout)
-    if not is_told(case, answer.stderr):
-        told.append("it told %r" % answer.stderr)
+    if status != case.get("status", 0):
+        told.append("its status is %d" % status)
+    if not is_printed(case, output, texts):
+        told.append("it printed %r" % output)
+    if not is_told(case, errors):
+        told.append("it told %r" % errors)
     return told
 
 

@@ -17,7 +17,6 @@ use std::alloc::{AllocError, Global};
 use std::marker::Model;
 
 /// A frame in the making.
-#[derive(Drop)]
 pub struct Buffer {
     /// The frame's number, from 1.
     frame: u64,
@@ -30,6 +29,19 @@ pub struct Buffer {
     bytes: Vec<u8>,
     /// What each block does, so that nobody has to read the bytes again.
     marks: Vec<Mark>,
+}
+
+impl Drop for Buffer {
+    fn drop(self) {
+        let Buffer {
+            frame: _,
+            limit: _,
+            count: _,
+            is_sealed: _,
+            bytes: _,
+            marks: _,
+        } = self;
+    }
 }
 
 impl Model for Buffer {

@@ -40,12 +40,17 @@ impl<T: Drop> From<AllocFailed<T>> for ScanFault {
 }
 
 /// What stands behind a header.
-#[derive(Drop)]
 pub struct Behind {
     /// Where the whole frames stand, each in segment 0.
     pub lines: Vec<FrameAt>,
     /// How many bytes follow the last of them.
     pub tail: usize,
+}
+
+impl Drop for Behind {
+    fn drop(self) {
+        let Behind { lines: _, tail: _ } = self;
+    }
 }
 
 /// What stands at the front of bytes behind a header with these limits.

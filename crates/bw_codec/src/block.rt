@@ -71,9 +71,14 @@ impl Block {
 }
 
 /// Blocks, in the order in which they apply.
-#[derive(Drop)]
 pub struct Blocks {
     items: Vec<Block>,
+}
+
+impl Drop for Blocks {
+    fn drop(self) {
+        let Blocks { items: _ } = self;
+    }
 }
 
 impl Model for Blocks {
@@ -97,7 +102,8 @@ impl Blocks {
     pub fn into_vec(self) -> Vec<Block>
         ensures { result.items ≡ self }
     {
-        self.items
+        let Blocks { items } = self;
+        items
     }
 
     /// The blocks.

@@ -9,9 +9,14 @@ use std::alloc::{AllocError, Global};
 use std::marker::Model;
 
 /// The low key of a page: 0 to 64 bytes, empty for page 1 alone. No key of the page is below it.
-#[derive(Drop)]
 pub struct Low {
     bytes: Vec<u8>,
+}
+
+impl Drop for Low {
+    fn drop(self) {
+        let Low { bytes: _ } = self;
+    }
 }
 
 impl Model for Low {
@@ -34,7 +39,8 @@ impl Low {
     pub fn into_vec(self) -> Vec<u8>
         ensures { result.items ≡ self }
     {
-        self.bytes
+        let Low { bytes } = self;
+        bytes
     }
 
     /// The low key's bytes.
@@ -58,10 +64,15 @@ impl Low {
 /// Beside them stands a row with the first eight bytes of each key as a number, which a search reads
 /// in place of most keys. It takes memory of its own, and where that is refused there is none: then
 /// a search is slower, and nothing else changes.
-#[derive(Drop)]
 pub struct Pairs {
     items: Vec<(Key, Value)>,
     row: Vec<u64>,
+}
+
+impl Drop for Pairs {
+    fn drop(self) {
+        let Pairs { items: _, row: _ } = self;
+    }
 }
 
 impl Model for Pairs {
@@ -89,7 +100,8 @@ impl Pairs {
     pub fn into_vec(self) -> Vec<(Key, Value)>
         ensures { result.items ≡ self }
     {
-        self.items
+        let Pairs { items, row: _ } = self;
+        items
     }
 
     /// The pairs.
@@ -172,7 +184,6 @@ impl Pairs {
 }
 
 /// A page: its number from 1, its low key, and its pairs.
-#[derive(Drop)]
 pub struct Leaf {
     /// From 1.
     pub page: u32,
@@ -180,7 +191,29 @@ pub struct Leaf {
     pub pairs: Pairs,
 }
 
+impl Drop for Leaf {
+    fn drop(self) {
+        let Leaf {
+            page: _,
+            low: _,
+            pairs: _,
+        } = self;
+    }
+}
+
 impl Leaf {
+    /// Its low key and its pairs. No memory is taken.
+    pub fn into_parts(self) -> (Low, Pairs)
+        ensures { result ≡ (self.low, self.pairs) }
+    {
+        let Leaf {
+            page: _,
+            low,
+            pairs,
+        } = self;
+        (low, pairs)
+    }
+
     /// The same page. It takes memory, whose refusal is the only error.
     pub fn copy(&self) -> Result<Leaf, AllocError>
         ensures { IfOk result (λ leaf. leaf ≡ self.now) }

@@ -47,16 +47,29 @@ impl Record {
     }
 }
 
-#[derive(Drop)]
 enum Items {
     One([Record; 1]),
     Many(Vec<Record>),
 }
 
+impl Drop for Items {
+    fn drop(self) {
+        match self {
+            Items::One(_) => {}
+            Items::Many(_) => {}
+        }
+    }
+}
+
 /// Records, in the order in which they apply. One alone takes no memory.
-#[derive(Drop)]
 pub struct Ops {
     items: Items,
+}
+
+impl Drop for Ops {
+    fn drop(self) {
+        let Ops { items: _ } = self;
+    }
 }
 
 impl Model for Ops {

@@ -49,9 +49,14 @@ type Slot = Option<Arc<AtomicBool>>;
 ///
 /// Contracts see it as the list that says of each number whether it is out. A lease that was
 /// dropped is out until the next `collect`.
-#[derive(Drop)]
 pub struct Desk {
     slots: Vec<Slot>,
+}
+
+impl Drop for Desk {
+    fn drop(self) {
+        let Desk { slots: _ } = self;
+    }
 }
 
 impl Model for Desk {

@@ -17,7 +17,6 @@ pub const MAX_CAPACITY: u64 = 1_073_741_824;
 const FILLER: u8 = 0xff;
 
 /// A segment in memory, which never fails. When it is dropped, its lease comes back.
-#[derive(Drop)]
 pub struct MemSegment {
     lease: Lease,
     /// In bytes.
@@ -32,6 +31,17 @@ pub struct MemSegment {
     ghost touched: { vec_len bytes ≡ capacity },
     // And no more memory than that.
     ghost exact: { vec_capacity bytes ≡ capacity },
+}
+
+impl Drop for MemSegment {
+    fn drop(self) {
+        let MemSegment {
+            lease: _,
+            capacity: _,
+            held: _,
+            bytes: _,
+        } = self;
+    }
 }
 
 impl MemSegment {

@@ -26,13 +26,22 @@ const LAST: usize = 65_560;
 /// A folder with a file for each segment, named by its lease, which nobody else has open.
 ///
 /// It is open as long as it or one of its segments stands. A drop changes no file.
-#[derive(Drop)]
 pub struct Folder<F = File> {
     path: String,
     /// By which new names come to stand.
     itself: F,
     /// Shared with every segment of the folder.
     shared: Arc<Shared<F>>,
+}
+
+impl<F: Drop> Drop for Folder<F> {
+    fn drop(self) {
+        let Folder {
+            path: _,
+            itself: _,
+            shared: _,
+        } = self;
+    }
 }
 
 // An open file and its bytes, with what the folder shares.

@@ -18,7 +18,6 @@ use std::alloc::Global;
 const MAX_BOXES: usize = 4096;
 
 /// Segments in order, and where pages stand in them.
-#[derive(Drop)]
 pub struct Log {
     /// The live segments, in the order of their numbers.
     pub(crate) live: Vec<Box<dyn Segment>>,
@@ -38,6 +37,23 @@ pub struct Log {
     pub(crate) frames: Vec<FrameAt>,
     /// Where the pages stand, from page 1 on.
     pub(crate) pages: Vec<PageAt>,
+}
+
+impl Drop for Log {
+    fn drop(self) {
+        let Log {
+            live: _,
+            spares: _,
+            m: _,
+            f: _,
+            number: _,
+            is_open: _,
+            is_failed: _,
+            next: _,
+            frames: _,
+            pages: _,
+        } = self;
+    }
 }
 
 fn are_limits(m: u16, f: u32) -> bool
@@ -141,7 +157,19 @@ impl Log {
         ensures live { map holding result.0.items ≡ (seen_by holding self).live }
         ensures spares { map holding result.1.items ≡ (seen_by holding self).spares }
     {
-        (self.live, self.spares)
+        let Log {
+            live,
+            spares,
+            m: _,
+            f: _,
+            number: _,
+            is_open: _,
+            is_failed: _,
+            next: _,
+            frames: _,
+            pages: _,
+        } = self;
+        (live, spares)
     }
 
     /// Closes the current segment, if any: the next append begins another. No memory is taken.

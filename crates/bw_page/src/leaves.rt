@@ -27,7 +27,6 @@ use std::alloc::{AllocError, Global};
 use std::marker::Model;
 
 /// The leaves of all pages, with at most `m` pairs each.
-#[derive(Drop)]
 pub struct Leaves {
     /// The most pairs that a page holds.
     m: u16,
@@ -35,6 +34,16 @@ pub struct Leaves {
     leaves: Seats,
     /// The page of each low key but the empty one, which is that of page 1.
     index: LowIndex,
+}
+
+impl Drop for Leaves {
+    fn drop(self) {
+        let Leaves {
+            m: _,
+            leaves: _,
+            index: _,
+        } = self;
+    }
 }
 
 impl Model for Leaves {

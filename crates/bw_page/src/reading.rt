@@ -37,7 +37,8 @@ fn change_some(was: Option<Leaf>, records: &[Record]) -> Result<Option<Leaf>, Al
 pub fn keep_below(leaf: Leaf, separator: &[u8]) -> Leaf
     ensures { result ≡ kept_below separator.now leaf }
 {
-    let Leaf { page, low, pairs } = leaf;
+    let page = leaf.page;
+    let (low, pairs) = leaf.into_parts();
     let mut kept = pairs.into_vec();
     kept.retain(|pair| bw_codec::is_before(pair.0.as_slice(), separator));
     Leaf {

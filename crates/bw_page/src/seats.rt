@@ -18,10 +18,15 @@ use std::marker::Model;
 use std::snapshot::Snapshot;
 
 /// One leaf, in memory or away.
-#[derive(Drop)]
 pub(crate) struct Seat {
     leaf: Option<Leaf>,
     was: Snapshot<Leaf>,
+}
+
+impl Drop for Seat {
+    fn drop(self) {
+        let Seat { leaf: _, was: _ } = self;
+    }
 }
 
 impl Model for Seat {
@@ -99,9 +104,14 @@ impl Seat {
 }
 
 /// Leaves, each in memory or away.
-#[derive(Drop)]
 pub(crate) struct Seats {
     seats: Vec<Seat>,
+}
+
+impl Drop for Seats {
+    fn drop(self) {
+        let Seats { seats: _ } = self;
+    }
 }
 
 impl Model for Seats {

@@ -10,9 +10,14 @@ use thiserror::Error;
 pub struct Full(pub Record);
 
 /// The end of a ring into which a writer puts records. It can move to another thread.
-#[derive(Drop)]
 pub struct Feed {
     pub(crate) producer: Producer<Record>,
+}
+
+impl Drop for Feed {
+    fn drop(self) {
+        let Feed { producer: _ } = self;
+    }
 }
 
 impl Feed {

@@ -74,10 +74,15 @@ fn in_file(alloc: Global, opened: Result<FileSegment, NotOpened>) -> Result<Made
 }
 
 /// Where the segments of a run stand, and the desk from which they have their leases.
-#[derive(Drop)]
 pub struct Site {
     home: Home,
     desk: Desk,
+}
+
+impl Drop for Site {
+    fn drop(self) {
+        let Site { home: _, desk: _ } = self;
+    }
 }
 
 impl Site {

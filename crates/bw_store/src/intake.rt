@@ -14,12 +14,20 @@ use bw_versions::Entry;
 use std::alloc::AllocError;
 
 /// The lanes, and what was taken from them in order.
-#[derive(Drop)]
 pub struct Intake {
     pub(crate) lanes: Vec<Lane>,
     pub(crate) history: Vec<Entry>,
     ghost few: { vec_len lanes ≤ 64 },
     ghost takes: { streams 0 (length lanes.items) history.items ≡ map taken lanes.items },
+}
+
+impl Drop for Intake {
+    fn drop(self) {
+        let Intake {
+            lanes: _,
+            history: _,
+        } = self;
+    }
 }
 
 impl Intake {

@@ -18,19 +18,36 @@ use bw_page::{Cut, Leaves, change, count_after, cut_in_two};
 use std::alloc::Global;
 
 /// A record's page, the block before on that page, and the record's blocks.
-#[derive(Drop)]
 pub(crate) struct Plan {
     pub(crate) page: u32,
     pub(crate) back: Place,
     pub(crate) blocks: Blocks,
 }
 
+impl Drop for Plan {
+    fn drop(self) {
+        let Plan {
+            page: _,
+            back: _,
+            blocks: _,
+        } = self;
+    }
+}
+
 /// The blocks of one record: its Delta, and a Split where its page is cut. They take no memory of
 /// their own.
-#[derive(Drop)]
 pub(crate) enum Blocks {
     One([Block; 1]),
     Two([Block; 2]),
+}
+
+impl Drop for Blocks {
+    fn drop(self) {
+        match self {
+            Blocks::One(_) => {}
+            Blocks::Two(_) => {}
+        }
+    }
 }
 
 impl Blocks {

@@ -18,9 +18,14 @@ use std::alloc::{AllocError, Global};
 use std::marker::Model;
 
 /// The records of the frame in the making of one page, as a chain over the log.
-#[derive(Drop)]
 pub(crate) struct Tail {
     chain: Chain,
+}
+
+impl Drop for Tail {
+    fn drop(self) {
+        let Tail { chain: _ } = self;
+    }
 }
 
 impl Model for Tail {

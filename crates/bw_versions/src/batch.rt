@@ -8,11 +8,19 @@ use bw_page::Leaves;
 use std::marker::Model;
 
 /// Entries, and the start leaves where the batch is the first.
-#[derive(Drop)]
 pub struct Batch {
     /// All of them in memory.
     pub(crate) start: Option<Leaves>,
     pub(crate) entries: Vec<Entry>,
+}
+
+impl Drop for Batch {
+    fn drop(self) {
+        let Batch {
+            start: _,
+            entries: _,
+        } = self;
+    }
 }
 
 impl Model for Batch {
@@ -40,6 +48,7 @@ impl Batch {
     pub(crate) fn into_start(self) -> Option<Leaves>
         ensures { result ≡ self.start }
     {
-        self.start
+        let Batch { start, entries: _ } = self;
+        start
     }
 }

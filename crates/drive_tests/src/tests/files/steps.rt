@@ -74,13 +74,24 @@ pub(super) enum Told {
 pub(super) struct Row(pub(super) Act, pub(super) Told, pub(super) &'static str);
 
 /// A folder, and what stands of it.
-#[derive(Drop)]
 pub(super) struct Stand {
     pub(super) rt: Watched,
     folder: Option<Folder<WatchedFile>>,
     reader: Option<FolderReader<WatchedFile>>,
     first: Option<FileSegment<WatchedFile>>,
     second: Option<FileSegment<WatchedFile>>,
+}
+
+impl Drop for Stand {
+    fn drop(self) {
+        let Stand {
+            rt: _,
+            folder: _,
+            reader: _,
+            first: _,
+            second: _,
+        } = self;
+    }
 }
 
 /// Nothing stands yet.

@@ -173,10 +173,15 @@ impl Files for Watched {
 }
 
 /// A file of the system, watched.
-#[derive(Drop)]
 pub(super) struct WatchedFile {
     file: File,
     watch: Arc<Watch>,
+}
+
+impl Drop for WatchedFile {
+    fn drop(self) {
+        let WatchedFile { file: _, watch: _ } = self;
+    }
 }
 
 impl FileExt for WatchedFile {
