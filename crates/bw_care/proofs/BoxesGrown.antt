@@ -193,5 +193,9 @@ read_failed reads lease old new r =
         number = refl;
         leases = map-append (λ (h : Holding). h.lease) live old.spares ∙ ap (λ (l : List ℕ). l ++ map (λ (h : Holding). h.lease) old.spares) leases
             ∙ sym (map-append (λ (h : Holding). h.lease) old.live old.spares);
+        rooms = map-append (λ (h : Holding). h.room) live old.spares
+            ∙ ap (λ (l : List ℕ). l ++ map (λ (h : Holding). h.room) old.spares)
+            (set_maps (λ (h : Holding). h.room) old.live r.at r.segment once r.was refl)
+            ∙ sym (map-append (λ (h : Holding). h.room) old.live old.spares);
       };
     })

@@ -1,6 +1,6 @@
 -- Recovery of the boxes of a sound log finds what the log counts.
 
-use Rattle.std.proofs.Common.{◌≡◌, ℕ, ◌+◌, ◌≤◌, ◌||◌, ◌&&◌, not, nat_lt, Bool, true, false, Option, None, Result, Ok}
+use Rattle.std.proofs.Common.{inl, ◌≡◌, ℕ, ◌+◌, ◌≤◌, ◌||◌, ◌&&◌, not, nat_lt, Bool, true, false, Option, None, Result, Ok, Err}
 use Rattle.std.proofs.Common.{List, [], ◌∷◌, ◌++◌, length, map, refl, sym, ap, ◌∙◌, subst, arith, length-append}
 use Rattle.std.specs.List.{fold, list_any, AllByRecursion}
 use Rattle.std.proofs.lemmas.Bool.{le-ltb}
@@ -13,83 +13,38 @@ use Rattle.bw_page.specs.Standing.{blocks_of, Stand}
 use Rattle.bw_device.specs.Holding.{Holding}
 use Rattle.bw_log.specs.Contents.{Contents, IsBounded, IsRoomy, IsSpare, IsSound, boxes, counted}
 use Rattle.bw_log.specs.PageTable.{top_page}
-use Rattle.bw_log.specs.Places.{first_number, or_else}
-use Rattle.bw_log.specs.Segments.{segment_frames, frames_of, AreLive}
+use Rattle.bw_log.specs.Places.{first_number, or_else, AreLinked}
+use Rattle.bw_log.specs.Segments.{segment_frames, frames_of, AreFrom, AreLive}
 use Rattle.bw_care.specs.Lawful.{is_at_fault, first_such, contents}
-use Rattle.bw_care.specs.Laws.{OwnBoxesFound, WholeBoxesFound, EndWhole, own_finding}
+use Rattle.bw_care.specs.Laws.{OwnBoxesFound, WholeBoxesFound, SortedBoxesFound, SortedBoxesEmpty, AreSorted, IsLoose, EndWhole, own_finding, sorted_finding, frames_held}
 use Rattle.bw_care.specs.Recovery.{Finding, first_fault, fault_of_order, fault_of_frames, found_in, answer, when, too_large, bytes_fault, is_mixed, has_gap}
-use Rattle.bw_care.specs.Recovery.{is_none, is_small, link_fault, link_fault_by, page_fault, page_fault_by, follow_on, frames_in, header_of_all, first_header}
+use Rattle.bw_care.specs.Recovery.{is_none, is_small, link_fault, link_fault_by, page_fault, page_fault_by, recovery, follow_on, frames_in, header_of_all, first_header}
 use Rattle.bw_care.specs.Scanning.{rest_in}
 use Rattle.bw_care.specs.Recovery.{live_in, spares_in, parts_in, tails_of, last_number, is_like, number_in}
 use Rattle.bw_care.specs.declared.fault.RecoverCause.{RecoverCause}
 use Rattle.bw_care.specs.declared.fault.RecoverCause.TheVariants.{BadConfig, Empty, Gap, Mixed}
 use Rattle.bw_care.proofs.FoundStand.{blocks_lawful}
 use Rattle.bw_care.proofs.OwnPages.{top_is, contents_are}
-use Rattle.bw_care.proofs.OwnSegments.{AreSegments, AreEmpty, live_header, segments_are, live_are, spares_are, parts_none, bytes_right, none_mixed, segments_follow}
-use Rattle.bw_care.proofs.OwnSegments.{frames_follow}
+use Rattle.bw_care.proofs.OwnSegments.{AreSegments, live_header, segments_are, live_are, spares_are, spares_roomy, parts_are, no_parts, bytes_right, none_mixed}
+use Rattle.bw_care.proofs.OwnSegments.{segments_follow, frames_follow}
 use Rattle.bw_care.proofs.StandingAgain.{stands_again}
 
--- ---- what a sound log has, said of its boxes alone
+-- ---- what is found
 
-record Own (c : Contents) (leaves : List Leaf) : Type 0 where
-  live : AreSegments c.m c.f c.number c.live
-  empty : AreEmpty c.spares
-  frames : counted c ≡ frames_of (map (λ h. h.bytes) c.live)
-
-no_bytes : (f : ℕ) (ss : List Holding) → AllByRecursion (IsSpare f) ss → AreEmpty ss
-no_bytes f [] all = tt
-no_bytes f (s ∷ ss) all = (all.0.0, no_bytes f ss all.1)
-
-own : (c : Contents) (leaves : List Leaf) → IsSound c → c.is_failed ≡ false → Own c leaves
-own c leaves sound works = record {
-  live = sound.holds.live;
-  empty = no_bytes c.f c.spares (sound.empty works);
-  frames = sound.holds.every works;
-}
+abbrev made : List Frame → List Leaf → ℕ → ℕ → Result Finding RecoverCause
+made frames leaves tail dropped = Ok (record { leaves = leaves; first = first_number frames; last = last_number frames; tail = tail; dropped = dropped })
 
 -- ---- rooms
 
-sized : (P : Holding → Type 0) (hs : List Holding) → ((h : Holding) → P h → h.room ≤ 1073741824) → AllByRecursion P hs
-    → list_any (λ h. nat_lt 1073741824 h.room) hs ≡ false
-sized P [] within all = refl
-sized P (h ∷ hs) within all =
-    ap (λ (t : Bool). t || list_any (λ (x : Holding). nat_lt 1073741824 x.room) hs) (le-ltb 1073741824 h.room (within h all.0)) ∙ sized P hs within all.1
-
-any_by : (test : Holding → Bool) (x : Holding) (xs ys : List Holding) (t : Bool) → test x ≡ t → (t || list_any test xs) ≡ false
-    → (list_any test xs ≡ false → list_any test (xs ++ ys) ≡ false) → list_any test (x ∷ (xs ++ ys)) ≡ false
-any_by test x xs ys true is e more = absurd cc
-any_by test x xs ys false is e more = ap (λ (t : Bool). t || list_any test (xs ++ ys)) is ∙ more e
-
-any_join : (test : Holding → Bool) (xs ys : List Holding) → list_any test xs ≡ false → list_any test ys ≡ false → list_any test (xs ++ ys) ≡ false
-any_join test [] ys a b = b
-any_join test (x ∷ xs) ys a b = any_by test x xs ys (test x) refl a (λ rest. any_join test xs ys rest b)
-
-not_large : (c : Contents) → IsSound c → too_large (boxes c) ≡ false
-not_large c sound =
-    let few = sound.few in
-    let count : length (boxes c) ≤ 4096 = omega (arith, length-append c.live c.spares) in
-    ap (λ (t : Bool). t || list_any (λ (x : Holding). nat_lt 1073741824 x.room) (boxes c)) (le-ltb 4096 (length (boxes c)) count)
-    ∙ any_join (λ (x : Holding). nat_lt 1073741824 x.room) c.live c.spares
-    (sized IsBounded c.live (λ h b. b) sound.bounds) (sized (IsRoomy c.f) c.spares (λ h r. r.1) sound.rooms)
+sized : (hs : List Holding) → AllByRecursion IsBounded hs → list_any (λ h. nat_lt 1073741824 h.room) hs ≡ false
+sized [] all = refl
+sized (h ∷ hs) all =
+    ap (λ (t : Bool). t || list_any (λ (x : Holding). nat_lt 1073741824 x.room) hs) (le-ltb 1073741824 h.room all.0) ∙ sized hs all.1
 
 none_small : (least : ℕ) (hs : List Holding) → AllByRecursion (λ h. least ≤ h.room) hs → list_any (λ h. nat_lt h.room least) hs ≡ false
 none_small least [] all = refl
 none_small least (h ∷ hs) all =
     ap (λ (t : Bool). t || list_any (λ (x : Holding). nat_lt x.room least) hs) (le-ltb h.room least all.0) ∙ none_small least hs all.1
-
-roomy : (f : ℕ) (hs : List Holding) → AllByRecursion (IsRoomy f) hs → AllByRecursion (λ h. 24 + f ≤ h.room) hs
-roomy f [] all = tt
-roomy f (h ∷ hs) all = (all.0.0, roomy f hs all.1)
-
--- ---- the first header
-
-pub record HasLimits (m f : ℕ) (h : Header) : Type 0 where
-  pub m_is : h.m ≡ m
-  pub f_is : h.f ≡ f
-
-first_limits : (m f n : ℕ) (ls : List Holding) → AreSegments m f n ls → 1 ≤ length (frames_of (map (λ h. h.bytes) ls)) → HasLimits m f (first_header ls)
-first_limits m f n [] live some = absurd (omega arith)
-first_limits m f n (l ∷ ls) live some = (let is = live_header m f n l.bytes live.0 in record { m_is = ap (λ (h : Header). h.m) is; f_is = ap (λ (h : Header). h.f) is })
 
 -- ---- frames
 
@@ -108,75 +63,163 @@ some_frames (f ∷ fs) some = refl
 none_or : (a b : Option RecoverCause) → a ≡ None → b ≡ None → or_else a b ≡ None
 none_or a b an bn = ap (λ (o : Option RecoverCause). or_else o b) an ∙ bn
 
-when_not : (t : Bool) (cause : RecoverCause) → t ≡ false → when t cause ≡ None
-when_not t cause is = ap (λ (b : Bool). when b cause) is
+none_then : (a b c : Option RecoverCause) → a ≡ None → b ≡ c → or_else a b ≡ c
+none_then a b c an bc = ap (λ (o : Option RecoverCause). or_else o b) an ∙ bc
 
--- ---- no fault
+when_is : (t u : Bool) (cause : RecoverCause) → t ≡ u → when t cause ≡ when u cause
+when_is t u cause is = ap (λ (b : Bool). when b cause) is
 
-pub no_fault : (c : Contents) (leaves : List Leaf) → IsSound c → c.is_failed ≡ false → Stand c.m (counted c) leaves → first_fault (boxes c) ≡ None
-no_fault c leaves sound works stand =
-    let o = own c leaves sound works in
-    let hs = boxes c in
-    let live : live_in hs ≡ c.live = live_are c.m c.f c.number c.live c.spares o.live o.empty in
-    let frames : frames_in hs ≡ counted c = ap (λ (l : List Holding). frames_of (map (λ h. h.bytes) l)) live ∙ sym o.frames in
-    let segments = segments_are c.m c.f c.number c.live c.spares o.live o.empty in
-    let some : 1 ≤ length (frames_of (map (λ h. h.bytes) c.live)) = subst (λ (fs : List Frame). 1 ≤ length fs) o.frames stand.some in
-    let limits : HasLimits c.m c.f (header_of_all hs) =
-    subst (λ (l : List Holding). HasLimits c.m c.f (first_header l)) (sym segments) (first_limits c.m c.f c.number c.live o.live some) in
-    let mixed : is_mixed hs ≡ false =
-    ap (list_any (λ (x : Holding). not (is_like (header_of_all hs) (header_in x.bytes)))) segments
-    ∙ none_mixed c.m c.f c.number (header_of_all hs) c.live limits.m_is limits.f_is o.live in
-    let numbers : follow_on (map (λ h. number_in h.bytes) (live_in hs)) ≡ true =
-    ap (λ (l : List Holding). follow_on (map (λ h. number_in h.bytes) l)) live ∙ segments_follow c.m c.f c.number c.live o.live in
-    let follow : follow_on (map (λ f. f.number) (frames_in hs)) ≡ true =
-    ap (λ (fs : List Frame). follow_on (map (λ f. f.number) fs)) frames ∙ frames_follow (first_number (counted c)) (counted c) sound.holds.numbered in
-    let gap : has_gap hs ≡ false =
-    ap (λ (t : Bool). not (t && follow_on (map (λ f. f.number) (frames_in hs)))) numbers ∙ ap not follow in
-    let there : is_none (frames_in hs) ≡ false = ap is_none frames ∙ some_frames (counted c) stand.some in
-    let small : is_small hs ≡ false =
-    ap (λ (n : ℕ). list_any (λ (x : Holding). nat_lt x.room (24 + n)) (spares_in hs)) limits.f_is
-    ∙ ap (list_any (λ (x : Holding). nat_lt x.room (24 + c.f))) (spares_are c.m c.f c.number c.live c.spares o.live o.empty)
-    ∙ none_small (24 + c.f) c.spares (roomy c.f c.spares sound.rooms) in
-    let linked : link_fault (frames_in hs) ≡ None = ap link_fault frames ∙ ap link_fault_by sound.holds.linked in
-    let laws : AllByRecursion (IsFrame c.m c.f) (counted c) =
-    subst (AllByRecursion (IsFrame c.m c.f)) (sym o.frames) (frames_lawful c.m c.f c.number (map (λ h. h.bytes) c.live) o.live) in
-    let right : page_fault c.m (blocks_of (counted c)) ≡ None =
-    ap (λ (n : ℕ). page_fault_by (first_such (is_at_fault c.m (blocks_of (counted c))) 1 n)) (top_is c.m (counted c) leaves stand)
-    ∙ ap page_fault_by (stands_again c.m (blocks_of (counted c)) leaves
-    (record { lawful = stand.lawful; each = stand.each; all = stand.all }) (blocks_lawful c.m c.f (counted c) laws)) in
-    let pages : page_fault (header_of_all hs).m (blocks_of (frames_in hs)) ≡ None =
-    ap (λ (m : ℕ). page_fault m (blocks_of (frames_in hs))) limits.m_is ∙ ap (λ (fs : List Frame). page_fault c.m (blocks_of fs)) frames ∙ right in
-    let order : fault_of_order hs ≡ None =
-    none_or (when (is_mixed hs) Mixed) (or_else (when (has_gap hs) Gap) (when (is_none (frames_in hs)) Empty)) (when_not (is_mixed hs) Mixed mixed)
-    (none_or (when (has_gap hs) Gap) (when (is_none (frames_in hs)) Empty) (when_not (has_gap hs) Gap gap) (when_not (is_none (frames_in hs)) Empty there)) in
-    let of_frames : fault_of_frames (header_of_all hs).m (frames_in hs) ≡ None =
-    none_or (link_fault (frames_in hs)) (page_fault (header_of_all hs).m (blocks_of (frames_in hs))) linked pages in
-    let spare_or : or_else (when (is_small hs) BadConfig) (fault_of_frames (header_of_all hs).m (frames_in hs)) ≡ None =
-    none_or (when (is_small hs) BadConfig) (fault_of_frames (header_of_all hs).m (frames_in hs)) (when_not (is_small hs) BadConfig small) of_frames in
-    let order_or = none_or (fault_of_order hs) (or_else (when (is_small hs) BadConfig) (fault_of_frames (header_of_all hs).m (frames_in hs))) order spare_or in
-    none_or (when (too_large hs) BadConfig)
-    (or_else (bytes_fault 0 hs) (or_else (fault_of_order hs)
-    (or_else (when (is_small hs) BadConfig) (fault_of_frames (header_of_all hs).m (frames_in hs)))))
-    (when_not (too_large hs) BadConfig (not_large c sound))
-    (none_or (bytes_fault 0 hs) (or_else (fault_of_order hs) (or_else (when (is_small hs) BadConfig) (fault_of_frames (header_of_all hs).m (frames_in hs))))
-    (bytes_right c.m c.f c.number 0 c.live c.spares o.live o.empty) order_or)
+-- ---- the first header
 
--- ---- what is found
+pub record HasLimits (m f : ℕ) (h : Header) : Type 0 where
+  pub m_is : h.m ≡ m
+  pub f_is : h.f ≡ f
 
-abbrev made : List Frame → List Leaf → ℕ → ℕ → Result Finding RecoverCause
-made frames leaves tail dropped = Ok (record { leaves = leaves; first = first_number frames; last = last_number frames; tail = tail; dropped = dropped })
+first_limits : (m f n : ℕ) (ls : List Holding) → AreSegments m f n ls → 1 ≤ length ls → HasLimits m f (first_header ls)
+first_limits m f n [] live some = absurd (omega arith)
+first_limits m f n (l ∷ ls) live some =
+    (let is = live_header m f n l.bytes live.0 in record { m_is = ap (λ (h : Header). h.m) is; f_is = ap (λ (h : Header). h.f) is })
+
+some_segments : (ls : List Holding) → 1 ≤ length (frames_held ls) → 1 ≤ length ls
+some_segments [] some = absurd (omega arith)
+some_segments (l ∷ ls) some = omega arith
+
+unmixed : (m f n : ℕ) (ls : List Holding) → AreSegments m f n ls → list_any (λ x. not (is_like (first_header ls) (header_in x.bytes))) ls ≡ false
+unmixed m f n [] live = refl
+unmixed m f n (l ∷ ls) live =
+    let limits = first_limits m f n (l ∷ ls) live (omega arith) in
+    none_mixed m f n (header_in l.bytes) (l ∷ ls) limits.m_is limits.f_is live
+
+-- ---- no fault but that no frame is there
+
+module _ (m f n : ℕ) (live loose : List Holding) (x : AreSorted m f n live loose) where
+  abbrev both : List Holding
+  both = live ++ loose
+
+  lives : live_in both ≡ live
+  lives = live_are m f n live loose x.segments x.others
+
+  frames : frames_in both ≡ frames_held live
+  frames = ap frames_held lives
+
+  not_large : too_large both ≡ false
+  not_large =
+      let few = x.few in
+      let count : length both ≤ 4096 = omega (arith, length-append live loose) in
+      ap (λ (t : Bool). t || list_any (λ (x : Holding). nat_lt 1073741824 x.room) both) (le-ltb 4096 (length both) count) ∙ sized both x.bounds
+
+  not_mixed : is_mixed both ≡ false
+  not_mixed =
+      ap (λ (hs : List Holding). list_any (λ x. not (is_like (first_header hs) (header_in x.bytes))) hs) (segments_are m f n live loose x.segments x.others)
+      ∙ unmixed m f n live x.segments
+
+  no_gap : AreFrom (first_number (frames_held live)) (frames_held live) → has_gap both ≡ false
+  no_gap numbered =
+      let numbers : follow_on (map (λ h. number_in h.bytes) (live_in both)) ≡ true =
+      ap (λ (l : List Holding). follow_on (map (λ h. number_in h.bytes) l)) lives ∙ segments_follow m f n live x.segments in
+      let follow : follow_on (map (λ f. f.number) (frames_in both)) ≡ true =
+      ap (λ (fs : List Frame). follow_on (map (λ f. f.number) fs)) frames ∙ frames_follow (first_number (frames_held live)) (frames_held live) numbered in
+      ap (λ (t : Bool). not (t && follow_on (map (λ f. f.number) (frames_in both)))) numbers ∙ ap not follow
+
+  -- what stands behind the first steps
+  abbrev behind : Option RecoverCause
+  behind = or_else (when (is_small both) BadConfig) (fault_of_frames (header_of_all both).m (frames_in both))
+
+  order_then : (none : Bool) → AreFrom (first_number (frames_held live)) (frames_held live) → is_none (frames_in both) ≡ none
+      → first_fault both ≡ or_else (when none Empty) behind
+  order_then none numbered is =
+      let order : fault_of_order both ≡ when none Empty =
+      none_then (when (is_mixed both) Mixed) (or_else (when (has_gap both) Gap) (when (is_none (frames_in both)) Empty)) (when none Empty)
+      (when_is (is_mixed both) false Mixed not_mixed)
+      (none_then (when (has_gap both) Gap) (when (is_none (frames_in both)) Empty) (when none Empty) (when_is (has_gap both) false Gap (no_gap numbered))
+      (when_is (is_none (frames_in both)) none Empty is)) in
+      none_then (when (too_large both) BadConfig) (or_else (bytes_fault 0 both) (or_else (fault_of_order both) behind)) (or_else (when none Empty) behind)
+      (when_is (too_large both) false BadConfig not_large)
+      (none_then (bytes_fault 0 both) (or_else (fault_of_order both) behind) (or_else (when none Empty) behind)
+      (bytes_right m f n 0 live loose x.segments x.others) (ap (λ (o : Option RecoverCause). or_else o behind) order))
+
+  pub no_frames : frames_held live ≡ [] → recovery both ≡ Err Empty
+  no_frames none =
+      let numbered : AreFrom (first_number (frames_held live)) (frames_held live) = subst (λ (fs : List Frame). AreFrom (first_number fs) fs) (sym none) tt in
+      ap (λ (fault : Option RecoverCause). answer fault (found_in both)) (order_then true numbered (ap is_none (frames ∙ none)))
+
+  module _ (leaves : List Leaf) (numbered : AreFrom (first_number (frames_held live)) (frames_held live)) (linked : AreLinked (frames_held live))
+      (stand : Stand m (frames_held live) leaves) where
+    limits : HasLimits m f (header_of_all both)
+    limits =
+        subst (λ (l : List Holding). HasLimits m f (first_header l)) (sym (segments_are m f n live loose x.segments x.others))
+        (first_limits m f n live x.segments (some_segments live stand.some))
+
+    not_small : is_small both ≡ false
+    not_small =
+        ap (λ (k : ℕ). list_any (λ (x : Holding). nat_lt x.room (24 + k)) (spares_in both)) limits.f_is
+        ∙ ap (list_any (λ (x : Holding). nat_lt x.room (24 + f))) (spares_are m f n live loose x.segments)
+        ∙ none_small (24 + f) (spares_in loose) (spares_roomy f loose x.others)
+
+    right : page_fault m (blocks_of (frames_held live)) ≡ None
+    right =
+        ap (λ (k : ℕ). page_fault_by (first_such (is_at_fault m (blocks_of (frames_held live))) 1 k)) (top_is m (frames_held live) leaves stand)
+        ∙ ap page_fault_by (stands_again m (blocks_of (frames_held live)) leaves
+        (record { lawful = stand.lawful; each = stand.each; all = stand.all })
+        (blocks_lawful m f (frames_held live) (frames_lawful m f n (map (λ h. h.bytes) live) x.segments)))
+
+    no_fault : first_fault both ≡ None
+    no_fault =
+        let linked_all : link_fault (frames_in both) ≡ None = ap link_fault frames ∙ ap link_fault_by linked in
+        let pages : page_fault (header_of_all both).m (blocks_of (frames_in both)) ≡ None =
+        ap (λ (k : ℕ). page_fault k (blocks_of (frames_in both))) limits.m_is ∙ ap (λ (fs : List Frame). page_fault m (blocks_of fs)) frames ∙ right in
+        order_then false numbered (ap is_none frames ∙ some_frames (frames_held live) stand.some)
+        ∙ none_or (when (is_small both) BadConfig) (fault_of_frames (header_of_all both).m (frames_in both)) (when_is (is_small both) false BadConfig not_small)
+        (none_or (link_fault (frames_in both)) (page_fault (header_of_all both).m (blocks_of (frames_in both))) linked_all pages)
+
+    pub found : recovery both ≡ Ok (sorted_finding live loose leaves)
+    found =
+        ap (λ (fault : Option RecoverCause). answer fault (found_in both)) no_fault
+        ∙ ap (λ (fs : List Frame). made fs (contents (blocks_of fs) 1 (top_page (blocks_of fs))) (tails_of (live_in both)) (length (parts_in both))) frames
+        ∙ ap (λ (ls : List Leaf). made (frames_held live) ls (tails_of (live_in both)) (length (parts_in both))) (contents_are m (frames_held live) leaves stand)
+        ∙ ap (λ (l : List Holding). made (frames_held live) leaves (tails_of l) (length (parts_in both))) lives
+        ∙ ap (λ (l : List Holding). made (frames_held live) leaves (tails_of live) (length l)) (parts_are m f n live loose x.segments)
+
+pub frames_sorted : (m f n : ℕ) (live loose : List Holding) → AreSorted m f n live loose → frames_in (live ++ loose) ≡ frames_held live
+frames_sorted m f n live loose x = frames m f n live loose x
+
+pub sorted_boxes : SortedBoxesFound
+sorted_boxes m f number live loose leaves x numbered linked stand = found m f number live loose x leaves numbered linked stand
+
+pub empty_boxes : SortedBoxesEmpty
+empty_boxes m f number live loose x none = no_frames m f number live loose x none
+
+-- ---- the boxes of a log that has not failed
+
+no_bytes : (f : ℕ) (ss : List Holding) → AllByRecursion (IsSpare f) ss → AllByRecursion (λ h. h.bytes ≡ []) ss
+no_bytes f [] are = tt
+no_bytes f (s ∷ ss) are = (are.0.0, no_bytes f ss are.1)
+
+pub spares_loose : (f : ℕ) (ss : List Holding) → AllByRecursion (IsSpare f) ss → AllByRecursion (IsLoose f) ss
+spares_loose f [] are = tt
+spares_loose f (s ∷ ss) are = (inl (are.0.0, are.0.1.0), spares_loose f ss are.1)
+
+pub all_bounded : (f : ℕ) (ls ss : List Holding) → AllByRecursion IsBounded ls → AllByRecursion (IsRoomy f) ss → AllByRecursion IsBounded (ls ++ ss)
+all_bounded f [] [] live spares = tt
+all_bounded f [] (s ∷ ss) live spares = (spares.0.1, all_bounded f [] ss tt spares.1)
+all_bounded f (l ∷ ls) ss live spares = (live.0, all_bounded f ls ss live.1 spares)
+
+own : (c : Contents) → IsSound c → c.is_failed ≡ false → AreSorted c.m c.f c.number c.live c.spares
+own c sound works = record {
+  segments = sound.holds.live;
+  others = spares_loose c.f c.spares (sound.empty works);
+  few = sound.few;
+  bounds = all_bounded c.f c.live c.spares sound.bounds sound.rooms;
+}
 
 pub own_boxes : OwnBoxesFound
 own_boxes c leaves sound works stand =
-    let o = own c leaves sound works in
-    let hs = boxes c in
-    let live : live_in hs ≡ c.live = live_are c.m c.f c.number c.live c.spares o.live o.empty in
-    let frames : frames_in hs ≡ counted c = ap (λ (l : List Holding). frames_of (map (λ h. h.bytes) l)) live ∙ sym o.frames in
-    ap (λ (fault : Option RecoverCause). answer fault (found_in hs)) (no_fault c leaves sound works stand)
-    ∙ ap (λ (fs : List Frame). made fs (contents (blocks_of fs) 1 (top_page (blocks_of fs))) (tails_of (live_in hs)) (length (parts_in hs))) frames
-    ∙ ap (λ (ls : List Leaf). made (counted c) ls (tails_of (live_in hs)) (length (parts_in hs))) (contents_are c.m (counted c) leaves stand)
-    ∙ ap (λ (l : List Holding). made (counted c) leaves (tails_of l) (length (parts_in hs))) live
-    ∙ ap (λ (l : List Holding). made (counted c) leaves (tails_of c.live) (length l)) (parts_none c.m c.f c.number c.live c.spares o.live o.empty)
+    let frames : frames_held c.live ≡ counted c = sym (sound.holds.every works) in
+    sorted_boxes c.m c.f c.number c.live c.spares leaves (own c sound works)
+    (subst (λ (fs : List Frame). AreFrom (first_number fs) fs) (sym frames) sound.holds.numbered)
+    (subst AreLinked (sym frames) sound.holds.linked) (subst (λ (fs : List Frame). Stand c.m fs leaves) (sym frames) stand)
+    ∙ ap (λ (fs : List Frame). made fs leaves (tails_of c.live) (length (parts_in c.spares))) frames
+    ∙ ap (λ (l : List Holding). made (counted c) leaves (tails_of c.live) (length l)) (no_parts c.spares (no_bytes c.f c.spares (sound.empty works)))
 
 no_tails_from : (n : ℕ) (hs : List Holding) → EndWhole hs → fold (λ k h. k + length (rest_in h.bytes)) n hs ≡ n
 no_tails_from n [] whole = refl

@@ -1,6 +1,6 @@
 -- The boxes of a log, sorted out: its live segments in their order, and its spares.
 
-use Rattle.std.proofs.Common.{◌≡◌, ℕ, ◌+◌, ◌-◌, ◌<◌, ◌≤◌, ◌==◌, ◌&&◌, ◌||◌, not, Bool, true, false, if◌then◌else◌, Option, Some, None, List}
+use Rattle.std.proofs.Common.{inl, inr, ◌≡◌, ℕ, ◌+◌, ◌-◌, ◌<◌, ◌≤◌, ◌==◌, ◌&&◌, ◌||◌, not, Bool, true, false, if◌then◌else◌, Option, Some, None, List}
 use Rattle.std.proofs.Common.{[], ◌∷◌, ◌++◌, length, drop, map, refl, sym, ap, subst, ◌∙◌, arith, append_assoc, append-nil, length-append}
 use Rattle.std.specs.List.{fold, flat_map, list_any, AllByRecursion}
 use Rattle.std.proofs.lemmas.Bool.{eq-eqb, le-ltb}
@@ -19,8 +19,9 @@ use Rattle.bw_log.proofs.Reread.{frames_read, frames_few}
 use Rattle.bw_care.specs.Behind.{EndsInTail}
 use Rattle.bw_care.specs.Scanning.{has_header, has_header_by, has_part, has_part_by, is_bare, rest_of, fault_by, fault_in}
 use Rattle.bw_care.specs.Recovery.{placed_by, in_order, number_in, segments_in, live_in, spares_in, parts_in, bytes_fault, bytes_fault_by, is_like, follow_on}
-use Rattle.bw_care.proofs.HeadersRead.{header_long, fault_whole}
-use Rattle.bw_care.proofs.SortedOut.{header_is, bare_none, not_bare, keeps, drops, number_at}
+use Rattle.bw_care.specs.Laws.{IsLoose}
+use Rattle.bw_care.proofs.HeadersRead.{header_long, fault_part, fault_whole}
+use Rattle.bw_care.proofs.SortedOut.{header_is, bare_none, not_bare, part_not_bare, keeps, drops, number_at}
 use Rattle.bw_care.proofs.TailsCounted.{bare_part}
 
 -- ---- one segment
@@ -69,8 +70,8 @@ live_unfaulted m f n bytes live = fault_whole bytes (head_of m f n) (live_headin
 
 -- ---- segments before spares
 
-abbrev pub AreEmpty : List Holding → Type 0
-AreEmpty hs = AllByRecursion (λ h. h.bytes ≡ []) hs
+abbrev pub AreLoose : ℕ → List Holding → Type 0
+AreLoose f hs = AllByRecursion (IsLoose f) hs
 
 abbrev pub AreSegments : ℕ → ℕ → ℕ → List Holding → Type 0
 AreSegments m f n hs = AreLive m f n (map (λ h. h.bytes) hs)
@@ -84,45 +85,62 @@ without_bytes h = is_bare h.bytes
 abbrev with_part : Holding → Bool
 with_part h = has_part h.bytes
 
-none_among : (ss : List Holding) → AreEmpty ss → segments_in ss ≡ []
-none_among [] empty = refl
-none_among (s ∷ ss) empty = drops with_header s ss (ap has_header empty.0 ∙ bare_none) ∙ none_among ss empty.1
+loose_headless : (f : ℕ) (s : Holding) → IsLoose f s → has_header s.bytes ≡ false
+loose_headless f s (inl bare) = ap has_header bare.0 ∙ bare_none
+loose_headless f s (inr part) = ap has_header_by part
 
-pub segments_are : (m f n : ℕ) (ls ss : List Holding) → AreSegments m f n ls → AreEmpty ss → segments_in (ls ++ ss) ≡ ls
-segments_are m f n [] ss live empty = none_among ss empty
-segments_are m f n (l ∷ ls) ss live empty =
+none_among : (f : ℕ) (ss : List Holding) → AreLoose f ss → segments_in ss ≡ []
+none_among f [] loose = refl
+none_among f (s ∷ ss) loose = drops with_header s ss (loose_headless f s loose.0) ∙ none_among f ss loose.1
+
+pub segments_are : (m f n : ℕ) (ls ss : List Holding) → AreSegments m f n ls → AreLoose f ss → segments_in (ls ++ ss) ≡ ls
+segments_are m f n [] ss live loose = none_among f ss loose
+segments_are m f n (l ∷ ls) ss live loose =
     keeps with_header l (ls ++ ss) (ap has_header_by (live_heading m f n l.bytes live.0))
-    ∙ ap (λ (hs : List Holding). l ∷ hs) (segments_are m f (n + 1) ls ss live.1 empty)
+    ∙ ap (λ (hs : List Holding). l ∷ hs) (segments_are m f (n + 1) ls ss live.1 loose)
 
-all_bare : (ss : List Holding) → AreEmpty ss → spares_in ss ≡ ss
-all_bare [] empty = refl
-all_bare (s ∷ ss) empty = keeps without_bytes s ss (ap is_bare empty.0) ∙ ap (λ (hs : List Holding). s ∷ hs) (all_bare ss empty.1)
-
-pub spares_are : (m f n : ℕ) (ls ss : List Holding) → AreSegments m f n ls → AreEmpty ss → spares_in (ls ++ ss) ≡ ss
-spares_are m f n [] ss live empty = all_bare ss empty
-spares_are m f n (l ∷ ls) ss live empty =
+-- the empty ones are among the boxes without a segment, and have room
+pub spares_are : (m f n : ℕ) (ls ss : List Holding) → AreSegments m f n ls → spares_in (ls ++ ss) ≡ spares_in ss
+spares_are m f n [] ss live = refl
+spares_are m f n (l ∷ ls) ss live =
     drops without_bytes l (ls ++ ss) (not_bare l.bytes (has_header l.bytes) refl (ap has_header_by (live_heading m f n l.bytes live.0)))
-    ∙ spares_are m f (n + 1) ls ss live.1 empty
+    ∙ spares_are m f (n + 1) ls ss live.1
 
-no_parts : (ss : List Holding) → AreEmpty ss → parts_in ss ≡ []
+spare_roomy : (f : ℕ) (s : Holding) (ss : List Holding) → IsLoose f s → AllByRecursion (λ h. 24 + f ≤ h.room) (spares_in ss)
+    → AllByRecursion (λ h. 24 + f ≤ h.room) (spares_in (s ∷ ss))
+spare_roomy f s ss (inl bare) more =
+    subst (AllByRecursion (λ (h : Holding). 24 + f ≤ h.room)) (sym (keeps without_bytes s ss (ap is_bare bare.0))) (bare.1, more)
+spare_roomy f s ss (inr part) more =
+    subst (AllByRecursion (λ (h : Holding). 24 + f ≤ h.room)) (sym (drops without_bytes s ss (part_not_bare s.bytes part))) more
+
+pub spares_roomy : (f : ℕ) (ss : List Holding) → AreLoose f ss → AllByRecursion (λ h. 24 + f ≤ h.room) (spares_in ss)
+spares_roomy f [] loose = tt
+spares_roomy f (s ∷ ss) loose = spare_roomy f s ss loose.0 (spares_roomy f ss loose.1)
+
+-- so are those with a part of a header
+pub parts_are : (m f n : ℕ) (ls ss : List Holding) → AreSegments m f n ls → parts_in (ls ++ ss) ≡ parts_in ss
+parts_are m f n [] ss live = refl
+parts_are m f n (l ∷ ls) ss live =
+    drops with_part l (ls ++ ss) (ap has_part_by (live_heading m f n l.bytes live.0)) ∙ parts_are m f (n + 1) ls ss live.1
+
+pub no_parts : (ss : List Holding) → AllByRecursion (λ h. h.bytes ≡ []) ss → parts_in ss ≡ []
 no_parts [] empty = refl
 no_parts (s ∷ ss) empty = drops with_part s ss (ap has_part empty.0 ∙ bare_part) ∙ no_parts ss empty.1
 
-pub parts_none : (m f n : ℕ) (ls ss : List Holding) → AreSegments m f n ls → AreEmpty ss → parts_in (ls ++ ss) ≡ []
-parts_none m f n [] ss live empty = no_parts ss empty
-parts_none m f n (l ∷ ls) ss live empty =
-    drops with_part l (ls ++ ss) (ap has_part_by (live_heading m f n l.bytes live.0)) ∙ parts_none m f (n + 1) ls ss live.1 empty
+loose_unfaulted : (f : ℕ) (s : Holding) → IsLoose f s → fault_in s.bytes ≡ None
+loose_unfaulted f s (inl bare) = ap fault_in bare.0
+loose_unfaulted f s (inr part) = fault_part s.bytes part
 
-no_spare_fault : (k : ℕ) (ss : List Holding) → AreEmpty ss → bytes_fault k ss ≡ None
-no_spare_fault k [] empty = refl
-no_spare_fault k (s ∷ ss) empty =
-    ap (λ (o : Option ℕ). bytes_fault_by k o (bytes_fault (k + 1) ss)) (ap fault_in empty.0) ∙ no_spare_fault (k + 1) ss empty.1
+no_loose_fault : (f k : ℕ) (ss : List Holding) → AreLoose f ss → bytes_fault k ss ≡ None
+no_loose_fault f k [] loose = refl
+no_loose_fault f k (s ∷ ss) loose =
+    ap (λ (o : Option ℕ). bytes_fault_by k o (bytes_fault (k + 1) ss)) (loose_unfaulted f s loose.0) ∙ no_loose_fault f (k + 1) ss loose.1
 
-pub bytes_right : (m f n k : ℕ) (ls ss : List Holding) → AreSegments m f n ls → AreEmpty ss → bytes_fault k (ls ++ ss) ≡ None
-bytes_right m f n k [] ss live empty = no_spare_fault k ss empty
-bytes_right m f n k (l ∷ ls) ss live empty =
+pub bytes_right : (m f n k : ℕ) (ls ss : List Holding) → AreSegments m f n ls → AreLoose f ss → bytes_fault k (ls ++ ss) ≡ None
+bytes_right m f n k [] ss live loose = no_loose_fault f k ss loose
+bytes_right m f n k (l ∷ ls) ss live loose =
     ap (λ (o : Option ℕ). bytes_fault_by k o (bytes_fault (k + 1) (ls ++ ss))) (live_unfaulted m f n l.bytes live.0)
-    ∙ bytes_right m f (n + 1) (k + 1) ls ss live.1 empty
+    ∙ bytes_right m f (n + 1) (k + 1) ls ss live.1 loose
 
 -- ---- in order
 
@@ -153,8 +171,8 @@ ordered_from m f n done (l ∷ ls) live all =
     ∙ ordered_from m f (n + 1) (done ++ l ∷ []) ls live.1 (all_more n done l is all)
     ∙ append_assoc done (l ∷ []) ls
 
-pub live_are : (m f n : ℕ) (ls ss : List Holding) → AreSegments m f n ls → AreEmpty ss → live_in (ls ++ ss) ≡ ls
-live_are m f n ls ss live empty = ap (in_order number_at) (segments_are m f n ls ss live empty) ∙ ordered_from m f n [] ls live tt
+pub live_are : (m f n : ℕ) (ls ss : List Holding) → AreSegments m f n ls → AreLoose f ss → live_in (ls ++ ss) ≡ ls
+live_are m f n ls ss live loose = ap (in_order number_at) (segments_are m f n ls ss live loose) ∙ ordered_from m f n [] ls live tt
 
 -- ---- headers
 

@@ -1,18 +1,23 @@
 -- What the pages of frames are to the leaves for which frames stand: laws over the definitions alone.
 
-use Rattle.std.specs.Prelude.{ℕ, ◌≡◌, ◌≤◌, false, None, Ok, List, [], length}
+use Rattle.std.specs.Prelude.{ℕ, ◌+◌, ◌≡◌, ◌≤◌, ◌⊎◌, true, false, None, Ok, Err, IfSome, List, [], ◌++◌, length, map, take}
 use Rattle.std.specs.List.{AllByRecursion}
 use Rattle.bw_codec.specs.Grammar.{IsFrame}
+use Rattle.bw_codec.specs.Reading.{heading_of}
+use Rattle.bw_codec.specs.declared.block.HeaderRead.TheVariants as heading
 use Rattle.bw_codec.specs.declared.block.Frame.{Frame}
 use Rattle.bw_codec.specs.declared.leaf.Leaf.{Leaf}
 use Rattle.bw_device.specs.Holding.{Holding}
 use Rattle.bw_page.specs.Standing.{blocks_of, Stand}
-use Rattle.bw_log.specs.Contents.{Contents, IsSound, boxes, counted}
+use Rattle.bw_log.specs.Appends.{last_of, with_last}
+use Rattle.bw_log.specs.Contents.{Contents, IsBounded, IsRoomy, IsSound, boxes, counted}
 use Rattle.bw_log.specs.PageTable.{top_page}
-use Rattle.bw_log.specs.Places.{first_number}
+use Rattle.bw_log.specs.Places.{first_number, AreLinked}
+use Rattle.bw_log.specs.Segments.{frames_of, AreFrom, AreLive}
 use Rattle.bw_care.specs.Lawful.{is_at_fault, first_such, contents}
-use Rattle.bw_care.specs.Recovery.{Finding, last_number, recovery, tails_of}
+use Rattle.bw_care.specs.Recovery.{Finding, frames_in, last_number, parts_in, recovery, tails_of}
 use Rattle.bw_care.specs.Scanning.{rest_in}
+use Rattle.bw_care.specs.declared.fault.RecoverCause.TheVariants.{Empty}
 
 -- where no page is at fault, the frames stand for the leaves found
 abbrev pub FoundStand : Type 0
@@ -27,6 +32,51 @@ StandingUnfaulted =
     (m f : ℕ) (frames : List Frame) (leaves : List Leaf) → AllByRecursion (IsFrame m f) frames → Stand m frames leaves
     → first_such (is_at_fault m (blocks_of frames)) 1 (length leaves) ≡ None
 
+-- ---- segments, and boxes without one
+
+-- a box without a segment: empty, with room for a header and a frame, or with a part of a header
+abbrev pub IsLoose : ℕ → Holding → Type 0
+IsLoose f h = ((h.bytes ≡ []) × (24 + f ≤ h.room)) ⊎ (heading_of h.bytes ≡ heading.Part)
+
+-- segments numbered one after the other, whatever their tails, and such boxes
+pub record AreSorted (m f number : ℕ) (live loose : List Holding) : Type 0 where
+  pub segments : AreLive m f number (map (λ h. h.bytes) live)
+  pub others : AllByRecursion (IsLoose f) loose
+  pub few : length live + length loose ≤ 4096
+  pub bounds : AllByRecursion IsBounded (live ++ loose)
+
+-- the whole frames of segments
+abbrev pub frames_held : List Holding → List Frame
+frames_held live = frames_of (map (λ h. h.bytes) live)
+
+abbrev pub sorted_finding : List Holding → List Holding → List Leaf → Finding
+sorted_finding live loose leaves = record {
+  leaves = leaves;
+  first = first_number (frames_held live);
+  last = last_number (frames_held live);
+  tail = tails_of live;
+  dropped = length (parts_in loose);
+}
+
+-- where frames stand they are found, with their tails, and the boxes with a part of a header
+abbrev pub SortedBoxesFound : Type 0
+SortedBoxesFound =
+    (m f number : ℕ) (live loose : List Holding) (leaves : List Leaf) → AreSorted m f number live loose
+    → AreFrom (first_number (frames_held live)) (frames_held live) → AreLinked (frames_held live) → Stand m (frames_held live) leaves
+    → recovery (live ++ loose) ≡ Ok (sorted_finding live loose leaves)
+
+-- where there is no whole frame, this is the fault
+abbrev pub SortedBoxesEmpty : Type 0
+SortedBoxesEmpty =
+    (m f number : ℕ) (live loose : List Holding) → AreSorted m f number live loose → frames_held live ≡ []
+    → recovery (live ++ loose) ≡ Err Empty
+
+-- ---- cuts
+
+-- the newest segment is cut at a length
+abbrev pub cut_newest : ℕ → List Holding → List Holding
+cut_newest n live = with_last (λ h. record h { bytes = take n h.bytes }) live
+
 -- ---- a log's own boxes
 
 -- these leaves, the first and the last frame that the log counts, so many bytes of tails, and no box dropped
@@ -38,6 +88,30 @@ own_finding c leaves tail = record {
   tail = tail;
   dropped = 0;
 }
+
+-- leaves, and the last frame's number
+pub record IsFound (hs : List Holding) (frames : List Frame) (leaves : List Leaf) : Type 0 where
+  pub finding : Finding
+  pub found : recovery hs ≡ Ok finding
+  pub leaves_are : finding.leaves ≡ leaves
+  pub last : finding.last ≡ last_number frames
+
+-- these boxes hold these whole frames: where they stand they are found, and where there is none, that is the fault
+abbrev pub FoundAs : ℕ → List Holding → List Frame → Type 0
+FoundAs m hs frames =
+    ((leaves : List Leaf) → Stand m frames leaves → IsFound hs frames leaves)
+    × (frames ≡ [] → (recovery hs ≡ Err Empty) × (frames_in hs ≡ []))
+
+-- the boxes of a sound log that has not failed, with its newest segment cut at any length, at 0 only where a spare may have its room
+abbrev pub OwnCutsFound : Type 0
+OwnCutsFound =
+    (c : Contents) (n : ℕ) → IsSound c → c.is_failed ≡ false → (n ≡ 0 → IfSome (last_of c.live) (IsRoomy c.f))
+    → FoundAs c.m (cut_newest n c.live ++ c.spares) (frames_held (cut_newest n c.live))
+
+-- the boxes of a sound log that has failed, with whatever the failed append left
+abbrev pub OwnStopFound : Type 0
+OwnStopFound =
+    (c : Contents) → IsSound c → c.is_failed ≡ true → FoundAs c.m (boxes c) (frames_held c.live)
 
 -- the boxes of a sound log that has not failed, and counts a frame, are recovered to the leaves for which its frames stand
 abbrev pub OwnBoxesFound : Type 0

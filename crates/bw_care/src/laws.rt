@@ -1,6 +1,6 @@
 //! Laws over the definitions alone.
 
-ghost use Rattle.bw_care.specs.Laws.{FoundStand, StandingUnfaulted, OwnBoxesFound, WholeBoxesFound};
+ghost use Rattle.bw_care.specs.Laws.{FoundStand, StandingUnfaulted, OwnBoxesFound, WholeBoxesFound, SortedBoxesFound, SortedBoxesEmpty, OwnCutsFound, OwnStopFound};
 
 /// Where no page of some frames is at fault, the frames stand for the leaves that are found.
 pub fn found_leaves_stand()
@@ -23,4 +23,27 @@ pub fn own_boxes_are_found()
 /// nothing but whole appends were made: no tail is told.
 pub fn whole_boxes_have_no_tail()
     ensures { WholeBoxesFound }
+{}
+
+/// Segments numbered one after the other, with any tails, and behind them boxes that are empty, with
+/// room, or hold a part of a header: where their frames stand for leaves, recovery finds these.
+pub fn sorted_boxes_are_found()
+    ensures { SortedBoxesFound }
+{}
+
+/// The same where there is no whole frame: recovery answers that, and no other fault.
+pub fn sorted_boxes_may_be_empty()
+    ensures { SortedBoxesEmpty }
+{}
+
+/// A log that has not failed may be cut at any length of its newest segment: recovery of its boxes
+/// finds the leaves for which the whole frames left stand, or tells that there is none.
+pub fn cut_boxes_are_found()
+    ensures { OwnCutsFound }
+{}
+
+/// A log that has failed can be taken up again, whatever its failed append left: recovery of its
+/// boxes finds the leaves for which all whole frames stand, or tells that there is none.
+pub fn stopped_boxes_are_found()
+    ensures { OwnStopFound }
 {}

@@ -5,3 +5,4 @@ pub mod Leases
 pub mod Slots
 pub mod Memory
 pub mod Fuse
+pub mod Dead

@@ -10,6 +10,7 @@
 #![tactic(auto)]
 
 mod boxes;
+mod dead;
 mod fuse;
 mod leases;
 mod memory;
@@ -19,6 +20,7 @@ mod segments;
 pub use boxes::{
     append_to, are_spares, capacity_of, failures_of, is_spare, lease_of, len_of, read_from,
 };
+pub use dead::DeadSegment;
 pub use fuse::FuseSegment;
 pub use leases::{Desk, Lease, MAX_LEASES};
 pub use memory::{MAX_CAPACITY, MemSegment};

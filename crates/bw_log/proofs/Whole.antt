@@ -12,7 +12,7 @@ use Rattle.bw_page.specs.Standing.{Stand}
 use Rattle.bw_device.specs.Holding.{Holding, appended}
 use Rattle.bw_buffer.proofs.Holding.{few_blocks}
 use Rattle.bw_log.specs.Places.{AreLinked}
-use Rattle.bw_log.specs.Contents.{Contents, image, IsSound, counted, boxes, roster}
+use Rattle.bw_log.specs.Contents.{Contents, image, IsSound, counted, boxes, roster, rooms_of}
 use Rattle.bw_log.specs.Appends.{header_of, begun, last_of, with_last, with_first, has_room, wants_segment, roomy, spares_wanted, is_worn, is_spent, refusal}
 use Rattle.bw_log.specs.Appends.{torn, MayFollow, LeftBehind, Appended, Stopped, Rose, IsSameLog, Answers, Checks, OnDevice, AfterAppend}
 use Rattle.std.specs.Prelude.{Result, Ok, Err, MatchResult}
@@ -169,6 +169,10 @@ begun_leases : (c : Contents) (s : Holding) (ss : List Holding) → Begins c s s
 begun_leases c s ss b = ap roster (begun_is c s ss b)
     ∙ field_moved (λ (h : Holding). h.lease) c.live ss c.spares s (appended s (header_bytes (header_of c))) refl b.first
 
+begun_rooms : (c : Contents) (s : Holding) (ss : List Holding) → Begins c s ss → rooms_of (begun c) ≡ rooms_of c
+begun_rooms c s ss b = ap rooms_of (begun_is c s ss b)
+    ∙ field_moved (λ (h : Holding). h.room) c.live ss c.spares s (appended s (header_bytes (header_of c))) refl b.first
+
 -- ---- a box that failed, among those before a segment was begun
 
 pub record SameAt (hs : List Holding) (at : ℕ) (h : Holding) : Type 0 where
@@ -229,9 +233,12 @@ roomy_begun c len w = rw w refl
 keeps_appended : (piece : List ℕ) (h : Holding) → (appended h piece).lease ≡ h.lease
 keeps_appended piece h = refl
 
+keeps_room : (piece : List ℕ) (h : Holding) → (appended h piece).room ≡ h.room
+keeps_room piece h = refl
+
 ended_put : (c d : Contents) (x : Frame) (older : List Holding) (h : Holding) → Puts d x older h → d.m ≡ c.m → d.f ≡ c.f → d.number ≡ c.number
-    → roster d ≡ roster c → Ended c x (with_frame d x)
-ended_put c d x older h p m f number leases = record {
+    → roster d ≡ roster c → rooms_of d ≡ rooms_of c → Ended c x (with_frame d x)
+ended_put c d x older h p m f number leases rooms = record {
   sound = put_sound d x older h p;
   same = record {
     m = m;
@@ -239,6 +246,8 @@ ended_put c d x older h p m f number leases = record {
     number = number;
     leases = both_fields (λ (h : Holding). h.lease) d.live d.spares (with_last (λ (k : Holding). appended k (frame_bytes x)) d.live) d.spares
         (field_last (λ (h : Holding). h.lease) (λ (k : Holding). appended k (frame_bytes x)) (keeps_appended (frame_bytes x)) d.live) refl ∙ leases;
+    rooms = both_fields (λ (h : Holding). h.room) d.live d.spares (with_last (λ (k : Holding). appended k (frame_bytes x)) d.live) d.spares
+        (field_last (λ (h : Holding). h.room) (λ (k : Holding). appended k (frame_bytes x)) (keeps_room (frame_bytes x)) d.live) refl ∙ rooms;
   };
 }
 
@@ -248,7 +257,7 @@ ok_here c x care new st w put =
     let p = puts_here c x care st w in
     let room = sym (roomy_here c (length (frame_bytes x)) w) in
     let there : EndedOk c x (with_frame c x) = record {
-      ended = ended_put c c x p.0 p.1 p.2 refl refl refl refl;
+      ended = ended_put c c x p.0 p.1 p.2 refl refl refl refl refl;
       appended = record {
         takes = p.2.takes;
         works = p.2.works;
@@ -270,7 +279,7 @@ ok_begun c x care new st w put =
     let room = sym (roomy_begun c (length (frame_bytes x)) w) in
     let there : EndedOk c x (with_frame d x) = record {
       ended = ended_put c d x c.live (appended b.0 (header_bytes (header_of c))) p (ap (λ (e : Contents). e.m) is) (ap (λ (e : Contents). e.f) is)
-          (ap (λ (e : Contents). e.number) is) (begun_leases c b.0 b.1 b.2);
+          (ap (λ (e : Contents). e.number) is) (begun_leases c b.0 b.1 b.2) (begun_rooms c b.0 b.1 b.2);
       appended = record {
         takes = p.takes;
         works = p.works;
@@ -298,6 +307,9 @@ torn_here lease c x care new st w t =
           leases = both_fields (λ (h : Holding). h.lease) c.live c.spares
               (with_last (torn t.kept (frame_bytes x)) c.live) c.spares
               (field_last (λ (h : Holding). h.lease) (torn t.kept (frame_bytes x)) (λ k. refl) c.live) refl;
+          rooms = both_fields (λ (h : Holding). h.room) c.live c.spares
+              (with_last (torn t.kept (frame_bytes x)) c.live) c.spares
+              (field_last (λ (h : Holding). h.room) (torn t.kept (frame_bytes x)) (λ k. refl) c.live) refl;
         });
       };
       rose = t.rose;
@@ -333,6 +345,8 @@ torn_begun lease c x care new st w t =
           number = ap (λ (e : Contents). e.number) is;
           leases = both_fields (λ (h : Holding). h.lease) d.live d.spares (with_last (torn t.kept (frame_bytes x)) d.live) d.spares
               (field_last (λ (h : Holding). h.lease) (torn t.kept (frame_bytes x)) (λ k. refl) d.live) refl ∙ begun_leases c b.0 b.1 b.2;
+          rooms = both_fields (λ (h : Holding). h.room) d.live d.spares (with_last (torn t.kept (frame_bytes x)) d.live) d.spares
+              (field_last (λ (h : Holding). h.room) (torn t.kept (frame_bytes x)) (λ k. refl) d.live) refl ∙ begun_rooms c b.0 b.1 b.2;
         });
       };
       rose = rose_begun c b.0 b.1 lease (boxes new) b.2 t.rose;
@@ -366,6 +380,9 @@ torn_spare lease c x care new st w t =
           leases = both_fields (λ (h : Holding). h.lease) c.live c.spares c.live
               (with_first (torn t.kept (header_bytes (header_of c))) c.spares) refl
               (field_first (λ (h : Holding). h.lease) (torn t.kept (header_bytes (header_of c))) (λ k. refl) c.spares);
+          rooms = both_fields (λ (h : Holding). h.room) c.live c.spares c.live
+              (with_first (torn t.kept (header_bytes (header_of c))) c.spares) refl
+              (field_first (λ (h : Holding). h.room) (torn t.kept (header_bytes (header_of c))) (λ k. refl) c.spares);
         });
       };
       rose = t.rose;
@@ -616,7 +633,7 @@ refused_ends old now x care fault len sound same size checks =
     record {
       sound = sound;
       added = tt;
-      log = subst (IsSameLog old) (sym same) (record { m = refl; f = refl; number = refl; leases = refl });
+      log = subst (IsSameLog old) (sym same) (record { m = refl; f = refl; number = refl; leases = refl; rooms = refl });
       answers = told_of (refusal old (length (frame_bytes x)) care) fault told;
       device = unasked (refusal old (length (frame_bytes x)) care) (λ lease. Rose lease (boxes old) (boxes now) × Stopped old x now) (now ≡ old) fault
           (λ lease. refusals old (length (frame_bytes x)) lease care) told same;

@@ -11,7 +11,7 @@ use Rattle.bw_page.specs.Standing.{Stand}
 use Rattle.bw_device.specs.Holding.{Holding, appended, torn_at}
 use Rattle.bw_log.specs.Places.{AreLinked}
 use Rattle.bw_log.specs.Segments.{following, frames_of}
-use Rattle.bw_log.specs.Contents.{Contents, image, boxes, roster, counted, IsSound}
+use Rattle.bw_log.specs.Contents.{Contents, image, boxes, roster, rooms_of, counted, IsSound}
 use Rattle.bw_log.specs.declared.fault.LogFault.{LogFault}
 use Rattle.bw_log.specs.declared.fault.LogFault.TheVariants.{NoMemory, BadConfig, NoSegment, Device, Failed, Spent, NoPage}
 
@@ -187,6 +187,7 @@ pub record IsSameLog (old new : Contents) : Type 0 where
   pub f : new.f ≡ old.f
   pub number : new.number ≡ old.number
   pub leases : roster new ≡ roster old
+  pub rooms : rooms_of new ≡ rooms_of old
 
 -- what an append of a frame leaves, by its answer and by whether it may take the last spare
 pub record AfterAppend (old : Contents) (frame : Frame) (takes_last : Bool) (result : Result (Unit {0}) LogFault) (new : Contents) : Type 0 where

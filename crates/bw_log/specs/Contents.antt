@@ -42,6 +42,10 @@ boxes c = c.live ++ c.spares
 abbrev pub roster : Contents → List ℕ
 roster c = map (λ h. h.lease) (boxes c)
 
+-- all rooms
+abbrev pub rooms_of : Contents → List ℕ
+rooms_of c = map (λ h. h.room) (boxes c)
+
 -- ---- the same without rooms, leases and failures
 
 pub record Image : Type 0 where

@@ -3,7 +3,7 @@
 use Rattle.std.proofs.Common.{inl, inr, ◌≡◌, ◌⊎◌, ℕ, suc, ◌+◌, ◌-◌, ◌^◌, ◌<◌, ◌≤◌, Bool, true, false, Option, Some, None, Result, Ok, Err, List, [], ◌∷◌, ◌++◌}
 use Rattle.std.proofs.Common.{length, drop, refl, sym, ap, ◌∙◌, subst, arith, length-append, append-nil, replicate}
 use Rattle.std.specs.Prelude.{IfSome, IfOk, IfErr, if◌then◌else◌}
-use Rattle.std.specs.List.{slice_get}
+use Rattle.std.specs.List.{slice_get, AllByRecursion as All}
 use Rattle.bw_codec.specs.declared.leaf.Leaf.{Leaf}
 use Rattle.bw_codec.specs.declared.block.Place.{Place}
 use Rattle.bw_codec.specs.declared.block.Frame.{Frame}
@@ -12,16 +12,19 @@ use Rattle.bw_page.specs.Standing.{blocks_of, Stand}
 use Rattle.bw_buffer.specs.Filling.{Filling, frame_of}
 use Rattle.bw_log.specs.Contents as logs
 use Rattle.bw_log.specs.Places.{place_of, first_number}
-use Rattle.bw_log.specs.Segments.{following, next_of, AreFrom}
+use Rattle.bw_log.specs.Segments.{following, frames_of, next_of, AreFrom}
 use Rattle.bw_log.specs.Oldest.{oldest_count}
 use Rattle.bw_log.specs.declared.fault.LogFault.{LogFault}
 use Rattle.bw_log.specs.declared.fault.LogFault.TheVariants as log
-use Rattle.bw_care.specs.Cleaning.{old_pages, oldest_last}
+use Rattle.bw_care.specs.Cleaning.{old_pages, oldest_last, IsRewritten}
 use Rattle.bw_care.specs.Moving as care
 use Rattle.bw_care.specs.declared.cleaning.Cleaned.{Cleaned}
 use Rattle.bw_care.specs.declared.fault.CleanFault.{CleanFault}
 use Rattle.bw_care.specs.declared.fault.CleanFault.TheVariants.{NothingOld, Log}
 use Rattle.bw_care.proofs.OldPages.{few_old}
+use Rattle.bw_care.proofs.BasesLeave.{one_frame, stand_more}
+use Rattle.bw_store.specs.Edges.{IsBegun}
+use Rattle.bw_store.proofs.Edging.{begun_dropped, begun_stays, moved_row, refused_row, row_then}
 use Rattle.bw_store.specs.declared.fault.StoreFault.{StoreFault}
 use Rattle.bw_store.specs.declared.fault.StoreFault.TheVariants as store
 use Rattle.bw_store.specs.Faults.{FlushLeaves}
@@ -61,6 +64,8 @@ pub record Cleans (s : Kept) (new : logs.Contents) : Type 0 where
   pub stands : Stand s.filed.m (logs.counted new) s.filed.leaves
   pub gone : ℕ
   pub counts : logs.counted new ≡ drop gone (logs.counted s.log ++ written)
+  pub begun : IsBegun s.edge new
+  pub left : new.is_failed ≡ true → Stand s.filed.m (frames_of (logs.image new).bytes) s.filed.leaves
 
 -- from a log that counts these frames too
 adds_of : (s : Kept) (written : List Frame) (ps : List ℕ) (now : logs.Contents) → Begins s → logs.IsSound now → logs.counted now ≡ logs.counted s.log ++ written
@@ -112,6 +117,32 @@ stands_as s new b stands =
     (subst (λ (m : ℕ). Stand m (logs.counted new) (pages m s.start (records s.entries))) (sym h.pairs)
     (stands (pages s.log.m s.start (records s.entries)) b.done.stands))
 
+-- what a refused step leaves in the live segments, where an append failed: the counted frames, or these and one of Bases
+torn_left : (m : ℕ) (old new : logs.Contents) (leaves : List Leaf) → care.IsTornBase old new → Stand m (logs.counted new) leaves
+    → Stand m (frames_of (logs.image new).bytes) leaves
+torn_left m old new leaves t stand = elim (t.stopped.left) [
+  | inl same ↦ subst (λ (fs : List Frame). Stand m fs leaves) (t.stopped.frames ∙ sym same) stand
+  | inr one_more ↦ subst (λ (fs : List Frame). Stand m fs leaves) (sym one_more)
+      (stand_more m (logs.counted old) (t.frame ∷ []) leaves (subst (λ (fs : List Frame). Stand m fs leaves) t.stopped.frames stand)
+      (subst (All (IsRewritten (blocks_of (logs.counted old)))) (sym (one_frame t.frame)) t.holds.bases))
+]
+
+still_works : (old new : logs.Contents) → old.is_failed ≡ false → new ≡ old → new.is_failed ≡ true → ⊥
+still_works old new works same failed = (let is = ap (λ (c : logs.Contents). c.is_failed) same in absurd cc)
+
+refused_left : (m : ℕ) (old new : logs.Contents) (fault : LogFault) (leaves : List Leaf) → old.is_failed ≡ false → care.Refused fault old new
+    → Stand m (logs.counted new) leaves → new.is_failed ≡ true → Stand m (frames_of (logs.image new).bytes) leaves
+refused_left m old new log.NoMemory leaves works r stand failed = absurd (still_works old new works r failed)
+refused_left m old new log.BadConfig leaves works r stand failed = absurd r
+refused_left m old new log.NoSegment leaves works r stand failed = absurd (still_works old new works r.0 failed)
+refused_left m old new (log.Device lease) leaves works r stand failed = elim (r.left) [
+  | inl same ↦ (let is = ap (λ (i : logs.Image). i.is_failed) same in absurd cc)
+  | inr t ↦ torn_left m old new leaves t stand
+]
+refused_left m old new log.Failed leaves works r stand failed = absurd r
+refused_left m old new log.Spent leaves works r stand failed = absurd (still_works old new works r.0 failed)
+refused_left m old new log.NoPage leaves works r stand failed = absurd r
+
 pub refused_cleans : (s : Kept) (fault : LogFault) (new : logs.Contents) → Begins s → logs.IsSound new → care.Stopped s.log fault new
     → ((leaves : List Leaf) → Stand s.log.m (logs.counted s.log) leaves → Stand s.log.m (logs.counted new) leaves) → Cleans s new
 refused_cleans s fault new b sound x stands =
@@ -131,6 +162,9 @@ refused_cleans s fault new b sound x stands =
       stands = stands_as s new b stands;
       gone = 0;
       counts = counts;
+      begun = begun_stays s.edge s.log new b.sound.log.rooms
+          (row_then s.log x.then_log new (moved_row s.log x.then_log x.done x.rest x.frames x.moved) (refused_row x.then_log new fault x.refused)) b.sound.begun;
+      left = refused_left s.filed.m x.then_log new fault s.filed.leaves x.moved.works x.refused (stands_as s new b stands);
     }
 
 pub cleaned_cleans : (s : Kept) (cleaned : Cleaned) (new : logs.Contents) → Begins s → logs.IsSound new → care.IsCleaned s.log cleaned new
@@ -150,6 +184,11 @@ cleaned_cleans s cleaned new b sound x stands =
       stands = stands_as s new b stands;
       gone = oldest_count s.log.live;
       counts = x.counts ∙ ap (drop (oldest_count s.log.live)) x.moved.counts;
+      begun = begun_dropped s.edge x.then_log new (let many = x.moved.older.many in let two = x.two in omega arith)
+          (ap (λ (c : logs.Contents). c.live) x.given_up) (ap (λ (c : logs.Contents). c.number) x.given_up) (ap (λ (c : logs.Contents). c.f) x.given_up)
+          (begun_stays s.edge s.log x.then_log b.sound.log.rooms
+          (moved_row s.log x.then_log (old_pages s.log) [] cleaned.frames x.moved) b.sound.begun);
+      left = λ failed. (let fine = ap (λ (c : logs.Contents). c.is_failed) x.given_up in let works = x.moved.works in absurd cc);
     }
 
 pub cleaned_told : (s : Kept) (cleaned : Cleaned) (new : logs.Contents) (b : Begins s) (sound : logs.IsSound new) (x : care.IsCleaned s.log cleaned new)
@@ -255,6 +294,8 @@ module _ (s : Kept) (b : Begins s) (new : logs.Contents) (frames : ℕ) (cuts : 
         empty = x.empty;
         sealed = x.sealed;
         numbered = x.numbered;
+        begun = c.begun;
+        left = c.left;
       }
 
   pub cleaned_sound : IsSound (noted (s.durable + frames))

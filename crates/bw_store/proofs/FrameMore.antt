@@ -19,9 +19,10 @@ use Rattle.bw_page.proofs.Sorted.{all-map, all-push}
 use Rattle.bw_buffer.specs.Filling.{Filling, frame_of}
 use Rattle.bw_log.specs.Contents as logs
 use Rattle.bw_log.specs.Places.{all_placed, placed, bad_link, first_number, last_place}
-use Rattle.bw_log.specs.Segments.{following, next_of}
-use Rattle.bw_log.specs.Appends.{Appended, IsSameLog}
-use Rattle.bw_log.proofs.Adding.{before_next, following_is, filter_all}
+use Rattle.bw_log.specs.Segments.{following, frames_of, next_of, AreFrom}
+use Rattle.bw_log.specs.Appends.{Appended, IsSameLog, LeftBehind, Stopped}
+use Rattle.bw_log.proofs.Adding.{before_next, following_is, filter_all, next_is}
+use Rattle.bw_codec.specs.Grammar.{IsFrame}
 use Rattle.std.proofs.lemmas.List.Elements.{filter-append}
 use Rattle.std.proofs.lemmas.Bool.{leb-true, leb-false, le-leb, lt-leb}
 use Rattle.std.specs.Prelude.{nat_le}
@@ -29,9 +30,10 @@ use Rattle.bw_versions.specs.declared.entry.Entry.{Entry}
 use Rattle.bw_versions.specs.Entries.{records}
 use Rattle.bw_store.specs.History.{cut, upto, share}
 use Rattle.bw_store.specs.Growing.{Grown, frames_upto}
-use Rattle.bw_store.specs.Kept.{Kept, leaves_at, TellsBy, TellsAs, TellsShare, waiting, AreCuts, IsSound, with_frame, with_stop}
+use Rattle.bw_store.specs.Kept.{Kept, leaves_at, TellsBy, TellsAs, TellsShare, waiting, AreCuts, AreLeft, IsSound, with_frame, with_stop}
 use Rattle.bw_store.proofs.Readers.{later_cut}
-use Rattle.bw_store.proofs.FramesBehind.{following_fits}
+use Rattle.bw_store.proofs.FramesBehind.{following_fits, counted_lawful}
+use Rattle.bw_store.proofs.Edging.{begun_on, appended_more, stopped_more}
 use Rattle.bw_store.proofs.CutMore.{same_leaves, old_shares}
 use Rattle.bw_store.proofs.Telling.{tells_none}
 use Rattle.bw_store.proofs.RecordMore.{cut_within}
@@ -226,12 +228,60 @@ module _ (s : Kept) (h : IsSound s) (works : s.log.is_failed ≡ false) where
           begins = later_cut s more (s.durable + 1) h.shown
               (let all = last_cut in let within = cut_within s.cuts (length s.entries) s.durable h.ordered in omega arith);
         };
+        edged = h.edged;
+        begun = begun_on s.edge s.log new h.log.rooms same.rooms same.number same.f (appended_more s.log new (frame_of s.making) added) h.begun;
+        left = λ failed. (let fine = added.works in absurd cc);
       }
+
+  -- what stands in the live segments after an append that failed
+  none_counted : s.log.next ≡ Some s.making.frame → s.making.frame ≡ s.before + s.durable + 1 → logs.counted s.log ≡ []
+      → (s.before ≡ 0) × (s.durable ≡ 0)
+  none_counted next number none =
+      let first : Some s.making.frame ≡ Some 1 = sym next ∙ h.log.holds.follows ∙ ap next_of none in
+      let one : s.making.frame ≡ 1 = cc in
+      (omega arith, omega arith)
+
+  some_counted : (x : Frame) (xs : List Frame) → s.log.next ≡ Some s.making.frame → s.making.frame ≡ s.before + s.durable + 1 → logs.counted s.log ≡ x ∷ xs
+      → 1 ≤ s.before + s.durable
+  some_counted x xs next number is =
+      let from : AreFrom x.number (x ∷ xs) = subst (λ (fs : List Frame). AreFrom (first_number fs) fs) is h.log.holds.numbered in
+      let laws : All (IsFrame s.log.m s.log.f) (x ∷ xs) = subst (All (IsFrame s.log.m s.log.f)) is (counted_lawful s.log h.log) in
+      let low = laws.0.head.numbered.0 in
+      let after = next_is x.number x xs s.making.frame from (ap next_of (sym is) ∙ sym h.log.holds.follows ∙ next) in
+      omega arith
+
+  all_upto : s.log.next ≡ Some s.making.frame → s.making.frame ≡ s.before + s.durable + 1
+      → frames_upto (s.before + s.durable) (logs.counted s.log) ≡ logs.counted s.log
+  all_upto next number =
+      filter_all (λ (f : Frame). nat_le f.number (s.before + s.durable)) (logs.counted s.log)
+      (all-map (λ f. f.number < s.before + s.durable + 1) (λ f. nat_le f.number (s.before + s.durable) ≡ true)
+      (λ f below. le-leb f.number (s.before + s.durable) (omega arith)) (logs.counted s.log) (numbers_below next number))
+
+  counted_left : (fs : List Frame) (new : logs.Contents) → s.log.next ≡ Some s.making.frame → s.making.frame ≡ s.before + s.durable + 1
+      → frames_of (logs.image new).bytes ≡ logs.counted s.log → logs.counted s.log ≡ fs → AreLeft (with_stop s new)
+  counted_left [] new next number same is = (let none = none_counted next number is in inl (same ∙ is, none.0, none.1))
+  counted_left (x ∷ xs) new next number same is =
+      inr (inl (subst (λ (fs : List Frame). Stand s.filed.m fs (leaves_at (with_stop s new) s.durable)) (sym same)
+      (subst (Stand s.filed.m (logs.counted s.log)) (sym (same_leaves s more same_cut s.durable (omega arith)))
+      (subst (λ (fs : List Frame). Stand s.filed.m fs (leaves_at s s.durable)) (all_upto next number)
+      (h.stands s.durable h.floor (omega arith) (some_counted x xs next number is))))))
+
+  stop_left : (new : logs.Contents) → s.log.next ≡ Some s.making.frame → s.making.frame ≡ s.before + s.durable + 1
+      → LeftBehind s.log (frame_of s.making) new → AreLeft (with_stop s new)
+  stop_left new next number (inl same) = counted_left (logs.counted s.log) new next number same refl
+  stop_left new next number (inr one_more) =
+      inr (inr (
+        length-append s.cuts (length s.entries ∷ []) ∙ ap (λ n. n + 1) all_appended,
+        subst (λ (fs : List Frame). Stand s.filed.m fs (leaves_at (with_stop s new) (s.durable + 1))) (sym one_more)
+            (subst (Stand s.filed.m (logs.counted s.log ++ frame_of s.making ∷ [])) (h.leaves ∙ sym (whole_history (s.durable + 1) refl)) h.grown.stands),
+      ))
 
   -- after an append that failed
   pub stopped_sound : (new : logs.Contents) → s.log.next ≡ Some s.making.frame → s.making.frame ≡ s.before + s.durable + 1
-      → logs.IsSound new → logs.counted new ≡ logs.counted s.log → new.is_failed ≡ true → IsSameLog s.log new → IsSound (with_stop s new)
-  stopped_sound new next number sound counted failed same =
+      → logs.IsSound new → Stopped s.log (frame_of s.making) new → IsSameLog s.log new → IsSound (with_stop s new)
+  stopped_sound new next number sound stopped same =
+      let counted = stopped.frames in
+      let failed = stopped.failed in
       let t = with_stop s new in
       record {
         log = sound;
@@ -261,4 +311,7 @@ module _ (s : Kept) (h : IsSound s) (works : s.log.is_failed ≡ false) where
           start = h.shown.start;
           begins = later_cut s more s.durable h.shown (let same = same_cut s.durable (omega arith) in omega arith);
         };
+        edged = h.edged;
+        begun = begun_on s.edge s.log new h.log.rooms same.rooms same.number same.f (stopped_more s.log new (frame_of s.making) stopped) h.begun;
+        left = λ failed. stop_left new next number stopped.left;
       }

@@ -74,6 +74,9 @@ opened_by rings m f spares versions unseen sound = record {
   shares = tt;
   tells = inl (refl, refl, (refl, tells_none m (empty_leaf ∷ [])));
   shown = record { start = refl; begins = unseen_begins versions [] unseen };
+  edged = inl refl;
+  begun = tt;
+  left = λ failed. absurd cc;
 }
 
 pub opened_sound : (rings : List Ring) (m f : ℕ) (spares : List Holding) (versions : Versioned) → versions.start ≡ one_empty m → versions.entered ≡ []

@@ -24,4 +24,6 @@ pub mod Fresh
 pub mod FollowMore
 pub mod Showing
 pub mod Logs
+pub mod Edging
+pub mod Stopping
 pub mod AwayPages

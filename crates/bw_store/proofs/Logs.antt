@@ -1,6 +1,7 @@
 -- A store whose log changed, but not in what it counts.
 
-use Rattle.std.proofs.Common.{false, ◌≡◌, ◌+◌, ◌<◌, inl, inr, List, [], ◌∷◌, ◌++◌, refl, sym, ap, ◌∙◌, subst, arith, append-nil}
+use Rattle.std.proofs.Common.{false, ◌≡◌, ℕ, ◌+◌, ◌<◌, inl, inr, List, [], ◌∷◌, ◌++◌, length, map, refl, sym, ap, ◌∙◌, subst, arith, append-nil}
+use Rattle.std.proofs.lemmas.List.{length-map}
 use Rattle.std.specs.List.{AllByRecursion as All}
 use Rattle.bw_codec.specs.declared.block.Frame.{Frame}
 use Rattle.bw_page.specs.Standing.{Stand}
@@ -10,12 +11,16 @@ use Rattle.bw_log.specs.declared.fault.LogFault.{LogFault}
 use Rattle.bw_log.specs.declared.fault.LogFault.TheVariants as log
 use Rattle.bw_log.specs.Contents as logs
 use Rattle.bw_log.specs.Reads.{IsKept}
+use Rattle.bw_log.specs.Segments.{frames_of}
 use Rattle.bw_store.specs.declared.fault.StoreFault.TheVariants.{BadConfig}
 use Rattle.bw_store.specs.Faults.{fault_of}
 use Rattle.bw_store.specs.Following.{Follows}
 use Rattle.bw_store.specs.Growing.{Grown, frames_upto}
 use Rattle.bw_store.specs.Kept.{Kept, leaves_at, TellsShare, IsSound}
 use Rattle.bw_store.specs.Reading.{with_log}
+use Rattle.bw_store.specs.declared.edge.Edge.{Edge}
+use Rattle.bw_store.specs.Edges.{IsBegun}
+use Rattle.bw_store.proofs.Edging.{begun_on}
 
 -- a log that counts the same frames
 pub record CountsAs (old new : logs.Contents) : Type 0 where
@@ -25,6 +30,21 @@ pub record CountsAs (old new : logs.Contents) : Type 0 where
   pub next : new.next ≡ old.next
   pub failed : new.is_failed ≡ old.is_failed
   pub frames : logs.counted new ≡ logs.counted old
+  pub bytes : (logs.image new).bytes ≡ (logs.image old).bytes
+  pub begun : (edge : Edge) → IsBegun edge old → IsBegun edge new
+
+-- live segments with the same rooms and numbers
+pub begun_as : (edge : Edge) (old new : logs.Contents) → map (λ h. h.room) new.live ≡ map (λ h. h.room) old.live → new.number ≡ old.number → new.f ≡ old.f
+    → IsBegun edge old → IsBegun edge new
+begun_as edge old new same number limit was =
+    let bare_old : logs.Contents = record old { spares = [] } in
+    let bare_new : logs.Contents = record new { spares = [] } in
+    let long = ap (λ (l : List ℕ). length l) same in
+    let one = length-map old.live (λ (h : Holding). h.room) in
+    let two = length-map new.live (λ (h : Holding). h.room) in
+    begun_on edge bare_old bare_new tt
+    (ap (map (λ (h : Holding). h.room)) (append-nil new.live) ∙ same ∙ sym (ap (map (λ (h : Holding). h.room)) (append-nil old.live)))
+    number limit (omega arith) was
 
 -- a read counts the same frames, refused or not
 pub read_counts : (old new : logs.Contents) → logs.IsSound new → IsKept old new → CountsAs old new
@@ -35,6 +55,8 @@ read_counts old new sound kept = record {
   next = ap (λ (i : logs.Image). i.next) kept.same;
   failed = ap (λ (i : logs.Image). i.is_failed) kept.same;
   frames = kept.counts;
+  bytes = ap (λ (i : logs.Image). i.bytes) kept.same;
+  begun = λ edge was. begun_as edge old new kept.rooms (ap (λ (i : logs.Image). i.number) kept.same) (ap (λ (i : logs.Image). i.f) kept.same) was;
 }
 
 pub log_sound : (s : Kept) (new : logs.Contents) → IsSound s → CountsAs s.log new → IsSound (with_log s new)
@@ -59,6 +81,17 @@ log_sound s new h c = record {
   shares = subst (λ (fs : List Frame). All (λ f. s.before < f.number → TellsShare s f) fs) (sym c.frames) h.shares;
   tells = h.tells;
   shown = record { start = h.shown.start; begins = h.shown.begins };
+  edged = h.edged;
+  begun = c.begun s.edge h.begun;
+  left = λ failed. (
+      let same = ap frames_of (sym c.bytes) in
+      elim (h.left (sym c.failed ∙ failed)) [
+        | inl none ↦ inl (sym same ∙ none.0, none.1, none.2)
+        | inr some ↦ elim some [
+          | inl here ↦ inr (inl (subst (λ (fs : List Frame). Stand s.filed.m fs (leaves_at s s.durable)) same here))
+          | inr beyond ↦ inr (inr (beyond.0, subst (λ (fs : List Frame). Stand s.filed.m fs (leaves_at s (s.durable + 1))) same beyond.1))
+        ]
+      ]);
 }
 
 pub log_follows : (s : Kept) (new : logs.Contents) → Follows s (with_log s new)
@@ -87,6 +120,8 @@ rolled_counts old new sound is = record {
   next = ap (λ (c : logs.Contents). c.next) is;
   failed = ap (λ (c : logs.Contents). c.is_failed) is;
   frames = ap (λ (c : logs.Contents). logs.counted c) is;
+  bytes = ap (λ (c : logs.Contents). (logs.image c).bytes) is;
+  begun = λ edge was. subst (IsBegun edge) (sym is) was;
 }
 
 -- a log with one more spare
@@ -98,6 +133,8 @@ added_counts old new box sound is = record {
   next = ap (λ (c : logs.Contents). c.next) is;
   failed = ap (λ (c : logs.Contents). c.is_failed) is;
   frames = ap (λ (c : logs.Contents). logs.counted c) is;
+  bytes = ap (λ (c : logs.Contents). (logs.image c).bytes) is;
+  begun = λ edge was. subst (IsBegun edge) (sym is) was;
 }
 
 -- the store tells a bad box where the log does, and nowhere else

@@ -128,7 +128,8 @@ stopped_at {s} sound next works b new cuts end (log.Device lease) Q is whole sam
     subst (λ (x : Filling). IsSound (record s { cuts = cuts; making = x; log = new })) (sym is)
     (subst (λ (cs : List ℕ). IsSound (record s { cuts = cs; making = record s.making { is_sealed = true }; log = new }))
     (sym (more ∙ ap (λ (n : ℕ). s.cuts ++ n ∷ []) at))
-    (stopped_sound s sound works new next number whole on.1.frames on.1.failed same))
+    (stopped_sound s sound works new next number whole
+    (subst (λ (f : Rattle.bw_codec.specs.declared.block.Frame.Frame). Stopped s.log f new) (sealed_frame s b is) on.1) same))
 stopped_at sound next works b new cuts end log.NoMemory Q is whole same only on more at = absurd only
 stopped_at sound next works b new cuts end log.BadConfig Q is whole same only on more at = absurd only
 stopped_at sound next works b new cuts end log.NoSegment Q is whole same only on more at = absurd only

@@ -21,7 +21,7 @@ use Rattle.bw_page.proofs.Sorted.{all-map, all-zip}
 use Rattle.bw_buffer.specs.Filling.{Filling, frame_of}
 use Rattle.bw_log.specs.Contents as logs
 use Rattle.bw_log.specs.Places.{first_number}
-use Rattle.bw_log.specs.Segments.{following, next_of, AreFrom}
+use Rattle.bw_log.specs.Segments.{following, frames_of, next_of, AreFrom}
 use Rattle.bw_log.proofs.Adding.{following_is, filter_all}
 use Rattle.bw_log.proofs.Entries.{all_append}
 use Rattle.bw_log.proofs.GivenUp.{filter_none}
@@ -34,6 +34,7 @@ use Rattle.bw_store.specs.Share.{IsBaseBlock}
 use Rattle.bw_store.specs.Growing.{Grown, frames_upto}
 use Rattle.bw_store.specs.Kept.{Kept, leaves_at, TellsAs, TellsBy, waiting, AreCuts, IsSound}
 use Rattle.bw_store.specs.Settled.{IsSettled}
+use Rattle.bw_store.specs.Edges.{IsBegun}
 use Rattle.bw_store.specs.Cleaning.{with_moved}
 use Rattle.bw_store.proofs.Readers.{later_cut}
 use Rattle.bw_store.proofs.CutMore.{same_leaves, old_shares}
@@ -279,6 +280,8 @@ module _ (s : Kept) (written : List Frame) (a : Adds s written) where
     pub empty : making.blocks ≡ []
     pub sealed : making.is_sealed ≡ new.is_failed
     pub numbered : (new.next ≡ Some making.frame) ⊎ (new.next ≡ None)
+    pub begun : IsBegun s.edge new
+    pub left : new.is_failed ≡ true → Stand s.filed.m (frames_of (logs.image new).bytes) s.filed.leaves
 
   pub moved_sound : (floor : ℕ) (newest : List Place) (making : Filling) (new : logs.Contents) → Moves floor newest making new
       → IsSound (with_moved s n floor newest making new)
@@ -320,6 +323,10 @@ module _ (s : Kept) (written : List Frame) (a : Adds s written) where
           begins = later_cut s more (s.durable + n) h.shown
               (let all = full_cut (s.durable + n) (omega arith) (omega arith) in let now = a.done.cut.1 in omega arith);
         };
+        edged = h.edged;
+        begun = x.begun;
+        left = λ failed. inr (inl (subst (Stand s.filed.m (frames_of (logs.image new).bytes))
+            (sym (leaves_then (s.durable + n) (omega arith) (omega arith))) (x.left failed)));
       }
 
   -- all that the log says of them, whether its oldest segment was given up or not

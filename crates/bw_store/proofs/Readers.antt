@@ -76,6 +76,9 @@ batched_sound s published entered h begins = record {
   shares = h.shares;
   tells = h.tells;
   shown = record { start = h.shown.start; begins = begins };
+  edged = h.edged;
+  begun = h.begun;
+  left = h.left;
 }
 
 placed_sound : (s : Kept) (places : ℕ) → IsSound s → IsSound (with_places s places)
@@ -99,6 +102,9 @@ placed_sound s places h = record {
   shares = h.shares;
   tells = h.tells;
   shown = record { start = h.shown.start; begins = h.shown.begins };
+  edged = h.edged;
+  begun = h.begun;
+  left = h.left;
 }
 
 -- a reader more has one place less

@@ -23,7 +23,7 @@ use Rattle.bw_store.specs.History.{cut, upto, share}
 use Rattle.bw_store.specs.Share.{TellsFirst}
 use Rattle.bw_store.specs.Adding.{end_of, blocks_for}
 use Rattle.bw_store.specs.Growing.{frames_upto}
-use Rattle.bw_store.specs.Kept.{Kept, leaves_at, share_at, TellsBy, TellsAs, TellsShare, waiting, AreCuts, IsSound}
+use Rattle.bw_store.specs.Kept.{Kept, leaves_at, share_at, TellsBy, TellsAs, TellsShare, waiting, frames_there, AreCuts, IsSound}
 use Rattle.bw_store.specs.Taken.{taken}
 use Rattle.bw_store.proofs.Telling.{tells_more}
 use Rattle.bw_store.proofs.Growing.{Takes, grown_more}
@@ -152,4 +152,13 @@ module _ (s : Kept) (writer : ℕ) (item : Record) (back : Place) (t : TakesOne 
           begins = subst (IsPrefix (entries_of s.versions.entered))
               (sym (upto_more s.cuts s.entries (record { writer = writer; item = item } ∷ []) s.durable h.ordered)) h.shown.begins;
         };
+        edged = h.edged;
+        begun = h.begun;
+        left = λ failed. elim (h.left failed) [
+          | inl none ↦ inl none
+          | inr some ↦ elim some [
+            | inl here ↦ inr (inl (subst (Stand s.filed.m (frames_there s)) (sym (same_leaves s.durable)) here))
+            | inr beyond ↦ inr (inr (beyond.0, subst (Stand s.filed.m (frames_there s)) (sym (same_leaves (s.durable + 1))) beyond.1))
+          ]
+        ];
       }

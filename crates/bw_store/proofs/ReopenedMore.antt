@@ -34,6 +34,7 @@ use Rattle.bw_store.specs.Reopened.{reopened}
 use Rattle.bw_store.proofs.FramesBehind.{from_within, none_above, counted_lawful, placed_page, pages_counted}
 use Rattle.bw_store.proofs.EmptyBehind.{AreNoted, grown_empty}
 use Rattle.bw_store.proofs.Telling.{tells_none}
+use Rattle.bw_store.proofs.Edging.{edged_by, begun_by}
 
 -- what was recovered
 pub record Found (c : logs.Contents) (filed : Shown) (last : ℕ) : Type 0 where
@@ -61,7 +62,7 @@ last_from : (n w : ℕ) (x : Frame) (xs : List Frame) → AreFrom n (x ∷ xs) �
 last_from n w x [] are = (let e = are.0 in omega arith)
 last_from n w x (y ∷ ys) are = (let e = last_from (n + 1) x.number y ys are.1 in omega arith)
 
-last_is : (n : ℕ) (fs : List Frame) → AreFrom n fs → 1 ≤ length fs → last_number fs + 1 ≡ n + length fs
+pub last_is : (n : ℕ) (fs : List Frame) → AreFrom n fs → 1 ≤ length fs → last_number fs + 1 ≡ n + length fs
 last_is n [] are some = absurd (omega arith)
 last_is n (x ∷ xs) are some = last_from n 0 x xs are
 
@@ -156,6 +157,9 @@ module _ (c : logs.Contents) (filed : Shown) (last : ℕ) (x : Found c filed las
           start = ap (λ away. record { m = filed.m; leaves = filed.leaves; away = away }) x.here;
           begins = unseen_begins versions [] unseen;
         };
+        edged = edged_by c x.sound.holds.live;
+        begun = begun_by c;
+        left = λ failed. (let works = x.works in absurd cc);
       }
 
   pub reopened_sound : (rings : List Ring) (newest : List Place) (making : Filling) → length newest ≡ length filed.leaves

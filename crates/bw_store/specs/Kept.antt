@@ -17,8 +17,9 @@ use Rattle.bw_ring.specs.Ends.{Ring}
 use Rattle.bw_versions.specs.Batches.{BatchData, entries_of}
 use Rattle.bw_versions.specs.Versioned.{Versioned}
 use Rattle.bw_log.specs.Contents as logs
-use Rattle.bw_log.specs.Segments.{following}
+use Rattle.bw_log.specs.Segments.{following, frames_of}
 use Rattle.bw_store.specs.declared.edge.Edge.{Edge}
+use Rattle.bw_store.specs.Edges.{IsEdge, IsBegun}
 use Rattle.bw_versions.specs.declared.entry.Entry.{Entry}
 use Rattle.bw_versions.specs.Entries.{records}
 use Rattle.bw_store.specs.History.{cut, upto, share}
@@ -96,6 +97,17 @@ pub record AreVersions (s : Kept) : Type 0 where
   pub start : s.versions.start ≡ start_of s
   pub begins : IsPrefix (entries_of s.versions.entered) (upto s.cuts s.entries s.durable)
 
+-- all whole frames of the live segments: a failed append may have left one that does not count
+abbrev pub frames_there : Kept → List Frame
+frames_there s = frames_of (logs.image s.log).bytes
+
+-- they stand for the pages up to the durable cut, or up to the one that stands beyond it; or there is none, and none was durable
+abbrev pub AreLeft : Kept → Type 0
+AreLeft s =
+    ((frames_there s ≡ []) × (s.before ≡ 0) × (s.durable ≡ 0))
+    ⊎ (Stand s.filed.m (frames_there s) (leaves_at s s.durable)
+    ⊎ ((length s.cuts ≡ s.durable + 1) × Stand s.filed.m (frames_there s) (leaves_at s (s.durable + 1))))
+
 pub record IsSound (s : Kept) : Type 0 where
   pub log : logs.IsSound s.log
   pub pairs : s.filed.m ≡ s.log.m
@@ -122,6 +134,10 @@ pub record IsSound (s : Kept) : Type 0 where
   pub shares : AllByRecursion (λ f. s.before < f.number → TellsShare s f) (logs.counted s.log)
   pub tells : TellsBy s (s.before + s.durable + 1) (leaves_at s s.durable) (waiting s) s.making.blocks
   pub shown : AreVersions s
+  -- boxes: what a cut or a stop leaves can be recovered
+  pub edged : IsEdge s.edge
+  pub begun : IsBegun s.edge s.log
+  pub left : s.log.is_failed ≡ true → AreLeft s
 
 -- ---- one record taken
 

@@ -5,7 +5,9 @@ pub mod Planning
 pub mod Tails
 pub mod Tailing
 pub mod Growing
+pub mod Edges
 pub mod Kept
+pub mod Stopping
 pub mod Faults
 pub mod Views
 pub mod Taken

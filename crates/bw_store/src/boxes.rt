@@ -1,10 +1,12 @@
 //! The boxes of a store: one more, the current one closed, one dumped, all handed back.
 
-ghost use Rattle.std.specs.Prelude.{◌≡◌, ◌≢◌, ◌+◌, ◌++◌, ◌∷◌, ◌↔◌, ◌⊎◌, [], true, false, map, length, MatchOption, OnOk, OnErr, IfOk, IfErr, IsErrAnd};
+ghost use Rattle.std.specs.Prelude.{◌≡◌, ◌≢◌, ◌+◌, ◌++◌, ◌∷◌, ◌↔◌, ◌⊎◌, [], ℕ, true, false, map, length, MatchOption, OnOk, OnErr, IfOk, IfErr, IsErrAnd};
+ghost use Rattle.bw_care.specs.Laws.{cut_newest};
 ghost use Rattle.bw_log.specs.Limits.{IsNotTaken};
 ghost use Rattle.bw_log.specs.Reads.{IsNumbered, segment_at};
 ghost use Rattle.bw_store.specs.Following.{Follows, HasBoxes};
 ghost use Rattle.bw_store.specs.Reading.{HasRead, ReadLeaves, with_spare, rolled};
+ghost use Rattle.bw_store.specs.Stopping.{FindsCut, FindsStop, MayCut};
 
 use crate::fault::StoreFault;
 use crate::store::Store;
@@ -96,6 +98,15 @@ impl Store {
         requires { IsSoundBeside self holding }
         ensures live { map holding result.0.items ≡ (kept_beside self holding).log.live }
         ensures spares { map holding result.1.items ≡ (kept_beside self holding).log.spares }
+
+        // After a stop, and behind a cut of the newest segment, recovery finds the pages of a cut.
+        ensures stops { (kept_beside self holding).log.is_failed ≡ true
+            → FindsStop (kept_beside self holding)
+            (map holding result.0.items ++ map holding result.1.items) }
+        ensures cuts { (kept_beside self holding).log.is_failed ≡ false
+            → (n : ℕ) → MayCut (kept_beside self holding) n
+            → FindsCut (kept_beside self holding)
+            (cut_newest n (map holding result.0.items) ++ map holding result.1.items) }
     {
         let Store {
             intake: _intake,

@@ -1,3 +1,4 @@
+use Rattle.bw_store.proofs.Stopping.{cut_handed, stop_handed}
 use Rattle.bw_store.proofs.store.Store.shut.Goals as goal
 
 pub returns-clause-live : goal.returns-clause-live
@@ -5,3 +6,9 @@ returns-clause-live g c = c.into_segments-live.ensures.live
 
 pub returns-clause-spares : goal.returns-clause-spares
 returns-clause-spares g c = c.into_segments-live.ensures.spares
+
+pub returns-clause-stops : goal.returns-clause-stops
+returns-clause-stops g c = stop_handed _ c.requires _ _ c.into_segments-live.ensures.live c.into_segments-live.ensures.spares
+
+pub returns-clause-cuts : goal.returns-clause-cuts
+returns-clause-cuts g c = cut_handed _ c.requires _ _ c.into_segments-live.ensures.live c.into_segments-live.ensures.spares

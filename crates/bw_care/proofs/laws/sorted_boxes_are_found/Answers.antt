@@ -1,0 +1,5 @@
+use Rattle.bw_care.proofs.OwnFound.{sorted_boxes}
+use Rattle.bw_care.proofs.laws.sorted_boxes_are_found.Goals as goal
+
+pub returns : goal.returns
+returns c = λ m f. sorted_boxes m f
