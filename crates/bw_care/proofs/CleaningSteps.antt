@@ -25,7 +25,7 @@ use Rattle.bw_log.proofs.GivenUp.{all_behind}
 use Rattle.bw_log.proofs.Reread.{length-frame}
 use Rattle.bw_care.specs.Ahead.{PageRead}
 use Rattle.bw_care.specs.Cleaning.{is_old, old_from, old_pages, page_of}
-use Rattle.bw_care.specs.Moving.{AreBases, IsFull, Moved, Refused, Stopped}
+use Rattle.bw_care.specs.Moving.{AreBases, IsFull, IsReason, IsRefused, Moved, NextFrame, Refused, Stopped}
 use Rattle.bw_care.proofs.BasesLeave.{largest_base, may_follow, stand_more}
 use Rattle.bw_care.proofs.BoxesGrown.{read_failed}
 use Rattle.bw_care.proofs.OldPages.{old_step, old_are_pages}
@@ -95,8 +95,19 @@ fill_refused old new BadConfig stops other = stops
 fill_refused old new NoSegment stops other = absurd stops
 fill_refused old new (Device lease) stops other = read_failed (λ _. Unit {0}) lease old new stops
 fill_refused old new Failed stops other = stops
-fill_refused old new Spent stops other = (stops.0, inr (inl stops.1))
+fill_refused old new Spent stops other = stops.0
 fill_refused old new NoPage stops other = absurd (other refl)
+
+-- a read is refused only where a page is left
+pub fill_reason : (old new : Contents) (fault : LogFault) (pages : List ℕ) → StopsAt (λ _. Unit {0}) old fault new → (fault ≡ NoPage → ⊥)
+    → 0 < length pages → IsReason fault old pages
+fill_reason old new NoMemory pages stops other some = tt
+fill_reason old new BadConfig pages stops other some = stops
+fill_reason old new NoSegment pages stops other some = absurd stops
+fill_reason old new (Device lease) pages stops other some = some
+fill_reason old new Failed pages stops other some = stops
+fill_reason old new Spent pages stops other some = (some, inr (inl stops.1))
+fill_reason old new NoPage pages stops other some = absurd (other refl)
 
 IsKind : LogFault → Type 0
 IsKind fault = (fault ≡ Failed) ⊎ ((fault ≡ NoSegment) ⊎ (fault ≡ Spent))
@@ -144,7 +155,7 @@ append_refused_by : (old : Contents) (x : Frame) (ps : List ℕ) (new : Contents
 append_refused_by old x ps new NoMemory bs works short answers device same = device
 append_refused_by old x ps new BadConfig bs works short (inl a) device same = not_bad old (length (frame_bytes x)) a
 append_refused_by old x ps new BadConfig bs works short (inr a) device same = a.1
-append_refused_by old x ps new NoSegment bs works short (inl a) device same = (device, record { len = length (frame_bytes x); short = short; told = a })
+append_refused_by old x ps new NoSegment bs works short (inl a) device same = device
 append_refused_by old x ps new NoSegment bs works short (inr a) device same = absurd a.1
 append_refused_by old x ps new (Device lease) bs works short answers device same =
     record { left = inr (record { frame = x; pages = ps; holds = bs; stopped = device.1 }); rose = device.0; counts = device.1.frames; same = same }
@@ -152,7 +163,7 @@ append_refused_by old x ps new Failed bs works short (inl a) device same =
     not_failed_by old.is_failed (wants_segment old (length (frame_bytes x)) && nat_lt (length old.spares) (spares_wanted true))
     (is_spent old (length (frame_bytes x))) works a
 append_refused_by old x ps new Failed bs works short (inr a) device same = a.1
-append_refused_by old x ps new Spent bs works short (inl a) device same = (device, inr (inr (record { len = length (frame_bytes x); short = short; told = a })))
+append_refused_by old x ps new Spent bs works short (inl a) device same = device
 append_refused_by old x ps new Spent bs works short (inr a) device same = absurd a.1
 append_refused_by old x ps new NoPage bs works short (inl a) device same = not_page old (length (frame_bytes x)) a
 append_refused_by old x ps new NoPage bs works short (inr a) device same = a.1
@@ -166,6 +177,36 @@ append_refused old now x ps new fault bs same works short answers device log =
     subst (λ (c : Contents). Refused fault c new) same
     (append_refused_by now x ps new fault (subst (λ (c : Contents). AreBases c x.blocks ps) (sym same) bs) (ap (λ (c : Contents). c.is_failed) same ∙ works)
     (subst (λ (c : Contents). length (frame_bytes x) ≤ c.f) (sym same) short) (asked (refusal now (length (frame_bytes x)) true) fault answers) device log)
+
+next_some : (c : Contents) (pages : List ℕ) (x : Frame) → NextFrame c pages x → 0 < length pages
+next_some c pages x n = let more = n.some in let inside = n.inside in omega arith
+
+append_reason_by : (c : Contents) (pages : List ℕ) (x : Frame) (fault : LogFault) → NextFrame c pages x → c.is_failed ≡ false
+    → length (frame_bytes x) ≤ c.f
+    → (refusal c (length (frame_bytes x)) true ≡ Some fault) ⊎ ((refusal c (length (frame_bytes x)) true ≡ None) × Answers None (Err fault))
+    → IsReason fault c pages
+append_reason_by c pages x NoMemory next works short answers = tt
+append_reason_by c pages x BadConfig next works short (inl a) = not_bad c (length (frame_bytes x)) a
+append_reason_by c pages x BadConfig next works short (inr a) = a.1
+append_reason_by c pages x NoSegment next works short (inl a) = record { frame = x; next = next; short = short; told = a }
+append_reason_by c pages x NoSegment next works short (inr a) = absurd a.1
+append_reason_by c pages x (Device lease) next works short answers = next_some c pages x next
+append_reason_by c pages x Failed next works short (inl a) =
+    not_failed_by c.is_failed (wants_segment c (length (frame_bytes x)) && nat_lt (length c.spares) (spares_wanted true))
+    (is_spent c (length (frame_bytes x))) works a
+append_reason_by c pages x Failed next works short (inr a) = a.1
+append_reason_by c pages x Spent next works short (inl a) =
+    (next_some c pages x next, inr (inr (record { frame = x; next = next; short = short; told = a })))
+append_reason_by c pages x Spent next works short (inr a) = absurd a.1
+append_reason_by c pages x NoPage next works short (inl a) = not_page c (length (frame_bytes x)) a
+append_reason_by c pages x NoPage next works short (inr a) = a.1
+
+pub append_reason : (old now : Contents) (pages : List ℕ) (x : Frame) (fault : LogFault) → NextFrame old pages x → now ≡ old → old.is_failed ≡ false
+    → length (frame_bytes x) ≤ old.f → Answers (refusal now (length (frame_bytes x)) true) (Err fault) → IsReason fault old pages
+append_reason old now pages x fault next same works short answers =
+    append_reason_by old pages x fault next works short
+    (asked (refusal old (length (frame_bytes x)) true) fault
+    (subst (λ (c : Contents). Answers (refusal c (length (frame_bytes x)) true) (Err fault)) same answers))
 
 -- ---- a frame of them
 
@@ -239,8 +280,8 @@ moved_more old now new pages i k n a b two works x y =
     (subst (λ (l : List ℕ). Moved now new (take k l) (drop k l) 1) (rest_is pages i) y)))
 
 pub stopped_at : (old now new : Contents) (pages : List ℕ) (i n : ℕ) (fault : LogFault) → pages ≡ old_pages old → Moved old now (take i pages) (drop i pages) n
-    → Refused fault now new → Stopped old fault new
-stopped_at old now new pages i n fault is moved refused = record {
+    → Refused fault now new → IsReason fault now (take (length pages - i) (drop i pages)) → Stopped old fault new
+stopped_at old now new pages i n fault is moved refused reason = record {
   then_log = now;
   frames = n;
   done = take i pages;
@@ -248,11 +289,21 @@ stopped_at old now new pages i n fault is moved refused = record {
   pages = sym is ∙ take_drop_all pages i;
   moved = moved;
   refused = refused;
+  reason = subst (IsReason fault now) (rest_is pages i) reason;
 }
 
-pub stopped_first : (old new : Contents) (fault : LogFault) → old.is_failed ≡ false → Refused fault old new → Stopped old fault new
-stopped_first old new fault works refused =
-    record { then_log = old; frames = 0; done = []; rest = old_pages old; pages = refl; moved = moved_none old (old_pages old) works; refused = refused }
+pub stopped_first : (old new : Contents) (fault : LogFault) → old.is_failed ≡ false → Refused fault old new → IsReason fault old (old_pages old)
+    → Stopped old fault new
+stopped_first old new fault works refused reason = record {
+  then_log = old;
+  frames = 0;
+  done = [];
+  rest = old_pages old;
+  pages = refl;
+  moved = moved_none old (old_pages old) works;
+  refused = refused;
+  reason = reason;
+}
 
 -- ---- what stands
 
@@ -268,10 +319,10 @@ moved_stand old now ps rs n leaves moved stand = subst (λ (m : ℕ). Stand m (c
 same_counts : (old new : Contents) (fault : LogFault) → Refused fault old new → counted new ≡ counted old
 same_counts old new NoMemory refused = ap counted refused
 same_counts old new BadConfig refused = absurd refused
-same_counts old new NoSegment refused = ap counted refused.0
+same_counts old new NoSegment refused = ap counted refused
 same_counts old new (Device lease) refused = refused.counts
 same_counts old new Failed refused = absurd refused
-same_counts old new Spent refused = ap counted refused.0
+same_counts old new Spent refused = ap counted refused
 same_counts old new NoPage refused = absurd refused
 
 pub stopped_stands : (old new : Contents) (fault : LogFault) → Stopped old fault new → (leaves : List Leaf) → Stand old.m (counted old) leaves
@@ -317,6 +368,17 @@ pub moved_sent : (old now new : Contents) (x : Filling) (pages : List ℕ) (n fi
     → Moved old new (take n pages) (drop n pages) 1
 moved_sent old now new x pages n first more inside sound after same are some s next added full log =
     moved_filled old now new (frame_of x) pages n more inside sound after same are some s.holds (next ∙ ap (λ (k : ℕ). Some k) (sym s.number)) added full log
+
+-- the frame sent is the next one of these pages
+pub next_sent : (old : Contents) (filled sent : Filling) (pages : List ℕ) (n first : ℕ) → Sends old pages n first sent → 0 < n → n ≤ length pages
+    → sent ≡ record filled { is_sealed = true } → IsFull old (frame_of filled) (drop n pages) → NextFrame old pages (frame_of sent)
+next_sent old filled sent pages n first s more inside is full = record {
+  many = n;
+  some = more;
+  inside = inside;
+  holds = s.holds;
+  full = subst (λ (x : Frame). IsFull old x (drop n pages)) (sym (ap frame_of is)) full;
+}
 
 pub other_fault : (fault : LogFault) → (◌≡◌ {A = Result ℕ LogFault} (Err fault) (Err NoPage) → ⊥) → fault ≡ NoPage → ⊥
 other_fault fault other is = other (ap (λ (f : LogFault). Err f) is)

@@ -77,11 +77,32 @@ pub record Moved (old now : Contents) (pages rest : List ℕ) (frames : ℕ) : T
 
 -- ---- refusals
 
--- no frame of some length could be appended, for this fault
-pub record IsRefused (c : Contents) (fault : LogFault) : Type 0 where
-  pub len : ℕ
-  pub short : len ≤ c.f
-  pub told : refusal c len true ≡ Some fault
+-- the frame of the first of these pages, as many as fit
+pub record NextFrame (c : Contents) (pages : List ℕ) (frame : Frame) : Type 0 where
+  pub many : ℕ
+  pub some : 0 < many
+  pub inside : many ≤ length pages
+  pub holds : AreBases c frame.blocks (take many pages)
+  pub full : IsFull c frame (drop many pages)
+
+-- that frame could not be appended, for this fault
+pub record IsRefused (c : Contents) (pages : List ℕ) (fault : LogFault) : Type 0 where
+  pub frame : Frame
+  pub next : NextFrame c pages frame
+  pub short : length (frame_bytes frame) ≤ c.f
+  pub told : refusal c (length (frame_bytes frame)) true ≡ Some fault
+
+-- why a step is refused, memory and the device aside: the frame that comes next has no room or no
+-- number, or the count of a segment that is read is at its greatest; and only where a page is left
+abbrev pub IsReason : LogFault → Contents → List ℕ → Type 0
+IsReason NoMemory c pages = Unit {0}
+IsReason BadConfig c pages = ⊥
+IsReason NoSegment c pages = IsRefused c pages NoSegment
+IsReason (Device lease) c pages = 0 < length pages
+IsReason Failed c pages = ⊥
+IsReason Spent c pages =
+    (0 < length pages) × ((c.next ≡ None) ⊎ (IsWornOut (λ _. Unit {0}) c.live ⊎ IsRefused c pages Spent))
+IsReason NoPage c pages = ⊥
 
 -- what a failed call left: nothing, or a beginning of a header or of a frame of Bases, maybe all of it
 pub record IsTornBase (old new : Contents) : Type 0 where
@@ -97,14 +118,14 @@ pub record DeviceFailed (lease : ℕ) (old new : Contents) : Type 0 where
   pub counts : counted new ≡ counted old
   pub same : IsSameLog old new
 
--- one step refused
+-- what a refused step leaves
 abbrev pub Refused : LogFault → Contents → Contents → Type 0
 Refused NoMemory old new = new ≡ old
 Refused BadConfig old new = ⊥
-Refused NoSegment old new = (new ≡ old) × IsRefused old NoSegment
+Refused NoSegment old new = new ≡ old
 Refused (Device lease) old new = DeviceFailed lease old new
 Refused Failed old new = ⊥
-Refused Spent old new = (new ≡ old) × ((old.next ≡ None) ⊎ (IsWornOut (λ _. Unit {0}) old.live ⊎ IsRefused old Spent))
+Refused Spent old new = new ≡ old
 Refused NoPage old new = ⊥
 
 -- some of the pages were written again, then a step was refused
@@ -116,6 +137,7 @@ pub record Stopped (old : Contents) (fault : LogFault) (new : Contents) : Type 0
   pub pages : old_pages old ≡ done ++ rest
   pub moved : Moved old then_log done rest frames
   pub refused : Refused fault then_log new
+  pub reason : IsReason fault then_log rest
 
 -- what a refused cleaning leaves
 abbrev pub Refuses : CleanFault → Contents → Contents → Type 0

@@ -7,7 +7,7 @@
 //! segment is decoded once, and each of them is spelled as a Base behind its bytes. A page that a
 //! later frame touches is read by its links.
 
-ghost use Rattle.std.specs.Prelude.{◌≡◌, ◌≢◌, ◌<◌, ◌≤◌, ◌↔◌, ◌++◌, [], Some, None, Err, true, false, length, slice_get, slice_index, replicate, IfOk, IfSome, IsTrue};
+ghost use Rattle.std.specs.Prelude.{◌≡◌, ◌≢◌, ◌<◌, ◌≤◌, ◌↔◌, ◌++◌, [], Some, None, Err, true, false, length, slice_get, slice_index, replicate, IfOk, OnErr, IfSome, IsTrue};
 ghost use Rattle.std.specs.List.{AllByRecursion};
 ghost use Rattle.std.specs.BTreeMap as tree;
 ghost use Rattle.std.specs.Ordering.{nat_cmp};
@@ -333,6 +333,7 @@ pub(crate) fn read_ahead(alloc: Global, log: &mut Log, pages: &[u32]) -> Result<
     ensures sound { IsSound log.new holding }
     ensures stops { ReadStops (λ _. Unit {0}) (seen log.old holding) result (seen log.new holding) }
     ensures paged { result ≢ Err LogFault.NoPage }
+    ensures needed { OnErr result (0 < length pages.now) }
 {
     if pages.is_empty() {
         return Ok(nothing(alloc));

@@ -6,7 +6,7 @@ ghost use Rattle.bw_buffer.specs.Filling.{frame_of};
 ghost use Rattle.bw_log.specs.Reads.{IsPage, ReadStops};
 ghost use Rattle.bw_care.specs.Ahead.{AreSpots, IsBaseOf, Puts};
 ghost use Rattle.bw_care.specs.Cleaning.{is_old, old_pages, oldest_last};
-ghost use Rattle.bw_care.specs.Moving.{AreBases, IsFull, Moved, Refused, Stopped};
+ghost use Rattle.bw_care.specs.Moving.{AreBases, IsFull, IsReason, Moved, Refused, Stopped};
 ghost use Rattle.bw_care.specs.Views.{seen, IsSound};
 
 use crate::ahead::{Ahead, read_ahead};
@@ -142,6 +142,7 @@ fn move_some(
         (take n pages.now) (drop n pages.now) 1) }
     ensures refused { IfErr result (λ fault.
         Refused fault (seen log.old holding) (seen log.new holding)) }
+    ensures reason { IfErr result (λ fault. IsReason fault (seen log.old holding) pages.now) }
 {
     let Some(number) = log.next_frame() else {
         return Err(LogFault::Spent);

@@ -1,11 +1,12 @@
 -- What a run of turns, flushes and cleanings leaves of a store, and why it ends early.
 
-use Rattle.std.specs.Prelude.{ℕ, zero, suc, ◌≡◌, ◌≤◌, ◌⊎◌, Err, length, drop}
+use Rattle.std.specs.Prelude.{ℕ, zero, suc, ◌≡◌, ◌≤◌, ◌⊎◌, Err, List, length, drop}
 use Rattle.bw_log.specs.Contents.{roster}
 use Rattle.bw_store.specs.declared.fault.StoreFault.{StoreFault}
 use Rattle.bw_store.specs.declared.fault.StoreFault.TheVariants.{NoMemory}
 use Rattle.bw_store.specs.Kept.{Kept}
-use Rattle.bw_store.specs.Following.{Follows, HasBoxes, RefusedAt}
+use Rattle.bw_ring.specs.declared.lane.Lane.{Lane}
+use Rattle.bw_store.specs.Following.{Continues, HasBoxes, RefusedAt}
 use Rattle.bw_store.specs.Faults.{FlushAnswers, flush_refusal}
 use Rattle.bw_store.specs.Showing.{FlushShows, CleanShows, SettleRefuses}
 
@@ -19,10 +20,27 @@ abbrev pub Boxes : ℕ → Kept → Kept → Type 0
 Boxes zero old new = HasBoxes old new
 Boxes (suc n) old new = LosesSome old new
 
+-- the floor is what was durable when a segment was given up on the way
+pub record GaveUp (old new : Kept) : Type 0 where
+  pub before : Kept
+  pub after : Kept
+  pub reached : Continues old before
+  pub gone : roster after.log ≡ drop 1 (roster before.log)
+  pub cleaned : Continues before after
+  pub at : after.floor ≡ after.durable
+  pub rest : Continues after new
+  pub floor : new.floor ≡ after.floor
+
+-- where nothing is ever cleaned, the floor stays
+abbrev pub Floors : ℕ → Kept → Kept → Type 0
+Floors zero old new = new.floor ≡ old.floor
+Floors (suc n) old new = (new.floor ≡ old.floor) ⊎ GaveUp old new
+
 -- calls one after the other; segments are given up where so many are live, or never
 pub record Runs (clean_at : ℕ) (old new : Kept) : Type 0 where
-  pub follows : Follows old new
+  pub continues : Continues old new
   pub boxes : Boxes clean_at old new
+  pub floor : Floors clean_at old new
 
 -- ---- the first refusal
 
@@ -37,7 +55,8 @@ CleanRefused clean_at old cause new = (1 ≤ clean_at) × (clean_at ≤ length o
 -- a turn was refused, a flush, a cleaning, or the last settle
 abbrev pub CallRefused : ℕ → Kept → StoreFault → Kept → Type 0
 CallRefused clean_at old cause new =
-    RefusedAt old cause new ⊎ (FlushRefused old cause new ⊎ (CleanRefused clean_at old cause new ⊎ SettleRefuses old cause new))
+    ((lanes : List Lane) × RefusedAt old lanes cause new)
+    ⊎ (FlushRefused old cause new ⊎ (CleanRefused clean_at old cause new ⊎ ((lanes : List Lane) × SettleRefuses old lanes cause new)))
 
 -- a call was refused, and none came after it
 pub record StopsAfter (clean_at : ℕ) (old : Kept) (cause : StoreFault) (new : Kept) : Type 0 where

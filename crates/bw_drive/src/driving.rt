@@ -8,14 +8,14 @@ ghost use Rattle.bw_ring.specs.declared.feed.Feed.{Feed};
 ghost use Rattle.bw_ring.specs.Ends.{accepted, ring_of_feed};
 ghost use Rattle.bw_store.specs.Kept.{Kept};
 ghost use Rattle.bw_store.specs.Views.{kept_by, IsSound};
-ghost use Rattle.bw_store.specs.Following.{Follows, HasBoxes};
 ghost use Rattle.bw_drive.specs.Written.{Wrote, WroteSome};
 ghost use Rattle.bw_drive.specs.Ran.{Runs, Stops};
 ghost use Rattle.bw_drive.specs.Settling.{HasSettled};
 
 use crate::driven::{DriveFault, Driven};
-use crate::flags::Flags;
+use crate::flags::{Ended, Flags};
 use crate::gate::Gate;
+use crate::pace::Pace;
 use crate::plan::Plan;
 use crate::starting::{end_all, start_all};
 use crate::tending::tend;
@@ -47,7 +47,7 @@ struct Start {
 struct Left {
     feeds: Vec<Feed>,
     accepted: Vec<u64>,
-    run: Result<(), StoreFault>,
+    run: Result<Option<Ended>, StoreFault>,
 }
 
 fn start_of(feeds: Vec<Feed>, scripts: Vec<Vec<Record>>) -> Result<Start, Vec<Feed>>
@@ -105,7 +105,8 @@ fn run_writers<'s, E, R: Threads + Wait, G: Gate>(
     } = start;
     let count = feeds.len() as u64;
     let (writers, are_all) = start_all(scope, feeds, scripts, writers, gate, flags, max_turns);
-    let run = tend(rt, store, flags, are_all, count, plan, max_turns);
+    let mut pace = Pace::new();
+    let run = tend(rt, store, &mut pace, flags, are_all, count, plan, max_turns);
     if run.is_err() {
         flags.stop();
     }

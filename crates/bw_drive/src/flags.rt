@@ -1,5 +1,7 @@
 //! What the caller's thread and the writers tell each other.
 
+ghost use Rattle.std.specs.Prelude.{◌≡◌};
+
 use std::sync::atomic::{AtomicBool, AtomicU64, Ordering};
 
 /// Plain atomics, of which no clause speaks: each may change at any time.
@@ -7,6 +9,21 @@ use std::sync::atomic::{AtomicBool, AtomicU64, Ordering};
 pub(crate) struct Flags {
     is_stopped: AtomicBool,
     ended: AtomicU64,
+}
+
+/// How many writers had ended when the flags were asked. Nothing but that look makes one, so a loop
+/// that hands it out has looked.
+#[derive(Clone, Copy)]
+pub(crate) struct Ended {
+    count: u64,
+}
+
+impl Ended {
+    pub(crate) fn count(self) -> u64
+        ensures { result ≡ self.count }
+    {
+        self.count
+    }
 }
 
 impl Flags {
@@ -32,7 +49,9 @@ impl Flags {
     }
 
     /// How many writers have ended.
-    pub(crate) fn ended(&self) -> u64 {
-        self.ended.load(Ordering::SeqCst)
+    pub(crate) fn ended(&self) -> Ended {
+        Ended {
+            count: self.ended.load(Ordering::SeqCst),
+        }
     }
 }

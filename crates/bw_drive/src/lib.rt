@@ -11,6 +11,7 @@ mod driven;
 mod driving;
 mod flags;
 mod gate;
+mod pace;
 mod plan;
 mod starting;
 mod tending;

@@ -1,35 +1,16 @@
 //! The caller's thread turns, flushes and cleans while writers put.
 
-ghost use Rattle.std.specs.Prelude.{◌≤◌, IfErr};
+ghost use Rattle.std.specs.Prelude.{◌≡◌, ◌<◌, ◌≤◌, ◌+◌, ◌⊎◌, IfOk, IfErr, OnOk, IsFalse, MatchOption, MatchResult};
+ghost use Rattle.bw_store.specs.Kept.{Kept};
 ghost use Rattle.bw_store.specs.Views.{kept_by, IsSound};
-ghost use Rattle.bw_store.specs.Following.{Follows, HasBoxes, RefusedAt};
+ghost use Rattle.bw_drive.specs.Pace.{FlushesAndCleans, FlushOrCleanStops, Paces, PaceStops, Tends, TurnedOnce, TurnStops};
 ghost use Rattle.bw_drive.specs.Ran.{Runs, StopsAfter, Stops};
 
-use crate::flags::Flags;
+use crate::flags::{Ended, Flags};
+use crate::pace::Pace;
 use crate::plan::Plan;
 use bw_store::{Store, StoreFault};
 use std::sync::Wait;
-use std::thread;
-
-// A turn. Where it took nothing, another thread may go first.
-fn turn_once(store: &mut Store, limit: u32) -> Result<(), StoreFault>
-    requires { IsSound store.old holding }
-    ensures sound { IsSound store.new holding }
-    ensures follows { Follows (kept_by store.old holding) (kept_by store.new holding) }
-    ensures boxes { HasBoxes (kept_by store.old holding) (kept_by store.new holding) }
-    ensures refused { IfErr result (λ cause.
-        RefusedAt (kept_by store.old holding) cause (kept_by store.new holding)) }
-{
-    match store.turn(limit) {
-        Ok(taken) => {
-            if taken == 0 {
-                thread::yield_now();
-            }
-            Ok(())
-        }
-        Err(fault) => Err(fault.cause),
-    }
-}
 
 // Flushes, and cleans where many segments are live.
 fn flush_and_clean<R: Wait>(rt: &R, store: &mut Store, clean_at: u32) -> Result<(), StoreFault>
@@ -38,6 +19,10 @@ fn flush_and_clean<R: Wait>(rt: &R, store: &mut Store, clean_at: u32) -> Result<
     ensures runs { Runs clean_at (kept_by store.old holding) (kept_by store.new holding) }
     ensures refused { IfErr result (λ cause.
         StopsAfter clean_at (kept_by store.old holding) cause (kept_by store.new holding)) }
+    ensures paced { MatchResult result
+        (λ _. FlushesAndCleans clean_at (kept_by store.old holding) (kept_by store.new holding))
+        (λ cause. FlushOrCleanStops clean_at (kept_by store.old holding) cause
+        (kept_by store.new holding)) }
 {
     let _ = store.flush(rt)?;
     if clean_at == 0 || store.live() < clean_at {
@@ -51,39 +36,60 @@ fn flush_and_clean<R: Wait>(rt: &R, store: &mut Store, clean_at: u32) -> Result<
 fn turn_and_tend<R: Wait>(
     rt: &R,
     store: &mut Store,
+    pace: &mut Pace,
     is_due: bool,
     plan: Plan,
 ) -> Result<(), StoreFault>
-    requires { IsSound store.old holding }
+    requires few { pace.old.turns < u64.MAX }
+    requires sound { IsSound store.old holding }
+    ensures counted { pace.new.turns ≡ pace.old.turns + 1 }
     ensures sound { IsSound store.new holding }
     ensures runs { Runs plan.clean_at (kept_by store.old holding) (kept_by store.new holding) }
     ensures refused { IfErr result (λ cause.
         StopsAfter plan.clean_at (kept_by store.old holding) cause (kept_by store.new holding)) }
+    ensures paced { MatchResult result
+        (λ _. (turned : Kept) × TurnedOnce plan.limit (kept_by store.old holding) turned
+        × Tends is_due plan.clean_at turned (kept_by store.new holding))
+        (λ cause. TurnStops plan is_due (kept_by store.old holding) cause
+        (kept_by store.new holding)) }
 {
-    turn_once(store, plan.limit)?;
+    pace.turn(store, plan.limit)?;
     if !is_due {
         return Ok(());
     }
     flush_and_clean(rt, store, plan.clean_at)
 }
 
-/// Turns, flushes and cleans until so many writers have ended, at most `max_turns` turns. Where not
-/// each of them has a thread, the store is left alone.
+/// Turns, flushes and cleans by the plan until so many writers have ended, at most `max_turns` turns,
+/// and answers what the flags told last. Where not each of them has a thread, the store is left
+/// alone.
 pub(crate) fn tend<R: Wait>(
     rt: &R,
     store: &mut Store,
+    pace: &mut Pace,
     flags: &Flags,
     are_all: bool,
     writers: u64,
     plan: Plan,
     max_turns: u64,
-) -> Result<(), StoreFault>
+) -> Result<Option<Ended>, StoreFault>
+    requires none { pace.old.turns ≡ 0 }
     requires sound { IsSound store.old holding }
     requires often { 1 ≤ plan.flush_every }
     ensures sound { IsSound store.new holding }
     ensures runs { Runs plan.clean_at (kept_by store.old holding) (kept_by store.new holding) }
     ensures refused { IfErr result (λ cause.
         Stops plan.clean_at (kept_by store.old holding) cause (kept_by store.new holding)) }
+
+    // So many turns were made as are counted, each with what the plan wants behind it.
+    ensures paced { OnOk result (Paces plan pace.new.turns (kept_by store.old holding)
+        (kept_by store.new holding)) }
+    // They are as many as there may be, unless the flags told that all writers have ended.
+    ensures until { IfOk result (λ ended. MatchOption ended (pace.new.turns ≡ max_turns)
+        (λ e. writers ≤ e.count)) }
+    ensures stopped { IfErr result (λ cause. (IsFalse are_all × (cause ≡ StoreFault.NoMemory)
+        × (kept_by store.new holding ≡ kept_by store.old holding))
+        ⊎ PaceStops plan max_turns (kept_by store.old holding) cause (kept_by store.new holding)) }
 {
     if !are_all {
         return Err(StoreFault::NoMemory);
@@ -91,11 +97,12 @@ pub(crate) fn tend<R: Wait>(
     let every = u64::from(plan.flush_every);
     'turns: for turn in 0..max_turns {
         // What the last writers put is taken by the settle that follows.
-        if flags.ended() >= writers {
-            break;
+        let ended = flags.ended();
+        if ended.count() >= writers {
+            return Ok(Some(ended));
         }
         let is_due = (turn + 1) % every == 0;
-        turn_and_tend(rt, store, is_due, plan)?;
+        turn_and_tend(rt, store, pace, is_due, plan)?;
     }
-    Ok(())
+    Ok(None)
 }

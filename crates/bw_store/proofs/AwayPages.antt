@@ -285,16 +285,3 @@ module _ (m : ℕ) (leaves : List Leaf) (back here : Place) (r : Record) (made :
         | true ↦ refl
         | false ↦ rw (apart_from away (directed_at leaves r) q there not, apart_from away (length leaves + 1) q there last) refl
       ]
-
--- ---- a page that could not be brought back
-
-pub fetched_not : (old new : Kept) (cause : StoreFault) (page : ℕ) → Works old → HasRead old new → ReadLeaves {A = Unit {0}} (HoldsPage old.log page) old (Err cause) new
-    → Refuses old cause new
-fetched_not old new NoMemory page works read left = (works, inl left)
-fetched_not old new BadConfig page works read left = absurd left
-fetched_not old new NoSegment page works read left = absurd left
-fetched_not old new (Device lease) page works read left = (works, inr (record { page = page; read = read; failed = left }))
-fetched_not old new Failed page works read left = absurd left
-fetched_not old new Spent page works read left = (works, inr (left.0, record { page = page; worn = left.1 }))
-fetched_not old new NoPage page works read left = absurd left
-fetched_not old new NothingOld page works read left = absurd left

@@ -28,8 +28,8 @@ use Rattle.bw_store.proofs.Edging.{begun_dropped, begun_stays, moved_row, refuse
 use Rattle.bw_store.specs.declared.fault.StoreFault.{StoreFault}
 use Rattle.bw_store.specs.declared.fault.StoreFault.TheVariants as store
 use Rattle.bw_store.specs.Faults.{FlushLeaves}
-use Rattle.bw_store.specs.Following.{Follows}
-use Rattle.bw_store.proofs.FollowMore.{follow_then}
+use Rattle.bw_store.specs.Following.{Continues, Follows}
+use Rattle.bw_store.proofs.FollowMore.{continue_then}
 use Rattle.bw_care.proofs.BoxesGrown.{same_roster}
 use Rattle.bw_codec.specs.Grammar.{frame_bytes, header_bytes}
 use Rattle.bw_device.specs.Holding.{Holding, appended}
@@ -39,7 +39,7 @@ use Rattle.bw_store.specs.History.{upto}
 use Rattle.bw_store.specs.Growing.{frames_upto}
 use Rattle.bw_store.specs.Kept.{Kept, IsSound}
 use Rattle.bw_store.specs.Settled.{IsSettled}
-use Rattle.bw_store.specs.Cleaning.{end_by, with_moved, fault_of_clean, MoveLeaves, CleanLeaves, HasBoxesBut}
+use Rattle.bw_store.specs.Cleaning.{end_by, with_moved, fault_of_clean, MoveLeaves, CleanLeaves, HasBoxesBut, HasFloorBut}
 use Rattle.bw_store.specs.Emptied.{Emptied}
 use Rattle.bw_store.proofs.FramesBehind.{end_is, first_ahead, none_above, placed_page, pages_counted}
 use Rattle.bw_store.proofs.MovedMore.{Adds, Moves, high, next_then, moved_sound, kept_shares, last_cut, all_cuts}
@@ -102,10 +102,10 @@ same_log old new e = record {
 still_counts : (old new : logs.Contents) (fault : LogFault) → care.Refused fault old new → StillCounts old new
 still_counts old new log.NoMemory r = same_log old new r
 still_counts old new log.BadConfig r = absurd r
-still_counts old new log.NoSegment r = same_log old new r.0
+still_counts old new log.NoSegment r = same_log old new r
 still_counts old new (log.Device lease) r = record { counts = r.counts; m = r.same.m; f = r.same.f }
 still_counts old new log.Failed r = absurd r
-still_counts old new log.Spent r = same_log old new r.0
+still_counts old new log.Spent r = same_log old new r
 still_counts old new log.NoPage r = absurd r
 
 stands_as : (s : Kept) (new : logs.Contents) → Begins s
@@ -134,13 +134,13 @@ refused_left : (m : ℕ) (old new : logs.Contents) (fault : LogFault) (leaves : 
     → Stand m (logs.counted new) leaves → new.is_failed ≡ true → Stand m (frames_of (logs.image new).bytes) leaves
 refused_left m old new log.NoMemory leaves works r stand failed = absurd (still_works old new works r failed)
 refused_left m old new log.BadConfig leaves works r stand failed = absurd r
-refused_left m old new log.NoSegment leaves works r stand failed = absurd (still_works old new works r.0 failed)
+refused_left m old new log.NoSegment leaves works r stand failed = absurd (still_works old new works r failed)
 refused_left m old new (log.Device lease) leaves works r stand failed = elim (r.left) [
   | inl same ↦ (let is = ap (λ (i : logs.Image). i.is_failed) same in absurd cc)
   | inr t ↦ torn_left m old new leaves t stand
 ]
 refused_left m old new log.Failed leaves works r stand failed = absurd r
-refused_left m old new log.Spent leaves works r stand failed = absurd (still_works old new works r.0 failed)
+refused_left m old new log.Spent leaves works r stand failed = absurd (still_works old new works r failed)
 refused_left m old new log.NoPage leaves works r stand failed = absurd r
 
 pub refused_cleans : (s : Kept) (fault : LogFault) (new : logs.Contents) → Begins s → logs.IsSound new → care.Stopped s.log fault new
@@ -381,7 +381,7 @@ live_stay old new (Some n) left =
 -- ---- what no cleaning takes back
 
 moved_follows : (s : Kept) (frames floor : ℕ) (newest : List Place) (making : Filling) (log : logs.Contents) (new : Kept) → s.floor ≤ floor
-    → new ≡ with_moved s frames floor newest making log → Follows s new
+    → new ≡ with_moved s frames floor newest making log → Continues s new
 moved_follows s frames floor newest making log new low is = record {
   rings = ap (λ (k : Kept). k.rings) is;
   start = ap (λ (k : Kept). k.start) is;
@@ -398,7 +398,7 @@ moved_follows s frames floor newest making log new low is = record {
   published = ap (λ (k : Kept). k.versions.published) is ∙ sym (append-nil s.versions.published);
 }
 
-pub move_follows : (s new : Kept) (r : Result Cleaned StoreFault) → s.floor ≤ s.durable → MoveLeaves s r new → Follows s new
+pub move_follows : (s new : Kept) (r : Result Cleaned StoreFault) → s.floor ≤ s.durable → MoveLeaves s r new → Continues s new
 move_follows s new (Ok cleaned) low left =
     moved_follows s cleaned.frames (s.durable + cleaned.frames) new.newest new.making new.log new (omega arith) left.is
 move_follows s new (Err fault) low left = moved_follows s left.2.frames s.floor new.newest new.making new.log new (omega arith) left.2.is
@@ -406,10 +406,10 @@ move_follows s new (Err fault) low left = moved_follows s left.2.frames s.floor 
 refused_roster : (old new : logs.Contents) (fault : LogFault) → care.Refused fault old new → logs.roster new ≡ logs.roster old
 refused_roster old new log.NoMemory r = ap logs.roster r
 refused_roster old new log.BadConfig r = absurd r
-refused_roster old new log.NoSegment r = ap logs.roster r.0
+refused_roster old new log.NoSegment r = ap logs.roster r
 refused_roster old new (log.Device lease) r = r.same.leases
 refused_roster old new log.Failed r = absurd r
-refused_roster old new log.Spent r = ap logs.roster r.0
+refused_roster old new log.Spent r = ap logs.roster r
 refused_roster old new log.NoPage r = absurd r
 
 stopped_roster : (old new : logs.Contents) (fault : LogFault) → care.Stopped old fault new → logs.roster new ≡ logs.roster old
@@ -434,8 +434,14 @@ pub clean_leaves : (old s new : Kept) (r : Result Cleaned StoreFault) → 2 ≤ 
 clean_leaves old s new (Ok cleaned) two may left = (two, (s, may, left))
 clean_leaves old s new (Err fault) two may left = inr (two, inr (s, may, inr left))
 
-pub follows_via : (old flushed begun new : Kept) → Follows old flushed → begun ≡ flushed → Follows begun new → Follows old new
-follows_via old flushed begun new first same rest = follow_then old flushed new first (subst (λ (s : Kept). Follows s new) same rest)
+pub continues_via : (old flushed begun new : Kept) → Follows old flushed → begun ≡ flushed → Continues begun new → Continues old new
+continues_via old flushed begun new first same rest =
+    continue_then old flushed new first.continues (subst (λ (s : Kept). Continues s new) same rest)
+
+-- the floor is what is durable once a segment is given up
+pub move_floor : (old s new : Kept) (r : Result Cleaned StoreFault) → s.floor ≡ old.floor → MoveLeaves s r new → HasFloorBut old r new
+move_floor old s new (Ok cleaned) same left = ap (λ (k : Kept). k.floor) left.is ∙ sym (ap (λ (k : Kept). k.durable) left.is)
+move_floor old s new (Err fault) same left = ap (λ (k : Kept). k.floor) left.2.is ∙ same
 
 pub reserve_leaves : (old s new : Kept) → 2 ≤ length old.log.live → Emptied true old s → new ≡ s → CleanLeaves old (Err store.NoMemory) new
 reserve_leaves old s new two may same = inr (two, inr (s, may, inl (refl, same)))

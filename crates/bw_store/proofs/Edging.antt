@@ -148,11 +148,11 @@ failed_more old new (inr t) = stopped_more old new t.frame t.stopped
 pub refused_row : (old new : Contents) (fault : LogFault) → care.Refused fault old new → StaysRow old new
 refused_row old new log.NoMemory r = same_row old new r
 refused_row old new log.BadConfig r = absurd r
-refused_row old new log.NoSegment r = same_row old new r.0
+refused_row old new log.NoSegment r = same_row old new r
 refused_row old new (log.Device lease) r =
     record { rooms_are = r.same.rooms; number = r.same.number; limit = r.same.f; more = failed_more old new r.left }
 refused_row old new log.Failed r = absurd r
-refused_row old new log.Spent r = same_row old new r.0
+refused_row old new log.Spent r = same_row old new r
 refused_row old new log.NoPage r = absurd r
 
 -- the oldest of two or more segments is given up

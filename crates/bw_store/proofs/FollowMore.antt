@@ -1,6 +1,6 @@
 -- Each step follows, and so do several.
 
-use Rattle.std.proofs.Common.{◌≡◌, ℕ, ◌+◌, ◌≤◌, inl, inr, true, false, Result, Ok, Err, Option, Some, None, Bool, List, [], ◌∷◌, ◌++◌, length, refl, sym, ap}
+use Rattle.std.proofs.Common.{◌≡◌, ℕ, zero, suc, ◌+◌, ◌≤◌, inl, inr, true, false, Result, Ok, Err, Option, Some, None, Bool, List, [], ◌∷◌, ◌++◌, length, refl, sym, ap}
 use Rattle.std.proofs.Common.{◌∙◌, subst}
 use Rattle.std.proofs.Common.{append_assoc, append-nil, arith, length-append}
 use Rattle.std.specs.Prelude.{nat_le}
@@ -14,15 +14,19 @@ use Rattle.bw_versions.specs.declared.entry.Entry.{Entry}
 use Rattle.bw_store.specs.declared.fault.StoreFault.{StoreFault}
 use Rattle.bw_store.specs.Kept.{Kept, with_frame, with_stop}
 use Rattle.bw_store.specs.Taken.{taken}
-use Rattle.bw_store.specs.Taking.{MayFlush, Took, TakeLeaves, Refuses}
+use Rattle.bw_codec.specs.declared.record.Record.{Record}
+use Rattle.bw_ring.specs.declared.lane.Lane.{Lane}
+use Rattle.bw_store.specs.Taking.{MakesRoom, Took, TakeLeaves, Refuses, RefusesNext}
 use Rattle.bw_store.specs.declared.fault.StoreFault.TheVariants.{NoMemory, BadConfig, NoSegment, Device, Failed, Spent, NoPage, NothingOld}
-use Rattle.bw_store.specs.Faults.{Flushed, Broken, FlushLeaves}
+use Rattle.bw_store.specs.Faults.{Flushed, Broken, FlushAnswers, FlushLeaves, flush_refusal}
+use Rattle.bw_store.proofs.Refusing.{failed_flush, failed_record}
 use Rattle.bw_store.specs.Reading.{HasRead, with_log}
-use Rattle.bw_store.specs.Following.{Follows, HasBoxes, Turned, TookInTurn, RefusedAfter, TookSome, RefusedAt}
+use Rattle.bw_store.specs.Following.{Continues, Follows, HasBoxes, Turned, Takes, TookInTurn, RefusedAfter, TookSome, RefusedAt}
 
 pub follows_as : (old new : Kept) → new ≡ old → Turned 0 old new
 follows_as old new e = record {
   follows = record {
+    continues = record {
     rings = ap (λ (s : Kept). s.rings) e;
     start = ap (λ (s : Kept). s.start) e;
     before = ap (λ (s : Kept). s.before) e;
@@ -36,14 +40,16 @@ follows_as old new e = record {
     book = ap (λ (s : Kept). s.versions.book) e;
     batches_more = [];
     published = ap (λ (s : Kept). s.versions.published) e ∙ sym (append-nil old.versions.published);
+    };
+    floor = ap (λ (s : Kept). s.floor) e;
   };
   boxes = record { same = ap (λ (s : Kept). roster s.log) e };
   grew = ap (λ (s : Kept). length s.entries) e ∙ omega arith;
   quiet = ap (λ (s : Kept). s.versions) e;
 }
 
-pub follow_then : (a b c : Kept) → Follows a b → Follows b c → Follows a c
-follow_then a b c f g =
+pub continue_then : (a b c : Kept) → Continues a b → Continues b c → Continues a c
+continue_then a b c f g =
     let low = f.appended in
     let high = g.appended in
     let low_floor = f.floor in
@@ -66,6 +72,10 @@ follow_then a b c f g =
           ∙ append_assoc a.versions.published f.batches_more g.batches_more;
     }
 
+pub follow_then : (a b c : Kept) → Follows a b → Follows b c → Follows a c
+follow_then a b c f g =
+    record { continues = continue_then a b c f.continues g.continues; floor = g.floor ∙ f.floor }
+
 pub follows_then : {n k : ℕ} (a b c : Kept) → Turned n a b → Turned k b c → Turned (n + k) a c
 follows_then {n} {k} a b c x y =
     let one = x.grew in
@@ -82,19 +92,22 @@ cut_turned : (old : Kept) (durable : ℕ) (making : Filling) (log : logs.Content
     → Turned 0 old (record old { cuts = old.cuts ++ length old.entries ∷ []; durable = durable; making = making; log = log })
 cut_turned old durable making log risen same = record {
   follows = record {
-    rings = refl;
-    start = refl;
-    before = refl;
-    edge = refl;
-    floor = omega arith;
-    entries_more = [];
-    history = sym (append-nil old.entries);
-    cuts_more = length old.entries ∷ [];
-    cuts = refl;
-    appended = risen;
-    book = refl;
-    batches_more = [];
-    published = sym (append-nil old.versions.published);
+    continues = record {
+      rings = refl;
+      start = refl;
+      before = refl;
+      edge = refl;
+      floor = omega arith;
+      entries_more = [];
+      history = sym (append-nil old.entries);
+      cuts_more = length old.entries ∷ [];
+      cuts = refl;
+      appended = risen;
+      book = refl;
+      batches_more = [];
+      published = sym (append-nil old.versions.published);
+    };
+    floor = refl;
   };
   boxes = record { same = same.leases };
   grew = omega arith;
@@ -112,27 +125,30 @@ follows_broken old new lease b =
     cut_turned old old.durable (record old.making { is_sealed = true }) b.log (omega arith) b.same in
     follows_then old (with_stop old b.log) new step (follows_as (with_stop old b.log) new b.is)
 
-follows_may : (old new : Kept) → MayFlush old new → Turned 0 old new
-follows_may old new (inl e) = follows_as old new e
-follows_may old new (inr f) = follows_flushed old new f.0 f.1
+follows_may : (item : Record) (old new : Kept) → MakesRoom item old new → Turned 0 old new
+follows_may item old new (inl e) = follows_as old new e
+follows_may item old new (inr f) = follows_flushed old new f.1.0 f.1.1
 
 follows_took : (lane : ℕ) (old new : Kept) → Took lane old new → Turned 1 old new
 follows_took lane old new t =
     let step : Turned 1 t.middle (taken t.middle lane t.item t.back) = record {
       follows = record {
-        rings = refl;
-        start = refl;
-        before = refl;
-        edge = refl;
-        floor = omega arith;
-        entries_more = record { writer = lane; item = t.item } ∷ [];
-        history = refl;
-        cuts_more = [];
-        cuts = sym (append-nil t.middle.cuts);
-        appended = omega arith;
-        book = refl;
-        batches_more = [];
-        published = sym (append-nil t.middle.versions.published);
+        continues = record {
+          rings = refl;
+          start = refl;
+          before = refl;
+          edge = refl;
+          floor = omega arith;
+          entries_more = record { writer = lane; item = t.item } ∷ [];
+          history = refl;
+          cuts_more = [];
+          cuts = sym (append-nil t.middle.cuts);
+          appended = omega arith;
+          book = refl;
+          batches_more = [];
+          published = sym (append-nil t.middle.versions.published);
+        };
+        floor = refl;
       };
       boxes = record { same = refl };
       quiet = refl;
@@ -140,26 +156,29 @@ follows_took lane old new t =
     } in
     let last : Turned (1 + 0) t.middle new = follows_then t.middle (taken t.middle lane t.item t.back) new step
     (follows_as (taken t.middle lane t.item t.back) new t.is) in
-    follows_then old t.middle new (follows_may old t.middle t.flushes) last
+    follows_then old t.middle new (follows_may t.item old t.middle t.flushes) last
 
 -- a read of the boxes
 pub follows_read : (old new : Kept) → HasRead old new → Turned 0 old new
 follows_read old new r =
     (let step : Turned 0 old (with_log old new.log) = record {
       follows = record {
-        rings = refl;
-        start = refl;
-        before = refl;
-        edge = refl;
-        floor = omega arith;
-        entries_more = [];
-        history = sym (append-nil old.entries);
-        cuts_more = [];
-        cuts = sym (append-nil old.cuts);
-        appended = omega arith;
-        book = refl;
-        batches_more = [];
-        published = sym (append-nil old.versions.published);
+        continues = record {
+          rings = refl;
+          start = refl;
+          before = refl;
+          edge = refl;
+          floor = omega arith;
+          entries_more = [];
+          history = sym (append-nil old.entries);
+          cuts_more = [];
+          cuts = sym (append-nil old.cuts);
+          appended = omega arith;
+          book = refl;
+          batches_more = [];
+          published = sym (append-nil old.versions.published);
+        };
+        floor = refl;
       };
       boxes = record { same = r.kept.leases };
       grew = omega arith;
@@ -181,26 +200,35 @@ follows_left old new (Err NoPage) left = follows_as old new left
 follows_left old new (Err NothingOld) left = follows_as old new left
 
 -- a record that was refused, whatever the cause
-pub follows_refused : (old new : Kept) (cause : StoreFault) → Refuses old cause new → Turned 0 old new
-follows_refused old new NoMemory r = follows_may old new r.1
-follows_refused old new BadConfig r = absurd r
-follows_refused old new NoSegment r = follows_as old new r.0
-follows_refused old new (Device lease) (works, inl broken) = follows_broken old new lease broken
-follows_refused old new (Device lease) (works, inr unread) = follows_read old new unread.read
-follows_refused old new Failed r = follows_as old new r.0
-follows_refused old new Spent (works, inl spent) = follows_may old new spent.0
-follows_refused old new Spent (works, inr unread) = follows_as old new unread.0
-follows_refused old new NoPage r = absurd r
-follows_refused old new NothingOld r = absurd r
+pub follows_refused : (item : Record) (old new : Kept) (cause : StoreFault) → Refuses item old cause new → Turned 0 old new
+follows_refused item old new NoMemory r = follows_may item old new r.1
+follows_refused item old new BadConfig r = absurd r
+follows_refused item old new NoSegment r = follows_as old new r.0
+follows_refused item old new (Device lease) (works, inl broken) = follows_broken old new lease broken.1
+follows_refused item old new (Device lease) (works, inr unread) = follows_read old new unread.read
+follows_refused item old new Failed r = follows_as old new r.0
+follows_refused item old new Spent (works, inl spent) = follows_may item old new spent.0
+follows_refused item old new Spent (works, inr unread) = follows_as old new unread.0
+follows_refused item old new NoPage r = absurd r
+follows_refused item old new NothingOld r = absurd r
 
 -- ---- takes one after the other
 
 pub in_turn_as : (old new : Kept) → new ≡ old → TookInTurn 0 old new
-in_turn_as old new e = record { turned = follows_as old new e; works = λ failed. (refl, e) }
+in_turn_as old new e = record { turned = follows_as old new e; each = e; works = λ failed. (refl, e) }
+
+takes_then : (n k : ℕ) (a b c : Kept) → Takes n a b → Takes k b c → Takes (n + k) a c
+takes_then n zero a b c x y =
+    let sum : n ≡ n + 0 = omega arith in
+    subst (λ (m : ℕ). Takes m a c) sum (subst (λ (s : Kept). Takes n a s) (sym y) x)
+takes_then n (suc k) a b c x y =
+    let sum : suc (n + k) ≡ n + suc k = omega arith in
+    subst (λ (m : ℕ). Takes m a c) sum (y.0, takes_then n k a b y.0 x y.1, y.2)
 
 pub in_turn_then : {n k : ℕ} (a b c : Kept) → TookInTurn n a b → TookInTurn k b c → TookInTurn (n + k) a c
 in_turn_then {n} {k} a b c x y = record {
   turned = follows_then a b c x.turned y.turned;
+  each = takes_then n k a b c x.each y.each;
   works = λ failed. (
       let last = y.works failed in
       let first = x.works (subst (λ (s : Kept). s.log.is_failed ≡ true) last.1 failed) in
@@ -212,6 +240,7 @@ in_turn_then {n} {k} a b c x y = record {
 in_turn_took : (lane : ℕ) (old new : Kept) → Took lane old new → TookInTurn 1 old new
 in_turn_took lane old new t = record {
   turned = follows_took lane old new t;
+  each = (old, refl, (lane, t));
   works = λ failed. (let works = t.works in let same = ap (λ (s : Kept). s.log.is_failed) t.is in absurd cc);
 }
 
@@ -221,20 +250,24 @@ took_more lane a b c x t = in_turn_then a b c x (in_turn_took lane b c t)
 pub took_none : {n : ℕ} (a b c : Kept) → TookInTurn n a b → c ≡ b → TookInTurn n a c
 took_none {n} a b c x e = subst (λ (s : Kept). TookInTurn n a s) (sym e) x
 
-pub took_fault : {n : ℕ} (a b c : Kept) (fault : StoreFault) → TookInTurn n a b → Refuses b fault c → RefusedAfter n a fault c
-took_fault a b c fault x r = record { middle = b; took = x; refuses = r }
+pub took_fault : {n : ℕ} (lane : ℕ) (lanes : List Lane) (a b c : Kept) (fault : StoreFault) → TookInTurn n a b → RefusesNext lane lanes b fault c
+    → RefusedAfter n a lanes fault c
+took_fault lane lanes a b c fault x r = record { middle = b; took = x; lane = lane; refuses = r }
 
-pub took_more_by : {n : ℕ} (lane : ℕ) (a b c : Kept) (r : Result Bool StoreFault) (took : Bool) → r ≡ Ok took → took ≡ true → TookInTurn n a b
-    → TakeLeaves lane b r c → TookInTurn (n + 1) a c
-took_more_by lane a b c r took is sure x t =
-    took_more lane a b c x (subst (λ (o : Result Bool StoreFault). TakeLeaves lane b o c) (is ∙ ap (λ (v : Bool). Ok v) sure) t)
+pub took_more_by : {n : ℕ} (lane : ℕ) (lanes : List Lane) (a b c : Kept) (r : Result Bool StoreFault) (took : Bool) → r ≡ Ok took → took ≡ true
+    → TookInTurn n a b → TakeLeaves lane lanes b r c → TookInTurn (n + 1) a c
+took_more_by lane lanes a b c r took is sure x t =
+    took_more lane a b c x (subst (λ (o : Result Bool StoreFault). TakeLeaves lane lanes b o c) (is ∙ ap (λ (v : Bool). Ok v) sure) t)
 
-pub refused_then : {n k : ℕ} (a b c : Kept) (cause : StoreFault) → TookInTurn n a b → RefusedAfter k b cause c → RefusedAfter (n + k) a cause c
-refused_then a b c cause x r = record { middle = r.middle; took = in_turn_then a b r.middle x r.took; refuses = r.refuses }
+pub refused_then : {n k : ℕ} (lanes : List Lane) (a b c : Kept) (cause : StoreFault) → TookInTurn n a b → RefusedAfter k b lanes cause c
+    → RefusedAfter (n + k) a lanes cause c
+refused_then lanes a b c cause x r =
+    record { middle = r.middle; took = in_turn_then a b r.middle x r.took; lane = r.lane; refuses = r.refuses }
 
-pub refused_turned : {n : ℕ} (old new : Kept) (cause : StoreFault) → RefusedAfter n old cause new → Turned n old new
-refused_turned {n} old new cause r =
-    (let all : Turned (n + 0) old new = follows_then old r.middle new r.took.turned (follows_refused r.middle new cause r.refuses)
+pub refused_turned : {n : ℕ} (lanes : List Lane) (old new : Kept) (cause : StoreFault) → RefusedAfter n old lanes cause new → Turned n old new
+refused_turned {n} lanes old new cause r =
+    (let all : Turned (n + 0) old new =
+    follows_then old r.middle new r.took.turned (follows_refused r.refuses.item r.middle new cause r.refuses.refuses)
     in record { follows = all.follows; boxes = all.boxes; grew = (let g = all.grew in omega arith); quiet = all.quiet })
 
 pub any_then : (lane : ℕ) (a b c : Kept) → TookSome a b → Took lane b c → TookSome a c
@@ -243,17 +276,45 @@ any_then lane a b c x t = (x.0 + 1, took_more lane a b c x.1 t)
 pub some_then : (a b c : Kept) → TookSome a b → TookSome b c → TookSome a c
 some_then a b c x y = (x.0 + y.0, in_turn_then a b c x.1 y.1)
 
-pub some_refused : (a b c : Kept) (cause : StoreFault) → TookSome a b → RefusedAt b cause c → RefusedAt a cause c
-some_refused a b c cause x r = (x.0 + r.0, refused_then a b c cause x.1 r.1)
+pub some_refused : (lanes : List Lane) (a b c : Kept) (cause : StoreFault) → TookSome a b → RefusedAt b lanes cause c → RefusedAt a lanes cause c
+some_refused lanes a b c cause x r = (x.0 + r.0, refused_then lanes a b c cause x.1 r.1)
 
-pub some_fault : (a b c : Kept) (cause : StoreFault) → TookSome a b → Refuses b cause c → RefusedAt a cause c
-some_fault a b c cause x r = (x.0, took_fault a b c cause x.1 r)
+pub some_fault : (lane : ℕ) (lanes : List Lane) (a b c : Kept) (cause : StoreFault) → TookSome a b → RefusesNext lane lanes b cause c
+    → RefusedAt a lanes cause c
+some_fault lane lanes a b c cause x r = (x.0, took_fault lane lanes a b c cause x.1 r)
 
-pub refused_follows : (old new : Kept) (cause : StoreFault) → RefusedAt old cause new → Follows old new
-refused_follows old new cause r = (refused_turned old new cause r.1).follows
+pub refused_follows : (lanes : List Lane) (old new : Kept) (cause : StoreFault) → RefusedAt old lanes cause new → Follows old new
+refused_follows lanes old new cause r = (refused_turned lanes old new cause r.1).follows
 
-pub refused_boxes : (old new : Kept) (cause : StoreFault) → RefusedAt old cause new → HasBoxes old new
-refused_boxes old new cause r = (refused_turned old new cause r.1).boxes
+pub refused_boxes : (lanes : List Lane) (old new : Kept) (cause : StoreFault) → RefusedAt old lanes cause new → HasBoxes old new
+refused_boxes lanes old new cause r = (refused_turned lanes old new cause r.1).boxes
+
+-- where an append failed before, no record is taken
+none_taken : (n : ℕ) (old new : Kept) → old.log.is_failed ≡ true → Takes n old new → (n ≡ 0) × (new ≡ old)
+none_taken zero old new failed x = (refl, x)
+none_taken (suc n) old new failed x =
+    let before = none_taken n old x.0 failed x.1 in
+    let same = ap (λ (s : Kept). s.log.is_failed) before.1 in
+    let works = x.2.1.worked in absurd cc
+
+-- and the cause is Failed
+pub failed_at : (lanes : List Lane) (old new : Kept) (cause : StoreFault) → old.log.is_failed ≡ true → RefusedAt old lanes cause new → cause ≡ Failed
+failed_at lanes old new cause failed r =
+    let before = none_taken r.0 old r.1.middle failed r.1.took.each in
+    failed_record r.1.refuses.item r.1.middle new cause (ap (λ (s : Kept). s.log.is_failed) before.1 ∙ failed) r.1.refuses.refuses
+
+-- also where nothing waits
+still_failed : (old middle : Kept) → old.log.is_failed ≡ true → TookSome old middle → middle.log.is_failed ≡ true
+still_failed old middle failed x = ap (λ (s : Kept). s.log.is_failed) (none_taken x.0 old middle failed x.1.each).1 ∙ failed
+
+pub failed_flushes : (old middle : Kept) (cause : StoreFault) → old.log.is_failed ≡ true → TookSome old middle
+    → FlushAnswers (flush_refusal middle) (Err cause) → cause ≡ Failed
+failed_flushes old middle cause failed x answers =
+    let e = failed_flush false middle (Err cause) (still_failed old middle failed x) answers in cc
+
+pub failed_never : (old middle : Kept) (o : Option ℕ) → old.log.is_failed ≡ true → TookSome old middle → FlushAnswers (flush_refusal middle) (Ok o) → ⊥
+failed_never old middle o failed x answers =
+    let e = failed_flush false middle (Ok o) (still_failed old middle failed x) answers in absurd cc
 
 -- some records were taken, and then a frame was appended if anything waited
 flushed_turned : (old middle new : Kept) (r : Result (Option ℕ) StoreFault) → TookSome old middle → FlushLeaves middle r new → (n : ℕ) × Turned n old new

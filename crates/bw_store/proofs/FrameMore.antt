@@ -31,7 +31,7 @@ use Rattle.bw_versions.specs.Entries.{records}
 use Rattle.bw_store.specs.History.{cut, upto, share}
 use Rattle.bw_store.specs.Growing.{Grown, frames_upto}
 use Rattle.bw_store.specs.Kept.{Kept, leaves_at, TellsBy, TellsAs, TellsShare, waiting, AreCuts, AreLeft, IsSound, with_frame, with_stop}
-use Rattle.bw_store.proofs.Readers.{later_cut}
+use Rattle.bw_store.proofs.Readers.{ends_later, later_cut}
 use Rattle.bw_store.proofs.FramesBehind.{following_fits, counted_lawful}
 use Rattle.bw_store.proofs.Edging.{begun_on, appended_more, stopped_more}
 use Rattle.bw_store.proofs.CutMore.{same_leaves, old_shares}
@@ -227,6 +227,7 @@ module _ (s : Kept) (h : IsSound s) (works : s.log.is_failed ≡ false) where
           start = h.shown.start;
           begins = later_cut s more (s.durable + 1) h.shown
               (let all = last_cut in let within = cut_within s.cuts (length s.entries) s.durable h.ordered in omega arith);
+          ends = ends_later s t (omega arith) refl same_cut s.versions.entered h.shown.ends;
         };
         edged = h.edged;
         begun = begun_on s.edge s.log new h.log.rooms same.rooms same.number same.f (appended_more s.log new (frame_of s.making) added) h.begun;
@@ -310,6 +311,7 @@ module _ (s : Kept) (h : IsSound s) (works : s.log.is_failed ≡ false) where
         shown = record {
           start = h.shown.start;
           begins = later_cut s more s.durable h.shown (let same = same_cut s.durable (omega arith) in omega arith);
+          ends = ends_later s t (omega arith) refl same_cut s.versions.entered h.shown.ends;
         };
         edged = h.edged;
         begun = begun_on s.edge s.log new h.log.rooms same.rooms same.number same.f (stopped_more s.log new (frame_of s.making) stopped) h.begun;

@@ -27,7 +27,7 @@ use Rattle.bw_store.specs.Opened.{first_place, first_frame, first_making, one_em
 use Rattle.bw_store.specs.Showing.{AreUnseen}
 use Rattle.bw_store.specs.Kept.{Kept, IsSound}
 use Rattle.bw_store.proofs.Telling.{tells_none}
-use Rattle.bw_store.proofs.Readers.{unseen_begins}
+use Rattle.bw_store.proofs.Readers.{unseen_begins, unseen_ends}
 
 first_stands : (m : ℕ) → Stand m (first_frame ∷ []) (empty_leaf ∷ [])
 first_stands m = record {
@@ -73,7 +73,7 @@ opened_by rings m f spares versions unseen sound = record {
   beyond = inl refl;
   shares = tt;
   tells = inl (refl, refl, (refl, tells_none m (empty_leaf ∷ [])));
-  shown = record { start = refl; begins = unseen_begins versions [] unseen };
+  shown = record { start = refl; begins = unseen_begins versions [] unseen; ends = unseen_ends (opened rings m f spares (record versions { start = one_empty m })) versions.entered unseen };
   edged = inl refl;
   begun = tt;
   left = λ failed. absurd cc;

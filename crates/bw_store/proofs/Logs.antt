@@ -80,7 +80,7 @@ log_sound s new h c = record {
       (h.stands k low high from);
   shares = subst (λ (fs : List Frame). All (λ f. s.before < f.number → TellsShare s f) fs) (sym c.frames) h.shares;
   tells = h.tells;
-  shown = record { start = h.shown.start; begins = h.shown.begins };
+  shown = record { start = h.shown.start; begins = h.shown.begins; ends = h.shown.ends };
   edged = h.edged;
   begun = c.begun s.edge h.begun;
   left = λ failed. (
@@ -96,19 +96,22 @@ log_sound s new h c = record {
 
 pub log_follows : (s : Kept) (new : logs.Contents) → Follows s (with_log s new)
 log_follows s new = record {
-  rings = refl;
-  start = refl;
-  before = refl;
-  edge = refl;
-  entries_more = [];
-  history = sym (append-nil s.entries);
-  cuts_more = [];
-  cuts = sym (append-nil s.cuts);
-  appended = omega arith;
-  floor = omega arith;
-  book = refl;
-  batches_more = [];
-  published = sym (append-nil s.versions.published);
+  continues = record {
+    rings = refl;
+    start = refl;
+    before = refl;
+    edge = refl;
+    entries_more = [];
+    history = sym (append-nil s.entries);
+    cuts_more = [];
+    cuts = sym (append-nil s.cuts);
+    appended = omega arith;
+    floor = omega arith;
+    book = refl;
+    batches_more = [];
+    published = sym (append-nil s.versions.published);
+  };
+  floor = refl;
 }
 
 -- a log whose current segment was closed

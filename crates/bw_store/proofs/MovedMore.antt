@@ -36,7 +36,7 @@ use Rattle.bw_store.specs.Kept.{Kept, leaves_at, TellsAs, TellsBy, waiting, AreC
 use Rattle.bw_store.specs.Settled.{IsSettled}
 use Rattle.bw_store.specs.Edges.{IsBegun}
 use Rattle.bw_store.specs.Cleaning.{with_moved}
-use Rattle.bw_store.proofs.Readers.{later_cut}
+use Rattle.bw_store.proofs.Readers.{ends_later, later_cut}
 use Rattle.bw_store.proofs.CutMore.{same_leaves, old_shares}
 use Rattle.bw_store.proofs.EmptyBehind.{AreNoted, grown_empty}
 use Rattle.bw_store.proofs.FramesBehind.{from_behind, from_within, next_after, first_ahead, same_end}
@@ -322,6 +322,7 @@ module _ (s : Kept) (written : List Frame) (a : Adds s written) where
           start = h.shown.start;
           begins = later_cut s more (s.durable + n) h.shown
               (let all = full_cut (s.durable + n) (omega arith) (omega arith) in let now = a.done.cut.1 in omega arith);
+          ends = ends_later s t (omega arith) refl same_cut s.versions.entered h.shown.ends;
         };
         edged = h.edged;
         begun = x.begun;

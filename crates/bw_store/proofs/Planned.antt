@@ -7,7 +7,9 @@ use Rattle.bw_store.specs.declared.planning.Plan.{Plan}
 use Rattle.bw_store.specs.Planning.{listed}
 use Rattle.bw_store.specs.declared.fault.StoreFault.{StoreFault}
 use Rattle.bw_store.specs.Faults.{FlushLeaves}
-use Rattle.bw_store.specs.Taking.{MayFlush, ItemLeaves, IsWanting, Works}
+use Rattle.std.specs.Option.{unwrap_or}
+use Rattle.bw_store.specs.Fitting.{Fits, blocks_at, nowhere}
+use Rattle.bw_store.specs.Taking.{MakesRoom, IsPlan, ItemLeaves, IsWanting, Works}
 use Rattle.bw_store.proofs.Refusing.{entered_not}
 use Rattle.bw_store.specs.Taken.{taken}
 use Rattle.std.specs.List.{AllByRecursion as All, flat_map}
@@ -186,14 +188,50 @@ module _ (s : Kept) (h : IsSound s) (item : Record) (op : IsOp item) (next : s.l
   answer_short (Err e) page back room blocks = tt
   answer_short (Ok p) page back room blocks = (plan_all p page back room blocks).3
 
--- what is known of a flush that answered Ok
-pub flushed_or_not : (old new : Kept) (o : Option ℕ) → FlushLeaves old (Ok o) new → MayFlush old new
-flushed_or_not old new None f = inl f.0
-flushed_or_not old new (Some n) f = inr (n, f)
+-- ---- whether the blocks of a plan fit
+
+back_at : (newest : List Place) (at : ℕ) (back : Place) → slice_get newest at ≡ Some back → unwrap_or (slice_get newest at) nowhere ≡ back
+back_at newest at back is = ap (λ (o : Option Place). unwrap_or o nowhere) is
+
+planned_blocks : (s : Kept) (item : Record) (plan : Plan) → IsPlan s item plan → listed plan.blocks ≡ blocks_at s item
+planned_blocks s item plan p =
+    let back = back_at s.newest (directed_at s.filed.leaves item - 1) plan.back
+    (subst (λ (n : ℕ). slice_get s.newest (n - 1) ≡ Some plan.back) p.page p.back) in
+    p.blocks ∙ ap (λ (b : Place). blocks_for s.filed.m s.filed.leaves b (end_of (frame_of s.making)) item) (sym back)
+
+pub plan_fits : (s : Kept) (item : Record) (plan : Plan) → IsPlan s item plan → size_of s.making + length (body_bytes (listed plan.blocks)) ≤ s.making.limit
+    → Fits s item
+plan_fits s item plan p fits =
+    subst (λ (bs : List Block). size_of s.making + length (body_bytes bs) ≤ s.making.limit) (planned_blocks s item plan p) fits
+
+pub plan_full : (s : Kept) (item : Record) (plan : Plan) → IsPlan s item plan → s.making.limit < size_of s.making + length (body_bytes (listed plan.blocks))
+    → Fits s item → ⊥
+plan_full s item plan p over fits =
+    let there = subst (λ (bs : List Block). size_of s.making + length (body_bytes bs) ≤ s.making.limit) (sym (planned_blocks s item plan p)) fits in
+    omega arith
+
+-- an empty frame has room for the blocks of any record
+pub flushed_empty : (old new : Kept) (o : Option ℕ) → FlushLeaves old (Ok o) new → new.making.blocks ≡ []
+flushed_empty old new None f = ap (λ (s : Kept). s.making.blocks) f.0 ∙ f.1
+flushed_empty old new (Some n) f = ap (λ (s : Kept). s.making.blocks) f.is ∙ f.empty
+
+pub fits_empty : (s : Kept) (bytes : ℕ) → IsSound s → s.making.blocks ≡ [] → bytes ≤ 7000 → size_of s.making + bytes ≤ s.making.limit
+fits_empty s bytes h empty few =
+    let none = ap (λ (bs : List Block). length (body_bytes bs)) empty in
+    let zero : length (body_bytes []) ≡ 0 = refl in
+    let limit = h.limit in
+    let most = h.log.holds.limits.2 in
+    omega arith
+
+-- what is known of a flush that answered Ok, for a record that did not fit
+pub flushed_or_not : (item : Record) (old new : Kept) (o : Option ℕ) → (Fits old item → ⊥) → FlushLeaves old (Ok o) new → MakesRoom item old new
+flushed_or_not item old new None full f = inl f.0
+flushed_or_not item old new (Some n) full f = inr (full, (n, f))
 
 -- a record that was to be entered, behind a flush or not
-pub entered_or_not : (lane : ℕ) (old middle new : Kept) (item : Record) (back : Place) (r : Result (Unit {0}) StoreFault) → Works old → MayFlush old middle
-    → middle.log.is_failed ≡ false → OnOk r (new ≡ taken middle lane item back) → OnErr r (new ≡ middle) → IfErr r (IsWanting middle) → ItemLeaves lane old r new
-entered_or_not lane old middle new item back (Ok x) was may works is same w =
-    record { item = item; back = back; middle = middle; flushes = may; works = works; is = is }
-entered_or_not lane old middle new item back (Err cause) was may works is same w = entered_not old middle new cause was may same w
+pub entered_or_not : (lane : ℕ) (old middle new : Kept) (item : Record) (back : Place) (r : Result (Unit {0}) StoreFault) → Works old
+    → MakesRoom item old middle → Fits middle item → middle.log.is_failed ≡ false
+    → OnOk r (new ≡ taken middle lane item back) → OnErr r (new ≡ middle) → IfErr r (IsWanting middle) → ItemLeaves lane item old r new
+entered_or_not lane old middle new item back (Ok x) was may fits works is same w =
+    record { item = item; back = back; worked = was; middle = middle; flushes = may; fits = fits; works = works; is = is }
+entered_or_not lane old middle new item back (Err cause) was may fits works is same w = entered_not item old middle new cause was may same w

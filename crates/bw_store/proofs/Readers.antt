@@ -1,17 +1,17 @@
 -- What readers have is a beginning of what is durable, step by step.
 
-use Rattle.std.proofs.Common.{◌≡◌, ℕ, zero, suc, ◌≤◌, Some, Result, Ok, Err, OnOk, OnErr, MatchResult, List, [], ◌∷◌, ◌++◌, length, take, refl, sym, ap, ◌∙◌, subst, arith}
+use Rattle.std.proofs.Common.{◌≡◌, ℕ, zero, suc, ◌≤◌, Some, Result, Ok, Err, OnOk, OnErr, MatchResult, List, [], ◌∷◌, ◌++◌, length, take, refl, sym, ap, ◌∙◌, ◌⊎◌, inl, inr, append-nil, append_assoc, subst, arith}
 use Rattle.std.specs.declared.alloc.AllocError.{AllocError}
 use mathlib.Core.List.{IsPrefix}
 use Rattle.bw_codec.specs.declared.leaf.Leaf.{Leaf}
 use Rattle.bw_page.specs.Shown.{Shown}
 use Rattle.bw_versions.specs.Batches.{BatchData, entries_of}
 use Rattle.bw_versions.specs.Posted.{posted_of}
-use Rattle.bw_versions.specs.Versioned.{Versioned}
+use Rattle.bw_versions.specs.Versioned.{EntersWhole, Versioned}
 use Rattle.bw_versions.specs.declared.entry.Entry.{Entry}
 use Rattle.bw_versions.proofs.Fronts.{prefix_trans}
 use Rattle.bw_store.specs.History.{cut, upto}
-use Rattle.bw_store.specs.Kept.{Kept, AreVersions, IsSound, with_batches}
+use Rattle.bw_store.specs.Kept.{Kept, AreVersions, EndAtCuts, IsSound, with_batches}
 use Rattle.bw_store.specs.Showing.{Hides, Shows, with_places}
 use Rattle.bw_store.proofs.RecordMore.{cut_within}
 
@@ -29,7 +29,53 @@ pub later_cut : (s : Kept) (cuts : List ℕ) (durable : ℕ) → AreVersions s �
     → IsPrefix (entries_of s.versions.entered) (upto cuts s.entries durable)
 later_cut s cuts durable h le = prefix_trans _ _ _ h.begins (take_prefix s.entries (cut s.cuts s.durable) (cut cuts durable) le)
 
+-- cuts that stood stay where they were, and there are no fewer
+pub ends_later : (s t : Kept) → s.durable ≤ t.durable → t.entries ≡ s.entries
+    → ((k : ℕ) → k ≤ s.durable → cut t.cuts k ≡ cut s.cuts k) → (batches : List BatchData) → EndAtCuts s batches → EndAtCuts t batches
+ends_later s t more entries same batches ends = λ n.
+    let old = ends n in
+    let low = old.1 in (
+      old.0,
+      omega arith,
+      old.2 ∙ ap (λ c. take c s.entries) (sym (same old.0 old.1)) ∙ ap (λ (es : List Entry). take (cut t.cuts old.0) es) (sym entries),
+    )
+
+take_nil : {A : Type 0} (n : ℕ) → take n (let none : List A = [] in none) ≡ []
+take_nil zero = refl
+take_nil (suc n) = refl
+
+-- a beginning of a list with one more is one of the list, or all of it
+take_pushed : {A : Type 0} (xs : List A) (x : A) (n : ℕ) → (take n (xs ++ x ∷ []) ≡ take n xs) ⊎ (take n (xs ++ x ∷ []) ≡ xs ++ x ∷ [])
+take_pushed xs x zero = inl refl
+take_pushed [] x (suc n) = inr (ap (λ ys. x ∷ ys) (take_nil n))
+take_pushed (y ∷ ys) x (suc n) = elim (take_pushed ys x n) [
+  | inl few ↦ inl (ap (λ zs. y ∷ zs) few)
+  | inr all ↦ inr (ap (λ zs. y ∷ zs) all)
+]
+
+entries_pushed : (bs : List BatchData) (b : BatchData) → entries_of (bs ++ b ∷ []) ≡ entries_of bs ++ b.entries
+entries_pushed [] b = append-nil b.entries
+entries_pushed (c ∷ cs) b = ap (λ es. c.entries ++ es) (entries_pushed cs b) ∙ sym (append_assoc c.entries (entries_of cs) b.entries)
+
+-- a batch with all entries up to the durable cut ends there
+pub ends_pushed : (s : Kept) (old new : List BatchData) → EndAtCuts s old → EntersWhole old new (upto s.cuts s.entries s.durable) → EndAtCuts s new
+ends_pushed s old new ends (inl same) = subst (EndAtCuts s) (sym same) ends
+ends_pushed s old new ends (inr x) = λ n. elim (take_pushed old x.0 n) [
+  | inl few ↦ (
+    let was = ends n in
+    (was.0, was.1, ap (λ bs. entries_of (take n bs)) x.1 ∙ ap entries_of few ∙ was.2)
+  )
+  | inr all ↦ (
+    s.durable,
+    omega arith,
+    ap (λ bs. entries_of (take n bs)) x.1 ∙ ap entries_of all ∙ entries_pushed old x.0 ∙ x.2,
+  )
+]
+
 -- before the first publication
+pub unseen_ends : (s : Kept) (batches : List BatchData) → batches ≡ [] → EndAtCuts s batches
+unseen_ends s batches none = λ n. (0, omega arith, ap (λ bs. entries_of (take n bs)) none ∙ ap entries_of (take_nil n))
+
 pub unseen_begins : (v : Versioned) (xs : List Entry) → v.entered ≡ [] → IsPrefix (entries_of v.entered) xs
 unseen_begins v xs none = (xs, ap (λ (bs : List BatchData). entries_of bs ++ xs) none)
 
@@ -55,8 +101,8 @@ batches_are s new h same =
     ∙ ap (λ (v : Versioned). record s { versions = v }) (same_readers s.versions new same)
 
 batched_sound : (s : Kept) (published entered : List BatchData) → IsSound s → IsPrefix (entries_of entered) (upto s.cuts s.entries s.durable)
-    → IsSound (with_batches s published entered)
-batched_sound s published entered h begins = record {
+    → EndAtCuts s entered → IsSound (with_batches s published entered)
+batched_sound s published entered h begins ends = record {
   log = h.log;
   pairs = h.pairs;
   limit = h.limit;
@@ -75,7 +121,7 @@ batched_sound s published entered h begins = record {
   stands = h.stands;
   shares = h.shares;
   tells = h.tells;
-  shown = record { start = h.shown.start; begins = begins };
+  shown = record { start = h.shown.start; begins = begins; ends = ends };
   edged = h.edged;
   begun = h.begun;
   left = h.left;
@@ -101,7 +147,7 @@ placed_sound s places h = record {
   stands = h.stands;
   shares = h.shares;
   tells = h.tells;
-  shown = record { start = h.shown.start; begins = h.shown.begins };
+  shown = record { start = h.shown.start; begins = h.shown.begins; ends = h.shown.ends };
   edged = h.edged;
   begun = h.begun;
   left = h.left;
@@ -128,10 +174,11 @@ upto_is s end entries is same = ap (λ n. take n entries) is ∙ ap (λ (es : Li
 
 pub publish_sound : (s : Kept) (new : Versioned) (end : ℕ) (entries : List Entry) → IsSound s → end ≡ cut s.cuts s.durable → entries ≡ s.entries
     → (new.start ≡ s.versions.start) × (new.book ≡ s.versions.book) × (new.places ≡ s.versions.places)
-    → IsPrefix (entries_of new.entered) (take end entries) → IsSound (with_versions s new)
-publish_sound s new end entries h is all same begins =
+    → IsPrefix (entries_of new.entered) (take end entries) → EntersWhole s.versions.entered new.entered (take end entries) → IsSound (with_versions s new)
+publish_sound s new end entries h is all same begins whole =
     subst IsSound (sym (batches_are s new h.shown same))
-    (batched_sound s new.published new.entered h (subst (IsPrefix (entries_of new.entered)) (upto_is s end entries is all) begins))
+    (batched_sound s new.published new.entered h (subst (IsPrefix (entries_of new.entered)) (upto_is s end entries is all) begins)
+    (ends_pushed s s.versions.entered new.entered h.shown.ends (subst (EntersWhole s.versions.entered new.entered) (upto_is s end entries is all) whole)))
 
 pub publish_leaves : (s : Kept) (new : Versioned) (r : Result (Unit {0}) AllocError) (end : ℕ) (entries : List Entry) → IsSound s
     → end ≡ cut s.cuts s.durable → entries ≡ s.entries

@@ -1,6 +1,6 @@
 -- Why a record or a flush was refused.
 
-use Rattle.std.proofs.Common.{◌≡◌, ℕ, Bool, true, false, Option, Some, None, Ok, Err, length, inl, inr, refl, sym, ap, ◌∙◌, subst}
+use Rattle.std.proofs.Common.{◌≡◌, ℕ, Bool, true, false, Option, Some, None, Result, Ok, Err, length, inl, inr, refl, sym, ap, ◌∙◌, subst}
 use Rattle.std.proofs.lemmas.Bool.{ne_eqb}
 use Rattle.std.specs.Prelude.{◌==◌, ◌&&◌, nat_lt, is_none, if◌then◌else◌}
 use Rattle.bw_codec.specs.Grammar.{frame_bytes}
@@ -12,7 +12,9 @@ use Rattle.bw_store.specs.declared.fault.StoreFault.{StoreFault}
 use Rattle.bw_store.specs.declared.fault.StoreFault.TheVariants.{NoMemory, BadConfig, NoSegment, Device, Failed, Spent, NoPage, NothingOld}
 use Rattle.bw_store.specs.Kept.{Kept}
 use Rattle.bw_store.specs.Faults.{FlushAnswers, FlushLeaves, IsRefused, flush_refusal, refusal_by, fault_of}
-use Rattle.bw_store.specs.Taking.{MayFlush, IsWanting, IsSpentAt, IsUnplanned, Refuses, Works}
+use Rattle.bw_codec.specs.declared.record.Record.{Record}
+use Rattle.bw_store.specs.Fitting.{Fits}
+use Rattle.bw_store.specs.Taking.{MakesRoom, IsWanting, IsSpentFor, IsUnplanned, Refuses, Works}
 
 -- a flush that answers Ok was not of a failed store
 none_failed : (s : Kept) (o : Option ℕ) (failed : Bool) (rest : Option StoreFault) → FlushAnswers (if failed then Some Failed else rest) (Ok o) → failed ≡ false
@@ -30,37 +32,39 @@ worked takes_last old new (Some n) a left = ap (λ (s : Kept). s.log.is_failed) 
 -- ---- causes
 
 -- where a flush answered Ok, want of memory or of a page is told of the store before it
-pub entered_not : (old middle new : Kept) (cause : StoreFault) → Works old → MayFlush old middle → new ≡ middle → IsWanting middle cause → Refuses old cause new
-entered_not old middle new NoMemory works may same w = (works, subst (MayFlush old) (sym same) may)
-entered_not old middle new BadConfig works may same w = absurd w
-entered_not old middle new NoSegment works may same w = absurd w
-entered_not old middle new (Device lease) works may same w = absurd w
-entered_not old middle new Failed works may same w = absurd w
-entered_not old middle new Spent works may same w =
-    (works, inl (subst (λ (s : Kept). MayFlush old s × IsSpentAt s) (sym same) (may, inr w)))
-entered_not old middle new NoPage works may same w = absurd w
-entered_not old middle new NothingOld works may same w = absurd w
+pub entered_not : (item : Record) (old middle new : Kept) (cause : StoreFault) → Works old → MakesRoom item old middle → new ≡ middle
+    → IsWanting middle cause → Refuses item old cause new
+entered_not item old middle new NoMemory works may same w = (works, subst (MakesRoom item old) (sym same) may)
+entered_not item old middle new BadConfig works may same w = absurd w
+entered_not item old middle new NoSegment works may same w = absurd w
+entered_not item old middle new (Device lease) works may same w = absurd w
+entered_not item old middle new Failed works may same w = absurd w
+entered_not item old middle new Spent works may same w =
+    (works, inl (subst (λ (s : Kept). MakesRoom item old s × IsSpentFor item s) (sym same) (may, inl (inr w))))
+entered_not item old middle new NoPage works may same w = absurd w
+entered_not item old middle new NothingOld works may same w = absurd w
 
 -- nothing was appended, and nothing could be planned
-pub unplanned_now : (s : Kept) (cause : StoreFault) → IsUnplanned s cause → Refuses s cause s
-unplanned_now s NoMemory w = (w, inl refl)
-unplanned_now s BadConfig w = absurd w
-unplanned_now s NoSegment w = absurd w
-unplanned_now s (Device lease) w = absurd w
-unplanned_now s Failed w = (refl, w)
-unplanned_now s Spent w = (w.0, inl (inl refl, w.1))
-unplanned_now s NoPage w = absurd w
-unplanned_now s NothingOld w = absurd w
+pub unplanned_now : (item : Record) (s : Kept) (cause : StoreFault) → IsUnplanned s cause → Refuses item s cause s
+unplanned_now item s NoMemory w = (w, inl refl)
+unplanned_now item s BadConfig w = absurd w
+unplanned_now item s NoSegment w = absurd w
+unplanned_now item s (Device lease) w = absurd w
+unplanned_now item s Failed w = (refl, w)
+unplanned_now item s Spent w = (w.0, inl (inl refl, inl w.1))
+unplanned_now item s NoPage w = absurd w
+unplanned_now item s NothingOld w = absurd w
 
-pub unplanned_after : (old new : Kept) (cause : StoreFault) → Works old → MayFlush old new → Works new → IsUnplanned new cause → Refuses old cause new
-unplanned_after old new NoMemory was may works w = (was, may)
-unplanned_after old new BadConfig was may works w = absurd w
-unplanned_after old new NoSegment was may works w = absurd w
-unplanned_after old new (Device lease) was may works w = absurd w
-unplanned_after old new Failed was may works w = absurd cc
-unplanned_after old new Spent was may works w = (was, inl (may, w.1))
-unplanned_after old new NoPage was may works w = absurd w
-unplanned_after old new NothingOld was may works w = absurd w
+pub unplanned_after : (item : Record) (old new : Kept) (cause : StoreFault) → Works old → MakesRoom item old new → Works new → IsUnplanned new cause
+    → Refuses item old cause new
+unplanned_after item old new NoMemory was may works w = (was, may)
+unplanned_after item old new BadConfig was may works w = absurd w
+unplanned_after item old new NoSegment was may works w = absurd w
+unplanned_after item old new (Device lease) was may works w = absurd w
+unplanned_after item old new Failed was may works w = absurd cc
+unplanned_after item old new Spent was may works w = (was, inl (may, inl w.1))
+unplanned_after item old new NoPage was may works w = absurd w
+unplanned_after item old new NothingOld was may works w = absurd w
 
 -- ---- a refusal of a flush is that of the record, or of the call, that asked for it
 
@@ -155,16 +159,45 @@ other_cause : (failed : Bool) (rest : Option StoreFault) (fault : StoreFault) �
 other_cause true rest fault other a = absurd (other cc)
 other_cause false rest fault other a = refl
 
-pub flush_refuses : (old new : Kept) (cause : StoreFault) → FlushAnswers (flush_refusal old) (Err cause)
-    → FlushLeaves old (Err cause) new → Refuses old cause new
-flush_refuses old new NoMemory a left = (other_cause old.log.is_failed _ NoMemory (λ e. cc) a, inl left)
-flush_refuses old new BadConfig a left = absurd (is_cause false old BadConfig (λ x. x) a)
-flush_refuses old new NoSegment a left = (left, same_answer (flush_refusal old) NoSegment (λ x. x) a)
-flush_refuses old new (Device lease) a left = (other_cause old.log.is_failed _ (Device lease) (λ e. cc) a, inl left)
-flush_refuses old new Failed a left = (left, is_cause false old Failed (λ x. x) a)
-flush_refuses old new Spent a left = (
+-- a flush for a record that does not fit
+pub flush_refuses : (item : Record) (old new : Kept) (cause : StoreFault) → (Fits old item → ⊥) → FlushAnswers (flush_refusal old) (Err cause)
+    → FlushLeaves old (Err cause) new → Refuses item old cause new
+flush_refuses item old new NoMemory full a left = (other_cause old.log.is_failed _ NoMemory (λ e. cc) a, inl left)
+flush_refuses item old new BadConfig full a left = absurd (is_cause false old BadConfig (λ x. x) a)
+flush_refuses item old new NoSegment full a left = (left, full, same_answer (flush_refusal old) NoSegment (λ x. x) a)
+flush_refuses item old new (Device lease) full a left = (other_cause old.log.is_failed _ (Device lease) (λ e. cc) a, inl (full, left))
+flush_refuses item old new Failed full a left = (left, is_cause false old Failed (λ x. x) a)
+flush_refuses item old new Spent full a left = (
   other_cause old.log.is_failed _ Spent (λ e. cc) a,
-  inl (inl left, inl (subst (λ (s : Kept). flush_refusal s ≡ Some Spent) (sym left) (same_answer (flush_refusal old) Spent (λ x. x) a))),
+  inl (inl left, inr (subst (λ (s : Kept). (Fits s item → ⊥) × (flush_refusal s ≡ Some Spent)) (sym left)
+      (full, same_answer (flush_refusal old) Spent (λ x. x) a))),
 )
-flush_refuses old new NoPage a left = absurd (is_cause false old NoPage (λ x. x) a)
-flush_refuses old new NothingOld a left = absurd (is_cause false old NothingOld (λ x. x) a)
+flush_refuses item old new NoPage full a left = absurd (is_cause false old NoPage (λ x. x) a)
+flush_refuses item old new NothingOld full a left = absurd (is_cause false old NothingOld (λ x. x) a)
+
+-- where an append failed before, a flush tells it, and so does a refused record
+pub failed_flush : (takes_last : Bool) (s : Kept) (r : Result (Option ℕ) StoreFault) → s.log.is_failed ≡ true → FlushAnswers (refusal_by takes_last s) r
+    → r ≡ Err Failed
+failed_flush takes_last s r failed answers = by s.log.is_failed _ r failed answers
+  where
+    by : (failed : Bool) (rest : Option StoreFault) (r : Result (Option ℕ) StoreFault) → failed ≡ true
+        → FlushAnswers (if failed then Some Failed else rest) r → r ≡ Err Failed
+    by true rest r is answers = answers
+    by false rest r is answers = absurd cc
+
+pub failed_record : (item : Record) (old new : Kept) (cause : StoreFault) → old.log.is_failed ≡ true → Refuses item old cause new → cause ≡ Failed
+failed_record item old new NoMemory failed r = (let works = r.0 in absurd cc)
+failed_record item old new BadConfig failed r = absurd r
+failed_record item old new NoSegment failed r = absurd (failed_wants old failed r.2)
+  where
+    failed_wants : (s : Kept) → s.log.is_failed ≡ true → flush_refusal s ≡ Some NoSegment → ⊥
+    failed_wants s failed told = by s.log.is_failed _ failed told
+      where
+        by : (failed : Bool) (rest : Option StoreFault) → failed ≡ true → (if failed then Some Failed else rest) ≡ Some NoSegment → ⊥
+        by true rest is told = cc
+        by false rest is told = cc
+failed_record item old new (Device lease) failed r = (let works = r.0 in absurd cc)
+failed_record item old new Failed failed r = refl
+failed_record item old new Spent failed r = (let works = r.0 in absurd cc)
+failed_record item old new NoPage failed r = absurd r
+failed_record item old new NothingOld failed r = absurd r

@@ -29,7 +29,7 @@ use Rattle.bw_store.specs.Growing.{Grown, frames_upto}
 use Rattle.bw_store.specs.Kept.{leaves_at, TellsBy, TellsShare, IsSound}
 use Rattle.bw_versions.specs.Versioned.{Versioned}
 use Rattle.bw_store.specs.Showing.{AreUnseen}
-use Rattle.bw_store.proofs.Readers.{unseen_begins}
+use Rattle.bw_store.proofs.Readers.{unseen_begins, unseen_ends}
 use Rattle.bw_store.specs.Reopened.{reopened}
 use Rattle.bw_store.proofs.FramesBehind.{from_within, none_above, counted_lawful, placed_page, pages_counted}
 use Rattle.bw_store.proofs.EmptyBehind.{AreNoted, grown_empty}
@@ -156,6 +156,7 @@ module _ (c : logs.Contents) (filed : Shown) (last : ℕ) (x : Found c filed las
         shown = record {
           start = ap (λ away. record { m = filed.m; leaves = filed.leaves; away = away }) x.here;
           begins = unseen_begins versions [] unseen;
+          ends = unseen_ends t versions.entered unseen;
         };
         edged = edged_by c x.sound.holds.live;
         begun = begun_by c;

@@ -11,46 +11,53 @@ use Rattle.bw_store.specs.declared.fault.StoreFault.{StoreFault}
 use Rattle.bw_store.specs.declared.fault.StoreFault.TheVariants.{NoMemory}
 use Rattle.bw_store.specs.Settled.{IsSettled, IsAllCut}
 use Rattle.bw_store.specs.Faults.{FlushAnswers, FlushLeaves, flush_refusal}
-use Rattle.bw_store.specs.Cleaning.{CleanLeaves}
-use Rattle.bw_store.specs.Following.{Follows, TookSome}
-use Rattle.bw_store.specs.Showing.{CleanShows, FlushShows, Hides, SettleRefuses, Shows, with_places}
-use Rattle.bw_store.proofs.FollowMore.{follow_then}
+use Rattle.bw_store.specs.Cleaning.{CleanLeaves, HasBoxesBut, HasFloorBut}
+use Rattle.bw_store.specs.Following.{Continues, Follows, TookSome}
+use Rattle.bw_store.specs.Showing.{CleanShows, FlushShows, HasFloorAfter, Hides, Settles, SettleRefuses, Shows, with_places}
+use Rattle.bw_ring.specs.declared.lane.Lane.{Lane}
+use Rattle.bw_store.proofs.FollowMore.{continue_then, follow_then}
 use Rattle.bw_store.proofs.SettledMore.{settled_by}
 use Rattle.bw_store.proofs.Readers.{places_are, with_versions}
 
 batched_follows : (s : Kept) (published entered more : List BatchData) → published ≡ s.versions.published ++ more
     → Follows s (with_batches s published entered)
 batched_follows s published entered more grows = record {
-  rings = refl;
-  start = refl;
-  before = refl;
-  edge = refl;
-  entries_more = [];
-  history = sym (append-nil s.entries);
-  cuts_more = [];
-  cuts = sym (append-nil s.cuts);
-  appended = omega arith;
-  floor = omega arith;
-  book = refl;
-  batches_more = more;
-  published = grows;
+  continues = record {
+    rings = refl;
+    start = refl;
+    before = refl;
+    edge = refl;
+    entries_more = [];
+    history = sym (append-nil s.entries);
+    cuts_more = [];
+    cuts = sym (append-nil s.cuts);
+    appended = omega arith;
+    floor = omega arith;
+    book = refl;
+    batches_more = more;
+    published = grows;
+  };
+  floor = refl;
 }
 
 placed_follows : (s : Kept) (places : ℕ) → Follows s (with_places s places)
 placed_follows s places = record {
-  rings = refl;
-  start = refl;
-  before = refl;
-  edge = refl;
-  entries_more = [];
-  history = sym (append-nil s.entries);
-  cuts_more = [];
-  cuts = sym (append-nil s.cuts);
-  appended = omega arith;
-  floor = omega arith;
-  book = refl;
-  batches_more = [];
-  published = sym (append-nil s.versions.published);
+  continues = record {
+    rings = refl;
+    start = refl;
+    before = refl;
+    edge = refl;
+    entries_more = [];
+    history = sym (append-nil s.entries);
+    cuts_more = [];
+    cuts = sym (append-nil s.cuts);
+    appended = omega arith;
+    floor = omega arith;
+    book = refl;
+    batches_more = [];
+    published = sym (append-nil s.versions.published);
+  };
+  floor = refl;
 }
 
 pub reader_follows : (s : Kept) (new : Versioned) → IsSound s → new ≡ record s.versions { places = new.places } → Follows s (with_versions s new)
@@ -66,17 +73,43 @@ hides_follows old middle new first x =
     follow_then old middle new first
     (subst (Follows middle) (sym x.is) (batched_follows middle middle.versions.published new.versions.entered [] (sym (append-nil middle.versions.published))))
 
-batched_settled : (s : Kept) (published entered : List BatchData) → IsSettled s → IsSettled (with_batches s published entered)
-batched_settled s published entered h = record { stands = h.stands; whole = h.whole; cut = h.cut }
+-- the same behind a cleaning
+pub shows_continues : (old middle new : Kept) → Continues old middle → Shows middle new → Continues old new
+shows_continues old middle new first x =
+    continue_then old middle new first
+    (subst (Continues middle) (sym x.is) (batched_follows middle new.versions.published new.versions.entered x.more x.grows).continues)
 
-pub shows_settled : (middle new : Kept) → IsSettled middle → Shows middle new → IsSettled new
-shows_settled middle new h x = subst IsSettled (sym x.is) (batched_settled middle new.versions.published new.versions.entered h)
+pub hides_continues : (old middle new : Kept) → Continues old middle → Hides middle new → Continues old new
+hides_continues old middle new first x =
+    continue_then old middle new first
+    (subst (Continues middle) (sym x.is)
+    (batched_follows middle middle.versions.published new.versions.entered [] (sym (append-nil middle.versions.published))).continues)
 
 pub shows_roster : (middle new : Kept) → Shows middle new → roster new.log ≡ roster middle.log
 shows_roster middle new x = ap (λ (s : Kept). roster s.log) x.is
 
 pub hides_roster : (middle new : Kept) → Hides middle new → roster new.log ≡ roster middle.log
 hides_roster middle new x = ap (λ (s : Kept). roster s.log) x.is
+
+-- a publication leaves the floor and what is durable
+pub shows_floor : (old middle new : Kept) (cleaned : Cleaned) → HasFloorBut old (Ok cleaned) middle → Shows middle new
+    → HasFloorAfter old (Ok cleaned) new
+shows_floor old middle new cleaned floor x =
+    ap (λ (s : Kept). s.floor) x.is ∙ floor ∙ sym (ap (λ (s : Kept). s.durable) x.is)
+
+pub hides_floor : (old middle new : Kept) (cleaned : Cleaned) → HasFloorBut old (Ok cleaned) middle → HasBoxesBut old (Ok cleaned) middle
+    → Hides middle new → HasFloorAfter old (Err NoMemory) new
+hides_floor old middle new cleaned floor boxes x = inr (
+  refl,
+  ap (λ (s : Kept). s.floor) x.is ∙ floor ∙ sym (ap (λ (s : Kept). s.durable) x.is),
+  hides_roster middle new x ∙ boxes,
+)
+
+batched_settled : (s : Kept) (published entered : List BatchData) → IsSettled s → IsSettled (with_batches s published entered)
+batched_settled s published entered h = record { stands = h.stands; whole = h.whole; cut = h.cut }
+
+pub shows_settled : (middle new : Kept) → IsSettled middle → Shows middle new → IsSettled new
+shows_settled middle new h x = subst IsSettled (sym x.is) (batched_settled middle new.versions.published new.versions.entered h)
 
 -- ---- the calls that end with one
 
@@ -93,9 +126,14 @@ may_want None x a = tt
 may_want (Some fault) x a = absurd cc
 
 pub settle_hides : (old middle flushed new : Kept) (o : Option ℕ) → TookSome old middle → FlushAnswers (flush_refusal middle) (Ok o)
-    → FlushLeaves middle (Ok o) flushed → Hides flushed new → SettleRefuses old NoMemory new
-settle_hides old middle flushed new o took answers left x =
-    inr (refl, (middle, took, (flushed, record { number = o; answers = answers; leaves = left }, x)))
+    → FlushLeaves middle (Ok o) flushed → Hides flushed new → (lanes : List Lane) → SettleRefuses old lanes NoMemory new
+settle_hides old middle flushed new o took answers left x lanes =
+    inr (inr (refl, (middle, took, (flushed, record { number = o; answers = answers; leaves = left }, x))))
+
+pub settle_shows : (old middle flushed new : Kept) (o : Option ℕ) → TookSome old middle → FlushAnswers (flush_refusal middle) (Ok o)
+    → FlushLeaves middle (Ok o) flushed → Shows flushed new → Settles old new
+settle_shows old middle flushed new o took answers left x =
+    (middle, took, (flushed, record { number = o; answers = answers; leaves = left }, x))
 
 -- where the last cut is the whole history, all entries are published
 pub shows_all : (middle new : Kept) → IsAllCut middle → Shows middle new

@@ -71,3 +71,8 @@ CleanLeaves old (Err fault) new =
 abbrev pub HasBoxesBut : Kept → Result Cleaned StoreFault → Kept → Type 0
 HasBoxesBut old (Ok cleaned) new = logs.roster new.log ≡ drop 1 (logs.roster old.log)
 HasBoxesBut old (Err fault) new = logs.roster new.log ≡ logs.roster old.log
+
+-- the floor is what is durable on Ok, and stays else
+abbrev pub HasFloorBut : Kept → Result Cleaned StoreFault → Kept → Type 0
+HasFloorBut old (Ok cleaned) new = new.floor ≡ new.durable
+HasFloorBut old (Err fault) new = new.floor ≡ old.floor

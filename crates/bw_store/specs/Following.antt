@@ -1,15 +1,17 @@
 -- What no call takes back.
 
-use Rattle.std.specs.Prelude.{ℕ, ◌+◌, ◌≡◌, ◌≤◌, true, List, ◌++◌, length}
+use Rattle.std.specs.Prelude.{ℕ, zero, suc, ◌+◌, ◌≡◌, ◌≤◌, true, List, ◌++◌, length}
 use Rattle.bw_log.specs.Contents.{roster}
 use Rattle.bw_versions.specs.Batches.{BatchData}
 use Rattle.bw_versions.specs.declared.entry.Entry.{Entry}
 use Rattle.bw_store.specs.declared.fault.StoreFault.{StoreFault}
 use Rattle.bw_store.specs.Kept.{Kept}
-use Rattle.bw_store.specs.Taking.{Refuses}
+use Rattle.bw_ring.specs.declared.lane.Lane.{Lane}
+use Rattle.bw_store.specs.Taking.{RefusesNext, Took}
 
--- the old history and cuts begin the new ones, no frame is forgotten, and where the store began stays
-pub record Follows (old new : Kept) : Type 0 where
+-- what no call takes back: the old history and cuts begin the new ones, no frame is forgotten, and
+-- where the store began stays
+pub record Continues (old new : Kept) : Type 0 where
   -- which feed is a lane's, and how many writers there are
   pub rings : new.rings ≡ old.rings
   pub start : new.start ≡ old.start
@@ -26,6 +28,11 @@ pub record Follows (old new : Kept) : Type 0 where
   pub batches_more : List BatchData
   pub published : new.versions.published ≡ old.versions.published ++ batches_more
 
+-- the same of a call that gives up no segment: the floor is what it was
+pub record Follows (old new : Kept) : Type 0 where
+  pub continues : Continues old new
+  pub floor : new.floor ≡ old.floor
+
 -- each box is where it was in the row of all
 pub record HasBoxes (old new : Kept) : Type 0 where
   pub same : roster new.log ≡ roster old.log
@@ -37,20 +44,28 @@ pub record Turned (n : ℕ) (old new : Kept) : Type 0 where
   pub grew : length new.entries ≡ length old.entries + n
   pub quiet : new.versions ≡ old.versions
 
+-- so many records, one after the other
+abbrev pub Takes : ℕ → Kept → Kept → Type 0
+Takes zero old new = new ≡ old
+Takes (suc n) old new = (middle : Kept) × Takes n old middle × ((lane : ℕ) × Took lane middle new)
+
 -- so many records were taken one after the other; where an append failed before, none was
 pub record TookInTurn (n : ℕ) (old new : Kept) : Type 0 where
   pub turned : Turned n old new
+  pub each : Takes n old new
   pub works : new.log.is_failed ≡ true → (n ≡ 0) × (new ≡ old)
 
--- so many records were taken one after the other, and then a record or a flush was refused
-pub record RefusedAfter (n : ℕ) (old : Kept) (cause : StoreFault) (new : Kept) : Type 0 where
+-- so many records were taken one after the other, and then one was refused, which is still the
+-- first of its lane
+pub record RefusedAfter (n : ℕ) (old : Kept) (lanes : List Lane) (cause : StoreFault) (new : Kept) : Type 0 where
   pub middle : Kept
   pub took : TookInTurn n old middle
-  pub refuses : Refuses middle cause new
+  pub lane : ℕ
+  pub refuses : RefusesNext lane lanes middle cause new
 
 -- the same without a number
 abbrev pub TookSome : Kept → Kept → Type 0
 TookSome old new = (n : ℕ) × TookInTurn n old new
 
-abbrev pub RefusedAt : Kept → StoreFault → Kept → Type 0
-RefusedAt old cause new = (n : ℕ) × RefusedAfter n old cause new
+abbrev pub RefusedAt : Kept → List Lane → StoreFault → Kept → Type 0
+RefusedAt old lanes cause new = (n : ℕ) × RefusedAfter n old lanes cause new

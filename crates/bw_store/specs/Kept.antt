@@ -1,6 +1,6 @@
 -- What a store keeps, as plain data, and what holds of it between calls.
 
-use Rattle.std.specs.Prelude.{ℕ, ◌+◌, ◌-◌, ◌^◌, ◌≡◌, ◌≢◌, ◌≤◌, ◌<◌, ◌⊎◌, true, None, List, [], ◌∷◌, ◌++◌, length, drop}
+use Rattle.std.specs.Prelude.{ℕ, ◌+◌, ◌-◌, ◌^◌, ◌≡◌, ◌≢◌, ◌≤◌, ◌<◌, ◌⊎◌, true, None, List, [], ◌∷◌, ◌++◌, length, drop, take}
 use Rattle.std.specs.List.{AllByRecursion}
 use mathlib.Core.List.{IsPrefix}
 use Rattle.bw_codec.specs.Grammar.{IsOp}
@@ -92,10 +92,24 @@ AreCuts from (c ∷ cs) end = (from ≤ c) × AreCuts c cs end
 abbrev pub start_of : Kept → Shown
 start_of s = record { m = s.filed.m; leaves = s.start; away = [] }
 
--- readers start where the store did, and their book has a beginning of the entries up to the durable cut
+-- each beginning of these batches is the history up to a durable cut
+abbrev pub EndAtCuts : Kept → List BatchData → Type 0
+EndAtCuts s batches =
+    (n : ℕ) → (k : ℕ) × (k ≤ s.durable) × (entries_of (take n batches) ≡ upto s.cuts s.entries k)
+
+-- readers start where the store did, their book has a beginning of the entries up to the durable
+-- cut, and each of its batches ends at a cut
 pub record AreVersions (s : Kept) : Type 0 where
   pub start : s.versions.start ≡ start_of s
   pub begins : IsPrefix (entries_of s.versions.entered) (upto s.cuts s.entries s.durable)
+  pub ends : EndAtCuts s s.versions.entered
+
+-- each durable cut from the floor on: the counted frames up to it stand for the pages of the
+-- history up to it
+abbrev pub EachCutStands : Kept → Type 0
+EachCutStands s =
+    (k : ℕ) → s.floor ≤ k → k ≤ s.durable → 1 ≤ s.before + k
+    → Stand s.filed.m (frames_upto (s.before + k) (logs.counted s.log)) (leaves_at s k)
 
 -- all whole frames of the live segments: a failed append may have left one that does not count
 abbrev pub frames_there : Kept → List Frame
@@ -129,7 +143,7 @@ pub record IsSound (s : Kept) : Type 0 where
   pub beyond : (length s.cuts ≡ s.durable) ⊎ ((length s.cuts ≡ s.durable + 1) × (s.log.is_failed ≡ true))
   pub floor : s.floor ≤ s.durable
   -- the counted frames up to a cut stand for the pages of the history up to it, for each cut from the floor on
-  pub stands : (k : ℕ) → s.floor ≤ k → k ≤ s.durable → 1 ≤ s.before + k → Stand s.filed.m (frames_upto (s.before + k) (logs.counted s.log)) (leaves_at s k)
+  pub stands : EachCutStands s
   -- frames tell their shares, and so does the one in the making
   pub shares : AllByRecursion (λ f. s.before < f.number → TellsShare s f) (logs.counted s.log)
   pub tells : TellsBy s (s.before + s.durable + 1) (leaves_at s s.durable) (waiting s) s.making.blocks

@@ -11,6 +11,7 @@ pub mod Stopping
 pub mod Faults
 pub mod Views
 pub mod Taken
+pub mod Fitting
 pub mod Settled
 pub mod Emptied
 pub mod Lanes

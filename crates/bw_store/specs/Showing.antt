@@ -11,7 +11,8 @@ use Rattle.bw_store.specs.declared.fault.StoreFault.{StoreFault}
 use Rattle.bw_store.specs.declared.fault.StoreFault.TheVariants.{NoMemory}
 use Rattle.bw_store.specs.History.{upto}
 use Rattle.bw_store.specs.Kept.{Kept, start_of, with_batches}
-use Rattle.bw_store.specs.Faults.{FlushLeaves}
+use Rattle.bw_ring.specs.declared.lane.Lane.{Lane}
+use Rattle.bw_store.specs.Faults.{FlushAnswers, FlushLeaves, flush_refusal}
 use Rattle.bw_store.specs.Emptied.{Emptied}
 use Rattle.bw_store.specs.Cleaning.{CleanLeaves}
 use Rattle.bw_store.specs.Following.{RefusedAt, TookSome}
@@ -44,11 +45,22 @@ FlushShows old (Ok number) new = (middle : Kept) × FlushLeaves old (Ok number) 
 FlushShows old (Err fault) new =
     FlushLeaves old (Err fault) new ⊎ ((fault ≡ NoMemory) × ((middle : Kept) × Emptied false old middle × Hides middle new))
 
--- why a settlement was refused: a record or the flush was, or the publication behind them
-abbrev pub SettleRefuses : Kept → StoreFault → Kept → Type 0
-SettleRefuses old fault new =
-    RefusedAt old fault new
-    ⊎ ((fault ≡ NoMemory) × ((middle : Kept) × TookSome old middle × ((flushed : Kept) × Emptied false middle flushed × Hides flushed new)))
+-- records were taken one after the other, and then the flush was refused
+abbrev pub FlushStops : Kept → StoreFault → Kept → Type 0
+FlushStops old fault new =
+    (middle : Kept) × TookSome old middle × FlushAnswers (flush_refusal middle) (Err fault) × FlushLeaves middle (Err fault) new
+
+-- why a settlement was refused: a record was, or the flush behind all of them, or the publication
+abbrev pub SettleRefuses : Kept → List Lane → StoreFault → Kept → Type 0
+SettleRefuses old lanes fault new =
+    RefusedAt old lanes fault new
+    ⊎ (FlushStops old fault new
+    ⊎ ((fault ≡ NoMemory) × ((middle : Kept) × TookSome old middle × ((flushed : Kept) × Emptied false middle flushed × Hides flushed new))))
+
+-- records were taken one after the other, then flushed, then published
+abbrev pub Settles : Kept → Kept → Type 0
+Settles old new =
+    (middle : Kept) × TookSome old middle × ((flushed : Kept) × Emptied false middle flushed × Shows flushed new)
 
 -- a cleaning, and then a publication
 abbrev pub CleanShows : Kept → Result Cleaned StoreFault → Kept → Type 0
@@ -62,3 +74,10 @@ abbrev pub HasBoxesAfter : Kept → Result Cleaned StoreFault → Kept → Type 
 HasBoxesAfter old (Ok cleaned) new = roster new.log ≡ drop 1 (roster old.log)
 HasBoxesAfter old (Err fault) new =
     (roster new.log ≡ roster old.log) ⊎ ((fault ≡ NoMemory) × (roster new.log ≡ drop 1 (roster old.log)))
+
+-- the floor is what is durable where a segment was given up, and what it was else
+abbrev pub HasFloorAfter : Kept → Result Cleaned StoreFault → Kept → Type 0
+HasFloorAfter old (Ok cleaned) new = new.floor ≡ new.durable
+HasFloorAfter old (Err fault) new =
+    (new.floor ≡ old.floor)
+    ⊎ ((fault ≡ NoMemory) × (new.floor ≡ new.durable) × (roster new.log ≡ drop 1 (roster old.log)))

@@ -5,6 +5,7 @@ ghost use Rattle.bw_care.specs.Laws.{cut_newest};
 ghost use Rattle.bw_log.specs.Limits.{IsNotTaken};
 ghost use Rattle.bw_log.specs.Reads.{IsNumbered, segment_at};
 ghost use Rattle.bw_store.specs.Following.{Follows, HasBoxes};
+ghost use Rattle.bw_store.specs.Kept.{EachCutStands};
 ghost use Rattle.bw_store.specs.Reading.{HasRead, ReadLeaves, with_spare, rolled};
 ghost use Rattle.bw_store.specs.Stopping.{FindsCut, FindsStop, MayCut};
 
@@ -98,6 +99,9 @@ impl Store {
         requires { IsSoundBeside self holding }
         ensures live { map holding result.0.items ≡ (kept_beside self holding).log.live }
         ensures spares { map holding result.1.items ≡ (kept_beside self holding).log.spares }
+
+        // What the boxes hold up to each durable cut from the floor on are the pages of that cut.
+        ensures each_cut { EachCutStands (kept_beside self holding) }
 
         // After a stop, and behind a cut of the newest segment, recovery finds the pages of a cut.
         ensures stops { (kept_beside self holding).log.is_failed ≡ true

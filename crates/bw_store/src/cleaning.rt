@@ -2,10 +2,11 @@
 
 ghost use Rattle.std.specs.Prelude.{◌≡◌, ◌≤◌, ◌<◌, ◌+◌, ◌-◌, ◌^◌, ◌⊎◌, ◌++◌, ◌↔◌, Some, None, [], true, false, List, length, replicate, vec_len, slice_get, IfSome, MatchOption, OnOk, IsErrOf};
 ghost use Rattle.std.specs.Vec.{vec_capacity};
-ghost use Rattle.bw_store.specs.Cleaning.{MoveLeaves, CleanLeaves, HasBoxesBut, end_by};
-ghost use Rattle.bw_store.specs.Following.{Follows};
+ghost use Rattle.bw_store.specs.Cleaning.{MoveLeaves, CleanLeaves, HasBoxesBut, HasFloorBut, end_by};
+ghost use Rattle.bw_store.specs.Following.{Continues};
+ghost use Rattle.bw_store.specs.Kept.{EachCutStands};
 ghost use Rattle.bw_store.specs.Settled.{IsSettled};
-ghost use Rattle.bw_store.specs.Showing.{CleanShows, HasBoxesAfter};
+ghost use Rattle.bw_store.specs.Showing.{CleanShows, HasBoxesAfter, HasFloorAfter};
 
 use crate::fault::StoreFault;
 use crate::renewing::renew;
@@ -39,7 +40,11 @@ impl Store {
         ensures nothing_old { IsErrOf result StoreFault.NothingOld
             ↔ (length (kept_by self.old holding).log.live < 2) }
 
-        ensures follows { Follows (kept_by self.old holding) (kept_by self.new holding) }
+        // The floor is what is durable once a segment is given up, and stays else.
+        ensures floor { HasFloorAfter (kept_by self.old holding) result (kept_by self.new holding) }
+        ensures each_cut { EachCutStands (kept_by self.new holding) }
+
+        ensures follows { Continues (kept_by self.old holding) (kept_by self.new holding) }
         ensures boxes { HasBoxesAfter (kept_by self.old holding) result (kept_by self.new holding) }
     {
         let cleaned = self.clean_oldest()?;
@@ -56,7 +61,8 @@ impl Store {
         ensures nothing_old { IsErrOf result StoreFault.NothingOld
             ↔ (length (kept_by self.old holding).log.live < 2) }
 
-        ensures follows { Follows (kept_by self.old holding) (kept_by self.new holding) }
+        ensures floor { HasFloorBut (kept_by self.old holding) result (kept_by self.new holding) }
+        ensures follows { Continues (kept_by self.old holding) (kept_by self.new holding) }
         ensures boxes { HasBoxesBut (kept_by self.old holding) result (kept_by self.new holding) }
     {
         if self.log.live() < 2 {

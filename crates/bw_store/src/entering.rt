@@ -49,6 +49,8 @@ impl Store {
         ensures ok { OnOk result (kept_by self.new holding
             ≡ taken (kept_by self.old holding) lane item back) }
         ensures unchanged { OnErr result (kept_by self.new holding ≡ kept_by self.old holding) }
+        ensures stays { OnErr result
+            (self.new.intake.lanes.items ≡ self.old.intake.lanes.items) }
         ensures refused { IfErr result (IsWanting (kept_by self.old holding)) }
         ensures given { OnOk result (map given self.new.intake.lanes.items
             ≡ map given self.old.intake.lanes.items) }

@@ -8,6 +8,7 @@ ghost use Rattle.bw_log.specs.Views.{IsReady};
 ghost use Rattle.bw_log.specs.Appends.{refusal};
 ghost use Rattle.bw_store.specs.Faults.{FlushLeaves, AppendLeaves, IsNext, IsRefused, FlushAnswers, flush_refusal, refusal_by};
 ghost use Rattle.bw_store.specs.Following.{Follows, HasBoxes};
+ghost use Rattle.bw_store.specs.Kept.{EachCutStands};
 ghost use Rattle.bw_store.specs.Settled.{IsSettled};
 ghost use Rattle.bw_store.specs.Showing.{FlushShows};
 
@@ -42,6 +43,7 @@ impl Store {
         ensures answers { FlushAnswers (flush_refusal (kept_by self.old holding)) result }
         ensures leaves { FlushShows (kept_by self.old holding) result (kept_by self.new holding) }
         ensures settled { OnOk result (IsSettled (kept_by self.new holding)) }
+        ensures each_cut { EachCutStands (kept_by self.new holding) }
 
         ensures follows { Follows (kept_by self.old holding) (kept_by self.new holding) }
         ensures boxes { HasBoxes (kept_by self.old holding) (kept_by self.new holding) }

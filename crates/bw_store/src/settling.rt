@@ -1,6 +1,6 @@
 //! All that was accepted is taken and appended.
 
-ghost use Rattle.std.specs.Prelude.{◌≡◌, ◌<◌, Some, [], length, map, IfOk, IfErr, OnOk, MatchResult};
+ghost use Rattle.std.specs.Prelude.{◌≡◌, ◌<◌, Some, Err, [], true, length, map, IfOk, IfErr, OnOk, MatchResult};
 ghost use Rattle.std.specs.List.{AllByRecursion};
 ghost use Rattle.bw_page.specs.Leaves.{pages};
 ghost use Rattle.bw_page.specs.Standing.{Stand};
@@ -10,11 +10,11 @@ ghost use Rattle.bw_log.specs.Segments.{AreLive};
 ghost use Rattle.bw_versions.specs.Entries.{records};
 ghost use Rattle.bw_store.specs.History.{streams};
 ghost use Rattle.bw_versions.specs.Posted.{posted_of};
-ghost use Rattle.bw_store.specs.Kept.{Kept, TellsShare, start_of};
+ghost use Rattle.bw_store.specs.Kept.{EachCutStands, Kept, TellsShare, start_of};
 ghost use Rattle.bw_store.specs.Following.{Follows, HasBoxes, TookSome, RefusedAt};
 ghost use Rattle.bw_store.specs.Lanes.{known_at, StayDry};
 ghost use Rattle.bw_store.specs.Settled.{IsAllCut};
-ghost use Rattle.bw_store.specs.Showing.{SettleRefuses};
+ghost use Rattle.bw_store.specs.Showing.{Settles, SettleRefuses};
 
 use crate::fault::StoreFault;
 use crate::store::Store;
@@ -62,12 +62,22 @@ impl Store {
         ensures ends { map ring_of_feed feeds.new.items ≡ map ring_of_feed feeds.old.items }
         ensures accepted { map accepted feeds.new.items ≡ map accepted feeds.old.items }
         ensures refused { IfErr result (λ cause.
-            SettleRefuses (kept_by self.old holding) cause (kept_by self.new holding)) }
+            SettleRefuses (kept_by self.old holding) self.new.intake.lanes.items cause
+            (kept_by self.new holding)) }
+
+        // What was taken is flushed as `flush` does it, also where nothing waits: a log that failed
+        // answers `Failed`, and one without a further number `Spent`.
+        ensures settles { OnOk result
+            (Settles (kept_by self.old holding) (kept_by self.new holding)) }
+        ensures failed { (kept_by self.old holding).log.is_failed ≡ true
+            → result ≡ Err StoreFault.Failed }
+
         ensures published { OnOk result (posted_of (kept_by self.new holding).versions.published
             ≡ Some (record {
               start = start_of (kept_by self.new holding);
               entries = (kept_by self.new holding).entries;
             })) }
+        ensures each_cut { EachCutStands (kept_by self.new holding) }
         ensures follows { Follows (kept_by self.old holding) (kept_by self.new holding) }
         ensures boxes { HasBoxes (kept_by self.old holding) (kept_by self.new holding) }
     {
@@ -97,7 +107,8 @@ impl Store {
             (map taken self.new.intake.lanes.items ≡ map given self.old.intake.lanes.items) }
         ensures took { MatchResult result
             (λ _. TookSome (kept_by self.old holding) (kept_by self.new holding))
-            (λ cause. RefusedAt (kept_by self.old holding) cause (kept_by self.new holding)) }
+            (λ cause. RefusedAt (kept_by self.old holding) self.new.intake.lanes.items cause
+            (kept_by self.new holding)) }
     {
         let lanes = self.intake.lanes.as_slice().len();
         'lanes: for lane in 0..lanes {
@@ -119,7 +130,8 @@ impl Store {
             (StayDry self.old.intake.lanes.items self.new.intake.lanes.items) }
         ensures took { MatchResult result
             (λ _. TookSome (kept_by self.old holding) (kept_by self.new holding))
-            (λ cause. RefusedAt (kept_by self.old holding) cause (kept_by self.new holding)) }
+            (λ cause. RefusedAt (kept_by self.old holding) self.new.intake.lanes.items cause
+            (kept_by self.new holding)) }
     {
         'records: while self.intake.waits(lane) > 0 {
             self.take_waiting(lane)?;

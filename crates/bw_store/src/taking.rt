@@ -1,6 +1,6 @@
 //! One record is taken from a lane.
 
-ghost use Rattle.std.specs.Prelude.{◌≡◌, ◌≤◌, ◌<◌, ◌+◌, ◌-◌, Some, None, false, length, map, IfSome, IfNone, IfOk, IfErr, OnOk};
+ghost use Rattle.std.specs.Prelude.{◌≡◌, ◌≤◌, ◌<◌, ◌+◌, ◌-◌, Some, None, false, length, map, IfSome, IfNone, IfOk, IfErr, OnOk, OnErr};
 ghost use Rattle.std.specs.List.{AllByRecursion};
 ghost use Rattle.bw_codec.specs.Grammar.{body_bytes, IsBlock};
 ghost use Rattle.bw_codec.specs.Record.{key_of};
@@ -10,7 +10,7 @@ ghost use Rattle.bw_buffer.specs.Filling.{size_of};
 ghost use Rattle.bw_ring.specs.Ends.{given};
 ghost use Rattle.bw_store.specs.Planning.{listed};
 ghost use Rattle.bw_store.specs.Lanes.{IsNext, IsWaiting, Dries, TookKnown};
-ghost use Rattle.bw_store.specs.Taking.{TakeLeaves, ItemLeaves, IsPlan, IsUnplanned};
+ghost use Rattle.bw_store.specs.Taking.{TakeLeaves, WaitingLeaves, ItemLeaves, IsPlan, IsUnplanned};
 
 use crate::fault::StoreFault;
 use crate::planning::{Plan, length_of, planned_for};
@@ -28,8 +28,8 @@ impl Store {
         ensures count { length self.new.intake.lanes.items ≡ length self.old.intake.lanes.items }
         ensures dry { IfOk result (λ took. took ≡ false
             → Dries lane self.old.intake.lanes.items self.new.intake.lanes.items) }
-        ensures leaves { TakeLeaves lane (kept_by self.old holding) result
-            (kept_by self.new holding) }
+        ensures leaves { TakeLeaves lane self.new.intake.lanes.items (kept_by self.old holding)
+            result (kept_by self.new holding) }
     {
         let Some(item) = self.look(lane) else {
             return Ok(false);
@@ -49,8 +49,8 @@ impl Store {
             ≡ map given self.old.intake.lanes.items) }
         ensures known { OnOk result
             (TookKnown lane self.old.intake.lanes.items self.new.intake.lanes.items) }
-        ensures leaves { ItemLeaves lane (kept_by self.old holding) result
-            (kept_by self.new holding) }
+        ensures leaves { WaitingLeaves lane self.new.intake.lanes.items
+            (kept_by self.old holding) result (kept_by self.new holding) }
     {
         let item = self.intake.first(lane);
         self.take_item(lane, item)
@@ -67,7 +67,9 @@ impl Store {
             ≡ map given self.old.intake.lanes.items) }
         ensures known { OnOk result
             (TookKnown lane self.old.intake.lanes.items self.new.intake.lanes.items) }
-        ensures leaves { ItemLeaves lane (kept_by self.old holding) result
+        ensures stays { OnErr result
+            (self.new.intake.lanes.items ≡ self.old.intake.lanes.items) }
+        ensures leaves { ItemLeaves lane item (kept_by self.old holding) result
             (kept_by self.new holding) }
     {
         self.goes_on()?;
@@ -88,7 +90,9 @@ impl Store {
             ≡ map given self.old.intake.lanes.items) }
         ensures known { OnOk result
             (TookKnown lane self.old.intake.lanes.items self.new.intake.lanes.items) }
-        ensures leaves { ItemLeaves lane (kept_by self.old holding) result
+        ensures stays { OnErr result
+            (self.new.intake.lanes.items ≡ self.old.intake.lanes.items) }
+        ensures leaves { ItemLeaves lane item (kept_by self.old holding) result
             (kept_by self.new holding) }
     {
         let plan = self.plan(page, &item)?;

@@ -19,8 +19,8 @@ impl Store {
     ghost use Rattle.bw_store.specs.Views.{kept_by, IsSound};
 
     /// Takes records in rounds over lanes 0, 1, .., one from each that has one, until `limit` of
-    /// them are taken or a round took none. A record's blocks go into one frame; where they do not
-    /// fit the frame in the making, that one is appended first.
+    /// them are taken or a round took none. A record's blocks go into one frame: they are put into
+    /// the frame in the making, and where they do not fit there, that one is appended first.
     ///
     /// A refusal tells how many records were taken before it. The refused one is still the first in
     /// its ring: all growths, reads and appends come before a record is taken. `Failed` comes only
@@ -37,11 +37,14 @@ impl Store {
         ensures within { IfOk result (λ n. n ≤ limit) }
         ensures dry { IfOk result (λ n. n < limit → AreDry self.new.intake.lanes.items) }
 
-        // `Failed` exactly where an append failed before; every other cause with its reason.
+        // One record after the other, and no frame before one that fits. `Failed` exactly where an
+        // append failed before; every other cause with its reason. The refused record is still the
+        // first of its lane.
         ensures took { IfOk result (λ n.
             TookInTurn n (kept_by self.old holding) (kept_by self.new holding)) }
         ensures refused { IfErr result (λ fault. RefusedAfter fault.taken
-            (kept_by self.old holding) fault.cause (kept_by self.new holding)) }
+            (kept_by self.old holding) self.new.intake.lanes.items fault.cause
+            (kept_by self.new holding)) }
     {
         let mut taken = 0;
         'rounds: while taken < limit {
@@ -61,7 +64,8 @@ impl Store {
         ensures sound { IsSound self.new holding }
         ensures turned { (first : Kept) → TookInTurn taken first (kept_by self.old holding)
             → MatchResult result (λ n. TookInTurn n first (kept_by self.new holding))
-            (λ fault. RefusedAfter fault.taken first fault.cause (kept_by self.new holding)) }
+            (λ fault. RefusedAfter fault.taken first self.new.intake.lanes.items fault.cause
+            (kept_by self.new holding)) }
         ensures within { IfOk result (λ n. (taken ≤ n) × (n ≤ limit)) }
         ensures dry { IfOk result (λ n. n ≡ taken → taken < limit
             → AreDry self.new.intake.lanes.items) }
@@ -82,8 +86,8 @@ impl Store {
         ensures count { length self.new.intake.lanes.items ≡ length self.old.intake.lanes.items }
         ensures turned { MatchResult result
             (λ n. TookInTurn n (kept_by self.old holding) (kept_by self.new holding))
-            (λ fault. RefusedAfter fault.taken (kept_by self.old holding) fault.cause
-            (kept_by self.new holding)) }
+            (λ fault. RefusedAfter fault.taken (kept_by self.old holding)
+            self.new.intake.lanes.items fault.cause (kept_by self.new holding)) }
         ensures within { MatchResult result (λ n. n ≤ limit) (λ fault. fault.taken ≤ limit) }
         ensures dry { IfOk result (λ n. n ≡ 0 → 0 < limit → AreDry self.new.intake.lanes.items) }
     {
@@ -107,7 +111,8 @@ impl Store {
         ensures count { length self.new.intake.lanes.items ≡ length self.old.intake.lanes.items }
         ensures turned { (first : Kept) → TookInTurn taken first (kept_by self.old holding)
             → MatchResult result (λ n. TookInTurn n first (kept_by self.new holding))
-            (λ fault. RefusedAfter fault.taken first fault.cause (kept_by self.new holding)) }
+            (λ fault. RefusedAfter fault.taken first self.new.intake.lanes.items fault.cause
+            (kept_by self.new holding)) }
         ensures within { MatchResult result (λ n. (taken ≤ n) × (n ≤ taken + 1))
             (λ fault. fault.taken ≡ taken) }
         ensures dry { IfOk result (λ n. n ≡ taken

@@ -3,6 +3,7 @@
 mod asking;
 mod boxes;
 mod cleaning;
+mod cutting;
 mod evicting;
 mod opening;
 mod putting;

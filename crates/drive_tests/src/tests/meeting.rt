@@ -89,22 +89,42 @@ impl Gate for Sums {
     }
 }
 
-// The first step that does not go as told, and the one behind the last where the sums are others.
-fn wrong_sums<R: AllocGlobal + Threads + Wait>(rt: &R) -> Option<(&'static str, usize)> {
+/// A ring of one place, one try and one turn at most: whether the turn comes early or late, one of three records is given up, the
+/// second or the third.
+const GIVEN_UP: &Table = &Table {
+    name: "given up",
+    writers: 1,
+    places: 1,
+    boxes: 8,
+    capacity: 65536,
+    fuse: None,
+    steps: &[Drives(Run(Part(0, 3, 10_000), Pace(1, 1, 0, 1), Ok((1, 2))))],
+};
+
+// What a gate is told in the runs of a table, before records and behind them; none where a step does not go as told.
+fn sums<R: AllocGlobal + Threads + Wait>(rt: &R, table: &'static Table) -> Option<(u64, u64)> {
     let gate = Sums {
         before: AtomicU64::new(0),
         after: AtomicU64::new(0),
     };
-    if let Err(step) = walked(rt, HUNDREDS, &gate) {
-        return Some((HUNDREDS.name, step));
+    if walked(rt, table, &gate).is_err() {
+        return None;
     }
-    let before = gate.before.load(Ordering::SeqCst);
-    let after = gate.after.load(Ordering::SeqCst);
+    Some((
+        gate.before.load(Ordering::SeqCst),
+        gate.after.load(Ordering::SeqCst),
+    ))
+}
+
+// The table of which the sums are others. A record that is given up passes the gate on both sides.
+fn wrong_sums<R: AllocGlobal + Threads + Wait>(rt: &R) -> Option<(&'static str, usize)> {
     // Twice 1 + 2 + .. + 300, and 300 times a million for writer 1.
-    if before == 300_090_300 && after == 300_090_300 {
-        None
-    } else {
-        Some((HUNDREDS.name, HUNDREDS.steps.len()))
+    if sums(rt, HUNDREDS) != Some((300_090_300, 300_090_300)) {
+        return Some((HUNDREDS.name, 0));
+    }
+    match sums(rt, GIVEN_UP) {
+        Some((3, 3)) | Some((6, 6)) => None,
+        _ => Some((GIVEN_UP.name, 0)),
     }
 }
 

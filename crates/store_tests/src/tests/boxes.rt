@@ -1,6 +1,6 @@
 //! Boxes in memory.
 
-use bw_device::{Desk, FuseSegment, MemSegment, Segment};
+use bw_device::{DeadSegment, Desk, FuseSegment, MemSegment, Segment};
 use std::alloc::Global;
 
 /// The least capacity of a box for frames of 16,384 bytes.
@@ -24,7 +24,7 @@ pub(super) fn maker_of(alloc: Global, capacity: u64) -> Option<Maker> {
 
 impl Maker {
     /// A box more, with these bytes.
-    fn push(&mut self, bytes: &[u8], boxes: &mut Vec<Box<dyn Segment>>) -> Option<()> {
+    pub(super) fn push(&mut self, bytes: &[u8], boxes: &mut Vec<Box<dyn Segment>>) -> Option<()> {
         let lease = self.desk.take().ok()?;
         let segment = MemSegment::with_bytes(self.alloc, lease, self.capacity, bytes).ok()?;
         boxes.push(Box::new(self.alloc, segment).ok()?).ok()
@@ -55,6 +55,22 @@ impl Maker {
         let segment = FuseSegment::new(inner, fuse.0, fuse.1);
         boxes.push(Box::new(self.alloc, segment).ok()?).ok()
     }
+}
+
+/// Four boxes, the first of which fails for good after so many calls and keeps so many bytes of an
+/// append.
+pub(super) fn dying(alloc: Global, dead: (u64, u64)) -> Option<Supply> {
+    let mut maker = maker_of(alloc, LEAST)?;
+    let mut boxes: Vec<Box<dyn Segment>> = Vec::new(alloc);
+    let lease = maker.desk.take().ok()?;
+    let inner = MemSegment::new(alloc, lease, LEAST).ok()?;
+    let segment = DeadSegment::new(inner, dead.0, dead.1, 0);
+    boxes.push(Box::new(alloc, segment).ok()?).ok()?;
+    maker.fill(3, &mut boxes)?;
+    Some(Supply {
+        boxes,
+        more: Vec::new(alloc),
+    })
 }
 
 /// The boxes that a store is opened over, and those that there are more.

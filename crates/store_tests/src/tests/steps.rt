@@ -154,7 +154,7 @@ fn answers(alloc: Global, store: &mut Store, step: &Step) -> bool
 fn changes<R: Wait>(rt: &R, store: &mut Store, step: &Step) -> bool
     requires { IsSound store.old holding }
     ensures sound { IsSound store.new holding }
-    ensures follows { Follows (kept_by store.old holding) (kept_by store.new holding) }
+    ensures rings { (kept_by store.new holding).rings ≡ (kept_by store.old holding).rings }
 {
     match step {
         Turn(limit, taken) => takes(store, *limit, Ok(*taken)),

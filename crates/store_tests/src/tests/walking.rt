@@ -15,7 +15,7 @@ use std::mem;
 use std::sync::Wait;
 
 // The first step that did not go as told.
-fn wrong_step<R: AllocGlobal + Wait>(rt: &R, opened: &mut Held, steps: &[Step]) -> Option<usize>
+pub(super) fn wrong_step<R: AllocGlobal + Wait>(rt: &R, opened: &mut Held, steps: &[Step]) -> Option<usize>
     requires sound { IsSoundBeside opened.old.store holding }
     requires feeds { map ring_of_feed opened.old.feeds.items
         ≡ (kept_beside opened.old.store holding).rings }

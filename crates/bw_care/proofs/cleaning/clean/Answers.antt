@@ -9,7 +9,7 @@ use Rattle.bw_care.proofs.cleaning.clean.Goals as goal
 pub returns-in-Err-clause-refused : goal.returns-in-Err-clause-refused
 returns-in-Err-clause-refused g c =
     let two : 2 ≤ length (seen c.args.log.now (λ b. (goal.Segment-dyn g b).holding b.1)).live = omega (arith, c.if-live-lt2.false, c.live.ensures) in
-    (two, sym c.if-is_failed.ensures, stopped_first _ _ NoMemory (sym c.if-is_failed.ensures) refl)
+    (two, sym c.if-is_failed.ensures, stopped_first _ _ NoMemory (sym c.if-is_failed.ensures) refl tt)
 
 pub returns-in-Err-move_pages-clause-stands : goal.returns-in-Err-move_pages-clause-stands
 returns-in-Err-move_pages-clause-stands g c = λ leaves stand. stopped_stands _ _ c.in-Err-move_pages.fault c.in-Err-move_pages.ensures.refused leaves stand

@@ -25,7 +25,7 @@ pub returns-in_err-at-clause-refused : goal.returns-in_err-at-clause-refused
 returns-in_err-at-clause-refused g c =
     let p = err_from_is_err_and c.from_residual.result c.from_residual.ensures.1 in
     rw (p.1, p.2) (stopped_at _ _ _ c.args.pages.now c.loop-at.at c.loop-at.frames c.in_err-at.field-0.0 c.requires.pages c.loop-at.invariant.moved
-    c.in_err-at.ensures.refused)
+    c.in_err-at.ensures.refused c.in_err-at.ensures.reason)
 
 pub loop-at-preserved : goal.loop-at-preserved
 loop-at-preserved g c =

@@ -3,7 +3,7 @@ use Rattle.std.proofs.lemmas.Result.{err_from_is_err_and}
 use Rattle.bw_buffer.specs.Filling.{frame_of}
 use Rattle.bw_care.specs.Views.{seen}
 use Rattle.bw_care.proofs.BasesLeave.{next_range}
-use Rattle.bw_care.proofs.CleaningSteps.{fill_refused, append_refused, sends_of, short_enough, follows_sent, moved_sent, other_fault, full_sent}
+use Rattle.bw_care.proofs.CleaningSteps.{fill_refused, fill_reason, append_refused, append_reason, next_sent, sends_of, short_enough, follows_sent, moved_sent, other_fault, full_sent}
 use Rattle.bw_care.proofs.moving.move_some.Goals as goal
 
 pub new-requires-clause-numbered : goal.new-requires-clause-numbered
@@ -13,6 +13,12 @@ pub returns-in_err-count-clause-refused : goal.returns-in_err-count-clause-refus
 returns-in_err-count-clause-refused g c =
     let p = err_from_is_err_and c.from_residual-in_err-count.result c.from_residual-in_err-count.ensures.1 in
     rw (p.1, p.2) (fill_refused _ _ c.in_err-count.field-0.0 c.in_err-count.ensures.stops (other_fault c.in_err-count.field-0.0 c.in_err-count.ensures.paged))
+
+pub returns-in_err-count-clause-reason : goal.returns-in_err-count-clause-reason
+returns-in_err-count-clause-reason g c =
+    let p = err_from_is_err_and c.from_residual-in_err-count.result c.from_residual-in_err-count.ensures.1 in
+    rw (p.1, p.2) (fill_reason _ _ c.in_err-count.field-0.0 c.args.pages.now c.in_err-count.ensures.stops
+    (other_fault c.in_err-count.field-0.0 c.in_err-count.ensures.paged) c.requires.some)
 
 pub append_care-requires-clause-follows : goal.append_care-requires-clause-follows
 append_care-requires-clause-follows g c =
@@ -31,6 +37,16 @@ returns-in_err-append_care-clause-refused g c =
     rw (p.1, p.2) (append_refused _ _ (frame_of c.seal.new.self) _ _ c.in_err-append_care.field-0.0 s.holds c.in_ok-count.ensures.stops c.requires.works
     (short_enough s c.bytes.ensures.fits) c.in_err-append_care.ensures.leaves.answers c.in_err-append_care.ensures.leaves.device
     c.in_err-append_care.ensures.leaves.log)
+
+pub returns-in_err-append_care-clause-reason : goal.returns-in_err-append_care-clause-reason
+returns-in_err-append_care-clause-reason g c =
+    let p = err_from_is_err_and c.from_residual-in_err-append_care.result c.from_residual-in_err-append_care.ensures.1 in
+    let filled = c.in_ok-count.ensures.filled in
+    let s = sends_of _ c.in_ok-buffer.buffer c.fill.new.buffer c.seal.new.self c.args.pages.now c.in_ok-count.count c.in-Some.number c.limit.result
+    c.in_ok-buffer.ensures c.limit.ensures filled.2 filled.3 c.seal.ensures in
+    rw (p.1, p.2) (append_reason _ _ c.args.pages.now (frame_of c.seal.new.self) c.in_err-append_care.field-0.0
+    (next_sent _ c.fill.new.buffer c.seal.new.self c.args.pages.now c.in_ok-count.count c.in-Some.number s filled.0 filled.1 c.seal.ensures filled.4)
+    c.in_ok-count.ensures.stops c.requires.works (short_enough s c.bytes.ensures.fits) c.in_err-append_care.ensures.leaves.answers)
 
 pub returns-clause-moved : goal.returns-clause-moved
 returns-clause-moved g c =

@@ -1,5 +1,6 @@
-use Rattle.std.proofs.Common.{inl, inr, refl}
+use Rattle.std.proofs.Common.{◌+◌, ap, ◌∙◌, inl, inr, refl}
 use Rattle.std.proofs.lemmas.Result.{err_from_is_err_and}
+use Rattle.bw_drive.proofs.Paced.{paced_at, paces_more, stops_as_planned}
 use Rattle.bw_drive.proofs.Runs.{runs_none, runs_then, stops_then}
 use Rattle.bw_drive.proofs.tending.tend.Goals as goal
 
@@ -7,18 +8,24 @@ pub returns-then-not-are_all-clause-runs : goal.returns-then-not-are_all-clause-
 returns-then-not-are_all-clause-runs g c = runs_none _ _
 
 pub turns-init : goal.turns-init
-turns-init g c = (c.requires.sound, runs_none _ _)
+turns-init g c = record { sound = c.requires.sound; runs = runs_none _ _; counted = c.requires.none; paced = refl }
 
 pub turns-preserved : goal.turns-preserved
-turns-preserved g c = (c.turn_and_tend.ensures.sound, runs_then _ _ _ _ c.turns.invariant.1 c.turn_and_tend.ensures.runs)
+turns-preserved g c = record {
+  sound = c.turn_and_tend.ensures.sound;
+  runs = runs_then _ _ _ _ c.turns.invariant.runs c.turn_and_tend.ensures.runs;
+  counted = c.turn_and_tend.ensures.counted ∙ ap (λ n. n + 1) c.turns.invariant.counted;
+  paced = paces_more c.args.plan c.turns.turn c.from-every.result _ _ _ _ c.from-every.ensures refl c.turns.invariant.paced
+      c.in_ok-turn_and_tend.ensures.paced;
+}
 
 pub returns-in_err-turn_and_tend-clause-runs : goal.returns-in_err-turn_and_tend-clause-runs
-returns-in_err-turn_and_tend-clause-runs g c = runs_then _ _ _ _ c.turns.invariant.1 c.turn_and_tend.ensures.runs
+returns-in_err-turn_and_tend-clause-runs g c = runs_then _ _ _ _ c.turns.invariant.runs c.turn_and_tend.ensures.runs
 
 pub returns-in_err-turn_and_tend-clause-refused : goal.returns-in_err-turn_and_tend-clause-refused
 returns-in_err-turn_and_tend-clause-refused g c =
     let p = err_from_is_err_and c.from_residual.result c.from_residual.ensures.1 in
-    rw (p.1, p.2) (inr (stops_then _ _ _ _ c.in_err-turn_and_tend.field-0.0 c.turns.invariant.1 c.in_err-turn_and_tend.ensures.refused))
+    rw (p.1, p.2) (inr (stops_then _ _ _ _ c.in_err-turn_and_tend.field-0.0 c.turns.invariant.runs c.in_err-turn_and_tend.ensures.refused))
 
 pub returns-then-not-are_all-clause-refused : goal.returns-then-not-are_all-clause-refused
 returns-then-not-are_all-clause-refused g c = inl (refl, refl)

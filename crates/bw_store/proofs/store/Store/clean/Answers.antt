@@ -1,6 +1,7 @@
 use Rattle.std.proofs.Common.{inl, ◌∙◌}
 use Rattle.std.proofs.lemmas.Result.{err_from_is_err_and}
-use Rattle.bw_store.proofs.Showing.{clean_hides, clean_shows, hides_follows, shows_follows, shows_roster}
+use Rattle.bw_store.specs.Views.{kept_by}
+use Rattle.bw_store.proofs.Showing.{clean_hides, clean_shows, hides_continues, hides_floor, shows_continues, shows_floor, shows_roster}
 use Rattle.bw_store.proofs.store.Store.clean.Goals as goal
 
 pub returns-in_err-cleaned-clause-leaves : goal.returns-in_err-cleaned-clause-leaves
@@ -14,13 +15,21 @@ returns-in_err-publish-clause-leaves g c =
     rw (p.1, p.2) (clean_hides _ _ _ _ c.in_ok-cleaned.ensures.leaves c.in_err-publish.ensures.leaves)
 
 pub returns-in_err-publish-clause-follows : goal.returns-in_err-publish-clause-follows
-returns-in_err-publish-clause-follows g c = hides_follows _ _ _ c.in_ok-cleaned.ensures.follows c.in_err-publish.ensures.leaves
+returns-in_err-publish-clause-follows g c = hides_continues _ _ _ c.in_ok-cleaned.ensures.follows c.in_err-publish.ensures.leaves
 
 pub returns-clause-leaves : goal.returns-clause-leaves
 returns-clause-leaves g c = clean_shows _ _ _ _ c.in_ok-cleaned.ensures.leaves c.in_ok-publish.ensures.leaves
 
 pub returns-clause-follows : goal.returns-clause-follows
-returns-clause-follows g c = shows_follows _ _ _ c.in_ok-cleaned.ensures.follows c.in_ok-publish.ensures.leaves
+returns-clause-follows g c = shows_continues _ _ _ c.in_ok-cleaned.ensures.follows c.in_ok-publish.ensures.leaves
 
 pub returns-clause-boxes : goal.returns-clause-boxes
 returns-clause-boxes g c = shows_roster _ _ c.in_ok-publish.ensures.leaves ∙ c.in_ok-cleaned.ensures.boxes
+
+pub returns-in_err-publish-clause-floor : goal.returns-in_err-publish-clause-floor
+returns-in_err-publish-clause-floor g c =
+    let p = err_from_is_err_and c.from_residual-in_err-publish.result c.from_residual-in_err-publish.ensures.1 in
+    rw (p.1, p.2) (hides_floor (kept_by c.args.self.now (λ z. (goal.Segment-dyn g z).holding z.1)) _ _ c.in_ok-cleaned.cleaned c.in_ok-cleaned.ensures.floor c.in_ok-cleaned.ensures.boxes c.in_err-publish.ensures.leaves)
+
+pub returns-clause-floor : goal.returns-clause-floor
+returns-clause-floor g c = shows_floor (kept_by c.args.self.now (λ z. (goal.Segment-dyn g z).holding z.1)) _ _ c.in_ok-cleaned.cleaned c.in_ok-cleaned.ensures.floor c.in_ok-publish.ensures.leaves

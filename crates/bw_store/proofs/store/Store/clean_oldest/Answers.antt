@@ -10,14 +10,30 @@ use Rattle.bw_store.specs.Views.{kept_by}
 use Rattle.bw_store.proofs.FollowMore.{follows_as, follows_left}
 use Rattle.bw_store.proofs.Refusing.{never_nothing}
 use Rattle.bw_store.proofs.SettledMore.{settled_by}
-use Rattle.bw_store.proofs.CleanedMore.{live_stay, move_follows, move_boxes, clean_leaves, reserve_leaves, follows_via, not_nothing}
+use Rattle.bw_store.proofs.CleanedMore.{live_stay, move_floor, move_follows, move_boxes, clean_leaves, reserve_leaves, continues_via, not_nothing}
 use Rattle.bw_store.proofs.store.Store.clean_oldest.Goals as goal
 
 pub returns-then-live-lt2-clause-follows : goal.returns-then-live-lt2-clause-follows
-returns-then-live-lt2-clause-follows g c = (follows_as _ _ refl).follows
+returns-then-live-lt2-clause-follows g c = (follows_as _ _ refl).follows.continues
 
 pub returns-in_err-flush_making-clause-follows : goal.returns-in_err-flush_making-clause-follows
-returns-in_err-flush_making-clause-follows g c = (follows_left _ _ _ c.flush_making.ensures.leaves).follows
+returns-in_err-flush_making-clause-follows g c = (follows_left _ _ _ c.flush_making.ensures.leaves).follows.continues
+
+pub returns-in_err-flush_making-clause-floor : goal.returns-in_err-flush_making-clause-floor
+returns-in_err-flush_making-clause-floor g c =
+    let p = err_from_is_err_and c.from_residual.result c.from_residual.ensures.1 in
+    rw p.1 (follows_left _ _ _ c.flush_making.ensures.leaves).follows.floor
+
+pub returns-in_err-reserve_cuts-clause-floor : goal.returns-in_err-reserve_cuts-clause-floor
+returns-in_err-reserve_cuts-clause-floor g c =
+    let p = err_from_is_err_and c.from_residual-in_err-reserve_cuts.result c.from_residual-in_err-reserve_cuts.ensures.1 in
+    rw p.1 (ap (λ (s : Kept). s.floor) c.reserve_cuts.ensures.same ∙ (follows_left _ _ _ c.flush_making.ensures.leaves).follows.floor)
+
+pub returns-clause-floor : goal.returns-clause-floor
+returns-clause-floor g c =
+    move_floor (kept_by c.args.self.now (λ z. (goal.Segment-dyn g z).holding z.1)) _ _ _
+    (ap (λ (s : Kept). s.floor) c.reserve_cuts.ensures.same ∙ (follows_left _ _ _ c.flush_making.ensures.leaves).follows.floor)
+    c.move_pages.ensures.leaves
 
 pub returns-in_err-flush_making-clause-nothing_old : goal.returns-in_err-flush_making-clause-nothing_old
 returns-in_err-flush_making-clause-nothing_old g c =
@@ -30,7 +46,7 @@ returns-in_err-flush_making-clause-nothing_old g c =
     rw (p.1, p.2) (λ e. absurd (never cc), λ few. absurd (omega arith))
 
 pub returns-in_err-reserve_cuts-clause-follows : goal.returns-in_err-reserve_cuts-clause-follows
-returns-in_err-reserve_cuts-clause-follows g c = rw c.reserve_cuts.ensures.same (follows_left _ _ _ c.flush_making.ensures.leaves).follows
+returns-in_err-reserve_cuts-clause-follows g c = rw c.reserve_cuts.ensures.same (follows_left _ _ _ c.flush_making.ensures.leaves).follows.continues
 
 pub move_pages-requires-clause-settled : goal.move_pages-requires-clause-settled
 move_pages-requires-clause-settled g c =
@@ -58,7 +74,7 @@ returns-clause-follows g c =
     let floor = ap (λ (s : Kept). s.floor) c.reserve_cuts.ensures.same in
     let durable = ap (λ (s : Kept). s.durable) c.reserve_cuts.ensures.same in
     let low = c.flush_making.ensures.sound.floor in
-    follows_via _ _ _ _ (follows_left _ _ _ c.flush_making.ensures.leaves).follows c.reserve_cuts.ensures.same
+    continues_via _ _ _ _ (follows_left _ _ _ c.flush_making.ensures.leaves).follows c.reserve_cuts.ensures.same
     (move_follows _ _ _ (omega arith) c.move_pages.ensures.leaves)
 
 pub returns-clause-boxes : goal.returns-clause-boxes

@@ -14,7 +14,7 @@ slice_bounds-publish_up_to-end g c =
 pub returns-clause-sound : goal.returns-clause-sound
 returns-clause-sound g c =
     publish_sound (kept_by c.args.self.now (λ z. (goal.Segment-dyn g z).holding z.1)) c.publish_up_to.new.self c.durable_end-end.result c.entries.result.now c.requires.sound
-    c.durable_end-end.ensures c.entries.ensures c.publish_up_to.ensures.same c.publish_up_to.ensures.begins
+    c.durable_end-end.ensures c.entries.ensures c.publish_up_to.ensures.same c.publish_up_to.ensures.begins c.publish_up_to.ensures.whole
 
 pub returns-clause-leaves : goal.returns-clause-leaves
 returns-clause-leaves g c =

@@ -1,12 +1,11 @@
-use Rattle.std.proofs.Common.{false, ap, sym, inl, ◌∙◌, map}
+use Rattle.std.proofs.Common.{false, Err, ap, sym, inl, inr, ◌∙◌, map}
 use Rattle.std.proofs.lemmas.Result.{err_from_is_err_and}
 use Rattle.bw_ring.specs.Ends.{taken, ring_of_lane}
 use Rattle.bw_store.specs.Kept.{Kept}
-use Rattle.bw_store.proofs.FollowMore.{some_fault, refused_follows, flushed_follows, flushed_boxes}
+use Rattle.bw_store.proofs.FollowMore.{failed_at, failed_flushes, failed_never, refused_follows, flushed_follows, flushed_boxes}
 use Rattle.bw_store.proofs.Laned.{exact, writers_of}
-use Rattle.bw_store.proofs.Refusing.{flush_refuses}
 use Rattle.bw_store.proofs.SettledMore.{settled_by}
-use Rattle.bw_store.proofs.Showing.{hides_follows, hides_roster, settle_done, settle_hides, shows_all, shows_follows, shows_roster}
+use Rattle.bw_store.proofs.Showing.{hides_follows, hides_roster, settle_done, settle_hides, settle_shows, shows_all, shows_follows, shows_roster}
 use Rattle.bw_store.proofs.store.Store.settle.Goals as goal
 
 pub returns-in_err-take_known-clause-refused : goal.returns-in_err-take_known-clause-refused
@@ -16,14 +15,13 @@ returns-in_err-take_known-clause-refused g c =
 
 pub returns-in_err-take_known-clause-follows : goal.returns-in_err-take_known-clause-follows
 returns-in_err-take_known-clause-follows g c =
-    rw (sym c.look_beside.ensures.same) (refused_follows _ _ _ c.in_err-take_known.ensures.took)
+    rw (sym c.look_beside.ensures.same) (refused_follows _ _ _ _ c.in_err-take_known.ensures.took)
 
 pub returns-in_err-flush_making-clause-refused : goal.returns-in_err-flush_making-clause-refused
 returns-in_err-flush_making-clause-refused g c =
     let p = err_from_is_err_and c.from_residual-in_err-flush_making.result c.from_residual-in_err-flush_making.ensures.1 in
     rw (p.1, p.2, sym c.look_beside.ensures.same)
-    (inl (some_fault _ _ _ c.in_err-flush_making.field-0.0 c.in_ok-take_known.ensures.took
-    (flush_refuses _ _ _ c.in_err-flush_making.ensures.answers c.in_err-flush_making.ensures.leaves)))
+    (inr (inl (_, c.in_ok-take_known.ensures.took, c.in_err-flush_making.ensures.answers, c.in_err-flush_making.ensures.leaves)))
 
 pub returns-in_err-flush_making-clause-follows : goal.returns-in_err-flush_making-clause-follows
 returns-in_err-flush_making-clause-follows g c =
@@ -34,7 +32,7 @@ returns-in_err-publish-clause-refused g c =
     let p = err_from_is_err_and c.from_residual-in_err-publish.result c.from_residual-in_err-publish.ensures.1 in
     rw (p.1, p.2, sym c.look_beside.ensures.same)
     (settle_hides _ _ _ _ _ c.in_ok-take_known.ensures.took c.in_ok-flush_making.ensures.answers c.in_ok-flush_making.ensures.leaves
-    c.in_err-publish.ensures.leaves)
+    c.in_err-publish.ensures.leaves _)
 
 pub returns-in_err-publish-clause-follows : goal.returns-in_err-publish-clause-follows
 returns-in_err-publish-clause-follows g c =
@@ -73,7 +71,7 @@ returns-clause-writers g c =
     writers_of c.publish.new.self.intake.lanes.items _ _
     (c.look_beside.ensures.ends ∙ c.requires.feeds
     ∙ sym (ap (λ i. map ring_of_lane i.lanes.items) (c.publish.ensures.intake ∙ c.flush_making.ensures.intake)
-    ∙ c.in_ok-take_known.ensures.took.1.turned.follows.rings
+    ∙ c.in_ok-take_known.ensures.took.1.turned.follows.continues.rings
     ∙ ap (λ (s : Kept). s.rings) c.look_beside.ensures.same)) c.publish.ensures.sound.writers
 
 pub returns-clause-last_cut : goal.returns-clause-last_cut
@@ -90,3 +88,32 @@ pub returns-clause-published : goal.returns-clause-published
 returns-clause-published g c =
     shows_all _ _ (settled_by false _ _ _ c.in_ok-flush_making.ensures.sound c.in_ok-flush_making.ensures.answers c.in_ok-flush_making.ensures.leaves).cut
     c.in_ok-publish.ensures.leaves
+
+pub returns-clause-settles : goal.returns-clause-settles
+returns-clause-settles g c =
+    rw (sym c.look_beside.ensures.same)
+    (settle_shows _ _ _ _ _ c.in_ok-take_known.ensures.took c.in_ok-flush_making.ensures.answers c.in_ok-flush_making.ensures.leaves
+    c.in_ok-publish.ensures.leaves)
+
+pub returns-in_err-take_known-clause-failed : goal.returns-in_err-take_known-clause-failed
+returns-in_err-take_known-clause-failed g c =
+    let p = err_from_is_err_and c.from_residual.result c.from_residual.ensures.1 in
+    let same = ap (λ (s : Kept). s.log.is_failed) c.look_beside.ensures.same in
+    rw (p.1, p.2) (λ failed. ap (λ f. Err f) (failed_at _ _ _ _ (same ∙ failed) c.in_err-take_known.ensures.took))
+
+pub returns-in_err-flush_making-clause-failed : goal.returns-in_err-flush_making-clause-failed
+returns-in_err-flush_making-clause-failed g c =
+    let p = err_from_is_err_and c.from_residual-in_err-flush_making.result c.from_residual-in_err-flush_making.ensures.1 in
+    let same = ap (λ (s : Kept). s.log.is_failed) c.look_beside.ensures.same in
+    rw (p.1, p.2)
+    (λ failed. ap (λ f. Err f) (failed_flushes _ _ _ (same ∙ failed) c.in_ok-take_known.ensures.took c.in_err-flush_making.ensures.answers))
+
+pub returns-in_err-publish-clause-failed : goal.returns-in_err-publish-clause-failed
+returns-in_err-publish-clause-failed g c =
+    let same = ap (λ (s : Kept). s.log.is_failed) c.look_beside.ensures.same in
+    λ failed. absurd (failed_never _ _ _ (same ∙ failed) c.in_ok-take_known.ensures.took c.in_ok-flush_making.ensures.answers)
+
+pub returns-clause-failed : goal.returns-clause-failed
+returns-clause-failed g c =
+    let same = ap (λ (s : Kept). s.log.is_failed) c.look_beside.ensures.same in
+    λ failed. absurd (failed_never _ _ _ (same ∙ failed) c.in_ok-take_known.ensures.took c.in_ok-flush_making.ensures.answers)

@@ -12,3 +12,6 @@ returns-clause-stops g c = stop_handed _ c.requires _ _ c.into_segments-live.ens
 
 pub returns-clause-cuts : goal.returns-clause-cuts
 returns-clause-cuts g c = cut_handed _ c.requires _ _ c.into_segments-live.ensures.live c.into_segments-live.ensures.spares
+
+pub returns-clause-each_cut : goal.returns-clause-each_cut
+returns-clause-each_cut g c = c.requires.stands

@@ -25,7 +25,7 @@ returns-clause-turned g c = c.rounds.invariant.turned.turned
 pub returns-in_err-more-clause-turned : goal.returns-in_err-more-clause-turned
 returns-in_err-more-clause-turned g c =
     let p = err_from_is_err_and c.from_residual.result c.from_residual.ensures.1 in
-    rw (p.1, p.2) (refused_turned _ _ _ (c.in_err-more.ensures.turned _ c.rounds.invariant.turned))
+    rw (p.1, p.2) (refused_turned _ _ _ _ (c.in_err-more.ensures.turned _ c.rounds.invariant.turned))
 
 pub returns-then-more-taken-clause-dry : goal.returns-then-more-taken-clause-dry
 returns-then-more-taken-clause-dry g c = λ below. c.in_ok-more.ensures.dry c.if-more-taken.true (omega arith)

@@ -1,0 +1,29 @@
+-- Whether a record's blocks have room in the frame in the making.
+
+use Rattle.std.specs.Prelude.{ℕ, ◌+◌, ◌-◌, ◌≤◌, List, length, slice_get}
+use Rattle.std.specs.Option.{unwrap_or}
+use Rattle.bw_codec.specs.Grammar.{body_bytes}
+use Rattle.bw_codec.specs.declared.record.Record.{Record}
+use Rattle.bw_codec.specs.declared.block.Place.{Place}
+use Rattle.bw_codec.specs.declared.block.Block.{Block}
+use Rattle.bw_page.specs.Leaves.{directed_at}
+use Rattle.bw_buffer.specs.Filling.{frame_of, size_of}
+use Rattle.bw_store.specs.Adding.{blocks_for, end_of}
+use Rattle.bw_store.specs.Kept.{Kept}
+
+-- no block
+abbrev pub nowhere : Place
+nowhere = record { frame = 0; index = 0 }
+
+-- the last block of the page at which the record is directed
+abbrev pub back_for : Kept → Record → Place
+back_for s item = unwrap_or (slice_get s.newest (directed_at s.filed.leaves item - 1)) nowhere
+
+-- the blocks that the record would add to the frame in the making
+abbrev pub blocks_at : Kept → Record → List Block
+blocks_at s item =
+    blocks_for s.filed.m s.filed.leaves (back_for s item) (end_of (frame_of s.making)) item
+
+-- they fit behind what that frame has
+abbrev pub Fits : Kept → Record → Type 0
+Fits s item = size_of s.making + length (body_bytes (blocks_at s item)) ≤ s.making.limit

@@ -1,0 +1,277 @@
+#!/usr/bin/env python3
+"""The second part of make crash: puts folders together as a loss of power could leave them, and looks at each.
+
+A run of `bwlog replay --dir` over a drawn script goes under a library that notes each write, cut and sync of the folder's files
+(docs/watch.c). For each of these in turn there are folders in which all that was synced before stands, and of the write in flight its first
+bytes: all of a short piece's cuts, or eight drawn ones of a long piece, none of it and all of it among them. What was not synced is left out: the
+name of a new file before its folder is synced, a file's cut before its file is. `bwlog scan --dir` then has to find the last frame that was
+synced, or the one in flight where all its bytes stand, and exactly the pairs that a map has which is told the records up to that frame's
+cut. It may find nothing only before the first frame. Some of the folders are gone on from, too.
+
+Scripts have flushes, rolls, cleanings, added segments and a second life over what the first one left. This is what the calls of
+the system allow, and not a disk: a device that loses what it synced, or keeps other bytes than a beginning, is not tried.
+"""
+
+import os
+import random
+import re
+import shutil
+import struct
+import subprocess
+import sys
+import tempfile
+
+HERE = os.path.dirname(os.path.abspath(__file__))
+PROGRAM = os.path.join(HERE, "out", "bwlog")
+SOURCE = os.path.join(HERE, "..", "..", "docs", "watch.c")
+FAST = "/dev/shm" if os.path.isdir("/dev/shm") else None
+FOLDERS = int(sys.argv[1]) if len(sys.argv) > 1 else 2000
+SEED = int(sys.argv[2]) if len(sys.argv) > 2 else 1
+OPTIONS = ["--places", "64", "--segments", "6", "--capacity", "16408"]
+WORD, HEAD = b"FRM1", 24
+
+
+class Wrong(Exception):
+    pass
+
+
+def ask(condition, *what):
+    if not condition:
+        raise Wrong(" ".join(str(it) for it in what))
+
+
+# ---- a run, and what it asked of the system
+
+
+def script(draw, life):
+    """Lines, and the records that their puts and deletes accept, in order. Each put is taken by the next flush or turn."""
+    lines, records = [], []
+    for step in range(draw.randrange(12, 24)):
+        for _ in range(draw.randrange(1, 9)):
+            key = "k%d" % draw.randrange(24)
+            if draw.random() < 0.2:
+                lines.append("del 0 " + key)
+                records.append((key, None))
+            else:
+                value = "%d-%d-%d%s" % (life, step, len(records), "x" * draw.choice((0, 0, 3, 90)))
+                lines.append("put 0 %s %s" % (key, value))
+                records.append((key, value))
+        lines.append(draw.choice(("flush", "flush", "settle", "turn 40")))
+        more = draw.random()
+        if more < 0.3:
+            lines.append("roll")
+        elif more < 0.45:
+            lines.append("clean")
+        elif more < 0.5:
+            lines += ["add"]
+    return lines + ["settle", "history", "cuts"], records
+
+
+def notes_of(path):
+    """What was asked: a letter, the offset, the length, the file's name, the bytes."""
+    with open(path, "rb") as file:
+        data = file.read()
+    at, notes = 0, []
+    while at < len(data):
+        letter, offset, length, letters = struct.unpack_from("<cQQI", data, at)
+        at += struct.calcsize("<cQQI")
+        name = data[at : at + letters].decode()
+        at += letters
+        count = length if letter == b"w" else 0
+        notes.append((letter.decode(), offset, length, name, data[at : at + count]))
+        at += count
+    return notes
+
+
+class Life:
+    """One run over a folder: its records in the order of the history, its cuts, and what it asked of the system."""
+
+    def __init__(self, shim, room, folder, draw, number, start):
+        lines, accepted = script(draw, number)
+        log = os.path.join(room, "notes%d" % number)
+        os.makedirs(folder, exist_ok=True)
+        ran = subprocess.run(
+            [PROGRAM, "replay", "--dir", folder] + OPTIONS,
+            input="\n".join(lines) + "\n",
+            capture_output=True,
+            text=True,
+            check=False,
+            env={"LD_PRELOAD": shim, "WATCH": folder, "WATCH_LOG": log},
+        )
+        ask(ran.returncode in (0, 4) and not ran.stderr, "status", ran.returncode, ran.stdout[-300:], ran.stderr)
+        printed = ran.stdout.splitlines()
+        began = re.fullmatch(r"frames \d+ (\d+) tail 0", printed[1]) if number > 0 else None
+        self.before = int(began[1]) if began else 0
+        self.start = start
+        self.cuts = [int(it) for it in printed[-1].split()[1:]]
+        at = max(i for i, line in enumerate(printed) if line.startswith("history "))
+        self.records = [self.record(line) for line in printed[at + 1 : -1]]
+        ask(self.records == accepted[: len(self.records)], "the history is no beginning of what was put")
+        self.notes = notes_of(log)
+
+    @staticmethod
+    def record(line):
+        words = line.split(" ")
+        return (words[2], words[3] if words[1] == "put" else None)
+
+    def pairs(self, frame):
+        """The map after the records up to this frame's cut."""
+        pairs = dict(self.start)
+        end = self.cuts[frame - self.before - 1] if frame > self.before else 0
+        for key, value in self.records[:end]:
+            if value is None:
+                pairs.pop(key, None)
+            else:
+                pairs[key] = value
+        return pairs
+
+
+# ---- folders as a loss of power could leave them
+
+
+def frame_of(piece):
+    """The number of the frame that a piece is, if it is one."""
+    return struct.unpack_from("<Q", piece, 4)[0] if piece[:4] == WORD else None
+
+
+class Disk:
+    """What stands for certain, and what may."""
+
+    def __init__(self, stands, last):
+        self.stands = dict(stands)
+        self.now = dict(stands)
+        self.unnamed = set()
+        self.last = last
+
+    def ask(self, note):
+        letter, offset, length, name, piece = note
+        if letter == "o" and name not in self.now:
+            self.now[name] = b""
+            self.unnamed.add(name)
+        elif letter == "w":
+            old = self.now[name].ljust(offset, b"\0")
+            self.now[name] = old[:offset] + piece + old[offset + len(piece) :]
+        elif letter == "t":
+            self.now[name] = self.now[name][:length].ljust(length, b"\0")
+        elif letter == "f":
+            for each in self.unnamed:
+                self.stands.setdefault(each, b"")
+            self.unnamed.clear()
+        elif letter == "s" and name not in self.unnamed:
+            self.stands[name] = self.now[name]
+
+    def left(self, note, draw):
+        """The folders in which this call may leave all, each with the last frame that has to be found, and 0 where none."""
+        letter, offset, length, name, piece = note
+        if name in self.unnamed or name not in self.stands:
+            yield self.stands, self.last
+            return
+        if letter == "t":
+            yield self.stands, self.last
+            yield {**self.stands, name: self.stands[name][:length]}, self.last
+            return
+        cuts = range(len(piece) + 1)
+        if len(piece) > 80:
+            cuts = sorted({0, 1, len(piece) - 1, len(piece)} | {draw.randrange(len(piece)) for _ in range(8)})
+        old = self.stands[name]
+        is_new = offset == len(old)
+        for cut in cuts:
+            held = old[:offset] + piece[:cut] + old[offset + cut :]
+            number = frame_of(piece) if is_new and cut == len(piece) else None
+            yield {**self.stands, name: held}, number or self.last
+
+
+def write(folder, files):
+    shutil.rmtree(folder, ignore_errors=True)
+    os.makedirs(folder)
+    for name, data in files.items():
+        with open(os.path.join(folder, name), "wb") as file:
+            file.write(data)
+
+
+def look(folder, last, life):
+    """Whether the folder holds what it has to hold up to this frame."""
+    ran = subprocess.run([PROGRAM, "scan", "--dir", folder], capture_output=True, text=True, check=False)
+    if last == 0:
+        ask(ran.returncode == 4 and ran.stdout == "refused E12 Empty\n", "no frame was synced:", ran.stdout)
+        return
+    ask(ran.returncode == 0 and not ran.stderr, "frame", last, ran.stdout, ran.stderr)
+    lines = ran.stdout.splitlines()
+    told = re.fullmatch(r"frames \d+ (\d+) tail \d+", lines[1])
+    ask(told and int(told[1]) == last, "frame", last, "in place of", lines[1])
+    found = dict(word.split("=") for line in lines[2:] for word in line.split(" ")[6:])
+    ask(found == life.pairs(last), "the pairs of frame", last, "are others:", found, life.pairs(last))
+
+
+def go_on(folder, last):
+    """A further run over the folder appends the next frame."""
+    ran = subprocess.run(
+        [PROGRAM, "replay", "--dir", folder, "--segments", "12", "--capacity", "16408"],
+        input="put 0 more 1\nflush\nget more\n",
+        capture_output=True,
+        text=True,
+        check=False,
+    )
+    ask(ran.returncode == 0 and ran.stdout.endswith("ok\nframe %d\nvalue 1\n" % (last + 1)), "going on behind frame", last, ran.stdout, ran.stderr)
+
+
+def two_lives(shim, room, draw, most):
+    """How many folders were looked at."""
+    folder, image, seen = os.path.join(room, "run"), os.path.join(room, "left"), 0
+    shutil.rmtree(folder, ignore_errors=True)
+    start, stands, last = {}, {}, 0
+    for number in range(2):
+        if number > 0 and last == 0:
+            break
+        life = Life(shim, room, folder, draw, number, start)
+        disk = Disk(stands, last)
+        for note in life.notes:
+            if note[0] in "wt":
+                for files, expected in disk.left(note, draw):
+                    write(image, files)
+                    look(image, expected, life)
+                    seen += 1
+                    if expected and draw.random() < 0.1:
+                        go_on(image, expected)
+            disk.ask(note)
+            if note[0] == "w" and frame_of(note[4]) and note[1] >= HEAD:
+                pending = frame_of(note[4])
+            if note[0] == "s" and note[3].startswith("segment-"):
+                disk.last = max(disk.last, last_whole(disk.stands.get(note[3], b"")))
+            if seen >= most:
+                return seen
+        ask(disk.last == life.before + len(life.cuts), "the last frame that was synced is", disk.last)
+        start, stands, last = life.pairs(disk.last), disk.stands, disk.last
+    return seen
+
+
+def last_whole(data):
+    """The number of the last whole frame in a segment's bytes; 0 where there is none."""
+    at, last = HEAD, 0
+    while data[at : at + 4] == WORD and at + 20 <= len(data):
+        number, body = struct.unpack_from("<QI", data, at + 4)
+        if at + 20 + body > len(data):
+            break
+        at, last = at + 20 + body, number
+    return last
+
+
+def main():
+    ask(os.path.exists(PROGRAM), PROGRAM + " is not built: make run")
+    draw = random.Random(SEED)
+    seen, runs = 0, 0
+    with tempfile.TemporaryDirectory(dir=FAST, prefix="bwlog-power-") as room:
+        shim = os.path.join(room, "watch.so")
+        subprocess.run(["cc", "-O2", "-shared", "-fPIC", "-o", shim, SOURCE], check=True)
+        while seen < FOLDERS:
+            try:
+                seen += two_lives(shim, room, draw, FOLDERS - seen)
+            except Wrong as wrong:
+                print("seed %d, script %d: %s" % (SEED, runs, wrong))
+                return 1
+            runs += 1
+    print("%d folders of %d scripts: each holds a flush, not older than the last whole sync" % (seen, runs))
+    return 0
+
+
+sys.exit(main())

@@ -1,0 +1,218 @@
+//! What is left of a store after a stop, and of a log whose newest segment was cut.
+
+use super::boxes::{LEAST, Row, Supply, dying, maker_of, plain, supplied};
+use super::opening::{config_of, opened, reopened, shut};
+use super::steps::Step;
+use super::steps::Step::{Cuts, Flush, Live, Page, Put, Refused, Roll, Turn};
+use super::telling::{holds, went};
+use super::walking::{lives, wrong_step};
+use bw_care::{Recovered, RecoverCause, recover};
+use bw_device::Segment;
+use bw_store::StoreFault;
+use std::alloc::Global;
+use std::sync::Wait;
+
+/// The first append or the second fails, and the frame is not whole.
+const NOTHING: &[Step] = &[
+    Put(0, b"k", b"v"),
+    Turn(1, 1),
+    Refused(StoreFault::Device { lease: 0 }),
+    Refused(StoreFault::Failed),
+    Cuts(&[1], 0),
+];
+
+/// The third append fails.
+const SECOND: &[Step] = &[
+    Put(0, b"k", b"v"),
+    Turn(1, 1),
+    Flush(Some(1)),
+    Put(0, b"j", b"2"),
+    Turn(1, 1),
+    Refused(StoreFault::Device { lease: 0 }),
+    Cuts(&[1, 2], 1),
+];
+
+const AGAIN: &[Step] = &[
+    Page(1, "1 : k=v"),
+    Put(0, b"j", b"2"),
+    Turn(8, 1),
+    Flush(Some(2)),
+    Live(0, 1, 0, 106),
+    Live(1, 2, 1, 68),
+    Cuts(&[1], 1),
+];
+
+/// Three segments of a frame each.
+const THREE: &[Step] = &[
+    Put(0, b"k", b"1"),
+    Turn(1, 1),
+    Flush(Some(1)),
+    Roll,
+    Put(0, b"j", b"2"),
+    Turn(1, 1),
+    Flush(Some(2)),
+    Roll,
+    Put(0, b"k", b"3"),
+    Turn(1, 1),
+    Flush(Some(3)),
+];
+
+fn failing(fuse: (u64, u64)) -> Row {
+    Row {
+        boxes: 0,
+        fuse: Some(fuse),
+        behind: 3,
+        more: 0,
+        capacity: LEAST,
+    }
+}
+
+// Whether nothing is found of a store whose first box fails so, and all boxes come back.
+fn finds_nothing<R: AllocGlobal + Wait>(rt: &R, fuse: (u64, u64)) -> bool {
+    let Some(mut supply) = supplied(rt.alloc(), &failing(fuse)) else {
+        return false;
+    };
+    if lives(rt, &mut supply, 8, NOTHING).is_some() {
+        return false;
+    }
+    match recover(rt.alloc(), supply.boxes) {
+        Ok(_recovered) => false,
+        Err(fault) => (fault.cause == RecoverCause::Empty) & (fault.boxes.len() == 4),
+    }
+}
+
+fn goes_on<R: AllocGlobal + Wait>(rt: &R) -> Option<usize> {
+    let Some(mut supply) = supplied(rt.alloc(), &failing((2, 30))) else {
+        return Some(100);
+    };
+    let first = lives(rt, &mut supply, 8, SECOND);
+    if first.is_some() {
+        return first;
+    }
+    let boxes = std::mem::replace(&mut supply.boxes, Vec::new(rt.alloc()));
+    let Ok(recovered) = recover(rt.alloc(), boxes) else {
+        return Some(101);
+    };
+    if (recovered.first, recovered.last, recovered.tail) != (1, 1, 30) {
+        return Some(102);
+    }
+    shows(rt, recovered, AGAIN)
+}
+
+// The first step that did not go as told over what was recovered.
+fn shows<R: AllocGlobal + Wait>(rt: &R, recovered: Recovered, steps: &[Step]) -> Option<usize> {
+    let mut supply = Supply {
+        boxes: Vec::new(rt.alloc()),
+        more: Vec::new(rt.alloc()),
+    };
+    let Some(mut held) = reopened(rt, recovered, 8, &mut supply) else {
+        return Some(103);
+    };
+    let wrong = wrong_step(rt, &mut held, steps);
+    let _ = shut(rt, held, &mut supply);
+    wrong
+}
+
+// What is recovered of three segments, the last cut at a length.
+fn cut_at(alloc: Global, bytes: &[Vec<u8>], length: usize) -> Option<Recovered> {
+    let mut maker = maker_of(alloc, LEAST)?;
+    let mut boxes: Vec<Box<dyn Segment>> = Vec::new(alloc);
+    maker.push(bytes[0].as_slice(), &mut boxes)?;
+    maker.push(bytes[1].as_slice(), &mut boxes)?;
+    maker.push(&bytes[2].as_slice()[..length], &mut boxes)?;
+    maker.fill(1, &mut boxes)?;
+    match recover(alloc, boxes) {
+        Ok(recovered) => Some(recovered),
+        Err(_fault) => None,
+    }
+}
+
+fn is_told(recovered: &Recovered, length: usize) -> bool {
+    let last = if length < 68 { 2 } else { 3 };
+    let dropped = if (1..24).contains(&length) { 1 } else { 0 };
+    let tail = if (24..68).contains(&length) { length as u64 - 24 } else { 0 };
+    (recovered.first, recovered.last, recovered.tail, recovered.dropped)
+        == (1, last, tail, dropped)
+}
+
+// The bytes of three segments.
+fn three<R: AllocGlobal + Wait>(rt: &R) -> Option<Vec<Vec<u8>>> {
+    let alloc = rt.alloc();
+    let mut supply = supplied(alloc, &plain(4, 0))?;
+    let mut held = opened(rt, &config_of(2, 8, 1), &mut supply)?;
+    let wrong = wrong_step(rt, &mut held, THREE);
+    let mut bytes: Vec<Vec<u8>> = Vec::new(alloc);
+    for number in 1..4u64 {
+        let mut one = Vec::new(alloc);
+        let _ = held.store.dump(number, &mut one);
+        let _ = bytes.push(one);
+    }
+    let _ = shut(rt, held, &mut supply);
+    if wrong.is_some() {
+        return None;
+    }
+    Some(bytes)
+}
+
+const OLDER: &[Step] = &[Page(1, "1 : j=2 k=1")];
+const NEWER: &[Step] = &[Page(1, "1 : j=2 k=3")];
+
+// Each cut of the newest of three segments shows the frames that are whole.
+fn each_cut<R: AllocGlobal + Wait>(rt: &R) -> Option<usize> {
+    let Some(bytes) = three(rt) else {
+        return Some(1000);
+    };
+    for length in 0..=68 {
+        let Some(recovered) = cut_at(rt.alloc(), bytes.as_slice(), length) else {
+            return Some(4000 + length);
+        };
+        if !is_told(&recovered, length) {
+            return Some(length);
+        }
+        let steps = if length < 68 { OLDER } else { NEWER };
+        if shows(rt, recovered, steps).is_some() {
+            return Some(3000 + length);
+        }
+    }
+    None
+}
+
+// A box that fails for good: no later append or recovery succeeds, whatever it kept.
+fn stays_dead<R: AllocGlobal + Wait>(rt: &R) -> Option<usize> {
+    for keep in 0..=52 {
+        let mut supply = dying(rt.alloc(), (1, keep))?;
+        if lives(rt, &mut supply, 8, NOTHING).is_some() {
+            return Some(keep as usize);
+        }
+        match recover(rt.alloc(), supply.boxes) {
+            Ok(_recovered) => return Some(100),
+            Err(fault) => {
+                if fault.cause != (RecoverCause::Device { lease: 0 }) {
+                    return Some(200);
+                }
+            }
+        }
+    }
+    None
+}
+
+#[test]
+fn nothing_is_found_where_no_frame_is_whole(rt: HostRuntime) {
+    holds(&rt, finds_nothing(&rt, (0, 10)));
+    holds(&rt, finds_nothing(&rt, (1, 51)));
+}
+
+#[test]
+fn a_torn_second_frame_is_left_out(rt: HostRuntime) {
+    went(&rt, goes_on(&rt));
+}
+
+#[test]
+fn each_cut_shows_a_cut_of_the_history(rt: HostRuntime) {
+    went(&rt, each_cut(&rt));
+}
+
+#[test]
+fn a_dead_box_stays_dead(rt: HostRuntime) {
+    went(&rt, stays_dead(&rt));
+}

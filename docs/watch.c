@@ -1,0 +1,168 @@
+/* Notes what a program asks of the files below one folder, in the order in which it asks.
+   WATCH names the folder and WATCH_LOG the file of notes. A note is a letter, then two numbers of eight bytes, then a name with its length in
+   four bytes, then the bytes that are written: `o` a file is there, `w` bytes at an offset, `t` a length that is cut to, `s` the file is
+   synced, `f` the folder is. A call that failed is not noted. */
+#define _GNU_SOURCE
+#include <dlfcn.h>
+#include <fcntl.h>
+#include <limits.h>
+#include <pthread.h>
+#include <stdarg.h>
+#include <stdint.h>
+#include <stdio.h>
+#include <stdlib.h>
+#include <string.h>
+#include <sys/stat.h>
+#include <unistd.h>
+
+static pthread_mutex_t one_by_one = PTHREAD_MUTEX_INITIALIZER;
+static char folder[PATH_MAX];
+static int notes = -1;
+
+__attribute__((constructor)) static void begin(void)
+{
+    const char *watched = getenv("WATCH");
+    const char *log = getenv("WATCH_LOG");
+    if (watched && log && realpath(watched, folder))
+        notes = open(log, O_WRONLY | O_CREAT | O_APPEND, 0600);
+}
+
+/* The name of an open file below the folder, the empty name of the folder itself, or none. */
+static const char *name_of(int file, char *room)
+{
+    char link[64];
+    size_t length = strlen(folder);
+    snprintf(link, sizeof link, "/proc/self/fd/%d", file);
+    ssize_t told = readlink(link, room, PATH_MAX - 1);
+    if (notes < 0 || told < 0)
+        return NULL;
+    room[told] = 0;
+    if (strncmp(room, folder, length) != 0)
+        return NULL;
+    if (room[length] == 0)
+        return room + length;
+    return room[length] == '/' ? room + length + 1 : NULL;
+}
+
+static ssize_t put(const void *bytes, size_t length)
+{
+    static ssize_t (*real)(int, const void *, size_t);
+    if (!real)
+        real = (ssize_t (*)(int, const void *, size_t))dlsym(RTLD_NEXT, "write");
+    return real(notes, bytes, length);
+}
+
+static void note(char letter, int file, uint64_t at, uint64_t length, const void *bytes, size_t count)
+{
+    char room[PATH_MAX];
+    const char *name = name_of(file, room);
+    if (!name)
+        return;
+    uint32_t letters = (uint32_t)strlen(name);
+    pthread_mutex_lock(&one_by_one);
+    if (put(&letter, 1) < 0 || put(&at, 8) < 0 || put(&length, 8) < 0 || put(&letters, 4) < 0 || put(name, letters) < 0 || put(bytes, count) < 0)
+        abort();
+    pthread_mutex_unlock(&one_by_one);
+}
+
+#define REAL(kind, name, ...) \
+    static kind (*real)(__VA_ARGS__); \
+    if (!real) \
+        real = (kind (*)(__VA_ARGS__))dlsym(RTLD_NEXT, name)
+
+static int opened(int file, int flags)
+{
+    if (file >= 0 && (flags & O_CREAT))
+        note('o', file, 0, 0, "", 0);
+    return file;
+}
+
+int open(const char *path, int flags, ...)
+{
+    REAL(int, "open", const char *, int, ...);
+    va_list more;
+    va_start(more, flags);
+    mode_t mode = (flags & O_CREAT) ? (mode_t)va_arg(more, int) : 0;
+    va_end(more);
+    return opened(real(path, flags, mode), flags);
+}
+
+int open64(const char *path, int flags, ...)
+{
+    REAL(int, "open64", const char *, int, ...);
+    va_list more;
+    va_start(more, flags);
+    mode_t mode = (flags & O_CREAT) ? (mode_t)va_arg(more, int) : 0;
+    va_end(more);
+    return opened(real(path, flags, mode), flags);
+}
+
+int openat(int at, const char *path, int flags, ...)
+{
+    REAL(int, "openat", int, const char *, int, ...);
+    va_list more;
+    va_start(more, flags);
+    mode_t mode = (flags & O_CREAT) ? (mode_t)va_arg(more, int) : 0;
+    va_end(more);
+    return opened(real(at, path, flags, mode), flags);
+}
+
+ssize_t pwrite(int file, const void *bytes, size_t count, off_t at)
+{
+    REAL(ssize_t, "pwrite", int, const void *, size_t, off_t);
+    ssize_t written = real(file, bytes, count, at);
+    if (written > 0)
+        note('w', file, (uint64_t)at, (uint64_t)written, bytes, (size_t)written);
+    return written;
+}
+
+ssize_t pwrite64(int file, const void *bytes, size_t count, off64_t at)
+{
+    REAL(ssize_t, "pwrite64", int, const void *, size_t, off64_t);
+    ssize_t written = real(file, bytes, count, at);
+    if (written > 0)
+        note('w', file, (uint64_t)at, (uint64_t)written, bytes, (size_t)written);
+    return written;
+}
+
+int ftruncate(int file, off_t length)
+{
+    REAL(int, "ftruncate", int, off_t);
+    int answer = real(file, length);
+    if (answer == 0)
+        note('t', file, 0, (uint64_t)length, "", 0);
+    return answer;
+}
+
+int ftruncate64(int file, off64_t length)
+{
+    REAL(int, "ftruncate64", int, off64_t);
+    int answer = real(file, length);
+    if (answer == 0)
+        note('t', file, 0, (uint64_t)length, "", 0);
+    return answer;
+}
+
+static void synced(int file)
+{
+    struct stat about;
+    note(fstat(file, &about) == 0 && S_ISDIR(about.st_mode) ? 'f' : 's', file, 0, 0, "", 0);
+}
+
+int fsync(int file)
+{
+    REAL(int, "fsync", int);
+    int answer = real(file);
+    if (answer == 0)
+        synced(file);
+    return answer;
+}
+
+int fdatasync(int file)
+{
+    REAL(int, "fdatasync", int);
+    int answer = real(file);
+    if (answer == 0)
+        synced(file);
+    return answer;
+}
