@@ -1,31 +1,26 @@
 -- One turn more, with what the plan wants behind it.
 
 use Rattle.std.proofs.Common.{◌≡◌, ℕ, suc, ◌+◌, inl, inr, Bool, true, false, Result, Ok, Err, MatchResult, sym, subst, ap, ◌∙◌, arith}
-use Rattle.std.specs.Prelude.{not}
 use Rattle.bw_store.specs.declared.fault.StoreFault.{StoreFault}
 use Rattle.bw_store.specs.Kept.{Kept}
 use Rattle.bw_drive.specs.declared.plan.Plan.{Plan}
 use Rattle.bw_drive.specs.Pace.{FlushesAndCleans, FlushOrCleanStops, Paces, Tends, TurnedOnce, TurnStops, is_due}
 
 -- nothing is due
-pub tends_none : (due : Bool) (clean_at : ℕ) (old new : Kept) → not due ≡ true → new ≡ old → Tends due clean_at old new
+pub tends_none : (due : Bool) (clean_at : ℕ) (old new : Kept) → due ≡ false → new ≡ old → Tends due clean_at old new
 tends_none true clean_at old new is same = absurd cc
 tends_none false clean_at old new is same = same
 
 -- a flush is due
-tends_some : (due : Bool) (clean_at : ℕ) (old new : Kept) → not due ≡ false → FlushesAndCleans clean_at old new → Tends due clean_at old new
+tends_some : (due : Bool) (clean_at : ℕ) (old new : Kept) → due ≡ true → FlushesAndCleans clean_at old new → Tends due clean_at old new
 tends_some true clean_at old new is went = went
 tends_some false clean_at old new is went = absurd cc
 
-due_is : (due : Bool) → not due ≡ false → due ≡ true
-due_is true is = cc
-due_is false is = absurd cc
-
-pub paced_by : (r : Result (Unit {0}) StoreFault) (plan : Plan) (due : Bool) (old turned new : Kept) → not due ≡ false → TurnedOnce plan.limit old turned
+pub paced_by : (r : Result (Unit {0}) StoreFault) (plan : Plan) (due : Bool) (old turned new : Kept) → due ≡ true → TurnedOnce plan.limit old turned
     → MatchResult r (λ _. FlushesAndCleans plan.clean_at turned new) (λ cause. FlushOrCleanStops plan.clean_at turned cause new)
     → MatchResult r (λ _. (middle : Kept) × TurnedOnce plan.limit old middle × Tends due plan.clean_at middle new) (λ cause. TurnStops plan due old cause new)
 paced_by (Ok x) plan due old turned new is once went = (turned, once, tends_some due plan.clean_at turned new is went)
-paced_by (Err cause) plan due old turned new is once stops = inr (due_is due is, (turned, once, stops))
+paced_by (Err cause) plan due old turned new is once stops = inr (is, (turned, once, stops))
 
 pub paces_more : (plan : Plan) (n every : ℕ) (due : Bool) (old before new : Kept) → every ≡ plan.flush_every → due ≡ is_due every n
     → Paces plan n old before → (turned : Kept) × TurnedOnce plan.limit before turned × Tends due plan.clean_at turned new

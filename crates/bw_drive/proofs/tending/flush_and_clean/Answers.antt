@@ -1,6 +1,7 @@
 use Rattle.std.proofs.Common.{inl, inr, refl, arith}
 use Rattle.std.proofs.lemmas.Result.{err_from_is_err_and}
 use Rattle.bw_drive.proofs.Runs.{kept_all, kept_but, runs_then, stops_now, stops_then}
+use Rattle.bw_drive.proofs.tending.flush_and_clean.Goals.{then-clean_at-eq0-via-then-clean_at-eq0, then-clean_at-eq0-via-else-clean_at-eq0+then-live-clean_at}
 use Rattle.bw_drive.proofs.tending.flush_and_clean.Goals as goal
 
 pub returns-in_err-flush-clause-runs : goal.returns-in_err-flush-clause-runs
@@ -42,8 +43,15 @@ returns-in_err-flush-clause-paced g c =
 
 pub returns-then-clean_at-eq0-clause-paced : goal.returns-then-clean_at-eq0-clause-paced
 returns-then-clean_at-eq0-clause-paced g c =
-    let live = c.live.ensures in
-    (_, (_, c.in_ok-flush.ensures.answers, c.in_ok-flush.ensures.leaves), inl (?, refl))
+    (_, (_, c.in_ok-flush.ensures.answers, c.in_ok-flush.ensures.leaves), inl ((λ due. elim c.then-clean_at-eq0.branch [
+      | then-clean_at-eq0-via-then-clean_at-eq0 w ↦ (let none = w.if-clean_at-eq0.true in let some = due.0 in omega arith)
+      | then-clean_at-eq0-via-else-clean_at-eq0+then-live-clean_at w ↦ (
+        let few = w.if-live-clean_at.true in
+        let live = w.live.ensures in
+        let many = due.1 in
+        omega arith
+      )
+    ]), refl))
 
 pub returns-in_err-clean-clause-paced : goal.returns-in_err-clean-clause-paced
 returns-in_err-clean-clause-paced g c =

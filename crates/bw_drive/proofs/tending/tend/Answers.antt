@@ -29,3 +29,15 @@ returns-in_err-turn_and_tend-clause-refused g c =
 
 pub returns-then-not-are_all-clause-refused : goal.returns-then-not-are_all-clause-refused
 returns-then-not-are_all-clause-refused g c = inl (refl, refl)
+
+pub returns-in_err-turn_and_tend-clause-stopped : goal.returns-in_err-turn_and_tend-clause-stopped
+returns-in_err-turn_and_tend-clause-stopped g c =
+    let p = err_from_is_err_and c.from_residual.result c.from_residual.ensures.1 in
+    rw (p.1, p.2) (inr (record {
+      turns = c.turns.turn;
+      few = c.turns-test.true;
+      before = _;
+      paced = c.turns.invariant.paced;
+      refused = stops_as_planned c.args.plan c.turns.turn c.from-every.result _ _ c.in_err-turn_and_tend.field-0.0 _ c.from-every.ensures refl
+          c.in_err-turn_and_tend.ensures.paced;
+    }))
