@@ -1,12 +1,13 @@
 # make run    proves and builds bwlog, and runs the first script
 # make try    runs the same script without any proof, in seconds
 # make test   the gate: the pages against the tests, every proof, the wrong bodies, the tests, the programs (from nothing, but for what this machine has passed); then the
-#             program that it built over the cases of crates/bwlog/cases, and over drawn scripts beside a map
+#             program that it built over the cases of crates/bwlog/cases, over drawn scripts beside a map, and over 500 hostile cases
 # make wrong  tries the wrong bodies outside the gate, in a copy of the repository
 # make memory proves the tests of drive_tests, and runs those of its module memory with each allocation refused in turn, by a shim that cc makes
 # make bench  times the store at a million keys, each subject in a process of its own, and then over files (docs/TESTING.md, "Measured")
 # make peers  times other stores under the same load: LMDB and LevelDB, by their C libraries (liblmdb-dev, libleveldb-dev) and rustc
 # make crash  kills the program that make run built in mid-run, and looks at what its folder holds
+# make fuzz   asks the program that make run built with hostile segments, scripts and folders; FUZZ="--cases 100000 --seed 7" says how many and which
 
 PROGRAM = crates/bwlog
 BENCH = --keys 1000000 --operations 1000000
@@ -14,7 +15,7 @@ BENCH = --keys 1000000 --operations 1000000
 JOBS = $(shell n=$$(nproc); echo $$((n < 4 ? n : 4)))
 SUBJECTS = pages cleaning alone beside late one one-beside many many-beside
 
-.PHONY: run try test wrong memory bench peers crash
+.PHONY: run try test wrong memory bench peers crash fuzz
 
 run:
 	@cat $(PROGRAM)/stdin && cd $(PROGRAM) && rt run -- replay < stdin
@@ -27,6 +28,7 @@ test:
 	RT_JOBS=$(JOBS) rt ci
 	python3 $(PROGRAM)/cases.py
 	python3 $(PROGRAM)/drawn.py
+	python3 $(PROGRAM)/fuzz.py --cases 500
 
 wrong:
 	copy=$$(mktemp -d) && git clone -q . $$copy && cd $$copy && for crate in wrong/*; do \
@@ -52,3 +54,6 @@ peers:
 
 crash:
 	python3 $(PROGRAM)/crash.py
+
+fuzz:
+	python3 $(PROGRAM)/fuzz.py $(FUZZ)

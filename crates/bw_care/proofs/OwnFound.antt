@@ -11,7 +11,7 @@ use Rattle.bw_codec.specs.declared.block.Header.{Header}
 use Rattle.bw_codec.specs.declared.leaf.Leaf.{Leaf}
 use Rattle.bw_page.specs.Standing.{blocks_of, Stand}
 use Rattle.bw_device.specs.Holding.{Holding}
-use Rattle.bw_log.specs.Contents.{Contents, IsBounded, IsRoomy, IsSpare, IsSound, boxes, counted}
+use Rattle.bw_log.specs.Contents.{Contents, IsBounded, IsRoomy, IsSpare, IsSound, counted}
 use Rattle.bw_log.specs.PageTable.{top_page}
 use Rattle.bw_log.specs.Places.{first_number, or_else, AreLinked}
 use Rattle.bw_log.specs.Segments.{segment_frames, frames_of, AreFrom, AreLive}

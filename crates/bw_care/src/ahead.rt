@@ -27,7 +27,7 @@ ghost use Rattle.bw_care.specs.Views.{seen, IsSound};
 
 use crate::forward::read_segment;
 use crate::moving::{is_old, last_old};
-use crate::reading::{Line, take_line};
+use crate::reading::{DraftLine, take_line};
 use bw_codec::limits::HEAD_LEN;
 use bw_codec::{Block, Leaf, Outline, Place, encode_block};
 use bw_device::Segment;
@@ -201,7 +201,7 @@ fn find_spots(
 }
 
 // Each page as the frames behind a header leave it; none where memory for them is refused.
-fn pages_in(alloc: Global, bytes: &[u8], m: u16, f: u32) -> BTreeMap<u32, Line>
+fn pages_in(alloc: Global, bytes: &[u8], m: u16, f: u32) -> BTreeMap<u32, DraftLine>
     requires long { 24 ≤ length bytes.now }
     requires lawful { EndsInTail m f bytes.now }
     ensures { Says (blocks_of (frames_behind m f bytes.now)) result }
@@ -246,7 +246,7 @@ fn encode_base(leaf: Leaf, bytes: &mut Vec<u8>) -> bool
 
 // Takes a page out of the map and spells it as a Base behind the bytes; none where the map does not
 // have it or memory is refused.
-fn spell(lines: &mut BTreeMap<u32, Line>, page: u32, bytes: &mut Vec<u8>) -> Option<Spot>
+fn spell(lines: &mut BTreeMap<u32, DraftLine>, page: u32, bytes: &mut Vec<u8>) -> Option<Spot>
     requires { (leaf : LeafValue) → leaf_in (tree.get nat_cmp lines.old page) ≡ Some leaf
         → IsBlock 32 (Base leaf) }
     ensures part { IsPart lines.old lines.new }
@@ -254,9 +254,12 @@ fn spell(lines: &mut BTreeMap<u32, Line>, page: u32, bytes: &mut Vec<u8>) -> Opt
     ensures some { IfSome result (λ spot. IsSpelled (leaf_in (tree.get nat_cmp lines.old page))
         bytes.old.items bytes.new.items spot) }
 {
-    let (_, leaf) = take_line(lines, page);
+    let (_, draft) = take_line(lines, page);
+    let Ok(leaf) = draft?.into_leaf() else {
+        return None;
+    };
     let at = bytes.len();
-    if !encode_base(leaf?, bytes) {
+    if !encode_base(leaf, bytes) {
         return None;
     }
     let len = bytes.len() - at;
@@ -267,7 +270,7 @@ fn spell(lines: &mut BTreeMap<u32, Line>, page: u32, bytes: &mut Vec<u8>) -> Opt
 fn spell_wanted(
     log: &Log,
     last: u64,
-    lines: &mut BTreeMap<u32, Line>,
+    lines: &mut BTreeMap<u32, DraftLine>,
     bytes: &mut Vec<u8>,
     spots: &mut [Spot],
     pages: &[u32],

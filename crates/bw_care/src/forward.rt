@@ -14,7 +14,7 @@ ghost use Rattle.bw_care.specs.Reading.{IsRead, LinkFaultIs};
 
 use crate::fault::RecoverCause;
 use crate::passing::read_box;
-use crate::reading::{Line, ReadFault, read_blocks_linked};
+use crate::reading::{DraftLine, ReadFault, read_blocks_linked};
 use crate::scanning::front;
 use bw_codec::{CodecFault, Frame, FrameRead};
 use bw_device::Segment;
@@ -24,7 +24,7 @@ use std::collections::BTreeMap;
 /// The blocks of one segment's frames, which a scan has found lawful.
 pub fn read_segment(
     alloc: Global,
-    lines: &mut BTreeMap<u32, Line>,
+    lines: &mut BTreeMap<u32, DraftLine>,
     first: u64,
     bytes: &[u8],
     m: u16,
@@ -66,7 +66,7 @@ fn cause_of(fault: ReadFault) -> RecoverCause
 // The blocks of the segment in the box at a position.
 fn read_box_forward(
     alloc: Global,
-    lines: &mut BTreeMap<u32, Line>,
+    lines: &mut BTreeMap<u32, DraftLine>,
     boxes: &mut Vec<Box<dyn Segment>>,
     at: usize,
     first: u64,
@@ -104,7 +104,7 @@ pub fn read_forward(
     first: u64,
     m: u16,
     f: u32,
-) -> Result<BTreeMap<u32, Line>, RecoverCause>
+) -> Result<BTreeMap<u32, DraftLine>, RecoverCause>
     requires { (hs : List Holding) × AreReady m f (map holding boxes.old.items) places.now hs }
     ensures read { (hs : List Holding) → AreReady m f (map holding boxes.old.items) places.now hs
         → IfOk result (IsRead first (all_placed (frames_of (map (λ h. h.bytes) hs)))) }

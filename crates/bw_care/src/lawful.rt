@@ -13,7 +13,7 @@ ghost use Rattle.bw_codec.specs.declared.block.Frame.{Frame as FrameValue};
 ghost use Rattle.bw_codec.specs.declared.leaf.Leaf.{Leaf as LeafValue};
 
 use crate::fault::RecoverCause;
-use crate::reading::Line;
+use crate::reading::{DraftLine, Line};
 use bw_codec::{Key, Leaf, Value};
 use bw_log::PageAt;
 use bw_page::Leaves;
@@ -175,7 +175,7 @@ fn add_low(lows: &mut BTreeMap<Key, u32>, page: u32, line: &Line) -> Result<(), 
 /// The lines of a map, in the order of their pages.
 pub fn in_page_order(
     alloc: Global,
-    lines: BTreeMap<u32, Line>,
+    lines: BTreeMap<u32, DraftLine>,
 ) -> Result<Vec<(u32, Line)>, AllocError>
     ensures same { IfOk result (λ pages. pages.items ≡ lines.entries) }
     ensures ordered { tree.IsOrdered nat_cmp lines }
@@ -183,7 +183,7 @@ pub fn in_page_order(
     let mut lines = lines;
     let mut pages = Vec::with_capacity(alloc, lines.len())?;
     'next: while let Some((page, line)) = lines.pop_first() {
-        pages.push((page, line))?;
+        pages.push((page, line.into_line()?))?;
     }
     Ok(pages)
 }
@@ -231,7 +231,11 @@ fn take_apart(
 }
 
 /// The pages of lines that were read, if none is at fault; else the least one that is.
-pub fn pages_of(alloc: Global, m: u16, lines: BTreeMap<u32, Line>) -> Result<Pages, RecoverCause>
+pub fn pages_of(
+    alloc: Global,
+    m: u16,
+    lines: BTreeMap<u32, DraftLine>,
+) -> Result<Pages, RecoverCause>
     requires limit { (4 ≤ m) × (m ≤ 32) }
     requires read { HasFrames m lines }
     ensures right { (f : ℕ) (frames : List FrameValue) → AllByRecursion (IsFrame m f) frames

@@ -16,9 +16,10 @@ ghost use Rattle.bw_codec.specs.declared.block.Place.{Place as PlaceValue};
 ghost use Rattle.bw_codec.specs.declared.block.Block.{Block as BlockValue};
 
 use bw_codec::{Block, Leaf, Place, Record};
-use bw_page::{change_all, keep_below};
+use bw_page::Draft;
 use std::alloc::{AllocError, Global};
 use std::collections::BTreeMap;
+use std::marker::Model;
 
 /// A page that was touched: where its last blocks stand, and what it is if it was set.
 #[derive(Drop)]
@@ -29,40 +30,81 @@ pub struct Line {
     pub leaf: Option<Leaf>,
 }
 
+/// A line while blocks are read: the page may hold far more pairs than in the end.
+#[derive(Drop)]
+pub struct DraftLine {
+    place: Place,
+    base: Place,
+    draft: Option<Draft>,
+}
+
+impl Model for DraftLine {
+    ghost use Rattle.bw_care.specs.declared.reading.Line.{Line as LineValue};
+
+    ghost Value = { LineValue };
+
+    ghost view = { λ l. record { place = l.place; base = l.base; leaf = l.draft } };
+}
+
+impl DraftLine {
+    /// The line as it is when all blocks were read. It takes memory where the page has many pairs.
+    pub fn into_line(self) -> Result<Line, AllocError>
+        ensures { IfOk result (λ line. line ≡ self) }
+    {
+        let DraftLine { place, base, draft } = self;
+        let leaf = match draft {
+            Some(draft) => Some(draft.into_leaf()?),
+            None => None,
+        };
+        Ok(Line { place, base, leaf })
+    }
+}
+
 // The records of a Delta, where the page was set.
-fn change_some(leaf: Option<Leaf>, records: &[Record]) -> Result<Option<Leaf>, AllocError>
-    ensures { IfOk result (λ l. l ≡ option_map (all_changed records.now) leaf) }
+fn change_some(draft: Option<Draft>, records: &[Record]) -> Result<Option<Draft>, AllocError>
+    ensures { IfOk result (λ d. d ≡ option_map (all_changed records.now) draft) }
 {
-    match leaf {
-        Some(leaf) => Ok(Some(change_all(leaf, records)?)),
+    match draft {
+        Some(draft) => Ok(Some(draft.change_all(records)?)),
         None => Ok(None),
     }
 }
 
-fn keep_some(leaf: Option<Leaf>, separator: &[u8]) -> Option<Leaf>
-    ensures { result ≡ option_map (kept_below separator.now) leaf }
+fn keep_some(draft: Option<Draft>, separator: &[u8]) -> Option<Draft>
+    ensures { result ≡ option_map (kept_below separator.now) draft }
 {
-    match leaf {
-        Some(leaf) => Some(keep_below(leaf, separator)),
+    match draft {
+        Some(draft) => Some(draft.keep_below(separator)),
         None => None,
     }
 }
 
 // What the map had of a page, taken out of it.
-pub(crate) fn take_line(lines: &mut BTreeMap<u32, Line>, page: u32) -> (Place, Option<Leaf>)
+pub(crate) fn take_line(lines: &mut BTreeMap<u32, DraftLine>, page: u32) -> (Place, Option<Draft>)
     ensures base { result.0 ≡ base_in (tree.get nat_cmp lines.old page) }
     ensures leaf { result.1 ≡ leaf_in (tree.get nat_cmp lines.old page) }
     ensures others { (p : ℕ) → tree.get nat_cmp lines.new p
         ≡ (if nat_eq page p then None else tree.get nat_cmp lines.old p) }
 {
     match lines.remove(&page) {
-        Some(line) => (line.base, line.leaf),
+        Some(line) => {
+            let DraftLine {
+                place: _,
+                base,
+                draft,
+            } = line;
+            (base, draft)
+        }
         None => (Place { frame: 0, index: 0 }, None),
     }
 }
 
 // Puts a line into the map.
-fn put_line(lines: &mut BTreeMap<u32, Line>, page: u32, line: Line) -> Result<(), AllocError>
+fn put_line(
+    lines: &mut BTreeMap<u32, DraftLine>,
+    page: u32,
+    line: DraftLine,
+) -> Result<(), AllocError>
     ensures { (p : ℕ) → OnOk result (tree.get nat_cmp lines.new p
         ≡ (if nat_eq page p then Some line else tree.get nat_cmp lines.old p)) }
 {
@@ -72,7 +114,7 @@ fn put_line(lines: &mut BTreeMap<u32, Line>, page: u32, line: Line) -> Result<()
 
 /// One more block. A refused growth is the only error.
 pub fn read_one(
-    lines: &mut BTreeMap<u32, Line>,
+    lines: &mut BTreeMap<u32, DraftLine>,
     place: Place,
     block: Block,
 ) -> Result<(), AllocError>
@@ -80,16 +122,16 @@ pub fn read_one(
 {
     match block {
         Block::Delta { page, back: _, ops } => {
-            let (base, leaf) = take_line(lines, page);
-            let leaf = change_some(leaf, ops.as_slice())?;
-            put_line(lines, page, Line { place, base, leaf })
+            let (base, draft) = take_line(lines, page);
+            let draft = change_some(draft, ops.as_slice())?;
+            put_line(lines, page, DraftLine { place, base, draft })
         }
         Block::Base(leaf) => {
             let page = leaf.page;
-            let line = Line {
+            let line = DraftLine {
                 place,
                 base: place,
-                leaf: Some(leaf),
+                draft: Some(Draft::of(leaf)),
             };
             put_line(lines, page, line)
         }
@@ -98,14 +140,14 @@ pub fn read_one(
             back: _,
             upper,
         } => {
-            let (base, leaf) = take_line(lines, page);
-            let leaf = keep_some(leaf, upper.low.as_slice());
-            put_line(lines, page, Line { place, base, leaf })?;
+            let (base, draft) = take_line(lines, page);
+            let draft = keep_some(draft, upper.low.as_slice());
+            put_line(lines, page, DraftLine { place, base, draft })?;
             let made = upper.page;
-            let line = Line {
+            let line = DraftLine {
                 place,
                 base: place,
-                leaf: Some(upper),
+                draft: Some(Draft::of(upper)),
             };
             put_line(lines, made, line)
         }
@@ -113,7 +155,7 @@ pub fn read_one(
 }
 
 /// Whether a block of this page may link back so.
-pub fn links_back(lines: &BTreeMap<u32, Line>, first: u64, page: u32, back: Place) -> bool
+pub fn links_back(lines: &BTreeMap<u32, DraftLine>, first: u64, page: u32, back: Place) -> bool
     ensures { result ≡ is_back first (place_in (tree.get nat_cmp lines.now page)) back }
 {
     match lines.get(&page) {
@@ -141,7 +183,7 @@ impl From<AllocError> for ReadFault {
 }
 
 // The page, where a block of it may not link back so.
-fn wrong_back(lines: &BTreeMap<u32, Line>, first: u64, page: u32, back: Place) -> Option<u32>
+fn wrong_back(lines: &BTreeMap<u32, DraftLine>, first: u64, page: u32, back: Place) -> Option<u32>
     ensures { (done : List (PlaceValue × BlockValue)) → IsRead first done lines.now
         → result ≡ fault_at first done page back }
 {
@@ -153,7 +195,7 @@ fn wrong_back(lines: &BTreeMap<u32, Line>, first: u64, page: u32, back: Place) -
 }
 
 // The page of a block that links back wrongly.
-fn wrong_link(lines: &BTreeMap<u32, Line>, first: u64, block: &Block) -> Option<u32>
+fn wrong_link(lines: &BTreeMap<u32, DraftLine>, first: u64, block: &Block) -> Option<u32>
     ensures { (done : List (PlaceValue × BlockValue)) → IsRead first done lines.now
         → result ≡ fault_of first done block.now }
 {
@@ -166,7 +208,7 @@ fn wrong_link(lines: &BTreeMap<u32, Line>, first: u64, block: &Block) -> Option<
 
 /// One more block, whose link is looked at first.
 pub fn read_linked(
-    lines: &mut BTreeMap<u32, Line>,
+    lines: &mut BTreeMap<u32, DraftLine>,
     first: u64,
     place: Place,
     block: Block,
@@ -187,7 +229,7 @@ pub fn read_linked(
 
 /// The blocks of one more frame.
 pub fn read_blocks_linked(
-    lines: &mut BTreeMap<u32, Line>,
+    lines: &mut BTreeMap<u32, DraftLine>,
     first: u64,
     number: u64,
     blocks: Vec<Block>,

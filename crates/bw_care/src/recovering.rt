@@ -38,7 +38,8 @@ pub struct RecoverFault {
 /// It reads each box with bytes twice, and holds the bytes of one box and one parsed frame at a
 /// time, beside a line for each frame and for each page that a block touches, with its leaf.
 /// Nothing is sized by a number that was only read. In time it costs the bytes, a search among the
-/// pages for each block, and up to 4,096 comparisons for each segment to put them in order.
+/// pages for each block and among the pairs of its page for each record, however many these are
+/// between two blocks, and up to 4,096 comparisons for each segment to put them in order.
 pub fn recover(alloc: Global, boxes: Vec<Box<dyn Segment>>) -> Result<Recovered, RecoverFault>
     requires { Unit {0} }
     ensures found { IfOk result (λ r. recovery (map holding boxes.items) ≡ Ok (finding_of r)) }

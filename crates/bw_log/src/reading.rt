@@ -20,7 +20,7 @@ use crate::log::Log;
 use crate::picking::frame_of_page;
 use bw_codec::{Block, CodecFault, Frame, Leaf, Place};
 use bw_device::{failures_of, lease_of, len_of, read_from};
-use bw_page::read_blocks;
+use bw_page::Draft;
 use std::alloc::{AllocError, Global};
 
 // Whether a block sets a page.
@@ -90,11 +90,14 @@ fn replay(frames: Vec<Frame>, page: u32) -> Result<Option<Leaf>, AllocError>
         (λ leaf. leaf ≡ fold (after page) None (blocks_of (reverse frames.items))) }
 {
     let mut frames = frames;
-    let mut leaf = None;
+    let mut draft = None;
     while let Some(frame) = frames.pop() {
-        leaf = read_blocks(page, leaf, frame.blocks.into_vec())?;
+        draft = Draft::after_all(page, draft, frame.blocks.into_vec())?;
     }
-    Ok(leaf)
+    match draft {
+        Some(draft) => Ok(Some(draft.into_leaf()?)),
+        None => Ok(None),
+    }
 }
 
 impl Log {

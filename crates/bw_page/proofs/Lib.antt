@@ -25,3 +25,4 @@ pub mod PageByPage
 pub mod NewerPages
 pub mod OneStanding
 pub mod LowsAlone
+pub mod Trees

@@ -18,6 +18,7 @@ pub mod Marks
 pub mod Seats
 pub mod Seating
 pub mod Seek
+pub mod Drafting
 pub mod Aim
 pub mod Cutting
 pub mod Journal

@@ -11,6 +11,7 @@
 mod chain;
 mod changes;
 mod cutting;
+mod draft;
 mod fault;
 mod index;
 mod journal;
@@ -19,10 +20,12 @@ mod leaves;
 mod lows;
 mod reading;
 mod seats;
+mod tree;
 
 pub use chain::{Chain, End, Link};
 pub use changes::{change, count_after, empty_page, value_in};
 pub use cutting::{Cut, cut_in_two};
+pub use draft::Draft;
 pub use fault::ApplyError;
 pub use laws::{
     applies_page_by_page, chains_read_over_newer, homes_are_ranges, lows_tell, reads_over_newer,

@@ -2,11 +2,10 @@
 
 ghost use Rattle.std.specs.Prelude.{◌≡◌, IfOk};
 ghost use Rattle.std.specs.List.{fold};
-ghost use Rattle.std.specs.Option.{option_map};
 ghost use Rattle.bw_page.specs.Leaves.{all_changed};
 ghost use Rattle.bw_page.specs.Standing.{after, kept_below};
 
-use crate::changes::change;
+use crate::draft::Draft;
 use bw_codec::{Block, Leaf, Pairs, Record};
 use std::alloc::AllocError;
 
@@ -15,21 +14,7 @@ use std::alloc::AllocError;
 pub fn change_all(leaf: Leaf, records: &[Record]) -> Result<Leaf, AllocError>
     ensures { IfOk result (λ l. l ≡ all_changed records.now leaf) }
 {
-    let mut leaf = leaf;
-    for record in records {
-        change(&mut leaf, record)?;
-    }
-    Ok(leaf)
-}
-
-// The records of a Delta, where the page was set.
-fn change_some(was: Option<Leaf>, records: &[Record]) -> Result<Option<Leaf>, AllocError>
-    ensures { IfOk result (λ leaf. leaf ≡ option_map (all_changed records.now) was) }
-{
-    match was {
-        Some(leaf) => Ok(Some(change_all(leaf, records)?)),
-        None => Ok(None),
-    }
+    Draft::of(leaf).change_all(records)?.into_leaf()
 }
 
 /// The leaf without its pairs from a key on. It is never refused; where memory is wanting it only has
@@ -48,41 +33,33 @@ pub fn keep_below(leaf: Leaf, separator: &[u8]) -> Leaf
     }
 }
 
+// A page to be read on, if it was set.
+fn opened(was: Option<Leaf>) -> Option<Draft>
+    ensures { result ≡ was }
+{
+    match was {
+        Some(leaf) => Some(Draft::of(leaf)),
+        None => None,
+    }
+}
+
+// A page that was read, if it was set.
+fn closed(draft: Option<Draft>) -> Result<Option<Leaf>, AllocError>
+    ensures { IfOk result (λ leaf. leaf ≡ draft) }
+{
+    match draft {
+        Some(draft) => Ok(Some(draft.into_leaf()?)),
+        None => Ok(None),
+    }
+}
+
 /// What a page is after one more block, where it was `was` before; `None` where it was never set.
 /// A block that does not touch the page costs a look at its numbers. A refused growth is the only
 /// error; leaf and block are then dropped.
 pub fn read_block(page: u32, was: Option<Leaf>, block: Block) -> Result<Option<Leaf>, AllocError>
     ensures { IfOk result (λ leaf. leaf ≡ after page was block) }
 {
-    match block {
-        Block::Delta {
-            page: of,
-            back: _,
-            ops,
-        } => {
-            if of != page {
-                return Ok(was);
-            }
-            change_some(was, ops.as_slice())
-        }
-        Block::Base(leaf) => Ok(if leaf.page == page { Some(leaf) } else { was }),
-        Block::Split {
-            page: of,
-            back: _,
-            upper,
-        } => {
-            if upper.page == page {
-                return Ok(Some(upper));
-            }
-            if of != page {
-                return Ok(was);
-            }
-            match was {
-                Some(leaf) => Ok(Some(keep_below(leaf, upper.low.as_slice()))),
-                None => Ok(None),
-            }
-        }
-    }
+    closed(Draft::after(page, opened(was), block)?)
 }
 
 /// What a page is after blocks, one after the other, where it was `was` before. A refused growth is
@@ -94,9 +71,5 @@ pub fn read_blocks(
 ) -> Result<Option<Leaf>, AllocError>
     ensures { IfOk result (λ leaf. leaf ≡ fold (after page) was blocks.items) }
 {
-    let mut leaf = was;
-    for block in blocks {
-        leaf = read_block(page, leaf, block)?;
-    }
-    Ok(leaf)
+    closed(Draft::after_all(page, opened(was), blocks)?)
 }

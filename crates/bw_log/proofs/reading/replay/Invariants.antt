@@ -5,7 +5,7 @@ use Rattle.bw_log.proofs.reading.replay.Given as goal
 
 abbrev pub invariant-loop-frame : goal.invariant-loop-frame
 invariant-loop-frame l =
-    fold (after l.page) l.leaf (blocks_of (reverse l.frames.items)) ≡ fold (after l.page) None (blocks_of (reverse l.initial.frames.items))
+    fold (after l.page) l.draft (blocks_of (reverse l.frames.items)) ≡ fold (after l.page) None (blocks_of (reverse l.initial.frames.items))
 
 abbrev pub decreases-loop-frame : goal.decreases-loop-frame
 decreases-loop-frame l = vec_len l.frames

@@ -1,0 +1,11 @@
+use Rattle.std.proofs.Common.{◌≡◌, ◌∙◌, sym, true, false, not}
+use Rattle.bw_codec.specs.Bytes.{is_below}
+use Rattle.bw_page.proofs.Order.{must_be, not_both}
+use Rattle.bw_page.proofs.Trees.{all_kept}
+use Rattle.bw_page.proofs.tree.ends_behind.Goals as goal
+
+pub returns-in-Some-clause-before : goal.returns-in-Some-clause-before
+returns-in-Some-clause-before c kept =
+    let told : c.is_before.result ≡ is_below c.in-Some.key.now c.args.separator.now = rw c.as_slice.ensures.value at c.is_before.ensures in
+    let below : is_below c.in-Some.key.now c.args.separator.now ≡ true = must_be _ (λ no. let over : not c.is_before.result ≡ true = cc in absurd (cc)) in
+    all_kept c.args.separator.now c.in-Some.key.now c.args.tree.now.entries below c.in-Some.ensures.all_up_to
