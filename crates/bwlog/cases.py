@@ -18,7 +18,10 @@ A file's keys before its first case stand for each case that does not give them.
   is_told        true: something stands there, in place of `tells`
   beside         a folder, whose lock is held while the program runs
   memory         how many MB of addresses the process may have
+  resident       how many MB of memory the process may have touched at most
+  as_owner       true: who runs it may do with files what their owner may, and no more, also where that is root
   fails_behind   what is read ends in an error of the system behind so many bytes of the script
+  goes_on        what is read does not end behind the script: this text comes again and again (nothing, where it is empty)
   takes          standard output is a file, and the system refuses bytes behind so many: `prints` is what it took
   errors_take    the same of standard error, and `tells`
 
@@ -26,8 +29,15 @@ or a step of one who stands outside:
 
   make           a folder that is made
   write, text    a file that is written, and what it then holds
+  write, hex     the same by the digits of its bytes, a piece
   lengthen, bytes  a file that gets this length
+  pipe           a pipe that is made under this name
+  link, to       a link that is made under this name, and where it leads
+  mode, bits     a file or folder that gets these permissions
   file, holds    a file, and what it has to hold
+  missing        a name that nothing has
+  note           a folder, of which is noted what it holds and when each part was changed last
+  unchanged      a folder that was noted, and has to be as it was
 
 A piece is a text, or a table:
 
@@ -40,6 +50,7 @@ A piece is a text, or a table:
 """
 
 import contextlib
+import ctypes
 import fcntl
 import os
 import resource
@@ -48,14 +59,18 @@ import socket
 import subprocess
 import sys
 import tempfile
+import threading
 import tomllib
 
 HERE = os.path.dirname(os.path.abspath(__file__))
 CASES = os.path.join(HERE, "cases")
 BUILT = [os.path.join(HERE, "out", name) for name in ("bwlog", "bwlog.by-rattle")]
 LIMIT = 60
-RUN = {"words", "script", "lines", "status", "prints", "prints_last", "prints_either", "tells", "is_told", "beside", "memory", "fails_behind", "takes", "errors_take"}
-OUTSIDE = [{"make"}, {"write", "text"}, {"lengthen", "bytes"}, {"file", "holds"}]
+RUN = {"words", "script", "lines", "status", "prints", "prints_last", "prints_either", "tells", "is_told", "beside", "memory", "fails_behind", "takes", "errors_take", "resident", "as_owner", "goes_on"}
+OUTSIDE = [{"make"}, {"write", "text"}, {"write", "hex"}, {"lengthen", "bytes"}, {"pipe"}, {"link", "to"}, {"mode", "bits"}, {"file", "holds"}, {"missing"},
+           {"note"}, {"unchanged"}]
+# Of prctl: a right that no program gets that the process begins; and by which root reads and writes what its mode forbids.
+DROP, OVERRIDES = 24, (1, 2)
 
 
 def changed(text, piece):
@@ -116,6 +131,10 @@ def is_told(case, errors):
 
 def set_limits(case):
     """What the process may have: so many bytes of addresses, and files of so many."""
+    if case.get("as_owner", False):
+        for right in OVERRIDES:
+            # (refused to one who is not root, and has no such right)
+            ctypes.CDLL(None).prctl(DROP, right, 0, 0, 0)
     if "memory" in case:
         most = case["memory"] << 20
         resource.setrlimit(resource.RLIMIT_AS, (most, most))
@@ -134,36 +153,77 @@ def failing(text):
     return end
 
 
+def pour(end, text, again):
+    """Writes a text into an end, and then another again and again, until nobody reads it."""
+    with contextlib.suppress(OSError):
+        end.sendall(text)
+        while again:
+            end.sendall(again)
+
+
+@contextlib.contextmanager
+def endless(text, again):
+    """A stream that has this text and then another again and again, and does not end."""
+    end, other = socket.socketpair()
+    with end, other:
+        thread = threading.Thread(target=pour, args=(other, text, again))
+        thread.start()
+        yield end
+        # (who waits for room is told that nobody reads any more)
+        other.shutdown(socket.SHUT_RDWR)
+        thread.join()
+
+
+def given_to(case, text, stack):
+    """What a process reads."""
+    if "fails_behind" in case:
+        return stack.enter_context(failing(text[: case["fails_behind"]]))
+    if "goes_on" in case:
+        return stack.enter_context(endless(text, case["goes_on"].encode()))
+    file = stack.enter_context(tempfile.TemporaryFile())
+    file.write(text)
+    file.seek(0)
+    return file
+
+
 def ended_run(program, case, texts, folder):
-    """A run that has ended: its exit status, what it printed and what it told."""
+    """A run that has ended: its exit status, what it printed and what it told, and how many KB of memory it had touched at most."""
     words = [it if isinstance(it, str) else bytes.fromhex(it["hex"]) for it in case["words"]]
     text = script_of(case, texts).encode()
     with contextlib.ExitStack() as stack:
-        given = {"input": text}
-        if "fails_behind" in case:
-            given = {"stdin": stack.enter_context(failing(text[: case["fails_behind"]]))}
-        files = [stack.enter_context(tempfile.TemporaryFile()) if key in case else None for key in ("takes", "errors_take")]
-        output, errors = [file or subprocess.PIPE for file in files]
-        answer = subprocess.run(
-            [program, *words], stdout=output, stderr=errors, cwd=folder, timeout=LIMIT, preexec_fn=lambda: set_limits(case), **given
+        source = given_to(case, text, stack)
+        # A limit is one of all files, so beside one that has it the other stream is a pipe; nobody prints more than that holds then.
+        limited = [key in case for key in ("takes", "errors_take")]
+        files = [stack.enter_context(tempfile.TemporaryFile()) if is_it or not any(limited) else None for is_it in limited]
+        streams = {key: file or subprocess.PIPE for key, file in zip(("stdout", "stderr"), files)}
+        process = stack.enter_context(
+            subprocess.Popen([program, *words], stdin=source, cwd=folder, preexec_fn=lambda: set_limits(case), **streams)
         )
-        for file in files:
-            if file:
-                file.seek(0)
-        printed, told = [file.read() if file else piped for file, piped in zip(files, (answer.stdout, answer.stderr))]
-    return answer.returncode, printed, told
+        timer = threading.Timer(LIMIT, process.kill)
+        timer.start()
+        _, status, usage = os.wait4(process.pid, 0)
+        timer.cancel()
+        process.returncode = os.waitstatus_to_exitcode(status)
+        for file in filter(None, files):
+            file.seek(0)
+        printed, told = [(file or pipe).read() for file, pipe in zip(files, (process.stdout, process.stderr))]
+    return process.returncode, printed, told, usage.ru_maxrss
 
 
 def run(program, case, texts, folder):
     """What went otherwise in a run, or nothing."""
-    status, output, errors = ended_run(program, case, texts, folder)
+    status, output, errors, touched = ended_run(program, case, texts, folder)
     told = []
+    if status == -signal.SIGKILL:
+        told.append("it did not end within %d s" % LIMIT)
     if status != case.get("status", 0):
         told.append("its status is %d" % status)
     if not is_printed(case, output, texts):
         told.append("it printed %r" % output)
     if not is_told(case, errors):
         told.append("it told %r" % errors)
+    if touched > case.get("resident", touched) << 10:
+        told.append("it touched %d KB" % touched)
     return told
 
 
@@ -174,30 +234,68 @@ def run_beside(program, case, texts, folder):
         return run(program, case, texts, folder)
 
 
-def stand_outside(case, folder):
-    """A step that is no run: what went otherwise, or nothing."""
+def noted(folder):
+    """What a folder holds: of each name its kind, its bytes and when it was changed last, and when the folder was."""
+    found = {"": os.stat(folder).st_mtime_ns}
+    for entry in os.scandir(folder):
+        state = entry.stat(follow_symlinks=False)
+        held = None
+        if entry.is_file(follow_symlinks=False):
+            with open(entry.path, "rb") as file:
+                held = file.read()
+        found[entry.name] = (state.st_mode, state.st_mtime_ns, held)
+    return found
+
+
+def put_outside(case, texts, folder):
+    """Makes or changes what a step says."""
+    path = {key: os.path.join(folder, case[key]) for key in ("make", "write", "lengthen", "pipe", "link", "mode") if key in case}
     if "make" in case:
-        os.mkdir(os.path.join(folder, case["make"]))
+        os.mkdir(path["make"])
     elif "write" in case:
-        with open(os.path.join(folder, case["write"]), "w", encoding="utf-8") as file:
-            file.write(case["text"])
+        text = case["text"].encode() if "text" in case else bytes.fromhex(text_of(case["hex"], texts))
+        with open(path["write"], "wb") as file:
+            file.write(text)
     elif "lengthen" in case:
-        os.truncate(os.path.join(folder, case["lengthen"]), case["bytes"])
-    else:
+        os.truncate(path["lengthen"], case["bytes"])
+    elif "pipe" in case:
+        os.mkfifo(path["pipe"])
+    elif "link" in case:
+        os.symlink(case["to"], path["link"])
+    elif "mode" in case:
+        os.chmod(path["mode"], case["bits"])
+
+
+def stand_outside(case, texts, folder, notes):
+    """A step that is no run: what went otherwise, or nothing."""
+    if "note" in case:
+        notes[case["note"]] = noted(os.path.join(folder, case["note"]))
+    elif "unchanged" in case:
+        name = case["unchanged"]
+        found = noted(os.path.join(folder, name))
+        parts = {*found, *notes[name]}
+        return ["%s/%s is not as it was" % (name, it) for it in sorted(parts) if found.get(it) != notes[name].get(it)]
+    elif "missing" in case:
+        if os.path.lexists(os.path.join(folder, case["missing"])):
+            return ["there is %s" % case["missing"]]
+    elif "file" in case:
         with open(os.path.join(folder, case["file"]), "rb") as file:
             held = file.read()
         if held != case["holds"].encode():
             return ["the file holds %r" % held]
+    else:
+        put_outside(case, texts, folder)
     return []
 
 
 def walk(program, given):
     """Goes through a file's cases. What went otherwise in the first that did, with its number from 1 on, or nothing."""
     cases, texts = given.pop("cases"), given.pop("texts", {})
+    notes = {}
     with tempfile.TemporaryDirectory() as folder:
         for number, case in enumerate(cases, 1):
             if set(case) in OUTSIDE:
-                told = stand_outside(case, folder)
+                told = stand_outside(case, texts, folder, notes)
             else:
                 case = {**given, **case}
                 if set(case) - RUN:

@@ -1,5 +1,5 @@
 -- What a contract sees of a `MemSegment`.
-use Rattle.std.specs.Prelude.{ℕ, List, take}
+use Rattle.std.specs.Prelude.{ℕ, List}
 use Rattle.bw_device.specs.Holding.{Holding}
 use Rattle.bw_device.specs.Leases.{number_of}
 use Rattle.bw_device.specs.declared.memory.MemSegment.{MemSegment}
@@ -10,4 +10,4 @@ fresh_holding lease room bytes = record { bytes = bytes; room = room; lease = le
 
 -- what it holds, of which no call ever fails
 abbrev pub memory_holding : MemSegment → Holding
-memory_holding s = fresh_holding (number_of s.lease) s.capacity (take s.held s.bytes.items)
+memory_holding s = fresh_holding (number_of s.lease) s.capacity s.bytes.items

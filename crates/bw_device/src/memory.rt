@@ -1,5 +1,5 @@
 // A segment in memory.
-ghost use Rattle.std.specs.Prelude.{◌≡◌, ◌+◌, ◌<◌, ◌≤◌, ◌↔◌, ◌⊎◌, ◌++◌, length, take, drop, [], vec_len, IsOk, IfOk, OnOk, IfErr, IsErrAnd, IsErrOf};
+ghost use Rattle.std.specs.Prelude.{◌≡◌, ◌+◌, ◌<◌, ◌≤◌, ◌↔◌, ◌⊎◌, length, take, drop, [], vec_len, IsOk, IfOk, OnOk, IfErr, IsErrAnd, IsErrOf};
 ghost use Rattle.std.specs.Vec.{vec_capacity};
 ghost use Rattle.bw_device.specs.declared.memory.TheConstants.{MAX_CAPACITY};
 
@@ -11,26 +11,17 @@ use std::alloc::Global;
 /// The greatest capacity of a segment, in bytes: one gibibyte.
 pub const MAX_CAPACITY: u64 = 1_073_741_824;
 
-/// What a new segment's memory is filled with. It is not zero, since a compiler may make one
-/// request for memory of zeros out of a request and a filling with them, and that touches none of
-/// it.
-const FILLER: u8 = 0xff;
-
 /// A segment in memory, which never fails. When it is dropped, its lease comes back.
 pub struct MemSegment {
     lease: Lease,
     /// In bytes.
     capacity: u64,
-    /// How many of the bytes are held, from the front on.
-    held: u64,
-    /// As many as the capacity, written when the segment is made: so no append takes memory, and
-    /// none waits for memory that is touched for the first time.
+    /// The held bytes, in memory that was reserved for all of the capacity when the segment was made:
+    /// so no append asks for any. The system gives it as it is written for the first time.
     bytes: Vec<u8>,
     ghost in_range: { (1 ≤ capacity) × (capacity ≤ MAX_CAPACITY) },
-    ghost within_capacity: { held ≤ capacity },
-    ghost touched: { vec_len bytes ≡ capacity },
-    // And no more memory than that.
-    ghost exact: { vec_capacity bytes ≡ capacity },
+    ghost within_capacity: { vec_len bytes ≤ capacity },
+    ghost reserved: { capacity ≤ vec_capacity bytes },
 }
 
 impl Drop for MemSegment {
@@ -38,7 +29,6 @@ impl Drop for MemSegment {
         let MemSegment {
             lease: _,
             capacity: _,
-            held: _,
             bytes: _,
         } = self;
     }
@@ -51,7 +41,7 @@ impl MemSegment {
 
     /// A segment of this capacity, in bytes, that holds nothing yet.
     ///
-    /// All its memory is taken and touched here. `BadConfig` is looked at before `NoMemory`.
+    /// All its memory is reserved here, and none of it is written. `BadConfig` is looked at before `NoMemory`.
     pub fn new(alloc: Global, lease: Lease, capacity: u64) -> Result<MemSegment, Refused>
         ensures made { IfOk result
             (λ s. memory_holding s ≡ fresh_holding (number_of lease) capacity []) }
@@ -65,7 +55,7 @@ impl MemSegment {
 
     /// A segment of this capacity, in bytes, that holds a copy of the bytes.
     ///
-    /// All its memory is taken and touched here. `BadConfig` is looked at before `NoMemory`.
+    /// All its memory is reserved here, and no more of it is written than they take. `BadConfig` is looked at before `NoMemory`.
     pub fn with_bytes(
         alloc: Global,
         lease: Lease,
@@ -83,7 +73,6 @@ impl MemSegment {
             Ok(filled) => Ok(MemSegment {
                 lease,
                 capacity,
-                held: bytes.len() as u64,
                 bytes: filled,
             }),
             Err(cause) => Err(Refused { lease, cause }),
@@ -96,9 +85,11 @@ impl MemSegment {
             (memory_holding self.old).room }
         ensures { memory_holding self.new ≡ appended (memory_holding self.old) piece.now }
     {
-        let from = self.held as usize;
-        write_at(&mut self.bytes, from, piece);
-        self.held += piece.len() as u64;
+        match self.bytes.extend_from_slice(piece) {
+            Ok(()) => {}
+            // The room was reserved.
+            Err(_) => unreachable!(),
+        }
     }
 
     // Fills the slice with the held bytes from `at` on.
@@ -111,20 +102,10 @@ impl MemSegment {
     }
 }
 
-// Writes the piece over the bytes from `at` on.
-fn write_at(bytes: &mut [u8], at: usize, piece: &[u8])
-    requires { at + length piece.now ≤ length bytes.old }
-    ensures { bytes.new
-        ≡ take at bytes.old ++ piece.now ++ drop (at + length piece.now) bytes.old }
-{
-    bytes[at..at + piece.len()].copy_from_slice(piece);
-}
-
-// As many bytes as the capacity says, of which the first are these.
+// These bytes, with room for as many as the capacity says.
 fn filled(alloc: Global, capacity: u64, bytes: &[u8]) -> Result<Vec<u8>, NotMade>
-    ensures held { IfOk result (λ v. take (length bytes.now) v.items ≡ bytes.now) }
-    ensures touched { IfOk result (λ v. vec_len v ≡ capacity) }
-    ensures exact { IfOk result (λ v. vec_capacity v ≡ capacity) }
+    ensures held { IfOk result (λ v. v.items ≡ bytes.now) }
+    ensures reserved { IfOk result (λ v. capacity ≤ vec_capacity v) }
     ensures fits { IsOk result → (1 ≤ capacity) × (capacity ≤ MAX_CAPACITY)
         × (length bytes.now ≤ capacity) }
 
@@ -137,11 +118,11 @@ fn filled(alloc: Global, capacity: u64, bytes: &[u8]) -> Result<Vec<u8>, NotMade
     let Ok(mut all) = Vec::with_capacity(alloc, capacity as usize) else {
         return Err(NotMade::NoMemory);
     };
-    for _ in 0..capacity {
-        all.push_reserved(FILLER);
+    match all.extend_from_slice(bytes) {
+        Ok(()) => Ok(all),
+        // The room is there.
+        Err(_) => unreachable!(),
     }
-    write_at(&mut all, 0, bytes);
-    Ok(all)
 }
 
 impl Segment for MemSegment {
@@ -173,7 +154,7 @@ impl Segment for MemSegment {
     }
 
     fn len(&self) -> u64 {
-        self.held
+        self.bytes.len() as u64
     }
 
     fn capacity(&self) -> u64 {

@@ -9,7 +9,7 @@ ghost use Rattle.bw_file.specs.FileHolding.{file_holding, IsOpened};
 ghost use Rattle.bw_file.specs.declared.refusals.FolderFault.TheVariants.{BadConfig};
 
 use crate::files::{SegmentFile, bytes_of, copy_of, is_capacity};
-use crate::names::{leases_in, lock_path, segment_path};
+use crate::names::{leases_in, lock_path, refuse_unless_plain, segment_path};
 use crate::refusals::{FolderFault, NotOpened};
 use crate::segment::{FileSegment, Shared};
 use bw_device::{Lease, MemSegment};
@@ -47,14 +47,15 @@ impl<F: Drop> Drop for Folder<F> {
 // An open file and its bytes, with what the folder shares.
 type Settled<F> = (F, Vec<u8>, Arc<Shared<F>>);
 
-// Makes the folder where it is missing, and waits until its name stands in its parent.
+// Makes the folder where it is missing, and then waits until its name stands in its parent. The
+// parent of a folder that is there may be one that nobody may read.
 fn make_folder<R: AllocGlobal + Files<File = F>, F: SegmentFile>(
     rt: &R,
     path: &str,
 ) -> Result<(), FolderFault> {
     match fs::create_dir(rt, path) {
         Ok(()) => {}
-        Err(error) if error.kind() == ErrorKind::AlreadyExists => {}
+        Err(error) if error.kind() == ErrorKind::AlreadyExists => return Ok(()),
         Err(error) => return Err(FolderFault::from(error)),
     }
     let parent = format!(in rt.alloc(); "{path}/..")?;
@@ -83,14 +84,16 @@ impl<F: SegmentFile> Folder<F> {
     /// be there.
     ///
     /// `InUse` where another process has it open, or a `Folder`, a segment or a `FolderReader` of
-    /// this one.
+    /// this one; `NotPlain` where `lock` is no plain file.
     pub fn open<R: AllocGlobal + Files<File = F>>(
         rt: &R,
         path: &str,
     ) -> Result<Folder<F>, FolderFault> {
         make_folder(rt, path)?;
-        let itself = fs::open(rt, path)?;
         let name = lock_path(rt.alloc(), path)?;
+        // Where the path is no folder, as a pipe, this tells it, and that is not opened either.
+        refuse_unless_plain(rt, name.as_str())?;
+        let itself = fs::open(rt, path)?;
         let lock = OpenOptions::new()
             .write(true)
             .create(true)
@@ -123,6 +126,7 @@ impl<F: SegmentFile> Folder<F> {
         ensures cause { IfErr result (λ cause. cause ≢ BadConfig) }
     {
         let name = segment_path(rt.alloc(), self.path.as_str(), lease)?;
+        refuse_unless_plain(rt, name.as_str())?;
         let file = OpenOptions::new()
             .read(true)
             .write(true)
@@ -152,7 +156,8 @@ impl<F: SegmentFile> Folder<F> {
     ///
     /// Its capacity is the greater of this one, in bytes, and the file's length. For a moment it
     /// takes memory for both. `InUse` where a segment stands on the file, `TooLong` where the file
-    /// is longer than any segment may be; the file's bytes stay as they are in each refusal.
+    /// is longer than any segment may be, `NotPlain` where it is none; the file's bytes stay as they
+    /// are in each refusal.
     pub fn segment<R: AllocGlobal + Files<File = F>>(
         &self,
         rt: &R,
@@ -193,9 +198,10 @@ impl<F: SegmentFile> Folder<F> {
     }
 
     /// A new segment of this lease and capacity, in bytes, over an empty file: what the file held is
-    /// gone, maybe also where this is refused for another reason than `BadConfig` and `InUse`.
+    /// gone, maybe also where this is refused for another reason than `BadConfig`, `InUse` and
+    /// `NotPlain`.
     ///
-    /// `InUse` where a segment stands on the file.
+    /// `InUse` where a segment stands on the file, `NotPlain` where it is no plain file.
     pub fn spare<R: AllocGlobal + Files<File = F>>(
         &self,
         rt: &R,
@@ -229,7 +235,7 @@ impl<F: SegmentFile> Folder<F> {
     }
 
     /// Empties the file of a lease whose segment was given up and dropped, and waits until that
-    /// stands. `InUse` where a segment stands on it.
+    /// stands. `InUse` where a segment stands on it, `NotPlain` where it is no plain file.
     ///
     /// It is done at once, before the next segment is given up: a stop must never show a later
     /// segment gone and an earlier one still there. Where it fails, no other file may be emptied
@@ -240,6 +246,7 @@ impl<F: SegmentFile> Folder<F> {
         lease: u32,
     ) -> Result<(), FolderFault> {
         let name = segment_path(rt.alloc(), self.path.as_str(), lease)?;
+        refuse_unless_plain(rt, name.as_str())?;
         let file = OpenOptions::new().write(true).open(rt, name.as_str())?;
         file.lock_alone()?;
         cut_to_nothing(&file)?;

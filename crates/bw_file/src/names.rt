@@ -2,6 +2,7 @@
 ghost use Rattle.std.specs.Prelude.{◌≡◌, ◌≢◌, ◌<◌, All, IfOk, IfSome, IfErr};
 ghost use Rattle.bw_device.specs.declared.leases.TheConstants.{MAX_LEASES};
 ghost use Rattle.std.specs.List.Sorted.{IsStrictlyIncreasing};
+ghost use Rattle.bw_file.specs.declared.refusals.FolderFault.TheVariants.{BadConfig};
 
 use crate::refusals::FolderFault;
 use bw_device::MAX_LEASES;
@@ -18,6 +19,20 @@ pub(crate) fn lock_path(alloc: Global, folder: &str) -> Result<String, AllocErro
 /// The path of the file of a lease.
 pub(crate) fn segment_path(alloc: Global, folder: &str, lease: u32) -> Result<String, AllocError> {
     format!(in alloc; "{folder}/segment-{lease:04}.bw")
+}
+
+/// Refuses what has the name of a file and is no plain file, before it is opened: a pipe would keep
+/// its opener waiting, and by a link a file outside the folder would be made or written.
+pub(crate) fn refuse_unless_plain<R: Files>(rt: &R, path: &str) -> Result<(), FolderFault>
+    ensures cause { IfErr result (λ cause. cause ≢ BadConfig) }
+{
+    match fs::symlink_metadata(rt, path) {
+        Ok(found) if found.is_file() => Ok(()),
+        Ok(_) => Err(FolderFault::NotPlain),
+        // Whether it may be missing is for the opening to say.
+        Err(error) if error.kind() == ErrorKind::NotFound => Ok(()),
+        Err(error) => Err(FolderFault::from(error)),
+    }
 }
 
 // The number of the lease whose file has this name. A name that no lease's file has is not ours.

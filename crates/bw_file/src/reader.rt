@@ -9,7 +9,7 @@ ghost use Rattle.bw_file.specs.FileHolding.{IsOpened};
 ghost use Rattle.bw_file.specs.declared.refusals.FolderFault.TheVariants.{BadConfig};
 
 use crate::files::{SegmentFile, bytes_of, copy_of, is_capacity};
-use crate::names::{leases_in, lock_path, segment_path};
+use crate::names::{leases_in, lock_path, refuse_unless_plain, segment_path};
 use crate::refusals::{FolderFault, NotOpened};
 use bw_device::{Lease, MemSegment};
 use std::fs::{self, File};
@@ -31,6 +31,7 @@ fn reading_lock<R: AllocGlobal + Files<File = F>, F: SegmentFile>(
     path: &str,
 ) -> Result<Option<F>, FolderFault> {
     let name = lock_path(rt.alloc(), path)?;
+    refuse_unless_plain(rt, name.as_str())?;
     match fs::open(rt, name.as_str()) {
         Ok(lock) => {
             lock.lock_to_read()?;
@@ -45,7 +46,7 @@ impl<F: SegmentFile> FolderReader<F> {
     /// The folder of this path, which has to be there.
     ///
     /// `InUse` where a `Folder` or a segment of it stands, in this process or another. Other readers
-    /// are no hindrance.
+    /// are no hindrance. `NotPlain` where `lock` is no plain file.
     pub fn open<R: AllocGlobal + Files<File = F>>(
         rt: &R,
         path: &str,
@@ -77,6 +78,7 @@ impl<F: SegmentFile> FolderReader<F> {
         ensures cause { IfErr result (λ cause. cause ≢ BadConfig) }
     {
         let name = segment_path(rt.alloc(), self.path.as_str(), lease)?;
+        refuse_unless_plain(rt, name.as_str())?;
         let file = fs::open(rt, name.as_str())?;
         bytes_of(rt.alloc(), &file)
     }
@@ -84,7 +86,8 @@ impl<F: SegmentFile> FolderReader<F> {
     /// A segment in memory with the bytes of the file of this lease, which has to be there.
     ///
     /// Its capacity is the greater of this one, in bytes, and the file's length. What is appended to
-    /// it stands in memory alone. `TooLong` where the file is longer than any segment may be.
+    /// it stands in memory alone. `TooLong` where the file is longer than any segment may be,
+    /// `NotPlain` where it is none.
     pub fn copy<R: AllocGlobal + Files<File = F>>(
         &self,
         rt: &R,

@@ -19,6 +19,9 @@ pub enum FolderFault {
     BadConfig,
     /// A file is longer than `MAX_CAPACITY`. None of it was read.
     TooLong,
+    /// What has the name of a file is no plain file: a folder, a pipe, a device, a link. It was not
+    /// opened.
+    NotPlain,
     /// Another process has the folder or the file open, or a value of this one.
     InUse,
     /// The system refused a call.
@@ -32,6 +35,7 @@ impl Display for FolderFault {
             FolderFault::NoMemory => "no memory",
             FolderFault::BadConfig => "a number is outside its limits",
             FolderFault::TooLong => "a file is longer than a segment",
+            FolderFault::NotPlain => "what has the name of a file is no plain file",
             FolderFault::InUse => "in use",
             FolderFault::System(error) => return write!(f, "{error}"),
         };

@@ -3,7 +3,7 @@
 
 use super::super::{all_went, clear};
 use super::steps::Act::{
-    Append, Copy, Empty, Holds, Leave, Look, Open, Segment, Spare, Stop, Write,
+    Append, Copy, Empty, Holds, Leave, Listed, Look, Make, Open, Segment, Spare, Stop, Write,
 };
 use super::steps::Told::{Done, System};
 use super::steps::{Act, Row, Stand, Told, at, goes, wrong_row};
@@ -14,51 +14,58 @@ use super::steps::{Act, Row, Stand, Told, at, goes, wrong_row};
 struct Trial(&'static str, &'static [Row], Act, usize, &'static [Row]);
 
 const TRIALS: &[Trial] = &[
-    Trial("open", &[], Open, 6, &[Row(Open, Done, "doaool")]),
+    Trial("made", &[], Open, 7, &[Row(Listed(&[]), Done, "")]),
+    Trial(
+        "open",
+        &[Row(Make, Done, "")],
+        Open,
+        5,
+        &[Row(Open, Done, "dnool")],
+    ),
     Trial(
         "segment",
         &[
-            Row(Open, Done, "doaool"),
+            Row(Open, Done, "doanool"),
             Row(Write("segment-0000.bw", "abc"), Done, ""),
         ],
         Segment(0, 64),
-        7,
+        8,
         &[
-            Row(Segment(0, 64), Done, "olamrwa"),
+            Row(Segment(0, 64), Done, "nolamrwa"),
             Row(Holds(0, "abc", 0), Done, ""),
         ],
     ),
     Trial(
         "spare",
         &[
-            Row(Open, Done, "doaool"),
+            Row(Open, Done, "doanool"),
             Row(Write("segment-0001.bw", "abc"), Done, ""),
         ],
         Spare(1, 64),
-        5,
+        6,
         &[
-            Row(Spare(1, 64), Done, "olaca"),
+            Row(Spare(1, 64), Done, "nolaca"),
             Row(Holds(1, "", 0), Done, ""),
         ],
     ),
     Trial(
         "empty",
         &[
-            Row(Open, Done, "doaool"),
+            Row(Open, Done, "doanool"),
             Row(Write("segment-0000.bw", "abc"), Done, ""),
         ],
         Empty(0),
-        4,
+        5,
         &[
-            Row(Empty(0), Done, "olca"),
+            Row(Empty(0), Done, "nolca"),
             Row(Act::File("segment-0000.bw", ""), Done, ""),
         ],
     ),
     Trial(
         "append",
         &[
-            Row(Open, Done, "doaool"),
-            Row(Segment(0, 64), Done, "olama"),
+            Row(Open, Done, "doanool"),
+            Row(Segment(0, 64), Done, "nolama"),
             Row(Append(0, "abc"), Done, "ws"),
         ],
         Append(0, "d"),
@@ -68,29 +75,29 @@ const TRIALS: &[Trial] = &[
             Row(Append(0, "d"), System, ""),
             Row(Stop(0), Done, ""),
             Row(Leave, Done, ""),
-            Row(Open, Done, "doaool"),
-            Row(Segment(0, 64), Done, "olamrwa"),
+            Row(Open, Done, "dnool"),
+            Row(Segment(0, 64), Done, "nolamrwa"),
             Row(Append(0, "e"), Done, "ws"),
         ],
     ),
     Trial(
         "look",
-        &[Row(Open, Done, "doaool"), Row(Leave, Done, "")],
+        &[Row(Open, Done, "doanool"), Row(Leave, Done, "")],
         Look,
-        3,
-        &[Row(Look, Done, "pok")],
+        4,
+        &[Row(Look, Done, "pnok")],
     ),
     Trial(
         "copy",
         &[
-            Row(Open, Done, "doaool"),
+            Row(Open, Done, "doanool"),
             Row(Leave, Done, ""),
             Row(Write("segment-0000.bw", "abc"), Done, ""),
-            Row(Look, Done, "pok"),
+            Row(Look, Done, "pnok"),
         ],
         Copy(0, 64, "abc"),
-        3,
-        &[Row(Copy(0, 64, "abc"), Done, "omr")],
+        4,
+        &[Row(Copy(0, 64, "abc"), Done, "nomr")],
     ),
 ];
 

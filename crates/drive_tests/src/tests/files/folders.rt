@@ -1,20 +1,21 @@
 //! The tables. A letter is a call of the system: o opens a file, d makes a folder, p looks at a path,
-//! l takes a lock, k takes one beside other readers, m asks for a length, r reads, w writes, c cuts,
-//! s waits until the bytes stand, a until the length or the name stands too.
+//! n at what has a name without following it, l takes a lock, k takes one beside other readers, m
+//! asks for a length, r reads, w writes, c cuts, s waits until the bytes stand, a until the length or
+//! the name stands too.
 
 use super::super::all_went;
 use super::steps::Act::{
-    Append, Copy, Empty, Fail as Failing, File, Full, Holds, Leave, Lengthen, Look, LookAway, Make,
-    NoFile, Open, Segment, Spare, Stop, Write,
+    Append, Copy, Empty, Fail as Failing, File, Full, Holds, Leave, Lengthen, Link, Look, LookAway,
+    Make, NoFile, Open, Segment, Spare, Stop, Write,
 };
-use super::steps::Told::{BadConfig, Done, InUse, No, System, TooLong};
+use super::steps::Told::{BadConfig, Done, InUse, No, NotPlain, System, TooLong};
 use super::steps::{Row, Table, wrong_table};
 use bw_device::MAX_CAPACITY;
 
 /// What was appended is there again after a stop, twice, and none of it after the file was emptied.
 const KEPT: &[Row] = &[
-    Row(Open, Done, "doaool"),
-    Row(Segment(0, 64), Done, "olama"),
+    Row(Open, Done, "doanool"),
+    Row(Segment(0, 64), Done, "nolama"),
     Row(Holds(0, "", 0), Done, ""),
     Row(Append(0, "abc"), Done, "ws"),
     Row(Append(0, ""), Done, "s"),
@@ -24,28 +25,28 @@ const KEPT: &[Row] = &[
     Row(Append(0, "d"), Done, "ws"),
     Row(Stop(0), Done, ""),
     Row(File("segment-0000.bw", "abcd"), Done, ""),
-    Row(Open, Done, "doaool"),
-    Row(Segment(0, 64), Done, "olamrwa"),
+    Row(Open, Done, "dnool"),
+    Row(Segment(0, 64), Done, "nolamrwa"),
     Row(Holds(0, "abcd", 0), Done, ""),
     Row(Append(0, "ef"), Done, "ws"),
     Row(Stop(0), Done, ""),
     Row(Leave, Done, ""),
-    Row(Open, Done, "doaool"),
-    Row(Segment(0, 64), Done, "olamrwa"),
+    Row(Open, Done, "dnool"),
+    Row(Segment(0, 64), Done, "nolamrwa"),
     Row(Holds(0, "abcdef", 0), Done, ""),
-    Row(Empty(0), InUse, "ol"),
-    Row(Segment(0, 64), InUse, "ol"),
-    Row(Spare(0, 64), InUse, "ol"),
+    Row(Empty(0), InUse, "nol"),
+    Row(Segment(0, 64), InUse, "nol"),
+    Row(Spare(0, 64), InUse, "nol"),
     Row(Stop(0), Done, ""),
-    Row(Empty(0), Done, "olca"),
+    Row(Empty(0), Done, "nolca"),
     Row(File("segment-0000.bw", ""), Done, ""),
-    Row(Segment(0, 64), Done, "olama"),
+    Row(Segment(0, 64), Done, "nolama"),
 ];
 
 /// Limits are looked at before any file, a length before any byte; a file may be longer than the
 /// capacity that is asked for.
 const LIMITS: &[Row] = &[
-    Row(Open, Done, "doaool"),
+    Row(Open, Done, "doanool"),
     Row(Segment(0, 0), BadConfig, ""),
     Row(Segment(0, MAX_CAPACITY + 1), BadConfig, ""),
     Row(NoFile("segment-0000.bw"), Done, ""),
@@ -53,14 +54,14 @@ const LIMITS: &[Row] = &[
     Row(Spare(0, 0), BadConfig, ""),
     Row(Spare(0, MAX_CAPACITY + 1), BadConfig, ""),
     Row(File("segment-0000.bw", "abc"), Done, ""),
-    Row(Segment(0, 2), Done, "olamrwa"),
+    Row(Segment(0, 2), Done, "nolamrwa"),
     Row(Holds(0, "abc", 0), Done, ""),
     Row(Append(0, "d"), No, ""),
     Row(Append(0, ""), Done, "s"),
     Row(Stop(0), Done, ""),
     Row(Lengthen, Done, ""),
-    Row(Segment(0, 64), TooLong, "olam"),
-    Row(Spare(0, 64), Done, "olaca"),
+    Row(Segment(0, 64), TooLong, "nolam"),
+    Row(Spare(0, 64), Done, "nolaca"),
     Row(Holds(0, "", 0), Done, ""),
 ];
 
@@ -68,21 +69,21 @@ const LIMITS: &[Row] = &[
 const ONCE: &[Row] = &[
     Row(Look, System, "p"),
     Row(Empty(0), No, ""),
-    Row(Open, Done, "doaool"),
-    Row(Empty(0), System, "o"),
+    Row(Open, Done, "doanool"),
+    Row(Empty(0), System, "no"),
     Row(NoFile("segment-0000.bw"), Done, ""),
-    Row(Open, InUse, "doaool"),
-    Row(Look, InUse, "pok"),
-    Row(Segment(1, 64), Done, "olama"),
+    Row(Open, InUse, "dnool"),
+    Row(Look, InUse, "pnok"),
+    Row(Segment(1, 64), Done, "nolama"),
     Row(Leave, Done, ""),
-    Row(Open, InUse, "doaool"),
-    Row(Look, InUse, "pok"),
+    Row(Open, InUse, "dnool"),
+    Row(Look, InUse, "pnok"),
     Row(Stop(1), Done, ""),
-    Row(Look, Done, "pok"),
-    Row(Look, Done, "pok"),
-    Row(Open, InUse, "doaool"),
+    Row(Look, Done, "pnok"),
+    Row(Look, Done, "pnok"),
+    Row(Open, InUse, "dnool"),
     Row(LookAway, Done, ""),
-    Row(Open, Done, "doaool"),
+    Row(Open, Done, "dnool"),
     Row(File("segment-0001.bw", ""), Done, ""),
 ];
 
@@ -90,26 +91,26 @@ const ONCE: &[Row] = &[
 const READ: &[Row] = &[
     Row(Make, Done, ""),
     Row(Write("segment-0000.bw", "abc"), Done, ""),
-    Row(Look, Done, "po"),
-    Row(Copy(0, 64, "abc"), Done, "omr"),
-    Row(Copy(0, 1, "abc"), Done, "omr"),
+    Row(Look, Done, "pno"),
+    Row(Copy(0, 64, "abc"), Done, "nomr"),
+    Row(Copy(0, 1, "abc"), Done, "nomr"),
     Row(Copy(0, 0, "abc"), BadConfig, ""),
     Row(Copy(0, MAX_CAPACITY + 1, "abc"), BadConfig, ""),
-    Row(Copy(1, 64, ""), System, "o"),
+    Row(Copy(1, 64, ""), System, "no"),
     Row(NoFile("segment-0001.bw"), Done, ""),
     Row(NoFile("lock"), Done, ""),
     Row(Lengthen, Done, ""),
-    Row(Copy(0, 64, "abc"), TooLong, "om"),
+    Row(Copy(0, 64, "abc"), TooLong, "nom"),
     Row(LookAway, Done, ""),
-    Row(Open, Done, "doaool"),
+    Row(Open, Done, "dnool"),
 ];
 
 /// After a failed append each later one fails, in every segment of the folder and without a call,
 /// until the folder is opened again: what the file kept of the piece is then there.
 const CLOSED: &[Row] = &[
-    Row(Open, Done, "doaool"),
-    Row(Segment(0, 64), Done, "olama"),
-    Row(Segment(1, 64), Done, "olama"),
+    Row(Open, Done, "doanool"),
+    Row(Segment(0, 64), Done, "nolama"),
+    Row(Segment(1, 64), Done, "nolama"),
     Row(Append(0, "abc"), Done, "ws"),
     Row(Append(1, "xy"), Done, "ws"),
     Row(Failing(0, 2), Done, ""),
@@ -122,35 +123,35 @@ const CLOSED: &[Row] = &[
     Row(Holds(0, "abc", 2), Done, ""),
     Row(Holds(1, "xy", 2), Done, ""),
     Row(Stop(0), Done, ""),
-    Row(Segment(0, 64), Done, "olamrwa"),
+    Row(Segment(0, 64), Done, "nolamrwa"),
     Row(Append(0, "h"), System, ""),
     Row(Stop(0), Done, ""),
     Row(Stop(1), Done, ""),
     Row(Leave, Done, ""),
-    Row(Open, Done, "doaool"),
-    Row(Segment(1, 64), Done, "olamrwa"),
+    Row(Open, Done, "dnool"),
+    Row(Segment(1, 64), Done, "nolamrwa"),
     Row(Append(1, "z"), Done, "ws"),
     Row(Holds(1, "xyz", 0), Done, ""),
 ];
 
 /// A sync that fails: the copy has nothing of the piece, and the file, opened again, has it.
 const UNSYNCED: &[Row] = &[
-    Row(Open, Done, "doaool"),
-    Row(Segment(0, 64), Done, "olama"),
+    Row(Open, Done, "doanool"),
+    Row(Segment(0, 64), Done, "nolama"),
     Row(Failing(1, 0), Done, ""),
     Row(Append(0, "abc"), System, "ws"),
     Row(Holds(0, "", 1), Done, ""),
     Row(Stop(0), Done, ""),
     Row(Leave, Done, ""),
-    Row(Open, Done, "doaool"),
-    Row(Segment(0, 64), Done, "olamrwa"),
+    Row(Open, Done, "dnool"),
+    Row(Segment(0, 64), Done, "nolamrwa"),
     Row(Holds(0, "abc", 0), Done, ""),
 ];
 
 /// A device that is full: the system's own refusal of a write.
 const FULL: &[Row] = &[
-    Row(Open, Done, "doaool"),
-    Row(Segment(0, 64), Done, "olama"),
+    Row(Open, Done, "doanool"),
+    Row(Segment(0, 64), Done, "nolama"),
     Row(Append(0, "abc"), Done, "ws"),
     Row(Full(true), Done, ""),
     Row(Append(0, "d"), System, "w"),
@@ -160,9 +161,43 @@ const FULL: &[Row] = &[
     Row(File("segment-0000.bw", "abc"), Done, ""),
 ];
 
+/// What is no plain file is not opened, neither to be written nor to be looked at: no link is followed,
+/// also where it leads to nothing yet.
+const PLAIN: &[Row] = &[
+    Row(Open, Done, "doanool"),
+    Row(Write("other", "abc"), Done, ""),
+    Row(Link("segment-0000.bw", "other"), Done, ""),
+    Row(Link("segment-0001.bw", "nothing"), Done, ""),
+    Row(Segment(0, 64), NotPlain, "n"),
+    Row(Segment(1, 64), NotPlain, "n"),
+    Row(Spare(0, 64), NotPlain, "n"),
+    Row(Empty(0), NotPlain, "n"),
+    Row(Leave, Done, ""),
+    Row(Look, Done, "pnok"),
+    Row(Copy(0, 64, "abc"), NotPlain, "n"),
+    Row(Copy(1, 64, ""), NotPlain, "n"),
+    Row(LookAway, Done, ""),
+    Row(File("other", "abc"), Done, ""),
+    Row(NoFile("nothing"), Done, ""),
+];
+
+/// Nor is a lock that is none.
+const NO_LOCK: &[Row] = &[
+    Row(Make, Done, ""),
+    Row(Link("lock", "nothing"), Done, ""),
+    Row(Open, NotPlain, "dn"),
+    Row(Look, NotPlain, "pn"),
+    Row(NoFile("nothing"), Done, ""),
+];
+
 const APPENDED: &[Table] = &[("kept", KEPT), ("limits", LIMITS)];
 
-const OPENED: &[Table] = &[("once", ONCE), ("read", READ)];
+const OPENED: &[Table] = &[
+    ("once", ONCE),
+    ("read", READ),
+    ("plain", PLAIN),
+    ("no-lock", NO_LOCK),
+];
 
 const REFUSED: &[Table] = &[("closed", CLOSED), ("unsynced", UNSYNCED), ("full", FULL)];
 

@@ -8,6 +8,7 @@ use bw_device::{Desk, Lease, MAX_CAPACITY, Segment};
 use bw_file::{FileSegment, Folder, FolderFault, FolderReader, NotOpened};
 use std::alloc::Global;
 use std::fs::{self, OpenOptions};
+use std::os::unix::fs::symlink;
 
 /// One step. Segments have a place, 0 or 1, which is also their lease.
 #[derive(Drop)]
@@ -47,6 +48,8 @@ pub(super) enum Act {
     First(&'static str, usize),
     /// No file of this name stands.
     NoFile(&'static str),
+    /// A link of this name is made, to what has the other name in the folder.
+    Link(&'static str, &'static str),
     /// The file of the first lease becomes longer than a segment may be.
     Lengthen,
     /// There are files for these leases.
@@ -65,6 +68,7 @@ pub(super) enum Told {
     NoMemory,
     BadConfig,
     TooLong,
+    NotPlain,
     InUse,
     System,
 }
@@ -110,6 +114,7 @@ fn fault(cause: FolderFault) -> Told {
         FolderFault::NoMemory => Told::NoMemory,
         FolderFault::BadConfig => Told::BadConfig,
         FolderFault::TooLong => Told::TooLong,
+        FolderFault::NotPlain => Told::NotPlain,
         FolderFault::InUse => Told::InUse,
         FolderFault::System(_) => Told::System,
     }
@@ -275,6 +280,7 @@ fn name_of(act: &Act) -> &'static str {
         Act::Bytes(name, _, _) => *name,
         Act::File(name, _) => *name,
         Act::NoFile(name) => *name,
+        Act::Link(name, _) => *name,
         _ => "segment-0000.bw",
     }
 }
@@ -287,6 +293,7 @@ fn goes_on(rt: &HostRuntime, path: &str, act: &Act) -> bool {
         Act::File(_, text) => goes_with(rt, path, text.as_bytes(), false),
         Act::First(hex, n) => goes_in_hex(rt, path, *hex, *n, false),
         Act::NoFile(_) => matches!(fs::exists(rt, path), Ok(false)),
+        Act::Link(_, to) => symlink(rt, *to, path).is_ok(),
         Act::Lengthen => lengthen(rt, path),
         _ => false,
     }

@@ -143,6 +143,7 @@ impl Files for Watched {
     }
 
     fn symlink_metadata(&self, path: &str) -> io::Result<Metadata> {
+        self.watch.ask(b'n')?;
         self.rt.symlink_metadata(path)
     }
 
