@@ -15,6 +15,7 @@ mod settling;
 mod sides;
 mod steps;
 mod stopping;
+mod sweeps;
 mod telling;
 mod threads;
 mod turning;

@@ -57,16 +57,16 @@ impl Maker {
     }
 }
 
-/// Four boxes, the first of which fails for good after so many calls and keeps so many bytes of an
-/// append.
-pub(super) fn dying(alloc: Global, dead: (u64, u64)) -> Option<Supply> {
+/// Six boxes, of which the one with this lease fails for good after so many calls and keeps so many
+/// bytes of an append.
+pub(super) fn dying(alloc: Global, lease: u32, dead: (u64, u64)) -> Option<Supply> {
     let mut maker = maker_of(alloc, LEAST)?;
     let mut boxes: Vec<Box<dyn Segment>> = Vec::new(alloc);
-    let lease = maker.desk.take().ok()?;
-    let inner = MemSegment::new(alloc, lease, LEAST).ok()?;
+    maker.fill(lease, &mut boxes)?;
+    let inner = MemSegment::new(alloc, maker.desk.take().ok()?, LEAST).ok()?;
     let segment = DeadSegment::new(inner, dead.0, dead.1, 0);
     boxes.push(Box::new(alloc, segment).ok()?).ok()?;
-    maker.fill(3, &mut boxes)?;
+    maker.fill(5u32.saturating_sub(lease), &mut boxes)?;
     Some(Supply {
         boxes,
         more: Vec::new(alloc),

@@ -1,12 +1,12 @@
 //! What is left of a store after a stop, and of a log whose newest segment was cut.
 
-use super::boxes::{LEAST, Row, Supply, dying, maker_of, plain, supplied};
+use super::boxes::{LEAST, Row, Supply, maker_of, plain, supplied};
 use super::opening::{config_of, opened, reopened, shut};
 use super::steps::Step;
 use super::steps::Step::{Cuts, Flush, Live, Page, Put, Refused, Roll, Turn};
 use super::telling::{holds, went};
 use super::walking::{lives, wrong_step};
-use bw_care::{Recovered, RecoverCause, recover};
+use bw_care::{RecoverCause, Recovered, recover};
 use bw_device::Segment;
 use bw_store::StoreFault;
 use std::alloc::Global;
@@ -130,9 +130,17 @@ fn cut_at(alloc: Global, bytes: &[Vec<u8>], length: usize) -> Option<Recovered> 
 fn is_told(recovered: &Recovered, length: usize) -> bool {
     let last = if length < 68 { 2 } else { 3 };
     let dropped = if (1..24).contains(&length) { 1 } else { 0 };
-    let tail = if (24..68).contains(&length) { length as u64 - 24 } else { 0 };
-    (recovered.first, recovered.last, recovered.tail, recovered.dropped)
-        == (1, last, tail, dropped)
+    let tail = if (24..68).contains(&length) {
+        length as u64 - 24
+    } else {
+        0
+    };
+    (
+        recovered.first,
+        recovered.last,
+        recovered.tail,
+        recovered.dropped,
+    ) == (1, last, tail, dropped)
 }
 
 // The bytes of three segments.
@@ -155,6 +163,7 @@ fn three<R: AllocGlobal + Wait>(rt: &R) -> Option<Vec<Vec<u8>>> {
 }
 
 const OLDER: &[Step] = &[Page(1, "1 : j=2 k=1")];
+
 const NEWER: &[Step] = &[Page(1, "1 : j=2 k=3")];
 
 // Each cut of the newest of three segments shows the frames that are whole.
@@ -177,25 +186,6 @@ fn each_cut<R: AllocGlobal + Wait>(rt: &R) -> Option<usize> {
     None
 }
 
-// A box that fails for good: no later append or recovery succeeds, whatever it kept.
-fn stays_dead<R: AllocGlobal + Wait>(rt: &R) -> Option<usize> {
-    for keep in 0..=52 {
-        let mut supply = dying(rt.alloc(), (1, keep))?;
-        if lives(rt, &mut supply, 8, NOTHING).is_some() {
-            return Some(keep as usize);
-        }
-        match recover(rt.alloc(), supply.boxes) {
-            Ok(_recovered) => return Some(100),
-            Err(fault) => {
-                if fault.cause != (RecoverCause::Device { lease: 0 }) {
-                    return Some(200);
-                }
-            }
-        }
-    }
-    None
-}
-
 #[test]
 fn nothing_is_found_where_no_frame_is_whole(rt: HostRuntime) {
     holds(&rt, finds_nothing(&rt, (0, 10)));
@@ -210,9 +200,4 @@ fn a_torn_second_frame_is_left_out(rt: HostRuntime) {
 #[test]
 fn each_cut_shows_a_cut_of_the_history(rt: HostRuntime) {
     went(&rt, each_cut(&rt));
-}
-
-#[test]
-fn a_dead_box_stays_dead(rt: HostRuntime) {
-    went(&rt, stays_dead(&rt));
 }

@@ -15,11 +15,17 @@ use std::mem;
 use std::sync::Wait;
 
 // The first step that did not go as told.
-pub(super) fn wrong_step<R: AllocGlobal + Wait>(rt: &R, opened: &mut Held, steps: &[Step]) -> Option<usize>
+pub(super) fn wrong_step<R: AllocGlobal + Wait>(
+    rt: &R,
+    opened: &mut Held,
+    steps: &[Step],
+) -> Option<usize>
     requires sound { IsSoundBeside opened.old.store holding }
     requires feeds { map ring_of_feed opened.old.feeds.items
         ≡ (kept_beside opened.old.store holding).rings }
-    ensures { IsSoundBeside opened.new.store holding }
+    ensures sound { IsSoundBeside opened.new.store holding }
+    ensures feeds { map ring_of_feed opened.new.feeds.items
+        ≡ (kept_beside opened.new.store holding).rings }
 {
     for (i, step) in steps.iter().enumerate() {
         if !goes(rt, rt.alloc(), opened, step) {

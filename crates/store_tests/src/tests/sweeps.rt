@@ -1,0 +1,423 @@
+//! Of two scripts each append fails in turn, and keeps each number of bytes that it may; and each read
+//! fails in turn.
+
+ghost use Rattle.std.specs.Prelude.{◌≡◌, map};
+ghost use Rattle.bw_ring.specs.Ends.{ring_of_feed};
+ghost use Rattle.bw_store.specs.Views.{kept_beside, IsSoundBeside};
+
+use super::boxes::{LEAST, Row, Supply, dying, supplied};
+use super::opening::{Held, config_of, opened, shut};
+use super::steps::Step::{Clean, Evict, Flush, Get, Page, Put, Roll, Turn};
+use super::steps::{Step, goes};
+use super::telling::{all_went, holds};
+use super::walking::{lives_on, wrong_step};
+use bw_care::{RecoverCause, recover};
+use std::sync::Wait;
+
+/// Five records, a frame each; the last one cuts its page.
+const FIVE: &[Step] = &[
+    Put(0, b"a", b"1"),
+    Turn(1, 1),
+    Flush(Some(1)),
+    Put(0, b"b", b"2"),
+    Turn(1, 1),
+    Flush(Some(2)),
+    Put(0, b"c", b"3"),
+    Turn(1, 1),
+    Flush(Some(3)),
+    Put(0, b"d", b"4"),
+    Turn(1, 1),
+    Flush(Some(4)),
+    Put(0, b"e", b"5"),
+    Turn(1, 1),
+    Flush(Some(5)),
+];
+
+/// Three segments of a frame each.
+const THREE: &[Step] = &[
+    Put(0, b"k", b"1"),
+    Turn(1, 1),
+    Flush(Some(1)),
+    Roll,
+    Put(0, b"j", b"2"),
+    Turn(1, 1),
+    Flush(Some(2)),
+    Roll,
+    Put(0, b"k", b"3"),
+    Turn(1, 1),
+    Flush(Some(3)),
+];
+
+/// Two of them are given up.
+const CLEANED: &[Step] = &[Clean(1, 0, 1, 1), Clean(2, 1, 0, 0), Page(1, "1 : j=2 k=3")];
+
+/// An append: the lease of its box, how many calls of that box come before it, its length, and how
+/// many frames are whole where it failed, with less than all its bytes kept or with all of them.
+#[derive(Drop)]
+struct Append {
+    lease: u32,
+    calls: u64,
+    length: u64,
+    torn: usize,
+    whole: usize,
+}
+
+/// A script in two parts, its appends, and for each frame what a store shows that goes on behind it.
+#[derive(Drop)]
+struct Course {
+    steps: &'static [Step],
+    then: &'static [Step],
+    appends: &'static [Append],
+    shown: &'static [&'static [Step]],
+}
+
+const COURSES: &[Course] = &[
+    Course {
+        steps: FIVE,
+        then: &[],
+        appends: &[
+            Append {
+                lease: 0,
+                calls: 0,
+                length: 24,
+                torn: 0,
+                whole: 0,
+            },
+            Append {
+                lease: 0,
+                calls: 1,
+                length: 52,
+                torn: 0,
+                whole: 1,
+            },
+            Append {
+                lease: 0,
+                calls: 2,
+                length: 44,
+                torn: 1,
+                whole: 2,
+            },
+            Append {
+                lease: 0,
+                calls: 3,
+                length: 44,
+                torn: 2,
+                whole: 3,
+            },
+            Append {
+                lease: 0,
+                calls: 4,
+                length: 44,
+                torn: 3,
+                whole: 4,
+            },
+            Append {
+                lease: 0,
+                calls: 5,
+                length: 81,
+                torn: 4,
+                whole: 5,
+            },
+        ],
+        shown: &[
+            &[
+                Page(1, "1 : a=1"),
+                Put(0, b"z", b"9"),
+                Turn(9, 1),
+                Flush(Some(2)),
+            ],
+            &[
+                Page(1, "1 : a=1 b=2"),
+                Put(0, b"z", b"9"),
+                Turn(9, 1),
+                Flush(Some(3)),
+            ],
+            &[
+                Page(1, "1 : a=1 b=2 c=3"),
+                Put(0, b"z", b"9"),
+                Turn(9, 1),
+                Flush(Some(4)),
+            ],
+            &[
+                Page(1, "1 : a=1 b=2 c=3 d=4"),
+                Page(2, ""),
+                Put(0, b"a", b"9"),
+                Turn(9, 1),
+                Flush(Some(5)),
+            ],
+            &[
+                Page(1, "1 : a=1 b=2"),
+                Page(2, "2 c: c=3 d=4 e=5"),
+                Put(0, b"z", b"9"),
+                Turn(9, 1),
+                Flush(Some(6)),
+            ],
+        ],
+    },
+    Course {
+        steps: THREE,
+        then: CLEANED,
+        appends: &[
+            Append {
+                lease: 0,
+                calls: 0,
+                length: 24,
+                torn: 0,
+                whole: 0,
+            },
+            Append {
+                lease: 0,
+                calls: 1,
+                length: 52,
+                torn: 0,
+                whole: 1,
+            },
+            Append {
+                lease: 1,
+                calls: 0,
+                length: 24,
+                torn: 1,
+                whole: 1,
+            },
+            Append {
+                lease: 1,
+                calls: 1,
+                length: 44,
+                torn: 1,
+                whole: 2,
+            },
+            Append {
+                lease: 2,
+                calls: 0,
+                length: 24,
+                torn: 2,
+                whole: 2,
+            },
+            Append {
+                lease: 2,
+                calls: 1,
+                length: 44,
+                torn: 2,
+                whole: 3,
+            },
+            // The cleaner has read the box once by then.
+            Append {
+                lease: 2,
+                calls: 3,
+                length: 36,
+                torn: 3,
+                whole: 4,
+            },
+        ],
+        shown: &[
+            &[
+                Page(1, "1 : k=1"),
+                Put(0, b"z", b"9"),
+                Turn(9, 1),
+                Flush(Some(2)),
+            ],
+            &[
+                Page(1, "1 : j=2 k=1"),
+                Put(0, b"z", b"9"),
+                Turn(9, 1),
+                Flush(Some(3)),
+            ],
+            &[
+                Page(1, "1 : j=2 k=3"),
+                Put(0, b"z", b"9"),
+                Turn(9, 1),
+                Flush(Some(4)),
+            ],
+            &[
+                Page(1, "1 : j=2 k=3"),
+                Put(0, b"z", b"9"),
+                Turn(9, 1),
+                Flush(Some(5)),
+            ],
+        ],
+    },
+];
+
+// Whether a step of the script goes otherwise, over a store of these boxes, which then come out.
+fn stops<R: AllocGlobal + Wait>(rt: &R, supply: &mut Supply, course: &Course) -> bool {
+    let Some(mut held) = opened(rt, &config_of(2, 8, 1), supply) else {
+        return false;
+    };
+    let wrong = wrong_step(rt, &mut held, course.steps).is_some()
+        || wrong_step(rt, &mut held, course.then).is_some();
+    let _ = shut(rt, held, supply);
+    wrong
+}
+
+// Whether recovery tells that no frame is whole, and hands all boxes back.
+fn finds_nothing<R: AllocGlobal>(rt: &R, supply: Supply) -> bool {
+    let Supply { boxes, more: _ } = supply;
+    match recover(rt.alloc(), boxes) {
+        Ok(_recovered) => false,
+        Err(fault) => (fault.cause == RecoverCause::Empty) & (fault.boxes.len() == 6),
+    }
+}
+
+// Whether a store whose append failed, with so many bytes kept, is found again with the frames that
+// are whole, and goes on.
+fn is_found<R: AllocGlobal + Wait>(rt: &R, course: &Course, append: &Append, keep: u64) -> bool {
+    let row = Row {
+        boxes: append.lease,
+        fuse: Some((append.calls, keep)),
+        behind: 5u32.saturating_sub(append.lease),
+        more: 0,
+        capacity: LEAST,
+    };
+    let Some(mut supply) = supplied(rt.alloc(), &row) else {
+        return false;
+    };
+    if !stops(rt, &mut supply, course) {
+        return false;
+    }
+    let frames = if keep == append.length {
+        append.whole
+    } else {
+        append.torn
+    };
+    if frames == 0 {
+        return finds_nothing(rt, supply);
+    }
+    match course.shown.get(frames - 1) {
+        Some(steps) => lives_on(rt, &mut supply, None, *steps).is_none(),
+        None => false,
+    }
+}
+
+// Whether a box that failed for good in this append fails in recovery too, and all boxes come back.
+fn is_dead<R: AllocGlobal + Wait>(rt: &R, course: &Course, append: &Append, keep: u64) -> bool {
+    let Some(mut supply) = dying(rt.alloc(), append.lease, (append.calls, keep)) else {
+        return false;
+    };
+    if !stops(rt, &mut supply, course) {
+        return false;
+    }
+    let Supply { boxes, more: _ } = supply;
+    // Where the box kept nothing it is a spare, and is not read.
+    let is_spare = append.calls == 0 && keep == 0;
+    match recover(rt.alloc(), boxes) {
+        Ok(_recovered) => is_spare && append.torn > 0,
+        Err(fault) => {
+            let told = if is_spare && append.torn == 0 {
+                RecoverCause::Empty
+            } else {
+                RecoverCause::Device {
+                    lease: append.lease,
+                }
+            };
+            (fault.cause == told) & (fault.boxes.len() == 6)
+        }
+    }
+}
+
+// The first of a course's appends that went otherwise with some number of bytes kept.
+fn wrong_append<R: AllocGlobal + Wait>(rt: &R, course: &Course) -> Option<usize> {
+    for (i, append) in course.appends.iter().enumerate() {
+        for keep in 0..=append.length {
+            if !is_found(rt, course, append, keep) || !is_dead(rt, course, append, keep) {
+                return Some(i);
+            }
+        }
+    }
+    None
+}
+
+// The first course with one, and which.
+fn wrong_course<R: AllocGlobal + Wait>(rt: &R) -> Option<(usize, usize)> {
+    for (i, course) in COURSES.iter().enumerate() {
+        if let Some(append) = wrong_append(rt, course) {
+            return Some((i, append));
+        }
+    }
+    None
+}
+
+#[test]
+fn each_append_fails_in_turn(rt: HostRuntime) {
+    all_went(&rt, wrong_course(&rt));
+}
+
+/// Behind five frames pages leave memory, are read, and come back.
+const AWAY: &[Step] = &[
+    Evict(1, Ok(true)),
+    Evict(2, Ok(true)),
+    Page(1, "1 : a=1 b=2"),
+    Get(b"e", b"5"),
+    Page(2, "2 c: c=3 d=4 e=5"),
+    Put(0, b"a", b"9"),
+    Turn(9, 1),
+    Page(1, "1 : a=9 b=2"),
+    Page(2, "2 c: c=3 d=4 e=5"),
+];
+
+// How many steps went otherwise once, and then as told; none where one went so twice.
+fn retried<R: AllocGlobal + Wait>(rt: &R, held: &mut Held, steps: &[Step]) -> Option<usize>
+    requires sound { IsSoundBeside held.old.store holding }
+    requires feeds { map ring_of_feed held.old.feeds.items
+        ≡ (kept_beside held.old.store holding).rings }
+    ensures { IsSoundBeside held.new.store holding }
+{
+    let mut again: usize = 0;
+    'steps: for step in steps {
+        if goes(rt, rt.alloc(), held, step) {
+            continue;
+        }
+        if !goes(rt, rt.alloc(), held, step) {
+            return None;
+        }
+        again = again.saturating_add(1);
+    }
+    Some(again)
+}
+
+// How many of the last steps were made twice, over boxes of which the first fails once, after so
+// many calls; none where one went otherwise twice, or one of the first steps at all.
+fn twice<R: AllocGlobal + Wait>(
+    rt: &R,
+    calls: u64,
+    steps: &[Step],
+    last: &[Step],
+) -> Option<usize> {
+    let row = Row {
+        boxes: 0,
+        fuse: Some((calls, 0)),
+        behind: 5,
+        more: 0,
+        capacity: LEAST,
+    };
+    let mut supply = supplied(rt.alloc(), &row)?;
+    let mut held = opened(rt, &config_of(2, 8, 1), &mut supply)?;
+    let went = wrong_step(rt, &mut held, steps).is_none();
+    let again = retried(rt, &mut held, last);
+    let _ = shut(rt, held, &mut supply);
+    if went { again } else { None }
+}
+
+// Whether each read of the last steps fails in turn, at least so many, and is made again: the first
+// of them comes after so many calls of the first box.
+fn fail_in_turn<R: AllocGlobal + Wait>(
+    rt: &R,
+    calls: u64,
+    least: u64,
+    steps: &[Step],
+    last: &[Step],
+) -> bool {
+    for reads in 0..64u64 {
+        match twice(rt, calls.saturating_add(reads), steps, last) {
+            Some(1) => {}
+            Some(0) => return reads >= least,
+            _ => return false,
+        }
+    }
+    false
+}
+
+#[test]
+fn each_read_fails_in_turn(rt: HostRuntime) {
+    holds(&rt, fail_in_turn(&rt, 6, 4, FIVE, AWAY));
+    holds(&rt, fail_in_turn(&rt, 2, 1, THREE, CLEANED));
+}
