@@ -234,8 +234,6 @@ def two_lives(shim, room, draw, most):
                     if expected and draw.random() < 0.1:
                         go_on(image, expected)
             disk.ask(note)
-            if note[0] == "w" and frame_of(note[4]) and note[1] >= HEAD:
-                pending = frame_of(note[4])
             if note[0] == "s" and note[3].startswith("segment-"):
                 disk.last = max(disk.last, last_whole(disk.stands.get(note[3], b"")))
             if seen >= most:
@@ -256,6 +254,24 @@ def last_whole(data):
     return last
 
 
+def end_again(shim, room):
+    """Whether opening a file writes its last 65,560 bytes again at their place, or all of a shorter one."""
+    for records, most in ((200, 65560), (1000, 65560)):
+        folder, log = os.path.join(room, "end%d" % records), os.path.join(room, "end%d.notes" % records)
+        os.makedirs(folder)
+        lines = "".join("put 0 k%d %s\nflush\n" % (i, "v" * 100) for i in range(records))
+        for words in (lines, "get k1\n"):
+            subprocess.run(
+                [PROGRAM, "replay", "--dir", folder, "--capacity", "1048576"],
+                input=words, capture_output=True, text=True, check=True,
+                env={"LD_PRELOAD": shim, "WATCH": folder, "WATCH_LOG": log} if words != lines else {},
+            )
+        length = os.path.getsize(os.path.join(folder, "segment-0000.bw"))
+        ask(length > 16408 and (length > most) == (records == 1000), "a file of", length, "bytes")
+        again = [(at, many) for letter, at, many, name, _ in notes_of(log) if letter == "w" and name == "segment-0000.bw"]
+        ask(again == [(max(0, length - most), min(length, most))], "at opening", again, "of", length, "bytes")
+
+
 def main():
     ask(os.path.exists(PROGRAM), PROGRAM + " is not built: make run")
     draw = random.Random(SEED)
@@ -263,6 +279,7 @@ def main():
     with tempfile.TemporaryDirectory(dir=FAST, prefix="bwlog-power-") as room:
         shim = os.path.join(room, "watch.so")
         subprocess.run(["cc", "-O2", "-shared", "-fPIC", "-o", shim, SOURCE], check=True)
+        end_again(shim, room)
         while seen < FOLDERS:
             try:
                 seen += two_lives(shim, room, draw, FOLDERS - seen)

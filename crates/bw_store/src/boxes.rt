@@ -95,6 +95,13 @@ impl Store {
     /// All boxes, as they are: the live ones in the order of their numbers, and the spares in
     /// theirs. Nothing is flushed. It may wait for readers; from then on they are refused. No
     /// memory is taken.
+    ///
+    /// Where an append failed, `recover` is the way on, and the only one: the box may hold any
+    /// beginning of the piece, also all of it. It finds the pages up to the last durable cut or,
+    /// where that piece was a whole frame, up to the cut of this frame. A stop in the middle of any
+    /// call leaves no other boxes, since nothing is appended behind a failed append. Where none
+    /// failed, the newest segment may even be cut short, as a file is by a loss of power: what is
+    /// left shows the pages up to a cut.
     pub fn shut<R: Wait>(self, rt: &R) -> (Vec<Box<dyn Segment>>, Vec<Box<dyn Segment>>)
         requires { IsSoundBeside self holding }
         ensures live { map holding result.0.items ≡ (kept_beside self holding).log.live }
