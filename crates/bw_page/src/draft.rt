@@ -10,9 +10,8 @@ ghost use Rattle.std.specs.Option.{option_map};
 ghost use Rattle.bw_page.specs.Leaves.{changed, all_changed};
 ghost use Rattle.bw_page.specs.Standing.{after, kept_below};
 
-use crate::changes;
-use crate::reading;
 use crate::tree::{ascend, change_tree, cut_tree, row_of, tree_of};
+use crate::{changes, reading};
 use bw_codec::{Block, Key, Leaf, Pairs, Record, Value};
 use std::alloc::AllocError;
 use std::collections::BTreeMap;

@@ -27,19 +27,19 @@ pub follows_as : (old new : Kept) → new ≡ old → Turned 0 old new
 follows_as old new e = record {
   follows = record {
     continues = record {
-    rings = ap (λ (s : Kept). s.rings) e;
-    start = ap (λ (s : Kept). s.start) e;
-    before = ap (λ (s : Kept). s.before) e;
-    edge = ap (λ (s : Kept). s.edge) e;
-    entries_more = [];
-    history = ap (λ (s : Kept). s.entries) e ∙ sym (append-nil old.entries);
-    cuts_more = [];
-    cuts = ap (λ (s : Kept). s.cuts) e ∙ sym (append-nil old.cuts);
-    appended = (let k = ap (λ (s : Kept). s.durable) e in omega arith);
-    floor = (let k = ap (λ (s : Kept). s.floor) e in omega arith);
-    book = ap (λ (s : Kept). s.versions.book) e;
-    batches_more = [];
-    published = ap (λ (s : Kept). s.versions.published) e ∙ sym (append-nil old.versions.published);
+      rings = ap (λ (s : Kept). s.rings) e;
+      start = ap (λ (s : Kept). s.start) e;
+      before = ap (λ (s : Kept). s.before) e;
+      edge = ap (λ (s : Kept). s.edge) e;
+      entries_more = [];
+      history = ap (λ (s : Kept). s.entries) e ∙ sym (append-nil old.entries);
+      cuts_more = [];
+      cuts = ap (λ (s : Kept). s.cuts) e ∙ sym (append-nil old.cuts);
+      appended = (let k = ap (λ (s : Kept). s.durable) e in omega arith);
+      floor = (let k = ap (λ (s : Kept). s.floor) e in omega arith);
+      book = ap (λ (s : Kept). s.versions.book) e;
+      batches_more = [];
+      published = ap (λ (s : Kept). s.versions.published) e ∙ sym (append-nil old.versions.published);
     };
     floor = ap (λ (s : Kept). s.floor) e;
   };

@@ -62,9 +62,9 @@ pub ends_pushed : (s : Kept) (old new : List BatchData) → EndAtCuts s old → 
 ends_pushed s old new ends (inl same) = subst (EndAtCuts s) (sym same) ends
 ends_pushed s old new ends (inr x) = λ n. elim (take_pushed old x.0 n) [
   | inl few ↦ (
-    let was = ends n in
-    (was.0, was.1, ap (λ bs. entries_of (take n bs)) x.1 ∙ ap entries_of few ∙ was.2)
-  )
+      let was = ends n in
+      (was.0, was.1, ap (λ bs. entries_of (take n bs)) x.1 ∙ ap entries_of few ∙ was.2)
+      )
   | inr all ↦ (
     s.durable,
     omega arith,

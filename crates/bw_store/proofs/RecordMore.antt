@@ -152,12 +152,12 @@ module _ (s : Kept) (writer : ℕ) (item : Record) (back : Place) (t : TakesOne 
           begins = subst (IsPrefix (entries_of s.versions.entered))
               (sym (upto_more s.cuts s.entries (record { writer = writer; item = item } ∷ []) s.durable h.ordered)) h.shown.begins;
           ends = λ n. (
-            let was = h.shown.ends n in (
-              was.0,
-              was.1,
-              was.2 ∙ sym (upto_more s.cuts s.entries (record { writer = writer; item = item } ∷ []) was.0 h.ordered),
-            )
-          );
+              let was = h.shown.ends n in (
+                was.0,
+                was.1,
+                was.2 ∙ sym (upto_more s.cuts s.entries (record { writer = writer; item = item } ∷ []) was.0 h.ordered),
+              )
+              );
         };
         edged = h.edged;
         begun = h.begun;

@@ -169,8 +169,11 @@ flush_refuses item old new (Device lease) full a left = (other_cause old.log.is_
 flush_refuses item old new Failed full a left = (left, is_cause false old Failed (λ x. x) a)
 flush_refuses item old new Spent full a left = (
   other_cause old.log.is_failed _ Spent (λ e. cc) a,
-  inl (inl left, inr (subst (λ (s : Kept). (Fits s item → ⊥) × (flush_refusal s ≡ Some Spent)) (sym left)
-      (full, same_answer (flush_refusal old) Spent (λ x. x) a))),
+  inl (
+    inl left,
+    inr (subst (λ (s : Kept). (Fits s item → ⊥) × (flush_refusal s ≡ Some Spent)) (sym left)
+        (full, same_answer (flush_refusal old) Spent (λ x. x) a)),
+  ),
 )
 flush_refuses item old new NoPage full a left = absurd (is_cause false old NoPage (λ x. x) a)
 flush_refuses item old new NothingOld full a left = absurd (is_cause false old NothingOld (λ x. x) a)

@@ -42,16 +42,22 @@ returns-in_err-flush-clause-paced g c =
     rw (p.1, p.2) (inl (c.in_err-flush.ensures.answers, c.in_err-flush.ensures.leaves))
 
 pub returns-then-clean_at-eq0-clause-paced : goal.returns-then-clean_at-eq0-clause-paced
-returns-then-clean_at-eq0-clause-paced g c =
-    (_, (_, c.in_ok-flush.ensures.answers, c.in_ok-flush.ensures.leaves), inl ((λ due. elim c.then-clean_at-eq0.branch [
+returns-then-clean_at-eq0-clause-paced g c = (
+  _,
+  (_, c.in_ok-flush.ensures.answers, c.in_ok-flush.ensures.leaves),
+  inl (
+    (λ due. elim c.then-clean_at-eq0.branch [
       | then-clean_at-eq0-via-then-clean_at-eq0 w ↦ (let none = w.if-clean_at-eq0.true in let some = due.0 in omega arith)
       | then-clean_at-eq0-via-else-clean_at-eq0+then-live-clean_at w ↦ (
-        let few = w.if-live-clean_at.true in
-        let live = w.live.ensures in
-        let many = due.1 in
-        omega arith
-      )
-    ]), refl))
+          let few = w.if-live-clean_at.true in
+          let live = w.live.ensures in
+          let many = due.1 in
+          omega arith
+          )
+    ]),
+    refl,
+  ),
+)
 
 pub returns-in_err-clean-clause-paced : goal.returns-in_err-clean-clause-paced
 returns-in_err-clean-clause-paced g c =
