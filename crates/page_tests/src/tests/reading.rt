@@ -1,7 +1,7 @@
 //! One page, read forwards over blocks.
 
 use super::away::leaf_of;
-use super::{Row, is_shown, records, went, wrong_row};
+use super::{Row, del, is_shown, put, records, went, wrong_row};
 use bw_codec::{Block, Ops, Place};
 use bw_page::{empty_page, read_blocks};
 use std::alloc::Global;
@@ -50,4 +50,53 @@ const PAGES: &[Page] = &[(1, ": a=1"), (2, "b: b=2"), (3, "")];
 #[test]
 fn blocks_are_read_page_by_page(rt: HostRuntime) {
     went(&rt, wrong_row(rt.alloc(), PAGES));
+}
+
+/// A Delta of page 1 that puts so many keys of one byte, from the greatest down, and then deletes the
+/// least.
+fn long_delta(alloc: Global, count: u8) -> Option<Block> {
+    let mut ops = Vec::new(alloc);
+    for at in 0..count {
+        ops.push(put(&[count - at], b"")?).ok()?;
+    }
+    ops.push(del(&[1])?).ok()?;
+    Some(Block::Delta {
+        page: 1,
+        back: BACK,
+        ops: Ops::of(ops),
+    })
+}
+
+/// How many keys a page gets, where it is then cut, and how many it keeps.
+type Grown = (u8, u8, usize);
+
+impl Row for Grown {
+    fn goes(&self, alloc: Global) -> Option<bool> {
+        let mut blocks = Vec::new(alloc);
+        blocks.push(Block::Base(empty_page(alloc))).ok()?;
+        blocks.push(long_delta(alloc, self.0)?).ok()?;
+        blocks
+            .push(Block::Split {
+                page: 1,
+                back: BACK,
+                upper: leaf_of(alloc, 2, &[self.1], &[self.1], b"").ok()?,
+            })
+            .ok()?;
+        let leaf = read_blocks(1, None, blocks).ok()??;
+        Some(leaf.pairs.as_slice().len() == self.2)
+    }
+}
+
+/// Twice the pairs of any page at rest, one more, and many more.
+const GROWN: &[Grown] = &[
+    (64, 4, 2),
+    (65, 4, 2),
+    (250, 4, 2),
+    (250, 100, 98),
+    (250, 251, 249),
+];
+
+#[test]
+fn a_page_may_grow_far_between_two_blocks(rt: HostRuntime) {
+    went(&rt, wrong_row(rt.alloc(), GROWN));
 }
