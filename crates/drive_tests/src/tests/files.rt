@@ -1,5 +1,6 @@
 //! Folders as tables of steps, each walked to the first step that goes otherwise than told.
 
+mod again;
 mod failing;
 mod folders;
 mod listed;

@@ -102,7 +102,7 @@ const GIVEN_UP: &Table = &Table {
 };
 
 // What a gate is told in the runs of a table, before records and behind them; none where a step does not go as told.
-fn sums<R: AllocGlobal + Threads + Wait>(rt: &R, table: &'static Table) -> Option<(u64, u64)> {
+fn gate_sums<R: AllocGlobal + Threads + Wait>(rt: &R, table: &'static Table) -> Option<(u64, u64)> {
     let gate = Sums {
         before: AtomicU64::new(0),
         after: AtomicU64::new(0),
@@ -119,10 +119,10 @@ fn sums<R: AllocGlobal + Threads + Wait>(rt: &R, table: &'static Table) -> Optio
 // The table of which the sums are others. A record that is given up passes the gate on both sides.
 fn wrong_sums<R: AllocGlobal + Threads + Wait>(rt: &R) -> Option<(&'static str, usize)> {
     // Twice 1 + 2 + .. + 300, and 300 times a million for writer 1.
-    if sums(rt, HUNDREDS) != Some((300_090_300, 300_090_300)) {
+    if gate_sums(rt, HUNDREDS) != Some((300_090_300, 300_090_300)) {
         return Some((HUNDREDS.name, 0));
     }
-    match sums(rt, GIVEN_UP) {
+    match gate_sums(rt, GIVEN_UP) {
         Some((3, 3)) | Some((6, 6)) => None,
         _ => Some((GIVEN_UP.name, 0)),
     }

@@ -125,7 +125,7 @@ fn done_if(is: bool) -> Told {
 }
 
 // The lease 0 or 1 of a desk of its own.
-fn lease_of(alloc: Global, number: u32) -> Option<Lease> {
+pub(super) fn lease_of(alloc: Global, number: u32) -> Option<Lease> {
     let mut desk = Desk::new(alloc, 2).ok()?;
     if number != 0 {
         let _ = desk.take();

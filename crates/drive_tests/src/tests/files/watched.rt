@@ -19,6 +19,9 @@ pub(super) struct Watch {
     passes: AtomicU64,
     /// How many bytes of its piece a write keeps that fails.
     keep: AtomicU64,
+    /// Where the last write went, and how many bytes it had.
+    at: AtomicU64,
+    many: AtomicU64,
     /// Whether writes go to a device that is full.
     is_full: AtomicBool,
     /// That device.
@@ -41,6 +44,8 @@ impl Watch {
             letters: AtomicU64::new(0),
             passes: AtomicU64::new(u64::MAX),
             keep: AtomicU64::new(0),
+            at: AtomicU64::new(0),
+            many: AtomicU64::new(0),
             is_full: AtomicBool::new(false),
             full,
         }
@@ -63,6 +68,14 @@ impl Watch {
         let letters = self.letters.load(Ordering::SeqCst);
         self.letters.store(0, Ordering::SeqCst);
         letters
+    }
+
+    /// Where the last write went, and how many bytes it had.
+    pub(super) fn wrote(&self) -> (u64, u64) {
+        (
+            self.at.load(Ordering::SeqCst),
+            self.many.load(Ordering::SeqCst),
+        )
     }
 
     // Whether a call passes, which has this letter.
@@ -192,6 +205,8 @@ impl FileExt for WatchedFile {
     }
 
     fn write_at(&self, buf: &[u8], offset: u64) -> io::Result<usize> {
+        self.watch.at.store(offset, Ordering::SeqCst);
+        self.watch.many.store(buf.len() as u64, Ordering::SeqCst);
         if self.watch.passes(b'w') {
             if self.watch.is_full.load(Ordering::SeqCst) {
                 return self.watch.full.write_at(buf, offset);
