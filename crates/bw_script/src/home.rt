@@ -51,6 +51,16 @@ pub fn desk_of(alloc: Global) -> Result<Desk, Stop> {
     }
 }
 
+/// How many segments a run begins with: so many at least, and one for each lease up to the last of
+/// these, which have a file.
+pub fn count_over(leases: &[u32], least: u16) -> u32 {
+    let least = u32::from(least);
+    match leases.last() {
+        Some(last) => least.max(last.saturating_add(1)),
+        None => least,
+    }
+}
+
 /// A lease of the desk, the least that is free.
 pub fn taken(desk: &mut Desk) -> Result<Lease, Refusal> {
     match desk.take() {
@@ -99,13 +109,9 @@ impl Site {
     /// How many segments a run begins with: so many at least, and one for each lease up to the last
     /// that has a file.
     pub fn count<R: System>(&self, rt: &R, least: u16) -> Result<u32, FolderFault> {
-        let least = u32::from(least);
         match &self.home {
-            Home::Memory => Ok(least),
-            Home::Folder(folder) => match folder.leases(rt)?.last() {
-                Some(last) => Ok(least.max(last.saturating_add(1))),
-                None => Ok(least),
-            },
+            Home::Memory => Ok(u32::from(least)),
+            Home::Folder(folder) => Ok(count_over(&folder.leases(rt)?, least)),
         }
     }
 

@@ -10,6 +10,7 @@ mod answers;
 mod calls;
 mod home;
 mod lines;
+mod looking;
 mod miss;
 mod options;
 mod printed;

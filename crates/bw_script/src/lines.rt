@@ -45,9 +45,11 @@ fn cut_end(line: &mut Vec<u8>) -> bool {
 pub struct Lines<R> {
     input: BufReader<Counted<R>>,
     line: Vec<u8>,
-    /// So many bytes with their LF tell whether a line is too long: one more than the longest line,
-    /// a CR and the LF.
+    /// So many bytes without an LF tell that a line is too long, but where the last is a CR, which
+    /// may belong to its end.
     kept: u64,
+    /// Whether the last line was too long, and the rest of it still stands in the input.
+    has_rest: bool,
     /// How many lines were read.
     number: u64,
 }
@@ -60,20 +62,25 @@ impl<R: Read + Drop> Lines<R> {
         Ok(Lines {
             input: BufReader::new(alloc, counted)?,
             line: Vec::new(alloc),
-            kept: u64::from(longest) + 3,
+            kept: u64::from(longest) + 1,
+            has_rest: false,
             number: 0,
         })
     }
 
-    /// Reads the next line, and says whether there was one. Of a line that is too long the first
-    /// bytes are kept, one at least above the longest.
+    /// Reads the next line, and says whether there was one. Of a line that is too long no more is
+    /// read than tells so, and these bytes are kept; the rest is read over before the next line.
     pub fn read_line(&mut self) -> io::Result<bool> {
+        if self.has_rest {
+            let _ = self.input.skip_until(b'\n')?;
+        }
         self.line.clear();
         self.number = self.number.saturating_add(1);
         let count = read_front(&mut self.input, self.kept, &mut self.line)?;
-        if !cut_end(&mut self.line) && count as u64 == self.kept {
-            let _ = self.input.skip_until(b'\n')?;
+        if self.line.last() == Some(&b'\r') {
+            let _ = read_front(&mut self.input, 1, &mut self.line)?;
         }
+        self.has_rest = !cut_end(&mut self.line) && count as u64 == self.kept;
         Ok(count > 0)
     }
 

@@ -8,19 +8,25 @@ ghost use Rattle.bw_script.specs.Session.{IsReady, IsReadyBeside};
 use crate::answers::{Answer, tell};
 use crate::home::{Made, Site};
 use crate::lines::{Lines, READS};
+use crate::looking::{Beginning, beginning_of, look};
 use crate::miss::Miss;
 use crate::options::Options;
 use crate::printer::print;
 use crate::refusal::Refusal;
-use crate::scan::print_found;
+use crate::scan::{print_anew, print_found};
 use crate::script::{Command, LONGEST, parse};
 use crate::session::Session;
 use crate::stop::{Stop, missed, no_input, refuse};
 use crate::system::System;
-use bw_care::{Recovered, recover};
+use bw_care::{RecoverFault, Recovered, recover};
 use bw_device::Segment;
+use bw_file::FolderFault;
 use std::alloc::Global;
 use std::io::{Read, Write};
+
+/// How often a run may try to begin: the second time behind the beginning of a first frame, which
+/// only somebody else can have put there once more.
+pub const ATTEMPTS: u32 = 2;
 
 /// What came of a line.
 #[derive(Drop)]
@@ -127,12 +133,46 @@ fn add_spare<O: Write>(
     }
 }
 
+/// Why a run did not begin.
+pub enum NotBegun {
+    Miss(Miss),
+    /// Its folder had the beginning of a first frame alone. Nothing of that is there any more, so
+    /// another attempt finds a folder of no bytes.
+    Beginning(Beginning),
+}
+
+impl From<Miss> for NotBegun {
+    fn from(miss: Miss) -> NotBegun {
+        NotBegun::Miss(miss)
+    }
+}
+
+impl From<Stop> for NotBegun {
+    fn from(stop: Stop) -> NotBegun {
+        NotBegun::Miss(Miss::Ended(stop))
+    }
+}
+
+impl From<FolderFault> for NotBegun {
+    fn from(fault: FolderFault) -> NotBegun {
+        NotBegun::Miss(Miss::from(fault))
+    }
+}
+
+/// Why boxes that were not recovered hold no store to go on from.
+fn not_begun(fault: RecoverFault) -> NotBegun {
+    match beginning_of(fault) {
+        Ok(beginning) => NotBegun::Beginning(beginning),
+        Err(refusal) => NotBegun::Miss(Miss::Refused(refusal)),
+    }
+}
+
 /// What boxes hold, of which the two lines of a scan are printed.
 fn found_in<O: Write>(
     alloc: Global,
     boxes: Vec<Box<dyn Segment>>,
     output: &mut O,
-) -> Result<Recovered, Miss>
+) -> Result<Recovered, NotBegun>
     requires { Unit {0} }
     ensures { IfOk result (λ found. IsRecovered holding found) }
 {
@@ -141,12 +181,26 @@ fn found_in<O: Write>(
             print_found(output, &found)?;
             Ok(found)
         }
-        Err(fault) => Err(Miss::Refused(Refusal::from(fault.cause))),
+        Err(fault) => Err(not_begun(fault)),
     }
 }
 
+/// Empties the file of the beginning of a first frame, and prints the two lines of a store that
+/// begins anew over so many segments.
+fn clear<R: System, O: Write>(
+    rt: &R,
+    site: &Site,
+    count: usize,
+    beginning: Beginning,
+    output: &mut O,
+) -> Result<(), NotBegun> {
+    site.empty(rt, beginning.lease)?;
+    print_anew(output, count, beginning.bytes)?;
+    Ok(())
+}
+
 /// A new store where all segments are new, and else the one that they hold, of which the two lines
-/// of a scan are printed.
+/// of a scan are printed. Where they have the beginning of a first frame alone, that is cleared.
 pub fn begin<R: System, O: Write>(
     rt: &R,
     options: &Options<'_>,
@@ -154,26 +208,37 @@ pub fn begin<R: System, O: Write>(
     are_new: bool,
     site: Site,
     output: &mut O,
-) -> Result<Session, Miss>
+) -> Result<Session, NotBegun>
     requires { Unit {0} }
     ensures ready { IfOk result (λ s. IsReadyBeside s holding) }
     ensures writers { IfOk result (λ s. vec_len s.feeds ≡ options.now.writers) }
 {
     if are_new {
-        return Session::open(rt, options, boxes, site);
+        return Ok(Session::open(rt, options, boxes, site)?);
     }
-    let found = found_in(rt.alloc(), boxes, output)?;
-    Session::reopen(rt, options, found, site)
+    let count = boxes.len();
+    match found_in(rt.alloc(), boxes, output) {
+        Ok(found) => Ok(Session::reopen(rt, options, found, site)?),
+        Err(NotBegun::Beginning(beginning)) => {
+            clear(rt, &site, count, beginning, output)?;
+            Err(NotBegun::Beginning(beginning))
+        }
+        Err(not_begun) => Err(not_begun),
+    }
 }
 
-/// Makes a store, or goes on from the one in a folder, and runs the lines over it. Boxes are made
-/// here alone: a function that takes or gives a box, or a store, makes none.
+/// Makes a store, or goes on from the one in a folder, and runs the lines over it; `None` where it
+/// has to begin anew there. Boxes are made here alone: a function that takes or gives a box, or a
+/// store, makes none.
 fn replay_lines<R: System, I: Read, O: Write>(
     rt: &R,
     options: &Options<'_>,
     lines: &mut Lines<&mut I>,
     output: &mut O,
-) -> Result<bool, Stop> {
+) -> Result<Option<bool>, Stop> {
+    if let Err(miss) = look(rt, options) {
+        return Ok(Some(missed(output, 0, miss)?));
+    }
     let mut site = Site::open(rt, options.dir)?;
     let count = site.count(rt, options.segments)?;
     let mut boxes: Vec<Box<dyn Segment>> = Vec::new(rt.alloc());
@@ -181,7 +246,7 @@ fn replay_lines<R: System, I: Read, O: Write>(
     for _ in 0..count {
         let made = match site.segment(rt, u64::from(options.capacity)) {
             Ok(made) => made,
-            Err(miss) => return missed(output, 0, miss),
+            Err(miss) => return Ok(Some(missed(output, 0, miss)?)),
         };
         are_new &= made.is_empty();
         let segment: Box<dyn Segment> = match made {
@@ -192,7 +257,8 @@ fn replay_lines<R: System, I: Read, O: Write>(
     }
     let mut session = match begin(rt, options, boxes, are_new, site, output) {
         Ok(session) => session,
-        Err(miss) => return missed(output, 0, miss),
+        Err(NotBegun::Miss(miss)) => return Ok(Some(missed(output, 0, miss)?)),
+        Err(NotBegun::Beginning(_)) => return Ok(None),
     };
     // The store is shut whatever ends the script.
     let mut end = Ok(false);
@@ -208,7 +274,7 @@ fn replay_lines<R: System, I: Read, O: Write>(
         end = joined(end, add_spare(&mut session, lease, spare, output));
     }
     session.shut(rt);
-    end
+    Ok(Some(end?))
 }
 
 /// Makes a store, or goes on from the one in a folder, and runs a script over it, line by line;
@@ -220,5 +286,10 @@ pub fn replay<R: System, I: Read, O: Write>(
     output: &mut O,
 ) -> Result<bool, Stop> {
     let mut lines = Lines::new(rt.alloc(), input, READS, LONGEST).map_err(no_input)?;
-    replay_lines(rt, options, &mut lines, output)
+    for _ in 0..ATTEMPTS {
+        if let Some(was_refused) = replay_lines(rt, options, &mut lines, output)? {
+            return Ok(was_refused);
+        }
+    }
+    refuse(output, Refusal::Empty)
 }

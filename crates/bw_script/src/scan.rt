@@ -73,6 +73,15 @@ pub fn print_found<O: Write>(output: &mut O, found: &Recovered) -> Result<(), St
     out.end()
 }
 
+/// Prints the two lines of a store that begins anew: so many spares, and so many bytes that are gone.
+pub fn print_anew<O: Write>(output: &mut O, spares: usize, bytes: u64) -> Result<(), Stop> {
+    let mut out = Printer::new(output);
+    out.named("segments 0 spares ", spares);
+    out.text(b" dropped 0\n");
+    out.line("frames 0 0 tail ", bytes);
+    out.end()
+}
+
 /// All pages, by number.
 fn write_pages<O: Write>(out: &mut Printer<'_, O>, leaves: &Leaves) {
     for index in 0..leaves.count() {

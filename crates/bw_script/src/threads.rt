@@ -1,14 +1,16 @@
 //! `bwlog threads`: the scripts of several writers, each by a thread of its own, over one store.
 
-ghost use Rattle.std.specs.Prelude.{◌≡◌, vec_len, IfOk};
+ghost use Rattle.std.specs.Prelude.{◌≡◌, vec_len, IfOk, IsNone};
 ghost use Rattle.bw_script.specs.Session.{IsReady};
 
 use crate::home::{Made, Site};
 use crate::lines::{Lines, READS};
+use crate::looking::look;
 use crate::options::{Options, Pace};
 use crate::printed::write_pairs;
 use crate::printer::Printer;
-use crate::replay::begin;
+use crate::refusal::Refusal;
+use crate::replay::{ATTEMPTS, NotBegun, begin};
 use crate::running::Run;
 use crate::script::{LONGEST, parse_record};
 use crate::session::Session;
@@ -162,17 +164,22 @@ fn run_writers<R: Host, O: Write>(
     }
 }
 
-/// Makes a store, or goes on from the one in a folder, and runs all writers over it. The scripts
-/// are taken out. Boxes are made here alone, as in `replay`.
+/// Makes a store, or goes on from the one in a folder, and runs all writers over it; `None` where it
+/// has to begin anew there, and else the scripts are taken out. Boxes are made here alone, as in
+/// `replay`.
 fn run_scripts<R: Host, O: Write>(
     rt: &R,
     options: &Options<'_>,
     pace: Pace,
     scripts: &mut Vec<Vec<Record>>,
     output: &mut O,
-) -> Result<bool, Stop>
+) -> Result<Option<bool>, Stop>
     requires { vec_len scripts.old ≡ options.now.writers }
+    ensures { IfOk result (λ end. IsNone end → scripts.new ≡ scripts.old) }
 {
+    if let Err(miss) = look(rt, options) {
+        return Ok(Some(missed(output, 0, miss)?));
+    }
     let mut site = Site::open(rt, options.dir)?;
     let count = site.count(rt, options.segments)?;
     let mut boxes: Vec<Box<dyn Segment>> = Vec::new(rt.alloc());
@@ -180,7 +187,7 @@ fn run_scripts<R: Host, O: Write>(
     for _ in 0..count {
         let made = match site.segment(rt, u64::from(options.capacity)) {
             Ok(made) => made,
-            Err(miss) => return missed(output, 0, miss),
+            Err(miss) => return Ok(Some(missed(output, 0, miss)?)),
         };
         are_new &= made.is_empty();
         let segment: Box<dyn Segment> = match made {
@@ -191,13 +198,14 @@ fn run_scripts<R: Host, O: Write>(
     }
     let mut session = match begin(rt, options, boxes, are_new, site, output) {
         Ok(session) => session,
-        Err(miss) => return missed(output, 0, miss),
+        Err(NotBegun::Miss(miss)) => return Ok(Some(missed(output, 0, miss)?)),
+        Err(NotBegun::Beginning(_)) => return Ok(None),
     };
     // The store is shut whatever ends the run.
     let scripts = mem::replace(scripts, Vec::new(rt.alloc()));
     let end = run_writers(rt, &mut session, scripts, pace, output);
     session.shut(rt);
-    end
+    Ok(Some(end?))
 }
 
 /// Reads the writers' scripts, makes a store, or goes on from the one in a folder, and runs all
@@ -210,5 +218,10 @@ pub fn threads<R: Host, I: Read, O: Write>(
     output: &mut O,
 ) -> Result<bool, Stop> {
     let mut scripts = read_scripts(rt.alloc(), input, options.writers)?;
-    run_scripts(rt, options, pace, &mut scripts, output)
+    'attempts: for _ in 0..ATTEMPTS {
+        if let Some(end) = run_scripts(rt, options, pace, &mut scripts, output)? {
+            return Ok(end);
+        }
+    }
+    refuse(output, Refusal::Empty)
 }
