@@ -1,17 +1,20 @@
 #!/usr/bin/env python3
-"""The examples of README.md stand to the letter in the tests that run them, the dumps of FORMAT.md have the bytes that the
+"""The examples of README.md and EMBEDDING.md stand to the letter in the tests that run them, the dumps of FORMAT.md have the bytes that the
 tests read, and the stored folder from which the program goes on has the second of them: so none can go stale. It prints nothing
 where all hold."""
 
 import re
 import sys
 
-EXAMPLES = [
-    "crates/store_tests/src/tests/readme.rt",
-    "crates/store_tests/src/tests/readme.rt",
-    "crates/log_tests/src/tests/readme.rt",
-    "crates/drive_tests/src/tests/readme.rt",
-]
+EXAMPLES = {
+    "README.md": ["crates/store_tests/src/tests/readme.rt"],
+    "docs/EMBEDDING.md": [
+        "crates/store_tests/src/tests/readme.rt",
+        "crates/store_tests/src/tests/readme.rt",
+        "crates/drive_tests/src/tests/readme.rt",
+        "crates/log_tests/src/tests/readme.rt",
+    ],
+}
 VECTORS = "crates/log_tests/src/tests/care/vectors.rt"
 STORED = "crates/bwlog/data/store/segment-0000.bw"
 
@@ -35,13 +38,14 @@ def dumps(page):
 
 def main():
     wrong = []
-    shown = blocks(text("README.md"), "rust")
-    if len(shown) != len(EXAMPLES):
-        wrong.append("README.md has %d examples in place of %d" % (len(shown), len(EXAMPLES)))
-    for example, path in zip(shown, EXAMPLES):
-        lines = [line.strip() for line in example.strip().splitlines()]
-        if "\n".join(lines) not in "\n".join(line.strip() for line in text(path).splitlines()):
-            wrong.append("README.md's example is not that of " + path)
+    for page, paths in EXAMPLES.items():
+        shown = blocks(text(page), "rust")
+        if len(shown) != len(paths):
+            wrong.append("%s has %d examples in place of %d" % (page, len(shown), len(paths)))
+        for example, path in zip(shown, paths):
+            lines = [line.strip() for line in example.strip().splitlines()]
+            if "\n".join(lines) not in "\n".join(line.strip() for line in text(path).splitlines()):
+                wrong.append("an example of %s is not that of %s" % (page, path))
     vectors = re.sub(r"\\\n\s*", "", text(VECTORS))
     found = [dump for dump in dumps(text("docs/FORMAT.md")) if dump.startswith("42574c4f")]
     if len(found) != 4:
