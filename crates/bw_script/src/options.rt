@@ -139,7 +139,8 @@ const FLUSH_EVERY: Row = Row {
 const CLEAN_AT: Row = Row {
     name: "clean-at",
     kind: Kind::Number(0, 64, "3"),
-    help: "how many live segments there are where the oldest is given up, 0 for never",
+    help: "how many live segments there are where the oldest is given up, 0 for never; what is still \
+        needed of it is written again, for which --segments has to suffice too",
 };
 
 const TRIES: Row = Row {
