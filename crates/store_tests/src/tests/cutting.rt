@@ -1,5 +1,9 @@
 //! What is left of a store after a stop, and of a log whose newest segment was cut.
 
+ghost use Rattle.std.specs.Prelude.{IfSome};
+ghost use Rattle.bw_care.specs.Found.{IsRecovered};
+ghost use Rattle.bw_store.specs.Views.{IsSoundBeside};
+
 use super::boxes::{LEAST, Row, Supply, maker_of, plain, supplied};
 use super::opening::{config_of, opened, reopened, shut};
 use super::steps::Step;
@@ -8,7 +12,7 @@ use super::telling::{holds, went};
 use super::walking::{lives, wrong_step};
 use bw_care::{RecoverCause, Recovered, recover};
 use bw_device::Segment;
-use bw_store::StoreFault;
+use bw_store::{Store, StoreFault};
 use std::alloc::Global;
 use std::sync::Wait;
 
@@ -100,7 +104,9 @@ fn goes_on<R: AllocGlobal + Wait>(rt: &R) -> Option<usize> {
 }
 
 // The first step that did not go as told over what was recovered.
-fn shows<R: AllocGlobal + Wait>(rt: &R, recovered: Recovered, steps: &[Step]) -> Option<usize> {
+fn shows<R: AllocGlobal + Wait>(rt: &R, recovered: Recovered, steps: &[Step]) -> Option<usize>
+    requires { IsRecovered holding recovered }
+{
     let mut supply = Supply {
         boxes: Vec::new(rt.alloc()),
         more: Vec::new(rt.alloc()),
@@ -113,13 +119,23 @@ fn shows<R: AllocGlobal + Wait>(rt: &R, recovered: Recovered, steps: &[Step]) ->
     wrong
 }
 
-// What is recovered of three segments, the last cut at a length.
-fn cut_at(alloc: Global, bytes: &[Vec<u8>], length: usize) -> Option<Recovered> {
+/// The bytes of three segments.
+#[derive(Drop)]
+struct ThreeSegments {
+    first: Vec<u8>,
+    second: Vec<u8>,
+    last: Vec<u8>,
+}
+
+// What is recovered of them, the last cut at a length, and of an empty box.
+fn cut_at(alloc: Global, three: &ThreeSegments, length: usize) -> Option<Recovered>
+    ensures { IfSome result (λ r. IsRecovered holding r) }
+{
     let mut maker = maker_of(alloc, LEAST)?;
     let mut boxes: Vec<Box<dyn Segment>> = Vec::new(alloc);
-    maker.push(bytes[0].as_slice(), &mut boxes)?;
-    maker.push(bytes[1].as_slice(), &mut boxes)?;
-    maker.push(&bytes[2].as_slice()[..length], &mut boxes)?;
+    maker.push(&three.first, &mut boxes)?;
+    maker.push(&three.second, &mut boxes)?;
+    maker.push(three.last.as_slice().get(..length)?, &mut boxes)?;
     maker.fill(1, &mut boxes)?;
     match recover(alloc, boxes) {
         Ok(recovered) => Some(recovered),
@@ -143,23 +159,36 @@ fn is_told(recovered: &Recovered, length: usize) -> bool {
     ) == (1, last, tail, dropped)
 }
 
-// The bytes of three segments.
-fn three<R: AllocGlobal + Wait>(rt: &R) -> Option<Vec<Vec<u8>>> {
+// The bytes of a live segment.
+fn dumped(alloc: Global, store: &mut Store, segment: u64) -> Option<Vec<u8>>
+    requires { IsSoundBeside store.old holding }
+    ensures sound { IsSoundBeside store.new holding }
+{
+    let mut bytes = Vec::new(alloc);
+    match store.dump(segment, &mut bytes) {
+        Ok(true) => Some(bytes),
+        _ => None,
+    }
+}
+
+// The segments of a store that went through three flushes.
+fn three<R: AllocGlobal + Wait>(rt: &R) -> Option<ThreeSegments> {
     let alloc = rt.alloc();
     let mut supply = supplied(alloc, &plain(4, 0))?;
     let mut held = opened(rt, &config_of(2, 8, 1), &mut supply)?;
     let wrong = wrong_step(rt, &mut held, THREE);
-    let mut bytes: Vec<Vec<u8>> = Vec::new(alloc);
-    for number in 1..4u64 {
-        let mut one = Vec::new(alloc);
-        let _ = held.store.dump(number, &mut one);
-        let _ = bytes.push(one);
-    }
+    let first = dumped(alloc, &mut held.store, 1);
+    let second = dumped(alloc, &mut held.store, 2);
+    let last = dumped(alloc, &mut held.store, 3);
     let _ = shut(rt, held, &mut supply);
     if wrong.is_some() {
         return None;
     }
-    Some(bytes)
+    Some(ThreeSegments {
+        first: first?,
+        second: second?,
+        last: last?,
+    })
 }
 
 const OLDER: &[Step] = &[Page(1, "1 : j=2 k=1")];
@@ -172,7 +201,7 @@ fn each_cut<R: AllocGlobal + Wait>(rt: &R) -> Option<usize> {
         return Some(1000);
     };
     for length in 0..=68 {
-        let Some(recovered) = cut_at(rt.alloc(), bytes.as_slice(), length) else {
+        let Some(recovered) = cut_at(rt.alloc(), &bytes, length) else {
             return Some(4000 + length);
         };
         if !is_told(&recovered, length) {

@@ -99,10 +99,22 @@ fn is_cleaned<R: AllocGlobal + Wait>(rt: &R, held: &mut Held) -> bool
     }
 }
 
+fn goes<R: AllocGlobal + Wait>(rt: &R, held: &mut Held) -> bool
+    requires sound { IsSoundBeside held.old.store holding }
+    requires feeds { map ring_of_feed held.old.feeds.items
+        ≡ (kept_beside held.old.store holding).rings }
+    ensures { IsSoundBeside held.new.store holding }
+{
+    if !is_filled(rt, held) {
+        return false;
+    }
+    is_cleaned(rt, held)
+}
+
 fn goes_well<R: AllocGlobal + Wait>(rt: &R) -> Option<bool> {
     let mut supply = supplied(rt.alloc(), &LARGE)?;
     let mut held = opened(rt, &config_of(2, 4096, 1), &mut supply)?;
-    let went = is_filled(rt, &mut held) && is_cleaned(rt, &mut held);
+    let went = goes(rt, &mut held);
     let _ = shut(rt, held, &mut supply);
     Some(went)
 }

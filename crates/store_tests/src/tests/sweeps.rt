@@ -238,13 +238,25 @@ const COURSES: &[Course] = &[
     },
 ];
 
-// Whether a step of the script goes otherwise, over a store of these boxes, which then come out.
+// Whether a step of the script goes otherwise.
+fn is_wrong<R: AllocGlobal + Wait>(rt: &R, held: &mut Held, course: &Course) -> bool
+    requires sound { IsSoundBeside held.old.store holding }
+    requires feeds { map ring_of_feed held.old.feeds.items
+        ≡ (kept_beside held.old.store holding).rings }
+    ensures { IsSoundBeside held.new.store holding }
+{
+    if wrong_step(rt, held, course.steps).is_some() {
+        return true;
+    }
+    wrong_step(rt, held, course.then).is_some()
+}
+
+// The same over a store of these boxes, which then come out.
 fn stops<R: AllocGlobal + Wait>(rt: &R, supply: &mut Supply, course: &Course) -> bool {
     let Some(mut held) = opened(rt, &config_of(2, 8, 1), supply) else {
         return false;
     };
-    let wrong = wrong_step(rt, &mut held, course.steps).is_some()
-        || wrong_step(rt, &mut held, course.then).is_some();
+    let wrong = is_wrong(rt, &mut held, course);
     let _ = shut(rt, held, supply);
     wrong
 }

@@ -7,7 +7,7 @@ returns-in-Ok g c = record {
   sound = c.drive.ensures.sound;
   feeds =
       c.in-Ok.ensures.wrote.rings ∙ ap (λ feeds. map ring_of_feed feeds.items) c.replace-feeds.ensures.value ∙ c.requires.ready.feeds
-      ∙ sym c.drive.ensures.runs.follows.rings;
+      ∙ sym c.drive.ensures.runs.continues.rings;
 }
 
 pub returns-in-Err : goal.returns-in-Err
@@ -15,5 +15,5 @@ returns-in-Err g c = record {
   sound = c.drive.ensures.sound;
   feeds =
       c.in-Err.ensures.wrote.1.rings ∙ ap (λ feeds. map ring_of_feed feeds.items) c.replace-feeds.ensures.value ∙ c.requires.ready.feeds
-      ∙ sym c.drive.ensures.runs.follows.rings;
+      ∙ sym c.drive.ensures.runs.continues.rings;
 }
