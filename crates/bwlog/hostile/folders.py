@@ -10,7 +10,7 @@ import subprocess
 import time
 
 from hostile.program import LIMIT, Otherwise, Program, held_in
-from hostile.reader import told, word
+from hostile.reader import box_of, is_part, told, word
 
 
 def laid(folder, segments):
@@ -20,22 +20,41 @@ def laid(folder, segments):
             file.write(data)
 
 
+def begins_anew(segments):
+    """What a run prints first over bytes of which none was ever durable: a part of a header, or the header of segment 1 and a tail."""
+    held = [it for it in segments if it]
+    if not held:
+        return ""
+    if len(held) > 1 or not is_part(held[0]) and box_of(held[0]).number != 1:
+        return None
+    return "frames 0 0 tail %d\n" % len(held[0])
+
+
+def refused(program, segments, folder, draw, wanted):
+    """What recovery refuses a run refuses as well, and makes and changes nothing; but where nothing was ever durable it begins anew."""
+    before = looked_at(folder)
+    words = draw.choice([["replay"], ["threads", "--segments=24"]])
+    answer = program.run([*words, "--capacity=200000", "--dir=" + folder], b"put 0 k v\n")
+    anew = begins_anew(segments) if wanted == "refused E12 Empty\n" else None
+    if anew is not None:
+        first = answer[1].decode().split("\n", 1)[-1] if anew else anew
+        if answer[0] != 0 or answer[2] or not first.startswith(anew):
+            raise Otherwise("%s over what begins anew answers %r" % (words, answer))
+        return "begun anew"
+    if answer != (4, wanted.encode(), b""):
+        raise Otherwise("%s answers %r, and the reader %r" % (words, answer, wanted))
+    if looked_at(folder) != before:
+        raise Otherwise("a refused %s changed the folder" % words)
+    return "refused"
+
+
 def lived(program, segments, folder, draw):
-    """A case of a folder: a store goes on from these segments where a scan finds pages, and has them; else no byte is changed."""
+    """A case of a folder: a store goes on from these segments where a scan finds pages, and has them."""
     segments = segments[:60]
     wanted = told(segments)
     laid(folder, segments)
     if wanted.startswith("refused "):
-        words = draw.choice([["replay"], ["threads", "--segments=24"]])
-        answer = program.run([*words, "--capacity=200000", "--dir=" + folder], b"put 0 k v\n")
-        if wanted == "refused E12 Empty\n" and answer[0] == 0:
-            return "empty"
-        if answer != (4, wanted.encode(), b""):
-            raise Otherwise("%s answers %r, and the reader %r" % (words, answer, wanted))
-        held = [it for it in held_in(folder).values() if it]
-        if held != [it for it in segments if it]:
-            raise Otherwise("a refused %s changed the files" % words)
-        return "refused"
+        return refused(program, segments, folder, draw, wanted)
     lines = wanted.splitlines()
     pages = lines[2:]
     numbers = range(1, len(pages) + 1)
@@ -117,8 +136,7 @@ def asked(program, folder, wanted, **more):
         answer = program.run(["replay", "--dir=" + folder], b"put 0 k v\nflush\n", **more)
         if answer[0] != 6 or answer[1] != b"" or not answer[2].startswith(wanted.encode()):
             raise Otherwise("replay over the folder answers %r, not %r" % (answer, wanted))
-        after = looked_at(folder)
-        if any(after.get(name) != it for name, it in before.items()):
+        if looked_at(folder) != before:
             raise Otherwise("a refused replay changed the folder")
 
 
@@ -135,18 +153,27 @@ def foreign_names(program, folder, segments, draw):
     asked(program, folder, told(segments))
 
 
-def a_folder_as_a_segment(program, folder, segments, draw):
-    laid(folder, segments)
-    os.mkdir(os.path.join(folder, "segment-%04d.bw" % len(segments)))
-    asked(program, folder, "folder %s: " % folder)
+def put_there(path, draw):
+    """Something that is no plain file."""
+    kind = draw.randrange(4)
+    if kind == 0:
+        os.mkdir(path)
+    elif kind == 1:
+        os.mkfifo(path)
+    else:
+        os.symlink("nowhere" if kind == 2 else os.path.basename(draw.choice(["segment-0000.bw", "."])), path)
 
 
-def a_folder_as_the_lock(program, folder, segments, draw):
+def no_plain_segment(program, folder, segments, draw):
     laid(folder, segments)
-    os.mkdir(os.path.join(folder, "lock"))
-    answer = program.run(["replay", "--dir=" + folder], b"put 0 k v\nflush\n")
-    if answer[0] != 6 or answer[1] != b"" or not answer[2].startswith(b"folder "):
-        raise Otherwise("replay with a folder as its lock answers %r" % (answer,))
+    put_there(os.path.join(folder, "segment-%04d.bw" % draw.randrange(len(segments), 64)), draw)
+    asked(program, folder, "folder %s: what has the name of a file is no plain file\n" % folder)
+
+
+def no_plain_lock(program, folder, segments, draw):
+    laid(folder, segments)
+    put_there(os.path.join(folder, "lock"), draw)
+    asked(program, folder, "folder %s: what has the name of a file is no plain file\n" % folder)
 
 
 def a_file_as_the_folder(program, folder, segments, draw):
@@ -230,7 +257,7 @@ def a_full_file(program, folder, segments, draw):
     filled(program, folder, draw, preexec_fn=refused_bytes(draw.choice([0, 1, 23, 24, 25, 44, 100, 1000, 5000, draw.randrange(9000)])))
 
 
-HOSTILE = [foreign_names, a_folder_as_a_segment, a_folder_as_the_lock, a_file_as_the_folder, in_use, two_processes, a_full_file]
+HOSTILE = [foreign_names, no_plain_segment, no_plain_lock, a_file_as_the_folder, in_use, two_processes, a_full_file]
 
 
 # ---- folders of which the machine itself is asked: once each
