@@ -5,14 +5,13 @@ ghost use Rattle.bw_care.specs.Found.{IsRecovered};
 ghost use Rattle.bw_store.specs.Views.{IsSoundBeside};
 
 use super::boxes::{LEAST, Row, Supply, maker_of, plain, supplied};
-use super::opening::{config_of, opened, reopened, shut};
+use super::opening::{Held, config_of, opened, reopened, shut};
 use super::steps::Step;
 use super::steps::Step::{Cuts, Flush, Live, Page, Put, Refused, Roll, Turn};
 use super::telling::{holds, went};
 use super::walking::{lives, wrong_step};
 use bw_care::{RecoverCause, Recovered, recover};
-use bw_device::Segment;
-use bw_store::{Store, StoreFault};
+use bw_store::StoreFault;
 use std::alloc::Global;
 use std::sync::Wait;
 
@@ -100,22 +99,23 @@ fn goes_on<R: AllocGlobal + Wait>(rt: &R) -> Option<usize> {
     if (recovered.first, recovered.last, recovered.tail) != (1, 1, 30) {
         return Some(102);
     }
-    shows(rt, recovered, AGAIN)
+    shows(rt, recovered, &mut supply, AGAIN)
 }
 
-// The first step that did not go as told over what was recovered.
-fn shows<R: AllocGlobal + Wait>(rt: &R, recovered: Recovered, steps: &[Step]) -> Option<usize>
+// The first step that did not go as told over what was recovered; the boxes are put in a supply.
+fn shows<R: AllocGlobal + Wait>(
+    rt: &R,
+    recovered: Recovered,
+    supply: &mut Supply,
+    steps: &[Step],
+) -> Option<usize>
     requires { IsRecovered holding recovered }
 {
-    let mut supply = Supply {
-        boxes: Vec::new(rt.alloc()),
-        more: Vec::new(rt.alloc()),
-    };
-    let Some(mut held) = reopened(rt, recovered, 8, &mut supply) else {
+    let Some(mut held) = reopened(rt, recovered, 8, supply) else {
         return Some(103);
     };
     let wrong = wrong_step(rt, &mut held, steps);
-    let _ = shut(rt, held, &mut supply);
+    let _ = shut(rt, held, supply);
     wrong
 }
 
@@ -127,16 +127,21 @@ struct ThreeSegments {
     last: Vec<u8>,
 }
 
-// What is recovered of them, the last cut at a length, and of an empty box.
-fn cut_at(alloc: Global, three: &ThreeSegments, length: usize) -> Option<Recovered>
+// What is recovered of them, the last cut at a length, and of an empty box, by an empty supply.
+fn cut_at(
+    alloc: Global,
+    three: &ThreeSegments,
+    length: usize,
+    supply: &mut Supply,
+) -> Option<Recovered>
     ensures { IfSome result (λ r. IsRecovered holding r) }
 {
     let mut maker = maker_of(alloc, LEAST)?;
-    let mut boxes: Vec<Box<dyn Segment>> = Vec::new(alloc);
-    maker.push(&three.first, &mut boxes)?;
-    maker.push(&three.second, &mut boxes)?;
-    maker.push(three.last.as_slice().get(..length)?, &mut boxes)?;
-    maker.fill(1, &mut boxes)?;
+    maker.push(&three.first, &mut supply.boxes)?;
+    maker.push(&three.second, &mut supply.boxes)?;
+    maker.push(three.last.as_slice().get(..length)?, &mut supply.boxes)?;
+    maker.fill(1, &mut supply.boxes)?;
+    let boxes = std::mem::replace(&mut supply.boxes, Vec::new(alloc));
     match recover(alloc, boxes) {
         Ok(recovered) => Some(recovered),
         Err(_fault) => None,
@@ -160,12 +165,12 @@ fn is_told(recovered: &Recovered, length: usize) -> bool {
 }
 
 // The bytes of a live segment.
-fn dumped(alloc: Global, store: &mut Store, segment: u64) -> Option<Vec<u8>>
-    requires { IsSoundBeside store.old holding }
-    ensures sound { IsSoundBeside store.new holding }
+fn dumped(alloc: Global, held: &mut Held, segment: u64) -> Option<Vec<u8>>
+    requires { IsSoundBeside held.old.store holding }
+    ensures sound { IsSoundBeside held.new.store holding }
 {
     let mut bytes = Vec::new(alloc);
-    match store.dump(segment, &mut bytes) {
+    match held.store.dump(segment, &mut bytes) {
         Ok(true) => Some(bytes),
         _ => None,
     }
@@ -177,9 +182,9 @@ fn three<R: AllocGlobal + Wait>(rt: &R) -> Option<ThreeSegments> {
     let mut supply = supplied(alloc, &plain(4, 0))?;
     let mut held = opened(rt, &config_of(2, 8, 1), &mut supply)?;
     let wrong = wrong_step(rt, &mut held, THREE);
-    let first = dumped(alloc, &mut held.store, 1);
-    let second = dumped(alloc, &mut held.store, 2);
-    let last = dumped(alloc, &mut held.store, 3);
+    let first = dumped(alloc, &mut held, 1);
+    let second = dumped(alloc, &mut held, 2);
+    let last = dumped(alloc, &mut held, 3);
     let _ = shut(rt, held, &mut supply);
     if wrong.is_some() {
         return None;
@@ -195,21 +200,30 @@ const OLDER: &[Step] = &[Page(1, "1 : j=2 k=1")];
 
 const NEWER: &[Step] = &[Page(1, "1 : j=2 k=3")];
 
-// Each cut of the newest of three segments shows the frames that are whole.
+// Whether the newest segment, cut at a length, shows just the frames that are whole.
+fn cut_shows<R: AllocGlobal + Wait>(rt: &R, bytes: &ThreeSegments, length: usize) -> bool {
+    let mut supply = Supply {
+        boxes: Vec::new(rt.alloc()),
+        more: Vec::new(rt.alloc()),
+    };
+    let Some(recovered) = cut_at(rt.alloc(), bytes, length, &mut supply) else {
+        return false;
+    };
+    if !is_told(&recovered, length) {
+        return false;
+    }
+    let steps = if length < 68 { OLDER } else { NEWER };
+    shows(rt, recovered, &mut supply, steps).is_none()
+}
+
+// The first cut of the newest of three segments that does not.
 fn each_cut<R: AllocGlobal + Wait>(rt: &R) -> Option<usize> {
     let Some(bytes) = three(rt) else {
         return Some(1000);
     };
     for length in 0..=68 {
-        let Some(recovered) = cut_at(rt.alloc(), &bytes, length) else {
-            return Some(4000 + length);
-        };
-        if !is_told(&recovered, length) {
+        if !cut_shows(rt, &bytes, length) {
             return Some(length);
-        }
-        let steps = if length < 68 { OLDER } else { NEWER };
-        if shows(rt, recovered, steps).is_some() {
-            return Some(3000 + length);
         }
     }
     None
