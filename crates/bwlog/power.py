@@ -90,6 +90,8 @@ class Life:
         lines, accepted = script(draw, number)
         log = os.path.join(room, "notes%d" % number)
         os.makedirs(folder, exist_ok=True)
+        if os.path.exists(log):
+            os.remove(log)
         ran = subprocess.run(
             [PROGRAM, "replay", "--dir", folder] + OPTIONS,
             input="\n".join(lines) + "\n",
