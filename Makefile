@@ -6,7 +6,7 @@
 # make memory proves the tests of drive_tests, and runs those of its module memory with each allocation refused in turn, by a shim that cc makes
 # make bench  times the store at a million keys, each subject in a process of its own, and then over files (docs/TESTING.md, "Measured")
 # make peers  times other stores under the same load: LMDB and LevelDB, by their C libraries (liblmdb-dev, libleveldb-dev) and rustc
-# make crash  kills the program that make run built in mid-run, and looks at what its folder holds; then puts 2,000 folders together as a loss of
+# make crash  kills the program that make run built in mid-run, and looks at what its folder holds; then puts 10,000 folders together as a loss of
 #             power could leave them, from what a run asked of the system by a shim that cc makes, and looks at each
 # make fuzz   asks the program that make run built with hostile segments, scripts and folders; FUZZ="--cases 100000 --seed 7" says how many and which
 

@@ -18,6 +18,7 @@ A file's keys before its first case stand for each case that does not give them.
   is_told        true: something stands there, in place of `tells`
   beside         a folder, whose lock is held while the program runs
   memory         how many MB of addresses the process may have
+  stack          how many of them a thread's stack wants
   resident       how many MB of memory the process may have touched at most
   as_owner       true: who runs it may do with files what their owner may, and no more, also where that is root
   fails_behind   what is read ends in an error of the system behind so many bytes of the script
@@ -66,7 +67,7 @@ HERE = os.path.dirname(os.path.abspath(__file__))
 CASES = os.path.join(HERE, "cases")
 BUILT = [os.path.join(HERE, "out", name) for name in ("bwlog", "bwlog.by-rattle")]
 LIMIT = 60
-RUN = {"words", "script", "lines", "status", "prints", "prints_last", "prints_either", "tells", "is_told", "beside", "memory", "fails_behind", "takes", "errors_take", "resident", "as_owner", "goes_on"}
+RUN = {"words", "script", "lines", "status", "prints", "prints_last", "prints_either", "tells", "is_told", "beside", "memory", "stack", "fails_behind", "takes", "errors_take", "resident", "as_owner", "goes_on"}
 OUTSIDE = [{"make"}, {"write", "text"}, {"write", "hex"}, {"lengthen", "bytes"}, {"pipe"}, {"link", "to"}, {"mode", "bits"}, {"file", "holds"}, {"missing"},
            {"note"}, {"unchanged"}]
 # Of prctl: a right that no program gets that the process begins; and by which root reads and writes what its mode forbids.
@@ -130,11 +131,13 @@ def is_told(case, errors):
 
 
 def set_limits(case):
-    """What the process may have: so many bytes of addresses, and files of so many."""
+    """What the process may have: so many MB of addresses, so many for the stack of a thread, and files of so many bytes."""
     if case.get("as_owner", False):
         for right in OVERRIDES:
             # (refused to one who is not root, and has no such right)
             ctypes.CDLL(None).prctl(DROP, right, 0, 0, 0)
+    if "stack" in case:
+        resource.setrlimit(resource.RLIMIT_STACK, (case["stack"] << 20, case["stack"] << 20))
     if "memory" in case:
         most = case["memory"] << 20
         resource.setrlimit(resource.RLIMIT_AS, (most, most))
