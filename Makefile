@@ -1,7 +1,7 @@
 # make run    proves and builds bwlog, and runs the first script
 # make try    runs the same script without any proof, in seconds
 # make test   the gate: the pages against the tests, every proof, the wrong bodies, the tests, the programs (from nothing, but for what this machine has passed); then the
-#             program that it built over the cases of crates/bwlog/cases, over drawn scripts beside a map, and over 500 hostile cases
+#             program that it built over the cases of tests/program/cases, over drawn scripts beside a map, and over 500 hostile cases
 # make wrong  tries the wrong bodies outside the gate, in a copy of the repository
 # make memory proves the tests of drive_tests, and runs those of its module memory with each allocation refused in turn, by a shim that cc makes
 # make bench  times the store at a million keys, each subject in a process of its own, and then over files (docs/TESTING.md, "Measured")
@@ -25,11 +25,11 @@ try:
 	@echo "(nothing is proved by this run)" && cd $(PROGRAM) && rt try -- replay < stdin
 
 test:
-	python3 docs/same.py
+	python3 tools/same.py
 	RT_JOBS=$(JOBS) rt ci
-	python3 $(PROGRAM)/cases.py
-	python3 $(PROGRAM)/drawn.py
-	python3 $(PROGRAM)/fuzz.py --cases 500
+	python3 tests/program/cases.py
+	python3 tests/program/drawn.py
+	python3 tests/program/fuzz.py --cases 500
 
 wrong:
 	copy=$$(mktemp -d) && git clone -q . $$copy && cd $$copy && for crate in wrong/*; do \
@@ -38,7 +38,7 @@ wrong:
 
 memory:
 	cd crates/drive_tests && rt test
-	python3 docs/refuse.py
+	python3 tools/refuse.py
 
 bench:
 	@cd crates/bw_bench && for subject in $(SUBJECTS); do rt run -- $(BENCH) --times --only $$subject || exit 1; done
@@ -51,11 +51,11 @@ bench:
 
 peers:
 	@folder=$$(mktemp -d /dev/shm/peers.XXXXXX) && trap "rm -rf $$folder" EXIT && \
-	rustc --edition 2021 -O -o $$folder/peers docs/peers.rs && $$folder/peers $$folder 1000000
+	rustc --edition 2021 -O -o $$folder/peers tools/peers.rs && $$folder/peers $$folder 1000000
 
 crash:
-	python3 $(PROGRAM)/crash.py
-	python3 $(PROGRAM)/power.py
+	python3 tests/program/crash.py
+	python3 tests/program/power.py
 
 fuzz:
-	python3 $(PROGRAM)/fuzz.py $(FUZZ)
+	python3 tests/program/fuzz.py $(FUZZ)

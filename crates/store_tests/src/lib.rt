@@ -1,5 +1,5 @@
 //! What no clause of the store says, tried from outside: that its calls succeed where memory is
-//! there, and the worked bytes. Long scripts beside a map are `crates/bwlog/drawn.py`.
+//! there, and the worked bytes. Long scripts beside a map are `tests/program/drawn.py`.
 #![tactic(auto)]
 
 #[cfg(test)]

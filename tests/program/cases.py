@@ -65,7 +65,8 @@ import tomllib
 
 HERE = os.path.dirname(os.path.abspath(__file__))
 CASES = os.path.join(HERE, "cases")
-BUILT = [os.path.join(HERE, "out", name) for name in ("bwlog", "bwlog.by-rattle")]
+PROGRAM = os.path.join(HERE, "..", "..", "crates", "bwlog")
+BUILT = [os.path.join(PROGRAM, "out", name) for name in ("bwlog", "bwlog.by-rattle")]
 LIMIT = 60
 RUN = {"words", "script", "lines", "status", "prints", "prints_last", "prints_either", "tells", "is_told", "beside", "memory", "stack", "fails_behind", "takes", "errors_take", "resident", "as_owner", "goes_on"}
 OUTSIDE = [{"make"}, {"write", "text"}, {"write", "hex"}, {"lengthen", "bytes"}, {"pipe"}, {"link", "to"}, {"mode", "bits"}, {"file", "holds"}, {"missing"},

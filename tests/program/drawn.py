@@ -19,7 +19,7 @@ import sys
 import tempfile
 
 HERE = os.path.dirname(os.path.abspath(__file__))
-BUILT = os.path.join(HERE, "out", "bwlog")
+BUILT = os.path.join(HERE, "..", "..", "crates", "bwlog", "out", "bwlog")
 LIMIT = 60
 # Where a sync takes no time, if there is such a place.
 FAST = "/dev/shm" if os.path.isdir("/dev/shm") else None

@@ -26,7 +26,8 @@ from hostile.scans import a_page_of_many_pairs, scanned
 from hostile.scripts import in_lines, scripted, threaded
 from hostile.segments import Draw, drawn_segments
 
-BUILT = os.path.join(os.path.dirname(os.path.abspath(__file__)), "out", "bwlog")
+HERE = os.path.dirname(os.path.abspath(__file__))
+BUILT = os.path.join(HERE, "..", "..", "crates", "bwlog", "out", "bwlog")
 
 
 def case(program, seed, number, runs, folder):

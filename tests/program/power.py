@@ -2,7 +2,7 @@
 """The second part of make crash: puts folders together as a loss of power could leave them, and looks at each.
 
 A run of `bwlog replay --dir` over a drawn script goes under a library that notes each write, cut and sync of the folder's files
-(docs/watch.c). For each of these in turn there are folders in which all that was synced before stands, and of the write in flight its first
+(tools/watch.c). For each of these in turn there are folders in which all that was synced before stands, and of the write in flight its first
 bytes: all of a short piece's cuts, or eight drawn ones of a long piece, none of it and all of it among them. What was not synced is left out: the
 name of a new file before its folder is synced, a file's cut before its file is. `bwlog scan --dir` then has to find the last frame that was
 synced, or the one in flight where all its bytes stand, and exactly the pairs that a map has which is told the records up to that frame's
@@ -22,8 +22,8 @@ import sys
 import tempfile
 
 HERE = os.path.dirname(os.path.abspath(__file__))
-PROGRAM = os.path.join(HERE, "out", "bwlog")
-SOURCE = os.path.join(HERE, "..", "..", "docs", "watch.c")
+PROGRAM = os.path.join(HERE, "..", "..", "crates", "bwlog", "out", "bwlog")
+SOURCE = os.path.join(HERE, "..", "..", "tools", "watch.c")
 FAST = "/dev/shm" if os.path.isdir("/dev/shm") else None
 FOLDERS = int(sys.argv[1]) if len(sys.argv) > 1 else 10000
 SEED = int(sys.argv[2]) if len(sys.argv) > 2 else 1

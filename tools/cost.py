@@ -1,5 +1,5 @@
 #!/usr/bin/env python3
-"""What each function of a crate costs to prove, in MB of what a check kept of it: python3 docs/cost.py crates/NAME/out/incremental [N].
+"""What each function of a crate costs to prove, in MB of what a check kept of it: python3 tools/cost.py crates/NAME/out/incremental [N].
 About a second of processor time goes to each MB, and unlike seconds the MB are the same however busy the machine is. The N (40) dearest
 functions come first, each with its Lts (what the borrow checker needs) and its Proof. A folder that several checks wrote also has what
 older texts left, so remove it before the check. The check with tests keeps its work in the same folder."""
