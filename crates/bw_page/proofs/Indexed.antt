@@ -29,12 +29,12 @@ low_found P low page (l ∷ ls) e h =
       | false ↦ λ t s. low_found P low page ls s h.1
     ] refl e
 
-some_either : (b : Bool) (n : ℕ) (o : Option ℕ) → IsSome o → IsSome (cond b (Some n) o)
+pub some_either : (b : Bool) (n : ℕ) (o : Option ℕ) → IsSome o → IsSome (cond b (Some n) o)
 some_either true n o h = refl
 some_either false n o h = h
 
 -- each low is among the lows
-lows_found : (ls : List Leaf) → All (λ l. IsSome (find order l.low (lows_of ls))) ls
+pub lows_found : (ls : List Leaf) → All (λ l. IsSome (find order l.low (lows_of ls))) ls
 lows_found [] = tt
 lows_found (x ∷ xs) = (
   subst (λ b. IsSome (cond b (Some x.page) (find order x.low (lows_of xs)))) (sym (itself x.low)) refl,

@@ -26,3 +26,4 @@ pub mod NewerPages
 pub mod OneStanding
 pub mod LowsAlone
 pub mod Trees
+pub mod Ahead

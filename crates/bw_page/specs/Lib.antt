@@ -6,6 +6,7 @@ pub mod Batch
 pub mod Standing
 pub mod Links
 pub mod Lows
+pub mod Ahead
 pub mod Laws
 pub mod FirstPath
 -- what private functions say, and how values stand in memory

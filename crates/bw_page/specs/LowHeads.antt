@@ -1,6 +1,6 @@
 -- Lows with their pages, and a search for the greatest that is not above a key, by the heads of lows.
 
-use Rattle.std.specs.Prelude.{ℕ, ◌≡◌, List, Option, Some, None, IsSome, false}
+use Rattle.std.specs.Prelude.{ℕ, ◌≡◌, List, Option, Some, None, IsSome, IsTrue, false}
 use Rattle.std.specs.BTreeMap.{is_at}
 use Rattle.std.specs.Map.{lookup}
 use Rattle.bw_codec.specs.Bytes.{is_below, IsBytes}
@@ -21,6 +21,16 @@ pub record IsGreatestLow (lows : Bytes → Option ℕ) (key : Bytes) (page : ℕ
 -- each low is above a key
 abbrev pub HasNoLow : (Bytes → Option ℕ) → Bytes → Type 0
 HasNoLow lows key = (q : Bytes) → is_below key q ≡ false → lows q ≡ None
+
+-- the least low that is above a key
+pub record IsLeastLow (lows : Bytes → Option ℕ) (key low : Bytes) : Type 0 where
+  pub its : IsSome (lows low)
+  pub above : IsTrue (is_below key low)
+  pub least : (q : Bytes) → IsTrue (is_below key q) → IsSome (lows q) → is_below q low ≡ false
+
+-- no low is above a key
+abbrev pub HasNoHigher : (Bytes → Option ℕ) → Bytes → Type 0
+HasNoHigher lows key = (q : Bytes) → IsTrue (is_below key q) → lows q ≡ None
 
 -- the only low with a head is that of a page
 pub record IsOnlyLow (lows : Bytes → Option ℕ) (h page : ℕ) : Type 0 where

@@ -11,6 +11,11 @@ abbrev pub passed : ℕ → Result ℕ ℕ → Result ℕ ℕ
 passed n (Ok at) = Ok (n + at)
 passed n (Err at) = Err (n + at)
 
+-- where a search ended, be the key there or not
+abbrev pub end_of : Result ℕ ℕ → ℕ
+end_of (Ok at) = at
+end_of (Err at) = at
+
 -- the index of a key, or of the first pair with a greater key
 abbrev pub seek_of : Bytes → Pairs → Result ℕ ℕ
 seek_of key [] = Err 0

@@ -3,9 +3,10 @@
 ghost use Rattle.std.specs.Prelude.{◌≡◌, length, IsOk, OnOk, OnErr, IsTrue};
 ghost use Rattle.std.specs.FinMap.Entries.{find};
 ghost use Rattle.bw_codec.specs.Bytes.{ascends};
+ghost use Rattle.bw_page.specs.Ahead.{pair_above};
 ghost use Rattle.bw_page.specs.Leaves.{order, empty_leaf, changed, changed_pairs};
 ghost use Rattle.bw_codec.specs.Record.{key_of};
-ghost use Rattle.bw_page.specs.Seek.{seek_of, IsWithin, AddsNone, back_of};
+ghost use Rattle.bw_page.specs.Seek.{seek_of, end_of, IsWithin, AddsNone, back_of};
 
 use bw_codec::{Key, Leaf, Low, Pairs, Record, Value};
 use std::alloc::{AllocError, Global};
@@ -149,6 +150,28 @@ pub fn value_in(leaf: &Leaf, key: &Key) -> Option<Value>
         Ok(at) => Some(pairs[at].1.copy()),
         Err(_) => None,
     }
+}
+
+// Where a search ended, be the key there or not.
+fn end_of(found: Result<usize, usize>) -> usize
+    ensures { result ≡ end_of found }
+{
+    match found {
+        Ok(at) => at,
+        Err(at) => at,
+    }
+}
+
+/// The first pair of a page at or above a key, if there is one. No memory is taken.
+pub fn pair_from(leaf: &Leaf, key: &Key) -> Option<(Key, Value)>
+    ensures { result ≡ pair_above key.now leaf.now.pairs }
+{
+    let pairs = leaf.pairs.as_slice();
+    let at = end_of(find_key(&leaf.pairs, key.as_slice()));
+    if at < pairs.len() {
+        return Some((pairs[at].0.copy(), pairs[at].1.copy()));
+    }
+    None
 }
 
 /// Page 1 without any pair. No memory is taken.

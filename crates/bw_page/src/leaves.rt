@@ -3,7 +3,7 @@
 //! A record changes the page with the greatest low key not above its key. A page that then has too
 //! many pairs is cut in two, and its upper part is a new page behind all others, so no page moves.
 
-ghost use Rattle.std.specs.Prelude.{ℕ, ◌≡◌, ◌==◌, ◌<◌, ◌≤◌, ◌+◌, ◌-◌, ◌^◌, [], ◌∷◌, length, true, false, Some, is_some, if◌then◌else◌, IfOk, OnOk, OnErr, IsTrue};
+ghost use Rattle.std.specs.Prelude.{ℕ, ◌≡◌, ◌==◌, ◌<◌, ◌≤◌, ◌+◌, ◌-◌, ◌^◌, [], ◌∷◌, length, true, false, Some, None, is_some, if◌then◌else◌, IfSome, IfOk, OnOk, OnErr, IsTrue};
 ghost use Rattle.std.specs.Option.{option_copied};
 ghost use Rattle.std.specs.FinMap as finite;
 ghost use Rattle.std.specs.FinMap.Entries.{find};
@@ -12,6 +12,7 @@ ghost use Rattle.bw_codec.specs.Record.{key_of};
 ghost use Rattle.bw_page.specs.Leaves.{order, empty_leaf, home, leaf_at, directed_at, AreLeaves, changed_map, union};
 ghost use Rattle.bw_page.specs.Shown.{TakesKey, IsSpent, after_record, is_away, leaf_here, IsHere, applied_by};
 ghost use Rattle.bw_page.specs.Aim.{IsAim};
+ghost use Rattle.bw_page.specs.Ahead.{HasNoLowAbove, IsNextLow};
 
 mod batch;
 
@@ -149,6 +150,15 @@ impl Leaves {
             Some(page) => page,
             None => 1,
         }
+    }
+
+    /// The least low key of a page that is above this key, if there is one: where a walk in the
+    /// order of keys goes on behind the page of this key. It costs a search among the pages.
+    pub fn low_above(&self, key: &Key) -> Option<Key>
+        ensures some { IfSome result (λ low. IsNextLow self.now.leaves key.now low) }
+        ensures none { result ≡ None → HasNoLowAbove self.now.leaves key.now }
+    {
+        self.index.above(key)
     }
 
     /// The value of a key, if it has one.

@@ -6,12 +6,13 @@
 ghost use Rattle.std.specs.Prelude.{◌≡◌, [], None, Some, if◌then◌else◌, IfSome, OnOk, OnErr};
 ghost use Rattle.std.specs.Ordering.{eq_by_cmp};
 ghost use Rattle.bw_page.specs.Leaves.{Bytes, order};
-ghost use Rattle.bw_page.specs.LowHeads.{page_of_low, IsGreatestLow, HasNoLow};
+ghost use Rattle.bw_page.specs.LowHeads.{page_of_low, IsGreatestLow, HasNoLow, IsLeastLow, HasNoHigher};
 
 use bw_codec::Key;
 use std::alloc::{AllocError, Global};
 use std::collections::BTreeMap;
 use std::marker::Model;
+use std::ops::Bound;
 
 /// In place of a page's number: perhaps several lows have this head, perhaps none has it any more.
 const SEVERAL: u32 = 0;
@@ -79,6 +80,18 @@ impl LowIndex {
     {
         match self.all.range(..=key.copy()).next_back() {
             Some((_, page)) => Some(*page),
+            None => None,
+        }
+    }
+
+    /// The least low that is above a key, if there is one.
+    pub(crate) fn above(&self, key: &Key) -> Option<Key>
+        ensures some { IfSome result (λ low. IsLeastLow (page_of_low self.now) key.now low) }
+        ensures none { result ≡ None → HasNoHigher (page_of_low self.now) key.now }
+    {
+        let behind = (Bound::Excluded(key.copy()), Bound::Unbounded);
+        match self.all.range(behind).next() {
+            Some((low, _)) => Some(low.copy()),
             None => None,
         }
     }

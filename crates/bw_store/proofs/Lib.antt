@@ -27,3 +27,4 @@ pub mod Logs
 pub mod Edging
 pub mod Stopping
 pub mod AwayPages
+pub mod Walks

@@ -66,3 +66,15 @@ pub record CouldNotRead (lease : ℕ) (old new : Kept) : Type 0 where
 pub record IsUnread (s : Kept) : Type 0 where
   pub page : ℕ
   pub worn : IsWornOut (HoldsPage s.log page) s.log.live
+
+-- what a walk leaves, which may have had to read several pages
+abbrev pub WalkLeaves : {A : Type 0} → Kept → Result A StoreFault → Kept → Type 0
+WalkLeaves old (Ok x) new = new ≡ old
+WalkLeaves old (Err NoMemory) new = new ≡ old
+WalkLeaves old (Err BadConfig) new = ⊥
+WalkLeaves old (Err NoSegment) new = ⊥
+WalkLeaves old (Err (Device lease)) new = CouldNotRead lease old new
+WalkLeaves old (Err Failed) new = ⊥
+WalkLeaves old (Err Spent) new = (new ≡ old) × IsUnread old
+WalkLeaves old (Err NoPage) new = ⊥
+WalkLeaves old (Err NothingOld) new = ⊥

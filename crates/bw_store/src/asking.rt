@@ -44,6 +44,13 @@ impl Store {
         self.log.next_frame()
     }
 
+    /// How many pages there are, in memory or away. They are numbered from 1.
+    pub fn pages(&self) -> u32
+        ensures { result ≡ length (kept_by self.now holding).filed.leaves }
+    {
+        self.leaves.count()
+    }
+
     /// How many segments are live.
     pub fn live(&self) -> u32
         requires { IsSound self.now holding }

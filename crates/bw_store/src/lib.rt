@@ -32,6 +32,7 @@ mod store;
 mod tails;
 mod taking;
 mod turning;
+mod walk;
 
 pub use bw_care::Cleaned;
 pub use bw_versions::{Entry, News, NoReader, ReadFault, Reader};

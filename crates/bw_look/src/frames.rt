@@ -1,0 +1,58 @@
+//! The frames of a segment, one after the other.
+
+use bw_codec::{CodecFault, Frame, FrameRead, Header, read_frame};
+use std::alloc::{AllocError, Global};
+
+/// What stands in a segment behind what was read of it.
+#[derive(Drop)]
+pub(crate) enum Step {
+    /// A frame, in so many bytes.
+    Frame(Frame, usize),
+    /// So many bytes, perhaps none, at which a frame was cut off.
+    Tail(usize),
+    /// Other bytes.
+    Bad,
+}
+
+/// A segment that is read frame by frame.
+#[derive(Clone, Copy)]
+pub(crate) struct Frames<'a> {
+    bytes: &'a [u8],
+    header: Header,
+    at: usize,
+}
+
+impl<'a> Frames<'a> {
+    /// The frames behind this header, which takes so many bytes.
+    pub(crate) fn behind(bytes: &'a [u8], header: Header, at: usize) -> Frames<'a> {
+        Frames { bytes, header, at }
+    }
+
+    /// Where the next one begins.
+    pub(crate) fn at(&self) -> usize {
+        self.at
+    }
+
+    /// The bytes that were not read yet.
+    fn rest(&self) -> &'a [u8] {
+        if self.at <= self.bytes.len() {
+            &self.bytes[self.at..]
+        } else {
+            &[]
+        }
+    }
+
+    /// What stands there. Behind a frame the next one is looked at.
+    pub(crate) fn step(&mut self, alloc: Global) -> Result<Step, AllocError> {
+        let rest = self.rest();
+        match read_frame(alloc, rest, &self.header) {
+            Ok(FrameRead::Whole(frame, len)) => {
+                self.at = self.at.saturating_add(len);
+                Ok(Step::Frame(frame, len))
+            }
+            Ok(FrameRead::Tail) => Ok(Step::Tail(rest.len())),
+            Err(CodecFault::BadBytes) => Ok(Step::Bad),
+            Err(CodecFault::NoMemory) => Err(AllocError),
+        }
+    }
+}

@@ -1,0 +1,24 @@
+//! What segments hold, for people: in words, in numbers, as a picture, and as of an earlier frame.
+//!
+//! All of it reads bytes alone, and changes none. Whether segments are those of a log is not judged
+//! here but by recovery, which the program asks first where an answer hangs on it.
+#![tactic(auto)]
+
+mod counts;
+mod frames;
+mod image;
+mod listing;
+mod picture;
+mod printer;
+mod restoring;
+mod survey;
+mod words;
+
+pub use counts::{Counts, write_counts};
+pub use image::Image;
+pub use listing::write_image;
+pub use picture::write_picture;
+pub use printer::{NotWritten, Printer};
+pub use restoring::{kept_bytes, pages_at};
+pub use survey::{BlockRow, FrameRow, Kind, SegmentRow, Survey};
+pub use words::{write_hex, write_page, write_pair, write_record, write_word};

@@ -1,0 +1,34 @@
+use Rattle.std.proofs.Common.{◌≡◌, ◌∙◌, ◌≤◌, ◌<◌, sym, ap, Some, None, get_or, length, slice_get, ℕ}
+use Rattle.std.proofs.lemmas.Option.{slice_get-get_or, slice_get_past}
+use Rattle.bw_page.specs.Leaves.{Bytes, Pairs}
+use Rattle.bw_page.specs.Seek.{seek_of, end_of}
+use Rattle.bw_page.specs.Ahead.{pair_above}
+use Rattle.bw_page.proofs.Ahead.{pair_sought}
+use Rattle.bw_page.proofs.changes.pair_from.Goals as goal
+
+pub returns-then-at-pairs : goal.returns-then-at-pairs
+returns-then-at-pairs c =
+    let at : c.end_of-at.result ≡ end_of (seek_of c.args.key.now c.args.leaf.now.pairs) =
+    c.end_of-at.ensures ∙ ap end_of (c.find_key.ensures.found ∙ ap (λ (k : Bytes). seek_of k c.args.leaf.now.pairs) c.as_slice.ensures.value) in
+    let got : (d : Bytes × Bytes) → Some (get_or c.as_slice-pairs.result.now c.end_of-at.result d) ≡ pair_above c.args.key.now c.args.leaf.now.pairs =
+    λ d. sym (slice_get-get_or c.as_slice-pairs.result.now c.end_of-at.result d c.if-at-pairs.true)
+    ∙ ap (λ (ps : Pairs). slice_get ps c.end_of-at.result) c.as_slice-pairs.ensures
+    ∙ ap (λ (n : ℕ). slice_get c.args.leaf.now.pairs n) at
+    ∙ pair_sought c.args.key.now c.args.leaf.now.pairs in
+    let one = got c.index-pairs-at.result in
+    let two = got c.index-pairs-at-then-at-pairs.result in
+    let same : get_or c.as_slice-pairs.result.now c.end_of-at.result c.index-pairs-at-then-at-pairs.result
+    ≡ get_or c.as_slice-pairs.result.now c.end_of-at.result c.index-pairs-at.result = cc (one, two) in
+    ap (λ (k : Bytes). Some (k, c.copy-then-at-pairs.result)) c.copy.ensures
+    ∙ ap (λ (v : Bytes). Some ((get_or c.as_slice-pairs.result.now c.end_of-at.result c.index-pairs-at.result).0, v)) c.copy-then-at-pairs.ensures
+    ∙ ap (λ (p : Bytes × Bytes). Some ((get_or c.as_slice-pairs.result.now c.end_of-at.result c.index-pairs-at.result).0, p.1)) same
+    ∙ one
+
+pub returns : goal.returns
+returns c =
+    let at : c.end_of-at.result ≡ end_of (seek_of c.args.key.now c.args.leaf.now.pairs) =
+    c.end_of-at.ensures ∙ ap end_of (c.find_key.ensures.found ∙ ap (λ (k : Bytes). seek_of k c.args.leaf.now.pairs) c.as_slice.ensures.value) in
+    sym (slice_get_past c.as_slice-pairs.result.now c.end_of-at.result c.if-at-pairs.false)
+    ∙ ap (λ (ps : Pairs). slice_get ps c.end_of-at.result) c.as_slice-pairs.ensures
+    ∙ ap (λ (n : ℕ). slice_get c.args.leaf.now.pairs n) at
+    ∙ pair_sought c.args.key.now c.args.leaf.now.pairs

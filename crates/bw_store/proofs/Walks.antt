@@ -1,0 +1,60 @@
+-- A walk from page to page finds the first pair of the map at or above a key.
+
+use Rattle.std.proofs.Common.{◌≡◌, ℕ, ◌+◌, ◌≤◌, true, false, Option, Some, None, Result, Ok, Err, refl, sym, ap, ◌∙◌, subst}
+use Rattle.bw_codec.specs.declared.leaf.Leaf.{Leaf}
+use Rattle.bw_log.specs.Contents as logs
+use Rattle.bw_log.specs.Reads.{HoldsPage}
+use Rattle.bw_page.specs.Ahead.{IsFirstPair, HasNoPair, HasCome, pair_above, HasNoLowAbove, IsNextLow}
+use Rattle.bw_page.specs.Leaves.{Bytes, Map, home, union, leaf_at, plain}
+use Rattle.bw_page.proofs.Ahead.{come_first, come_found, come_further, come_last}
+use Rattle.bw_page.proofs.PageByPage.{home_there}
+use Rattle.bw_store.specs.declared.fault.StoreFault.{StoreFault}
+use Rattle.bw_store.specs.declared.fault.StoreFault.TheVariants.{NoMemory, BadConfig, NoSegment, Device, Failed, Spent, NoPage, NothingOld}
+use Rattle.bw_versions.specs.Entries.{records}
+use Rattle.bw_store.specs.Kept.{Kept, IsSound}
+use Rattle.bw_store.specs.Reading.{HasRead, ReadLeaves, WalkLeaves}
+
+-- the map of the history
+abbrev pub map_of : Kept → Map
+map_of s = plain s.start (records s.entries)
+
+module _ (s : Kept) (h : IsSound s) where
+  -- the page of a key's home has its leaf
+  pub home_leaf : (key : Bytes) (p : ℕ) (leaf : Leaf) → p ≡ (home key s.filed.leaves).page → leaf_at p s.filed.leaves ≡ Some leaf → leaf ≡ home key s.filed.leaves
+  home_leaf key p leaf at there =
+      let home_is : Some (home key s.filed.leaves) ≡ Some leaf =
+      sym (home_there s.filed.m s.filed.leaves key h.grown.stands.lawful) ∙ ap (λ (q : ℕ). leaf_at q s.filed.leaves) (sym at) ∙ there in
+      cc
+
+  pub walk_first : (key : Bytes) → HasCome (map_of s) key key
+  walk_first key = subst (λ (u : Map). HasCome u key key) h.mapped (come_first s.filed.leaves key)
+
+  pub walk_found : (key to : Bytes) (p : Bytes × Bytes) → HasCome (map_of s) key to → pair_above to (home to s.filed.leaves).pairs ≡ Some p
+      → IsFirstPair (map_of s) key p
+  walk_found key to p come e =
+      subst (λ (u : Map). IsFirstPair u key p) h.mapped
+      (come_found s.filed.m s.filed.leaves h.grown.stands.lawful key to p (subst (λ (u : Map). HasCome u key to) (sym h.mapped) come) e)
+
+  pub walk_further : (key to low : Bytes) → HasCome (map_of s) key to → pair_above to (home to s.filed.leaves).pairs ≡ None
+      → IsNextLow s.filed.leaves to low → HasCome (map_of s) key low
+  walk_further key to low come e next =
+      subst (λ (u : Map). HasCome u key low) h.mapped
+      (come_further s.filed.m s.filed.leaves h.grown.stands.lawful key to low (subst (λ (u : Map). HasCome u key to) (sym h.mapped) come) e next)
+
+  pub walk_last : (key to : Bytes) → HasCome (map_of s) key to → pair_above to (home to s.filed.leaves).pairs ≡ None
+      → HasNoLowAbove s.filed.leaves to → HasNoPair (map_of s) key
+  walk_last key to come e last =
+      subst (λ (u : Map). HasNoPair u key) h.mapped
+      (come_last s.filed.m s.filed.leaves h.grown.stands.lawful key to (subst (λ (u : Map). HasCome u key to) (sym h.mapped) come) e last)
+
+-- a page of a walk that was refused
+pub walk_refused : {A B : Type 0} (page : ℕ) (old new : Kept) (fault : StoreFault) → HasRead old new
+    → ReadLeaves {A = A} (HoldsPage old.log page) old (Err fault) new → WalkLeaves {A = B} old (Err fault) new
+walk_refused page old new NoMemory read h = h
+walk_refused page old new BadConfig read h = absurd h
+walk_refused page old new NoSegment read h = absurd h
+walk_refused page old new (Device lease) read h = record { page = page; read = read; failed = h }
+walk_refused page old new Failed read h = absurd h
+walk_refused page old new Spent read h = (h.0, record { page = page; worn = h.1 })
+walk_refused page old new NoPage read h = absurd h
+walk_refused page old new NothingOld read h = absurd h
