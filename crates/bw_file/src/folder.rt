@@ -12,7 +12,7 @@ use crate::files::{SegmentFile, bytes_of, copy_of, is_capacity};
 use crate::names::{leases_in, lock_path, refuse_unless_plain, segment_path};
 use crate::refusals::{FolderFault, NotOpened};
 use crate::segment::{FileSegment, Shared};
-use bw_device::{Lease, MemSegment};
+use bw_device::{Lease, MAX_CAPACITY, MemSegment};
 use std::alloc::Global;
 use std::fs::{self, File, OpenOptions};
 use std::io::{self, ErrorKind};
@@ -232,6 +232,28 @@ impl<F: SegmentFile> Folder<F> {
                 cause: FolderFault::NoMemory,
             }),
         }
+    }
+
+    /// Writes these bytes into the file of this lease, which is made where it is missing, in place of
+    /// what it held, and waits until they stand.
+    ///
+    /// `TooLong` where they are more than any segment may have, `InUse` where a segment stands on the
+    /// file, `NotPlain` where it is no plain file: the file stays as it is then. What it holds behind
+    /// another refusal is not known.
+    pub fn write<R: AllocGlobal + Files<File = F>>(
+        &self,
+        rt: &R,
+        lease: u32,
+        bytes: &[u8],
+    ) -> Result<(), FolderFault> {
+        if bytes.len() as u64 > MAX_CAPACITY {
+            return Err(FolderFault::TooLong);
+        }
+        let file = self.taken(rt, lease)?;
+        file.set_len(0)?;
+        file.write_all_at(bytes, 0)?;
+        file.sync_all()?;
+        Ok(())
     }
 
     /// Empties the file of a lease whose segment was given up and dropped, and waits until that

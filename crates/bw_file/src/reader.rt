@@ -68,8 +68,9 @@ impl<F: SegmentFile> FolderReader<F> {
         leases_in(rt, self.path.as_str())
     }
 
-    // The bytes of the file of this lease.
-    fn bytes<R: AllocGlobal + Files<File = F>>(
+    /// The bytes of the file of this lease, which has to be there. `TooLong` where the file is longer
+    /// than any segment may be, `NotPlain` where it is none.
+    pub fn bytes<R: AllocGlobal + Files<File = F>>(
         &self,
         rt: &R,
         lease: u32,

@@ -79,8 +79,11 @@ above_between key (x ∷ xs) p r e q u b =
     elim (is_below x.0 key) as (λ t. is_below x.0 key ≡ t → (if t then pair_above key xs else Some x) ≡ Some p → find order q (x ∷ xs) ≡ None) [
       | true ↦ λ t s. skipped q x xs (below-upto x.0 key q t u) ∙ above_between key xs p r.1 s q u b
       | false ↦ λ t s. let under : Below q x.0 = subst (λ (y : Bytes × Bytes). Below q y.0) (let same : p ≡ x = cc in same) b in
-          find-none q (x ∷ xs) (below_apart q x.0 under, all-map (λ y. Below x.0 y.0) (λ y. eq_by_cmp order q y.0 ≡ false)
-          (λ y h. below_apart q y.0 (below-trans q x.0 y.0 under h)) xs r.0)
+          find-none q (x ∷ xs) (
+            below_apart q x.0 under,
+            all-map (λ y. Below x.0 y.0) (λ y. eq_by_cmp order q y.0 ≡ false)
+                (λ y h. below_apart q y.0 (below-trans q x.0 y.0 under h)) xs r.0,
+          )
     ] refl e
 
 -- where there is none, no key from this one on has a value there
@@ -138,8 +141,8 @@ module _ (m : ℕ) (leaves : List Leaf) (a : AreLeaves m leaves) where
               let begins : All (λ l. Below to l.low → Below q l.low) leaves =
               all-map (λ l. UpTo l.low p.0 → UpTo l.low (home p.0 leaves).low) (λ l. Below to l.low → Below q l.low)
               (λ l max above. must_be (is_below q l.low) (λ not.
-                let low : UpTo l.low (home to leaves).low = subst (λ (h : Leaf). UpTo l.low h.low) own (max (upto-trans l.low q p.0 not (below_upto q p.0 b))) in
-                not_both (is_below to l.low) above (upto-trans l.low (home to leaves).low to low (home-low to leaves a.first))))
+              let low : UpTo l.low (home to leaves).low = subst (λ (h : Leaf). UpTo l.low h.low) own (max (upto-trans l.low q p.0 not (below_upto q p.0 b))) in
+              not_both (is_below to l.low) above (upto-trans l.low (home to leaves).low to low (home-low to leaves a.first))))
               leaves (home-max p.0 leaves) in
               found_at to q None (same_leaf to q t begins) (above_between to (home to leaves).pairs p (rises_at to) e q t b)
         ] refl;

@@ -5,11 +5,11 @@ ghost use Rattle.bw_script.specs.Session.{IsReady};
 use crate::calls::LEASES;
 use crate::home::{Made, Site};
 use crate::miss::Miss;
-use crate::printed::{write_dump, write_entry, write_page, write_value};
-use crate::printer::Printer;
+use crate::printed::{write_dump, write_entry, write_found, write_value};
 use crate::session::Session;
 use crate::system::System;
-use bw_codec::{Leaf, Value};
+use bw_codec::{Key, Leaf, Value};
+use bw_look::{Printer, write_page};
 use bw_store::{Cleaned, Entry};
 use std::io::Write;
 
@@ -26,6 +26,12 @@ pub enum Answer {
     Settled(u64),
     Page(Leaf),
     Value(Option<Value>),
+    /// The first pair at or above a key, if there is one.
+    Pair(Option<(Key, Value)>),
+    /// How many pages there are.
+    Pages(u32),
+    /// The number of the last frame that was appended; 0 before the first.
+    Durable(u64),
     /// Whether the page left memory.
     Evicted(bool),
     /// What was given up with the oldest segment.
@@ -40,6 +46,7 @@ pub enum Answer {
     Cuts,
     Segments,
     Leases,
+    Stats,
 }
 
 fn write_cleaned<O: Write>(out: &mut Printer<'_, O>, cleaned: &Cleaned) {
@@ -60,6 +67,9 @@ fn write_answer<O: Write>(out: &mut Printer<'_, O>, answer: &Answer) {
         Answer::Settled(length) => out.line("settled ", *length),
         Answer::Page(leaf) => write_page(out, leaf),
         Answer::Value(value) => write_value(out, value.as_ref()),
+        Answer::Pair(pair) => write_found(out, pair.as_ref()),
+        Answer::Pages(count) => out.line("pages ", *count),
+        Answer::Durable(frame) => out.line("durable ", *frame),
         Answer::Evicted(true) => out.text(b"evicted\n"),
         Answer::Evicted(false) => out.text(b"kept\n"),
         Answer::Cleaned(cleaned) => write_cleaned(out, cleaned),
@@ -107,6 +117,17 @@ fn write_leases<O: Write>(out: &mut Printer<'_, O>, site: &Site) {
     out.text(b"\n");
 }
 
+/// All numbers of a session on one line.
+fn write_stats<O: Write>(out: &mut Printer<'_, O>, session: &Session)
+    requires { IsReady session.now holding }
+{
+    out.named("history ", session.store.history().len());
+    out.named(" durable ", session.durable());
+    out.named(" segments ", session.store.live());
+    out.named(" spares ", session.store.spares());
+    out.line(" pages ", session.store.pages());
+}
+
 /// Writes an answer of this session.
 fn write_all<O: Write>(out: &mut Printer<'_, O>, session: &Session, answer: &Answer)
     requires { IsReady session.now holding }
@@ -116,6 +137,7 @@ fn write_all<O: Write>(out: &mut Printer<'_, O>, session: &Session, answer: &Ans
         Answer::Cuts => write_cuts(out, session.store.cuts()),
         Answer::Segments => write_segments(out, session),
         Answer::Leases => write_leases(out, &session.site),
+        Answer::Stats => write_stats(out, session),
         _ => write_answer(out, answer),
     }
 }

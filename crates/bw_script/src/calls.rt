@@ -8,6 +8,7 @@ use crate::answers::Answer;
 use crate::home::Site;
 use crate::miss::Miss;
 use crate::options::Options;
+use crate::request::Request;
 use crate::script::{Command, Fault};
 use crate::session::Session;
 use crate::system::System;
@@ -91,6 +92,21 @@ impl Session {
             return Err(Miss::Fault(Fault::BadNumber));
         }
         Ok(Answer::Put(put_at(&mut self.feeds, writer, op)))
+    }
+
+    /// Puts a record as `put` does, and where the ring is full, the store takes all that waits
+    /// before.
+    pub fn put_taking(&mut self, writer: u16, op: Record) -> Result<Answer, Miss>
+        requires { IsReady self.old holding }
+        ensures { IsReady self.new holding }
+    {
+        match self.put(writer, op.copy())? {
+            Answer::Put(false) => {
+                let _ = self.take(u32::MAX)?;
+                self.put(writer, op)
+            }
+            answer => Ok(answer),
+        }
     }
 
     // How many records a turn of this limit took.
@@ -203,9 +219,56 @@ impl Session {
         }
     }
 
+    /// The pair with the least key at or above this one, as the history leaves it.
+    fn next_at(&mut self, key: &Key) -> Result<Answer, Miss>
+        requires { IsReady self.old holding }
+        ensures { IsReady self.new holding }
+    {
+        match self.store.next_at(key) {
+            Ok(pair) => Ok(Answer::Pair(pair)),
+            Err(fault) => Err(Miss::from(fault)),
+        }
+    }
+
+    /// The number of the last frame that was appended, 0 before the first.
+    pub fn durable(&self) -> u64
+        requires { IsReady self.now holding }
+    {
+        match self.store.next_frame() {
+            Some(next) => next.saturating_sub(1),
+            None => u64::MAX,
+        }
+    }
+
+    /// Does what a request asks for: one line will answer it. What was accepted is taken before
+    /// anything is read, so a program reads what it put. A spare for what was cleaned is not added
+    /// here.
+    pub fn answer<R: System>(&mut self, rt: &R, request: Request) -> Result<Answer, Miss>
+        requires { IsReady self.old holding }
+        ensures { IsReady self.new holding }
+    {
+        match request {
+            Request::Put(op) => return self.put_taking(0, op),
+            Request::Flush => return self.flush(rt),
+            Request::Settle => return self.settle(rt),
+            Request::Clean => return self.clean(rt),
+            Request::Durable => return Ok(Answer::Durable(self.durable())),
+            Request::Stats => return Ok(Answer::Stats),
+            _ => {}
+        }
+        let _ = self.take(u32::MAX)?;
+        match request {
+            Request::Get(key) => self.get(&key),
+            Request::Next(key) => self.next_at(&key),
+            Request::Page(page) => self.page(page),
+            Request::Evict(page) => self.evict(page),
+            _ => Ok(Answer::Pages(self.store.pages())),
+        }
+    }
+
     /// A new segment of this capacity, with the least lease that is free, once those that came back
     /// are.
-    fn spare<R: System>(&mut self, rt: &R, capacity: u64) -> Result<Answer, Miss>
+    pub fn spare<R: System>(&mut self, rt: &R, capacity: u64) -> Result<Answer, Miss>
         requires { IsReady self.old holding }
         ensures { IsReady self.new holding }
     {

@@ -1,5 +1,7 @@
-//! Scripts over the page store: `replay` runs one, line by line, and prints what each line answers;
-//! `threads` runs each writer's in a thread of its own; `scan` says what segments hold.
+//! The program `bwlog`: `replay` runs a script over a store, line by line, and prints what each line
+//! answers; `serve` answers the requests of another program; `threads` runs each writer's script in a
+//! thread of its own; `scan`, `print`, `stats` and `picture` say what segments hold, and `restore`
+//! makes a folder as of an earlier frame.
 //!
 //! A script has a session before it: a store over segments in memory or in a folder, a feed for
 //! each writer, and the desk of the segments' leases. `run` is the whole program `bwlog` over any
@@ -11,13 +13,15 @@ mod calls;
 mod home;
 mod lines;
 mod looking;
+mod looks;
 mod miss;
 mod options;
+mod print;
 mod printed;
-mod printer;
 mod program;
 mod refusal;
 mod replay;
+mod request;
 mod running;
 mod scan;
 mod script;

@@ -84,6 +84,11 @@ impl<R: Read + Drop> Lines<R> {
         Ok(count > 0)
     }
 
+    /// Whether the next line has to be asked of the reader.
+    pub fn is_drained(&self) -> bool {
+        self.input.buffer().is_empty()
+    }
+
     /// The line that was read last, without its end.
     pub fn line(&self) -> &[u8] {
         self.line.as_slice()

@@ -4,8 +4,9 @@ use crate::refusal::Refusal;
 use crate::script::Fault;
 use crate::stop::Stop;
 use bw_file::FolderFault;
+use bw_look::NotWritten;
 use bw_store::StoreFault;
-use std::alloc::AllocFailed;
+use std::alloc::{AllocError, AllocFailed};
 
 /// Why a command has no answer.
 #[derive(Clone, Copy)]
@@ -33,6 +34,18 @@ impl From<StoreFault> for Miss {
 impl From<Stop> for Miss {
     fn from(stop: Stop) -> Miss {
         Miss::Ended(stop)
+    }
+}
+
+impl From<NotWritten> for Miss {
+    fn from(_error: NotWritten) -> Miss {
+        Miss::Ended(Stop::Output)
+    }
+}
+
+impl From<AllocError> for Miss {
+    fn from(_error: AllocError) -> Miss {
+        Miss::Refused(Refusal::NoMemory)
     }
 }
 

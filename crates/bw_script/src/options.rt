@@ -1,32 +1,52 @@
 //! The command line, read by `clap`. Nothing else of the program stands here.
 
+use crate::replay::Manner;
 use clap::error::ErrorKind;
-use clap::{Arg, ArgMatches, Command, Error};
+use clap::{Arg, ArgAction, ArgMatches, Command, Error};
 use std::alloc::{AllocError, Global};
 
 /// What the command line asks for.
 #[derive(Clone, Copy)]
 pub enum Mode<'a> {
-    /// A script is run over a store.
-    Replay(Options<'a>),
+    /// The lines of the input are done over a store, in this manner.
+    Lines(Options<'a>, Manner),
     /// Each writer's script is run by a thread of its own over a store.
     Threads(Options<'a>, Pace),
-    /// Segments are looked at: those of a folder, or lines in hex.
+    /// Recovery says what segments hold: those of a folder, or lines in hex.
     Scan(Option<&'a str>),
+    /// The same segments, frame by frame and block by block.
+    Print(Option<&'a str>),
+    /// How much they have of each kind.
+    Stats(Option<&'a str>),
+    /// They as a picture.
+    Picture(Option<&'a str>),
+    /// A folder as of an earlier frame, in another folder.
+    Restore(Copying<'a>),
+}
+
+/// What is restored.
+#[derive(Clone, Copy)]
+pub struct Copying<'a> {
+    /// The folder of the log.
+    pub from: &'a str,
+    /// The new folder.
+    pub to: &'a str,
+    /// The number of the last frame that the new folder has.
+    pub frame: u64,
 }
 
 impl<'a> Mode<'a> {
     /// The folder of the segments.
     pub fn dir(&self) -> Option<&'a str> {
         match self {
-            Mode::Replay(options) => options.dir,
-            Mode::Threads(options, _) => options.dir,
-            Mode::Scan(dir) => *dir,
+            Mode::Lines(options, _) | Mode::Threads(options, _) => options.dir,
+            Mode::Scan(dir) | Mode::Print(dir) | Mode::Stats(dir) | Mode::Picture(dir) => *dir,
+            Mode::Restore(copying) => Some(copying.to),
         }
     }
 }
 
-/// The options of `replay`, and of `threads` likewise.
+/// The options of `replay`, and of `serve` and `threads` likewise.
 #[derive(Clone, Copy)]
 pub struct Options<'a> {
     /// How many writers there are, numbered from 0: 1 to 64.
@@ -64,6 +84,12 @@ enum Kind {
     /// A number from one to another, and what it is where none is given.
     Number(i64, i64, &'static str),
     Folder,
+    /// A folder that has to be given.
+    Needed,
+    /// The number of a frame, which has to be given.
+    Frame,
+    /// Nothing.
+    Flag,
 }
 
 /// An option: its name, what it takes, and the help.
@@ -124,6 +150,36 @@ const SCAN_DIR: Row = Row {
         position among its files",
 };
 
+const LOOK_DIR: Row = Row {
+    name: "dir",
+    kind: Kind::Folder,
+    help: "a folder whose segments are looked at, in place of lines",
+};
+
+const TAKE: Row = Row {
+    name: "take",
+    kind: Kind::Flag,
+    help: "a put or del that finds its ring full has the store take records first",
+};
+
+const FROM: Row = Row {
+    name: "dir",
+    kind: Kind::Needed,
+    help: "the folder of the log, which is not changed",
+};
+
+const TO: Row = Row {
+    name: "to",
+    kind: Kind::Needed,
+    help: "a new folder, or one without segments",
+};
+
+const AS_OF: Row = Row {
+    name: "frame",
+    kind: Kind::Frame,
+    help: "the number of the last frame that the new folder has",
+};
+
 const LIMIT: Row = Row {
     name: "limit",
     kind: Kind::Number(1, 4096, "64"),
@@ -150,7 +206,30 @@ const TRIES: Row = Row {
 };
 
 /// The store of a script.
-const REPLAY: [Row; 7] = [WRITERS, PLACES, M, FRAME, SEGMENTS, CAPACITY, STORE_DIR];
+const REPLAY: [Row; 8] = [
+    WRITERS, PLACES, M, FRAME, SEGMENTS, CAPACITY, STORE_DIR, TAKE,
+];
+
+/// The store of a program, which is one writer.
+const SERVE: [Row; 6] = [
+    Row {
+        kind: Kind::Number(1, 4096, "1024"),
+        ..PLACES
+    },
+    Row {
+        kind: Kind::Number(4, 32, "32"),
+        ..M
+    },
+    FRAME,
+    SEGMENTS,
+    Row {
+        kind: Kind::Number(16408, 16777216, "16777216"),
+        ..CAPACITY
+    },
+    STORE_DIR,
+];
+
+const RESTORE: [Row; 3] = [FROM, TO, AS_OF];
 
 /// The store of several writers, then how it is tended, and how often a record is tried.
 const THREADS: [Row; 11] = [
@@ -180,11 +259,16 @@ struct Form {
     options: &'static [Row],
 }
 
-const FORMS: [Form; 3] = [
+const FORMS: [Form; 8] = [
     Form {
         name: "replay",
         about: "Runs a script from standard input",
         options: &REPLAY,
+    },
+    Form {
+        name: "serve",
+        about: "Answers each line of standard input, a request, by one line: for other programs",
+        options: &SERVE,
     },
     Form {
         name: "threads",
@@ -196,7 +280,35 @@ const FORMS: [Form; 3] = [
         about: "Says what segments hold, one in hex on each line of standard input",
         options: &[SCAN_DIR],
     },
+    Form {
+        name: "print",
+        about: "Prints each header, frame and block of segments, up to the first fault",
+        options: &[LOOK_DIR],
+    },
+    Form {
+        name: "stats",
+        about: "Counts what segments hold, and how much of each is still needed",
+        options: &[LOOK_DIR],
+    },
+    Form {
+        name: "picture",
+        about: "Draws segments as an SVG",
+        options: &[LOOK_DIR],
+    },
+    Form {
+        name: "restore",
+        about: "Makes a folder that holds a store as of an earlier frame",
+        options: &RESTORE,
+    },
 ];
+
+/// What `--help` begins with. A text that was asked for is told as any other that is no run.
+const ABOUT: &str =
+    "Runs scripts over the page store, and says what segments hold. (This text goes to \
+    standard error, and the exit status is 2.)";
+
+/// The program's version, and that of the format of its segments.
+const VERSION: &str = "0.1.0, format 1";
 
 fn with_number<'a>(option: Arg<'a>, least: i64, most: i64, default: &'a str) -> Arg<'a> {
     option
@@ -209,6 +321,12 @@ fn option_of<'a>(alloc: Global, row: &Row) -> Arg<'a> {
     match row.kind {
         Kind::Number(least, most, default) => with_number(option, least, most, default),
         Kind::Folder => option.value_name("FOLDER"),
+        Kind::Needed => option.value_name("FOLDER").required(true),
+        Kind::Frame => option
+            .value_name("NUMBER")
+            .value_parser(clap::value_parser!(u64))
+            .required(true),
+        Kind::Flag => option.action(ArgAction::SetTrue),
     }
 }
 
@@ -223,7 +341,8 @@ fn form_of<'a>(alloc: Global, form: &Form) -> Result<Command<'a>, AllocError> {
 /// The command `bwlog` with its modes.
 fn command_of<'a>(alloc: Global) -> Result<Command<'a>, AllocError> {
     let mut command = Command::new(alloc, "bwlog")
-        .about("Runs scripts over the page store, and says what segments hold")
+        .about(ABOUT)
+        .version(VERSION)
         .no_binary_name(true)
         .subcommand_required(true);
     for form in &FORMS {
@@ -234,16 +353,20 @@ fn command_of<'a>(alloc: Global) -> Result<Command<'a>, AllocError> {
 
 /// The folder that was named.
 fn dir_of<'a>(found: &ArgMatches<'a>) -> Option<&'a str> {
-    match found.get_raw("dir") {
+    folder_of(found, "dir")
+}
+
+fn folder_of<'a>(found: &ArgMatches<'a>, name: &str) -> Option<&'a str> {
+    match found.get_raw(name) {
         Some(words) => words.first().copied(),
         None => None,
     }
 }
 
-/// What the words behind `replay` or `threads` say. Each option has a value, its default at least.
+/// What the words behind `replay`, `serve` or `threads` say; a program is one writer. Each option has a value, its default at least.
 fn found_of<'a>(found: &ArgMatches<'a>) -> Options<'a> {
     Options {
-        writers: found.get_one("writers").unwrap_or(0),
+        writers: found.get_one("writers").unwrap_or(1),
         places: found.get_one("places").unwrap_or(0),
         m: found.get_one("m").unwrap_or(0),
         f: found.get_one("frame").unwrap_or(0),
@@ -263,18 +386,56 @@ fn pace_of<'a>(found: &ArgMatches<'a>) -> Pace {
     }
 }
 
-/// The mode that was found, with what its words say.
-fn mode_in<'a>(matches: &ArgMatches<'a>) -> Mode<'a> {
-    if let Some(found) = matches.subcommand_matches("replay") {
-        return Mode::Replay(found_of(found));
+/// In which manner a script is run.
+fn manner_of<'a>(found: &ArgMatches<'a>) -> Manner {
+    if found.get_flag("take") {
+        Manner::Taking
+    } else {
+        Manner::Script
     }
-    if let Some(found) = matches.subcommand_matches("threads") {
-        return Mode::Threads(found_of(found), pace_of(found));
+}
+
+/// What the words behind `restore` say.
+fn copying_of<'a>(found: &ArgMatches<'a>) -> Copying<'a> {
+    Copying {
+        from: dir_of(found).unwrap_or(""),
+        to: folder_of(found, "to").unwrap_or(""),
+        frame: found.get_one("frame").unwrap_or(0),
+    }
+}
+
+/// The mode that looks at segments, with what its words say.
+fn look_in<'a>(matches: &ArgMatches<'a>) -> Mode<'a> {
+    if let Some(found) = matches.subcommand_matches("print") {
+        return Mode::Print(dir_of(found));
+    }
+    if let Some(found) = matches.subcommand_matches("stats") {
+        return Mode::Stats(dir_of(found));
+    }
+    if let Some(found) = matches.subcommand_matches("picture") {
+        return Mode::Picture(dir_of(found));
     }
     match matches.subcommand_matches("scan") {
         Some(found) => Mode::Scan(dir_of(found)),
         None => Mode::Scan(None),
     }
+}
+
+/// The mode that was found, with what its words say.
+fn mode_in<'a>(matches: &ArgMatches<'a>) -> Mode<'a> {
+    if let Some(found) = matches.subcommand_matches("replay") {
+        return Mode::Lines(found_of(found), manner_of(found));
+    }
+    if let Some(found) = matches.subcommand_matches("serve") {
+        return Mode::Lines(found_of(found), Manner::Requests);
+    }
+    if let Some(found) = matches.subcommand_matches("threads") {
+        return Mode::Threads(found_of(found), pace_of(found));
+    }
+    if let Some(found) = matches.subcommand_matches("restore") {
+        return Mode::Restore(copying_of(found));
+    }
+    look_in(matches)
 }
 
 /// What the words after the program's name ask for. What they do not give as a parse, help among

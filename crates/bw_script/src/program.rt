@@ -1,14 +1,16 @@
 //! The program over any reader and writers: the command line, what it asks for, and the exit
 //! status.
 
+use crate::looks::{count_segments, draw_segments, print_segments, restore};
 use crate::options::{Mode, is_memory, mode_of};
-use crate::printer::{Printer, print};
+use crate::print::print;
 use crate::refusal::Refusal;
 use crate::replay::replay;
 use crate::scan::{scan, scan_folder};
-use crate::stop::Stop;
+use crate::stop::{Met, Stop};
 use crate::system::Host;
 use crate::threads::threads;
+use bw_look::Printer;
 use clap::Error;
 use std::io::{Read, Write};
 
@@ -18,12 +20,16 @@ fn start<R: Host, I: Read, O: Write>(
     mode: &Mode<'_>,
     input: &mut I,
     output: &mut O,
-) -> Result<bool, Stop> {
+) -> Result<Met, Stop> {
     match mode {
-        Mode::Replay(options) => replay(rt, options, input, output),
+        Mode::Lines(options, manner) => replay(rt, options, *manner, input, output),
         Mode::Threads(options, pace) => threads(rt, options, *pace, input, output),
         Mode::Scan(None) => scan(rt, input, output),
         Mode::Scan(Some(path)) => scan_folder(rt, *path, output),
+        Mode::Print(dir) => print_segments(rt, *dir, input, output),
+        Mode::Stats(dir) => count_segments(rt, *dir, input, output),
+        Mode::Picture(dir) => draw_segments(rt, *dir, input, output),
+        Mode::Restore(copying) => restore(rt, copying, output),
     }
 }
 
@@ -52,19 +58,34 @@ fn tell_stop<E: Write>(errors: &mut E, dir: &str, stop: Stop) -> Result<(), Stop
         }
         _ => out.text(b"input failed\n"),
     }
-    out.end()
+    out.end()?;
+    Ok(())
+}
+
+/// Says what to do where the log had no room, behind what was printed.
+fn hint<O: Write, E: Write>(output: &mut O, errors: &mut E) -> Result<(), Stop> {
+    if output.flush().is_err() {
+        return Err(Stop::Output);
+    }
+    let mut out = Printer::new(errors);
+    out.text(b"the log is full: `clean` gives up its oldest segment, and `add` adds a new one\n");
+    out.end()?;
+    Ok(())
 }
 
 /// Prints what an end has to say, and gives its exit status.
 fn status_of<O: Write, E: Write>(
-    end: Result<bool, Stop>,
+    end: Result<Met, Stop>,
     dir: &str,
     output: &mut O,
     errors: &mut E,
 ) -> u8 {
     match end {
-        Ok(false) => 0,
-        Ok(true) => 4,
+        Ok(met) if met.full => match hint(output, errors) {
+            Ok(()) => 4,
+            Err(_) => 6,
+        },
+        Ok(met) => { if met.refusal { 4 } else { 0 } }
         Err(Stop::Usage) => 2,
         Err(Stop::Output) => 6,
         Err(Stop::NoMemory) => match print(output, "", Refusal::NoMemory) {

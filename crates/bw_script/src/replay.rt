@@ -1,4 +1,5 @@
-//! `bwlog replay`: a script over one store, line by line.
+//! `bwlog replay`: a script over one store, line by line; and `bwlog serve`, by the same lines, but
+//! each is a request that has one line of answer, whatever it is.
 
 ghost use Rattle.std.specs.Prelude.{◌≡◌, vec_len, IfOk};
 ghost use Rattle.bw_care.specs.Found.{IsRecovered};
@@ -11,12 +12,13 @@ use crate::lines::{Lines, READS};
 use crate::looking::{Beginning, beginning_of, look};
 use crate::miss::Miss;
 use crate::options::Options;
-use crate::printer::print;
+use crate::print::print;
 use crate::refusal::Refusal;
+use crate::request::{Request, parse_request};
 use crate::scan::{print_anew, print_found};
 use crate::script::{Command, LONGEST, parse};
 use crate::session::Session;
-use crate::stop::{Stop, missed, no_input, refuse};
+use crate::stop::{Met, Stop, missed, no_input, refuse};
 use crate::system::System;
 use bw_care::{RecoverFault, Recovered, recover};
 use bw_device::Segment;
@@ -27,6 +29,26 @@ use std::io::{Read, Write};
 /// How often a run may try to begin: the second time behind the beginning of a first frame, which
 /// only somebody else can have put there once more.
 pub const ATTEMPTS: u32 = 2;
+
+/// How lines are read and answered.
+#[derive(Debug, Clone, Copy, PartialEq, Eq)]
+pub enum Manner {
+    /// A script: each line is a command, and a fault ends it.
+    Script,
+    /// A script in which a record that finds its ring full has the store take what waits before.
+    Taking,
+    /// Requests of a program, over a store with one writer.
+    Requests,
+}
+
+/// Whether the beginning of a run is told.
+#[derive(Debug, Clone, Copy, PartialEq, Eq)]
+pub enum Told {
+    /// By the two lines of a scan, where segments have bytes.
+    Lines,
+    /// Not here.
+    Nothing,
+}
 
 /// What came of a line.
 #[derive(Drop)]
@@ -62,8 +84,52 @@ fn done_of(answer: Answer) -> Done {
     }
 }
 
-/// Does what the next command asks for, but that a spare is only made.
-fn do_next<R: System, I: Read, O: Write>(
+/// Does what a command asks for, but that a spare is only made.
+fn do_command<R: System, O: Write>(
+    rt: &R,
+    session: &mut Session,
+    options: &Options<'_>,
+    manner: Manner,
+    command: Command,
+    output: &mut O,
+) -> Result<Done, Miss>
+    requires { IsReady session.old holding }
+    ensures { IsReady session.new holding }
+{
+    let answer = match command {
+        Command::Put(writer, op) if manner == Manner::Taking => session.put_taking(writer, op)?,
+        command => session.call(rt, u64::from(options.capacity), command)?,
+    };
+    tell(rt, session, output, &answer)?;
+    Ok(done_of(answer))
+}
+
+/// Does what a request asks for. What stands in place of a segment that was given up is only made.
+fn do_request<R: System, O: Write>(
+    rt: &R,
+    session: &mut Session,
+    options: &Options<'_>,
+    request: Request,
+    output: &mut O,
+) -> Result<Done, Miss>
+    requires { IsReady session.old holding }
+    ensures { IsReady session.new holding }
+{
+    let answer = session.answer(rt, request)?;
+    tell(rt, session, output, &answer)?;
+    if !matches!(answer, Answer::Cleaned(_)) {
+        return Ok(Done::Answered);
+    }
+    // The line is answered already, so a spare that cannot be made is none: `stats` tells it.
+    match session.spare(rt, u64::from(options.capacity)) {
+        Ok(Answer::Spare(made)) => Ok(Done::Add(made)),
+        Err(Miss::Ended(stop)) => Err(Miss::Ended(stop)),
+        _ => Ok(Done::Answered),
+    }
+}
+
+/// Does what the next request asks for. What is no request is answered too.
+fn next_request<R: System, I: Read, O: Write>(
     rt: &R,
     session: &mut Session,
     options: &Options<'_>,
@@ -73,17 +139,50 @@ fn do_next<R: System, I: Read, O: Write>(
     requires { IsReady session.old holding }
     ensures { IsReady session.new holding }
 {
-    let Some(command) = next_command(lines, options.writers)? else {
+    if !lines.read_line().map_err(no_input)? {
         return Ok(Done::End);
-    };
-    let answer = session.call(rt, u64::from(options.capacity), command)?;
-    tell(rt, session, output, &answer)?;
-    Ok(done_of(answer))
+    }
+    match parse_request(lines.line()) {
+        Ok(Request::Quit) => {
+            print(output, "", "bye")?;
+            Ok(Done::End)
+        }
+        Ok(request) => do_request(rt, session, options, request, output),
+        Err(fault) => {
+            print(output, "fault ", fault)?;
+            Ok(Done::Answered)
+        }
+    }
 }
 
-/// What comes of a script and of its next line: whether something was refused, or what ends it.
-fn joined(end: Result<bool, Stop>, answer: Result<bool, Stop>) -> Result<bool, Stop> {
-    Ok(end? | answer?)
+/// Does what the next line asks for.
+fn do_next<R: System, I: Read, O: Write>(
+    rt: &R,
+    session: &mut Session,
+    options: &Options<'_>,
+    manner: Manner,
+    lines: &mut Lines<&mut I>,
+    output: &mut O,
+) -> Result<Done, Miss>
+    requires { IsReady session.old holding }
+    ensures { IsReady session.new holding }
+{
+    // Whoever writes the lines may wait for an answer before the next one.
+    if lines.is_drained() && output.flush().is_err() {
+        return Err(Miss::from(Stop::Output));
+    }
+    if manner == Manner::Requests {
+        return next_request(rt, session, options, lines, output);
+    }
+    match next_command(lines, options.writers)? {
+        Some(command) => do_command(rt, session, options, manner, command, output),
+        None => Ok(Done::End),
+    }
+}
+
+/// What comes of a script and of its next line: what was met, or what ends it.
+fn joined(end: Result<Met, Stop>, answer: Result<Met, Stop>) -> Result<Met, Stop> {
+    Ok(end?.and(answer?))
 }
 
 /// Does line by line up to one that asks for a spare, which is handed out; `None` at the script's
@@ -92,9 +191,10 @@ fn next_spare<R: System, I: Read, O: Write>(
     rt: &R,
     session: &mut Session,
     options: &Options<'_>,
+    manner: Manner,
     lines: &mut Lines<&mut I>,
     output: &mut O,
-    end: &mut Result<bool, Stop>,
+    end: &mut Result<Met, Stop>,
 ) -> Option<Made>
     requires { IsReady session.old holding }
     ensures { IsReady session.new holding }
@@ -103,10 +203,10 @@ fn next_spare<R: System, I: Read, O: Write>(
         if end.is_err() {
             return None;
         }
-        let answer = match do_next(rt, session, options, lines, output) {
+        let answer = match do_next(rt, session, options, manner, lines, output) {
             Ok(Done::End) => return None,
             Ok(Done::Add(made)) => return Some(made),
-            Ok(Done::Answered) => Ok(false),
+            Ok(Done::Answered) => Ok(Met::NOTHING),
             Err(miss) => missed(output, lines.number(), miss),
         };
         *end = joined(*end, answer);
@@ -114,22 +214,32 @@ fn next_spare<R: System, I: Read, O: Write>(
     None
 }
 
-/// Adds a spare, and says so, or why not.
+/// Adds a spare, and says so, or why not; a request has its answer before.
 fn add_spare<O: Write>(
     session: &mut Session,
     lease: u32,
     spare: Box<dyn Segment>,
+    manner: Manner,
     output: &mut O,
-) -> Result<bool, Stop>
+) -> Result<Met, Stop>
     requires { IsReadyBeside session.old holding }
     ensures { IsReadyBeside session.new holding }
 {
     match session.store.add_segment(spare) {
+        _ if manner == Manner::Requests => Ok(Met::NOTHING),
         Ok(()) => {
             print(output, "added ", lease)?;
-            Ok(false)
+            Ok(Met::NOTHING)
         }
         Err((_, cause)) => refuse(output, Refusal::from(cause)),
+    }
+}
+
+/// Whether a run of this manner tells its beginning by the lines of a scan.
+fn told_of(manner: Manner) -> Told {
+    match manner {
+        Manner::Script | Manner::Taking => Told::Lines,
+        Manner::Requests => Told::Nothing,
     }
 }
 
@@ -167,10 +277,11 @@ fn not_begun(fault: RecoverFault) -> NotBegun {
     }
 }
 
-/// What boxes hold, of which the two lines of a scan are printed.
+/// What boxes hold, of which the two lines of a scan are printed where it is told.
 fn found_in<O: Write>(
     alloc: Global,
     boxes: Vec<Box<dyn Segment>>,
+    told: Told,
     output: &mut O,
 ) -> Result<Recovered, NotBegun>
     requires { Unit {0} }
@@ -178,7 +289,9 @@ fn found_in<O: Write>(
 {
     match recover(alloc, boxes) {
         Ok(found) => {
-            print_found(output, &found)?;
+            if told == Told::Lines {
+                print_found(output, &found)?;
+            }
             Ok(found)
         }
         Err(fault) => Err(not_begun(fault)),
@@ -192,10 +305,13 @@ fn clear<R: System, O: Write>(
     site: &Site,
     count: usize,
     beginning: Beginning,
+    told: Told,
     output: &mut O,
 ) -> Result<(), NotBegun> {
     site.empty(rt, beginning.lease)?;
-    print_anew(output, count, beginning.bytes)?;
+    if told == Told::Lines {
+        print_anew(output, count, beginning.bytes)?;
+    }
     Ok(())
 }
 
@@ -207,6 +323,7 @@ pub fn begin<R: System, O: Write>(
     boxes: Vec<Box<dyn Segment>>,
     are_new: bool,
     site: Site,
+    told: Told,
     output: &mut O,
 ) -> Result<Session, NotBegun>
     requires { Unit {0} }
@@ -217,14 +334,22 @@ pub fn begin<R: System, O: Write>(
         return Ok(Session::open(rt, options, boxes, site)?);
     }
     let count = boxes.len();
-    match found_in(rt.alloc(), boxes, output) {
+    match found_in(rt.alloc(), boxes, told, output) {
         Ok(found) => Ok(Session::reopen(rt, options, found, site)?),
         Err(NotBegun::Beginning(beginning)) => {
-            clear(rt, &site, count, beginning, output)?;
+            clear(rt, &site, count, beginning, told, output)?;
             Err(NotBegun::Beginning(beginning))
         }
         Err(not_begun) => Err(not_begun),
     }
+}
+
+/// Says that a store is there, and which frame is its last.
+fn greet<O: Write>(session: &Session, output: &mut O) -> Result<Met, Stop>
+    requires { IsReady session.now holding }
+{
+    print(output, "ready frame ", session.durable())?;
+    Ok(Met::NOTHING)
 }
 
 /// Makes a store, or goes on from the one in a folder, and runs the lines over it; `None` where it
@@ -233,9 +358,10 @@ pub fn begin<R: System, O: Write>(
 fn replay_lines<R: System, I: Read, O: Write>(
     rt: &R,
     options: &Options<'_>,
+    manner: Manner,
     lines: &mut Lines<&mut I>,
     output: &mut O,
-) -> Result<Option<bool>, Stop> {
+) -> Result<Option<Met>, Stop> {
     if let Err(miss) = look(rt, options) {
         return Ok(Some(missed(output, 0, miss)?));
     }
@@ -255,15 +381,19 @@ fn replay_lines<R: System, I: Read, O: Write>(
         };
         boxes.push(segment)?;
     }
-    let mut session = match begin(rt, options, boxes, are_new, site, output) {
+    let mut session = match begin(rt, options, boxes, are_new, site, told_of(manner), output) {
         Ok(session) => session,
         Err(NotBegun::Miss(miss)) => return Ok(Some(missed(output, 0, miss)?)),
         Err(NotBegun::Beginning(_)) => return Ok(None),
     };
     // The store is shut whatever ends the script.
-    let mut end = Ok(false);
+    let mut end = Ok(Met::NOTHING);
+    if manner == Manner::Requests {
+        end = greet(&session, output);
+    }
     'spares: for _ in 0..u64::MAX {
-        let Some(made) = next_spare(rt, &mut session, options, lines, output, &mut end) else {
+        let Some(made) = next_spare(rt, &mut session, options, manner, lines, output, &mut end)
+        else {
             break;
         };
         let lease = made.lease();
@@ -271,24 +401,25 @@ fn replay_lines<R: System, I: Read, O: Write>(
             Made::Memory(segment) => segment,
             Made::File(segment) => segment,
         };
-        end = joined(end, add_spare(&mut session, lease, spare, output));
+        end = joined(end, add_spare(&mut session, lease, spare, manner, output));
     }
     session.shut(rt);
     Ok(Some(end?))
 }
 
-/// Makes a store, or goes on from the one in a folder, and runs a script over it, line by line;
-/// answers whether something was refused.
+/// Makes a store, or goes on from the one in a folder, and runs the lines of the input over it in
+/// this manner; answers what was met.
 pub fn replay<R: System, I: Read, O: Write>(
     rt: &R,
     options: &Options<'_>,
+    manner: Manner,
     input: &mut I,
     output: &mut O,
-) -> Result<bool, Stop> {
+) -> Result<Met, Stop> {
     let mut lines = Lines::new(rt.alloc(), input, READS, LONGEST).map_err(no_input)?;
     for _ in 0..ATTEMPTS {
-        if let Some(was_refused) = replay_lines(rt, options, &mut lines, output)? {
-            return Ok(was_refused);
+        if let Some(met) = replay_lines(rt, options, manner, &mut lines, output)? {
+            return Ok(met);
         }
     }
     refuse(output, Refusal::Empty)

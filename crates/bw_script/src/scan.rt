@@ -6,28 +6,27 @@ use crate::calls::LEASES;
 use crate::home::{desk_of, taken};
 use crate::lines::{Lines, READS};
 use crate::miss::Miss;
-use crate::printed::write_page;
-use crate::printer::Printer;
 use crate::refusal::Refusal;
 use crate::script::{Fault, are_printable};
-use crate::stop::{Stop, missed, no_input, refuse};
+use crate::stop::{Met, Stop, missed, no_input, refuse};
 use crate::system::System;
 use bw_care::{Recovered, recover};
 use bw_device::{Desk, MemSegment, Segment};
 use bw_file::FolderReader;
+use bw_look::{Printer, write_page};
 use bw_page::Leaves;
 use hex::FromHexError;
 use std::alloc::Global;
 use std::io::{Read, Write};
 
-/// The most bytes of a line.
-const LONGEST: u32 = 2_097_152;
+/// The most bytes of a line, which is a segment in hex.
+pub const LONGEST: u32 = 2_097_152;
 
 /// The least capacity of a segment, in bytes: a header and the longest frame.
-const LEAST: u64 = 65_560;
+pub const LEAST: u64 = 65_560;
 
 /// The bytes that a line stands for. The first fault in the order of the list is told.
-fn bytes_of(alloc: Global, line: &[u8]) -> Result<Vec<u8>, Miss> {
+pub fn bytes_of(alloc: Global, line: &[u8]) -> Result<Vec<u8>, Miss> {
     if line.len() > LONGEST as usize {
         return Err(Miss::Fault(Fault::LineTooLong));
     }
@@ -70,7 +69,8 @@ pub fn print_found<O: Write>(output: &mut O, found: &Recovered) -> Result<(), St
 {
     let mut out = Printer::new(output);
     write_found(&mut out, found);
-    out.end()
+    out.end()?;
+    Ok(())
 }
 
 /// Prints the two lines of a store that begins anew: so many spares, and so many bytes that are gone.
@@ -79,7 +79,8 @@ pub fn print_anew<O: Write>(output: &mut O, spares: usize, bytes: u64) -> Result
     out.named("segments 0 spares ", spares);
     out.text(b" dropped 0\n");
     out.line("frames 0 0 tail ", bytes);
-    out.end()
+    out.end()?;
+    Ok(())
 }
 
 /// All pages, by number.
@@ -98,7 +99,8 @@ fn print_all<O: Write>(output: &mut O, found: &Recovered) -> Result<(), Stop>
     let mut out = Printer::new(output);
     write_found(&mut out, found);
     write_pages(&mut out, &found.leaves);
-    out.end()
+    out.end()?;
+    Ok(())
 }
 
 /// Prints what recovery says of boxes.
@@ -106,11 +108,11 @@ fn tell<O: Write>(
     alloc: Global,
     boxes: Vec<Box<dyn Segment>>,
     output: &mut O,
-) -> Result<bool, Stop> {
+) -> Result<Met, Stop> {
     match recover(alloc, boxes) {
         Ok(found) => {
             print_all(output, &found)?;
-            Ok(false)
+            Ok(Met::NOTHING)
         }
         Err(fault) => refuse(output, Refusal::from(fault.cause)),
     }
@@ -121,7 +123,7 @@ fn tell_all<O: Write>(
     alloc: Global,
     segments: Vec<MemSegment>,
     output: &mut O,
-) -> Result<bool, Stop> {
+) -> Result<Met, Stop> {
     let mut boxes: Vec<Box<dyn Segment>> = Vec::new(alloc);
     for segment in segments {
         boxes.push(Box::new(alloc, segment)?)?;
@@ -159,7 +161,7 @@ pub fn scan<R: System, I: Read, O: Write>(
     rt: &R,
     input: &mut I,
     output: &mut O,
-) -> Result<bool, Stop> {
+) -> Result<Met, Stop> {
     let mut lines = Lines::new(rt.alloc(), input, READS, LONGEST).map_err(no_input)?;
     match segments_of(rt.alloc(), &mut lines) {
         Ok(segments) => tell_all(rt.alloc(), segments, output),
@@ -201,7 +203,7 @@ fn copies_of<R: System>(
 }
 
 /// Prints what recovery says of the segments in a folder, and changes nothing there.
-pub fn scan_folder<R: System, O: Write>(rt: &R, path: &str, output: &mut O) -> Result<bool, Stop> {
+pub fn scan_folder<R: System, O: Write>(rt: &R, path: &str, output: &mut O) -> Result<Met, Stop> {
     let reader = FolderReader::open(rt, path)?;
     let mut desk = desk_of(rt.alloc())?;
     let leases = reader.leases(rt)?;

@@ -62,7 +62,7 @@ pub enum Command {
 }
 
 /// A number of decimal digits.
-fn number_of(word: &str) -> Result<u32, Fault> {
+pub fn number_of(word: &str) -> Result<u32, Fault> {
     if !word.bytes().all(|byte| byte.is_ascii_digit()) {
         return Err(Fault::BadNumber);
     }
@@ -94,13 +94,13 @@ fn bytes_of<'a>(word: &'a [u8], room: &'a mut [u8; 128]) -> Result<&'a [u8], Fau
     }
 }
 
-fn key_of(word: &str) -> Result<Key, Fault> {
+pub fn key_of(word: &str) -> Result<Key, Fault> {
     let mut room = [0u8; 128];
     let bytes = bytes_of(word.as_bytes(), &mut room)?;
     Key::new(bytes).map_err(|_| Fault::BadWord)
 }
 
-fn value_of(word: &str) -> Result<Value, Fault> {
+pub fn value_of(word: &str) -> Result<Value, Fault> {
     let mut room = [0u8; 128];
     let bytes = bytes_of(word.as_bytes(), &mut room)?;
     Value::new(bytes).map_err(|_| Fault::BadWord)
@@ -131,7 +131,7 @@ fn record_of(name: &str, words: [Option<&str>; 4], writers: u16) -> Result<Comma
 }
 
 /// The word of a command that takes one.
-fn single<'a>(one: Option<&'a str>, two: Option<&'a str>) -> Result<&'a str, Fault> {
+pub fn single<'a>(one: Option<&'a str>, two: Option<&'a str>) -> Result<&'a str, Fault> {
     match (one, two) {
         (Some(word), None) => Ok(word),
         _ => Err(Fault::WrongNumberOfWords),
@@ -191,7 +191,7 @@ pub fn are_printable(line: &[u8]) -> bool {
 }
 
 /// A line as text: nothing where it is empty or begins with `#`, whatever its length.
-fn text_of(line: &[u8]) -> Result<Option<&str>, Fault> {
+pub fn text_of(line: &[u8]) -> Result<Option<&str>, Fault> {
     if line.is_empty() || line.starts_with(b"#") {
         return Ok(None);
     }

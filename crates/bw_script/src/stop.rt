@@ -1,10 +1,11 @@
 //! What ends a run before its end, and what is printed of it.
 
 use crate::miss::Miss;
-use crate::printer::print;
+use crate::print::print;
 use crate::refusal::Refusal;
 use crate::script::Fault;
 use bw_file::FolderFault;
+use bw_look::NotWritten;
 use std::alloc::{AllocError, AllocFailed};
 use std::io::{self, ErrorKind, Write};
 
@@ -46,6 +47,37 @@ impl From<FolderFault> for Stop {
     }
 }
 
+impl From<NotWritten> for Stop {
+    fn from(_error: NotWritten) -> Stop {
+        Stop::Output
+    }
+}
+
+/// What a run has met that came to its end.
+#[derive(Debug, Clone, Copy)]
+pub struct Met {
+    /// Something was refused, or a writer gave up.
+    pub refusal: bool,
+    /// The log had no room.
+    pub full: bool,
+}
+
+impl Met {
+    /// Nothing of that.
+    pub const NOTHING: Met = Met {
+        refusal: false,
+        full: false,
+    };
+
+    /// What both have met.
+    pub fn and(self, other: Met) -> Met {
+        Met {
+            refusal: self.refusal | other.refusal,
+            full: self.full | other.full,
+        }
+    }
+}
+
 /// An error of a read, or of a growth for what was read.
 pub fn no_input(error: io::Error) -> Stop {
     if error.kind() == ErrorKind::OutOfMemory {
@@ -55,18 +87,21 @@ pub fn no_input(error: io::Error) -> Stop {
     }
 }
 
-/// Prints a refusal, and answers `true`. What was asked of the program may go on behind it, but not
+/// Prints a refusal, and says what was met. What was asked of the program may go on behind it, but not
 /// behind a refused growth.
-pub fn refuse<O: Write>(output: &mut O, refusal: Refusal) -> Result<bool, Stop> {
+pub fn refuse<O: Write>(output: &mut O, refusal: Refusal) -> Result<Met, Stop> {
     if matches!(refusal, Refusal::NoMemory) {
         return Err(Stop::NoMemory);
     }
     print(output, "", refusal)?;
-    Ok(true)
+    Ok(Met {
+        refusal: true,
+        full: matches!(refusal, Refusal::NoSegment),
+    })
 }
 
-/// What comes of a line that has no answer: `true` where it was refused.
-pub fn missed<O: Write>(output: &mut O, number: u64, miss: Miss) -> Result<bool, Stop> {
+/// What comes of a line that has no answer.
+pub fn missed<O: Write>(output: &mut O, number: u64, miss: Miss) -> Result<Met, Stop> {
     match miss {
         Miss::Refused(refusal) => refuse(output, refusal),
         Miss::Fault(fault) => Err(Stop::Fault(number, fault)),

@@ -8,16 +8,16 @@ use crate::lines::{Lines, READS};
 use crate::looking::look;
 use crate::options::{Options, Pace};
 use crate::printed::write_pairs;
-use crate::printer::Printer;
 use crate::refusal::Refusal;
-use crate::replay::{ATTEMPTS, NotBegun, begin};
+use crate::replay::{ATTEMPTS, NotBegun, Told, begin};
 use crate::running::Run;
 use crate::script::{LONGEST, parse_record};
 use crate::session::Session;
-use crate::stop::{Stop, missed, no_input, refuse};
+use crate::stop::{Met, Stop, missed, no_input, refuse};
 use crate::system::Host;
 use bw_codec::{Key, Record, Value};
 use bw_device::Segment;
+use bw_look::Printer;
 use std::alloc::{AllocError, Global};
 use std::io::{Read, Write};
 use std::mem;
@@ -117,13 +117,16 @@ fn print_run<O: Write>(
     run: &Run,
     lengths: &[u64],
     pairs: &[(Key, Value)],
-) -> Result<bool, Stop> {
+) -> Result<Met, Stop> {
     let mut out = Printer::new(output);
     out.line("entries ", run.entries);
     let gave_up = write_accepted(&mut out, run.accepted.as_slice(), lengths);
     write_pairs(&mut out, pairs);
     out.end()?;
-    Ok(gave_up)
+    Ok(Met {
+        refusal: gave_up,
+        full: false,
+    })
 }
 
 /// Prints what a run left in the store and beside it, and answers whether a writer gave up.
@@ -133,7 +136,7 @@ fn tell_run<R: Host, O: Write>(
     run: &Run,
     lengths: &[u64],
     output: &mut O,
-) -> Result<bool, Stop>
+) -> Result<Met, Stop>
     requires { IsReady session.old holding }
     ensures { IsReady session.new holding }
 {
@@ -152,7 +155,7 @@ fn run_writers<R: Host, O: Write>(
     scripts: Vec<Vec<Record>>,
     pace: Pace,
     output: &mut O,
-) -> Result<bool, Stop>
+) -> Result<Met, Stop>
     requires ready { IsReady session.old holding }
     requires one_each { vec_len scripts ≡ vec_len session.old.feeds }
     ensures { IsReady session.new holding }
@@ -173,7 +176,7 @@ fn run_scripts<R: Host, O: Write>(
     pace: Pace,
     scripts: &mut Vec<Vec<Record>>,
     output: &mut O,
-) -> Result<Option<bool>, Stop>
+) -> Result<Option<Met>, Stop>
     requires { vec_len scripts.old ≡ options.now.writers }
     ensures { IfOk result (λ end. IsNone end → scripts.new ≡ scripts.old) }
 {
@@ -196,7 +199,7 @@ fn run_scripts<R: Host, O: Write>(
         };
         boxes.push(segment)?;
     }
-    let mut session = match begin(rt, options, boxes, are_new, site, output) {
+    let mut session = match begin(rt, options, boxes, are_new, site, Told::Lines, output) {
         Ok(session) => session,
         Err(NotBegun::Miss(miss)) => return Ok(Some(missed(output, 0, miss)?)),
         Err(NotBegun::Beginning(_)) => return Ok(None),
@@ -216,7 +219,7 @@ pub fn threads<R: Host, I: Read, O: Write>(
     pace: Pace,
     input: &mut I,
     output: &mut O,
-) -> Result<bool, Stop> {
+) -> Result<Met, Stop> {
     let mut scripts = read_scripts(rt.alloc(), input, options.writers)?;
     'attempts: for _ in 0..ATTEMPTS {
         if let Some(end) = run_scripts(rt, options, pace, &mut scripts, output)? {

@@ -1,11 +1,12 @@
 -- A walk from page to page finds the first pair of the map at or above a key.
 
-use Rattle.std.proofs.Common.{◌≡◌, ℕ, ◌+◌, ◌≤◌, true, false, Option, Some, None, Result, Ok, Err, refl, sym, ap, ◌∙◌, subst}
+use Rattle.std.proofs.Common.{◌≡◌, ℕ, ◌+◌, ◌≤◌, true, false, if◌then◌else◌, Option, Some, None, Result, Ok, Err, refl, sym, ap, ◌∙◌, subst}
 use Rattle.bw_codec.specs.declared.leaf.Leaf.{Leaf}
 use Rattle.bw_log.specs.Contents as logs
 use Rattle.bw_log.specs.Reads.{HoldsPage}
 use Rattle.bw_page.specs.Ahead.{IsFirstPair, HasNoPair, HasCome, pair_above, HasNoLowAbove, IsNextLow}
 use Rattle.bw_page.specs.Leaves.{Bytes, Map, home, union, leaf_at, plain}
+use Rattle.bw_page.specs.Shown.{Shown, is_away, leaf_here}
 use Rattle.bw_page.proofs.Ahead.{come_first, come_found, come_further, come_last}
 use Rattle.bw_page.proofs.PageByPage.{home_there}
 use Rattle.bw_store.specs.declared.fault.StoreFault.{StoreFault}
@@ -17,6 +18,13 @@ use Rattle.bw_store.specs.Reading.{HasRead, ReadLeaves, WalkLeaves}
 -- the map of the history
 abbrev pub map_of : Kept → Map
 map_of s = plain s.start (records s.entries)
+
+-- a leaf in memory is that of its page
+pub here_at : (f : Shown) (p : ℕ) (leaf : Leaf) → leaf_here p f ≡ Some leaf → leaf_at p f.leaves ≡ Some leaf
+here_at f p leaf e = elim (is_away p f) as (λ b. (if b then None else leaf_at p f.leaves) ≡ Some leaf → leaf_at p f.leaves ≡ Some leaf) [
+  | true ↦ λ none. absurd cc
+  | false ↦ λ some. some
+] e
 
 module _ (s : Kept) (h : IsSound s) where
   -- the page of a key's home has its leaf

@@ -1,0 +1,85 @@
+//! One line of a program that drives a store: a request, or a fault.
+
+use crate::script::{Fault, key_of, number_of, single, text_of, value_of};
+use bw_codec::{Key, Record};
+
+/// What a line asks for. There is one writer, so no request names one.
+#[derive(Drop)]
+pub enum Request {
+    /// A put or a delete.
+    Put(Record),
+    /// A key's value.
+    Get(Key),
+    /// The first pair at or above a key.
+    Next(Key),
+    /// A page.
+    Page(u32),
+    /// A page leaves memory.
+    Evict(u32),
+    /// How many pages there are.
+    Pages,
+    /// All that waits is taken, and the frame in the making is appended.
+    Flush,
+    /// The same, up to the last record that was accepted.
+    Settle,
+    /// The number of the last frame that was appended.
+    Durable,
+    /// All numbers of the store.
+    Stats,
+    /// The oldest segment is given up, and a spare stands for it.
+    Clean,
+    /// The run ends.
+    Quit,
+}
+
+/// The request of a name that takes one word.
+fn asked_of(name: &str, word: &str) -> Result<Request, Fault> {
+    match name {
+        "get" => Ok(Request::Get(key_of(word)?)),
+        "next" => Ok(Request::Next(key_of(word)?)),
+        "del" => Ok(Request::Put(Record::Del(key_of(word)?))),
+        "page" => Ok(Request::Page(number_of(word)?)),
+        _ => Ok(Request::Evict(number_of(word)?)),
+    }
+}
+
+fn put_of(key: Option<&str>, value: Option<&str>, more: Option<&str>) -> Result<Request, Fault> {
+    match (key, value, more) {
+        (Some(key), Some(value), None) => {
+            Ok(Request::Put(Record::Put(key_of(key)?, value_of(value)?)))
+        }
+        _ => Err(Fault::WrongNumberOfWords),
+    }
+}
+
+/// The request of a name that takes no word.
+fn plain_of(name: &str, one: Option<&str>) -> Result<Request, Fault> {
+    let request = match name {
+        "pages" => Request::Pages,
+        "flush" => Request::Flush,
+        "settle" => Request::Settle,
+        "durable" => Request::Durable,
+        "stats" => Request::Stats,
+        "clean" => Request::Clean,
+        "quit" => Request::Quit,
+        _ => return Err(Fault::UnknownCommand),
+    };
+    match one {
+        None => Ok(request),
+        Some(_) => Err(Fault::WrongNumberOfWords),
+    }
+}
+
+/// What a line asks for. A line that a script would skip is no command here, since each line has an
+/// answer.
+pub fn parse_request(line: &[u8]) -> Result<Request, Fault> {
+    let mut words = text_of(line)?.unwrap_or("").split_whitespace();
+    let name = words.next().unwrap_or("");
+    let one = words.next();
+    let two = words.next();
+    match name {
+        "put" => put_of(one, two, words.next()),
+        "del" | "get" | "next" | "page" | "evict" => asked_of(name, single(one, two)?),
+        _ => plain_of(name, one),
+    }
+}
