@@ -1,10 +1,11 @@
 -- A walk from page to page finds the first pair of the map at or above a key.
 
 use Rattle.std.proofs.Common.{◌≡◌, ℕ, ◌+◌, ◌≤◌, true, false, if◌then◌else◌, Option, Some, None, Result, Ok, Err, refl, sym, ap, ◌∙◌, subst}
+use Rattle.std.specs.Prelude.{is_some}
 use Rattle.bw_codec.specs.declared.leaf.Leaf.{Leaf}
 use Rattle.bw_log.specs.Contents as logs
 use Rattle.bw_log.specs.Reads.{HoldsPage}
-use Rattle.bw_page.specs.Ahead.{IsFirstPair, HasNoPair, HasCome, pair_above, HasNoLowAbove, IsNextLow}
+use Rattle.bw_page.specs.Ahead.{IsFirst, IsFirstPair, HasNoPair, HasCome, pair_above, HasNoLowAbove, IsNextLow}
 use Rattle.bw_page.specs.Leaves.{Bytes, Map, home, union, leaf_at, plain}
 use Rattle.bw_page.specs.Shown.{Shown, is_away, leaf_here}
 use Rattle.bw_page.proofs.Ahead.{come_first, come_found, come_further, come_last}
@@ -43,6 +44,11 @@ module _ (s : Kept) (h : IsSound s) where
       subst (λ (u : Map). IsFirstPair u key p) h.mapped
       (come_found s.filed.m s.filed.leaves h.grown.stands.lawful key to p (subst (λ (u : Map). HasCome u key to) (sym h.mapped) come) e)
 
+  pub walk_some : (key to : Bytes) (found : Option (Bytes × Bytes)) → HasCome (map_of s) key to → found ≡ pair_above to (home to s.filed.leaves).pairs
+      → is_some found ≡ true → IsFirst (map_of s) key found
+  walk_some key to None come e some = absurd cc
+  walk_some key to (Some p) come e some = walk_found key to p come (sym e)
+
   pub walk_further : (key to low : Bytes) → HasCome (map_of s) key to → pair_above to (home to s.filed.leaves).pairs ≡ None
       → IsNextLow s.filed.leaves to low → HasCome (map_of s) key low
   walk_further key to low come e next =
@@ -55,14 +61,18 @@ module _ (s : Kept) (h : IsSound s) where
       subst (λ (u : Map). HasNoPair u key) h.mapped
       (come_last s.filed.m s.filed.leaves h.grown.stands.lawful key to (subst (λ (u : Map). HasCome u key to) (sym h.mapped) come) e last)
 
+pub no_pair : (found above : Option (Bytes × Bytes)) → found ≡ above → is_some found ≡ false → above ≡ None
+no_pair None above e none = sym e
+no_pair (Some p) above e none = absurd cc
+
 -- a page of a walk that was refused
-pub walk_refused : {A B : Type 0} (page : ℕ) (old new : Kept) (fault : StoreFault) → HasRead old new
+pub walk_refused : (A B : Type 0) (page : ℕ) (old new : Kept) (fault : StoreFault) → HasRead old new
     → ReadLeaves {A = A} (HoldsPage old.log page) old (Err fault) new → WalkLeaves {A = B} old (Err fault) new
-walk_refused page old new NoMemory read h = h
-walk_refused page old new BadConfig read h = absurd h
-walk_refused page old new NoSegment read h = absurd h
-walk_refused page old new (Device lease) read h = record { page = page; read = read; failed = h }
-walk_refused page old new Failed read h = absurd h
-walk_refused page old new Spent read h = (h.0, record { page = page; worn = h.1 })
-walk_refused page old new NoPage read h = absurd h
-walk_refused page old new NothingOld read h = absurd h
+walk_refused A B page old new NoMemory read h = h
+walk_refused A B page old new BadConfig read h = absurd h
+walk_refused A B page old new NoSegment read h = absurd h
+walk_refused A B page old new (Device lease) read h = record { page = page; read = read; failed = h }
+walk_refused A B page old new Failed read h = absurd h
+walk_refused A B page old new Spent read h = (h.0, record { page = page; worn = h.1 })
+walk_refused A B page old new NoPage read h = absurd h
+walk_refused A B page old new NothingOld read h = absurd h
