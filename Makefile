@@ -1,7 +1,8 @@
-# make run    proves and builds bwlog, and runs the first script
-# make try    runs the same script without any proof, in seconds
+# make try    runs a first script without any proof
+# make run    proves bwlog and all below it, crates side by side, builds it, and runs the same script
 # make test   the gate: the pages against the tests, every proof, the wrong bodies, the tests, the programs (from nothing, but for what this machine has passed); then the
-#             program that it built over the cases of tests/program/cases, over drawn scripts beside a map, and over 500 hostile cases
+#             program that it built over the cases of tests/program/cases, over drawn scripts beside a map, over 500 hostile cases,
+#             and under the clients of clients/
 # make wrong  tries the wrong bodies outside the gate, in a copy of the repository
 # make memory proves the tests of drive_tests, and runs those of its module memory with each allocation refused in turn, by a shim that cc makes
 # make bench  times the store at a million keys, each subject in a process of its own, and then over files (docs/TESTING.md, "Measured")
@@ -19,6 +20,7 @@ SUBJECTS = pages cleaning alone beside late one one-beside many many-beside
 .PHONY: run try test wrong memory bench peers crash fuzz
 
 run:
+	@python3 tools/prove.py bwlog
 	@cat $(PROGRAM)/stdin && cd $(PROGRAM) && rt run -- replay < stdin
 
 try:
@@ -26,10 +28,12 @@ try:
 
 test:
 	python3 tools/same.py
+	python3 tools/specs.py --check
 	RT_JOBS=$(JOBS) rt ci
 	python3 tests/program/cases.py
 	python3 tests/program/drawn.py
 	python3 tests/program/fuzz.py --cases 500
+	python3 tests/program/clients.py
 
 wrong:
 	copy=$$(mktemp -d) && git clone -q . $$copy && cd $$copy && for crate in wrong/*; do \

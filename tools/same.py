@@ -7,8 +7,9 @@ import re
 import sys
 
 EXAMPLES = {
-    "README.md": ["crates/store_tests/src/tests/readme.rt"],
+    "README.md": ["crates/folder_tests/src/tests.rt"] * 2,
     "docs/EMBEDDING.md": [
+        "crates/folder_tests/src/tests.rt",
         "crates/store_tests/src/tests/readme.rt",
         "crates/store_tests/src/tests/readme.rt",
         "crates/drive_tests/src/tests/readme.rt",
