@@ -3,7 +3,7 @@
 use crate::frames::{Frames, Step};
 use crate::image::Image;
 use crate::printer::Printer;
-use crate::words::{write_leaf, write_record, write_word};
+use crate::words::{write_leaf, write_record};
 use bw_codec::limits::{HEAD_LEN, HEADER_LEN};
 use bw_codec::{Block, Frame, Header, HeaderRead, Outline, Place, read_header};
 use std::alloc::{AllocError, Global};
@@ -31,8 +31,6 @@ fn write_block<O: Write>(out: &mut Printer<'_, O>, block: &Block) {
         Block::Split { page, back, upper } => {
             out.named(" split page ", *page);
             write_place(out, " back ", *back);
-            out.text(b" at ");
-            write_word(out, upper.low.as_slice());
             out.named(" new page ", upper.page);
             write_leaf(out, upper);
         }

@@ -419,7 +419,8 @@ pub fn replay<R: System, I: Read, O: Write>(
     let mut lines = Lines::new(rt.alloc(), input, READS, LONGEST).map_err(no_input)?;
     for _ in 0..ATTEMPTS {
         if let Some(met) = replay_lines(rt, options, manner, &mut lines, output)? {
-            return Ok(met);
+            let full = met.full && manner != Manner::Requests;
+            return Ok(Met { full, ..met });
         }
     }
     refuse(output, Refusal::Empty)

@@ -222,8 +222,9 @@ pub fn threads<R: Host, I: Read, O: Write>(
 ) -> Result<Met, Stop> {
     let mut scripts = read_scripts(rt.alloc(), input, options.writers)?;
     'attempts: for _ in 0..ATTEMPTS {
-        if let Some(end) = run_scripts(rt, options, pace, &mut scripts, output)? {
-            return Ok(end);
+        if let Some(met) = run_scripts(rt, options, pace, &mut scripts, output)? {
+            // No line of a script could make room, so no more is said of a full log.
+            return Ok(Met { full: false, ..met });
         }
     }
     refuse(output, Refusal::Empty)
