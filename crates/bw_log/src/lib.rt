@@ -8,6 +8,15 @@
 //! read of a page does, and giving up a segment passes over the lines of the table. No type can
 //! know what a box holds, so what a log keeps (`IsSound`) is asked and given back by each call that
 //! changes it.
+//!
+//! A torn frame is harmless. An append that fails, and a crash in the middle of one, leave some
+//! beginning of a frame behind the last whole one. Frames are read one behind the other, and no
+//! beginning of a lawful frame is a whole frame or begins another (`bw_codec::laws`), so it is read
+//! as a tail, and nothing else changes.
+//!
+//! Nobody appends behind a torn frame, where nothing would be found again. A log whose append failed
+//! has failed for good, and a log that was adopted from a segment with a tail has closed that
+//! segment: its next frame begins a new one.
 #![tactic(auto)]
 
 mod adopting;
