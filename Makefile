@@ -5,7 +5,7 @@
 #             and under the clients of clients/
 # make wrong  tries the wrong bodies outside the gate, in a copy of the repository
 # make memory proves the tests of drive_tests, and runs those of its module memory with each allocation refused in turn, by a shim that cc makes
-# make bench  times the store at a million keys, each subject in a process of its own, and then over files (docs/TESTING.md, "Measured")
+# make bench  times the store at a million keys, each subject in a process of its own, and then over files (docs/MEASURED.md)
 # make peers  times other stores under the same load: LMDB and LevelDB, by their C libraries (liblmdb-dev, libleveldb-dev) and rustc
 # make crash  kills the program that make run built in mid-run, and looks at what its folder holds; then puts 10,000 folders together as a loss of
 #             power could leave them, from what a run asked of the system by a shim that cc makes, and looks at each
