@@ -1,6 +1,5 @@
 pub mod Seeking
 pub mod Skipping
-pub mod FirstPath
 pub mod Rows
 pub mod Order
 pub mod Sorted

@@ -8,7 +8,6 @@ pub mod Links
 pub mod Lows
 pub mod Ahead
 pub mod Laws
-pub mod FirstPath
 -- what private functions say, and how values stand in memory
 
 pub mod LowHeads
