@@ -7,7 +7,7 @@ use Rattle.std.proofs.lemmas.Bool.{eqb-true, eqb-false, leb-true, leb-false}
 use Rattle.std.specs.List.{AllByRecursion as All, flat_map}
 use Rattle.std.proofs.lemmas.List.{take_at, drop_at, take-append-le, drop-append-le, length-replicate}
 use Rattle.bw_buffer.specs.Rows.{Parts, parts, pieces_length, bytes_at, front_of, laid, AreMeasured}
-use Rattle.bw_buffer.specs.Gaps.{zeros, padded, filled, ends}
+use Rattle.bw_buffer.specs.Gaps.{zeros, padded, filled, ends, written}
 use Rattle.bw_buffer.specs.declared.rows.Row.{Row}
 use Rattle.bw_buffer.specs.declared.rows.Piece.{Piece}
 use Rattle.bw_buffer.proofs.Pieces.{bytes_more, bytes_apart}
@@ -59,10 +59,6 @@ drop_zeros : (n k : ℕ) → drop k (zeros n) ≡ zeros (n - k)
 drop_zeros n zero = ap zeros (omega arith)
 drop_zeros zero (suc k) = ap zeros (let e : 0 ≡ 0 - suc k = omega arith in e)
 drop_zeros (suc n) (suc k) = drop_zeros n k ∙ ap zeros (omega arith)
-
--- bytes with others in their place, from an index on
-abbrev pub written : ℕ → List ℕ → List ℕ → List ℕ
-written at xs old = take at old ++ (xs ++ drop (at + length xs) old)
 
 drop_more : (a b : List ℕ) (k : ℕ) → drop (length a + k) (a ++ b) ≡ drop k b
 drop_more [] b k = ap (λ (n : ℕ). drop n b) (omega arith)

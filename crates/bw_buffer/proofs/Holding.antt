@@ -99,3 +99,7 @@ same_block a b law_a law_b same =
     sym (format.again a [] law_a) ∙ ap (λ (bytes : List ℕ). block_at 32 (bytes ++ [])) same ∙ format.again b [] law_b in
     let pairs : first ≡ second = cc in
     ap (λ (read : Block × List ℕ). read.0) pairs
+
+-- a list as it is after a slice of all of it was lent and written
+pub whole_out : {X : Type 0} (given old : List X) (n : ℕ) → length given ≡ n → take n (given ++ drop (length given) old) ≡ given
+whole_out given old n same = take_at given (drop (length given) old) n same

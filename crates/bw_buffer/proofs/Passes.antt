@@ -1,6 +1,6 @@
 -- The two passes that lay out a frame.
 
-use Rattle.std.proofs.Common.{◌≡◌, ℕ, zero, suc, ◌+◌, ◌-◌, ◌<◌, ◌≤◌, Bool, true, false, Some, List, [], ◌∷◌, ◌++◌, length, take, drop, get_or, refl, sym, ap, ◌∙◌, subst, arith}
+use Rattle.std.proofs.Common.{◌≡◌, ℕ, zero, suc, ◌+◌, ◌-◌, ◌<◌, ◌≤◌, Bool, true, false, Some, List, [], ◌∷◌, ◌++◌, length, set, take, drop, get_or, refl, sym, ap, ◌∙◌, subst, arith}
 use Rattle.std.proofs.Common.{append_assoc, append-nil, if◌then◌else◌, length-append, length-drop, length-take}
 use Rattle.std.specs.Prelude.{◌==◌}
 use Rattle.std.specs.List.{AllByRecursion as All, flat_map}
@@ -8,14 +8,14 @@ use Rattle.std.proofs.lemmas.Grind.{flat_map-append}
 use Rattle.std.proofs.lemmas.List.{take-append-drop}
 use Rattle.bw_codec.proofs.Adding.{taken_within}
 use Rattle.bw_buffer.specs.Rows.{Parts, parts, pieces_length, bytes_at, front_of, laid, IsFewBy, AreMeasured}
-use Rattle.std.proofs.lemmas.List.{take_more}
+use Rattle.std.proofs.lemmas.List.{take_more, take_all}
 use Rattle.std.proofs.lemmas.Bool.{eq-eqb}
 use Rattle.bw_codec.specs.Grammar.{head_bytes}
 use Rattle.bw_codec.proofs.FrontFormat.{length-head}
-use Rattle.bw_buffer.specs.Gaps.{zeros, padded, filled, ends}
+use Rattle.bw_buffer.specs.Gaps.{zeros, padded, filled, ends, written}
 use Rattle.bw_buffer.specs.declared.rows.Row.{Row}
 use Rattle.bw_buffer.specs.declared.rows.Piece.{Piece}
-use Rattle.bw_buffer.proofs.Gaps.{gap_is, length-zeros, filled_push, ends_push}
+use Rattle.bw_buffer.proofs.Gaps.{gap_is, length-zeros, filled_push, ends_push, put_piece, filled_all}
 
 -- how long blocks are, by their rows
 abbrev pub total : List Row → ℕ
@@ -143,20 +143,22 @@ rows_room rows ps number size count i row bytes measured is told lt here =
 row_taken : (rows : List Row) (i : ℕ) (row : Row) → i < length rows → row ≡ get_or rows i row → take (i + 1) rows ≡ take i rows ++ row ∷ []
 row_taken rows i row lt is = take_more rows i row lt ∙ ap (λ (r : Row). take i rows ++ r ∷ []) (sym is)
 
-pub bytes_next : (head old first second : List ℕ) (rows : List Row) (i : ℕ) (row : Row) → i < length rows → row ≡ get_or rows i row
-    → old ≡ head ++ filled 0 (take i rows) [] → first ≡ old ++ front_of row → second ≡ first ++ zeros row.len → second ≡ head ++ filled 0 (take (i + 1) rows) []
-bytes_next head old first second rows i row lt is was one two =
+pub bytes_next : (head old new : List ℕ) (rows : List Row) (i : ℕ) (row : Row) → i < length rows → row ≡ get_or rows i row
+    → old ≡ head ++ filled 0 (take i rows) [] → new ≡ old ++ (front_of row ++ zeros row.len) → new ≡ head ++ filled 0 (take (i + 1) rows) []
+bytes_next head old new rows i row lt is was more =
     let done = filled 0 (take i rows) [] in
-    two ∙ ap (λ (l : List ℕ). l ++ zeros row.len) one ∙ append_assoc old (front_of row) (zeros row.len)
-    ∙ ap (λ (l : List ℕ). l ++ (front_of row ++ zeros row.len)) was ∙ append_assoc head done (front_of row ++ zeros row.len)
+    more ∙ ap (λ (l : List ℕ). l ++ (front_of row ++ zeros row.len)) was ∙ append_assoc head done (front_of row ++ zeros row.len)
     ∙ ap (λ (l : List ℕ). head ++ (done ++ (front_of row ++ l))) (sym (gap_is row.len))
     ∙ ap (λ (l : List ℕ). head ++ l) (sym (filled_push 0 (take i rows) row))
     ∙ ap (λ (rs : List Row). head ++ filled 0 rs []) (sym (row_taken rows i row lt is))
 
-pub spots_next : (old new : List ℕ) (rows : List Row) (i n : ℕ) (row : Row) → i < length rows → row ≡ get_or rows i row → old ≡ ends 20 0 (take i rows) []
-    → new ≡ old ++ n ∷ [] → n ≡ 20 + length (filled 0 (take i rows) []) + length (front_of row) → new ≡ ends 20 0 (take (i + 1) rows) []
-spots_next old new rows i n row lt is was more at =
-    more ∙ ap (λ (l : List ℕ). l ++ n ∷ []) was ∙ ap (λ (k : ℕ). ends 20 0 (take i rows) [] ++ k ∷ []) at
+pub spots_next : (head bytes old new : List ℕ) (rows : List Row) (i : ℕ) (row : Row) → length head ≡ 20 → i < length rows → row ≡ get_or rows i row
+    → bytes ≡ head ++ filled 0 (take i rows) [] → old ≡ ends 20 0 (take i rows) [] → new ≡ old ++ (length bytes + length (front_of row)) ∷ []
+    → new ≡ ends 20 0 (take (i + 1) rows) []
+spots_next head bytes old new rows i row twenty lt is stand was more =
+    let at : length bytes + length (front_of row) ≡ 20 + length (filled 0 (take i rows) []) + length (front_of row) =
+    omega (arith, ap (λ (l : List ℕ). length l) stand, length-append head (filled 0 (take i rows) [])) in
+    more ∙ ap (λ (l : List ℕ). l ++ (length bytes + length (front_of row)) ∷ []) was ∙ ap (λ (k : ℕ). ends 20 0 (take i rows) [] ++ k ∷ []) at
     ∙ sym (ends_push 20 0 (take i rows) row) ∙ ap (λ (rs : List Row). ends 20 0 rs []) (sym (row_taken rows i row lt is))
 
 -- ---- the second pass
@@ -200,3 +202,69 @@ piece_short qs bytes j q lt is =
     (part_there qs bytes j q part lt is) in
     subst (λ (b : Bool). length (bytes_at q.block (take j (parts qs bytes))) + length (if b then part.1 else []) ≤ length (bytes_at q.block (parts qs bytes)))
     (eq-eqb q.block q.block refl) within
+
+ends_count : (base i : ℕ) (rs : List Row) (ps : Parts) → length (ends base i rs ps) ≡ length rs
+ends_count base i [] ps = refl
+ends_count base i (r ∷ rs) ps = ap suc (ends_count (base + length (front_of r) + r.len) (suc i) rs ps)
+
+-- the pieces from an index on stand in what is left of the arena
+pub record Stepped (head : List ℕ) (rows : List Row) (qs : List Piece) (arena : List ℕ) (j : ℕ) (q : Piece) (rest bytes spots : List ℕ) : Type 0 where
+  pub inside : q.len ≤ length rest
+  pub behind : drop q.len rest ≡ drop (pieces_length (take (j + 1) qs)) arena
+  pub spot : q.block < length spots
+  pub within : get_or spots q.block 0 + length (take q.len rest) ≤ length bytes
+  pub size : length bytes ≡ 20 + length (laid 0 rows (parts qs arena))
+  pub bytes_next : written (get_or spots q.block 0) (take q.len rest) bytes ≡ head ++ filled 0 rows (take (j + 1) (parts qs arena))
+  pub spots_next : set spots q.block (get_or spots q.block 0 + length (take q.len rest)) ≡ ends 20 0 rows (take (j + 1) (parts qs arena))
+
+-- the same with the values of a step named
+step_at : (head : List ℕ) (rows : List Row) (qs : List Piece) (arena : List ℕ) (j : ℕ) (q : Piece) → length head ≡ 20 → AreMeasured 0 rows (parts qs arena)
+    → All (λ p. p.block < length rows) qs → pieces_length qs ≡ length arena → j < length qs → q ≡ get_or qs j q
+    → Stepped head rows qs arena j q (drop (pieces_length (take j qs)) arena) (head ++ filled 0 rows (take j (parts qs arena)))
+    (ends 20 0 rows (take j (parts qs arena)))
+step_at head rows qs arena j q twenty measured within cut lt is =
+    let whole = parts qs arena in
+    let done = take j whole in
+    let from = pieces_length (take j qs) in
+    let rest = drop from arena in
+    let xs = take q.len rest in
+    let block = block_within (length rows) qs j q within lt is in
+    let short = piece_short qs arena j q lt is in
+    let part : (k : ℕ) → length (bytes_at k done) ≤ length (bytes_at k whole) = λ k. part_short k j whole in
+    let long : length (filled 0 rows done) ≡ total rows = filled_length 0 rows done whole measured part in
+    let all : length (head ++ filled 0 rows done) ≡ length head + length (filled 0 rows done) = length-append head (filled 0 rows done) in
+    let zeroth : 0 + q.block ≡ q.block = omega arith in
+    let first : q.block - 0 ≡ q.block = omega arith in
+    let end : get_or (ends 20 0 rows done) q.block 0 + length xs ≤ 20 + total rows =
+    end_within 20 0 q.block rows done whole xs measured (subst (λ (n : ℕ). length (bytes_at n done) + length xs ≤ length (bytes_at n whole)) (sym zeroth) short) block in
+    let put = put_piece head 20 0 q.block rows done whole xs (get_or (ends 20 0 rows done) q.block 0) (sym twenty) (omega arith) measured part short (omega arith)
+    (ap (λ (n : ℕ). get_or (ends 20 0 rows done) n 0) (sym first)) in
+    let next = parts_next qs arena j q lt is in
+    let gone : pieces_length (take (j + 1) qs) ≡ from + q.len = pieces_take qs j q lt is in
+    let upto = pieces_within qs (j + 1) in
+    record {
+      inside = omega (arith, length-drop from arena);
+      behind = drop_sum arena from q.len ∙ ap (λ (n : ℕ). drop n arena) (sym gone);
+      spot = omega (arith, ends_count 20 0 rows done);
+      within = omega arith;
+      size = omega (arith, laid_length 0 rows whole measured);
+      bytes_next = put.0 ∙ ap (λ (ps : Parts). head ++ filled 0 rows ps) (sym next);
+      spots_next = ap (λ (n : ℕ). set (ends 20 0 rows done) n (get_or (ends 20 0 rows done) q.block 0 + length xs)) (sym first) ∙ put.1
+          ∙ ap (λ (ps : Parts). ends 20 0 rows ps) (sym next);
+    }
+
+pub piece_step : (head : List ℕ) (rows : List Row) (qs : List Piece) (arena : List ℕ) (j : ℕ) (q : Piece) (rest bytes spots : List ℕ) → length head ≡ 20
+    → AreMeasured 0 rows (parts qs arena) → All (λ p. p.block < length rows) qs → pieces_length qs ≡ length arena → j < length qs → q ≡ get_or qs j q
+    → rest ≡ drop (pieces_length (take j qs)) arena → bytes ≡ head ++ filled 0 rows (take j (parts qs arena)) → spots ≡ ends 20 0 rows (take j (parts qs arena))
+    → Stepped head rows qs arena j q rest bytes spots
+piece_step head rows qs arena j q rest bytes spots twenty measured within cut lt is left told ended =
+    subst (λ (l : List ℕ). Stepped head rows qs arena j q rest bytes l) (sym ended)
+    (subst (λ (l : List ℕ). Stepped head rows qs arena j q rest l (ends 20 0 rows (take j (parts qs arena)))) (sym told)
+    (subst (λ (l : List ℕ). Stepped head rows qs arena j q l (head ++ filled 0 rows (take j (parts qs arena))) (ends 20 0 rows (take j (parts qs arena)))) (sym left)
+    (step_at head rows qs arena j q twenty measured within cut lt is)))
+
+-- all pieces are written once the last one is
+pub all_written : (rows : List Row) (qs : List Piece) (arena : List ℕ) (j : ℕ) → length qs ≤ j → AreMeasured 0 rows (parts qs arena)
+    → filled 0 rows (take j (parts qs arena)) ≡ laid 0 rows (parts qs arena)
+all_written rows qs arena j end measured =
+    ap (λ (ps : Parts). filled 0 rows ps) (take_all (parts qs arena) j (let n = parts_count qs arena in omega arith)) ∙ filled_all 0 rows (parts qs arena) measured

@@ -1,10 +1,11 @@
 //! A frame laid out: heads and gaps first, then each piece into the gap of its block.
 
-ghost use Rattle.std.specs.Prelude.{◌≡◌, ◌≤◌, ◌<◌, ◌+◌, ◌-◌, ◌++◌, ◌^◌, length, take, drop, replicate, vec_len};
+ghost use Rattle.std.specs.Prelude.{◌≡◌, ◌≤◌, ◌<◌, ◌+◌, ◌-◌, ◌∷◌, ◌++◌, ◌^◌, [], length, replicate, slice_index, slice_set, vec_len};
 ghost use Rattle.std.specs.List.{AllByRecursion};
 ghost use Rattle.std.specs.Vec.{vec_capacity};
 ghost use Rattle.bw_codec.specs.Grammar.{head_bytes};
 ghost use Rattle.bw_codec.specs.Writing.{HasRoom, Adds};
+ghost use Rattle.bw_buffer.specs.Gaps.{zeros, written};
 ghost use Rattle.bw_buffer.specs.Rows.{parts, pieces_length, front_of, laid, IsFewBy, AreMeasured};
 
 use crate::mark::Mark;
@@ -48,12 +49,45 @@ fn push_front(row: &Row, bytes: &mut Vec<u8>)
     }
 }
 
+// Appends what stands before a block's pieces, and a gap for them, and notes where the gap begins.
+fn push_row(row: &Row, spots: &mut Vec<u32>, bytes: &mut Vec<u8>)
+    requires few { IsFewBy row.now.mark row.now.ops }
+    requires room { HasRoom bytes.old (length (front_of row.now) + row.now.len) }
+    requires short { length bytes.old.items + (length (front_of row.now) + row.now.len) ≤ 65536 }
+    requires spot { HasRoom spots.old 1 }
+    ensures bytes { Adds bytes.old bytes.new (front_of row.now ++ zeros row.now.len) }
+    ensures spots { Adds spots.old spots.new
+        ((length bytes.old.items + length (front_of row.now)) ∷ []) }
+{
+    push_front(row, bytes);
+    spots.push_reserved(bytes.as_slice().len() as u32);
+    push_gap(row.len, bytes);
+}
+
 // Writes over bytes from an index on.
 fn write_at(bytes: &mut [u8], at: usize, piece: &[u8])
     requires { at + length piece.now ≤ length bytes.old }
-    ensures { bytes.new ≡ take at bytes.old ++ (piece.now ++ drop (at + length piece.now) bytes.old) }
+    ensures { bytes.new ≡ written at piece.now bytes.old }
 {
     bytes[at..at + piece.len()].copy_from_slice(piece);
+}
+
+// Writes a piece where its block's spot is, which moves on behind it.
+fn put_piece(block: u32, piece: &[u8], spots: &mut Vec<u32>, bytes: &mut Vec<u8>)
+    requires spot { block < length spots.old.items }
+    requires within { slice_index spots.old.items block + length piece.now
+        ≤ length bytes.old.items }
+    requires short { length bytes.old.items ≤ 65536 }
+    ensures bytes { bytes.new.items
+        ≡ written (slice_index spots.old.items block) piece.now bytes.old.items }
+    ensures spots { spots.new.items ≡ slice_set spots.old.items block
+        (slice_index spots.old.items block + length piece.now) }
+    ensures bytes_room { vec_capacity bytes.new ≡ vec_capacity bytes.old }
+    ensures spots_room { vec_capacity spots.new ≡ vec_capacity spots.old }
+{
+    let at = spots[block as usize];
+    write_at(bytes.as_mut_slice(), at as usize, piece);
+    spots[block as usize] = at + piece.len() as u32;
 }
 
 /// Lays out a frame of so many bytes.
@@ -83,17 +117,12 @@ pub(crate) fn lay_out(
     spots.clear();
     copy_in(&frame_cells(number, size - 20, rows.len() as u32), bytes);
     for row in rows {
-        push_front(row, bytes);
-        spots.push_reserved(bytes.as_slice().len() as u32);
-        push_gap(row.len, bytes);
+        push_row(row, spots, bytes);
     }
-    let mut from = 0usize;
+    let mut rest = arena;
     for piece in pieces {
-        let block = piece.block as usize;
-        let to = from + piece.len as usize;
-        let at = spots[block];
-        write_at(bytes.as_mut_slice(), at as usize, &arena[from..to]);
-        spots[block] = at + piece.len;
-        from = to;
+        let (spelled, behind) = rest.split_at(piece.len as usize);
+        put_piece(piece.block, spelled, spots, bytes);
+        rest = behind;
     }
 }
