@@ -1,12 +1,11 @@
 -- A buffer without a block.
 
-use Rattle.std.proofs.Common.{◌≡◌, ℕ, ◌+◌, ◌-◌, ◌*◌, ◌≤◌, ◌<◌, false, true, None, Option, List, [], length, arith, ap, refl, sym, ◌∙◌, subst}
+use Rattle.std.proofs.Common.{◌≡◌, ℕ, ◌+◌, ◌*◌, ◌≤◌, ◌<◌, false, List, [], length, arith, ap, refl, sym, ◌∙◌, subst}
 use Rattle.std.specs.List.{AllByRecursion as All}
 use Rattle.std.specs.Vec.{vec_capacity}
 use Rattle.std.specs.HashMap.{spare, hash_map_len}
-use Rattle.bw_codec.specs.declared.block.Block.{Block}
-use Rattle.bw_buffer.specs.Rows.{Parts, parts, pieces_length, AreRows}
-use Rattle.bw_buffer.specs.Laid.{parts_of, Holds, IsLaid}
+use Rattle.bw_buffer.specs.Rows.{pieces_length, AreRows}
+use Rattle.bw_buffer.specs.Laid.{parts_of, Holds}
 use Rattle.bw_buffer.specs.declared.buffer.Buffer.TheInside.{Inside}
 use Rattle.bw_buffer.specs.declared.rows.Row.{Row}
 use Rattle.bw_buffer.specs.declared.rows.Piece.{Piece}

@@ -1,15 +1,13 @@
 -- A frame laid out: fronts and gaps, and each piece behind those of its block that are written.
 
-use Rattle.std.proofs.Common.{◌≡◌, ℕ, zero, suc, ◌+◌, ◌-◌, ◌<◌, ◌≤◌, ◌≢◌, Bool, true, false, Option, Some, None, List, [], ◌∷◌, ◌++◌, length, set, take, drop, get_or, refl, sym, ap, ◌∙◌, subst, arith, ◌⊎◌, inl, inr}
-use Rattle.std.proofs.Common.{append_assoc, append-nil, if◌then◌else◌, length-append, length-drop}
-use Rattle.std.specs.Prelude.{◌==◌, nat_le, replicate}
+use Rattle.std.proofs.Common.{◌≡◌, ℕ, zero, suc, ◌+◌, ◌-◌, ◌<◌, ◌≤◌, ◌≢◌, true, false, List, [], ◌∷◌, ◌++◌, length, set, take, drop, get_or, refl, sym, ap, ◌∙◌, subst, arith}
+use Rattle.std.proofs.Common.{append_assoc, append-nil, length-append}
+use Rattle.std.specs.Prelude.{◌==◌, nat_le}
 use Rattle.std.proofs.lemmas.Bool.{eqb-true, eqb-false, leb-true, leb-false}
-use Rattle.std.specs.List.{AllByRecursion as All, flat_map}
-use Rattle.std.proofs.lemmas.List.{take_at, drop_at, take-append-le, drop-append-le, length-replicate}
-use Rattle.bw_buffer.specs.Rows.{Parts, parts, pieces_length, bytes_at, front_of, laid, AreMeasured}
+use Rattle.std.proofs.lemmas.List.{take_at, drop-append-le, length-replicate}
+use Rattle.bw_buffer.specs.Rows.{Parts, bytes_at, front_of, laid, AreMeasured}
 use Rattle.bw_buffer.specs.Gaps.{zeros, padded, filled, ends, written}
 use Rattle.bw_buffer.specs.declared.rows.Row.{Row}
-use Rattle.bw_buffer.specs.declared.rows.Piece.{Piece}
 use Rattle.bw_buffer.proofs.Pieces.{bytes_more, bytes_apart}
 
 pub length-zeros : (n : ℕ) → length (zeros n) ≡ n

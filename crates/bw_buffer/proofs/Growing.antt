@@ -1,32 +1,27 @@
 -- One block more in a buffer's fields: in a row of its own, or joined.
 
-use Rattle.std.proofs.Common.{◌≡◌, ℕ, zero, suc, ◌+◌, ◌-◌, ◌*◌, ◌/◌, ◌<◌, ◌≤◌, ◌^◌, Bool, true, false, Option, Some, None, List, [], ◌∷◌, ◌++◌, length, map, set, take, drop, refl, sym, ap, ◌∙◌, subst, arith}
-use Rattle.std.proofs.Common.{append_assoc, append-nil, if◌then◌else◌, length-append, length-set}
-use Rattle.std.specs.Prelude.{◌==◌, ◌||◌, nat_eq}
+use Rattle.std.proofs.Common.{◌≡◌, ℕ, zero, suc, ◌+◌, ◌*◌, ◌<◌, ◌≤◌, ◌^◌, false, Option, Some, None, List, [], ◌∷◌, ◌++◌, length, set, refl, sym, ap, ◌∙◌, subst, arith}
+use Rattle.std.proofs.Common.{append-nil, length-append, length-set}
 use Rattle.std.specs.List.{AllByRecursion as All, flat_map, slice_get}
 use Rattle.std.specs.Vec.{vec_capacity}
 use Rattle.std.specs.HashMap.{spare, hash_map_len}
 use Rattle.bw_buffer.specs.Index.{index_at}
 use Rattle.std.proofs.lemmas.Grind.{flat_map-append}
-use Rattle.bw_codec.specs.Touch.{touches}
-use Rattle.bw_codec.specs.Grammar.{op_bytes, block_bytes, body_bytes, head_bytes, IsBlock, IsOp}
+use Rattle.bw_codec.specs.Grammar.{op_bytes, block_bytes, body_bytes, IsBlock, IsOp}
 use Rattle.bw_codec.specs.declared.record.Record.{Record}
 use Rattle.bw_codec.specs.declared.record.Record.TheVariants.{Put, Del}
-use Rattle.bw_codec.specs.declared.leaf.Leaf.{Leaf}
 use Rattle.bw_codec.specs.declared.block.Place.{Place}
 use Rattle.bw_codec.specs.declared.block.Block.{Block}
 use Rattle.bw_codec.specs.declared.block.Block.TheVariants.{Delta, Base, Split}
-use Rattle.bw_codec.proofs.Lengths.{length-delta, length-base, length-split}
-use Rattle.bw_buffer.specs.Filling.{Filling, size_of}
-use Rattle.bw_buffer.specs.Joining.{is_delta, open_after, open_from, joins, with_ops, ops_added, joined}
-use Rattle.bw_buffer.specs.Marks.{mark_of}
-use Rattle.bw_buffer.specs.Rows.{Parts, parts, pieces_length, laid, bytes_at, AreRows, IsRow}
-use Rattle.bw_buffer.specs.Laid.{blocks_of, parts_of, body_of, filling_of, Holds, IsLaid}
+use Rattle.bw_codec.proofs.Lengths.{length-delta}
+use Rattle.bw_buffer.specs.Joining.{open_after, open_from, joins, with_ops, ops_added, joined}
+use Rattle.bw_buffer.specs.Rows.{Parts, parts, pieces_length, bytes_at, AreRows, IsRow}
+use Rattle.bw_buffer.specs.Laid.{blocks_of, parts_of, Holds, IsLaid}
 use Rattle.bw_buffer.specs.declared.buffer.Buffer.TheInside.{Inside}
 use Rattle.bw_buffer.specs.declared.rows.Row.{Row}
 use Rattle.bw_buffer.specs.declared.rows.Piece.{Piece}
 use Rattle.bw_buffer.proofs.Joined.{StandsOpen, JoinsOne, joins_one}
-use Rattle.bw_buffer.proofs.Pieces.{parts_more, length_more, rows_more, rows_longer, longer, none_at, rows_spelled, rows_count}
+use Rattle.bw_buffer.proofs.Pieces.{parts_more, length_more, rows_more, rows_longer, longer, none_at, rows_count}
 use Rattle.bw_buffer.proofs.Holding.{some_bytes, few_blocks}
 
 all-append : {X : Type 0} (P : X → Type 0) (xs ys : List X) → All P xs → All P ys → All P (xs ++ ys)

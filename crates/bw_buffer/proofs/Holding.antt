@@ -1,30 +1,18 @@
 -- What a buffer's fields hold, after each thing that is done to them.
 
-use Rattle.std.proofs.Common.{◌≡◌, ℕ, zero, suc, ◌+◌, ◌-◌, ◌*◌, ◌/◌, ◌<◌, ◌≤◌, ◌^◌, Bool, true, false, Option, Some, None, List, [], ◌∷◌, ◌++◌, length, map, set, take, drop, get_or, refl, sym, ap, ◌∙◌, subst, arith}
-use Rattle.std.proofs.Common.{append_assoc, append-nil, if◌then◌else◌, length-append, length-set}
-use Rattle.std.specs.Prelude.{◌==◌, ◌||◌, nat_eq}
-use Rattle.std.specs.List.{AllByRecursion as All, flat_map, slice_get}
-use Rattle.std.specs.Vec.{vec_capacity}
-use Rattle.std.specs.HashMap.{get, spare}
-use Rattle.std.proofs.lemmas.Grind.{flat_map-append}
-use Rattle.bw_codec.specs.Grammar.{op_bytes, block_bytes, body_bytes, head_bytes, frame_bytes, IsBlock}
+use Rattle.std.proofs.Common.{◌≡◌, ℕ, zero, suc, ◌*◌, ◌<◌, ◌≤◌, Some, List, [], ◌∷◌, ◌++◌, length, get_or, sym, ap, ◌∙◌, subst, arith}
+use Rattle.std.proofs.Common.{append-nil, length-append}
+use Rattle.std.specs.List.{AllByRecursion as All, slice_get}
+use Rattle.bw_codec.specs.Grammar.{block_bytes, body_bytes, head_bytes, frame_bytes, IsBlock}
 use Rattle.bw_codec.specs.Reading.{many_at, block_at}
-use Rattle.bw_codec.specs.declared.record.Record.{Record}
-use Rattle.bw_codec.specs.declared.leaf.Leaf.{Leaf}
-use Rattle.bw_codec.specs.declared.block.Place.{Place}
 use Rattle.bw_codec.specs.declared.block.Block.{Block}
 use Rattle.bw_codec.specs.declared.block.Block.TheVariants.{Delta, Base, Split}
 use Rattle.bw_codec.proofs.Lengths.{length-delta, length-base, length-split}
 use Rattle.bw_codec.proofs.BlockFormat.{many_again, block_format}
 use Rattle.bw_codec.proofs.FrontFormat.{length-head}
 use Rattle.bw_buffer.specs.Filling.{Filling, frame_of, size_of}
-use Rattle.bw_buffer.specs.Joining.{joins, joined}
-use Rattle.bw_buffer.specs.Marks.{mark_of}
-use Rattle.bw_buffer.specs.Rows.{Parts, parts, pieces_length, laid, bytes_at, AreRows, IsRow}
 use Rattle.bw_buffer.specs.Laid.{first_of, blocks_in, blocks_of, parts_of, body_of, filling_of, Holds, IsLaid}
 use Rattle.bw_buffer.specs.declared.buffer.Buffer.TheInside.{Inside}
-use Rattle.bw_buffer.specs.declared.rows.Row.{Row}
-use Rattle.bw_buffer.specs.declared.rows.Piece.{Piece}
 use Rattle.bw_buffer.proofs.Pieces.{rows_spelled, rows_count}
 
 -- a body's blocks are read again
@@ -99,7 +87,3 @@ same_block a b law_a law_b same =
     sym (format.again a [] law_a) ∙ ap (λ (bytes : List ℕ). block_at 32 (bytes ++ [])) same ∙ format.again b [] law_b in
     let pairs : first ≡ second = cc in
     ap (λ (read : Block × List ℕ). read.0) pairs
-
--- a list as it is after a slice of all of it was lent and written
-pub whole_out : {X : Type 0} (given old : List X) (n : ℕ) → length given ≡ n → take n (given ++ drop (length given) old) ≡ given
-whole_out given old n same = take_at given (drop (length given) old) n same

@@ -4,21 +4,21 @@ use Rattle.std.proofs.Common.{◌≡◌, ◌∙◌, ℕ, zero, suc, ◌+◌, ◌
 use Rattle.std.specs.List.{AllByRecursion as All, flat_map}
 use Rattle.std.specs.Vec.{vec_len, vec_capacity}
 use Rattle.std.proofs.lemmas.Grind.{flat_map-append}
-use Rattle.bw_codec.specs.Grammar.{op_bytes, block_bytes, body_bytes, IsBlock, IsOp}
+use Rattle.bw_codec.specs.Grammar.{op_bytes, block_bytes, body_bytes, IsBlock}
 use Rattle.bw_codec.specs.declared.record.Record.{Record}
 use Rattle.bw_codec.specs.declared.block.Place.{Place}
 use Rattle.bw_codec.specs.declared.block.Block.{Block}
 use Rattle.bw_codec.specs.declared.block.Block.TheVariants.{Delta}
 use Rattle.bw_codec.proofs.Lengths.{length-delta}
 use Rattle.bw_buffer.specs.Filling.{Filling, size_of, with_all}
-use Rattle.bw_buffer.specs.Joining.{joins, joined}
+use Rattle.bw_buffer.specs.Joining.{joins}
 use Rattle.bw_buffer.specs.Rows.{AreRows, IsRow, bytes_at}
 use Rattle.bw_buffer.specs.Laid.{blocks_of, parts_of, filling_of, IsLaid}
 use Rattle.bw_buffer.specs.declared.buffer.Buffer.TheInside.{Inside}
 use Rattle.bw_buffer.specs.declared.rows.Row.{Row}
 use Rattle.bw_buffer.proofs.Joined.{StandsOpen, found}
 use Rattle.bw_buffer.proofs.Pieces.{rows_count}
-use Rattle.bw_buffer.proofs.Holding.{size_is, got}
+use Rattle.bw_buffer.proofs.Holding.{size_is}
 use Rattle.bw_buffer.proofs.Growing.{ops_some, room_pieces, room_arena}
 use Rattle.bw_buffer.proofs.Sizes.{joined_size_at}
 

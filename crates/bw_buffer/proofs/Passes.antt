@@ -1,9 +1,9 @@
 -- The two passes that lay out a frame.
 
-use Rattle.std.proofs.Common.{◌≡◌, ℕ, zero, suc, ◌+◌, ◌-◌, ◌<◌, ◌≤◌, Bool, true, false, Some, List, [], ◌∷◌, ◌++◌, length, set, take, drop, get_or, refl, sym, ap, ◌∙◌, subst, arith}
-use Rattle.std.proofs.Common.{append_assoc, append-nil, if◌then◌else◌, length-append, length-drop, length-take}
+use Rattle.std.proofs.Common.{◌≡◌, ℕ, zero, suc, ◌+◌, ◌-◌, ◌<◌, ◌≤◌, Bool, List, [], ◌∷◌, ◌++◌, length, set, take, drop, get_or, refl, sym, ap, ◌∙◌, subst, arith}
+use Rattle.std.proofs.Common.{append_assoc, if◌then◌else◌, length-append, length-drop}
 use Rattle.std.specs.Prelude.{◌==◌}
-use Rattle.std.specs.List.{AllByRecursion as All, flat_map}
+use Rattle.std.specs.List.{AllByRecursion as All}
 use Rattle.std.proofs.lemmas.Grind.{flat_map-append}
 use Rattle.std.proofs.lemmas.List.{take-append-drop}
 use Rattle.bw_codec.proofs.Adding.{taken_within}
@@ -267,4 +267,4 @@ piece_step head rows qs arena j q rest bytes spots twenty measured within cut lt
 pub all_written : (rows : List Row) (qs : List Piece) (arena : List ℕ) (j : ℕ) → length qs ≤ j → AreMeasured 0 rows (parts qs arena)
     → filled 0 rows (take j (parts qs arena)) ≡ laid 0 rows (parts qs arena)
 all_written rows qs arena j end measured =
-    ap (λ (ps : Parts). filled 0 rows ps) (take_all (parts qs arena) j (let n = parts_count qs arena in omega arith)) ∙ filled_all 0 rows (parts qs arena) measured
+    ap (λ (ps : Parts). filled 0 rows ps) (take_all j (parts qs arena) (let n = parts_count qs arena in omega arith)) ∙ filled_all 0 rows (parts qs arena) measured

@@ -5,16 +5,15 @@ use Rattle.std.proofs.Common.{append_assoc, append-nil, if◌then◌else◌, len
 use Rattle.std.specs.Prelude.{◌==◌}
 use Rattle.std.specs.List.{AllByRecursion as All, flat_map}
 use Rattle.std.proofs.lemmas.Grind.{flat_map-append}
-use Rattle.std.proofs.lemmas.List.{take-append-le, drop-append-le, take_all, take_at}
+use Rattle.std.proofs.lemmas.List.{take-append-le, drop-append-le, take_all}
 use Rattle.std.proofs.lemmas.Bool.{eq-eqb, ne_eqb}
-use Rattle.bw_codec.specs.Grammar.{op_bytes, block_bytes, body_bytes, delta_front, place_bytes, ops_bytes}
+use Rattle.bw_codec.specs.Grammar.{op_bytes, block_bytes, body_bytes, place_bytes}
 use Rattle.bw_codec.specs.Bytes.{number_bytes}
 use Rattle.bw_codec.specs.declared.record.Record.{Record}
 use Rattle.bw_codec.specs.declared.block.Place.{Place}
 use Rattle.bw_codec.specs.declared.block.Block.{Block}
 use Rattle.bw_codec.specs.declared.block.Block.TheVariants.{Delta, Base, Split}
-use Rattle.bw_buffer.specs.Joining.{with_ops, ops_added}
-use Rattle.bw_buffer.specs.Rows.{Parts, parts, pieces_length, bytes_at, front_by, front_of, laid, IsRow, AreRows, AreMeasured}
+use Rattle.bw_buffer.specs.Rows.{Parts, parts, pieces_length, bytes_at, front_by, front_of, laid, IsRow, AreRows}
 use Rattle.bw_buffer.specs.Marks.{mark_of}
 use Rattle.bw_buffer.specs.declared.mark.Mark.{Mark}
 use Rattle.bw_buffer.specs.declared.rows.Row.{Row}

@@ -1,7 +1,7 @@
 -- How long the body gets, and which block is joined behind others.
 
-use Rattle.std.proofs.Common.{◌≡◌, ℕ, zero, suc, ◌+◌, ◌-◌, ◌<◌, ◌≤◌, Bool, true, false, Option, Some, None, List, [], ◌∷◌, ◌++◌, length, take, get_or, refl, sym, ap, ◌∙◌, subst, arith}
-use Rattle.std.proofs.Common.{append_assoc, append-nil, if◌then◌else◌, length-append}
+use Rattle.std.proofs.Common.{◌≡◌, ℕ, ◌+◌, ◌<◌, ◌≤◌, Bool, true, false, Option, Some, None, List, [], ◌∷◌, ◌++◌, length, take, get_or, refl, sym, ap, ◌∙◌, arith}
+use Rattle.std.proofs.Common.{append-nil, if◌then◌else◌, length-append}
 use Rattle.std.specs.Prelude.{◌==◌, ◌||◌, is_some}
 use Rattle.std.proofs.lemmas.Grind.{fold-append, flat_map-append}
 use Rattle.std.proofs.lemmas.List.{take_more}
@@ -14,7 +14,7 @@ use Rattle.bw_codec.specs.declared.block.Block.{Block}
 use Rattle.bw_codec.specs.declared.block.Block.TheVariants.{Delta, Base, Split}
 use Rattle.bw_codec.proofs.Lengths.{length-delta}
 use Rattle.bw_buffer.specs.Filling.{Filling, size_of, with_all}
-use Rattle.bw_buffer.specs.Joining.{is_delta, open_after, joins, ops_added, joined_by, joined, added}
+use Rattle.bw_buffer.specs.Joining.{is_delta, joins, joined_by, joined, added}
 use Rattle.bw_buffer.proofs.Joined.{StandsOpen, JoinsOne, joins_one, joins_none}
 use Rattle.std.specs.List.{flat_map}
 use Rattle.bw_buffer.proofs.Growing.{joins_push, joins_ops}

@@ -1,6 +1,6 @@
 -- A buffer holds rows and the bytes of their pieces; the blocks are what these spell once they are laid out.
 
-use Rattle.std.specs.Prelude.{ℕ, ◌+◌, ◌*◌, ◌-◌, ◌≡◌, ◌≤◌, ◌<◌, ◌/◌, true, Some, None, List, [], ◌++◌, length, vec_len}
+use Rattle.std.specs.Prelude.{ℕ, ◌+◌, ◌*◌, ◌≡◌, ◌≤◌, ◌<◌, true, Some, None, List, [], ◌++◌, length}
 use Rattle.std.specs.List.{AllByRecursion}
 use Rattle.std.specs.Vec.{vec_capacity}
 use Rattle.std.specs.HashMap.{spare, hash_map_len}

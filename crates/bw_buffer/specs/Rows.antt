@@ -1,7 +1,7 @@
 -- How blocks stand in a buffer before their bytes stand in order.
 
-use Rattle.std.specs.Prelude.{ℕ, suc, ◌+◌, ◌≡◌, ◌≤◌, ◌<◌, ◌==◌, if◌then◌else◌, List, [], ◌∷◌, ◌++◌, length, take, drop}
-use Rattle.std.specs.List.{flat_map, AllByRecursion}
+use Rattle.std.specs.Prelude.{ℕ, suc, ◌+◌, ◌≡◌, ◌<◌, ◌==◌, if◌then◌else◌, List, [], ◌∷◌, ◌++◌, length, take, drop}
+use Rattle.std.specs.List.{flat_map}
 use Rattle.bw_codec.specs.Grammar.{op_bytes, block_bytes, delta_front}
 use Rattle.bw_codec.specs.declared.block.Place.{Place}
 use Rattle.bw_codec.specs.declared.block.Block.{Block}

@@ -1,4 +1,4 @@
-use Rattle.std.proofs.Common.{◌≡◌, ◌+◌, ◌-◌, ◌++◌, ◌≤◌, [], length, take, drop, vec_len}
+use Rattle.std.proofs.Common.{◌≡◌, ◌-◌, ◌++◌, ◌≤◌, [], length, take, drop, vec_len}
 use Rattle.std.specs.Vec.{vec_capacity}
 use Rattle.bw_codec.specs.Grammar.{head_bytes}
 use Rattle.bw_buffer.specs.Rows.{parts, pieces_length}

@@ -1,7 +1,7 @@
 use Rattle.std.proofs.Common.{arith, subst, length}
 use Rattle.bw_codec.specs.Writing.{HasRoom}
 use Rattle.bw_codec.proofs.Lengths.{length-front}
-use Rattle.bw_buffer.specs.Rows.{front_by, IsFewBy}
+use Rattle.bw_buffer.specs.Rows.{front_by}
 use Rattle.bw_buffer.specs.declared.mark.Mark.{Mark}
 use Rattle.bw_buffer.proofs.layout.push_front.Goals as goal
 

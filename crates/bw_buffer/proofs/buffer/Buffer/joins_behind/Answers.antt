@@ -1,4 +1,4 @@
-use Rattle.std.proofs.Common.{◌≡◌, ◌∙◌}
+use Rattle.std.proofs.Common.{◌∙◌}
 use Rattle.bw_buffer.proofs.Sizes.{joins_step}
 use Rattle.bw_buffer.proofs.buffer.Buffer.joins_behind.Goals as goal
 

@@ -1,5 +1,5 @@
 use Rattle.std.proofs.Common.{◌≡◌, ◌∙◌, sym, ap, arith}
-use Rattle.bw_buffer.specs.Filling.{Filling, size_of}
+use Rattle.bw_buffer.specs.Filling.{Filling}
 use Rattle.bw_buffer.proofs.Holding.{size_is, length_of_frame}
 use Rattle.bw_buffer.proofs.Framing.{lawful_frame}
 use Rattle.bw_buffer.proofs.buffer.Buffer.len.Goals as goal

@@ -1,4 +1,4 @@
-use Rattle.std.proofs.Common.{ℕ, ◌≡◌, ◌∙◌, ◌≤◌, true, refl, sym, ap, arith, length, if◌then◌else◌}
+use Rattle.std.proofs.Common.{ℕ, ◌≡◌, ◌∙◌, true, refl, sym, ap, arith, length, if◌then◌else◌}
 use Rattle.std.specs.Prelude.{is_some}
 use Rattle.bw_codec.specs.Grammar.{block_bytes}
 use Rattle.bw_codec.specs.declared.block.Block.{Block}

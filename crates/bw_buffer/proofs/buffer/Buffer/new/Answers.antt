@@ -1,4 +1,4 @@
-use Rattle.std.proofs.Common.{◌≡◌, ◌+◌, ◌*◌, ◌/◌, ◌≤◌, [], false, arith, refl}
+use Rattle.std.proofs.Common.{[], false, arith, refl}
 use Rattle.bw_buffer.specs.declared.buffer.Buffer.TheInside.{Inside}
 use Rattle.bw_buffer.specs.Laid.{Holds}
 use Rattle.bw_buffer.proofs.Holding.{filled, seen}

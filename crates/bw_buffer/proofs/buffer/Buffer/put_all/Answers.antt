@@ -1,4 +1,4 @@
-use Rattle.std.proofs.Common.{◌≡◌, true, arith}
+use Rattle.std.proofs.Common.{◌≡◌, true}
 use Rattle.bw_buffer.proofs.Several.{put_fits}
 use Rattle.bw_buffer.proofs.buffer.Buffer.put_all.Goals as goal
 

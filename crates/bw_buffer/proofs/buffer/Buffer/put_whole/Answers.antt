@@ -1,27 +1,18 @@
-use Rattle.std.proofs.Common.{◌≡◌, ◌∙◌, ◌≤◌, ◌+◌, ◌∷◌, ◌++◌, ℕ, List, [], Some, None, Option, false, length, refl, sym, ap, subst, arith, if◌then◌else◌}
-use Rattle.std.specs.Prelude.{◌==◌}
-use Rattle.std.specs.List.{flat_map}
-use Rattle.std.specs.HashMap.{spare, hash_map_len}
-use Rattle.bw_codec.specs.Grammar.{op_bytes, block_bytes, body_bytes, IsBlock}
-use Rattle.bw_codec.specs.declared.record.Record.{Record}
-use Rattle.bw_codec.specs.declared.leaf.Leaf.{Leaf}
+use Rattle.std.proofs.Common.{◌≡◌, ◌∙◌, ◌+◌, ◌∷◌, ◌++◌, ℕ, List, [], None, Option, false, length, refl, ap, arith, if◌then◌else◌}
+use Rattle.bw_codec.specs.Grammar.{block_bytes}
 use Rattle.bw_codec.specs.declared.block.Block.{Block}
 use Rattle.bw_codec.specs.declared.block.Block.TheVariants.{Delta, Base, Split}
-use Rattle.bw_codec.proofs.Lengths.{length-delta}
-use Rattle.bw_buffer.specs.Filling.{Filling, size_of, with_all}
-use Rattle.bw_buffer.specs.Joining.{joins, joined, is_delta, open_after}
+use Rattle.bw_buffer.specs.Filling.{Filling}
+use Rattle.bw_buffer.specs.Joining.{joined, is_delta, open_after}
 use Rattle.bw_buffer.specs.Index.{index_at}
 use Rattle.bw_buffer.specs.Marks.{mark_of, is_closed_by}
 use Rattle.bw_buffer.specs.Rows.{IsRow}
-use Rattle.bw_buffer.specs.Laid.{blocks_of, Holds, IsLaid}
-use Rattle.bw_buffer.specs.declared.mark.Mark.TheVariants.{Changes}
+use Rattle.bw_buffer.specs.Laid.{blocks_of, Holds}
 use Rattle.bw_buffer.specs.declared.rows.Row.{Row}
 use Rattle.bw_buffer.specs.declared.rows.Piece.{Piece}
 use Rattle.bw_buffer.specs.declared.buffer.Buffer.TheInside.{Inside}
-use Rattle.bw_buffer.proofs.Holding.{filled, seen, size_is, some_bytes, got}
-use Rattle.bw_buffer.proofs.Joined.{joins_none}
-use Rattle.bw_buffer.proofs.Pieces.{longer}
-use Rattle.bw_buffer.proofs.Growing.{Pushed, pushed, Lengthened, lengthened, room_rows, room_pieces, room_arena, room_deltas, few_rows_now, ops_some}
+use Rattle.bw_buffer.proofs.Holding.{filled, seen, size_is, some_bytes}
+use Rattle.bw_buffer.proofs.Growing.{pushed, room_rows, few_rows_now}
 use Rattle.bw_buffer.proofs.buffer.Buffer.put_whole.Goals as goal
 use Rattle.bw_buffer.proofs.buffer.Buffer.put_whole.Goals.{After-self-1}
 

@@ -1,5 +1,4 @@
-use Rattle.std.proofs.Common.{◌≡◌, ◌∙◌, ap, [], false, refl, arith}
-use Rattle.bw_codec.specs.declared.block.Block.{Block}
+use Rattle.std.proofs.Common.{◌∙◌, ap, [], false, refl, arith}
 use Rattle.bw_buffer.specs.Filling.{Filling}
 use Rattle.bw_buffer.specs.declared.buffer.Buffer.TheInside.{Inside}
 use Rattle.bw_buffer.specs.Laid.{Holds}

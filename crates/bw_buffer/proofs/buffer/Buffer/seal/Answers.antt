@@ -1,8 +1,8 @@
-use Rattle.std.proofs.Common.{◌≡◌, ◌∙◌, true, ap, refl, arith}
+use Rattle.std.proofs.Common.{◌∙◌, true, ap, refl}
 use Rattle.bw_buffer.specs.Filling.{Filling}
 use Rattle.bw_buffer.specs.Laid.{blocks_of, parts_of, Holds}
 use Rattle.bw_buffer.specs.declared.buffer.Buffer.TheInside.{Inside}
-use Rattle.bw_buffer.proofs.Holding.{filled, seen}
+use Rattle.bw_buffer.proofs.Holding.{filled}
 use Rattle.bw_buffer.proofs.Sealing.{measured, body_size, spots_enough, laid_out}
 use Rattle.bw_buffer.proofs.Growing.{few_rows_now}
 use Rattle.bw_buffer.proofs.buffer.Buffer.seal.Goals as goal
