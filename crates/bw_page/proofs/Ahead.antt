@@ -1,10 +1,10 @@
 -- A walk in the order of keys, page by page in the order of lows, finds the first pair at or above a key.
 
-use Rattle.std.proofs.Common.{◌≡◌, ℕ, suc, ◌+◌, ◌<◌, ◌≤◌, Bool, true, false, cond, if◌then◌else◌, Option, Some, None, IsSome, IfSome, List, [], ◌∷◌, length, drop, Result, Ok, Err}
+use Rattle.std.proofs.Common.{◌≡◌, ℕ, suc, ◌+◌, ◌≤◌, true, false, cond, if◌then◌else◌, Option, Some, None, IsSome, IfSome, List, [], ◌∷◌, drop, Result, Ok, Err}
 use Rattle.std.proofs.Common.{refl, sym, ap, ◌∙◌, subst, arith, one-add}
 use Rattle.std.specs.Prelude.{slice_get}
 use Rattle.std.specs.List.{AllByRecursion as All}
-use Rattle.std.specs.Ordering.{is_gt, is_eq, is_lt, eq_by_cmp}
+use Rattle.std.specs.Ordering.{is_gt, is_lt, eq_by_cmp}
 use Rattle.std.specs.FinMap as finite
 use Rattle.std.specs.FinMap.Entries.{find, by_order}
 use Rattle.std.specs.declared.cmp.Ordering.{Ordering}
@@ -17,8 +17,8 @@ use Rattle.bw_page.specs.Lows.{lows_of}
 use Rattle.bw_page.specs.LowHeads.{IsLeastLow, HasNoHigher}
 use Rattle.bw_page.specs.Ahead.{HasNoPair, IsFirstPair, HasCome, pair_above, HasNoLowAbove, IsNextLow, ahead}
 use Rattle.bw_page.specs.Seek.{seek_of, passed, end_of}
-use Rattle.bw_page.proofs.Order.{Below, UpTo, not_both, must_be, must_not, upto-trans, upto-refl, upto-antisymm, upto_empty, upto-below, below-upto, below-trans, below_upto, below_apart, above_apart, greater_is_below, tied}
-use Rattle.bw_page.proofs.Sorted.{all-map, all-zip, Rises, ascends_rises, find-none}
+use Rattle.bw_page.proofs.Order.{Below, UpTo, not_both, must_be, must_not, upto-trans, upto-refl, upto-antisymm, upto_empty, below-upto, below-trans, below_upto, below_apart, above_apart, greater_is_below, tied}
+use Rattle.bw_page.proofs.Sorted.{all-map, Rises, ascends_rises, find-none}
 use Rattle.bw_page.proofs.Homes.{home-all, home-low, home-max, same_home}
 use Rattle.bw_page.proofs.Indexed.{itself, some_either, lows_found}
 use Rattle.bw_page.proofs.Law.{get-union}

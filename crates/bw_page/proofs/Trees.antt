@@ -1,6 +1,6 @@
 -- Pairs in a tree change as those of a leaf do.
 
-use Rattle.std.proofs.Common.{◌≡◌, ℕ, zero, suc, ◌<◌, Bool, true, false, cond, Option, Some, None, List, [], ◌∷◌, ◌++◌, length, append_assoc, append-nil}
+use Rattle.std.proofs.Common.{◌≡◌, zero, suc, ◌<◌, true, false, cond, Option, Some, None, [], ◌∷◌, ◌++◌, length, append_assoc, append-nil}
 use Rattle.std.proofs.Common.{IsTrue, IsSome, refl, sym, ap, ◌∙◌, subst, arith}
 use Rattle.std.proofs.lemmas.List.Elements.{filter-append}
 use Rattle.std.specs.List.{AllByRecursion, All, filter}

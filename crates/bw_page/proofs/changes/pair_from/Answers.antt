@@ -1,4 +1,4 @@
-use Rattle.std.proofs.Common.{◌≡◌, ◌∙◌, ◌≤◌, ◌<◌, sym, ap, Some, None, get_or, length, slice_get, ℕ}
+use Rattle.std.proofs.Common.{◌≡◌, ◌∙◌, sym, ap, Some, get_or, slice_get, ℕ}
 use Rattle.std.proofs.lemmas.Option.{slice_get-get_or, slice_get_past}
 use Rattle.bw_page.specs.Leaves.{Bytes, Pairs}
 use Rattle.bw_page.specs.Seek.{seek_of, end_of}

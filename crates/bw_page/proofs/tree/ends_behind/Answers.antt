@@ -1,6 +1,6 @@
-use Rattle.std.proofs.Common.{◌≡◌, ◌∙◌, sym, true, false, not}
+use Rattle.std.proofs.Common.{◌≡◌, true, not}
 use Rattle.bw_codec.specs.Bytes.{is_below}
-use Rattle.bw_page.proofs.Order.{must_be, not_both}
+use Rattle.bw_page.proofs.Order.{must_be}
 use Rattle.bw_page.proofs.Trees.{all_kept}
 use Rattle.bw_page.proofs.tree.ends_behind.Goals as goal
 
