@@ -24,11 +24,11 @@ THEOREMS = [
 ]
 HEAD = """# The definitions behind the main theorems
 
-Each theorem of this store is the contract of a public function. To trust it one has to read its clauses
-and the definitions that these use: the files below, and nothing else. No proof and no body is among them.
-Each list is in an order in which it can be read: a file uses only those before it. Lines are those that
-are no import, no comment and not empty. `tools/specs.py` writes this page, and `make test` asks whether
-it is up to date.
+Each theorem of this store is the contract of a public function. To trust it one has to read its
+clauses and the definitions that these use: the files below, and nothing else. No proof and no body
+is among them. Each list is in an order in which it can be read: a file uses only those before it.
+Lines are those that are no import, no comment and not empty. `tools/specs.py` writes this page, and
+`make test` asks whether it is up to date.
 """
 
 
