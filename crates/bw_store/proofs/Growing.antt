@@ -22,7 +22,7 @@ use Rattle.bw_page.proofs.Indexed.{home_within}
 use Rattle.bw_page.proofs.Law.{applied-lawful, cut_within, upper_in, home_base}
 use Rattle.bw_page.proofs.Law as law
 use Rattle.bw_log.specs.Places.{place_of, all_placed, last_place, later, AreLinked, first_number}
-use Rattle.bw_store.specs.Adding.{with_blocks, end_of, after_place, result_of, blocks_for, places_after}
+use Rattle.bw_store.specs.Adding.{with_blocks, end_of, last_for, result_of, blocks_for, places_after}
 use Rattle.bw_store.specs.Growing.{Grown}
 use Rattle.bw_store.proofs.Stepping.{blocks_with, content_with, whole_content, old_content, new_content, length-applied}
 use Rattle.bw_store.proofs.Placing.{place_with, linked_with, delta_links, split_links, delta_newest, split_newest}
@@ -149,14 +149,14 @@ module _ (m : ℕ) (counted : List Frame) (o : Frame) (leaves : List Leaf) (newe
             (upper_of m (length leaves + 1) (result_of leaves r)) last_touch)
       ]
 
-  newest_more : (p : ℕ) → 1 ≤ p → slice_get (places_after m leaves (end_of o) r newest) (p - 1)
+  newest_more : (p : ℕ) → 1 ≤ p → slice_get (places_after m leaves (end_of o) (last_for o (directed_at leaves r)) r newest) (p - 1)
       ≡ place_of p (counted ++ with_blocks o (blocks_for m leaves back (end_of o) r) ∷ [])
   newest_more p from =
       let h = here in
       let count = t.grown.count in
       elim (nat_le (length (result_of leaves r).pairs) m) as (λ b.
-      slice_get (if b then set newest (directed_at leaves r - 1) (end_of o) else set newest (directed_at leaves r - 1) (after_place (end_of o))
-      ++ after_place (end_of o) ∷ []) (p - 1)
+      slice_get (if b then set newest (directed_at leaves r - 1) (end_of o) else set newest (directed_at leaves r - 1) (last_for o (directed_at leaves r))
+      ++ last_for o (directed_at leaves r) ∷ []) (p - 1)
       ≡ place_of p (counted ++ with_blocks o (if b then Delta (directed_at leaves r) back (r ∷ []) ∷ [] else Delta (directed_at leaves r) back (r ∷ []) ∷
       Split (directed_at leaves r) (end_of o) (upper_of m (length leaves + 1) (result_of leaves r)) ∷ []) ∷ [])) [
         | true ↦ delta_newest newest (directed_at leaves r) p o.number (length o.blocks) back (r ∷ []) h.0 (omega arith) from
@@ -215,30 +215,30 @@ module _ (m : ℕ) (counted : List Frame) (o : Frame) (leaves : List Leaf) (newe
 
   -- ---- all of it
 
-  pub grown_more : Grown m counted (with_blocks o (blocks_for m leaves back (end_of o) r)) (applied m leaves r) (places_after m leaves (end_of o) r newest)
+  pub grown_more : Grown m counted (with_blocks o (blocks_for m leaves back (end_of o) r)) (applied m leaves r) (places_after m leaves (end_of o) (last_for o (directed_at leaves r)) r newest)
   grown_more =
       let n = t.number in
       let few = t.few in
       let count = t.grown.count in
       let long = length-applied m leaves r one lawful_now t.op in
       let here_lawful : IsPlace (end_of o) = record { frame = n; index = omega arith } in
-      let next_lawful : IsPlace (after_place (end_of o)) = record { frame = n; index = omega arith } in
+      let next_lawful : IsPlace (last_for o (directed_at leaves r)) = record { frame = n; index = omega arith } in
       record {
         stands = stands_more;
         linked = linked_more;
         count = elim (nat_le (length (result_of leaves r).pairs) m) as (λ b. length (applied m leaves r) ≡ (if b then length leaves else length leaves + 1)
-            → length (if b then set newest (directed_at leaves r - 1) (end_of o) else set newest (directed_at leaves r - 1) (after_place (end_of o))
-            ++ after_place (end_of o) ∷ []) ≡ length (applied m leaves r)) [
+            → length (if b then set newest (directed_at leaves r - 1) (end_of o) else set newest (directed_at leaves r - 1) (last_for o (directed_at leaves r))
+            ++ last_for o (directed_at leaves r) ∷ []) ≡ length (applied m leaves r)) [
               | true ↦ λ e. (let k = length-set newest (directed_at leaves r - 1) (end_of o) in omega arith)
-              | false ↦ λ e. (let k = length-set newest (directed_at leaves r - 1) (after_place (end_of o))
-                  in let j = length-append (set newest (directed_at leaves r - 1) (after_place (end_of o))) (after_place (end_of o) ∷ []) in omega arith)
+              | false ↦ λ e. (let k = length-set newest (directed_at leaves r - 1) (last_for o (directed_at leaves r))
+                  in let j = length-append (set newest (directed_at leaves r - 1) (last_for o (directed_at leaves r))) (last_for o (directed_at leaves r) ∷ []) in omega arith)
             ] long;
         places = elim (nat_le (length (result_of leaves r).pairs) m) as (λ b.
-            All IsPlace (if b then set newest (directed_at leaves r - 1) (end_of o) else set newest (directed_at leaves r - 1) (after_place (end_of o))
-            ++ after_place (end_of o) ∷ [])) [
+            All IsPlace (if b then set newest (directed_at leaves r - 1) (end_of o) else set newest (directed_at leaves r - 1) (last_for o (directed_at leaves r))
+            ++ last_for o (directed_at leaves r) ∷ [])) [
               | true ↦ all-write IsPlace newest (directed_at leaves r - 1) (end_of o) t.grown.places here_lawful
-              | false ↦ all-push IsPlace (set newest (directed_at leaves r - 1) (after_place (end_of o))) (after_place (end_of o))
-                  (all-write IsPlace newest (directed_at leaves r - 1) (after_place (end_of o)) t.grown.places next_lawful) next_lawful
+              | false ↦ all-push IsPlace (set newest (directed_at leaves r - 1) (last_for o (directed_at leaves r))) (last_for o (directed_at leaves r))
+                  (all-write IsPlace newest (directed_at leaves r - 1) (last_for o (directed_at leaves r)) t.grown.places next_lawful) next_lawful
             ];
         each = newest_more;
         lawful = all-append (IsBlock m) o.blocks (blocks_for m leaves back (end_of o) r) t.grown.lawful blocks_lawful;

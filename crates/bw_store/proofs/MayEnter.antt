@@ -25,7 +25,8 @@ use Rattle.std.proofs.lemmas.List.{length-map}
 use Rattle.bw_log.specs.Contents as logs
 use Rattle.bw_log.proofs.Adding.{following_is}
 use Rattle.bw_versions.specs.declared.entry.Entry.{Entry}
-use Rattle.bw_store.specs.Adding.{end_of, after_place, result_of, blocks_for, places_after, noted}
+use Rattle.bw_store.specs.Adding.{end_of, here_for, last_for, result_of, blocks_for, places_after, noted}
+use Rattle.bw_store.specs.Fitting.{here_at, last_at}
 use Rattle.bw_store.specs.Taken.{taken}
 use Rattle.bw_store.specs.Kept.{Kept, Filed, IsSound}
 use Rattle.bw_store.proofs.Growing.{Takes, blocks_lawful}
@@ -126,14 +127,14 @@ module _ {s : Kept} {item : Record} {back : Place} {blocks : List Block} (e : En
       (blocks_lawful s.filed.m _ (frame_of s.making) s.filed.leaves s.newest back item (takes_it s item back blocks e not)))
 
 -- the places noted are those after the record
-pub noted_is : (m : ℕ) (leaves : List Leaf) (back here : Place) (r : Record) (newest : List Place)
-    → noted newest (directed_at leaves r) here (length (blocks_for m leaves back here r)) ≡ places_after m leaves here r newest
-noted_is m leaves back here r newest =
+pub noted_is : (m : ℕ) (leaves : List Leaf) (back here last : Place) (r : Record) (newest : List Place)
+    → noted newest (directed_at leaves r) here last (length (blocks_for m leaves back here r)) ≡ places_after m leaves here last r newest
+noted_is m leaves back here last r newest =
     elim (nat_le (length (result_of leaves r).pairs) m) as
-    (λ b. noted newest (directed_at leaves r) here
+    (λ b. noted newest (directed_at leaves r) here last
     (length (if b then Delta (directed_at leaves r) back (r ∷ []) ∷ [] else Delta (directed_at leaves r) back (r ∷ []) ∷ Split (directed_at leaves r) here
     (upper_of m (length leaves + 1) (result_of leaves r)) ∷ []))
-    ≡ (if b then set newest (directed_at leaves r - 1) here else set newest (directed_at leaves r - 1) (after_place here) ++ after_place here ∷ []))
+    ≡ (if b then set newest (directed_at leaves r - 1) here else set newest (directed_at leaves r - 1) last ++ last ∷ []))
     [ true ↦ refl | false ↦ refl ]
 
 -- the store after all was written
@@ -141,16 +142,16 @@ pub entered : {s : Kept} {item : Record} {back : Place} {blocks : List Block} �
     → (writer page : ℕ) (entries : List Entry) (filed : Filed) (newest : List Place) (making : Filling)
     → page ≡ directed_at s.filed.leaves item
     → (es : List Entry) → entries ≡ es ++ record { writer = writer; item = item } ∷ [] → es ≡ s.entries → filed ≡ record s.filed { leaves = applied s.filed.m s.filed.leaves item }
-    → (ps : List Place) → newest ≡ noted ps page (end_of (frame_of s.making)) (length blocks) → ps ≡ s.newest
+    → (ps : List Place) → newest ≡ noted ps page (here_for (frame_of s.making) page) (last_for (frame_of s.making) page) (length blocks) → ps ≡ s.newest
     → making ≡ record s.making { blocks = s.making.blocks ++ blocks }
     → (rings rs : List Ring) → rings ≡ rs → rs ≡ s.rings
     → record s { rings = rings; entries = entries; filed = filed; newest = newest; making = making } ≡ taken s writer item back
 entered {s} {item} {back} {blocks} e not writer page entries filed newest making at es e1 e1' e2 ps e3 e3' e4 rings rs e5 e5' =
-    let places : newest ≡ places_after s.filed.m s.filed.leaves (end_of (frame_of s.making)) item s.newest =
-    e3 ∙ ap (λ (l : List Place). noted l page (end_of (frame_of s.making)) (length blocks)) e3'
-    ∙ ap (λ (p : ℕ). noted s.newest p (end_of (frame_of s.making)) (length blocks)) at
-    ∙ ap (λ (bs : List Block). noted s.newest (directed_at s.filed.leaves item) (end_of (frame_of s.making)) (length bs)) e.made
-    ∙ noted_is s.filed.m s.filed.leaves back (end_of (frame_of s.making)) item s.newest in
+    let places : newest ≡ places_after s.filed.m s.filed.leaves (here_at s item) (last_at s item) item s.newest =
+    e3 ∙ ap (λ (l : List Place). noted l page (here_for (frame_of s.making) page) (last_for (frame_of s.making) page) (length blocks)) e3'
+    ∙ ap (λ (p : ℕ). noted s.newest p (here_for (frame_of s.making) p) (last_for (frame_of s.making) p) (length blocks)) at
+    ∙ ap (λ (bs : List Block). noted s.newest (directed_at s.filed.leaves item) (here_at s item) (last_at s item) (length bs)) e.made
+    ∙ noted_is s.filed.m s.filed.leaves back (here_at s item) (last_at s item) item s.newest in
     let made : making ≡ record s.making { blocks = s.making.blocks ++ blocks_for s.filed.m s.filed.leaves back (end_of (frame_of s.making)) item } =
     e4 ∙ ap (λ (bs : List Block). record s.making { blocks = s.making.blocks ++ bs }) e.made in
     ap (λ (l : List Ring). record s { rings = l; entries = entries; filed = filed; newest = newest; making = making }) (e5 ∙ e5') ∙
@@ -166,7 +167,7 @@ entered {s} {item} {back} {blocks} e not writer page entries filed newest making
     ∙ ap (λ (b : Filling). record s {
       entries = s.entries ++ record { writer = writer; item = item } ∷ [];
       filed = record s.filed { leaves = applied s.filed.m s.filed.leaves item };
-      newest = places_after s.filed.m s.filed.leaves (end_of (frame_of s.making)) item s.newest;
+      newest = places_after s.filed.m s.filed.leaves (here_at s item) (last_at s item) item s.newest;
       making = b;
     }) made
 

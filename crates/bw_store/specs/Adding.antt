@@ -18,6 +18,14 @@ with_blocks frame blocks = record frame { blocks = frame.blocks ++ blocks }
 abbrev pub end_of : Frame → Place
 end_of frame = record { frame = frame.number; index = length frame.blocks }
 
+-- where the Delta of a record of this page goes
+abbrev pub here_for : Frame → ℕ → Place
+here_for frame p = end_of frame
+
+-- where a Split behind that Delta goes
+abbrev pub last_for : Frame → ℕ → Place
+last_for frame p = record { frame = frame.number; index = length frame.blocks + 1 }
+
 -- ---- one record
 
 -- the leaf at which it is directed, after it
@@ -30,20 +38,16 @@ blocks_for m leaves back here r =
     if nat_le (length (result_of leaves r).pairs) m then Delta (directed_at leaves r) back (r ∷ []) ∷ []
     else Delta (directed_at leaves r) back (r ∷ []) ∷ Split (directed_at leaves r) here (upper_of m (length leaves + 1) (result_of leaves r)) ∷ []
 
-abbrev pub after_place : Place → Place
-after_place here = record here { index = here.index + 1 }
-
--- the newest place of each page, after it
-abbrev pub places_after : ℕ → List Leaf → Place → Record → List Place → List Place
-places_after m leaves here r newest =
+-- the newest place of each page, after it, where its Split goes to the place `last`
+abbrev pub places_after : ℕ → List Leaf → Place → Place → Record → List Place → List Place
+places_after m leaves here last r newest =
     if nat_le (length (result_of leaves r).pairs) m then slice_set newest (directed_at leaves r - 1) here
-    else slice_set newest (directed_at leaves r - 1) (after_place here) ++ after_place here ∷ []
+    else slice_set newest (directed_at leaves r - 1) last ++ last ∷ []
 
 -- newest places where so many blocks of a page were added, the first of them here
-abbrev pub noted : List Place → ℕ → Place → ℕ → List Place
-noted newest page here count =
-    if nat_le count 1 then slice_set newest (page - 1) here
-    else slice_set newest (page - 1) (after_place here) ++ after_place here ∷ []
+abbrev pub noted : List Place → ℕ → Place → Place → ℕ → List Place
+noted newest page here last count =
+    if nat_le count 1 then slice_set newest (page - 1) here else slice_set newest (page - 1) last ++ last ∷ []
 
 -- the upper part of a leaf that has too many pairs
 abbrev pub upper_if : ℕ → ℕ → Leaf → Option Leaf

@@ -8,7 +8,7 @@ ghost use Rattle.bw_buffer.specs.Filling.{frame_of, size_of};
 ghost use Rattle.bw_page.specs.Leaves.{directed_at};
 ghost use Rattle.bw_codec.specs.Record.{key_of};
 ghost use Rattle.bw_page.specs.Shown.{IsSpent, IsHere};
-ghost use Rattle.bw_store.specs.Adding.{blocks_for, end_of, noted};
+ghost use Rattle.bw_store.specs.Adding.{blocks_for, here_for, last_for, noted};
 ghost use Rattle.bw_ring.specs.Ends.{given};
 ghost use Rattle.bw_store.specs.Lanes.{IsNext, TookKnown};
 ghost use Rattle.bw_store.specs.Taking.{IsWanting};
@@ -41,7 +41,7 @@ impl Store {
         requires page { page ≡ directed_at self.old.leaves.leaves item }
         requires back { slice_get self.old.newest.items (page - 1) ≡ Some back }
         requires blocks { blocks.now ≡ blocks_for self.old.leaves.m self.old.leaves.leaves back
-            (end_of (frame_of self.old.making)) item }
+            (here_for (frame_of self.old.making) page) item }
         requires fits { size_of self.old.making + length (body_bytes blocks.now)
             ≤ self.old.making.limit }
         ensures sound { IsSound self.new holding }
@@ -80,7 +80,8 @@ fn file(making: &mut Buffer, newest: &mut Vec<Place>, page: u32, blocks: &[Block
     requires page { (1 ≤ page) × (page ≤ length newest.old.items) }
     requires room { vec_len newest.old < vec_capacity newest.old }
     ensures making { making.new ≡ record making.old { blocks = making.old.blocks ++ blocks.now } }
-    ensures newest { newest.new.items ≡ noted newest.old.items page (end_of (frame_of making.old))
+    ensures newest { newest.new.items ≡ noted newest.old.items page
+        (here_for (frame_of making.old) page) (last_for (frame_of making.old) page)
         (length blocks.now) }
 {
     let Ok(first) = making.put_all(blocks) else {
