@@ -1,2 +1,12 @@
+pub mod Joined
+pub mod Pieces
 pub mod Holding
 pub mod Framing
+pub mod Growing
+pub mod Gaps
+pub mod Sizes
+pub mod Beginning
+pub mod Joining
+pub mod Sealing
+pub mod Passes
+pub mod Several

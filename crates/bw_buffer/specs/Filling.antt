@@ -7,13 +7,15 @@ use Rattle.bw_codec.specs.declared.leaf.Leaf.{Leaf}
 use Rattle.bw_codec.specs.declared.block.Block.{Block}
 use Rattle.bw_codec.specs.declared.block.Block.TheVariants.{Base}
 use Rattle.bw_codec.specs.declared.block.Frame.{Frame}
+use Rattle.bw_codec.specs.declared.block.Place.{Place}
+use Rattle.bw_buffer.specs.Joining.{added}
 
 pub record Filling : Type 0 where
   -- the frame's number
   pub frame : ℕ
   -- the most bytes that the frame may have
   pub limit : ℕ
-  -- all blocks added, in order
+  -- all blocks added, in order, each Delta joined to the last block of its page where that is a Delta
   pub blocks : List Block
   pub is_sealed : Bool
 
@@ -24,6 +26,14 @@ frame_of b = record { number = b.frame; blocks = b.blocks }
 -- the bytes of that frame
 abbrev pub size_of : Filling → ℕ
 size_of b = 20 + length (body_bytes b.blocks)
+
+-- the same with more blocks
+abbrev pub with_all : Filling → List Block → Filling
+with_all b more = record b { blocks = added b.blocks more }
+
+-- the place of an index in the frame
+abbrev pub place_at : Filling → ℕ → Place
+place_at b i = record { frame = b.frame; index = i }
 
 -- one or more blocks that are lawful where pages have at most m pairs are a frame that is lawful there
 abbrev pub IsLawfulFrame : Filling → Type 0

@@ -1,18 +1,25 @@
 //! The buffer itself.
 
-ghost use Rattle.std.specs.Prelude.{nat_le, ◌≡◌, ◌≤◌, ◌<◌, ◌+◌, ◌-◌, ◌∷◌, ◌++◌, ◌↔◌, ◌⊎◌, [], true, false, length, slice_get, IsTrue, IfOk, OnOk, OnErr, IfSome, IsErrOf};
+ghost use Rattle.std.specs.Prelude.{ℕ, nat_eq, is_some, Some, None, if◌then◌else◌, ◌≡◌, ◌≤◌, ◌<◌, ◌+◌, ◌∷◌, ◌++◌, ◌↔◌, ◌⊎◌, [], true, false, length, slice_get, IsTrue, IfOk, OnOk, OnErr, IfSome, IsErrOf};
 ghost use Rattle.std.specs.List.{AllByRecursion};
-ghost use Rattle.bw_codec.specs.Grammar.{block_bytes, body_bytes, frame_bytes, IsBlock};
+ghost use Rattle.std.specs.Option.{option_map};
+ghost use Rattle.bw_codec.specs.Grammar.{block_bytes, frame_bytes, IsBlock};
+ghost use Rattle.bw_codec.specs.Touch.{touches};
 ghost use Rattle.bw_codec.specs.declared.leaf.Leaf.{Leaf};
-ghost use Rattle.bw_codec.specs.declared.block.Block.TheVariants.{Base};
-ghost use Rattle.bw_buffer.specs.Filling.{frame_of, size_of, IsLawfulFrame, SpellsBase};
-ghost use Rattle.bw_buffer.specs.Marks.{mark_of};
+ghost use Rattle.bw_codec.specs.declared.block.Block.TheVariants.{Delta, Base};
+ghost use Rattle.std.specs.HashMap.{spare, hash_map_len};
+ghost use Rattle.bw_buffer.specs.Index.{index_at};
+ghost use Rattle.bw_buffer.specs.Filling.{frame_of, size_of, with_all, place_at, IsLawfulFrame, SpellsBase};
+ghost use Rattle.bw_buffer.specs.Joining.{joins, added, index_for, is_delta};
+ghost use Rattle.bw_buffer.specs.Marks.{mark_of, is_closed_by};
 
 use crate::fault::PutError;
-use crate::layout::{copy_in, fit, lay_out, mark_all, set_head};
+use crate::index::{Index, forget, look, note};
+use crate::layout::{copy_in, lay_out};
 use crate::mark::Mark;
+use crate::rows::{DELTA_HEAD, MIN_PIECE, Piece, Row};
 use bw_codec::limits::{HEAD_LEN, MIN_BLOCK};
-use bw_codec::{Block, Place};
+use bw_codec::{Block, Ops, Place, Record, block_length, ops_length, write_block, write_ops};
 use std::alloc::{AllocError, Global};
 use std::marker::Model;
 
@@ -22,13 +29,21 @@ pub struct Buffer {
     frame: u64,
     /// The most bytes that the frame may have; so much room was reserved at once.
     limit: u32,
-    /// How many blocks were added.
-    count: u32,
+    /// The frame's length if it were sealed now.
+    size: u32,
     is_sealed: bool,
-    /// The frame's bytes: the head is that of all blocks behind it.
+    /// The blocks, but for the bytes of their pieces.
+    rows: Vec<Row>,
+    /// Which bytes of the arena are whose.
+    pieces: Vec<Piece>,
+    /// The bytes of all pieces, in the order in which they came.
+    arena: Vec<u8>,
+    /// Of each page whose last block is a Delta, the index of that block.
+    deltas: Index,
+    /// Where the next piece of each block goes, while the frame is laid out.
+    spots: Vec<u32>,
+    /// The frame's bytes, once it is sealed.
     bytes: Vec<u8>,
-    /// What each block does, so that nobody has to read the bytes again.
-    marks: Vec<Mark>,
 }
 
 impl Drop for Buffer {
@@ -36,10 +51,14 @@ impl Drop for Buffer {
         let Buffer {
             frame: _,
             limit: _,
-            count: _,
+            size: _,
             is_sealed: _,
+            rows: _,
+            pieces: _,
+            arena: _,
+            deltas: _,
+            spots: _,
             bytes: _,
-            marks: _,
         } = self;
     }
 }
@@ -58,24 +77,32 @@ impl Model for Buffer {
 
 impl Buffer {
     /// An empty buffer for the frame of this number, from 1, of at most `limit` bytes, 16,384 to
-    /// 65,536. The room for all of them, and for a mark of each block, is reserved here, so that a
-    /// buffer never grows again; a refusal of it is the only error.
+    /// 65,536. The room for all of them is reserved here, so that a buffer never grows again; a
+    /// refusal of it is the only error.
     pub fn new(alloc: Global, frame: u64, limit: u32) -> Result<Buffer, AllocError>
         requires numbered { 1 ≤ frame }
         requires limit { (16384 ≤ limit) × (limit ≤ 65536) }
         ensures { IfOk result (λ b. b
             ≡ record { frame = frame; limit = limit; blocks = []; is_sealed = false }) }
     {
-        let marks = Vec::with_capacity(alloc, (limit / MIN_BLOCK) as usize)?;
-        let mut bytes = Vec::with_capacity(alloc, limit as usize)?;
-        bytes.extend_from_slice(&bw_codec::frame_cells(frame, 0, 0))?;
+        let blocks = (limit / MIN_BLOCK) as usize;
+        let rows = Vec::with_capacity(alloc, blocks)?;
+        let pieces = Vec::with_capacity(alloc, (limit / MIN_PIECE) as usize)?;
+        let arena = Vec::with_capacity(alloc, limit as usize)?;
+        let deltas = Index::with_capacity(alloc, blocks)?;
+        let spots = Vec::with_capacity(alloc, blocks)?;
+        let bytes = Vec::with_capacity(alloc, limit as usize)?;
         Ok(Buffer {
             frame,
             limit,
-            count: 0,
+            size: HEAD_LEN as u32,
             is_sealed: false,
+            rows,
+            pieces,
+            arena,
+            deltas,
+            spots,
             bytes,
-            marks,
         })
     }
 
@@ -88,49 +115,47 @@ impl Buffer {
             ≡ record { frame = frame; limit = self.old.limit; blocks = []; is_sealed = false } }
     {
         self.frame = frame;
-        self.count = 0;
+        self.size = HEAD_LEN as u32;
         self.is_sealed = false;
-        self.marks.clear();
-        self.bytes.truncate(HEAD_LEN);
-        set_head(&mut self.bytes, frame, 0, 0);
+        self.rows.clear();
+        self.pieces.clear();
+        self.arena.clear();
+        self.deltas.clear();
     }
 
     /// Adds all the blocks, one or more that are lawful for 32 pairs a page, or none, and answers the
-    /// place of the first. `Sealed` after the seal, else `NoRoom` where the frame would be longer than
-    /// the limit. No memory is taken. Time is linear in the bytes of these blocks, whatever stands in
-    /// the buffer.
+    /// place of the first. A Delta joins the last block of its page where that is a Delta: its back
+    /// place is not used, and its place is that of the block. `Sealed` after the seal, else `NoRoom`
+    /// where the frame would be longer than the limit. No memory is taken. Time is linear in the
+    /// bytes of these blocks, and in the square of their number, whatever stands in the buffer.
     pub fn put_all(&mut self, blocks: &[Block]) -> Result<Place, PutError>
         requires some { 1 ≤ length blocks.now }
         requires lawful { AllByRecursion (IsBlock 32) blocks.now }
-        ensures added { OnOk result
-            (self.new ≡ record self.old { blocks = self.old.blocks ++ blocks.now }) }
-        ensures place { IfOk result (λ place.
-            place ≡ record { frame = self.old.frame; index = length self.old.blocks }) }
+        ensures added { OnOk result (self.new ≡ with_all self.old blocks.now) }
+        ensures place { IfOk result (λ place. IfSome (slice_get blocks.now 0) (λ block.
+            place ≡ place_at self.old (index_for self.old.blocks block))) }
 
         // The seal is looked at first, then the room; there is no other refusal.
         ensures sealed { IsErrOf result PutError.Sealed ↔ IsTrue self.old.is_sealed }
         ensures no_room { IsErrOf result PutError.NoRoom
             ↔ ((self.old.is_sealed ≡ false)
-            × (self.old.limit < size_of self.old + length (body_bytes blocks.now))) }
+            × (self.old.limit < size_of (with_all self.old blocks.now))) }
         ensures unchanged { OnErr result (self.new ≡ self.old) }
     {
-        if self.is_sealed {
+        if self.is_sealed() {
             return Err(PutError::Sealed);
         }
-        let room = self.limit as usize - self.bytes.as_slice().len();
-        if !fit(blocks, room) {
+        if !self.has_room(blocks) {
             return Err(PutError::NoRoom);
         }
-        let index = self.count;
-        lay_out(blocks, &mut self.bytes);
-        mark_all(blocks, &mut self.marks);
-        self.count = index + blocks.len() as u32;
-        let body = (self.bytes.as_slice().len() - HEAD_LEN) as u32;
-        set_head(&mut self.bytes, self.frame, body, self.count);
-        Ok(Place {
-            frame: self.frame,
-            index,
-        })
+        let first = Place {
+            frame: self.frame(),
+            index: self.index_for(&blocks[0]),
+        };
+        for block in blocks {
+            self.put(block);
+        }
+        Ok(first)
     }
 
     /// Adds a Base by the bytes that spell it, and answers its place: for a block that stands in a
@@ -143,8 +168,7 @@ impl Buffer {
             → bytes.now ≡ block_bytes (Base leaf)
             → OnOk result
             (self.new ≡ record self.old { blocks = self.old.blocks ++ Base leaf ∷ [] }) }
-        ensures place { IfOk result (λ place.
-            place ≡ record { frame = self.old.frame; index = length self.old.blocks }) }
+        ensures place { IfOk result (λ place. place ≡ place_at self.old (length self.old.blocks)) }
 
         // The seal is looked at first, then the room; there is no other refusal.
         ensures sealed { IsErrOf result PutError.Sealed ↔ IsTrue self.old.is_sealed }
@@ -161,29 +185,210 @@ impl Buffer {
         }
         let place = Place {
             frame: self.frame,
-            index: self.count,
+            index: self.count(),
         };
-        copy_in(bytes, &mut self.bytes);
-        self.marks.push_reserved(Mark::Sets(page));
-        self.count += 1;
-        let body = (self.bytes.as_slice().len() - HEAD_LEN) as u32;
-        set_head(&mut self.bytes, place.frame, body, self.count);
+        self.put_bytes(bytes, page);
         Ok(place)
+    }
+
+    fn put_bytes(&mut self, bytes: &[u8], page: u32)
+        requires spells { SpellsBase page bytes.now }
+        requires unsealed { self.old.is_sealed ≡ false }
+        requires fits { size_of self.old + length bytes.now ≤ self.old.limit }
+        ensures { (leaf : Leaf) → IsBlock 32 (Base leaf) → bytes.now ≡ block_bytes (Base leaf)
+            → self.new ≡ record self.old { blocks = self.old.blocks ++ Base leaf ∷ [] } }
+    {
+        let at = self.rows.as_slice().len() as u32;
+        let len = bytes.len() as u32;
+        forget(&mut self.deltas, page);
+        self.rows.push_reserved(whole_row(Mark::Sets(page), len));
+        self.pieces.push_reserved(Piece { block: at, len });
+        copy_in(bytes, &mut self.arena);
+        self.size += len;
     }
 
     /// Whether the frame with these blocks would not be longer than the limit. No memory is taken.
     pub fn has_room(&self, blocks: &[Block]) -> bool
         requires { AllByRecursion (IsBlock 32) blocks.now }
-        ensures { IsTrue result ↔ (size_of self.now + length (body_bytes blocks.now) ≤ self.now.limit) }
+        ensures { IsTrue result ↔ (size_of (with_all self.now blocks.now) ≤ self.now.limit) }
     {
-        fit(blocks, self.limit as usize - self.bytes.as_slice().len())
+        let mut left = self.room() as usize;
+        for at in 0..blocks.len() {
+            let more = self.length_behind(&blocks[..at], &blocks[at]);
+            if left < more {
+                return false;
+            }
+            left -= more;
+        }
+        true
     }
 
-    /// Closes the buffer: it takes no more blocks. A second seal does nothing. No memory is taken.
+    // How many bytes a block adds behind these others.
+    fn length_behind(&self, others: &[Block], block: &Block) -> usize
+        requires { IsBlock 32 block.now }
+        ensures { result + size_of (with_all self.now others.now)
+            ≡ size_of (with_all self.now (others.now ++ block.now ∷ [])) }
+    {
+        let length = block_length(block);
+        match block {
+            Block::Delta { page, .. } => {
+                if self.joins_behind(others, *page) {
+                    length - DELTA_HEAD as usize
+                } else {
+                    length
+                }
+            }
+            Block::Base(_) => length,
+            Block::Split { .. } => length,
+        }
+    }
+
+    // Whether a Delta of a page joins a block, behind these others.
+    fn joins_behind(&self, others: &[Block], page: u32) -> bool
+        ensures { result ≡ is_some (joins page (added self.now.blocks others.now)) }
+    {
+        let mut joins = self.joins(page).is_some();
+        for block in others {
+            joins = joins_after(page, block, joins);
+        }
+        joins
+    }
+
+    // Where a block goes.
+    fn index_for(&self, block: &Block) -> u32
+        ensures { result ≡ index_for self.now.blocks block.now }
+    {
+        match block {
+            Block::Delta { page, .. } => match self.joins(*page) {
+                Some(place) => place.index,
+                None => self.count(),
+            },
+            Block::Base(_) => self.count(),
+            Block::Split { .. } => self.count(),
+        }
+    }
+
+    // Adds a block that fits.
+    fn put(&mut self, block: &Block)
+        requires lawful { IsBlock 32 block.now }
+        requires unsealed { self.old.is_sealed ≡ false }
+        requires fits { size_of (with_all self.old (block.now ∷ [])) ≤ self.old.limit }
+        ensures { self.new ≡ with_all self.old (block.now ∷ []) }
+    {
+        match block {
+            Block::Delta { page, back, ops } => self.put_delta(*page, back, ops),
+            Block::Base(_) => self.put_whole(block),
+            Block::Split { .. } => self.put_whole(block),
+        }
+    }
+
+    // Adds a block that joins no other.
+    fn put_whole(&mut self, block: &Block)
+        requires lawful { IsBlock 32 block.now }
+        requires whole { is_delta block.now ≡ false }
+        requires unsealed { self.old.is_sealed ≡ false }
+        requires fits { size_of self.old + length (block_bytes block.now) ≤ self.old.limit }
+        ensures { self.new ≡ record self.old { blocks = self.old.blocks ++ block.now ∷ [] } }
+    {
+        let at = self.rows.as_slice().len() as u32;
+        let len = block_length(block) as u32;
+        let mark = Mark::of(block);
+        close(&mut self.deltas, mark);
+        self.rows.push_reserved(whole_row(mark, len));
+        self.pieces.push_reserved(Piece { block: at, len });
+        write_block(block, &mut self.arena);
+        self.size += len;
+    }
+
+    fn put_delta(&mut self, page: u32, back: &Place, ops: &Ops)
+        requires lawful { IsBlock 32 (Delta page back.now ops.now) }
+        requires unsealed { self.old.is_sealed ≡ false }
+        requires fits { size_of (with_all self.old (Delta page back.now ops.now ∷ []))
+            ≤ self.old.limit }
+        ensures { self.new ≡ with_all self.old (Delta page back.now ops.now ∷ []) }
+    {
+        match look(&self.deltas, page) {
+            Some(at) => self.join(page, at, back, ops.as_slice()),
+            None => self.put_new(page, back, ops.as_slice()),
+        }
+    }
+
+    // Adds records to the last block of their page.
+    fn join(&mut self, page: u32, at: u32, back: &Place, ops: &[Record])
+        requires lawful { IsBlock 32 (Delta page back.now ops.now) }
+        requires unsealed { self.old.is_sealed ≡ false }
+        requires joins { joins page self.old.blocks ≡ Some at }
+        requires fits { size_of (with_all self.old (Delta page back.now ops.now ∷ []))
+            ≤ self.old.limit }
+        ensures { self.new ≡ with_all self.old (Delta page back.now ops.now ∷ []) }
+    {
+        let len = ops_length(ops) as u32;
+        let row = self.rows[at as usize];
+        self.rows[at as usize] = Row {
+            ops: row.ops + ops.len() as u32,
+            len: row.len + len,
+            ..row
+        };
+        self.pieces.push_reserved(Piece { block: at, len });
+        write_ops(ops, &mut self.arena);
+        self.size += len;
+    }
+
+    // Adds a Delta behind all blocks.
+    fn put_new(&mut self, page: u32, back: &Place, ops: &[Record])
+        requires lawful { IsBlock 32 (Delta page back.now ops.now) }
+        requires unsealed { self.old.is_sealed ≡ false }
+        requires none { joins page self.old.blocks ≡ None }
+        requires fits { size_of self.old + length (block_bytes (Delta page back.now ops.now))
+            ≤ self.old.limit }
+        ensures { self.new ≡ with_all self.old (Delta page back.now ops.now ∷ []) }
+    {
+        let at = self.rows.as_slice().len() as u32;
+        let len = ops_length(ops) as u32;
+        note(&mut self.deltas, page, at);
+        self.rows.push_reserved(Row {
+            mark: Mark::Changes(page),
+            back: *back,
+            ops: ops.len() as u32,
+            len,
+        });
+        self.pieces.push_reserved(Piece { block: at, len });
+        write_ops(ops, &mut self.arena);
+        self.size += DELTA_HEAD + len;
+    }
+
+    /// The place of the Delta that a Delta of this page joins, if there is one. No memory is taken.
+    /// Time is that of a look-up, however many blocks there are.
+    pub fn joins(&self, page: u32) -> Option<Place>
+        ensures { result ≡ option_map (place_at self.now) (joins page self.now.blocks) }
+    {
+        match look(&self.deltas, page) {
+            Some(index) => Some(Place {
+                frame: self.frame,
+                index,
+            }),
+            None => None,
+        }
+    }
+
+    /// Closes the buffer: it takes no more blocks, and its bytes are laid out. A second seal does
+    /// nothing. No memory is taken. Time is linear in the frame.
     pub fn seal(&mut self)
         ensures { self.new ≡ record self.old { is_sealed = true } }
     {
+        if self.is_sealed {
+            return;
+        }
         self.is_sealed = true;
+        lay_out(
+            self.frame,
+            self.size,
+            self.rows.as_slice(),
+            self.pieces.as_slice(),
+            self.arena.as_slice(),
+            &mut self.spots,
+            &mut self.bytes,
+        );
     }
 
     /// Whether the buffer was sealed.
@@ -203,11 +408,23 @@ impl Buffer {
         self.limit
     }
 
+    /// How many bytes the frame has if it is sealed now.
+    pub fn len(&self) -> u32
+        ensures value { result ≡ length (frame_bytes (frame_of self.now)) }
+        ensures fits { result ≤ self.now.limit }
+        ensures lawful { AllByRecursion (IsBlock 32) self.now.blocks }
+        ensures frame { IsLawfulFrame self.now }
+    {
+        // The call tells the proof that the number has a range.
+        let _ = self.frame();
+        self.size
+    }
+
     /// How many bytes of the limit are free.
     pub fn room(&self) -> u32
         ensures { result + size_of self.now ≡ self.now.limit }
     {
-        self.limit - self.bytes.as_slice().len() as u32
+        self.limit - self.size
     }
 
     /// The frame's number.
@@ -220,11 +437,11 @@ impl Buffer {
         self.frame
     }
 
-    /// How many blocks were added.
+    /// How many blocks there are: a Delta that joined is none of its own.
     pub fn count(&self) -> u32
         ensures { result ≡ length self.now.blocks }
     {
-        self.count
+        self.rows.as_slice().len() as u32
     }
 
     /// What the block of this index does, from 0.
@@ -232,11 +449,12 @@ impl Buffer {
         requires { i < length self.now.blocks }
         ensures { IfSome (slice_get self.now.blocks i) (λ block. result ≡ mark_of block) }
     {
-        self.marks[i as usize]
+        self.rows[i as usize].mark
     }
 
-    /// The bytes of the frame as it is if sealed now. Nothing is copied.
+    /// The frame's bytes, once it is sealed. Nothing is copied.
     pub fn bytes(&self) -> &[u8]
+        requires sealed { self.now.is_sealed ≡ true }
         ensures value { result.now ≡ frame_bytes (frame_of self.now) }
         ensures fits { length (frame_bytes (frame_of self.now)) ≤ self.now.limit }
         ensures lawful { AllByRecursion (IsBlock 32) self.now.blocks }
@@ -245,5 +463,48 @@ impl Buffer {
         // The call tells the proof that the number has a range.
         let _ = self.frame();
         self.bytes.as_slice()
+    }
+}
+
+// Whether a Delta of a page joins a block behind this one, by whether it did before.
+fn joins_after(page: u32, block: &Block, before: bool) -> bool
+    ensures { result ≡ (if touches page block.now then is_delta block.now else before) }
+{
+    if !block.touches(page) {
+        return before;
+    }
+    match block {
+        Block::Delta { .. } => true,
+        Block::Base(_) => false,
+        Block::Split { .. } => false,
+    }
+}
+
+// The row of a block that is one piece of so many bytes.
+fn whole_row(mark: Mark, len: u32) -> Row
+    ensures { result ≡ record { mark = mark; back = record { frame = 0; index = 0 }; ops = 0; len = len } }
+{
+    Row {
+        mark,
+        back: Place { frame: 0, index: 0 },
+        ops: 0,
+        len,
+    }
+}
+
+// No Delta joins the blocks of the pages that a block sets or cuts.
+fn close(index: &mut Index, mark: Mark)
+    ensures value { (q : ℕ) → index_at index.new q
+        ≡ (if is_closed_by q mark then None else index_at index.old q) }
+    ensures len { hash_map_len index.new ≡ hash_map_len index.old }
+    ensures room { spare index.new ≡ spare index.old }
+{
+    match mark {
+        Mark::Changes(page) => forget(index, page),
+        Mark::Sets(page) => forget(index, page),
+        Mark::Splits(page, upper) => {
+            forget(index, page);
+            forget(index, upper);
+        }
     }
 }

@@ -1,42 +1,16 @@
-//! Blocks laid out behind a frame's head, where there is room for them.
+//! A frame laid out: heads and gaps first, then each piece into the gap of its block.
 
-ghost use Rattle.std.specs.Prelude.{◌≡◌, ◌≤◌, ◌+◌, ◌++◌, nat_le, length, map, drop, vec_len};
-ghost use Rattle.std.specs.Vec.{vec_capacity};
+ghost use Rattle.std.specs.Prelude.{◌≡◌, ◌≤◌, ◌<◌, ◌+◌, ◌-◌, ◌∷◌, ◌++◌, ◌^◌, [], length, replicate, slice_index, slice_set, vec_len};
 ghost use Rattle.std.specs.List.{AllByRecursion};
-ghost use Rattle.bw_codec.specs.Grammar.{body_bytes, head_bytes, IsBlock};
+ghost use Rattle.std.specs.Vec.{vec_capacity};
+ghost use Rattle.bw_codec.specs.Grammar.{head_bytes};
 ghost use Rattle.bw_codec.specs.Writing.{HasRoom, Adds};
-ghost use Rattle.bw_buffer.specs.Marks.{mark_of};
+ghost use Rattle.bw_buffer.specs.Gaps.{zeros, written};
+ghost use Rattle.bw_buffer.specs.Rows.{parts, pieces_length, front_of, laid, IsFewBy, AreMeasured};
 
 use crate::mark::Mark;
-use bw_codec::limits::HEAD_LEN;
-use bw_codec::{Block, block_length, frame_cells, write_block};
-
-/// Whether blocks are spelled in so many bytes at most.
-pub(crate) fn fit(blocks: &[Block], room: usize) -> bool
-    requires { AllByRecursion (IsBlock 32) blocks.now }
-    ensures { result ≡ nat_le (length (body_bytes blocks.now)) room }
-{
-    let mut left = room;
-    for block in blocks {
-        let size = block_length(block);
-        if left < size {
-            return false;
-        }
-        left -= size;
-    }
-    true
-}
-
-/// Appends the bytes of blocks.
-pub(crate) fn lay_out(blocks: &[Block], bytes: &mut Vec<u8>)
-    requires lawful { AllByRecursion (IsBlock 32) blocks.now }
-    requires room { HasRoom bytes.old (length (body_bytes blocks.now)) }
-    ensures { Adds bytes.old bytes.new (body_bytes blocks.now) }
-{
-    for block in blocks {
-        write_block(block, bytes);
-    }
-}
+use crate::rows::{Piece, Row};
+use bw_codec::{frame_cells, write_delta_head};
 
 /// Appends bytes that are there already.
 pub(crate) fn copy_in(spelled: &[u8], bytes: &mut Vec<u8>)
@@ -49,30 +23,106 @@ pub(crate) fn copy_in(spelled: &[u8], bytes: &mut Vec<u8>)
     }
 }
 
-/// Appends what blocks do.
-pub(crate) fn mark_all(blocks: &[Block], marks: &mut Vec<Mark>)
-    requires { vec_len marks.old + length blocks.now ≤ vec_capacity marks.old }
-    ensures items { marks.new.items ≡ marks.old.items ++ map mark_of blocks.now }
-    ensures capacity { vec_capacity marks.new ≡ vec_capacity marks.old }
+// Appends so many zeros.
+fn push_gap(len: u32, bytes: &mut Vec<u8>)
+    requires room { HasRoom bytes.old len }
+    requires few { length bytes.old.items + len < 2 ^ 32 }
+    ensures { Adds bytes.old bytes.new (replicate len 0) }
 {
-    for block in blocks {
-        marks.push_reserved(Mark::of(block));
+    let end = bytes.as_slice().len() + len as usize;
+    match bytes.resize(end, 0) {
+        Ok(()) => {}
+        Err(_) => unreachable!(),
     }
 }
 
-/// Writes a head over the first bytes.
-fn put_front(bytes: &mut [u8], cells: &[u8; HEAD_LEN])
-    requires { 20 ≤ length bytes.old }
-    ensures { bytes.new ≡ cells.now ++ drop 20 bytes.old }
+// Appends what stands before a block's pieces.
+fn push_front(row: &Row, bytes: &mut Vec<u8>)
+    requires room { HasRoom bytes.old (length (front_of row.now)) }
+    requires few { IsFewBy row.now.mark row.now.ops }
+    ensures { Adds bytes.old bytes.new (front_of row.now) }
 {
-    bytes[..HEAD_LEN].copy_from_slice(cells);
+    match row.mark {
+        Mark::Changes(page) => write_delta_head(page, &row.back, row.ops as u16, bytes),
+        Mark::Sets(_) => {}
+        Mark::Splits(_, _) => {}
+    }
 }
 
-/// Makes the first 20 bytes a frame's head.
-pub(crate) fn set_head(bytes: &mut Vec<u8>, number: u64, body: u32, blocks: u32)
-    requires { 20 ≤ length bytes.old.items }
-    ensures items { bytes.new.items ≡ head_bytes number body blocks ++ drop 20 bytes.old.items }
-    ensures capacity { vec_capacity bytes.new ≡ vec_capacity bytes.old }
+// Appends what stands before a block's pieces, and a gap for them, and notes where the gap begins.
+fn push_row(row: &Row, spots: &mut Vec<u32>, bytes: &mut Vec<u8>)
+    requires few { IsFewBy row.now.mark row.now.ops }
+    requires room { HasRoom bytes.old (length (front_of row.now) + row.now.len) }
+    requires short { length bytes.old.items + (length (front_of row.now) + row.now.len) ≤ 65536 }
+    requires spot { HasRoom spots.old 1 }
+    ensures bytes { Adds bytes.old bytes.new (front_of row.now ++ zeros row.now.len) }
+    ensures spots { Adds spots.old spots.new
+        ((length bytes.old.items + length (front_of row.now)) ∷ []) }
 {
-    put_front(bytes.as_mut_slice(), &frame_cells(number, body, blocks));
+    push_front(row, bytes);
+    spots.push_reserved(bytes.as_slice().len() as u32);
+    push_gap(row.len, bytes);
+}
+
+// Writes over bytes from an index on.
+fn write_at(bytes: &mut [u8], at: usize, piece: &[u8])
+    requires { at + length piece.now ≤ length bytes.old }
+    ensures { bytes.new ≡ written at piece.now bytes.old }
+{
+    bytes[at..at + piece.len()].copy_from_slice(piece);
+}
+
+// Writes a piece where its block's spot is, which moves on behind it.
+fn put_piece(block: u32, piece: &[u8], spots: &mut Vec<u32>, bytes: &mut Vec<u8>)
+    requires spot { block < length spots.old.items }
+    requires within { slice_index spots.old.items block + length piece.now
+        ≤ length bytes.old.items }
+    requires short { length bytes.old.items ≤ 65536 }
+    ensures bytes { bytes.new.items
+        ≡ written (slice_index spots.old.items block) piece.now bytes.old.items }
+    ensures spots { spots.new.items ≡ slice_set spots.old.items block
+        (slice_index spots.old.items block + length piece.now) }
+    ensures bytes_room { vec_capacity bytes.new ≡ vec_capacity bytes.old }
+    ensures spots_room { vec_capacity spots.new ≡ vec_capacity spots.old }
+{
+    let at = spots[block as usize];
+    write_at(bytes.as_mut_slice(), at as usize, piece);
+    spots[block as usize] = at + piece.len() as u32;
+}
+
+/// Lays out a frame of so many bytes.
+pub(crate) fn lay_out(
+    number: u64,
+    size: u32,
+    rows: &[Row],
+    pieces: &[Piece],
+    arena: &[u8],
+    spots: &mut Vec<u32>,
+    bytes: &mut Vec<u8>,
+)
+    requires measured { AreMeasured 0 rows.now (parts pieces.now arena.now) }
+    requires within { AllByRecursion (λ q. q.block < length rows.now) pieces.now }
+    requires cut { pieces_length pieces.now ≡ length arena.now }
+    requires size { size ≡ 20 + length (laid 0 rows.now (parts pieces.now arena.now)) }
+    requires short { size ≤ 65536 }
+    requires few { length rows.now < 2 ^ 32 }
+    requires room { size ≤ vec_capacity bytes.old }
+    requires spots { length rows.now ≤ vec_capacity spots.old }
+    ensures bytes { bytes.new.items ≡ head_bytes number (size - 20) (length rows.now)
+        ++ laid 0 rows.now (parts pieces.now arena.now) }
+    ensures capacity { vec_capacity bytes.old ≤ vec_capacity bytes.new }
+    ensures spots { vec_capacity spots.old ≤ vec_capacity spots.new }
+{
+    bytes.clear();
+    spots.clear();
+    copy_in(&frame_cells(number, size - 20, rows.len() as u32), bytes);
+    for row in rows {
+        push_row(row, spots, bytes);
+    }
+    let mut rest = arena;
+    for piece in pieces {
+        let (spelled, behind) = rest.split_at(piece.len as usize);
+        put_piece(piece.block, spelled, spots, bytes);
+        rest = behind;
+    }
 }

@@ -3,7 +3,7 @@
 use Rattle.std.proofs.Common.{◌≡◌, ℕ, ◌+◌, List, ◌++◌, length, arith, length-append}
 use Rattle.std.specs.List.{flat_map}
 use Rattle.bw_codec.specs.Bytes.{number_bytes, text}
-use Rattle.bw_codec.specs.Grammar.{op_bytes, pair_bytes, place_bytes, pairs_bytes, ops_bytes, upper_bytes, block_bytes}
+use Rattle.bw_codec.specs.Grammar.{op_bytes, pair_bytes, place_bytes, pairs_bytes, ops_bytes, delta_front, upper_bytes, block_bytes}
 use Rattle.bw_codec.specs.declared.record.Record.{Record}
 use Rattle.bw_codec.specs.declared.leaf.Leaf.{Leaf}
 use Rattle.bw_codec.specs.declared.block.Place.{Place}
@@ -63,4 +63,15 @@ length-split page back upper =
       length-number 4 page,
       length-append (number_bytes 4 page) (place_bytes back ++ upper_bytes upper),
       length-append (place_bytes back) (upper_bytes upper),
+    )
+
+pub length-front : (page : ℕ) (back : Place) (ops : ℕ) → length (delta_front page back ops) ≡ 19
+length-front page back ops =
+    omega (
+      arith,
+      length-place back,
+      length-number 4 page,
+      length-number 2 ops,
+      length-append (number_bytes 4 page) (place_bytes back ++ number_bytes 2 ops),
+      length-append (place_bytes back) (number_bytes 2 ops),
     )

@@ -35,6 +35,10 @@ pairs_bytes ps = number_bytes 2 (length ps) ++ flat_map pair_bytes ps
 abbrev pub ops_bytes : List Record → List ℕ
 ops_bytes ops = number_bytes 2 (length ops) ++ flat_map op_bytes ops
 
+-- a Delta before its records, of which there are so many
+abbrev pub delta_front : ℕ → Place → ℕ → List ℕ
+delta_front page back ops = 1 ∷ (number_bytes 4 page ++ (place_bytes back ++ number_bytes 2 ops))
+
 -- the new page of a Split
 abbrev pub upper_bytes : Leaf → List ℕ
 upper_bytes leaf = text leaf.low ++ (number_bytes 4 leaf.page ++ pairs_bytes leaf.pairs)

@@ -30,5 +30,5 @@ pub use reading::{read_block, read_frame, read_header};
 pub use record::{Ops, Record};
 pub use writing::{
     block_length, encode_block, encode_frame_head, encode_header, frame_cells, header_cells,
-    write_block,
+    ops_length, write_block, write_delta_head, write_ops,
 };

@@ -4,7 +4,7 @@
 ghost use Rattle.std.specs.Prelude.{◌≡◌, ◌≤◌, ◌<◌, ◌+◌, ◌*◌, ◌^◌, ◌++◌, length, OnOk, OnErr};
 ghost use Rattle.std.specs.List.{flat_map};
 ghost use Rattle.bw_codec.specs.Bytes.{number_bytes, text};
-ghost use Rattle.bw_codec.specs.Grammar.{op_bytes, pair_bytes, place_bytes, pairs_bytes, ops_bytes, upper_bytes, block_bytes, head_bytes, header_bytes, IsBlock};
+ghost use Rattle.bw_codec.specs.Grammar.{op_bytes, pair_bytes, place_bytes, pairs_bytes, ops_bytes, delta_front, upper_bytes, block_bytes, head_bytes, header_bytes, IsBlock};
 ghost use Rattle.bw_codec.specs.Writing.{HasRoom, Adds};
 
 use crate::block::{Block, Header, Place};
@@ -39,7 +39,8 @@ fn op_length(op: &Record) -> usize
     }
 }
 
-fn ops_length(ops: &[Record]) -> usize
+/// How many bytes records are spelled in. Linear in their number.
+pub fn ops_length(ops: &[Record]) -> usize
     requires { length ops.now < 2 ^ 16 }
     ensures value { result ≡ length (flat_map op_bytes ops.now) }
     ensures small { result ≤ 195 * length ops.now }
@@ -146,15 +147,24 @@ fn push_op(out: &mut Vec<u8>, op: &Record)
     }
 }
 
+/// Appends the bytes of records, without their count, where there is room for them, as `ops_length`
+/// tells. No memory is taken.
+pub fn write_ops(ops: &[Record], out: &mut Vec<u8>)
+    requires { HasRoom out.old (length (flat_map op_bytes ops.now)) }
+    ensures { Adds out.old out.new (flat_map op_bytes ops.now) }
+{
+    for op in ops {
+        push_op(out, op);
+    }
+}
+
 fn push_ops(out: &mut Vec<u8>, ops: &[Record])
     requires room { HasRoom out.old (length (ops_bytes ops.now)) }
     requires few { length ops.now < 2 ^ 16 }
     ensures { Adds out.old out.new (ops_bytes ops.now) }
 {
     push_two(out, ops.len() as u16);
-    for op in ops {
-        push_op(out, op);
-    }
+    write_ops(ops, out);
 }
 
 // ---- heads
@@ -227,6 +237,17 @@ pub fn block_length(block: &Block) -> usize
             24 + upper.low.as_slice().len() + pairs_length(upper.pairs.as_slice())
         }
     }
+}
+
+/// Appends the front of a Delta, all but its records, of which there are so many. No memory is taken.
+pub fn write_delta_head(page: u32, back: &Place, ops: u16, out: &mut Vec<u8>)
+    requires { HasRoom out.old 19 }
+    ensures { Adds out.old out.new (delta_front page back.now ops) }
+{
+    push(out, &[1]);
+    push_four(out, page);
+    push_place(out, back);
+    push_two(out, ops);
 }
 
 fn push_upper(out: &mut Vec<u8>, upper: &Leaf)

@@ -133,6 +133,7 @@ impl Log {
     // Appends a frame's bytes to the current segment, and says in the tables where they stand. The
     // tables change once the device has answered.
     fn put(&mut self, buffer: &Buffer) -> Result<(), LogFault>
+        requires sealed { buffer.now.is_sealed ≡ true }
         requires some { 0 < length self.old.live.items }
         requires fits { IfSome
             (slice_get (map holding self.old.live.items) (length self.old.live.items - 1))

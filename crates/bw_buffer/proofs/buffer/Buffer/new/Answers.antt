@@ -1,33 +1,45 @@
-use Rattle.std.proofs.Common.{◌≡◌, ◌∙◌, arith, refl, ap, List, [], false}
-use Rattle.bw_codec.specs.Grammar.{head_bytes}
-use Rattle.bw_codec.specs.declared.block.Block.{Block}
-use Rattle.bw_buffer.specs.Filling.{Filling}
+use Rattle.std.proofs.Common.{[], false, arith, refl}
 use Rattle.bw_buffer.specs.declared.buffer.Buffer.TheInside.{Inside}
-use Rattle.bw_buffer.proofs.Holding.{Holds, filled, held, begun}
+use Rattle.bw_buffer.specs.Laid.{Holds}
+use Rattle.bw_buffer.proofs.Holding.{filled, seen}
+use Rattle.bw_buffer.proofs.Beginning.{begun}
 use Rattle.bw_buffer.proofs.buffer.Buffer.new.Goals as goal
-use Rattle.bw_buffer.proofs.buffer.Buffer.new.Goals.{In_ok-extend_from_slice}
+use Rattle.bw_buffer.proofs.buffer.Buffer.new.Goals.{In_ok-bytes}
 
-abbrev fields : In_ok-extend_from_slice → Inside
+abbrev fields : In_ok-bytes → Inside
 fields c = record {
   frame = c.args.frame;
   limit = c.args.limit;
-  count = 0;
+  size = 20;
   is_sealed = false;
-  bytes = c.extend_from_slice.new.self;
-  marks = c.in_ok-marks.marks;
+  rows = c.in_ok-rows.rows;
+  pieces = c.in_ok-pieces.pieces;
+  arena = c.in_ok-arena.arena;
+  deltas = c.in_ok-deltas.deltas;
+  spots = c.in_ok-spots.spots;
+  bytes = c.in_ok-bytes.bytes;
 }
 
-empty : (c : In_ok-extend_from_slice) → Holds (fields c) []
-empty c =
-    let bytes : c.extend_from_slice.new.self.items ≡ head_bytes c.args.frame 0 0 =
-    c.in_ok-extend_from_slice.ensures.items ∙ rw (c.in_ok-bytes.ensures.items, c.frame_cells.ensures) refl in
-    begun (fields c) c.requires.numbered c.requires.limit refl bytes c.in_ok-marks.ensures.items
-    (omega (arith, c.in_ok-bytes.ensures.exact, c.in_ok-extend_from_slice.ensures.capacity)) (omega (arith, c.in_ok-marks.ensures.exact))
+empty : (c : In_ok-bytes) → Holds (fields c) []
+empty c = begun (fields c) record {
+  rows = c.in_ok-rows.ensures.items;
+  pieces = c.in_ok-pieces.ensures.items;
+  arena = c.in_ok-arena.ensures.items;
+  size = refl;
+  unsealed = refl;
+  deltas = c.in_ok-deltas.ensures.empty;
+  numbered = c.requires.numbered;
+  limited = c.requires.limit;
+  rows_room = omega (arith, c.in_ok-rows.ensures.exact);
+  pieces_room = omega (arith, c.in_ok-pieces.ensures.exact);
+  arena_room = omega (arith, c.in_ok-arena.ensures.exact);
+  deltas_room = (let s = c.in_ok-deltas.ensures.spare in omega arith);
+  spots_room = omega (arith, c.in_ok-spots.ensures.exact);
+  bytes_room = omega (arith, c.in_ok-bytes.ensures.exact);
+}
 
 pub invariant_of-result : goal.invariant_of-result
 invariant_of-result c = filled (fields c) [] (empty c)
 
 pub returns : goal.returns
-returns c =
-    ap (λ (blocks : List Block). let f : Filling = record { frame = c.args.frame; limit = c.args.limit; blocks = blocks; is_sealed = false } in f)
-    (held (fields c) [] (empty c))
+returns c = seen (fields c) [] (empty c)
