@@ -2,7 +2,7 @@
 
 use Rattle.std.proofs.Common.{◌≡◌, ℕ, ◌+◌, ◌-◌, ◌*◌, ◌^◌, ◌<◌, ◌≤◌, true, false, Option, Some, None, Result, Ok, Err, inl, inr, List, [], ◌∷◌}
 use Rattle.std.proofs.Common.{Bool, length, refl, sym, ap, ◌∙◌, subst, arith, if◌then◌else◌, length-append, append-nil}
-use Rattle.std.specs.Prelude.{nat_le, IfOk, IfErr, OnOk, OnErr}
+use Rattle.std.specs.Prelude.{nat_le, IsTrue, ◌↔◌, IfOk, IfErr, OnOk, OnErr}
 use Rattle.bw_store.specs.declared.planning.Plan.{Plan}
 use Rattle.bw_store.specs.Planning.{listed}
 use Rattle.bw_store.specs.declared.fault.StoreFault.{StoreFault}
@@ -26,7 +26,7 @@ use Rattle.bw_page.specs.Leaves.{home, changed, directed_at, upper_of, leaf_at, 
 use Rattle.std.specs.List.{slice_get}
 use Rattle.bw_page.specs.Shown.{Shown, leaf_here, is_away, IsHere}
 use Rattle.bw_codec.proofs.Wider.{blocks_wider}
-use Rattle.bw_buffer.specs.Filling.{frame_of, size_of, with_all}
+use Rattle.bw_buffer.specs.Filling.{Filling, frame_of, size_of, with_all}
 use Rattle.bw_buffer.proofs.Holding.{few_blocks}
 use Rattle.bw_log.specs.Contents as logs
 use Rattle.bw_log.proofs.Adding.{following_is}
@@ -190,6 +190,16 @@ module _ (s : Kept) (h : IsSound s) (item : Record) (op : IsOp item) (next : s.l
   answer_short (Ok p) page back room blocks = (plan_all p page back room blocks).3
 
 -- ---- whether the blocks of a plan fit
+
+-- what a test for room says of the list that the slice is
+module _ (making : Filling) (blocks slice : List Block) {b : Bool} (tests : IsTrue b ↔ (size_of (with_all making slice) ≤ making.limit)) where
+  pub some_room : b ≡ true → slice ≡ blocks → size_of (with_all making blocks) ≤ making.limit
+  some_room yes same = subst (λ (bs : List Block). size_of (with_all making bs) ≤ making.limit) same (tests.0 (rw yes tt))
+
+  pub no_room : b ≡ false → slice ≡ blocks → size_of (with_all making blocks) ≤ making.limit → ⊥
+  no_room no same fits =
+      let yes = tests.1 (subst (λ (bs : List Block). size_of (with_all making bs) ≤ making.limit) (sym same) fits) in
+      subst IsTrue no yes
 
 back_at : (newest : List Place) (at : ℕ) (back : Place) → slice_get newest at ≡ Some back → unwrap_or (slice_get newest at) nowhere ≡ back
 back_at newest at back is = ap (λ (o : Option Place). unwrap_or o nowhere) is
