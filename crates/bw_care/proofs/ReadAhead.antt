@@ -10,7 +10,8 @@ use Rattle.bw_codec.specs.declared.leaf.Leaf.{Leaf}
 use Rattle.bw_codec.specs.declared.block.Place.{Place}
 use Rattle.bw_codec.specs.declared.block.Block.TheVariants.{Base}
 use Rattle.bw_codec.specs.declared.block.Frame.{Frame}
-use Rattle.bw_buffer.specs.Filling.{Filling, size_of}
+use Rattle.bw_buffer.specs.Filling.{Filling, size_of, with_all}
+use Rattle.bw_buffer.proofs.Sizes.{pushed_size}
 use Rattle.bw_buffer.specs.declared.fault.PutError.{PutError}
 use Rattle.bw_buffer.specs.declared.fault.PutError.TheVariants.{Sealed, NoRoom}
 use Rattle.bw_device.specs.Holding.{Holding}
@@ -125,18 +126,19 @@ piece_here old now bytes spots pages from i piece same are inside is =
 
 -- ---- one page
 
--- what an open buffer answered of a page's Base
-pub put_told : (c : Contents) (p : ℕ) (leaf : Leaf) (old new : Filling) (r : Result Place PutError) (t : Bool) (len : ℕ) → PageRead c p leaf
-    → old.is_sealed ≡ false → t ≡ is_ok r → len ≡ length (block_bytes (Base leaf))
+-- what an open buffer answered of a page's Base, which joins nothing
+pub put_told : (c : Contents) (p : ℕ) (leaf : Leaf) (old new : Filling) (r : Result Place PutError) (t : Bool) → PageRead c p leaf
+    → old.is_sealed ≡ false → t ≡ is_ok r
     → OnOk r (new ≡ record old { blocks = old.blocks ++ Base leaf ∷ [] }) → OnErr r (new ≡ old)
     → (IsErrOf r Sealed ↔ IsTrue old.is_sealed)
-    → (IsErrOf r NoRoom ↔ ((old.is_sealed ≡ false) × (old.limit < size_of old + len)))
+    → (IsErrOf r NoRoom ↔ ((old.is_sealed ≡ false) × (old.limit < size_of (with_all old (Base leaf ∷ [])))))
     → Puts c p old t new
-put_told c p leaf old new (Ok place) true len read unsealed is long added same sealed no_room = (leaf, read, added)
-put_told c p leaf old new (Ok place) false len read unsealed is long added same sealed no_room = absurd cc
-put_told c p leaf old new (Err Sealed) t len read unsealed is long added same sealed no_room = absurd (let shut = sealed.0 refl in cc)
-put_told c p leaf old new (Err NoRoom) true len read unsealed is long added same sealed no_room = absurd cc
-put_told c p leaf old new (Err NoRoom) false len read unsealed is long added same sealed no_room = (leaf, read, same, let over = no_room.0 refl in omega arith)
+put_told c p leaf old new (Ok place) true read unsealed is added same sealed no_room = (leaf, read, added)
+put_told c p leaf old new (Ok place) false read unsealed is added same sealed no_room = absurd cc
+put_told c p leaf old new (Err Sealed) t read unsealed is added same sealed no_room = absurd (let shut = sealed.0 refl in cc)
+put_told c p leaf old new (Err NoRoom) true read unsealed is added same sealed no_room = absurd cc
+put_told c p leaf old new (Err NoRoom) false read unsealed is added same sealed no_room =
+    (leaf, read, same, let over = no_room.0 refl in let size = pushed_size old.blocks (Base leaf) in omega arith)
 
 -- the page that had no room
 pub record NoRoomFor (c : Contents) (p : ℕ) (old new : Filling) : Type 0 where

@@ -1,7 +1,8 @@
 // What no clause says: that calls succeed where memory is there, and which box takes what.
 
-ghost use Rattle.std.specs.Prelude.{◌≡◌, ◌≤◌, true, length, IfSome};
+ghost use Rattle.std.specs.Prelude.{◌≡◌, ◌≤◌, [], true, length, IfSome};
 ghost use Rattle.std.specs.List.{AllByRecursion};
+ghost use Rattle.bw_buffer.specs.Joining.{added};
 ghost use Rattle.bw_codec.specs.Grammar.{IsBlock};
 
 use bw_buffer::Buffer;
@@ -47,8 +48,12 @@ fn sealed(alloc: Global, frame: u64, blocks: &[Block]) -> Option<Buffer>
     requires numbered { 1 ≤ frame }
     requires some { 1 ≤ length blocks.now }
     requires lawful { AllByRecursion (IsBlock 32) blocks.now }
-    ensures { IfSome result (λ b.
-        b ≡ record { frame = frame; limit = 16384; blocks = blocks.now; is_sealed = true }) }
+    ensures { IfSome result (λ b. b ≡ record {
+      frame = frame;
+      limit = 16384;
+      blocks = added [] blocks.now;
+      is_sealed = true;
+    }) }
 {
     let Ok(mut buffer) = Buffer::new(alloc, frame, 16384) else {
         return None;

@@ -1,6 +1,3 @@
-use Rattle.std.proofs.Common.{ℕ, List, length, ap, append-nil}
-use Rattle.bw_codec.specs.Grammar.{block_bytes}
-use Rattle.bw_codec.specs.declared.block.Block.TheVariants.{Base}
 use Rattle.bw_care.specs.Views.{seen}
 use Rattle.bw_care.proofs.BasesLeave.{page_read}
 use Rattle.bw_care.proofs.CleaningSteps.{read_lawful}
@@ -19,7 +16,7 @@ pub returns-in_ok-leaf-in-None-clause-put : goal.returns-in_ok-leaf-in-None-clau
 returns-in_ok-leaf-in-None-clause-put g c =
     let log = seen c.args.log.now (λ b. (goal.Segment-dyn g b).holding b.1) in
     let leaf = c.in_ok-leaf-in-None.leaf in
-    put_told log c.args.page leaf c.args.buffer.now c.put_all.new.self c.put_all.result c.is_ok-in-None.result _
+    put_told log c.args.page leaf c.args.buffer.now c.put_all.new.self c.put_all.result c.is_ok-in-None.result
     (page_read log c.args.page leaf c.requires.sound c.requires.page.0 c.requires.page.1 c.in_ok-leaf-in-None.ensures.page)
-    c.requires.unsealed c.is_ok-in-None.ensures.value (ap (λ (l : List ℕ). length l) (append-nil (block_bytes (Base leaf))))
+    c.requires.unsealed c.is_ok-in-None.ensures.value
     c.put_all.ensures.added c.put_all.ensures.unchanged c.put_all.ensures.sealed c.put_all.ensures.no_room

@@ -11,21 +11,21 @@ use bw_codec::{Block, Blocks, FrameRead, Header, Place, encode_block, read_frame
 use std::alloc::Global;
 
 /// An empty page 1.
-const EMPTY: &str = "46524d31 0100000000000000 08000000 01000000 \
+pub(super) const EMPTY: &str = "46524d31 0100000000000000 08000000 01000000 \
     02 01000000 00 0000";
 
 /// The frames of five flushes of one put each; the last one splits page 1.
-const PUT_A: &str = "46524d31 0100000000000000 20000000 02000000 \
+pub(super) const PUT_A: &str = "46524d31 0100000000000000 20000000 02000000 \
     02 01000000 00 0000 \
     01 01000000 0100000000000000 00000000 0100 01 01 61 01 31";
 
-const PUT_B: &str = "46524d31 0200000000000000 18000000 01000000 \
+pub(super) const PUT_B: &str = "46524d31 0200000000000000 18000000 01000000 \
     01 01000000 0100000000000000 01000000 0100 01 01 62 01 32";
 
-const PUT_C: &str = "46524d31 0300000000000000 18000000 01000000 \
+pub(super) const PUT_C: &str = "46524d31 0300000000000000 18000000 01000000 \
     01 01000000 0200000000000000 00000000 0100 01 01 63 01 33";
 
-const PUT_D: &str = "46524d31 0400000000000000 18000000 01000000 \
+pub(super) const PUT_D: &str = "46524d31 0400000000000000 18000000 01000000 \
     01 01000000 0300000000000000 00000000 0100 01 01 64 01 34";
 
 const SPLIT: &str = "46524d31 0500000000000000 3d000000 02000000 \
@@ -38,22 +38,29 @@ const NONE: &str = "46524d31 0200000000000000 00000000 00000000";
 
 /// One call, with what it has to answer.
 #[derive(Drop)]
-enum Step {
+pub(super) enum Step {
     /// The blocks of a frame are put: the first one's place, or the refusal.
     Put(&'static str, Result<(u64, u32), PutError>),
     /// The first block of a frame, a Base, is copied as its bytes: its place, or the refusal.
     Copy(&'static str, Result<(u64, u32), PutError>),
-    /// Deltas of one put, of a key and a value of so many bytes, so often.
-    Fill(u8, u8, u32),
+    /// So many Deltas of one put, of a key and a value of so many bytes: of this page and of those
+    /// behind it, one each.
+    Spread(u8, u8, u8, u32),
+    /// The same, all of one page.
+    Heap(u8, u8, u8, u32),
     /// Whether there is room for the blocks of a frame.
     HasRoom(&'static str, bool),
     Seal,
     Restart(u64),
     /// The frame's number, the count of blocks, the free bytes, and the seal.
     Is(u64, u32, u32, bool),
-    /// The bytes.
+    /// The bytes, once sealed.
     Gives(&'static str),
+    /// How many records the Deltas have that the bytes spell, once sealed.
+    Spells(usize),
     Mark(u32, Mark),
+    /// Which Delta one of this page joins.
+    Joins(u32, Option<(u64, u32)>),
 }
 
 /// The blocks of the frame at the front of bytes, which a buffer takes.
@@ -97,9 +104,9 @@ fn puts(
     told: Result<(u64, u32), PutError>,
 ) -> Option<bool> {
     let blocks = blocks_of(alloc, hex)?;
-    let before = Vec::from_slice(alloc, buffer.bytes()).ok()?;
+    let before = (buffer.count(), buffer.room());
     let answer = buffer.put_all(blocks.as_slice());
-    let stays = answer.is_ok() || before.as_slice() == buffer.bytes();
+    let stays = answer.is_ok() || before == (buffer.count(), buffer.room());
     Some(is_told(answer, told) && stays)
 }
 
@@ -121,10 +128,15 @@ fn copies(
     Some(is_told(buffer.put_base(&bytes, leaf.page), told))
 }
 
-/// The frame of one Delta that puts a key and a value of so many bytes.
-fn delta_of(alloc: Global, key: u8, value: u8) -> Option<Vec<u8>> {
-    let mut body = bytes_of(alloc, "01 01000000 0100000000000000 00000000 0100 01")?;
-    for length in [key, value] {
+/// The frame of one Delta of a page that puts a key and a value of so many bytes.
+fn delta_of(alloc: Global, page: u8, lengths: (u8, u8)) -> Option<Vec<u8>> {
+    let mut body = Vec::new(alloc);
+    for byte in [1, page] {
+        body.push(byte).ok()?;
+    }
+    body.extend_from_slice(&bytes_of(alloc, "000000 0100000000000000 00000000 0100 01")?)
+        .ok()?;
+    for length in [lengths.0, lengths.1] {
         body.push(length).ok()?;
         for _ in 0..length {
             body.push(b'a').ok()?;
@@ -133,11 +145,20 @@ fn delta_of(alloc: Global, key: u8, value: u8) -> Option<Vec<u8>> {
     framed(alloc, 1, &body)
 }
 
-fn fills(alloc: Global, buffer: &mut Buffer, lengths: (u8, u8), times: u32) -> Option<bool> {
-    let bytes = delta_of(alloc, lengths.0, lengths.1)?;
-    let blocks = blocks_in(alloc, &bytes)?;
+/// Deltas of one put; each is of so many pages on from the one before it.
+fn fills(
+    alloc: Global,
+    buffer: &mut Buffer,
+    pages: (u8, u8),
+    lengths: (u8, u8),
+    times: u32,
+) -> Option<bool> {
+    let mut page = pages.0;
     for _ in 0..times {
+        let bytes = delta_of(alloc, page, lengths)?;
+        let blocks = blocks_in(alloc, &bytes)?;
         let _ = buffer.put_all(blocks.as_slice()).ok()?;
+        page = page.wrapping_add(pages.1);
     }
     Some(true)
 }
@@ -160,7 +181,31 @@ fn restarts(buffer: &mut Buffer, frame: u64) -> bool {
 
 fn gives(alloc: Global, buffer: &Buffer, hex: &str) -> Option<bool> {
     let bytes = bytes_of(alloc, hex)?;
-    Some(buffer.bytes() == bytes.as_slice())
+    Some(buffer.is_sealed() && buffer.bytes() == bytes.as_slice())
+}
+
+/// How many records the Deltas have that a sealed buffer's bytes spell.
+fn spelled(alloc: Global, buffer: &Buffer) -> Option<usize> {
+    if !buffer.is_sealed() {
+        return None;
+    }
+    let blocks = blocks_in(alloc, buffer.bytes())?;
+    let mut count: usize = 0;
+    for block in blocks.as_slice() {
+        if let Block::Delta { ops, .. } = block {
+            count = count.wrapping_add(ops.as_slice().len());
+        }
+    }
+    Some(count)
+}
+
+/// Whether a Delta of a page joins the one at this place, or none.
+fn joins(buffer: &Buffer, page: u32, told: Option<(u64, u32)>) -> bool {
+    match (buffer.joins(page), told) {
+        (Some(place), Some((frame, index))) => place.frame == frame && place.index == index,
+        (None, None) => true,
+        _ => false,
+    }
 }
 
 /// Whether the step went as told.
@@ -168,7 +213,12 @@ fn goes(alloc: Global, buffer: &mut Buffer, step: &Step) -> Option<bool> {
     match step {
         Step::Put(hex, told) => puts(alloc, buffer, hex, *told),
         Step::Copy(hex, told) => copies(alloc, buffer, hex, *told),
-        Step::Fill(key, value, times) => fills(alloc, buffer, (*key, *value), *times),
+        Step::Spread(page, key, value, times) => {
+            fills(alloc, buffer, (*page, 1), (*key, *value), *times)
+        }
+        Step::Heap(page, key, value, times) => {
+            fills(alloc, buffer, (*page, 0), (*key, *value), *times)
+        }
         Step::HasRoom(hex, told) => tells_room(alloc, buffer, hex, *told),
         Step::Seal => {
             buffer.seal();
@@ -179,16 +229,19 @@ fn goes(alloc: Global, buffer: &mut Buffer, step: &Step) -> Option<bool> {
             buffer.frame() == *frame
                 && buffer.count() == *count
                 && buffer.room() == *room
+                && 16384u32.checked_sub(*room) == Some(buffer.len())
                 && buffer.is_sealed() == *sealed
                 && buffer.limit() == 16384,
         ),
         Step::Gives(hex) => gives(alloc, buffer, hex),
+        Step::Spells(count) => Some(spelled(alloc, buffer)? == *count),
         Step::Mark(i, mark) => Some(*i < buffer.count() && buffer.mark(*i) == *mark),
+        Step::Joins(page, told) => Some(joins(buffer, *page, *told)),
     }
 }
 
 /// The first step that did not go as told with this buffer.
-fn walked(alloc: Global, buffer: &mut Buffer, steps: &[Step]) -> Option<usize> {
+pub(super) fn walked(alloc: Global, buffer: &mut Buffer, steps: &[Step]) -> Option<usize> {
     for (i, step) in steps.iter().enumerate() {
         if goes(alloc, buffer, step) != Some(true) {
             return Some(i);
@@ -211,10 +264,11 @@ fn wrong_step(alloc: Global, number: u64, steps: &[Step]) -> Option<usize> {
 const SEALED: &[Step] = &[
     Step::Put(EMPTY, Ok((1, 0))),
     Step::Is(1, 1, 16356, false),
-    Step::Gives(EMPTY),
     Step::Seal,
     Step::Is(1, 1, 16356, true),
+    Step::Gives(EMPTY),
     Step::Put(EMPTY, Err(PutError::Sealed)),
+    Step::Put(PUT_B, Err(PutError::Sealed)),
     Step::Is(1, 1, 16356, true),
     Step::HasRoom(EMPTY, true),
     Step::Gives(EMPTY),
@@ -224,8 +278,8 @@ const COPIED: &[Step] = &[
     Step::Copy(EMPTY, Ok((1, 0))),
     Step::Mark(0, Mark::Sets(1)),
     Step::Is(1, 1, 16356, false),
-    Step::Gives(EMPTY),
     Step::Seal,
+    Step::Gives(EMPTY),
     Step::Copy(EMPTY, Err(PutError::Sealed)),
     Step::Is(1, 1, 16356, true),
     Step::Gives(EMPTY),
@@ -233,20 +287,22 @@ const COPIED: &[Step] = &[
 
 /// A Base of 8 bytes where 8 are free, then where none is.
 const COPIED_TO_THE_END: &[Step] = &[
-    Step::Fill(64, 128, 76),
-    Step::Fill(1, 69, 1),
+    Step::Spread(2, 64, 128, 76),
+    Step::Spread(78, 1, 69, 1),
     Step::Is(1, 77, 8, false),
     Step::Copy(EMPTY, Ok((1, 77))),
     Step::Is(1, 78, 0, false),
     Step::Copy(EMPTY, Err(PutError::NoRoom)),
     Step::Is(1, 78, 0, false),
+    Step::Seal,
+    Step::Spells(77),
 ];
 
-/// 76 Deltas of the greatest length, 214 bytes, and one of 60: 40 bytes are free, where a Delta of 24
-/// bytes and its Split of 37 do not fit together.
+/// 76 Deltas of the greatest length, 214 bytes, and one of 60, of pages 2 to 78: 40 bytes are free,
+/// where a Delta of 24 bytes and its Split of 37 do not fit together.
 const FULL: &[Step] = &[
-    Step::Fill(64, 128, 76),
-    Step::Fill(1, 37, 1),
+    Step::Spread(2, 64, 128, 76),
+    Step::Spread(78, 1, 37, 1),
     Step::Is(1, 77, 40, false),
     Step::HasRoom(SPLIT, false),
     Step::Put(SPLIT, Err(PutError::NoRoom)),
@@ -261,14 +317,19 @@ const WORKED: &[Step] = &[
     Step::Put(PUT_A, Ok((1, 0))),
     Step::Mark(0, Mark::Sets(1)),
     Step::Mark(1, Mark::Changes(1)),
+    Step::Seal,
     Step::Gives(PUT_A),
     Step::Restart(2),
     Step::Is(2, 0, 16364, false),
+    Step::Seal,
     Step::Gives(NONE),
+    Step::Restart(2),
     Step::Put(PUT_B, Ok((2, 0))),
+    Step::Seal,
     Step::Gives(PUT_B),
     Step::Restart(3),
     Step::Put(PUT_C, Ok((3, 0))),
+    Step::Seal,
     Step::Gives(PUT_C),
     Step::Restart(4),
     Step::Put(PUT_D, Ok((4, 0))),
@@ -276,6 +337,7 @@ const WORKED: &[Step] = &[
     Step::Put(SPLIT, Ok((5, 0))),
     Step::Mark(0, Mark::Changes(1)),
     Step::Mark(1, Mark::Splits(1, 2)),
+    Step::Seal,
     Step::Gives(SPLIT),
 ];
 
@@ -297,12 +359,13 @@ fn buffers_go_as_told(rt: HostRuntime) {
 type Numbered = (u64, &'static str);
 
 impl tests::Row for Numbered {
-    /// Whether a new buffer of this number gives the bytes whose blocks it takes, before and after
-    /// the seal.
+    /// Whether a new buffer of this number gives the bytes whose blocks it takes, and a second seal
+    /// changes nothing.
     fn goes(&self, alloc: Global) -> Option<bool> {
         let (number, hex) = *self;
         let steps = [
             Step::Put(hex, Ok((number, 0))),
+            Step::Seal,
             Step::Gives(hex),
             Step::Seal,
             Step::Gives(hex),
