@@ -10,7 +10,7 @@ use Rattle.bw_codec.specs.declared.block.Place.{Place}
 use Rattle.bw_codec.specs.declared.block.Block.{Block}
 use Rattle.bw_codec.specs.declared.block.Block.TheVariants.{Delta, Base, Split}
 use Rattle.bw_codec.specs.declared.leaf.Leaf.{Leaf}
-use Rattle.std.proofs.lemmas.Bool.{leb-true, leb-false}
+use Rattle.std.proofs.lemmas.Bool.{leb-true, leb-false, lt-leb}
 use Rattle.bw_codec.proofs.Wider.{blocks_wider}
 use Rattle.bw_page.specs.Leaves.{directed_at, upper_of, applied, HasPage, AreLeaves}
 use Rattle.bw_page.specs.Shown.{Shown, IsSpent}
@@ -190,6 +190,11 @@ module _ (making now : Filling) (page : ℕ) (blocks : List Block) (one : AreOne
       of_some (b ∷ []) h = (omega arith, omega arith)
       of_some (b ∷ c ∷ []) h = (omega arith, omega arith)
       of_some (b ∷ c ∷ d ∷ bs) h = absurd h
+
+-- what is noted of two
+pub filed_two : (newest now : List Place) (page n : ℕ) (here last is : Place) → 1 < n → now ≡ set newest (page - 1) is ++ is ∷ [] → is ≡ last
+    → now ≡ noted newest page here last n
+filed_two newest now page n here last is more e same = rw (lt-leb n 1 more) (e ∙ ap (λ (x : Place). set newest (page - 1) x ++ x ∷ []) same)
 
 -- the places noted are those after the record
 pub noted_is : (m : ℕ) (leaves : List Leaf) (back here last : Place) (r : Record) (newest : List Place)
