@@ -15,7 +15,8 @@ use Rattle.bw_page.specs.Leaves.{leaf_at, empty_leaf}
 use Rattle.bw_page.specs.Standing.{content, Stand}
 use Rattle.bw_page.proofs.Law.{one_empty-lawful}
 use Rattle.bw_device.specs.Holding.{Holding}
-use Rattle.bw_buffer.specs.Filling.{Filling, size_of}
+use Rattle.bw_buffer.specs.Filling.{Filling, size_of, with_all}
+use Rattle.bw_buffer.specs.Joining.{added}
 use Rattle.bw_ring.specs.Ends.{Ring}
 use Rattle.bw_log.specs.Contents as logs
 use Rattle.bw_log.specs.Limits.{fresh}
@@ -84,20 +85,21 @@ pub opened_sound : (rings : List Ring) (m f : ℕ) (spares : List Holding) (vers
 opened_sound rings m f spares versions start unseen sound =
     subst (λ (s : Shown). IsSound (opened rings m f spares (record versions { start = s }))) (sym start) (opened_by rings m f spares versions unseen sound)
 
-pub first_fits : (f n : ℕ) (blocks done : List Block) → 16384 ≤ f → done ≡ [] → blocks ≡ Base empty_leaf ∷ []
-    → (20 + length (body_bytes done)) + length (body_bytes blocks) ≤ f
-first_fits f n blocks done h none is =
-    (let e = ap (λ (bs : List Block). length (body_bytes bs)) is in let z = ap (λ (bs : List Block). length (body_bytes bs)) none
-    in let a = ap length (append-nil (block_bytes (Base empty_leaf))) in let b = length-base empty_leaf in omega arith)
+first_fits : (f : ℕ) (blocks : List Block) → 16384 ≤ f → blocks ≡ Base empty_leaf ∷ [] → 20 + length (body_bytes (added [] blocks)) ≤ f
+first_fits f blocks h is =
+    (let e = ap (λ (bs : List Block). length (body_bytes (added [] bs))) is in
+    let a = ap length (append-nil (block_bytes (Base empty_leaf))) in
+    let b = length-base empty_leaf in
+    omega arith)
 
 pub first_lawful : (blocks : List Block) → blocks ≡ Base empty_leaf ∷ [] → All (IsBlock 32) blocks
 first_lawful blocks is = subst (All (IsBlock 32)) (sym is)
     (record { page = (lit≤ tt, lit< tt); low = lit≤ tt; count = lit≤ tt; pairs = tt; ascends = refl }, tt)
 
 pub fits_at : (b : Filling) (f : ℕ) (items shown : List Block) → b ≡ record { frame = 1; limit = f; blocks = []; is_sealed = false } → 16384 ≤ f
-    → items ≡ Base empty_leaf ∷ [] → shown ≡ items → size_of b + length (body_bytes shown) ≤ b.limit
+    → items ≡ Base empty_leaf ∷ [] → shown ≡ items → size_of (with_all b shown) ≤ b.limit
 fits_at b f items shown is h made same =
-    subst (λ (x : Filling). size_of x + length (body_bytes shown) ≤ x.limit) (sym is) (first_fits f 0 shown [] h refl (same ∙ made))
+    subst (λ (x : Filling). size_of (with_all x shown) ≤ x.limit) (sym is) (first_fits f shown h (same ∙ made))
 
 -- a store of the parts that `open` makes is an opened one
 pub started_sound : {k : Kept} {readers : ℕ} (rings : List Ring) (entries : List Entry) (filed : Shown) (newest : List Place) (making : Filling) (log : logs.Contents)

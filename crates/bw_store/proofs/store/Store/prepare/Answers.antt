@@ -12,7 +12,7 @@ returns-in_err-ready-clause-refused g c =
     let fault = c.in_err-ready.field-0.0 in
     rw (p.1, p.2) (subst (λ (n : ℕ). IsRefused
     (refusal (kept_by c.args.self.now (λ z. (goal.Segment-dyn g z).holding z.1)).log n c.args.takes_last) (fault_of fault))
-    c.len.ensures.value (checked _ fault c.in_err-ready.ensures.checks))
+    c.len-len.ensures.value (checked _ fault c.in_err-ready.ensures.checks))
 
 pub returns-in_err-ready-clause-same : goal.returns-in_err-ready-clause-same
 returns-in_err-ready-clause-same g c = rw (c.ready.ensures.same) refl
