@@ -1,4 +1,5 @@
-use Rattle.std.proofs.Common.{refl}
+use Rattle.std.proofs.Common.{refl, map, ap, subst}
+use Rattle.bw_store.specs.Opened.{AreTaken}
 use Rattle.bw_store.proofs.Fresh.{started_sound}
 use Rattle.bw_store.proofs.store.Store.open.Goals as goal
 
@@ -8,3 +9,8 @@ returns-in-Ok-new-clause-sound g c = started_sound _ _ _ _ _ _ _ _ _ _ c.of.ensu
 
 pub returns-in_default-clause-back : goal.returns-in_default-clause-back
 returns-in_default-clause-back g c = refl
+
+pub returns-in-Ok-new-clause-bad_config : goal.returns-in-Ok-new-clause-bad_config
+returns-in-Ok-new-clause-bad_config g c = 
+    subst (AreTaken c.args.config.now) (ap (map (λ z. (goal.Segment-dyn g z).holding z.1)) c.deref.ensures.value)
+    (c.are_taken.ensures.0 (rw c.if-not-are_taken.false tt))
