@@ -14,7 +14,7 @@ ghost use Rattle.bw_buffer.specs.Joining.{joins, added, index_for, is_delta};
 ghost use Rattle.bw_buffer.specs.Marks.{mark_of, is_closed_by};
 
 use crate::fault::PutError;
-use crate::index::{Index, forget, look, note};
+use crate::index::{Index, forget, forget_all, look, note};
 use crate::layout::{copy_in, lay_out};
 use crate::mark::Mark;
 use crate::rows::{DELTA_HEAD, MIN_PIECE, Piece, Row};
@@ -120,7 +120,7 @@ impl Buffer {
         self.rows.clear();
         self.pieces.clear();
         self.arena.clear();
-        self.deltas.clear();
+        forget_all(&mut self.deltas);
     }
 
     /// Adds all the blocks, one or more that are lawful for 32 pairs a page, or none, and answers the
@@ -177,7 +177,7 @@ impl Buffer {
             × (self.old.limit < size_of self.old + length bytes.now)) }
         ensures unchanged { OnErr result (self.new ≡ self.old) }
     {
-        if self.is_sealed() {
+        if self.is_sealed {
             return Err(PutError::Sealed);
         }
         if (self.room() as usize) < bytes.len() {
@@ -322,16 +322,19 @@ impl Buffer {
             ≤ self.old.limit }
         ensures { self.new ≡ with_all self.old (Delta page back.now ops.now ∷ []) }
     {
-        let len = ops_length(ops) as u32;
+        let more = ops_length(ops) as u32;
         let row = self.rows[at as usize];
         self.rows[at as usize] = Row {
             ops: row.ops + ops.len() as u32,
-            len: row.len + len,
+            len: row.len + more,
             ..row
         };
-        self.pieces.push_reserved(Piece { block: at, len });
+        self.pieces.push_reserved(Piece {
+            block: at,
+            len: more,
+        });
         write_ops(ops, &mut self.arena);
-        self.size += len;
+        self.size += more;
     }
 
     // Adds a Delta behind all blocks.

@@ -3,7 +3,7 @@
 //! A page that is closed keeps its place in the map without an index: so an entry once made is never
 //! given back before the map is cleared, and the room for all that may come is known.
 
-ghost use Rattle.std.specs.Prelude.{ℕ, ◌≡◌, ◌≤◌, ◌<◌, ◌+◌, ◌==◌, nat_eq, is_some, true, false, Some, None, if◌then◌else◌};
+ghost use Rattle.std.specs.Prelude.{ℕ, ◌≡◌, ◌≤◌, ◌<◌, ◌+◌, ◌==◌, nat_eq, is_some, true, false, Some, None, [], if◌then◌else◌};
 ghost use Rattle.std.specs.HashMap.{get, spare, hash_map_len};
 ghost use Rattle.bw_buffer.specs.Index.{index_at};
 
@@ -65,4 +65,12 @@ pub(crate) fn forget(index: &mut Index, page: u32)
     ensures room { spare index.new ≡ spare index.old }
 {
     let _ = set(index, page, None);
+}
+
+/// No page has an index from now on. The map's room stays.
+pub(crate) fn forget_all(index: &mut Index)
+    ensures none { index.new.entries ≡ [] }
+    ensures room { hash_map_len index.old + spare index.old ≤ spare index.new }
+{
+    index.clear();
 }

@@ -4,7 +4,7 @@ ghost use Rattle.bw_care.specs.Views.{IsSound};
 
 use super::super::{NEVER, Table, Yard, add_box, add_boxes, all_went, empty_yard, first_wrong};
 use super::boxes::{AMPLE, Kept, Piece, are_shown, boxes_of, boxes_with};
-use super::vectors::{FIRST, GREATEST, SECOND, THIRD_NEWER, THIRD_OLDER};
+use super::vectors::{CUT_AT_ONCE, FIRST, GREATEST, JOINED, SECOND, THIRD_NEWER, THIRD_OLDER};
 use bw_care::{RecoverCause, recover};
 use bw_device::{Desk, Segment};
 use std::alloc::Global;
@@ -53,6 +53,14 @@ const WORKED: &[Row] = &[
         Ample(&[Whole(SECOND)]),
         Found(1, 5, 0, 1, 0, 0, "1 : a=1 b=2;2 c: c=3 d=4 e=5;"),
     ),
+    Row(
+        Ample(&[Whole(CUT_AT_ONCE)]),
+        Found(1, 1, 0, 1, 0, 0, "1 : a=1 b=2;2 c: c=3 d=4 e=5;"),
+    ),
+    Row(
+        Ample(&[Whole(JOINED)]),
+        Found(1, 1, 0, 1, 0, 0, "1 : a=1 b=2 bz=6;2 c: c=3 d=4 e=5;"),
+    ),
     Row(Ample(&[Cut(SECOND, 288)]), Found(1, 4, 80, 1, 0, 0, ABCD)),
     Row(Ample(&[Cut(SECOND, 75)]), Fault(Empty)),
     Row(Ample(&[Cut(SECOND, 24)]), Fault(Empty)),
@@ -96,6 +104,14 @@ const WORKED: &[Row] = &[
 
 /// Hostile boxes: each fault by changed bytes.
 const HOSTILE: &[Row] = &[
+    Row(
+        Ample(&[With(JOINED, 109, &[0x00])]),
+        Fault(BadLink { page: 1 }),
+    ),
+    Row(
+        Ample(&[With(JOINED, 146, &[0x01])]),
+        Fault(BadLink { page: 1 }),
+    ),
     Row(
         Ample(&[With(FIRST, 27, &[0x32])]),
         Fault(BadBytes { segment: 0, at: 24 }),

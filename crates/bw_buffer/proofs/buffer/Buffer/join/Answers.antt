@@ -30,7 +30,7 @@ overflow_add-row c =
 pub overflow_add-row-2 : goal.overflow_add-row-2
 overflow_add-row-2 c =
     let r = joins_room c.self.inside c.args.self.now c.args.page c.args.at c.args.back.now c.args.ops.now c.self.invariant c.self.view_is c.requires.joins c.requires.fits c.requires.lawful in
-    let f = r.few c.index-row.result.now c.index-row.ensures in record { fits = (let x = f.1 in omega (arith, c.ops_length-len.ensures.value)) }
+    let f = r.few c.index-row.result.now c.index-row.ensures in record { fits = (let x = f.1 in omega (arith, c.ops_length-more.ensures.value)) }
 
 pub push_reserved-requires : goal.push_reserved-requires
 push_reserved-requires c = (joins_room c.self.inside c.args.self.now c.args.page c.args.at c.args.back.now c.args.ops.now c.self.invariant c.self.view_is c.requires.joins c.requires.fits c.requires.lawful).pieces
@@ -42,16 +42,16 @@ abbrev row : After-self-2-1 → Row
 row c = c.index-row.result.now
 
 abbrev piece : After-self-2-1 → Piece
-piece c = record { block = c.args.at; len = c.ops_length-len.result }
+piece c = record { block = c.args.at; len = c.ops_length-more.result }
 
 abbrev fields : After-self-2-1 → Inside
 fields c = record {
   frame = c.self.inside.frame;
   limit = c.self.inside.limit;
-  size = c.self.inside.size + c.ops_length-len.result;
+  size = c.self.inside.size + c.ops_length-more.result;
   is_sealed = c.self.inside.is_sealed;
   rows = Rattle.std.specs.Vec.with_item c.self.inside.rows c.args.at
-      record { mark = (row c).mark; back = (row c).back; ops = (row c).ops + length c.args.ops.now; len = (row c).len + c.ops_length-len.result };
+      record { mark = (row c).mark; back = (row c).back; ops = (row c).ops + length c.args.ops.now; len = (row c).len + c.ops_length-more.result };
   pieces = c.push_reserved.new.self;
   arena = c.write_ops.new.out;
   deltas = c.self.inside.deltas;
@@ -64,7 +64,7 @@ now_holds c =
     let a = c.self.inside in
     let r = joins_room a c.args.self.now c.args.page c.args.at c.args.back.now c.args.ops.now c.self.invariant c.self.view_is c.requires.joins c.requires.fits c.requires.lawful in
     let fits = r.fits in
-    let len = c.ops_length-len.ensures.value in
+    let len = c.ops_length-more.ensures.value in
     lengthened a (fields c) c.args.page c.args.at c.args.back.now c.args.ops.now (flat_map op_bytes c.args.ops.now) (row c) (piece c) (record {
       was = c.self.invariant;
       unsealed = ap (λ (f : Filling). f.is_sealed) c.self.view_is ∙ c.requires.unsealed;
