@@ -1,7 +1,7 @@
 -- A store that was just opened.
 
 use Rattle.std.proofs.Common.{◌≡◌, ℕ, zero, suc, ◌+◌, ◌-◌, ◌≤◌, inl, lit≤, lit<, Bool, false, Some, None, List, [], ◌∷◌}
-use Rattle.std.proofs.Common.{length, refl, sym, ap, ◌∙◌, subst, arith, append-nil, if◌then◌else◌}
+use Rattle.std.proofs.Common.{length, map, refl, sym, ap, ◌∙◌, subst, arith, append-nil, if◌then◌else◌}
 use Rattle.std.specs.Prelude.{◌==◌}
 use Rattle.std.specs.List.{AllByRecursion as All, slice_get}
 use Rattle.std.proofs.lemmas.Bool.{ne_eqb}
@@ -24,7 +24,8 @@ use Rattle.bw_log.specs.Places.{place_of}
 use Rattle.bw_page.specs.Shown.{Shown}
 use Rattle.bw_versions.specs.declared.entry.Entry.{Entry}
 use Rattle.bw_versions.specs.Versioned.{Versioned}
-use Rattle.bw_store.specs.Opened.{first_place, first_frame, first_making, one_empty, started, opened}
+use Rattle.bw_store.specs.declared.config.Config.{Config}
+use Rattle.bw_store.specs.Opened.{first_place, first_frame, first_making, one_empty, started, opened, AreTaken}
 use Rattle.bw_store.specs.Showing.{AreUnseen}
 use Rattle.bw_store.specs.Kept.{Kept, IsSound}
 use Rattle.bw_store.proofs.Telling.{tells_none}
@@ -100,6 +101,11 @@ pub fits_at : (b : Filling) (f : ℕ) (items shown : List Block) → b ≡ recor
     → items ≡ Base empty_leaf ∷ [] → shown ≡ items → size_of (with_all b shown) ≤ b.limit
 fits_at b f items shown is h made same =
     subst (λ (x : Filling). size_of (with_all x shown) ≤ x.limit) (sym is) (first_fits f shown h (same ∙ made))
+
+-- boxes are taken that the slice of them is told to be
+pub taken_at : {X : Type 0} (config : Config) (view : X → Holding) (shown items : List X) → AreTaken config (map view shown) → shown ≡ items
+    → AreTaken config (map view items)
+taken_at {X} config view shown items taken same = subst (λ (xs : List X). AreTaken config (map view xs)) same taken
 
 -- a store of the parts that `open` makes is an opened one
 pub started_sound : {k : Kept} {readers : ℕ} (rings : List Ring) (entries : List Entry) (filed : Shown) (newest : List Place) (making : Filling) (log : logs.Contents)

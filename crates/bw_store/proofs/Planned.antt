@@ -194,12 +194,12 @@ module _ (s : Kept) (h : IsSound s) (item : Record) (op : IsOp item) (next : s.l
 -- what a test for room says of the list that the slice is
 module _ (making : Filling) (blocks slice : List Block) {b : Bool} (tests : IsTrue b ↔ (size_of (with_all making slice) ≤ making.limit)) where
   pub some_room : b ≡ true → slice ≡ blocks → size_of (with_all making blocks) ≤ making.limit
-  some_room is same = subst (λ (bs : List Block). size_of (with_all making bs) ≤ making.limit) same (tests.0 (rw is tt))
+  some_room is same = subst (λ (bs : List Block). size_of (with_all making bs) ≤ making.limit) same (tests.0 is)
 
   pub no_room : b ≡ false → slice ≡ blocks → size_of (with_all making blocks) ≤ making.limit → ⊥
   no_room is same fits =
-      let there = tests.1 (subst (λ (bs : List Block). size_of (with_all making bs) ≤ making.limit) (sym same) fits) in
-      subst IsTrue is there
+      let there : b ≡ true = tests.1 (subst (λ (bs : List Block). size_of (with_all making bs) ≤ making.limit) (sym same) fits) in
+      cc
 
 back_at : (newest : List Place) (at : ℕ) (back : Place) → slice_get newest at ≡ Some back → unwrap_or (slice_get newest at) nowhere ≡ back
 back_at newest at back is = ap (λ (o : Option Place). unwrap_or o nowhere) is

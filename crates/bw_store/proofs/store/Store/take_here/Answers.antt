@@ -30,3 +30,8 @@ returns-clause-leaves g c =
     (plan_fits _ c.args.item c.in_ok-plan-2.plan c.in_ok-plan-2.ensures.plan
     (fits_empty _ _ c.flush_making.ensures.sound (flushed_empty _ _ _ c.in_ok-flush_making.ensures.leaves) c.in_ok-plan-2.ensures.short)) c.in_ok-plan-2.ensures.works
     c.enter-2.ensures.ok c.enter-2.ensures.unchanged c.enter-2.ensures.refused
+
+pub enter-requires-2-clause-fits : goal.enter-requires-2-clause-fits
+enter-requires-2-clause-fits g c =
+    rw c.as_slice-2.ensures
+    (fits_empty _ _ c.flush_making.ensures.sound (flushed_empty _ _ _ c.in_ok-flush_making.ensures.leaves) c.in_ok-plan-2.ensures.short)
