@@ -28,6 +28,7 @@ use Rattle.bw_page.proofs.Law.{get-union}
 use Rattle.bw_page.proofs.OneStanding.{untouched}
 use Rattle.bw_page.proofs.PageByPage.{home_there}
 use Rattle.bw_buffer.specs.Filling.{frame_of}
+use Rattle.bw_buffer.specs.Joining.{added}
 use Rattle.bw_log.specs.Contents as logs
 use Rattle.bw_log.specs.declared.fault.LogFault.{LogFault}
 use Rattle.bw_log.specs.declared.fault.LogFault.TheVariants as log
@@ -43,6 +44,7 @@ use Rattle.bw_store.specs.Reading.{leaves_now, HasRead, ReadLeaves, with_log}
 use Rattle.bw_store.specs.Share.{ops_at}
 use Rattle.bw_store.specs.Taking.{Refuses, Works}
 use Rattle.bw_store.specs.Tails.{Tailed, tail_of, tail_for, makes, is_made, tails_for, tails_after}
+use Rattle.bw_store.proofs.Joins.{none_touches, added_made}
 use Rattle.bw_store.proofs.Stepping.{length-applied}
 use Rattle.bw_store.proofs.TailSteps.{over_tail, never_made}
 use Rattle.bw_store.proofs.TailLists.{tails_delta, tails_split}
@@ -210,10 +212,6 @@ zero_untouched m (Split page back upper ∷ bs) h =
     let high = h.0.makes.page.0 in
     rw (ne_eqb page 0 (λ e. absurd (omega arith)), ne_eqb upper.page 0 (λ e. absurd (omega arith))) (zero_untouched m bs h.1))
 
-none_touches : (p : ℕ) (blocks : List Block) → All (λ b. touches p b ≡ false) blocks → list_any (touches p) blocks ≡ false
-none_touches p [] h = refl
-none_touches p (b ∷ bs) h = rw h.0 (none_touches p bs h.1)
-
 all_behind : (P : Block → Type 0) (xs ys : List Block) → All P (xs ++ ys) → All P ys
 all_behind P [] ys h = h
 all_behind P (x ∷ xs) ys h = all_behind P xs ys h.1
@@ -251,7 +249,7 @@ page_within s h item page is = (let range = home_within s.filed.m (key_of item) 
 module _ (m : ℕ) (leaves : List Leaf) (back here : Place) (r : Record) (made : List Block) where
   pub tails_entered : 1 ≤ m → AreLeaves m leaves → IsOp r → 1 ≤ directed_at leaves r → directed_at leaves r ≤ length leaves → (cuts : Bool)
       → cuts ≡ nat_lt 1 (length (blocks_for m leaves back here r))
-      → tails_for (length (applied m leaves r)) (made ++ blocks_for m leaves back here r)
+      → tails_for (length (applied m leaves r)) (added made (blocks_for m leaves back here r))
       ≡ tails_after (directed_at leaves r) r cuts (tails_for (length leaves) made)
   tails_entered one lawful op from to cuts is =
       let p = directed_at leaves r in
@@ -259,14 +257,14 @@ module _ (m : ℕ) (leaves : List Leaf) (back here : Place) (r : Record) (made :
       elim (nat_le (length (result_of leaves r).pairs) m) as (λ b.
       length (applied m leaves r) ≡ (if b then length leaves else length leaves + 1)
       → cuts ≡ nat_lt 1 (length (if b then Delta p back (r ∷ []) ∷ [] else Delta p back (r ∷ []) ∷ Split p here upper ∷ []))
-      → tails_for (length (applied m leaves r)) (made ++ (if b then Delta p back (r ∷ []) ∷ [] else Delta p back (r ∷ []) ∷ Split p here upper ∷ []))
+      → tails_for (length (applied m leaves r)) (added made (if b then Delta p back (r ∷ []) ∷ [] else Delta p back (r ∷ []) ∷ Split p here upper ∷ []))
       ≡ tails_after p r cuts (tails_for (length leaves) made)) [
         | true ↦ λ count not.
-            ap (λ n. tails_for n (made ++ Delta p back (r ∷ []) ∷ [])) count
+            ap (λ n. tails_for n (added made (Delta p back (r ∷ []) ∷ []))) count
             ∙ tails_delta (length leaves) p made back r from to
             ∙ ap (λ (b : Bool). tails_after p r b (tails_for (length leaves) made)) (sym not)
         | false ↦ λ count sure.
-            ap (λ n. tails_for n (made ++ Delta p back (r ∷ []) ∷ Split p here upper ∷ [])) count
+            ap (λ n. tails_for n (added made (Delta p back (r ∷ []) ∷ Split p here upper ∷ []))) count
             ∙ tails_split (length leaves) p made back here r upper from to refl
             ∙ ap (λ (b : Bool). tails_after p r b (tails_for (length leaves) made)) (sym sure)
       ] (length-applied m leaves r one lawful op) is
@@ -275,9 +273,10 @@ module _ (m : ℕ) (leaves : List Leaf) (back here : Place) (r : Record) (made :
   apart_from away p q there not = ne_eqb p q (λ e. (let same = ap (λ (i : ℕ). is_among i away) e in absurd cc))
 
   pub away_entered : (away : List ℕ) (q : ℕ) → is_among q away ≡ true → is_among (directed_at leaves r) away ≡ false
-      → is_among (length leaves + 1) away ≡ false → is_made q made ≡ false → is_made q (made ++ blocks_for m leaves back here r) ≡ false
+      → is_among (length leaves + 1) away ≡ false → is_made q made ≡ false → is_made q (added made (blocks_for m leaves back here r)) ≡ false
   away_entered away q there not last apart =
-      list_any-append (makes q) made (blocks_for m leaves back here r)
+      added_made q made (blocks_for m leaves back here r)
+      ∙ list_any-append (makes q) made (blocks_for m leaves back here r)
       ∙ ap (λ (b : Bool). b || is_made q (blocks_for m leaves back here r)) apart
       ∙ elim (nat_le (length (result_of leaves r).pairs) m) as (λ b.
       is_made q (if b then Delta (directed_at leaves r) back (r ∷ []) ∷ [] else Delta (directed_at leaves r) back (r ∷ []) ∷ Split (directed_at leaves r) here

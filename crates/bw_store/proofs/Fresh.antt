@@ -1,7 +1,7 @@
 -- A store that was just opened.
 
 use Rattle.std.proofs.Common.{◌≡◌, ℕ, zero, suc, ◌+◌, ◌-◌, ◌≤◌, inl, lit≤, lit<, Bool, false, Some, None, List, [], ◌∷◌}
-use Rattle.std.proofs.Common.{length, refl, sym, ap, ◌∙◌, subst, arith, append-nil, if◌then◌else◌}
+use Rattle.std.proofs.Common.{length, map, refl, sym, ap, ◌∙◌, subst, arith, append-nil, if◌then◌else◌}
 use Rattle.std.specs.Prelude.{◌==◌}
 use Rattle.std.specs.List.{AllByRecursion as All, slice_get}
 use Rattle.std.proofs.lemmas.Bool.{ne_eqb}
@@ -15,7 +15,8 @@ use Rattle.bw_page.specs.Leaves.{leaf_at, empty_leaf}
 use Rattle.bw_page.specs.Standing.{content, Stand}
 use Rattle.bw_page.proofs.Law.{one_empty-lawful}
 use Rattle.bw_device.specs.Holding.{Holding}
-use Rattle.bw_buffer.specs.Filling.{Filling, size_of}
+use Rattle.bw_buffer.specs.Filling.{Filling, size_of, with_all}
+use Rattle.bw_buffer.specs.Joining.{added}
 use Rattle.bw_ring.specs.Ends.{Ring}
 use Rattle.bw_log.specs.Contents as logs
 use Rattle.bw_log.specs.Limits.{fresh}
@@ -23,7 +24,8 @@ use Rattle.bw_log.specs.Places.{place_of}
 use Rattle.bw_page.specs.Shown.{Shown}
 use Rattle.bw_versions.specs.declared.entry.Entry.{Entry}
 use Rattle.bw_versions.specs.Versioned.{Versioned}
-use Rattle.bw_store.specs.Opened.{first_place, first_frame, first_making, one_empty, started, opened}
+use Rattle.bw_store.specs.declared.config.Config.{Config}
+use Rattle.bw_store.specs.Opened.{first_place, first_frame, first_making, one_empty, started, opened, AreTaken}
 use Rattle.bw_store.specs.Showing.{AreUnseen}
 use Rattle.bw_store.specs.Kept.{Kept, IsSound}
 use Rattle.bw_store.proofs.Telling.{tells_none}
@@ -84,20 +86,26 @@ pub opened_sound : (rings : List Ring) (m f : ℕ) (spares : List Holding) (vers
 opened_sound rings m f spares versions start unseen sound =
     subst (λ (s : Shown). IsSound (opened rings m f spares (record versions { start = s }))) (sym start) (opened_by rings m f spares versions unseen sound)
 
-pub first_fits : (f n : ℕ) (blocks done : List Block) → 16384 ≤ f → done ≡ [] → blocks ≡ Base empty_leaf ∷ []
-    → (20 + length (body_bytes done)) + length (body_bytes blocks) ≤ f
-first_fits f n blocks done h none is =
-    (let e = ap (λ (bs : List Block). length (body_bytes bs)) is in let z = ap (λ (bs : List Block). length (body_bytes bs)) none
-    in let a = ap length (append-nil (block_bytes (Base empty_leaf))) in let b = length-base empty_leaf in omega arith)
+first_fits : (f : ℕ) (blocks : List Block) → 16384 ≤ f → blocks ≡ Base empty_leaf ∷ [] → 20 + length (body_bytes (added [] blocks)) ≤ f
+first_fits f blocks h is =
+    (let e = ap (λ (bs : List Block). length (body_bytes (added [] bs))) is in
+    let a = ap length (append-nil (block_bytes (Base empty_leaf))) in
+    let b = length-base empty_leaf in
+    omega arith)
 
 pub first_lawful : (blocks : List Block) → blocks ≡ Base empty_leaf ∷ [] → All (IsBlock 32) blocks
 first_lawful blocks is = subst (All (IsBlock 32)) (sym is)
     (record { page = (lit≤ tt, lit< tt); low = lit≤ tt; count = lit≤ tt; pairs = tt; ascends = refl }, tt)
 
 pub fits_at : (b : Filling) (f : ℕ) (items shown : List Block) → b ≡ record { frame = 1; limit = f; blocks = []; is_sealed = false } → 16384 ≤ f
-    → items ≡ Base empty_leaf ∷ [] → shown ≡ items → size_of b + length (body_bytes shown) ≤ b.limit
+    → items ≡ Base empty_leaf ∷ [] → shown ≡ items → size_of (with_all b shown) ≤ b.limit
 fits_at b f items shown is h made same =
-    subst (λ (x : Filling). size_of x + length (body_bytes shown) ≤ x.limit) (sym is) (first_fits f 0 shown [] h refl (same ∙ made))
+    subst (λ (x : Filling). size_of (with_all x shown) ≤ x.limit) (sym is) (first_fits f shown h (same ∙ made))
+
+-- boxes are taken that the slice of them is told to be
+pub taken_at : {X : Type 0} (config : Config) (view : X → Holding) (shown items : List X) → AreTaken config (map view shown) → shown ≡ items
+    → AreTaken config (map view items)
+taken_at {X} config view shown items taken same = subst (λ (xs : List X). AreTaken config (map view xs)) same taken
 
 -- a store of the parts that `open` makes is an opened one
 pub started_sound : {k : Kept} {readers : ℕ} (rings : List Ring) (entries : List Entry) (filed : Shown) (newest : List Place) (making : Filling) (log : logs.Contents)

@@ -1,3 +1,4 @@
+pub mod Joins
 pub mod Stepping
 pub mod Placing
 pub mod Telling

@@ -2,13 +2,13 @@
 
 use Rattle.std.proofs.Common.{◌≡◌, ℕ, ◌+◌, ◌-◌, ◌*◌, ◌^◌, ◌<◌, ◌≤◌, true, false, Option, Some, None, Result, Ok, Err, inl, inr, List, [], ◌∷◌}
 use Rattle.std.proofs.Common.{Bool, length, refl, sym, ap, ◌∙◌, subst, arith, if◌then◌else◌, length-append, append-nil}
-use Rattle.std.specs.Prelude.{nat_le, IfOk, IfErr, OnOk, OnErr}
+use Rattle.std.specs.Prelude.{nat_le, IsTrue, ◌↔◌, IfOk, IfErr, OnOk, OnErr}
 use Rattle.bw_store.specs.declared.planning.Plan.{Plan}
 use Rattle.bw_store.specs.Planning.{listed}
 use Rattle.bw_store.specs.declared.fault.StoreFault.{StoreFault}
 use Rattle.bw_store.specs.Faults.{FlushLeaves}
 use Rattle.std.specs.Option.{unwrap_or}
-use Rattle.bw_store.specs.Fitting.{Fits, blocks_at, nowhere}
+use Rattle.bw_store.specs.Fitting.{Fits, here_at, blocks_at, nowhere}
 use Rattle.bw_store.specs.Taking.{MakesRoom, IsPlan, ItemLeaves, IsWanting, Works}
 use Rattle.bw_store.proofs.Refusing.{entered_not}
 use Rattle.bw_store.specs.Taken.{taken}
@@ -26,14 +26,15 @@ use Rattle.bw_page.specs.Leaves.{home, changed, directed_at, upper_of, leaf_at, 
 use Rattle.std.specs.List.{slice_get}
 use Rattle.bw_page.specs.Shown.{Shown, leaf_here, is_away, IsHere}
 use Rattle.bw_codec.proofs.Wider.{blocks_wider}
-use Rattle.bw_buffer.specs.Filling.{frame_of, size_of}
+use Rattle.bw_buffer.specs.Filling.{Filling, frame_of, size_of, with_all}
 use Rattle.bw_buffer.proofs.Holding.{few_blocks}
 use Rattle.bw_log.specs.Contents as logs
 use Rattle.bw_log.proofs.Adding.{following_is}
 use Rattle.bw_store.specs.Kept.{Kept, IsSound}
+use Rattle.bw_store.proofs.Joins.{added_shorter}
 use Rattle.bw_store.proofs.Growing.{Takes, blocks_lawful}
 use Rattle.bw_store.proofs.FramesBehind.{following_fits}
-use Rattle.bw_store.specs.Adding.{blocks_for, end_of, result_of, upper_if, planned}
+use Rattle.bw_store.specs.Adding.{here_for, blocks_for, result_of, upper_if, planned}
 use Rattle.bw_page.proofs.PageByPage.{home_there}
 
 -- the leaf of a record's page is in memory where the page is
@@ -130,14 +131,14 @@ takes_by s h item back op room next fits last =
     record { some = omega arith; grown = h.grown; op = op; room = room; last = last; number = (omega arith, bound); few = omega arith }
 
 some_blocks : (s : Kept) (item : Record) (back : Place)
-    → (1 ≤ length (blocks_for s.filed.m s.filed.leaves back (end_of (frame_of s.making)) item))
-    × (length (blocks_for s.filed.m s.filed.leaves back (end_of (frame_of s.making)) item) ≤ 2)
+    → (1 ≤ length (blocks_for s.filed.m s.filed.leaves back (here_at s item) item))
+    × (length (blocks_for s.filed.m s.filed.leaves back (here_at s item) item) ≤ 2)
 some_blocks s item back =
     elim (nat_le (length (result_of s.filed.leaves item).pairs) s.filed.m) as
     (λ b. (1 ≤ length (if b then Delta (directed_at s.filed.leaves item) back (item ∷ []) ∷ [] else Delta (directed_at s.filed.leaves item) back (item ∷ [])
-    ∷ Split (directed_at s.filed.leaves item) (end_of (frame_of s.making)) (upper_of s.filed.m (length s.filed.leaves + 1) (result_of s.filed.leaves item))
+    ∷ Split (directed_at s.filed.leaves item) (here_at s item) (upper_of s.filed.m (length s.filed.leaves + 1) (result_of s.filed.leaves item))
     ∷ [])) × (length (if b then Delta (directed_at s.filed.leaves item) back (item ∷ []) ∷ [] else Delta (directed_at s.filed.leaves item) back (item ∷ [])
-    ∷ Split (directed_at s.filed.leaves item) (end_of (frame_of s.making))
+    ∷ Split (directed_at s.filed.leaves item) (here_at s item)
     (upper_of s.filed.m (length s.filed.leaves + 1) (result_of s.filed.leaves item)) ∷ []) ≤ 2)) [
       | true ↦ (omega arith, omega arith)
       | false ↦ (omega arith, omega arith)
@@ -146,7 +147,7 @@ some_blocks s item back =
 -- what a plan says, on a sound store: the blocks are lawful, few and short
 pub plan_lawful : (s : Kept) → IsSound s → (item : Record) (back : Place) (blocks : List Block) → IsOp item → HasPage s.filed.m s.filed.leaves item
     → s.log.next ≡ Some s.making.frame → size_of s.making ≤ s.making.limit
-    → slice_get s.newest (directed_at s.filed.leaves item - 1) ≡ Some back → blocks ≡ blocks_for s.filed.m s.filed.leaves back (end_of (frame_of s.making)) item
+    → slice_get s.newest (directed_at s.filed.leaves item - 1) ≡ Some back → blocks ≡ blocks_for s.filed.m s.filed.leaves back (here_at s item) item
     → All (IsBlock 32) blocks × (length blocks ≤ 2) × (1 ≤ length blocks) × (length (body_bytes blocks) ≤ 7000)
 plan_lawful s h item back blocks op room next fits last made =
     let t = takes_by s h item back op room next fits last in
@@ -159,36 +160,46 @@ plan_lawful s h item back blocks op room next fits last made =
       subst (λ (bs : List Block). length bs ≤ 2) (sym made) some.1,
       subst (λ (bs : List Block). 1 ≤ length bs) (sym made) some.0,
       subst (λ (bs : List Block). length (body_bytes bs) ≤ 7000) (sym made)
-          (blocks_short s.filed.m s.filed.leaves back (end_of (frame_of s.making)) item le op all),
+          (blocks_short s.filed.m s.filed.leaves back (here_at s item) item le op all),
     )
 
 -- the same of what planning answers
-module _ (s : Kept) (h : IsSound s) (item : Record) (op : IsOp item) (next : s.log.next ≡ Some s.making.frame) (free frame index : ℕ)
-    (fits : free + size_of s.making ≡ s.making.limit) (at : frame ≡ s.making.frame) (in_frame : index ≡ length s.making.blocks) where
+module _ (s : Kept) (h : IsSound s) (item : Record) (op : IsOp item) (next : s.log.next ≡ Some s.making.frame) (free : ℕ)
+    (fits : free + size_of s.making ≡ s.making.limit) (page : ℕ) (in_page : page ≡ directed_at s.filed.leaves item) (here : Place)
+    (at : here ≡ here_for (frame_of s.making) page) where
   plan_all : (p : Plan) → p.page ≡ directed_at s.filed.leaves item → slice_get s.newest (p.page - 1) ≡ Some p.back → HasPage s.filed.m s.filed.leaves item
-      → listed p.blocks ≡ blocks_for s.filed.m s.filed.leaves p.back (record { frame = frame; index = index }) item
+      → listed p.blocks ≡ blocks_for s.filed.m s.filed.leaves p.back here item
       → All (IsBlock 32) (listed p.blocks) × (length (listed p.blocks) ≤ 2) × (1 ≤ length (listed p.blocks)) × (length (body_bytes (listed p.blocks)) ≤ 7000)
   plan_all p page back room blocks =
       plan_lawful s h item p.back (listed p.blocks) op room next (omega arith)
       (subst (λ (n : ℕ). slice_get s.newest (n - 1) ≡ Some p.back) page back)
-      (blocks ∙ ap (λ n. blocks_for s.filed.m s.filed.leaves p.back (record { frame = n; index = index }) item) at
-      ∙ ap (λ n. blocks_for s.filed.m s.filed.leaves p.back (record { frame = s.making.frame; index = n }) item) in_frame)
+      (blocks ∙ ap (λ (x : Place). blocks_for s.filed.m s.filed.leaves p.back x item) (at ∙ ap (here_for (frame_of s.making)) in_page))
 
   pub answer_lawful : (o : Result Plan StoreFault) → IfOk o (λ p. p.page ≡ directed_at s.filed.leaves item)
       → IfOk o (λ p. slice_get s.newest (p.page - 1) ≡ Some p.back) → OnOk o (HasPage s.filed.m s.filed.leaves item)
-      → IfOk o (λ p. listed p.blocks ≡ blocks_for s.filed.m s.filed.leaves p.back (record { frame = frame; index = index }) item)
+      → IfOk o (λ p. listed p.blocks ≡ blocks_for s.filed.m s.filed.leaves p.back here item)
       → IfOk o (λ p. All (IsBlock 32) (listed p.blocks) × (length (listed p.blocks) ≤ 2))
   answer_lawful (Err e) page back room blocks = tt
   answer_lawful (Ok p) page back room blocks = (let all = plan_all p page back room blocks in (all.0, all.1))
 
   pub answer_short : (o : Result Plan StoreFault) → IfOk o (λ p. p.page ≡ directed_at s.filed.leaves item)
       → IfOk o (λ p. slice_get s.newest (p.page - 1) ≡ Some p.back) → OnOk o (HasPage s.filed.m s.filed.leaves item)
-      → IfOk o (λ p. listed p.blocks ≡ blocks_for s.filed.m s.filed.leaves p.back (record { frame = frame; index = index }) item)
+      → IfOk o (λ p. listed p.blocks ≡ blocks_for s.filed.m s.filed.leaves p.back here item)
       → IfOk o (λ p. length (body_bytes (listed p.blocks)) ≤ 7000)
   answer_short (Err e) page back room blocks = tt
   answer_short (Ok p) page back room blocks = (plan_all p page back room blocks).3
 
 -- ---- whether the blocks of a plan fit
+
+-- what a test for room says of the list that the slice is
+module _ (making : Filling) (blocks slice : List Block) {b : Bool} (tests : IsTrue b ↔ (size_of (with_all making slice) ≤ making.limit)) where
+  pub some_room : b ≡ true → slice ≡ blocks → size_of (with_all making blocks) ≤ making.limit
+  some_room is same = subst (λ (bs : List Block). size_of (with_all making bs) ≤ making.limit) same (tests.0 is)
+
+  pub no_room : b ≡ false → slice ≡ blocks → size_of (with_all making blocks) ≤ making.limit → ⊥
+  no_room is same fits =
+      let there : b ≡ true = tests.1 (subst (λ (bs : List Block). size_of (with_all making bs) ≤ making.limit) (sym same) fits) in
+      cc
 
 back_at : (newest : List Place) (at : ℕ) (back : Place) → slice_get newest at ≡ Some back → unwrap_or (slice_get newest at) nowhere ≡ back
 back_at newest at back is = ap (λ (o : Option Place). unwrap_or o nowhere) is
@@ -197,26 +208,27 @@ planned_blocks : (s : Kept) (item : Record) (plan : Plan) → IsPlan s item plan
 planned_blocks s item plan p =
     let back = back_at s.newest (directed_at s.filed.leaves item - 1) plan.back
     (subst (λ (n : ℕ). slice_get s.newest (n - 1) ≡ Some plan.back) p.page p.back) in
-    p.blocks ∙ ap (λ (b : Place). blocks_for s.filed.m s.filed.leaves b (end_of (frame_of s.making)) item) (sym back)
+    p.blocks ∙ ap (λ (b : Place). blocks_for s.filed.m s.filed.leaves b (here_at s item) item) (sym back)
 
-pub plan_fits : (s : Kept) (item : Record) (plan : Plan) → IsPlan s item plan → size_of s.making + length (body_bytes (listed plan.blocks)) ≤ s.making.limit
+pub plan_fits : (s : Kept) (item : Record) (plan : Plan) → IsPlan s item plan → size_of (with_all s.making (listed plan.blocks)) ≤ s.making.limit
     → Fits s item
 plan_fits s item plan p fits =
-    subst (λ (bs : List Block). size_of s.making + length (body_bytes bs) ≤ s.making.limit) (planned_blocks s item plan p) fits
+    subst (λ (bs : List Block). size_of (with_all s.making bs) ≤ s.making.limit) (planned_blocks s item plan p) fits
 
-pub plan_full : (s : Kept) (item : Record) (plan : Plan) → IsPlan s item plan → s.making.limit < size_of s.making + length (body_bytes (listed plan.blocks))
-    → Fits s item → ⊥
+pub plan_full : (s : Kept) (item : Record) (plan : Plan) → IsPlan s item plan
+    → (size_of (with_all s.making (listed plan.blocks)) ≤ s.making.limit → ⊥) → Fits s item → ⊥
 plan_full s item plan p over fits =
-    let there = subst (λ (bs : List Block). size_of s.making + length (body_bytes bs) ≤ s.making.limit) (sym (planned_blocks s item plan p)) fits in
-    omega arith
+    over (subst (λ (bs : List Block). size_of (with_all s.making bs) ≤ s.making.limit) (sym (planned_blocks s item plan p)) fits)
 
 -- an empty frame has room for the blocks of any record
 pub flushed_empty : (old new : Kept) (o : Option ℕ) → FlushLeaves old (Ok o) new → new.making.blocks ≡ []
 flushed_empty old new None f = ap (λ (s : Kept). s.making.blocks) f.0 ∙ f.1
 flushed_empty old new (Some n) f = ap (λ (s : Kept). s.making.blocks) f.is ∙ f.empty
 
-pub fits_empty : (s : Kept) (bytes : ℕ) → IsSound s → s.making.blocks ≡ [] → bytes ≤ 7000 → size_of s.making + bytes ≤ s.making.limit
-fits_empty s bytes h empty few =
+pub fits_empty : (s : Kept) (blocks : List Block) → IsSound s → s.making.blocks ≡ [] → length (body_bytes blocks) ≤ 7000
+    → size_of (with_all s.making blocks) ≤ s.making.limit
+fits_empty s blocks h empty few =
+    let shorter = added_shorter s.making.blocks blocks in
     let none = ap (λ (bs : List Block). length (body_bytes bs)) empty in
     let zero : length (body_bytes []) ≡ 0 = refl in
     let limit = h.limit in

@@ -1,7 +1,7 @@
 -- A store after one record, and after one frame.
 
 use Rattle.std.proofs.Common.{◌≡◌, ℕ, zero, suc, ◌+◌, ◌-◌, ◌<◌, ◌≤◌, inl, inr, List, [], ◌∷◌, ◌++◌}
-use Rattle.std.proofs.Common.{length, take, drop, get_or, sym, ap, ◌∙◌, subst, arith, length-append, take-append-drop}
+use Rattle.std.proofs.Common.{length, take, drop, get_or, refl, sym, ap, ◌∙◌, subst, arith, length-append, take-append-drop}
 use Rattle.std.proofs.lemmas.List.{map-append, take-append-le, drop-append-le}
 use Rattle.std.proofs.lemmas.Grind.{fold-append}
 use Rattle.bw_codec.specs.Grammar.{IsOp}
@@ -9,11 +9,12 @@ use Rattle.bw_codec.specs.declared.record.Record.{Record}
 use Rattle.bw_codec.specs.declared.leaf.Leaf.{Leaf}
 use Rattle.bw_codec.specs.declared.block.Place.{Place}
 use Rattle.bw_codec.specs.declared.block.Block.{Block}
-use Rattle.bw_page.specs.Leaves.{Map, pages, applied, union, plain, changed_map}
+use Rattle.bw_page.specs.Leaves.{Map, pages, applied, empty_leaf, union, plain, changed_map}
 use Rattle.bw_page.proofs.Law.{applied-plain}
 use Rattle.bw_page.specs.Standing.{Stand}
 use Rattle.bw_page.proofs.Sorted.{all-map, all-push}
-use Rattle.bw_buffer.specs.Filling.{frame_of}
+use Rattle.bw_buffer.specs.Filling.{frame_of, size_of, with_all}
+use Rattle.bw_buffer.specs.Joining.{added}
 use Rattle.bw_log.specs.Contents as logs
 use Rattle.bw_versions.specs.declared.entry.Entry.{Entry}
 use mathlib.Core.List.{IsPrefix}
@@ -21,10 +22,12 @@ use Rattle.bw_versions.specs.Batches.{entries_of}
 use Rattle.bw_versions.specs.Entries.{records}
 use Rattle.bw_store.specs.History.{cut, upto, share}
 use Rattle.bw_store.specs.Share.{TellsFirst}
-use Rattle.bw_store.specs.Adding.{end_of, blocks_for}
+use Rattle.bw_store.specs.Adding.{blocks_for}
+use Rattle.bw_store.specs.Fitting.{here_at}
 use Rattle.bw_store.specs.Growing.{frames_upto}
 use Rattle.bw_store.specs.Kept.{Kept, leaves_at, share_at, TellsBy, TellsAs, TellsShare, waiting, frames_there, AreCuts, IsSound}
 use Rattle.bw_store.specs.Taken.{taken}
+use Rattle.bw_store.proofs.Joins.{added_behind}
 use Rattle.bw_store.proofs.Telling.{tells_more}
 use Rattle.bw_store.proofs.Growing.{Takes, grown_more}
 
@@ -77,6 +80,7 @@ pub record TakesOne (s : Kept) (writer : ℕ) (item : Record) (back : Place) : T
   pub takes : Takes s.filed.m (logs.counted s.log) (frame_of s.making) s.filed.leaves s.newest back item
   pub number : s.making.frame ≡ s.before + s.durable + 1
   pub inside : writer < length s.rings
+  pub short : size_of (with_all s.making (blocks_for s.filed.m s.filed.leaves back (here_at s item) item)) ≤ 65536
 
 module _ (s : Kept) (writer : ℕ) (item : Record) (back : Place) (t : TakesOne s writer item back) where
   same_leaves : (k : ℕ) → leaves_at (taken s writer item back) k ≡ leaves_at s k
@@ -94,17 +98,21 @@ module _ (s : Kept) (writer : ℕ) (item : Record) (back : Place) (t : TakesOne 
 
   first_more : (bs : List Block) → TellsFirst s.filed.m (leaves_at s s.durable) (waiting s) bs
       → TellsFirst s.filed.m (leaves_at s s.durable) (waiting s ++ item ∷ [])
-      (bs ++ blocks_for s.filed.m (pages s.filed.m (leaves_at s s.durable) (waiting s)) back (end_of (frame_of s.making)) item)
+      (added bs (blocks_for s.filed.m (pages s.filed.m (leaves_at s s.durable) (waiting s)) back (here_at s item) item))
   first_more [] h = absurd h
-  first_more (b ∷ bs) h = (h.0, tells_more s.filed.m (leaves_at s s.durable) (waiting s) bs back (end_of (frame_of s.making)) item h.1)
+  first_more (b ∷ bs) h =
+      let more = blocks_for s.filed.m (pages s.filed.m (leaves_at s s.durable) (waiting s)) back (here_at s item) item in
+      subst (TellsFirst s.filed.m (leaves_at s s.durable) (waiting s ++ item ∷ []))
+      (sym (ap (λ (x : Block). added (x ∷ bs) more) h.0 ∙ added_behind empty_leaf bs more))
+      (refl, tells_more s.filed.m (leaves_at s s.durable) (waiting s) bs back (here_at s item) item h.1)
 
   tells_now : (number : ℕ) → TellsBy s number (leaves_at s s.durable) (waiting s) s.making.blocks
       → TellsBy s number (leaves_at s s.durable) (waiting s ++ item ∷ [])
-      (s.making.blocks ++ blocks_for s.filed.m (pages s.filed.m (leaves_at s s.durable) (waiting s)) back (end_of (frame_of s.making)) item)
+      (added s.making.blocks (blocks_for s.filed.m (pages s.filed.m (leaves_at s s.durable) (waiting s)) back (here_at s item) item))
   tells_now number (inl first) = inl (first.0, first.1, first_more s.making.blocks first.2)
   tells_now number (inr other) = inr (
     other.0,
-    tells_more s.filed.m (leaves_at s s.durable) (waiting s) s.making.blocks back (end_of (frame_of s.making)) item other.1,
+    tells_more s.filed.m (leaves_at s s.durable) (waiting s) s.making.blocks back (here_at s item) item other.1,
   )
 
   pub taken_sound : IsSound (taken s writer item back)
@@ -125,7 +133,7 @@ module _ (s : Kept) (writer : ℕ) (item : Record) (back : Place) (t : TakesOne 
             ∙ fold-append changed_map (union s.start) (records s.entries) (item ∷ []));
         ops = all-push (λ (e : Entry). IsOp e.item) s.entries (record { writer = writer; item = item }) h.ops t.takes.op;
         writers = all-push (λ (e : Entry). e.writer < length s.rings) s.entries (record { writer = writer; item = item }) h.writers t.inside;
-        grown = grown_more s.filed.m (logs.counted s.log) (frame_of s.making) s.filed.leaves s.newest back item t.takes;
+        grown = grown_more s.filed.m (logs.counted s.log) (frame_of s.making) s.filed.leaves s.newest back item t.takes t.short;
         next = h.next;
         last = h.last;
         number = inl t.number;
@@ -145,7 +153,7 @@ module _ (s : Kept) (writer : ℕ) (item : Record) (back : Place) (t : TakesOne 
             subst (λ (ls : List Leaf). TellsBy now (s.before + s.durable + 1) ls (waiting now) now.making.blocks) (sym (same_leaves s.durable))
             (subst (λ (rs : List Record). TellsBy now (s.before + s.durable + 1) (leaves_at s s.durable) rs now.making.blocks) (sym more_waits)
             (subst (λ (ls : List Leaf). TellsBy now (s.before + s.durable + 1) (leaves_at s s.durable) (waiting s ++ item ∷ [])
-            (s.making.blocks ++ blocks_for s.filed.m ls back (end_of (frame_of s.making)) item)) (waiting_leads s h)
+            (added s.making.blocks (blocks_for s.filed.m ls back (here_at s item) item))) (waiting_leads s h)
             (tells_now (s.before + s.durable + 1) h.tells)));
         shown = record {
           start = h.shown.start;

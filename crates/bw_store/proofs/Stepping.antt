@@ -6,7 +6,6 @@ use Rattle.std.specs.Prelude.{◌==◌, nat_le}
 use Rattle.std.specs.List.{fold}
 use Rattle.std.specs.Option.{option_map}
 use Rattle.std.proofs.lemmas.Bool.{eqb-true, eq-eqb, ne_eqb, le-leb, lt-leb, leb-true, leb-false}
-use Rattle.std.proofs.lemmas.Grind.{fold-append, flat_map-append}
 use Rattle.std.proofs.lemmas.List.{length-map}
 use Rattle.bw_codec.specs.Grammar.{IsOp}
 use Rattle.bw_codec.specs.Record.{key_of}
@@ -15,28 +14,13 @@ use Rattle.bw_codec.specs.declared.leaf.Leaf.{Leaf}
 use Rattle.bw_codec.specs.declared.block.Place.{Place}
 use Rattle.bw_codec.specs.declared.block.Block.{Block}
 use Rattle.bw_codec.specs.declared.block.Block.TheVariants.{Delta, Split}
-use Rattle.bw_codec.specs.declared.block.Frame.{Frame}
 use Rattle.bw_page.specs.Leaves.{changed, directed_at, lower_of, upper_of, leaf_at, applied, AreLeaves}
-use Rattle.bw_page.specs.Standing.{kept_below, after, content, blocks_of}
+use Rattle.bw_page.specs.Standing.{kept_below, after}
 use Rattle.bw_page.proofs.Homes.{put_in}
 use Rattle.bw_page.proofs.PageByPage.{home_there, put_at}
 use Rattle.bw_page.proofs.Law.{directed, cut_within, upper_in, applied-whole, applied-cut, applied-lawful}
 use Rattle.bw_page.proofs.Steps.{kept-lower, leaf_at-push, leaf_at-new}
-use Rattle.bw_store.specs.Adding.{with_blocks, result_of, blocks_for}
-
--- ---- frames
-
-pub blocks_with : (fs : List Frame) (f : Frame) (bs : List Block) → blocks_of (fs ++ with_blocks f bs ∷ []) ≡ blocks_of (fs ++ f ∷ []) ++ bs
-blocks_with fs f bs =
-    flat_map-append (λ (x : Frame). x.blocks) fs (with_blocks f bs ∷ [])
-    ∙ ap (λ (l : List Block). blocks_of fs ++ l) (append-nil (f.blocks ++ bs))
-    ∙ sym (append_assoc (blocks_of fs) f.blocks bs)
-    ∙ ap (λ (l : List Block). l ++ bs) (ap (λ (l : List Block). blocks_of fs ++ l) (sym (append-nil f.blocks))
-    ∙ sym (flat_map-append (λ (x : Frame). x.blocks) fs (f ∷ [])))
-
-pub content_with : (p : ℕ) (fs : List Frame) (f : Frame) (bs : List Block)
-    → content p (blocks_of (fs ++ with_blocks f bs ∷ [])) ≡ fold (after p) (content p (blocks_of (fs ++ f ∷ []))) bs
-content_with p fs f bs = ap (content p) (blocks_with fs f bs) ∙ fold-append (after p) None (blocks_of (fs ++ f ∷ [])) bs
+use Rattle.bw_store.specs.Adding.{result_of, blocks_for}
 
 -- ---- one page after a record
 

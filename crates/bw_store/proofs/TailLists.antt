@@ -15,6 +15,7 @@ use Rattle.bw_codec.specs.declared.leaf.Leaf.{Leaf}
 use Rattle.bw_codec.specs.declared.block.Place.{Place}
 use Rattle.bw_codec.specs.declared.block.Block.{Block}
 use Rattle.bw_codec.specs.declared.block.Block.TheVariants.{Delta, Base, Split}
+use Rattle.bw_buffer.specs.Joining.{added}
 use Rattle.bw_buffer.specs.Marks.{mark_of}
 use Rattle.bw_buffer.specs.declared.mark.Mark.{Mark}
 use Rattle.bw_store.specs.Share.{ops_at}
@@ -58,9 +59,9 @@ length_pages f p (suc n) = ap suc (length_pages f (suc p) n)
 -- ---- a record
 
 pub tails_delta : (n page : ℕ) (blocks : List Block) (back : Place) (r : Record) → 1 ≤ page → page ≤ n
-    → tails_for n (blocks ++ Delta page back (r ∷ []) ∷ []) ≡ tails_after page r false (tails_for n blocks)
+    → tails_for n (added blocks (Delta page back (r ∷ []) ∷ [])) ≡ tails_after page r false (tails_for n blocks)
 tails_delta n page blocks back r from to =
-    set_page (tail_for blocks) (tail_for (blocks ++ Delta page back (r ∷ []) ∷ [])) 1 n page (page - 1)
+    set_page (tail_for blocks) (tail_for (added blocks (Delta page back (r ∷ []) ∷ []))) 1 n page (page - 1)
     (with_one r (get_or (tails_for n blocks) (page - 1) None)) (omega arith) (omega arith)
     (delta_tail page page blocks back r
     ∙ ap (λ (b : Bool). if b then with_one r (tail_for blocks page) else tail_for blocks page) (eq-eqb page page refl)
@@ -69,9 +70,9 @@ tails_delta n page blocks back r from to =
     ∙ ap (λ (b : Bool). if b then with_one r (tail_for blocks i) else tail_for blocks i) (ne_eqb page i (λ e. apart (sym e))))
 
 pub tails_split : (n page : ℕ) (blocks : List Block) (back here : Place) (r : Record) (upper : Leaf) → 1 ≤ page → page ≤ n → upper.page ≡ n + 1
-    → tails_for (n + 1) (blocks ++ Delta page back (r ∷ []) ∷ Split page here upper ∷ []) ≡ tails_after page r true (tails_for n blocks)
+    → tails_for (n + 1) (added blocks (Delta page back (r ∷ []) ∷ Split page here upper ∷ [])) ≡ tails_after page r true (tails_for n blocks)
 tails_split n page blocks back here r upper from to new =
-    let now = blocks ++ Delta page back (r ∷ []) ∷ Split page here upper ∷ [] in
+    let now = added blocks (Delta page back (r ∷ []) ∷ Split page here upper ∷ []) in
     let longer : n + 1 ≡ suc n = omega arith in
     ap (λ k. tails_for k now) longer
     ∙ push_page (tail_for now) 1 n (n + 1) (omega arith)
@@ -89,7 +90,7 @@ tails_split n page blocks back here r upper from to new =
     tail_set page blocks i = if page == i then None else tail_for blocks i
 
     old_tail : (i : ℕ) → i ≤ n
-        → tail_for (blocks ++ Delta page back (r ∷ []) ∷ Split page here upper ∷ []) i ≡ (if page == i then None else tail_for blocks i)
+        → tail_for (added blocks (Delta page back (r ∷ []) ∷ Split page here upper ∷ [])) i ≡ (if page == i then None else tail_for blocks i)
     old_tail i within =
         split_tail i page blocks back here r upper
         ∙ ap (λ (b : Bool). if (page == i) || b then None else tail_for blocks i) (ne_eqb upper.page i (λ e. absurd (omega arith)))

@@ -18,8 +18,10 @@ use Rattle.bw_page.specs.Leaves.{changed, all_changed}
 use Rattle.bw_page.specs.Links.{Chained, ground_of, content_of, records_of, log_end}
 use Rattle.bw_page.specs.Standing.{after}
 use Rattle.bw_page.proofs.NewerPages.{told-records}
+use Rattle.bw_buffer.specs.Joining.{added}
 use Rattle.bw_store.specs.Share.{ops_of, ops_at}
 use Rattle.bw_store.specs.Tails.{makes, is_made, tail_for, with_one}
+use Rattle.bw_store.proofs.Joins.{added_tail}
 
 -- ---- a chain over the log
 
@@ -71,9 +73,10 @@ delta_by false true rs r = refl
 delta_by false false rs r = ap Some (append-nil rs)
 
 pub delta_tail : (p page : ℕ) (blocks : List Block) (back : Place) (r : Record)
-    → tail_for (blocks ++ Delta page back (r ∷ []) ∷ []) p ≡ (if page == p then with_one r (tail_for blocks p) else tail_for blocks p)
+    → tail_for (added blocks (Delta page back (r ∷ []) ∷ [])) p ≡ (if page == p then with_one r (tail_for blocks p) else tail_for blocks p)
 delta_tail p page blocks back r =
-    rw (list_any-append (makes p) blocks (Delta page back (r ∷ []) ∷ []), flat_map-append (ops_of p) blocks (Delta page back (r ∷ []) ∷ []))
+    added_tail p blocks (Delta page back (r ∷ []) ∷ [])
+    ∙ rw (list_any-append (makes p) blocks (Delta page back (r ∷ []) ∷ []), flat_map-append (ops_of p) blocks (Delta page back (r ∷ []) ∷ []))
     (delta_by (is_made p blocks) (page == p) (ops_at p blocks) r)
 
 split_by : (m a b : Bool) (rs : List Record) (r : Record)
@@ -87,10 +90,11 @@ split_by false false true rs r = refl
 split_by false false false rs r = ap Some (append-nil rs)
 
 pub split_tail : (p page : ℕ) (blocks : List Block) (back here : Place) (r : Record) (upper : Leaf)
-    → tail_for (blocks ++ Delta page back (r ∷ []) ∷ Split page here upper ∷ []) p
+    → tail_for (added blocks (Delta page back (r ∷ []) ∷ Split page here upper ∷ [])) p
     ≡ (if (page == p) || (upper.page == p) then None else tail_for blocks p)
 split_tail p page blocks back here r upper =
-    rw (
+    added_tail p blocks (Delta page back (r ∷ []) ∷ Split page here upper ∷ [])
+    ∙ rw (
       list_any-append (makes p) blocks (Delta page back (r ∷ []) ∷ Split page here upper ∷ []),
       flat_map-append (ops_of p) blocks (Delta page back (r ∷ []) ∷ Split page here upper ∷ []),
     )

@@ -2,15 +2,16 @@
 
 use Rattle.std.proofs.Common.{◌≡◌, ℕ, ◌+◌, true, false, List, [], ◌∷◌, ◌++◌, length, refl, sym, ap, ◌∙◌, append_assoc, append-nil, if◌then◌else◌}
 use Rattle.std.specs.Prelude.{◌==◌, nat_le}
-use Rattle.std.proofs.lemmas.Grind.{flat_map-append}
 use Rattle.bw_codec.specs.declared.record.Record.{Record}
 use Rattle.bw_codec.specs.declared.leaf.Leaf.{Leaf}
 use Rattle.bw_codec.specs.declared.block.Place.{Place}
 use Rattle.bw_codec.specs.declared.block.Block.{Block}
 use Rattle.bw_codec.specs.declared.block.Block.TheVariants.{Delta, Split}
 use Rattle.bw_page.specs.Leaves.{directed_at, applied, pages, upper_of}
-use Rattle.bw_store.specs.Share.{ops_of, ops_at, cut_of, cuts_in, base_of, bases_in, directed, cut_by, cuts_by, Tells}
+use Rattle.bw_buffer.specs.Joining.{added}
+use Rattle.bw_store.specs.Share.{ops_at, cuts_in, bases_in, directed, cut_by, cuts_by, Tells}
 use Rattle.bw_store.specs.Adding.{result_of, blocks_for}
+use Rattle.bw_store.proofs.Joins.{added_ops, added_cuts, added_bases}
 
 directed_more : (m p : ℕ) (leaves : List Leaf) (rs : List Record) (r : Record)
     → directed m p leaves (rs ++ r ∷ []) ≡ directed m p leaves rs ++ (if directed_at (pages m leaves rs) r == p then r ∷ [] else [])
@@ -51,16 +52,16 @@ module _ (m : ℕ) (now : List Leaf) (back here : Place) (r : Record) where
 
 -- one record more
 pub tells_more : (m : ℕ) (leaves : List Leaf) (rs : List Record) (blocks : List Block) (back here : Place) (r : Record) → Tells m leaves rs blocks
-    → Tells m leaves (rs ++ r ∷ []) (blocks ++ blocks_for m (pages m leaves rs) back here r)
+    → Tells m leaves (rs ++ r ∷ []) (added blocks (blocks_for m (pages m leaves rs) back here r))
 tells_more m leaves rs blocks back here r t =
     let now = pages m leaves rs in
     let more = blocks_for m now back here r in
     record {
-      deltas = λ p. flat_map-append (ops_of p) blocks more ∙ ap (λ (l : List Record). l ++ ops_at p more) (t.deltas p)
+      deltas = λ p. added_ops p blocks more ∙ ap (λ (l : List Record). l ++ ops_at p more) (t.deltas p)
           ∙ ap (λ (l : List Record). directed m p leaves rs ++ l) (ops_for m now back here r p) ∙ sym (directed_more m p leaves rs r);
-      splits = flat_map-append cut_of blocks more ∙ ap (λ (l : List (ℕ × ℕ)). l ++ cuts_in more) t.splits
+      splits = added_cuts blocks more ∙ ap (λ (l : List (ℕ × ℕ)). l ++ cuts_in more) t.splits
           ∙ ap (λ (l : List (ℕ × ℕ)). cuts_by m leaves rs ++ l) (cuts_for m now back here r) ∙ sym (cuts_more m leaves rs r);
-      bases = flat_map-append base_of blocks more ∙ ap (λ (l : List Leaf). l ++ bases_in more) t.bases ∙ bases_for m now back here r;
+      bases = added_bases blocks more ∙ ap (λ (l : List Leaf). l ++ bases_in more) t.bases ∙ bases_for m now back here r;
     }
 
 -- nothing tells no records

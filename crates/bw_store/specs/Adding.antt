@@ -1,6 +1,6 @@
 -- What a record adds to the frame in the making.
 
-use Rattle.std.specs.Prelude.{ℕ, ◌+◌, ◌-◌, nat_le, if◌then◌else◌, Option, Some, None, List, [], ◌∷◌, ◌++◌, length, slice_set}
+use Rattle.std.specs.Prelude.{ℕ, ◌+◌, ◌-◌, nat_le, if◌then◌else◌, Option, Some, None, List, [], ◌∷◌, ◌++◌, length, slice_set, unwrap_or}
 use Rattle.bw_codec.specs.Record.{key_of}
 use Rattle.bw_codec.specs.declared.record.Record.{Record}
 use Rattle.bw_codec.specs.declared.leaf.Leaf.{Leaf}
@@ -9,14 +9,28 @@ use Rattle.bw_codec.specs.declared.block.Block.{Block}
 use Rattle.bw_codec.specs.declared.block.Block.TheVariants.{Delta, Split}
 use Rattle.bw_codec.specs.declared.block.Frame.{Frame}
 use Rattle.bw_page.specs.Leaves.{home, changed, directed_at, upper_of}
+use Rattle.bw_buffer.specs.Joining.{joins, added}
 
--- a frame with further blocks
+-- a frame with further blocks, of which Deltas join
 abbrev pub with_blocks : Frame → List Block → Frame
-with_blocks frame blocks = record frame { blocks = frame.blocks ++ blocks }
+with_blocks frame blocks = record frame { blocks = added frame.blocks blocks }
 
--- where the next block of a frame goes
+-- where the next block of a frame goes, if it joins none
 abbrev pub end_of : Frame → Place
 end_of frame = record { frame = frame.number; index = length frame.blocks }
+
+-- where the Delta of a record of this page goes: into the block that it joins, or to the end
+abbrev pub here_for : Frame → ℕ → Place
+here_for frame p = record { frame = frame.number; index = unwrap_or (joins p frame.blocks) (length frame.blocks) }
+
+-- how many blocks there are with a Delta that joined this one of them, or none
+abbrev pub count_after : Option ℕ → ℕ → ℕ
+count_after None n = n + 1
+count_after (Some i) n = n
+
+-- where a Split behind that Delta goes: behind all blocks
+abbrev pub last_for : Frame → ℕ → Place
+last_for frame p = record { frame = frame.number; index = count_after (joins p frame.blocks) (length frame.blocks) }
 
 -- ---- one record
 
@@ -30,20 +44,16 @@ blocks_for m leaves back here r =
     if nat_le (length (result_of leaves r).pairs) m then Delta (directed_at leaves r) back (r ∷ []) ∷ []
     else Delta (directed_at leaves r) back (r ∷ []) ∷ Split (directed_at leaves r) here (upper_of m (length leaves + 1) (result_of leaves r)) ∷ []
 
-abbrev pub after_place : Place → Place
-after_place here = record here { index = here.index + 1 }
-
--- the newest place of each page, after it
-abbrev pub places_after : ℕ → List Leaf → Place → Record → List Place → List Place
-places_after m leaves here r newest =
+-- the newest place of each page, after it, where its Split goes to the place `last`
+abbrev pub places_after : ℕ → List Leaf → Place → Place → Record → List Place → List Place
+places_after m leaves here last r newest =
     if nat_le (length (result_of leaves r).pairs) m then slice_set newest (directed_at leaves r - 1) here
-    else slice_set newest (directed_at leaves r - 1) (after_place here) ++ after_place here ∷ []
+    else slice_set newest (directed_at leaves r - 1) last ++ last ∷ []
 
 -- newest places where so many blocks of a page were added, the first of them here
-abbrev pub noted : List Place → ℕ → Place → ℕ → List Place
-noted newest page here count =
-    if nat_le count 1 then slice_set newest (page - 1) here
-    else slice_set newest (page - 1) (after_place here) ++ after_place here ∷ []
+abbrev pub noted : List Place → ℕ → Place → Place → ℕ → List Place
+noted newest page here last count =
+    if nat_le count 1 then slice_set newest (page - 1) here else slice_set newest (page - 1) last ++ last ∷ []
 
 -- the upper part of a leaf that has too many pairs
 abbrev pub upper_if : ℕ → ℕ → Leaf → Option Leaf

@@ -1,14 +1,13 @@
 -- Whether a record's blocks have room in the frame in the making.
 
-use Rattle.std.specs.Prelude.{ℕ, ◌+◌, ◌-◌, ◌≤◌, List, length, slice_get}
+use Rattle.std.specs.Prelude.{ℕ, ◌-◌, ◌≤◌, List, slice_get}
 use Rattle.std.specs.Option.{unwrap_or}
-use Rattle.bw_codec.specs.Grammar.{body_bytes}
 use Rattle.bw_codec.specs.declared.record.Record.{Record}
 use Rattle.bw_codec.specs.declared.block.Place.{Place}
 use Rattle.bw_codec.specs.declared.block.Block.{Block}
 use Rattle.bw_page.specs.Leaves.{directed_at}
-use Rattle.bw_buffer.specs.Filling.{frame_of, size_of}
-use Rattle.bw_store.specs.Adding.{blocks_for, end_of}
+use Rattle.bw_buffer.specs.Filling.{frame_of, size_of, with_all}
+use Rattle.bw_store.specs.Adding.{blocks_for, here_for, last_for}
 use Rattle.bw_store.specs.Kept.{Kept}
 
 -- no block
@@ -19,11 +18,17 @@ nowhere = record { frame = 0; index = 0 }
 abbrev pub back_for : Kept → Record → Place
 back_for s item = unwrap_or (slice_get s.newest (directed_at s.filed.leaves item - 1)) nowhere
 
+-- where its Delta goes in the frame in the making, and where a Split behind that goes
+abbrev pub here_at : Kept → Record → Place
+here_at s item = here_for (frame_of s.making) (directed_at s.filed.leaves item)
+
+abbrev pub last_at : Kept → Record → Place
+last_at s item = last_for (frame_of s.making) (directed_at s.filed.leaves item)
+
 -- the blocks that the record would add to the frame in the making
 abbrev pub blocks_at : Kept → Record → List Block
-blocks_at s item =
-    blocks_for s.filed.m s.filed.leaves (back_for s item) (end_of (frame_of s.making)) item
+blocks_at s item = blocks_for s.filed.m s.filed.leaves (back_for s item) (here_at s item) item
 
--- they fit behind what that frame has
+-- they fit: the frame with them is not too long
 abbrev pub Fits : Kept → Record → Type 0
-Fits s item = size_of s.making + length (body_bytes (blocks_at s item)) ≤ s.making.limit
+Fits s item = size_of (with_all s.making (blocks_at s item)) ≤ s.making.limit

@@ -12,7 +12,7 @@ use Rattle.bw_codec.specs.declared.block.Frame.{Frame}
 use Rattle.bw_page.specs.Leaves.{pages, union, plain}
 use Rattle.bw_page.specs.Standing.{Stand}
 use Rattle.bw_page.specs.Shown.{Shown}
-use Rattle.bw_buffer.specs.Filling.{Filling, frame_of}
+use Rattle.bw_buffer.specs.Filling.{Filling, frame_of, with_all}
 use Rattle.bw_ring.specs.Ends.{Ring}
 use Rattle.bw_versions.specs.Batches.{BatchData, entries_of}
 use Rattle.bw_versions.specs.Versioned.{Versioned}
@@ -161,7 +161,7 @@ with_record s writer item filed newest blocks =
       entries = s.entries ++ record { writer = writer; item = item } ∷ [];
       filed = filed;
       newest = newest;
-      making = record s.making { blocks = s.making.blocks ++ blocks };
+      making = with_all s.making blocks;
     }
 
 -- ---- a frame appended, or the append failed

@@ -2,6 +2,7 @@ pub mod History
 pub mod Share
 pub mod Adding
 pub mod Planning
+pub mod Filing
 pub mod Tails
 pub mod Tailing
 pub mod Growing

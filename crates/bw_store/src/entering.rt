@@ -1,14 +1,15 @@
 //! One record is entered in the history and in the frame in the making.
 
-ghost use Rattle.std.specs.Prelude.{◌≡◌, ◌≤◌, ◌<◌, ◌+◌, ◌-◌, ◌^◌, ◌++◌, ◌⊎◌, Some, None, [], false, length, map, vec_len, slice_get, OnOk, OnErr, IfOk, IfErr};
-ghost use Rattle.bw_codec.specs.Grammar.{body_bytes, IsBlock};
+ghost use Rattle.std.specs.Prelude.{◌≡◌, ◌≤◌, ◌<◌, ◌+◌, ◌-◌, ◌^◌, Some, false, length, map, vec_len, slice_get, OnOk, OnErr, IfOk, IfErr};
+ghost use Rattle.bw_codec.specs.Grammar.{IsBlock};
 ghost use Rattle.std.specs.List.{AllByRecursion};
 ghost use Rattle.std.specs.Vec.{vec_capacity};
-ghost use Rattle.bw_buffer.specs.Filling.{frame_of, size_of};
+ghost use Rattle.bw_buffer.specs.Filling.{frame_of, size_of, with_all};
 ghost use Rattle.bw_page.specs.Leaves.{directed_at};
 ghost use Rattle.bw_codec.specs.Record.{key_of};
 ghost use Rattle.bw_page.specs.Shown.{IsSpent, IsHere};
-ghost use Rattle.bw_store.specs.Adding.{blocks_for, end_of, noted};
+ghost use Rattle.bw_store.specs.Adding.{blocks_for, here_for, last_for, noted};
+ghost use Rattle.bw_store.specs.Filing.{AreOne};
 ghost use Rattle.bw_ring.specs.Ends.{given};
 ghost use Rattle.bw_store.specs.Lanes.{IsNext, TookKnown};
 ghost use Rattle.bw_store.specs.Taking.{IsWanting};
@@ -41,9 +42,8 @@ impl Store {
         requires page { page ≡ directed_at self.old.leaves.leaves item }
         requires back { slice_get self.old.newest.items (page - 1) ≡ Some back }
         requires blocks { blocks.now ≡ blocks_for self.old.leaves.m self.old.leaves.leaves back
-            (end_of (frame_of self.old.making)) item }
-        requires fits { size_of self.old.making + length (body_bytes blocks.now)
-            ≤ self.old.making.limit }
+            (here_for (frame_of self.old.making) page) item }
+        requires fits { size_of (with_all self.old.making blocks.now) ≤ self.old.making.limit }
         ensures sound { IsSound self.new holding }
         ensures count { length self.new.intake.lanes.items ≡ length self.old.intake.lanes.items }
         ensures ok { OnOk result (kept_by self.new holding
@@ -70,29 +70,32 @@ impl Store {
     }
 }
 
-// Puts the blocks into the frame in the making, and notes where the last of them stands.
+// Puts the blocks into the frame in the making, and notes where the last of them stands: a Delta that
+// joined stands where the one before it of its page does, and a Split stands behind all blocks.
 fn file(making: &mut Buffer, newest: &mut Vec<Place>, page: u32, blocks: &[Block])
     requires unsealed { making.old.is_sealed ≡ false }
-    requires fits { size_of making.old + length (body_bytes blocks.now) ≤ making.old.limit }
+    requires fits { size_of (with_all making.old blocks.now) ≤ making.old.limit }
     requires lawful { AllByRecursion (IsBlock 32) blocks.now }
-    requires some { (1 ≤ length blocks.now) × (length blocks.now ≤ 2) }
-    requires few { length making.old.blocks + 2 < 2 ^ 32 }
+    requires one { AreOne page blocks.now }
     requires page { (1 ≤ page) × (page ≤ length newest.old.items) }
     requires room { vec_len newest.old < vec_capacity newest.old }
-    ensures making { making.new ≡ record making.old { blocks = making.old.blocks ++ blocks.now } }
-    ensures newest { newest.new.items ≡ noted newest.old.items page (end_of (frame_of making.old))
+    ensures making { making.new ≡ with_all making.old blocks.now }
+    ensures newest { newest.new.items ≡ noted newest.old.items page
+        (here_for (frame_of making.old) page) (last_for (frame_of making.old) page)
         (length blocks.now) }
 {
     let Ok(first) = making.put_all(blocks) else {
         unreachable!();
     };
+    let _ = newest.as_slice().len();
+    if blocks.len() <= 1 {
+        newest[page as usize - 1] = first;
+        return;
+    }
     let last = Place {
         frame: first.frame,
-        index: first.index + (blocks.len() as u32 - 1),
+        index: making.count() - 1,
     };
-    let _ = newest.as_slice().len();
     newest[page as usize - 1] = last;
-    if blocks.len() > 1 {
-        newest.push_reserved(last);
-    }
+    newest.push_reserved(last);
 }

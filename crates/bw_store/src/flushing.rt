@@ -91,7 +91,7 @@ impl Store {
             (refusal (kept_by self.old holding).log
             (length (frame_bytes (frame_of self.old.making))) takes_last)) }
     {
-        let len = self.making.bytes().len() as u32;
+        let len = self.making.len();
         self.log.ready(len, takes_last)?;
         self.cuts.reserve(1)?;
         Ok(())

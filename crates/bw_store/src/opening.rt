@@ -1,10 +1,10 @@
 //! A store is opened over empty segments.
 
-ghost use Rattle.std.specs.Prelude.{◌≡◌, ◌≤◌, ◌+◌, ◌++◌, ◌↔◌, [], ◌∷◌, length, map, false, None, IsTrue, IfOk, IfErr, MatchResult};
+ghost use Rattle.std.specs.Prelude.{◌≡◌, ◌≤◌, ◌+◌, ◌↔◌, [], ◌∷◌, length, map, false, None, IsTrue, IfOk, IfErr, MatchResult};
 ghost use Rattle.std.specs.List.{AllByRecursion};
-ghost use Rattle.bw_codec.specs.Grammar.{body_bytes, IsBlock};
+ghost use Rattle.bw_codec.specs.Grammar.{IsBlock};
 ghost use Rattle.bw_codec.specs.declared.block.Block.TheVariants.{Base};
-ghost use Rattle.bw_buffer.specs.Filling.{size_of};
+ghost use Rattle.bw_buffer.specs.Filling.{size_of, with_all};
 ghost use Rattle.bw_page.specs.Leaves.{empty_leaf};
 ghost use Rattle.bw_ring.specs.Ends.{ring_of_feed, ring_of_lane};
 ghost use Rattle.bw_store.specs.Tails.{tail_of, tails_for};
@@ -72,8 +72,8 @@ fn put_first(making: &mut Buffer, blocks: &[Block])
     requires unsealed { making.old.is_sealed ≡ false }
     requires some { 1 ≤ length blocks.now }
     requires lawful { AllByRecursion (IsBlock 32) blocks.now }
-    requires fits { size_of making.old + length (body_bytes blocks.now) ≤ making.old.limit }
-    ensures { making.new ≡ record making.old { blocks = making.old.blocks ++ blocks.now } }
+    requires fits { size_of (with_all making.old blocks.now) ≤ making.old.limit }
+    ensures { making.new ≡ with_all making.old blocks.now }
 {
     let Ok(_) = making.put_all(blocks) else {
         unreachable!();

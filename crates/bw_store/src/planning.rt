@@ -6,14 +6,15 @@ ghost use Rattle.bw_codec.specs.Grammar.{body_bytes, IsBlock};
 ghost use Rattle.bw_codec.specs.Record.{key_of};
 ghost use Rattle.bw_page.specs.Leaves.{changed, directed_at, HasPage};
 ghost use Rattle.bw_page.specs.Shown.{IsHere};
-ghost use Rattle.bw_buffer.specs.Filling.{frame_of, size_of};
-ghost use Rattle.bw_store.specs.Adding.{upper_if, planned, blocks_for, end_of, result_of};
+ghost use Rattle.bw_buffer.specs.Filling.{frame_of};
+ghost use Rattle.bw_store.specs.Adding.{upper_if, planned, here_for, blocks_for};
 ghost use Rattle.bw_store.specs.Planning.{listed};
 ghost use Rattle.bw_store.specs.Faults.{IsWantingAt};
 
 use crate::fault::StoreFault;
 use crate::store::Store;
-use bw_codec::{Block, Leaf, Ops, Place, Record, block_length};
+use bw_buffer::Buffer;
+use bw_codec::{Block, Leaf, Ops, Place, Record};
 use bw_page::{Cut, Leaves, change, count_after, cut_in_two};
 use std::alloc::Global;
 
@@ -137,15 +138,15 @@ pub(crate) fn planned_for(
     Ok(Plan { page, back, blocks })
 }
 
-/// The bytes of blocks.
-pub(crate) fn length_of(blocks: &[Block]) -> usize
-    requires lawful { AllByRecursion (IsBlock 32) blocks.now }
-    requires few { length blocks.now ≤ 2 }
-    ensures { result ≡ length (body_bytes blocks.now) }
+/// Where the Delta of a record of this page goes: into the block that it joins, or to the end.
+pub(crate) fn place_for(making: &Buffer, page: u32) -> Place
+    ensures { result ≡ here_for (frame_of making.now) page }
 {
-    match blocks {
-        [] => 0,
-        [one] => block_length(one),
-        [one, two, ..] => block_length(one) + block_length(two),
+    match making.joins(page) {
+        Some(place) => place,
+        None => Place {
+            frame: making.frame(),
+            index: making.count(),
+        },
     }
 }

@@ -13,9 +13,9 @@ ghost use Rattle.bw_store.specs.Lanes.{IsNext, IsWaiting, Dries, TookKnown};
 ghost use Rattle.bw_store.specs.Taking.{TakeLeaves, WaitingLeaves, ItemLeaves, IsPlan, IsUnplanned};
 
 use crate::fault::StoreFault;
-use crate::planning::{Plan, length_of, planned_for};
+use crate::planning::{Plan, place_for, planned_for};
 use crate::store::Store;
-use bw_codec::{Place, Record};
+use bw_codec::Record;
 
 impl Store {
     ghost use Rattle.bw_store.specs.Views.{kept_by, IsSound};
@@ -96,7 +96,7 @@ impl Store {
             (kept_by self.new holding) }
     {
         let plan = self.plan(page, &item)?;
-        if length_of(plan.blocks.as_slice()) <= self.making.room() as usize {
+        if self.making.has_room(plan.blocks.as_slice()) {
             return self.enter(lane, item, plan.page, plan.back, plan.blocks.as_slice());
         }
         self.flush_making(false)?;
@@ -152,10 +152,7 @@ impl Store {
         self.goes_on()?;
         let _ = item.key();
         let _ = self.making.room();
-        let here = Place {
-            frame: self.making.frame(),
-            index: self.making.count(),
-        };
+        let here = place_for(&self.making, page);
         planned_for(
             *self.cuts.allocator(),
             &self.leaves,

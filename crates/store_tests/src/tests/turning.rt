@@ -6,7 +6,7 @@ use super::steps::Step::{
     Unsettled,
 };
 use super::telling::all_went;
-use super::vectors::{FIRST_BYTES, SECOND_BYTES};
+use super::vectors::{FIRST_BYTES, FOURTH_BYTES, JOINED_BYTES, SECOND_BYTES};
 use super::walking::{Stand, first_wrong};
 use bw_store::StoreFault;
 
@@ -55,6 +55,48 @@ const SECOND: &[Step] = &[
     Page(2, "2 c: c=7 d=4 e=5"),
     Get(b"c", b"7"),
     Get(b"x", b""),
+];
+
+/// A record joins the Delta of its page in the frame in the making.
+const JOINED: &[Step] = &[
+    Put(0, b"a", b"1"),
+    Put(0, b"b", b"2"),
+    Turn(9, 2),
+    Flush(Some(1)),
+    Bytes(1, JOINED_BYTES),
+    Live(0, 1, 0, 81),
+    Page(1, "1 : a=1 b=2"),
+];
+
+/// A page is cut behind five records of one Delta.
+const FIVE: &[Step] = &[
+    Put(0, b"a", b"1"),
+    Put(0, b"b", b"2"),
+    Put(0, b"c", b"3"),
+    Put(0, b"d", b"4"),
+    Put(0, b"e", b"5"),
+    Turn(9, 5),
+    Flush(Some(1)),
+    Live(0, 1, 0, 133),
+    Stands(1, 3),
+    Page(1, "1 : a=1 b=2"),
+    Page(2, "2 c: c=3 d=4 e=5"),
+];
+
+/// And a record more of that page joins no Delta over the Split.
+const SIX: &[Step] = &[
+    Put(0, b"a", b"1"),
+    Put(0, b"b", b"2"),
+    Put(0, b"c", b"3"),
+    Put(0, b"d", b"4"),
+    Put(0, b"e", b"5"),
+    Put(0, b"bz", b"6"),
+    Turn(9, 6),
+    Flush(Some(1)),
+    Bytes(1, FOURTH_BYTES),
+    Live(0, 1, 0, 158),
+    Page(1, "1 : a=1 b=2 bz=6"),
+    Page(2, "2 c: c=3 d=4 e=5"),
 ];
 
 /// An empty store has its first page to append.
@@ -139,6 +181,9 @@ const FAILED: &[Step] = &[
 const TABLES: &[(Stand, &[Step])] = &[
     (Stand::Boxes(4, 8), FIRST),
     (Stand::Boxes(4, 8), SECOND),
+    (Stand::Boxes(4, 8), JOINED),
+    (Stand::Boxes(4, 8), FIVE),
+    (Stand::Boxes(4, 8), SIX),
     (Stand::Boxes(4, 8), EMPTY),
     (Stand::Boxes(4, 8), WRITERS),
     (Stand::Boxes(4, 8), LIMITS),

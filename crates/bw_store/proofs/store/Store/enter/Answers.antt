@@ -6,7 +6,8 @@ use Rattle.bw_buffer.specs.Filling.{Filling, frame_of}
 use Rattle.bw_page.specs.Leaves.{applied}
 use Rattle.bw_page.specs.Seats.{is_among}
 use Rattle.bw_page.specs.Shown.{Shown}
-use Rattle.bw_store.specs.Adding.{end_of, blocks_for}
+use Rattle.bw_buffer.specs.Joining.{added}
+use Rattle.bw_store.specs.Adding.{here_for, blocks_for}
 use Rattle.bw_store.specs.Tails.{tails_for, tails_after, is_made}
 use Rattle.bw_store.specs.Views.{kept_by}
 use Rattle.bw_store.proofs.AwayPages.{page_within, tails_entered, away_entered}
@@ -14,7 +15,7 @@ use Rattle.bw_store.proofs.TailLists.{as_many}
 use Rattle.bw_page.specs.Shown.{IsSpent}
 use Rattle.bw_store.specs.Kept.{filed_of}
 use Rattle.bw_store.specs.Kept as kept
-use Rattle.bw_store.proofs.MayEnter.{enters_at, file_few, file_page, file_lawful, entered, entered_sound, lane_inside}
+use Rattle.bw_store.proofs.MayEnter.{enters_at, file_one, file_page, file_lawful, entered, entered_sound, lane_inside}
 use Rattle.bw_ring.specs.Ends.{ring_of_lane}
 use Rattle.bw_store.proofs.store.Store.enter.Goals as goal
 
@@ -40,12 +41,12 @@ pub invariant_of-self-2 : goal.invariant_of-self-2
 invariant_of-self-2 g c =
     let was = c.args.self.now in
     let f = was.leaves in
-    let here = end_of (frame_of was.making) in
+    let here = here_for (frame_of was.making) c.args.page in
     let range = page_within (kept_by was (λ z. (goal.Segment-dyn g z).holding z.1)) c.requires.sound c.args.item c.args.page c.requires.page in
     let limit = c.count.ensures.limit in
     let at = c.requires.page in
-    let made : c.file.new.making.blocks ≡ was.making.blocks ++ blocks_for f.m f.leaves c.args.back here c.args.item =
-    ap (λ (b : Filling). b.blocks) c.file.ensures.making ∙ ap (λ (bs : List Block). was.making.blocks ++ bs) c.requires.blocks in
+    let made : c.file.new.making.blocks ≡ added was.making.blocks (blocks_for f.m f.leaves c.args.back here c.args.item) =
+    ap (λ (b : Filling). b.blocks) c.file.ensures.making ∙ ap (added was.making.blocks) c.requires.blocks in
     let leaves = ap (λ (x : Shown). x.leaves) c.in_ok-apply_on.ensures.ok in
     record {
       tailed = c.note.ensures
@@ -67,9 +68,10 @@ file-requires-clause-lawful g c =
     file_lawful (enters_at c.args.page c.requires.sound c.requires.next c.key.ensures.lawful c.requires.page c.requires.back c.requires.blocks c.requires.fits)
     (λ p. let x = c.in_ok-apply_on.ensures.spent p in cc)
 
-pub file-requires-clause-few : goal.file-requires-clause-few
-file-requires-clause-few g c =
-    file_few (enters_at c.args.page c.requires.sound c.requires.next c.key.ensures.lawful c.requires.page c.requires.back c.requires.blocks c.requires.fits)
+pub file-requires-clause-one : goal.file-requires-clause-one
+file-requires-clause-one g c =
+    file_one (enters_at c.args.page c.requires.sound c.requires.next c.key.ensures.lawful c.requires.page c.requires.back c.requires.blocks c.requires.fits)
+    c.args.page c.requires.page
 
 pub file-requires-clause-page : goal.file-requires-clause-page
 file-requires-clause-page g c =

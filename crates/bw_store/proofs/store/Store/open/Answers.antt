@@ -1,5 +1,5 @@
 use Rattle.std.proofs.Common.{refl}
-use Rattle.bw_store.proofs.Fresh.{started_sound}
+use Rattle.bw_store.proofs.Fresh.{started_sound, taken_at}
 use Rattle.bw_store.proofs.store.Store.open.Goals as goal
 
 pub returns-in-Ok-new-clause-sound : goal.returns-in-Ok-new-clause-sound
@@ -8,3 +8,6 @@ returns-in-Ok-new-clause-sound g c = started_sound _ _ _ _ _ _ _ _ _ _ c.of.ensu
 
 pub returns-in_default-clause-back : goal.returns-in_default-clause-back
 returns-in_default-clause-back g c = refl
+
+pub returns-in-Ok-new-clause-bad_config : goal.returns-in-Ok-new-clause-bad_config
+returns-in-Ok-new-clause-bad_config g c = taken_at c.args.config.now _ _ _ (c.are_taken.ensures.0 c.if-not-are_taken.false) c.deref.ensures.value

@@ -10,14 +10,14 @@ planned_for-requires-clause-within g c =
 
 pub returns-clause-lawful : goal.returns-clause-lawful
 returns-clause-lawful g c =
-    answer_lawful _ c.requires.sound c.args.item.now c.key.ensures.lawful c.in_ok-goes_on.ensures.next c.room.result _
-    _ c.room.ensures c.frame.ensures.value c.count.ensures
+    answer_lawful _ c.requires.sound c.args.item.now c.key.ensures.lawful c.in_ok-goes_on.ensures.next c.room.result c.room.ensures
+    c.args.page c.requires.page c.place_for-here.result c.place_for-here.ensures
     c.planned_for.result c.planned_for.ensures.page (rw (sym c.deref.ensures.value) c.planned_for.ensures.back) c.planned_for.ensures.room
     c.planned_for.ensures.blocks
 
 pub returns-clause-short : goal.returns-clause-short
 returns-clause-short g c =
-    answer_short _ c.requires.sound c.args.item.now c.key.ensures.lawful c.in_ok-goes_on.ensures.next c.room.result _
-    _ c.room.ensures c.frame.ensures.value c.count.ensures
+    answer_short _ c.requires.sound c.args.item.now c.key.ensures.lawful c.in_ok-goes_on.ensures.next c.room.result c.room.ensures
+    c.args.page c.requires.page c.place_for-here.result c.place_for-here.ensures
     c.planned_for.result c.planned_for.ensures.page (rw (sym c.deref.ensures.value) c.planned_for.ensures.back) c.planned_for.ensures.room
     c.planned_for.ensures.blocks

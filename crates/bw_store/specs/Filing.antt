@@ -1,0 +1,22 @@
+-- The blocks of one record, as they are put into the frame in the making.
+
+use Rattle.std.specs.Prelude.{ℕ, ◌≡◌, List, [], ◌∷◌}
+use Rattle.bw_codec.specs.declared.block.Block.{Block}
+use Rattle.bw_codec.specs.declared.block.Block.TheVariants.{Delta, Base, Split}
+
+abbrev pub IsDeltaOf : ℕ → Block → Type 0
+IsDeltaOf page (Delta p back ops) = p ≡ page
+IsDeltaOf page (Base leaf) = ⊥
+IsDeltaOf page (Split p back upper) = ⊥
+
+abbrev pub IsSplit : Block → Type 0
+IsSplit (Delta p back ops) = ⊥
+IsSplit (Base leaf) = ⊥
+IsSplit (Split p back upper) = Unit {0}
+
+-- a Delta of a page, and a Split behind it or nothing
+abbrev pub AreOne : ℕ → List Block → Type 0
+AreOne page [] = ⊥
+AreOne page (b ∷ []) = IsDeltaOf page b
+AreOne page (b ∷ c ∷ []) = IsDeltaOf page b × IsSplit c
+AreOne page (b ∷ c ∷ d ∷ bs) = ⊥
