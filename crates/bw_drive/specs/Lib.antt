@@ -1,6 +1,7 @@
--- what callers see, in reading order
+-- What callers see, in the order in which to read it.
 pub mod Written
-pub mod Pending
-pub mod Pace
 pub mod Ran
 pub mod Settling
+-- What private functions say.
+pub mod Pending
+pub mod Pace

@@ -1,10 +1,9 @@
+-- What callers see, in the order in which to read it.
 pub mod History
 pub mod Share
 pub mod Adding
 pub mod Planning
-pub mod Filing
 pub mod Tails
-pub mod Tailing
 pub mod Growing
 pub mod Edges
 pub mod Kept
@@ -23,3 +22,6 @@ pub mod Reopened
 pub mod Following
 pub mod Cleaning
 pub mod Showing
+-- What private functions say.
+pub mod Filing
+pub mod Tailing
