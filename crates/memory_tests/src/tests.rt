@@ -1,12 +1,18 @@
 //! Rows and steps, each tried again and again with one allocation more before the one that is refused.
 
+mod boxes;
+mod care;
 mod codec;
 mod devices;
 mod pages;
+mod stores;
+mod versions;
 
 use bw_codec::{Key, Leaf, Record, Value};
 use std::alloc::Global;
 use std::process::Abort;
+use std::sync::Wait;
+use std::thread::Threads;
 use test_marks::{begin_without, end, refuse};
 
 /// No row takes so many allocations.
@@ -45,7 +51,7 @@ fn then(first: Try, second: Option<Try>) -> Option<Try> {
 /// What a row asks.
 trait Row {
     /// Asks its call, and once more where it was refused. None where that went otherwise than told.
-    fn goes(&self, alloc: Global) -> Option<Try>;
+    fn goes<R: AllocGlobal + Threads + Wait>(&self, rt: &R) -> Option<Try>;
     /// Whether the call may go without memory that it asks for.
     fn spares(&self) -> bool;
 }
@@ -60,10 +66,10 @@ fn may_go<R: Row>(row: &R, first: Option<Try>) -> bool {
 }
 
 /// The allocation whose refusal is not answered as told; none where there is no such one.
-fn wrong_number<R: Row>(alloc: Global, row: &R) -> Option<u32> {
+fn wrong_number<R: AllocGlobal + Threads + Wait, T: Row>(rt: &R, row: &T) -> Option<u32> {
     for number in 1..MOST {
-        refuse(alloc, number);
-        let first = row.goes(alloc);
+        refuse(rt.alloc(), number);
+        let first = row.goes(rt);
         if !may_go(row, first) {
             return Some(number);
         }
@@ -75,9 +81,9 @@ fn wrong_number<R: Row>(alloc: Global, row: &R) -> Option<u32> {
 }
 
 /// The first row that goes otherwise than told, and the allocation that was refused.
-fn wrong_row<R: Row>(alloc: Global, rows: &[R]) -> Option<(usize, u32)> {
+fn wrong_row<R: AllocGlobal + Threads + Wait, T: Row>(rt: &R, rows: &[T]) -> Option<(usize, u32)> {
     for (i, row) in rows.iter().enumerate() {
-        if let Some(number) = wrong_number(alloc, row) {
+        if let Some(number) = wrong_number(rt, row) {
             return Some((i, number));
         }
     }

@@ -12,6 +12,8 @@ use bw_codec::{
     frame_cells, header_cells, is_before, read_block, read_frame, read_header,
 };
 use std::alloc::Global;
+use std::sync::Wait;
+use std::thread::Threads;
 use test_marks::{begin, begin_without, end};
 
 /// The header of the first segment with pages of four pairs and frames of 16,384 bytes.
@@ -268,7 +270,8 @@ fn asks(alloc: Global, call: &Call) -> Option<Try> {
 }
 
 impl Row for Call {
-    fn goes(&self, alloc: Global) -> Option<Try> {
+    fn goes<R: AllocGlobal + Threads + Wait>(&self, rt: &R) -> Option<Try> {
+        let alloc = rt.alloc();
         match self {
             Call::EncodeHeader => is_written(alloc, false),
             Call::EncodeHead => is_written(alloc, true),
@@ -314,5 +317,5 @@ const CALLS: &[Call] = &[
 
 #[test]
 fn bytes_leaves_and_buffers(rt: HostRuntime) {
-    all_went(&rt, wrong_row(rt.alloc(), CALLS));
+    all_went(&rt, wrong_row(&rt, CALLS));
 }

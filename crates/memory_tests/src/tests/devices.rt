@@ -4,6 +4,8 @@ use super::{Row, Try, all_went, is, put, then, tried, wrong_row};
 use bw_device::{Desk, Lease, MemSegment, NotMade, NotTaken, Refused, Segment};
 use bw_ring::{Feed, Lane, LanesError, lanes};
 use std::alloc::Global;
+use std::sync::Wait;
+use std::thread::Threads;
 use test_marks::{begin, end};
 
 /// One call that may be refused.
@@ -136,7 +138,8 @@ fn asks(alloc: Global, call: &Call) -> Option<Try> {
 }
 
 impl Row for Call {
-    fn goes(&self, alloc: Global) -> Option<Try> {
+    fn goes<R: AllocGlobal + Threads + Wait>(&self, rt: &R) -> Option<Try> {
+        let alloc = rt.alloc();
         match self {
             Call::Take => is_taken(alloc),
             Call::Segment(bytes) => is_made(alloc, *bytes),
@@ -166,5 +169,5 @@ const CALLS: &[Call] = &[
 
 #[test]
 fn desks_segments_and_rings(rt: HostRuntime) {
-    all_went(&rt, wrong_row(rt.alloc(), CALLS));
+    all_went(&rt, wrong_row(&rt, CALLS));
 }

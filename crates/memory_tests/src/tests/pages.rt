@@ -10,6 +10,8 @@ use bw_page::{
 };
 use bw_versions::Entry;
 use std::alloc::{AllocError, Global};
+use std::sync::Wait;
+use std::thread::Threads;
 use test_marks::{begin, end};
 
 /// One call that may be refused.
@@ -448,7 +450,8 @@ fn asks(alloc: Global, call: &Call) -> Option<Try> {
 }
 
 impl Row for Call {
-    fn goes(&self, alloc: Global) -> Option<Try> {
+    fn goes<R: AllocGlobal + Threads + Wait>(&self, rt: &R) -> Option<Try> {
+        let alloc = rt.alloc();
         match self {
             Call::Apply(way) => is_applied(alloc, *way),
             Call::Change => is_changed(alloc),
@@ -501,5 +504,5 @@ const CALLS: &[Call] = &[
 
 #[test]
 fn leaves_and_chains(rt: HostRuntime) {
-    all_went(&rt, wrong_row(rt.alloc(), CALLS));
+    all_went(&rt, wrong_row(&rt, CALLS));
 }
