@@ -7,6 +7,7 @@ mod devices;
 mod pages;
 mod stores;
 mod versions;
+mod without;
 
 use bw_codec::{Key, Leaf, Record, Value};
 use std::alloc::Global;
