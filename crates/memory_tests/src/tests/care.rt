@@ -3,11 +3,12 @@
 ghost use Rattle.std.specs.Prelude.{IfSome};
 ghost use Rattle.bw_care.specs.Found.{IsRecovered};
 ghost use Rattle.bw_care.specs.Views.{IsSound};
+ghost use Rattle.bw_log.specs.Views.{IsSound as IsSoundBeside};
 
 use super::boxes::{Supply, recovered, supplied};
 use super::stores::telling::spells;
 use super::{Row, Try, all_went, shows, then, tried, wrong_row};
-use bw_care::{CleanFault, Cleaned, Recovered, clean};
+use bw_care::{CleanFault, Cleaned, Recovered, clean, recover};
 use bw_device::Segment;
 use bw_log::{Log, LogFault};
 use std::alloc::Global;
@@ -76,7 +77,11 @@ fn holds(alloc: Global, log: &mut Log, segment: u64, told: &str) -> bool
 fn picture(log: &Log) -> (u32, Option<(u64, u32, u64)>, u32)
     requires { IsSound log.now holding }
 {
-    (log.live(), log.live_segment(log.live().saturating_sub(1)), log.spares())
+    (
+        log.live(),
+        log.live_segment(log.live().saturating_sub(1)),
+        log.spares(),
+    )
 }
 
 /// One try of a cleaning: where it is refused, no box is dropped, and no more than its frame stands.
@@ -124,7 +129,11 @@ fn dumps(alloc: Global, log: &mut Log) -> Option<Try>
     let refused = end(alloc);
     match answer {
         Ok(found) => tried(true, refused, found && spells(&bytes, OLDER.as_bytes())),
-        Err(fault) => tried(false, refused, fault == LogFault::NoMemory && bytes.len() == 0),
+        Err(fault) => tried(
+            false,
+            refused,
+            fault == LogFault::NoMemory && bytes.len() == 0,
+        ),
     }
 }
 
@@ -147,16 +156,23 @@ fn readies(alloc: Global, log: &mut Log, takes_last: bool) -> Option<Try>
 }
 
 /// One try of a box more: it comes back where it is refused.
-fn adds(alloc: Global, log: &mut Log, one: Box<dyn Segment>) -> (Option<Try>, Option<Box<dyn Segment>>)
-    requires { IsSound log.old holding }
-    ensures { IsSound log.new holding }
+fn adds(
+    alloc: Global,
+    log: &mut Log,
+    one: Box<dyn Segment>,
+) -> (Option<Try>, Option<Box<dyn Segment>>)
+    requires { IsSoundBeside holding log.old }
+    ensures { IsSoundBeside holding log.new }
 {
     begin(alloc);
     let answer = log.add_segment(one);
     let refused = end(alloc);
     let spares = log.spares();
     match answer {
-        Ok(()) => (tried(true, refused, spares == 2 && log.spare_leases(1) == Some(0)), None),
+        Ok(()) => (
+            tried(true, refused, spares == 2 && log.spare_leases(1) == Some(0)),
+            None,
+        ),
         Err((one, fault)) => {
             let is_back = one.lease() == 0 && one.len() == 0 && one.capacity() == 65_560;
             let is_so = is_back && spares == 1 && fault == LogFault::NoMemory;
@@ -165,20 +181,25 @@ fn adds(alloc: Global, log: &mut Log, one: Box<dyn Segment>) -> (Option<Try>, Op
     }
 }
 
-/// A box of another desk is added.
-fn is_added(alloc: Global, log: &mut Log) -> Option<Try>
-    requires { IsSound log.old holding }
-    ensures { IsSound log.new holding }
+/// A box is added, once more where that was refused.
+fn is_added(alloc: Global, log: &mut Log, one: Box<dyn Segment>) -> Option<Try>
+    requires { IsSoundBeside holding log.old }
 {
+    match adds(alloc, log, one) {
+        (Some(Try::Refused), Some(one)) => then(Try::Refused, adds(alloc, log, one).0),
+        (first, _) => first,
+    }
+}
+
+/// A box of another desk is added to the recovered log.
+fn with_one_more(alloc: Global) -> Option<Try> {
     let Supply {
         mut boxes,
         desk: _desk,
     } = supplied(alloc, 1, &[], None)?;
     let one = boxes.pop()?;
-    match adds(alloc, log, one) {
-        (Some(Try::Refused), Some(one)) => then(Try::Refused, adds(alloc, log, one).0),
-        (first, _) => first,
-    }
+    let mut found = log_of(alloc, worked(alloc)?)?;
+    is_added(alloc, &mut found.log, one)
 }
 
 /// One try of a call on the recovered log.
@@ -199,9 +220,6 @@ fn tries(alloc: Global, log: &mut Log, call: &Call) -> Option<Try>
 fn asks(alloc: Global, log: &mut Log, call: &Call) -> Option<Try>
     requires { IsSound log.old holding }
 {
-    if let Call::Add = call {
-        return is_added(alloc, log);
-    }
     let first = tries(alloc, log, call)?;
     if first == Try::Refused {
         return then(first, tries(alloc, log, call));
@@ -221,12 +239,20 @@ fn scanned(alloc: Global) -> Option<Try> {
     }
 }
 
-/// The three segments, recovered with memory.
-fn log_of(alloc: Global) -> Option<Recovered>
+/// What is recovered from boxes, with memory.
+fn log_of(alloc: Global, boxes: Vec<Box<dyn Segment>>) -> Option<Recovered>
     ensures { IfSome result (λ r. IsRecovered holding r) }
 {
+    match recover(alloc, boxes) {
+        Ok(found) => Some(found),
+        Err(_) => None,
+    }
+}
+
+/// The three segments and a spare.
+fn worked(alloc: Global) -> Option<Vec<Box<dyn Segment>>> {
     let Supply { boxes, desk: _desk } = supplied(alloc, 4, &[LOST, OLDER, NEWER, ""], None)?;
-    bw_care::recover(alloc, boxes).ok()
+    Some(boxes)
 }
 
 /// One try of a log of boxes, which come back in order where that is refused.
@@ -267,8 +293,9 @@ impl Row for Call {
         match self {
             Call::Recover => scanned(alloc),
             Call::New => is_made(alloc),
+            Call::Add => with_one_more(alloc),
             _ => {
-                let mut found = log_of(alloc)?;
+                let mut found = log_of(alloc, worked(alloc)?)?;
                 asks(alloc, &mut found.log, self)
             }
         }

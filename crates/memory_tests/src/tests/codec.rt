@@ -147,7 +147,11 @@ fn reads_frame(alloc: Global) -> Option<Try> {
     let refused = end(alloc);
     match answer {
         Ok(FrameRead::Whole(frame, used)) => {
-            tried(true, refused, used == 52 && frame.blocks.as_slice().len() == 2)
+            tried(
+                true,
+                refused,
+                used == 52 && frame.blocks.as_slice().len() == 2,
+            )
         }
         Ok(FrameRead::Tail) => None,
         Err(fault) => tried(false, refused, fault == CodecFault::NoMemory),
@@ -251,7 +255,11 @@ fn makes_buffer(alloc: Global) -> Option<Try> {
     let made = Buffer::new(alloc, 5, 16_384);
     let refused = end(alloc);
     match made {
-        Ok(buffer) => tried(true, refused, buffer.frame() == 5 && buffer.room() == 16_364),
+        Ok(buffer) => tried(
+            true,
+            refused,
+            buffer.frame() == 5 && buffer.room() == 16_364,
+        ),
         Err(_) => tried(false, refused, true),
     }
 }

@@ -43,7 +43,11 @@ fn takes(alloc: Global, desk: &mut Desk) -> Option<Try> {
     let refused = end(alloc);
     match taken {
         Ok(lease) => tried(true, refused, lease.number() == 1 && desk.is_out(1)),
-        Err(fault) => tried(false, refused, fault == NotTaken::NoMemory && !desk.is_out(1)),
+        Err(fault) => tried(
+            false,
+            refused,
+            fault == NotTaken::NoMemory && !desk.is_out(1),
+        ),
     }
 }
 

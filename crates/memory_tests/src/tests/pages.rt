@@ -213,7 +213,11 @@ fn applied(alloc: Global, leaves: &mut Leaves, way: Way) -> Option<Try>
     let is_one = (way == Way::One) | (way == Way::On);
     match answer {
         Ok(is_so) if is_one => {
-            tried(true, refused, is_so && are_pages(leaves, b": a= b=", b"c: c= d= e="))
+            tried(
+                true,
+                refused,
+                is_so && are_pages(leaves, b": a= b=", b"c: c= d= e="),
+            )
         }
         Ok(_) => tried(true, refused, leaves.count() == 3),
         Err(fault) => {
@@ -410,11 +414,23 @@ fn links(alloc: Global, chain: &mut Chain, link: Link) -> Option<Try> {
         Link::Prepend => chain.prepend(record),
         Link::Mark => chain.mark_flushed(BACK),
         Link::Content => match chain.content(&below) {
-            Ok(leaf) => { if shows(&leaf, b": a=1") { Ok(()) } else { return None; } }
+            Ok(leaf) => {
+                if shows(&leaf, b": a=1") {
+                    Ok(())
+                } else {
+                    return None;
+                }
+            }
             Err(fault) => Err(fault),
         },
         Link::Consolidate => match chain.consolidate(&below) {
-            Ok(acts) => { if acts { Ok(()) } else { return None; } }
+            Ok(acts) => {
+                if acts {
+                    Ok(())
+                } else {
+                    return None;
+                }
+            }
             Err(fault) => Err(fault),
         },
     };

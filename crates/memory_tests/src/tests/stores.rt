@@ -3,7 +3,7 @@
 ghost use Rattle.std.specs.Prelude.{◌≡◌, map};
 ghost use Rattle.bw_ring.specs.Ends.{ring_of_feed};
 ghost use Rattle.bw_care.specs.Found.{IsRecovered};
-ghost use Rattle.bw_store.specs.Views.{kept_by, IsSound};
+ghost use Rattle.bw_store.specs.Views.{kept_beside, kept_by, IsSound, IsSoundBeside};
 
 mod picture;
 mod steps;
@@ -11,8 +11,8 @@ pub(super) mod telling;
 
 use self::picture::is_out;
 use self::steps::Step::{
-    Bytes, Clean, CleanFails, Cuts, Evict, Flush, FlushFails, Get, History, Live, NewSees, Out, Page,
-    PageFails, Put, Roll, Sees, Settle, Stands, Turn,
+    Bytes, Clean, CleanFails, Cuts, Evict, Flush, FlushFails, Get, History, Live, NewSees, Out,
+    Page, PageFails, Put, Roll, Sees, Settle, Stands, Turn,
 };
 use self::steps::{Beside, Step, goes};
 use super::boxes::{Supply, recovered, supplied};
@@ -93,8 +93,8 @@ fn lives<R: Wait>(
     desk: Desk,
     steps: &[Step],
 ) -> Option<Left>
-    requires sound { IsSound store holding }
-    requires feeds { map ring_of_feed feeds.items ≡ (kept_by store holding).rings }
+    requires sound { IsSoundBeside store holding }
+    requires feeds { map ring_of_feed feeds.items ≡ (kept_beside store holding).rings }
 {
     let (mut store, mut feeds) = (store, feeds);
     let Ok(reader) = store.reader() else {
@@ -127,7 +127,11 @@ fn opens<R: Wait>(rt: &R, alloc: Global, supply: Supply, steps: &[Step]) -> Opti
                 return None;
             }
             match Store::open(rt, alloc, CONFIG, fault.segments) {
-                Ok((store, feeds)) => with(refused, true, lives(rt, alloc, store, feeds, desk, steps)),
+                Ok((store, feeds)) => with(
+                    refused,
+                    true,
+                    lives(rt, alloc, store, feeds, desk, steps),
+                ),
                 Err(_) => None,
             }
         }
@@ -168,7 +172,7 @@ fn reopens<R: Wait>(
     desk: Desk,
     steps: &[Step],
 ) -> Option<Left>
-    requires { IsRecovered (λ b. holding (b.vtable, b.value)) recovered }
+    requires { IsRecovered holding recovered }
 {
     let told = (recovered.first, recovered.last, recovered.tail);
     begin(alloc);
@@ -182,7 +186,11 @@ fn reopens<R: Wait>(
                 return None;
             }
             match Store::reopen(rt, alloc, back, 1, 4, 3) {
-                Ok((store, feeds)) => with(refused, true, lives(rt, alloc, store, feeds, desk, steps)),
+                Ok((store, feeds)) => with(
+                    refused,
+                    true,
+                    lives(rt, alloc, store, feeds, desk, steps),
+                ),
                 Err(_) => None,
             }
         }

@@ -117,8 +117,7 @@ fn publishes<R: Wait>(
     publisher: &mut Publisher,
     reader: &mut Reader,
     batch: Option<Batch>,
-) -> (Option<Try>, Option<Batch>)
-{
+) -> (Option<Try>, Option<Batch>) {
     begin(alloc);
     let answer = match batch {
         Some(batch) => publisher.publish(rt, batch),
@@ -130,9 +129,15 @@ fn publishes<R: Wait>(
     let refused = end(alloc);
     match answer {
         Ok(()) => (tried(true, refused, sees(reader, b"c") == Some(true)), None),
-        Err(Unpublished::Entered) => (tried(false, refused, sees(reader, b"c") == Some(false)), None),
+        Err(Unpublished::Entered) => (
+            tried(false, refused, sees(reader, b"c") == Some(false)),
+            None,
+        ),
         Err(Unpublished::Back(batch)) => {
-            (tried(false, refused, sees(reader, b"c") == Some(false)), Some(batch))
+            (
+                tried(false, refused, sees(reader, b"c") == Some(false)),
+                Some(batch),
+            )
         }
     }
 }
@@ -149,7 +154,11 @@ fn is_published<R: Wait>(rt: &R, alloc: Global, publisher: &mut Publisher) -> Op
     }
     // What is level is not published again.
     let idle = publishes(rt, alloc, publisher, &mut reader, None).0;
-    if first == Try::Went { idle } else { Some(first) }
+    if first == Try::Went {
+        idle
+    } else {
+        Some(first)
+    }
 }
 
 /// A reader of a publisher, which sees nothing yet.
@@ -264,7 +273,11 @@ fn is_up_to<R: Wait>(rt: &R, alloc: Global, stand: &mut Stand) -> Option<Try>
         return then(first, publishes_up_to(rt, alloc, stand, &mut reader));
     }
     let page = is_read(alloc, &mut reader);
-    if first == Try::Went { page } else { Some(first) }
+    if first == Try::Went {
+        page
+    } else {
+        Some(first)
+    }
 }
 
 /// One try of a reader of versions.

@@ -75,7 +75,7 @@ fn room_of(feed: &mut Feed) -> usize
     feed.room()
 }
 
-pub(super) fn picture(store: &Store, reader: &mut Reader, feeds: &mut Vec<Feed>) -> Picture
+pub(super) fn shown(store: &Store, reader: &mut Reader, feeds: &mut Vec<Feed>) -> Picture
     requires { IsSound store.now holding }
     ensures { map ring_of_feed feeds.new.items ≡ map ring_of_feed feeds.old.items }
 {
@@ -109,7 +109,9 @@ pub(super) fn is_flushed(before: &Picture, now: &Picture) -> bool {
 pub(super) fn is_taken(before: &Picture, now: &Picture) -> bool {
     let frames = (now.durable == before.durable) & (now.cuts == before.cuts);
     let taken = now.entries.saturating_sub(before.entries);
-    frames & (now.entries >= before.entries) & (now.room == before.room.saturating_add(taken))
+    frames
+        & (now.entries >= before.entries)
+        & (now.room == before.room.saturating_add(taken))
         & (now.seen == before.seen)
 }
 

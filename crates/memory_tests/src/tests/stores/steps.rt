@@ -4,9 +4,11 @@ ghost use Rattle.std.specs.Prelude.{◌≡◌, ◌<◌, length, map};
 ghost use Rattle.bw_ring.specs.Ends.{ring_of_feed};
 ghost use Rattle.bw_store.specs.Views.{kept_by, IsSound};
 
-use super::picture::{Picture, is_cleaned, is_flushed, is_out, is_seen, is_taken, is_unchanged, picture};
-use super::telling::{is_history, spells};
 use super::super::{Try, put, shows};
+use super::picture::{
+    Picture, is_cleaned, is_flushed, is_out, is_seen, is_taken, is_unchanged, shown,
+};
+use super::telling::{is_history, spells};
 use bw_codec::Key;
 use bw_device::Desk;
 use bw_ring::Feed;
@@ -51,8 +53,8 @@ pub(super) enum Step {
 }
 
 use Step::{
-    Bytes, Clean, CleanFails, Cuts, Evict, Flush, FlushFails, Get, History, Live, NewSees, Out, Page,
-    PageFails, Put, Roll, Sees, Settle, Stands, Turn,
+    Bytes, Clean, CleanFails, Cuts, Evict, Flush, FlushFails, Get, History, Live, NewSees, Out,
+    Page, PageFails, Put, Roll, Sees, Settle, Stands, Turn,
 };
 
 /// What stands beside a store: the first reader, and the desk of its leases.
@@ -139,12 +141,7 @@ fn new_sees(store: &mut Store, key: &[u8], value: &[u8]) -> Result<bool, StoreFa
 }
 
 /// The bytes of a segment behind what stood there, which stays alone where that is refused.
-fn dumps(
-    alloc: Global,
-    store: &mut Store,
-    segment: u64,
-    told: &str,
-) -> Result<bool, StoreFault>
+fn dumps(alloc: Global, store: &mut Store, segment: u64, told: &str) -> Result<bool, StoreFault>
     requires { IsSound store.old holding }
     ensures sound { IsSound store.new holding }
     ensures rings { (kept_by store.new holding).rings ≡ (kept_by store.old holding).rings }
@@ -152,7 +149,13 @@ fn dumps(
     let mut bytes = Vec::new(alloc);
     match store.dump(segment, &mut bytes) {
         Ok(found) => Ok(found && spells(&bytes, told.as_bytes())),
-        Err(fault) => { if bytes.len() == 0 { Err(fault) } else { Ok(false) } }
+        Err(fault) => {
+            if bytes.len() == 0 {
+                Err(fault)
+            } else {
+                Ok(false)
+            }
+        }
     }
 }
 
@@ -193,13 +196,12 @@ fn tries<R: Wait>(
     }
 }
 
+fn are_cuts(cuts: &[u64], told: &[u64]) -> bool {
+    cuts == told
+}
+
 // A call that takes none.
-fn goes_without(
-    store: &mut Store,
-    feeds: &mut Vec<Feed>,
-    beside: &mut Beside,
-    step: &Step,
-) -> bool
+fn goes_without(store: &mut Store, feeds: &mut Vec<Feed>, beside: &mut Beside, step: &Step) -> bool
     requires sound { IsSound store.old holding }
     requires feeds { map ring_of_feed feeds.old.items ≡ (kept_by store.old holding).rings }
     ensures sound { IsSound store.new holding }
@@ -216,7 +218,7 @@ fn goes_without(
         Live(at, number, lease, length) => {
             store.live_segment(*at) == Some((*number, *lease, *length))
         }
-        Cuts(told, durable) => (store.cuts() == *told) & (store.durable() == *durable),
+        Cuts(told, durable) => are_cuts(store.cuts(), *told) & (store.durable() == *durable),
         Stands(live, spares) => (store.live() == *live) & (store.spares() == *spares),
         Out(leases) => is_out(&mut beside.desk, *leases),
         History(text) => is_history(store.history(), text.as_bytes()),
@@ -290,19 +292,27 @@ pub(super) fn goes<R: Wait>(
     if takes_none(step) {
         begin_without(alloc);
         let went = goes_without(store, feeds, beside, step);
-        return if !end(alloc) & went { Some(Try::Went) } else { None };
+        return if !end(alloc) & went {
+            Some(Try::Went)
+        } else {
+            None
+        };
     }
-    let before = picture(store, &mut beside.reader, feeds);
+    let before = shown(store, &mut beside.reader, feeds);
     begin(alloc);
     let answer = tries(rt, alloc, store, feeds, step);
     let refused = end(alloc);
     match answer {
         Ok(true) => Some(if refused { Try::Spared } else { Try::Went }),
         Err(StoreFault::NoMemory) if refused => {
-            let now = picture(store, &mut beside.reader, feeds);
+            let now = shown(store, &mut beside.reader, feeds);
             let is_so = is_left(step, &before, &now);
             let went = ends(rt, alloc, store, feeds, step, &before);
-            if is_so & went { Some(Try::Refused) } else { None }
+            if is_so & went {
+                Some(Try::Refused)
+            } else {
+                None
+            }
         }
         _ => None,
     }

@@ -6,8 +6,8 @@ ghost use Rattle.bw_codec.specs.Grammar.{IsBlock};
 use super::super::{is, put};
 use super::{asked, spared};
 use bw_codec::{
-    Block, Blocks, Head, Header, HeaderRead, Key, Low, Ops, Outline, Pairs, Place, Value, block_length,
-    frame_cells, header_cells, is_before, read_block, read_header, write_block,
+    Block, Blocks, Head, Header, HeaderRead, Key, Low, Ops, Outline, Pairs, Place, Value,
+    block_length, frame_cells, header_cells, is_before, read_block, read_header, write_block,
 };
 use std::alloc::Global;
 use test_marks::begin_without;
@@ -59,7 +59,11 @@ fn listed(alloc: Global) -> Option<bool> {
 pub(super) fn records(alloc: Global) -> Option<bool> {
     begin_without(alloc);
     let is_one = asked(alloc, is_record());
-    if is_one == Some(true) { listed(alloc) } else { is_one }
+    if is_one == Some(true) {
+        listed(alloc)
+    } else {
+        is_one
+    }
 }
 
 /// The header of the first segment with pages of four pairs and frames of 16,384 bytes.

@@ -11,8 +11,8 @@ use super::asked;
 use bw_care::{Recovered, recover};
 use bw_codec::{Key, Place, Record};
 use bw_device::{
-    DeadSegment, Desk, FuseSegment, MemSegment, Segment, are_spares, capacity_of, failures_of, is_spare,
-    lease_of, len_of, read_from,
+    DeadSegment, Desk, FuseSegment, MemSegment, Segment, are_spares, capacity_of, failures_of,
+    is_spare, lease_of, len_of, read_from,
 };
 use bw_drive::{Gate, MeetGate, OpenGate};
 use bw_log::Log;
@@ -98,7 +98,9 @@ fn are_boxes(boxes: &mut Vec<Box<dyn Segment>>) -> bool {
     }
     let all = boxes.as_slice();
     let is_first = is_spare(&all[0], 100) && lease_of(all, 0) == 0 && len_of(all, 0) == 0;
-    let are_right = are_spares(all, 100) && capacity_of(all, 1) == 65_560 && failures_of(all, 1) == 0;
+    let are_right = are_spares(all, 100)
+        && capacity_of(all, 1) == 65_560
+        && failures_of(all, 1) == 0;
     is_first && are_right
 }
 
@@ -120,11 +122,20 @@ const SEGMENTS: &[&str] = &[
     0101000000010000000000000001000000010001016a0132",
 ];
 
-fn log_of(alloc: Global) -> Option<Recovered>
+/// What is recovered from boxes.
+fn log_of(alloc: Global, boxes: Vec<Box<dyn Segment>>) -> Option<Recovered>
     ensures { IfSome result (λ r. IsRecovered holding r) }
 {
+    match recover(alloc, boxes) {
+        Ok(found) => Some(found),
+        Err(_) => None,
+    }
+}
+
+/// Two segments and a spare.
+fn worked(alloc: Global) -> Option<Vec<Box<dyn Segment>>> {
     let Supply { boxes, desk: _desk } = supplied(alloc, 3, SEGMENTS, None)?;
-    recover(alloc, boxes).ok()
+    Some(boxes)
 }
 
 /// What is asked of a log.
@@ -134,7 +145,8 @@ fn is_log(log: &Log) -> bool
     let numbers = log.m() == 4 && log.limit() == 16_384 && log.next_frame() == Some(3);
     let counts = log.live() == 2 && log.spares() == 1 && log.pages() == 1 && !log.is_failed();
     let newest = Place { frame: 2, index: 0 };
-    let places = log.place_of(1) == Some(newest) && log.base_of(1) == Some(Place { frame: 1, index: 0 });
+    let places = log.place_of(1) == Some(newest)
+        && log.base_of(1) == Some(Place { frame: 1, index: 0 });
     let boxes = log.live_segment(1) == Some((2, 1, 68)) && log.spare_leases(0) == Some(2);
     numbers && counts && places && boxes && log.oldest() == Some((1, 1)) && log.line(1).is_some()
 }
@@ -149,7 +161,7 @@ fn is_closed(log: &mut Log) -> bool
 }
 
 pub(super) fn logs(alloc: Global) -> Option<bool> {
-    let mut found = log_of(alloc)?;
+    let mut found = log_of(alloc, worked(alloc)?)?;
     begin_without(alloc);
     let is_so = is_closed(&mut found.log);
     asked(alloc, is_so)
@@ -164,7 +176,7 @@ pub(super) fn log_is_adopted(alloc: Global) -> Option<bool> {
         last: _last,
         tail: _tail,
         dropped: _dropped,
-    } = log_of(alloc)?;
+    } = log_of(alloc, worked(alloc)?)?;
     begin_without(alloc);
     let (live, spares) = log.into_segments();
     asked(alloc, live.len() == 2 && spares.len() == 1)

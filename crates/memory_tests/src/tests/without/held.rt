@@ -8,7 +8,9 @@ ghost use Rattle.bw_codec.specs.Grammar.{IsBlock};
 use super::super::{is, put, shows};
 use super::{asked, spared};
 use bw_buffer::{Buffer, Mark};
-use bw_codec::{Block, Blocks, FrameRead, Header, Key, Leaf, Place, Record, Value, encode_block, read_frame};
+use bw_codec::{
+    Block, Blocks, FrameRead, Header, Key, Leaf, Place, Record, Value, encode_block, read_frame,
+};
 use bw_page::{Chain, Draft, Leaves, change, count_after, empty_page, keep_below, value_in};
 use std::alloc::Global;
 use test_marks::begin_without;
