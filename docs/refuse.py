@@ -10,7 +10,7 @@ out. A folder that it leaves has to show the frames that were told, and to be go
 
     refuse.py [--every N] [--tests FILE] [--program FILE] [--jobs N]
 
-`--every 7` refuses every seventh of the program's allocations: the sample of `make test`. FILE is a program of tests, or bwlog; those that
+`--every 5` refuses every fifth of the program's allocations: the sample of `make test`. FILE is a program of tests, or bwlog; those that
 `rt ci`, `rt test` and `make run` leave under out/ where none is told.
 """
 
@@ -26,7 +26,7 @@ import tempfile
 
 HERE = os.path.dirname(os.path.abspath(__file__))
 CRATES = os.path.join(HERE, "..", "crates")
-TESTS = [os.path.join(CRATES, it, "out", it + "_tests") for it in ("memory_tests", "log_tests")]
+TESTS = [os.path.join(CRATES, it, "out", it + "_tests") for it in ("memory_tests", "log_tests", "drive_tests")]
 PROGRAM = os.path.join(CRATES, "bwlog", "out", "bwlog")
 REFUSED = b"refused E1 NoMemory\n"
 LIMIT = 60
@@ -157,9 +157,7 @@ def is_answered(case, answer, whole):
         return True
     if status != 5 or told != b"":
         return False
-    # Standard output itself wants memory, at its end a buffer; then nothing is printed.
-    before = printed.removesuffix(REFUSED)
-    return whole[1].startswith(before) and (printed.endswith(REFUSED) or printed == b"")
+    return printed.endswith(REFUSED) and whole[1].startswith(printed.removesuffix(REFUSED))
 
 
 def case_wrong(shim, program, case, in_folder, every, pool):

@@ -6,7 +6,6 @@ mod codec;
 mod devices;
 mod drives;
 mod files;
-mod lines;
 mod pages;
 mod stores;
 mod versions;
