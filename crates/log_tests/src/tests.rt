@@ -15,6 +15,7 @@ mod care;
 mod devices;
 mod failing;
 mod filled;
+mod memory;
 mod page;
 mod readme;
 mod spares;
