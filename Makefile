@@ -1,10 +1,10 @@
 # make try    runs a first script without any proof
 # make run    proves bwlog and all below it, crates side by side, builds it, and runs the same script
-# make test   the gate: the pages against the tests, every proof, the wrong bodies, the tests, the programs (from nothing, but for what this machine has passed); then the
-#             program that it built over the cases of tests/program/cases, over drawn scripts beside a map, over 500 hostile cases,
-#             and under the clients of clients/
+# make test   the gate: the pages against the tests and the sources, every proof, the wrong bodies, the tests, the programs (from nothing, but for what this machine has
+#             passed); then the program that it built over the cases of tests/program/cases, over drawn scripts beside a map, over 500 hostile cases, and under the
+#             clients of clients/; and the tests of refused memory with each allocation refused in turn, and the program with each fifth, by a shim that cc makes
 # make wrong  tries the wrong bodies outside the gate, in a copy of the repository
-# make memory proves the tests of drive_tests, and runs those of its module memory with each allocation refused in turn, by a shim that cc makes
+# make memory proves the tests of refused memory, and runs them and the program that make run built with each allocation refused in turn
 # make bench  times the store at a million keys, each subject in a process of its own, and then over files (docs/MEASURED.md)
 # make peers  times other stores under the same load: LMDB and LevelDB, by their C libraries (liblmdb-dev, libleveldb-dev) and rustc
 # make crash  kills the program that make run built in mid-run, and looks at what its folder holds; then puts 10,000 folders together as a loss of
@@ -29,11 +29,13 @@ try:
 test:
 	python3 tools/same.py
 	python3 tools/specs.py --check
+	python3 tools/surface.py
 	RT_JOBS=$(JOBS) rt ci
 	python3 tests/program/cases.py
 	python3 tests/program/drawn.py
 	python3 tests/program/fuzz.py --cases 500
 	python3 tests/program/clients.py
+	python3 tools/refuse.py --every 5
 
 wrong:
 	copy=$$(mktemp -d) && git clone -q . $$copy && cd $$copy && for crate in wrong/*; do \
@@ -41,7 +43,8 @@ wrong:
 	done && rt must-fail $$(ls wrong)
 
 memory:
-	cd crates/drive_tests && rt test
+	python3 tools/surface.py
+	for crate in memory_tests log_tests drive_tests; do (cd crates/$$crate && rt test) || exit 1; done
 	python3 tools/refuse.py
 
 bench:

@@ -1,5 +1,7 @@
-/* Refuses one allocation of a program, the one of number REFUSE, counted from 1, and grants all others.
-   The count stands in the file that REFUSE_COUNT names, so that it is there however the program ends. */
+/* Refuses allocations of a program. REFUSE says which one, counted from 1; all others are granted.
+
+   A test says more by marks (crates/test_marks): allocations of lengths that no other call asks for. From the first mark on only what is
+   asked within a window counts. The counts stand in the file that REFUSE_COUNT names, so that they are there however the program ends. */
 #define _GNU_SOURCE
 #include <fcntl.h>
 #include <stdatomic.h>
@@ -10,35 +12,82 @@
 extern void *__libc_malloc(size_t size);
 extern void *__libc_realloc(void *old, size_t size);
 
-static atomic_long unseen;
-static atomic_long *count = &unseen;
-static long refused;
+/* How the lengths of marks are read: as crates/test_marks says them. */
+#define FAR ((size_t)1 << 60)
+#define BEGIN ((size_t)1 << 61)
+#define WITHOUT (BEGIN + 1)
+#define END ((size_t)1000003)
+
+/* How many allocations counted, how many were refused, and how many windows there were, with those in which each one is. */
+struct counts {
+    atomic_long made, refused, windows, without;
+};
+
+static struct counts unseen;
+static struct counts *counts = &unseen;
+static atomic_long number, refused_here;
+static long wanted;
+/* Whether what is asked now counts, and whether each is refused. */
+static atomic_int is_open = 1, is_without;
 
 __attribute__((constructor)) static void begin(void)
 {
-    const char *number = getenv("REFUSE");
+    const char *which = getenv("REFUSE");
     const char *name = getenv("REFUSE_COUNT");
     int file = name ? open(name, O_RDWR | O_CREAT, 0600) : -1;
     void *cell = MAP_FAILED;
-    if (file >= 0 && ftruncate(file, sizeof *count) == 0)
-        cell = mmap(NULL, sizeof *count, PROT_READ | PROT_WRITE, MAP_SHARED, file, 0);
+    if (file >= 0 && ftruncate(file, sizeof *counts) == 0)
+        cell = mmap(NULL, sizeof *counts, PROT_READ | PROT_WRITE, MAP_SHARED, file, 0);
     if (cell != MAP_FAILED)
-        count = cell;
-    atomic_store(count, 0);
-    refused = number ? atol(number) : 0;
+        counts = cell;
+    counts->made = counts->refused = counts->windows = counts->without = 0;
+    number = 0;
+    wanted = which ? atol(which) : 0;
 }
 
-static int is_refused(void)
+/* Whether a length is a mark, which is then obeyed. */
+static int is_mark(size_t size)
 {
-    return atomic_fetch_add(count, 1) + 1 == refused;
+    if (size == BEGIN || size == WITHOUT) {
+        refused_here = 0;
+        is_without = size == WITHOUT;
+        is_open = 1;
+        counts->windows++;
+        counts->without += is_without;
+    } else if (size >= FAR && size < BEGIN) {
+        number = 0;
+        wanted = (long)(size - FAR);
+        is_open = 0;
+    } else {
+        return 0;
+    }
+    return 1;
+}
+
+static int is_refused(size_t size)
+{
+    if (is_mark(size))
+        return 1;
+    if (size == END && counts->windows > 0) {
+        is_open = is_without = 0;
+        return refused_here != 0;
+    }
+    if (!is_open)
+        return 0;
+    counts->made++;
+    if (!is_without && ++number != wanted)
+        return 0;
+    counts->refused++;
+    refused_here++;
+    return 1;
 }
 
 void *malloc(size_t size)
 {
-    return is_refused() ? NULL : __libc_malloc(size);
+    return is_refused(size) ? NULL : __libc_malloc(size);
 }
 
 void *realloc(void *old, size_t size)
 {
-    return is_refused() ? NULL : __libc_realloc(old, size);
+    return is_refused(size) ? NULL : __libc_realloc(old, size);
 }

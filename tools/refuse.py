@@ -1,72 +1,211 @@
-"""Runs each test of drive_tests `memory` once for each allocation that it makes, and refuses that one.
+"""Refuses allocations, one after the other, of the tests of refused memory and of the built program.
 
-A test has to pass whichever allocation is refused: the call that wanted it answers want of memory, and
-the same call, made again, ends as it should. `make memory` builds the tests and calls this.
+The tests sweep by themselves: a test says by marks (crates/test_marks) which allocation of which call is to be refused, asks the
+call again and again until it needs no more, and compares what each refusal left. One run of each test, beside the shim (refuse.c), is
+all of it.
+
+The program is run over the worked scripts once for each allocation that it makes. It has to end with status 5, behind
+`refused E1 NoMemory` and the answers of the lines before it; or it answers as with memory, where what is only there to be fast was left
+out. A folder that it leaves has to show the frames that were told, and to be gone on from.
+
+    refuse.py [--every N] [--tests FILE] [--program FILE] [--jobs N]
+
+`--every 5` refuses every fifth of the program's allocations: the sample of `make test`. FILE is a program of tests, or bwlog; those that
+`rt ci`, `rt test` and `make run` leave under out/ where none is told.
 """
 
+import argparse
+import concurrent.futures
 import os
+import re
+import resource
+import signal
 import subprocess
 import sys
 import tempfile
 
 HERE = os.path.dirname(os.path.abspath(__file__))
-TESTS = os.path.join(HERE, "..", "crates", "drive_tests", "out", "drive_tests_tests")
+CRATES = os.path.join(HERE, "..", "crates")
+TESTS = [os.path.join(CRATES, it, "out", it + "_tests") for it in ("memory_tests", "log_tests", "drive_tests")]
+PROGRAM = os.path.join(CRATES, "bwlog", "out", "bwlog")
+REFUSED = b"refused E1 NoMemory\n"
+LIMIT = 60
 
 
-def run(folder, name, number):
-    """The test with this allocation refused: its status, what it prints, how many it made."""
+def beside(shim, words, number, folder, **more):
+    """A run beside the shim that refuses this allocation: its status, what it printed and told, and the shim's counts."""
     count = os.path.join(folder, "count")
-    if os.path.exists(count):
-        os.remove(count)
-    words = {
-        "LD_PRELOAD": os.path.join(folder, "refuse.so"),
-        "REFUSE": str(number),
-        "REFUSE_COUNT": count,
-    }
+    env = {"LD_PRELOAD": shim, "REFUSE": str(number), "REFUSE_COUNT": count}
     try:
-        ended = subprocess.run(
-            [TESTS, name], cwd=folder, env=words, capture_output=True, timeout=60, check=False
-        )
+        ended = subprocess.run(words, env=env, capture_output=True, timeout=LIMIT, check=False, **more)
     except subprocess.TimeoutExpired:
-        return "no end within 60 seconds", "", 0
-    with open(count, "rb") as cell:
-        made = int.from_bytes(cell.read(8), sys.byteorder)
-    return ended.returncode, (ended.stdout + ended.stderr).decode(errors="replace"), made
+        return "no end within %d seconds" % LIMIT, b"", b"", [0] * 4
+    with open(count, "rb") as cells:
+        counts = [int.from_bytes(cells.read(8), sys.byteorder) for _ in range(4)]
+    return ended.returncode, ended.stdout, ended.stderr, counts
 
 
-def refuse_all(folder, name):
-    """How many of the test's allocations there are, and how many runs without one did not pass."""
-    status, said, made = run(folder, name, 0)
-    if status != 0 or made == 0:
-        sys.exit(f"{name} does not pass with ample memory\n{said}")
-    wrong = 0
-    # Threads take memory in any order, so one run may make more than another.
-    for number in range(1, made + made // 8 + 1):
-        status, said, _ = run(folder, name, number)
-        if status != 0:
-            wrong += 1
-            print(f"{name}, allocation {number}: status {status}\n{said}")
-    return made, wrong
+# ---- tests
+
+
+def names_in(tests):
+    """The tests of refused memory: all of memory_tests, and the module memory of others."""
+    listed = subprocess.run([tests, "--list"], capture_output=True, check=True).stdout.decode().split("\n")
+    names = [line.removesuffix(": test") for line in listed if line.endswith(": test")]
+    return names if "memory_tests" in tests else [it for it in names if "::memory::" in it]
+
+
+def is_tested(shim, tests, name, folder):
+    """Whether a test passes, and asked the shim."""
+    status, printed, told, counts = beside(shim, [tests, name], 0, folder, cwd=folder)
+    made, refused, windows, without = counts
+    if status != 0 or windows == 0:
+        print("%s: status %s, %d windows\n%s" % (name, status, windows, (printed + told).decode(errors="replace")))
+        return False
+    print("%s: %d allocations refused in %d windows, of which %d without any memory; %d counted" % (name, refused, windows, without, made))
+    return True
+
+
+# ---- the program
+
+
+class Case:
+    """A worked script: its command line and input, the records that its frames hold, and how many bytes a file may have."""
+
+    def __init__(self, name, words, text, records=None, file_bytes=None):
+        self.name, self.words, self.text, self.records, self.file_bytes = name, words, text.encode(), records, file_bytes
+
+    def set_limit(self):
+        if self.file_bytes is not None:
+            signal.signal(signal.SIGXFSZ, signal.SIG_IGN)
+            resource.setrlimit(resource.RLIMIT_FSIZE, (self.file_bytes, self.file_bytes))
+
+
+FIVE = "".join("put 0 %s %d\nflush\n" % it for it in zip("abcde", range(1, 6)))
+THREE = "put 0 k 1\nflush\nroll\nput 0 j 2\nflush\nroll\nput 0 k 3\nflush\n"
+OF_THREE = [("k", "1"), ("j", "2"), ("k", "3")]
+ASKED = "page 1\ncuts\nsegments\nleases\nhistory\n"
+FIRST = "42574c4f475347310100000000000000040000000040000046524d31010000000000000020000000020000000201000000000000010100000001000000000000000000000001" + "0001016b0176"
+CASES = [
+    Case("five puts", ["replay"], FIVE + "page 1\npage 2\npage 3\nsegments\ndump 1\n", list(zip("abcde", "12345"))),
+    Case("a cleaning", ["replay"], THREE + "clean\n" + ASKED, OF_THREE),
+    Case("two cleanings", ["replay"], THREE + "clean\nleases\nsegments\nclean\nclean\nadd\n" + ASKED, OF_THREE),
+    Case("an eviction", ["replay"], "put 0 k v\nturn 1\nevict 1\nflush\nevict 1\nevict 1\npage 1\nget k\nevict 1\nput 0 l w\nsettle\n", [("k", "v"), ("l", "w")]),
+    Case("an append that fails", ["replay"], "put 0 k v\nflush\nput 0 j 2\nflush\nflush\npage 1\ncuts\n", [("k", "v")], file_bytes=80),
+    Case("writers", ["threads", "--limit=2", "--flush-every=1"], "".join("put %d %s%d %d\n" % (w, "ab"[w], it, it) for it in range(4) for w in range(2))),
+    Case("a scan", ["scan"], "\n" + FIRST + "\n42574c\n"),
+]
+
+
+def pairs_in(printed):
+    """The pairs of the pages that a scan printed."""
+    return dict(it.split("=") for line in printed.decode().splitlines() if line.startswith("page ") for it in line.split(" ")[6:])
+
+
+def frames_told(case, printed):
+    """How many frames the answers tell."""
+    told = [int(it) for it in re.findall(r"^frame (\d+)$", printed.decode(), re.M)]
+    return max(told, default=0)
+
+
+def left_wrong(program, case, folder, printed):
+    """What is wrong with the folder that a run left; nothing where the frames that were told are there, and another run goes on."""
+    store = os.path.join(folder, "store")
+    told = frames_told(case, printed)
+    if not os.path.isdir(store):
+        return None if told == 0 else "there is no folder"
+    scan = subprocess.run([program, "scan", "--dir=" + store], capture_output=True, check=False)
+    found = re.search(rb"^frames \d+ (\d+) tail ", scan.stdout, re.M)
+    if scan.returncode != 0 or not found:
+        if told == 0 and (scan.returncode, scan.stdout) == (4, b"refused E12 Empty\n"):
+            return goes_on(program, store, {})
+        return "scan of the folder answers %r" % ((scan.returncode, scan.stdout, scan.stderr),)
+    if int(found[1]) < told:
+        return "%d frames were told, and the folder has %r" % (told, scan.stdout)
+    if case.records is None:
+        return goes_on(program, store, pairs_in(scan.stdout))
+    # Each put is flushed alone; behind them come the cleaner's frames.
+    wanted = dict(case.records[: int(found[1])])
+    if pairs_in(scan.stdout) != wanted:
+        return "the folder has %r, and the frames %r" % (scan.stdout, wanted)
+    return goes_on(program, store, wanted)
+
+
+def goes_on(program, store, pairs):
+    """What is wrong with a run that follows."""
+    text = "put 0 z 9\nsettle\n" + "".join("get %s\n" % it for it in pairs)
+    ended = subprocess.run([program, "replay", "--segments=9", "--dir=" + store], input=text.encode(), capture_output=True, check=False)
+    wanted = "ok\nsettled 1\n" + "".join("value %s\n" % it for it in pairs.values())
+    if ended.returncode != 0 or not ended.stdout.endswith(wanted.encode()):
+        return "the next run answers %r" % ((ended.returncode, ended.stdout, ended.stderr),)
+    return None
+
+
+def run_of(shim, program, case, number, in_folder):
+    """A run of a case that is refused this allocation: what it answered, how many it made, and what is wrong with what it left."""
+    with tempfile.TemporaryDirectory() as folder:
+        words = [program, *case.words] + ["--dir=" + os.path.join(folder, "store")] * in_folder
+        status, printed, told, counts = beside(shim, words, number, folder, input=case.text, preexec_fn=case.set_limit)
+        wrong = left_wrong(program, case, folder, printed) if in_folder else None
+    return (status, printed, told), counts[0], wrong
+
+
+def is_answered(case, answer, whole):
+    """Whether a run that was refused an allocation ended as it may."""
+    status, printed, told = answer
+    if answer == whole:
+        return True
+    if status != 5 or told != b"":
+        return False
+    return printed.endswith(REFUSED) and whole[1].startswith(printed.removesuffix(REFUSED))
+
+
+def case_wrong(shim, program, case, in_folder, every, pool):
+    """How many runs of a case went otherwise, and how many there were."""
+    # Of writers in threads two runs print the same, whatever the schedule; how many allocations they make differs.
+    whole, made, wrong = run_of(shim, program, case, 0, in_folder)
+    if wrong or whole[0] not in (0, 4) or made == 0:
+        print("%s goes otherwise with memory: %r, %s" % (case.name, whole, wrong))
+        return 1, 1
+    numbers = range(1, made + made // 8 + 1, every)
+    runs = pool.map(lambda number: run_of(shim, program, case, number, in_folder), numbers)
+    count = 0
+    for number, (answer, _, wrong) in zip(numbers, runs):
+        if wrong or not is_answered(case, answer, whole):
+            count += 1
+            print("%s, allocation %d: %r, %s" % (case.name, number, answer, wrong))
+    print("bwlog, %s%s: %d of %d allocations refused, %d runs went otherwise" % (case.name, " in a folder" * in_folder, len(numbers), made, count))
+    return count, len(numbers)
 
 
 def main():
-    with tempfile.TemporaryDirectory() as folder:
-        source = os.path.join(HERE, "refuse.c")
+    given = argparse.ArgumentParser(description=__doc__.split("\n", maxsplit=1)[0])
+    given.add_argument("--every", type=int, default=1)
+    given.add_argument("--tests", action="append")
+    given.add_argument("--program", default=PROGRAM)
+    given.add_argument("--jobs", type=int, default=min(2, os.cpu_count() or 1))
+    given = given.parse_args()
+    wrong, count = 0, 0
+    with tempfile.TemporaryDirectory() as folder, concurrent.futures.ThreadPoolExecutor(given.jobs) as pool:
         shim = os.path.join(folder, "refuse.so")
-        subprocess.run(["cc", "-O2", "-shared", "-fPIC", "-o", shim, source], check=True)
-        listed = subprocess.run([TESTS, "--list"], capture_output=True, check=True)
-        lines = listed.stdout.decode().split("\n")
-        tests = [line.removesuffix(": test") for line in lines if line.endswith(": test")]
-        names = [name for name in tests if "memory::" in name]
-        if not names:
-            sys.exit("no test of the module memory is listed")
-        failed = 0
-        for name in names:
-            made, wrong = refuse_all(folder, name)
-            failed += wrong
-            print(f"{name}: {made} allocations refused in turn, {wrong} runs did not pass")
-        sys.exit(1 if failed else 0)
+        subprocess.run(["cc", "-O2", "-shared", "-fPIC", "-o", shim, os.path.join(HERE, "refuse.c")], check=True)
+        for tests in given.tests or TESTS:
+            names = names_in(os.path.abspath(tests))
+            if not names:
+                print("%s has no test of refused memory" % tests)
+                wrong += 1
+            wrong += sum(not is_tested(shim, os.path.abspath(tests), name, folder) for name in names)
+        program = os.path.abspath(given.program)
+        for case in CASES:
+            for in_folder in (False, True):
+                if case.words == ["scan"] and in_folder or case.file_bytes is not None and not in_folder:
+                    continue
+                other, runs = case_wrong(shim, program, case, in_folder, given.every, pool)
+                wrong += other
+                count += runs
+    print("refuse: %d runs of the program, %d of them and of the tests went otherwise" % (count, wrong))
+    return 1 if wrong else 0
 
 
 if __name__ == "__main__":
-    main()
+    sys.exit(main())

@@ -16,6 +16,7 @@ mod care;
 mod devices;
 mod failing;
 mod filled;
+mod memory;
 mod page;
 mod readme;
 mod spares;

@@ -14,6 +14,7 @@ mod readme;
 mod reopening;
 mod settling;
 mod sides;
+mod spent;
 mod steps;
 mod stopping;
 mod sweeps;

@@ -121,7 +121,7 @@ fn is_ready(log: &mut Log, leaf: &Leaf, len: u32, takes_last: bool, told: Option
     log.ready(len, takes_last).err() == told
 }
 
-fn rolls(log: &mut Log, leaf: &Leaf)
+pub(crate) fn rolls(log: &mut Log, leaf: &Leaf)
     requires { HoldsOne (seen log.old holding) leaf.now }
     ensures { HoldsOne (seen log.new holding) leaf.now }
 {

@@ -73,6 +73,23 @@ pub(super) fn dying(alloc: Global, lease: u32, dead: (u64, u64)) -> Option<Suppl
     })
 }
 
+/// A box with the bytes of a text in hex, of which no further failure can be counted, and so many
+/// behind it.
+pub(super) fn worn(alloc: Global, text: &'static str, behind: u32) -> Option<Supply> {
+    let mut maker = maker_of(alloc, LEAST)?;
+    let mut boxes: Vec<Box<dyn Segment>> = Vec::new(alloc);
+    let bytes = hex::decode(alloc, text).ok()?;
+    let lease = maker.desk.take().ok()?;
+    let inner = MemSegment::with_bytes(alloc, lease, LEAST, &bytes).ok()?;
+    let segment = DeadSegment::new(inner, 9, 0, u64::MAX);
+    boxes.push(Box::new(alloc, segment).ok()?).ok()?;
+    maker.fill(behind, &mut boxes)?;
+    Some(Supply {
+        boxes,
+        more: Vec::new(alloc),
+    })
+}
+
 /// The boxes that a store is opened over, and those that there are more.
 #[derive(Drop)]
 pub(super) struct Supply {

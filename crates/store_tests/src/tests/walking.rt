@@ -5,7 +5,7 @@ ghost use Rattle.bw_care.specs.Found.{IsRecovered};
 ghost use Rattle.bw_ring.specs.Ends.{ring_of_feed};
 ghost use Rattle.bw_store.specs.Views.{kept_beside, IsSoundBeside};
 
-use super::boxes::{LEAST, Row, Supply, maker_of, plain, supplied};
+use super::boxes::{LEAST, Row, Supply, maker_of, plain, supplied, worn};
 use super::opening::{Held, config_of, opened, reopened, shut};
 use super::steps::{Step, goes};
 use bw_care::{Recovered, recover};
@@ -129,28 +129,37 @@ fn over_fuses<R: AllocGlobal + Wait>(
     None
 }
 
-// A box for each of these texts in hex, and two spares.
-fn with_bytes(alloc: Global, texts: &[&'static str]) -> Option<Supply> {
+// A box for each of these texts in hex, and so many spares.
+fn with_bytes(alloc: Global, texts: &[&'static str], spares: u32) -> Option<Supply> {
     let mut maker = maker_of(alloc, LEAST)?;
     let mut boxes: Vec<Box<dyn Segment>> = Vec::new(alloc);
     for text in texts {
         maker.push_hex(text, &mut boxes)?;
     }
-    maker.fill(2, &mut boxes)?;
+    maker.fill(spares, &mut boxes)?;
     Some(Supply {
         boxes,
         more: Vec::new(alloc),
     })
 }
 
-// Over what is recovered from a box for each of these texts in hex, in any order, and two spares.
+// Over what is recovered from a box for each of these texts in hex, in any order, and so many spares.
 fn over_bytes<R: AllocGlobal + Wait>(
     rt: &R,
     texts: &[&'static str],
+    spares: u32,
     steps: &[Step],
 ) -> Option<usize> {
-    match with_bytes(rt.alloc(), texts) {
+    match with_bytes(rt.alloc(), texts, spares) {
         Some(mut supply) => lives_on(rt, &mut supply, None, steps),
+        None => Some(0),
+    }
+}
+
+// Over a box whose failures cannot be counted any more, and so many behind it.
+fn over_worn<R: AllocGlobal + Wait>(rt: &R, behind: u32, steps: &[Step]) -> Option<usize> {
+    match worn(rt.alloc(), "", behind) {
+        Some(mut supply) => lives(rt, &mut supply, 8, steps),
         None => Some(0),
     }
 }
@@ -166,13 +175,19 @@ pub(super) enum Stand {
     /// A box for each of these texts in hex, in any order, and two spares: the store goes on from
     /// what is recovered.
     Bytes(&'static [&'static str]),
+    /// The same with one spare.
+    Last(&'static [&'static str]),
+    /// A box whose failures cannot be counted any more, and so many behind it.
+    Worn(u32),
 }
 
 fn over<R: AllocGlobal + Wait>(rt: &R, stand: &Stand, steps: &[Step]) -> Option<usize> {
     match stand {
         Stand::Boxes(many, places) => within(rt, &plain(*many, 1), *places, steps),
         Stand::Fuse(many, calls, keeps) => over_fuses(rt, *many, *calls, *keeps, steps),
-        Stand::Bytes(texts) => over_bytes(rt, *texts, steps),
+        Stand::Bytes(texts) => over_bytes(rt, *texts, 2, steps),
+        Stand::Last(texts) => over_bytes(rt, *texts, 1, steps),
+        Stand::Worn(behind) => over_worn(rt, *behind, steps),
     }
 }
 

@@ -1,0 +1,326 @@
+//! Recovery, the cleaner, and a log that is read, over worked segments.
+
+ghost use Rattle.std.specs.Prelude.{IfSome};
+ghost use Rattle.bw_care.specs.Found.{IsRecovered};
+ghost use Rattle.bw_care.specs.Views.{IsSound};
+ghost use Rattle.bw_log.specs.Views.{IsSound as IsSoundBeside};
+
+use super::boxes::{Supply, recovered, supplied};
+use super::stores::telling::spells;
+use super::{Row, Try, all_went, shows, then, tried, wrong_row};
+use bw_care::{CleanFault, Cleaned, Recovered, clean, recover};
+use bw_device::Segment;
+use bw_log::{Log, LogFault};
+use std::alloc::Global;
+use std::sync::Wait;
+use std::thread::Threads;
+use test_marks::{begin, end};
+
+/// The oldest segment: the empty page 1, and k=1.
+const LOST: &str =
+    "42574c4f475347310100000000000000040000000040000046524d3101000000000000002000000002000000\
+    02010000000000000101000000010000000000000000000000010001016b0131";
+
+/// The one behind it: j=2.
+const OLDER: &str =
+    "42574c4f475347310200000000000000040000000040000046524d3102000000000000001800000001000000\
+    0101000000010000000000000001000000010001016a0132";
+
+/// The newest: k=3.
+const NEWER: &str =
+    "42574c4f475347310300000000000000040000000040000046524d3103000000000000001800000001000000\
+    0101000000020000000000000000000000010001016b0133";
+
+/// The same behind a cleaning: the page is written once more.
+const CLEANED: &str =
+    "42574c4f475347310300000000000000040000000040000046524d3103000000000000001800000001000000\
+    0101000000020000000000000000000000010001016b013346524d3104000000000000001000000001000000\
+    0201000000000200016a0132016b0133";
+
+/// One call over these three segments and a spare, or one of boxes alone.
+#[derive(Drop)]
+enum Call {
+    /// Recovery alone: the page is right.
+    Recover,
+    Clean,
+    ReadPage,
+    Dump,
+    /// A box more is a spare.
+    Add,
+    /// What an append of so many bytes wants is there, for the cleaner's too.
+    Ready(bool),
+    /// A log of two empty boxes.
+    New,
+}
+
+/// What a cleaning of the three segments tells.
+const TOLD: Cleaned = Cleaned {
+    segment: 1,
+    lease: 0,
+    pages: 1,
+    frames: 1,
+};
+
+/// Whether the segment of this number holds this.
+fn holds(alloc: Global, log: &mut Log, segment: u64, told: &str) -> bool
+    requires { IsSound log.old holding }
+    ensures { IsSound log.new holding }
+{
+    let mut bytes = Vec::new(alloc);
+    match log.dump(segment, &mut bytes) {
+        Ok(found) => found && spells(&bytes, told.as_bytes()),
+        Err(_) => false,
+    }
+}
+
+/// How many segments are live, the bytes of the newest, and how many spares stand.
+fn picture(log: &Log) -> (u32, Option<(u64, u32, u64)>, u32)
+    requires { IsSound log.now holding }
+{
+    (
+        log.live(),
+        log.live_segment(log.live().saturating_sub(1)),
+        log.spares(),
+    )
+}
+
+/// One try of a cleaning: where it is refused, no box is dropped, and no more than its frame stands.
+fn cleans(alloc: Global, log: &mut Log) -> Option<Try>
+    requires { IsSound log.old holding }
+    ensures { IsSound log.new holding }
+{
+    begin(alloc);
+    let answer = clean(alloc, log);
+    let refused = end(alloc);
+    match answer {
+        Ok(cleaned) => {
+            let is_told = cleaned == TOLD && picture(log) == (2, Some((3, 2, 104)), 1);
+            tried(true, refused, is_told && holds(alloc, log, 3, CLEANED))
+        }
+        Err(fault) => {
+            let is_left = fault == CleanFault::Log(LogFault::NoMemory)
+                && picture(log) == (3, Some((3, 2, 68)), 1);
+            tried(false, refused, is_left && holds(alloc, log, 3, NEWER))
+        }
+    }
+}
+
+fn reads(alloc: Global, log: &mut Log) -> Option<Try>
+    requires { IsSound log.old holding }
+    ensures { IsSound log.new holding }
+{
+    begin(alloc);
+    let answer = log.read_page(1);
+    let refused = end(alloc);
+    match answer {
+        Ok(leaf) => tried(true, refused, shows(&leaf, b": j=2 k=3")),
+        Err(fault) => tried(false, refused, fault == LogFault::NoMemory),
+    }
+}
+
+/// One try of a segment's bytes behind what stands there, which stays where that is refused.
+fn dumps(alloc: Global, log: &mut Log) -> Option<Try>
+    requires { IsSound log.old holding }
+    ensures { IsSound log.new holding }
+{
+    let mut bytes = Vec::new(alloc);
+    begin(alloc);
+    let answer = log.dump(2, &mut bytes);
+    let refused = end(alloc);
+    match answer {
+        Ok(found) => tried(true, refused, found && spells(&bytes, OLDER.as_bytes())),
+        Err(fault) => tried(
+            false,
+            refused,
+            fault == LogFault::NoMemory && bytes.len() == 0,
+        ),
+    }
+}
+
+/// One try of what an append wants: nothing is otherwise behind it.
+fn readies(alloc: Global, log: &mut Log, takes_last: bool) -> Option<Try>
+    requires { IsSound log.old holding }
+    ensures { IsSound log.new holding }
+{
+    if log.limit() < 16_000 {
+        return None;
+    }
+    begin(alloc);
+    let answer = log.ready(16_000, takes_last);
+    let refused = end(alloc);
+    let is_left = picture(log) == (3, Some((3, 2, 68)), 1) && log.next_frame() == Some(4);
+    match answer {
+        Ok(()) => tried(true, refused, is_left),
+        Err(fault) => tried(false, refused, is_left && fault == LogFault::NoMemory),
+    }
+}
+
+/// One try of a box more: it comes back where it is refused.
+fn adds(
+    alloc: Global,
+    log: &mut Log,
+    one: Box<dyn Segment>,
+) -> (Option<Try>, Option<Box<dyn Segment>>)
+    requires { IsSoundBeside holding log.old }
+    ensures { IsSoundBeside holding log.new }
+{
+    begin(alloc);
+    let answer = log.add_segment(one);
+    let refused = end(alloc);
+    let spares = log.spares();
+    match answer {
+        Ok(()) => (
+            tried(true, refused, spares == 2 && log.spare_leases(1) == Some(0)),
+            None,
+        ),
+        Err((one, fault)) => {
+            let is_back = one.lease() == 0 && one.len() == 0 && one.capacity() == 65_560;
+            let is_so = is_back && spares == 1 && fault == LogFault::NoMemory;
+            (tried(false, refused, is_so), Some(one))
+        }
+    }
+}
+
+/// A box is added, once more where that was refused.
+fn is_added(alloc: Global, log: &mut Log, one: Box<dyn Segment>) -> Option<Try>
+    requires { IsSoundBeside holding log.old }
+{
+    match adds(alloc, log, one) {
+        (Some(Try::Refused), Some(one)) => then(Try::Refused, adds(alloc, log, one).0),
+        (first, _) => first,
+    }
+}
+
+/// A box of another desk is added to the recovered log.
+fn with_one_more(alloc: Global) -> Option<Try> {
+    let Supply {
+        mut boxes,
+        desk: _desk,
+    } = supplied(alloc, 1, &[], None)?;
+    let one = boxes.pop()?;
+    let mut found = log_of(alloc, worked(alloc)?)?;
+    is_added(alloc, &mut found.log, one)
+}
+
+/// One try of a call on the recovered log.
+fn tries(alloc: Global, log: &mut Log, call: &Call) -> Option<Try>
+    requires { IsSound log.old holding }
+    ensures { IsSound log.new holding }
+{
+    match call {
+        Call::Clean => cleans(alloc, log),
+        Call::ReadPage => reads(alloc, log),
+        Call::Dump => dumps(alloc, log),
+        Call::Ready(takes_last) => readies(alloc, log, *takes_last),
+        _ => None,
+    }
+}
+
+/// A call on the recovered log, once more where it was refused.
+fn asks(alloc: Global, log: &mut Log, call: &Call) -> Option<Try>
+    requires { IsSound log.old holding }
+{
+    let first = tries(alloc, log, call)?;
+    if first == Try::Refused {
+        return then(first, tries(alloc, log, call));
+    }
+    Some(first)
+}
+
+/// What a scan of the three segments in another order finds.
+fn scanned(alloc: Global) -> Option<Try> {
+    let supply = supplied(alloc, 5, &[NEWER, "", LOST, OLDER, "42574c"], None)?;
+    let Supply { boxes, desk: _desk } = supply;
+    let (first, found) = recovered(alloc, boxes)?;
+    let is_told = (found.first, found.last, found.tail, found.dropped) == (1, 3, 0, 1);
+    match found.leaves.page(1) {
+        Some(leaf) if is_told && shows(leaf, b": j=2 k=3") => Some(first),
+        _ => None,
+    }
+}
+
+/// What is recovered from boxes, with memory.
+fn log_of(alloc: Global, boxes: Vec<Box<dyn Segment>>) -> Option<Recovered>
+    ensures { IfSome result (λ r. IsRecovered holding r) }
+{
+    match recover(alloc, boxes) {
+        Ok(found) => Some(found),
+        Err(_) => None,
+    }
+}
+
+/// The three segments and a spare.
+fn worked(alloc: Global) -> Option<Vec<Box<dyn Segment>>> {
+    let Supply { boxes, desk: _desk } = supplied(alloc, 4, &[LOST, OLDER, NEWER, ""], None)?;
+    Some(boxes)
+}
+
+/// One try of a log of boxes, which come back in order where that is refused.
+fn makes(alloc: Global, boxes: Vec<Box<dyn Segment>>) -> (Option<Try>, Vec<Box<dyn Segment>>) {
+    begin(alloc);
+    let made = Log::new(alloc, boxes, 4, 16_384);
+    let refused = end(alloc);
+    match made {
+        Ok(log) => {
+            let is_so = log.spares() == 2 && log.live() == 0 && log.spare_leases(1) == Some(1);
+            (tried(true, refused, is_so), Vec::new(alloc))
+        }
+        Err((boxes, fault)) => {
+            let is_so = fault == LogFault::NoMemory && are_two(boxes.as_slice());
+            (tried(false, refused, is_so), boxes)
+        }
+    }
+}
+
+fn are_two(boxes: &[Box<dyn Segment>]) -> bool {
+    match boxes {
+        [one, other] => one.lease() == 0 && other.lease() == 1,
+        _ => false,
+    }
+}
+
+fn is_made(alloc: Global) -> Option<Try> {
+    let Supply { boxes, desk: _desk } = supplied(alloc, 2, &[], None)?;
+    match makes(alloc, boxes) {
+        (Some(Try::Refused), boxes) => then(Try::Refused, makes(alloc, boxes).0),
+        (first, _) => first,
+    }
+}
+
+impl Row for Call {
+    fn goes<R: AllocGlobal + Threads + Wait>(&self, rt: &R) -> Option<Try> {
+        let alloc = rt.alloc();
+        match self {
+            Call::Recover => scanned(alloc),
+            Call::New => is_made(alloc),
+            Call::Add => with_one_more(alloc),
+            _ => {
+                let mut found = log_of(alloc, worked(alloc)?)?;
+                asks(alloc, &mut found.log, self)
+            }
+        }
+    }
+
+    // The row of heads beside the pairs of a page.
+    fn spares(&self) -> bool {
+        match self {
+            Call::Recover | Call::Clean | Call::ReadPage => true,
+            _ => false,
+        }
+    }
+}
+
+const CALLS: &[Call] = &[
+    Call::Recover,
+    Call::Clean,
+    Call::ReadPage,
+    Call::Dump,
+    Call::Add,
+    Call::Ready(true),
+    Call::New,
+];
+
+#[test]
+fn recovery_the_cleaner_and_logs(rt: HostRuntime) {
+    all_went(&rt, wrong_row(&rt, CALLS));
+}

@@ -1,0 +1,329 @@
+//! Bytes, blocks, leaves and buffers.
+
+ghost use Rattle.std.specs.Prelude.{◌≤◌, length, IfSome};
+ghost use Rattle.std.specs.List.{AllByRecursion};
+ghost use Rattle.bw_codec.specs.Grammar.{IsBlock};
+
+use super::{Row, Try, all_went, is, shows, then, tried, wrong_row};
+use bw_buffer::Buffer;
+use bw_codec::{
+    Block, Blocks, CodecFault, FrameRead, Head, Header, HeaderRead, Key, Leaf, Low, Ops, Outline,
+    Pairs, Place, Record, Value, block_length, encode_block, encode_frame_head, encode_header,
+    frame_cells, header_cells, is_before, read_block, read_frame, read_header,
+};
+use std::alloc::Global;
+use std::sync::Wait;
+use std::thread::Threads;
+use test_marks::{begin, begin_without, end};
+
+/// The header of the first segment with pages of four pairs and frames of 16,384 bytes.
+const HEADER: &[u8] = b"BWLOGSG1\x01\0\0\0\0\0\0\0\x04\0\0\0\0\x40\0\0";
+
+/// The head of the first frame, with 32 bytes of two blocks.
+const HEAD: &[u8] = b"FRM1\x01\0\0\0\0\0\0\0\x20\0\0\0\x02\0\0\0";
+
+/// Page 1 as it begins.
+const BASE: &[u8] = b"\x02\x01\0\0\0\0\0\0";
+
+/// Page 1 with k=v.
+const DELTA: &[u8] = b"\x01\x01\0\0\0\x01\0\0\0\0\0\0\0\0\0\0\0\x01\0\x01\x01k\x01v";
+
+/// Page 2 from b on, out of page 1.
+const SPLIT: &[u8] = b"\x03\x01\0\0\0\x01\0\0\0\0\0\0\0\0\0\0\0\x01b\x02\0\0\0\x01\0\x01b\x012";
+
+const HEADING: Header = Header {
+    number: 1,
+    m: 4,
+    f: 16_384,
+};
+
+/// One call that may be refused.
+#[derive(Drop)]
+enum Call {
+    EncodeHeader,
+    EncodeHead,
+    /// A block of these bytes is written.
+    EncodeBlock(&'static [u8]),
+    /// And read.
+    ReadBlock(&'static [u8]),
+    ReadFrame,
+    CopyLow,
+    CopyPairs,
+    CopyPairsOf,
+    CopyLeaf,
+    Insert,
+    NewBuffer,
+}
+
+/// Whether bytes are `x`, with these behind it where the call went.
+fn is_left(out: &[u8], went: bool, bytes: &[u8]) -> bool {
+    match out.split_first() {
+        Some((first, rest)) => *first == b'x' && if went { rest == bytes } else { rest.is_empty() },
+        None => false,
+    }
+}
+
+/// One try of a call that writes what is no block.
+fn writes(alloc: Global, out: &mut Vec<u8>, head: bool) -> Option<Try> {
+    begin(alloc);
+    let went = if head {
+        encode_frame_head(1, 32, 2, out).is_ok()
+    } else {
+        encode_header(&HEADING, out).is_ok()
+    };
+    let refused = end(alloc);
+    let bytes = if head { HEAD } else { HEADER };
+    tried(went, refused, is_left(out.as_slice(), went, bytes))
+}
+
+fn is_written(alloc: Global, head: bool) -> Option<Try> {
+    let mut out = Vec::from_slice(alloc, b"x").ok()?;
+    let first = writes(alloc, &mut out, head)?;
+    if first == Try::Refused {
+        return then(first, writes(alloc, &mut out, head));
+    }
+    Some(first)
+}
+
+/// The lawful block of these bytes.
+fn block_of(alloc: Global, bytes: &[u8]) -> Option<Block>
+    ensures { IfSome result (IsBlock 32) }
+{
+    read_block(alloc, bytes, 32).ok()
+}
+
+/// One try of a block that is written.
+fn encodes(alloc: Global, out: &mut Vec<u8>, block: &Block, bytes: &[u8]) -> Option<Try>
+    requires { IsBlock 32 block.now }
+{
+    begin(alloc);
+    let went = encode_block(block, out).is_ok();
+    let refused = end(alloc);
+    tried(went, refused, is_left(out.as_slice(), went, bytes))
+}
+
+fn is_encoded(alloc: Global, bytes: &[u8]) -> Option<Try> {
+    let block = block_of(alloc, bytes)?;
+    let mut out = Vec::from_slice(alloc, b"x").ok()?;
+    let first = encodes(alloc, &mut out, &block, bytes)?;
+    if first == Try::Refused {
+        return then(first, encodes(alloc, &mut out, &block, bytes));
+    }
+    Some(first)
+}
+
+/// Whether the block is that of these bytes: it is written as they are.
+fn spells(alloc: Global, bytes: &[u8], block: &Block) -> bool
+    requires { IsBlock 32 block.now }
+{
+    let mut out = Vec::new(alloc);
+    encode_block(block, &mut out).is_ok() && out.as_slice() == bytes
+}
+
+/// One try of a block that is read.
+fn reads_block(alloc: Global, bytes: &[u8]) -> Option<Try> {
+    begin(alloc);
+    let answer = read_block(alloc, bytes, 32);
+    let refused = end(alloc);
+    match answer {
+        Ok(block) => tried(true, refused, spells(alloc, bytes, &block)),
+        Err(fault) => tried(false, refused, fault == CodecFault::NoMemory),
+    }
+}
+
+/// The first frame as bytes.
+fn frame_bytes(alloc: Global) -> Option<Vec<u8>> {
+    let mut bytes = Vec::from_slice(alloc, HEAD).ok()?;
+    bytes.extend_from_slice(BASE).ok()?;
+    bytes.extend_from_slice(DELTA).ok()?;
+    Some(bytes)
+}
+
+/// One try of a frame that is read.
+fn reads_frame(alloc: Global) -> Option<Try> {
+    let bytes = frame_bytes(alloc)?;
+    begin(alloc);
+    let answer = read_frame(alloc, bytes.as_slice(), &HEADING);
+    let refused = end(alloc);
+    match answer {
+        Ok(FrameRead::Whole(frame, used)) => {
+            tried(
+                true,
+                refused,
+                used == 52 && frame.blocks.as_slice().len() == 2,
+            )
+        }
+        Ok(FrameRead::Tail) => None,
+        Err(fault) => tried(false, refused, fault == CodecFault::NoMemory),
+    }
+}
+
+/// Page 7 from `a` on, with a=1 and c=3.
+fn leaf(alloc: Global) -> Option<Leaf> {
+    let mut pairs = Vec::new(alloc);
+    pairs
+        .push((Key::new(b"a").ok()?, Value::new(b"1").ok()?))
+        .ok()?;
+    pairs
+        .push((Key::new(b"c").ok()?, Value::new(b"3").ok()?))
+        .ok()?;
+    Some(Leaf {
+        page: 7,
+        low: Low::of(Vec::from_slice(alloc, b"a").ok()?),
+        pairs: Pairs::of(pairs),
+    })
+}
+
+/// Whether pairs are a=1 and c=3.
+fn are_pairs(pairs: &Pairs) -> bool {
+    match pairs.as_slice() {
+        [first, second] => {
+            is(first.0.as_slice(), b"a")
+                && is(first.1.as_slice(), b"1")
+                && is(second.0.as_slice(), b"c")
+                && is(second.1.as_slice(), b"3")
+        }
+        _ => false,
+    }
+}
+
+fn copies_low(alloc: Global) -> Option<Try> {
+    let (low, _pairs) = leaf(alloc)?.into_parts();
+    begin(alloc);
+    let copy = low.copy();
+    let refused = end(alloc);
+    match copy {
+        Ok(copy) => tried(true, refused, is(copy.as_slice(), b"a")),
+        Err(_) => tried(false, refused, is(low.as_slice(), b"a")),
+    }
+}
+
+fn copies_pairs(alloc: Global, of: bool) -> Option<Try> {
+    let (_low, pairs) = leaf(alloc)?.into_parts();
+    begin(alloc);
+    let copy = if of {
+        Pairs::copy_of(alloc, pairs.as_slice())
+    } else {
+        pairs.copy()
+    };
+    let refused = end(alloc);
+    match copy {
+        Ok(copy) => tried(true, refused, are_pairs(&copy)),
+        Err(_) => tried(false, refused, are_pairs(&pairs)),
+    }
+}
+
+fn copies_leaf(alloc: Global) -> Option<Try> {
+    let leaf = leaf(alloc)?;
+    begin(alloc);
+    let copy = leaf.copy();
+    let refused = end(alloc);
+    match copy {
+        Ok(copy) => tried(true, refused, copy.page == 7 && shows(&copy, b"a: a=1 c=3")),
+        Err(_) => tried(false, refused, shows(&leaf, b"a: a=1 c=3")),
+    }
+}
+
+/// One try of b=2 between the pairs: where it is refused, they are what they were.
+fn inserts(alloc: Global, leaf: &mut Leaf) -> Option<Try> {
+    let (key, value) = (Key::new(b"b").ok()?, Value::new(b"2").ok()?);
+    if leaf.pairs.as_slice().len() < 1 {
+        return None;
+    }
+    begin(alloc);
+    let went = leaf.pairs.insert(1, key, value).is_ok();
+    let refused = end(alloc);
+    let is_left = if went {
+        shows(leaf, b"a: a=1 b=2 c=3")
+    } else {
+        shows(leaf, b"a: a=1 c=3")
+    };
+    tried(went, refused, is_left)
+}
+
+fn is_inserted(alloc: Global) -> Option<Try> {
+    let mut leaf = leaf(alloc)?;
+    let first = inserts(alloc, &mut leaf)?;
+    if first == Try::Refused {
+        return then(first, inserts(alloc, &mut leaf));
+    }
+    Some(first)
+}
+
+fn makes_buffer(alloc: Global) -> Option<Try> {
+    begin(alloc);
+    let made = Buffer::new(alloc, 5, 16_384);
+    let refused = end(alloc);
+    match made {
+        Ok(buffer) => tried(
+            true,
+            refused,
+            buffer.frame() == 5 && buffer.room() == 16_364,
+        ),
+        Err(_) => tried(false, refused, true),
+    }
+}
+
+/// A call that changes nothing.
+fn asks(alloc: Global, call: &Call) -> Option<Try> {
+    match call {
+        Call::ReadBlock(bytes) => reads_block(alloc, *bytes),
+        Call::ReadFrame => reads_frame(alloc),
+        Call::CopyLow => copies_low(alloc),
+        Call::CopyPairs => copies_pairs(alloc, false),
+        Call::CopyPairsOf => copies_pairs(alloc, true),
+        Call::CopyLeaf => copies_leaf(alloc),
+        _ => makes_buffer(alloc),
+    }
+}
+
+impl Row for Call {
+    fn goes<R: AllocGlobal + Threads + Wait>(&self, rt: &R) -> Option<Try> {
+        let alloc = rt.alloc();
+        match self {
+            Call::EncodeHeader => is_written(alloc, false),
+            Call::EncodeHead => is_written(alloc, true),
+            Call::EncodeBlock(bytes) => is_encoded(alloc, *bytes),
+            Call::Insert => is_inserted(alloc),
+            _ => {
+                let first = asks(alloc, self)?;
+                if first == Try::Refused {
+                    return then(first, asks(alloc, self));
+                }
+                Some(first)
+            }
+        }
+    }
+
+    // The row of heads beside pairs.
+    fn spares(&self) -> bool {
+        match self {
+            Call::EncodeHeader | Call::EncodeHead | Call::EncodeBlock(_) => false,
+            Call::CopyLow | Call::NewBuffer => false,
+            _ => true,
+        }
+    }
+}
+
+const CALLS: &[Call] = &[
+    Call::EncodeHeader,
+    Call::EncodeHead,
+    Call::EncodeBlock(BASE),
+    Call::EncodeBlock(DELTA),
+    Call::EncodeBlock(SPLIT),
+    Call::ReadBlock(BASE),
+    Call::ReadBlock(DELTA),
+    Call::ReadBlock(SPLIT),
+    Call::ReadFrame,
+    Call::CopyLow,
+    Call::CopyPairs,
+    Call::CopyPairsOf,
+    Call::CopyLeaf,
+    Call::Insert,
+    Call::NewBuffer,
+];
+
+#[test]
+fn bytes_leaves_and_buffers(rt: HostRuntime) {
+    all_went(&rt, wrong_row(&rt, CALLS));
+}

@@ -1,0 +1,206 @@
+//! Writers in threads: a run that was refused is settled, and followed by another over the same feeds.
+
+ghost use Rattle.std.specs.Prelude.{◌≡◌, map, vec_len, IfOk};
+ghost use Rattle.bw_ring.specs.Ends.{ring_of_feed};
+ghost use Rattle.bw_store.specs.Views.{kept_by, IsSound};
+
+use super::boxes::{Supply, supplied};
+use super::{Row, Try, all_went, tried, wrong_row};
+use bw_codec::{Key, Record, Value};
+use bw_drive::{MeetGate, OpenGate, Plan, drive};
+use bw_ring::Feed;
+use bw_store::{Config, Entry, Store, StoreFault};
+use std::alloc::{AllocError, Global};
+use std::sync::Wait;
+use std::thread::Threads;
+use test_marks::{begin, end};
+
+const PLAN: Plan = Plan {
+    limit: 4,
+    flush_every: 1,
+    clean_at: 2,
+};
+
+const CONFIG: &Config = &Config {
+    writers: 2,
+    places: 2,
+    readers: 1,
+    m: 4,
+    f: 16384,
+};
+
+/// For each record.
+const TRIES: u64 = 1_000_000_000;
+
+/// How many records each of two writers puts, each with a key of its own.
+const RECORDS: u8 = 6;
+
+/// How many both put.
+const BOTH: u64 = 12;
+
+/// A writer's record of a number.
+fn numbered(writer: u16, number: u8) -> Record {
+    let letter = (writer % 2) as u8 + b'a';
+    match (Key::new(&[letter, number]), Value::new(&[number])) {
+        (Ok(key), Ok(value)) => Record::Put(key, value),
+        _ => unreachable!(),
+    }
+}
+
+fn script(alloc: Global, writer: u16) -> Result<Vec<Record>, AllocError> {
+    let mut script = Vec::new(alloc);
+    for number in 0..RECORDS {
+        script.push(numbered(writer, number))?;
+    }
+    Ok(script)
+}
+
+/// A script for each of two writers.
+fn scripts(alloc: Global) -> Result<Vec<Vec<Record>>, AllocError>
+    ensures { IfOk result (λ s. vec_len s ≡ 2) }
+{
+    let mut scripts = Vec::new(alloc);
+    scripts.push(script(alloc, 0)?)?;
+    scripts.push(script(alloc, 1)?)?;
+    Ok(scripts)
+}
+
+/// Whether each writer's entries are the first records of its script.
+fn are_begun(entries: &[Entry]) -> bool {
+    let mut next: [u8; 2] = [0; 2];
+    for entry in entries {
+        let Some(number) = next.get_mut(usize::from(entry.writer)) else {
+            return false;
+        };
+        if entry.item != numbered(entry.writer, *number) {
+            return false;
+        }
+        *number = number.saturating_add(1);
+    }
+    true
+}
+
+// A run over the feeds: all records of the scripts are entered behind `old` ones.
+fn runs_again<R: Threads + Wait>(
+    rt: &R,
+    alloc: Global,
+    store: &mut Store,
+    feeds: Vec<Feed>,
+    old: u64,
+) -> bool
+    requires sound { IsSound store.old holding }
+    requires feeds { map ring_of_feed feeds.items ≡ (kept_by store.old holding).rings }
+    ensures { IsSound store.new holding }
+{
+    let Ok(scripts) = scripts(alloc) else {
+        return false;
+    };
+    if feeds.len() != 2 {
+        return false;
+    }
+    match drive(rt, store, feeds, scripts, &OpenGate, PLAN, TRIES) {
+        Ok(driven) => driven.entries == old.saturating_add(BOTH),
+        Err(_) => false,
+    }
+}
+
+// The feeds of a run that was refused are settled: the first records of each script stand in the
+// history. Then the store is driven again.
+fn settles<R: Threads + Wait>(rt: &R, alloc: Global, store: &mut Store, feeds: Vec<Feed>) -> bool
+    requires sound { IsSound store.old holding }
+    requires feeds { map ring_of_feed feeds.items ≡ (kept_by store.old holding).rings }
+    ensures { IsSound store.new holding }
+{
+    let mut feeds = feeds;
+    match store.settle(rt, &mut feeds) {
+        Ok(old) if old <= BOTH && are_begun(store.history()) => {
+            runs_again(rt, alloc, store, feeds, old)
+        }
+        _ => false,
+    }
+}
+
+// Where a run is refused, the feeds come back.
+fn runs<R: Threads + Wait>(
+    rt: &R,
+    alloc: Global,
+    store: &mut Store,
+    feeds: Vec<Feed>,
+) -> Option<Try>
+    requires sound { IsSound store.old holding }
+    requires feeds { map ring_of_feed feeds.items ≡ (kept_by store.old holding).rings }
+    ensures { IsSound store.new holding }
+{
+    let Ok(scripts) = scripts(alloc) else {
+        return None;
+    };
+    if feeds.len() != 2 {
+        return None;
+    }
+    begin(alloc);
+    let answer = drive(rt, store, feeds, scripts, &OpenGate, PLAN, TRIES);
+    let refused = end(alloc);
+    match answer {
+        Ok(driven) => {
+            let is_so = driven.entries == BOTH && are_begun(store.history());
+            tried(true, refused, is_so)
+        }
+        Err(fault) => {
+            if fault.cause != StoreFault::NoMemory || fault.feeds.len() != 2 {
+                return None;
+            }
+            let is_so = settles(rt, alloc, store, fault.feeds);
+            tried(false, refused, is_so)
+        }
+    }
+}
+
+/// A call that may be refused.
+#[derive(Drop)]
+enum Call {
+    Drive,
+    Gate,
+}
+
+fn is_driven<R: AllocGlobal + Threads + Wait>(rt: &R) -> Option<Try> {
+    let alloc = rt.alloc();
+    let Supply { boxes, desk: _desk } = supplied(alloc, 6, &[], None)?;
+    let Ok((mut store, feeds)) = Store::open(rt, alloc, CONFIG, boxes) else {
+        return None;
+    };
+    let went = runs(rt, alloc, &mut store, feeds);
+    let _ = store.shut(rt);
+    went
+}
+
+fn makes_gate(alloc: Global) -> Option<Try> {
+    begin(alloc);
+    let made = MeetGate::new(alloc, 2, 9);
+    let refused = end(alloc);
+    match made {
+        Ok(gate) => tried(true, refused, !gate.met()),
+        Err(_) => tried(false, refused, true),
+    }
+}
+
+impl Row for Call {
+    fn goes<R: AllocGlobal + Threads + Wait>(&self, rt: &R) -> Option<Try> {
+        match self {
+            Call::Drive => is_driven(rt),
+            Call::Gate => makes_gate(rt.alloc()),
+        }
+    }
+
+    // The consolidation of a chain, and the row of heads beside pairs.
+    fn spares(&self) -> bool {
+        match self {
+            Call::Drive => true,
+            Call::Gate => false,
+        }
+    }
+}
+
+#[test]
+fn runs_of_writers(rt: HostRuntime) {
+    all_went(&rt, wrong_row(&rt, &[Call::Drive, Call::Gate]));
+}

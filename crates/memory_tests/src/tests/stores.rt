@@ -1,0 +1,434 @@
+//! The worked runs of a store, each call of which is refused memory in turn.
+
+ghost use Rattle.std.specs.Prelude.{◌≡◌, map};
+ghost use Rattle.bw_ring.specs.Ends.{ring_of_feed};
+ghost use Rattle.bw_care.specs.Found.{IsRecovered};
+ghost use Rattle.bw_store.specs.Views.{kept_beside, kept_by, IsSound, IsSoundBeside};
+
+mod picture;
+mod steps;
+pub(super) mod telling;
+
+use self::picture::is_out;
+use self::steps::Step::{
+    Bytes, Clean, CleanFails, Cuts, Evict, Flush, FlushFails, Get, History, Live, NewSees, Out,
+    Page, PageFails, Put, Roll, Sees, Settle, Stands, Turn,
+};
+use self::steps::{Beside, Step, goes};
+use super::boxes::{Supply, recovered, supplied};
+use super::{Row, Try, all_went, wrong_row};
+use bw_care::Recovered;
+use bw_device::{Desk, Segment};
+use bw_ring::Feed;
+use bw_store::{Config, Store, StoreFault};
+use std::alloc::Global;
+use std::sync::Wait;
+use std::thread::Threads;
+use test_marks::{begin, end};
+
+/// A run: what its first box does, its steps, and those of the store that is opened again over what it left.
+#[derive(Drop)]
+struct Run {
+    /// After how many calls the first box fails once, and how many bytes it then keeps.
+    fuse: Option<(u64, u64)>,
+    steps: &'static [Step],
+    /// The first and last frame that are recovered, and the steps that follow.
+    again: Option<(u64, u64, &'static [Step])>,
+}
+
+const CONFIG: &Config = &Config {
+    writers: 1,
+    places: 4,
+    readers: 3,
+    m: 4,
+    f: 16384,
+};
+
+/// How two calls went of which one may have been refused.
+fn both(first: Option<Try>, second: Option<Try>) -> Option<Try> {
+    match (first?, second?) {
+        (Try::Went, second) => Some(second),
+        (first, _) => Some(first),
+    }
+}
+
+// How all steps went.
+fn walk<R: Wait>(
+    rt: &R,
+    alloc: Global,
+    store: &mut Store,
+    feeds: &mut Vec<Feed>,
+    beside: &mut Beside,
+    steps: &[Step],
+) -> Option<Try>
+    requires sound { IsSound store.old holding }
+    requires feeds { map ring_of_feed feeds.old.items ≡ (kept_by store.old holding).rings }
+    ensures { IsSound store.new holding }
+{
+    let mut went = Some(Try::Went);
+    for step in steps {
+        let one = goes(rt, alloc, store, feeds, beside, step);
+        went = both(went, one);
+        if went.is_none() {
+            return None;
+        }
+    }
+    went
+}
+
+/// What a life leaves: how it went, and its boxes.
+#[derive(Drop)]
+struct Left {
+    went: Option<Try>,
+    boxes: Vec<Box<dyn Segment>>,
+    desk: Desk,
+}
+
+// A life of a store, with a reader, behind which it is shut.
+fn lives<R: Wait>(
+    rt: &R,
+    alloc: Global,
+    store: Store,
+    feeds: Vec<Feed>,
+    desk: Desk,
+    steps: &[Step],
+) -> Option<Left>
+    requires sound { IsSoundBeside store holding }
+    requires feeds { map ring_of_feed feeds.items ≡ (kept_beside store holding).rings }
+{
+    let (mut store, mut feeds) = (store, feeds);
+    let Ok(reader) = store.reader() else {
+        let _ = store.shut(rt);
+        return None;
+    };
+    let mut beside = Beside { reader, desk };
+    let went = walk(rt, alloc, &mut store, &mut feeds, &mut beside, steps);
+    let (mut boxes, mut spares) = store.shut(rt);
+    let Beside {
+        reader: _reader,
+        desk,
+    } = beside;
+    match boxes.append(&mut spares) {
+        Ok(()) => Some(Left { went, boxes, desk }),
+        Err(_) => None,
+    }
+}
+
+// Opens a store in a window; once more where memory was refused: all boxes came back then, in order.
+fn opens<R: Wait>(rt: &R, alloc: Global, supply: Supply, steps: &[Step]) -> Option<Left> {
+    let Supply { boxes, desk } = supply;
+    begin(alloc);
+    let made = Store::open(rt, alloc, CONFIG, boxes);
+    let refused = end(alloc);
+    match made {
+        Ok((store, feeds)) => with(refused, false, lives(rt, alloc, store, feeds, desk, steps)),
+        Err(fault) => {
+            if fault.cause != StoreFault::NoMemory || !are_in_order(fault.segments.as_slice()) {
+                return None;
+            }
+            match Store::open(rt, alloc, CONFIG, fault.segments) {
+                Ok((store, feeds)) => with(
+                    refused,
+                    true,
+                    lives(rt, alloc, store, feeds, desk, steps),
+                ),
+                Err(_) => None,
+            }
+        }
+    }
+}
+
+// Whether these are four boxes with leases 0 to 3 that hold nothing.
+fn are_in_order(boxes: &[Box<dyn Segment>]) -> bool {
+    for (i, one) in boxes.iter().enumerate() {
+        if one.lease() as usize != i || one.len() != 0 {
+            return false;
+        }
+    }
+    boxes.len() == 4
+}
+
+// A life behind a call that was refused or not, and answered so.
+fn with(refused: bool, failed: bool, left: Option<Left>) -> Option<Left> {
+    let Left { went, boxes, desk } = left?;
+    let first = match (refused, failed) {
+        (false, false) => Some(Try::Went),
+        (true, false) => Some(Try::Spared),
+        (true, true) => Some(Try::Refused),
+        (false, true) => None,
+    };
+    Some(Left {
+        went: both(first, went),
+        boxes,
+        desk,
+    })
+}
+
+// Opens a store again in a window; once more where memory was refused: what was recovered came back then.
+fn reopens<R: Wait>(
+    rt: &R,
+    alloc: Global,
+    recovered: Recovered,
+    desk: Desk,
+    steps: &[Step],
+) -> Option<Left>
+    requires { IsRecovered holding recovered }
+{
+    let told = (recovered.first, recovered.last, recovered.tail);
+    begin(alloc);
+    let made = Store::reopen(rt, alloc, recovered, 1, 4, 3);
+    let refused = end(alloc);
+    match made {
+        Ok((store, feeds)) => with(refused, false, lives(rt, alloc, store, feeds, desk, steps)),
+        Err(fault) => {
+            let back = fault.recovered;
+            if fault.cause != StoreFault::NoMemory || (back.first, back.last, back.tail) != told {
+                return None;
+            }
+            match Store::reopen(rt, alloc, back, 1, 4, 3) {
+                Ok((store, feeds)) => with(
+                    refused,
+                    true,
+                    lives(rt, alloc, store, feeds, desk, steps),
+                ),
+                Err(_) => None,
+            }
+        }
+    }
+}
+
+// What is recovered of the boxes of a life, and the life that follows: how they went.
+fn goes_on<R: Wait>(
+    rt: &R,
+    alloc: Global,
+    left: Left,
+    frames: (u64, u64),
+    steps: &[Step],
+) -> Option<Try> {
+    let Left { went, boxes, desk } = left;
+    let (first, found) = recovered(alloc, boxes)?;
+    if (found.first, found.last, found.tail) != (frames.0, frames.1, 0) {
+        return None;
+    }
+    let again = reopens(rt, alloc, found, desk, steps)?;
+    both(both(went, Some(first)), again.went)
+}
+
+impl Row for Run {
+    fn goes<R: AllocGlobal + Threads + Wait>(&self, rt: &R) -> Option<Try> {
+        let alloc = rt.alloc();
+        let supply = supplied(alloc, 4, &[], self.fuse)?;
+        let left = opens(rt, alloc, supply, self.steps)?;
+        match &self.again {
+            Some((first, last, steps)) => goes_on(rt, alloc, left, (*first, *last), *steps),
+            None => {
+                let Left {
+                    went,
+                    boxes,
+                    mut desk,
+                } = left;
+                drop(boxes);
+                // All leases came back with the boxes.
+                if is_out(&mut desk, &[]) { went } else { None }
+            }
+        }
+    }
+
+    fn spares(&self) -> bool {
+        true
+    }
+}
+
+/// Five puts, each flushed; the last one cuts page 1 in two.
+const FIVE: &[Step] = &[
+    Put(b"a", b"1"),
+    Turn(1),
+    Flush(Some(1)),
+    Put(b"b", b"2"),
+    Turn(1),
+    Flush(Some(2)),
+    Sees(b"b", b"2"),
+    Put(b"c", b"3"),
+    Turn(1),
+    Flush(Some(3)),
+    Put(b"d", b"4"),
+    Turn(1),
+    Flush(Some(4)),
+    Put(b"e", b"5"),
+    Turn(1),
+    Flush(Some(5)),
+    Page(1, b": a=1 b=2"),
+    Page(2, b"c: c=3 d=4 e=5"),
+    PageFails(3, StoreFault::NoPage),
+    Live(0, 1, 0, 289),
+    Stands(1, 3),
+    Bytes(1, SECOND),
+    History("a=1 b=2 c=3 d=4 e=5 "),
+    Cuts(&[1, 2, 3, 4, 5], 5),
+];
+
+/// The segment of the five puts: the second dump of `docs/FORMAT.md`.
+const SECOND: &str =
+    "42574c4f475347310100000000000000040000000040000046524d310100000000000000200000000200000002010000\
+    0000000001010000000100000000000000000000000100010161013146524d3102000000000000001800000001000000\
+    01010000000100000000000000010000000100010162013246524d310300000000000000180000000100000001010000\
+    000200000000000000000000000100010163013346524d31040000000000000018000000010000000101000000030000\
+    0000000000000000000100010164013446524d3105000000000000003d00000002000000010100000004000000000000\
+    000000000001000101650135030100000005000000000000000000000001630200000003000163013301640134016501\
+    35";
+
+/// Three segments, of which the first is given up: its page is written again.
+const CLEANED: &[Step] = &[
+    Put(b"k", b"1"),
+    Turn(1),
+    Flush(Some(1)),
+    Roll,
+    Put(b"j", b"2"),
+    Turn(1),
+    Flush(Some(2)),
+    Roll,
+    Put(b"k", b"3"),
+    Turn(1),
+    Flush(Some(3)),
+    Out(&[0, 1, 2, 3]),
+    Clean(1, 0, 1, 1),
+    Page(1, b": j=2 k=3"),
+    Cuts(&[1, 2, 3, 3], 4),
+    Live(0, 2, 1, 68),
+    Live(1, 3, 2, 104),
+    Stands(2, 1),
+    Out(&[1, 2, 3]),
+    Sees(b"k", b"3"),
+    Bytes(2, OLDER),
+    Bytes(3, NEWER),
+];
+
+/// The two segments behind it: the third dump of `docs/FORMAT.md`.
+const OLDER: &str =
+    "42574c4f475347310200000000000000040000000040000046524d3102000000000000001800000001000000\
+    0101000000010000000000000001000000010001016a0132";
+
+const NEWER: &str =
+    "42574c4f475347310300000000000000040000000040000046524d3103000000000000001800000001000000\
+    0101000000020000000000000000000000010001016b013346524d3104000000000000001000000001000000\
+    0201000000000200016a0132016b0133";
+
+/// And cleaned once more, and a third time.
+const CLEANED_TWICE: &[Step] = &[
+    Put(b"k", b"1"),
+    Turn(1),
+    Flush(Some(1)),
+    Roll,
+    Put(b"j", b"2"),
+    Turn(1),
+    Flush(Some(2)),
+    Roll,
+    Put(b"k", b"3"),
+    Turn(1),
+    Flush(Some(3)),
+    Clean(1, 0, 1, 1),
+    Clean(2, 1, 0, 0),
+    Out(&[2, 3]),
+    Live(0, 3, 2, 104),
+    Stands(1, 1),
+    CleanFails(StoreFault::NothingOld),
+    Page(1, b": j=2 k=3"),
+];
+
+/// The first frame is appended whole, and told as failed.
+const FAILED: &[Step] = &[
+    Put(b"k", b"v"),
+    Turn(1),
+    FlushFails(StoreFault::Device { lease: 0 }),
+    FlushFails(StoreFault::Failed),
+    Page(1, b": k=v"),
+    Cuts(&[1], 0),
+    Stands(1, 3),
+    Sees(b"k", b""),
+];
+
+/// What is recovered has it.
+const RECOVERED: &[Step] = &[
+    Page(1, b": k=v"),
+    Put(b"l", b"4"),
+    Settle(1),
+    NewSees(b"k", b"v"),
+    Evict(1, true),
+    Put(b"m", b"5"),
+    Turn(1),
+    Get(b"l", b"4"),
+    Flush(Some(3)),
+    Page(1, b": k=v l=4 m=5"),
+];
+
+/// A page leaves memory only where it stands in the log, and is read back; the first read fails.
+const EVICTED: &[Step] = &[
+    Put(b"k", b"v"),
+    Turn(1),
+    Evict(1, false),
+    Flush(Some(1)),
+    Evict(1, true),
+    Evict(1, false),
+    PageFails(1, StoreFault::Device { lease: 0 }),
+    Page(1, b": k=v"),
+    Get(b"k", b"v"),
+];
+
+/// What waits is flushed by the cleaning itself; two records wait in the ring for a settling.
+const CLEANS_WHAT_WAITS: &[Step] = &[
+    Put(b"k", b"1"),
+    Turn(1),
+    Flush(Some(1)),
+    Roll,
+    Put(b"j", b"2"),
+    Turn(1),
+    Flush(Some(2)),
+    Put(b"i", b"3"),
+    Turn(1),
+    Clean(1, 0, 1, 1),
+    Sees(b"i", b"3"),
+    Put(b"g", b"4"),
+    Put(b"h", b"5"),
+    Settle(5),
+    Settle(5),
+    Sees(b"h", b"5"),
+    History("k=1 j=2 i=3 g=4 h=5 "),
+];
+
+const RUNS: &[Run] = &[
+    Run {
+        fuse: None,
+        steps: FIVE,
+        again: None,
+    },
+    Run {
+        fuse: None,
+        steps: CLEANED,
+        again: None,
+    },
+    Run {
+        fuse: None,
+        steps: CLEANED_TWICE,
+        again: None,
+    },
+    Run {
+        fuse: Some((1, 1000)),
+        steps: FAILED,
+        again: Some((1, 1, RECOVERED)),
+    },
+    Run {
+        fuse: Some((2, 0)),
+        steps: EVICTED,
+        again: None,
+    },
+    Run {
+        fuse: None,
+        steps: CLEANS_WHAT_WAITS,
+        again: None,
+    },
+];
+
+#[test]
+fn worked_runs_of_a_store(rt: HostRuntime) {
+    all_went(&rt, wrong_row(&rt, RUNS));
+}

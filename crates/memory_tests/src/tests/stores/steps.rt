@@ -1,0 +1,319 @@
+//! One call of a store in a window, and again where it was refused memory.
+
+ghost use Rattle.std.specs.Prelude.{◌≡◌, ◌<◌, length, map};
+ghost use Rattle.bw_ring.specs.Ends.{ring_of_feed};
+ghost use Rattle.bw_store.specs.Views.{kept_by, IsSound};
+
+use super::super::{Try, put, shows};
+use super::picture::{
+    Picture, is_cleaned, is_flushed, is_out, is_seen, is_taken, is_unchanged, shown,
+};
+use super::telling::{is_history, spells};
+use bw_codec::Key;
+use bw_device::Desk;
+use bw_ring::Feed;
+use bw_store::{Cleaned, Reader, Store, StoreFault};
+use std::alloc::Global;
+use std::sync::Wait;
+use test_marks::{begin, begin_without, end};
+
+#[derive(Drop)]
+pub(super) enum Step {
+    Put(&'static [u8], &'static [u8]),
+    /// A turn takes so many.
+    Turn(u32),
+    Flush(Option<u64>),
+    FlushFails(StoreFault),
+    /// So many entries stand in the history then.
+    Settle(u64),
+    Roll,
+    Evict(u32, bool),
+    /// A page, as its low key and pairs.
+    Page(u32, &'static [u8]),
+    PageFails(u32, StoreFault),
+    Get(&'static [u8], &'static [u8]),
+    /// What the reader that was made first sees of a key; no bytes where it sees none.
+    Sees(&'static [u8], &'static [u8]),
+    /// A new reader sees it.
+    NewSees(&'static [u8], &'static [u8]),
+    /// The segment given up, its lease, how many pages, in how many frames.
+    Clean(u64, u32, usize, u64),
+    CleanFails(StoreFault),
+    /// The bytes of a live segment.
+    Bytes(u64, &'static str),
+    /// The number, lease and length of a live segment, from 0.
+    Live(u32, u64, u32, u64),
+    Cuts(&'static [u64], u64),
+    /// How many segments are live, and how many spares stand.
+    Stands(u32, u32),
+    /// The leases that are out.
+    Out(&'static [u32]),
+    /// All entries, each as its key, an equals sign and its value, with spaces between.
+    History(&'static str),
+}
+
+use Step::{
+    Bytes, Clean, CleanFails, Cuts, Evict, Flush, FlushFails, Get, History, Live, NewSees, Out,
+    Page, PageFails, Put, Roll, Sees, Settle, Stands, Turn,
+};
+
+/// What stands beside a store: the first reader, and the desk of its leases.
+#[derive(Drop)]
+pub(super) struct Beside {
+    pub(super) reader: Reader,
+    pub(super) desk: Desk,
+}
+
+fn is_put(feeds: &mut Vec<Feed>, key: &[u8], value: &[u8]) -> bool
+    ensures { map ring_of_feed feeds.new.items ≡ map ring_of_feed feeds.old.items }
+{
+    let Some(record) = put(key, value) else {
+        return false;
+    };
+    if feeds.as_slice().len() == 0 {
+        return false;
+    }
+    put_one(&mut feeds[0], key, value)
+}
+
+fn put_one(feed: &mut Feed, key: &[u8], value: &[u8]) -> bool
+    ensures { ring_of_feed feed.new ≡ ring_of_feed feed.old }
+{
+    match put(key, value) {
+        Some(record) => feed.put(record).is_ok(),
+        None => false,
+    }
+}
+
+fn turns(store: &mut Store, told: u32) -> Result<bool, StoreFault>
+    requires { IsSound store.old holding }
+    ensures sound { IsSound store.new holding }
+    ensures rings { (kept_by store.new holding).rings ≡ (kept_by store.old holding).rings }
+{
+    match store.turn(9) {
+        Ok(taken) => Ok(taken == told),
+        Err(fault) => Err(fault.cause),
+    }
+}
+
+fn reads(store: &mut Store, page: u32, text: &[u8]) -> Result<bool, StoreFault>
+    requires { IsSound store.old holding }
+    ensures sound { IsSound store.new holding }
+    ensures rings { (kept_by store.new holding).rings ≡ (kept_by store.old holding).rings }
+{
+    let leaf = store.page(page)?;
+    Ok(shows(&leaf, text))
+}
+
+/// A refusal that is told is what was to come; want of memory is told on.
+fn fails(fault: Option<StoreFault>, told: StoreFault) -> Result<bool, StoreFault> {
+    match fault {
+        Some(StoreFault::NoMemory) => Err(StoreFault::NoMemory),
+        Some(fault) => Ok(fault == told),
+        None => Ok(false),
+    }
+}
+
+fn has(store: &mut Store, key: &[u8], value: &[u8]) -> Result<bool, StoreFault>
+    requires { IsSound store.old holding }
+    ensures sound { IsSound store.new holding }
+    ensures rings { (kept_by store.new holding).rings ≡ (kept_by store.old holding).rings }
+{
+    let Ok(key) = Key::new(key) else {
+        return Ok(false);
+    };
+    match store.get(&key)? {
+        Some(found) => Ok(found.as_slice() == value),
+        None => Ok(false),
+    }
+}
+
+/// A reader that is made sees this.
+fn new_sees(store: &mut Store, key: &[u8], value: &[u8]) -> Result<bool, StoreFault>
+    requires { IsSound store.old holding }
+    ensures sound { IsSound store.new holding }
+    ensures rings { (kept_by store.new holding).rings ≡ (kept_by store.old holding).rings }
+{
+    match store.reader() {
+        Ok(mut reader) => Ok(is_seen(&mut reader, key, value)),
+        Err(_) => Err(StoreFault::NoMemory),
+    }
+}
+
+/// The bytes of a segment behind what stood there, which stays alone where that is refused.
+fn dumps(alloc: Global, store: &mut Store, segment: u64, told: &str) -> Result<bool, StoreFault>
+    requires { IsSound store.old holding }
+    ensures sound { IsSound store.new holding }
+    ensures rings { (kept_by store.new holding).rings ≡ (kept_by store.old holding).rings }
+{
+    let mut bytes = Vec::new(alloc);
+    match store.dump(segment, &mut bytes) {
+        Ok(found) => Ok(found && spells(&bytes, told.as_bytes())),
+        Err(fault) => {
+            if bytes.len() == 0 {
+                Err(fault)
+            } else {
+                Ok(false)
+            }
+        }
+    }
+}
+
+// A call that takes memory: whether it went as told, or why it was refused.
+fn tries<R: Wait>(
+    rt: &R,
+    alloc: Global,
+    store: &mut Store,
+    feeds: &mut Vec<Feed>,
+    step: &Step,
+) -> Result<bool, StoreFault>
+    requires sound { IsSound store.old holding }
+    requires feeds { map ring_of_feed feeds.old.items ≡ (kept_by store.old holding).rings }
+    ensures sound { IsSound store.new holding }
+    ensures feeds { map ring_of_feed feeds.new.items ≡ (kept_by store.new holding).rings }
+{
+    match step {
+        Turn(told) => turns(store, *told),
+        Flush(told) => Ok(store.flush(rt)? == *told),
+        FlushFails(told) => fails(store.flush(rt).err(), *told),
+        Settle(entries) => Ok(store.settle(rt, feeds)? == *entries),
+        Page(page, text) => reads(store, *page, *text),
+        PageFails(page, told) => fails(store.page(*page).err(), *told),
+        Get(key, value) => has(store, *key, *value),
+        NewSees(key, value) => new_sees(store, *key, *value),
+        Clean(segment, lease, pages, frames) => {
+            let told = Cleaned {
+                segment: *segment,
+                lease: *lease,
+                pages: *pages,
+                frames: *frames,
+            };
+            Ok(store.clean(rt)? == told)
+        }
+        CleanFails(told) => fails(store.clean(rt).err(), *told),
+        Bytes(segment, told) => dumps(alloc, store, *segment, *told),
+        _ => Ok(false),
+    }
+}
+
+fn are_cuts(cuts: &[u64], told: &[u64]) -> bool {
+    cuts == told
+}
+
+// A call that takes none.
+fn goes_without(store: &mut Store, feeds: &mut Vec<Feed>, beside: &mut Beside, step: &Step) -> bool
+    requires sound { IsSound store.old holding }
+    requires feeds { map ring_of_feed feeds.old.items ≡ (kept_by store.old holding).rings }
+    ensures sound { IsSound store.new holding }
+    ensures feeds { map ring_of_feed feeds.new.items ≡ (kept_by store.new holding).rings }
+{
+    match step {
+        Put(key, value) => is_put(feeds, *key, *value),
+        Roll => {
+            store.roll();
+            true
+        }
+        Evict(page, told) => store.evict(*page) == Ok(*told),
+        Sees(key, value) => is_seen(&mut beside.reader, *key, *value),
+        Live(at, number, lease, length) => {
+            store.live_segment(*at) == Some((*number, *lease, *length))
+        }
+        Cuts(told, durable) => are_cuts(store.cuts(), *told) & (store.durable() == *durable),
+        Stands(live, spares) => (store.live() == *live) & (store.spares() == *spares),
+        Out(leases) => is_out(&mut beside.desk, *leases),
+        History(text) => is_history(store.history(), text.as_bytes()),
+        _ => false,
+    }
+}
+
+fn takes_none(step: &Step) -> bool {
+    match step {
+        Put(..) | Roll | Evict(..) | Sees(..) | Live(..) => true,
+        Cuts(..) | Stands(..) | Out(..) | History(..) => true,
+        _ => false,
+    }
+}
+
+// What a refused call left, beside what stood there before it.
+fn is_left(step: &Step, before: &Picture, now: &Picture) -> bool {
+    match step {
+        Flush(_) => is_unchanged(before, now) || is_flushed(before, now),
+        Settle(_) => is_taken(before, now) || is_flushed(before, now),
+        Clean(..) => is_unchanged(before, now) || is_cleaned(before, now),
+        _ => is_unchanged(before, now),
+    }
+}
+
+// The same call with memory: it ends as told, or publishes what was left to be.
+fn ends<R: Wait>(
+    rt: &R,
+    alloc: Global,
+    store: &mut Store,
+    feeds: &mut Vec<Feed>,
+    step: &Step,
+    before: &Picture,
+) -> bool
+    requires sound { IsSound store.old holding }
+    requires feeds { map ring_of_feed feeds.old.items ≡ (kept_by store.old holding).rings }
+    ensures sound { IsSound store.new holding }
+    ensures feeds { map ring_of_feed feeds.new.items ≡ (kept_by store.new holding).rings }
+{
+    let is_done = match step {
+        Flush(_) => store.durable() > before.durable,
+        Clean(..) => store.live() < before.live,
+        _ => false,
+    };
+    if is_done {
+        return store.flush(rt) == Ok(None);
+    }
+    match step {
+        Clean(segment, lease, _, _) => match store.clean(rt) {
+            Ok(cleaned) => (cleaned.segment == *segment) & (cleaned.lease == *lease),
+            Err(_) => false,
+        },
+        _ => tries(rt, alloc, store, feeds, step) == Ok(true),
+    }
+}
+
+/// How the step went; none where that is otherwise than told.
+pub(super) fn goes<R: Wait>(
+    rt: &R,
+    alloc: Global,
+    store: &mut Store,
+    feeds: &mut Vec<Feed>,
+    beside: &mut Beside,
+    step: &Step,
+) -> Option<Try>
+    requires sound { IsSound store.old holding }
+    requires feeds { map ring_of_feed feeds.old.items ≡ (kept_by store.old holding).rings }
+    ensures sound { IsSound store.new holding }
+    ensures feeds { map ring_of_feed feeds.new.items ≡ (kept_by store.new holding).rings }
+{
+    if takes_none(step) {
+        begin_without(alloc);
+        let went = goes_without(store, feeds, beside, step);
+        return if !end(alloc) & went {
+            Some(Try::Went)
+        } else {
+            None
+        };
+    }
+    let before = shown(store, &mut beside.reader, feeds);
+    begin(alloc);
+    let answer = tries(rt, alloc, store, feeds, step);
+    let refused = end(alloc);
+    match answer {
+        Ok(true) => Some(if refused { Try::Spared } else { Try::Went }),
+        Err(StoreFault::NoMemory) if refused => {
+            let now = shown(store, &mut beside.reader, feeds);
+            let is_so = is_left(step, &before, &now);
+            let went = ends(rt, alloc, store, feeds, step, &before);
+            if is_so & went {
+                Some(Try::Refused)
+            } else {
+                None
+            }
+        }
+        _ => None,
+    }
+}

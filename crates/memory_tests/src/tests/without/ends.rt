@@ -1,0 +1,212 @@
+//! Of `bw_ring`, `bw_device`, `bw_log`, `bw_versions` and `bw_drive`.
+
+ghost use Rattle.std.specs.Prelude.{IfOk, IfSome};
+ghost use Rattle.bw_ring.specs.Ends.{IsFeedOf};
+ghost use Rattle.bw_care.specs.Found.{IsRecovered};
+ghost use Rattle.bw_care.specs.Views.{IsSound};
+
+use super::super::boxes::{Supply, supplied};
+use super::super::put;
+use super::asked;
+use bw_care::{Recovered, recover};
+use bw_codec::{Key, Place, Record};
+use bw_device::{
+    DeadSegment, Desk, FuseSegment, MemSegment, Segment, are_spares, capacity_of, failures_of,
+    is_spare, lease_of, len_of, read_from,
+};
+use bw_drive::{Gate, MeetGate, OpenGate};
+use bw_log::Log;
+use bw_page::Leaves;
+use bw_ring::{Feed, Lane, LanesError, lanes};
+use bw_versions::{Board, Entry};
+use std::alloc::Global;
+use test_marks::begin_without;
+
+/// The two ends of one ring.
+fn one_ring(alloc: Global) -> Result<(Feed, Lane), LanesError>
+    ensures { IfOk result (λ ends. IsFeedOf ends.0 ends.1) }
+{
+    let (mut feeds, mut ends) = lanes(alloc, 1, 4)?;
+    match (feeds.pop(), ends.pop()) {
+        (Some(feed), Some(lane)) => Ok((feed, lane)),
+        _ => Err(LanesError::BadConfig),
+    }
+}
+
+/// Puts two records, and takes both by each call that does so.
+fn go_through(feed: &mut Feed, lane: &mut Lane, one: Record, other: Record) -> bool
+    requires { IsFeedOf feed.old lane.old }
+{
+    let are_put = feed.room() == 4 && feed.put(one).is_ok() && feed.put(other).is_ok();
+    let waits = lane.rest_beside(feed) == 2;
+    let is_taken = lane.peek().is_some() && lane.take().is_some();
+    if lane.waits() == 0 {
+        return false;
+    }
+    let is_known = lane.peek_known().key().as_slice() == b"l".as_slice();
+    let last = lane.take_known();
+    are_put && waits && is_taken && is_known && last.key().as_slice().len() == 1
+}
+
+pub(super) fn rings(alloc: Global) -> Option<bool> {
+    let (mut feed, mut lane) = one_ring(alloc).ok()?;
+    let (one, other) = (put(b"k", b"v")?, put(b"l", b"w")?);
+    begin_without(alloc);
+    let is_so = go_through(&mut feed, &mut lane, one, other);
+    asked(alloc, is_so)
+}
+
+pub(super) fn leases(alloc: Global) -> Option<bool> {
+    let mut desk = Desk::new(alloc, 2).ok()?;
+    let lease = desk.take().ok()?;
+    begin_without(alloc);
+    let is_so = lease.number() == 0 && desk.is_out(0) && desk.collect() == 0;
+    drop(lease);
+    asked(alloc, is_so && desk.collect() == 1 && !desk.is_out(0))
+}
+
+/// Whether a segment takes three bytes and gives them back, where it has room.
+fn holds(one: &mut dyn Segment, lease: u32) -> bool {
+    let mut out = [0; 3];
+    if one.capacity() != 8 || one.len() != 0 || one.failures() != 0 {
+        return false;
+    }
+    let is_held = one.append(b"abc").is_ok();
+    if one.len() < 3 || one.failures() != 0 {
+        return false;
+    }
+    is_held && one.read(0, &mut out).is_ok() && out == *b"abc" && one.lease() == lease
+}
+
+/// A segment of each kind in memory.
+pub(super) fn segments(alloc: Global) -> Option<bool> {
+    let mut desk = Desk::new(alloc, 3).ok()?;
+    let mut one = MemSegment::new(alloc, desk.take().ok()?, 8).ok()?;
+    let other = MemSegment::new(alloc, desk.take().ok()?, 8).ok()?;
+    let third = MemSegment::new(alloc, desk.take().ok()?, 8).ok()?;
+    begin_without(alloc);
+    let mut fuse = FuseSegment::new(other, 9, 0);
+    let mut dead = DeadSegment::new(third, 9, 0, 0);
+    let is_so = holds(&mut one, 0) && holds(&mut fuse, 1) && holds(&mut dead, 2);
+    asked(alloc, is_so)
+}
+
+/// What is asked of boxes by their numbers.
+fn are_boxes(boxes: &mut Vec<Box<dyn Segment>>) -> bool {
+    if boxes.as_slice().len() != 2 {
+        return false;
+    }
+    let all = boxes.as_slice();
+    let is_first = is_spare(&all[0], 100) && lease_of(all, 0) == 0 && len_of(all, 0) == 0;
+    let are_right = are_spares(all, 100)
+        && capacity_of(all, 1) == 65_560
+        && failures_of(all, 1) == 0;
+    is_first && are_right
+}
+
+pub(super) fn boxes(alloc: Global) -> Option<bool> {
+    let Supply {
+        mut boxes,
+        desk: _desk,
+    } = supplied(alloc, 2, &[], None)?;
+    begin_without(alloc);
+    let is_so = are_boxes(&mut boxes);
+    asked(alloc, is_so)
+}
+
+/// The empty page 1 and k=1; and behind it j=2.
+const SEGMENTS: &[&str] = &[
+    "42574c4f475347310100000000000000040000000040000046524d3101000000000000002000000002000000\
+    02010000000000000101000000010000000000000000000000010001016b0131",
+    "42574c4f475347310200000000000000040000000040000046524d3102000000000000001800000001000000\
+    0101000000010000000000000001000000010001016a0132",
+];
+
+/// What is recovered from boxes.
+fn log_of(alloc: Global, boxes: Vec<Box<dyn Segment>>) -> Option<Recovered>
+    ensures { IfSome result (λ r. IsRecovered holding r) }
+{
+    match recover(alloc, boxes) {
+        Ok(found) => Some(found),
+        Err(_) => None,
+    }
+}
+
+/// Two segments and a spare.
+fn worked(alloc: Global) -> Option<Vec<Box<dyn Segment>>> {
+    let Supply { boxes, desk: _desk } = supplied(alloc, 3, SEGMENTS, None)?;
+    Some(boxes)
+}
+
+/// What is asked of a log.
+fn is_log(log: &Log) -> bool
+    requires { IsSound log.now holding }
+{
+    let numbers = log.m() == 4 && log.limit() == 16_384 && log.next_frame() == Some(3);
+    let counts = log.live() == 2 && log.spares() == 1 && log.pages() == 1 && !log.is_failed();
+    let newest = Place { frame: 2, index: 0 };
+    let places = log.place_of(1) == Some(newest)
+        && log.base_of(1) == Some(Place { frame: 1, index: 0 });
+    let boxes = log.live_segment(1) == Some((2, 1, 68)) && log.spare_leases(0) == Some(2);
+    numbers && counts && places && boxes && log.oldest() == Some((1, 1)) && log.line(1).is_some()
+}
+
+fn is_closed(log: &mut Log) -> bool
+    requires { IsSound log.old holding }
+    ensures { IsSound log.new holding }
+{
+    let is_so = is_log(log);
+    log.roll();
+    is_so && log.live() == 2
+}
+
+pub(super) fn logs(alloc: Global) -> Option<bool> {
+    let mut found = log_of(alloc, worked(alloc)?)?;
+    begin_without(alloc);
+    let is_so = is_closed(&mut found.log);
+    asked(alloc, is_so)
+}
+
+/// The boxes of a log come out of it.
+pub(super) fn log_is_adopted(alloc: Global) -> Option<bool> {
+    let Recovered {
+        log,
+        leaves: _leaves,
+        first: _first,
+        last: _last,
+        tail: _tail,
+        dropped: _dropped,
+    } = log_of(alloc, worked(alloc)?)?;
+    begin_without(alloc);
+    let (live, spares) = log.into_segments();
+    asked(alloc, live.len() == 2 && spares.len() == 1)
+}
+
+pub(super) fn boards(alloc: Global) -> Option<bool> {
+    let start = Leaves::one_empty(alloc, 4).ok()?;
+    let board = Board::new(alloc, &start).ok()?;
+    let key = Key::new(b"k").ok()?;
+    begin_without(alloc);
+    let is_so = board.leaves().count() == 1 && board.get(&key).is_none();
+    asked(alloc, is_so)
+}
+
+pub(super) fn entries(alloc: Global) -> Option<bool> {
+    let entry = Entry {
+        writer: 3,
+        item: put(b"k", b"v")?,
+    };
+    begin_without(alloc);
+    let is_so = entry.copy() == entry;
+    asked(alloc, is_so)
+}
+
+pub(super) fn gates(alloc: Global) -> Option<bool> {
+    let gate = MeetGate::new(alloc, 1, 9).ok()?;
+    begin_without(alloc);
+    OpenGate.before(0, 0);
+    OpenGate.after(0, 0);
+    gate.before(0, 0);
+    gate.after(0, 0);
+    asked(alloc, gate.met())
+}
