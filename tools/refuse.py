@@ -70,10 +70,19 @@ def is_tested(shim, tests, name, folder):
 
 
 class Case:
-    """A worked script: its command line and input, the records that its frames hold, and how many bytes a file may have."""
+    """A worked script: its command line and input, the records that its frames hold, how many bytes a file may have, and
+    a segment that stands in the folder "from", where one does. "{}" in a word is the folder of the run."""
 
-    def __init__(self, name, words, text, records=None, file_bytes=None):
+    def __init__(self, name, words, text, records=None, file_bytes=None, segment=None):
         self.name, self.words, self.text, self.records, self.file_bytes = name, words, text.encode(), records, file_bytes
+        self.segment = segment
+
+    def words_in(self, folder):
+        if self.segment:
+            os.mkdir(os.path.join(folder, "from"))
+            with open(os.path.join(folder, "from", "segment-0000.bw"), "wb") as file:
+                file.write(bytes.fromhex(self.segment))
+        return [it.format(folder) for it in self.words]
 
     def set_limit(self):
         if self.file_bytes is not None:
@@ -93,8 +102,15 @@ CASES = [
     Case("an eviction", ["replay"], "put 0 k v\nturn 1\nevict 1\nflush\nevict 1\nevict 1\npage 1\nget k\nevict 1\nput 0 l w\nsettle\n", [("k", "v"), ("l", "w")]),
     Case("an append that fails", ["replay"], "put 0 k v\nflush\nput 0 j 2\nflush\nflush\npage 1\ncuts\n", [("k", "v")], file_bytes=80),
     Case("writers", ["threads", "--limit=2", "--flush-every=1"], "".join("put %d %s%d %d\n" % (w, "ab"[w], it, it) for it in range(4) for w in range(2))),
+    Case("requests", ["serve", "--places=2"], "put k v\nput l w\nput m x\nget k\nnext l\nflush\nevict 1\nnext l\npage 1\nstats\nclean\nzap\n"),
     Case("a scan", ["scan"], "\n" + FIRST + "\n42574c\n"),
+    Case("a print", ["print"], "\n" + FIRST + "\n42574c\n"),
+    Case("counts", ["stats"], "\n" + FIRST + "\n42574c\n"),
+    Case("a picture", ["picture"], "\n" + FIRST + "\n42574c\n"),
+    Case("a folder as of a frame", ["restore", "--dir={}/from", "--to={}/to", "--frame=1"], "", segment=FIRST),
 ]
+# Modes that look at segments, and keep none.
+LOOKS = ("scan", "print", "stats", "picture", "restore")
 
 
 def pairs_in(printed):
@@ -144,7 +160,7 @@ def goes_on(program, store, pairs):
 def run_of(shim, program, case, number, in_folder):
     """A run of a case that is refused this allocation: what it answered, how many it made, and what is wrong with what it left."""
     with tempfile.TemporaryDirectory() as folder:
-        words = [program, *case.words] + ["--dir=" + os.path.join(folder, "store")] * in_folder
+        words = [program, *case.words_in(folder)] + ["--dir=" + os.path.join(folder, "store")] * in_folder
         status, printed, told, counts = beside(shim, words, number, folder, input=case.text, preexec_fn=case.set_limit)
         wrong = left_wrong(program, case, folder, printed) if in_folder else None
     return (status, printed, told), counts[0], wrong
@@ -198,7 +214,7 @@ def main():
         program = os.path.abspath(given.program)
         for case in CASES:
             for in_folder in (False, True):
-                if case.words == ["scan"] and in_folder or case.file_bytes is not None and not in_folder:
+                if case.words[0] in LOOKS and in_folder or case.file_bytes is not None and not in_folder:
                     continue
                 other, runs = case_wrong(shim, program, case, in_folder, given.every, pool)
                 wrong += other
