@@ -446,9 +446,9 @@ fn adds(
     let refused = end(alloc);
     let spares = store.spares();
     match answer {
-        Ok(()) => (tried(true, refused, spares == 3), None),
+        Ok(()) => (tried(true, refused, spares == 5), None),
         Err((one, fault)) => {
-            let is_back = one.lease() == 0 && one.len() == 0 && spares == 2;
+            let is_back = one.lease() == 0 && one.len() == 0 && spares == 4;
             let is_so = is_back && fault == StoreFault::NoMemory;
             (tried(false, refused, is_so), Some(one))
         }
@@ -466,7 +466,7 @@ fn is_added(alloc: Global, store: &mut Store, one: Box<dyn Segment>) -> Option<T
     }
 }
 
-/// A box of another desk is added to a store of two.
+/// A box of another desk is added to a store of four.
 fn with_one_more<R: Wait>(rt: &R, alloc: Global, boxes: Vec<Box<dyn Segment>>) -> Option<Try> {
     let Supply {
         boxes: mut more,
@@ -490,7 +490,7 @@ struct Added;
 impl Row for Added {
     fn goes<R: AllocGlobal + Threads + Wait>(&self, rt: &R) -> Option<Try> {
         let alloc = rt.alloc();
-        let Supply { boxes, desk: _desk } = supplied(alloc, 2, &[], None)?;
+        let Supply { boxes, desk: _desk } = supplied(alloc, 4, &[], None)?;
         with_one_more(rt, alloc, boxes)
     }
 
