@@ -73,6 +73,10 @@ fn holds(alloc: Global, log: &mut Log, segment: u64, told: &str) -> bool
     }
 }
 
+fn is_memory(fault: CleanFault) -> bool {
+    fault == CleanFault::Log(LogFault::NoMemory)
+}
+
 /// How many segments are live, the bytes of the newest, and how many spares stand.
 fn picture(log: &Log) -> (u32, Option<(u64, u32, u64)>, u32)
     requires { IsSound log.now holding }
@@ -92,15 +96,17 @@ fn cleans(alloc: Global, log: &mut Log) -> Option<Try>
     begin(alloc);
     let answer = clean(alloc, log);
     let refused = end(alloc);
+    let now = picture(log);
     match answer {
         Ok(cleaned) => {
-            let is_told = cleaned == TOLD && picture(log) == (2, Some((3, 2, 104)), 1);
-            tried(true, refused, is_told && holds(alloc, log, 3, CLEANED))
+            let holds = holds(alloc, log, 3, CLEANED);
+            let is_so = cleaned == TOLD && now == (2, Some((3, 2, 104)), 1);
+            tried(true, refused, is_so & holds)
         }
         Err(fault) => {
-            let is_left = fault == CleanFault::Log(LogFault::NoMemory)
-                && picture(log) == (3, Some((3, 2, 68)), 1);
-            tried(false, refused, is_left && holds(alloc, log, 3, NEWER))
+            let holds = holds(alloc, log, 3, NEWER);
+            let is_left = now == (3, Some((3, 2, 68)), 1);
+            tried(false, refused, is_left & holds & is_memory(fault))
         }
     }
 }

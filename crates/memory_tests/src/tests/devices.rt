@@ -75,17 +75,22 @@ fn segment(
     (end(alloc), made)
 }
 
+fn takes_more(segment: &mut MemSegment) -> bool {
+    if segment.capacity() != 100 || segment.len() > 90 || segment.failures() != 0 {
+        return false;
+    }
+    segment.append(b"more").is_ok()
+}
+
 /// Whether a segment has these bytes, and takes more.
 fn holds(segment: &mut MemSegment, bytes: &[u8]) -> bool {
     let mut out = [0; 3];
-    if segment.len() != bytes.len() as u64 || segment.lease() != 1 || bytes.len() > 3 {
+    let n = bytes.len();
+    if segment.len() != n as u64 || segment.failures() != 0 || n > 3 {
         return false;
     }
-    let n = bytes.len();
-    segment.read(0, &mut out[..n]).is_ok()
-        && is(&out[..n], bytes)
-        && segment.append(b"more").is_ok()
-        && segment.capacity() == 100
+    let is_read = segment.read(0, &mut out[..n]).is_ok() && is(&out[..n], bytes);
+    is_read && segment.lease() == 1 && takes_more(segment)
 }
 
 fn is_made(alloc: Global, bytes: Option<&[u8]>) -> Option<Try> {

@@ -11,12 +11,12 @@ pub(super) mod telling;
 
 use self::picture::is_out;
 use self::steps::Step::{
-    Bytes, Clean, CleanFails, Cuts, Evict, Flush, FlushFails, Get, History, Live, NewSees, Out,
-    Page, PageFails, Put, Roll, Sees, Settle, Stands, Turn,
+    Bytes, Clean, CleanFails, Cuts, Evict, Flush, FlushFails, Get, History, Live, NewSees, News,
+    Next, Out, Page, PageFails, Put, Roll, Sees, Settle, Stands, Turn,
 };
 use self::steps::{Beside, Step, goes};
 use super::boxes::{Supply, recovered, supplied};
-use super::{Row, Try, all_went, wrong_row};
+use super::{Row, Try, all_went, then, tried, wrong_row};
 use bw_care::Recovered;
 use bw_device::{Desk, Segment};
 use bw_ring::Feed;
@@ -24,7 +24,7 @@ use bw_store::{Config, Store, StoreFault};
 use std::alloc::Global;
 use std::sync::Wait;
 use std::thread::Threads;
-use test_marks::{begin, end};
+use test_marks::{begin, begin_without, end};
 
 /// A run: what its first box does, its steps, and those of the store that is opened again over what it left.
 #[derive(Drop)]
@@ -103,7 +103,9 @@ fn lives<R: Wait>(
     };
     let mut beside = Beside { reader, desk };
     let went = walk(rt, alloc, &mut store, &mut feeds, &mut beside, steps);
+    begin_without(alloc);
     let (mut boxes, mut spares) = store.shut(rt);
+    let went = if end(alloc) { None } else { went };
     let Beside {
         reader: _reader,
         desk,
@@ -265,6 +267,8 @@ const FIVE: &[Step] = &[
     Bytes(1, SECOND),
     History("a=1 b=2 c=3 d=4 e=5 "),
     Cuts(&[1, 2, 3, 4, 5], 5),
+    Next(6),
+    News(b"e", b"5"),
 ];
 
 /// The segment of the five puts: the second dump of `docs/FORMAT.md`.
@@ -427,6 +431,78 @@ const RUNS: &[Run] = &[
         again: None,
     },
 ];
+
+/// One try of a box more: it comes back where it is refused.
+fn adds(
+    alloc: Global,
+    store: &mut Store,
+    one: Box<dyn Segment>,
+) -> (Option<Try>, Option<Box<dyn Segment>>)
+    requires { IsSoundBeside store.old holding }
+    ensures { IsSoundBeside store.new holding }
+{
+    begin(alloc);
+    let answer = store.add_segment(one);
+    let refused = end(alloc);
+    let spares = store.spares();
+    match answer {
+        Ok(()) => (tried(true, refused, spares == 5), None),
+        Err((one, fault)) => {
+            let is_back = one.lease() == 0 && one.len() == 0 && spares == 4;
+            let is_so = is_back && fault == StoreFault::NoMemory;
+            (tried(false, refused, is_so), Some(one))
+        }
+    }
+}
+
+/// A box is added, once more where that was refused.
+fn is_added(alloc: Global, store: &mut Store, one: Box<dyn Segment>) -> Option<Try>
+    requires { IsSoundBeside store.old holding }
+    ensures { IsSoundBeside store.new holding }
+{
+    match adds(alloc, store, one) {
+        (Some(Try::Refused), Some(one)) => then(Try::Refused, adds(alloc, store, one).0),
+        (first, _) => first,
+    }
+}
+
+/// A box of another desk is added to a store of four.
+fn with_one_more<R: Wait>(rt: &R, alloc: Global, boxes: Vec<Box<dyn Segment>>) -> Option<Try> {
+    let Supply {
+        boxes: mut more,
+        desk: _desk,
+    } = supplied(alloc, 1, &[], None)?;
+    let one = more.pop()?;
+    match Store::open(rt, alloc, CONFIG, boxes) {
+        Ok((mut store, _feeds)) => {
+            let went = is_added(alloc, &mut store, one);
+            let _ = store.shut(rt);
+            went
+        }
+        Err(_) => None,
+    }
+}
+
+/// A store takes a box more.
+#[derive(Drop)]
+struct Added;
+
+impl Row for Added {
+    fn goes<R: AllocGlobal + Threads + Wait>(&self, rt: &R) -> Option<Try> {
+        let alloc = rt.alloc();
+        let Supply { boxes, desk: _desk } = supplied(alloc, 4, &[], None)?;
+        with_one_more(rt, alloc, boxes)
+    }
+
+    fn spares(&self) -> bool {
+        false
+    }
+}
+
+#[test]
+fn a_store_takes_a_segment_more(rt: HostRuntime) {
+    all_went(&rt, wrong_row(&rt, &[Added]));
+}
 
 #[test]
 fn worked_runs_of_a_store(rt: HostRuntime) {

@@ -11,7 +11,7 @@ use bw_versions::{Batch, Board, Entry, Publisher, ReadFault, Reader, Unpublished
 use std::alloc::{AllocError, Global};
 use std::sync::Wait;
 use std::thread::Threads;
-use test_marks::{begin, end};
+use test_marks::{begin, begin_without, end};
 
 /// One call that may be refused.
 #[derive(Drop)]
@@ -106,7 +106,10 @@ fn sees(reader: &mut Reader, key: &[u8]) -> Option<bool>
 /// Three puts as a batch, behind page 1.
 fn batch(alloc: Global) -> Option<Batch> {
     let entries = entries(alloc, b"abc")?;
-    Some(Batch::new(Some(start(alloc).ok()?), entries))
+    let start = start(alloc).ok()?;
+    begin_without(alloc);
+    let batch = Batch::new(Some(start), entries);
+    if end(alloc) { None } else { Some(batch) }
 }
 
 /// One try of a batch, or of what was entered: where it is refused, the reader sees nothing yet. Whether
@@ -188,8 +191,10 @@ fn with_publisher<R: AllocGlobal + Wait>(rt: &R, call: &Call) -> Option<Try> {
         Call::ReaderOfPublisher => is_reader_made(alloc, &mut publisher),
         _ => is_published(rt, alloc, &mut publisher),
     };
+    begin_without(alloc);
+    let _news = publisher.news();
     publisher.shut(rt);
-    went
+    if end(alloc) { None } else { went }
 }
 
 /// One try of a publisher that is made, or of versions.
@@ -231,7 +236,9 @@ fn publishes_up_to<R: Wait>(
     reader: &mut Reader,
 ) -> Option<Try>
     requires { IsPrefix (entries_of stand.old.versions.entered) stand.old.history.items }
-    ensures { IsPrefix (entries_of stand.new.versions.entered) stand.new.history.items }
+    ensures begins { IsPrefix (entries_of stand.new.versions.entered) stand.new.history.items }
+    ensures book { stand.new.versions.book ≡ stand.old.versions.book }
+    ensures reader { reader.new.book ≡ reader.old.book }
 {
     begin(alloc);
     let went = stand
@@ -243,7 +250,9 @@ fn publishes_up_to<R: Wait>(
 }
 
 /// Whether a reader has the pages.
-fn reads(alloc: Global, reader: &mut Reader) -> Option<Try> {
+fn reads(alloc: Global, reader: &mut Reader) -> Option<Try>
+    ensures { reader.new.book ≡ reader.old.book }
+{
     begin(alloc);
     let page = reader.page(1);
     let refused = end(alloc);
@@ -255,12 +264,24 @@ fn reads(alloc: Global, reader: &mut Reader) -> Option<Try> {
 }
 
 /// A page, once more where it was refused.
-fn is_read(alloc: Global, reader: &mut Reader) -> Option<Try> {
+fn is_read(alloc: Global, reader: &mut Reader) -> Option<Try>
+    ensures { reader.new.book ≡ reader.old.book }
+{
     let first = reads(alloc, reader)?;
     if first == Try::Refused {
         return then(first, reads(alloc, reader));
     }
     Some(first)
+}
+
+/// A reader learns the news of its versions without memory.
+fn learns(alloc: Global, stand: &mut Stand, reader: &mut Reader) -> bool
+    requires { reader.old.book ≡ stand.old.versions.book }
+{
+    begin_without(alloc);
+    reader.learn(stand.versions.news());
+    let is_so = sees(reader, b"c") == Some(true);
+    !end(alloc) & is_so
 }
 
 /// The history is published in a window, and the page then read, in another where that is asked.
@@ -270,7 +291,8 @@ fn is_up_to<R: Wait>(rt: &R, alloc: Global, stand: &mut Stand) -> Option<Try>
     let mut reader = stand.versions.reader().ok()?;
     let first = publishes_up_to(rt, alloc, stand, &mut reader)?;
     if first == Try::Refused {
-        return then(first, publishes_up_to(rt, alloc, stand, &mut reader));
+        let second = publishes_up_to(rt, alloc, stand, &mut reader);
+        return then(first, second);
     }
     let page = is_read(alloc, &mut reader);
     if first == Try::Went {
@@ -321,8 +343,9 @@ fn with_versions<R: AllocGlobal + Wait>(rt: &R, call: &Call) -> Option<Try> {
         versions,
         history: _history,
     } = stand;
+    begin_without(rt.alloc());
     versions.shut(rt);
-    went
+    if end(rt.alloc()) { None } else { went }
 }
 
 /// A call that makes something.

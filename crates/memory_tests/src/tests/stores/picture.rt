@@ -101,7 +101,8 @@ pub(super) fn is_unchanged(before: &Picture, now: &Picture) -> bool {
 /// Whether one frame more is durable, and readers see what they saw: the publication alone was refused.
 /// What waited may have been taken.
 pub(super) fn is_flushed(before: &Picture, now: &Picture) -> bool {
-    let frames = (now.durable == before.durable + 1) & (now.cuts == before.cuts + 1);
+    let frames = (now.durable == before.durable.saturating_add(1))
+        & (now.cuts == before.cuts.saturating_add(1));
     frames & (now.entries >= before.entries) & (now.seen == before.seen)
 }
 
@@ -119,7 +120,8 @@ pub(super) fn is_taken(before: &Picture, now: &Picture) -> bool {
 /// segment is given up; readers see what they saw.
 pub(super) fn is_cleaned(before: &Picture, now: &Picture) -> bool {
     let frames = (now.durable > before.durable) & (now.cuts as u64 == now.durable);
-    let boxes = (now.live <= before.live + 1) & (now.live + 1 >= before.live);
+    let boxes = (now.live <= before.live.saturating_add(1))
+        & (now.live.saturating_add(1) >= before.live);
     frames & boxes & (now.entries == before.entries) & (now.seen == before.seen)
 }
 

@@ -36,6 +36,8 @@ pub(super) enum Step {
     Sees(&'static [u8], &'static [u8]),
     /// A new reader sees it.
     NewSees(&'static [u8], &'static [u8]),
+    /// A new reader sees it once it learnt the news.
+    News(&'static [u8], &'static [u8]),
     /// The segment given up, its lease, how many pages, in how many frames.
     Clean(u64, u32, usize, u64),
     CleanFails(StoreFault),
@@ -46,6 +48,8 @@ pub(super) enum Step {
     Cuts(&'static [u64], u64),
     /// How many segments are live, and how many spares stand.
     Stands(u32, u32),
+    /// The number of the next frame.
+    Next(u64),
     /// The leases that are out.
     Out(&'static [u32]),
     /// All entries, each as its key, an equals sign and its value, with spaces between.
@@ -53,8 +57,8 @@ pub(super) enum Step {
 }
 
 use Step::{
-    Bytes, Clean, CleanFails, Cuts, Evict, Flush, FlushFails, Get, History, Live, NewSees, Out,
-    Page, PageFails, Put, Roll, Sees, Settle, Stands, Turn,
+    Bytes, Clean, CleanFails, Cuts, Evict, Flush, FlushFails, Get, History, Live, NewSees, News,
+    Next, Out, Page, PageFails, Put, Roll, Sees, Settle, Stands, Turn,
 };
 
 /// What stands beside a store: the first reader, and the desk of its leases.
@@ -140,6 +144,25 @@ fn new_sees(store: &mut Store, key: &[u8], value: &[u8]) -> Result<bool, StoreFa
     }
 }
 
+/// A new reader learns the news, without memory, and sees this.
+fn learns(alloc: Global, store: &mut Store, key: &[u8], value: &[u8]) -> Option<Try>
+    requires { IsSound store.old holding }
+    ensures sound { IsSound store.new holding }
+    ensures rings { (kept_by store.new holding).rings ≡ (kept_by store.old holding).rings }
+{
+    let Ok(mut reader) = store.reader() else {
+        return None;
+    };
+    begin_without(alloc);
+    reader.learn(store.news());
+    let is_so = is_seen(&mut reader, key, value);
+    if !end(alloc) & is_so {
+        Some(Try::Went)
+    } else {
+        None
+    }
+}
+
 /// The bytes of a segment behind what stood there, which stays alone where that is refused.
 fn dumps(alloc: Global, store: &mut Store, segment: u64, told: &str) -> Result<bool, StoreFault>
     requires { IsSound store.old holding }
@@ -220,6 +243,7 @@ fn goes_without(store: &mut Store, feeds: &mut Vec<Feed>, beside: &mut Beside, s
         }
         Cuts(told, durable) => are_cuts(store.cuts(), *told) & (store.durable() == *durable),
         Stands(live, spares) => (store.live() == *live) & (store.spares() == *spares),
+        Next(frame) => store.next_frame() == Some(*frame),
         Out(leases) => is_out(&mut beside.desk, *leases),
         History(text) => is_history(store.history(), text.as_bytes()),
         _ => false,
@@ -229,7 +253,7 @@ fn goes_without(store: &mut Store, feeds: &mut Vec<Feed>, beside: &mut Beside, s
 fn takes_none(step: &Step) -> bool {
     match step {
         Put(..) | Roll | Evict(..) | Sees(..) | Live(..) => true,
-        Cuts(..) | Stands(..) | Out(..) | History(..) => true,
+        Cuts(..) | Stands(..) | Next(_) | Out(..) | History(..) => true,
         _ => false,
     }
 }
@@ -297,6 +321,9 @@ pub(super) fn goes<R: Wait>(
         } else {
             None
         };
+    }
+    if let News(key, value) = step {
+        return learns(alloc, store, *key, *value);
     }
     let before = shown(store, &mut beside.reader, feeds);
     begin(alloc);

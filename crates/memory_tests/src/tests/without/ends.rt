@@ -11,8 +11,8 @@ use super::asked;
 use bw_care::{Recovered, recover};
 use bw_codec::{Key, Place, Record};
 use bw_device::{
-    DeadSegment, Desk, FuseSegment, MemSegment, Segment, are_spares, capacity_of, failures_of,
-    is_spare, lease_of, len_of, read_from,
+    DeadSegment, Desk, FuseSegment, MemSegment, Segment, append_to, are_spares, capacity_of,
+    failures_of, is_spare, lease_of, len_of, read_from,
 };
 use bw_drive::{Gate, MeetGate, OpenGate};
 use bw_log::Log;
@@ -91,6 +91,28 @@ pub(super) fn segments(alloc: Global) -> Option<bool> {
     asked(alloc, is_so)
 }
 
+/// Bytes go into the first box, where it takes them, and come out of it.
+fn are_held(boxes: &mut Vec<Box<dyn Segment>>) -> bool {
+    if boxes.as_slice().len() != 2 {
+        return false;
+    }
+    let (len, room) = (
+        len_of(boxes.as_slice(), 0),
+        capacity_of(boxes.as_slice(), 0),
+    );
+    if failures_of(boxes.as_slice(), 0) != 0 || len != 0 || room < 3 {
+        return false;
+    }
+    let went = append_to(boxes, 0, b"abc").is_ok();
+    let mut out = [0; 3];
+    if boxes.as_slice().len() != 2 || failures_of(boxes.as_slice(), 0) != 0 {
+        return false;
+    }
+    went && len_of(boxes.as_slice(), 0) >= 3
+        && read_from(boxes, 0, 0, &mut out).is_ok()
+        && out == *b"abc"
+}
+
 /// What is asked of boxes by their numbers.
 fn are_boxes(boxes: &mut Vec<Box<dyn Segment>>) -> bool {
     if boxes.as_slice().len() != 2 {
@@ -110,7 +132,7 @@ pub(super) fn boxes(alloc: Global) -> Option<bool> {
         desk: _desk,
     } = supplied(alloc, 2, &[], None)?;
     begin_without(alloc);
-    let is_so = are_boxes(&mut boxes);
+    let is_so = are_boxes(&mut boxes) && are_held(&mut boxes);
     asked(alloc, is_so)
 }
 
