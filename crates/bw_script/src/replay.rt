@@ -84,6 +84,23 @@ fn done_of(answer: Answer) -> Done {
     }
 }
 
+/// What a command comes to in this manner.
+fn answer_of<R: System>(
+    rt: &R,
+    session: &mut Session,
+    options: &Options<'_>,
+    manner: Manner,
+    command: Command,
+) -> Result<Answer, Miss>
+    requires { IsReady session.old holding }
+    ensures { IsReady session.new holding }
+{
+    match command {
+        Command::Put(writer, op) if manner == Manner::Taking => session.put_taking(writer, op),
+        command => session.call(rt, u64::from(options.capacity), command),
+    }
+}
+
 /// Does what a command asks for, but that a spare is only made.
 fn do_command<R: System, O: Write>(
     rt: &R,
@@ -96,10 +113,7 @@ fn do_command<R: System, O: Write>(
     requires { IsReady session.old holding }
     ensures { IsReady session.new holding }
 {
-    let answer = match command {
-        Command::Put(writer, op) if manner == Manner::Taking => session.put_taking(writer, op)?,
-        command => session.call(rt, u64::from(options.capacity), command)?,
-    };
+    let answer = answer_of(rt, session, options, manner, command)?;
     tell(rt, session, output, &answer)?;
     Ok(done_of(answer))
 }
