@@ -25,7 +25,7 @@ use Rattle.bw_log.proofs.GivenUp.{all_behind}
 use Rattle.bw_log.proofs.Reread.{length-frame}
 use Rattle.bw_care.specs.Ahead.{PageRead}
 use Rattle.bw_care.specs.Cleaning.{is_old, old_from, old_pages, page_of}
-use Rattle.bw_care.specs.Moving.{AreBases, IsFull, IsReason, IsRefused, Moved, NextFrame, Refused, Stopped}
+use Rattle.bw_care.specs.Moving.{AreBases, IsFull, IsReason, Moved, NextFrame, Refused, Stopped}
 use Rattle.bw_care.proofs.BasesLeave.{largest_base, may_follow, stand_more}
 use Rattle.bw_care.proofs.BoxesGrown.{read_failed}
 use Rattle.bw_care.proofs.OldPages.{old_step, old_are_pages}
