@@ -32,17 +32,16 @@ use Rattle.bw_buffer.specs.Joining.{added}
 use Rattle.bw_log.specs.Contents as logs
 use Rattle.bw_log.specs.declared.fault.LogFault.{LogFault}
 use Rattle.bw_log.specs.declared.fault.LogFault.TheVariants as log
-use Rattle.bw_log.specs.Reads.{IsPage, HoldsPage, StopsAt}
+use Rattle.bw_log.specs.Reads.{IsPage, StopsAt}
 use Rattle.bw_log.proofs.Walks.{content_push}
 use Rattle.bw_store.specs.declared.fault.StoreFault.{StoreFault}
-use Rattle.bw_store.specs.declared.fault.StoreFault.TheVariants.{NoMemory, BadConfig, NoSegment, Device, Failed, Spent, NoPage, NothingOld}
+use Rattle.bw_store.specs.declared.fault.StoreFault.TheVariants.{NoPage}
 use Rattle.bw_store.specs.Adding.{blocks_for, result_of}
 use Rattle.bw_versions.specs.Entries.{records}
 use Rattle.bw_store.specs.Kept.{Kept, IsSound}
 use Rattle.bw_store.specs.Faults.{fault_of}
-use Rattle.bw_store.specs.Reading.{leaves_now, HasRead, ReadLeaves, with_log}
+use Rattle.bw_store.specs.Reading.{leaves_now, ReadLeaves, with_log}
 use Rattle.bw_store.specs.Share.{ops_at}
-use Rattle.bw_store.specs.Taking.{Refuses, Works}
 use Rattle.bw_store.specs.Tails.{Tailed, tail_of, tail_for, makes, is_made, tails_for, tails_after}
 use Rattle.bw_store.proofs.Joins.{none_touches, added_made}
 use Rattle.bw_store.proofs.Stepping.{length-applied}

@@ -12,7 +12,6 @@ use Rattle.bw_codec.specs.Touch.{touches}
 use Rattle.bw_codec.specs.declared.record.Record.{Record}
 use Rattle.bw_codec.specs.declared.leaf.Leaf.{Leaf}
 use Rattle.bw_codec.specs.declared.block.Place.{Place}
-use Rattle.bw_codec.specs.declared.block.Block.{Block}
 use Rattle.bw_codec.specs.declared.block.Block.TheVariants.{Delta, Split}
 use Rattle.bw_codec.specs.declared.block.Frame.{Frame}
 use Rattle.bw_buffer.specs.Joining.{joins, added}

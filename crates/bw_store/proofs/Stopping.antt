@@ -17,7 +17,7 @@ use Rattle.bw_log.specs.Contents.{IsRoomy}
 use Rattle.bw_log.specs.Places.{first_number}
 use Rattle.bw_log.specs.Segments.{segment_frames, AreFrom}
 use Rattle.bw_care.specs.Laws.{cut_newest, frames_held, FoundAs, IsFound}
-use Rattle.bw_care.specs.Recovery.{Finding, frames_in, last_number, recovery}
+use Rattle.bw_care.specs.Recovery.{Finding, frames_in, last_number}
 use Rattle.bw_care.specs.declared.fault.RecoverCause.{RecoverCause}
 use Rattle.bw_care.specs.declared.fault.RecoverCause.TheVariants.{Empty}
 use Rattle.bw_care.proofs.CutBoxes.{cut_boxes, cut_taken, numbered_taken, stopped_boxes}

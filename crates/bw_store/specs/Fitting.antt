@@ -1,6 +1,6 @@
 -- Whether a record's blocks have room in the frame in the making.
 
-use Rattle.std.specs.Prelude.{ℕ, ◌-◌, ◌≤◌, List, slice_get}
+use Rattle.std.specs.Prelude.{◌-◌, ◌≤◌, List, slice_get}
 use Rattle.std.specs.Option.{unwrap_or}
 use Rattle.bw_codec.specs.declared.record.Record.{Record}
 use Rattle.bw_codec.specs.declared.block.Place.{Place}

@@ -1,4 +1,4 @@
-use Rattle.std.proofs.Common.{ap, ◌∙◌}
+use Rattle.std.proofs.Common.{ap}
 use Rattle.bw_codec.specs.declared.block.Place.{Place}
 use Rattle.bw_store.proofs.MayEnter.{filed_two, first_here, last_here}
 use Rattle.bw_store.proofs.entering.file.Goals as goal

@@ -1,7 +1,7 @@
 use Rattle.std.proofs.Common.{false, inl, refl}
 use Rattle.bw_store.proofs.Planned.{entered_or_not, fits_empty, flushed_empty, flushed_or_not, no_room, plan_fits, plan_full, some_room}
 use Rattle.std.proofs.lemmas.Result.{err_from_is_err_and}
-use Rattle.bw_store.proofs.Refusing.{flush_refuses, unplanned_now, unplanned_after, worked}
+use Rattle.bw_store.proofs.Refusing.{flush_refuses, unplanned_after, worked}
 use Rattle.bw_store.proofs.store.Store.take_here.Goals as goal
 
 pub returns-then-has_room-clause-leaves : goal.returns-then-has_room-clause-leaves
