@@ -40,11 +40,13 @@ fn appends(
     requires { HoldsOne (seen log.old holding) leaf.old }
     ensures { OnOk result (HoldsOne (seen log.new holding) leaf.new) }
 {
-    let went = match key {
-        Some(key) => put(alloc, log, leaf, key, b'2', told),
-        None => rewrite(alloc, log, leaf, told),
-    };
-    match went {
+    if let Some(key) = key {
+        return match put(alloc, log, leaf, key, b'2', told) {
+            Some(is_so) => Ok(is_so),
+            None => Err(false),
+        };
+    }
+    match rewrite(alloc, log, leaf, told) {
         Some(is_so) => Ok(is_so),
         None => Err(false),
     }
@@ -67,8 +69,11 @@ fn is_appended(alloc: Global, log: &mut Log, leaf: &mut Leaf, key: Option<u8>) -
     if (shown(log, leaf) == before) != is_refused || is_refused & !refused {
         return Err(false);
     }
-    if is_refused && appends(alloc, log, leaf, key, None)? != true {
-        return Err(false);
+    if is_refused {
+        return match appends(alloc, log, leaf, key, None) {
+            Ok(true) => Ok(refused),
+            _ => Err(false),
+        };
     }
     Ok(refused)
 }

@@ -466,13 +466,13 @@ fn is_added(alloc: Global, store: &mut Store, one: Box<dyn Segment>) -> Option<T
     }
 }
 
-/// A box of another desk is added to a store of four.
-fn with_one_more<R: Wait>(rt: &R, alloc: Global, boxes: Vec<Box<dyn Segment>>) -> Option<Try> {
-    let Supply {
-        boxes: mut more,
-        desk: _desk,
-    } = supplied(alloc, 1, &[], None)?;
-    let one = more.pop()?;
+/// A box more is added to a store of these.
+fn with_one_more<R: Wait>(
+    rt: &R,
+    alloc: Global,
+    boxes: Vec<Box<dyn Segment>>,
+    one: Box<dyn Segment>,
+) -> Option<Try> {
     match Store::open(rt, alloc, CONFIG, boxes) {
         Ok((mut store, _feeds)) => {
             let went = is_added(alloc, &mut store, one);
@@ -483,7 +483,7 @@ fn with_one_more<R: Wait>(rt: &R, alloc: Global, boxes: Vec<Box<dyn Segment>>) -
     }
 }
 
-/// A store takes a box more.
+/// A store of four boxes takes one more, of another desk.
 #[derive(Drop)]
 struct Added;
 
@@ -491,7 +491,12 @@ impl Row for Added {
     fn goes<R: AllocGlobal + Threads + Wait>(&self, rt: &R) -> Option<Try> {
         let alloc = rt.alloc();
         let Supply { boxes, desk: _desk } = supplied(alloc, 4, &[], None)?;
-        with_one_more(rt, alloc, boxes)
+        let Supply {
+            boxes: mut more,
+            desk: _other,
+        } = supplied(alloc, 1, &[], None)?;
+        let one = more.pop()?;
+        with_one_more(rt, alloc, boxes, one)
     }
 
     fn spares(&self) -> bool {
