@@ -1,12 +1,11 @@
 -- A walk from page to page finds the first pair of the map at or above a key.
 
-use Rattle.std.proofs.Common.{◌≡◌, ℕ, ◌+◌, ◌≤◌, true, false, if◌then◌else◌, Option, Some, None, Result, Ok, Err, refl, sym, ap, ◌∙◌, subst}
+use Rattle.std.proofs.Common.{◌≡◌, ℕ, true, false, if◌then◌else◌, Option, Some, None, Err, sym, ap, ◌∙◌, subst}
 use Rattle.std.specs.Prelude.{is_some}
 use Rattle.bw_codec.specs.declared.leaf.Leaf.{Leaf}
-use Rattle.bw_log.specs.Contents as logs
 use Rattle.bw_log.specs.Reads.{HoldsPage}
 use Rattle.bw_page.specs.Ahead.{IsFirst, IsFirstPair, HasNoPair, HasCome, pair_above, HasNoLowAbove, IsNextLow}
-use Rattle.bw_page.specs.Leaves.{Bytes, Map, home, union, leaf_at, plain}
+use Rattle.bw_page.specs.Leaves.{Bytes, Map, home, leaf_at, plain}
 use Rattle.bw_page.specs.Shown.{Shown, is_away, leaf_here}
 use Rattle.bw_page.proofs.Ahead.{come_first, come_found, come_further, come_last}
 use Rattle.bw_page.proofs.PageByPage.{home_there}

@@ -17,7 +17,11 @@ fn is_memory(error: io::Error) -> bool {
 
 /// Whether a call that went or not answered as told: whether it was refused, then; none otherwise.
 fn told(went: bool, refused: bool, is_so: bool) -> Option<bool> {
-    if is_so && went != refused { Some(refused) } else { None }
+    if is_so && went != refused {
+        Some(refused)
+    } else {
+        None
+    }
 }
 
 fn makes(alloc: Global) -> Option<bool> {

@@ -1,5 +1,4 @@
-use Rattle.std.proofs.Common.{◌≡◌, ◌∙◌, ◌≤◌, ◌+◌, ℕ, Option, None, refl, sym, ap, subst, arith}
-use Rattle.bw_codec.specs.declared.leaf.Leaf.{Leaf}
+use Rattle.std.proofs.Common.{◌∙◌, refl, sym, ap, subst, arith}
 use Rattle.bw_page.specs.Ahead.{HasCome, HasNoLowAbove, IsNextLow, pair_above, ahead}
 use Rattle.bw_page.specs.Leaves.{Bytes, home}
 use Rattle.bw_page.specs.Shown.{Shown}

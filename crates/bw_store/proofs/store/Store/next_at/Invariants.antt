@@ -1,4 +1,4 @@
-use Rattle.std.proofs.Common.{◌≡◌, ℕ}
+use Rattle.std.proofs.Common.{◌≡◌}
 use Rattle.bw_page.specs.Ahead.{HasCome, ahead}
 use Rattle.bw_store.specs.Views.{kept_by, IsSound}
 use Rattle.bw_store.proofs.Walks.{map_of}
