@@ -166,6 +166,28 @@ fn with(refused: bool, failed: bool, left: Option<Left>) -> Option<Left> {
     })
 }
 
+// The numbers of what was recovered.
+fn numbers(recovered: &Recovered) -> (u64, u64, u64) {
+    (recovered.first, recovered.last, recovered.tail)
+}
+
+// Opens a store again, with memory, where that was refused before.
+fn again<R: Wait>(
+    rt: &R,
+    alloc: Global,
+    recovered: Recovered,
+    desk: Desk,
+    steps: &[Step],
+    refused: bool,
+) -> Option<Left>
+    requires { IsRecovered holding recovered }
+{
+    match Store::reopen(rt, alloc, recovered, 1, 4, 3) {
+        Ok((store, feeds)) => with(refused, true, lives(rt, alloc, store, feeds, desk, steps)),
+        Err(_) => None,
+    }
+}
+
 // Opens a store again in a window; once more where memory was refused: what was recovered came back then.
 fn reopens<R: Wait>(
     rt: &R,
@@ -176,25 +198,17 @@ fn reopens<R: Wait>(
 ) -> Option<Left>
     requires { IsRecovered holding recovered }
 {
-    let told = (recovered.first, recovered.last, recovered.tail);
+    let told = numbers(&recovered);
     begin(alloc);
     let made = Store::reopen(rt, alloc, recovered, 1, 4, 3);
     let refused = end(alloc);
     match made {
         Ok((store, feeds)) => with(refused, false, lives(rt, alloc, store, feeds, desk, steps)),
         Err(fault) => {
-            let back = fault.recovered;
-            if fault.cause != StoreFault::NoMemory || (back.first, back.last, back.tail) != told {
+            if fault.cause != StoreFault::NoMemory || numbers(&fault.recovered) != told {
                 return None;
             }
-            match Store::reopen(rt, alloc, back, 1, 4, 3) {
-                Ok((store, feeds)) => with(
-                    refused,
-                    true,
-                    lives(rt, alloc, store, feeds, desk, steps),
-                ),
-                Err(_) => None,
-            }
+            again(rt, alloc, fault.recovered, desk, steps, refused)
         }
     }
 }
