@@ -171,21 +171,32 @@ fn numbers(recovered: &Recovered) -> (u64, u64, u64) {
     (recovered.first, recovered.last, recovered.tail)
 }
 
-// Opens a store again, with memory, where that was refused before.
-fn again<R: Wait>(
+// A life of a store that was opened again, with a reader of its own: how it went.
+fn ends<R: Wait>(
     rt: &R,
     alloc: Global,
-    recovered: Recovered,
+    store: Store,
+    feeds: Vec<Feed>,
     desk: Desk,
     steps: &[Step],
-    refused: bool,
-) -> Option<Left>
-    requires { IsRecovered holding recovered }
+) -> Option<Try>
+    requires sound { IsSound store holding }
+    requires feeds { map ring_of_feed feeds.items ≡ (kept_by store holding).rings }
 {
-    match Store::reopen(rt, alloc, recovered, 1, 4, 3) {
-        Ok((store, feeds)) => with(refused, true, lives(rt, alloc, store, feeds, desk, steps)),
-        Err(_) => None,
-    }
+    let (mut store, mut feeds) = (store, feeds);
+    let Ok(reader) = store.reader() else {
+        let _ = store.shut(rt);
+        return None;
+    };
+    let mut beside = Beside { reader, desk };
+    let went = walk(rt, alloc, &mut store, &mut feeds, &mut beside, steps);
+    let _ = store.shut(rt);
+    went
+}
+
+// How a call went that answered Ok.
+fn first_of(refused: bool) -> Option<Try> {
+    Some(if refused { Try::Spared } else { Try::Went })
 }
 
 // Opens a store again in a window; once more where memory was refused: what was recovered came back then.
@@ -195,20 +206,36 @@ fn reopens<R: Wait>(
     recovered: Recovered,
     desk: Desk,
     steps: &[Step],
-) -> Option<Left>
-    requires { IsRecovered holding recovered }
+) -> Option<Try>
+    requires { IsRecovered (λ b. holding (b.vtable, b.value)) recovered }
 {
     let told = numbers(&recovered);
     begin(alloc);
     let made = Store::reopen(rt, alloc, recovered, 1, 4, 3);
     let refused = end(alloc);
     match made {
-        Ok((store, feeds)) => with(refused, false, lives(rt, alloc, store, feeds, desk, steps)),
+        Ok((store, feeds)) => {
+            both(
+                first_of(refused),
+                ends(rt, alloc, store, feeds, desk, steps),
+            )
+        }
         Err(fault) => {
-            if fault.cause != StoreFault::NoMemory || numbers(&fault.recovered) != told {
+            if fault.cause != StoreFault::NoMemory || !refused {
                 return None;
             }
-            again(rt, alloc, fault.recovered, desk, steps, refused)
+            if numbers(&fault.recovered) != told {
+                return None;
+            }
+            match Store::reopen(rt, alloc, fault.recovered, 1, 4, 3) {
+                Ok((store, feeds)) => {
+                    both(
+                        Some(Try::Refused),
+                        ends(rt, alloc, store, feeds, desk, steps),
+                    )
+                }
+                Err(_) => None,
+            }
         }
     }
 }
@@ -226,8 +253,8 @@ fn goes_on<R: Wait>(
     if (found.first, found.last, found.tail) != (frames.0, frames.1, 0) {
         return None;
     }
-    let again = reopens(rt, alloc, found, desk, steps)?;
-    both(both(went, Some(first)), again.went)
+    let again = reopens(rt, alloc, found, desk, steps);
+    both(both(went, Some(first)), again)
 }
 
 impl Row for Run {

@@ -191,7 +191,8 @@ pub(super) fn buffers(alloc: Global) -> Option<bool> {
     asked(alloc, is_so && buffer.frame() == 2 && buffer.count() == 0)
 }
 
-pub(super) fn bases(alloc: Global) -> Option<bool> {
+/// A Base is copied as its bytes.
+fn is_copied(alloc: Global, buffer: &mut Buffer) -> Option<bool> {
     let blocks = blocks_of(alloc)?;
     let [first, ..] = blocks.as_slice() else {
         return None;
@@ -201,8 +202,12 @@ pub(super) fn bases(alloc: Global) -> Option<bool> {
     };
     let mut bytes = Vec::new(alloc);
     encode_block(first, &mut bytes).ok()?;
-    let mut buffer = Buffer::new(alloc, 1, 16_384).ok()?;
     begin_without(alloc);
-    let is_so = buffer.put_base(&bytes, leaf.page) == Ok(BACK);
-    asked(alloc, is_so)
+    let answer = buffer.put_base(&bytes, leaf.page);
+    asked(alloc, answer == Ok(BACK))
+}
+
+pub(super) fn bases(alloc: Global) -> Option<bool> {
+    let mut buffer = Buffer::new(alloc, 1, 16_384).ok()?;
+    is_copied(alloc, &mut buffer)
 }
