@@ -515,11 +515,11 @@ def breakings(program, folder):
     """A cleaning fails, at its flush or at an append of its own, and the store goes on from what that left."""
     break_all = [(1, 0, [], ["clean", "flush", "read all"])]
     places = (os.path.join(folder, str(number)) for number in range(1000))
-    frames = broken(program, next(places), (700, 900), break_all, 0, 0)
+    frames = broken(program, next(places), (700, 1100), break_all, 0, 0)
     check(frames > 1, "a cleaning of one frame")
     for number in range(frames):
         for keep in (0, 30, -1):
-            broken(program, next(places), (700, 900), break_all, number, keep)
+            broken(program, next(places), (700, 1100), break_all, number, keep)
     with_some = [(1, 12, ["put"], ["turn %d" % ALL, "clean", "flush", "read all"])]
     for number in (0, 1):
         for keep in (0, 30, -1):
