@@ -120,10 +120,10 @@ impl Leaves {
         let Some((last, front)) = items.split_last() else {
             return Ok(steps);
         };
-        let mut journal = Vec::with_capacity(self.leaves.allocator(), front.len())?;
-        let walked = self.walk(front, &mut journal, &mut steps);
+        let mut undos = Vec::with_capacity(self.leaves.allocator(), front.len())?;
+        let walked = self.walk(front, &mut undos, &mut steps);
         let ended = self.end_of(walked, last);
-        self.take_back(journal);
+        self.take_back(undos);
         steps.push_reserved(ended?);
         Ok(steps)
     }
