@@ -19,6 +19,7 @@ pub mod MovedMore
 pub mod CleanedMore
 pub mod ReopenedMore
 pub mod Laned
+pub mod Grouped
 pub mod Planned
 pub mod Shares
 pub mod Fresh

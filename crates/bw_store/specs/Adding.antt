@@ -1,6 +1,6 @@
 -- What a record adds to the frame in the making.
 
-use Rattle.std.specs.Prelude.{ℕ, ◌+◌, ◌-◌, nat_le, if◌then◌else◌, Option, Some, None, List, [], ◌∷◌, ◌++◌, length, slice_set, unwrap_or}
+use Rattle.std.specs.Prelude.{ℕ, ◌+◌, ◌-◌, nat_le, if◌then◌else◌, Option, Some, None, List, [], ◌∷◌, ◌++◌, length, slice_get, slice_set, unwrap_or}
 use Rattle.bw_codec.specs.Record.{key_of}
 use Rattle.bw_codec.specs.declared.record.Record.{Record}
 use Rattle.bw_codec.specs.declared.leaf.Leaf.{Leaf}
@@ -8,7 +8,7 @@ use Rattle.bw_codec.specs.declared.block.Place.{Place}
 use Rattle.bw_codec.specs.declared.block.Block.{Block}
 use Rattle.bw_codec.specs.declared.block.Block.TheVariants.{Delta, Split}
 use Rattle.bw_codec.specs.declared.block.Frame.{Frame}
-use Rattle.bw_page.specs.Leaves.{home, changed, directed_at, upper_of}
+use Rattle.bw_page.specs.Leaves.{home, changed, directed_at, upper_of, applied}
 use Rattle.bw_buffer.specs.Joining.{joins, added}
 
 -- a frame with further blocks, of which Deltas join
@@ -62,3 +62,28 @@ upper_if m page leaf = if nat_le (length leaf.pairs) m then None else Some (uppe
 abbrev pub planned : ℕ → Place → Place → Record → Option Leaf → List Block
 planned page back here r None = Delta page back (r ∷ []) ∷ []
 planned page back here r (Some upper) = Delta page back (r ∷ []) ∷ Split page here upper ∷ []
+
+-- ---- a group: one record after the other, each on the leaves, places and blocks behind the one before
+
+-- no block
+abbrev pub nowhere : Place
+nowhere = record { frame = 0; index = 0 }
+
+-- the last block of the page at which a record is directed
+abbrev pub back_in : List Leaf → List Place → Record → Place
+back_in leaves newest r = unwrap_or (slice_get newest (directed_at leaves r - 1)) nowhere
+
+-- the blocks that one record adds to a frame
+abbrev pub blocks_in : ℕ → List Leaf → List Place → Frame → Record → List Block
+blocks_in m leaves newest frame r = blocks_for m leaves (back_in leaves newest r) (here_for frame (directed_at leaves r)) r
+
+-- the newest places behind it
+abbrev pub places_in : ℕ → List Leaf → List Place → Frame → Record → List Place
+places_in m leaves newest frame r = places_after m leaves (here_for frame (directed_at leaves r)) (last_for frame (directed_at leaves r)) r newest
+
+-- all blocks of a group, in order
+abbrev pub blocks_all : ℕ → List Leaf → List Place → Frame → List Record → List Block
+blocks_all m leaves newest frame [] = []
+blocks_all m leaves newest frame (r ∷ rs) =
+    blocks_in m leaves newest frame r
+    ++ blocks_all m (applied m leaves r) (places_in m leaves newest frame r) (with_blocks frame (blocks_in m leaves newest frame r)) rs
