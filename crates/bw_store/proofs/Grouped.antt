@@ -68,3 +68,8 @@ pub length_entered : (w : ℕ) (g : List Record) → length (entered w (marked g
 length_entered w [] = refl
 length_entered w (r ∷ []) = refl
 length_entered w (r ∷ s ∷ rs) = (let rest = length_entered w (s ∷ rs) in omega arith)
+
+pub length_marked : (g : List Record) → length (marked g) ≡ length g
+length_marked [] = refl
+length_marked (r ∷ []) = refl
+length_marked (r ∷ s ∷ rs) = (let rest = length_marked (s ∷ rs) in omega arith)

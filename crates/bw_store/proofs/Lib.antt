@@ -21,6 +21,7 @@ pub mod ReopenedMore
 pub mod Laned
 pub mod Grouped
 pub mod Planned
+pub mod Drafts
 pub mod Shares
 pub mod Fresh
 pub mod FollowMore

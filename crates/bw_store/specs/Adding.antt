@@ -63,27 +63,35 @@ abbrev pub planned : ℕ → Place → Place → Record → Option Leaf → List
 planned page back here r None = Delta page back (r ∷ []) ∷ []
 planned page back here r (Some upper) = Delta page back (r ∷ []) ∷ Split page here upper ∷ []
 
--- ---- a group: one record after the other, each on the leaves, places and blocks behind the one before
+-- ---- a group: one record after the other, each on the pages, places and blocks behind the one before
 
 -- no block
 abbrev pub nowhere : Place
 nowhere = record { frame = 0; index = 0 }
 
+-- what the blocks of a record are made from: the pages, the last block of each, and the frame in the making
+pub record Drawn : Type 0 where
+  pub leaves : List Leaf
+  pub newest : List Place
+  pub frame : Frame
+
 -- the last block of the page at which a record is directed
-abbrev pub back_in : List Leaf → List Place → Record → Place
-back_in leaves newest r = unwrap_or (slice_get newest (directed_at leaves r - 1)) nowhere
+abbrev pub back_in : Drawn → Record → Place
+back_in d r = unwrap_or (slice_get d.newest (directed_at d.leaves r - 1)) nowhere
 
--- the blocks that one record adds to a frame
-abbrev pub blocks_in : ℕ → List Leaf → List Place → Frame → Record → List Block
-blocks_in m leaves newest frame r = blocks_for m leaves (back_in leaves newest r) (here_for frame (directed_at leaves r)) r
+-- the blocks that a record adds
+abbrev pub blocks_in : ℕ → Drawn → Record → List Block
+blocks_in m d r = blocks_for m d.leaves (back_in d r) (here_for d.frame (directed_at d.leaves r)) r
 
--- the newest places behind it
-abbrev pub places_in : ℕ → List Leaf → List Place → Frame → Record → List Place
-places_in m leaves newest frame r = places_after m leaves (here_for frame (directed_at leaves r)) (last_for frame (directed_at leaves r)) r newest
+-- the pages, places and blocks behind it
+abbrev pub drawn_by : ℕ → Drawn → Record → Drawn
+drawn_by m d r = record {
+  leaves = applied m d.leaves r;
+  newest = places_after m d.leaves (here_for d.frame (directed_at d.leaves r)) (last_for d.frame (directed_at d.leaves r)) r d.newest;
+  frame = with_blocks d.frame (blocks_in m d r);
+}
 
 -- all blocks of a group, in order
-abbrev pub blocks_all : ℕ → List Leaf → List Place → Frame → List Record → List Block
-blocks_all m leaves newest frame [] = []
-blocks_all m leaves newest frame (r ∷ rs) =
-    blocks_in m leaves newest frame r
-    ++ blocks_all m (applied m leaves r) (places_in m leaves newest frame r) (with_blocks frame (blocks_in m leaves newest frame r)) rs
+abbrev pub blocks_all : ℕ → Drawn → List Record → List Block
+blocks_all m d [] = []
+blocks_all m d (r ∷ rs) = blocks_in m d r ++ blocks_all m (drawn_by m d r) rs

@@ -69,6 +69,10 @@ pub record RefusedAfter (n : ℕ) (old : Kept) (lanes : List Lane) (cause : Stor
   pub lane : ℕ
   pub refuses : RefusesNext lane lanes middle cause new
 
+-- the same of so many groups
+abbrev pub TookGroups : ℕ → ℕ → Kept → Kept → Type 0
+TookGroups groups n old new = TookInTurn n old new × (groups_since old new ≡ groups)
+
 -- the same without a number
 abbrev pub TookSome : Kept → Kept → Type 0
 TookSome old new = (n : ℕ) × TookInTurn n old new

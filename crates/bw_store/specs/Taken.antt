@@ -1,6 +1,7 @@
 -- A store after one record, and after the records of a group.
 
-use Rattle.std.specs.Prelude.{ℕ, List, [], ◌∷◌}
+use Rattle.std.specs.Prelude.{ℕ, false, List, [], ◌∷◌}
+use Rattle.bw_codec.specs.declared.record.Record.{Record}
 use Rattle.bw_codec.specs.declared.block.Place.{Place}
 use Rattle.bw_page.specs.Leaves.{applied}
 use Rattle.bw_ring.specs.Marks.{Marked}
@@ -13,6 +14,10 @@ taken s writer m back =
     with_record s writer m (record s.filed { leaves = applied s.filed.m s.filed.leaves m.item })
     (places_after s.filed.m s.filed.leaves (here_at s m.item) (last_at s m.item) m.item s.newest)
     (blocks_for s.filed.m s.filed.leaves back (here_at s m.item) m.item)
+
+-- a record that is a group of its own
+abbrev pub alone : Record → Marked
+alone r = record { item = r; more = false }
 
 -- one record after the other, each with the last block of its page before
 abbrev pub taken_all : Kept → ℕ → List Marked → Kept
