@@ -119,7 +119,7 @@ room_is m leaves item key page pages n leaf a k at there same count room over =
     let bound = room (omega arith) in
     omega arith
 
-takes_by : (s : Kept) → IsSound s → (item : Record) (back : Place) → IsOp item → HasPage s.filed.m s.filed.leaves item → s.log.next ≡ Some s.making.frame
+pub takes_by : (s : Kept) → IsSound s → (item : Record) (back : Place) → IsOp item → HasPage s.filed.m s.filed.leaves item → s.log.next ≡ Some s.making.frame
     → size_of s.making ≤ s.making.limit
     → slice_get s.newest (directed_at s.filed.leaves item - 1) ≡ Some back
     → Takes s.filed.m (logs.counted s.log) (frame_of s.making) s.filed.leaves s.newest back item

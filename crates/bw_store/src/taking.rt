@@ -146,8 +146,16 @@ impl Store {
         ensures leaves { GroupLeaves lane group (kept_by self.old holding) result
             (kept_by self.new holding) }
     {
-        let _ = (lane, group);
-        unreachable!()
+        self.goes_on()?;
+        self.fetch_all(group.as_slice())?;
+        if let Some(draft) = self.draft(lane, group.as_slice())? {
+            return self.enter_all(lane, group, &draft);
+        }
+        self.flush_making(false)?;
+        let Some(draft) = self.draft(lane, group.as_slice())? else {
+            unreachable!();
+        };
+        self.enter_all(lane, group, &draft)
     }
 
     // A copy of the group that a lane gives next.
