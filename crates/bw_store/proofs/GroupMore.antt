@@ -29,16 +29,19 @@ use Rattle.bw_store.specs.declared.drafting.Row.{Row}
 use Rattle.bw_store.specs.declared.drafting.Draft.{Draft}
 use Rattle.bw_store.specs.Adding.{Drawn, back_in, blocks_in, blocks_all, blocks_for, drawn_by, here_for, last_for, nowhere, result_of, upper_if}
 use Rattle.bw_store.specs.Drafting.{AreIn, IsDraft, count_by, drawn_behind, row_by, row_for, rows_all, set_row, tails_all}
-use Rattle.bw_store.specs.Fitting.{Fits, back_for, drawn_of, group_blocks}
+use Rattle.bw_store.specs.Fitting.{Fits, back_for, drawn_of, group_blocks, here_at}
 use Rattle.bw_store.specs.History.{entered}
 use Rattle.bw_store.specs.Kept.{Kept, Filed, IsSound}
 use Rattle.bw_store.specs.Tails.{HasRoomsAt, Tailed, tails_after, tails_for, is_made}
-use Rattle.bw_store.specs.Taken.{taken, taken_all}
+use Rattle.bw_store.specs.Taken.{alone, taken, taken_all}
 use Rattle.bw_store.specs.Taking.{HasAllPages}
 use Rattle.bw_store.proofs.AwayPages.{tails_entered, away_entered}
 use Rattle.bw_store.proofs.Drafted.{some_at, none_at}
 use Rattle.bw_store.proofs.Drafts.{items, items_marked, drawn_all, made_all, part_shorter, leaves_all}
-use Rattle.bw_store.proofs.Planned.{takes_by}
+use Rattle.bw_log.specs.Contents as logs
+use Rattle.bw_store.proofs.Growing.{blocks_lawful}
+use Rattle.bw_store.proofs.Joins.{added_shorter}
+use Rattle.bw_store.proofs.Planned.{takes_by, blocks_short}
 use Rattle.bw_store.proofs.RecordMore.{TakesOne, taken_sound}
 use Rattle.bw_store.proofs.Stepping.{length-applied}
 
@@ -198,6 +201,38 @@ taken_all_sound s w (m ∷ ms) h next ops room inside fits =
       short = omega arith;
     } in
     taken_all_sound one w ms (taken_sound s w m back t) next ops.1 room.1 inside fits
+
+-- an empty frame has room for any group: a record's blocks are at most 3,600 bytes
+pub fresh_fits : (s : Kept) (w k : ℕ) (rs : List Record) → IsSound s → s.log.next ≡ Some s.making.frame → All IsOp rs
+    → HasPages s.filed.m s.filed.leaves rs → w < length s.rings → size_of s.making ≤ 20 + 3600 * k → k + length rs ≤ 4 → Fits s rs
+fresh_fits s w k [] h next ops room inside small few =
+    (let limit = h.limit in let most = h.log.holds.limits.2 in omega arith)
+fresh_fits s w k (r ∷ rs) h next ops room inside small few =
+    let back = back_for s r in
+    let one = taken s w (alone r) back in
+    let limit = h.limit in
+    let most = h.log.holds.limits.2 in
+    let top = h.log.holds.limits.3 in
+    let here = home_within s.filed.m (key_of r) s.filed.leaves h.grown.stands.lawful in
+    let count = h.grown.count in
+    let now : size_of s.making ≤ s.making.limit = omega arith in
+    let takes = takes_by s h r back ops.0 room.0 next now (some_at s.newest (directed_at s.filed.leaves r - 1) nowhere (omega arith)) in
+    let lawful = blocks_lawful s.filed.m (logs.counted s.log) (frame_of s.making) s.filed.leaves s.newest back r takes in
+    let pairs = h.pairs in
+    let l = h.log.holds.limits in
+    let short = blocks_short s.filed.m s.filed.leaves back (here_at s r) r (omega arith) h.grown.stands.lawful ops.0 lawful in
+    let added_size = added_shorter s.making.blocks (blocks_in s.filed.m (drawn_of s) r) in
+    let next_small : size_of one.making ≤ 20 + 3600 * (k + 1) = omega arith in
+    let t : TakesOne s w r back = record {
+      sound = h;
+      takes = takes;
+      number = following_is (s.before + s.durable) s.making.frame (sym h.next ∙ next);
+      inside = inside;
+      short = omega arith;
+    } in
+    let rest : Fits one rs = fresh_fits one w (k + 1) rs (taken_sound s w (alone r) back t) next ops.1 room.1 inside next_small (omega arith) in
+    subst (λ (bs : List Block). size_of (record s.making { blocks = bs }) ≤ s.making.limit)
+    (sym (fold-append joined s.making.blocks (blocks_in s.filed.m (drawn_of s) r) (blocks_all s.filed.m (drawn_by s.filed.m (drawn_of s) r) rs))) rest
 
 -- ---- requirements of the growths
 

@@ -132,11 +132,9 @@ fn set_all(newest: &mut Vec<Place>, rows: &[Row])
     requires room { vec_len newest.old + length rows.now ≤ vec_capacity newest.old }
     ensures { newest.new.items ≡ fold set_row newest.old.items rows.now }
 {
-    let Some((row, rows)) = rows.split_first() else {
-        return;
-    };
-    set_one(newest, *row);
-    set_all(newest, rows);
+    'rows: for at in 0..rows.len() {
+        set_one(newest, rows[at]);
+    }
 }
 
 fn set_one(newest: &mut Vec<Place>, row: Row)

@@ -130,21 +130,20 @@ pub(crate) fn reserve_all(tails: &mut Vec<Option<Tail>>, rows: &[Row]) -> Result
     ensures room { OnOk result (vec_len tails.new + 4 ≤ vec_capacity tails.new) }
     ensures links { OnOk result
         (AllByRecursion (λ row. HasRoomsAt 4 tails.new.items (row.page - 1)) rows.now) }
-    ensures kept { OnOk result ((more at : ℕ) → HasRoomsAt more tails.old.items at
-        → HasRoomsAt more tails.new.items at) }
 {
-    let Some((row, rows)) = rows.split_first() else {
-        tails.reserve(4)?;
-        return Ok(());
-    };
-    reserve_at(tails, row.page)?;
-    reserve_all(tails, rows)
+    tails.reserve(4)?;
+    'rows: for at in 0..rows.len() {
+        reserve_at(tails, rows[at].page)?;
+    }
+    Ok(())
 }
 
 fn reserve_at(tails: &mut Vec<Option<Tail>>, page: u32) -> Result<(), AllocError>
     requires { 1 ≤ page }
     ensures same { map tail_of tails.new.items ≡ map tail_of tails.old.items }
     ensures link { OnOk result (HasRoomsAt 4 tails.new.items (page - 1)) }
+    ensures capacity { vec_capacity tails.new ≡ vec_capacity tails.old }
+    ensures len { vec_len tails.new ≡ vec_len tails.old }
     ensures kept { (more at : ℕ) → HasRoomsAt more tails.old.items at
         → HasRoomsAt more tails.new.items at }
 {
@@ -216,14 +215,10 @@ pub(crate) fn note_all(tails: &mut Vec<Option<Tail>>, rows: &[Row], records: &[R
     ensures { map tail_of tails.new.items
         ≡ tails_all rows.now records.now (map tail_of tails.old.items) }
 {
-    let Some((row, rows)) = rows.split_first() else {
-        return;
-    };
-    let Some((item, records)) = records.split_first() else {
-        unreachable!();
-    };
-    note(tails, row.page, item, row.made.is_some());
-    note_all(tails, rows, records);
+    'rows: for at in 0..rows.len() {
+        let row = rows[at];
+        note(tails, row.page, &records[at], row.made.is_some());
+    }
 }
 
 /// The frame in the making is in the log: each page that it touches rests on its last block, and

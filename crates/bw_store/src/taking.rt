@@ -201,7 +201,7 @@ impl Store {
         ensures plan { IfOk result (IsPlan (kept_by self.now holding) item.now) }
         ensures lawful { IfOk result (λ p. AllByRecursion (IsBlock 32) (listed p.blocks)
             × (length (listed p.blocks) ≤ 2)) }
-        ensures short { IfOk result (λ p. length (body_bytes (listed p.blocks)) ≤ 7000) }
+        ensures short { IfOk result (λ p. length (body_bytes (listed p.blocks)) ≤ 3600) }
         ensures refused { IfErr result
             (IsUnplanned (kept_by self.now holding) (item.now ∷ [])) }
     {
