@@ -19,7 +19,16 @@ pub mod MovedMore
 pub mod CleanedMore
 pub mod ReopenedMore
 pub mod Laned
+pub mod Grouped
 pub mod Planned
+pub mod Drafts
+pub mod Ahead
+pub mod Drafted
+pub mod GroupMore
+pub mod Fetched
+pub mod LayMore
+pub mod RowsMore
+pub mod EnterMore
 pub mod Shares
 pub mod Fresh
 pub mod FollowMore
