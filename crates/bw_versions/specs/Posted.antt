@@ -1,8 +1,9 @@
 -- What callers see of a board, and what a list of batches comes to.
 
-use Rattle.std.specs.Prelude.{ℕ, List, [], ◌++◌, Option, Some, None, fold}
+use Rattle.std.specs.Prelude.{ℕ, ◌≡◌, List, [], ◌++◌, Option, Some, None, fold}
 use Rattle.std.specs.FinMap as finite
 use Rattle.bw_codec.specs.declared.leaf.Leaf.{Leaf}
+use Rattle.bw_page.specs.Ahead.{IsFirst}
 use Rattle.bw_page.specs.Leaves.{Bytes, plain, leaf_at}
 use Rattle.bw_page.specs.Shown.{Shown, run}
 use Rattle.bw_versions.specs.declared.entry.Entry.{Entry}
@@ -27,6 +28,11 @@ value_in (Some p) key = finite.get (plain p.start.leaves (records p.entries)) ke
 abbrev pub leaf_in : Option Posted → ℕ → Option Leaf
 leaf_in None page = None
 leaf_in (Some p) page = leaf_at page (pages_of p).leaves
+
+-- a pair with the least key at or above one, if there is one
+abbrev pub IsFirstIn : Option Posted → Bytes → Option (Bytes × Bytes) → Type 0
+IsFirstIn None key pair = pair ≡ None
+IsFirstIn (Some p) key pair = IsFirst (plain p.start.leaves (records p.entries)) key pair
 
 abbrev pub entries_in : Option Posted → List Entry
 entries_in None = []

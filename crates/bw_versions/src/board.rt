@@ -3,6 +3,7 @@
 ghost use Rattle.std.specs.Prelude.{◌≡◌, ◌++◌, ◌∷◌, [], map, ◌+◌, ◌≤◌, Err, vec_len, length, IfOk, OnOk, OnErr, IsErr};
 ghost use Rattle.std.specs.Vec.{vec_capacity};
 ghost use Rattle.std.specs.FinMap as finite;
+ghost use Rattle.bw_page.specs.Ahead.{IsFirst};
 ghost use Rattle.bw_page.specs.Leaves.{plain, union};
 ghost use Rattle.bw_page.specs.Batch.{SomeIsSpent};
 ghost use Rattle.bw_versions.specs.Entries.{records};
@@ -75,6 +76,13 @@ impl Board {
             (records self.now.entries)) key.now }
     {
         self.leaves.get(key)
+    }
+
+    /// The pair with the least key at or above this one, if there is one.
+    pub fn next_at(&self, key: &Key) -> Option<(Key, Value)>
+        ensures { IsFirst (plain self.now.start.leaves (records self.now.entries)) key.now result }
+    {
+        self.leaves.next_at(key)
     }
 
     /// Appends entries, all or none: a refusal changes nothing. No record is copied but into its

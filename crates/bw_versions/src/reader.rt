@@ -2,11 +2,11 @@
 
 ghost use Rattle.std.specs.Prelude.{◌≡◌, ◌⊎◌, OnOk, OnErr, IfOk, IfSome};
 ghost use mathlib.Core.List.{IsPrefix};
-ghost use Rattle.bw_versions.specs.Posted.{posted_of, value_in, leaf_in};
+ghost use Rattle.bw_versions.specs.Posted.{posted_of, value_in, leaf_in, IsFirstIn};
 ghost use Rattle.bw_versions.specs.Heard.{Beyond, Reads};
 
 use crate::front::Front;
-use crate::reading::{Looker, PageOf, Question, VersionReader};
+use crate::reading::{Looker, NextAt, PageOf, Question, VersionReader};
 use bw_codec::{Key, Leaf, Value};
 use core::mem::replace_with;
 use std::marker::Model;
@@ -119,6 +119,29 @@ impl<L: Looker> ReaderOf<L> {
         *seen = mark.again();
         *learnt = mark;
         Ok(value)
+    }
+
+    /// The pair with the least key at or above this one in what was published, if there is one. No
+    /// memory is taken. It costs what a store's `next_at` costs.
+    ///
+    /// Each call reads what is published then: a walk by calls may see a later version at each step.
+    /// Refused as `get` is.
+    pub fn next_at(&mut self, key: &Key) -> Result<Option<(Key, Value)>, NoReader>
+        ensures reads { OnOk result (Reads self.old self.new) }
+        ensures answer { IfOk result (λ pair. IsFirstIn (posted_of self.new.seen) key.now pair) }
+        ensures unchanged { OnErr result (self.new ≡ self.old) }
+    {
+        let ReaderOf {
+            inner,
+            seen,
+            learnt,
+        } = self;
+        let Some((pair, mark)) = looked(inner, seen, learnt, &NextAt(key)) else {
+            return Err(NoReader);
+        };
+        *seen = mark.again();
+        *learnt = mark;
+        Ok(pair)
     }
 
     /// A copy of a page of what was published, if there is such a page; before the first

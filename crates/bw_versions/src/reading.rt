@@ -65,6 +65,27 @@ impl Question for Key {
     }
 }
 
+/// The pair with the least key at or above this one.
+pub struct NextAt<'k>(pub &'k Key);
+
+impl<'k> Drop for NextAt<'k> {
+    fn drop(self) {
+        let NextAt(_) = self;
+    }
+}
+
+impl<'k> Question for NextAt<'k> {
+    type Answer = Option<(Key, Value)>;
+
+    ghost use Rattle.bw_versions.specs.Posted.{IsFirstIn};
+
+    ghost answers = { λ next p pair. IsFirstIn p next.0.now pair };
+
+    fn ask(&self, posts: &Posts) -> Option<(Key, Value)> {
+        posts.next_at(self.0)
+    }
+}
+
 /// A copy of a page, by its number.
 #[derive(Clone, Copy)]
 pub struct PageOf(pub u32);

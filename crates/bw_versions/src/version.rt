@@ -1,7 +1,7 @@
 //! One version: what readers are shown, and how far into the book that goes.
 
 ghost use Rattle.std.specs.Prelude.{◌≡◌, ◌++◌, ◌∷◌, [], IfOk, OnOk, OnErr};
-ghost use Rattle.bw_versions.specs.Posted.{brings, posted_of, value_in, leaf_in};
+ghost use Rattle.bw_versions.specs.Posted.{brings, posted_of, value_in, leaf_in, IsFirstIn};
 
 use crate::batch::Batch;
 use crate::board::Board;
@@ -82,6 +82,13 @@ impl Posts {
         value(&self.board, key)
     }
 
+    /// The pair with the least key at or above this one, if there is one.
+    pub fn next_at(&self, key: &Key) -> Option<(Key, Value)>
+        ensures { IsFirstIn (posted_of self.now) key.now result }
+    {
+        next(&self.board, key)
+    }
+
     /// A page, if there is one.
     pub fn page(&self, page: u32) -> Result<Option<Leaf>, AllocError>
         ensures { IfOk result (λ leaf. leaf ≡ leaf_in (posted_of self.now) page) }
@@ -133,6 +140,15 @@ fn value(board: &Option<Board>, key: &Key) -> Option<Value>
 {
     match board {
         Some(board) => board.get(key),
+        None => None,
+    }
+}
+
+fn next(board: &Option<Board>, key: &Key) -> Option<(Key, Value)>
+    ensures { IsFirstIn board.now key.now result }
+{
+    match board {
+        Some(board) => board.next_at(key),
         None => None,
     }
 }
