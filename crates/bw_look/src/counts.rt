@@ -54,13 +54,34 @@ fn needed_in(survey: &Survey, segment: usize) -> u64 {
     bytes
 }
 
-fn write_segment<O: Write>(out: &mut Printer<'_, O>, row: &SegmentRow, needed: u64) {
+/// How many bytes the pages have that a block of a segment, by its index, set last.
+fn rewritten_in(survey: &Survey, segment: usize, lengths: &[u64]) -> u64 {
+    let blocks = survey.blocks();
+    let mut bytes = 0u64;
+    for (page, set) in survey.set() {
+        let length = lengths.get((*page as usize).saturating_sub(1));
+        if let (Some(block), Some(length)) = (blocks.get(*set), length) {
+            if block.segment == segment {
+                bytes = bytes.saturating_add(*length);
+            }
+        }
+    }
+    bytes
+}
+
+fn write_segment<O: Write>(
+    out: &mut Printer<'_, O>,
+    row: &SegmentRow,
+    needed: u64,
+    rewritten: u64,
+) {
     out.named("segment ", row.number);
     if let Some(lease) = row.lease {
         out.named(" lease ", lease);
     }
     out.named(" bytes ", row.len);
-    out.line(" needed ", needed);
+    out.named(" needed ", needed);
+    out.line(" rewritten ", rewritten);
 }
 
 /// How many pairs the pages have room for.
@@ -72,8 +93,15 @@ fn room_of(survey: &Survey, pages: u64) -> u64 {
 }
 
 /// Writes how many segments, frames, blocks, pages and pairs there are, and of each segment how many
-/// bytes of its blocks are still needed: the rest is what its cleaning would win at most.
-pub fn write_counts<O: Write>(out: &mut Printer<'_, O>, survey: &Survey, counts: Counts) {
+/// bytes of its blocks are still needed, and how many bytes of Bases its cleaning would write, were
+/// it the oldest; beside these it writes 20 bytes for each frame. `lengths` says how long the Base
+/// of each page is, from page 1 on.
+pub fn write_counts<O: Write>(
+    out: &mut Printer<'_, O>,
+    survey: &Survey,
+    counts: Counts,
+    lengths: &[u64],
+) {
     out.named("segments ", survey.segments().len());
     out.line(" spares ", counts.spares);
     out.named("frames ", survey.frames().len());
@@ -86,6 +114,7 @@ pub fn write_counts<O: Write>(out: &mut Printer<'_, O>, survey: &Survey, counts:
     out.named(" pairs ", counts.pairs);
     out.line(" of ", room_of(survey, counts.pages));
     for (index, row) in survey.segments().iter().enumerate() {
-        write_segment(out, row, needed_in(survey, index));
+        let needed = needed_in(survey, index);
+        write_segment(out, row, needed, rewritten_in(survey, index, lengths));
     }
 }

@@ -207,6 +207,11 @@ impl Survey {
         self.blocks.as_slice()
     }
 
+    /// Of each page the index of the last block that sets it.
+    pub fn set(&self) -> &BTreeMap<u32, usize> {
+        &self.set
+    }
+
     /// Whether no block behind this index sets the page.
     fn is_last_said(&self, index: usize, page: u32) -> bool {
         match self.set.get(&page) {

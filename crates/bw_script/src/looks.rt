@@ -10,6 +10,7 @@ use crate::scan::{LEAST, LONGEST, bytes_of};
 use crate::stop::{Met, Stop, missed, no_input, refuse};
 use crate::system::System;
 use bw_care::{Recovered, recover};
+use bw_codec::Leaf;
 use bw_device::{Desk, MemSegment, Segment};
 use bw_file::{Folder, FolderFault, FolderReader};
 use bw_look::{
@@ -76,9 +77,11 @@ fn images<R: System, I: Read>(
 // ---- what recovery says of them
 
 /// What recovery says of segments.
-#[derive(Clone, Copy)]
+#[derive(Drop)]
 struct Judged {
     counts: Counts,
+    /// How many bytes the Base of each page would have, from page 1 on.
+    lengths: Vec<u64>,
     first: u64,
     last: u64,
 }
@@ -94,24 +97,37 @@ fn spares_in(images: &[Image]) -> u64 {
     spares
 }
 
+/// How many bytes a page has as a Base.
+fn base_length(leaf: &Leaf) -> u64 {
+    let mut length = 8 + leaf.low.as_slice().len() as u64;
+    for (key, value) in leaf.pairs.as_slice() {
+        let pair = 2 + key.as_slice().len() as u64 + value.as_slice().len() as u64;
+        length = length.saturating_add(pair);
+    }
+    length
+}
+
 /// What was recovered, where so many segments have no byte.
-fn judged_of(found: &Recovered, spares: u64) -> Judged {
+fn judged_of(alloc: Global, found: &Recovered, spares: u64) -> Result<Judged, AllocError> {
     let mut pairs = 0u64;
+    let mut lengths = Vec::new(alloc);
     for index in 0..found.leaves.count() {
         if let Some(leaf) = found.leaves.page(index.saturating_add(1)) {
             pairs = pairs.saturating_add(leaf.pairs.as_slice().len() as u64);
+            lengths.push(base_length(leaf))?;
         }
     }
-    Judged {
+    Ok(Judged {
         counts: Counts {
             spares,
             tail: found.tail,
             pages: u64::from(found.leaves.count()),
             pairs,
         },
+        lengths,
         first: found.first,
         last: found.last,
-    }
+    })
 }
 
 /// A copy of a segment, with the least lease that is free.
@@ -126,7 +142,7 @@ fn copy_of(alloc: Global, desk: &mut Desk, image: &Image) -> Result<MemSegment, 
 
 fn judge_boxes(alloc: Global, boxes: Vec<Box<dyn Segment>>, spares: u64) -> Result<Judged, Miss> {
     match recover(alloc, boxes) {
-        Ok(found) => Ok(judged_of(&found, spares)),
+        Ok(found) => Ok(judged_of(alloc, &found, spares)?),
         Err(fault) => Err(Miss::Refused(Refusal::from(fault.cause))),
     }
 }
@@ -209,7 +225,7 @@ pub fn count_segments<R: System, I: Read, O: Write>(
     };
     let survey = Survey::of(rt.alloc(), images.as_slice())?;
     let mut out = Printer::new(output);
-    write_counts(&mut out, &survey, judged.counts);
+    write_counts(&mut out, &survey, judged.counts, judged.lengths.as_slice());
     out.end()?;
     Ok(Met::NOTHING)
 }
