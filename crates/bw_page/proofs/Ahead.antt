@@ -25,7 +25,7 @@ use Rattle.bw_page.proofs.Law.{get-union}
 
 -- ---- a page
 
-end_passed : (s : Result ℕ ℕ) → end_of (passed 1 s) ≡ suc (end_of s)
+pub end_passed : (s : Result ℕ ℕ) → end_of (passed 1 s) ≡ suc (end_of s)
 end_passed (Ok at) = one-add at
 end_passed (Err at) = one-add at
 
@@ -58,7 +58,7 @@ above_from key (x ∷ xs) p e =
       | false ↦ λ t s. subst (λ (y : Bytes × Bytes). UpTo key y.0) (let same : x ≡ p = cc in same) t
     ] refl e
 
-skipped : (q : Bytes) (x : Bytes × Bytes) (xs : Pairs) → Below x.0 q → find order q (x ∷ xs) ≡ find order q xs
+pub skipped : (q : Bytes) (x : Bytes × Bytes) (xs : Pairs) → Below x.0 q → find order q (x ∷ xs) ≡ find order q xs
 skipped q x xs b = ap (λ t. cond t (Some x.1) (find order q xs)) (above_apart q x.0 b)
 
 -- its value is found there
@@ -99,7 +99,7 @@ above_none key (x ∷ xs) e q u =
 
 module _ (m : ℕ) (leaves : List Leaf) (a : AreLeaves m leaves) where
   -- keys between which no page begins have one home
-  same_leaf : (q k : Bytes) → UpTo q k → All (λ l. Below q l.low → Below k l.low) leaves → home k leaves ≡ home q leaves
+  pub same_leaf : (q k : Bytes) → UpTo q k → All (λ l. Below q l.low → Below k l.low) leaves → home k leaves ≡ home q leaves
   same_leaf q k u none =
       let over : UpTo (home q leaves).low (home k leaves).low =
       home-all (λ l. UpTo l.low k → UpTo l.low (home k leaves).low) q leaves a.first (home-max k leaves)
@@ -114,7 +114,7 @@ module _ (m : ℕ) (leaves : List Leaf) (a : AreLeaves m leaves) where
       (upto-antisymm (home k leaves).low (home q leaves).low under over) in
       same_home leaves k q a.first a.pages page
 
-  rises_at : (q : Bytes) → Rises (home q leaves).pairs
+  pub rises_at : (q : Bytes) → Rises (home q leaves).pairs
   rises_at q = ascends_rises (home q leaves).pairs (home-all (IsBase m) q leaves a.first a.each).ascends
 
   -- the home of a pair that stands on a page is that page

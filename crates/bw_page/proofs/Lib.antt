@@ -28,3 +28,4 @@ pub mod OneStanding
 pub mod LowsAlone
 pub mod Trees
 pub mod Ahead
+pub mod Stretch

@@ -1,10 +1,10 @@
 -- The pairs of pages in the order of their keys, from a key on.
 
-use Rattle.std.specs.Prelude.{◌≡◌, ℕ, ◌+◌, false, IsTrue, IsSome, if◌then◌else◌, Option, Some, None, List, [], ◌∷◌}
+use Rattle.std.specs.Prelude.{◌≡◌, ◌⊎◌, ℕ, ◌+◌, ◌-◌, ◌<◌, ◌≤◌, false, IsTrue, IsSome, if◌then◌else◌, Option, Some, None, List, [], ◌∷◌, ◌++◌, take, length}
 use Rattle.std.specs.List.{AllByRecursion}
 use Rattle.std.specs.FinMap as finite
 use Rattle.std.specs.FinMap.Entries.{find}
-use Rattle.bw_codec.specs.Bytes.{is_below}
+use Rattle.bw_codec.specs.Bytes.{is_below, ascends}
 use Rattle.bw_codec.specs.declared.leaf.Leaf.{Leaf}
 use Rattle.bw_page.specs.Leaves.{Bytes, Pairs, Map, order}
 use Rattle.bw_page.specs.Lows.{lows_of}
@@ -54,3 +54,37 @@ pub record IsNextLow (leaves : List Leaf) (key low : Bytes) : Type 0 where
 abbrev pub ahead : Bytes → List Leaf → ℕ
 ahead key [] = 0
 ahead key (l ∷ ls) = (if is_below key l.low then 1 else 0) + ahead key ls
+
+-- ---- a stretch of pairs
+
+-- one of the pairs is at or above a key
+abbrev pub Reaches : Bytes → Pairs → Type 0
+Reaches q [] = ⊥
+Reaches q (p ∷ ps) = (is_below p.0 q ≡ false) ⊎ Reaches q ps
+
+-- the pairs of a map at or above a key, in order, and no more than so many
+pub record IsStretch (map : Map) (key : Bytes) (most : ℕ) (pairs : Pairs) : Type 0 where
+  pub few : length pairs ≤ most
+  pub ascends : IsTrue (ascends pairs)
+  pub from : AllByRecursion (λ p. is_below p.0 key ≡ false) pairs
+  -- each key up to the last of them has the value that they tell; and so has every key, where there are fewer
+  pub all : (q : Bytes) → is_below q key ≡ false → (length pairs < most) ⊎ Reaches q pairs → finite.get map q ≡ find order q pairs
+
+-- a walk from a key has come to another with these pairs
+pub record HasGone (map : Map) (key to : Bytes) (most : ℕ) (pairs : Pairs) : Type 0 where
+  pub few : length pairs ≤ most
+  pub ascends : IsTrue (ascends pairs)
+  pub from : AllByRecursion (λ p. is_below p.0 key ≡ false) pairs
+  pub below : AllByRecursion (λ p. IsTrue (is_below p.0 to)) pairs
+  pub upto : is_below to key ≡ false
+  pub all : (q : Bytes) → is_below q key ≡ false → IsTrue (is_below q to) → (length pairs < most) ⊎ Reaches q pairs
+      → finite.get map q ≡ find order q pairs
+
+-- the pairs of a page at or above a key
+abbrev pub pairs_above : Bytes → Pairs → Pairs
+pairs_above key [] = []
+pairs_above key (p ∷ ps) = if is_below p.0 key then pairs_above key ps else p ∷ ps
+
+-- pairs, with as many of others as there are wanting
+abbrev pub with_some : ℕ → Pairs → Pairs → Pairs
+with_some most pairs others = pairs ++ take (most - length pairs) others

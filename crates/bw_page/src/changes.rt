@@ -1,9 +1,10 @@
 //! One leaf and one record.
 
-ghost use Rattle.std.specs.Prelude.{◌≡◌, length, IsOk, OnOk, OnErr, IsTrue};
+ghost use Rattle.std.specs.Prelude.{◌≡◌, ◌+◌, ◌≤◌, ◌++◌, length, vec_len, IsOk, OnOk, OnErr, IsTrue};
+ghost use Rattle.std.specs.Vec.{vec_capacity};
 ghost use Rattle.std.specs.FinMap.Entries.{find};
 ghost use Rattle.bw_codec.specs.Bytes.{ascends};
-ghost use Rattle.bw_page.specs.Ahead.{pair_above};
+ghost use Rattle.bw_page.specs.Ahead.{pair_above, pairs_above, with_some};
 ghost use Rattle.bw_page.specs.Leaves.{order, empty_leaf, changed, changed_pairs};
 ghost use Rattle.bw_codec.specs.Record.{key_of};
 ghost use Rattle.bw_page.specs.Seek.{seek_of, end_of, IsWithin, AddsNone, back_of};
@@ -159,6 +160,36 @@ fn end_of(found: Result<usize, usize>) -> usize
     match found {
         Ok(at) => at,
         Err(at) => at,
+    }
+}
+
+/// Adds the pairs of a page at or above a key, in order, until there are so many. A refused growth
+/// is the only error, and adds none.
+pub fn add_pairs(
+    leaf: &Leaf,
+    key: &Key,
+    most: usize,
+    found: &mut Vec<(Key, Value)>,
+) -> Result<(), AllocError>
+    ensures ok { OnOk result (found.new.items
+        ≡ with_some most found.old.items (pairs_above key.now leaf.now.pairs)) }
+    ensures unchanged { OnErr result (found.new.items ≡ found.old.items) }
+{
+    let pairs = leaf.pairs.as_slice();
+    let from = end_of(find_key(&leaf.pairs, key.as_slice()));
+    let count = (pairs.len() - from).min(most.saturating_sub(found.len()));
+    found.reserve(count)?;
+    push_pairs(found, &pairs[from..from + count]);
+    Ok(())
+}
+
+// Adds copies of pairs, for which there is room.
+fn push_pairs(found: &mut Vec<(Key, Value)>, pairs: &[(Key, Value)])
+    requires { vec_len found.old + length pairs.now ≤ vec_capacity found.old }
+    ensures { found.new.items ≡ found.old.items ++ pairs.now }
+{
+    for (key, value) in pairs {
+        found.push_reserved((key.copy(), value.copy()));
     }
 }
 

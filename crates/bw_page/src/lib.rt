@@ -23,7 +23,7 @@ mod seats;
 mod tree;
 
 pub use chain::{Chain, End, Link};
-pub use changes::{change, count_after, empty_page, pair_from, value_in};
+pub use changes::{add_pairs, change, count_after, empty_page, pair_from, value_in};
 pub use cutting::{Cut, cut_in_two};
 pub use draft::Draft;
 pub use fault::ApplyError;

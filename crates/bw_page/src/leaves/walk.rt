@@ -1,12 +1,13 @@
 //! A walk over the pairs of all pages in the order of their keys.
 
-ghost use Rattle.std.specs.Prelude.{◌≡◌, []};
-ghost use Rattle.bw_page.specs.Ahead.{IsFirst};
+ghost use Rattle.std.specs.Prelude.{◌≡◌, [], OnOk};
+ghost use Rattle.bw_page.specs.Ahead.{IsFirst, IsStretch};
 ghost use Rattle.bw_page.specs.Leaves.{union};
 
 use super::Leaves;
-use crate::changes::pair_from;
+use crate::changes::{add_pairs, pair_from};
 use bw_codec::{Key, Value};
+use std::alloc::AllocError;
 
 impl Leaves {
     /// The pair with the least key at or above this one, if there is one, where no page is away.
@@ -29,5 +30,32 @@ impl Leaves {
                 None => return None,
             }
         }
+    }
+
+    /// Puts the pairs at or above a key into `found`, in order and no more than so many, where no
+    /// page is away. What stood in `found` is dropped before.
+    ///
+    /// It costs a search and a look for each page, and a copy of each pair. A refused growth is the
+    /// only error; `found` then has some of the pairs.
+    pub fn scan(
+        &self,
+        key: &Key,
+        most: usize,
+        found: &mut Vec<(Key, Value)>,
+    ) -> Result<(), AllocError>
+        requires { self.now.away ≡ [] }
+        ensures { OnOk result (IsStretch (union self.now.leaves) key.now most found.new.items) }
+    {
+        let _ = self.count();
+        found.clear();
+        let mut from = key.copy();
+        'pages: while found.len() < most {
+            add_pairs(self.home_of(&from), &from, most, found)?;
+            match self.low_above(&from) {
+                Some(low) => from = low,
+                None => return Ok(()),
+            }
+        }
+        Ok(())
     }
 }
