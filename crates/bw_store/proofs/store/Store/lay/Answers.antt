@@ -1,4 +1,4 @@
-use Rattle.std.proofs.Common.{◌≡◌, arith, refl, ◌∙◌}
+use Rattle.std.proofs.Common.{arith}
 use Rattle.bw_store.proofs.LayMore.{ahead_none, draft_done}
 use Rattle.bw_store.proofs.store.Store.lay.Goals as goal
 
