@@ -1,14 +1,14 @@
 -- Row after row of a group is noted.
 
-use Rattle.std.proofs.Common.{◌≡◌, ℕ, zero, suc, ◌+◌, ◌-◌, ◌<◌, ◌≤◌, Option, Some, None, List, [], ◌∷◌, ◌++◌, length, set, take, drop, get_or, refl, sym, ap, ◌∙◌, subst, arith}
+use Rattle.std.proofs.Common.{◌≡◌, ℕ, Bool, map, length-set, length-append, zero, suc, ◌+◌, ◌-◌, ◌<◌, ◌≤◌, Option, Some, None, List, [], ◌∷◌, ◌++◌, length, set, take, drop, get_or, refl, sym, ap, ◌∙◌, subst, arith}
 use Rattle.std.specs.Prelude.{is_some, IfSome, slice_set}
 use Rattle.std.specs.List.{AllByRecursion as All, fold, slice_index_or}
-use Rattle.std.proofs.lemmas.List.{take_more, drop_more}
+use Rattle.std.proofs.lemmas.List.{take_more, drop_more, length-map}
 use Rattle.bw_codec.specs.declared.record.Record.{Record}
 use Rattle.bw_codec.specs.declared.block.Place.{Place}
 use Rattle.bw_store.specs.declared.drafting.Row.{Row}
 use Rattle.bw_store.specs.Drafting.{AreIn, count_by, set_row, tails_all}
-use Rattle.bw_store.specs.Tails.{HasRoomsAt, Tailed, tails_after}
+use Rattle.bw_store.specs.Tails.{HasRoomAt, HasRoomsAt, Tailed, tail_of, tails_after}
 use Rattle.bw_store.proofs.Joins.{all-append}
 
 pub drop_at : {X : Type 0} (xs : List X) (i : ℕ) (x : X) → i < length xs → x ≡ get_or xs i x → drop i xs ≡ x ∷ drop (i + 1) xs
@@ -64,13 +64,32 @@ set_end rows n now end = ap (fold set_row now) (sym (drop_all rows n end))
 abbrev pub Told : Type 0
 Told = List (Option (List Record))
 
-pub tails_rest : (rows : List Row) (rs : List Record) (i : ℕ) (row : Row) (r : Record) (was now : Told) → i < length rows → row ≡ get_or rows i row
-    → i < length rs → r ≡ get_or rs i r → now ≡ tails_after row.page r (is_some row.made) was
+pub tails_rest : (rows : List Row) (rs : List Record) (i : ℕ) (row : Row) (r : Record) (was now : Told) (cuts : Bool) → i < length rows → row ≡ get_or rows i row
+    → i < length rs → r ≡ get_or rs i r → cuts ≡ is_some row.made → now ≡ tails_after row.page r cuts was
     → tails_all (drop (i + 1) rows) (drop (i + 1) rs) now ≡ tails_all (drop i rows) (drop i rs) was
-tails_rest rows rs i row r was now lt is lt_r is_r e =
-    ap (tails_all (drop (i + 1) rows) (drop (i + 1) rs)) e
+tails_rest rows rs i row r was now cuts lt is lt_r is_r made e =
+    ap (tails_all (drop (i + 1) rows) (drop (i + 1) rs)) (e ∙ ap (λ (b : Bool). tails_after row.page r b was) made)
     ∙ ap (λ (l : List Record). tails_all (row ∷ drop (i + 1) rows) l was) (sym (drop_at rs i r lt_r is_r))
     ∙ ap (λ (l : List Row). tails_all l (drop i rs) was) (sym (drop_at rows i row lt is))
+
+-- how many tails there are then
+pub tails_length : (old new : List (Option Tailed)) (row : Row) (r : Record) (cuts : Bool) → cuts ≡ is_some row.made
+    → map tail_of new ≡ tails_after row.page r cuts (map tail_of old) → length new ≡ count_by row.made (length old)
+tails_length old new row r cuts made e =
+    sym (length-map new tail_of) ∙ ap length e ∙ ap (λ (b : Bool). length (tails_after row.page r b (map tail_of old))) made
+    ∙ by row.made
+  where
+    by : (o : Option ℕ) → length (tails_after row.page r (is_some o) (map tail_of old)) ≡ count_by o (length old)
+    by None = length-set (map tail_of old) (row.page - 1) _ ∙ length-map old tail_of
+    by (Some q) = length-append (set (map tail_of old) (row.page - 1) None) (None ∷ [])
+        ∙ ap (λ (n : ℕ). n + 1) (length-set (map tail_of old) (row.page - 1) None ∙ length-map old tail_of)
+
+pub room_one : (n : ℕ) (tails : List (Option Tailed)) (i : ℕ) → 1 ≤ n → HasRoomsAt n tails i → HasRoomAt tails i
+room_one n tails i some h = of_tail (slice_index_or tails i None) h
+  where
+    of_tail : (o : Option Tailed) → IfSome o (λ t. n ≤ t.room) → IfSome o (λ t. 1 ≤ t.room)
+    of_tail None k = tt
+    of_tail (Some t) k = omega arith
 
 pub tails_end : (rows : List Row) (rs : List Record) (n : ℕ) (now : Told) → length rows ≤ n → now ≡ tails_all (drop n rows) (drop n rs) now
 tails_end rows rs n now end = ap (λ (l : List Row). tails_all l (drop n rs) now) (sym (drop_all rows n end))

@@ -18,7 +18,7 @@ records-preserved g c =
       intake = c.fetch_one.ensures.intake ∙ i.intake;
       same = c.in_ok-fetch_one.ensures.leaves ∙ i.same;
       here = all_more (λ r. IsHere (key_of r) c.fetch_one.new.self.leaves) c.args.records.now c.records.at _ c.records-test.true c.index-records-at.is
-          (all_here _ _ _ c.in_ok-fetch_one.ensures.others i.here) c.in_ok-fetch_one.ensures.here;
+          (all_here c.records.self.leaves c.fetch_one.new.self.leaves _ c.in_ok-fetch_one.ensures.others i.here) c.in_ok-fetch_one.ensures.here;
       ops = all_more IsOp c.args.records.now c.records.at _ c.records-test.true c.index-records-at.is i.ops c.fetch_one.ensures.lawful;
     }
 

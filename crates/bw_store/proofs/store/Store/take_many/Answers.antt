@@ -8,3 +8,6 @@ pub returns-in_err-goes_on-clause-leaves : goal.returns-in_err-goes_on-clause-le
 returns-in_err-goes_on-clause-leaves g c =
     let p = err_from_is_err_and c.from_residual.result c.from_residual.ensures.1 in
     rw (p.1, p.2) (unplanned_now c.args.group _ _ (stopped_unplanned c.args.group _ _ c.in_err-goes_on.ensures.refused))
+
+pub returns-in-Some-clause-leaves : goal.returns-in-Some-clause-leaves
+returns-in-Some-clause-leaves g c = ?
