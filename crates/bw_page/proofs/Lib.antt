@@ -17,7 +17,9 @@ pub mod Twice
 pub mod Journals
 pub mod TakenBack
 pub mod Runs
+pub mod Batches
 pub mod PutBack
+pub mod Together
 pub mod Steps
 pub mod Seating
 pub mod PageByPage

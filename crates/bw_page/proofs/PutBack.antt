@@ -25,10 +25,10 @@ use Rattle.bw_page.proofs.Journals.{Stepped, stepped, one_more, new_key, index_b
 use Rattle.bw_page.proofs.Indexed.{home_within}
 use Rattle.bw_page.proofs.Indexing.{filed_new}
 use Rattle.bw_page.proofs.Homes.{put_in}
-use Rattle.bw_page.proofs.Applying.{same_lows}
+use Rattle.bw_page.proofs.Applying.{Replaces, same_lows, put_in-page, home-put}
 use Rattle.bw_page.proofs.Law.{applied-whole}
 use Rattle.bw_page.proofs.Closed.{leaf_is, lows-put}
-use Rattle.bw_page.proofs.TakenBack.{into, back_adds}
+use Rattle.bw_page.proofs.TakenBack.{into, back_adds, back-key}
 use Rattle.bw_page.proofs.Runs.{back_one, page_of, back_is}
 
 module _ (a : Inside) (h : IsIndexed a) (now : Shown) (v : view_of a ≡ now) (u : Displaced) (n : IsNewest now (Page u)) where
@@ -53,8 +53,15 @@ module _ (a : Inside) (h : IsIndexed a) (now : Shown) (v : view_of a ≡ now) (u
   page_is : u.leaf.page ≡ (home (key_of n.change) n.before.leaves).page
   page_is = ap (λ (x : Displaced). x.leaf.page) (page_of n.before n.change u n.displaced)
 
-  pub put_here : a.leaves.away ≡ []
-  put_here = ap (λ (f : Shown). f.away) (v ∙ n.is) ∙ n.here
+  away_is : a.leaves.away ≡ n.before.away
+  away_is = ap (λ (f : Shown). f.away) (v ∙ n.is)
+
+  -- the page that is dropped, and the one that is put back, are in memory
+  pub put_beyond : is_among (u.pages + 1) a.leaves.away ≡ false
+  put_beyond = (λ i. is_among (pages_are i + 1) (away_is i)) ∙ n.beyond
+
+  pub put_here : is_among u.leaf.page a.leaves.away ≡ false
+  put_here = (λ i. is_among (page_is i) (away_is i)) ∙ n.here
 
   pub put_within : u.leaf.page - 1 < length (take u.pages a.leaves.items)
   put_within =
@@ -95,8 +102,21 @@ module _ (a : Inside) (h : IsIndexed a) (now : Shown) (v : view_of a ≡ now) (b
   takes : back_of n.change (find order (key_of n.change) (home (key_of n.change) n.before.leaves).pairs) ≡ Some back
   takes = (back_is n.before n.change back n.displaced).1
 
+  lawful_into : Replaces n.before.m n.before.leaves (key_of n.change) (result_of n.before.leaves n.change)
+  lawful_into = into n.before.m n.before.leaves n.change back n.some n.lawful n.op fits takes
+
+  -- the page is the one that the newest record changed
+  back_page : (home (key_of back) now.leaves).page ≡ (home (key_of n.change) n.before.leaves).page
+  back_page =
+      let x : Leaf = result_of n.before.leaves n.change in
+      ap (λ (f : Shown). (home (key_of back) f.leaves).page) n.is
+      ∙ ap (λ (ls : List Leaf). (home (key_of back) ls).page) (applied-whole n.before.m n.before.leaves n.change n.some n.lawful n.op fits)
+      ∙ ap (λ (l : Leaf). l.page) (home-put n.before.m n.before.leaves (key_of n.change) x n.lawful lawful_into (key_of back))
+      ∙ put_in-page x (home (key_of back) n.before.leaves)
+      ∙ ap (λ k. (home k n.before.leaves).page) (back-key n.change back (find order (key_of n.change) (home (key_of n.change) n.before.leaves).pairs) takes)
+
   pub back_here : IsHere (key_of back) now
-  back_here = subst (λ (ps : List ℕ). is_among (home (key_of back) now.leaves).page ps ≡ false) (sym (ap (λ (f : Shown). f.away) n.is ∙ n.here)) refl
+  back_here = (λ i. is_among (back_page i) ((ap (λ (f : Shown). f.away) n.is) i)) ∙ n.here
 
   pub back_stays : (s : Result ℕ ℕ) → s ≡ seek_of (key_of back) (home (key_of back) now.leaves).pairs → AddsNone back s
   back_stays s e =

@@ -1,7 +1,7 @@
 -- A journal of records that were applied takes them back, the newest first.
 
 use Rattle.std.proofs.Common.{◌≡◌, ℕ, zero, suc, ◌<◌, ◌≤◌, arith, true, false, Some, None, nat_le, length, if◌then◌else◌, List, []}
-use Rattle.std.proofs.Common.{◌∷◌, ◌++◌, take, refl, sym, ap, ◌∙◌, subst}
+use Rattle.std.proofs.Common.{◌+◌, ◌∷◌, ◌++◌, take, refl, sym, ap, ◌∙◌, subst}
 use Rattle.std.specs.List.{AllByRecursion as All, slice_get}
 use Rattle.std.specs.FinMap.Entries.{find}
 use Rattle.std.proofs.lemmas.Bool.{leb-true, le-leb, lt-leb}
@@ -15,12 +15,13 @@ use Rattle.bw_page.specs.declared.journal.Undo.TheVariants.{Back, Page}
 use Rattle.bw_page.specs.declared.journal.Displaced.{Displaced}
 use Rattle.bw_page.specs.Leaves.{order, home, result_of, applied, pages, HasPage, HasPages, AreLeaves, union, plain}
 use Rattle.bw_page.specs.Seek.{back_of}
-use Rattle.bw_page.specs.Shown.{Shown}
-use Rattle.bw_page.specs.Batch.{SomeIsSpent}
+use Rattle.bw_page.specs.Seats.{is_among}
+use Rattle.bw_page.specs.Shown.{Shown, IsHere, is_away}
+use Rattle.bw_page.specs.Batch.{SomeIsSpent, AreHere, NoneBeyond, step_of, steps_of}
 use Rattle.bw_page.specs.Journal.{after_record, run, displaced_by, undo_by, undo_of, journal_of, undone, all_undone, Ran, IsJournal, IsNewest}
 use Rattle.bw_page.proofs.Sorted.{all-push}
 use Rattle.bw_page.proofs.Law.{applied-lawful, pages-plain}
-use Rattle.bw_page.proofs.Journals.{stepped, goes_back}
+use Rattle.bw_page.proofs.Journals.{stepped, goes_back, one_more}
 use Rattle.bw_page.proofs.TakenBack.{leaves_back}
 
 -- ---- one record more
@@ -35,7 +36,7 @@ journal-push : (f : Shown) (rs : List Record) (r : Record) → journal_of f (rs 
 journal-push f [] r = refl
 journal-push f (x ∷ rs) r = ap (λ us. undo_of f x ∷ us) (journal-push (after_record f x) rs r)
 
-has-push : (m : ℕ) (leaves : List Leaf) (rs : List Record) (r : Record) → HasPages m leaves rs → HasPage m (pages m leaves rs) r
+pub has-push : (m : ℕ) (leaves : List Leaf) (rs : List Record) (r : Record) → HasPages m leaves rs → HasPage m (pages m leaves rs) r
     → HasPages m leaves (rs ++ r ∷ [])
 has-push m leaves [] r h k = (k, tt)
 has-push m leaves (x ∷ rs) r h k = (h.0, has-push m (applied m leaves x) rs r h.1 k)
@@ -49,18 +50,58 @@ all-front : {X : Type 0} (P : X → Type 0) (xs : List X) (x : X) → All P (xs 
 all-front P [] x h = (tt, h.0)
 all-front P (y ∷ ys) x h = let rest = all-front P ys x h.1 in ((h.0, rest.0), rest.1)
 
-pub ran_more : (start now next : Shown) (rs : List Record) (r : Record) (us : List Undo) (u : Undo) → Ran start rs now us → IsOp r → HasPage now.m now.leaves r
+pub here-push : (f : Shown) (rs : List Record) (r : Record) → HasPages f.m f.leaves rs → AreHere f rs → IsHere (key_of r) (run f rs) → AreHere f (rs ++ r ∷ [])
+here-push f [] r room h k = (k, λ p. tt)
+here-push f (x ∷ rs) r room h k = (h.0, λ p. here-push (after_record f x) rs r room.1 (h.1 p) k)
+
+here-front : (f : Shown) (rs : List Record) (r : Record) → HasPages f.m f.leaves rs → AreHere f (rs ++ r ∷ []) → AreHere f rs × IsHere (key_of r) (run f rs)
+here-front f [] r room h = (tt, h.0)
+here-front f (x ∷ rs) r room h =
+    let rest = here-front (after_record f x) rs r room.1 (h.1 room.0) in ((h.0, λ p. rest.0), rest.1)
+
+-- the page of the next record is in memory
+pub here_at : (f : Shown) (rs : List Record) (k : ℕ) (r : Record) → HasPages f.m f.leaves (take k rs) → AreHere f rs → slice_get rs k ≡ Some r
+    → IsHere (key_of r) (run f (take k rs))
+here_at f [] k r room h e = absurd (cc)
+here_at f (x ∷ rs) zero r room h e = let same : x ≡ r = cc in subst (λ (y : Record). IsHere (key_of y) f) same h.0
+here_at f (x ∷ rs) (suc k) r room h e = here_at (after_record f x) rs k r room.1 (h.1 room.0) e
+
+-- where no page is away, the pages of all records are in memory
+pub all_here : (f : Shown) (rs : List Record) → f.away ≡ [] → AreHere f rs
+all_here f [] none = tt
+all_here f (r ∷ rs) none = (ap (is_among (home (key_of r) f.leaves).page) none, λ p. all_here (after_record f r) rs none)
+
+-- no record makes pages fewer
+grow : (m : ℕ) (leaves : List Leaf) (rs : List Record) → 1 ≤ m → HasPages m leaves rs → AreLeaves m leaves → All IsOp rs
+    → length leaves ≤ length (pages m leaves rs)
+grow m leaves [] some room a ops = omega arith
+grow m leaves (r ∷ rs) some room a ops =
+    let one = one_more m leaves (key_of r) a (applied m leaves r) (stepped m leaves r some room.0 a ops.0) in
+    let rest = grow m (applied m leaves r) rs some room.1 (applied-lawful m leaves r some room.0 a ops.0) ops.1 in omega arith
+
+pub ran_more : (start now next : Shown) (rs : List Record) (r : Record) (us : List Undo) (u : Undo) → Ran start rs now us → IsOp r → IsHere (key_of r) now → HasPage now.m now.leaves r
     → next ≡ after_record now r → u ≡ undo_of now r
     → Ran start (rs ++ r ∷ []) next (us ++ u ∷ [])
-ran_more start now next rs r us u h op room e d = record {
+ran_more start now next rs r us u h op here room e d = record {
   some = h.some;
-  here = h.here;
+  here = here-push start rs r h.room h.here (subst (IsHere (key_of r)) h.is here);
+  beyond = h.beyond;
   lawful = h.lawful;
   ops = all-push IsOp rs r h.ops op;
   room = has-push start.m start.leaves rs r h.room (subst (λ (f : Shown). HasPage f.m f.leaves r) h.is room);
   is = e ∙ ap (λ f. after_record f r) h.is ∙ sym (run-push start rs r);
   displaced = ap (λ xs. xs ++ u ∷ []) h.displaced ∙ ap (λ x. journal_of start rs ++ x ∷ []) (d ∙ ap (λ f. undo_of f r) h.is) ∙ sym (journal-push start rs r);
 }
+
+-- no record yet
+pub none_run : (start : Shown) → 1 ≤ start.m → AreLeaves start.m start.leaves → NoneBeyond start → Ran start [] start []
+none_run start some lawful beyond =
+    record { some = some; here = tt; beyond = beyond; lawful = lawful; ops = tt; room = tt; is = refl; displaced = refl }
+
+-- what records do, with one more
+pub steps-push : (f : Shown) (rs : List Record) (r : Record) → steps_of f (rs ++ r ∷ []) ≡ steps_of f rs ++ step_of (run f rs) r ∷ []
+steps-push f [] r = refl
+steps-push f (x ∷ rs) r = ap (λ ss. step_of f x ∷ ss) (steps-push (after_record f x) rs r)
 
 -- ---- one record back
 
@@ -168,18 +209,22 @@ ran_front : (start : Shown) (rs : List Record) (now : Shown) (us : List Undo) (u
 ran_front start rs now us u h l =
     let ops = all-front IsOp l.front l.change (subst (All IsOp) l.all h.ops) in
     let room = has-front start.m start.leaves l.front l.change (subst (HasPages start.m start.leaves) l.all h.room) in
-    record { some = h.some; here = h.here; lawful = h.lawful; ops = ops.0; room = room.0; is = refl; displaced = l.older }
+    let here = here-front start l.front l.change room.0 (subst (AreHere start) l.all h.here) in
+    record { some = h.some; here = here.0; beyond = h.beyond; lawful = h.lawful; ops = ops.0; room = room.0; is = refl; displaced = l.older }
 
 pub newest_is : (start : Shown) (rs : List Record) (now : Shown) (us : List Undo) (u : Undo) → Ran start rs now (us ++ u ∷ [])
     → (l : Last start rs us u) → IsNewest now u
 newest_is start rs now us u h l =
     let ops = all-front IsOp l.front l.change (subst (All IsOp) l.all h.ops) in
     let room = has-front start.m start.leaves l.front l.change (subst (HasPages start.m start.leaves) l.all h.room) in
+    let here = here-front start l.front l.change room.0 (subst (AreHere start) l.all h.here) in
+    let more = grow start.m start.leaves l.front h.some room.0 h.lawful ops.0 in
     record {
       before = run start l.front;
       change = l.change;
       some = h.some;
-      here = h.here;
+      here = here.1;
+      beyond = h.beyond (length (run start l.front).leaves + 1) (omega arith);
       lawful = (pages-plain start.m start.leaves l.front h.some room.0 h.lawful ops.0).0;
       op = ops.1;
       room = room.1;
@@ -199,24 +244,23 @@ pub all_undone-push : (f : Shown) (us : List Undo) (u : Undo) → all_undone f (
 all_undone-push f [] u = refl
 all_undone-push f (v ∷ us) u = ap (λ x. undone x v) (all_undone-push f us u)
 
-all_back_by : (start : Shown) (rs : List Record) → 1 ≤ start.m → start.away ≡ [] → AreLeaves start.m start.leaves → All IsOp rs
+all_back_by : (start : Shown) (rs : List Record) → 1 ≤ start.m → AreLeaves start.m start.leaves → All IsOp rs
     → HasPages start.m start.leaves rs → all_undone (run start rs) (journal_of start rs) ≡ start
-all_back_by start [] some here a ops room = refl
-all_back_by start (r ∷ rs) some here a ops room =
+all_back_by start [] some a ops room = refl
+all_back_by start (r ∷ rs) some a ops room =
     let lawful = applied-lawful start.m start.leaves r some room.0 a ops.0 in
-    ap (λ f. undone f (undo_of start r)) (all_back_by (after_record start r) rs some here lawful ops.1 room.1)
-    ∙ back_one (after_record start r) (undo_of start r)
-    (record { before = start; change = r; some = some; here = here; lawful = a; op = ops.0; room = room.0; is = refl; displaced = refl })
+    ap (λ f. undone f (undo_of start r)) (all_back_by (after_record start r) rs some lawful ops.1 room.1)
+    ∙ undone_of start r some room.0 a ops.0
 
 -- all records taken back
 pub all_back : (start : Shown) (rs : List Record) (now : Shown) (us : List Undo) → Ran start rs now us → all_undone now us ≡ start
 all_back start rs now us h =
-    (λ i. all_undone (h.is i) (h.displaced i)) ∙ all_back_by start rs h.some h.here h.lawful h.ops h.room
+    (λ i. all_undone (h.is i) (h.displaced i)) ∙ all_back_by start rs h.some h.lawful h.ops h.room
 
 pub run-plain : (start : Shown) (rs : List Record) (now : Shown) (us : List Undo) → Ran start rs now us → union now.leaves ≡ plain start.leaves rs
 run-plain start rs now us h = ap (λ (f : Shown). union f.leaves) h.is ∙ (pages-plain start.m start.leaves rs h.some h.room h.lawful h.ops).1
 
-has_at : (m : ℕ) (leaves : List Leaf) (rs : List Record) (k : ℕ) (r : Record) → HasPages m leaves rs → slice_get rs k ≡ Some r
+pub has_at : (m : ℕ) (leaves : List Leaf) (rs : List Record) (k : ℕ) (r : Record) → HasPages m leaves rs → slice_get rs k ≡ Some r
     → HasPage m (pages m leaves (take k rs)) r
 has_at m leaves [] k r h e = absurd (cc)
 has_at m leaves (x ∷ rs) zero r h e = let same : x ≡ r = cc in subst (HasPage m leaves) same h.0

@@ -1,6 +1,6 @@
 -- What takes records back, one after the other.
 
-use Rattle.std.specs.Prelude.{◌≡◌, ◌≤◌, nat_le, if◌then◌else◌, Option, Some, None, List, [], ◌∷◌, length, take}
+use Rattle.std.specs.Prelude.{◌≡◌, ◌≤◌, ◌+◌, false, nat_le, if◌then◌else◌, Option, Some, None, List, [], ◌∷◌, length, take}
 use Rattle.std.specs.List.{AllByRecursion}
 use Rattle.std.specs.FinMap.Entries.{find}
 use Rattle.bw_codec.specs.Grammar.{IsOp}
@@ -11,7 +11,8 @@ use Rattle.bw_page.specs.declared.journal.Undo.TheVariants.{Back, Page}
 use Rattle.bw_page.specs.declared.journal.Displaced.{Displaced}
 use Rattle.bw_page.specs.Leaves.{order, home, result_of, with_leaf, HasPage, HasPages, AreLeaves}
 use Rattle.bw_page.specs.Seek.{back_of}
-use Rattle.bw_page.specs.Shown.{Shown}
+use Rattle.bw_page.specs.Shown.{Shown, IsHere, is_away}
+use Rattle.bw_page.specs.Batch.{AreHere, NoneBeyond}
 pub use Rattle.bw_page.specs.Shown.{after_record, run}
 
 -- the leaf that a record displaces, and how many pages there were
@@ -47,12 +48,17 @@ all_undone f (u ∷ us) = undone (all_undone f us) u
 -- leaves after records, with what these displaced
 pub record Ran (start : Shown) (records : List Record) (now : Shown) (journal : List Undo) : Type 0 where
   pub some : 1 ≤ start.m
-  pub here : start.away ≡ []
+  pub here : AreHere start records
+  pub beyond : NoneBeyond start
   pub lawful : AreLeaves start.m start.leaves
   pub ops : AllByRecursion IsOp records
   pub room : HasPages start.m start.leaves records
   pub is : now ≡ run start records
   pub displaced : journal ≡ journal_of start records
+
+-- a journal that takes back to these leaves
+abbrev pub GoesBack : Shown → Shown → List Undo → Type 0
+GoesBack start now journal = (records : List Record) × Ran start records now journal
 
 -- a journal of records that were applied
 abbrev pub IsJournal : Shown → List Undo → Type 0
@@ -63,7 +69,8 @@ pub record IsNewest (now : Shown) (undo : Undo) : Type 0 where
   pub before : Shown
   pub change : Record
   pub some : 1 ≤ before.m
-  pub here : before.away ≡ []
+  pub here : IsHere (key_of change) before
+  pub beyond : is_away (length before.leaves + 1) before ≡ false
   pub lawful : AreLeaves before.m before.leaves
   pub op : IsOp change
   pub room : HasPage before.m before.leaves change

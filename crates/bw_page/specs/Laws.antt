@@ -1,14 +1,17 @@
 -- What holds of leaves, of chains and of frames over the definitions alone.
 
-use Rattle.std.specs.Prelude.{ℕ, ◌+◌, ◌<◌, ◌≤◌, ◌≡◌, ◌↔◌, ◌==◌, false, IsTrue, if◌then◌else◌, Some, List, ◌++◌, map, length}
+use Rattle.std.specs.Prelude.{ℕ, ◌+◌, ◌<◌, ◌≤◌, ◌≡◌, ◌↔◌, ◌⊎◌, ◌==◌, false, IsTrue, if◌then◌else◌, Some, List, ◌++◌, map, length}
 use Rattle.std.specs.List.{AllByRecursion}
 use Rattle.bw_codec.specs.Bytes.{is_below, ascends}
 use Rattle.bw_codec.specs.Grammar.{IsBase, IsOp}
+use Rattle.bw_codec.specs.Record.{key_of}
 use Rattle.bw_codec.specs.declared.block.Frame.{Frame}
 use Rattle.bw_codec.specs.declared.leaf.Leaf.{Leaf}
 use Rattle.bw_codec.specs.declared.record.Record.{Record}
 use Rattle.bw_page.specs.declared.chain.Link.{Link}
-use Rattle.bw_page.specs.Leaves.{Bytes, all_changed, home, directed_at, result_of, leaf_at, AreNumbered, BeginsEmpty, HaveOwnLows, AreLeaves}
+use Rattle.bw_page.specs.Leaves.{Bytes, all_changed, home, directed_at, result_of, leaf_at, AreNumbered, BeginsEmpty, HaveOwnLows, AreLeaves, HasPage}
+use Rattle.bw_page.specs.Shown.{Shown, IsHere}
+use Rattle.bw_page.specs.Batch.{AreHere, NoneBeyond}
 use Rattle.bw_page.specs.Leaves.{lower_of, upper_of, applied}
 use Rattle.bw_page.specs.Links.{told}
 use Rattle.bw_page.specs.Lows.{home_page}
@@ -75,3 +78,17 @@ ChainsReadOverNewer =
 -- frames stand for one list of leaves only
 abbrev pub StandsAsOne : Type 0
 StandsAsOne = (m : ℕ) (frames : List Frame) (a b : List Leaf) → Stand m frames a → Stand m frames b → a ≡ b
+
+-- ---- records applied as one
+
+-- a key's page after a record is the one before it, or the new one that the record made
+abbrev pub HomesStay : Type 0
+HomesStay =
+    (m : ℕ) (leaves : List Leaf) (r : Record) (key : Bytes) → 1 ≤ m → HasPage m leaves r → AreLeaves m leaves → IsOp r
+    → ((home key (applied m leaves r)).page ≡ (home key leaves).page) ⊎ ((home key (applied m leaves r)).page ≡ length leaves + 1)
+
+-- records whose pages are in memory find them there when their turn comes: what a record makes is in memory
+abbrev pub HereTogether : Type 0
+HereTogether =
+    (f : Shown) (records : List Record) → 1 ≤ f.m → AreLeaves f.m f.leaves → NoneBeyond f → AllByRecursion IsOp records
+    → AllByRecursion (λ r. IsHere (key_of r) f) records → AreHere f records

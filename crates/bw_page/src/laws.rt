@@ -1,6 +1,6 @@
 //! Laws over the definitions alone, each the contract of a function that does nothing.
 
-ghost use Rattle.bw_page.specs.Laws.{HomesAreRanges, LowsTell, AppliesPageByPage, TwiceIsOnce, ReadsOverNewer, ChainsReadOverNewer, StandsAsOne};
+ghost use Rattle.bw_page.specs.Laws.{HomesAreRanges, LowsTell, AppliesPageByPage, TwiceIsOnce, ReadsOverNewer, ChainsReadOverNewer, StandsAsOne, HomesStay, HereTogether};
 
 /// Lawful leaves may be said by homes or by ranges.
 pub fn homes_are_ranges()
@@ -35,4 +35,14 @@ pub fn chains_read_over_newer()
 /// Frames read forwards stand for one list of leaves only.
 pub fn stands_as_one()
     ensures { StandsAsOne }
+{}
+
+/// A key's page after a record is the one before it, or the new one that the record made.
+pub fn homes_stay()
+    ensures { HomesStay }
+{}
+
+/// Records whose pages are in memory find them there when their turn comes.
+pub fn here_together()
+    ensures { HereTogether }
 {}

@@ -22,7 +22,7 @@ use crate::fault::ApplyError;
 use crate::index::{copy_all, index_of};
 use crate::lows::LowIndex;
 use crate::seats::Seats;
-pub use batch::HasRecord;
+pub use batch::{HasRecord, Step};
 use bw_codec::{Key, Leaf, Record, Value};
 use std::alloc::{AllocError, Global};
 use std::marker::Model;

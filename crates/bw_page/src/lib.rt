@@ -28,8 +28,8 @@ pub use cutting::{Cut, cut_in_two};
 pub use draft::Draft;
 pub use fault::ApplyError;
 pub use laws::{
-    applies_page_by_page, chains_read_over_newer, homes_are_ranges, lows_tell, reads_over_newer,
-    stands_as_one, twice_is_once,
+    applies_page_by_page, chains_read_over_newer, here_together, homes_are_ranges, homes_stay,
+    lows_tell, reads_over_newer, stands_as_one, twice_is_once,
 };
-pub use leaves::{Applied, HasRecord, Leaves};
+pub use leaves::{Applied, HasRecord, Leaves, Step};
 pub use reading::{change_all, keep_below, read_block, read_blocks};

@@ -1,6 +1,6 @@
 -- Each step follows, and so do several.
 
-use Rattle.std.proofs.Common.{◌≡◌, ℕ, zero, suc, ◌+◌, ◌≤◌, inl, inr, true, false, Result, Ok, Err, Option, Some, None, Bool, List, [], ◌∷◌, ◌++◌, length, refl, sym, ap}
+use Rattle.std.proofs.Common.{◌≡◌, ℕ, zero, suc, ◌+◌, ◌≤◌, inl, inr, true, false, Result, Ok, Err, Option, Some, None, Bool, List, [], ◌∷◌, ◌++◌, length, drop, refl, sym, ap}
 use Rattle.std.proofs.Common.{◌∙◌, subst}
 use Rattle.std.proofs.Common.{append_assoc, append-nil, arith, length-append}
 use Rattle.std.specs.Prelude.{nat_le}
@@ -13,15 +13,19 @@ use Rattle.bw_versions.specs.Batches.{BatchData}
 use Rattle.bw_versions.specs.declared.entry.Entry.{Entry}
 use Rattle.bw_store.specs.declared.fault.StoreFault.{StoreFault}
 use Rattle.bw_store.specs.Kept.{Kept, with_frame, with_stop}
-use Rattle.bw_store.specs.Taken.{taken}
+use Rattle.bw_store.specs.Taken.{taken, taken_all}
 use Rattle.bw_codec.specs.declared.record.Record.{Record}
 use Rattle.bw_ring.specs.declared.lane.Lane.{Lane}
-use Rattle.bw_store.specs.Taking.{MakesRoom, Took, TakeLeaves, Refuses, RefusesNext}
+use Rattle.bw_store.specs.Taking.{MakesRoom, Took, Refuses, RefusesNext}
 use Rattle.bw_store.specs.declared.fault.StoreFault.TheVariants.{NoMemory, BadConfig, NoSegment, Device, Failed, Spent, NoPage, NothingOld}
 use Rattle.bw_store.specs.Faults.{Flushed, Broken, FlushAnswers, FlushLeaves, flush_refusal}
 use Rattle.bw_store.proofs.Refusing.{failed_flush, failed_record}
 use Rattle.bw_store.specs.Reading.{HasRead, with_log}
-use Rattle.bw_store.specs.Following.{Continues, Follows, HasBoxes, Turned, Takes, TookInTurn, RefusedAfter, TookSome, RefusedAt}
+use Rattle.bw_store.specs.Following.{Continues, Follows, HasBoxes, Turned, Takes, TookInTurn, TookGroups, groups_since, RefusedAfter, TookSome, RefusedAt}
+use Rattle.bw_ring.specs.Marks.{Marked, marked}
+use Rattle.bw_store.specs.Fitting.{back_for}
+use Rattle.bw_store.specs.History.{entered, ends_in}
+use Rattle.bw_store.proofs.Grouped.{ends_more, ends_one, length_marked}
 
 pub follows_as : (old new : Kept) → new ≡ old → Turned 0 old new
 follows_as old new e = record {
@@ -125,13 +129,16 @@ follows_broken old new lease b =
     cut_turned old old.durable (record old.making { is_sealed = true }) b.log (omega arith) b.same in
     follows_then old (with_stop old b.log) new step (follows_as (with_stop old b.log) new b.is)
 
-follows_may : (item : Record) (old new : Kept) → MakesRoom item old new → Turned 0 old new
-follows_may item old new (inl e) = follows_as old new e
-follows_may item old new (inr f) = follows_flushed old new f.1.0 f.1.1
+follows_may : (group : List Record) (old new : Kept) → MakesRoom group old new → Turned 0 old new
+follows_may group old new (inl e) = follows_as old new e
+follows_may group old new (inr f) = follows_flushed old new f.1.0 f.1.1
 
-follows_took : (lane : ℕ) (old new : Kept) → Took lane old new → Turned 1 old new
-follows_took lane old new t =
-    let step : Turned 1 t.middle (taken t.middle lane t.item t.back) = record {
+-- records taken one after the other
+all_turned : (s : Kept) (lane : ℕ) (ms : List Marked) → Turned (length ms) s (taken_all s lane ms)
+all_turned s lane [] = follows_as s s refl
+all_turned s lane (m ∷ ms) =
+    let now = taken s lane m (back_for s m.item) in
+    let step : Turned 1 s now = record {
       follows = record {
         continues = record {
           rings = refl;
@@ -139,24 +146,31 @@ follows_took lane old new t =
           before = refl;
           edge = refl;
           floor = omega arith;
-          entries_more = record { writer = lane; item = t.item } ∷ [];
+          entries_more = record { writer = lane; more = m.more; item = m.item } ∷ [];
           history = refl;
           cuts_more = [];
-          cuts = sym (append-nil t.middle.cuts);
+          cuts = sym (append-nil s.cuts);
           appended = omega arith;
           book = refl;
           batches_more = [];
-          published = sym (append-nil t.middle.versions.published);
+          published = sym (append-nil s.versions.published);
         };
         floor = refl;
       };
       boxes = record { same = refl };
       quiet = refl;
-      grew = length-append t.middle.entries (record { writer = lane; item = t.item } ∷ []);
+      grew = length-append s.entries (record { writer = lane; more = m.more; item = m.item } ∷ []);
     } in
-    let last : Turned (1 + 0) t.middle new = follows_then t.middle (taken t.middle lane t.item t.back) new step
-    (follows_as (taken t.middle lane t.item t.back) new t.is) in
-    follows_then old t.middle new (follows_may t.item old t.middle t.flushes) last
+    follows_then s now (taken_all now lane ms) step (all_turned now lane ms)
+
+follows_took : (lane : ℕ) (old new : Kept) (t : Took lane old new) → Turned (length t.group) old new
+follows_took lane old new t =
+    let count = length_marked t.group in
+    let all = all_turned t.middle lane (marked t.group) in
+    let last = follows_then t.middle (taken_all t.middle lane (marked t.group)) new all
+    (follows_as (taken_all t.middle lane (marked t.group)) new t.is) in
+    let both = follows_then old t.middle new (follows_may t.group old t.middle t.flushes) last in
+    record { follows = both.follows; boxes = both.boxes; grew = (let g = both.grew in omega arith); quiet = both.quiet }
 
 -- a read of the boxes
 pub follows_read : (old new : Kept) → HasRead old new → Turned 0 old new
@@ -199,23 +213,50 @@ follows_left old new (Err Spent) left = follows_as old new left
 follows_left old new (Err NoPage) left = follows_as old new left
 follows_left old new (Err NothingOld) left = follows_as old new left
 
--- a record that was refused, whatever the cause
-pub follows_refused : (item : Record) (old new : Kept) (cause : StoreFault) → Refuses item old cause new → Turned 0 old new
-follows_refused item old new NoMemory r = follows_may item old new r.1
-follows_refused item old new BadConfig r = absurd r
-follows_refused item old new NoSegment r = follows_as old new r.0
-follows_refused item old new (Device lease) (works, inl broken) = follows_broken old new lease broken.1
-follows_refused item old new (Device lease) (works, inr unread) = follows_read old new unread.read
-follows_refused item old new Failed r = follows_as old new r.0
-follows_refused item old new Spent (works, inl spent) = follows_may item old new spent.0
-follows_refused item old new Spent (works, inr unread) = follows_as old new unread.0
-follows_refused item old new NoPage r = absurd r
-follows_refused item old new NothingOld r = absurd r
+-- a group that was refused, whatever the cause
+pub follows_refused : (group : List Record) (old new : Kept) (cause : StoreFault) → Refuses group old cause new → Turned 0 old new
+follows_refused group old new NoMemory r = follows_may group old new r.1
+follows_refused group old new BadConfig r = absurd r
+follows_refused group old new NoSegment r = follows_as old new r.0
+follows_refused group old new (Device lease) (works, inl broken) = follows_broken old new lease broken.1
+follows_refused group old new (Device lease) (works, inr unread) = follows_read old new unread.read
+follows_refused group old new Failed r = follows_as old new r.0
+follows_refused group old new Spent (works, inl spent) = follows_may group old new spent.0
+follows_refused group old new Spent (works, inr unread) = follows_as old new unread.0
+follows_refused group old new NoPage r = absurd r
+follows_refused group old new NothingOld r = absurd r
 
 -- ---- takes one after the other
 
+-- the entries that came, joined
+drop_behind : {A : Type 0} (xs ys : List A) → drop (length xs) (xs ++ ys) ≡ ys
+drop_behind [] ys = refl
+drop_behind (x ∷ xs) ys = drop_behind xs ys
+
+came : (old new : Kept) (more : List Entry) → new.entries ≡ old.entries ++ more → groups_since old new ≡ ends_in more
+came old new more is =
+    ap (λ (es : List Entry). ends_in (drop (length old.entries) es)) is ∙ ap ends_in (drop_behind old.entries more)
+
+since_then : (a b c : Kept) → Continues a b → Continues b c → groups_since a c ≡ groups_since a b + groups_since b c
+since_then a b c f g =
+    let all = came a c (f.entries_more ++ g.entries_more) (continue_then a b c f g).history in
+    let one = came a b f.entries_more f.history in
+    let two = came b c g.entries_more g.history in
+    let sum = ends_more f.entries_more g.entries_more in
+    omega arith
+
+since_none : (a b : Kept) → b.entries ≡ a.entries → groups_since a b ≡ 0
+since_none a b e = came a b [] (e ∙ sym (append-nil a.entries))
+
 pub in_turn_as : (old new : Kept) → new ≡ old → TookInTurn 0 old new
-in_turn_as old new e = record { turned = follows_as old new e; each = e; works = λ failed. (refl, e) }
+in_turn_as old new e =
+    let none = since_none old new (ap (λ (s : Kept). s.entries) e) in
+    record {
+      turned = follows_as old new e;
+      each = subst (λ (g : ℕ). Takes g old new) (sym none) e;
+      few = (omega arith, omega arith);
+      works = λ failed. (refl, e);
+    }
 
 takes_then : (n k : ℕ) (a b c : Kept) → Takes n a b → Takes k b c → Takes (n + k) a c
 takes_then n zero a b c x y =
@@ -226,38 +267,90 @@ takes_then n (suc k) a b c x y =
     subst (λ (m : ℕ). Takes m a c) sum (y.0, takes_then n k a b y.0 x y.1, y.2)
 
 pub in_turn_then : {n k : ℕ} (a b c : Kept) → TookInTurn n a b → TookInTurn k b c → TookInTurn (n + k) a c
-in_turn_then {n} {k} a b c x y = record {
-  turned = follows_then a b c x.turned y.turned;
-  each = takes_then n k a b c x.each y.each;
-  works = λ failed. (
-      let last = y.works failed in
-      let first = x.works (subst (λ (s : Kept). s.log.is_failed ≡ true) last.1 failed) in
-      let none = first.0 in
-      let no_more = last.0 in
-      (omega arith, last.1 ∙ first.1));
-}
+in_turn_then {n} {k} a b c x y =
+    let sum = since_then a b c x.turned.follows.continues y.turned.follows.continues in
+    record {
+      turned = follows_then a b c x.turned y.turned;
+      each = subst (λ (g : ℕ). Takes g a c) (sym sum) (takes_then (groups_since a b) (groups_since b c) a b c x.each y.each);
+      few = (
+        (let p = x.few.0 in let q = y.few.0 in omega arith),
+        (let p = x.few.1 in let q = y.few.1 in omega arith),
+      );
+      works = λ failed. (
+          let last = y.works failed in
+          let first = x.works (subst (λ (s : Kept). s.log.is_failed ≡ true) last.1 failed) in
+          let none = first.0 in
+          let no_more = last.0 in
+          (omega arith, last.1 ∙ first.1));
+    }
 
-in_turn_took : (lane : ℕ) (old new : Kept) → Took lane old new → TookInTurn 1 old new
-in_turn_took lane old new t = record {
-  turned = follows_took lane old new t;
-  each = (old, refl, (lane, t));
-  works = λ failed. (let works = t.works in let same = ap (λ (s : Kept). s.log.is_failed) t.is in absurd cc);
-}
+-- what a group adds to the history
+pub all_entries : (s : Kept) (lane : ℕ) (ms : List Marked) → (taken_all s lane ms).entries ≡ s.entries ++ entered lane ms
+all_entries s lane [] = sym (append-nil s.entries)
+all_entries s lane (m ∷ ms) =
+    all_entries (taken s lane m (back_for s m.item)) lane ms
+    ∙ append_assoc s.entries (record { writer = lane; more = m.more; item = m.item } ∷ []) (entered lane ms)
 
-took_more : {n : ℕ} (lane : ℕ) (a b c : Kept) → TookInTurn n a b → Took lane b c → TookInTurn (n + 1) a c
+all_works : (s : Kept) (lane : ℕ) (ms : List Marked) → (taken_all s lane ms).log ≡ s.log
+all_works s lane [] = refl
+all_works s lane (m ∷ ms) = all_works (taken s lane m (back_for s m.item)) lane ms
+
+may_entries : (group : List Record) (old new : Kept) → MakesRoom group old new → new.entries ≡ old.entries
+may_entries group old new (inl e) = ap (λ (s : Kept). s.entries) e
+may_entries group old new (inr f) = ap (λ (s : Kept). s.entries) f.1.1.is
+
+one_group : (lane : ℕ) (old new : Kept) (t : Took lane old new) → groups_since old new ≡ 1
+one_group lane old new t =
+    let is : new.entries ≡ old.entries ++ entered lane (marked t.group) =
+    ap (λ (s : Kept). s.entries) t.is ∙ all_entries t.middle lane (marked t.group)
+    ∙ ap (λ (es : List Entry). es ++ entered lane (marked t.group)) (may_entries t.group old t.middle t.flushes) in
+    came old new (entered lane (marked t.group)) is ∙ ends_one lane t.group t.few.0
+
+in_turn_took : (lane : ℕ) (old new : Kept) (t : Took lane old new) → TookInTurn (length t.group) old new
+in_turn_took lane old new t =
+    let one = one_group lane old new t in
+    let few = t.few in
+    let least = few.0 in
+    let most = few.1 in
+    record {
+      turned = follows_took lane old new t;
+      each = subst (λ (g : ℕ). Takes g old new) (sym one) (old, refl, (lane, t));
+      few = (omega arith, omega arith);
+      works = λ failed. (
+          let works = t.works in
+          let same = ap (λ (s : Kept). s.log.is_failed) t.is in
+          let kept = ap (λ (l : logs.Contents). l.is_failed) (all_works t.middle lane (marked t.group)) in
+          absurd cc);
+    }
+
+took_more : {n : ℕ} (lane : ℕ) (a b c : Kept) → TookInTurn n a b → (t : Took lane b c) → TookInTurn (n + length t.group) a c
 took_more lane a b c x t = in_turn_then a b c x (in_turn_took lane b c t)
 
-pub took_none : {n : ℕ} (a b c : Kept) → TookInTurn n a b → c ≡ b → TookInTurn n a c
-took_none {n} a b c x e = subst (λ (s : Kept). TookInTurn n a s) (sym e) x
+pub took_none : {g n : ℕ} (a b c : Kept) → TookGroups g n a b → c ≡ b → TookGroups g n a c
+took_none {g} {n} a b c x e = subst (λ (s : Kept). TookGroups g n a s) (sym e) x
 
 pub took_fault : {n : ℕ} (lane : ℕ) (lanes : List Lane) (a b c : Kept) (fault : StoreFault) → TookInTurn n a b → RefusesNext lane lanes b fault c
     → RefusedAfter n a lanes fault c
 took_fault lane lanes a b c fault x r = record { middle = b; took = x; lane = lane; refuses = r }
 
-pub took_more_by : {n : ℕ} (lane : ℕ) (lanes : List Lane) (a b c : Kept) (r : Result Bool StoreFault) (took : Bool) → r ≡ Ok took → took ≡ true
-    → TookInTurn n a b → TakeLeaves lane lanes b r c → TookInTurn (n + 1) a c
-took_more_by lane lanes a b c r took is sure x t =
-    took_more lane a b c x (subst (λ (o : Result Bool StoreFault). TakeLeaves lane lanes b o c) (is ∙ ap (λ (v : Bool). Ok v) sure) t)
+-- one group more, of so many records
+pub group_more : {g n : ℕ} (lane k : ℕ) (a b c : Kept) → TookGroups g n a b → (t : Took lane b c) × (length t.group ≡ k) → TookGroups (g + 1) (n + k) a c
+group_more {g} {n} lane k a b c x t =
+    let one = in_turn_took lane b c t.0 in
+    let sum = since_then a b c x.0.turned.follows.continues one.turned.follows.continues in
+    let last = one_group lane b c t.0 in
+    let first = x.1 in (
+      subst (λ (j : ℕ). TookInTurn (n + j) a c) t.1 (took_more lane a b c x.0 t.0),
+      omega arith,
+    )
+
+pub group_fault : {g n : ℕ} (lane : ℕ) (lanes : List Lane) (a b c : Kept) (fault : StoreFault) → TookGroups g n a b → RefusesNext lane lanes b fault c
+    → RefusedAfter n a lanes fault c
+group_fault lane lanes a b c fault x r = took_fault lane lanes a b c fault x.0 r
+
+-- none so far
+pub no_groups : (old new : Kept) → new ≡ old → TookGroups 0 0 old new
+no_groups old new e = (in_turn_as old new e, since_none old new (ap (λ (s : Kept). s.entries) e))
 
 pub refused_then : {n k : ℕ} (lanes : List Lane) (a b c : Kept) (cause : StoreFault) → TookInTurn n a b → RefusedAfter k b lanes cause c
     → RefusedAfter (n + k) a lanes cause c
@@ -267,11 +360,11 @@ refused_then lanes a b c cause x r =
 pub refused_turned : {n : ℕ} (lanes : List Lane) (old new : Kept) (cause : StoreFault) → RefusedAfter n old lanes cause new → Turned n old new
 refused_turned {n} lanes old new cause r =
     (let all : Turned (n + 0) old new =
-    follows_then old r.middle new r.took.turned (follows_refused r.refuses.item r.middle new cause r.refuses.refuses)
+    follows_then old r.middle new r.took.turned (follows_refused r.refuses.group r.middle new cause r.refuses.refuses)
     in record { follows = all.follows; boxes = all.boxes; grew = (let g = all.grew in omega arith); quiet = all.quiet })
 
 pub any_then : (lane : ℕ) (a b c : Kept) → TookSome a b → Took lane b c → TookSome a c
-any_then lane a b c x t = (x.0 + 1, took_more lane a b c x.1 t)
+any_then lane a b c x t = (x.0 + length t.group, took_more lane a b c x.1 t)
 
 pub some_then : (a b c : Kept) → TookSome a b → TookSome b c → TookSome a c
 some_then a b c x y = (x.0 + y.0, in_turn_then a b c x.1 y.1)
@@ -300,12 +393,12 @@ none_taken (suc n) old new failed x =
 -- and the cause is Failed
 pub failed_at : (lanes : List Lane) (old new : Kept) (cause : StoreFault) → old.log.is_failed ≡ true → RefusedAt old lanes cause new → cause ≡ Failed
 failed_at lanes old new cause failed r =
-    let before = none_taken r.0 old r.1.middle failed r.1.took.each in
-    failed_record r.1.refuses.item r.1.middle new cause (ap (λ (s : Kept). s.log.is_failed) before.1 ∙ failed) r.1.refuses.refuses
+    let before = none_taken (groups_since old r.1.middle) old r.1.middle failed r.1.took.each in
+    failed_record r.1.refuses.group r.1.middle new cause (ap (λ (s : Kept). s.log.is_failed) before.1 ∙ failed) r.1.refuses.refuses
 
 -- also where nothing waits
 still_failed : (old middle : Kept) → old.log.is_failed ≡ true → TookSome old middle → middle.log.is_failed ≡ true
-still_failed old middle failed x = ap (λ (s : Kept). s.log.is_failed) (none_taken x.0 old middle failed x.1.each).1 ∙ failed
+still_failed old middle failed x = ap (λ (s : Kept). s.log.is_failed) (none_taken (groups_since old middle) old middle failed x.1.each).1 ∙ failed
 
 pub failed_flushes : (old middle : Kept) (cause : StoreFault) → old.log.is_failed ≡ true → TookSome old middle
     → FlushAnswers (flush_refusal middle) (Err cause) → cause ≡ Failed

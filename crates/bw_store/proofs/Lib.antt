@@ -19,7 +19,9 @@ pub mod MovedMore
 pub mod CleanedMore
 pub mod ReopenedMore
 pub mod Laned
+pub mod Grouped
 pub mod Planned
+pub mod Drafts
 pub mod Shares
 pub mod Fresh
 pub mod FollowMore

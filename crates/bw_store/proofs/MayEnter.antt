@@ -22,6 +22,7 @@ use Rattle.bw_buffer.specs.Joining.{joins, joined, index_for, added}
 use Rattle.bw_buffer.proofs.Holding.{few_blocks}
 use Rattle.bw_buffer.proofs.Sizes.{added_longer}
 use Rattle.bw_ring.specs.declared.lane.Lane.{Lane}
+use Rattle.bw_ring.specs.Marks.{Marked}
 use Rattle.bw_ring.specs.Ends.{Ring, ring_of_lane}
 use Rattle.std.proofs.lemmas.List.{length-map}
 use Rattle.bw_log.specs.Contents as logs
@@ -208,41 +209,41 @@ noted_is m leaves back here last r newest =
     [ true ↦ refl | false ↦ refl ]
 
 -- the store after all was written
-pub entered : {s : Kept} {item : Record} {back : Place} {blocks : List Block} → Enters s item back blocks → (IsSpent (shown_of s.filed) item → ⊥)
+pub entered : {s : Kept} {m : Marked} {back : Place} {blocks : List Block} → Enters s m.item back blocks → (IsSpent (shown_of s.filed) m.item → ⊥)
     → (writer page : ℕ) (entries : List Entry) (filed : Filed) (newest : List Place) (making : Filling)
-    → page ≡ directed_at s.filed.leaves item
-    → (es : List Entry) → entries ≡ es ++ record { writer = writer; item = item } ∷ [] → es ≡ s.entries → filed ≡ record s.filed { leaves = applied s.filed.m s.filed.leaves item }
+    → page ≡ directed_at s.filed.leaves m.item
+    → (es : List Entry) → entries ≡ es ++ record { writer = writer; more = m.more; item = m.item } ∷ [] → es ≡ s.entries → filed ≡ record s.filed { leaves = applied s.filed.m s.filed.leaves m.item }
     → (ps : List Place) → newest ≡ noted ps page (here_for (frame_of s.making) page) (last_for (frame_of s.making) page) (length blocks) → ps ≡ s.newest
     → making ≡ with_all s.making blocks
     → (rings rs : List Ring) → rings ≡ rs → rs ≡ s.rings
-    → record s { rings = rings; entries = entries; filed = filed; newest = newest; making = making } ≡ taken s writer item back
-entered {s} {item} {back} {blocks} e not writer page entries filed newest making at es e1 e1' e2 ps e3 e3' e4 rings rs e5 e5' =
-    let places : newest ≡ places_after s.filed.m s.filed.leaves (here_at s item) (last_at s item) item s.newest =
+    → record s { rings = rings; entries = entries; filed = filed; newest = newest; making = making } ≡ taken s writer m back
+entered {s} {m} {back} {blocks} e not writer page entries filed newest making at es e1 e1' e2 ps e3 e3' e4 rings rs e5 e5' =
+    let places : newest ≡ places_after s.filed.m s.filed.leaves (here_at s m.item) (last_at s m.item) m.item s.newest =
     e3 ∙ ap (λ (l : List Place). noted l page (here_for (frame_of s.making) page) (last_for (frame_of s.making) page) (length blocks)) e3'
     ∙ ap (λ (p : ℕ). noted s.newest p (here_for (frame_of s.making) p) (last_for (frame_of s.making) p) (length blocks)) at
-    ∙ ap (λ (bs : List Block). noted s.newest (directed_at s.filed.leaves item) (here_at s item) (last_at s item) (length bs)) e.made
-    ∙ noted_is s.filed.m s.filed.leaves back (here_at s item) (last_at s item) item s.newest in
-    let made : making ≡ with_all s.making (blocks_for s.filed.m s.filed.leaves back (here_at s item) item) = e4 ∙ ap (with_all s.making) e.made in
+    ∙ ap (λ (bs : List Block). noted s.newest (directed_at s.filed.leaves m.item) (here_at s m.item) (last_at s m.item) (length bs)) e.made
+    ∙ noted_is s.filed.m s.filed.leaves back (here_at s m.item) (last_at s m.item) m.item s.newest in
+    let made : making ≡ with_all s.making (blocks_for s.filed.m s.filed.leaves back (here_at s m.item) m.item) = e4 ∙ ap (with_all s.making) e.made in
     ap (λ (l : List Ring). record s { rings = l; entries = entries; filed = filed; newest = newest; making = making }) (e5 ∙ e5') ∙
     ap (λ (es : List Entry). record s { entries = es; filed = filed; newest = newest; making = making })
-    (e1 ∙ ap (λ (l : List Entry). l ++ record { writer = writer; item = item } ∷ []) e1')
-    ∙ ap (λ (f : Filed). record s { entries = s.entries ++ record { writer = writer; item = item } ∷ []; filed = f; newest = newest; making = making }) e2
+    (e1 ∙ ap (λ (l : List Entry). l ++ record { writer = writer; more = m.more; item = m.item } ∷ []) e1')
+    ∙ ap (λ (f : Filed). record s { entries = s.entries ++ record { writer = writer; more = m.more; item = m.item } ∷ []; filed = f; newest = newest; making = making }) e2
     ∙ ap (λ (ps : List Place). record s {
-      entries = s.entries ++ record { writer = writer; item = item } ∷ [];
-      filed = record s.filed { leaves = applied s.filed.m s.filed.leaves item };
+      entries = s.entries ++ record { writer = writer; more = m.more; item = m.item } ∷ [];
+      filed = record s.filed { leaves = applied s.filed.m s.filed.leaves m.item };
       newest = ps;
       making = making;
     }) places
     ∙ ap (λ (b : Filling). record s {
-      entries = s.entries ++ record { writer = writer; item = item } ∷ [];
-      filed = record s.filed { leaves = applied s.filed.m s.filed.leaves item };
-      newest = places_after s.filed.m s.filed.leaves (here_at s item) (last_at s item) item s.newest;
+      entries = s.entries ++ record { writer = writer; more = m.more; item = m.item } ∷ [];
+      filed = record s.filed { leaves = applied s.filed.m s.filed.leaves m.item };
+      newest = places_after s.filed.m s.filed.leaves (here_at s m.item) (last_at s m.item) m.item s.newest;
       making = b;
     }) made
 
-pub entered_sound : {s : Kept} {item : Record} {back : Place} {blocks : List Block} → Enters s item back blocks → (IsSpent (shown_of s.filed) item → ⊥) → (writer : ℕ)
-    → writer < length s.rings → IsSound (taken s writer item back)
-entered_sound {s} {item} {back} {blocks} e not writer inside = taken_sound s writer item back (takes_one s writer item back blocks e not inside)
+pub entered_sound : {s : Kept} {m : Marked} {back : Place} {blocks : List Block} → Enters s m.item back blocks → (IsSpent (shown_of s.filed) m.item → ⊥) → (writer : ℕ)
+    → writer < length s.rings → IsSound (taken s writer m back)
+entered_sound {s} {m} {back} {blocks} e not writer inside = taken_sound s writer m back (takes_one s writer m.item back blocks e not inside)
 
 -- a lane is one of the rings
 pub lane_inside : (lanes : List Lane) (at : ℕ) → at < length lanes → at < length (map ring_of_lane lanes)

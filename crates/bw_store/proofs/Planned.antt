@@ -6,12 +6,14 @@ use Rattle.std.specs.Prelude.{nat_le, IsTrue, ◌↔◌, IfOk, IfErr, OnOk, OnEr
 use Rattle.bw_store.specs.declared.planning.Plan.{Plan}
 use Rattle.bw_store.specs.Planning.{listed}
 use Rattle.bw_store.specs.declared.fault.StoreFault.{StoreFault}
-use Rattle.bw_store.specs.Faults.{FlushLeaves}
+use Rattle.bw_store.specs.declared.fault.StoreFault.TheVariants.{NoMemory, BadConfig, NoSegment, Device, Failed, Spent, NoPage, NothingOld}
+use Rattle.bw_ring.specs.Marks.{marked}
+use Rattle.bw_store.specs.Faults.{FlushLeaves, IsWantingAt}
 use Rattle.std.specs.Option.{unwrap_or}
-use Rattle.bw_store.specs.Fitting.{Fits, here_at, blocks_at, nowhere}
-use Rattle.bw_store.specs.Taking.{MakesRoom, IsPlan, ItemLeaves, IsWanting, Works}
+use Rattle.bw_store.specs.Fitting.{Fits, back_for, group_blocks, here_at}
+use Rattle.bw_store.specs.Taking.{MakesRoom, IsPlan, GroupLeaves, IsWanting, IsUnplanned, Works}
 use Rattle.bw_store.proofs.Refusing.{entered_not}
-use Rattle.bw_store.specs.Taken.{taken}
+use Rattle.bw_store.specs.Taken.{alone, taken, taken_all}
 use Rattle.std.specs.List.{AllByRecursion as All, flat_map}
 use Rattle.bw_codec.specs.Grammar.{body_bytes, block_bytes, op_bytes, pair_bytes, IsBlock, IsOp, IsPair}
 use Rattle.bw_codec.specs.Record.{key_of}
@@ -34,7 +36,7 @@ use Rattle.bw_store.specs.Kept.{Kept, IsSound}
 use Rattle.bw_store.proofs.Joins.{added_shorter}
 use Rattle.bw_store.proofs.Growing.{Takes, blocks_lawful}
 use Rattle.bw_store.proofs.FramesBehind.{following_fits}
-use Rattle.bw_store.specs.Adding.{here_for, blocks_for, result_of, upper_if, planned}
+use Rattle.bw_store.specs.Adding.{here_for, blocks_for, nowhere, result_of, upper_if, planned}
 use Rattle.bw_page.proofs.PageByPage.{home_there}
 
 -- the leaf of a record's page is in memory where the page is
@@ -201,22 +203,23 @@ module _ (making : Filling) (blocks slice : List Block) {b : Bool} (tests : IsTr
       let there : b ≡ true = tests.1 (subst (λ (bs : List Block). size_of (with_all making bs) ≤ making.limit) (sym same) fits) in
       cc
 
-back_at : (newest : List Place) (at : ℕ) (back : Place) → slice_get newest at ≡ Some back → unwrap_or (slice_get newest at) nowhere ≡ back
+pub back_at : (newest : List Place) (at : ℕ) (back : Place) → slice_get newest at ≡ Some back → unwrap_or (slice_get newest at) nowhere ≡ back
 back_at newest at back is = ap (λ (o : Option Place). unwrap_or o nowhere) is
 
-planned_blocks : (s : Kept) (item : Record) (plan : Plan) → IsPlan s item plan → listed plan.blocks ≡ blocks_at s item
+planned_blocks : (s : Kept) (item : Record) (plan : Plan) → IsPlan s item plan → listed plan.blocks ≡ group_blocks s (item ∷ [])
 planned_blocks s item plan p =
     let back = back_at s.newest (directed_at s.filed.leaves item - 1) plan.back
     (subst (λ (n : ℕ). slice_get s.newest (n - 1) ≡ Some plan.back) p.page p.back) in
     p.blocks ∙ ap (λ (b : Place). blocks_for s.filed.m s.filed.leaves b (here_at s item) item) (sym back)
+    ∙ sym (append-nil (blocks_for s.filed.m s.filed.leaves (back_for s item) (here_at s item) item))
 
 pub plan_fits : (s : Kept) (item : Record) (plan : Plan) → IsPlan s item plan → size_of (with_all s.making (listed plan.blocks)) ≤ s.making.limit
-    → Fits s item
+    → Fits s (item ∷ [])
 plan_fits s item plan p fits =
     subst (λ (bs : List Block). size_of (with_all s.making bs) ≤ s.making.limit) (planned_blocks s item plan p) fits
 
 pub plan_full : (s : Kept) (item : Record) (plan : Plan) → IsPlan s item plan
-    → (size_of (with_all s.making (listed plan.blocks)) ≤ s.making.limit → ⊥) → Fits s item → ⊥
+    → (size_of (with_all s.making (listed plan.blocks)) ≤ s.making.limit → ⊥) → Fits s (item ∷ []) → ⊥
 plan_full s item plan p over fits =
     over (subst (λ (bs : List Block). size_of (with_all s.making bs) ≤ s.making.limit) (sym (planned_blocks s item plan p)) fits)
 
@@ -235,15 +238,45 @@ fits_empty s blocks h empty few =
     let most = h.log.holds.limits.2 in
     omega arith
 
--- what is known of a flush that answered Ok, for a record that did not fit
-pub flushed_or_not : (item : Record) (old new : Kept) (o : Option ℕ) → (Fits old item → ⊥) → FlushLeaves old (Ok o) new → MakesRoom item old new
-flushed_or_not item old new None full f = inl f.0
-flushed_or_not item old new (Some n) full f = inr (full, (n, f))
+-- what is known of a flush that answered Ok, for a group that did not fit
+pub flushed_or_not : (group : List Record) (old new : Kept) (o : Option ℕ) → (Fits old group → ⊥) → FlushLeaves old (Ok o) new → MakesRoom group old new
+flushed_or_not group old new None full f = inl f.0
+flushed_or_not group old new (Some n) full f = inr (full, (n, f))
 
--- a record that was to be entered, behind a flush or not
-pub entered_or_not : (lane : ℕ) (old middle new : Kept) (item : Record) (back : Place) (r : Result (Unit {0}) StoreFault) → Works old
-    → MakesRoom item old middle → Fits middle item → middle.log.is_failed ≡ false
-    → OnOk r (new ≡ taken middle lane item back) → OnErr r (new ≡ middle) → IfErr r (IsWanting middle) → ItemLeaves lane item old r new
-entered_or_not lane old middle new item back (Ok x) was may fits works is same w =
-    record { item = item; back = back; worked = was; middle = middle; flushes = may; fits = fits; works = works; is = is }
-entered_or_not lane old middle new item back (Err cause) was may fits works is same w = entered_not item old middle new cause was may same w
+-- a group that was to be entered, behind a flush or not
+pub entered_or_not : (lane : ℕ) (old middle new : Kept) (group : List Record) (r : Result (Unit {0}) StoreFault) → (1 ≤ length group) × (length group ≤ 4)
+    → Works old → MakesRoom group old middle → Fits middle group → middle.log.is_failed ≡ false
+    → OnOk r (new ≡ taken_all middle lane (marked group)) → OnErr r (new ≡ middle) → IfErr r (IsWanting middle group) → GroupLeaves lane group old r new
+entered_or_not lane old middle new group (Ok x) few was may fits works is same w =
+    record { group = group; few = few; worked = was; middle = middle; flushes = may; fits = fits; works = works; is = is }
+entered_or_not lane old middle new group (Err cause) few was may fits works is same w = entered_not group old middle new cause was may same w
+
+-- the same of a group of one, whose last block was known
+pub one_entered : (s new : Kept) (lane : ℕ) (item : Record) (plan : Plan) (r : Result (Unit {0}) StoreFault) → IsPlan s item plan
+    → OnOk r (new ≡ taken s lane (alone item) plan.back) → OnOk r (new ≡ taken_all s lane (marked (item ∷ [])))
+one_entered s new lane item plan (Err cause) p is = tt
+one_entered s new lane item plan (Ok x) p is =
+    let back = back_at s.newest (directed_at s.filed.leaves item - 1) plan.back
+    (subst (λ (n : ℕ). slice_get s.newest (n - 1) ≡ Some plan.back) p.page p.back) in
+    is ∙ ap (taken s lane (alone item)) (sym back)
+
+-- a page for which there is no number
+pub one_wanting : (s : Kept) (item : Record) (cause : StoreFault) → IsWantingAt (length s.filed.leaves) cause → IsWanting s (item ∷ []) cause
+one_wanting s item NoMemory w = tt
+one_wanting s item BadConfig w = absurd w
+one_wanting s item NoSegment w = absurd w
+one_wanting s item (Device lease) w = absurd w
+one_wanting s item Failed w = absurd w
+one_wanting s item Spent w = record { before = 0; inside = omega arith; all = w }
+one_wanting s item NoPage w = absurd w
+one_wanting s item NothingOld w = absurd w
+
+pub wanting_unplanned : (s : Kept) (group : List Record) (cause : StoreFault) → Works s → IsWanting s group cause → IsUnplanned s group cause
+wanting_unplanned s group NoMemory works w = works
+wanting_unplanned s group BadConfig works w = absurd w
+wanting_unplanned s group NoSegment works w = absurd w
+wanting_unplanned s group (Device lease) works w = absurd w
+wanting_unplanned s group Failed works w = absurd w
+wanting_unplanned s group Spent works w = (works, inr w)
+wanting_unplanned s group NoPage works w = absurd w
+wanting_unplanned s group NothingOld works w = absurd w

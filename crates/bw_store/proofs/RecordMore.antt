@@ -15,6 +15,7 @@ use Rattle.bw_page.specs.Standing.{Stand}
 use Rattle.bw_page.proofs.Sorted.{all-map, all-push}
 use Rattle.bw_buffer.specs.Filling.{frame_of, size_of, with_all}
 use Rattle.bw_buffer.specs.Joining.{added}
+use Rattle.bw_ring.specs.Marks.{Marked}
 use Rattle.bw_log.specs.Contents as logs
 use Rattle.bw_versions.specs.declared.entry.Entry.{Entry}
 use mathlib.Core.List.{IsPrefix}
@@ -82,64 +83,64 @@ pub record TakesOne (s : Kept) (writer : ℕ) (item : Record) (back : Place) : T
   pub inside : writer < length s.rings
   pub short : size_of (with_all s.making (blocks_for s.filed.m s.filed.leaves back (here_at s item) item)) ≤ 65536
 
-module _ (s : Kept) (writer : ℕ) (item : Record) (back : Place) (t : TakesOne s writer item back) where
-  same_leaves : (k : ℕ) → leaves_at (taken s writer item back) k ≡ leaves_at s k
+module _ (s : Kept) (writer : ℕ) (m : Marked) (back : Place) (t : TakesOne s writer m.item back) where
+  same_leaves : (k : ℕ) → leaves_at (taken s writer m back) k ≡ leaves_at s k
   same_leaves k = ap (λ (es : List Entry). pages s.filed.m s.start (records es))
-      (upto_more s.cuts s.entries (record { writer = writer; item = item } ∷ []) k t.sound.ordered)
+      (upto_more s.cuts s.entries (record { writer = writer; more = m.more; item = m.item } ∷ []) k t.sound.ordered)
 
-  same_share : (k : ℕ) → share_at (taken s writer item back) k ≡ share_at s k
-  same_share k = ap records (share_more s.cuts s.entries (record { writer = writer; item = item } ∷ []) k t.sound.ordered)
+  same_share : (k : ℕ) → share_at (taken s writer m back) k ≡ share_at s k
+  same_share k = ap records (share_more s.cuts s.entries (record { writer = writer; more = m.more; item = m.item } ∷ []) k t.sound.ordered)
 
-  more_waits : waiting (taken s writer item back) ≡ waiting s ++ item ∷ []
+  more_waits : waiting (taken s writer m back) ≡ waiting s ++ m.item ∷ []
   more_waits =
-      ap records (drop-append-le (cut s.cuts s.durable) s.entries (record { writer = writer; item = item } ∷ [])
+      ap records (drop-append-le (cut s.cuts s.durable) s.entries (record { writer = writer; more = m.more; item = m.item } ∷ [])
       (cut_within s.cuts (length s.entries) s.durable t.sound.ordered))
-      ∙ records_more (drop (cut s.cuts s.durable) s.entries) (record { writer = writer; item = item } ∷ [])
+      ∙ records_more (drop (cut s.cuts s.durable) s.entries) (record { writer = writer; more = m.more; item = m.item } ∷ [])
 
   first_more : (bs : List Block) → TellsFirst s.filed.m (leaves_at s s.durable) (waiting s) bs
-      → TellsFirst s.filed.m (leaves_at s s.durable) (waiting s ++ item ∷ [])
-      (added bs (blocks_for s.filed.m (pages s.filed.m (leaves_at s s.durable) (waiting s)) back (here_at s item) item))
+      → TellsFirst s.filed.m (leaves_at s s.durable) (waiting s ++ m.item ∷ [])
+      (added bs (blocks_for s.filed.m (pages s.filed.m (leaves_at s s.durable) (waiting s)) back (here_at s m.item) m.item))
   first_more [] h = absurd h
   first_more (b ∷ bs) h =
-      let more = blocks_for s.filed.m (pages s.filed.m (leaves_at s s.durable) (waiting s)) back (here_at s item) item in
-      subst (TellsFirst s.filed.m (leaves_at s s.durable) (waiting s ++ item ∷ []))
+      let more = blocks_for s.filed.m (pages s.filed.m (leaves_at s s.durable) (waiting s)) back (here_at s m.item) m.item in
+      subst (TellsFirst s.filed.m (leaves_at s s.durable) (waiting s ++ m.item ∷ []))
       (sym (ap (λ (x : Block). added (x ∷ bs) more) h.0 ∙ added_behind empty_leaf bs more))
-      (refl, tells_more s.filed.m (leaves_at s s.durable) (waiting s) bs back (here_at s item) item h.1)
+      (refl, tells_more s.filed.m (leaves_at s s.durable) (waiting s) bs back (here_at s m.item) m.item h.1)
 
   tells_now : (number : ℕ) → TellsBy s number (leaves_at s s.durable) (waiting s) s.making.blocks
-      → TellsBy s number (leaves_at s s.durable) (waiting s ++ item ∷ [])
-      (added s.making.blocks (blocks_for s.filed.m (pages s.filed.m (leaves_at s s.durable) (waiting s)) back (here_at s item) item))
+      → TellsBy s number (leaves_at s s.durable) (waiting s ++ m.item ∷ [])
+      (added s.making.blocks (blocks_for s.filed.m (pages s.filed.m (leaves_at s s.durable) (waiting s)) back (here_at s m.item) m.item))
   tells_now number (inl first) = inl (first.0, first.1, first_more s.making.blocks first.2)
   tells_now number (inr other) = inr (
     other.0,
-    tells_more s.filed.m (leaves_at s s.durable) (waiting s) s.making.blocks back (here_at s item) item other.1,
+    tells_more s.filed.m (leaves_at s s.durable) (waiting s) s.making.blocks back (here_at s m.item) m.item other.1,
   )
 
-  pub taken_sound : IsSound (taken s writer item back)
+  pub taken_sound : IsSound (taken s writer m back)
   taken_sound =
       let h = t.sound in
-      let now = taken s writer item back in
+      let now = taken s writer m back in
       record {
         log = h.log;
         pairs = h.pairs;
         limit = h.limit;
-        leaves = ap (λ (ls : List Leaf). applied s.filed.m ls item) h.leaves
-            ∙ sym (ap (pages s.filed.m s.start) (records_more s.entries (record { writer = writer; item = item } ∷ []))
-            ∙ pages_more s.filed.m s.start (records s.entries) (item ∷ []));
+        leaves = ap (λ (ls : List Leaf). applied s.filed.m ls m.item) h.leaves
+            ∙ sym (ap (pages s.filed.m s.start) (records_more s.entries (record { writer = writer; more = m.more; item = m.item } ∷ []))
+            ∙ pages_more s.filed.m s.start (records s.entries) (m.item ∷ []));
         mapped =
-            applied-plain s.filed.m s.filed.leaves item (let some = t.takes.some in omega arith) t.takes.room t.takes.grown.stands.lawful t.takes.op
-            ∙ ap (λ (u : Map). changed_map u item) h.mapped
-            ∙ sym (ap (plain s.start) (records_more s.entries (record { writer = writer; item = item } ∷ []))
-            ∙ fold-append changed_map (union s.start) (records s.entries) (item ∷ []));
-        ops = all-push (λ (e : Entry). IsOp e.item) s.entries (record { writer = writer; item = item }) h.ops t.takes.op;
-        writers = all-push (λ (e : Entry). e.writer < length s.rings) s.entries (record { writer = writer; item = item }) h.writers t.inside;
-        grown = grown_more s.filed.m (logs.counted s.log) (frame_of s.making) s.filed.leaves s.newest back item t.takes t.short;
+            applied-plain s.filed.m s.filed.leaves m.item (let some = t.takes.some in omega arith) t.takes.room t.takes.grown.stands.lawful t.takes.op
+            ∙ ap (λ (u : Map). changed_map u m.item) h.mapped
+            ∙ sym (ap (plain s.start) (records_more s.entries (record { writer = writer; more = m.more; item = m.item } ∷ []))
+            ∙ fold-append changed_map (union s.start) (records s.entries) (m.item ∷ []));
+        ops = all-push (λ (e : Entry). IsOp e.item) s.entries (record { writer = writer; more = m.more; item = m.item }) h.ops t.takes.op;
+        writers = all-push (λ (e : Entry). e.writer < length s.rings) s.entries (record { writer = writer; more = m.more; item = m.item }) h.writers t.inside;
+        grown = grown_more s.filed.m (logs.counted s.log) (frame_of s.making) s.filed.leaves s.newest back m.item t.takes t.short;
         next = h.next;
         last = h.last;
         number = inl t.number;
         sealed = h.sealed;
         ordered = cuts_longer 0 s.cuts (length s.entries) (length now.entries)
-            (let e = length-append s.entries (record { writer = writer; item = item } ∷ []) in omega arith) h.ordered;
+            (let e = length-append s.entries (record { writer = writer; more = m.more; item = m.item } ∷ []) in omega arith) h.ordered;
         beyond = h.beyond;
         floor = h.floor;
         stands = λ k low high from. subst (Stand s.filed.m (frames_upto (s.before + k) (logs.counted s.log))) (sym (same_leaves k)) (h.stands k low high from);
@@ -152,18 +153,18 @@ module _ (s : Kept) (writer : ℕ) (item : Record) (back : Place) (t : TakesOne 
         tells =
             subst (λ (ls : List Leaf). TellsBy now (s.before + s.durable + 1) ls (waiting now) now.making.blocks) (sym (same_leaves s.durable))
             (subst (λ (rs : List Record). TellsBy now (s.before + s.durable + 1) (leaves_at s s.durable) rs now.making.blocks) (sym more_waits)
-            (subst (λ (ls : List Leaf). TellsBy now (s.before + s.durable + 1) (leaves_at s s.durable) (waiting s ++ item ∷ [])
-            (added s.making.blocks (blocks_for s.filed.m ls back (here_at s item) item))) (waiting_leads s h)
+            (subst (λ (ls : List Leaf). TellsBy now (s.before + s.durable + 1) (leaves_at s s.durable) (waiting s ++ m.item ∷ [])
+            (added s.making.blocks (blocks_for s.filed.m ls back (here_at s m.item) m.item))) (waiting_leads s h)
             (tells_now (s.before + s.durable + 1) h.tells)));
         shown = record {
           start = h.shown.start;
           begins = subst (IsPrefix (entries_of s.versions.entered))
-              (sym (upto_more s.cuts s.entries (record { writer = writer; item = item } ∷ []) s.durable h.ordered)) h.shown.begins;
+              (sym (upto_more s.cuts s.entries (record { writer = writer; more = m.more; item = m.item } ∷ []) s.durable h.ordered)) h.shown.begins;
           ends = λ n. (
               let was = h.shown.ends n in (
                 was.0,
                 was.1,
-                was.2 ∙ sym (upto_more s.cuts s.entries (record { writer = writer; item = item } ∷ []) was.0 h.ordered),
+                was.2 ∙ sym (upto_more s.cuts s.entries (record { writer = writer; more = m.more; item = m.item } ∷ []) was.0 h.ordered),
               )
               );
         };

@@ -1,6 +1,6 @@
 -- The share of a frame on worked examples: five puts, one a frame, of which the last cuts page 1; and a frame of the cleaner's.
 
-use Rattle.std.proofs.Common.{◌≡◌, ℕ, List, [], ◌∷◌, refl, arith}
+use Rattle.std.proofs.Common.{◌≡◌, ℕ, Bool, true, false, List, [], ◌∷◌, refl, arith}
 use Rattle.bw_codec.specs.declared.record.Record.{Record}
 use Rattle.bw_codec.specs.declared.record.Record.TheVariants.{Put}
 use Rattle.bw_codec.specs.declared.leaf.Leaf.{Leaf}
@@ -9,7 +9,8 @@ use Rattle.bw_codec.specs.declared.block.Block.TheVariants.{Delta, Base, Split}
 use Rattle.bw_page.specs.Leaves.{empty_leaf, pages}
 use Rattle.bw_versions.specs.declared.entry.Entry.{Entry}
 use Rattle.bw_versions.specs.Entries.{records}
-use Rattle.bw_store.specs.History.{upto, share, streams}
+use Rattle.bw_store.specs.History.{upto, share, streams, are_whole}
+use Rattle.bw_ring.specs.Marks.{Marked}
 use Rattle.bw_store.specs.Share.{Tells, TellsFirst}
 use Rattle.bw_store.specs.Adding.{blocks_for}
 use Rattle.bw_store.specs.Kept.{Kept, IsMoved}
@@ -18,7 +19,7 @@ abbrev put : ℕ → ℕ → Record
 put k v = Put (k ∷ []) (v ∷ [])
 
 abbrev by_zero : Record → Entry
-by_zero r = record { writer = 0; item = r }
+by_zero r = record { writer = 0; more = false; item = r }
 
 abbrev five : List Entry
 five = by_zero (put 97 49) ∷ by_zero (put 98 50) ∷ by_zero (put 99 51) ∷ by_zero (put 100 52) ∷ by_zero (put 101 53) ∷ []
@@ -57,7 +58,20 @@ fifth_blocks = refl
 fourth_is_moved : (s : Kept) → IsMoved s 4 [] (Base (record { page = 1; low = []; pairs = (106 ∷ [], 50 ∷ []) ∷ (107 ∷ [], 51 ∷ []) ∷ [] }) ∷ [])
 fourth_is_moved s = (λ opened first. absurd (omega arith), refl, (tt, tt))
 
--- two writers
-two_streams : streams 0 2 (record { writer = 0; item = put 97 49 } ∷ record { writer = 1; item = put 98 49 } ∷ record { writer = 1; item = put 99 50 } ∷ [])
-    ≡ (put 97 49 ∷ []) ∷ (put 98 49 ∷ put 99 50 ∷ []) ∷ []
+-- two writers, the second with a group
+abbrev entry : ℕ → Bool → Record → Entry
+entry w more r = record { writer = w; more = more; item = r }
+
+abbrev marked : Bool → Record → Marked
+marked more r = record { item = r; more = more }
+
+two_streams : streams 0 2 (entry 0 false (put 97 49) ∷ entry 1 true (put 98 49) ∷ entry 1 false (put 99 50) ∷ [])
+    ≡ (marked false (put 97 49) ∷ []) ∷ (marked true (put 98 49) ∷ marked false (put 99 50) ∷ []) ∷ []
 two_streams = refl
+
+-- no cut stands behind the group's first record
+two_whole : are_whole (1 ∷ 3 ∷ []) (entry 0 false (put 97 49) ∷ entry 1 true (put 98 49) ∷ entry 1 false (put 99 50) ∷ []) ≡ true
+two_whole = refl
+
+not_whole : are_whole (2 ∷ []) (entry 0 false (put 97 49) ∷ entry 1 true (put 98 49) ∷ entry 1 false (put 99 50) ∷ []) ≡ false
+not_whole = refl

@@ -1,6 +1,6 @@
 -- What a record adds to the frame in the making.
 
-use Rattle.std.specs.Prelude.{ℕ, ◌+◌, ◌-◌, nat_le, if◌then◌else◌, Option, Some, None, List, [], ◌∷◌, ◌++◌, length, slice_set, unwrap_or}
+use Rattle.std.specs.Prelude.{ℕ, ◌+◌, ◌-◌, nat_le, if◌then◌else◌, Option, Some, None, List, [], ◌∷◌, ◌++◌, length, slice_get, slice_set, unwrap_or}
 use Rattle.bw_codec.specs.Record.{key_of}
 use Rattle.bw_codec.specs.declared.record.Record.{Record}
 use Rattle.bw_codec.specs.declared.leaf.Leaf.{Leaf}
@@ -8,7 +8,7 @@ use Rattle.bw_codec.specs.declared.block.Place.{Place}
 use Rattle.bw_codec.specs.declared.block.Block.{Block}
 use Rattle.bw_codec.specs.declared.block.Block.TheVariants.{Delta, Split}
 use Rattle.bw_codec.specs.declared.block.Frame.{Frame}
-use Rattle.bw_page.specs.Leaves.{home, changed, directed_at, upper_of}
+use Rattle.bw_page.specs.Leaves.{home, changed, directed_at, upper_of, applied}
 use Rattle.bw_buffer.specs.Joining.{joins, added}
 
 -- a frame with further blocks, of which Deltas join
@@ -62,3 +62,36 @@ upper_if m page leaf = if nat_le (length leaf.pairs) m then None else Some (uppe
 abbrev pub planned : ℕ → Place → Place → Record → Option Leaf → List Block
 planned page back here r None = Delta page back (r ∷ []) ∷ []
 planned page back here r (Some upper) = Delta page back (r ∷ []) ∷ Split page here upper ∷ []
+
+-- ---- a group: one record after the other, each on the pages, places and blocks behind the one before
+
+-- no block
+abbrev pub nowhere : Place
+nowhere = record { frame = 0; index = 0 }
+
+-- what the blocks of a record are made from: the pages, the last block of each, and the frame in the making
+pub record Drawn : Type 0 where
+  pub leaves : List Leaf
+  pub newest : List Place
+  pub frame : Frame
+
+-- the last block of the page at which a record is directed
+abbrev pub back_in : Drawn → Record → Place
+back_in d r = unwrap_or (slice_get d.newest (directed_at d.leaves r - 1)) nowhere
+
+-- the blocks that a record adds
+abbrev pub blocks_in : ℕ → Drawn → Record → List Block
+blocks_in m d r = blocks_for m d.leaves (back_in d r) (here_for d.frame (directed_at d.leaves r)) r
+
+-- the pages, places and blocks behind it
+abbrev pub drawn_by : ℕ → Drawn → Record → Drawn
+drawn_by m d r = record {
+  leaves = applied m d.leaves r;
+  newest = places_after m d.leaves (here_for d.frame (directed_at d.leaves r)) (last_for d.frame (directed_at d.leaves r)) r d.newest;
+  frame = with_blocks d.frame (blocks_in m d r);
+}
+
+-- all blocks of a group, in order
+abbrev pub blocks_all : ℕ → Drawn → List Record → List Block
+blocks_all m d [] = []
+blocks_all m d (r ∷ rs) = blocks_in m d r ++ blocks_all m (drawn_by m d r) rs

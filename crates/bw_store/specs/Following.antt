@@ -1,10 +1,11 @@
 -- What no call takes back.
 
-use Rattle.std.specs.Prelude.{ℕ, zero, suc, ◌+◌, ◌≡◌, ◌≤◌, true, List, ◌++◌, length}
+use Rattle.std.specs.Prelude.{ℕ, zero, suc, ◌+◌, ◌*◌, ◌≡◌, ◌≤◌, true, List, ◌++◌, length, drop}
 use Rattle.bw_log.specs.Contents.{roster}
 use Rattle.bw_versions.specs.Batches.{BatchData}
 use Rattle.bw_versions.specs.declared.entry.Entry.{Entry}
 use Rattle.bw_store.specs.declared.fault.StoreFault.{StoreFault}
+use Rattle.bw_store.specs.History.{ends_in}
 use Rattle.bw_store.specs.Kept.{Kept}
 use Rattle.bw_ring.specs.declared.lane.Lane.{Lane}
 use Rattle.bw_store.specs.Taking.{RefusesNext, Took}
@@ -44,24 +45,33 @@ pub record Turned (n : ℕ) (old new : Kept) : Type 0 where
   pub grew : length new.entries ≡ length old.entries + n
   pub quiet : new.versions ≡ old.versions
 
--- so many records, one after the other
+-- so many groups, one after the other
 abbrev pub Takes : ℕ → Kept → Kept → Type 0
 Takes zero old new = new ≡ old
 Takes (suc n) old new = (middle : Kept) × Takes n old middle × ((lane : ℕ) × Took lane middle new)
 
--- so many records were taken one after the other; where an append failed before, none was
+-- how many groups came since
+abbrev pub groups_since : Kept → Kept → ℕ
+groups_since old new = ends_in (drop (length old.entries) new.entries)
+
+-- so many records were taken, group after group; where an append failed before, none was
 pub record TookInTurn (n : ℕ) (old new : Kept) : Type 0 where
   pub turned : Turned n old new
-  pub each : Takes n old new
+  pub each : Takes (groups_since old new) old new
+  pub few : (groups_since old new ≤ n) × (n ≤ 4 * groups_since old new)
   pub works : new.log.is_failed ≡ true → (n ≡ 0) × (new ≡ old)
 
--- so many records were taken one after the other, and then one was refused, which is still the
+-- so many records were taken, group after group, and then a group was refused, which is still the
 -- first of its lane
 pub record RefusedAfter (n : ℕ) (old : Kept) (lanes : List Lane) (cause : StoreFault) (new : Kept) : Type 0 where
   pub middle : Kept
   pub took : TookInTurn n old middle
   pub lane : ℕ
   pub refuses : RefusesNext lane lanes middle cause new
+
+-- the same of so many groups
+abbrev pub TookGroups : ℕ → ℕ → Kept → Kept → Type 0
+TookGroups groups n old new = TookInTurn n old new × (groups_since old new ≡ groups)
 
 -- the same without a number
 abbrev pub TookSome : Kept → Kept → Type 0

@@ -14,6 +14,7 @@ use Rattle.bw_page.specs.Standing.{Stand}
 use Rattle.bw_page.specs.Shown.{Shown}
 use Rattle.bw_buffer.specs.Filling.{Filling, frame_of, with_all}
 use Rattle.bw_ring.specs.Ends.{Ring}
+use Rattle.bw_ring.specs.Marks.{Marked}
 use Rattle.bw_versions.specs.Batches.{BatchData, entries_of}
 use Rattle.bw_versions.specs.Versioned.{Versioned}
 use Rattle.bw_log.specs.Contents as logs
@@ -155,10 +156,10 @@ pub record IsSound (s : Kept) : Type 0 where
 
 -- ---- one record taken
 
-abbrev pub with_record : Kept → ℕ → Record → Filed → List Place → List Block → Kept
-with_record s writer item filed newest blocks =
+abbrev pub with_record : Kept → ℕ → Marked → Filed → List Place → List Block → Kept
+with_record s writer one filed newest blocks =
     record s {
-      entries = s.entries ++ record { writer = writer; item = item } ∷ [];
+      entries = s.entries ++ record { writer = writer; more = one.more; item = one.item } ∷ [];
       filed = filed;
       newest = newest;
       making = with_all s.making blocks;

@@ -23,5 +23,6 @@ pub mod Following
 pub mod Cleaning
 pub mod Showing
 -- What private functions say.
+pub mod Drafting
 pub mod Filing
 pub mod Tailing

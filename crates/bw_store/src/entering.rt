@@ -1,6 +1,6 @@
 //! One record is entered in the history and in the frame in the making.
 
-ghost use Rattle.std.specs.Prelude.{◌≡◌, ◌≤◌, ◌<◌, ◌+◌, ◌-◌, ◌^◌, Some, false, length, map, vec_len, slice_get, OnOk, OnErr, IfOk, IfErr};
+ghost use Rattle.std.specs.Prelude.{◌≡◌, ◌≤◌, ◌<◌, ◌+◌, ◌-◌, ◌^◌, ◌∷◌, [], Some, false, length, map, vec_len, slice_get, OnOk, OnErr, IfOk, IfErr};
 ghost use Rattle.bw_codec.specs.Grammar.{IsBlock};
 ghost use Rattle.std.specs.List.{AllByRecursion};
 ghost use Rattle.std.specs.Vec.{vec_capacity};
@@ -13,13 +13,14 @@ ghost use Rattle.bw_store.specs.Filing.{AreOne};
 ghost use Rattle.bw_ring.specs.Ends.{given};
 ghost use Rattle.bw_store.specs.Lanes.{IsNext, TookKnown};
 ghost use Rattle.bw_store.specs.Taking.{IsWanting};
-ghost use Rattle.bw_store.specs.Taken.{taken};
+ghost use Rattle.bw_store.specs.Taken.{alone, taken};
 
 use crate::fault::StoreFault;
 use crate::store::Store;
 use crate::tails::{note, reserve_for};
 use bw_buffer::Buffer;
 use bw_codec::{Block, Place, Record};
+use bw_ring::Group;
 
 impl Store {
     ghost use Rattle.bw_store.specs.Views.{kept_by, IsSound};
@@ -35,7 +36,7 @@ impl Store {
     ) -> Result<(), StoreFault>
         requires sound { IsSound self.old holding }
         requires inside { lane < length self.old.intake.lanes.items }
-        requires comes { IsNext self.old.intake.lanes.items lane item }
+        requires comes { IsNext self.old.intake.lanes.items lane (item ∷ []) }
         requires here { IsHere (key_of item) self.old.leaves }
         requires next { (kept_by self.old holding).log.next ≡ Some self.old.making.frame }
         requires unsealed { self.old.making.is_sealed ≡ false }
@@ -47,11 +48,12 @@ impl Store {
         ensures sound { IsSound self.new holding }
         ensures count { length self.new.intake.lanes.items ≡ length self.old.intake.lanes.items }
         ensures ok { OnOk result (kept_by self.new holding
-            ≡ taken (kept_by self.old holding) lane item back) }
+            ≡ taken (kept_by self.old holding) lane (alone item) back) }
         ensures unchanged { OnErr result (kept_by self.new holding ≡ kept_by self.old holding) }
         ensures stays { OnErr result
             (self.new.intake.lanes.items ≡ self.old.intake.lanes.items) }
-        ensures refused { IfErr result (IsWanting (kept_by self.old holding)) }
+        ensures refused { IfErr result
+            (IsWanting (kept_by self.old holding) (item ∷ [])) }
         ensures given { OnOk result (map given self.new.intake.lanes.items
             ≡ map given self.old.intake.lanes.items) }
         ensures known { OnOk result
@@ -65,7 +67,7 @@ impl Store {
         let _ = self.leaves.apply_on(page, &item)?;
         note(&mut self.tails, page, &item, blocks.len() > 1);
         file(&mut self.making, &mut self.newest, page, blocks);
-        self.intake.enter(lane, item);
+        self.intake.enter(lane, Group::one(item));
         Ok(())
     }
 }

@@ -1,15 +1,17 @@
 //! Lanes and the history: what is taken from a lane stands in the history at once.
 
-ghost use Rattle.std.specs.Prelude.{◌≡◌, ◌≤◌, ◌<◌, ◌+◌, ◌∷◌, ◌++◌, [], length, map, vec_len, IfSome, IfNone, slice_get, OnOk};
+ghost use Rattle.std.specs.Prelude.{true, ◌≡◌, ◌≤◌, ◌<◌, ◌+◌, ◌∷◌, ◌++◌, [], length, map, vec_len, IfSome, IfNone, slice_get, OnOk};
 ghost use Rattle.std.specs.Vec.{vec_capacity};
 ghost use mathlib.Core.List.{IsPrefix};
 ghost use Rattle.bw_ring.specs.Ends.{accepted, taken, known, given, ring_of_feed, ring_of_lane};
-ghost use Rattle.bw_store.specs.History.{streams};
+ghost use Rattle.bw_ring.specs.Items.{listed};
+ghost use Rattle.bw_ring.specs.Marks.{marked};
+ghost use Rattle.bw_store.specs.History.{streams, entered, is_grouped};
 ghost use Rattle.bw_store.specs.Lanes.{known_at, IsNext, IsWaiting, Dries, TookAt, TookKnown};
 
 use crate::beside::look_at_all;
 use bw_codec::Record;
-use bw_ring::{Feed, Lane};
+use bw_ring::{Feed, Group, Items, Lane};
 use bw_versions::Entry;
 use std::alloc::AllocError;
 
@@ -19,6 +21,8 @@ pub struct Intake {
     pub(crate) history: Vec<Entry>,
     ghost few: { vec_len lanes ≤ 64 },
     ghost takes: { streams 0 (length lanes.items) history.items ≡ map taken lanes.items },
+    // No group is there in part.
+    ghost grouped: { is_grouped history.items ≡ true },
 }
 
 impl Drop for Intake {
@@ -31,8 +35,8 @@ impl Drop for Intake {
 }
 
 impl Intake {
-    /// A copy of the record that a lane gives next. Nothing is taken.
-    pub(crate) fn next(&mut self, lane: usize) -> Option<Record>
+    /// A copy of the group that a lane gives next. Nothing is taken.
+    pub(crate) fn next(&mut self, lane: usize) -> Option<Group>
         requires { lane < length self.old.lanes.items }
         ensures history { self.new.history ≡ self.old.history }
         ensures entries { self.new.history.items ≡ self.old.history.items }
@@ -61,7 +65,7 @@ impl Intake {
         look_at_all(&mut self.lanes, feeds)
     }
 
-    /// How many records a lane knows of. Its ring is not looked at.
+    /// How many groups a lane knows of. Its ring is not looked at.
     pub(crate) fn waits(&self, lane: usize) -> usize
         requires { lane < length self.now.lanes.items }
         ensures { result ≡ length (known_at self.now.lanes.items lane) }
@@ -70,8 +74,8 @@ impl Intake {
         self.lanes[lane].waits()
     }
 
-    /// A copy of the record that a lane gives next, which it knows of. Its ring is not looked at.
-    pub(crate) fn first(&self, lane: usize) -> Record
+    /// A copy of the group that a lane gives next, which it knows of. Its ring is not looked at.
+    pub(crate) fn first(&self, lane: usize) -> Group
         requires inside { lane < length self.now.lanes.items }
         requires waits { IsWaiting self.now.lanes.items lane }
         ensures { IsNext self.now.lanes.items lane result }
@@ -87,38 +91,71 @@ impl Intake {
         self.history.as_slice()
     }
 
-    /// Makes room for one more entry.
+    /// Makes room for the entries of one more group.
     pub(crate) fn reserve(&mut self) -> Result<(), AllocError>
         ensures lanes { self.new.lanes ≡ self.old.lanes }
         ensures history { self.new.history.items ≡ self.old.history.items }
-        ensures room { OnOk result (vec_len self.new.history < vec_capacity self.new.history) }
+        ensures room { OnOk result (vec_len self.new.history + 4 ≤ vec_capacity self.new.history) }
     {
-        self.history.reserve(1)
+        self.history.reserve(4)
     }
 
-    /// Takes the record that the lane gives next, and enters it.
-    pub(crate) fn enter(&mut self, lane: usize, item: Record)
+    /// Takes the group that the lane gives next, and enters its records.
+    pub(crate) fn enter(&mut self, lane: usize, group: Group)
         requires inside { lane < length self.old.lanes.items }
-        requires next { IsNext self.old.lanes.items lane item }
-        requires room { vec_len self.old.history < vec_capacity self.old.history }
+        requires next { IsNext self.old.lanes.items lane group }
+        requires room { vec_len self.old.history + 4 ≤ vec_capacity self.old.history }
         ensures count { length self.new.lanes.items ≡ length self.old.lanes.items }
         ensures grows { self.new.history.items
-            ≡ self.old.history.items ++ record { writer = lane; item = item } ∷ [] }
+            ≡ self.old.history.items ++ entered lane (marked group) }
         ensures rings { map ring_of_lane self.new.lanes.items
             ≡ map ring_of_lane self.old.lanes.items }
         ensures given { map given self.new.lanes.items ≡ map given self.old.lanes.items }
         ensures known { TookKnown lane self.old.lanes.items self.new.lanes.items }
     {
         let Intake { lanes, history } = self;
-        take_at(lanes, lane, &item);
-        history.push_reserved(Entry {
-            writer: lane as u16,
-            item,
-        });
+        take_at(lanes, lane, &group);
+        let _ = group.len();
+        push_all(history, lane as u16, group.into_items());
     }
 }
 
-fn peek_at(lanes: &mut Vec<Lane>, at: usize) -> Option<Record>
+fn push_one(history: &mut Vec<Entry>, writer: u16, more: bool, item: Record)
+    requires { vec_len history.old < vec_capacity history.old }
+    ensures capacity { vec_capacity history.new ≡ vec_capacity history.old }
+    ensures len { vec_len history.new ≡ vec_len history.old + 1 }
+    ensures items { history.new.items
+        ≡ history.old.items ++ record { writer = writer; more = more; item = item } ∷ [] }
+{
+    history.push_reserved(Entry { writer, more, item });
+}
+
+// Enters the records of one group.
+fn push_all(history: &mut Vec<Entry>, writer: u16, items: Items)
+    requires { vec_len history.old + length (listed items) ≤ vec_capacity history.old }
+    ensures { history.new.items ≡ history.old.items ++ entered writer (marked (listed items)) }
+{
+    match items {
+        Items::One([a]) => push_one(history, writer, false, a),
+        Items::Two([a, b]) => {
+            push_one(history, writer, true, a);
+            push_one(history, writer, false, b);
+        }
+        Items::Three([a, b, c]) => {
+            push_one(history, writer, true, a);
+            push_one(history, writer, true, b);
+            push_one(history, writer, false, c);
+        }
+        Items::Four([a, b, c, d]) => {
+            push_one(history, writer, true, a);
+            push_one(history, writer, true, b);
+            push_one(history, writer, true, c);
+            push_one(history, writer, false, d);
+        }
+    }
+}
+
+fn peek_at(lanes: &mut Vec<Lane>, at: usize) -> Option<Group>
     requires { at < length lanes.old.items }
     ensures rings { map ring_of_lane lanes.new.items ≡ map ring_of_lane lanes.old.items }
     ensures count { length lanes.new.items ≡ length lanes.old.items }
@@ -131,7 +168,7 @@ fn peek_at(lanes: &mut Vec<Lane>, at: usize) -> Option<Record>
     peek_one(&mut lanes[at])
 }
 
-fn peek_one(lane: &mut Lane) -> Option<Record>
+fn peek_one(lane: &mut Lane) -> Option<Group>
     ensures ring { ring_of_lane lane.new ≡ ring_of_lane lane.old }
     ensures taken { taken lane.new ≡ taken lane.old }
     ensures next { IfSome result (λ r. IsPrefix (r ∷ []) (known lane.new)) }
@@ -144,7 +181,7 @@ fn peek_one(lane: &mut Lane) -> Option<Record>
     Some(lane.peek()?.copy())
 }
 
-fn take_at(lanes: &mut Vec<Lane>, at: usize, item: &Record)
+fn take_at(lanes: &mut Vec<Lane>, at: usize, item: &Group)
     requires inside { at < length lanes.old.items }
     requires next { IsNext lanes.old.items at item.now }
     ensures rings { map ring_of_lane lanes.new.items ≡ map ring_of_lane lanes.old.items }
@@ -158,11 +195,11 @@ fn take_at(lanes: &mut Vec<Lane>, at: usize, item: &Record)
     let _ = take_one(&mut lanes[at], item);
 }
 
-fn take_one(lane: &mut Lane, item: &Record) -> Record
+fn take_one(lane: &mut Lane, item: &Group) -> Group
     requires { IsPrefix (item.now ∷ []) (known lane.old) }
     ensures given { given lane.new ≡ given lane.old }
     ensures ring { ring_of_lane lane.new ≡ ring_of_lane lane.old }
-    ensures taken { taken lane.new ≡ taken lane.old ++ item.now ∷ [] }
+    ensures taken { taken lane.new ≡ taken lane.old ++ marked item.now }
     ensures known { known lane.old ≡ item.now ∷ known lane.new }
 {
     let _ = item;

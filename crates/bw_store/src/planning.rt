@@ -37,18 +37,10 @@ impl Drop for Plan {
 
 /// The blocks of one record: its Delta, and a Split where its page is cut. They take no memory of
 /// their own.
+#[derive(Drop)]
 pub(crate) enum Blocks {
     One([Block; 1]),
     Two([Block; 2]),
-}
-
-impl Drop for Blocks {
-    fn drop(self) {
-        match self {
-            Blocks::One(_) => {}
-            Blocks::Two(_) => {}
-        }
-    }
 }
 
 impl Blocks {
@@ -88,7 +80,7 @@ fn upper_of(
 }
 
 // The blocks of a record of a page. No memory is taken.
-fn blocks_of(page: u32, back: Place, here: Place, item: &Record, upper: Option<Leaf>) -> Blocks
+pub(crate) fn blocks_of(page: u32, back: Place, here: Place, item: &Record, upper: Option<Leaf>) -> Blocks
     ensures { listed result ≡ planned page back here item.now upper }
 {
     let delta = Block::Delta {

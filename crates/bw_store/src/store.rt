@@ -2,6 +2,7 @@
 
 ghost use Rattle.std.specs.Prelude.{ℕ, ◌≡◌, true, false, length, map};
 ghost use Rattle.bw_page.specs.Shown.{is_away};
+ghost use Rattle.bw_store.specs.History.{are_whole};
 ghost use Rattle.bw_store.specs.Tails.{tail_of, tails_for, is_made};
 
 use crate::edge::Edge;
@@ -37,6 +38,8 @@ pub struct Store {
     /// What readers see: the leaves at `open` or `reopen`, and the durable entries since.
     pub(crate) versions: Versions,
     ghost tailed: { map tail_of tails.items ≡ tails_for (length leaves.leaves) making.blocks },
+    // No cut stands inside a group.
+    ghost whole: { are_whole cuts.items intake.history.items ≡ true },
     // A page that is away is in the log, but for its tail.
     ghost logged: { (p : ℕ) → is_away p leaves ≡ true → is_made p making.blocks ≡ false },
 }

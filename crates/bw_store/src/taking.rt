@@ -1,44 +1,48 @@
-//! One record is taken from a lane.
+//! One group is taken from a lane, whole or not at all.
 
-ghost use Rattle.std.specs.Prelude.{◌≡◌, ◌≤◌, ◌<◌, ◌+◌, ◌-◌, Some, None, false, length, map, IfSome, IfNone, IfOk, IfErr, OnOk, OnErr};
+ghost use Rattle.std.specs.Prelude.{◌≡◌, ◌≤◌, ◌<◌, ◌+◌, ◌-◌, ◌∷◌, [], List, Some, None, false, length, map, IfSome, IfNone, IfOk, IfErr, OnOk, OnErr, MatchResult};
 ghost use Rattle.std.specs.List.{AllByRecursion};
 ghost use Rattle.bw_codec.specs.Grammar.{body_bytes, IsBlock};
 ghost use Rattle.bw_codec.specs.Record.{key_of};
+ghost use Rattle.bw_codec.specs.declared.record.Record.{Record as RecordValue};
 ghost use Rattle.bw_page.specs.Leaves.{directed_at};
 ghost use Rattle.bw_page.specs.Shown.{IsHere};
 ghost use Rattle.bw_buffer.specs.Filling.{size_of};
 ghost use Rattle.bw_ring.specs.Ends.{given};
 ghost use Rattle.bw_store.specs.Planning.{listed};
 ghost use Rattle.bw_store.specs.Lanes.{IsNext, IsWaiting, Dries, TookKnown};
-ghost use Rattle.bw_store.specs.Taking.{TakeLeaves, WaitingLeaves, ItemLeaves, IsPlan, IsUnplanned};
+ghost use Rattle.bw_store.specs.Taking.{TakeLeaves, WaitingLeaves, GroupLeaves, IsPlan, IsUnplanned};
 
 use crate::fault::StoreFault;
 use crate::planning::{Plan, place_for, planned_for};
 use crate::store::Store;
 use bw_codec::Record;
+use bw_ring::{Group, Items};
 
 impl Store {
     ghost use Rattle.bw_store.specs.Views.{kept_by, IsSound};
 
-    /// Takes the next record of a lane, if there is one.
-    pub(crate) fn take_from(&mut self, lane: usize) -> Result<bool, StoreFault>
+    /// Takes the next group of a lane, if there is one; answers how many records it has, 1 to 4.
+    pub(crate) fn take_from(&mut self, lane: usize) -> Result<Option<u64>, StoreFault>
         requires sound { IsSound self.old holding }
         requires inside { lane < length self.old.intake.lanes.items }
         ensures sound { IsSound self.new holding }
         ensures count { length self.new.intake.lanes.items ≡ length self.old.intake.lanes.items }
-        ensures dry { IfOk result (λ took. took ≡ false
-            → Dries lane self.old.intake.lanes.items self.new.intake.lanes.items) }
+        ensures dry { IfOk result (λ took. IfNone took
+            (Dries lane self.old.intake.lanes.items self.new.intake.lanes.items)) }
+        ensures few { IfOk result (λ took. IfSome took (λ n. n ≤ 4)) }
         ensures leaves { TakeLeaves lane self.new.intake.lanes.items (kept_by self.old holding)
             result (kept_by self.new holding) }
     {
-        let Some(item) = self.look(lane) else {
-            return Ok(false);
+        let Some(group) = self.look(lane) else {
+            return Ok(None);
         };
-        self.take_item(lane, item)?;
-        Ok(true)
+        let records = group.len() as u64;
+        self.take_group(lane, group)?;
+        Ok(Some(records))
     }
 
-    /// Takes the next record of a lane, which the lane knows of: its ring is not looked at.
+    /// Takes the next group of a lane, which the lane knows of: its ring is not looked at.
     pub(crate) fn take_waiting(&mut self, lane: usize) -> Result<(), StoreFault>
         requires sound { IsSound self.old holding }
         requires inside { lane < length self.old.intake.lanes.items }
@@ -52,15 +56,15 @@ impl Store {
         ensures leaves { WaitingLeaves lane self.new.intake.lanes.items
             (kept_by self.old holding) result (kept_by self.new holding) }
     {
-        let item = self.intake.first(lane);
-        self.take_item(lane, item)
+        let group = self.intake.first(lane);
+        self.take_group(lane, group)
     }
 
-    // Takes this record, which is the next of its lane.
-    fn take_item(&mut self, lane: usize, item: Record) -> Result<(), StoreFault>
+    // Takes this group, which is the next of its lane.
+    fn take_group(&mut self, lane: usize, group: Group) -> Result<(), StoreFault>
         requires sound { IsSound self.old holding }
         requires inside { lane < length self.old.intake.lanes.items }
-        requires comes { IsNext self.old.intake.lanes.items lane item }
+        requires comes { IsNext self.old.intake.lanes.items lane group }
         ensures sound { IsSound self.new holding }
         ensures count { length self.new.intake.lanes.items ≡ length self.old.intake.lanes.items }
         ensures given { OnOk result (map given self.new.intake.lanes.items
@@ -69,7 +73,29 @@ impl Store {
             (TookKnown lane self.old.intake.lanes.items self.new.intake.lanes.items) }
         ensures stays { OnErr result
             (self.new.intake.lanes.items ≡ self.old.intake.lanes.items) }
-        ensures leaves { ItemLeaves lane item (kept_by self.old holding) result
+        ensures leaves { GroupLeaves lane group (kept_by self.old holding) result
+            (kept_by self.new holding) }
+    {
+        match alone(group) {
+            Ok(item) => self.take_item(lane, item),
+            Err(group) => self.take_many(lane, group),
+        }
+    }
+
+    // Takes a group of this one record: its plan takes no memory of its own.
+    fn take_item(&mut self, lane: usize, item: Record) -> Result<(), StoreFault>
+        requires sound { IsSound self.old holding }
+        requires inside { lane < length self.old.intake.lanes.items }
+        requires comes { IsNext self.old.intake.lanes.items lane (item ∷ []) }
+        ensures sound { IsSound self.new holding }
+        ensures count { length self.new.intake.lanes.items ≡ length self.old.intake.lanes.items }
+        ensures given { OnOk result (map given self.new.intake.lanes.items
+            ≡ map given self.old.intake.lanes.items) }
+        ensures known { OnOk result
+            (TookKnown lane self.old.intake.lanes.items self.new.intake.lanes.items) }
+        ensures stays { OnErr result
+            (self.new.intake.lanes.items ≡ self.old.intake.lanes.items) }
+        ensures leaves { GroupLeaves lane (item ∷ []) (kept_by self.old holding) result
             (kept_by self.new holding) }
     {
         self.goes_on()?;
@@ -81,7 +107,7 @@ impl Store {
     fn take_here(&mut self, lane: usize, item: Record, page: u32) -> Result<(), StoreFault>
         requires sound { IsSound self.old holding }
         requires inside { lane < length self.old.intake.lanes.items }
-        requires comes { IsNext self.old.intake.lanes.items lane item }
+        requires comes { IsNext self.old.intake.lanes.items lane (item ∷ []) }
         requires here { IsHere (key_of item) self.old.leaves }
         requires page { page ≡ directed_at self.old.leaves.leaves item }
         ensures sound { IsSound self.new holding }
@@ -92,7 +118,7 @@ impl Store {
             (TookKnown lane self.old.intake.lanes.items self.new.intake.lanes.items) }
         ensures stays { OnErr result
             (self.new.intake.lanes.items ≡ self.old.intake.lanes.items) }
-        ensures leaves { ItemLeaves lane item (kept_by self.old holding) result
+        ensures leaves { GroupLeaves lane (item ∷ []) (kept_by self.old holding) result
             (kept_by self.new holding) }
     {
         let plan = self.plan(page, &item)?;
@@ -104,8 +130,28 @@ impl Store {
         self.enter(lane, item, plan.page, plan.back, plan.blocks.as_slice())
     }
 
-    // A copy of the record that a lane gives next.
-    fn look(&mut self, lane: usize) -> Option<Record>
+    // Takes a group of several records: all of it is planned before anything is entered.
+    fn take_many(&mut self, lane: usize, group: Group) -> Result<(), StoreFault>
+        requires sound { IsSound self.old holding }
+        requires inside { lane < length self.old.intake.lanes.items }
+        requires comes { IsNext self.old.intake.lanes.items lane group }
+        ensures sound { IsSound self.new holding }
+        ensures count { length self.new.intake.lanes.items ≡ length self.old.intake.lanes.items }
+        ensures given { OnOk result (map given self.new.intake.lanes.items
+            ≡ map given self.old.intake.lanes.items) }
+        ensures known { OnOk result
+            (TookKnown lane self.old.intake.lanes.items self.new.intake.lanes.items) }
+        ensures stays { OnErr result
+            (self.new.intake.lanes.items ≡ self.old.intake.lanes.items) }
+        ensures leaves { GroupLeaves lane group (kept_by self.old holding) result
+            (kept_by self.new holding) }
+    {
+        let _ = (lane, group);
+        unreachable!()
+    }
+
+    // A copy of the group that a lane gives next.
+    fn look(&mut self, lane: usize) -> Option<Group>
         requires { lane < length self.old.intake.lanes.items }
         ensures same { kept_by self.new holding ≡ kept_by self.old holding }
         ensures count { length self.new.intake.lanes.items ≡ length self.old.intake.lanes.items }
@@ -123,7 +169,8 @@ impl Store {
         ensures unsealed { OnOk result (self.now.making.is_sealed ≡ false) }
         ensures next { OnOk result ((kept_by self.now holding).log.next
             ≡ Some self.now.making.frame) }
-        ensures refused { IfErr result (IsUnplanned (kept_by self.now holding)) }
+        ensures refused { (group : List RecordValue)
+            → IfErr result (IsUnplanned (kept_by self.now holding) group) }
     {
         if self.log.is_failed() {
             return Err(StoreFault::Failed);
@@ -147,7 +194,8 @@ impl Store {
         ensures lawful { IfOk result (λ p. AllByRecursion (IsBlock 32) (listed p.blocks)
             × (length (listed p.blocks) ≤ 2)) }
         ensures short { IfOk result (λ p. length (body_bytes (listed p.blocks)) ≤ 7000) }
-        ensures refused { IfErr result (IsUnplanned (kept_by self.now holding)) }
+        ensures refused { IfErr result
+            (IsUnplanned (kept_by self.now holding) (item.now ∷ [])) }
     {
         self.goes_on()?;
         let _ = item.key();
@@ -161,5 +209,19 @@ impl Store {
             page,
             item,
         )
+    }
+}
+
+// The record of a group of one, or the group.
+fn alone(group: Group) -> Result<Record, Group>
+    ensures { MatchResult result (λ item. item ∷ [] ≡ group)
+        (λ back. (back ≡ group) × (2 ≤ length group) × (length group ≤ 4)) }
+{
+    if group.len() > 1 {
+        return Err(group);
+    }
+    match group.into_items() {
+        Items::One([item]) => Ok(item),
+        _ => unreachable!(),
     }
 }

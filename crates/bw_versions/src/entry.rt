@@ -5,10 +5,12 @@ ghost use Rattle.std.specs.Prelude.{◌≡◌};
 use bw_codec::Record;
 use bw_page::HasRecord;
 
-/// A record and its writer.
+/// A record and its writer, and whether the next entry is of the same group. An entry with `more` is
+/// followed by one of the same writer.
 #[derive(Debug, PartialEq, Eq, Drop)]
 pub struct Entry {
     pub writer: u16,
+    pub more: bool,
     pub item: Record,
 }
 
@@ -19,6 +21,7 @@ impl Entry {
     {
         Entry {
             writer: self.writer,
+            more: self.more,
             item: self.item.copy(),
         }
     }

@@ -4,21 +4,23 @@
 //! a key that had none. To put back a pair that was removed, or to join a page that was cut, might
 //! take memory; there the leaf is kept as it was before.
 
-ghost use Rattle.std.specs.Prelude.{◌≡◌, [], map, IfOk, IsErr, OnOk, OnErr};
+ghost use Rattle.std.specs.Prelude.{◌≡◌, ◌≤◌, ◌<◌, ◌+◌, [], length, map, vec_len, IfOk, IsOk, IsErr, OnOk, OnErr, ◌⊎◌};
+ghost use Rattle.std.specs.Vec.{vec_capacity};
 ghost use Rattle.bw_codec.specs.Grammar.{IsOp};
 ghost use Rattle.bw_codec.specs.Record.{key_of};
-ghost use Rattle.bw_page.specs.Leaves.{HasPage, union, plain};
+ghost use Rattle.bw_page.specs.Leaves.{HasPage, HasPages, directed_at, result_of, union, plain};
 ghost use Rattle.bw_page.specs.Shown.{IsSpent, after_record, run, IsHere};
-ghost use Rattle.bw_page.specs.Journal.{undo_of, undone, all_undone, IsJournal, IsNewest};
-ghost use Rattle.bw_page.specs.Batch.{SomeIsSpent};
+ghost use Rattle.bw_page.specs.Journal.{undo_of, undone, all_undone, GoesBack, IsJournal, IsNewest};
+ghost use Rattle.bw_page.specs.Batch.{SomeIsSpent, AreHere, upper_if, step_of, steps_of};
 ghost use Rattle.bw_page.specs.Aim.{IsAim};
 
 use super::Leaves;
-use crate::changes::back_from;
+use crate::changes::{back_from, change as change_leaf, count_after};
+use crate::cutting::{Cut, cut_in_two};
 use crate::fault::ApplyError;
 use crate::index::drop_above;
 use crate::journal::{Displaced, Undo};
-use bw_codec::Record;
+use bw_codec::{Leaf, Record};
 use std::alloc::AllocError;
 
 /// A value in which a record stands.
@@ -40,6 +42,15 @@ impl HasRecord for Record {
     }
 }
 
+/// What a record does to the pages.
+#[derive(Drop)]
+pub struct Step {
+    /// The page at which it is directed.
+    pub page: u32,
+    /// The page that it makes, if that one is cut in two.
+    pub upper: Option<Leaf>,
+}
+
 impl Leaves {
     /// Applies records one after the other, all or none: a refusal changes nothing.
     ///
@@ -59,9 +70,10 @@ impl Leaves {
         self.apply_all_of(records)
     }
 
-    /// The same, where the records stand in other values: none of them is copied.
+    /// The same, where the records stand in other values, and the page of each is in memory when its
+    /// turn comes: none of the records is copied.
     pub fn apply_all_of<T: HasRecord>(&mut self, items: &[T]) -> Result<(), ApplyError>
-        requires { self.old.away ≡ [] }
+        requires { AreHere self.old (map T.record_of items.now) }
         ensures ok { OnOk result (self.new ≡ run self.old (map T.record_of items.now)) }
         ensures plain { OnOk result (union self.new.leaves
             ≡ plain self.old.leaves (map T.record_of items.now)) }
@@ -70,6 +82,7 @@ impl Leaves {
             → SomeIsSpent self.old (map T.record_of items.now) }
         ensures unchanged { OnErr result (self.new ≡ self.old) }
     {
+        let _ = self.count();
         let mut journal = Vec::with_capacity(self.leaves.allocator(), items.len())?;
         for item in items {
             match self.displace(item.record()) {
@@ -84,6 +97,121 @@ impl Leaves {
             }
         }
         Ok(())
+    }
+
+    /// What each of these records does, one after the other. The pages are left as they were: all
+    /// records but the last are applied, and then taken back.
+    ///
+    /// Beside what `apply_all_of` costs, it costs for each page that is cut a copy of that page.
+    pub fn steps<T: HasRecord>(&mut self, items: &[T]) -> Result<Vec<Step>, ApplyError>
+        requires { AreHere self.old (map T.record_of items.now) }
+        ensures steps { IfOk result (λ steps. steps.items
+            ≡ steps_of self.old (map T.record_of items.now)) }
+        ensures room { OnOk result (HasPages self.old.m self.old.leaves
+            (map T.record_of items.now)) }
+        ensures same { self.new ≡ self.old }
+
+        // `Spent` as of `apply_all`.
+        ensures spent { SomeIsSpent self.old (map T.record_of items.now) → IsErr result }
+        ensures only_spent { result ≡ Err ApplyError.Spent
+            → SomeIsSpent self.old (map T.record_of items.now) }
+    {
+        let mut steps = Vec::with_capacity(self.leaves.allocator(), items.len())?;
+        let Some((last, front)) = items.split_last() else {
+            return Ok(steps);
+        };
+        let mut journal = Vec::with_capacity(self.leaves.allocator(), front.len())?;
+        let walked = self.walk(front, &mut journal, &mut steps);
+        let ended = self.end_of(walked, last);
+        self.take_back(journal);
+        steps.push_reserved(ended?);
+        Ok(steps)
+    }
+
+    /// Applies records, and keeps what each of them does and what takes it back.
+    fn walk<T: HasRecord>(
+        &mut self,
+        items: &[T],
+        journal: &mut Vec<Undo>,
+        steps: &mut Vec<Step>,
+    ) -> Result<(), ApplyError>
+        requires here { AreHere self.old (map T.record_of items.now) }
+        requires empty { (journal.old.items ≡ []) × (steps.old.items ≡ []) }
+        requires none { (vec_len journal.old ≡ 0) × (vec_len steps.old ≡ 0) }
+        requires room { (length items.now ≤ vec_capacity journal.old)
+            × (length items.now + 1 ≤ vec_capacity steps.old) }
+        ensures back { GoesBack self.old self.new journal.new.items }
+        ensures run { OnOk result (self.new ≡ run self.old (map T.record_of items.now)) }
+        ensures steps { OnOk result (steps.new.items
+            ≡ steps_of self.old (map T.record_of items.now)) }
+        ensures more { OnOk result (vec_len steps.new < vec_capacity steps.new) }
+        ensures pages { OnOk result (HasPages self.old.m self.old.leaves
+            (map T.record_of items.now)) }
+        ensures only_spent { result ≡ Err ApplyError.Spent
+            → SomeIsSpent self.old (map T.record_of items.now) }
+    {
+        let _ = self.count();
+        for item in items {
+            let change = item.record();
+            steps.push_reserved(self.step(change)?);
+            journal.push_reserved(self.displace(change)?);
+        }
+        Ok(())
+    }
+
+    /// What the last of the records does, if those before it were applied.
+    fn end_of<T: HasRecord>(
+        &self,
+        walked: Result<(), ApplyError>,
+        last: &T,
+    ) -> Result<Step, ApplyError>
+        requires { OnOk walked (IsHere (key_of (T.record_of last.now)) self.now) }
+        ensures walked { IsErr walked → IsErr result }
+        ensures step { IfOk result (λ step. step ≡ step_of self.now (T.record_of last.now)) }
+        ensures room { OnOk result (HasPage self.now.m self.now.leaves (T.record_of last.now)) }
+        ensures spent { IsSpent self.now (T.record_of last.now) → IsErr result }
+        ensures only_spent { result ≡ Err ApplyError.Spent → (walked ≡ Err ApplyError.Spent)
+            ⊎ (IsOk walked × IsSpent self.now (T.record_of last.now)) }
+    {
+        walked?;
+        self.step(last.record())
+    }
+
+    /// What a record would do. It costs a search among the pages, and a copy of the page that it
+    /// would cut.
+    pub fn step(&self, change: &Record) -> Result<Step, ApplyError>
+        requires { IsHere (key_of change.now) self.now }
+        ensures step { IfOk result (λ step. step ≡ step_of self.now change.now) }
+        ensures room { OnOk result (HasPage self.now.m self.now.leaves change.now) }
+        ensures spent { IsSpent self.now change.now → result ≡ Err ApplyError.Spent }
+        ensures only_spent { result ≡ Err ApplyError.Spent → IsSpent self.now change.now }
+    {
+        let page = self.find(change.key());
+        let upper = self.upper_of(page, change)?;
+        Ok(Step { page, upper })
+    }
+
+    /// The page that a record of this page would make, if it does.
+    fn upper_of(&self, page: u32, change: &Record) -> Result<Option<Leaf>, ApplyError>
+        requires here { IsHere (key_of change.now) self.now }
+        requires page { page ≡ directed_at self.now.leaves change.now }
+        ensures upper { IfOk result (λ upper. upper ≡ upper_if self.now.m
+            (length self.now.leaves + 1) (result_of self.now.leaves change.now)) }
+        ensures room { OnOk result (HasPage self.now.m self.now.leaves change.now) }
+        ensures spent { IsSpent self.now change.now → result ≡ Err ApplyError.Spent }
+        ensures only_spent { result ≡ Err ApplyError.Spent → IsSpent self.now change.now }
+    {
+        let leaf = self.home_on(page, change.key());
+        if count_after(leaf, change) <= usize::from(self.m) {
+            return Ok(None);
+        }
+        let Some(made) = self.count().checked_add(1) else {
+            return Err(ApplyError::Spent);
+        };
+        let mut whole = leaf.copy()?;
+        change_leaf(&mut whole, change)?;
+        let Cut { lower: _, upper } = cut_in_two(self.leaves.allocator(), self.m, whole, made)?;
+        Ok(Some(upper))
     }
 
     /// Applies a record, and gives what takes it back. A refusal changes nothing.

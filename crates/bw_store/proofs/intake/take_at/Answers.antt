@@ -1,3 +1,4 @@
+use Rattle.bw_ring.specs.Marks.{marked}
 use Rattle.bw_ring.specs.Ends.{taken, given, ring_of_lane}
 use Rattle.bw_store.proofs.Laned.{set_kept, took, known_after}
 use Rattle.bw_store.proofs.intake.take_at.Goals as goal
@@ -7,7 +8,7 @@ returns-clause-rings c = set_kept ring_of_lane c.args.lanes.now.items c.args.at 
     c.index_mut.ensures.value c.take_one.ensures.ring
 
 pub returns-clause-took : goal.returns-clause-took
-returns-clause-took c = took taken c.args.lanes.now.items c.args.at c.take_one.new.lane c.index_mut.result.now c.args.item.now c.requires.inside
+returns-clause-took c = took taken c.args.lanes.now.items c.args.at c.take_one.new.lane c.index_mut.result.now (marked c.args.item.now) c.requires.inside
     c.index_mut.ensures.value c.take_one.ensures.taken
 
 pub returns-clause-given : goal.returns-clause-given

@@ -1,14 +1,13 @@
-use Rattle.std.proofs.Common.{◌≡◌, ◌+◌, ◌∙◌, ◌∷◌, [], ◌++◌, List, ap, sym, subst, map, take, slice_get, arith, Some, Err}
-use Rattle.std.proofs.lemmas.List.{take_more, take_all, take-map, map-append}
-use Rattle.std.proofs.lemmas.Option.{slice_get-map, slice_get-get_or}
-use Rattle.std.specs.Option.{option_map}
+use Rattle.std.proofs.Common.{◌≡◌, ◌+◌, ◌∙◌, ◌∷◌, [], ◌++◌, List, ap, sym, subst, map, take, arith, Err}
+use Rattle.std.proofs.lemmas.List.{take_all}
 use Rattle.bw_codec.specs.declared.record.Record.{Record}
 use Rattle.bw_page.specs.declared.fault.ApplyError.TheVariants.{Spent}
 use Rattle.bw_page.specs.declared.journal.Undo.{Undo}
 use Rattle.bw_page.specs.Leaves.{plain}
-use Rattle.bw_page.specs.Shown.{Shown, IsSpent, run}
+use Rattle.bw_page.specs.Shown.{Shown}
 use Rattle.bw_page.specs.Journal.{Ran, all_undone}
 use Rattle.bw_page.proofs.Runs.{ran_more, all_back, run-plain, none_spent}
+use Rattle.bw_page.proofs.Batches.{records_more, next_here, next_spent}
 use Rattle.bw_page.proofs.leaves.Leaves.apply_all_of.Goals as goal
 
 pub returns-in-Err-clause-unchanged : goal.returns-in-Err-clause-unchanged
@@ -18,37 +17,32 @@ returns-in-Err-clause-unchanged g c =
 
 pub returns-in-Err-clause-only_spent : goal.returns-in-Err-clause-only_spent
 returns-in-Err-clause-only_spent g c e =
-    let held = g.T.HasRecord.record_of in
-    let at : slice_get (map held c.args.items.now) c.loop-item.item-index ≡ Some c.record.result.now =
-    slice_get-map held c.args.items.now c.loop-item.item-index
-    ∙ ap (λ o. option_map held o) (slice_get-get_or c.args.items.now c.loop-item.item-index c.item-item.result c.loop-item-test.true ∙ ap Some (sym c.item-item.is))
-    ∙ ap Some (sym c.record.ensures) in
     let error : c.in-Err.error ≡ Spent = cc e in
-    let spent = c.in-Err.ensures.only_spent (ap Err error) in (
-      c.loop-item.item-index,
-      c.record.result.now,
-      at,
-      subst (λ (f : Shown). IsSpent f c.record.result.now)
-          (c.loop-item.invariant.ran.is ∙ ap (run c.args.self.now) (sym (take-map held c.loop-item.item-index c.args.items.now))) spent,
-    )
+    next_spent g.T.HasRecord.record_of c.args.items.now c.loop-item.item-index c.item-item.result c.record.result.now c.loop-item-test.true c.item-item.is
+    c.record.ensures _ _ _ c.loop-item.invariant.ran (c.in-Err.ensures.only_spent (ap Err error))
+
+pub displace-requires : goal.displace-requires
+displace-requires g c =
+    next_here g.T.HasRecord.record_of c.args.items.now c.loop-item.item-index c.item-item.result c.record.result.now c.loop-item-test.true c.item-item.is
+    c.record.ensures _ _ _ c.loop-item.invariant.ran c.requires
 
 pub loop-item-preserved : goal.loop-item-preserved
 loop-item-preserved g c =
-    let more : map g.T.HasRecord.record_of (take (c.loop-item.item-index + 1) c.args.items.now)
-    ≡ map g.T.HasRecord.record_of (take c.loop-item.item-index c.args.items.now) ++ c.record.result.now ∷ [] =
-    ap (map g.T.HasRecord.record_of) (take_more c.args.items.now c.loop-item.item-index c.item-item.result c.loop-item-test.true
-    ∙ ap (λ i. take c.loop-item.item-index c.args.items.now ++ i ∷ []) (sym c.item-item.is))
-    ∙ map-append g.T.HasRecord.record_of (take c.loop-item.item-index c.args.items.now) (c.item-item.result ∷ [])
-    ∙ ap (λ (r : Record). map g.T.HasRecord.record_of (take c.loop-item.item-index c.args.items.now) ++ r ∷ []) (sym c.record.ensures) in
-    let ran = ran_more _ c.loop-item.self c.displace.new.self _ c.record.result.now _ c.in-Ok.undo c.loop-item.invariant.ran c.in-Ok.ensures.lawful
-    c.in-Ok.ensures.room c.in-Ok.ensures.ok c.in-Ok.ensures.undo in
+    let held = g.T.HasRecord.record_of in
+    let at = c.loop-item.item-index in
+    let r = c.record.result.now in
+    let more = records_more held c.args.items.now at c.item-item.result r c.loop-item-test.true c.item-item.is c.record.ensures in
+    let here = next_here held c.args.items.now at c.item-item.result r c.loop-item-test.true c.item-item.is
+    c.record.ensures _ _ _ c.loop-item.invariant.ran c.requires in
+    let ran = ran_more _ c.loop-item.self c.displace.new.self _ r _ c.in-Ok.undo c.loop-item.invariant.ran c.in-Ok.ensures.lawful
+    here c.in-Ok.ensures.room c.in-Ok.ensures.ok c.in-Ok.ensures.undo in
     let count = c.in-Ok-push.ensures.len in
     let before = c.loop-item.invariant.count in
     let grown = c.in-Ok-push.ensures.capacity in
     let room = c.loop-item.invariant.capacity in
     record {
       ran = subst (λ (rs : List Record). Ran c.args.self.now rs c.displace.new.self c.push.new.self.items) (sym more)
-          (subst (λ (us : List Undo). Ran c.args.self.now (map g.T.HasRecord.record_of (take c.loop-item.item-index c.args.items.now) ++ c.record.result.now ∷ []) c.displace.new.self
+          (subst (λ (us : List Undo). Ran c.args.self.now (map held (take at c.args.items.now) ++ r ∷ []) c.displace.new.self
           us) (sym c.in-Ok-push.ensures.items) ran);
       count = omega arith;
       capacity = omega arith;

@@ -1,7 +1,10 @@
 use Rattle.std.proofs.Common.{refl}
 use Rattle.bw_page.proofs.Closed.{found_at, within_at}
-use Rattle.bw_page.proofs.PutBack.{back_stays, view_back, filed_back}
+use Rattle.bw_page.proofs.PutBack.{back_here, back_stays, view_back, filed_back}
 use Rattle.bw_page.proofs.leaves.Leaves.change_back.Goals as goal
+
+pub aim-at-requires-clause-here : goal.aim-at-requires-clause-here
+aim-at-requires-clause-here c = back_here c.self.inside c.self.invariant c.args.self.now c.self.view_is c.args.back.now c.requires
 
 pub change-requires-clause-found : goal.change-requires-clause-found
 change-requires-clause-found c =

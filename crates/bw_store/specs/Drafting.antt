@@ -1,0 +1,121 @@
+-- A group that is planned record by record: what is known of it so far, and of the pages that it touches.
+
+use Rattle.std.specs.Prelude.{ℕ, ◌+◌, ◌-◌, ◌≡◌, ◌≤◌, ◌==◌, ◌||◌, Bool, false, if◌then◌else◌, Option, Some, None, is_none, unwrap_or, List, [], ◌∷◌, ◌++◌, length, map, slice_get, slice_set}
+use Rattle.std.specs.List.{fold}
+use Rattle.bw_codec.specs.declared.record.Record.{Record}
+use Rattle.bw_codec.specs.declared.leaf.Leaf.{Leaf}
+use Rattle.bw_codec.specs.declared.block.Place.{Place}
+use Rattle.bw_codec.specs.declared.block.Block.{Block}
+use Rattle.bw_page.specs.Leaves.{directed_at, HasPages}
+use Rattle.bw_buffer.specs.Filling.{Filling, size_of}
+use Rattle.bw_buffer.specs.Joining.{joins}
+use Rattle.bw_store.specs.declared.drafting.Row.{Row}
+use Rattle.bw_store.specs.declared.drafting.Draft.{Draft}
+use Rattle.bw_store.specs.Adding.{Drawn, count_after, here_for, last_for, result_of, upper_if, planned, nowhere, drawn_by, blocks_all}
+use Rattle.bw_store.specs.Fitting.{Fits, drawn_of, group_blocks}
+use Rattle.bw_store.specs.Kept.{Kept, IsSound}
+use Rattle.bw_store.specs.Taken.{alone, taken_all}
+
+-- ---- what each record of a group does to the places
+
+abbrev pub row_by : ℕ → Place → Place → Option Leaf → Row
+row_by page here last None = record { page = page; made = None; place = here }
+row_by page here last (Some upper) = record { page = page; made = Some upper.page; place = last }
+
+abbrev pub row_for : ℕ → Drawn → Record → Row
+row_for m d r =
+    row_by (directed_at d.leaves r) (here_for d.frame (directed_at d.leaves r)) (last_for d.frame (directed_at d.leaves r))
+    (upper_if m (length d.leaves + 1) (result_of d.leaves r))
+
+abbrev pub rows_all : ℕ → Drawn → List Record → List Row
+rows_all m d [] = []
+rows_all m d (r ∷ rs) = row_for m d r ∷ rows_all m (drawn_by m d r) rs
+
+-- the newest places behind it
+abbrev pub set_by : Option ℕ → ℕ → Place → List Place → List Place
+set_by None page place newest = slice_set newest (page - 1) place
+set_by (Some made) page place newest = slice_set newest (page - 1) place ++ place ∷ []
+
+abbrev pub set_row : List Place → Row → List Place
+set_row newest row = set_by row.made row.page row.place newest
+
+-- ---- what a look at the rows tells
+
+abbrev pub is_this : Option ℕ → ℕ → Bool
+is_this None p = false
+is_this (Some q) p = q == p
+
+-- whether the record of a row changed this page, or made it
+abbrev pub is_row_of : ℕ → Row → Bool
+is_row_of p row = (row.page == p) || is_this row.made p
+
+-- the last row of a page
+abbrev pub row_in : List Row → ℕ → Option Row
+row_in rows p = fold (λ (found : Option Row) (row : Row). if is_row_of p row then Some row else found) None rows
+
+abbrev pub place_by : Option Row → Option Place → Option Place
+place_by None was = was
+place_by (Some row) was = Some row.place
+
+-- the last block of a page, behind these rows
+abbrev pub place_in : List Row → List Place → ℕ → Option Place
+place_in rows newest p = place_by (row_in rows p) (slice_get newest (p - 1))
+
+abbrev pub index_if : Bool → ℕ → Option ℕ
+index_if open_now index = if open_now then Some index else None
+
+abbrev pub open_by : Option Row → Option ℕ → Option ℕ
+open_by None was = was
+open_by (Some row) was = index_if (is_none row.made) row.place.index
+
+-- its index, where that is a Delta of the frame in the making
+abbrev pub open_in : List Row → List Block → ℕ → Option ℕ
+open_in rows blocks p = open_by (row_in rows p) (joins p blocks)
+
+-- ---- one record more
+
+abbrev pub place_with : ℕ → ℕ → Place
+place_with frame index = record { frame = frame; index = index }
+
+-- one block more where a page is made
+abbrev pub count_with : Option Leaf → ℕ → ℕ
+count_with None count = count
+count_with (Some upper) count = count + 1
+
+pub record Added (old : Draft) (making : Filling) (newest : List Place) (item : Record) (page : ℕ) (upper : Option Leaf) (new : Draft) : Type 0 where
+  pub blocks : new.blocks.items ≡ old.blocks.items ++ planned page (unwrap_or (place_in old.rows.items newest page) nowhere)
+      (place_with making.frame (unwrap_or (open_in old.rows.items making.blocks page) old.count)) item upper
+  pub rows : new.rows.items ≡ old.rows.items ++ row_by page (place_with making.frame (unwrap_or (open_in old.rows.items making.blocks page) old.count))
+      (place_with making.frame (count_after (open_in old.rows.items making.blocks page) old.count)) upper ∷ []
+  pub count : new.count ≡ count_with upper (count_after (open_in old.rows.items making.blocks page) old.count)
+
+-- ---- a draft of the first records of a group
+
+abbrev pub drawn_behind : Kept → List Record → Drawn
+drawn_behind s done = fold (drawn_by s.filed.m) (drawn_of s) done
+
+pub record IsAhead (s : Kept) (done : List Record) (draft : Draft) : Type 0 where
+  pub blocks : draft.blocks.items ≡ group_blocks s done
+  pub rows : draft.rows.items ≡ rows_all s.filed.m (drawn_of s) done
+  pub count : draft.count ≡ length (drawn_behind s done).frame.blocks
+  pub places : (p : ℕ) → 1 ≤ p → p ≤ length (drawn_behind s done).leaves
+      → place_in draft.rows.items s.newest p ≡ slice_get (drawn_behind s done).newest (p - 1)
+  pub opens : (p : ℕ) → 1 ≤ p → p ≤ length (drawn_behind s done).leaves
+      → open_in draft.rows.items s.making.blocks p ≡ joins p (drawn_behind s done).frame.blocks
+
+-- the store as it would be behind these records of a lane
+abbrev pub behind : Kept → ℕ → List Record → Kept
+behind s lane done = taken_all s lane (map alone done)
+
+pub record Stands (s : Kept) (lane : ℕ) (done : List Record) : Type 0 where
+  pub sound : IsSound (behind s lane done)
+  pub next : (behind s lane done).log.next ≡ Some (behind s lane done).making.frame
+  pub fits : size_of (behind s lane done).making ≤ (behind s lane done).making.limit
+
+-- ---- the draft of a whole group
+
+pub record IsDraft (s : Kept) (group : List Record) (draft : Draft) : Type 0 where
+  pub blocks : draft.blocks.items ≡ group_blocks s group
+  pub rows : draft.rows.items ≡ rows_all s.filed.m (drawn_of s) group
+  pub fits : Fits s group
+  pub room : HasPages s.filed.m s.filed.leaves group
