@@ -93,13 +93,21 @@ fn hands_back(numbers: &[u32]) -> Option<bool> {
 
 #[test]
 fn a_group_has_one_to_four_records(rt: HostRuntime) {
-    let lengths = [&[7].as_slice(), &[7, 8].as_slice(), &[7, 8, 9].as_slice(), &[7, 8, 9, 10].as_slice()];
+    let lengths = [
+        &[7].as_slice(),
+        &[7, 8].as_slice(),
+        &[7, 8, 9].as_slice(),
+        &[7, 8, 9, 10].as_slice(),
+    ];
     let mut are_made = true;
     for numbers in lengths {
         are_made = are_made && group_of(numbers).is_some_and(|group| holds(&group, numbers));
     }
     let ends = group_of(&[]).is_none() && group_of(&[1, 2, 3, 4, 5]).is_none();
-    all_hold(&rt, &[are_made, ends, hands_back(&[1, 2, 3, 4, 5]) == Some(true)]);
+    all_hold(
+        &rt,
+        &[are_made, ends, hands_back(&[1, 2, 3, 4, 5]) == Some(true)],
+    );
 }
 
 #[test]
@@ -107,7 +115,11 @@ fn the_refusals_have_texts(rt: HostRuntime) {
     let range = "the number of writers or of places is out of range";
     let said = [
         is_text(rt.alloc(), &Full(numbered(0)), "the ring is full"),
-        is_text(rt.alloc(), &FullGroup(Group::one(numbered(0))), "the ring is full"),
+        is_text(
+            rt.alloc(),
+            &FullGroup(Group::one(numbered(0))),
+            "the ring is full",
+        ),
         is_text(rt.alloc(), &LanesError::BadConfig, range),
         is_text(rt.alloc(), &LanesError::NoMemory, "memory ran out"),
     ];
