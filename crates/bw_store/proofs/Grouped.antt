@@ -1,6 +1,6 @@
 -- A group is entered whole.
 
-use Rattle.std.proofs.Common.{◌≡◌, ℕ, zero, suc, ◌+◌, ◌*◌, ◌<◌, ◌≤◌, Bool, true, false, List, [], ◌∷◌, ◌++◌, length, take, map, refl, sym, ap, ◌∙◌, subst, arith, append-nil, if◌then◌else◌, append_assoc, length-append}
+use Rattle.std.proofs.Common.{◌≡◌, ℕ, zero, suc, ◌+◌, ◌*◌, ◌<◌, ◌≤◌, Bool, true, false, List, [], ◌∷◌, ◌++◌, length, take, map, replicate, refl, sym, ap, ◌∙◌, subst, arith, append-nil, if◌then◌else◌, append_assoc, length-append}
 use Rattle.std.specs.Prelude.{◌==◌, ◌&&◌, not}
 use Rattle.std.specs.List.{AllByRecursion as All}
 use Rattle.std.proofs.Math.Seq.{take-length}
@@ -10,6 +10,7 @@ use Rattle.bw_codec.specs.declared.record.Record.{Record}
 use Rattle.bw_ring.specs.Marks.{Marked, marked}
 use Rattle.bw_versions.specs.declared.entry.Entry.{Entry}
 use Rattle.bw_store.specs.History.{entered, is_grouped, are_whole, ends_in}
+use Rattle.bw_store.specs.Kept.{AreCuts}
 
 both : (x y : Bool) → x ≡ true → y ≡ true → (x && y) ≡ true
 both x y a b = ap (λ z. z && y) a ∙ b
@@ -73,3 +74,26 @@ pub length_marked : (g : List Record) → length (marked g) ≡ length g
 length_marked [] = refl
 length_marked (r ∷ []) = refl
 length_marked (r ∷ s ∷ rs) = (let rest = length_marked (s ∷ rs) in omega arith)
+
+-- ---- a store's cuts
+
+from_low : (from : ℕ) (cs : List ℕ) (n : ℕ) → AreCuts from cs n → from ≤ n
+from_low from [] n h = h
+from_low from (c ∷ cs) n h = (let low = h.0 in let rest = from_low c cs n h.1 in omega arith)
+
+pub cuts_inside : (from : ℕ) (cs : List ℕ) (n : ℕ) → AreCuts from cs n → All (λ c. c ≤ n) cs
+cuts_inside from [] n h = tt
+cuts_inside from (c ∷ cs) n h = (from_low c cs n h.1, cuts_inside c cs n h.1)
+
+-- a group is entered behind cuts
+pub whole_entered : (cuts : List ℕ) (before after : List Entry) (w : ℕ) (g : List Record) → AreCuts 0 cuts (length before) → are_whole cuts before ≡ true
+    → after ≡ before ++ entered w (marked g) → are_whole cuts after ≡ true
+whole_entered cuts before after w g ordered was is =
+    ap (are_whole cuts) is ∙ whole_more cuts before (entered w (marked g)) (cuts_inside 0 cuts (length before) ordered) was
+
+-- so many cuts where the history ends
+pub whole_many : (cuts more : List ℕ) (es : List Entry) (count end : ℕ) → are_whole cuts es ≡ true → is_grouped es ≡ true → end ≡ length es
+    → more ≡ cuts ++ replicate count end → are_whole more es ≡ true
+whole_many cuts more es zero end h g is e = ap (λ (cs : List ℕ). are_whole cs es) (e ∙ append-nil cuts) ∙ h
+whole_many cuts more es (suc count) end h g is e =
+    whole_many (cuts ++ end ∷ []) more es count end (whole_cut cuts es end h g is) g is (e ∙ sym (append_assoc cuts (end ∷ []) (replicate count end)))

@@ -29,7 +29,7 @@ use Rattle.bw_store.specs.Adding.{with_blocks}
 use Rattle.bw_store.specs.Share.{ops_of, ops_at, cut_of, cuts_in, base_of, bases_in}
 use Rattle.bw_store.specs.Tails.{makes, is_made, tail_for}
 
-all-append : {X : Type 0} (P : X → Type 0) (xs ys : List X) → All P xs → All P ys → All P (xs ++ ys)
+pub all-append : {X : Type 0} (P : X → Type 0) (xs ys : List X) → All P xs → All P ys → All P (xs ++ ys)
 all-append P [] ys h k = k
 all-append P (x ∷ xs) ys h k = (h.0, all-append P xs ys h.1 k)
 

@@ -22,6 +22,12 @@ pub mod Laned
 pub mod Grouped
 pub mod Planned
 pub mod Drafts
+pub mod Ahead
+pub mod Drafted
+pub mod GroupMore
+pub mod Fetched
+pub mod LayMore
+pub mod RowsMore
 pub mod Shares
 pub mod Fresh
 pub mod FollowMore

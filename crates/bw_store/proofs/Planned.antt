@@ -1,7 +1,7 @@
 -- What was planned is what the record adds, and it is short.
 
-use Rattle.std.proofs.Common.{◌≡◌, ℕ, ◌+◌, ◌-◌, ◌*◌, ◌^◌, ◌<◌, ◌≤◌, true, false, Option, Some, None, Result, Ok, Err, inl, inr, List, [], ◌∷◌}
-use Rattle.std.proofs.Common.{Bool, length, refl, sym, ap, ◌∙◌, subst, arith, if◌then◌else◌, length-append, append-nil}
+use Rattle.std.proofs.Common.{◌≡◌, ℕ, ◌+◌, ◌-◌, ◌*◌, ◌/◌, ◌^◌, ◌<◌, ◌≤◌, true, false, Option, Some, None, Result, Ok, Err, inl, inr, List, [], ◌∷◌}
+use Rattle.std.proofs.Common.{Bool, length, refl, sym, ap, ◌∙◌, subst, arith, if◌then◌else◌, length-append, length-drop, append-nil}
 use Rattle.std.specs.Prelude.{nat_le, IsTrue, ◌↔◌, IfOk, IfErr, OnOk, OnErr}
 use Rattle.bw_store.specs.declared.planning.Plan.{Plan}
 use Rattle.bw_store.specs.Planning.{listed}
@@ -37,6 +37,7 @@ use Rattle.bw_store.proofs.Joins.{added_shorter}
 use Rattle.bw_store.proofs.Growing.{Takes, blocks_lawful}
 use Rattle.bw_store.proofs.FramesBehind.{following_fits}
 use Rattle.bw_store.specs.Adding.{here_for, blocks_for, nowhere, result_of, upper_if, planned}
+use Rattle.bw_page.proofs.Law as law
 use Rattle.bw_page.proofs.PageByPage.{home_there}
 
 -- the leaf of a record's page is in memory where the page is
@@ -86,22 +87,28 @@ pairs_short (p ∷ ps) h =
 one_op : (r : Record) → IsOp r → length (flat_map op_bytes (r ∷ [])) ≤ 195
 one_op r h = (let e = ap length (append-nil (op_bytes r)) in let s = op_short r h in omega arith)
 
-pub blocks_short : (m : ℕ) (leaves : List Leaf) (back here : Place) (r : Record) → m ≤ 32 → IsOp r → All (IsBlock m) (blocks_for m leaves back here r)
-    → length (body_bytes (blocks_for m leaves back here r)) ≤ 7000
-blocks_short m leaves back here r le op lawful =
+half_top : (m : ℕ) → m ≤ 32 → m + 1 ≤ (m + 1) / 2 + 17
+half_top m le = omega arith
+
+pub blocks_short : (m : ℕ) (leaves : List Leaf) (back here : Place) (r : Record) → m ≤ 32 → AreLeaves m leaves → IsOp r
+    → All (IsBlock m) (blocks_for m leaves back here r) → length (body_bytes (blocks_for m leaves back here r)) ≤ 3600
+blocks_short m leaves back here r le a op lawful =
     elim (nat_le (length (result_of leaves r).pairs) m) as (λ b.
     All (IsBlock m) (if b then Delta (directed_at leaves r) back (r ∷ []) ∷ [] else Delta (directed_at leaves r) back (r ∷ []) ∷ Split
     (directed_at leaves r) here (upper_of m (length leaves + 1) (result_of leaves r)) ∷ [])
     → length (body_bytes (if b then Delta (directed_at leaves r) back (r ∷ []) ∷ [] else Delta (directed_at leaves r) back (r ∷ []) ∷ Split
-    (directed_at leaves r) here (upper_of m (length leaves + 1) (result_of leaves r)) ∷ [])) ≤ 7000) [
+    (directed_at leaves r) here (upper_of m (length leaves + 1) (result_of leaves r)) ∷ [])) ≤ 3600) [
       | true ↦ λ h. (let e = ap length (append-nil (block_bytes (Delta (directed_at leaves r) back (r ∷ []))))
           in let d = length-delta (directed_at leaves r) back (r ∷ []) in let s = one_op r op in omega arith)
       | false ↦ λ h. (
           let u = upper_of m (length leaves + 1) (result_of leaves r) in
           let split = h.1.0 in
-          let count = split.makes.count in
           let low = split.makes.low in
           let pairs = pairs_short u.pairs split.makes.pairs in
+          let few = (law.directed m leaves r a op).few in
+          let half = half_top m le in
+          let long = length-drop ((m + 1) / 2) (result_of leaves r).pairs in
+          let count : length u.pairs ≤ 17 = omega arith in
           let e = length-append (block_bytes (Delta (directed_at leaves r) back (r ∷ []))) (body_bytes (Split (directed_at leaves r) here u ∷ [])) in
           let f = ap length (append-nil (block_bytes (Split (directed_at leaves r) here u))) in
           let d = length-delta (directed_at leaves r) back (r ∷ []) in
@@ -119,7 +126,7 @@ room_is m leaves item key page pages n leaf a k at there same count room over =
     let bound = room (omega arith) in
     omega arith
 
-takes_by : (s : Kept) → IsSound s → (item : Record) (back : Place) → IsOp item → HasPage s.filed.m s.filed.leaves item → s.log.next ≡ Some s.making.frame
+pub takes_by : (s : Kept) → IsSound s → (item : Record) (back : Place) → IsOp item → HasPage s.filed.m s.filed.leaves item → s.log.next ≡ Some s.making.frame
     → size_of s.making ≤ s.making.limit
     → slice_get s.newest (directed_at s.filed.leaves item - 1) ≡ Some back
     → Takes s.filed.m (logs.counted s.log) (frame_of s.making) s.filed.leaves s.newest back item
@@ -150,7 +157,7 @@ some_blocks s item back =
 pub plan_lawful : (s : Kept) → IsSound s → (item : Record) (back : Place) (blocks : List Block) → IsOp item → HasPage s.filed.m s.filed.leaves item
     → s.log.next ≡ Some s.making.frame → size_of s.making ≤ s.making.limit
     → slice_get s.newest (directed_at s.filed.leaves item - 1) ≡ Some back → blocks ≡ blocks_for s.filed.m s.filed.leaves back (here_at s item) item
-    → All (IsBlock 32) blocks × (length blocks ≤ 2) × (1 ≤ length blocks) × (length (body_bytes blocks) ≤ 7000)
+    → All (IsBlock 32) blocks × (length blocks ≤ 2) × (1 ≤ length blocks) × (length (body_bytes blocks) ≤ 3600)
 plan_lawful s h item back blocks op room next fits last made =
     let t = takes_by s h item back op room next fits last in
     let all = blocks_lawful s.filed.m (logs.counted s.log) (frame_of s.making) s.filed.leaves s.newest back item t in
@@ -161,8 +168,8 @@ plan_lawful s h item back blocks op room next fits last made =
       subst (All (IsBlock 32)) (sym made) (blocks_wider s.filed.m 32 _ le all),
       subst (λ (bs : List Block). length bs ≤ 2) (sym made) some.1,
       subst (λ (bs : List Block). 1 ≤ length bs) (sym made) some.0,
-      subst (λ (bs : List Block). length (body_bytes bs) ≤ 7000) (sym made)
-          (blocks_short s.filed.m s.filed.leaves back (here_at s item) item le op all),
+      subst (λ (bs : List Block). length (body_bytes bs) ≤ 3600) (sym made)
+          (blocks_short s.filed.m s.filed.leaves back (here_at s item) item le h.grown.stands.lawful op all),
     )
 
 -- the same of what planning answers
@@ -171,7 +178,7 @@ module _ (s : Kept) (h : IsSound s) (item : Record) (op : IsOp item) (next : s.l
     (at : here ≡ here_for (frame_of s.making) page) where
   plan_all : (p : Plan) → p.page ≡ directed_at s.filed.leaves item → slice_get s.newest (p.page - 1) ≡ Some p.back → HasPage s.filed.m s.filed.leaves item
       → listed p.blocks ≡ blocks_for s.filed.m s.filed.leaves p.back here item
-      → All (IsBlock 32) (listed p.blocks) × (length (listed p.blocks) ≤ 2) × (1 ≤ length (listed p.blocks)) × (length (body_bytes (listed p.blocks)) ≤ 7000)
+      → All (IsBlock 32) (listed p.blocks) × (length (listed p.blocks) ≤ 2) × (1 ≤ length (listed p.blocks)) × (length (body_bytes (listed p.blocks)) ≤ 3600)
   plan_all p page back room blocks =
       plan_lawful s h item p.back (listed p.blocks) op room next (omega arith)
       (subst (λ (n : ℕ). slice_get s.newest (n - 1) ≡ Some p.back) page back)
@@ -187,7 +194,7 @@ module _ (s : Kept) (h : IsSound s) (item : Record) (op : IsOp item) (next : s.l
   pub answer_short : (o : Result Plan StoreFault) → IfOk o (λ p. p.page ≡ directed_at s.filed.leaves item)
       → IfOk o (λ p. slice_get s.newest (p.page - 1) ≡ Some p.back) → OnOk o (HasPage s.filed.m s.filed.leaves item)
       → IfOk o (λ p. listed p.blocks ≡ blocks_for s.filed.m s.filed.leaves p.back here item)
-      → IfOk o (λ p. length (body_bytes (listed p.blocks)) ≤ 7000)
+      → IfOk o (λ p. length (body_bytes (listed p.blocks)) ≤ 3600)
   answer_short (Err e) page back room blocks = tt
   answer_short (Ok p) page back room blocks = (plan_all p page back room blocks).3
 
@@ -228,7 +235,7 @@ pub flushed_empty : (old new : Kept) (o : Option ℕ) → FlushLeaves old (Ok o)
 flushed_empty old new None f = ap (λ (s : Kept). s.making.blocks) f.0 ∙ f.1
 flushed_empty old new (Some n) f = ap (λ (s : Kept). s.making.blocks) f.is ∙ f.empty
 
-pub fits_empty : (s : Kept) (blocks : List Block) → IsSound s → s.making.blocks ≡ [] → length (body_bytes blocks) ≤ 7000
+pub fits_empty : (s : Kept) (blocks : List Block) → IsSound s → s.making.blocks ≡ [] → length (body_bytes blocks) ≤ 3600
     → size_of (with_all s.making blocks) ≤ s.making.limit
 fits_empty s blocks h empty few =
     let shorter = added_shorter s.making.blocks blocks in

@@ -1,7 +1,8 @@
 -- A group that is planned record by record: what is known of it so far, and of the pages that it touches.
 
-use Rattle.std.specs.Prelude.{ℕ, ◌+◌, ◌-◌, ◌≡◌, ◌≤◌, ◌==◌, ◌||◌, Bool, false, if◌then◌else◌, Option, Some, None, is_none, unwrap_or, List, [], ◌∷◌, ◌++◌, length, map, slice_get, slice_set}
-use Rattle.std.specs.List.{fold}
+use Rattle.std.specs.Prelude.{ℕ, ◌+◌, ◌-◌, ◌≡◌, ◌≤◌, ◌==◌, ◌||◌, Bool, false, if◌then◌else◌, Option, Some, None, is_none, is_some, unwrap_or, List, [], ◌∷◌, ◌++◌, length, map, slice_get, slice_set}
+use Rattle.std.specs.List.{fold, AllByRecursion}
+use Rattle.bw_codec.specs.Grammar.{IsBlock}
 use Rattle.bw_codec.specs.declared.record.Record.{Record}
 use Rattle.bw_codec.specs.declared.leaf.Leaf.{Leaf}
 use Rattle.bw_codec.specs.declared.block.Place.{Place}
@@ -14,6 +15,7 @@ use Rattle.bw_store.specs.declared.drafting.Draft.{Draft}
 use Rattle.bw_store.specs.Adding.{Drawn, count_after, here_for, last_for, result_of, upper_if, planned, nowhere, drawn_by, blocks_all}
 use Rattle.bw_store.specs.Fitting.{Fits, drawn_of, group_blocks}
 use Rattle.bw_store.specs.Kept.{Kept, IsSound}
+use Rattle.bw_store.specs.Tails.{tails_after}
 use Rattle.bw_store.specs.Taken.{alone, taken_all}
 
 -- ---- what each record of a group does to the places
@@ -38,6 +40,21 @@ set_by (Some made) page place newest = slice_set newest (page - 1) place ++ plac
 
 abbrev pub set_row : List Place → Row → List Place
 set_row newest row = set_by row.made row.page row.place newest
+
+-- each row's page is among the pages that there are when its turn comes
+abbrev pub count_by : Option ℕ → ℕ → ℕ
+count_by None n = n
+count_by (Some made) n = n + 1
+
+abbrev pub AreIn : ℕ → List Row → Type 0
+AreIn n [] = Unit {0}
+AreIn n (row ∷ rows) = ((1 ≤ row.page) × (row.page ≤ n)) × AreIn (count_by row.made n) rows
+
+-- the tails behind it
+abbrev pub tails_all : List Row → List Record → List (Option (List Record)) → List (Option (List Record))
+tails_all [] rs tails = tails
+tails_all (row ∷ rows) [] tails = tails
+tails_all (row ∷ rows) (r ∷ rs) tails = tails_all rows rs (tails_after row.page r (is_some row.made) tails)
 
 -- ---- what a look at the rows tells
 
@@ -96,6 +113,7 @@ drawn_behind s done = fold (drawn_by s.filed.m) (drawn_of s) done
 
 pub record IsAhead (s : Kept) (done : List Record) (draft : Draft) : Type 0 where
   pub blocks : draft.blocks.items ≡ group_blocks s done
+  pub lawful : AllByRecursion (IsBlock 32) draft.blocks.items
   pub rows : draft.rows.items ≡ rows_all s.filed.m (drawn_of s) done
   pub count : draft.count ≡ length (drawn_behind s done).frame.blocks
   pub places : (p : ℕ) → 1 ≤ p → p ≤ length (drawn_behind s done).leaves
@@ -116,6 +134,7 @@ pub record Stands (s : Kept) (lane : ℕ) (done : List Record) : Type 0 where
 
 pub record IsDraft (s : Kept) (group : List Record) (draft : Draft) : Type 0 where
   pub blocks : draft.blocks.items ≡ group_blocks s group
+  pub lawful : AllByRecursion (IsBlock 32) draft.blocks.items
   pub rows : draft.rows.items ≡ rows_all s.filed.m (drawn_of s) group
   pub fits : Fits s group
   pub room : HasPages s.filed.m s.filed.leaves group

@@ -49,6 +49,10 @@ tail_of (Some tail) = Some tail.records
 abbrev pub HasRoomAt : List (Option Tailed) → ℕ → Type 0
 HasRoomAt tails at = IfSome (slice_index_or tails at None) (λ tail. 1 ≤ tail.room)
 
+-- there is room for so many more records at this index
+abbrev pub HasRoomsAt : ℕ → List (Option Tailed) → ℕ → Type 0
+HasRoomsAt more tails at = IfSome (slice_index_or tails at None) (λ tail. more ≤ tail.room)
+
 -- ---- one record, and one frame
 
 abbrev pub with_one : Record → Option (List Record) → Option (List Record)

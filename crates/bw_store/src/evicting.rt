@@ -1,6 +1,6 @@
 //! Pages leave memory, and are read from the log where they are away.
 
-ghost use Rattle.std.specs.Prelude.{ℕ, ◌≡◌, ◌≤◌, ◌==◌, ◌↔◌, ◌&&◌, not, true, false, None, Some, length, if◌then◌else◌, IfOk, IfErr, OnOk, IsErrOf};
+ghost use Rattle.std.specs.Prelude.{ℕ, ◌≡◌, ◌≤◌, ◌==◌, ◌↔◌, ◌&&◌, not, true, false, None, Some, List, length, if◌then◌else◌, IfOk, IfErr, OnOk, IsErrOf};
 ghost use Rattle.bw_log.specs.Reads.{HoldsPage};
 ghost use Rattle.bw_page.specs.Leaves.{leaf_at, home};
 ghost use Rattle.bw_page.specs.Shown.{is_away, IsHere};
@@ -76,6 +76,8 @@ impl Store {
         requires sound { IsSound self.old holding }
         ensures page { IfOk result (λ page. page ≡ (home key.now self.new.leaves.leaves).page) }
         ensures here { OnOk result (IsHere key.now self.new.leaves) }
+        ensures others { OnOk result ((other : List ℕ) → IsHere other self.old.leaves
+            → IsHere other self.new.leaves) }
         ensures sound { IsSound self.new holding }
         ensures intake { self.new.intake ≡ self.old.intake }
         ensures read { HasRead (kept_by self.old holding) (kept_by self.new holding) }

@@ -4,13 +4,15 @@
 //! has of it. So a chain over the log is kept for each page, here or away, until the frame is
 //! appended. A page that the frame makes or cuts has none: it stays until the log has it whole.
 
-ghost use Rattle.std.specs.Prelude.{ℕ, ◌≡◌, ◌≤◌, ◌<◌, ◌-◌, ◌++◌, ◌∷◌, [], true, Some, None, length, map, vec_len, slice_set, IfOk, IfSome, OnOk};
+ghost use Rattle.std.specs.Prelude.{ℕ, ◌≡◌, ◌≤◌, ◌<◌, ◌+◌, ◌-◌, ◌++◌, ◌∷◌, [], true, Some, None, length, map, vec_len, slice_set, IfOk, IfSome, OnOk};
 ghost use Rattle.std.specs.Vec.{vec_capacity};
 ghost use Rattle.bw_page.specs.Leaves.{all_changed};
 ghost use Rattle.bw_codec.specs.Touch.{touches};
-ghost use Rattle.std.specs.List.{list_any};
-ghost use Rattle.bw_store.specs.Tails.{tail_of, tails_for, tails_after, rest_by, with_one, HasRoomAt, IsMarkWithin};
+ghost use Rattle.std.specs.List.{list_any, AllByRecursion};
+ghost use Rattle.bw_store.specs.Drafting.{AreIn, tails_all};
+ghost use Rattle.bw_store.specs.Tails.{tail_of, tails_for, tails_after, rest_by, with_one, HasRoomAt, HasRoomsAt, IsMarkWithin};
 
+use crate::drafting::Row;
 use bw_buffer::{Buffer, Mark};
 use bw_codec::{Leaf, Place, Record};
 use bw_page::Chain;
@@ -50,18 +52,20 @@ impl Tail {
         }
     }
 
-    /// Room for one more record.
-    fn reserve(&mut self) -> Result<(), AllocError>
+    /// Room for so many more records.
+    fn reserve(&mut self, more: usize) -> Result<(), AllocError>
         ensures records { self.new.records ≡ self.old.records }
-        ensures room { OnOk result (1 ≤ self.new.room) }
+        ensures room { OnOk result (more ≤ self.new.room) }
+        ensures kept { self.old.room ≤ self.new.room }
     {
-        self.chain.reserve(1)
+        self.chain.reserve(more)
     }
 
     /// Adds the newest record.
     fn push(&mut self, item: Record)
         requires { 1 ≤ self.old.room }
-        ensures { self.new.records ≡ self.old.records ++ item ∷ [] }
+        ensures records { self.new.records ≡ self.old.records ++ item ∷ [] }
+        ensures room { self.old.room ≤ self.new.room + 1 }
     {
         match self.chain.prepend(item) {
             Ok(()) => {}
@@ -113,7 +117,50 @@ fn reserve_one(tail: &mut Option<Tail>) -> Result<(), AllocError>
     ensures room { OnOk result (IfSome tail.new (λ t. 1 ≤ t.room)) }
 {
     match tail {
-        Some(tail) => tail.reserve(),
+        Some(tail) => tail.reserve(1),
+        None => Ok(()),
+    }
+}
+
+/// Room for as many pages more as a group may make, and for as many records more of each page of its
+/// records. A page that the group itself makes has no tail.
+pub(crate) fn reserve_all(tails: &mut Vec<Option<Tail>>, rows: &[Row]) -> Result<(), AllocError>
+    requires { AllByRecursion (λ row. 1 ≤ row.page) rows.now }
+    ensures same { map tail_of tails.new.items ≡ map tail_of tails.old.items }
+    ensures room { OnOk result (vec_len tails.new + 4 ≤ vec_capacity tails.new) }
+    ensures links { OnOk result
+        (AllByRecursion (λ row. HasRoomsAt 4 tails.new.items (row.page - 1)) rows.now) }
+{
+    tails.reserve(4)?;
+    'rows: for at in 0..rows.len() {
+        reserve_at(tails, rows[at].page)?;
+    }
+    Ok(())
+}
+
+fn reserve_at(tails: &mut Vec<Option<Tail>>, page: u32) -> Result<(), AllocError>
+    requires { 1 ≤ page }
+    ensures same { map tail_of tails.new.items ≡ map tail_of tails.old.items }
+    ensures link { OnOk result (HasRoomsAt 4 tails.new.items (page - 1)) }
+    ensures capacity { vec_capacity tails.new ≡ vec_capacity tails.old }
+    ensures len { vec_len tails.new ≡ vec_len tails.old }
+    ensures kept { (more at : ℕ) → HasRoomsAt more tails.old.items at
+        → HasRoomsAt more tails.new.items at }
+{
+    if page as usize > tails.as_slice().len() {
+        return Ok(());
+    }
+    reserve_four(&mut tails[page as usize - 1])
+}
+
+fn reserve_four(tail: &mut Option<Tail>) -> Result<(), AllocError>
+    ensures same { tail_of tail.new ≡ tail_of tail.old }
+    ensures room { OnOk result (IfSome tail.new (λ t. 4 ≤ t.room)) }
+    ensures kept { (more : ℕ) → IfSome tail.old (λ t. more ≤ t.room)
+        → IfSome tail.new (λ t. more ≤ t.room) }
+{
+    match tail {
+        Some(tail) => tail.reserve(4),
         None => Ok(()),
     }
 }
@@ -123,8 +170,12 @@ pub(crate) fn note(tails: &mut Vec<Option<Tail>>, page: u32, item: &Record, cuts
     requires inside { (1 ≤ page) × (page ≤ length tails.old.items) }
     requires room { vec_len tails.old < vec_capacity tails.old }
     requires link { HasRoomAt tails.old.items (page - 1) }
-    ensures { map tail_of tails.new.items
+    ensures value { map tail_of tails.new.items
         ≡ tails_after page item.now cuts (map tail_of tails.old.items) }
+    ensures capacity { vec_capacity tails.new ≡ vec_capacity tails.old }
+    ensures len { vec_len tails.new ≤ vec_len tails.old + 1 }
+    ensures links { (more at : ℕ) → HasRoomsAt (more + 1) tails.old.items at
+        → HasRoomsAt more tails.new.items at }
 {
     let _ = tails.as_slice().len();
     let at = page as usize - 1;
@@ -137,17 +188,36 @@ pub(crate) fn note(tails: &mut Vec<Option<Tail>>, page: u32, item: &Record, cuts
 }
 
 fn forget(tail: &mut Option<Tail>)
-    ensures { tail_of tail.new ≡ None }
+    ensures value { tail_of tail.new ≡ None }
+    ensures none { tail.new ≡ None }
 {
     *tail = None;
 }
 
 fn add_to(tail: &mut Option<Tail>, item: &Record)
     requires { IfSome tail.old (λ t. 1 ≤ t.room) }
-    ensures { tail_of tail.new ≡ with_one item.now (tail_of tail.old) }
+    ensures value { tail_of tail.new ≡ with_one item.now (tail_of tail.old) }
+    ensures links { (more : ℕ) → IfSome tail.old (λ t. more + 1 ≤ t.room)
+        → IfSome tail.new (λ t. more ≤ t.room) }
 {
     if let Some(tail) = tail {
         tail.push(item.copy());
+    }
+}
+
+/// Notes the records of a group, one after the other.
+pub(crate) fn note_all(tails: &mut Vec<Option<Tail>>, rows: &[Row], records: &[Record])
+    requires inside { AreIn (length tails.old.items) rows.now }
+    requires many { length rows.now ≡ length records.now }
+    requires room { vec_len tails.old + length rows.now ≤ vec_capacity tails.old }
+    requires links { AllByRecursion
+        (λ row. HasRoomsAt (length rows.now) tails.old.items (row.page - 1)) rows.now }
+    ensures { map tail_of tails.new.items
+        ≡ tails_all rows.now records.now (map tail_of tails.old.items) }
+{
+    'rows: for at in 0..rows.len() {
+        let row = rows[at];
+        note(tails, row.page, &records[at], row.made.is_some());
     }
 }
 

@@ -146,8 +146,16 @@ impl Store {
         ensures leaves { GroupLeaves lane group (kept_by self.old holding) result
             (kept_by self.new holding) }
     {
-        let _ = (lane, group);
-        unreachable!()
+        self.goes_on()?;
+        self.fetch_all(group.as_slice())?;
+        if let Some(draft) = self.draft(lane, group.as_slice())? {
+            return self.enter_all(lane, group, &draft);
+        }
+        self.flush_making(false)?;
+        let Some(draft) = self.draft(lane, group.as_slice())? else {
+            unreachable!();
+        };
+        self.enter_all(lane, group, &draft)
     }
 
     // A copy of the group that a lane gives next.
@@ -193,7 +201,7 @@ impl Store {
         ensures plan { IfOk result (IsPlan (kept_by self.now holding) item.now) }
         ensures lawful { IfOk result (λ p. AllByRecursion (IsBlock 32) (listed p.blocks)
             × (length (listed p.blocks) ≤ 2)) }
-        ensures short { IfOk result (λ p. length (body_bytes (listed p.blocks)) ≤ 7000) }
+        ensures short { IfOk result (λ p. length (body_bytes (listed p.blocks)) ≤ 3600) }
         ensures refused { IfErr result
             (IsUnplanned (kept_by self.now holding) (item.now ∷ [])) }
     {

@@ -7,6 +7,8 @@ use Rattle.bw_store.specs.Tails.{tails_for, is_made}
 use Rattle.bw_store.specs.Views.{kept_by}
 use Rattle.bw_store.proofs.TailLists.{as_many}
 use Rattle.bw_store.proofs.AwayPages.{touched_within}
+use Rattle.bw_store.specs.History.{are_whole}
+use Rattle.bw_store.proofs.Grouped.{whole_cut}
 use Rattle.bw_store.proofs.MayAppend.{may_follow_at, flushed_at, appended_now, stopped_at}
 use Rattle.bw_store.proofs.store.Store.append_making.Goals as goal
 
@@ -33,6 +35,9 @@ rest-requires-clause-tails g c =
 
 pub invariant_of-self : goal.invariant_of-self
 invariant_of-self g c = record {
+  whole = ap (λ (cs : List ℕ). are_whole cs c.args.self.now.intake.history.items) c.push_reserved.ensures.items
+      ∙ whole_cut c.args.self.now.cuts.items c.args.self.now.intake.history.items _ c.args.self.now.whole c.args.self.now.intake.grouped
+      (ap length c.as_slice.ensures.value);
   tailed = c.rest.ensures
       ∙ ap (λ (n : ℕ). tails_for n []) (as_many _ _ c.args.self.now.making.blocks c.args.self.now.tailed)
       ∙ ap (tails_for (length c.args.self.now.leaves.leaves)) (sym c.begin_next.ensures.empty);

@@ -1,4 +1,4 @@
-use Rattle.std.proofs.Common.{◌≡◌, ◌∙◌, ◌+◌, ℕ, List, true, length, map, ap, subst, sym, arith}
+use Rattle.std.proofs.Common.{◌≡◌, ◌∙◌, ◌+◌, ◌++◌, ◌∷◌, [], ℕ, List, true, length, map, ap, subst, sym, arith}
 use Rattle.std.specs.Prelude.{nat_lt}
 use Rattle.bw_codec.specs.declared.block.Block.{Block}
 use Rattle.bw_codec.specs.declared.leaf.Leaf.{Leaf}
@@ -15,6 +15,10 @@ use Rattle.bw_store.proofs.TailLists.{as_many}
 use Rattle.bw_page.specs.Shown.{IsSpent}
 use Rattle.bw_store.specs.Kept.{filed_of}
 use Rattle.bw_store.specs.Kept as kept
+use Rattle.bw_versions.specs.declared.entry.Entry.{Entry}
+use Rattle.bw_ring.specs.Marks.{marked}
+use Rattle.bw_store.specs.History.{entered as entries_of}
+use Rattle.bw_store.proofs.Grouped.{whole_entered}
 use Rattle.bw_store.proofs.MayEnter.{enters_at, file_one, file_page, file_lawful, entered, entered_sound, lane_inside}
 use Rattle.bw_ring.specs.Ends.{ring_of_lane}
 use Rattle.bw_store.proofs.store.Store.enter.Goals as goal
@@ -49,7 +53,9 @@ invariant_of-self-2 g c =
     ap (λ (b : Filling). b.blocks) c.file.ensures.making ∙ ap (added was.making.blocks) c.requires.blocks in
     let leaves = ap (λ (x : Shown). x.leaves) c.in_ok-apply_on.ensures.ok in
     record {
-      tailed = c.note.ensures
+      whole = whole_entered was.cuts.items was.intake.history.items c.enter.new.self.history.items c.args.lane (c.args.item ∷ [])
+          c.requires.sound.ordered was.whole (c.enter.ensures.grows ∙ ap (λ (es : List Entry). es ++ entries_of c.args.lane (marked (c.args.item ∷ []))) c.reserve.ensures.history);
+      tailed = c.note.ensures.value
           ∙ ap (tails_after c.args.page c.args.item (nat_lt 1 (length c.args.blocks.now))) (c.reserve_for.ensures.same ∙ was.tailed)
           ∙ ap (λ (p : ℕ). tails_after p c.args.item (nat_lt 1 (length c.args.blocks.now)) (tails_for (length f.leaves) was.making.blocks)) at
           ∙ sym (tails_entered f.m f.leaves c.args.back here c.args.item was.making.blocks (omega arith) c.count.ensures.lawful c.key.ensures.lawful

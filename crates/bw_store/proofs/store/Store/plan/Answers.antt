@@ -21,6 +21,3 @@ returns-clause-short g c =
     c.args.page c.requires.page c.place_for-here.result c.place_for-here.ensures
     c.planned_for.result c.planned_for.ensures.page (rw (sym c.deref.ensures.value) c.planned_for.ensures.back) c.planned_for.ensures.room
     c.planned_for.ensures.blocks
-
-pub returns-clause-refused : goal.returns-clause-refused
-returns-clause-refused g c = ?

@@ -1,0 +1,76 @@
+-- Row after row of a group is noted.
+
+use Rattle.std.proofs.Common.{◌≡◌, ℕ, zero, suc, ◌+◌, ◌-◌, ◌<◌, ◌≤◌, Option, Some, None, List, [], ◌∷◌, ◌++◌, length, take, drop, get_or, refl, sym, ap, ◌∙◌, subst, arith}
+use Rattle.std.specs.Prelude.{is_some, IfSome, slice_set}
+use Rattle.std.specs.List.{AllByRecursion as All, fold, slice_index_or}
+use Rattle.std.proofs.lemmas.List.{take_more}
+use Rattle.bw_codec.specs.declared.record.Record.{Record}
+use Rattle.bw_codec.specs.declared.block.Place.{Place}
+use Rattle.bw_store.specs.declared.drafting.Row.{Row}
+use Rattle.bw_store.specs.Drafting.{AreIn, count_by, set_row, tails_all}
+use Rattle.bw_store.specs.Tails.{HasRoomsAt, Tailed, tails_after}
+use Rattle.bw_store.proofs.Joins.{all-append}
+
+pub drop_at : {X : Type 0} (xs : List X) (i : ℕ) (x : X) → i < length xs → x ≡ get_or xs i x → drop i xs ≡ x ∷ drop (i + 1) xs
+drop_at [] i x lt is = absurd (omega arith)
+drop_at {X} (y ∷ ys) zero x lt is = ap (λ (z : X). z ∷ ys) (sym is)
+drop_at (y ∷ ys) (suc i) x lt is = drop_at ys i x (omega arith) is
+
+pub drop_all : {X : Type 0} (xs : List X) (n : ℕ) → (n < length xs → ⊥) → drop n xs ≡ []
+drop_all [] n end = refl
+drop_all (x ∷ xs) zero end = absurd (end (omega arith))
+drop_all (x ∷ xs) (suc n) end = drop_all xs n (λ lt. end (omega arith))
+
+pub all_at : {X : Type 0} (P : X → Type 0) (xs : List X) (i : ℕ) (x : X) → i < length xs → x ≡ get_or xs i x → All P xs → P x
+all_at P [] i x lt is h = absurd (omega arith)
+all_at {X} P (y ∷ ys) zero x lt is h = subst P (sym is) h.0
+all_at P (y ∷ ys) (suc i) x lt is h = all_at P ys i x (omega arith) is h.1
+
+pub all_by : {X : Type 0} (P Q : X → Type 0) (xs : List X) → ((x : X) → P x → Q x) → All P xs → All Q xs
+all_by P Q [] f h = tt
+all_by P Q (x ∷ xs) f h = (f x h.0, all_by P Q xs f h.1)
+
+pub all_push : {X : Type 0} (P : X → Type 0) (xs : List X) (i : ℕ) (x : X) → i < length xs → x ≡ get_or xs i x → All P (take i xs) → P x → All P (take (i + 1) xs)
+all_push P xs i x lt is h k =
+    subst (All P) (sym (take_more xs i x lt)) (all-append P (take i xs) (get_or xs i x ∷ []) h (subst P is k, tt))
+
+pub all_first : {X : Type 0} (P : X → Type 0) (xs : List X) (n : ℕ) → (n < length xs → ⊥) → All P (take n xs) → All P xs
+all_first P [] n end h = tt
+all_first P (x ∷ xs) zero end h = absurd (end (omega arith))
+all_first P (x ∷ xs) (suc n) end h = (h.0, all_first P xs n (λ lt. end (omega arith)) h.1)
+
+-- what is left of the rows
+
+pub in_here : (n : ℕ) (rows : List Row) (i : ℕ) (row : Row) → i < length rows → row ≡ get_or rows i row → AreIn n (drop i rows) → (1 ≤ row.page) × (row.page ≤ n)
+in_here n rows i row lt is h = (subst (AreIn n) (drop_at rows i row lt is) h).0
+
+pub in_rest : (n : ℕ) (rows : List Row) (i : ℕ) (row : Row) → i < length rows → row ≡ get_or rows i row → AreIn n (drop i rows)
+    → AreIn (count_by row.made n) (drop (i + 1) rows)
+in_rest n rows i row lt is h = (subst (AreIn n) (drop_at rows i row lt is) h).1
+
+pub set_rest : (rows : List Row) (i : ℕ) (row : Row) (was now : List Place) → i < length rows → row ≡ get_or rows i row → now ≡ set_row was row
+    → fold set_row now (drop (i + 1) rows) ≡ fold set_row was (drop i rows)
+set_rest rows i row was now lt is e =
+    ap (λ (ps : List Place). fold set_row ps (drop (i + 1) rows)) e ∙ ap (fold set_row was) (sym (drop_at rows i row lt is))
+
+pub set_end : (rows : List Row) (n : ℕ) (now : List Place) → (n < length rows → ⊥) → now ≡ fold set_row now (drop n rows)
+set_end rows n now end = ap (fold set_row now) (sym (drop_all rows n end))
+
+abbrev pub Told : Type 0
+Told = List (Option (List Record))
+
+pub tails_rest : (rows : List Row) (rs : List Record) (i : ℕ) (row : Row) (r : Record) (was now : Told) → i < length rows → row ≡ get_or rows i row
+    → i < length rs → r ≡ get_or rs i r → now ≡ tails_after row.page r (is_some row.made) was
+    → tails_all (drop (i + 1) rows) (drop (i + 1) rs) now ≡ tails_all (drop i rows) (drop i rs) was
+tails_rest rows rs i row r was now lt is lt_r is_r e =
+    ap (tails_all (drop (i + 1) rows) (drop (i + 1) rs)) e
+    ∙ ap (λ (l : List Record). tails_all (row ∷ drop (i + 1) rows) l was) (sym (drop_at rs i r lt_r is_r))
+    ∙ ap (λ (l : List Row). tails_all l (drop i rs) was) (sym (drop_at rows i row lt is))
+
+pub tails_end : (rows : List Row) (rs : List Record) (n : ℕ) (now : Told) → (n < length rows → ⊥) → now ≡ tails_all (drop n rows) (drop n rs) now
+tails_end rows rs n now end = ap (λ (l : List Row). tails_all l (drop n rs) now) (sym (drop_all rows n end))
+
+-- one more record of a page uses up at most one place
+pub rooms_less : (rows : List Row) (old new : List (Option Tailed)) (k : ℕ) → ((more at : ℕ) → HasRoomsAt (more + 1) old at → HasRoomsAt more new at)
+    → All (λ row. HasRoomsAt (k + 1) old (row.page - 1)) rows → All (λ row. HasRoomsAt k new (row.page - 1)) rows
+rooms_less rows old new k step h = all_by (λ (row : Row). HasRoomsAt (k + 1) old (row.page - 1)) (λ (row : Row). HasRoomsAt k new (row.page - 1)) rows (λ row x. step k (row.page - 1) x) h

@@ -1,0 +1,27 @@
+use Rattle.std.proofs.Common.{refl, sym, ap, ◌∙◌, subst, arith, length, drop}
+use Rattle.bw_store.specs.Drafting.{AreIn}
+use Rattle.bw_store.proofs.RowsMore.{in_here, in_rest, set_rest, set_end}
+use Rattle.bw_store.proofs.entering.set_all.Goals as goal
+
+pub rows-init : goal.rows-init
+rows-init c = record { rest = refl; inside = c.requires.inside; room = (let room = c.requires.room in omega arith) }
+
+pub rows-preserved : goal.rows-preserved
+rows-preserved c =
+    let i = c.rows.invariant in
+    let room = i.room in
+    let lt = c.rows-test.true in
+    let len = c.set_one.ensures.len in
+    let capacity = c.set_one.ensures.capacity in
+    record {
+      rest = set_rest c.args.rows.now c.rows.at _ _ _ lt c.index-rows.is c.set_one.ensures.items ∙ i.rest;
+      inside = subst (λ n. AreIn n (drop (c.rows.at + 1) c.args.rows.now)) (sym c.set_one.ensures.count)
+          (in_rest _ c.args.rows.now c.rows.at _ lt c.index-rows.is i.inside);
+      room = omega arith;
+    }
+
+pub set_one-requires-clause-inside : goal.set_one-requires-clause-inside
+set_one-requires-clause-inside c = in_here _ c.args.rows.now c.rows.at _ c.rows-test.true c.index-rows.is c.rows.invariant.inside
+
+pub returns : goal.returns
+returns c = set_end c.args.rows.now c.rows.at _ c.rows-test.false ∙ c.rows.invariant.rest

@@ -1,0 +1,10 @@
+use Rattle.std.proofs.Common.{◌≡◌, take}
+use Rattle.bw_store.specs.Drafting.{IsAhead, Stands}
+use Rattle.bw_store.specs.Views.{kept_by}
+use Rattle.bw_store.proofs.store.Store.lay.Given as goal
+
+abbrev pub invariant-records : goal.invariant-records
+invariant-records g l = record {
+  stands : Stands (kept_by l.self.now (λ z. (goal.Segment-dyn g z).holding z.1)) l.lane (take l.at l.records.now);
+  ahead : IsAhead (kept_by l.self.now (λ z. (goal.Segment-dyn g z).holding z.1)) (take l.at l.records.now) l.draft;
+}

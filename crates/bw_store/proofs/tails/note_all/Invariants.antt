@@ -1,0 +1,15 @@
+use Rattle.std.proofs.Common.{◌≡◌, ◌≤◌, ◌+◌, ◌-◌, length, map, drop}
+use Rattle.std.specs.Prelude.{vec_len}
+use Rattle.std.specs.Vec.{vec_capacity}
+use Rattle.std.specs.List.{AllByRecursion}
+use Rattle.bw_store.specs.Drafting.{AreIn, tails_all}
+use Rattle.bw_store.specs.Tails.{tail_of, HasRoomsAt}
+use Rattle.bw_store.proofs.tails.note_all.Given as goal
+
+abbrev pub invariant-rows : goal.invariant-rows
+invariant-rows l = record {
+  rest : tails_all (drop l.at l.rows.now) (drop l.at l.records.now) (map tail_of l.tails.items) ≡ tails_all l.rows.now l.records.now (map tail_of l.initial.tails.items);
+  inside : AreIn (length l.tails.items) (drop l.at l.rows.now);
+  room : vec_len l.tails + (length l.rows.now - l.at) ≤ vec_capacity l.tails;
+  links : AllByRecursion (λ row. HasRoomsAt (length l.rows.now - l.at) l.tails.items (row.page - 1)) l.rows.now;
+}
