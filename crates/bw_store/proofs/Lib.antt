@@ -28,6 +28,7 @@ pub mod GroupMore
 pub mod Fetched
 pub mod LayMore
 pub mod RowsMore
+pub mod EnterMore
 pub mod Shares
 pub mod Fresh
 pub mod FollowMore

@@ -6,6 +6,7 @@ use Rattle.bw_codec.specs.declared.leaf.Leaf.{Leaf}
 use Rattle.bw_codec.specs.declared.record.Record.{Record}
 use Rattle.bw_page.specs.Batch.{SomeIsSpent}
 use Rattle.bw_page.specs.Leaves.{Map, applied, changed_map, union, plain}
+use Rattle.bw_page.proofs.Runs.{all_here}
 use Rattle.bw_page.specs.Shown.{Shown, run}
 use Rattle.bw_page.proofs.Runs.{all_here}
 use Rattle.bw_versions.specs.declared.entry.Entry.{Entry}
@@ -41,3 +42,7 @@ pub returns-clause-spent : goal.returns-clause-spent
 returns-clause-spent c spent =
     c.in_ok-apply_all_of.ensures.spent
     (subst (λ (f : Shown). SomeIsSpent f (records c.args.more.now)) (sym (c.self.invariant.pages ∙ ap pages_of c.self.view_is)) spent)
+
+pub apply_all_of-requires : goal.apply_all_of-requires
+apply_all_of-requires c =
+    all_here c.self.inside.leaves (records c.args.more.now) (ap (λ (f : Shown). f.away) c.self.invariant.pages ∙ c.self.invariant.here)

@@ -1,0 +1,172 @@
+-- What entering a group asks of its growths, and the store behind it.
+
+use Rattle.std.proofs.Common.{◌≡◌, ℕ, zero, suc, ◌+◌, ◌-◌, ◌*◌, ◌^◌, ◌<◌, ◌≤◌, Bool, true, false, Option, Some, None, Result, Ok, Err, List, [], ◌∷◌, ◌++◌}
+use Rattle.std.proofs.Common.{length, map, refl, sym, ap, ◌∙◌, subst, arith, if◌then◌else◌, length-append}
+use Rattle.std.specs.Prelude.{nat_le, IfErr, OnOk, OnErr}
+use Rattle.std.specs.List.{AllByRecursion as All, fold}
+use Rattle.bw_codec.specs.Grammar.{IsBlock, IsOp}
+use Rattle.bw_codec.specs.declared.record.Record.{Record}
+use Rattle.bw_codec.specs.declared.leaf.Leaf.{Leaf}
+use Rattle.bw_codec.specs.declared.block.Place.{Place}
+use Rattle.bw_codec.specs.declared.block.Block.{Block}
+use Rattle.bw_codec.specs.declared.block.Block.TheVariants.{Delta, Base, Split}
+use Rattle.bw_page.specs.declared.fault.ApplyError.{ApplyError}
+use Rattle.bw_page.specs.declared.fault.ApplyError.TheVariants as apply
+use Rattle.bw_page.specs.Batch.{AreHere, SomeIsSpent}
+use Rattle.bw_page.specs.Leaves.{directed_at, pages, upper_of, HasPages}
+use Rattle.bw_page.specs.Seats.{is_among}
+use Rattle.bw_page.specs.Shown.{Shown, run}
+use Rattle.bw_buffer.specs.Filling.{Filling, frame_of, with_all, size_of}
+use Rattle.bw_ring.specs.Marks.{Marked, marked}
+use Rattle.bw_ring.specs.Ends.{Ring}
+use Rattle.bw_versions.specs.declared.entry.Entry.{Entry}
+use Rattle.std.proofs.lemmas.Grind.{fold-append}
+use Rattle.bw_buffer.specs.Joining.{joined, added}
+use Rattle.bw_store.specs.declared.drafting.Row.{Row}
+use Rattle.bw_store.specs.declared.drafting.Draft.{Draft}
+use Rattle.bw_store.specs.Adding.{Drawn, back_in, blocks_in, blocks_all, drawn_by, here_for, result_of}
+use Rattle.bw_store.specs.Drafting.{AreIn, IsDraft, drawn_behind, rows_all, set_row, tails_all}
+use Rattle.bw_store.specs.Fitting.{Fits, drawn_of, group_blocks}
+use Rattle.bw_store.specs.History.{entered}
+use Rattle.bw_store.specs.Kept.{Kept, Filed, IsSound}
+use Rattle.bw_store.specs.Tails.{tail_of, tails_for, is_made, HasRoomsAt, Tailed}
+use Rattle.bw_store.specs.Faults.{fault_of_apply}
+use Rattle.bw_store.specs.Taken.{taken_all}
+use Rattle.bw_store.specs.Taking.{IsWanting}
+use Rattle.bw_store.proofs.Drafts.{items, items_marked, leaves_all, made_all}
+use Rattle.bw_store.proofs.GroupMore.{Lawful, rows_in, rows_set, rows_tails, rows_away, length_rows, rows_from, fewer_rooms, spent_pages, taken_is, taken_all_sound}
+
+-- the records of a sound store are lawful where there is a number for each page that they make
+pub lawful_of : (s : Kept) (group : List Record) → IsSound s → HasPages s.filed.m s.filed.leaves group → All IsOp group
+    → Lawful s.filed.m (drawn_of s) group
+lawful_of s group h room ops = record {
+  some = (let l = h.log.holds.limits in let p = h.pairs in omega arith);
+  leaves = h.grown.stands.lawful;
+  room = room;
+  ops = ops;
+}
+
+some_in : (m : ℕ) (d : Drawn) (r : Record) → 1 ≤ length (blocks_in m d r)
+some_in m d r =
+    elim (nat_le (length (result_of d.leaves r).pairs) m) as
+    (λ b. 1 ≤ length (if b then Delta (directed_at d.leaves r) (back_in d r) (r ∷ []) ∷ []
+    else Delta (directed_at d.leaves r) (back_in d r) (r ∷ []) ∷ Split (directed_at d.leaves r) (here_for d.frame (directed_at d.leaves r))
+    (upper_of m (length d.leaves + 1) (result_of d.leaves r)) ∷ [])) [ true ↦ omega arith | false ↦ omega arith ]
+
+pub some_blocks : (m : ℕ) (d : Drawn) (rs : List Record) → 1 ≤ length rs → 1 ≤ length (blocks_all m d rs)
+some_blocks m d [] some = absurd (omega arith)
+some_blocks m d (r ∷ rs) some =
+    (let one = some_in m d r in let long = length-append (blocks_in m d r) (blocks_all m (drawn_by m d r) rs) in omega arith)
+
+module _ (s : Kept) (group : List Record) (d : Draft) (h : IsSound s) (ops : All IsOp group) (is : IsDraft s group d) where
+  lawful_now : Lawful s.filed.m (drawn_of s) group
+  lawful_now = lawful_of s group h is.room ops
+
+  pub rows_inside : (n : ℕ) (rows : List Row) → n ≡ length s.filed.leaves → rows ≡ d.rows.items → AreIn n rows
+  rows_inside n rows count same =
+      subst (λ (k : ℕ). AreIn k rows) (sym count)
+      (subst (AreIn (length s.filed.leaves)) (sym (same ∙ is.rows)) (rows_in s.filed.m (drawn_of s) group lawful_now))
+
+  pub rows_begin : (rows : List Row) → rows ≡ d.rows.items → All (λ row. 1 ≤ row.page) rows
+  rows_begin rows same = rows_from (length s.filed.leaves) rows (rows_inside (length s.filed.leaves) rows refl same)
+
+  pub rows_many : (rows : List Row) → rows ≡ d.rows.items → length rows ≡ length group
+  rows_many rows same = ap length (same ∙ is.rows) ∙ length_rows s.filed.m (drawn_of s) group
+
+  pub blocks_some : (blocks : List Block) → blocks ≡ d.blocks.items → 1 ≤ length group → 1 ≤ length blocks
+  blocks_some blocks same some = subst (λ (bs : List Block). 1 ≤ length bs) (sym (same ∙ is.blocks)) (some_blocks s.filed.m (drawn_of s) group some)
+
+  pub blocks_fit : (blocks : List Block) → blocks ≡ d.blocks.items → size_of (with_all s.making blocks) ≤ s.making.limit
+  blocks_fit blocks same = subst (λ (bs : List Block). size_of (with_all s.making bs) ≤ s.making.limit) (sym (same ∙ is.blocks)) is.fits
+
+  pub blocks_lawful_now : (blocks : List Block) → blocks ≡ d.blocks.items → All (IsBlock 32) blocks
+  blocks_lawful_now blocks same = subst (All (IsBlock 32)) (sym same) is.lawful
+
+  frame_is : (drawn_behind s group).frame.blocks ≡ (with_all s.making (group_blocks s group)).blocks
+  frame_is = frame_all s.filed.m (drawn_of s) group
+    where
+      frame_all : (m : ℕ) (d : Drawn) (rs : List Record) → (fold (drawn_by m) d rs).frame.blocks ≡ added d.frame.blocks (blocks_all m d rs)
+      frame_all m d [] = refl
+      frame_all m d (r ∷ rs) =
+          frame_all m (drawn_by m d r) rs
+          ∙ sym (fold-append joined d.frame.blocks (blocks_in m d r) (blocks_all m (drawn_by m d r) rs))
+
+  making_blocks : (making : Filling) (blocks : List Block) → making ≡ with_all s.making blocks → blocks ≡ d.blocks.items
+      → making.blocks ≡ (drawn_behind s group).frame.blocks
+  making_blocks making blocks made same =
+      ap (λ (b : Filling). b.blocks) made ∙ ap (λ (bs : List Block). (with_all s.making bs).blocks) (same ∙ is.blocks) ∙ sym frame_is
+
+  leaves_is : (leaves : List Leaf) → leaves ≡ pages s.filed.m s.filed.leaves group → leaves ≡ (drawn_behind s group).leaves
+  leaves_is leaves e = e ∙ sym (leaves_all s.filed.m (drawn_of s) group)
+
+  -- the tails
+  pub tails_now : (told was : List (Option (List Record))) (rows : List Row) (records : List Record) (making : Filling) (blocks : List Block) (leaves : List Leaf)
+      → rows ≡ d.rows.items → records ≡ group → was ≡ tails_for (length s.filed.leaves) s.making.blocks → told ≡ tails_all rows records was
+      → making ≡ with_all s.making blocks → blocks ≡ d.blocks.items → leaves ≡ pages s.filed.m s.filed.leaves group
+      → told ≡ tails_for (length leaves) making.blocks
+  tails_now told was rows records making blocks leaves same_rows same_records before noted made same after =
+      noted
+      ∙ ap (λ (l : List Row). tails_all l records was) (same_rows ∙ is.rows)
+      ∙ ap (λ (l : List Record). tails_all (rows_all s.filed.m (drawn_of s) group) l was) same_records
+      ∙ ap (tails_all (rows_all s.filed.m (drawn_of s) group) group) before
+      ∙ rows_tails s.filed.m (drawn_of s) group lawful_now
+      ∙ ap (λ (ls : List Leaf). tails_for (length ls) (drawn_behind s group).frame.blocks) (sym (leaves_is leaves after))
+      ∙ ap (tails_for (length leaves)) (sym (making_blocks making blocks made same))
+
+  -- a page that is away is not made
+  pub away_now : (away : List ℕ) (q : ℕ) (making : Filling) (blocks : List Block) → AreHere (record { m = s.filed.m; leaves = s.filed.leaves; away = away }) group
+      → ((p : ℕ) → length s.filed.leaves < p → is_among p away ≡ false) → is_among q away ≡ true → is_made q s.making.blocks ≡ false
+      → making ≡ with_all s.making blocks → blocks ≡ d.blocks.items → is_made q making.blocks ≡ false
+  away_now away q making blocks here beyond there apart made same =
+      ap (is_made q) (making_blocks making blocks made same)
+      ∙ rows_away s.filed.m (drawn_of s) group away q lawful_now here beyond there apart
+
+  -- the store behind it
+  pub entered_all : (lane : ℕ) (rings rs : List Ring) (entries es : List Entry) (filed : Filed) (newest ps : List Place) (rows : List Row) (making : Filling)
+      (blocks : List Block) → rings ≡ rs → rs ≡ s.rings → entries ≡ es ++ entered lane (marked group) → es ≡ s.entries
+      → filed ≡ record s.filed { leaves = pages s.filed.m s.filed.leaves group } → newest ≡ fold set_row ps rows → ps ≡ s.newest → rows ≡ d.rows.items
+      → making ≡ with_all s.making blocks → blocks ≡ d.blocks.items
+      → record s { rings = rings; entries = entries; filed = filed; newest = newest; making = making } ≡ taken_all s lane (marked group)
+  entered_all lane rings rs entries es filed newest ps rows making blocks e1 e2 e3 e4 e5 e6 e7 e8 e9 e10 =
+      let places : newest ≡ (drawn_behind s group).newest =
+      e6 ∙ ap (λ (l : List Place). fold set_row l rows) e7 ∙ ap (fold set_row s.newest) (e8 ∙ is.rows) ∙ rows_set s.filed.m (drawn_of s) group in
+      let put : making ≡ with_all s.making (group_blocks s group) = e9 ∙ ap (with_all s.making) (e10 ∙ is.blocks) in
+      let history : entries ≡ s.entries ++ entered lane (marked group) = e3 ∙ ap (λ (l : List Entry). l ++ entered lane (marked group)) e4 in
+      let paged : filed ≡ record s.filed { leaves = (drawn_behind s group).leaves } =
+      e5 ∙ ap (λ (ls : List Leaf). record s.filed { leaves = ls }) (sym (leaves_all s.filed.m (drawn_of s) group)) in
+      ap (λ (l : List Ring). record s { rings = l; entries = entries; filed = filed; newest = newest; making = making }) (e1 ∙ e2)
+      ∙ ap (λ (l : List Entry). record s { entries = l; filed = filed; newest = newest; making = making }) history
+      ∙ ap (λ (f : Filed). record s { entries = s.entries ++ entered lane (marked group); filed = f; newest = newest; making = making }) paged
+      ∙ ap (λ (l : List Place). record s {
+        entries = s.entries ++ entered lane (marked group);
+        filed = record s.filed { leaves = (drawn_behind s group).leaves };
+        newest = l;
+        making = making;
+      }) places
+      ∙ ap (λ (b : Filling). record s {
+        entries = s.entries ++ entered lane (marked group);
+        filed = record s.filed { leaves = (drawn_behind s group).leaves };
+        newest = (drawn_behind s group).newest;
+        making = b;
+      }) put
+      ∙ ap (λ (rs : List Record). record s {
+        entries = s.entries ++ entered lane (marked group);
+        filed = record s.filed { leaves = (drawn_behind s rs).leaves };
+        newest = (drawn_behind s rs).newest;
+        making = with_all s.making (group_blocks s rs);
+      }) (sym (items_marked group))
+      ∙ sym (taken_is s lane (marked group))
+
+  pub all_sound : (lane : ℕ) → s.log.next ≡ Some s.making.frame → lane < length s.rings → IsSound (taken_all s lane (marked group))
+  all_sound lane next inside =
+      taken_all_sound s lane (marked group) h next
+      (subst (All IsOp) (sym (items_marked group)) ops)
+      (subst (HasPages s.filed.m s.filed.leaves) (sym (items_marked group)) is.room) inside
+      (subst (λ (b : Filling). size_of b ≤ s.making.limit)
+      (sym (made_all s lane (marked group) ∙ ap (λ (rs : List Record). with_all s.making (group_blocks s rs)) (items_marked group))) is.fits)
+
+-- why the pages could not take it
+pub wanting_of : (s : Kept) (f : Shown) (group : List Record) (error : ApplyError) → f.m ≡ s.filed.m → f.leaves ≡ s.filed.leaves
+    → (error ≡ apply.Spent → SomeIsSpent f group) → IsWanting s group (fault_of_apply error)
+wanting_of s f group apply.NoMemory pairs leaves spent = tt
+wanting_of s f group apply.Spent pairs leaves spent = spent_pages s f group pairs leaves (spent refl)
