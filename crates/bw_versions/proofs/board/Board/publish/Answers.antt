@@ -8,7 +8,6 @@ use Rattle.bw_page.specs.Batch.{SomeIsSpent}
 use Rattle.bw_page.specs.Leaves.{Map, applied, changed_map, union, plain}
 use Rattle.bw_page.proofs.Runs.{all_here}
 use Rattle.bw_page.specs.Shown.{Shown, run}
-use Rattle.bw_page.proofs.Runs.{all_here}
 use Rattle.bw_versions.specs.declared.entry.Entry.{Entry}
 use Rattle.bw_versions.specs.Entries.{records}
 use Rattle.bw_versions.specs.Posted.{pages_of}
@@ -18,10 +17,6 @@ use Rattle.bw_versions.proofs.board.Board.publish.Goals as goal
 joined : {B : Type 0} (h : B → Record → B) (b : B) (es more : List Entry) → fold h (fold h b (records es)) (records more) ≡ fold h b (records (es ++ more))
 joined h b es more =
     sym (ap (fold h b) (map-append (λ (e : Entry). e.item) es more) ∙ fold-append h b (records es) (records more))
-
-pub apply_all_of-requires : goal.apply_all_of-requires
-apply_all_of-requires c =
-    all_here c.self.inside.leaves (records c.args.more.now) (ap (λ (f : Shown). f.away) c.self.invariant.pages ∙ c.self.invariant.here)
 
 pub invariant_of-self-2 : goal.invariant_of-self-2
 invariant_of-self-2 c =
