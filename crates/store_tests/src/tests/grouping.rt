@@ -20,7 +20,7 @@ use bw_store::StoreFault;
 use std::alloc::Global;
 use std::sync::Wait;
 
-/// A turn counts groups and answers records, in rounds over the writers.
+/// A turn counts groups and answers records; a settling takes one lane after the other.
 const WRITERS: &[Step] = &[
     Group(0, &[Set(b"a", b"1"), Set(b"b", b"2")]),
     Put(1, b"c", b"3"),
@@ -28,7 +28,7 @@ const WRITERS: &[Step] = &[
     Turn(1, 2),
     History("0 put a 1;0 put b 2;"),
     Settle(4),
-    History("0 put a 1;0 put b 2;1 put c 3;0 del a;"),
+    History("0 put a 1;0 put b 2;0 del a;1 put c 3;"),
     Page(1, "1 : b=2 c=3"),
     Cuts(&[4], 1),
 ];
