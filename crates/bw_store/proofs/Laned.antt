@@ -147,7 +147,7 @@ dry_further old new at begun was now low le before dries none i lt =
 
 no_streams : (w n : ℕ) → streams w n [] ≡ replicate n []
 no_streams w zero = refl
-no_streams w (suc n) = ap (λ (l : List (List Record)). [] ∷ l) (no_streams (suc w) n)
+no_streams w (suc n) = ap (λ (l : List (List Marked)). [] ∷ l) (no_streams (suc w) n)
 
 pub lanes_count : (xs : List Lane) (n : ℕ) → map taken xs ≡ replicate n [] → length xs ≡ n
 lanes_count xs n e = sym (length-map xs taken) ∙ ap length e ∙ length-replicate n []

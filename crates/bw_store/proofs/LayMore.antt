@@ -1,6 +1,6 @@
 -- The records of a group are planned one by one.
 
-use Rattle.std.proofs.Common.{◌≡◌, ℕ, zero, suc, ◌+◌, ◌<◌, ◌≤◌, Bool, true, false, List, [], ◌∷◌, ◌++◌, length, take, drop, get_or, refl, sym, ap, ◌∙◌, subst, arith, append_assoc, take-append-drop}
+use Rattle.std.proofs.Common.{◌≡◌, ℕ, zero, suc, ◌+◌, ◌^◌, ◌<◌, ◌≤◌, Bool, true, false, Option, None, List, [], ◌∷◌, ◌++◌, length, take, drop, get_or, refl, sym, ap, ◌∙◌, subst, arith, append_assoc, take-append-drop}
 use Rattle.std.specs.Prelude.{IsTrue, ◌↔◌}
 use Rattle.std.specs.List.{AllByRecursion as All, fold}
 use Rattle.std.proofs.lemmas.List.{take_more}
@@ -16,11 +16,11 @@ use Rattle.bw_page.specs.Shown.{Shown, after_record, run}
 use Rattle.bw_buffer.specs.Filling.{Filling, with_all, size_of}
 use Rattle.bw_store.specs.declared.drafting.Draft.{Draft}
 use Rattle.bw_store.specs.Adding.{Drawn, blocks_in, blocks_all, drawn_by}
-use Rattle.bw_store.specs.Drafting.{IsAhead, IsDraft, Stands, drawn_behind, open_in, place_in, rows_all}
+use Rattle.bw_store.specs.Drafting.{Added, IsAhead, IsDraft, Stands, drawn_behind, open_in, place_in, row_in, rows_all}
 use Rattle.bw_store.specs.declared.drafting.Row.{Row}
 use Rattle.bw_store.specs.Fitting.{Fits, drawn_of, group_blocks}
 use Rattle.bw_store.specs.Kept.{Kept}
-use Rattle.bw_store.proofs.Drafted.{making_is}
+use Rattle.bw_store.proofs.Drafted.{making_is, row_there, few_before, ahead_next, stands_next}
 use Rattle.bw_store.proofs.Drafts.{leaves_all, part_shorter}
 
 pub step_at : (f : Shown) (rs : List Record) (at : ℕ) (item : Record) (step : Step) → at < length rs → item ≡ get_or rs at item
@@ -117,3 +117,38 @@ ahead_none s d blocks rows count = record {
   places = λ p some top. ap (λ (ws : List Row). place_in ws s.newest p) rows;
   opens = λ p some top. ap (λ (ws : List Row). open_in ws s.making.blocks p) rows;
 }
+
+-- ---- one record more of a group, behind those before it
+
+module _ (s : Kept) (lane : ℕ) (away : List ℕ) (rs : List Record) (at : ℕ) (item : Record) (inside : at < length rs) (is : item ≡ get_or rs at item)
+    (t : Stands s lane (take at rs)) (old : Draft) (a : IsAhead s (take at rs) old) (ops : All IsOp rs) (room : HasPages s.filed.m s.filed.leaves rs)
+    (steps : List Step) (all : steps ≡ steps_of (record { m = s.filed.m; leaves = s.filed.leaves; away = away }) rs) (step : Step) (same : step ≡ get_or steps at step) where
+  abbrev done : List Record
+  done = take at rs
+
+  this : step ≡ step_of (record { m = s.filed.m; leaves = (drawn_behind s done).leaves; away = away }) item
+  this = step_is s away rs at item inside is step steps all same
+
+  op_now : IsOp item
+  op_now = op_at rs at item inside is ops
+
+  room_now : HasPage s.filed.m (drawn_behind s done).leaves item
+  room_now = here_room s away rs at item inside is room
+
+  pub lay_inside : row_in old.rows.items step.page ≡ None → (1 ≤ step.page) × (step.page ≤ length s.newest)
+  lay_inside = row_there s lane done t old old a item step.page step.upper op_now room_now (ap (λ (x : Step). x.page) this) (ap (λ (x : Step). x.upper) this)
+
+  pub lay_few : old.count + 2 < 2 ^ 32
+  lay_few = few_before s lane done t old old a item step.page step.upper op_now room_now (ap (λ (x : Step). x.page) this) (ap (λ (x : Step). x.upper) this)
+
+  pub lay_ahead : (new : Draft) (upper : Option Leaf) → upper ≡ step.upper → Added old s.making s.newest item step.page upper new → IsAhead s (take (at + 1) rs) new
+  lay_ahead new upper as x =
+      subst (λ (xs : List Record). IsAhead s xs new) (sym (next_take s away rs at item inside is))
+      (ahead_next s lane done t old new a item step.page upper op_now room_now (ap (λ (y : Step). y.page) this) (as ∙ ap (λ (y : Step). y.upper) this) x)
+
+  pub lay_stands : lane < length s.rings → size_of (with_all s.making (group_blocks s (take (at + 1) rs))) ≤ s.making.limit → Stands s lane (take (at + 1) rs)
+  lay_stands lane_in fits =
+      let next = next_take s away rs at item inside is in
+      subst (Stands s lane) (sym next)
+      (stands_next s lane done t item op_now room_now lane_in
+      (subst (λ (xs : List Record). size_of (with_all s.making (group_blocks s xs)) ≤ s.making.limit) next fits))

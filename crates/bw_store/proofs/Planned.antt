@@ -287,3 +287,9 @@ wanting_unplanned s group Failed works w = absurd w
 wanting_unplanned s group Spent works w = (works, inr w)
 wanting_unplanned s group NoPage works w = absurd w
 wanting_unplanned s group NothingOld works w = absurd w
+
+-- the same of what planning answers
+pub one_refused : (s : Kept) (item : Record) (o : Result Plan StoreFault) → Works s → IfErr o (IsWantingAt (length s.filed.leaves))
+    → IfErr o (IsUnplanned s (item ∷ []))
+one_refused s item (Ok p) works w = tt
+one_refused s item (Err cause) works w = wanting_unplanned s (item ∷ []) cause works (one_wanting s item cause w)

@@ -14,7 +14,7 @@ use Rattle.bw_store.specs.Kept.{Kept}
 use Rattle.bw_store.specs.Faults.{FlushAnswers, FlushLeaves, IsRefused, flush_refusal, refusal_by, fault_of}
 use Rattle.bw_codec.specs.declared.record.Record.{Record}
 use Rattle.bw_store.specs.Fitting.{Fits}
-use Rattle.bw_store.specs.Taking.{MakesRoom, IsWanting, IsSpentFor, IsUnplanned, Refuses, Works}
+use Rattle.bw_store.specs.Taking.{MakesRoom, IsWanting, IsSpentFor, IsStopped, IsUnplanned, Refuses, Works}
 
 -- a flush that answers Ok was not of a failed store
 none_failed : (s : Kept) (o : Option ℕ) (failed : Bool) (rest : Option StoreFault) → FlushAnswers (if failed then Some Failed else rest) (Ok o) → failed ≡ false
@@ -43,6 +43,16 @@ entered_not group old middle new Spent works may same w =
     (works, inl (subst (λ (s : Kept). MakesRoom group old s × IsSpentFor group s) (sym same) (may, inl (inr w))))
 entered_not group old middle new NoPage works may same w = absurd w
 entered_not group old middle new NothingOld works may same w = absurd w
+
+pub stopped_unplanned : (group : List Record) (s : Kept) (cause : StoreFault) → IsStopped s cause → IsUnplanned s group cause
+stopped_unplanned group s NoMemory w = absurd w
+stopped_unplanned group s BadConfig w = absurd w
+stopped_unplanned group s NoSegment w = absurd w
+stopped_unplanned group s (Device lease) w = absurd w
+stopped_unplanned group s Failed w = w
+stopped_unplanned group s Spent w = (w.0, inl w.1)
+stopped_unplanned group s NoPage w = absurd w
+stopped_unplanned group s NothingOld w = absurd w
 
 -- nothing was appended, and nothing could be planned
 pub unplanned_now : (group : List Record) (s : Kept) (cause : StoreFault) → IsUnplanned s group cause → Refuses group s cause s

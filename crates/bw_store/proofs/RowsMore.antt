@@ -1,6 +1,6 @@
 -- Row after row of a group is noted.
 
-use Rattle.std.proofs.Common.{◌≡◌, ℕ, zero, suc, ◌+◌, ◌-◌, ◌<◌, ◌≤◌, Option, Some, None, List, [], ◌∷◌, ◌++◌, length, take, drop, get_or, refl, sym, ap, ◌∙◌, subst, arith}
+use Rattle.std.proofs.Common.{◌≡◌, ℕ, zero, suc, ◌+◌, ◌-◌, ◌<◌, ◌≤◌, Option, Some, None, List, [], ◌∷◌, ◌++◌, length, set, take, drop, get_or, refl, sym, ap, ◌∙◌, subst, arith}
 use Rattle.std.specs.Prelude.{is_some, IfSome, slice_set}
 use Rattle.std.specs.List.{AllByRecursion as All, fold, slice_index_or}
 use Rattle.std.proofs.lemmas.List.{take_more}
@@ -74,3 +74,51 @@ tails_end rows rs n now end = ap (λ (l : List Row). tails_all l (drop n rs) now
 pub rooms_less : (rows : List Row) (old new : List (Option Tailed)) (k : ℕ) → ((more at : ℕ) → HasRoomsAt (more + 1) old at → HasRoomsAt more new at)
     → All (λ row. HasRoomsAt (k + 1) old (row.page - 1)) rows → All (λ row. HasRoomsAt k new (row.page - 1)) rows
 rooms_less rows old new k step h = all_by (λ (row : Row). HasRoomsAt (k + 1) old (row.page - 1)) (λ (row : Row). HasRoomsAt k new (row.page - 1)) rows (λ row x. step k (row.page - 1) x) h
+
+-- ---- room at an index, where one tail changed
+
+pub at_set : (P Q : Option Tailed → Type 0) (tails : List (Option Tailed)) (i : ℕ) (was now : Option Tailed) → was ≡ get_or tails i was → (P was → Q now)
+    → ((o : Option Tailed) → P o → Q o) → (at : ℕ) → P (get_or tails at None) → Q (get_or (set tails i now) at None)
+at_set P Q [] i was now is here others at h = others None h
+at_set P Q (t ∷ ts) zero was now is here others zero h = here (subst P (sym is) h)
+at_set P Q (t ∷ ts) zero was now is here others (suc at) h = others (get_or ts at None) h
+at_set P Q (t ∷ ts) (suc i) was now is here others zero h = others t h
+at_set P Q (t ∷ ts) (suc i) was now is here others (suc at) h = at_set P Q ts i was now is here others at h
+
+pub at_push : (P : Option Tailed → Type 0) (tails : List (Option Tailed)) → P None → (at : ℕ) → P (get_or tails at None) → P (get_or (tails ++ None ∷ []) at None)
+at_push P [] none zero h = none
+at_push P [] none (suc at) h = none
+at_push P (t ∷ ts) none zero h = h
+at_push P (t ∷ ts) none (suc at) h = at_push P ts none at h
+
+less_room : (more : ℕ) (o : Option Tailed) → IfSome o (λ t. more + 1 ≤ t.room) → IfSome o (λ t. more ≤ t.room)
+less_room more None h = tt
+less_room more (Some t) h = omega arith
+
+pub rooms_set : (tails : List (Option Tailed)) (i : ℕ) (was now : Option Tailed) → was ≡ get_or tails i was
+    → ((more : ℕ) → IfSome was (λ t. more + 1 ≤ t.room) → IfSome now (λ t. more ≤ t.room))
+    → (more at : ℕ) → HasRoomsAt (more + 1) tails at → HasRoomsAt more (set tails i now) at
+rooms_set tails i was now is step more at h =
+    at_set (λ o. IfSome o (λ t. more + 1 ≤ t.room)) (λ o. IfSome o (λ t. more ≤ t.room)) tails i was now is (step more) (less_room more) at h
+
+pub rooms_gone : (tails : List (Option Tailed)) (i : ℕ) (was now : Option Tailed) → was ≡ get_or tails i was → now ≡ None
+    → (more at : ℕ) → HasRoomsAt (more + 1) tails at → HasRoomsAt more (set tails i now ++ None ∷ []) at
+rooms_gone tails i was now is gone more at h =
+    at_push (λ o. IfSome o (λ t. more ≤ t.room)) (set tails i now) tt at
+    (rooms_set tails i was now is (λ n x. subst (λ (o : Option Tailed). IfSome o (λ t. n ≤ t.room)) (sym gone) tt) more at h)
+
+pub rooms_kept : (tails : List (Option Tailed)) (i : ℕ) (was now : Option Tailed) → was ≡ get_or tails i was
+    → ((more : ℕ) → IfSome was (λ t. more ≤ t.room) → IfSome now (λ t. more ≤ t.room))
+    → (more at : ℕ) → HasRoomsAt more tails at → HasRoomsAt more (set tails i now) at
+rooms_kept tails i was now is step more at h =
+    at_set (λ o. IfSome o (λ t. more ≤ t.room)) (λ o. IfSome o (λ t. more ≤ t.room)) tails i was now is (step more) (λ o x. x) at h
+
+pub room_here : (tails : List (Option Tailed)) (i : ℕ) (now : Option Tailed) → IfSome now (λ t. 4 ≤ t.room) → HasRoomsAt 4 (set tails i now) i
+room_here [] i now h = tt
+room_here (t ∷ ts) zero now h = h
+room_here (t ∷ ts) (suc i) now h = room_here ts i now h
+
+pub room_beyond : (tails : List (Option Tailed)) (i : ℕ) → length tails ≤ i → HasRoomsAt 4 tails i
+room_beyond [] i le = tt
+room_beyond (t ∷ ts) zero le = absurd (omega arith)
+room_beyond (t ∷ ts) (suc i) le = room_beyond ts i (omega arith)

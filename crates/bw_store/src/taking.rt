@@ -1,17 +1,16 @@
 //! One group is taken from a lane, whole or not at all.
 
-ghost use Rattle.std.specs.Prelude.{◌≡◌, ◌≤◌, ◌<◌, ◌+◌, ◌-◌, ◌∷◌, [], List, Some, None, false, length, map, IfSome, IfNone, IfOk, IfErr, OnOk, OnErr, MatchResult};
+ghost use Rattle.std.specs.Prelude.{◌≡◌, ◌≤◌, ◌<◌, ◌+◌, ◌-◌, ◌∷◌, [], Some, None, false, length, map, IfSome, IfNone, IfOk, IfErr, OnOk, OnErr, MatchResult};
 ghost use Rattle.std.specs.List.{AllByRecursion};
 ghost use Rattle.bw_codec.specs.Grammar.{body_bytes, IsBlock};
 ghost use Rattle.bw_codec.specs.Record.{key_of};
-ghost use Rattle.bw_codec.specs.declared.record.Record.{Record as RecordValue};
 ghost use Rattle.bw_page.specs.Leaves.{directed_at};
 ghost use Rattle.bw_page.specs.Shown.{IsHere};
 ghost use Rattle.bw_buffer.specs.Filling.{size_of};
 ghost use Rattle.bw_ring.specs.Ends.{given};
 ghost use Rattle.bw_store.specs.Planning.{listed};
 ghost use Rattle.bw_store.specs.Lanes.{IsNext, IsWaiting, Dries, TookKnown};
-ghost use Rattle.bw_store.specs.Taking.{TakeLeaves, WaitingLeaves, GroupLeaves, IsPlan, IsUnplanned};
+ghost use Rattle.bw_store.specs.Taking.{TakeLeaves, WaitingLeaves, GroupLeaves, IsPlan, IsStopped, IsUnplanned};
 
 use crate::fault::StoreFault;
 use crate::planning::{Plan, place_for, planned_for};
@@ -171,14 +170,13 @@ impl Store {
     }
 
     // Whether there is a frame for a further record.
-    fn goes_on(&self) -> Result<(), StoreFault>
+    pub(crate) fn goes_on(&self) -> Result<(), StoreFault>
         requires sound { IsSound self.now holding }
         ensures works { OnOk result ((kept_by self.now holding).log.is_failed ≡ false) }
         ensures unsealed { OnOk result (self.now.making.is_sealed ≡ false) }
         ensures next { OnOk result ((kept_by self.now holding).log.next
             ≡ Some self.now.making.frame) }
-        ensures refused { (group : List RecordValue)
-            → IfErr result (IsUnplanned (kept_by self.now holding) group) }
+        ensures refused { IfErr result (IsStopped (kept_by self.now holding)) }
     {
         if self.log.is_failed() {
             return Err(StoreFault::Failed);

@@ -49,6 +49,7 @@ invariant_of-self g c =
     let made = none_made _ c.args.self.now.making.blocks c.args.page c.is_none.result c.is_none.ensures
     (tail_here _ _ c.args.self.now.making.blocks c.args.page c.index.result.now c.args.self.now.tailed (omega arith) (omega arith) c.index.ensures) in
     record {
+      whole = c.args.self.now.whole;
       tailed = c.args.self.now.tailed
           ∙ ap (λ (ls : List Leaf). tails_for (length ls) c.args.self.now.making.blocks) (sym c.put_away.ensures.leaves);
       logged = away_more c.args.self.now.leaves c.put_away.new.self c.args.page c.args.self.now.making.blocks c.put_away.ensures.away

@@ -9,6 +9,7 @@ pub invariant_of-self : goal.invariant_of-self
 invariant_of-self g c =
     let read = c.read_away.new.self in
     record {
+      whole = read.whole;
       tailed = read.tailed ∙ ap (λ (ls : List Leaf). tails_for (length ls) read.making.blocks) (sym c.bring_back.ensures.leaves);
       logged = away_less read.leaves c.bring_back.new.self c.find-page.result read.making.blocks c.bring_back.ensures.away read.logged;
     }

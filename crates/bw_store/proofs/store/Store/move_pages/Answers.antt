@@ -92,3 +92,9 @@ returns-in-Err-clause-sound g c =
     c.push_many.ensures
     (ap length c.as_slice.ensures.value) c.renew.ensures.count c.renew.ensures.each c.begin_at.ensures.limit c.begin_at.ensures.empty
     c.begin_at.ensures.sealed c.is_failed.ensures c.next_frame-2.ensures c.begin_at.ensures.number) (refused_counts s stop.0 _ b e.sound stop.1 e.stands)
+
+pub invariant_of-self-in-Ok : goal.invariant_of-self-in-Ok
+invariant_of-self-in-Ok g c = ?
+
+pub invariant_of-self-in-Err-1 : goal.invariant_of-self-in-Err-1
+invariant_of-self-in-Err-1 g c = ?

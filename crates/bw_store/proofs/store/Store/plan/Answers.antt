@@ -1,7 +1,9 @@
-use Rattle.std.proofs.Common.{sym}
+use Rattle.std.proofs.Common.{sym, ◌∷◌, []}
+use Rattle.std.proofs.lemmas.Result.{err_from_is_err_and}
 use Rattle.bw_store.specs.Views.{kept_by}
 use Rattle.bw_store.proofs.AwayPages.{page_within}
-use Rattle.bw_store.proofs.Planned.{answer_lawful, answer_short}
+use Rattle.bw_store.proofs.Planned.{answer_lawful, answer_short, one_refused}
+use Rattle.bw_store.proofs.Refusing.{stopped_unplanned}
 use Rattle.bw_store.proofs.store.Store.plan.Goals as goal
 
 pub planned_for-requires-clause-within : goal.planned_for-requires-clause-within
@@ -21,3 +23,11 @@ returns-clause-short g c =
     c.args.page c.requires.page c.place_for-here.result c.place_for-here.ensures
     c.planned_for.result c.planned_for.ensures.page (rw (sym c.deref.ensures.value) c.planned_for.ensures.back) c.planned_for.ensures.room
     c.planned_for.ensures.blocks
+
+pub returns-in_err-goes_on-clause-refused : goal.returns-in_err-goes_on-clause-refused
+returns-in_err-goes_on-clause-refused g c =
+    let p = err_from_is_err_and c.from_residual.result c.from_residual.ensures.1 in
+    rw (p.1, p.2) (stopped_unplanned (c.args.item.now ∷ []) _ _ c.in_err-goes_on.ensures.refused)
+
+pub returns-clause-refused : goal.returns-clause-refused
+returns-clause-refused g c = one_refused _ c.args.item.now c.planned_for.result c.in_ok-goes_on.ensures.works c.planned_for.ensures.refused
