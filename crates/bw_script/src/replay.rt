@@ -96,7 +96,9 @@ fn answer_of<R: System>(
     ensures { IsReady session.new holding }
 {
     match command {
-        Command::Put(writer, group) if manner == Manner::Taking => session.put_taking(writer, group),
+        Command::Put(writer, group) if manner == Manner::Taking => session.put_taking(
+            writer, group,
+        ),
         command => session.call(rt, u64::from(options.capacity), command),
     }
 }

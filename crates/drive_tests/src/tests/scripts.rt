@@ -110,11 +110,7 @@ pub(super) fn are_whole(entries: &[Entry]) -> bool {
         if behind.is_some_and(|writer| writer != entry.writer) || entry.more != joins(*number) {
             return false;
         }
-        behind = if entry.more {
-            Some(entry.writer)
-        } else {
-            None
-        };
+        behind = if entry.more { Some(entry.writer) } else { None };
     }
     behind.is_none()
 }

@@ -96,11 +96,7 @@ fn are_begun(entries: &[Entry]) -> bool {
         if behind.is_some_and(|writer| writer != entry.writer) || entry.more != joins(*number) {
             return false;
         }
-        behind = if entry.more {
-            Some(entry.writer)
-        } else {
-            None
-        };
+        behind = if entry.more { Some(entry.writer) } else { None };
     }
     behind.is_none()
 }

@@ -57,6 +57,7 @@ const ONE_PLACE: &[Step] = &[
 
 /// 50 and 57 bytes of a value.
 const SHORT: &[u8] = &[b'v'; 50];
+
 const LONG: &[u8] = &[b'v'; 57];
 
 /// The second frame has room for the first record of the group, and not for the second: both stand in
@@ -108,7 +109,12 @@ const CUTS_TWICE: &[Step] = &[
     Evict(1, Ok(true)),
     Group(
         0,
-        &[Set(b"e", b"5"), Set(b"f", b"6"), Set(b"g", b"7"), Set(b"h", b"8")],
+        &[
+            Set(b"e", b"5"),
+            Set(b"f", b"6"),
+            Set(b"g", b"7"),
+            Set(b"h", b"8"),
+        ],
     ),
     Turn(1, 4),
     Page(1, "1 : a=1 b=2"),
@@ -129,12 +135,22 @@ const FOUR_PAGES: &[Step] = &[
     Group(0, FOUR),
     Group(
         0,
-        &[Set(b"e", b"5"), Set(b"f", b"6"), Set(b"g", b"7"), Set(b"h", b"8")],
+        &[
+            Set(b"e", b"5"),
+            Set(b"f", b"6"),
+            Set(b"g", b"7"),
+            Set(b"h", b"8"),
+        ],
     ),
     Group(0, &[Set(b"i", b"9"), Set(b"j", b"0")]),
     Group(
         0,
-        &[Set(b"g", b"g"), Set(b"e", b"e"), Set(b"c", b"c"), Set(b"a", b"a")],
+        &[
+            Set(b"g", b"g"),
+            Set(b"e", b"e"),
+            Set(b"c", b"c"),
+            Set(b"a", b"a"),
+        ],
     ),
     Turn(9, 14),
     Page(1, "1 : a=a b=2"),
@@ -184,7 +200,12 @@ const UNREAD: &[Step] = &[
 const SAME_KEY: &[Step] = &[
     Group(
         0,
-        &[Set(b"a", b"1"), Set(b"a", b"2"), Set(b"b", b"3"), Unset(b"b")],
+        &[
+            Set(b"a", b"1"),
+            Set(b"a", b"2"),
+            Set(b"b", b"3"),
+            Unset(b"b"),
+        ],
     ),
     Turn(1, 4),
     Page(1, "1 : a=2"),
@@ -222,6 +243,7 @@ const TWO_FRAMES: &[Step] = &[
 
 /// Where the second frame begins, and where it ends.
 const FIRST: usize = 91;
+
 const WHOLE: usize = 196;
 
 /// No part of the group.

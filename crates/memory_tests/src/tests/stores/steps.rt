@@ -62,8 +62,8 @@ pub(super) enum Step {
 }
 
 use Step::{
-    Bytes, Clean, CleanFails, Cuts, Evict, Flush, FlushFails, Get, Group, History, Live, NewSees, News,
-    Next, Out, Page, PageFails, Put, Roll, Sees, Settle, Stands, Turn,
+    Bytes, Clean, CleanFails, Cuts, Evict, Flush, FlushFails, Get, Group, History, Live, NewSees,
+    News, Next, Out, Page, PageFails, Put, Roll, Sees, Settle, Stands, Turn,
 };
 
 /// What stands beside a store: the first reader, and the desk of its leases.
