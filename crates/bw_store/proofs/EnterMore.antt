@@ -4,7 +4,7 @@ use Rattle.std.proofs.Common.{◌≡◌, ℕ, zero, suc, ◌+◌, ◌-◌, ◌*�
 use Rattle.std.proofs.Common.{length, map, refl, sym, ap, ◌∙◌, subst, arith, if◌then◌else◌, length-append}
 use Rattle.std.specs.Prelude.{nat_le, IfErr, OnOk, OnErr}
 use Rattle.std.specs.List.{AllByRecursion as All, fold}
-use Rattle.bw_codec.specs.Grammar.{IsBlock, IsOp}
+use Rattle.bw_codec.specs.Grammar.{IsBlock, IsOp, body_bytes}
 use Rattle.bw_codec.specs.declared.record.Record.{Record}
 use Rattle.bw_codec.specs.declared.leaf.Leaf.{Leaf}
 use Rattle.bw_codec.specs.declared.block.Place.{Place}
@@ -34,7 +34,7 @@ use Rattle.bw_store.specs.Faults.{fault_of_apply}
 use Rattle.bw_store.specs.Taken.{taken_all}
 use Rattle.bw_store.specs.Taking.{IsWanting}
 use Rattle.bw_store.proofs.Drafts.{items, items_marked, leaves_all, made_all}
-use Rattle.bw_store.proofs.GroupMore.{Lawful, rows_in, rows_set, rows_tails, rows_away, length_rows, rows_from, fewer_rooms, spent_pages, taken_is, taken_all_sound}
+use Rattle.bw_store.proofs.GroupMore.{Lawful, rows_in, rows_set, rows_tails, rows_away, length_rows, rows_from, fewer_rooms, fresh_fits, spent_pages, taken_is, taken_all_sound}
 
 -- the records of a sound store are lawful where there is a number for each page that they make
 pub lawful_of : (s : Kept) (group : List Record) → IsSound s → HasPages s.filed.m s.filed.leaves group → All IsOp group
@@ -170,3 +170,14 @@ pub wanting_of : (s : Kept) (f : Shown) (group : List Record) (error : ApplyErro
     → (error ≡ apply.Spent → SomeIsSpent f group) → IsWanting s group (fault_of_apply error)
 wanting_of s f group apply.NoMemory pairs leaves spent = tt
 wanting_of s f group apply.Spent pairs leaves spent = spent_pages s f group pairs leaves (spent refl)
+
+abbrev pub filed_with : ℕ → List Leaf → Filed
+filed_with m leaves = record { m = m; leaves = leaves }
+
+-- where a frame was appended before, any group has room
+pub fresh_room : (s : Kept) (lane : ℕ) (group : List Record) → IsSound s → s.log.next ≡ Some s.making.frame → All IsOp group
+    → HasPages s.filed.m s.filed.leaves group → lane < length s.rings → s.making.blocks ≡ [] → length group ≤ 4 → Fits s group
+fresh_room s lane group h next ops room inside empty few =
+    let none = ap (λ (bs : List Block). length (body_bytes bs)) empty in
+    let zero_bytes : length (body_bytes []) ≡ 0 = refl in
+    fresh_fits s lane 0 group h next ops room inside (omega arith) (omega arith)

@@ -1,6 +1,6 @@
 -- Pages of a group are brought back one by one, and none leaves.
 
-use Rattle.std.proofs.Common.{◌≡◌, ℕ, zero, suc, ◌+◌, ◌<◌, inl, inr, Bool, true, false, Result, Ok, Err, List, [], ◌∷◌, ◌++◌, length, take, get_or, refl, sym, ap, ◌∙◌, subst, arith, if◌then◌else◌}
+use Rattle.std.proofs.Common.{◌≡◌, ℕ, zero, suc, ◌+◌, ◌<◌, ◌≤◌, inl, inr, Bool, true, false, Result, Ok, Err, List, [], ◌∷◌, ◌++◌, length, take, get_or, refl, sym, ap, ◌∙◌, subst, arith, if◌then◌else◌}
 use Rattle.std.specs.Prelude.{◌==◌}
 use Rattle.std.specs.List.{AllByRecursion as All}
 use Rattle.std.proofs.lemmas.List.{take_more}
@@ -38,23 +38,23 @@ pub all_here : (old new : Shown) (rs : List Record) → ((key : List ℕ) → Is
 all_here old new rs step h = all-map (λ (r : Record). IsHere (key_of r) old) (λ (r : Record). IsHere (key_of r) new) (λ r k. step (key_of r) k) rs h
 
 -- a group whose pages could not all be read
-pub walk_refuses : {A : Type 0} (group : List Record) (old new : Kept) (cause : StoreFault) → Works old → WalkLeaves {A = A} old (Err cause) new
+pub walk_refuses : (A : Type 0) (group : List Record) (old new : Kept) (cause : StoreFault) → Works old → WalkLeaves {A = A} old (Err cause) new
     → Refuses group old cause new
-walk_refuses group old new NoMemory works h = (works, inl h)
-walk_refuses group old new BadConfig works h = absurd h
-walk_refuses group old new NoSegment works h = absurd h
-walk_refuses group old new (Device lease) works h = (works, inr h)
-walk_refuses group old new Failed works h = absurd h
-walk_refuses group old new Spent works h = (works, inr h)
-walk_refuses group old new NoPage works h = absurd h
-walk_refuses group old new NothingOld works h = absurd h
+walk_refuses A group old new NoMemory works h = (works, inl h)
+walk_refuses A group old new BadConfig works h = absurd h
+walk_refuses A group old new NoSegment works h = absurd h
+walk_refuses A group old new (Device lease) works h = (works, inr h)
+walk_refuses A group old new Failed works h = absurd h
+walk_refuses A group old new Spent works h = (works, inr h)
+walk_refuses A group old new NoPage works h = absurd h
+walk_refuses A group old new NothingOld works h = absurd h
 
 -- all of the first ones are all
-pub all_taken : (P : Record → Type 0) (rs : List Record) (n : ℕ) → (n < length rs → ⊥) → All P (take n rs) → All P rs
+pub all_taken : (P : Record → Type 0) (rs : List Record) (n : ℕ) → length rs ≤ n → All P (take n rs) → All P rs
 all_taken P [] n end h = tt
-all_taken P (r ∷ rs) zero end h = absurd (end (omega arith))
-all_taken P (r ∷ rs) (suc n) end h = (h.0, all_taken P rs n (λ lt. end (omega arith)) h.1)
+all_taken P (r ∷ rs) zero end h = absurd (omega arith)
+all_taken P (r ∷ rs) (suc n) end h = (h.0, all_taken P rs n (omega arith) h.1)
 
 -- a later page could not be read
-pub walk_later : {A : Type 0} (old middle new : Kept) (cause : StoreFault) → middle ≡ old → WalkLeaves {A = A} middle (Err cause) new → WalkLeaves {A = A} old (Err cause) new
-walk_later {A} old middle new cause same h = subst (λ (s : Kept). WalkLeaves {A = A} s (Err cause) new) same h
+pub walk_later : (A : Type 0) (old middle new : Kept) (cause : StoreFault) → middle ≡ old → WalkLeaves {A = A} middle (Err cause) new → WalkLeaves {A = A} old (Err cause) new
+walk_later A old middle new cause same h = subst (λ (s : Kept). WalkLeaves {A = A} s (Err cause) new) same h

@@ -16,7 +16,7 @@ use Rattle.bw_store.specs.Kept.{Kept, with_frame, with_stop}
 use Rattle.bw_store.specs.Taken.{taken, taken_all}
 use Rattle.bw_codec.specs.declared.record.Record.{Record}
 use Rattle.bw_ring.specs.declared.lane.Lane.{Lane}
-use Rattle.bw_store.specs.Taking.{MakesRoom, Took, Refuses, RefusesNext}
+use Rattle.bw_store.specs.Taking.{MakesRoom, Took, TakeLeaves, Refuses, RefusesNext}
 use Rattle.bw_store.specs.declared.fault.StoreFault.TheVariants.{NoMemory, BadConfig, NoSegment, Device, Failed, Spent, NoPage, NothingOld}
 use Rattle.bw_store.specs.Faults.{Flushed, Broken, FlushAnswers, FlushLeaves, flush_refusal}
 use Rattle.bw_store.proofs.Refusing.{failed_flush, failed_record}
@@ -161,7 +161,8 @@ all_turned s lane (m ∷ ms) =
       quiet = refl;
       grew = length-append s.entries (record { writer = lane; more = m.more; item = m.item } ∷ []);
     } in
-    follows_then s now (taken_all now lane ms) step (all_turned now lane ms)
+    let both = follows_then s now (taken_all now lane ms) step (all_turned now lane ms) in
+    record { follows = both.follows; boxes = both.boxes; grew = (let g = both.grew in omega arith); quiet = both.quiet }
 
 follows_took : (lane : ℕ) (old new : Kept) (t : Took lane old new) → Turned (length t.group) old new
 follows_took lane old new t =
@@ -239,7 +240,8 @@ came old new more is =
 
 since_then : (a b c : Kept) → Continues a b → Continues b c → groups_since a c ≡ groups_since a b + groups_since b c
 since_then a b c f g =
-    let all = came a c (f.entries_more ++ g.entries_more) (continue_then a b c f g).history in
+    let all = came a c (f.entries_more ++ g.entries_more) (g.history ∙ ap (λ (es : List Entry). es ++ g.entries_more) f.history
+    ∙ append_assoc a.entries f.entries_more g.entries_more) in
     let one = came a b f.entries_more f.history in
     let two = came b c g.entries_more g.history in
     let sum = ends_more f.entries_more g.entries_more in
@@ -343,6 +345,14 @@ group_more {g} {n} lane k a b c x t =
       subst (λ (j : ℕ). TookInTurn (n + j) a c) t.1 (took_more lane a b c x.0 t.0),
       omega arith,
     )
+
+pub group_more_by : {g n : ℕ} (lane k : ℕ) (lanes : List Lane) (a b c : Kept) (o : Option ℕ) → o ≡ Some k → TookGroups g n a b → TakeLeaves lane lanes b (Ok o) c
+    → TookGroups (g + 1) (n + k) a c
+group_more_by lane k lanes a b c o is x t = group_more lane k a b c x (subst (λ (p : Option ℕ). TakeLeaves lane lanes b (Ok p) c) is t)
+
+pub none_more_by : {g n : ℕ} (lane : ℕ) (lanes : List Lane) (a b c : Kept) (o : Option ℕ) → o ≡ None → TookGroups g n a b → TakeLeaves lane lanes b (Ok o) c
+    → TookGroups g n a c
+none_more_by lane lanes a b c o is x t = took_none a b c x (subst (λ (p : Option ℕ). TakeLeaves lane lanes b (Ok p) c) is t)
 
 pub group_fault : {g n : ℕ} (lane : ℕ) (lanes : List Lane) (a b c : Kept) (fault : StoreFault) → TookGroups g n a b → RefusesNext lane lanes b fault c
     → RefusedAfter n a lanes fault c

@@ -254,11 +254,14 @@ rows_from n (row ∷ rows) h = (h.0.0, rows_from (count_by row.made n) rows h.1)
 pub spent_pages : (s : Kept) (f : Shown) (group : List Record) → f.m ≡ s.filed.m → f.leaves ≡ s.filed.leaves → SomeIsSpent f group → HasAllPages s group
 spent_pages s f group pairs leaves x =
     let same = ap (λ (m : ℕ). length (pages m f.leaves (take x.0 group))) pairs in
-    let as = ap (λ (ls : List Leaf). length (pages s.filed.m ls (take x.0 group))) leaves in
-    let over = x.2.2.1 in
-    record { before = x.0; inside = none_at group x.0 x.1 x.2.1; all = omega arith }
+    let pages_same = ap (λ (ls : List Leaf). length (pages s.filed.m ls (take x.0 group))) leaves in
+    let over = x.3.1 in
+    record { before = x.0; inside = none_at group x.0 x.1 x.2; all = omega arith }
 
 -- records are what they are
 pub as_records : (rs : List Record) → map (λ (r : Record). r) rs ≡ rs
 as_records [] = refl
 as_records (r ∷ rs) = ap (λ (l : List Record). r ∷ l) (as_records rs)
+
+pub spent_as : (f : Shown) (rs : List Record) → SomeIsSpent f (map (λ (r : Record). r) rs) → SomeIsSpent f rs
+spent_as f rs x = subst (SomeIsSpent f) (as_records rs) x

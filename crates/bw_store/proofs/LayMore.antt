@@ -81,13 +81,13 @@ module _ (s : Kept) (away : List ℕ) (rs : List Record) (at : ℕ) (item : Reco
 -- what a test for room says of a draft
 pub draft_room : (s : Kept) (rs : List Record) (n : ℕ) (d : Draft) (slice : List Block) (b : Bool) → IsAhead s (take n rs) d → slice ≡ d.blocks.items
     → IsTrue b ↔ (size_of (with_all s.making slice) ≤ s.making.limit) → b ≡ true → size_of (with_all s.making (group_blocks s (take n rs))) ≤ s.making.limit
-draft_room s rs n d slice b a same tests yes =
-    subst (λ (bs : List Block). size_of (with_all s.making bs) ≤ s.making.limit) (same ∙ a.blocks) (tests.0 yes)
+draft_room s rs n d slice b a same tests sure =
+    subst (λ (bs : List Block). size_of (with_all s.making bs) ≤ s.making.limit) (same ∙ a.blocks) (tests.0 sure)
 
 pub draft_full : (s : Kept) (rs : List Record) (n : ℕ) (d : Draft) (slice : List Block) (b : Bool) → IsAhead s (take n rs) d → slice ≡ d.blocks.items
     → IsTrue b ↔ (size_of (with_all s.making slice) ≤ s.making.limit) → b ≡ false → Fits s rs → ⊥
-draft_full s rs n d slice b a same tests no fits =
-    let yes : b ≡ true = tests.1 (subst (λ (bs : List Block). size_of (with_all s.making bs) ≤ s.making.limit) (sym (same ∙ a.blocks)) (part_fits s rs n fits)) in
+draft_full s rs n d slice b a same tests full fits =
+    let there : b ≡ true = tests.1 (subst (λ (bs : List Block). size_of (with_all s.making bs) ≤ s.making.limit) (sym (same ∙ a.blocks)) (part_fits s rs n fits)) in
     cc
 
 -- all of the group is planned
@@ -142,9 +142,9 @@ module _ (s : Kept) (lane : ℕ) (away : List ℕ) (rs : List Record) (at : ℕ)
   lay_few = few_before s lane done t old old a item step.page step.upper op_now room_now (ap (λ (x : Step). x.page) this) (ap (λ (x : Step). x.upper) this)
 
   pub lay_ahead : (new : Draft) (upper : Option Leaf) → upper ≡ step.upper → Added old s.making s.newest item step.page upper new → IsAhead s (take (at + 1) rs) new
-  lay_ahead new upper as x =
+  lay_ahead new upper copied x =
       subst (λ (xs : List Record). IsAhead s xs new) (sym (next_take s away rs at item inside is))
-      (ahead_next s lane done t old new a item step.page upper op_now room_now (ap (λ (y : Step). y.page) this) (as ∙ ap (λ (y : Step). y.upper) this) x)
+      (ahead_next s lane done t old new a item step.page upper op_now room_now (ap (λ (y : Step). y.page) this) (copied ∙ ap (λ (y : Step). y.upper) this) x)
 
   pub lay_stands : lane < length s.rings → size_of (with_all s.making (group_blocks s (take (at + 1) rs))) ≤ s.making.limit → Stands s lane (take (at + 1) rs)
   lay_stands lane_in fits =

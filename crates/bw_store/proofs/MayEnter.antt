@@ -209,7 +209,7 @@ noted_is m leaves back here last r newest =
     [ true ↦ refl | false ↦ refl ]
 
 -- the store after all was written
-pub entered : {s : Kept} {m : Marked} {back : Place} {blocks : List Block} → Enters s m.item back blocks → (IsSpent (shown_of s.filed) m.item → ⊥)
+pub entered : {s : Kept} {back : Place} {blocks : List Block} (m : Marked) → Enters s m.item back blocks → (IsSpent (shown_of s.filed) m.item → ⊥)
     → (writer page : ℕ) (entries : List Entry) (filed : Filed) (newest : List Place) (making : Filling)
     → page ≡ directed_at s.filed.leaves m.item
     → (es : List Entry) → entries ≡ es ++ record { writer = writer; more = m.more; item = m.item } ∷ [] → es ≡ s.entries → filed ≡ record s.filed { leaves = applied s.filed.m s.filed.leaves m.item }
@@ -217,7 +217,7 @@ pub entered : {s : Kept} {m : Marked} {back : Place} {blocks : List Block} → E
     → making ≡ with_all s.making blocks
     → (rings rs : List Ring) → rings ≡ rs → rs ≡ s.rings
     → record s { rings = rings; entries = entries; filed = filed; newest = newest; making = making } ≡ taken s writer m back
-entered {s} {m} {back} {blocks} e not writer page entries filed newest making at es e1 e1' e2 ps e3 e3' e4 rings rs e5 e5' =
+entered {s} {back} {blocks} m e not writer page entries filed newest making at es e1 e1' e2 ps e3 e3' e4 rings rs e5 e5' =
     let places : newest ≡ places_after s.filed.m s.filed.leaves (here_at s m.item) (last_at s m.item) m.item s.newest =
     e3 ∙ ap (λ (l : List Place). noted l page (here_for (frame_of s.making) page) (last_for (frame_of s.making) page) (length blocks)) e3'
     ∙ ap (λ (p : ℕ). noted s.newest p (here_for (frame_of s.making) p) (last_for (frame_of s.making) p) (length blocks)) at
@@ -241,9 +241,9 @@ entered {s} {m} {back} {blocks} e not writer page entries filed newest making at
       making = b;
     }) made
 
-pub entered_sound : {s : Kept} {m : Marked} {back : Place} {blocks : List Block} → Enters s m.item back blocks → (IsSpent (shown_of s.filed) m.item → ⊥) → (writer : ℕ)
+pub entered_sound : {s : Kept} {back : Place} {blocks : List Block} (m : Marked) → Enters s m.item back blocks → (IsSpent (shown_of s.filed) m.item → ⊥) → (writer : ℕ)
     → writer < length s.rings → IsSound (taken s writer m back)
-entered_sound {s} {m} {back} {blocks} e not writer inside = taken_sound s writer m back (takes_one s writer m.item back blocks e not inside)
+entered_sound {s} {back} {blocks} m e not writer inside = taken_sound s writer m back (takes_one s writer m.item back blocks e not inside)
 
 -- a lane is one of the rings
 pub lane_inside : (lanes : List Lane) (at : ℕ) → at < length lanes → at < length (map ring_of_lane lanes)

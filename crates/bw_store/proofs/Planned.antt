@@ -7,11 +7,13 @@ use Rattle.bw_store.specs.declared.planning.Plan.{Plan}
 use Rattle.bw_store.specs.Planning.{listed}
 use Rattle.bw_store.specs.declared.fault.StoreFault.{StoreFault}
 use Rattle.bw_store.specs.declared.fault.StoreFault.TheVariants.{NoMemory, BadConfig, NoSegment, Device, Failed, Spent, NoPage, NothingOld}
+use Rattle.bw_ring.specs.declared.lane.Lane.{Lane}
 use Rattle.bw_ring.specs.Marks.{marked}
-use Rattle.bw_store.specs.Faults.{FlushLeaves, IsWantingAt}
+use Rattle.bw_store.specs.Lanes.{IsNext}
+use Rattle.bw_store.specs.Faults.{FlushLeaves, IsWantingAt, fault_of_apply}
 use Rattle.std.specs.Option.{unwrap_or}
 use Rattle.bw_store.specs.Fitting.{Fits, back_for, group_blocks, here_at}
-use Rattle.bw_store.specs.Taking.{MakesRoom, IsPlan, GroupLeaves, IsWanting, IsUnplanned, Works}
+use Rattle.bw_store.specs.Taking.{MakesRoom, IsPlan, GroupLeaves, Took, WaitingLeaves, IsWanting, IsUnplanned, Works}
 use Rattle.bw_store.proofs.Refusing.{entered_not}
 use Rattle.bw_store.specs.Taken.{alone, taken, taken_all}
 use Rattle.std.specs.List.{AllByRecursion as All, flat_map}
@@ -26,7 +28,9 @@ use Rattle.bw_codec.specs.declared.block.Block.TheVariants.{Delta, Split}
 use Rattle.bw_codec.proofs.Lengths.{length-delta, length-split}
 use Rattle.bw_page.specs.Leaves.{home, changed, directed_at, upper_of, leaf_at, HasPage, AreLeaves}
 use Rattle.std.specs.List.{slice_get}
-use Rattle.bw_page.specs.Shown.{Shown, leaf_here, is_away, IsHere}
+use Rattle.bw_page.specs.declared.fault.ApplyError.{ApplyError}
+use Rattle.bw_page.specs.declared.fault.ApplyError.TheVariants as apply
+use Rattle.bw_page.specs.Shown.{Shown, leaf_here, is_away, IsHere, IsSpent}
 use Rattle.bw_codec.proofs.Wider.{blocks_wider}
 use Rattle.bw_buffer.specs.Filling.{Filling, frame_of, size_of, with_all}
 use Rattle.bw_buffer.proofs.Holding.{few_blocks}
@@ -255,7 +259,7 @@ pub entered_or_not : (lane : ℕ) (old middle new : Kept) (group : List Record) 
     → Works old → MakesRoom group old middle → Fits middle group → middle.log.is_failed ≡ false
     → OnOk r (new ≡ taken_all middle lane (marked group)) → OnErr r (new ≡ middle) → IfErr r (IsWanting middle group) → GroupLeaves lane group old r new
 entered_or_not lane old middle new group (Ok x) few was may fits works is same w =
-    record { group = group; few = few; worked = was; middle = middle; flushes = may; fits = fits; works = works; is = is }
+    (record { group = group; few = few; worked = was; middle = middle; flushes = may; fits = fits; works = works; is = is }, refl)
 entered_or_not lane old middle new group (Err cause) few was may fits works is same w = entered_not group old middle new cause was may same w
 
 -- the same of a group of one, whose last block was known
@@ -293,3 +297,25 @@ pub one_refused : (s : Kept) (item : Record) (o : Result Plan StoreFault) → Wo
     → IfErr o (IsUnplanned s (item ∷ []))
 one_refused s item (Ok p) works w = tt
 one_refused s item (Err cause) works w = wanting_unplanned s (item ∷ []) cause works (one_wanting s item cause w)
+
+-- the same of what the pages tell
+pub one_wanting_of : (s : Kept) (f : Shown) (item : Record) (error : ApplyError) → length f.leaves ≡ length s.filed.leaves
+    → (error ≡ apply.Spent → IsSpent f item) → IsWanting s (item ∷ []) (fault_of_apply error)
+one_wanting_of s f item apply.NoMemory same spent = tt
+one_wanting_of s f item apply.Spent same spent =
+    (let over = (spent refl).1 in one_wanting s item Spent (omega arith))
+
+-- what a take of the next group of a lane tells of it
+pub take_some : (lane n : ℕ) (group : List Record) (a b c : Kept) → b ≡ a → (t : Took lane b c) × (t.group ≡ group) → n ≡ length group
+    → (t : Took lane a c) × (length t.group ≡ n)
+take_some lane n group a b c same t count =
+    subst (λ (s : Kept). (t : Took lane s c) × (length t.group ≡ n)) same (t.0, ap length t.1 ∙ sym count)
+
+pub waiting_left : (lane : ℕ) (lanes : List Lane) (group : List Record) (old new : Kept) (r : Result (Unit {0}) StoreFault) → GroupLeaves lane group old r new
+    → OnErr r (IsNext lanes lane group) → WaitingLeaves lane lanes old r new
+waiting_left lane lanes group old new (Ok x) left next = left.0
+waiting_left lane lanes group old new (Err fault) left next = record { group = group; waits = next; refuses = left }
+
+pub on_err : {A : Type 0} {P Q : Type 0} (r : Result A StoreFault) → (P → Q) → OnErr r P → OnErr r Q
+on_err (Ok x) f h = tt
+on_err (Err e) f h = f h

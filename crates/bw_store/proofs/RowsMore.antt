@@ -1,25 +1,30 @@
 -- Row after row of a group is noted.
 
-use Rattle.std.proofs.Common.{◌≡◌, ℕ, zero, suc, ◌+◌, ◌-◌, ◌<◌, ◌≤◌, Option, Some, None, List, [], ◌∷◌, ◌++◌, length, set, take, drop, get_or, refl, sym, ap, ◌∙◌, subst, arith}
+use Rattle.std.proofs.Common.{◌≡◌, ℕ, Bool, map, length-set, length-append, zero, suc, ◌+◌, ◌-◌, ◌<◌, ◌≤◌, Option, Some, None, List, [], ◌∷◌, ◌++◌, length, set, take, drop, get_or, refl, sym, ap, ◌∙◌, subst, arith}
 use Rattle.std.specs.Prelude.{is_some, IfSome, slice_set}
 use Rattle.std.specs.List.{AllByRecursion as All, fold, slice_index_or}
-use Rattle.std.proofs.lemmas.List.{take_more}
+use Rattle.std.proofs.lemmas.List.{take_more, drop_more, length-map}
 use Rattle.bw_codec.specs.declared.record.Record.{Record}
 use Rattle.bw_codec.specs.declared.block.Place.{Place}
 use Rattle.bw_store.specs.declared.drafting.Row.{Row}
 use Rattle.bw_store.specs.Drafting.{AreIn, count_by, set_row, tails_all}
-use Rattle.bw_store.specs.Tails.{HasRoomsAt, Tailed, tails_after}
+use Rattle.bw_store.specs.Tails.{HasRoomAt, HasRoomsAt, Tailed, tail_of, tails_after}
 use Rattle.bw_store.proofs.Joins.{all-append}
 
 pub drop_at : {X : Type 0} (xs : List X) (i : ℕ) (x : X) → i < length xs → x ≡ get_or xs i x → drop i xs ≡ x ∷ drop (i + 1) xs
-drop_at [] i x lt is = absurd (omega arith)
-drop_at {X} (y ∷ ys) zero x lt is = ap (λ (z : X). z ∷ ys) (sym is)
-drop_at (y ∷ ys) (suc i) x lt is = drop_at ys i x (omega arith) is
+drop_at {X} xs i x lt is = drop_more xs i x lt ∙ ap (λ (z : X). z ∷ drop (i + 1) xs) (sym is)
 
-pub drop_all : {X : Type 0} (xs : List X) (n : ℕ) → (n < length xs → ⊥) → drop n xs ≡ []
-drop_all [] n end = refl
-drop_all (x ∷ xs) zero end = absurd (end (omega arith))
-drop_all (x ∷ xs) (suc n) end = drop_all xs n (λ lt. end (omega arith))
+pub drop_all : {X : Type 0} (xs : List X) (n : ℕ) → length xs ≤ n → drop n xs ≡ []
+drop_all [] zero end = refl
+drop_all [] (suc n) end = refl
+drop_all (x ∷ xs) zero end = absurd (omega arith)
+drop_all (x ∷ xs) (suc n) end = drop_all xs n (omega arith)
+
+-- an element is what it is read as, whatever is read beyond the end
+pub got : {X : Type 0} (xs : List X) (i : ℕ) (d : X) → i < length xs → get_or xs i d ≡ get_or xs i (get_or xs i d)
+got [] i d lt = absurd (omega arith)
+got (x ∷ xs) zero d lt = refl
+got (x ∷ xs) (suc i) d lt = got xs i d (omega arith)
 
 pub all_at : {X : Type 0} (P : X → Type 0) (xs : List X) (i : ℕ) (x : X) → i < length xs → x ≡ get_or xs i x → All P xs → P x
 all_at P [] i x lt is h = absurd (omega arith)
@@ -34,10 +39,10 @@ pub all_push : {X : Type 0} (P : X → Type 0) (xs : List X) (i : ℕ) (x : X) �
 all_push P xs i x lt is h k =
     subst (All P) (sym (take_more xs i x lt)) (all-append P (take i xs) (get_or xs i x ∷ []) h (subst P is k, tt))
 
-pub all_first : {X : Type 0} (P : X → Type 0) (xs : List X) (n : ℕ) → (n < length xs → ⊥) → All P (take n xs) → All P xs
+pub all_first : {X : Type 0} (P : X → Type 0) (xs : List X) (n : ℕ) → length xs ≤ n → All P (take n xs) → All P xs
 all_first P [] n end h = tt
-all_first P (x ∷ xs) zero end h = absurd (end (omega arith))
-all_first P (x ∷ xs) (suc n) end h = (h.0, all_first P xs n (λ lt. end (omega arith)) h.1)
+all_first P (x ∷ xs) zero end h = absurd (omega arith)
+all_first P (x ∷ xs) (suc n) end h = (h.0, all_first P xs n (omega arith) h.1)
 
 -- what is left of the rows
 
@@ -53,21 +58,40 @@ pub set_rest : (rows : List Row) (i : ℕ) (row : Row) (was now : List Place) �
 set_rest rows i row was now lt is e =
     ap (λ (ps : List Place). fold set_row ps (drop (i + 1) rows)) e ∙ ap (fold set_row was) (sym (drop_at rows i row lt is))
 
-pub set_end : (rows : List Row) (n : ℕ) (now : List Place) → (n < length rows → ⊥) → now ≡ fold set_row now (drop n rows)
+pub set_end : (rows : List Row) (n : ℕ) (now : List Place) → length rows ≤ n → now ≡ fold set_row now (drop n rows)
 set_end rows n now end = ap (fold set_row now) (sym (drop_all rows n end))
 
 abbrev pub Told : Type 0
 Told = List (Option (List Record))
 
-pub tails_rest : (rows : List Row) (rs : List Record) (i : ℕ) (row : Row) (r : Record) (was now : Told) → i < length rows → row ≡ get_or rows i row
-    → i < length rs → r ≡ get_or rs i r → now ≡ tails_after row.page r (is_some row.made) was
+pub tails_rest : (rows : List Row) (rs : List Record) (i : ℕ) (row : Row) (r : Record) (was now : Told) (cuts : Bool) → i < length rows → row ≡ get_or rows i row
+    → i < length rs → r ≡ get_or rs i r → cuts ≡ is_some row.made → now ≡ tails_after row.page r cuts was
     → tails_all (drop (i + 1) rows) (drop (i + 1) rs) now ≡ tails_all (drop i rows) (drop i rs) was
-tails_rest rows rs i row r was now lt is lt_r is_r e =
-    ap (tails_all (drop (i + 1) rows) (drop (i + 1) rs)) e
+tails_rest rows rs i row r was now cuts lt is lt_r is_r made e =
+    ap (tails_all (drop (i + 1) rows) (drop (i + 1) rs)) (e ∙ ap (λ (b : Bool). tails_after row.page r b was) made)
     ∙ ap (λ (l : List Record). tails_all (row ∷ drop (i + 1) rows) l was) (sym (drop_at rs i r lt_r is_r))
     ∙ ap (λ (l : List Row). tails_all l (drop i rs) was) (sym (drop_at rows i row lt is))
 
-pub tails_end : (rows : List Row) (rs : List Record) (n : ℕ) (now : Told) → (n < length rows → ⊥) → now ≡ tails_all (drop n rows) (drop n rs) now
+-- how many tails there are then
+pub tails_length : (old new : List (Option Tailed)) (row : Row) (r : Record) (cuts : Bool) → cuts ≡ is_some row.made
+    → map tail_of new ≡ tails_after row.page r cuts (map tail_of old) → length new ≡ count_by row.made (length old)
+tails_length old new row r cuts made e =
+    sym (length-map new tail_of) ∙ ap length e ∙ ap (λ (b : Bool). length (tails_after row.page r b (map tail_of old))) made
+    ∙ by row.made
+  where
+    by : (o : Option ℕ) → length (tails_after row.page r (is_some o) (map tail_of old)) ≡ count_by o (length old)
+    by None = length-set (map tail_of old) (row.page - 1) _ ∙ length-map old tail_of
+    by (Some q) = length-append (set (map tail_of old) (row.page - 1) None) (None ∷ [])
+        ∙ ap (λ (n : ℕ). n + 1) (length-set (map tail_of old) (row.page - 1) None ∙ length-map old tail_of)
+
+pub room_one : (n : ℕ) (tails : List (Option Tailed)) (i : ℕ) → 1 ≤ n → HasRoomsAt n tails i → HasRoomAt tails i
+room_one n tails i some h = of_tail (slice_index_or tails i None) h
+  where
+    of_tail : (o : Option Tailed) → IfSome o (λ t. n ≤ t.room) → IfSome o (λ t. 1 ≤ t.room)
+    of_tail None k = tt
+    of_tail (Some t) k = omega arith
+
+pub tails_end : (rows : List Row) (rs : List Record) (n : ℕ) (now : Told) → length rows ≤ n → now ≡ tails_all (drop n rows) (drop n rs) now
 tails_end rows rs n now end = ap (λ (l : List Row). tails_all l (drop n rs) now) (sym (drop_all rows n end))
 
 -- one more record of a page uses up at most one place
@@ -122,3 +146,9 @@ pub room_beyond : (tails : List (Option Tailed)) (i : ℕ) → length tails ≤ 
 room_beyond [] i le = tt
 room_beyond (t ∷ ts) zero le = absurd (omega arith)
 room_beyond (t ∷ ts) (suc i) le = room_beyond ts i (omega arith)
+
+pub less_none : (n : ℕ) → n ≡ n - 0
+less_none n = omega arith
+
+pub less_more : (n i k : ℕ) → k ≡ n - (i + 1) → i < n → n - i ≡ k + 1
+less_more n i k is lt = omega arith

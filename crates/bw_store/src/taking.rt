@@ -2,9 +2,11 @@
 
 ghost use Rattle.std.specs.Prelude.{◌≡◌, ◌≤◌, ◌<◌, ◌+◌, ◌-◌, ◌∷◌, [], Some, None, false, length, map, IfSome, IfNone, IfOk, IfErr, OnOk, OnErr, MatchResult};
 ghost use Rattle.std.specs.List.{AllByRecursion};
-ghost use Rattle.bw_codec.specs.Grammar.{body_bytes, IsBlock};
+ghost use Rattle.bw_codec.specs.Grammar.{body_bytes, IsBlock, IsOp};
+ghost use Rattle.bw_page.specs.Batch.{AreHere};
 ghost use Rattle.bw_codec.specs.Record.{key_of};
-ghost use Rattle.bw_page.specs.Leaves.{directed_at};
+ghost use Rattle.bw_page.specs.Leaves.{directed_at, HasPages};
+ghost use Rattle.bw_store.specs.Fitting.{Fits};
 ghost use Rattle.bw_page.specs.Shown.{IsHere};
 ghost use Rattle.bw_buffer.specs.Filling.{size_of};
 ghost use Rattle.bw_ring.specs.Ends.{given};
@@ -145,16 +147,42 @@ impl Store {
         ensures leaves { GroupLeaves lane group (kept_by self.old holding) result
             (kept_by self.new holding) }
     {
+        let _ = group.len();
         self.goes_on()?;
         self.fetch_all(group.as_slice())?;
-        if let Some(draft) = self.draft(lane, group.as_slice())? {
-            return self.enter_all(lane, group, &draft);
+        match self.draft(lane, group.as_slice())? {
+            Some(draft) => self.enter_all(lane, group, &draft),
+            None => self.take_behind(lane, group),
         }
+    }
+
+    // The same, where the frame in the making has no room for all of the group: it is appended first.
+    fn take_behind(&mut self, lane: usize, group: Group) -> Result<(), StoreFault>
+        requires sound { IsSound self.old holding }
+        requires inside { lane < length self.old.intake.lanes.items }
+        requires comes { IsNext self.old.intake.lanes.items lane group }
+        requires here { AreHere self.old.leaves group }
+        requires lawful { AllByRecursion IsOp group }
+        requires works { (kept_by self.old holding).log.is_failed ≡ false }
+        requires room { HasPages self.old.leaves.m self.old.leaves.leaves group }
+        requires full { Fits (kept_by self.old holding) group → ⊥ }
+        ensures sound { IsSound self.new holding }
+        ensures count { length self.new.intake.lanes.items ≡ length self.old.intake.lanes.items }
+        ensures given { OnOk result (map given self.new.intake.lanes.items
+            ≡ map given self.old.intake.lanes.items) }
+        ensures known { OnOk result
+            (TookKnown lane self.old.intake.lanes.items self.new.intake.lanes.items) }
+        ensures stays { OnErr result
+            (self.new.intake.lanes.items ≡ self.old.intake.lanes.items) }
+        ensures leaves { GroupLeaves lane group (kept_by self.old holding) result
+            (kept_by self.new holding) }
+    {
+        let _ = group.len();
         self.flush_making(false)?;
-        let Some(draft) = self.draft(lane, group.as_slice())? else {
-            unreachable!();
-        };
-        self.enter_all(lane, group, &draft)
+        match self.draft(lane, group.as_slice())? {
+            Some(draft) => self.enter_all(lane, group, &draft),
+            None => unreachable!(),
+        }
     }
 
     // A copy of the group that a lane gives next.

@@ -7,7 +7,7 @@ use Rattle.bw_store.proofs.entering.set_all.Given as goal
 
 abbrev pub invariant-rows : goal.invariant-rows
 invariant-rows l = record {
-  rest : fold set_row l.newest.items (drop l.at l.rows.now) ≡ fold set_row l.initial.newest.items l.rows.now;
-  inside : AreIn (length l.newest.items) (drop l.at l.rows.now);
-  room : vec_len l.newest + (length l.rows.now - l.at) ≤ vec_capacity l.newest;
+  rest : fold set_row l.newest.items (drop l.at l.rows) ≡ fold set_row l.initial.newest.items l.rows;
+  inside : AreIn (length l.newest.items) (drop l.at l.rows);
+  room : vec_len l.newest + (length l.rows - l.at) ≤ vec_capacity l.newest;
 }

@@ -8,8 +8,8 @@ use Rattle.bw_store.proofs.tails.note_all.Given as goal
 
 abbrev pub invariant-rows : goal.invariant-rows
 invariant-rows l = record {
-  rest : tails_all (drop l.at l.rows.now) (drop l.at l.records.now) (map tail_of l.tails.items) ≡ tails_all l.rows.now l.records.now (map tail_of l.initial.tails.items);
-  inside : AreIn (length l.tails.items) (drop l.at l.rows.now);
-  room : vec_len l.tails + (length l.rows.now - l.at) ≤ vec_capacity l.tails;
-  links : AllByRecursion (λ row. HasRoomsAt (length l.rows.now - l.at) l.tails.items (row.page - 1)) l.rows.now;
+  rest : tails_all (drop l.at l.rows) (drop l.at l.records) (map tail_of l.tails.items) ≡ tails_all l.rows l.records (map tail_of l.initial.tails.items);
+  inside : AreIn (length l.tails.items) (drop l.at l.rows);
+  room : vec_len l.tails + (length l.rows - l.at) ≤ vec_capacity l.tails;
+  links : AllByRecursion (λ row. HasRoomsAt (length l.rows - l.at) l.tails.items (row.page - 1)) l.rows;
 }

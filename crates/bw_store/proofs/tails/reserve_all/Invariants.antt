@@ -9,5 +9,5 @@ abbrev pub invariant-rows : goal.invariant-rows
 invariant-rows l = record {
   same : map tail_of l.tails.items ≡ map tail_of l.initial.tails.items;
   room : vec_len l.tails + 4 ≤ vec_capacity l.tails;
-  links : AllByRecursion (λ row. HasRoomsAt 4 l.tails.items (row.page - 1)) (take l.at l.rows.now);
+  links : AllByRecursion (λ row. HasRoomsAt 4 l.tails.items (row.page - 1)) (take l.at l.rows);
 }

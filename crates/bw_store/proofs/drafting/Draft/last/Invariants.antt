@@ -3,4 +3,4 @@ use Rattle.bw_store.specs.Drafting.{row_in}
 use Rattle.bw_store.proofs.drafting.Draft.last.Given as goal
 
 abbrev pub invariant-rows : goal.invariant-rows
-invariant-rows l = record { found : l.found ≡ row_in (take l.row-index l.self.now.rows.items) l.page }
+invariant-rows l = record { found : l.found ≡ row_in (take l.row-index l.self.rows.items) l.page }

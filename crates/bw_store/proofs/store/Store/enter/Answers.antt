@@ -1,4 +1,4 @@
-use Rattle.std.proofs.Common.{◌≡◌, ◌∙◌, ◌+◌, ◌++◌, ◌∷◌, [], ℕ, List, true, length, map, ap, subst, sym, arith}
+use Rattle.std.proofs.Common.{◌≡◌, ◌∙◌, ◌+◌, ◌++◌, ◌∷◌, [], ℕ, Err, refl, List, true, length, map, ap, subst, sym, arith}
 use Rattle.std.specs.Prelude.{nat_lt}
 use Rattle.bw_codec.specs.declared.block.Block.{Block}
 use Rattle.bw_codec.specs.declared.leaf.Leaf.{Leaf}
@@ -19,6 +19,11 @@ use Rattle.bw_versions.specs.declared.entry.Entry.{Entry}
 use Rattle.bw_ring.specs.Marks.{marked}
 use Rattle.bw_store.specs.History.{entered as entries_of}
 use Rattle.bw_store.proofs.Grouped.{whole_entered}
+use Rattle.std.proofs.lemmas.Result.{err_from_is_err_and}
+use Rattle.bw_codec.specs.declared.record.Record.{Record}
+use Rattle.bw_page.specs.declared.fault.ApplyError.{ApplyError}
+use Rattle.bw_store.specs.Taken.{alone}
+use Rattle.bw_store.proofs.Planned.{one_wanting_of}
 use Rattle.bw_store.proofs.MayEnter.{enters_at, file_one, file_page, file_lawful, entered, entered_sound, lane_inside}
 use Rattle.bw_ring.specs.Ends.{ring_of_lane}
 use Rattle.bw_store.proofs.store.Store.enter.Goals as goal
@@ -53,8 +58,9 @@ invariant_of-self-2 g c =
     ap (λ (b : Filling). b.blocks) c.file.ensures.making ∙ ap (added was.making.blocks) c.requires.blocks in
     let leaves = ap (λ (x : Shown). x.leaves) c.in_ok-apply_on.ensures.ok in
     record {
-      whole = whole_entered was.cuts.items was.intake.history.items c.enter.new.self.history.items c.args.lane (c.args.item ∷ [])
-          c.requires.sound.ordered was.whole (c.enter.ensures.grows ∙ ap (λ (es : List Entry). es ++ entries_of c.args.lane (marked (c.args.item ∷ []))) c.reserve.ensures.history);
+      whole = whole_entered was.cuts.items was.intake.history.items c.enter.new.self.history.items c.args.lane c.one.result
+          c.requires.sound.ordered was.whole
+          (c.enter.ensures.grows ∙ ap (λ (es : List Entry). es ++ entries_of c.args.lane (marked c.one.result)) c.reserve.ensures.history);
       tailed = c.note.ensures.value
           ∙ ap (tails_after c.args.page c.args.item (nat_lt 1 (length c.args.blocks.now))) (c.reserve_for.ensures.same ∙ was.tailed)
           ∙ ap (λ (p : ℕ). tails_after p c.args.item (nat_lt 1 (length c.args.blocks.now)) (tails_for (length f.leaves) was.making.blocks)) at
@@ -90,8 +96,14 @@ returns-clause-sound g c =
     let e = enters_at c.args.page c.requires.sound c.requires.next c.key.ensures.lawful c.requires.page c.requires.back c.requires.blocks c.requires.fits in
     let not : IsSpent c.args.self.now.leaves c.args.item → ⊥ = λ p. let x = c.in_ok-apply_on.ensures.spent p in cc in
     subst kept.IsSound
-    (sym (entered e not c.args.lane c.args.page c.enter.new.self.history.items (filed_of c.apply_on.new.self) c.file.new.newest.items c.file.new.making c.requires.page
-    _ c.enter.ensures.grows c.reserve.ensures.history (ap filed_of c.in_ok-apply_on.ensures.ok)
+    (sym (entered (alone c.args.item) e not c.args.lane c.args.page c.enter.new.self.history.items (filed_of c.apply_on.new.self) c.file.new.newest.items c.file.new.making c.requires.page
+    _ (c.enter.ensures.grows ∙ ap (λ (g : List Record). c.reserve.new.self.history.items ++ entries_of c.args.lane (marked g)) c.one.ensures) c.reserve.ensures.history (ap filed_of c.in_ok-apply_on.ensures.ok)
     _ c.file.ensures.newest c.reserve-2.ensures.items c.file.ensures.making
     _ _ c.enter.ensures.rings (ap (λ v. map ring_of_lane v.items) c.reserve.ensures.lanes)))
-    (entered_sound e not c.args.lane (lane_inside _ _ c.requires.inside))
+    (entered_sound (alone c.args.item) e not c.args.lane (lane_inside _ _ c.requires.inside))
+
+pub returns-in_err-apply_on-clause-refused : goal.returns-in_err-apply_on-clause-refused
+returns-in_err-apply_on-clause-refused g c =
+    let p = err_from_is_err_and c.from_residual-in_err-apply_on.result c.from_residual-in_err-apply_on.ensures.1 in
+    rw (p.1, p.2) (one_wanting_of (kept_by c.args.self.now (λ z. (goal.Segment-dyn g z).holding z.1)) c.args.self.now.leaves c.args.item c.in_err-apply_on.field-0.0 refl
+    (λ e. c.in_err-apply_on.ensures.only_spent (ap (λ (x : ApplyError). Err x) e)))

@@ -1,19 +1,126 @@
-use Rattle.std.proofs.Common.{◌≡◌, ◌∙◌, ◌+◌, ◌++◌, ℕ, List, true, length, map, ap, subst, sym, arith}
+use Rattle.std.proofs.Common.{◌≡◌, ◌∙◌, ◌+◌, ◌++◌, ℕ, List, Err, true, length, map, ap, refl, subst, sym, arith}
+use Rattle.std.proofs.lemmas.Result.{err_from_is_err_and}
 use Rattle.bw_codec.specs.declared.leaf.Leaf.{Leaf}
 use Rattle.bw_codec.specs.declared.record.Record.{Record}
-use Rattle.bw_page.specs.Batch.{AreHere}
+use Rattle.bw_page.specs.Leaves.{pages}
 use Rattle.bw_page.specs.Seats.{is_among}
 use Rattle.bw_page.specs.Shown.{Shown}
+use Rattle.bw_page.specs.declared.fault.ApplyError.{ApplyError}
 use Rattle.bw_ring.specs.Ends.{ring_of_lane}
 use Rattle.bw_ring.specs.Marks.{marked}
 use Rattle.bw_versions.specs.declared.entry.Entry.{Entry}
 use Rattle.bw_store.specs.History.{entered}
-use Rattle.bw_store.specs.Kept.{filed_of}
+use Rattle.bw_store.specs.Kept.{Filed, filed_of}
 use Rattle.bw_store.specs.Kept as kept
 use Rattle.bw_store.specs.Views.{kept_by}
-use Rattle.bw_store.proofs.EnterMore.{all_sound, away_now, blocks_fit, blocks_lawful_now, blocks_some, entered_all, rows_begin, rows_inside, rows_many, tails_now}
-use Rattle.bw_store.proofs.GroupMore.{as_records, fewer_rooms}
+use Rattle.bw_store.proofs.EnterMore.{all_sound, away_now, blocks_some, entered_all, filed_with, rows_begin, rows_inside, rows_many, tails_now, wanting_of}
+use Rattle.bw_store.proofs.GroupMore.{as_records, fewer_rooms, spent_as}
 use Rattle.bw_store.proofs.Grouped.{whole_entered}
 use Rattle.bw_store.proofs.MayEnter.{lane_inside}
 use Rattle.bw_store.proofs.TailLists.{as_many}
 use Rattle.bw_store.proofs.store.Store.enter_all.Goals as goal
+
+pub reserve_all-requires : goal.reserve_all-requires
+reserve_all-requires g c =
+    let s = kept_by c.args.self.now (λ z. (goal.Segment-dyn g z).holding z.1) in
+    rows_begin s c.args.group c.args.draft.now c.requires.sound c.requires.lawful c.requires.draft _ c.as_slice-rows.ensures.value
+
+pub returns-in_err-apply_all_of-clause-refused : goal.returns-in_err-apply_all_of-clause-refused
+returns-in_err-apply_all_of-clause-refused g c =
+    let s = kept_by c.args.self.now (λ z. (goal.Segment-dyn g z).holding z.1) in
+    let p = err_from_is_err_and c.from_residual-in_err-apply_all_of.result c.from_residual-in_err-apply_all_of.ensures.1 in
+    rw (p.1, p.2) (wanting_of s c.args.self.now.leaves c.args.group c.in_err-apply_all_of.field-0.0 refl refl
+    (λ e. spent_as c.args.self.now.leaves c.args.group
+    (rw (sym c.as_slice.ensures.value) (c.in_err-apply_all_of.ensures.only_spent (ap (λ (x : ApplyError). Err x) e)))))
+
+pub note_all-requires-clause-inside : goal.note_all-requires-clause-inside
+note_all-requires-clause-inside g c =
+    let s = kept_by c.args.self.now (λ z. (goal.Segment-dyn g z).holding z.1) in
+    rows_inside s c.args.group c.args.draft.now c.requires.sound c.requires.lawful c.requires.draft _ _
+    (as_many _ _ c.args.self.now.making.blocks (c.reserve_all.ensures.same ∙ c.args.self.now.tailed)) c.as_slice-rows.ensures.value
+
+pub note_all-requires-clause-many : goal.note_all-requires-clause-many
+note_all-requires-clause-many g c =
+    let s = kept_by c.args.self.now (λ z. (goal.Segment-dyn g z).holding z.1) in
+    rows_many s c.args.group c.args.draft.now c.requires.sound c.requires.lawful c.requires.draft _ c.as_slice-rows.ensures.value
+    ∙ ap length (sym c.as_slice-2.ensures.value)
+
+pub note_all-requires-clause-room : goal.note_all-requires-clause-room
+note_all-requires-clause-room g c =
+    let s = kept_by c.args.self.now (λ z. (goal.Segment-dyn g z).holding z.1) in
+    let many = rows_many s c.args.group c.args.draft.now c.requires.sound c.requires.lawful c.requires.draft _ c.as_slice-rows.ensures.value in
+    let few = c.as_slice.ensures.few in
+    let most = few.1 in
+    let room = c.in_ok-reserve_all.ensures.room in
+    omega arith
+
+pub note_all-requires-clause-links : goal.note_all-requires-clause-links
+note_all-requires-clause-links g c =
+    let s = kept_by c.args.self.now (λ z. (goal.Segment-dyn g z).holding z.1) in
+    let many = rows_many s c.args.group c.args.draft.now c.requires.sound c.requires.lawful c.requires.draft _ c.as_slice-rows.ensures.value in
+    let few = c.as_slice.ensures.few in
+    let most = few.1 in
+    fewer_rooms _ _ _ (omega arith) c.in_ok-reserve_all.ensures.links
+
+pub file_all-requires-clause-some : goal.file_all-requires-clause-some
+file_all-requires-clause-some g c =
+    let s = kept_by c.args.self.now (λ z. (goal.Segment-dyn g z).holding z.1) in
+    blocks_some s c.args.group c.args.draft.now c.requires.sound c.requires.lawful c.requires.draft _ c.as_slice-3.ensures.value c.as_slice.ensures.few.0
+
+pub file_all-requires-clause-inside : goal.file_all-requires-clause-inside
+file_all-requires-clause-inside g c =
+    let s = kept_by c.args.self.now (λ z. (goal.Segment-dyn g z).holding z.1) in
+    rows_inside s c.args.group c.args.draft.now c.requires.sound c.requires.lawful c.requires.draft _ _
+    (ap length c.reserve-2.ensures.items ∙ c.requires.sound.grown.count) c.as_slice-rows.ensures.value
+
+pub file_all-requires-clause-room : goal.file_all-requires-clause-room
+file_all-requires-clause-room g c =
+    let s = kept_by c.args.self.now (λ z. (goal.Segment-dyn g z).holding z.1) in
+    let many = rows_many s c.args.group c.args.draft.now c.requires.sound c.requires.lawful c.requires.draft _ c.as_slice-rows.ensures.value in
+    let count = c.len.ensures.value in
+    let room = c.in_ok-reserve-2.ensures.ok in
+    omega arith
+
+pub invariant_of-self-2 : goal.invariant_of-self-2
+invariant_of-self-2 g c =
+    let was = c.args.self.now in
+    let s = kept_by was (λ z. (goal.Segment-dyn g z).holding z.1) in
+    let after = c.in_ok-apply_all_of.ensures.ok in
+    let leaves = ap (λ (x : Shown). x.leaves) after ∙ ap (pages was.leaves.m was.leaves.leaves) (as_records _ ∙ c.as_slice.ensures.value) in
+    let away = ap (λ (x : Shown). x.away) after in
+    record {
+      whole = whole_entered was.cuts.items was.intake.history.items c.enter.new.self.history.items c.args.lane c.args.group c.requires.sound.ordered was.whole
+          (c.enter.ensures.grows ∙ ap (λ (es : List Entry). es ++ entered c.args.lane (marked c.args.group)) c.reserve.ensures.history);
+      tailed = tails_now s c.args.group c.args.draft.now c.requires.sound c.requires.lawful c.requires.draft _ _ _ _ _ _ _
+          c.as_slice-rows.ensures.value c.as_slice-2.ensures.value (c.reserve_all.ensures.same ∙ was.tailed) c.note_all.ensures
+          c.file_all.ensures.making c.as_slice-3.ensures.value leaves;
+      logged = λ q there.
+          away_now s c.args.group c.args.draft.now c.requires.sound c.requires.lawful c.requires.draft was.leaves.away q _ _ c.requires.here c.count.ensures.beyond
+          (subst (λ (ps : List ℕ). is_among q ps ≡ true) away there) (was.logged q (subst (λ (ps : List ℕ). is_among q ps ≡ true) away there))
+          c.file_all.ensures.making c.as_slice-3.ensures.value;
+    }
+
+pub returns-clause-sound : goal.returns-clause-sound
+returns-clause-sound g c =
+    let was = c.args.self.now in
+    let s = kept_by was (λ z. (goal.Segment-dyn g z).holding z.1) in
+    let leaves = ap (pages was.leaves.m was.leaves.leaves) (as_records _ ∙ c.as_slice.ensures.value) in
+    subst kept.IsSound
+    (sym (entered_all s c.args.group c.args.draft.now c.requires.sound c.requires.lawful c.requires.draft c.args.lane _ _ c.enter.new.self.history.items _
+    (filed_of c.apply_all_of.new.self) _ _ _ _ _
+    c.enter.ensures.rings (ap (λ v. map ring_of_lane v.items) c.reserve.ensures.lanes) c.enter.ensures.grows c.reserve.ensures.history
+    (ap filed_of c.in_ok-apply_all_of.ensures.ok ∙ ap (λ (ls : List Leaf). filed_with was.leaves.m ls) leaves)
+    c.file_all.ensures.newest c.reserve-2.ensures.items c.as_slice-rows.ensures.value c.file_all.ensures.making c.as_slice-3.ensures.value))
+    (all_sound s c.args.group c.args.draft.now c.requires.sound c.requires.lawful c.requires.draft c.args.lane c.requires.next
+    (lane_inside _ _ c.requires.inside))
+
+pub returns-clause-ok : goal.returns-clause-ok
+returns-clause-ok g c =
+    let was = c.args.self.now in
+    let s = kept_by was (λ z. (goal.Segment-dyn g z).holding z.1) in
+    let leaves = ap (pages was.leaves.m was.leaves.leaves) (as_records _ ∙ c.as_slice.ensures.value) in
+    entered_all s c.args.group c.args.draft.now c.requires.sound c.requires.lawful c.requires.draft c.args.lane _ _ c.enter.new.self.history.items _
+    (filed_of c.apply_all_of.new.self) _ _ _ _ _
+    c.enter.ensures.rings (ap (λ v. map ring_of_lane v.items) c.reserve.ensures.lanes) c.enter.ensures.grows c.reserve.ensures.history
+    (ap filed_of c.in_ok-apply_all_of.ensures.ok ∙ ap (λ (ls : List Leaf). filed_with was.leaves.m ls) leaves)
+    c.file_all.ensures.newest c.reserve-2.ensures.items c.as_slice-rows.ensures.value c.file_all.ensures.making c.as_slice-3.ensures.value

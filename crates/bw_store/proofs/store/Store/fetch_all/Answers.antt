@@ -17,23 +17,23 @@ records-preserved g c =
       sound = c.fetch_one.ensures.sound;
       intake = c.fetch_one.ensures.intake ∙ i.intake;
       same = c.in_ok-fetch_one.ensures.leaves ∙ i.same;
-      here = all_more (λ r. IsHere (key_of r) c.fetch_one.new.self.leaves) c.args.records.now c.records.at _ c.records-test.true c.index-records.is
-          (all_here _ _ _ c.in_ok-fetch_one.ensures.others i.here) c.in_ok-fetch_one.ensures.here;
-      ops = all_more IsOp c.args.records.now c.records.at _ c.records-test.true c.index-records.is i.ops c.fetch_one.ensures.lawful;
+      here = all_more (λ r. IsHere (key_of r) c.fetch_one.new.self.leaves) c.args.records.now c.records.at _ c.records-test.true c.index-records-at.is
+          (all_here c.records.self.leaves c.fetch_one.new.self.leaves _ c.in_ok-fetch_one.ensures.others i.here) c.in_ok-fetch_one.ensures.here;
+      ops = all_more IsOp c.args.records.now c.records.at _ c.records-test.true c.index-records-at.is i.ops c.fetch_one.ensures.lawful;
     }
 
 pub returns-in_err-fetch_one-clause-leaves : goal.returns-in_err-fetch_one-clause-leaves
 returns-in_err-fetch_one-clause-leaves g c =
     let p = err_from_is_err_and c.from_residual.result c.from_residual.ensures.1 in
-    rw (p.1, p.2) (walk_later _ _ _ _ c.records.invariant.same c.in_err-fetch_one.ensures.leaves)
+    rw (p.1, p.2) (walk_later (Unit {0}) _ _ _ _ c.records.invariant.same c.in_err-fetch_one.ensures.leaves)
 
 pub returns-clause-lawful : goal.returns-clause-lawful
-returns-clause-lawful g c = all_taken IsOp c.args.records.now c.records.at c.records-test.false c.records.invariant.ops
+returns-clause-lawful g c = all_taken IsOp c.args.records.now c.records.at (let end = c.records-test.false in omega arith) c.records.invariant.ops
 
 pub returns-clause-here : goal.returns-clause-here
 returns-clause-here g c =
     let f = c.records.self.leaves in
     let top = c.count.ensures.limit in
     together f c.args.records.now (omega arith) c.count.ensures.lawful c.count.ensures.beyond
-    (all_taken IsOp c.args.records.now c.records.at c.records-test.false c.records.invariant.ops)
-    (all_taken (λ r. IsHere (key_of r) f) c.args.records.now c.records.at c.records-test.false c.records.invariant.here)
+    (all_taken IsOp c.args.records.now c.records.at (let end = c.records-test.false in omega arith) c.records.invariant.ops)
+    (all_taken (λ r. IsHere (key_of r) f) c.args.records.now c.records.at (let end = c.records-test.false in omega arith) c.records.invariant.here)

@@ -5,6 +5,6 @@ use Rattle.bw_store.proofs.store.Store.lay.Given as goal
 
 abbrev pub invariant-records : goal.invariant-records
 invariant-records g l = record {
-  stands : Stands (kept_by l.self.now (λ z. (goal.Segment-dyn g z).holding z.1)) l.lane (take l.at l.records.now);
-  ahead : IsAhead (kept_by l.self.now (λ z. (goal.Segment-dyn g z).holding z.1)) (take l.at l.records.now) l.draft;
+  stands : Stands (kept_by l.self (λ z. (goal.Segment-dyn g z).holding z.1)) l.lane (take l.at l.records);
+  ahead : IsAhead (kept_by l.self (λ z. (goal.Segment-dyn g z).holding z.1)) (take l.at l.records) l.draft;
 }

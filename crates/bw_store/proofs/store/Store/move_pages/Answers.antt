@@ -1,9 +1,11 @@
-use Rattle.std.proofs.Common.{◌≡◌, ◌++◌, length, replicate, ap, ◌∙◌, arith}
+use Rattle.std.proofs.Common.{◌≡◌, ◌++◌, length, replicate, ap, sym, ◌∙◌, arith}
 use Rattle.bw_store.specs.Cleaning.{end_by}
+use Rattle.bw_store.specs.Tails.{tails_for, is_made}
 use Rattle.bw_store.specs.Views.{kept_by}
 use Rattle.bw_store.proofs.CleanedMore.{Begins, cleans_of, cleaned_cleans, cleaned_told, refused_cleans}
 use Rattle.bw_store.proofs.CleanedMore.{refused_counts, stopped_of, end_before, end_after, frames_are}
 use Rattle.bw_store.proofs.CleanedMore.{there, few_newest, notes_of, noted_are, cleaned_sound, refused_sound}
+use Rattle.bw_store.proofs.Grouped.{whole_many}
 use Rattle.bw_store.proofs.store.Store.move_pages.Goals as goal
 
 pub frames_between-frames-requires-clause-after : goal.frames_between-frames-requires-clause-after
@@ -93,8 +95,15 @@ returns-in-Err-clause-sound g c =
     (ap length c.as_slice.ensures.value) c.renew.ensures.count c.renew.ensures.each c.begin_at.ensures.limit c.begin_at.ensures.empty
     c.begin_at.ensures.sealed c.is_failed.ensures c.next_frame-2.ensures c.begin_at.ensures.number) (refused_counts s stop.0 _ b e.sound stop.1 e.stands)
 
-pub invariant_of-self-in-Ok : goal.invariant_of-self-in-Ok
-invariant_of-self-in-Ok g c = ?
+pub invariant_of-self-in-Ok-clause-whole : goal.invariant_of-self-in-Ok-clause-whole
+invariant_of-self-in-Ok-clause-whole g c =
+    whole_many c.args.self.now.cuts.items _ c.args.self.now.intake.history.items c.frames_between-frames.result _ c.args.self.now.whole
+    c.args.self.now.intake.grouped (ap length c.as_slice.ensures.value) c.push_many.ensures
 
 pub invariant_of-self-in-Err-1 : goal.invariant_of-self-in-Err-1
-invariant_of-self-in-Err-1 g c = ?
+invariant_of-self-in-Err-1 g c = record {
+  whole = whole_many c.args.self.now.cuts.items _ c.args.self.now.intake.history.items c.frames_between-frames.result _ c.args.self.now.whole
+      c.args.self.now.intake.grouped (ap length c.as_slice.ensures.value) c.push_many.ensures;
+  tailed = c.args.self.now.tailed ∙ ap (tails_for (length c.args.self.now.leaves.leaves)) (c.requires.empty ∙ sym c.begin_at.ensures.empty);
+  logged = λ p away. ap (is_made p) c.begin_at.ensures.empty;
+}
