@@ -51,14 +51,14 @@ fn put_all(bench: &Bench, feed: &mut Feed, batch: &[Record]) -> Option<()> {
     Some(())
 }
 
-/// Takes so many records.
+/// Takes so many records, each in a group of its own.
 fn take_all(bench: &Bench, store: &mut Store, many: usize) -> Option<()>
     requires { IsSound store.old holding }
     ensures { IsSound store.new holding }
 {
     let many = u32::try_from(many).unwrap_or(u32::MAX);
     match store.turn(many) {
-        Ok(taken) if taken == many => Some(()),
+        Ok(taken) if taken == u64::from(many) => Some(()),
         Ok(_) => bench.stop(Stop::Refused, "a turn that took fewer"),
         Err(fault) => bench.refused(fault.cause),
     }

@@ -10,26 +10,37 @@ use crate::beside::{Seen, end_if, start_if};
 use crate::shape::{Part, Span};
 use bw_codec::Record;
 use bw_drive::{OpenGate, Plan, drive};
-use bw_ring::Feed;
+use bw_ring::{Feed, Group};
 use bw_store::Store;
+use std::alloc::{AllocError, Global};
 use std::sync::Wait;
 use std::thread::Threads;
 
 /// How often a writer tries to put a record, and how many turns a run has.
 const TRIES: u64 = 1_000_000_000_000;
 
+/// Each record as a group of one.
+fn groups_of(alloc: Global, records: &[Record]) -> Result<Vec<Group>, AllocError> {
+    let mut groups = Vec::with_capacity(alloc, records.len())?;
+    for item in records {
+        groups.push(Group::one(item.copy()))?;
+    }
+    Ok(groups)
+}
+
 /// The puts of each writer.
-fn scripts_of(bench: &Bench, span: Span, writers: usize) -> Option<Vec<Vec<Record>>>
+fn scripts_of(bench: &Bench, span: Span, writers: usize) -> Option<Vec<Vec<Group>>>
     ensures { IfSome result (λ scripts. vec_len scripts ≡ writers) }
 {
-    let mut scripts: Vec<Vec<Record>> = Vec::new(bench.alloc);
+    let mut scripts: Vec<Vec<Group>> = Vec::new(bench.alloc);
     'writers: for writer in 0..writers {
         let part = Part {
             writer: writer as u64,
             of: writers as u64,
         };
         let script = bench.options.shape().script(bench.alloc, span, part)?;
-        scripts.push(script).ok()?;
+        let groups = groups_of(bench.alloc, script.as_slice()).ok()?;
+        scripts.push(groups).ok()?;
     }
     Some(scripts)
 }

@@ -3,6 +3,7 @@
 use Rattle.std.proofs.Common.{ℕ, ◌≡◌, ◌≤◌, List, [], ◌∷◌, ◌++◌, length, map, take, refl, ap, sym, ◌∙◌, arith, append_assoc, append-nil, length-append}
 use Rattle.bw_codec.specs.declared.record.Record.{Record}
 use Rattle.bw_ring.specs.declared.feed.Feed.{Feed}
+use Rattle.bw_ring.specs.Marks.{joined}
 use Rattle.bw_ring.specs.Ends.{accepted, ring_of_feed}
 use Rattle.bw_drive.specs.declared.writers.Job.{Job}
 use Rattle.bw_drive.specs.declared.writers.Writer.{Writer}
@@ -60,21 +61,21 @@ take_none : {A : Type 0} (xs : List A) → take 0 xs ≡ []
 take_none [] = refl
 take_none (x ∷ xs) = refl
 
-none_after : (feeds : List Feed) (scripts : List (Vec Record Global)) → length scripts ≡ length feeds
+none_after : (feeds : List Feed) (scripts : List (Vec (List Record) Global)) → length scripts ≡ length feeds
     → map accepted feeds ≡ after_scripts (map accepted feeds) (texts scripts) (map (λ f. 0) feeds)
 none_after [] scripts len = refl
 none_after (f ∷ fs) [] len = absurd (omega arith)
 none_after (f ∷ fs) (s ∷ ss) len =
-    let here : accepted f ≡ accepted f ++ take 0 s.items = sym (ap (λ t. accepted f ++ t) (take_none s.items) ∙ append-nil (accepted f)) in
-    ap (λ t. t ∷ map accepted fs) here ∙ ap (λ t. (accepted f ++ take 0 s.items) ∷ t) (none_after fs ss (omega arith))
+    let here : accepted f ≡ accepted f ++ take 0 (joined s.items) = sym (ap (λ t. accepted f ++ t) (take_none (joined s.items)) ∙ append-nil (accepted f)) in
+    ap (λ t. t ∷ map accepted fs) here ∙ ap (λ t. (accepted f ++ take 0 (joined s.items)) ∷ t) (none_after fs ss (omega arith))
 
-none_within : (feeds : List Feed) (scripts : List (Vec Record Global)) → length scripts ≡ length feeds
+none_within : (feeds : List Feed) (scripts : List (Vec (List Record) Global)) → length scripts ≡ length feeds
     → AreWithin (texts scripts) (map (λ f. 0) feeds)
 none_within [] scripts len = tt
 none_within (f ∷ fs) [] len = absurd (omega arith)
 none_within (f ∷ fs) (s ∷ ss) len = (omega arith, none_within fs ss (omega arith))
 
-pub none_wrote : (old new : List Feed) (scripts : List (Vec Record Global)) → length scripts ≡ length old → new ≡ old
+pub none_wrote : (old new : List Feed) (scripts : List (Vec (List Record) Global)) → length scripts ≡ length old → new ≡ old
     → WroteSome old scripts new
 none_wrote old new scripts len e = (
   map (λ f. 0) old,

@@ -5,16 +5,16 @@ use Rattle.bw_care.specs.declared.cleaning.Cleaned.{Cleaned}
 use Rattle.bw_ring.specs.declared.lane.Lane.{Lane}
 use Rattle.bw_store.specs.declared.fault.StoreFault.{StoreFault}
 use Rattle.bw_store.specs.Kept.{Kept}
-use Rattle.bw_store.specs.Following.{TookInTurn, RefusedAt}
+use Rattle.bw_store.specs.Following.{TookInTurn, RefusedAt, groups_since}
 use Rattle.bw_store.specs.Faults.{FlushAnswers, flush_refusal}
 use Rattle.bw_store.specs.Showing.{FlushShows, CleanShows}
 use Rattle.bw_drive.specs.declared.plan.Plan.{Plan}
 
--- a turn takes at most so many records
+-- a turn takes at most so many groups
 pub record TurnedOnce (limit : ℕ) (old new : Kept) : Type 0 where
-  pub count : ℕ
-  pub within : count ≤ limit
-  pub took : TookInTurn count old new
+  pub records : ℕ
+  pub took : TookInTurn records old new
+  pub within : groups_since old new ≤ limit
 
 -- a flush is due behind each so many turns, which are counted from 0
 abbrev pub is_due : ℕ → ℕ → Bool

@@ -8,8 +8,8 @@ use bw_store::StoreFault;
 pub struct Driven {
     /// Those that were handed in, in order.
     pub feeds: Vec<Feed>,
-    /// How many records of each script were accepted: its first ones. A writer that used up its
-    /// tries for one record put none behind it.
+    /// How many records of each script were accepted: those of its first groups. A writer that used
+    /// up its tries for one group put none behind it.
     pub accepted: Vec<u64>,
     /// The length of the history.
     pub entries: u64,
@@ -18,7 +18,7 @@ pub struct Driven {
 /// Why a run of writers ended early, with the feeds.
 #[derive(Drop)]
 pub struct DriveFault {
-    /// Those that were handed in, in order, each with some first records of its script.
+    /// Those that were handed in, in order, each with some first groups of its script.
     pub feeds: Vec<Feed>,
     /// The first refusal; `NoMemory` also where a thread could not be made.
     pub cause: StoreFault,

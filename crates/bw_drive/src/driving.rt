@@ -20,8 +20,7 @@ use crate::plan::Plan;
 use crate::starting::{end_all, start_all};
 use crate::tending::tend;
 use crate::writers::Writer;
-use bw_codec::Record;
-use bw_ring::Feed;
+use bw_ring::{Feed, Group};
 use bw_store::{Store, StoreFault};
 use std::sync::Wait;
 use std::thread;
@@ -32,7 +31,7 @@ use std::thread::{Scope, Threads};
 #[derive(Drop)]
 struct Start {
     feeds: Vec<Feed>,
-    scripts: Vec<Vec<Record>>,
+    scripts: Vec<Vec<Group>>,
     writers: Vec<Writer>,
     back: Vec<Feed>,
     counts: Vec<u64>,
@@ -50,7 +49,7 @@ struct Left {
     run: Result<Option<Ended>, StoreFault>,
 }
 
-fn start_of(feeds: Vec<Feed>, scripts: Vec<Vec<Record>>) -> Result<Start, Vec<Feed>>
+fn start_of(feeds: Vec<Feed>, scripts: Vec<Vec<Group>>) -> Result<Start, Vec<Feed>>
     requires { vec_len scripts ≡ vec_len feeds }
     ensures feeds { IfOk result (λ s. s.feeds.items ≡ feeds.items) }
     ensures scripts { IfOk result (λ s. s.scripts.items ≡ scripts.items) }
@@ -127,7 +126,7 @@ fn finish<R: Wait>(
 ) -> Result<Driven, DriveFault>
     requires sound { IsSound store.old holding }
     requires feeds { map ring_of_feed left.feeds.items ≡ (kept_by store.old holding).rings }
-    ensures wrote { (first : List Feed) → (scripts : List (Vec Record Global))
+    ensures wrote { (first : List Feed) → (scripts : List (Vec (List Record) Global))
         → Wrote first scripts left.accepted.items left.feeds.items
         → MatchResult result
         (λ driven. Wrote first scripts driven.accepted.items driven.feeds.items)
@@ -164,7 +163,7 @@ fn finish<R: Wait>(
 /// flushes and cleans by the plan; once all writers have ended it settles. The feeds are those that
 /// `open` or `reopen` gave, all of them, in order, and script w is writer w's.
 ///
-/// A writer tries each record until its feed accepts it, at most `max_turns` times, between
+/// A writer tries each group until its feed accepts it, at most `max_turns` times, between
 /// `gate.before` and `gate.after`; where these tries are used up it ends. The caller's thread turns
 /// at most `max_turns` times, and then waits for the writers.
 ///
@@ -176,7 +175,7 @@ pub fn drive<R: Threads + Wait, G: Gate>(
     rt: &R,
     store: &mut Store,
     feeds: Vec<Feed>,
-    scripts: Vec<Vec<Record>>,
+    scripts: Vec<Vec<Group>>,
     gate: &G,
     plan: Plan,
     max_turns: u64,

@@ -1,18 +1,18 @@
-//! What stands around each record's puts.
+//! What stands around each group's puts.
 
 use std::alloc::{AllocError, Global};
 use std::sync::atomic::{AtomicBool, AtomicU64, Ordering};
 use std::thread;
 
-/// Is told of each record before the first of its puts and after the last, in its writer's thread.
-/// Writers and records are numbered from 0.
+/// Is told of each group before the first of its puts and after the last, in its writer's thread.
+/// Writers and groups are numbered from 0.
 pub trait Gate: Sync {
     fn before(&self, writer: usize, index: u64);
 
     fn after(&self, writer: usize, index: u64);
 }
 
-/// Lets every record pass.
+/// Lets every group pass.
 #[derive(Clone, Copy)]
 pub struct OpenGate;
 
@@ -26,7 +26,7 @@ impl Gate for OpenGate {
 /// at any time.
 #[derive(Drop)]
 pub struct MeetGate {
-    /// Which writers came to their first record.
+    /// Which writers came to their first group.
     arrived: Vec<AtomicBool>,
     /// How many of them found all others there.
     found: AtomicU64,
@@ -36,7 +36,7 @@ pub struct MeetGate {
 
 impl MeetGate {
     /// A gate for so many writers, each of which looks for the others at most so many times, before
-    /// its first record.
+    /// its first group.
     pub fn new(alloc: Global, writers: usize, turns: u64) -> Result<MeetGate, AllocError> {
         let mut arrived = Vec::with_capacity(alloc, writers)?;
         for _ in 0..writers {

@@ -3,7 +3,7 @@
 /// What the caller's thread does while writers put.
 #[derive(Debug, Clone, Copy, PartialEq, Eq)]
 pub struct Plan {
-    /// The most records that a turn takes, at least 1.
+    /// The most groups that a turn takes, at least 1.
     pub limit: u32,
     /// A flush follows each so many turns, at least 1.
     pub flush_every: u32,

@@ -9,8 +9,7 @@ ghost use Rattle.bw_drive.specs.Pending.{job_of};
 use crate::flags::Flags;
 use crate::gate::Gate;
 use crate::writers::{Ended, Job, Puts, Writer, Written, put_all};
-use bw_codec::Record;
-use bw_ring::Feed;
+use bw_ring::{Feed, Group};
 use std::collections::VecDeque;
 use std::snapshot::Snapshot;
 use std::thread::{Scope, Threads};
@@ -53,7 +52,7 @@ fn start_one<'s, E, G: Gate>(
 pub(crate) fn start_all<'s, E, G: Gate>(
     scope: &Scope<'s, E>,
     feeds: Vec<Feed>,
-    scripts: Vec<Vec<Record>>,
+    scripts: Vec<Vec<Group>>,
     writers: Vec<Writer>,
     gate: &'s G,
     flags: &'s Flags,

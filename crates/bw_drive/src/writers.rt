@@ -1,13 +1,13 @@
-//! A writer puts the records of its script into its feed, in a thread of its own.
+//! A writer puts the groups of its script into its feed, in a thread of its own.
 
-ghost use Rattle.std.specs.Prelude.{◌≡◌, ◌≤◌, [], ◌∷◌, ◌++◌, length, take, MatchBool};
+ghost use Rattle.std.specs.Prelude.{◌≡◌, ◌≤◌, ◌++◌, length, take, MatchBool};
 ghost use Rattle.bw_ring.specs.Ends.{accepted, ring_of_feed};
+ghost use Rattle.bw_ring.specs.Marks.{marked, joined};
 ghost use Rattle.bw_drive.specs.Written.{IsWritten};
 
 use crate::flags::Flags;
 use crate::gate::Gate;
-use bw_codec::Record;
-use bw_ring::{Feed, Full};
+use bw_ring::{Feed, FullGroup, Group};
 use std::snapshot::Snapshot;
 use std::thread;
 use std::thread::{Promise, PromisedHandle};
@@ -16,7 +16,7 @@ use std::thread::{Promise, PromisedHandle};
 #[derive(Drop)]
 pub(crate) struct Job {
     pub(crate) feed: Feed,
-    pub(crate) script: Vec<Record>,
+    pub(crate) script: Vec<Group>,
 }
 
 /// What a writer leaves: its feed, and how many records of its script the feed accepted.
@@ -49,21 +49,21 @@ pub(crate) enum Writer {
     Here(Ended),
 }
 
-// Whether the feed accepted the record within so many tries. No try is made once all are stopped.
-fn is_put(feed: &mut Feed, item: Record, flags: &Flags, max_tries: u64) -> bool
+// Whether the feed accepted the group within so many tries. No try is made once all are stopped.
+fn is_put(feed: &mut Feed, group: Group, flags: &Flags, max_tries: u64) -> bool
     ensures ring { ring_of_feed feed.new ≡ ring_of_feed feed.old }
-    ensures put { MatchBool result (accepted feed.new ≡ accepted feed.old ++ item ∷ [])
+    ensures put { MatchBool result (accepted feed.new ≡ accepted feed.old ++ marked group)
         (accepted feed.new ≡ accepted feed.old) }
 {
-    let mut item = item;
+    let mut group = group;
     'tries: for _ in 0..max_tries {
         if flags.is_stopped() {
             return false;
         }
-        match feed.put(item) {
+        match feed.put_group(group) {
             Ok(()) => return true,
-            Err(Full(back)) => {
-                item = back;
+            Err(FullGroup(back)) => {
+                group = back;
                 thread::yield_now();
             }
         }
@@ -71,37 +71,41 @@ fn is_put(feed: &mut Feed, item: Record, flags: &Flags, max_tries: u64) -> bool
     false
 }
 
-// How many records were accepted before one was not.
+// How many records were accepted before a group was not.
 fn put_script<G: Gate>(
     feed: &mut Feed,
-    script: &[Record],
+    script: &[Group],
     writer: usize,
     gate: &G,
     flags: &Flags,
     max_tries: u64,
 ) -> u64
     ensures ring { ring_of_feed feed.new ≡ ring_of_feed feed.old }
-    ensures accepted { accepted feed.new ≡ accepted feed.old ++ take result script.now }
-    ensures within { result ≤ length script.now }
+    ensures accepted { accepted feed.new ≡ accepted feed.old ++ take result (joined script.now) }
+    ensures within { result ≤ length (joined script.now) }
 {
-    let mut done = 0;
-    'records: for item in script {
+    let mut done: u64 = 0;
+    'groups: for (index, group) in script.iter().enumerate() {
+        // No script has more records than a number counts.
+        let Some(more) = done.checked_add(group.len() as u64) else {
+            return done;
+        };
         // A writer that is told to stop does not wait at the gate.
         if flags.is_stopped() {
             return done;
         }
-        gate.before(writer, done);
-        let passed = is_put(feed, item.copy(), flags, max_tries);
-        gate.after(writer, done);
+        gate.before(writer, index as u64);
+        let passed = is_put(feed, group.copy(), flags, max_tries);
+        gate.after(writer, index as u64);
         if !passed {
             return done;
         }
-        done += 1;
+        done = more;
     }
     done
 }
 
-/// Puts the script's records, and tells at the end that one writer more has ended.
+/// Puts the script's groups, and tells at the end that one writer more has ended.
 pub(crate) fn put_all<G: Gate>(
     job: Job,
     writer: usize,

@@ -16,10 +16,10 @@ use std::io::Write;
 /// What a command comes to.
 #[derive(Drop)]
 pub enum Answer {
-    /// Whether a record found a place in its writer's ring.
+    /// Whether a group found a place in its writer's ring.
     Put(bool),
     /// How many records a turn took.
-    Took(u32),
+    Took(u64),
     /// The frame that was appended, if something waited.
     Frame(Option<u64>),
     /// The length of the history, once all that was accepted is taken and appended.

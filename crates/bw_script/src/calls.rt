@@ -13,9 +13,9 @@ use crate::script::{Command, Fault};
 use crate::session::Session;
 use crate::system::System;
 use bw_care::Recovered;
-use bw_codec::{Key, Record};
+use bw_codec::Key;
 use bw_device::Segment;
-use bw_ring::Feed;
+use bw_ring::{Feed, Group};
 use bw_store::{Config, Store};
 use std::alloc::Global;
 
@@ -25,13 +25,13 @@ const READERS: usize = 4;
 /// How many leases a desk has.
 pub const LEASES: u32 = 64;
 
-// Whether the feed of this writer took the record.
-fn put_at(feeds: &mut Vec<Feed>, writer: usize, op: Record) -> bool
+// Whether the feed of this writer took the group.
+fn put_at(feeds: &mut Vec<Feed>, writer: usize, group: Group) -> bool
     requires { writer < length feeds.old.items }
     ensures { map ring_of_feed feeds.new.items ≡ map ring_of_feed feeds.old.items }
 {
     let _ = feeds.as_slice().len();
-    feeds[writer].put(op).is_ok()
+    feeds[writer].put_group(group).is_ok()
 }
 
 impl Session {
@@ -81,9 +81,9 @@ impl Session {
         }
     }
 
-    /// Whether the record found a place in its writer's ring. It is a fault where there is no such
+    /// Whether the group found a place in its writer's ring. It is a fault where there is no such
     /// writer.
-    fn put(&mut self, writer: u16, op: Record) -> Result<Answer, Miss>
+    fn put(&mut self, writer: u16, group: Group) -> Result<Answer, Miss>
         requires { IsReady self.old holding }
         ensures { IsReady self.new holding }
     {
@@ -91,26 +91,26 @@ impl Session {
         if writer >= self.feeds.len() {
             return Err(Miss::Fault(Fault::BadNumber));
         }
-        Ok(Answer::Put(put_at(&mut self.feeds, writer, op)))
+        Ok(Answer::Put(put_at(&mut self.feeds, writer, group)))
     }
 
-    /// Puts a record as `put` does, and where the ring is full, the store takes all that waits
+    /// Puts a group as `put` does, and where the ring is full, the store takes all that waits
     /// before.
-    pub fn put_taking(&mut self, writer: u16, op: Record) -> Result<Answer, Miss>
+    pub fn put_taking(&mut self, writer: u16, group: Group) -> Result<Answer, Miss>
         requires { IsReady self.old holding }
         ensures { IsReady self.new holding }
     {
-        match self.put(writer, op.copy())? {
+        match self.put(writer, group.copy())? {
             Answer::Put(false) => {
                 let _ = self.take(u32::MAX)?;
-                self.put(writer, op)
+                self.put(writer, group)
             }
             answer => Ok(answer),
         }
     }
 
-    // How many records a turn of this limit took.
-    fn take(&mut self, limit: u32) -> Result<u32, Miss>
+    // How many records a turn of so many groups took.
+    fn take(&mut self, limit: u32) -> Result<u64, Miss>
         requires { IsReady self.old holding }
         ensures { IsReady self.new holding }
     {
@@ -120,7 +120,7 @@ impl Session {
         }
     }
 
-    /// How many records a turn of this limit took.
+    /// How many records a turn of so many groups took.
     fn turn(&mut self, limit: u32) -> Result<Answer, Miss>
         requires { IsReady self.old holding }
         ensures { IsReady self.new holding }
@@ -248,7 +248,7 @@ impl Session {
         ensures { IsReady self.new holding }
     {
         match request {
-            Request::Put(op) => return self.put_taking(0, op),
+            Request::Put(group) => return self.put_taking(0, group),
             Request::Flush => return self.flush(rt),
             Request::Settle => return self.settle(rt),
             Request::Clean => return self.clean(rt),
@@ -295,7 +295,7 @@ impl Session {
         ensures { IsReady self.new holding }
     {
         match command {
-            Command::Put(writer, op) => self.put(writer, op),
+            Command::Put(writer, group) => self.put(writer, group),
             Command::Turn(limit) => self.turn(limit),
             Command::Flush => self.flush(rt),
             Command::Settle => self.settle(rt),

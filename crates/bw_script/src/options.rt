@@ -51,7 +51,7 @@ impl<'a> Mode<'a> {
 pub struct Options<'a> {
     /// How many writers there are, numbered from 0: 1 to 64.
     pub writers: u16,
-    /// How many records of a writer may wait, 1 to 4,096.
+    /// How many groups of a writer may wait, 1 to 4,096.
     pub places: u16,
     /// The most pairs that a page holds, 4 to 32.
     pub m: u16,
@@ -68,13 +68,13 @@ pub struct Options<'a> {
 /// How the writers of `threads` put, and how the store is tended meanwhile.
 #[derive(Clone, Copy)]
 pub struct Pace {
-    /// How many records a turn takes at most, 1 to 4,096.
+    /// How many groups a turn takes at most, 1 to 4,096.
     pub limit: u32,
     /// After how many turns a flush comes, 1 to 4,096.
     pub flush_every: u32,
     /// After a flush the oldest segment is given up where so many are live, 0 to 64; 0 for never.
     pub clean_at: u32,
-    /// How often a record is tried, and how many turns there are, at most: 1 to 1,000,000,000.
+    /// How often a group is tried, and how many turns there are, at most: 1 to 1,000,000,000.
     pub tries: u32,
 }
 
@@ -109,7 +109,7 @@ const WRITERS: Row = Row {
 const PLACES: Row = Row {
     name: "places",
     kind: Kind::Number(1, 4096, "8"),
-    help: "how many records of a writer may wait",
+    help: "how many groups of a writer may wait",
 };
 
 const M: Row = Row {
@@ -159,7 +159,7 @@ const LOOK_DIR: Row = Row {
 const TAKE: Row = Row {
     name: "take",
     kind: Kind::Flag,
-    help: "a put or del that finds its ring full has the store take records first",
+    help: "a group that finds its ring full has the store take what waits first",
 };
 
 const FROM: Row = Row {
@@ -183,7 +183,7 @@ const AS_OF: Row = Row {
 const LIMIT: Row = Row {
     name: "limit",
     kind: Kind::Number(1, 4096, "64"),
-    help: "how many records a turn takes at most",
+    help: "how many groups a turn takes at most",
 };
 
 const FLUSH_EVERY: Row = Row {
@@ -202,7 +202,7 @@ const CLEAN_AT: Row = Row {
 const TRIES: Row = Row {
     name: "tries",
     kind: Kind::Number(1, 1000000000, "1000000000"),
-    help: "how often a record is tried, and how many turns there are, at most",
+    help: "how often a group is tried, and how many turns there are, at most",
 };
 
 /// The store of a script.
@@ -231,7 +231,7 @@ const SERVE: [Row; 6] = [
 
 const RESTORE: [Row; 3] = [FROM, TO, AS_OF];
 
-/// The store of several writers, then how it is tended, and how often a record is tried.
+/// The store of several writers, then how it is tended, and how often a group is tried.
 const THREADS: [Row; 11] = [
     Row {
         kind: Kind::Number(1, 64, "2"),

@@ -35,7 +35,7 @@ pub const ATTEMPTS: u32 = 2;
 pub enum Manner {
     /// A script: each line is a command, and a fault ends it.
     Script,
-    /// A script in which a record that finds its ring full has the store take what waits before.
+    /// A script in which a group that finds its ring full has the store take what waits before.
     Taking,
     /// Requests of a program, over a store with one writer.
     Requests,
@@ -96,7 +96,9 @@ fn answer_of<R: System>(
     ensures { IsReady session.new holding }
 {
     match command {
-        Command::Put(writer, op) if manner == Manner::Taking => session.put_taking(writer, op),
+        Command::Put(writer, group) if manner == Manner::Taking => session.put_taking(
+            writer, group,
+        ),
         command => session.call(rt, u64::from(options.capacity), command),
     }
 }

@@ -1,13 +1,14 @@
 //! One line of a program that drives a store: a request, or a fault.
 
-use crate::script::{Fault, key_of, number_of, single, text_of, value_of};
-use bw_codec::{Key, Record};
+use crate::script::{Fault, group_of, key_of, number_of, ops_of, single, text_of};
+use bw_codec::Key;
+use bw_ring::Group;
 
 /// What a line asks for. There is one writer, so no request names one.
 #[derive(Drop)]
 pub enum Request {
-    /// A put or a delete.
-    Put(Record),
+    /// A group of puts and deletes: a single one is a group of one.
+    Put(Group),
     /// A key's value.
     Get(Key),
     /// The first pair at or above a key.
@@ -37,18 +38,8 @@ fn asked_of(name: &str, word: &str) -> Result<Request, Fault> {
     match name {
         "get" => Ok(Request::Get(key_of(word)?)),
         "next" => Ok(Request::Next(key_of(word)?)),
-        "del" => Ok(Request::Put(Record::Del(key_of(word)?))),
         "page" => Ok(Request::Page(number_of(word)?)),
         _ => Ok(Request::Evict(number_of(word)?)),
-    }
-}
-
-fn put_of(key: Option<&str>, value: Option<&str>, more: Option<&str>) -> Result<Request, Fault> {
-    match (key, value, more) {
-        (Some(key), Some(value), None) => {
-            Ok(Request::Put(Record::Put(key_of(key)?, value_of(value)?)))
-        }
-        _ => Err(Fault::WrongNumberOfWords),
     }
 }
 
@@ -75,11 +66,9 @@ fn plain_of(name: &str, one: Option<&str>) -> Result<Request, Fault> {
 pub fn parse_request(line: &[u8]) -> Result<Request, Fault> {
     let mut words = text_of(line)?.unwrap_or("").split_whitespace();
     let name = words.next().unwrap_or("");
-    let one = words.next();
-    let two = words.next();
     match name {
-        "put" => put_of(one, two, words.next()),
-        "del" | "get" | "next" | "page" | "evict" => asked_of(name, single(one, two)?),
-        _ => plain_of(name, one),
+        "put" | "del" | "group" => Ok(Request::Put(group_of(ops_of(name, &mut words)?)?)),
+        "get" | "next" | "page" | "evict" => asked_of(name, single(words.next(), words.next())?),
+        _ => plain_of(name, words.next()),
     }
 }

@@ -11,10 +11,11 @@ use crate::refusal::Refusal;
 use crate::session::Session;
 use crate::stop::Stop;
 use crate::system::{Host, System};
-use bw_codec::{Key, Leaf, Record, Value};
+use bw_codec::{Key, Leaf, Value};
 use bw_device::Segment;
 use bw_drive::{DriveFault, Driven, OpenGate, Plan, drive};
 use bw_file::FolderFault;
+use bw_ring::Group;
 use bw_store::StoreFault;
 use std::alloc::{AllocError, Global};
 use std::mem;
@@ -24,7 +25,7 @@ use std::mem;
 pub struct Run {
     /// The length of the history.
     pub entries: u64,
-    /// How many records of each writer's script were accepted: its first ones.
+    /// How many records of each writer's script were accepted: those of its first groups.
     pub accepted: Vec<u64>,
 }
 
@@ -65,7 +66,7 @@ impl Session {
     pub fn drive<R: Host>(
         &mut self,
         rt: &R,
-        scripts: Vec<Vec<Record>>,
+        scripts: Vec<Vec<Group>>,
         pace: Pace,
     ) -> Result<Run, Refusal>
         requires ready { IsReady self.old holding }
@@ -162,7 +163,7 @@ impl Session {
     pub fn drive_tended<R: Host>(
         &mut self,
         rt: &R,
-        scripts: Vec<Vec<Record>>,
+        scripts: Vec<Vec<Group>>,
         pace: Pace,
     ) -> Result<Result<Run, Refusal>, Stop>
         requires ready { IsReady self.old holding }

@@ -1,6 +1,8 @@
 //! One line of a script: a command, nothing, or a fault.
 
 use bw_codec::{Key, Record, Value};
+use bw_ring::Group;
+use std::str::SplitWhitespace;
 use thiserror::Error;
 
 /// The most bytes of a line that is not skipped.
@@ -33,9 +35,9 @@ pub enum Fault {
 /// What a line asks for.
 #[derive(Drop)]
 pub enum Command {
-    /// A writer puts a record.
-    Put(u16, Record),
-    /// At most so many records are taken.
+    /// A writer puts a group: a single put or delete is a group of one.
+    Put(u16, Group),
+    /// At most so many groups are taken.
     Turn(u32),
     /// All that waits is taken, and the frame in the making is appended.
     Flush,
@@ -106,28 +108,116 @@ pub fn value_of(word: &str) -> Result<Value, Fault> {
     Value::new(bytes).map_err(|_| Fault::BadWord)
 }
 
-fn put_of(writers: u16, writer: &str, key: &str, value: &str) -> Result<Command, Fault> {
-    let writer = writer_of(writer, writers)?;
-    let key = key_of(key)?;
-    let value = value_of(value)?;
-    Ok(Command::Put(writer, Record::Put(key, value)))
+/// The words of one put or delete.
+#[derive(Clone, Copy)]
+pub enum OpWords<'a> {
+    /// Key and value.
+    Put(&'a str, &'a str),
+    /// The key.
+    Del(&'a str),
 }
 
-fn del_of(writers: u16, writer: &str, key: &str) -> Result<Command, Fault> {
-    let writer = writer_of(writer, writers)?;
-    let key = key_of(key)?;
-    Ok(Command::Put(writer, Record::Del(key)))
+/// The words of one to four puts and deletes, from the left. There are none behind one that is not
+/// there.
+#[derive(Clone, Copy)]
+pub struct Ops<'a> {
+    first: OpWords<'a>,
+    second: Option<OpWords<'a>>,
+    third: Option<OpWords<'a>>,
+    fourth: Option<OpWords<'a>>,
 }
 
-/// The command of a name that takes a writer and a record.
-fn record_of(name: &str, words: [Option<&str>; 4], writers: u16) -> Result<Command, Fault> {
-    match words {
-        [Some(writer), Some(key), Some(value), None] if name == "put" => {
-            put_of(writers, writer, key, value)
-        }
-        [Some(writer), Some(key), None, _] if name == "del" => del_of(writers, writer, key),
+/// A put or delete, by the words behind its name.
+fn op_of<'a>(name: &str, words: &mut SplitWhitespace<'a>) -> Result<OpWords<'a>, Fault> {
+    let Some(key) = words.next() else {
+        return Err(Fault::WrongNumberOfWords);
+    };
+    match (name, words) {
+        ("del", _) => Ok(OpWords::Del(key)),
+        ("put", words) => match words.next() {
+            Some(value) => Ok(OpWords::Put(key, value)),
+            None => Err(Fault::WrongNumberOfWords),
+        },
         _ => Err(Fault::WrongNumberOfWords),
     }
+}
+
+/// The next put or delete of a group, if there is a further word.
+fn next_op<'a>(words: &mut SplitWhitespace<'a>) -> Result<Option<OpWords<'a>>, Fault> {
+    match words.next() {
+        Some(name) => Ok(Some(op_of(name, words)?)),
+        None => Ok(None),
+    }
+}
+
+/// The puts and deletes of a group, by all words behind the writer.
+fn grouped_of<'a>(words: &mut SplitWhitespace<'a>) -> Result<Ops<'a>, Fault> {
+    let Some(first) = next_op(words)? else {
+        return Err(Fault::WrongNumberOfWords);
+    };
+    let second = next_op(words)?;
+    let third = next_op(words)?;
+    let fourth = next_op(words)?;
+    Ok(Ops {
+        first,
+        second,
+        third,
+        fourth,
+    })
+}
+
+/// What a line of this name puts and deletes, by all words behind the writer.
+pub fn ops_of<'a>(name: &str, words: &mut SplitWhitespace<'a>) -> Result<Ops<'a>, Fault> {
+    let ops = match name {
+        "group" => grouped_of(words)?,
+        _ => Ops {
+            first: op_of(name, words)?,
+            second: None,
+            third: None,
+            fourth: None,
+        },
+    };
+    match words.next() {
+        Some(_) => Err(Fault::WrongNumberOfWords),
+        None => Ok(ops),
+    }
+}
+
+fn record_of(op: OpWords<'_>) -> Result<Record, Fault> {
+    match op {
+        OpWords::Put(key, value) => Ok(Record::Put(key_of(key)?, value_of(value)?)),
+        OpWords::Del(key) => Ok(Record::Del(key_of(key)?)),
+    }
+}
+
+/// The put or delete of these words goes into the group, if it is there.
+fn push_op(group: &mut Group, op: Option<OpWords<'_>>) -> Result<(), Fault> {
+    let Some(op) = op else {
+        return Ok(());
+    };
+    match group.push(record_of(op)?) {
+        Ok(()) => Ok(()),
+        Err(_) => Err(Fault::WrongNumberOfWords),
+    }
+}
+
+/// The group of these words; the first of them from the left that is wrong is told.
+pub fn group_of(ops: Ops<'_>) -> Result<Group, Fault> {
+    let mut group = Group::one(record_of(ops.first)?);
+    push_op(&mut group, ops.second)?;
+    push_op(&mut group, ops.third)?;
+    push_op(&mut group, ops.fourth)?;
+    Ok(group)
+}
+
+/// What a writer puts in a line of this name. The words are counted before any is looked at.
+fn put_of(name: &str, words: &mut SplitWhitespace<'_>, writers: u16) -> Result<Command, Fault> {
+    let Some(writer) = words.next() else {
+        return Err(Fault::WrongNumberOfWords);
+    };
+    let ops = ops_of(name, words)?;
+    let writer = writer_of(writer, writers)?;
+    Ok(Command::Put(writer, group_of(ops)?))
 }
 
 /// The word of a command that takes one.
@@ -176,12 +266,12 @@ fn plain_of(name: &str, one: Option<&str>) -> Result<Command, Fault> {
 fn command_of(text: &str, writers: u16) -> Result<Command, Fault> {
     let mut words = text.split_whitespace();
     let name = words.next().unwrap_or("");
-    let one = words.next();
-    let two = words.next();
     match name {
-        "put" | "del" => record_of(name, [one, two, words.next(), words.next()], writers),
-        "turn" | "page" | "evict" | "dump" | "get" => asked_of(name, single(one, two)?),
-        _ => plain_of(name, one),
+        "put" | "del" | "group" => put_of(name, &mut words, writers),
+        "turn" | "page" | "evict" | "dump" | "get" => {
+            asked_of(name, single(words.next(), words.next())?)
+        }
+        _ => plain_of(name, words.next()),
     }
 }
 
@@ -215,14 +305,14 @@ pub fn parse(line: &[u8], writers: u16) -> Result<Option<Command>, Fault> {
     }
 }
 
-/// A writer and its record, where a line may ask for nothing else; nothing where it is skipped.
-pub fn parse_record(line: &[u8], writers: u16) -> Result<Option<(u16, Record)>, Fault> {
+/// A writer and what it puts, where a line may ask for nothing else; nothing where it is skipped.
+pub fn parse_group(line: &[u8], writers: u16) -> Result<Option<(u16, Group)>, Fault> {
     let Some(text) = text_of(line)? else {
         return Ok(None);
     };
     match text.split_whitespace().next().unwrap_or("") {
-        "put" | "del" => match command_of(text, writers)? {
-            Command::Put(writer, op) => Ok(Some((writer, op))),
+        "put" | "del" | "group" => match command_of(text, writers)? {
+            Command::Put(writer, group) => Ok(Some((writer, group))),
             _ => Err(Fault::UnknownCommand),
         },
         _ => Err(Fault::UnknownCommand),

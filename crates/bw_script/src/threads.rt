@@ -11,29 +11,30 @@ use crate::printed::write_pairs;
 use crate::refusal::Refusal;
 use crate::replay::{ATTEMPTS, NotBegun, Told, begin};
 use crate::running::Run;
-use crate::script::{LONGEST, parse_record};
+use crate::script::{LONGEST, parse_group};
 use crate::session::Session;
 use crate::stop::{Met, Stop, missed, no_input, refuse};
 use crate::system::Host;
-use bw_codec::{Key, Record, Value};
+use bw_codec::{Key, Value};
 use bw_device::Segment;
 use bw_look::Printer;
+use bw_ring::Group;
 use std::alloc::{AllocError, Global};
 use std::io::{Read, Write};
 use std::mem;
 
-// The record goes behind those of its writer.
-fn put_behind(scripts: &mut Vec<Vec<Record>>, writer: u16, item: Record) -> Result<(), AllocError>
+// The group goes behind those of its writer.
+fn put_behind(scripts: &mut Vec<Vec<Group>>, writer: u16, group: Group) -> Result<(), AllocError>
     ensures { vec_len scripts.new ≡ vec_len scripts.old }
 {
     if let Some(script) = scripts.get_mut(usize::from(writer)) {
-        script.push(item)?;
+        script.push(group)?;
     }
     Ok(())
 }
 
-// So many scripts of no record.
-fn empty_scripts(alloc: Global, writers: u16) -> Result<Vec<Vec<Record>>, AllocError>
+// So many scripts of no group.
+fn empty_scripts(alloc: Global, writers: u16) -> Result<Vec<Vec<Group>>, AllocError>
     ensures { IfOk result (λ s. vec_len s ≡ writers) }
 {
     let mut scripts = Vec::new(alloc);
@@ -44,9 +45,9 @@ fn empty_scripts(alloc: Global, writers: u16) -> Result<Vec<Vec<Record>>, AllocE
 }
 
 // Reads a line and does what it asks for; `false` where there was none.
-fn read_record<I: Read>(
+fn read_group<I: Read>(
     lines: &mut Lines<&mut I>,
-    scripts: &mut Vec<Vec<Record>>,
+    scripts: &mut Vec<Vec<Group>>,
     writers: u16,
 ) -> Result<bool, Stop>
     ensures { vec_len scripts.new ≡ vec_len scripts.old }
@@ -54,8 +55,8 @@ fn read_record<I: Read>(
     if !lines.read_line().map_err(no_input)? {
         return Ok(false);
     }
-    match parse_record(lines.line(), writers) {
-        Ok(Some((writer, item))) => put_behind(scripts, writer, item)?,
+    match parse_group(lines.line(), writers) {
+        Ok(Some((writer, group))) => put_behind(scripts, writer, group)?,
         Ok(None) => {}
         Err(fault) => return Err(Stop::Fault(lines.number(), fault)),
     }
@@ -67,12 +68,12 @@ fn read_lines<I: Read>(
     alloc: Global,
     lines: &mut Lines<&mut I>,
     writers: u16,
-) -> Result<Vec<Vec<Record>>, Stop>
+) -> Result<Vec<Vec<Group>>, Stop>
     ensures { IfOk result (λ s. vec_len s ≡ writers) }
 {
     let mut scripts = empty_scripts(alloc, writers)?;
     'lines: for _ in 0..u64::MAX {
-        if !read_record(lines, &mut scripts, writers)? {
+        if !read_group(lines, &mut scripts, writers)? {
             break;
         }
     }
@@ -84,17 +85,27 @@ fn read_scripts<I: Read>(
     alloc: Global,
     input: &mut I,
     writers: u16,
-) -> Result<Vec<Vec<Record>>, Stop>
+) -> Result<Vec<Vec<Group>>, Stop>
     ensures { IfOk result (λ s. vec_len s ≡ writers) }
 {
     let mut lines = Lines::new(alloc, input, READS, LONGEST).map_err(no_input)?;
     read_lines(alloc, &mut lines, writers)
 }
 
-fn lengths_of(alloc: Global, scripts: &[Vec<Record>]) -> Result<Vec<u64>, AllocError> {
+// How many records the groups have.
+fn length_of(groups: &[Group]) -> u64 {
+    let mut length: u64 = 0;
+    for group in groups {
+        length = length.saturating_add(group.len() as u64);
+    }
+    length
+}
+
+// How many records each script has.
+fn lengths_of(alloc: Global, scripts: &[Vec<Group>]) -> Result<Vec<u64>, AllocError> {
     let mut lengths = Vec::new(alloc);
     for script in scripts {
-        lengths.push(script.len() as u64)?;
+        lengths.push(length_of(script.as_slice()))?;
     }
     Ok(lengths)
 }
@@ -152,7 +163,7 @@ fn tell_run<R: Host, O: Write>(
 fn run_writers<R: Host, O: Write>(
     rt: &R,
     session: &mut Session,
-    scripts: Vec<Vec<Record>>,
+    scripts: Vec<Vec<Group>>,
     pace: Pace,
     output: &mut O,
 ) -> Result<Met, Stop>
@@ -174,7 +185,7 @@ fn run_scripts<R: Host, O: Write>(
     rt: &R,
     options: &Options<'_>,
     pace: Pace,
-    scripts: &mut Vec<Vec<Record>>,
+    scripts: &mut Vec<Vec<Group>>,
     output: &mut O,
 ) -> Result<Option<Met>, Stop>
     requires { vec_len scripts.old ≡ options.now.writers }

@@ -5,6 +5,7 @@ mod boxes;
 mod cleaned;
 mod courses;
 mod files;
+mod grouped;
 mod meeting;
 mod memory;
 mod reading;

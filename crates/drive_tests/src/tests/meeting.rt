@@ -1,8 +1,8 @@
-//! Writers run at once, and each record passes the gate.
+//! Writers run at once, and each group passes the gate.
 
 use super::all_went;
 use super::scripts::Part;
-use super::steps::Step::{Drives, Reads, Splits};
+use super::steps::Step::{Drives, DrivesGroups, Reads, Splits, Whole};
 use super::steps::{Pace, Run};
 use super::walking::{Table, walked};
 use bw_drive::{Gate, MeetGate};
@@ -43,6 +43,22 @@ const HUNDREDS: &Table = &Table {
     ],
 };
 
+/// The same in 120 groups.
+const GROUPS: &Table = &Table {
+    name: "groups",
+    writers: 2,
+    places: 8,
+    boxes: 32,
+    capacity: 65536,
+    fuse: None,
+    steps: &[
+        DrivesGroups(Run(Part(0, 300, 10_000), PACE, Ok((300, 300)))),
+        Whole,
+        Reads(2, 300, 10_000),
+        Splits,
+    ],
+};
+
 // Whether two writers find one another before their first record.
 fn meet<R: AllocGlobal + Threads + Wait>(rt: &R) -> bool {
     match MeetGate::new(rt.alloc(), 2, 100_000_000) {
@@ -66,7 +82,7 @@ fn two_writers_run_at_once(rt: HostRuntime) {
     all_went(&rt, wrong_meeting(&rt));
 }
 
-/// Adds up what it is told: the writer, and the number of each record from 1 on.
+/// Adds up what it is told: the writer, and the number of each group from 1 on.
 #[derive(Drop)]
 struct Sums {
     before: AtomicU64,
@@ -101,7 +117,7 @@ const GIVEN_UP: &Table = &Table {
     steps: &[Drives(Run(Part(0, 3, 10_000), Pace(1, 1, 0, 1), Ok((1, 2))))],
 };
 
-// What a gate is told in the runs of a table, before records and behind them; none where a step does not go as told.
+// What a gate is told in the runs of a table, before groups and behind them; none where a step does not go as told.
 fn gate_sums<R: AllocGlobal + Threads + Wait>(rt: &R, table: &'static Table) -> Option<(u64, u64)> {
     let gate = Sums {
         before: AtomicU64::new(0),
@@ -121,6 +137,10 @@ fn wrong_sums<R: AllocGlobal + Threads + Wait>(rt: &R) -> Option<(&'static str, 
     // Twice 1 + 2 + .. + 300, and 300 times a million for writer 1.
     if gate_sums(rt, HUNDREDS) != Some((300_090_300, 300_090_300)) {
         return Some((HUNDREDS.name, 0));
+    }
+    // Twice 1 + 2 + .. + 120, and 120 times a million.
+    if gate_sums(rt, GROUPS) != Some((120_014_520, 120_014_520)) {
+        return Some((GROUPS.name, 0));
     }
     match gate_sums(rt, GIVEN_UP) {
         Some((3, 3)) | Some((6, 6)) => None,

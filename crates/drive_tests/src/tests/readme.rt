@@ -5,7 +5,7 @@ ghost use Rattle.bw_ring.specs.Ends.{ring_of_feed};
 ghost use Rattle.bw_store.specs.Views.{kept_by, IsSound};
 
 use super::boxes::boxes;
-use super::scripts::{Part, scripts};
+use super::scripts::{Part, Sizes, scripts};
 use bw_drive::{OpenGate, Plan, drive};
 use bw_ring::Feed;
 use bw_store::{Config, Store};
@@ -25,13 +25,13 @@ fn example<R: Threads + Wait>(
     requires feeds { map ring_of_feed feeds.items ≡ (kept_by store.old holding).rings }
     ensures { IsSound store.new holding }
 {
-    let scripts = scripts(alloc, feeds.len(), part)?; // a Vec<Record> for each writer
+    let scripts = scripts(alloc, feeds.len(), part, Sizes::One)?; // a Vec<Group> for each writer
     let plan = Plan {
         limit: 64,
         flush_every: 4,
         clean_at: 3,
     };
-    let tries = 1_000_000_000; // for each record
+    let tries = 1_000_000_000; // for each group
     match drive(rt, store, feeds, scripts, &OpenGate, plan, tries) {
         Ok(driven) => Ok(Some(driven.entries)), // accepted, settled, and in the segments
         Err(_) => Ok(None), // the feeds are back, with the first refusal

@@ -3,6 +3,7 @@
 ghost use Rattle.std.specs.Prelude.{◌≡◌, vec_len, IfOk};
 
 use bw_codec::{Key, Record, Value};
+use bw_ring::Group;
 use bw_store::Entry;
 use std::alloc::{AllocError, Global};
 
@@ -27,11 +28,41 @@ pub(super) fn numbered(writer: usize, number: u32, keys: u32) -> Record {
     }
 }
 
-fn script(alloc: Global, writer: usize, part: Part) -> Result<Vec<Record>, AllocError> {
+/// How the records of a script stand in groups.
+#[derive(Clone, Copy, PartialEq, Eq)]
+pub(super) enum Sizes {
+    /// Each alone.
+    One,
+    /// One, two, three and four, in turn, counted from number 0 on.
+    Mixed,
+}
+
+// Whether the record of a number stands in the group of the one before it.
+fn joins(number: u32) -> bool {
+    matches!(number % 10, 2 | 4 | 5 | 7 | 8 | 9)
+}
+
+// The record goes into the last group, or behind it.
+fn put_behind(script: &mut Vec<Group>, item: Record, is_joined: bool) -> Result<(), AllocError> {
+    if is_joined && let Some(last) = script.as_mut_slice().last_mut() {
+        let _ = last.push(item);
+        return Ok(());
+    }
+    script.push(Group::one(item))?;
+    Ok(())
+}
+
+fn script(
+    alloc: Global,
+    writer: usize,
+    part: Part,
+    sizes: Sizes,
+) -> Result<Vec<Group>, AllocError> {
     let Part(from, records, keys) = part;
     let mut script = Vec::new(alloc);
     for number in from..from.saturating_add(records) {
-        script.push(numbered(writer, number, keys))?;
+        let is_joined = sizes == Sizes::Mixed && joins(number);
+        put_behind(&mut script, numbered(writer, number, keys), is_joined)?;
     }
     Ok(script)
 }
@@ -41,12 +72,13 @@ pub(super) fn scripts(
     alloc: Global,
     writers: usize,
     part: Part,
-) -> Result<Vec<Vec<Record>>, AllocError>
+    sizes: Sizes,
+) -> Result<Vec<Vec<Group>>, AllocError>
     ensures { IfOk result (λ s. vec_len s ≡ writers) }
 {
     let mut scripts = Vec::new(alloc);
     'writers: for writer in 0..writers {
-        scripts.push(script(alloc, writer, part)?)?;
+        scripts.push(script(alloc, writer, part, sizes)?)?;
     }
     Ok(scripts)
 }
@@ -63,4 +95,22 @@ pub(super) fn begun(entries: &[Entry], keys: u32) -> Option<[u32; 64]> {
         *number = number.saturating_add(1);
     }
     Some(next)
+}
+
+/// Whether the entries are whole groups of scripts of mixed sizes: an entry has `more` just where the
+/// next of its writer's records stands in the same group, and then that one is the next entry.
+pub(super) fn are_whole(entries: &[Entry]) -> bool {
+    let mut next: [u32; 64] = [0; 64];
+    let mut behind: Option<u16> = None;
+    for entry in entries {
+        let Some(number) = next.get_mut(usize::from(entry.writer)) else {
+            return false;
+        };
+        *number = number.saturating_add(1);
+        if behind.is_some_and(|writer| writer != entry.writer) || entry.more != joins(*number) {
+            return false;
+        }
+        behind = if entry.more { Some(entry.writer) } else { None };
+    }
+    behind.is_none()
 }

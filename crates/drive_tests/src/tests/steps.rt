@@ -5,7 +5,7 @@ ghost use Rattle.bw_ring.specs.Ends.{ring_of_feed};
 ghost use Rattle.bw_store.specs.Views.{kept_by, IsSound};
 
 use super::reading::{is_split, learns, reads};
-use super::scripts::{Part, begun, scripts};
+use super::scripts::{Part, Sizes, are_whole, begun, scripts};
 use bw_drive::{DriveFault, Driven, Gate, Plan, drive};
 use bw_ring::Feed;
 use bw_store::{Store, StoreFault};
@@ -33,7 +33,12 @@ pub(super) struct Run(
 
 #[derive(Drop)]
 pub(super) enum Step {
+    /// Each record alone.
     Drives(Run),
+    /// The records in groups of one to four.
+    DrivesGroups(Run),
+    /// The history is whole groups of such runs.
+    Whole,
     /// All is taken and flushed, or refused.
     Settles(Result<(), StoreFault>),
     /// The history is the first records of each writer, and has so many entries at most.
@@ -52,7 +57,7 @@ pub(super) enum Step {
     Splits,
 }
 
-use Step::{Begins, Boxes, Drives, Durable, Learns, Reads, Settles, Splits};
+use Step::{Begins, Boxes, Drives, DrivesGroups, Durable, Learns, Reads, Settles, Splits, Whole};
 
 // Whether of each writer so many records were accepted here, at least and at most, and all that its
 // feed accepted was taken.
@@ -90,6 +95,7 @@ pub(super) fn drives<R: AllocGlobal + Threads + Wait, G: Gate>(
     feeds: Vec<Feed>,
     gate: &G,
     run: &Run,
+    sizes: Sizes,
 ) -> (Vec<Feed>, bool)
     requires sound { IsSound store.old holding }
     requires feeds { map ring_of_feed feeds.items ≡ (kept_by store.old holding).rings }
@@ -98,7 +104,7 @@ pub(super) fn drives<R: AllocGlobal + Threads + Wait, G: Gate>(
 {
     let Run(part, Pace(limit, flush_every, clean_at, max_turns), told) = *run;
     let many = feeds.len();
-    let Ok(scripts) = scripts(rt.alloc(), many, part) else {
+    let Ok(scripts) = scripts(rt.alloc(), many, part, sizes) else {
         return (feeds, false);
     };
     let plan = Plan {
@@ -153,6 +159,7 @@ fn answers(store: &mut Store, step: &Step) -> bool
             here <= *live && here.saturating_add(spares) == *all
         }
         Splits => is_split(store),
+        Whole => are_whole(store.history()),
         Reads(writers, records, keys) => reads(store, *writers, *records, *keys),
         Learns(writers, records, keys) => learns(store, *writers, *records, *keys),
         _ => false,
@@ -173,7 +180,8 @@ pub(super) fn goes<R: AllocGlobal + Threads + Wait, G: Gate>(
     ensures feeds { map ring_of_feed result.0.items ≡ (kept_by store.new holding).rings }
 {
     match step {
-        Drives(run) => drives(rt, store, feeds, gate, run),
+        Drives(run) => drives(rt, store, feeds, gate, run, Sizes::One),
+        DrivesGroups(run) => drives(rt, store, feeds, gate, run, Sizes::Mixed),
         Settles(told) => {
             let mut feeds = feeds;
             let went = settles(rt, store, &mut feeds, *told);

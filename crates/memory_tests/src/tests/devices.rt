@@ -2,7 +2,7 @@
 
 use super::{Row, Try, all_went, is, put, then, tried, wrong_row};
 use bw_device::{Desk, Lease, MemSegment, NotMade, NotTaken, Refused, Segment};
-use bw_ring::{Feed, Lane, LanesError, lanes};
+use bw_ring::{Feed, Group, Lane, LanesError, lanes};
 use std::alloc::Global;
 use std::sync::Wait;
 use std::thread::Threads;
@@ -118,13 +118,23 @@ fn is_made(alloc: Global, bytes: Option<&[u8]>) -> Option<Try> {
     }
 }
 
+/// Whether a group is the one record of `k`.
+fn is_one(group: &Group) -> bool {
+    match (group.get(0), put(b"k", b"v")) {
+        (Some(first), Some(record)) => group.len() == 1 && *first == record,
+        _ => false,
+    }
+}
+
 /// Whether a record goes through the ends of the second ring.
 fn goes_through(feeds: &mut Vec<Feed>, ends: &mut Vec<Lane>) -> bool {
     let (Some(mut feed), Some(mut lane)) = (feeds.pop(), ends.pop()) else {
         return false;
     };
     match put(b"k", b"v") {
-        Some(record) => feed.put(record).is_ok() && lane.take() == put(b"k", b"v"),
+        Some(record) => {
+            feed.put(record).is_ok() && lane.take().is_some_and(|group| is_one(&group))
+        }
         None => false,
     }
 }

@@ -8,7 +8,7 @@ use super::boxes::{Supply, supplied};
 use super::{Row, Try, all_went, tried, wrong_row};
 use bw_codec::{Key, Record, Value};
 use bw_drive::{MeetGate, OpenGate, Plan, drive};
-use bw_ring::Feed;
+use bw_ring::{Feed, Group};
 use bw_store::{Config, Entry, Store, StoreFault};
 use std::alloc::{AllocError, Global};
 use std::sync::Wait;
@@ -29,10 +29,11 @@ const CONFIG: &Config = &Config {
     f: 16384,
 };
 
-/// For each record.
+/// For each group.
 const TRIES: u64 = 1_000_000_000;
 
-/// How many records each of two writers puts, each with a key of its own.
+/// How many records each of two writers puts, each with a key of its own: in groups of one, two and
+/// three.
 const RECORDS: u8 = 6;
 
 /// How many both put.
@@ -47,16 +48,31 @@ fn numbered(writer: u16, number: u8) -> Record {
     }
 }
 
-fn script(alloc: Global, writer: u16) -> Result<Vec<Record>, AllocError> {
+/// Whether the record of a number stands in the group of the one before it.
+fn joins(number: u8) -> bool {
+    matches!(number, 2 | 4 | 5)
+}
+
+// The record goes into the last group, or behind it.
+fn put_behind(script: &mut Vec<Group>, item: Record, is_joined: bool) -> Result<(), AllocError> {
+    if is_joined && let Some(last) = script.as_mut_slice().last_mut() {
+        let _ = last.push(item);
+        return Ok(());
+    }
+    script.push(Group::one(item))?;
+    Ok(())
+}
+
+fn script(alloc: Global, writer: u16) -> Result<Vec<Group>, AllocError> {
     let mut script = Vec::new(alloc);
     for number in 0..RECORDS {
-        script.push(numbered(writer, number))?;
+        put_behind(&mut script, numbered(writer, number), joins(number))?;
     }
     Ok(script)
 }
 
 /// A script for each of two writers.
-fn scripts(alloc: Global) -> Result<Vec<Vec<Record>>, AllocError>
+fn scripts(alloc: Global) -> Result<Vec<Vec<Group>>, AllocError>
     ensures { IfOk result (λ s. vec_len s ≡ 2) }
 {
     let mut scripts = Vec::new(alloc);
@@ -65,9 +81,10 @@ fn scripts(alloc: Global) -> Result<Vec<Vec<Record>>, AllocError>
     Ok(scripts)
 }
 
-/// Whether each writer's entries are the first records of its script.
+/// Whether each writer's entries are the first groups of its script, each whole and by itself.
 fn are_begun(entries: &[Entry]) -> bool {
     let mut next: [u8; 2] = [0; 2];
+    let mut behind: Option<u16> = None;
     for entry in entries {
         let Some(number) = next.get_mut(usize::from(entry.writer)) else {
             return false;
@@ -76,8 +93,12 @@ fn are_begun(entries: &[Entry]) -> bool {
             return false;
         }
         *number = number.saturating_add(1);
+        if behind.is_some_and(|writer| writer != entry.writer) || entry.more != joins(*number) {
+            return false;
+        }
+        behind = if entry.more { Some(entry.writer) } else { None };
     }
-    true
+    behind.is_none()
 }
 
 // A run over the feeds: all records of the scripts are entered behind `old` ones.

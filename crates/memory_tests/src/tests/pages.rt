@@ -159,7 +159,13 @@ fn entries(alloc: Global, letters: &[u8]) -> Option<Vec<Entry>> {
     let mut entries = Vec::new(alloc);
     for letter in letters {
         let item = put(&[*letter], b"")?;
-        entries.push(Entry { writer: 0, item }).ok()?;
+        entries
+            .push(Entry {
+                writer: 0,
+                more: false,
+                item,
+            })
+            .ok()?;
     }
     Some(entries)
 }

@@ -11,8 +11,8 @@ pub(super) mod telling;
 
 use self::picture::is_out;
 use self::steps::Step::{
-    Bytes, Clean, CleanFails, Cuts, Evict, Flush, FlushFails, Get, History, Live, NewSees, News,
-    Next, Out, Page, PageFails, Put, Roll, Sees, Settle, Stands, Turn,
+    Bytes, Clean, CleanFails, Cuts, Evict, Flush, FlushFails, Get, Group, History, Live, NewSees,
+    News, Next, Out, Page, PageFails, Put, Roll, Sees, Settle, Stands, Turn,
 };
 use self::steps::{Beside, Step, goes};
 use super::boxes::{Supply, recovered, supplied};
@@ -440,6 +440,32 @@ const CLEANS_WHAT_WAITS: &[Step] = &[
     History("k=1 j=2 i=3 g=4 h=5 "),
 ];
 
+/// Groups: one that cuts a page, and then the new one; and one over three pages that are away, of which
+/// it cuts none.
+const GROUPS: &[Step] = &[
+    Group(&[(b"a", b"1"), (b"b", b"2"), (b"c", b"3"), (b"d", b"4")]),
+    Turn(4),
+    Flush(Some(1)),
+    Group(&[(b"e", b"5"), (b"f", b"6"), (b"g", b"7"), (b"h", b"8")]),
+    Turn(4),
+    Flush(Some(2)),
+    Sees(b"h", b"8"),
+    Evict(1, true),
+    Evict(2, true),
+    Evict(3, true),
+    Group(&[(b"b", b"9"), (b"d", b"9"), (b"h", b"9"), (b"bz", b"9")]),
+    Turn(4),
+    Group(&[(b"h", b"0"), (b"a", b"0")]),
+    Settle(14),
+    Sees(b"h", b"0"),
+    Page(1, b": a=0 b=9 bz=9"),
+    Page(2, b"c: c=3 d=9"),
+    Page(3, b"e: e=5 f=6 g=7 h=0"),
+    PageFails(4, StoreFault::NoPage),
+    History("a=1 b=2 c=3 d=4 e=5 f=6 g=7 h=8 b=9 d=9 h=9 bz=9 h=0 a=0 "),
+    Cuts(&[4, 8, 14], 3),
+];
+
 const RUNS: &[Run] = &[
     Run {
         fuse: None,
@@ -469,6 +495,11 @@ const RUNS: &[Run] = &[
     Run {
         fuse: None,
         steps: CLEANS_WHAT_WAITS,
+        again: None,
+    },
+    Run {
+        fuse: None,
+        steps: GROUPS,
         again: None,
     },
 ];

@@ -58,6 +58,7 @@ fn rings_segments_and_logs_take_no_memory(rt: HostRuntime) {
     let alloc = rt.alloc();
     let said = [
         ends::rings(alloc),
+        ends::groups(alloc),
         ends::leases(alloc),
         ends::segments(alloc),
         ends::boxes(alloc),

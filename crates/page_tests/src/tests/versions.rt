@@ -32,7 +32,13 @@ fn entries(alloc: Global, pairs: &[(&str, &str)]) -> Option<Vec<Entry>> {
     let mut entries = Vec::new(alloc);
     for (key, value) in pairs {
         let item = put(key.as_bytes(), value.as_bytes())?;
-        entries.push(Entry { writer: 0, item }).ok()?;
+        entries
+            .push(Entry {
+                writer: 0,
+                more: false,
+                item,
+            })
+            .ok()?;
     }
     Some(entries)
 }
@@ -63,7 +69,14 @@ fn enter(stand: &mut Stand, writer: u16, record: Option<Record>) -> bool
     ensures same { stand.new.versions ≡ stand.old.versions }
 {
     match record {
-        Some(item) => stand.history.push(Entry { writer, item }).is_ok(),
+        Some(item) => stand
+            .history
+            .push(Entry {
+                writer,
+                more: false,
+                item,
+            })
+            .is_ok(),
         None => false,
     }
 }

@@ -103,7 +103,7 @@ fn goes_on<R: AllocGlobal + Wait>(rt: &R) -> Option<usize> {
 }
 
 // The first step that did not go as told over what was recovered; the boxes are put in a supply.
-fn shows<R: AllocGlobal + Wait>(
+pub(super) fn shows<R: AllocGlobal + Wait>(
     rt: &R,
     recovered: Recovered,
     supply: &mut Supply,
@@ -165,7 +165,7 @@ fn is_told(recovered: &Recovered, length: usize) -> bool {
 }
 
 // The bytes of a live segment.
-fn dumped(alloc: Global, held: &mut Held, segment: u64) -> Option<Vec<u8>>
+pub(super) fn dumped(alloc: Global, held: &mut Held, segment: u64) -> Option<Vec<u8>>
     requires { IsSoundBeside held.old.store holding }
     ensures sound { IsSoundBeside held.new.store holding }
 {

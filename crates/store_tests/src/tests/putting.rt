@@ -4,7 +4,7 @@ ghost use Rattle.std.specs.Prelude.{◌≡◌, ◌<◌, length, map};
 ghost use Rattle.bw_ring.specs.Ends.{ring_of_feed};
 
 use bw_codec::{Key, LengthError, Record, Value};
-use bw_ring::Feed;
+use bw_ring::{Feed, Group};
 
 /// A put, or with no value a delete.
 pub(super) fn record(key: &[u8], value: Option<&[u8]>) -> Result<Record, LengthError> {
@@ -58,6 +58,83 @@ fn put_all(feed: &mut Feed, writer: u8, count: u32) -> bool
 {
     'numbers: for number in 0..count {
         if feed.put(numbered(writer, number)).is_err() {
+            return false;
+        }
+    }
+    true
+}
+
+/// A record of a group.
+#[derive(Drop)]
+pub(super) enum Op {
+    /// A key and its new value.
+    Set(&'static [u8], &'static [u8]),
+    /// A key that is deleted.
+    Unset(&'static [u8]),
+}
+
+fn record_of(op: &Op) -> Result<Record, LengthError> {
+    match op {
+        Op::Set(key, value) => record(*key, Some(*value)),
+        Op::Unset(key) => record(*key, None),
+    }
+}
+
+// The group of these; none where there are none, or too many.
+fn group_of(ops: &[Op]) -> Option<Group> {
+    let (first, rest) = ops.split_first()?;
+    let mut group = Group::one(record_of(first).ok()?);
+    for op in rest {
+        group.push(record_of(op).ok()?).ok()?;
+    }
+    Some(group)
+}
+
+fn put_group(feed: &mut Feed, group: Group) -> bool
+    ensures { ring_of_feed feed.new ≡ ring_of_feed feed.old }
+{
+    feed.put_group(group).is_ok()
+}
+
+/// Whether a writer's feed takes the group, as told.
+pub(super) fn is_grouped(feeds: &mut Vec<Feed>, writer: usize, ops: &[Op], told: bool) -> bool
+    requires { writer < length feeds.old.items }
+    ensures { map ring_of_feed feeds.new.items ≡ map ring_of_feed feeds.old.items }
+{
+    let Some(group) = group_of(ops) else {
+        return false;
+    };
+    let _ = feeds.as_slice().len();
+    put_group(&mut feeds[writer], group) == told
+}
+
+/// Whether a writer's feed takes so many puts of a key, each with a value of so many bytes.
+pub(super) fn are_same(
+    feeds: &mut Vec<Feed>,
+    writer: usize,
+    key: &[u8],
+    count: u32,
+    length: usize,
+) -> bool
+    requires { writer < length feeds.old.items }
+    ensures { map ring_of_feed feeds.new.items ≡ map ring_of_feed feeds.old.items }
+{
+    let value = [b'v'; 128];
+    let Some(value) = value.get(..length) else {
+        return false;
+    };
+    let Ok(item) = record(key, Some(value)) else {
+        return false;
+    };
+    let _ = feeds.as_slice().len();
+    put_same(&mut feeds[writer], &item, count)
+}
+
+fn put_same(feed: &mut Feed, item: &Record, count: u32) -> bool
+    ensures { ring_of_feed feed.new ≡ ring_of_feed feed.old }
+{
+    'copies: for _ in 0..count {
+        if feed.put(item.copy()).is_err() {
             return false;
         }
     }

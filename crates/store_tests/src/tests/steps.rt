@@ -7,7 +7,7 @@ ghost use Rattle.bw_store.specs.Following.{Follows};
 
 use super::asking::{are_bytes, has, is_history, is_page, is_unread};
 use super::opening::Held;
-use super::putting::{are_put, is_put, record};
+use super::putting::{Op, are_put, are_same, is_grouped, is_put, record};
 use super::reading::reads;
 use bw_device::Segment;
 use bw_ring::Feed;
@@ -24,10 +24,16 @@ pub(super) enum Step {
     Full(usize, &'static [u8], &'static [u8]),
     /// So many puts of a writer, each of its number.
     Puts(usize, u32),
-    /// A turn of this limit takes so many.
-    Turn(u32, u32),
+    /// So many puts of a key by a writer, each with a value of so many bytes.
+    Same(usize, &'static [u8], u32, usize),
+    /// A group of a writer.
+    Group(usize, &'static [Op]),
+    /// A group that finds no place.
+    FullGroup(usize, &'static [Op]),
+    /// A turn of so many groups takes so many records.
+    Turn(u32, u64),
     /// It takes so many, and is then refused.
-    Stops(u32, u32, StoreFault),
+    Stops(u32, u64, StoreFault),
     /// A flush appends this frame, or nothing.
     Flush(Option<u64>),
     Refused(StoreFault),
@@ -61,8 +67,9 @@ pub(super) enum Step {
 }
 
 use Step::{
-    Add, Bytes, Clean, Cuts, Del, Evict, Flush, Full, Get, History, Live, Page, Put, Puts, Reads,
-    Refused, Roll, Settle, Stands, Stops, Turn, Uncleaned, Unread, Unsettled,
+    Add, Bytes, Clean, Cuts, Del, Evict, Flush, Full, FullGroup, Get, Group, History, Live, Page,
+    Put, Puts, Reads, Refused, Roll, Same, Settle, Stands, Stops, Turn, Uncleaned, Unread,
+    Unsettled,
 };
 
 fn are_cuts(cuts: &[u64], told: &[u64]) -> bool {
@@ -81,7 +88,7 @@ pub(super) fn is_added(store: &mut Store, more: &mut Vec<Box<dyn Segment>>) -> b
     }
 }
 
-fn takes(store: &mut Store, limit: u32, told: Result<u32, TurnFault>) -> bool
+fn takes(store: &mut Store, limit: u32, told: Result<u64, TurnFault>) -> bool
     requires { IsSound store.old holding }
     ensures sound { IsSound store.new holding }
     ensures follows { Follows (kept_by store.old holding) (kept_by store.new holding) }
@@ -123,6 +130,11 @@ fn puts(feeds: &mut Vec<Feed>, step: &Step) -> bool
         }
         Del(writer, key) if *writer < count => puts_one(feeds, *writer, *key, None, true),
         Puts(writer, many) if *writer < count => are_put(feeds, *writer, *many),
+        Same(writer, key, many, size) if *writer < count => {
+            are_same(feeds, *writer, *key, *many, *size)
+        }
+        Group(writer, ops) if *writer < count => is_grouped(feeds, *writer, *ops, true),
+        FullGroup(writer, ops) if *writer < count => is_grouped(feeds, *writer, *ops, false),
         _ => false,
     }
 }
@@ -195,6 +207,7 @@ pub(super) fn goes<R: Wait>(rt: &R, alloc: Global, opened: &mut Held, step: &Ste
 {
     match step {
         Put(..) | Del(..) | Full(..) | Puts(..) => puts(&mut opened.feeds, step),
+        Same(..) | Group(..) | FullGroup(..) => puts(&mut opened.feeds, step),
         Turn(..) | Stops(..) | Flush(..) | Refused(..) | Clean(..) | Uncleaned(..) | Roll => {
             changes(rt, &mut opened.store, step)
         }

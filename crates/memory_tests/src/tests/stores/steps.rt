@@ -11,17 +11,22 @@ use super::picture::{
 use super::telling::{is_history, spells};
 use bw_codec::Key;
 use bw_device::Desk;
-use bw_ring::Feed;
+use bw_ring::{Feed, Group as Records};
 use bw_store::{Cleaned, Reader, Store, StoreFault};
 use std::alloc::Global;
 use std::sync::Wait;
 use test_marks::{begin, begin_without, end};
 
+/// A key and its value.
+pub(super) type Pair = (&'static [u8], &'static [u8]);
+
 #[derive(Drop)]
 pub(super) enum Step {
     Put(&'static [u8], &'static [u8]),
+    /// Puts of these keys and values, as one.
+    Group(&'static [Pair]),
     /// A turn takes so many.
-    Turn(u32),
+    Turn(u64),
     Flush(Option<u64>),
     FlushFails(StoreFault),
     /// So many entries stand in the history then.
@@ -57,8 +62,8 @@ pub(super) enum Step {
 }
 
 use Step::{
-    Bytes, Clean, CleanFails, Cuts, Evict, Flush, FlushFails, Get, History, Live, NewSees, News,
-    Next, Out, Page, PageFails, Put, Roll, Sees, Settle, Stands, Turn,
+    Bytes, Clean, CleanFails, Cuts, Evict, Flush, FlushFails, Get, Group, History, Live, NewSees,
+    News, Next, Out, Page, PageFails, Put, Roll, Sees, Settle, Stands, Turn,
 };
 
 /// What stands beside a store: the first reader, and the desk of its leases.
@@ -89,7 +94,35 @@ fn put_one(feed: &mut Feed, key: &[u8], value: &[u8]) -> bool
     }
 }
 
-fn turns(store: &mut Store, told: u32) -> Result<bool, StoreFault>
+// The group of these puts; none where there are none, or too many.
+fn group_of(pairs: &[Pair]) -> Option<Records> {
+    let ((key, value), rest) = pairs.split_first()?;
+    let mut group = Records::one(put(*key, *value)?);
+    for (key, value) in rest {
+        group.push(put(*key, *value)?).ok()?;
+    }
+    Some(group)
+}
+
+fn put_group(feed: &mut Feed, pairs: &[Pair]) -> bool
+    ensures { ring_of_feed feed.new ≡ ring_of_feed feed.old }
+{
+    match group_of(pairs) {
+        Some(group) => feed.put_group(group).is_ok(),
+        None => false,
+    }
+}
+
+fn is_grouped(feeds: &mut Vec<Feed>, pairs: &[Pair]) -> bool
+    ensures { map ring_of_feed feeds.new.items ≡ map ring_of_feed feeds.old.items }
+{
+    if feeds.as_slice().len() == 0 {
+        return false;
+    }
+    put_group(&mut feeds[0], pairs)
+}
+
+fn turns(store: &mut Store, told: u64) -> Result<bool, StoreFault>
     requires { IsSound store.old holding }
     ensures sound { IsSound store.new holding }
     ensures rings { (kept_by store.new holding).rings ≡ (kept_by store.old holding).rings }
@@ -232,6 +265,7 @@ fn goes_without(store: &mut Store, feeds: &mut Vec<Feed>, beside: &mut Beside, s
 {
     match step {
         Put(key, value) => is_put(feeds, *key, *value),
+        Group(pairs) => is_grouped(feeds, *pairs),
         Roll => {
             store.roll();
             true
@@ -252,7 +286,7 @@ fn goes_without(store: &mut Store, feeds: &mut Vec<Feed>, beside: &mut Beside, s
 
 fn takes_none(step: &Step) -> bool {
     match step {
-        Put(..) | Roll | Evict(..) | Sees(..) | Live(..) => true,
+        Put(..) | Group(_) | Roll | Evict(..) | Sees(..) | Live(..) => true,
         Cuts(..) | Stands(..) | Next(_) | Out(..) | History(..) => true,
         _ => false,
     }

@@ -17,7 +17,7 @@ use bw_device::{
 use bw_drive::{Gate, MeetGate, OpenGate};
 use bw_log::Log;
 use bw_page::Leaves;
-use bw_ring::{Feed, Lane, LanesError, lanes};
+use bw_ring::{Feed, FullGroup, Group, Items, Lane, LanesError, lanes};
 use bw_versions::{Board, Entry};
 use std::alloc::Global;
 use test_marks::begin_without;
@@ -43,9 +43,9 @@ fn go_through(feed: &mut Feed, lane: &mut Lane, one: Record, other: Record) -> b
     if lane.waits() == 0 {
         return false;
     }
-    let is_known = lane.peek_known().key().as_slice() == b"l".as_slice();
+    let is_known = lane.peek_known().len() == 1;
     let last = lane.take_known();
-    are_put && waits && is_taken && is_known && last.key().as_slice().len() == 1
+    are_put && waits && is_taken && is_known && last.as_slice().len() == 1
 }
 
 pub(super) fn rings(alloc: Global) -> Option<bool> {
@@ -53,6 +53,34 @@ pub(super) fn rings(alloc: Global) -> Option<bool> {
     let (one, other) = (put(b"k", b"v")?, put(b"l", b"w")?);
     begin_without(alloc);
     let is_so = go_through(&mut feed, &mut lane, one, other);
+    asked(alloc, is_so)
+}
+
+/// A group of two, of which nothing takes memory; the group goes through a ring of four places that has
+/// one left.
+fn goes_whole(feed: &mut Feed, lane: &mut Lane, one: Record, other: Record) -> bool
+    requires { IsFeedOf feed.old lane.old }
+{
+    let mut group = Group::one(one);
+    let is_longer = group.push(other).is_ok() && group.len() == 2 && group.get(1).is_some();
+    for _ in 0..4 {
+        if feed.put_group(group.copy()).is_err() {
+            return false;
+        }
+    }
+    let is_full = match feed.put_group(group) {
+        Ok(()) => false,
+        Err(FullGroup(back)) => matches!(back.into_items(), Items::Two(_)),
+    };
+    let waits = lane.rest_beside(feed) == 4;
+    is_longer && is_full && waits && lane.take().is_some_and(|group| group.len() == 2)
+}
+
+pub(super) fn groups(alloc: Global) -> Option<bool> {
+    let (mut feed, mut lane) = one_ring(alloc).ok()?;
+    let (one, other) = (put(b"k", b"v")?, put(b"l", b"w")?);
+    begin_without(alloc);
+    let is_so = goes_whole(&mut feed, &mut lane, one, other);
     asked(alloc, is_so)
 }
 
@@ -216,6 +244,7 @@ pub(super) fn boards(alloc: Global) -> Option<bool> {
 pub(super) fn entries(alloc: Global) -> Option<bool> {
     let entry = Entry {
         writer: 3,
+        more: true,
         item: put(b"k", b"v")?,
     };
     begin_without(alloc);

@@ -3,14 +3,13 @@
 ghost use Rattle.std.specs.Prelude.{◌≡◌, IfSome};
 ghost use Rattle.bw_ring.specs.Ends.{ring_of_feed, ring_of_lane, IsFeedOf};
 
-use super::rings::{numbered, one_ring};
+use super::rings::{group_of, holds, numbered, one_ring};
 use crate::tests::{Table, all_went, wrong_table};
-use bw_codec::Record;
-use bw_ring::{Feed, Full, Lane};
+use bw_ring::{Feed, Full, FullGroup, Group, Lane};
 use std::alloc::Global;
 
 /// What a caller knows of a peek and the take after it.
-fn peeked_and_taken(lane: &mut Lane) -> Option<(Record, Record)>
+fn peeked_and_taken(lane: &mut Lane) -> Option<(Group, Group)>
     ensures ring { ring_of_lane lane.new ≡ ring_of_lane lane.old }
     ensures same { IfSome result (λ both. both.0 ≡ both.1) }
 {
@@ -19,8 +18,8 @@ fn peeked_and_taken(lane: &mut Lane) -> Option<(Record, Record)>
     Some((peeked, taken))
 }
 
-/// The oldest record, taken once a look showed it; `None` where the look shows none.
-fn known_taken(lane: &mut Lane) -> Option<(Record, Record)>
+/// The oldest group, taken once a look showed it; `None` where the look shows none.
+fn known_taken(lane: &mut Lane) -> Option<(Group, Group)>
     ensures ring { ring_of_lane lane.new ≡ ring_of_lane lane.old }
     ensures same { IfSome result (λ both. both.0 ≡ both.1) }
 {
@@ -28,54 +27,84 @@ fn known_taken(lane: &mut Lane) -> Option<(Record, Record)>
     Some((peeked, lane.take_known()))
 }
 
-/// The oldest record that is known, without a look at the ring.
-fn known_first(lane: &Lane) -> Option<Record> {
+/// The oldest group that is known, without a look at the ring.
+fn known_first(lane: &Lane) -> Option<Group> {
     if lane.waits() == 0 {
         return None;
     }
     Some(lane.peek_known().copy())
 }
 
-/// One call, with what it has to answer; a record goes by its number.
+/// The numbers of a group's records.
+type Numbers = &'static [u32];
+
+/// One call, with what it has to answer; a record goes by its number, and no group by no number.
 #[derive(Drop)]
 enum Step {
     Room(usize),
+    /// A single put.
     Put(u32),
+    /// A single put that comes back.
     Full(u32),
-    Peek(Option<u32>),
-    Take(Option<u32>),
+    /// A put of a group.
+    Group(Numbers),
+    /// A put of a group that comes back, whole.
+    FullGroup(Numbers),
+    Peek(Numbers),
+    Take(Numbers),
     /// A peek and a take after it.
-    Both(Option<u32>),
+    Both(Numbers),
     /// A peek, and a take of what it showed.
-    Known(Option<u32>),
+    Known(Numbers),
     /// How many are known, and the first of them, without a look.
-    Waits(usize, Option<u32>),
+    Waits(usize, Numbers),
     Rest(usize),
 }
 
-/// Whether a record is that of a number, or neither is there.
-fn is(record: Option<Record>, told: Option<u32>) -> bool {
-    match (record, told) {
-        (Some(record), Some(number)) => record == numbered(number),
-        (None, None) => true,
-        _ => false,
+/// Whether a group has these records, or neither is there.
+fn is(group: Option<Group>, told: Numbers) -> bool {
+    match group {
+        Some(group) => holds(&group, told),
+        None => told.is_empty(),
     }
 }
 
-/// Whether both records are that of a number, or none is there.
-fn are(records: Option<(Record, Record)>, told: Option<u32>) -> bool {
-    match (records, told) {
-        (Some((a, b)), Some(number)) => a == numbered(number) && b == numbered(number),
-        (None, None) => true,
-        _ => false,
+/// Whether both groups have these records, or none is there.
+fn are(groups: Option<(Group, Group)>, told: Numbers) -> bool {
+    match groups {
+        Some((a, b)) => holds(&a, told) && holds(&b, told),
+        None => told.is_empty(),
     }
 }
 
-fn peeks(lane: &mut Lane, told: Option<u32>) -> bool
+fn peeks(lane: &mut Lane, told: Numbers) -> bool
     ensures { ring_of_lane lane.new ≡ ring_of_lane lane.old }
 {
     let shown = lane.peek().map(|item| item.copy());
     is(shown, told)
+}
+
+/// Whether the group of these records is accepted.
+fn puts(feed: &mut Feed, numbers: Numbers) -> bool
+    ensures { ring_of_feed feed.new ≡ ring_of_feed feed.old }
+{
+    match group_of(numbers) {
+        Some(group) => feed.put_group(group).is_ok(),
+        None => false,
+    }
+}
+
+/// Whether the group of these records comes back.
+fn hands_back(feed: &mut Feed, numbers: Numbers) -> bool
+    ensures { ring_of_feed feed.new ≡ ring_of_feed feed.old }
+{
+    let Some(group) = group_of(numbers) else {
+        return false;
+    };
+    match feed.put_group(group) {
+        Ok(()) => false,
+        Err(FullGroup(back)) => holds(&back, numbers),
+    }
 }
 
 /// Whether the step went as told.
@@ -87,6 +116,8 @@ fn goes(feed: &mut Feed, lane: &mut Lane, step: &Step) -> bool
         Step::Room(told) => feed.room() == *told,
         Step::Put(number) => feed.put(numbered(*number)) == Ok(()),
         Step::Full(number) => feed.put(numbered(*number)) == Err(Full(numbered(*number))),
+        Step::Group(numbers) => puts(feed, *numbers),
+        Step::FullGroup(numbers) => hands_back(feed, *numbers),
         Step::Peek(told) => peeks(lane, *told),
         Step::Take(told) => is(lane.take(), *told),
         Step::Both(told) => are(peeked_and_taken(lane), *told),
@@ -129,48 +160,88 @@ const TWO_PLACES: &[Step] = &[
     Step::Put(1),
     Step::Room(0),
     Step::Full(2),
-    Step::Take(Some(0)),
+    Step::Take(&[0]),
     Step::Put(3),
-    Step::Take(Some(1)),
+    Step::Take(&[1]),
     Step::Room(1),
     Step::Rest(1),
-    Step::Take(Some(3)),
+    Step::Take(&[3]),
 ];
 
 /// A peek leaves its record.
 const LOOKS: &[Step] = &[
-    Step::Peek(None),
-    Step::Take(None),
+    Step::Peek(&[]),
+    Step::Take(&[]),
     Step::Put(7),
     Step::Put(8),
-    Step::Peek(Some(7)),
-    Step::Both(Some(7)),
-    Step::Known(Some(8)),
-    Step::Known(None),
-    Step::Both(None),
-    Step::Take(None),
-    Step::Peek(None),
+    Step::Peek(&[7]),
+    Step::Both(&[7]),
+    Step::Known(&[8]),
+    Step::Known(&[]),
+    Step::Both(&[]),
+    Step::Take(&[]),
+    Step::Peek(&[]),
 ];
 
 /// What a lane knows stays as it is until it is taken, whatever was put since.
 const KNOWN: &[Step] = &[
     Step::Put(1),
     Step::Put(2),
-    Step::Waits(0, None),
-    Step::Peek(Some(1)),
-    Step::Waits(2, Some(1)),
+    Step::Waits(0, &[]),
+    Step::Peek(&[1]),
+    Step::Waits(2, &[1]),
     Step::Put(3),
-    Step::Peek(Some(1)),
-    Step::Waits(2, Some(1)),
-    Step::Take(Some(1)),
-    Step::Waits(1, Some(2)),
+    Step::Peek(&[1]),
+    Step::Waits(2, &[1]),
+    Step::Take(&[1]),
+    Step::Waits(1, &[2]),
     Step::Rest(2),
-    Step::Waits(2, Some(2)),
-    Step::Known(Some(2)),
-    Step::Take(Some(3)),
+    Step::Waits(2, &[2]),
+    Step::Known(&[2]),
+    Step::Take(&[3]),
 ];
 
-const TABLES: &[OfPlaces] = &[(2, TWO_PLACES), (4, LOOKS), (4, KNOWN)];
+/// Places, and all that is counted, are of groups. A group that found no place comes back whole, and
+/// a single put behind a group finds none either.
+const GROUPS: &[Step] = &[
+    Step::Group(&[1, 2]),
+    Step::Room(1),
+    Step::Group(&[3, 4, 5, 6]),
+    Step::Room(0),
+    Step::Full(7),
+    Step::FullGroup(&[7, 8, 9]),
+    Step::Waits(0, &[]),
+    Step::Peek(&[1, 2]),
+    Step::Waits(2, &[1, 2]),
+    Step::Both(&[1, 2]),
+    Step::Group(&[7, 8, 9]),
+    Step::Rest(2),
+    Step::Known(&[3, 4, 5, 6]),
+    Step::Put(10),
+    Step::Take(&[7, 8, 9]),
+    Step::Take(&[10]),
+    Step::Take(&[]),
+];
+
+/// One place, whatever the group's length.
+const ONE_PLACE: &[Step] = &[
+    Step::Group(&[1, 2]),
+    Step::Full(3),
+    Step::Rest(1),
+    Step::Take(&[1, 2]),
+    Step::Put(3),
+    Step::FullGroup(&[4]),
+    Step::Take(&[3]),
+    Step::Rest(0),
+];
+
+const TABLES: &[OfPlaces] = &[
+    (2, TWO_PLACES),
+    (4, LOOKS),
+    (4, KNOWN),
+    (2, GROUPS),
+    (1, ONE_PLACE),
+];
 
 #[test]
 fn ends_go_as_told(rt: HostRuntime) {

@@ -6,7 +6,7 @@ ghost use Rattle.bw_ring.specs.Ends.{IsFeedOf};
 use super::is_text;
 use crate::tests::{Row, all_hold, went, wrong_row};
 use bw_codec::{Key, Record};
-use bw_ring::{Feed, Full, Lane, LanesError, lanes};
+use bw_ring::{Feed, Full, FullGroup, Group, Lane, LanesError, MAX_GROUP, lanes};
 use std::alloc::Global;
 
 /// A record that tells its number.
@@ -15,6 +15,28 @@ pub(crate) fn numbered(number: u32) -> Record {
         Ok(key) => Record::Del(key),
         Err(_) => unreachable!(),
     }
+}
+
+/// The group of the records of these numbers; `None` where there are none, or too many.
+pub(crate) fn group_of(numbers: &[u32]) -> Option<Group> {
+    let (first, rest) = numbers.split_first()?;
+    let mut group = Group::one(numbered(*first));
+    for number in rest {
+        group.push(numbered(*number)).ok()?;
+    }
+    Some(group)
+}
+
+/// Whether a group has the records of these numbers and no other, by each call that shows them.
+pub(crate) fn holds(group: &Group, numbers: &[u32]) -> bool {
+    for (i, number) in numbers.iter().enumerate() {
+        if group.get(i) != Some(&numbered(*number)) {
+            return false;
+        }
+    }
+    group.len() == numbers.len()
+        && group.as_slice().len() == numbers.len()
+        && group.get(numbers.len()).is_none()
 }
 
 /// The two ends of one ring.
@@ -59,11 +81,45 @@ fn the_ranges_are_exact(rt: HostRuntime) {
     went(&rt, wrong_row(rt.alloc(), CONFIGS));
 }
 
+/// Whether a group of all the numbers but the last takes no more, hands that one back, and is what it
+/// was.
+fn hands_back(numbers: &[u32]) -> Option<bool> {
+    let (last, some) = numbers.split_last()?;
+    let mut group = group_of(some)?;
+    let back = group.push(numbered(*last)) == Err(numbered(*last));
+    let same = holds(&group, some) && holds(&group.copy(), some);
+    Some(back && same && some.len() == MAX_GROUP)
+}
+
+#[test]
+fn a_group_has_one_to_four_records(rt: HostRuntime) {
+    let lengths = [
+        &[7].as_slice(),
+        &[7, 8].as_slice(),
+        &[7, 8, 9].as_slice(),
+        &[7, 8, 9, 10].as_slice(),
+    ];
+    let mut are_made = true;
+    for numbers in lengths {
+        are_made = are_made && group_of(numbers).is_some_and(|group| holds(&group, numbers));
+    }
+    let ends = group_of(&[]).is_none() && group_of(&[1, 2, 3, 4, 5]).is_none();
+    all_hold(
+        &rt,
+        &[are_made, ends, hands_back(&[1, 2, 3, 4, 5]) == Some(true)],
+    );
+}
+
 #[test]
 fn the_refusals_have_texts(rt: HostRuntime) {
     let range = "the number of writers or of places is out of range";
     let said = [
         is_text(rt.alloc(), &Full(numbered(0)), "the ring is full"),
+        is_text(
+            rt.alloc(),
+            &FullGroup(Group::one(numbered(0))),
+            "the ring is full",
+        ),
         is_text(rt.alloc(), &LanesError::BadConfig, range),
         is_text(rt.alloc(), &LanesError::NoMemory, "memory ran out"),
     ];

@@ -4,7 +4,7 @@ ghost use Rattle.std.specs.Prelude.{◌≡◌};
 ghost use Rattle.bw_ring.specs.Ends.{ring_of_feed, ring_of_lane, IsFeedOf};
 
 use super::rings::{numbered, one_ring};
-use bw_ring::{Feed, Lane};
+use bw_ring::{Feed, Group, Lane};
 use std::snapshot::Snapshot;
 use std::thread;
 use std::thread::{Promise, Threads};
@@ -12,8 +12,11 @@ use std::thread::{Promise, Threads};
 /// How many records go through the ring of 8 places.
 const RECORDS: u32 = 1000;
 
-/// How many of them are taken while the feed is away: those that are left fit the ring.
-const TAKEN_MEANWHILE: u32 = 995;
+/// How many of them are taken while the feed is away: the groups that are left fit the ring.
+const TAKEN_MEANWHILE: u32 = 980;
+
+/// How many groups are left then: twice one, two, three and four records.
+const GROUPS_LEFT: usize = 8;
 
 /// How often each side tries at most, so that the test ends whatever the schedule.
 const TRIES: u32 = 50_000_000;
@@ -26,24 +29,51 @@ impl Promise<Feed> for OfOneRing {
     ghost kept_by = { λ p feed. ring_of_feed feed ≡ ring_of_feed p.0.value };
 }
 
+/// The group that begins with this number. Those that follow each other have one, two, three and four
+/// records, and then one again.
+fn group_at(number: u32) -> Group {
+    let count = match number % 10 {
+        0 => 1,
+        1 => 2,
+        3 => 3,
+        _ => 4,
+    };
+    let mut group = Group::one(numbered(number));
+    for k in 1..count {
+        let _ = group.push(numbered(number.wrapping_add(k)));
+    }
+    group
+}
+
+fn is_group_at(group: &Group, number: u32) -> bool {
+    group.as_slice() == group_at(number).as_slice()
+}
+
+// The number behind those of a group.
+fn behind(group: &Group, number: u32) -> u32 {
+    number.saturating_add(group.len() as u32)
+}
+
 fn put_numbered(feed: Feed) -> Feed
     ensures { ring_of_feed result ≡ ring_of_feed feed }
 {
     let mut feed = feed;
     let mut next = 0;
     'tries: for _ in 0..TRIES {
-        if next == RECORDS {
+        if next >= RECORDS {
             break;
         }
-        match feed.put(numbered(next)) {
-            Ok(()) => next += 1,
+        let group = group_at(next);
+        let after = behind(&group, next);
+        match feed.put_group(group) {
+            Ok(()) => next = after,
             Err(_) => thread::yield_now(),
         }
     }
     feed
 }
 
-/// Whether records of these numbers are taken, in their order.
+/// Whether groups of the records of these numbers are taken, whole and in their order.
 fn take_numbered(lane: &mut Lane, first: u32, end: u32) -> bool
     ensures { ring_of_lane lane.new ≡ ring_of_lane lane.old }
 {
@@ -53,11 +83,11 @@ fn take_numbered(lane: &mut Lane, first: u32, end: u32) -> bool
             break;
         }
         match lane.take() {
-            Some(item) => {
-                if item != numbered(next) {
+            Some(group) => {
+                if !is_group_at(&group, next) {
                     return false;
                 }
-                next += 1;
+                next = behind(&group, next);
             }
             None => thread::yield_now(),
         }
@@ -65,18 +95,17 @@ fn take_numbered(lane: &mut Lane, first: u32, end: u32) -> bool
     next == end
 }
 
-/// Whether the records that are left are known beside the feed, and taken, and then none is left.
+/// Whether the groups that are left are known beside the feed, and taken, and then none is left.
 fn is_left(feed: &mut Feed, lane: &mut Lane) -> bool
     requires { IsFeedOf feed.old lane.old }
 {
-    let left = RECORDS - TAKEN_MEANWHILE;
-    lane.rest_beside(feed) == left as usize
+    lane.rest_beside(feed) == GROUPS_LEFT
         && take_numbered(lane, TAKEN_MEANWHILE, RECORDS)
         && lane.rest_beside(feed) == 0
         && lane.peek().is_none()
 }
 
-/// Whether all records are taken in their order, most of them while the feed is away.
+/// Whether all groups are taken in their order, most of them while the feed is away.
 fn go_through<R: AllocGlobal + Threads>(rt: &R) -> Option<bool> {
     let Ok((feed, mut lane)) = one_ring(rt.alloc(), 8) else {
         return None;
