@@ -23,6 +23,8 @@ enum Call {
     CopyLeaves,
     /// A fifth pair, which cuts the page, by each call that applies records.
     Apply(Way),
+    /// What a fifth pair would do, and a stretch of pairs.
+    Look(Way),
     /// A pair is put into a leaf.
     Change,
     /// And so many into one that is handed over.
@@ -41,6 +43,12 @@ enum Way {
     On,
     All,
     AllOf,
+    /// They are not, but what they would do is told.
+    Steps,
+    /// What the first would do.
+    Step,
+    /// None is, and a stretch of pairs is read.
+    Scan,
 }
 
 /// How blocks are read.
@@ -200,6 +208,59 @@ fn applies(leaves: &mut Leaves, change: &Record, on: bool) -> Result<bool, Apply
     Ok(done == told)
 }
 
+/// What a call tells that leaves the pages as they are: a record cuts the page, and the stretch from
+/// b on has two pairs.
+fn looked(
+    alloc: Global,
+    leaves: &mut Leaves,
+    first: &Record,
+    entries: &[Entry],
+    way: Way,
+) -> Result<bool, ApplyError>
+    requires { leaves.old.away ≡ [] }
+    ensures { leaves.new.away ≡ [] }
+{
+    if way == Way::Step {
+        return Ok(leaves.step(first)?.upper.is_some());
+    }
+    if way == Way::Scan {
+        let mut found = Vec::new(alloc);
+        leaves.scan(first.key(), 2, &mut found)?;
+        return Ok(found.as_slice().len() == 2);
+    }
+    let steps = leaves.steps(entries)?;
+    Ok(steps.as_slice().len() == 3)
+}
+
+/// One try: what e would do beside a to d, or f and g behind it.
+fn looks_at(alloc: Global, leaves: &mut Leaves, way: Way) -> Option<Try>
+    requires { leaves.old.away ≡ [] }
+    ensures { leaves.new.away ≡ [] }
+{
+    let entries = entries(alloc, b"efg")?;
+    let first = match way {
+        Way::Scan => put(b"b", b"")?,
+        _ => put(b"e", b"")?,
+    };
+    begin(alloc);
+    let answer = looked(alloc, leaves, &first, entries.as_slice(), way);
+    let refused = end(alloc);
+    let is_left = are_pages(leaves, b": a= b= c= d=", b"");
+    match answer {
+        Ok(is_so) => tried(true, refused, is_so && is_left),
+        Err(fault) => tried(false, refused, is_left && fault == ApplyError::NoMemory),
+    }
+}
+
+fn is_looked_at(alloc: Global, way: Way) -> Option<Try> {
+    let mut leaves = full(alloc)?;
+    let first = looks_at(alloc, &mut leaves, way)?;
+    if first == Try::Refused {
+        return then(first, looks_at(alloc, &mut leaves, way));
+    }
+    Some(first)
+}
+
 /// One try: e is put beside a to d, or f and g behind it.
 fn applied(alloc: Global, leaves: &mut Leaves, way: Way) -> Option<Try>
     requires { leaves.old.away ≡ [] }
@@ -213,7 +274,7 @@ fn applied(alloc: Global, leaves: &mut Leaves, way: Way) -> Option<Try>
         Way::One => applies(leaves, &first, false),
         Way::On => applies(leaves, &first, true),
         Way::All => leaves.apply_all(records.as_slice()).map(|_| true),
-        Way::AllOf => leaves.apply_all_of(entries.as_slice()).map(|_| true),
+        _ => leaves.apply_all_of(entries.as_slice()).map(|_| true),
     };
     let refused = end(alloc);
     let is_one = (way == Way::One) | (way == Way::On);
@@ -476,6 +537,7 @@ impl Row for Call {
         let alloc = rt.alloc();
         match self {
             Call::Apply(way) => is_applied(alloc, *way),
+            Call::Look(way) => is_looked_at(alloc, *way),
             Call::Change => is_changed(alloc),
             Call::Chain(link) => is_linked(alloc, *link),
             _ => {
@@ -505,6 +567,9 @@ const CALLS: &[Call] = &[
     Call::Apply(Way::On),
     Call::Apply(Way::All),
     Call::Apply(Way::AllOf),
+    Call::Look(Way::Steps),
+    Call::Look(Way::Step),
+    Call::Look(Way::Scan),
     Call::Change,
     Call::ChangeAll(3),
     Call::ChangeAll(100),
