@@ -98,14 +98,21 @@ fn is_on_board(alloc: Global) -> Option<Try> {
     Some(first)
 }
 
-/// Whether a reader sees a key.
+/// Whether a reader sees a key, by itself and as the first from it on.
 fn sees(reader: &mut Reader, key: &[u8]) -> Option<bool>
     ensures { reader.new.book ≡ reader.old.book }
 {
     let key = Key::new(key).ok()?;
-    match reader.get(&key) {
-        Ok(found) => Some(found.is_some()),
-        Err(_) => None,
+    let found = reader.get(&key).ok()?;
+    let first = reader.next_at(&key).ok()?;
+    let is_first = match first {
+        Some((at, _)) => at.as_slice() == key.as_slice(),
+        None => false,
+    };
+    if found.is_some() == is_first {
+        Some(is_first)
+    } else {
+        None
     }
 }
 
