@@ -1,14 +1,15 @@
 -- A walk from page to page finds the first pair of the map at or above a key.
 
-use Rattle.std.proofs.Common.{◌≡◌, ℕ, true, false, if◌then◌else◌, Option, Some, None, Err, sym, ap, ◌∙◌, subst}
+use Rattle.std.proofs.Common.{◌≡◌, ℕ, ◌≤◌, ◌<◌, true, false, if◌then◌else◌, Option, Some, None, Err, List, [], length, sym, ap, ◌∙◌, subst}
 use Rattle.std.specs.Prelude.{is_some}
 use Rattle.bw_codec.specs.declared.leaf.Leaf.{Leaf}
 use Rattle.bw_log.specs.Reads.{HoldsPage}
-use Rattle.bw_page.specs.Ahead.{IsFirst, IsFirstPair, HasNoPair, HasCome, pair_above, HasNoLowAbove, IsNextLow}
-use Rattle.bw_page.specs.Leaves.{Bytes, Map, home, leaf_at, plain}
+use Rattle.bw_page.specs.Ahead.{IsFirst, IsFirstPair, HasNoPair, HasCome, pair_above, HasNoLowAbove, IsNextLow, IsStretch, HasGone, pairs_above, with_some}
+use Rattle.bw_page.specs.Leaves.{Bytes, Pairs, Map, home, leaf_at, plain, union}
 use Rattle.bw_page.specs.Shown.{Shown, is_away, leaf_here}
 use Rattle.bw_page.proofs.Ahead.{come_first, come_found, come_further, come_last}
 use Rattle.bw_page.proofs.PageByPage.{home_there}
+use Rattle.bw_page.proofs.Stretch.{gone_first, gone_more, gone_last, gone_full}
 use Rattle.bw_store.specs.declared.fault.StoreFault.{StoreFault}
 use Rattle.bw_store.specs.declared.fault.StoreFault.TheVariants.{NoMemory, BadConfig, NoSegment, Device, Failed, Spent, NoPage, NothingOld}
 use Rattle.bw_versions.specs.Entries.{records}
@@ -59,6 +60,31 @@ module _ (s : Kept) (h : IsSound s) where
   walk_last key to come e last =
       subst (λ (u : Map). HasNoPair u key) h.mapped
       (come_last s.filed.m s.filed.leaves h.grown.stands.lawful key to (subst (λ (u : Map). HasCome u key to) (sym h.mapped) come) e last)
+
+module _ (s : Kept) (h : IsSound s) where
+  pub stretch_first : (key : Bytes) (most : ℕ) → HasGone (map_of s) key key most []
+  stretch_first key most = subst (λ (u : Map). HasGone u key key most []) h.mapped (gone_first s.filed.leaves key most)
+
+  module _ (key to : Bytes) (most : ℕ) (found : Pairs) (gone : HasGone (map_of s) key to most found) where
+    here : HasGone (union s.filed.leaves) key to most found
+    here = subst (λ (u : Map). HasGone u key to most found) (sym h.mapped) gone
+
+    pub stretch_more : (low : Bytes) → length found < most → IsNextLow s.filed.leaves to low
+        → HasGone (map_of s) key low most (with_some most found (pairs_above to (home to s.filed.leaves).pairs))
+    stretch_more low few next =
+        subst (λ (u : Map). HasGone u key low most (with_some most found (pairs_above to (home to s.filed.leaves).pairs))) h.mapped
+        (gone_more s.filed.m s.filed.leaves h.grown.stands.lawful key to most found here low few next)
+
+    pub stretch_last : length found < most → HasNoLowAbove s.filed.leaves to
+        → IsStretch (map_of s) key most (with_some most found (pairs_above to (home to s.filed.leaves).pairs))
+    stretch_last few last =
+        subst (λ (u : Map). IsStretch u key most (with_some most found (pairs_above to (home to s.filed.leaves).pairs))) h.mapped
+        (gone_last s.filed.m s.filed.leaves h.grown.stands.lawful key to most found here few last)
+
+    pub stretch_full : most ≤ length found → IsStretch (map_of s) key most found
+    stretch_full full =
+        subst (λ (u : Map). IsStretch u key most found) h.mapped
+        (gone_full s.filed.m s.filed.leaves h.grown.stands.lawful key to most found here full)
 
 pub no_pair : (found above : Option (Bytes × Bytes)) → found ≡ above → is_some found ≡ false → above ≡ None
 no_pair None above e none = sym e

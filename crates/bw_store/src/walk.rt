@@ -3,9 +3,9 @@
 //! Pages are numbered as they were made, and their lows are in no order. So a walk goes from a key's
 //! page to the page with the next low, which a search among the lows tells.
 
-ghost use Rattle.std.specs.Prelude.{ℕ, ◌≡◌, false, IfOk, IfErr};
+ghost use Rattle.std.specs.Prelude.{ℕ, ◌≡◌, false, IfOk, IfErr, OnOk};
 ghost use Rattle.bw_log.specs.Reads.{HoldsPage};
-ghost use Rattle.bw_page.specs.Ahead.{IsFirst, pair_above};
+ghost use Rattle.bw_page.specs.Ahead.{IsFirst, IsStretch, pair_above, pairs_above, with_some};
 ghost use Rattle.bw_page.specs.Leaves.{home, plain};
 ghost use Rattle.bw_versions.specs.Entries.{records};
 ghost use Rattle.bw_store.specs.Following.{Follows, HasBoxes};
@@ -14,7 +14,7 @@ ghost use Rattle.bw_store.specs.Reading.{HasRead, ReadLeaves, WalkLeaves};
 use crate::fault::StoreFault;
 use crate::store::Store;
 use bw_codec::{Key, Value};
-use bw_page::pair_from;
+use bw_page::{add_pairs, pair_from};
 
 impl Store {
     ghost use Rattle.bw_store.specs.Views.{kept_by, is_evicted, IsSound};
@@ -73,5 +73,73 @@ impl Store {
                 None => return Ok(None),
             }
         }
+    }
+
+    /// Adds the pairs at or above a key of the page on which a record of the key would stand, until
+    /// there are so many.
+    fn add_pairs(
+        &mut self,
+        key: &Key,
+        most: usize,
+        found: &mut Vec<(Key, Value)>,
+    ) -> Result<(), StoreFault>
+        requires { IsSound self.old holding }
+        ensures value { OnOk result (found.new.items ≡ with_some most found.old.items
+            (pairs_above key.now (home key.now self.old.leaves.leaves).pairs)) }
+        ensures sound { IsSound self.new holding }
+        ensures pages { self.new.leaves ≡ self.old.leaves }
+        ensures read { HasRead (kept_by self.old holding) (kept_by self.new holding) }
+        ensures leaves { ReadLeaves (HoldsPage (kept_by self.old holding).log
+            (home key.now self.old.leaves.leaves).page)
+            (kept_by self.old holding) result (kept_by self.new holding) }
+        ensures memory { is_evicted (home key.now self.old.leaves.leaves).page
+            self.old ≡ false → IfErr result (λ fault. fault ≡ StoreFault.NoMemory) }
+    {
+        let page = self.leaves.find(key);
+        if let Some(leaf) = self.leaves.page(page) {
+            add_pairs(leaf, key, most, found)?;
+            return Ok(());
+        }
+        let leaf = self.read_away(page)?;
+        add_pairs(&leaf, key, most, found)?;
+        Ok(())
+    }
+
+    /// Puts the pairs at or above a key into `found`, as all records of the history leave them, in
+    /// the order of keys and no more than so many. What stood in `found` is dropped before. A walk
+    /// goes on behind the last of them. Pages that are away are read from the log, and stay away.
+    ///
+    /// It costs a search and a look for each page, and a copy of each pair. Refused as `get` is, or
+    /// `NoMemory` where `found` does not grow; it then has some of the pairs.
+    pub fn scan(
+        &mut self,
+        key: &Key,
+        most: usize,
+        found: &mut Vec<(Key, Value)>,
+    ) -> Result<(), StoreFault>
+        requires { IsSound self.old holding }
+        ensures value { OnOk result (IsStretch (plain (kept_by self.old holding).start
+            (records (kept_by self.old holding).entries)) key.now most found.new.items) }
+        ensures sound { IsSound self.new holding }
+        ensures read { HasRead (kept_by self.old holding) (kept_by self.new holding) }
+        ensures leaves { WalkLeaves (kept_by self.old holding) result
+            (kept_by self.new holding) }
+        ensures memory { ((p : ℕ) → is_evicted p self.old ≡ false)
+            → IfErr result (λ fault. fault ≡ StoreFault.NoMemory) }
+        ensures away { (p : ℕ) → is_evicted p self.new ≡ is_evicted p self.old }
+
+        ensures follows { Follows (kept_by self.old holding) (kept_by self.new holding) }
+        ensures boxes { HasBoxes (kept_by self.old holding) (kept_by self.new holding) }
+    {
+        found.clear();
+        let mut from = key.copy();
+        'pages: while found.len() < most {
+            self.add_pairs(&from, most, found)?;
+            match self.leaves.low_above(&from) {
+                Some(low) => from = low,
+                None => return Ok(()),
+            }
+        }
+        Ok(())
     }
 }
