@@ -155,15 +155,15 @@ module _ (m : ℕ) (d : Drawn) (r : Record) (one : 1 ≤ m) (lawful : AreLeaves 
         frame = record d.frame { blocks = added d.frame.blocks (if b then Delta p0 (back_in d r) (r ∷ []) ∷ [] else Delta p0 (back_in d r) (r ∷ []) ∷ Split p0 here upper ∷ []) };
       })) [
         | true ↦ λ long. record {
-            places = λ p some top. places_set rows base d.newest p0 here from (omega arith) p some (k.places p some (omega arith));
-            opens = λ p some top. opens_set rows blocks d.frame.blocks p0 (back_in d r) here last r p refl (k.opens p some (omega arith));
-          }
+          places = λ p some top. places_set rows base d.newest p0 here from (omega arith) p some (k.places p some (omega arith));
+          opens = λ p some top. opens_set rows blocks d.frame.blocks p0 (back_in d r) here last r p refl (k.opens p some (omega arith));
+        }
         | false ↦ λ long. record {
-            places = λ p some top. places_cut rows base d.newest p0 last from (omega arith) (length d.leaves + 1) p (omega arith) some (omega arith)
-                (λ low. k.places p some (omega arith));
-            opens = λ p some top. opens_cut rows blocks d.frame.blocks p0 (back_in d r) here last r upper (length d.leaves) p refl (omega arith)
-                (λ low. k.opens p some low);
-          }
+          places = λ p some top. places_cut rows base d.newest p0 last from (omega arith) (length d.leaves + 1) p (omega arith) some (omega arith)
+              (λ low. k.places p some (omega arith));
+          opens = λ p some top. opens_cut rows blocks d.frame.blocks p0 (back_in d r) here last r upper (length d.leaves) p refl (omega arith)
+              (λ low. k.opens p some low);
+        }
       ] (length-applied m d.leaves r one lawful op)
 
   -- how many blocks there are then

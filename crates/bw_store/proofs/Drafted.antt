@@ -181,14 +181,14 @@ module _ (s : Kept) (lane : ℕ) (done : List Record) where
           ∙ ap (λ (n : ℕ). place_with d.frame.number (count_after (joins p0 d.frame.blocks) n)) a.count in
           let upper_is : Option Leaf = upper_if m (length d.leaves + 1) (result_of d.leaves r) in
           let more : planned page (unwrap_or (place_in old.rows.items s.newest page) nowhere)
-              (place_with s.making.frame (unwrap_or (open_in old.rows.items s.making.blocks page) old.count)) r upper ≡ blocks_in m d r =
+          (place_with s.making.frame (unwrap_or (open_in old.rows.items s.making.blocks page) old.count)) r upper ≡ blocks_in m d r =
           ap (λ (b : Place). planned page b (place_with s.making.frame (unwrap_or (open_in old.rows.items s.making.blocks page) old.count)) r upper) back
           ∙ ap (λ (h : Place). planned page (back_in d r) h r upper) here
           ∙ ap (λ (p : ℕ). planned p (back_in d r) (here_for d.frame p0) r upper) at
           ∙ ap (λ (u : Option Leaf). planned p0 (back_in d r) (here_for d.frame p0) r u) up
           ∙ planned_for_is m d.leaves (back_in d r) (here_for d.frame p0) r in
           let row : row_by page (place_with s.making.frame (unwrap_or (open_in old.rows.items s.making.blocks page) old.count))
-              (place_with s.making.frame (count_after (open_in old.rows.items s.making.blocks page) old.count)) upper ≡ row_for m d r =
+          (place_with s.making.frame (count_after (open_in old.rows.items s.making.blocks page) old.count)) upper ≡ row_for m d r =
           ap (λ (h : Place). row_by page h (place_with s.making.frame (count_after (open_in old.rows.items s.making.blocks page) old.count)) upper) here
           ∙ ap (λ (l : Place). row_by page (here_for d.frame p0) l upper) last
           ∙ ap (λ (p : ℕ). row_by p (here_for d.frame p0) (last_for d.frame p0) upper) at

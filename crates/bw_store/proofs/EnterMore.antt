@@ -2,7 +2,7 @@
 
 use Rattle.std.proofs.Common.{◌≡◌, ℕ, zero, suc, ◌+◌, ◌-◌, ◌*◌, ◌^◌, ◌<◌, ◌≤◌, Bool, true, false, Option, Some, None, Result, Ok, Err, List, [], ◌∷◌, ◌++◌}
 use Rattle.std.proofs.Common.{length, map, refl, sym, ap, ◌∙◌, subst, arith, if◌then◌else◌, length-append}
-use Rattle.std.specs.Prelude.{nat_le, IfErr, OnOk, OnErr}
+use Rattle.std.specs.Prelude.{nat_le, IfErr, OnOk, OnErr, MatchOption}
 use Rattle.std.specs.List.{AllByRecursion as All, fold}
 use Rattle.bw_codec.specs.Grammar.{IsBlock, IsOp, body_bytes}
 use Rattle.bw_codec.specs.declared.record.Record.{Record}
@@ -32,7 +32,9 @@ use Rattle.bw_store.specs.Kept.{Kept, Filed, IsSound}
 use Rattle.bw_store.specs.Tails.{tail_of, tails_for, is_made, HasRoomsAt, Tailed}
 use Rattle.bw_store.specs.Faults.{fault_of_apply}
 use Rattle.bw_store.specs.Taken.{taken_all}
-use Rattle.bw_store.specs.Taking.{IsWanting}
+use Rattle.bw_store.specs.declared.fault.StoreFault.{StoreFault}
+use Rattle.bw_store.specs.Taking.{GroupLeaves, IsUnplanned, IsWanting, MakesRoom, Works}
+use Rattle.bw_store.proofs.Planned.{entered_or_not}
 use Rattle.bw_store.proofs.Drafts.{items, items_marked, leaves_all, made_all}
 use Rattle.bw_store.proofs.GroupMore.{Lawful, rows_in, rows_set, rows_tails, rows_away, length_rows, rows_from, fewer_rooms, fresh_fits, spent_pages, taken_is, taken_all_sound}
 
@@ -181,3 +183,28 @@ fresh_room s lane group h next ops room inside empty few =
     let none = ap (λ (bs : List Block). length (body_bytes bs)) empty in
     let zero_bytes : length (body_bytes []) ≡ 0 = refl in
     fresh_fits s lane 0 group h next ops room inside (omega arith) (omega arith)
+
+-- ---- a take of several
+
+pub draft_some : (s : Kept) (group records : List Record) (o : Option Draft) (d : Draft) → records ≡ group → o ≡ Some d
+    → MatchOption o (Fits s records → ⊥) (IsDraft s records) → IsDraft s group d
+draft_some s group records o d same is m =
+    subst (λ (rs : List Record). IsDraft s rs d) same (subst (λ (x : Option Draft). MatchOption x (Fits s records → ⊥) (IsDraft s records)) is m)
+
+pub draft_none : (s : Kept) (group records : List Record) (o : Option Draft) → records ≡ group → o ≡ None
+    → MatchOption o (Fits s records → ⊥) (IsDraft s records) → Fits s group → ⊥
+draft_none s group records o same is m fits =
+    subst (λ (x : Option Draft). MatchOption x (Fits s records → ⊥) (IsDraft s records)) is m (subst (Fits s) (sym same) fits)
+
+-- a group that was planned and then entered, behind a frame that was appended, or not
+pub drafted_left : (lane : ℕ) (old drawn middle new : Kept) (group records : List Record) (o : Option Draft) (d : Draft) (r : Result (Unit {0}) StoreFault)
+    → (1 ≤ length group) × (length group ≤ 4) → Works old → MakesRoom group old drawn → Works drawn → middle ≡ drawn → records ≡ group → o ≡ Some d
+    → MatchOption o (Fits drawn records → ⊥) (IsDraft drawn records) → OnOk r (new ≡ taken_all middle lane (marked group)) → OnErr r (new ≡ middle)
+    → IfErr r (IsWanting middle group) → GroupLeaves lane group old r new
+drafted_left lane old drawn middle new group records o d r few was may works same of is m ok un wants =
+    let draft = draft_some drawn group records o d of is m in
+    entered_or_not lane old middle new group r few was (subst (MakesRoom group old) (sym same) may) (subst (λ (s : Kept). Fits s group) (sym same) draft.fits)
+    (ap (λ (s : Kept). s.log.is_failed) same ∙ works) ok un wants
+
+pub unplanned_as : (s : Kept) (group records : List Record) (cause : StoreFault) → records ≡ group → IsUnplanned s records cause → IsUnplanned s group cause
+unplanned_as s group records cause same w = subst (λ (rs : List Record). IsUnplanned s rs cause) same w

@@ -116,7 +116,6 @@ known_after xs i x d r lt is first =
     map_set known xs i x
     ∙ ap (λ (ks : List (List Record)). set (map known xs) i ks) (sym (ap (drop 1) (field_at known xs i d lt is ∙ first)))
 
-
 -- the history's streams are what the lanes gave, after one group more
 pub entered_streams : (old new : List Lane) (before after : List Entry) (i : ℕ) (g : List Record) → i < length old → streams 0 (length old) before ≡ map taken old
     → length new ≡ length old → TookAt i g (map taken old) (map taken new) → after ≡ before ++ entered i (marked g)
@@ -132,8 +131,6 @@ entered_streams old new before after i g lt was count took more =
 pub all_dry : (xs : List Lane) → ((i : ℕ) → i < length xs → IsDry xs i) → AreDry xs
 all_dry [] h = tt
 all_dry (x ∷ xs) h = (h zero (omega arith), all_dry xs (λ i lt. h (suc i) (omega arith)))
-
-
 
 -- one lane further, where no group was taken since the round began
 pub dry_further : (old new : List Lane) (at begun was now : ℕ) → begun ≤ was → was ≤ now → (was ≡ begun → (i : ℕ) → i < at → IsDry old i)

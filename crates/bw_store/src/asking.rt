@@ -1,9 +1,9 @@
 //! What a store answers of itself. None of these calls takes memory.
 
-ghost use Rattle.std.specs.Prelude.{◌≡◌, ◌+◌, Some, None, length, map, slice_get, MatchOption};
+ghost use Rattle.std.specs.Prelude.{◌≡◌, ◌+◌, true, Some, None, length, map, slice_get, MatchOption};
 ghost use Rattle.bw_ring.specs.Ends.{taken};
 ghost use Rattle.bw_log.specs.Segments.{following};
-ghost use Rattle.bw_store.specs.History.{streams};
+ghost use Rattle.bw_store.specs.History.{are_whole, is_grouped, streams};
 
 use crate::store::Store;
 use bw_versions::Entry;
@@ -17,13 +17,18 @@ impl Store {
         ensures value { result.now ≡ (kept_by self.now holding).entries }
         ensures takes { streams 0 (length self.now.intake.lanes.items) result.now
             ≡ map taken self.now.intake.lanes.items }
+
+        // No group is there in part: an entry with `more` is followed by one of the same writer.
+        ensures grouped { is_grouped result.now ≡ true }
     {
         self.intake.history.as_slice()
     }
 
-    /// The history's length at the seal of each frame of this store, the cleaner's too.
+    /// The history's length at the seal of each frame of this store, the cleaner's too. None of them
+    /// stands inside a group.
     pub fn cuts(&self) -> &[u64]
-        ensures { result.now ≡ (kept_by self.now holding).cuts }
+        ensures value { result.now ≡ (kept_by self.now holding).cuts }
+        ensures whole { are_whole result.now (kept_by self.now holding).entries ≡ true }
     {
         self.cuts.as_slice()
     }

@@ -106,12 +106,7 @@ fn file(making: &mut Buffer, newest: &mut Vec<Place>, page: u32, blocks: &[Block
 
 /// Puts the blocks of a group into the frame in the making, all at once, and notes where the last block
 /// of each of its pages stands.
-pub(crate) fn file_all(
-    making: &mut Buffer,
-    newest: &mut Vec<Place>,
-    rows: &[Row],
-    blocks: &[Block],
-)
+pub(crate) fn file_all(making: &mut Buffer, newest: &mut Vec<Place>, rows: &[Row], blocks: &[Block])
     requires unsealed { making.old.is_sealed ≡ false }
     requires some { 1 ≤ length blocks.now }
     requires fits { size_of (with_all making.old blocks.now) ≤ making.old.limit }

@@ -184,7 +184,12 @@ impl Store {
         reserve_all(&mut self.tails, rows)?;
         self.leaves.apply_all_of(group.as_slice())?;
         note_all(&mut self.tails, rows, group.as_slice());
-        file_all(&mut self.making, &mut self.newest, rows, draft.blocks.as_slice());
+        file_all(
+            &mut self.making,
+            &mut self.newest,
+            rows,
+            draft.blocks.as_slice(),
+        );
         self.intake.enter(lane, group);
         Ok(())
     }

@@ -80,7 +80,13 @@ fn upper_of(
 }
 
 // The blocks of a record of a page. No memory is taken.
-pub(crate) fn blocks_of(page: u32, back: Place, here: Place, item: &Record, upper: Option<Leaf>) -> Blocks
+pub(crate) fn blocks_of(
+    page: u32,
+    back: Place,
+    here: Place,
+    item: &Record,
+    upper: Option<Leaf>,
+) -> Blocks
     ensures { listed result ≡ planned page back here item.now upper }
 {
     let delta = Block::Delta {

@@ -1,4 +1,4 @@
-use Rattle.std.proofs.Common.{◌+◌, ◌-◌, refl, sym, ap, ◌∙◌, subst, arith, length, drop, map}
+use Rattle.std.proofs.Common.{◌+◌, ◌-◌, refl, sym, ap, ◌∙◌, subst, arith, length, drop, get_or, None}
 use Rattle.std.specs.List.{AllByRecursion}
 use Rattle.bw_store.specs.Drafting.{AreIn}
 use Rattle.bw_store.specs.Tails.{tail_of, HasRoomsAt}
@@ -26,7 +26,8 @@ rows-preserved c =
       rest = tails_rest c.args.rows.now c.args.records.now c.rows.at _ c.index-records-at.result _ _ c.is_some.result lt is (omega arith) c.index-records-at.is
           c.is_some.ensures c.note.ensures.value ∙ i.rest;
       inside = subst (λ n. AreIn n (drop (c.rows.at + 1) c.args.rows.now))
-          (sym (tails_length c.rows.tails.items c.note.new.tails.items _ c.index-records-at.result c.is_some.result c.is_some.ensures c.note.ensures.value))
+          (sym (tails_length c.rows.tails.items c.note.new.tails.items
+          (get_or c.args.rows.now c.rows.at (record { page = 0; made = None; place = record { frame = 0; index = 0 } })) c.index-records-at.result c.is_some.result c.is_some.ensures c.note.ensures.value))
           (in_rest _ c.args.rows.now c.rows.at _ lt is i.inside);
       room = omega arith;
       links = rooms_less c.args.rows.now c.rows.tails.items c.note.new.tails.items (length c.args.rows.now - (c.rows.at + 1)) c.note.ensures.links
