@@ -151,7 +151,8 @@ fn fails(fault: Option<StoreFault>, told: StoreFault) -> Result<bool, StoreFault
     }
 }
 
-fn has(store: &mut Store, key: &[u8], value: &[u8]) -> Result<bool, StoreFault>
+/// Whether a key has a value, by itself and as the first from it on.
+fn has(alloc: Global, store: &mut Store, key: &[u8], value: &[u8]) -> Result<bool, StoreFault>
     requires { IsSound store.old holding }
     ensures sound { IsSound store.new holding }
     ensures rings { (kept_by store.new holding).rings ≡ (kept_by store.old holding).rings }
@@ -159,10 +160,16 @@ fn has(store: &mut Store, key: &[u8], value: &[u8]) -> Result<bool, StoreFault>
     let Ok(key) = Key::new(key) else {
         return Ok(false);
     };
-    match store.get(&key)? {
-        Some(found) => Ok(found.as_slice() == value),
-        None => Ok(false),
-    }
+    let Some(found) = store.get(&key)? else {
+        return Ok(false);
+    };
+    let mut first = Vec::new(alloc);
+    store.scan(&key, 1, &mut first)?;
+    let is_first = match first.as_slice().first() {
+        Some((at, there)) => at.as_slice() == key.as_slice() && there.as_slice() == value,
+        None => false,
+    };
+    Ok(found.as_slice() == value && is_first)
 }
 
 /// A reader that is made sees this.
@@ -235,7 +242,7 @@ fn tries<R: Wait>(
         Settle(entries) => Ok(store.settle(rt, feeds)? == *entries),
         Page(page, text) => reads(store, *page, *text),
         PageFails(page, told) => fails(store.page(*page).err(), *told),
-        Get(key, value) => has(store, *key, *value),
+        Get(key, value) => has(alloc, store, *key, *value),
         NewSees(key, value) => new_sees(store, *key, *value),
         Clean(segment, lease, pages, frames) => {
             let told = Cleaned {
