@@ -1,29 +1,22 @@
 -- One record more is planned: what a look at the rows tells is what the places and blocks behind it are.
 
-use Rattle.std.proofs.Common.{◌≡◌, ◌≢◌, ℕ, zero, suc, ◌+◌, ◌-◌, ◌<◌, ◌≤◌, Bool, true, false, Option, Some, None, List, [], ◌∷◌, ◌++◌}
+use Rattle.std.proofs.Common.{◌≡◌, ◌≢◌, ℕ, ◌+◌, ◌-◌, ◌≤◌, Bool, true, false, Option, Some, None, List, [], ◌∷◌, ◌++◌}
 use Rattle.std.proofs.Common.{length, set, refl, sym, ap, ◌∙◌, subst, arith, if◌then◌else◌, length-append}
 use Rattle.std.specs.Prelude.{nat_le, ◌==◌, ◌||◌, unwrap_or, slice_get}
-use Rattle.std.specs.List.{fold, AllByRecursion as All}
 use Rattle.std.proofs.lemmas.Bool.{eqb-true, eqb-false, leb-true, leb-false}
 use Rattle.std.proofs.lemmas.Grind.{fold-append}
 use Rattle.bw_codec.specs.Grammar.{IsOp}
 use Rattle.bw_codec.specs.declared.record.Record.{Record}
 use Rattle.bw_codec.specs.declared.leaf.Leaf.{Leaf}
 use Rattle.bw_codec.specs.declared.block.Place.{Place}
-use Rattle.bw_codec.specs.declared.block.Frame.{Frame}
 use Rattle.bw_codec.specs.declared.block.Block.{Block}
-use Rattle.bw_codec.specs.declared.block.Block.TheVariants.{Delta, Base, Split}
+use Rattle.bw_codec.specs.declared.block.Block.TheVariants.{Delta, Split}
 use Rattle.bw_page.specs.Leaves.{applied, directed_at, upper_of, AreLeaves}
-use Rattle.bw_buffer.specs.Filling.{Filling, frame_of}
-use Rattle.bw_buffer.specs.Joining.{joins, joined, added, is_delta, ops_added, joined_by}
+use Rattle.bw_buffer.specs.Joining.{joins, joined, added, joined_by}
 use Rattle.bw_buffer.proofs.Growing.{joins_push, joins_ops}
 use Rattle.bw_store.specs.declared.drafting.Row.{Row}
-use Rattle.bw_store.specs.declared.drafting.Draft.{Draft}
-use Rattle.bw_store.specs.Adding.{Drawn, count_after, here_for, last_for, result_of, upper_if, planned, nowhere, back_in, blocks_for, blocks_in, blocks_all, drawn_by}
-use Rattle.bw_store.specs.Drafting.{Added, IsAhead, count_with, drawn_behind, index_if, is_row_of, open_by, open_in, place_by, place_in, place_with, row_by, row_for, row_in, rows_all}
-use Rattle.bw_store.specs.Fitting.{drawn_of}
-use Rattle.bw_store.specs.Kept.{Kept}
-use Rattle.bw_store.proofs.Drafts.{blocks_push, rows_push}
+use Rattle.bw_store.specs.Adding.{Drawn, count_after, here_for, last_for, result_of, upper_if, planned, back_in, blocks_for, drawn_by}
+use Rattle.bw_store.specs.Drafting.{count_with, is_row_of, open_by, open_in, place_by, place_in, row_by, row_for, row_in}
 use Rattle.bw_store.proofs.Placing.{set_newest, push_newest, delta_end}
 use Rattle.bw_store.proofs.Stepping.{length-applied}
 

@@ -1,36 +1,36 @@
 -- One record more is planned behind those of its group before it, and the store would be sound behind it.
 
-use Rattle.std.proofs.Common.{◌≡◌, ℕ, zero, suc, ◌+◌, ◌-◌, ◌*◌, ◌^◌, ◌<◌, ◌≤◌, Bool, true, false, Option, Some, None, List, [], ◌∷◌, ◌++◌}
-use Rattle.std.proofs.Common.{length, map, take, drop, get_or, refl, sym, ap, ◌∙◌, subst, arith, if◌then◌else◌, length-append, append-nil, append_assoc}
+use Rattle.std.proofs.Common.{◌≡◌, ℕ, zero, suc, ◌+◌, ◌-◌, ◌^◌, ◌<◌, ◌≤◌, Option, Some, None, List, [], ◌∷◌, ◌++◌}
+use Rattle.std.proofs.Common.{length, map, refl, sym, ap, ◌∙◌, subst, arith}
 use Rattle.std.proofs.lemmas.List.{map-append}
-use Rattle.std.specs.Prelude.{nat_le, unwrap_or, slice_get}
-use Rattle.std.specs.List.{AllByRecursion as All, fold}
+use Rattle.std.specs.Prelude.{unwrap_or, slice_get}
+use Rattle.std.specs.List.{AllByRecursion as All}
 use Rattle.std.proofs.lemmas.Grind.{fold-append}
-use Rattle.bw_codec.specs.Grammar.{IsBlock, IsOp, body_bytes}
+use Rattle.bw_codec.specs.Grammar.{IsBlock, IsOp}
 use Rattle.bw_codec.specs.Record.{key_of}
 use Rattle.bw_codec.specs.declared.record.Record.{Record}
 use Rattle.bw_codec.specs.declared.leaf.Leaf.{Leaf}
 use Rattle.bw_codec.specs.declared.block.Place.{Place}
 use Rattle.bw_codec.specs.declared.block.Block.{Block}
 use Rattle.bw_codec.proofs.Wider.{blocks_wider}
-use Rattle.bw_page.specs.Leaves.{applied, directed_at, pages, HasPage, HasPages, AreLeaves}
+use Rattle.bw_page.specs.Leaves.{directed_at, HasPage, AreLeaves}
 use Rattle.bw_page.proofs.Indexed.{home_within}
 use Rattle.bw_store.proofs.Joins.{all-append}
 use Rattle.bw_buffer.specs.Filling.{Filling, frame_of, with_all, size_of}
-use Rattle.bw_buffer.specs.Joining.{joins, joined, added}
+use Rattle.bw_buffer.specs.Joining.{joins}
 use Rattle.bw_buffer.proofs.Holding.{few_blocks}
 use Rattle.bw_log.specs.Contents as logs
 use Rattle.bw_log.proofs.Adding.{following_is}
-use Rattle.bw_ring.specs.Marks.{Marked, marked}
+use Rattle.bw_ring.specs.Marks.{Marked}
 use Rattle.bw_store.specs.declared.drafting.Row.{Row}
 use Rattle.bw_store.specs.declared.drafting.Draft.{Draft}
-use Rattle.bw_store.specs.Adding.{Drawn, back_in, blocks_in, blocks_all, blocks_for, count_after, drawn_by, here_for, last_for, nowhere, planned, result_of, upper_if}
-use Rattle.bw_store.specs.Drafting.{Added, IsAhead, Stands, behind, count_with, drawn_behind, open_in, place_by, place_in, place_with, row_by, row_for, row_in, rows_all}
-use Rattle.bw_store.specs.Fitting.{Fits, back_for, drawn_of, group_blocks, here_at}
+use Rattle.bw_store.specs.Adding.{Drawn, back_in, blocks_in, count_after, drawn_by, here_for, last_for, nowhere, planned, result_of, upper_if}
+use Rattle.bw_store.specs.Drafting.{Added, IsAhead, Stands, behind, count_with, drawn_behind, open_in, place_by, place_in, place_with, row_by, row_for, row_in}
+use Rattle.bw_store.specs.Fitting.{back_for, drawn_of, group_blocks}
 use Rattle.bw_store.specs.Kept.{Kept, IsSound}
 use Rattle.bw_store.specs.Taken.{alone, taken, taken_all}
 use Rattle.bw_store.proofs.Ahead.{Knows, knows_more, count_more, planned_for_is}
-use Rattle.bw_store.proofs.Drafts.{items, items_alone, drawn_all, filed_m, made_all, blocks_push, rows_push, taken_push, part_shorter}
+use Rattle.bw_store.proofs.Drafts.{items_alone, drawn_all, filed_m, made_all, blocks_push, rows_push, taken_push}
 use Rattle.bw_store.proofs.Growing.{Takes, blocks_lawful}
 use Rattle.bw_store.proofs.Planned.{takes_by}
 use Rattle.bw_store.proofs.RecordMore.{TakesOne, taken_sound}

@@ -1,24 +1,18 @@
 -- A group is planned record by record, each on the pages, places and blocks behind those before it.
 
-use Rattle.std.proofs.Common.{◌≡◌, ◌≢◌, ℕ, zero, suc, ◌+◌, ◌-◌, ◌*◌, ◌^◌, ◌<◌, ◌≤◌, Bool, true, false, Option, Some, None, List, [], ◌∷◌, ◌++◌}
-use Rattle.std.proofs.Common.{length, map, set, take, drop, refl, sym, ap, ◌∙◌, subst, arith, if◌then◌else◌, length-append, append-nil, append_assoc}
-use Rattle.std.specs.Prelude.{nat_le, ◌==◌, ◌||◌, unwrap_or, slice_get}
-use Rattle.std.specs.List.{AllByRecursion as All, fold}
+use Rattle.std.proofs.Common.{◌≡◌, ℕ, ◌≤◌, List, [], ◌∷◌, ◌++◌}
+use Rattle.std.proofs.Common.{map, refl, sym, ap, ◌∙◌, arith, append-nil, append_assoc}
+use Rattle.std.specs.List.{fold}
 use Rattle.std.proofs.lemmas.Grind.{fold-append}
-use Rattle.bw_codec.specs.Grammar.{IsBlock, IsOp}
 use Rattle.bw_codec.specs.declared.record.Record.{Record}
-use Rattle.bw_codec.specs.declared.leaf.Leaf.{Leaf}
-use Rattle.bw_codec.specs.declared.block.Place.{Place}
 use Rattle.bw_codec.specs.declared.block.Block.{Block}
-use Rattle.bw_codec.specs.declared.block.Frame.{Frame}
-use Rattle.bw_page.specs.Leaves.{applied, directed_at, pages}
-use Rattle.bw_buffer.specs.Filling.{Filling, frame_of, with_all, size_of}
+use Rattle.bw_page.specs.Leaves.{pages}
+use Rattle.bw_buffer.specs.Filling.{Filling, with_all, size_of}
 use Rattle.bw_buffer.specs.Joining.{joined, added}
 use Rattle.bw_buffer.proofs.Sizes.{added_longer}
-use Rattle.bw_log.specs.Contents as logs
 use Rattle.bw_ring.specs.Marks.{Marked, marked}
 use Rattle.bw_store.specs.Adding.{Drawn, blocks_in, blocks_all, drawn_by}
-use Rattle.bw_store.specs.Drafting.{behind, drawn_behind, row_for, rows_all}
+use Rattle.bw_store.specs.Drafting.{drawn_behind, row_for, rows_all}
 use Rattle.bw_store.specs.declared.drafting.Row.{Row}
 use Rattle.bw_store.specs.Fitting.{drawn_of, group_blocks, back_for}
 use Rattle.bw_store.specs.Kept.{Kept}

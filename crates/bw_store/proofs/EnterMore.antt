@@ -1,7 +1,7 @@
 -- What entering a group asks of its growths, and the store behind it.
 
-use Rattle.std.proofs.Common.{◌≡◌, ℕ, zero, suc, ◌+◌, ◌-◌, ◌*◌, ◌^◌, ◌<◌, ◌≤◌, Bool, true, false, Option, Some, None, Result, Ok, Err, List, [], ◌∷◌, ◌++◌}
-use Rattle.std.proofs.Common.{length, map, refl, sym, ap, ◌∙◌, subst, arith, if◌then◌else◌, length-append}
+use Rattle.std.proofs.Common.{◌≡◌, ℕ, ◌+◌, ◌<◌, ◌≤◌, true, false, Option, Some, None, Result, List, [], ◌∷◌, ◌++◌}
+use Rattle.std.proofs.Common.{length, refl, sym, ap, ◌∙◌, subst, arith, if◌then◌else◌, length-append}
 use Rattle.std.specs.Prelude.{nat_le, IfErr, OnOk, OnErr, MatchOption}
 use Rattle.std.specs.List.{AllByRecursion as All, fold}
 use Rattle.bw_codec.specs.Grammar.{IsBlock, IsOp, body_bytes}
@@ -9,15 +9,15 @@ use Rattle.bw_codec.specs.declared.record.Record.{Record}
 use Rattle.bw_codec.specs.declared.leaf.Leaf.{Leaf}
 use Rattle.bw_codec.specs.declared.block.Place.{Place}
 use Rattle.bw_codec.specs.declared.block.Block.{Block}
-use Rattle.bw_codec.specs.declared.block.Block.TheVariants.{Delta, Base, Split}
+use Rattle.bw_codec.specs.declared.block.Block.TheVariants.{Delta, Split}
 use Rattle.bw_page.specs.declared.fault.ApplyError.{ApplyError}
 use Rattle.bw_page.specs.declared.fault.ApplyError.TheVariants as apply
 use Rattle.bw_page.specs.Batch.{AreHere, SomeIsSpent}
 use Rattle.bw_page.specs.Leaves.{directed_at, pages, upper_of, HasPages}
 use Rattle.bw_page.specs.Seats.{is_among}
-use Rattle.bw_page.specs.Shown.{Shown, run}
-use Rattle.bw_buffer.specs.Filling.{Filling, frame_of, with_all, size_of}
-use Rattle.bw_ring.specs.Marks.{Marked, marked}
+use Rattle.bw_page.specs.Shown.{Shown}
+use Rattle.bw_buffer.specs.Filling.{Filling, with_all, size_of}
+use Rattle.bw_ring.specs.Marks.{marked}
 use Rattle.bw_ring.specs.Ends.{Ring}
 use Rattle.bw_versions.specs.declared.entry.Entry.{Entry}
 use Rattle.std.proofs.lemmas.Grind.{fold-append}
@@ -29,14 +29,14 @@ use Rattle.bw_store.specs.Drafting.{AreIn, IsDraft, drawn_behind, rows_all, set_
 use Rattle.bw_store.specs.Fitting.{Fits, drawn_of, group_blocks}
 use Rattle.bw_store.specs.History.{entered}
 use Rattle.bw_store.specs.Kept.{Kept, Filed, IsSound}
-use Rattle.bw_store.specs.Tails.{tail_of, tails_for, is_made, HasRoomsAt, Tailed}
+use Rattle.bw_store.specs.Tails.{tails_for, is_made}
 use Rattle.bw_store.specs.Faults.{fault_of_apply}
 use Rattle.bw_store.specs.Taken.{taken_all}
 use Rattle.bw_store.specs.declared.fault.StoreFault.{StoreFault}
 use Rattle.bw_store.specs.Taking.{GroupLeaves, IsUnplanned, IsWanting, MakesRoom, Works}
 use Rattle.bw_store.proofs.Planned.{entered_or_not}
-use Rattle.bw_store.proofs.Drafts.{items, items_marked, leaves_all, made_all}
-use Rattle.bw_store.proofs.GroupMore.{Lawful, rows_in, rows_set, rows_tails, rows_away, length_rows, rows_from, fewer_rooms, fresh_fits, spent_pages, taken_is, taken_all_sound}
+use Rattle.bw_store.proofs.Drafts.{items_marked, leaves_all, made_all}
+use Rattle.bw_store.proofs.GroupMore.{Lawful, rows_in, rows_set, rows_tails, rows_away, length_rows, rows_from, fresh_fits, spent_pages, taken_is, taken_all_sound}
 
 -- the records of a sound store are lawful where there is a number for each page that they make
 pub lawful_of : (s : Kept) (group : List Record) → IsSound s → HasPages s.filed.m s.filed.leaves group → All IsOp group

@@ -1,43 +1,40 @@
 -- A group is entered whole: what it leaves in the tails, the places, the blocks and the history.
 
-use Rattle.std.proofs.Common.{◌≡◌, ℕ, zero, suc, ◌+◌, ◌-◌, ◌*◌, ◌^◌, ◌<◌, ◌≤◌, Bool, true, false, inl, inr, Option, Some, None, Result, Ok, Err, List, [], ◌∷◌, ◌++◌}
-use Rattle.std.proofs.Common.{length, map, set, take, drop, refl, sym, ap, ◌∙◌, subst, arith, if◌then◌else◌, length-append, append-nil, append_assoc}
-use Rattle.std.specs.Prelude.{nat_le, nat_lt, is_some, unwrap_or, slice_get, IfSome}
+use Rattle.std.proofs.Common.{◌≡◌, ℕ, suc, ◌+◌, ◌-◌, ◌*◌, ◌<◌, ◌≤◌, Bool, true, false, Option, Some, None, List, [], ◌∷◌, ◌++◌}
+use Rattle.std.proofs.Common.{length, map, set, take, refl, sym, ap, ◌∙◌, subst, arith, if◌then◌else◌, append-nil, append_assoc}
+use Rattle.std.specs.Prelude.{nat_le, nat_lt, is_some, IfSome}
 use Rattle.std.specs.List.{AllByRecursion as All, fold, slice_index_or}
 use Rattle.std.proofs.lemmas.Grind.{fold-append}
-use Rattle.std.proofs.lemmas.Bool.{leb-true, leb-false}
-use Rattle.bw_codec.specs.Grammar.{IsBlock, IsOp}
+use Rattle.bw_codec.specs.Grammar.{IsOp}
 use Rattle.bw_codec.specs.Record.{key_of}
 use Rattle.bw_codec.specs.declared.record.Record.{Record}
 use Rattle.bw_codec.specs.declared.leaf.Leaf.{Leaf}
 use Rattle.bw_codec.specs.declared.block.Place.{Place}
 use Rattle.bw_codec.specs.declared.block.Block.{Block}
-use Rattle.bw_codec.specs.declared.block.Block.TheVariants.{Delta, Base, Split}
+use Rattle.bw_codec.specs.declared.block.Block.TheVariants.{Delta, Split}
 use Rattle.bw_page.specs.Batch.{AreHere, SomeIsSpent}
-use Rattle.bw_page.specs.Leaves.{applied, directed_at, home, pages, upper_of, HasPage, HasPages, AreLeaves}
+use Rattle.bw_page.specs.Leaves.{applied, directed_at, pages, upper_of, HasPages, AreLeaves}
 use Rattle.bw_page.specs.Seats.{is_among}
-use Rattle.bw_page.specs.Shown.{Shown, IsHere, run}
+use Rattle.bw_page.specs.Shown.{Shown}
 use Rattle.bw_page.proofs.Indexed.{home_within}
 use Rattle.bw_page.proofs.Law.{applied-lawful}
-use Rattle.bw_buffer.specs.Filling.{Filling, frame_of, with_all, size_of}
+use Rattle.bw_buffer.specs.Filling.{frame_of, with_all, size_of}
 use Rattle.bw_buffer.specs.Joining.{joined, added}
 use Rattle.bw_log.proofs.Adding.{following_is}
-use Rattle.bw_ring.specs.Marks.{Marked, marked}
-use Rattle.bw_ring.specs.Ends.{Ring}
+use Rattle.bw_ring.specs.Marks.{Marked}
 use Rattle.bw_versions.specs.declared.entry.Entry.{Entry}
 use Rattle.bw_store.specs.declared.drafting.Row.{Row}
-use Rattle.bw_store.specs.declared.drafting.Draft.{Draft}
 use Rattle.bw_store.specs.Adding.{Drawn, back_in, blocks_in, blocks_all, blocks_for, drawn_by, here_for, last_for, nowhere, result_of, upper_if}
-use Rattle.bw_store.specs.Drafting.{AreIn, IsDraft, count_by, drawn_behind, row_by, row_for, rows_all, set_row, tails_all}
+use Rattle.bw_store.specs.Drafting.{AreIn, count_by, drawn_behind, row_by, row_for, rows_all, set_row, tails_all}
 use Rattle.bw_store.specs.Fitting.{Fits, back_for, drawn_of, group_blocks, here_at}
 use Rattle.bw_store.specs.History.{entered}
-use Rattle.bw_store.specs.Kept.{Kept, Filed, IsSound}
+use Rattle.bw_store.specs.Kept.{Kept, IsSound}
 use Rattle.bw_store.specs.Tails.{HasRoomsAt, Tailed, tails_after, tails_for, is_made}
 use Rattle.bw_store.specs.Taken.{alone, taken, taken_all}
 use Rattle.bw_store.specs.Taking.{HasAllPages}
 use Rattle.bw_store.proofs.AwayPages.{tails_entered, away_entered}
 use Rattle.bw_store.proofs.Drafted.{some_at, none_at}
-use Rattle.bw_store.proofs.Drafts.{items, items_marked, drawn_all, made_all, part_shorter, leaves_all}
+use Rattle.bw_store.proofs.Drafts.{items, made_all, part_shorter}
 use Rattle.bw_log.specs.Contents as logs
 use Rattle.bw_store.proofs.Growing.{blocks_lawful}
 use Rattle.bw_store.proofs.Joins.{added_shorter}

@@ -1,13 +1,13 @@
 -- A group is entered whole.
 
-use Rattle.std.proofs.Common.{◌≡◌, ℕ, zero, suc, ◌+◌, ◌*◌, ◌<◌, ◌≤◌, Bool, true, false, List, [], ◌∷◌, ◌++◌, length, take, map, replicate, refl, sym, ap, ◌∙◌, subst, arith, append-nil, if◌then◌else◌, append_assoc, length-append}
+use Rattle.std.proofs.Common.{◌≡◌, ℕ, zero, suc, ◌+◌, ◌≤◌, Bool, true, false, List, [], ◌∷◌, ◌++◌, length, take, replicate, refl, sym, ap, ◌∙◌, arith, append-nil, if◌then◌else◌, append_assoc}
 use Rattle.std.specs.Prelude.{◌==◌, ◌&&◌, not}
 use Rattle.std.specs.List.{AllByRecursion as All}
 use Rattle.std.proofs.Math.Seq.{take-length}
 use Rattle.std.proofs.lemmas.List.{take-append-le}
 use Rattle.std.proofs.lemmas.Bool.{eq-eqb}
 use Rattle.bw_codec.specs.declared.record.Record.{Record}
-use Rattle.bw_ring.specs.Marks.{Marked, marked}
+use Rattle.bw_ring.specs.Marks.{marked}
 use Rattle.bw_versions.specs.declared.entry.Entry.{Entry}
 use Rattle.bw_store.specs.History.{entered, is_grouped, are_whole, ends_in}
 use Rattle.bw_store.specs.Kept.{AreCuts}

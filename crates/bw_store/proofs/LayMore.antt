@@ -11,7 +11,7 @@ use Rattle.bw_codec.specs.declared.leaf.Leaf.{Leaf}
 use Rattle.bw_codec.specs.declared.block.Block.{Block}
 use Rattle.bw_page.specs.declared.leaves.batch.Step.{Step}
 use Rattle.bw_page.specs.Batch.{step_of, steps_of}
-use Rattle.bw_page.specs.Leaves.{applied, directed_at, pages, HasPage, HasPages}
+use Rattle.bw_page.specs.Leaves.{applied, pages, HasPage, HasPages}
 use Rattle.bw_page.specs.Shown.{Shown, after_record, run}
 use Rattle.bw_buffer.specs.Filling.{Filling, with_all, size_of}
 use Rattle.bw_store.specs.declared.drafting.Draft.{Draft}

@@ -1,7 +1,7 @@
 -- Row after row of a group is noted.
 
 use Rattle.std.proofs.Common.{◌≡◌, ℕ, Bool, map, length-set, length-append, zero, suc, ◌+◌, ◌-◌, ◌<◌, ◌≤◌, Option, Some, None, List, [], ◌∷◌, ◌++◌, length, set, take, drop, get_or, refl, sym, ap, ◌∙◌, subst, arith}
-use Rattle.std.specs.Prelude.{is_some, IfSome, slice_set}
+use Rattle.std.specs.Prelude.{is_some, IfSome}
 use Rattle.std.specs.List.{AllByRecursion as All, fold, slice_index_or}
 use Rattle.std.proofs.lemmas.List.{take_more, drop_more, length-map}
 use Rattle.bw_codec.specs.declared.record.Record.{Record}

@@ -1,4 +1,4 @@
-use Rattle.std.proofs.Common.{◌+◌, refl, sym, ap, ◌∙◌, subst, arith, length, drop}
+use Rattle.std.proofs.Common.{◌+◌, refl, sym, ◌∙◌, subst, arith, drop}
 use Rattle.bw_store.specs.Drafting.{AreIn}
 use Rattle.bw_store.proofs.RowsMore.{got, in_here, in_rest, set_rest, set_end}
 use Rattle.bw_store.proofs.entering.set_all.Goals as goal

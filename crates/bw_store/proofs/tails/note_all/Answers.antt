@@ -1,7 +1,7 @@
-use Rattle.std.proofs.Common.{◌+◌, ◌-◌, refl, sym, ap, ◌∙◌, subst, arith, length, drop, get_or, None}
+use Rattle.std.proofs.Common.{◌+◌, ◌-◌, refl, sym, ◌∙◌, subst, arith, length, drop, get_or, None}
 use Rattle.std.specs.List.{AllByRecursion}
 use Rattle.bw_store.specs.Drafting.{AreIn}
-use Rattle.bw_store.specs.Tails.{tail_of, HasRoomsAt}
+use Rattle.bw_store.specs.Tails.{HasRoomsAt}
 use Rattle.bw_store.proofs.RowsMore.{got, in_here, in_rest, all_at, less_none, less_more, tails_rest, tails_end, tails_length, room_one, rooms_less}
 use Rattle.bw_store.proofs.tails.note_all.Goals as goal
 

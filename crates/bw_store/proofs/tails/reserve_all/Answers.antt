@@ -1,7 +1,6 @@
 use Rattle.std.proofs.Common.{◌-◌, ◌∙◌, refl, ap, map, arith}
-use Rattle.std.proofs.lemmas.Result.{err_from_is_err_and}
 use Rattle.bw_store.specs.Tails.{tail_of, HasRoomsAt}
-use Rattle.bw_store.proofs.RowsMore.{all_at, all_by, all_first, all_push, got}
+use Rattle.bw_store.proofs.RowsMore.{all_by, all_first, all_push, got}
 use Rattle.bw_store.proofs.tails.reserve_all.Goals as goal
 
 pub rows-init : goal.rows-init

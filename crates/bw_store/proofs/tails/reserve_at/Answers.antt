@@ -1,5 +1,3 @@
-use Rattle.std.proofs.Common.{arith}
-use Rattle.bw_store.proofs.RowsMore.{rooms_kept, room_here, room_beyond}
 use Rattle.bw_store.proofs.TailLists.{set_same}
 use Rattle.bw_store.proofs.tails.reserve_at.Goals as goal
 

@@ -3,7 +3,6 @@ use Rattle.bw_store.proofs.Grouped.{entered_grouped}
 use Rattle.bw_store.proofs.intake.Intake.enter.Goals as goal
 use Rattle.std.proofs.Common.{ap, ◌∙◌, ◌++◌, List}
 use Rattle.bw_ring.specs.Marks.{marked}
-use Rattle.bw_versions.specs.declared.entry.Entry.{Entry}
 use Rattle.bw_store.specs.History.{entered}
 use Rattle.bw_codec.specs.declared.record.Record.{Record}
 

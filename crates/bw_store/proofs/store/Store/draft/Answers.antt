@@ -1,6 +1,5 @@
 use Rattle.std.proofs.Common.{Err, refl, ap}
 use Rattle.std.proofs.lemmas.Result.{err_from_is_err_and}
-use Rattle.bw_page.specs.Batch.{SomeIsSpent}
 use Rattle.bw_page.specs.declared.fault.ApplyError.{ApplyError}
 use Rattle.bw_store.specs.Views.{kept_by}
 use Rattle.bw_store.proofs.EnterMore.{wanting_of}

@@ -1,4 +1,4 @@
-use Rattle.std.proofs.Common.{◌≡◌, take}
+use Rattle.std.proofs.Common.{take}
 use Rattle.bw_store.specs.Drafting.{IsAhead, Stands}
 use Rattle.bw_store.specs.Views.{kept_by}
 use Rattle.bw_store.proofs.store.Store.lay.Given as goal

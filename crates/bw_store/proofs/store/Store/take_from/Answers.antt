@@ -1,4 +1,3 @@
-use Rattle.std.proofs.Common.{ap}
 use Rattle.bw_store.proofs.Planned.{take_some}
 use Rattle.bw_store.proofs.store.Store.take_from.Goals as goal
 

@@ -1,6 +1,5 @@
-use Rattle.std.proofs.Common.{inl, ap, ◌∙◌, arith}
+use Rattle.std.proofs.Common.{inl, arith}
 use Rattle.std.proofs.lemmas.Result.{err_from_is_err_and}
-use Rattle.bw_store.specs.Kept.{Kept}
 use Rattle.bw_store.specs.Views.{kept_by}
 use Rattle.bw_store.proofs.EnterMore.{drafted_left}
 use Rattle.bw_store.proofs.Refusing.{stopped_unplanned, unplanned_now}

@@ -1,4 +1,4 @@
-use Rattle.std.proofs.Common.{◌≤◌, ℕ, refl, sym, subst, arith}
+use Rattle.std.proofs.Common.{refl, arith}
 use Rattle.std.proofs.lemmas.Result.{err_from_is_err_and}
 use Rattle.bw_store.proofs.FollowMore.{no_groups, refused_turned}
 use Rattle.bw_store.proofs.store.Store.turn.Goals as goal
