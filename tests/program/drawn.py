@@ -3,7 +3,7 @@
 
 It takes the program to run (none: the one that `rt ci` or `make run` leaves under out/). A subject has one or more
 lives: runs of `replay`, over memory or over a folder in which each life goes on from what the one before left. Its lines are drawn from a
-seed: puts and deletes of two writers, turns, flushes, evictions, gets, pages, rolls, cleanings. A call that wants a segment is made again behind
+seed: puts and deletes of two writers, alone and in groups, turns, flushes, evictions, gets, pages, rolls, cleanings. A call that wants a segment is made again behind
 an `add`. The first answer that is not the map's ends the whole with status 1.
 """
 
@@ -99,28 +99,31 @@ class Model:
         else:
             self.values[key] = value
 
-    def put(self, writer, change):
-        """Whether the writer's ring has a place."""
+    def put(self, writer, *changes):
+        """Whether the writer's ring has a place for these changes, which are a group."""
         if len(self.rings[writer]) == self.places:
             return False
-        self.rings[writer].append(change)
+        self.rings[writer].append(changes)
         return True
 
     def take(self, writer):
+        """Takes a group, and tells how many changes it has."""
         check(self.rings[writer], "nothing waits of writer", writer)
-        change = self.rings[writer].popleft()
-        self.entries.append((writer, change))
-        self.set(*change)
+        changes = self.rings[writer].popleft()
+        for change in changes:
+            self.entries.append((writer, change))
+            self.set(*change)
         self.waits = True
+        return len(changes)
 
     def turn(self, limit):
-        """How many a turn takes: in rounds, one of each ring, no more than the limit."""
-        taken = 0
-        while taken < limit and any(self.rings):
+        """How many changes a turn takes: in rounds, a group of each ring, no more groups than the limit."""
+        groups = taken = 0
+        while groups < limit and any(self.rings):
             for writer, ring in enumerate(self.rings):
-                if ring and taken < limit:
-                    self.take(writer)
-                    taken += 1
+                if ring and groups < limit:
+                    taken += self.take(writer)
+                    groups += 1
         return taken
 
     def flush(self):
@@ -220,6 +223,14 @@ class Life:
         told = self.model.put(int(writer), (bytes_of(key), None))
         check(self.next_answer() == ("ok" if told else "full"), line)
 
+    def of_group(self, line, writer, *words):
+        words, changes = list(words), []
+        while words:
+            changes.append((bytes_of(words[1]), bytes_of(words[2]) if words[0] == "put" else None))
+            del words[: 3 if words[0] == "put" else 2]
+        told = self.model.put(int(writer), *changes)
+        check(self.next_answer() == ("ok" if told else "full"), line)
+
     def of_turn(self, line, limit):
         answer = self.next_answer()
         if answer == "refused E5 NoSegment":
@@ -232,8 +243,9 @@ class Life:
         self.lines[self.done + 1 : self.done + 1] = ["history", "add", line]
         self.run()
         count = int(self.answers[self.at].split(" ")[1])
-        for entry in self.answers[self.at + 1 : self.at + 1 + count][len(self.model.entries) - self.model.opened :]:
-            self.model.take(int(entry[0]))
+        came = self.answers[self.at + 1 : self.at + 1 + count][len(self.model.entries) - self.model.opened :]
+        while came:
+            del came[: self.model.take(int(came[0][0]))]
 
     def of_flush(self, line):
         answer = self.next_answer()
@@ -328,6 +340,13 @@ class Life:
         drawn = below(self.draw, self.table.keys)
         return word(key_of(drawn if self.table.are_shared else drawn // 2 * 2 + writer))
 
+    def op(self, writer):
+        """A put or a delete of a group; each put has a value of its own."""
+        if below(self.draw, 4) == 0:
+            return "del " + self.key(writer)
+        self.table.steps_of_groups += 1
+        return "put %s %s" % (self.key(writer), word(value_of(1000000 + self.table.steps_of_groups)))
+
     def drawn(self, card):
         """The lines of a card."""
         self.table.steps += 1
@@ -336,6 +355,8 @@ class Life:
             return ["put %d %s %s" % (writer, self.key(writer), word(value_of(self.table.steps)))]
         if card == "del":
             return ["del %d %s" % (writer, self.key(writer))]
+        if card == "group":
+            return ["group %d %s" % (writer, " ".join(self.op(writer) for _ in range(1 + below(self.draw, 4))))]
         if card.startswith("turn "):
             return ["turn %d" % below(self.draw, int(card[5:]))]
         if card == "evict":
@@ -377,6 +398,7 @@ class Table:
         self.pages = 1
         self.most = max(40, keys)
         self.steps = 0
+        self.steps_of_groups = 0
         self.refusals = 0
 
     def words(self, folder):
@@ -401,7 +423,7 @@ class Table:
         return self.live(plans, folder)
 
 
-SCRIPT = 2 * (["put"] * 8 + ["del"] * 3 + ["turn 6"] * 3 + ["turn 20"] + ["flush"] * 2 + ["evict"] * 3 + ["get", "page", "clean"]) + ["roll"]
+SCRIPT = 2 * (["put"] * 6 + ["group"] * 3 + ["del"] * 2 + ["turn 6"] * 3 + ["turn 20"] + ["flush"] * 2 + ["evict"] * 3 + ["get", "page", "clean"]) + ["roll"]
 
 
 def scripts(program, _folder):
@@ -417,7 +439,7 @@ def scripts(program, _folder):
 
 def cleanings(program, folder):
     """A store of three segments, one of which is given up in each of a hundred rounds, and a new one comes in its place; then another life."""
-    records = ["put"] * 3 + ["del"] * 2 + ["turn 8"] * 2 + ["evict"]
+    records = ["put"] * 2 + ["group", "del"] + ["turn 8"] * 2 + ["evict"]
     for table, place in (
         (Table(program, 11, keys=60, are_shared=False, segments=3), "small"),
         (Table(program, 12, keys=60, are_shared=False, segments=3, m=32), "large"),
@@ -431,7 +453,7 @@ def cleanings(program, folder):
 
 def lives(program, folder):
     """Four lives, at whose ends all is settled."""
-    deck = ["put"] * 5 + ["del"] * 2 + ["turn 6", "turn 20", "flush", "evict", "get", "page", "roll", "clean", "settle"]
+    deck = ["put"] * 4 + ["group"] * 2 + ["del", "turn 6", "turn 20", "flush", "evict", "get", "page", "roll", "clean", "settle"]
     plans = [(2, 200, deck, ["read all", "evict all"]), (1, 20, ["put"], ["settle", "read all"])]
     for table, place in (
         (Table(program, 21, keys=100, are_shared=False, segments=12), "small"),
