@@ -114,13 +114,13 @@ pub(super) fn are_same(
     writer: usize,
     key: &[u8],
     count: u32,
-    length: usize,
+    bytes: usize,
 ) -> bool
     requires { writer < length feeds.old.items }
     ensures { map ring_of_feed feeds.new.items ≡ map ring_of_feed feeds.old.items }
 {
     let value = [b'v'; 128];
-    let Some(value) = value.get(..length) else {
+    let Some(value) = value.get(..bytes) else {
         return false;
     };
     let Ok(item) = record(key, Some(value)) else {
