@@ -1,7 +1,7 @@
 //! Of `bw_ring`, `bw_device`, `bw_log`, `bw_versions` and `bw_drive`.
 
-ghost use Rattle.std.specs.Prelude.{IfOk, IfSome};
-ghost use Rattle.bw_ring.specs.Ends.{IsFeedOf};
+ghost use Rattle.std.specs.Prelude.{◌≡◌, IfOk, IfSome};
+ghost use Rattle.bw_ring.specs.Ends.{IsFeedOf, ring_of_feed};
 ghost use Rattle.bw_care.specs.Found.{IsRecovered};
 ghost use Rattle.bw_care.specs.Views.{IsSound};
 
@@ -56,24 +56,28 @@ pub(super) fn rings(alloc: Global) -> Option<bool> {
     asked(alloc, is_so)
 }
 
-/// A group of two, of which nothing takes memory; the group goes through a ring of four places that has
-/// one left.
+/// Whether a full ring hands a group of two back.
+fn is_handed_back(feed: &mut Feed, group: Group) -> bool
+    ensures { ring_of_feed feed.new ≡ ring_of_feed feed.old }
+{
+    match feed.put_group(group) {
+        Ok(()) => false,
+        Err(FullGroup(back)) => matches!(back.into_items(), Items::Two(_)),
+    }
+}
+
+/// A group of two, of which nothing takes memory; the group goes through a ring of four places.
 fn goes_whole(feed: &mut Feed, lane: &mut Lane, one: Record, other: Record) -> bool
     requires { IsFeedOf feed.old lane.old }
 {
     let mut group = Group::one(one);
     let is_longer = group.push(other).is_ok() && group.len() == 2 && group.get(1).is_some();
-    for _ in 0..4 {
-        if feed.put_group(group.copy()).is_err() {
-            return false;
-        }
-    }
-    let is_full = match feed.put_group(group) {
-        Ok(()) => false,
-        Err(FullGroup(back)) => matches!(back.into_items(), Items::Two(_)),
-    };
+    let are_two = feed.put_group(group.copy()).is_ok() && feed.put_group(group.copy()).is_ok();
+    let are_four = feed.put_group(group.copy()).is_ok() && feed.put_group(group.copy()).is_ok();
+    let is_full = is_handed_back(feed, group);
     let waits = lane.rest_beside(feed) == 4;
-    is_longer && is_full && waits && lane.take().is_some_and(|group| group.len() == 2)
+    let is_put = is_longer && are_two && are_four && is_full && waits;
+    is_put && lane.take().is_some_and(|group| group.len() == 2)
 }
 
 pub(super) fn groups(alloc: Global) -> Option<bool> {
