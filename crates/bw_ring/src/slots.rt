@@ -1,6 +1,6 @@
 //! What the two rings of a writer hold: the first record of each group, and its others.
 
-ghost use Rattle.std.specs.Prelude.{◌≡◌, [], ◌∷◌, MatchOption};
+ghost use Rattle.std.specs.Prelude.{◌≡◌, ◌∷◌};
 ghost use Rattle.bw_ring.specs.Rings.{rest_of};
 
 use crate::group::{Group, Items};
@@ -42,18 +42,5 @@ impl Rest {
             Rest::Two([a, b]) => Rest::Two([a.copy(), b.copy()]),
             Rest::Three([a, b, c]) => Rest::Three([a.copy(), b.copy(), c.copy()]),
         }
-    }
-}
-
-// The first record of a group, and the others where there are some.
-pub(crate) fn split(group: Group) -> (Record, Option<Rest>)
-    ensures { MatchOption result.1 (group ≡ result.0 ∷ [])
-        (λ rest. group ≡ result.0 ∷ rest_of rest) }
-{
-    match group.into_items() {
-        Items::One([a]) => (a, None),
-        Items::Two([a, b]) => (a, Some(Rest::One([b]))),
-        Items::Three([a, b, c]) => (a, Some(Rest::Two([b, c]))),
-        Items::Four([a, b, c, d]) => (a, Some(Rest::Three([b, c, d]))),
     }
 }
