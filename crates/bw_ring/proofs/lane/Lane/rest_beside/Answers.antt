@@ -4,9 +4,12 @@ use Rattle.bw_ring.proofs.Rings.{grouped-begins, rest-whole, all-grouped, all-gi
 use Rattle.bw_ring.proofs.lane.Lane.rest_beside.Goals as goal
 
 pub returns-clause-lane : goal.returns-clause-lane
-returns-clause-lane c = (grind arith, grind arith,
-    grouped-begins c.args.self.now.firsts.end.ahead c.slots_beside-groups.new.self.end.ahead c.args.self.now.rests.end.ahead c.slots_beside.new.self.end.ahead
-    c.slots_beside-groups.ensures.looked.2 c.slots_beside.ensures.looked.2)
+returns-clause-lane c = (
+  grind arith,
+  grind arith,
+  grouped-begins c.args.self.now.firsts.end.ahead c.slots_beside-groups.new.self.end.ahead c.args.self.now.rests.end.ahead c.slots_beside.new.self.end.ahead
+      c.slots_beside-groups.ensures.looked.2 c.slots_beside.ensures.looked.2,
+)
 
 pub returns-clause-value : goal.returns-clause-value
 returns-clause-value c =
