@@ -1,13 +1,13 @@
 //! Lanes and the history: what is taken from a lane stands in the history at once.
 
-ghost use Rattle.std.specs.Prelude.{true, ◌≡◌, ◌≤◌, ◌<◌, ◌+◌, ◌∷◌, ◌++◌, [], length, map, vec_len, IfSome, IfNone, slice_get, OnOk};
+ghost use Rattle.std.specs.Prelude.{true, ◌≡◌, ◌≤◌, ◌<◌, ◌↔◌, ◌+◌, ◌∷◌, ◌++◌, [], length, map, vec_len, IsTrue, IfSome, IfNone, slice_get, OnOk};
 ghost use Rattle.std.specs.Vec.{vec_capacity};
 ghost use mathlib.Core.List.{IsPrefix};
 ghost use Rattle.bw_ring.specs.Ends.{accepted, taken, known, given, ring_of_feed, ring_of_lane};
 ghost use Rattle.bw_ring.specs.Items.{listed};
 ghost use Rattle.bw_ring.specs.Marks.{marked};
 ghost use Rattle.bw_store.specs.History.{streams, entered, is_grouped};
-ghost use Rattle.bw_store.specs.Lanes.{known_at, IsNext, IsWaiting, Dries, TookAt, TookKnown};
+ghost use Rattle.bw_store.specs.Lanes.{IsNext, IsWaiting, Dries, TookAt, TookKnown};
 
 use crate::beside::look_at_all;
 use bw_codec::Record;
@@ -65,13 +65,13 @@ impl Intake {
         look_at_all(&mut self.lanes, feeds)
     }
 
-    /// How many groups a lane knows of. Its ring is not looked at.
-    pub(crate) fn waits(&self, lane: usize) -> usize
+    /// Whether a lane knows of a group. Its ring is not looked at.
+    pub(crate) fn waits(&self, lane: usize) -> bool
         requires { lane < length self.now.lanes.items }
-        ensures { result ≡ length (known_at self.now.lanes.items lane) }
+        ensures { IsTrue result ↔ IsWaiting self.now.lanes.items lane }
     {
         let _ = self.lanes.as_slice().len();
-        self.lanes[lane].waits()
+        self.lanes[lane].is_known()
     }
 
     /// A copy of the group that a lane gives next, which it knows of. Its ring is not looked at.
@@ -81,7 +81,7 @@ impl Intake {
         ensures { IsNext self.now.lanes.items lane result }
     {
         let _ = self.lanes.as_slice().len();
-        self.lanes[lane].peek_known().copy()
+        self.lanes[lane].peek_known()
     }
 
     /// What was taken.
@@ -175,10 +175,7 @@ fn peek_one(lane: &mut Lane) -> Option<Group>
     ensures none { IfNone result (known lane.new ≡ []) }
     ensures kept { 0 < length (known lane.old) → known lane.new ≡ known lane.old }
 {
-    if lane.waits() > 0 {
-        return Some(lane.peek_known().copy());
-    }
-    Some(lane.peek()?.copy())
+    lane.peek()
 }
 
 fn take_at(lanes: &mut Vec<Lane>, at: usize, item: &Group)

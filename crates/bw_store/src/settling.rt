@@ -133,7 +133,7 @@ impl Store {
             (λ cause. RefusedAt (kept_by self.old holding) self.new.intake.lanes.items cause
             (kept_by self.new holding)) }
     {
-        'records: while self.intake.waits(lane) > 0 {
+        'records: while self.intake.waits(lane) {
             self.take_waiting(lane)?;
         }
         Ok(())

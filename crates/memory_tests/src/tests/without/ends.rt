@@ -40,7 +40,7 @@ fn go_through(feed: &mut Feed, lane: &mut Lane, one: Record, other: Record) -> b
     let are_put = feed.room() == 4 && feed.put(one).is_ok() && feed.put(other).is_ok();
     let waits = lane.rest_beside(feed) == 2;
     let is_taken = lane.peek().is_some() && lane.take().is_some();
-    if lane.waits() == 0 {
+    if !lane.is_known() {
         return false;
     }
     let is_known = lane.peek_known().len() == 1;

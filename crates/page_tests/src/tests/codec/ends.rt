@@ -13,7 +13,7 @@ fn peeked_and_taken(lane: &mut Lane) -> Option<(Group, Group)>
     ensures ring { ring_of_lane lane.new ≡ ring_of_lane lane.old }
     ensures same { IfSome result (λ both. both.0 ≡ both.1) }
 {
-    let peeked = lane.peek()?.copy();
+    let peeked = lane.peek()?;
     let taken = lane.take()?;
     Some((peeked, taken))
 }
@@ -23,16 +23,16 @@ fn known_taken(lane: &mut Lane) -> Option<(Group, Group)>
     ensures ring { ring_of_lane lane.new ≡ ring_of_lane lane.old }
     ensures same { IfSome result (λ both. both.0 ≡ both.1) }
 {
-    let peeked = lane.peek()?.copy();
+    let peeked = lane.peek()?;
     Some((peeked, lane.take_known()))
 }
 
 /// The oldest group that is known, without a look at the ring.
 fn known_first(lane: &Lane) -> Option<Group> {
-    if lane.waits() == 0 {
+    if !lane.is_known() {
         return None;
     }
-    Some(lane.peek_known().copy())
+    Some(lane.peek_known())
 }
 
 /// The numbers of a group's records.
@@ -56,8 +56,8 @@ enum Step {
     Both(Numbers),
     /// A peek, and a take of what it showed.
     Known(Numbers),
-    /// How many are known, and the first of them, without a look.
-    Waits(usize, Numbers),
+    /// The first that is known, without a look.
+    First(Numbers),
     Rest(usize),
 }
 
@@ -80,8 +80,7 @@ fn are(groups: Option<(Group, Group)>, told: Numbers) -> bool {
 fn peeks(lane: &mut Lane, told: Numbers) -> bool
     ensures { ring_of_lane lane.new ≡ ring_of_lane lane.old }
 {
-    let shown = lane.peek().map(|item| item.copy());
-    is(shown, told)
+    is(lane.peek(), told)
 }
 
 /// Whether the group of these records is accepted.
@@ -122,7 +121,7 @@ fn goes(feed: &mut Feed, lane: &mut Lane, step: &Step) -> bool
         Step::Take(told) => is(lane.take(), *told),
         Step::Both(told) => are(peeked_and_taken(lane), *told),
         Step::Known(told) => are(known_taken(lane), *told),
-        Step::Waits(count, told) => lane.waits() == *count && is(known_first(lane), *told),
+        Step::First(told) => is(known_first(lane), *told),
         Step::Rest(told) => lane.rest_beside(feed) == *told,
     }
 }
@@ -187,16 +186,16 @@ const LOOKS: &[Step] = &[
 const KNOWN: &[Step] = &[
     Step::Put(1),
     Step::Put(2),
-    Step::Waits(0, &[]),
+    Step::First(&[]),
     Step::Peek(&[1]),
-    Step::Waits(2, &[1]),
+    Step::First(&[1]),
     Step::Put(3),
     Step::Peek(&[1]),
-    Step::Waits(2, &[1]),
+    Step::First(&[1]),
     Step::Take(&[1]),
-    Step::Waits(1, &[2]),
+    Step::First(&[2]),
     Step::Rest(2),
-    Step::Waits(2, &[2]),
+    Step::First(&[2]),
     Step::Known(&[2]),
     Step::Take(&[3]),
 ];
@@ -210,9 +209,9 @@ const GROUPS: &[Step] = &[
     Step::Room(0),
     Step::Full(7),
     Step::FullGroup(&[7, 8, 9]),
-    Step::Waits(0, &[]),
+    Step::First(&[]),
     Step::Peek(&[1, 2]),
-    Step::Waits(2, &[1, 2]),
+    Step::First(&[1, 2]),
     Step::Both(&[1, 2]),
     Step::Group(&[7, 8, 9]),
     Step::Rest(2),

@@ -1,4 +1,4 @@
-use Rattle.std.proofs.Common.{refl, ◌∙◌, arith}
+use Rattle.std.proofs.Common.{refl, ◌∙◌}
 use Rattle.bw_store.proofs.FollowMore.{in_turn_as, any_then}
 use Rattle.bw_store.proofs.Laned.{took_dry, took_fewer}
 use Rattle.bw_store.proofs.store.Store.take_lane.Goals as goal
@@ -19,4 +19,4 @@ records-preserved g c =
 
 pub records-smaller : goal.records-smaller
 records-smaller g c =
-    (let w = c.waits.ensures in let t = c.records-test.true in took_fewer c.args.lane _ _ c.in_ok-take_waiting.ensures.known (omega arith))
+    took_fewer c.args.lane _ _ c.in_ok-take_waiting.ensures.known (c.waits.ensures.0 c.records-test.true)
