@@ -5,6 +5,7 @@ mod boxes;
 mod cleaning;
 mod cutting;
 mod evicting;
+mod forgetting;
 mod grouping;
 mod large;
 mod opening;

@@ -59,6 +59,12 @@ pub(super) enum Step {
     Bytes(u64, &'static str),
     History(&'static str),
     Cuts(&'static [u64], u64),
+    /// How many entries are forgotten by this call, and how many are then.
+    Forget(u64, u64),
+    /// How many records of a writer are durable.
+    Receipt(u16, u64),
+    /// How many pairs there are.
+    Count(u64),
     /// How many segments are live, and how many spares stand.
     Stands(u32, u32),
     Roll,
@@ -67,9 +73,9 @@ pub(super) enum Step {
 }
 
 use Step::{
-    Add, Bytes, Clean, Cuts, Del, Evict, Flush, Full, FullGroup, Get, Group, History, Live, Page,
-    Put, Puts, Reads, Refused, Roll, Same, Settle, Stands, Stops, Turn, Uncleaned, Unread,
-    Unsettled,
+    Add, Bytes, Clean, Count, Cuts, Del, Evict, Flush, Forget, Full, FullGroup, Get, Group,
+    History, Live, Page, Put, Puts, Reads, Receipt, Refused, Roll, Same, Settle, Stands, Stops,
+    Turn, Uncleaned, Unread, Unsettled,
 };
 
 fn are_cuts(cuts: &[u64], told: &[u64]) -> bool {
@@ -158,6 +164,9 @@ fn answers(alloc: Global, store: &mut Store, step: &Step) -> bool
         History(told) => is_history(store.history(), *told),
         Cuts(told, durable) => are_cuts(store.cuts(), *told) & (store.durable() == *durable),
         Stands(live, spares) => (store.live() == *live) & (store.spares() == *spares),
+        Forget(count, all) => (store.forget() == *count) & (store.forgotten() == *all),
+        Receipt(writer, told) => store.durable_of(*writer) == *told,
+        Count(told) => store.count() == Ok(*told),
         _ => false,
     }
 }
