@@ -215,8 +215,8 @@ fn take_apart(
     ensures table { IfOk result (λ r. r.1.items ≡ map at_line pages.items) }
 {
     let mut pages = pages;
-    let mut leaves = Vec::new(alloc);
-    let mut table = Vec::new(alloc);
+    let mut leaves = Vec::with_capacity(alloc, pages.len())?;
+    let mut table = Vec::with_capacity(alloc, pages.len())?;
     pages.reverse();
     'next: while let Some(page) = pages.pop() {
         let (_, line) = page;

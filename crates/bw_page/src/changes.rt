@@ -183,8 +183,8 @@ pub fn add_pairs(
     Ok(())
 }
 
-// Adds copies of pairs, for which there is room.
-fn push_pairs(found: &mut Vec<(Key, Value)>, pairs: &[(Key, Value)])
+/// Adds copies of pairs, for which there is room.
+pub(crate) fn push_pairs(found: &mut Vec<(Key, Value)>, pairs: &[(Key, Value)])
     requires { vec_len found.old + length pairs.now ≤ vec_capacity found.old }
     ensures { found.new.items ≡ found.old.items ++ pairs.now }
 {

@@ -10,6 +10,7 @@ ghost use Rattle.std.specs.Option.{option_map};
 ghost use Rattle.bw_page.specs.Leaves.{changed, all_changed};
 ghost use Rattle.bw_page.specs.Standing.{after, kept_below};
 
+use crate::room::fitted;
 use crate::tree::{ascend, change_tree, cut_tree, row_of, tree_of};
 use crate::{changes, reading};
 use bw_codec::{Block, Key, Leaf, Pairs, Record, Value};
@@ -63,18 +64,19 @@ impl Draft {
         Draft { leaf, tree: None }
     }
 
-    /// The page as a leaf. It takes memory where there are many pairs, whose refusal is the only
-    /// error.
+    /// The page as a leaf, in no more room than its pairs take. It takes memory where there are many
+    /// pairs, whose refusal is the only error.
     pub fn into_leaf(self) -> Result<Leaf, AllocError>
         ensures { IfOk result (λ leaf. leaf ≡ self) }
     {
         let Draft { leaf, tree } = self;
         match tree {
-            None => Ok(leaf),
+            None => Ok(fitted(leaf)),
             Some(tree) => {
                 let page = leaf.page;
                 let (low, pairs) = leaf.into_parts();
-                let row = row_of(pairs.into_vec(), tree)?;
+                let mut row = row_of(pairs.into_vec(), tree)?;
+                row.shrink_to_fit();
                 Ok(Leaf {
                     page,
                     low,

@@ -12,11 +12,12 @@ ghost use Rattle.bw_page.specs.LowHeads.{page_of_low};
 ghost use Rattle.bw_page.specs.Seats.{is_among};
 
 use crate::lows::LowIndex;
+use crate::room::fitted_copy;
 use crate::seats::Seats;
 use bw_codec::{Key, Leaf};
 use std::alloc::{AllocError, Global};
 
-/// The same leaves.
+/// The same leaves, each in no more room than it needs.
 pub(crate) fn copy_all(alloc: Global, leaves: &Seats) -> Result<Vec<Leaf>, AllocError>
     requires { leaves.now.away ≡ [] }
     ensures { IfOk result (λ copy. copy.items ≡ leaves.now.items) }
@@ -24,7 +25,7 @@ pub(crate) fn copy_all(alloc: Global, leaves: &Seats) -> Result<Vec<Leaf>, Alloc
     let count = leaves.len();
     let mut copy = Vec::with_capacity(alloc, count)?;
     for at in 0..count {
-        copy.push(leaves.get(at).copy()?)?;
+        copy.push(fitted_copy(alloc, leaves.get(at))?)?;
     }
     Ok(copy)
 }

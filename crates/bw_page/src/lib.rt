@@ -19,6 +19,7 @@ mod laws;
 mod leaves;
 mod lows;
 mod reading;
+mod room;
 mod seats;
 mod tree;
 

@@ -17,8 +17,8 @@ pub fn change_all(leaf: Leaf, records: &[Record]) -> Result<Leaf, AllocError>
     Draft::of(leaf).change_all(records)?.into_leaf()
 }
 
-/// The leaf without its pairs from a key on. It is never refused; where memory is wanting it only has
-/// no row of heads.
+/// The leaf without its pairs from a key on, in no more room than the others take. It is never
+/// refused; where memory is wanting it keeps its room, or has no row of heads.
 pub fn keep_below(leaf: Leaf, separator: &[u8]) -> Leaf
     ensures { result ≡ kept_below separator.now leaf }
 {
@@ -26,6 +26,7 @@ pub fn keep_below(leaf: Leaf, separator: &[u8]) -> Leaf
     let (low, pairs) = leaf.into_parts();
     let mut kept = pairs.into_vec();
     kept.retain(|pair| bw_codec::is_before(pair.0.as_slice(), separator));
+    kept.shrink_to_fit();
     Leaf {
         page,
         low,

@@ -10,5 +10,5 @@ returns c =
     let kept = filter_same _ (λ p. is_below p.0 c.args.separator.now) _ (λ x b f' h. search rules) _ _ c.retain.ensures.filtered in
     let low = ap (λ (parts : List ℕ × Pairs). parts.0) c.into_parts-low.ensures in
     let all = c.into_vec-kept.ensures ∙ ap (λ (parts : List ℕ × Pairs). parts.1) c.into_parts-low.ensures in
-    let pairs = c.of.ensures ∙ kept ∙ ap (filter (λ p. is_below p.0 c.args.separator.now)) all in
+    let pairs = c.of.ensures ∙ c.shrink_to_fit.ensures.items ∙ kept ∙ ap (filter (λ p. is_below p.0 c.args.separator.now)) all in
     λ i. record { page = c.args.leaf.page; low = low i; pairs = pairs i }

@@ -1,0 +1,40 @@
+//! Leaves in no more room than their pairs take: those that a store begins with are many, and most
+//! of them are not changed soon.
+
+ghost use Rattle.std.specs.Prelude.{◌≡◌, IfOk};
+
+use crate::changes::push_pairs;
+use bw_codec::{Leaf, Pairs};
+use std::alloc::{AllocError, Global};
+
+/// The same leaf in no more room than it needs. It is never refused; where memory is wanting it
+/// keeps what it has, or has no row of heads.
+pub(crate) fn fitted(leaf: Leaf) -> Leaf
+    ensures { result ≡ leaf }
+{
+    let page = leaf.page;
+    let (low, pairs) = leaf.into_parts();
+    let mut kept = pairs.into_vec();
+    kept.shrink_to_fit();
+    Leaf {
+        page,
+        low,
+        pairs: Pairs::of(kept),
+    }
+}
+
+/// The same leaf in memory of its own, and in no more than it needs. A refused growth is the only
+/// error.
+pub(crate) fn fitted_copy(alloc: Global, leaf: &Leaf) -> Result<Leaf, AllocError>
+    ensures { IfOk result (λ copy. copy ≡ leaf.now) }
+{
+    let low = leaf.low.copy()?;
+    let pairs = leaf.pairs.as_slice();
+    let mut copy = Vec::with_capacity(alloc, pairs.len())?;
+    push_pairs(&mut copy, pairs);
+    Ok(Leaf {
+        page: leaf.page,
+        low,
+        pairs: Pairs::of(copy),
+    })
+}
