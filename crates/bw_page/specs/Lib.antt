@@ -13,6 +13,7 @@ pub mod Laws
 pub mod LowHeads
 pub mod LowIndex
 pub mod Index
+pub mod Beginning
 pub mod Linked
 pub mod Marks
 pub mod Seats

@@ -30,6 +30,22 @@ pub(crate) fn copy_all(alloc: Global, leaves: &Seats) -> Result<Vec<Leaf>, Alloc
     Ok(copy)
 }
 
+/// The same leaves with their seats.
+pub(crate) fn copy_seats(leaves: &Seats) -> Result<Seats, AllocError>
+    requires { leaves.now.away ≡ [] }
+    ensures items { IfOk result (λ copy. copy.items ≡ leaves.now.items) }
+    ensures away { IfOk result (λ copy. copy.away ≡ []) }
+{
+    let alloc = leaves.allocator();
+    let count = leaves.len();
+    let mut copy = Seats::new(alloc);
+    copy.reserve(count)?;
+    for at in 0..count {
+        copy.push(fitted_copy(alloc, leaves.get(at))?)?;
+    }
+    Ok(copy)
+}
+
 /// The page of each low key but that of the first leaf. It goes from the last leaf down, so that
 /// the first of equal lows would count.
 pub(crate) fn index_of(alloc: Global, leaves: &[Leaf]) -> Result<LowIndex, AllocError>

@@ -300,6 +300,28 @@ impl Leaves {
         })
     }
 
+    /// The leaves as they stand.
+    pub(crate) fn seats(&self) -> &Seats
+        ensures items { result.now.items ≡ self.now.leaves }
+        ensures away { result.now.away ≡ self.now.away }
+        ensures lawful { AreLeaves self.now.m result.now.items }
+    {
+        &self.leaves
+    }
+
+    /// The leaves alone. No memory is taken.
+    pub(crate) fn into_seats(self) -> Seats
+        ensures items { result.items ≡ self.leaves }
+        ensures away { result.away ≡ self.away }
+    {
+        let Leaves {
+            m: _,
+            leaves,
+            index: _,
+        } = self;
+        leaves
+    }
+
     /// The same leaves. It costs all pages.
     pub fn copy(&self) -> Result<Leaves, AllocError>
         requires { self.now.away ≡ [] }

@@ -21,6 +21,7 @@ mod lows;
 mod reading;
 mod room;
 mod seats;
+mod start;
 mod tree;
 
 pub use chain::{Chain, End, Link};
@@ -34,3 +35,4 @@ pub use laws::{
 };
 pub use leaves::{Applied, HasRecord, Leaves, Step};
 pub use reading::{change_all, keep_below, read_block, read_blocks};
+pub use start::Start;
