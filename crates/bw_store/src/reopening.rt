@@ -22,7 +22,7 @@ use bw_buffer::Buffer;
 use bw_care::Recovered;
 use bw_codec::Place;
 use bw_log::Log;
-use bw_page::Leaves;
+use bw_page::{Leaves, Start};
 use bw_ring::Feed;
 use bw_versions::Versions;
 use std::alloc::{AllocError, Global};
@@ -134,7 +134,7 @@ fn unseen<R: Wait>(
     requires here { leaves.now.away ≡ [] }
     ensures { IfOk result (λ v. AreUnseen leaves.now readers v) }
 {
-    Versions::open(rt, alloc, readers, leaves.copy()?)
+    Versions::open_at(rt, alloc, readers, Start::copy_of(leaves)?)
 }
 
 impl Store {

@@ -4,13 +4,13 @@ ghost use Rattle.std.specs.Prelude.{◌≡◌, []};
 ghost use Rattle.std.specs.Option.{ForSome};
 
 use crate::entry::Entry;
-use bw_page::Leaves;
+use bw_page::{Leaves, Start};
 use std::marker::Model;
 
 /// Entries, and the start leaves where the batch is the first.
 pub struct Batch {
     /// All of them in memory.
-    pub(crate) start: Option<Leaves>,
+    pub(crate) start: Option<Start>,
     pub(crate) entries: Vec<Entry>,
 }
 
@@ -41,11 +41,22 @@ impl Batch {
         requires here { ForSome start (λ leaves. leaves.away ≡ []) }
         ensures { result ≡ record { start = start; entries = entries.items } }
     {
+        match start {
+            Some(leaves) => Batch::of(Some(Start::of(leaves)), entries),
+            None => Batch::of(None, entries),
+        }
+    }
+
+    /// The same, where the start leaves wait.
+    pub(crate) fn of(start: Option<Start>, entries: Vec<Entry>) -> Batch
+        requires here { ForSome start (λ leaves. leaves.away ≡ []) }
+        ensures { result ≡ record { start = start; entries = entries.items } }
+    {
         Batch { start, entries }
     }
 
     /// The start leaves that it brings.
-    pub(crate) fn into_start(self) -> Option<Leaves>
+    pub(crate) fn into_start(self) -> Option<Start>
         ensures { result ≡ self.start }
     {
         let Batch { start, entries: _ } = self;

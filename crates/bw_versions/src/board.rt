@@ -11,7 +11,7 @@ ghost use Rattle.bw_versions.specs.Posted.{pages_of};
 
 use crate::entry::Entry;
 use bw_codec::{Key, Value};
-use bw_page::{ApplyError, Leaves};
+use bw_page::{ApplyError, Leaves, Start};
 use std::alloc::{AllocError, Global};
 use std::marker::Model;
 use std::snapshot::Snapshot;
@@ -57,6 +57,19 @@ impl Board {
             start: Snapshot::of(start),
             entries: Vec::new(alloc),
             leaves: start.copy()?,
+        })
+    }
+
+    /// The same, where the start leaves wait.
+    pub(crate) fn at(alloc: Global, start: &Start) -> Result<Board, AllocError>
+        requires here { start.now.away ≡ [] }
+        ensures made { IfOk result (λ b. b ≡ record { start = start.now; entries = [] }) }
+    {
+        let leaves = start.leaves()?;
+        Ok(Board {
+            start: Snapshot::of(&leaves),
+            entries: Vec::new(alloc),
+            leaves,
         })
     }
 

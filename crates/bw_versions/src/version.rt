@@ -123,7 +123,7 @@ fn bring(alloc: Global, board: &mut Option<Board>, batch: &Batch) -> Result<(), 
             let Some(start) = &batch.start else {
                 return Ok(());
             };
-            let mut new = Board::new(alloc, start)?;
+            let mut new = Board::at(alloc, start)?;
             match new.publish(batch.entries.as_slice()) {
                 Ok(()) => {
                     *board = Some(new);

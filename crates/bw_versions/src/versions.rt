@@ -10,7 +10,7 @@ use crate::batch::Batch;
 use crate::entry::Entry;
 use crate::publisher::{Publisher, Unpublished};
 use crate::reader::{News, ReadFault, Reader};
-use bw_page::Leaves;
+use bw_page::{Leaves, Start};
 use std::alloc::{AllocError, Global};
 use std::marker::Model;
 use std::snapshot::Snapshot;
@@ -22,11 +22,11 @@ pub struct Versions {
     alloc: Global,
     publisher: Publisher,
     /// The start leaves, until the book has them.
-    start: Option<Leaves>,
+    start: Option<Start>,
     /// How many entries of the history the book has.
     count: usize,
     /// The start leaves, which the proof alone knows.
-    began: Snapshot<Leaves>,
+    began: Snapshot<Start>,
 }
 
 impl Model for Versions {
@@ -50,6 +50,22 @@ impl Versions {
         alloc: Global,
         places: usize,
         start: Leaves,
+    ) -> Result<Versions, AllocError>
+        requires places { (1 ≤ places) × (places ≤ 64) }
+        requires here { start.away ≡ [] }
+        ensures start { IfOk result (λ v. v.start ≡ start) }
+        ensures nothing { IfOk result (λ v. (v.published ≡ []) × (v.entered ≡ [])) }
+        ensures places { IfOk result (λ v. v.places ≡ places) }
+    {
+        Versions::open_at(rt, alloc, places, Start::of(start))
+    }
+
+    /// The same, where the start leaves wait already.
+    pub fn open_at<R: Wait>(
+        rt: &R,
+        alloc: Global,
+        places: usize,
+        start: Start,
     ) -> Result<Versions, AllocError>
         requires places { (1 ≤ places) × (places ≤ 64) }
         requires here { start.away ≡ [] }
@@ -115,7 +131,7 @@ impl Versions {
             return publisher.catch_up(rt);
         }
         let entries = copies(*alloc, fresh)?;
-        let batch = Batch::new(start.take(), entries);
+        let batch = Batch::of(start.take(), entries);
         match publisher.publish(rt, batch) {
             Ok(()) => {
                 *count = end;

@@ -49,9 +49,9 @@ pub invariant_of-self-2 : goal.invariant_of-self-2
 invariant_of-self-2 g c =
     let held = c.self.invariant in
     let old = c.self.inside.publisher.entered.log in
-    let batch = c.new-batch.result in
-    let brought = ap (λ (b : BatchData). b.start) c.new-batch.ensures ∙ c.take.ensures.value in
-    let news = ap (λ (b : BatchData). b.entries) c.new-batch.ensures ∙ c.in_ok-entries.ensures in
+    let batch = c.of-batch.result in
+    let brought = ap (λ (b : BatchData). b.start) c.of-batch.ensures ∙ c.take.ensures.value in
+    let news = ap (λ (b : BatchData). b.entries) c.of-batch.ensures ∙ c.in_ok-entries.ensures in
     let wide = subst (λ (v : Versioned). length (entries_of v.entered) + length c.args.fresh.now ≡ c.args.end) (sym c.self.view_is) c.requires in
     let more = count-more old batch c.args.fresh.now c.args.end wide news in
     let start = start-more old batch c.self.inside.began.value c.self.inside.start held.start brought in
