@@ -23,6 +23,7 @@ pub mod Together
 pub mod Steps
 pub mod Seating
 pub mod PageByPage
+pub mod Hinted
 pub mod NewerPages
 pub mod OneStanding
 pub mod LowsAlone

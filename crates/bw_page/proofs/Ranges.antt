@@ -35,7 +35,7 @@ homes_ranges m leaves a = record {
 }
 
 -- a key in a leaf's range has it as its home
-between_home : (leaves : List Leaf) (l : Leaf) (q : Bytes) → BeginsEmpty leaves → LiesBetween leaves l q → (UpTo l.low q → UpTo l.low (home q leaves).low)
+pub between_home : (leaves : List Leaf) (l : Leaf) (q : Bytes) → BeginsEmpty leaves → LiesBetween leaves l q → (UpTo l.low q → UpTo l.low (home q leaves).low)
     → All (λ y. l.low ≡ y.low → l.page ≡ y.page) leaves
     → (home q leaves).page ≡ l.page
 between_home leaves l q b between max own =

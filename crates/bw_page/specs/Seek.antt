@@ -26,6 +26,11 @@ abbrev pub IsWithin : ℕ → Result ℕ ℕ → Type 0
 IsWithin n (Ok at) = at < n
 IsWithin n (Err at) = at ≤ n
 
+-- one of n pairs, or a place between two of them
+abbrev pub IsBetween : ℕ → Result ℕ ℕ → Type 0
+IsBetween n (Ok at) = Unit {0}
+IsBetween n (Err at) = (1 ≤ at) × (at < n)
+
 -- a record adds no pair where the search for its key ended so
 abbrev pub AddsNone : Record → Result ℕ ℕ → Type 0
 AddsNone (Put key value) (Ok at) = Unit {0}

@@ -15,6 +15,7 @@ ghost use Rattle.bw_page.specs.Aim.{IsAim};
 ghost use Rattle.bw_page.specs.Ahead.{HasNoLowAbove, IsNextLow};
 
 mod batch;
+mod hinted;
 mod walk;
 
 use crate::changes::{count_found, empty_page, find_key};

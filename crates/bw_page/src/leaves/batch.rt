@@ -22,6 +22,7 @@ use crate::index::drop_above;
 use crate::journal::{Displaced, Undo};
 use bw_codec::{Leaf, Record};
 use std::alloc::AllocError;
+use std::slice;
 
 /// A value in which a record stands.
 pub trait HasRecord {
@@ -49,6 +50,17 @@ pub struct Step {
     pub page: u32,
     /// The page that it makes, if that one is cut in two.
     pub upper: Option<Leaf>,
+}
+
+/// The number of no page.
+const NO_PAGE: u32 = 0;
+
+// The next page of some that may be right.
+fn next_hint(hints: &mut slice::Iter<'_, u32>) -> u32 {
+    match hints.next() {
+        Some(page) => *page,
+        None => NO_PAGE,
+    }
 }
 
 impl Leaves {
@@ -82,10 +94,31 @@ impl Leaves {
             → SomeIsSpent self.old (map T.record_of items.now) }
         ensures unchanged { OnErr result (self.new ≡ self.old) }
     {
+        self.apply_all_hinted(items, &[])
+    }
+
+    /// The same, where the page at which a record is directed may be the one at its index here:
+    /// what `apply_hinted` makes of it. There may be fewer pages than records, or more.
+    pub fn apply_all_hinted<T: HasRecord>(
+        &mut self,
+        items: &[T],
+        pages: &[u32],
+    ) -> Result<(), ApplyError>
+        requires { AreHere self.old (map T.record_of items.now) }
+        ensures ok { OnOk result (self.new ≡ run self.old (map T.record_of items.now)) }
+        ensures plain { OnOk result (union self.new.leaves
+            ≡ plain self.old.leaves (map T.record_of items.now)) }
+        ensures spent { SomeIsSpent self.old (map T.record_of items.now) → IsErr result }
+        ensures only_spent { result ≡ Err ApplyError.Spent
+            → SomeIsSpent self.old (map T.record_of items.now) }
+        ensures unchanged { OnErr result (self.new ≡ self.old) }
+    {
         let _ = self.count();
         let mut journal = Vec::with_capacity(self.leaves.allocator(), items.len())?;
+        let mut hints = pages.iter();
         for item in items {
-            match self.displace(item.record()) {
+            let page = next_hint(&mut hints);
+            match self.displace(page, item.record()) {
                 Ok(undo) => match journal.push(undo) {
                     Ok(()) => {}
                     Err(_) => unreachable!(),
@@ -154,7 +187,7 @@ impl Leaves {
         for item in items {
             let change = item.record();
             steps.push_reserved(self.step(change)?);
-            journal.push_reserved(self.displace(change)?);
+            journal.push_reserved(self.displace(NO_PAGE, change)?);
         }
         Ok(())
     }
@@ -214,8 +247,9 @@ impl Leaves {
         Ok(Some(upper))
     }
 
-    /// Applies a record, and gives what takes it back. A refusal changes nothing.
-    fn displace(&mut self, change: &Record) -> Result<Undo, ApplyError>
+    /// Applies a record, which may be directed at this page, and gives what takes it back. A refusal
+    /// changes nothing.
+    fn displace(&mut self, page: u32, change: &Record) -> Result<Undo, ApplyError>
         requires { IsHere (key_of change.now) self.old }
         ensures undo { IfOk result (λ undo. undo ≡ undo_of self.old change.now) }
         ensures ok { OnOk result (self.new ≡ after_record self.old change.now) }
@@ -224,7 +258,7 @@ impl Leaves {
         ensures only_spent { result ≡ Err ApplyError.Spent → IsSpent self.old change.now }
         ensures unchanged { OnErr result (self.new ≡ self.old) }
     {
-        let (at, count, found) = self.aim(self.find(change.key()), change);
+        let (at, count, found) = self.aim_by(page, change);
         let undo = self.undo_at(at, count, found, change)?;
         self.apply_at(at, count, found, change)?;
         Ok(undo)

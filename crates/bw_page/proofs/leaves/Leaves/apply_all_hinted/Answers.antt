@@ -8,7 +8,7 @@ use Rattle.bw_page.specs.Shown.{Shown}
 use Rattle.bw_page.specs.Journal.{Ran, all_undone}
 use Rattle.bw_page.proofs.Runs.{ran_more, all_back, run-plain, none_spent}
 use Rattle.bw_page.proofs.Batches.{records_more, next_here, next_spent}
-use Rattle.bw_page.proofs.leaves.Leaves.apply_all_of.Goals as goal
+use Rattle.bw_page.proofs.leaves.Leaves.apply_all_hinted.Goals as goal
 
 pub returns-in-Err-clause-unchanged : goal.returns-in-Err-clause-unchanged
 returns-in-Err-clause-unchanged g c =

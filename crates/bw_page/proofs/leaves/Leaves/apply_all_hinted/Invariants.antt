@@ -1,6 +1,6 @@
 use Rattle.std.proofs.Common.{◌≡◌, ◌≤◌, map, take, length, vec_len, vec_capacity}
 use Rattle.bw_page.specs.Journal.{Ran}
-use Rattle.bw_page.proofs.leaves.Leaves.apply_all_of.Given as goal
+use Rattle.bw_page.proofs.leaves.Leaves.apply_all_hinted.Given as goal
 
 abbrev pub invariant-loop-item : goal.invariant-loop-item
 invariant-loop-item g l = record {
