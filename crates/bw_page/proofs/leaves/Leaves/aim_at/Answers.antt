@@ -1,4 +1,4 @@
-use Rattle.std.proofs.Common.{◌≡◌, ℕ, ◌+◌, ◌-◌, ◌≤◌, ◌<◌, ◌∙◌, ap, sym, subst, length, arith, Result}
+use Rattle.std.proofs.Common.{◌≡◌, ℕ, ◌+◌, ◌-◌, ◌≤◌, ◌<◌, ◌∙◌, ap, sym, subst, length, arith, refl}
 use Rattle.bw_codec.specs.Record.{key_of}
 use Rattle.bw_codec.specs.declared.leaf.Leaf.{Leaf}
 use Rattle.bw_page.specs.Leaves.{Pairs, home, changed_pairs}
@@ -15,7 +15,7 @@ returns c =
     let sought : c.find_key-found.result ≡ seek_of key leaf.pairs =
     c.find_key-found.ensures.found ∙ ap (λ k. seek_of k leaf.pairs) (c.as_slice.ensures.value ∙ c.key.ensures.value) in
     let pairs : c.as_slice-pairs.result.now ≡ leaf.pairs = c.as_slice-pairs.ensures in
-    let ended : IsBetween (length c.as_slice-pairs.result.now) c.find_key-found.result = c.if-not-is_between.ensures tt in
+    let ended : IsBetween (length c.as_slice-pairs.result.now) c.find_key-found.result = c.if-not-is_between.ensures refl in
     let between : IsBetween (length leaf.pairs) (seek_of key leaf.pairs) =
     subst (IsBetween (length leaf.pairs)) sought (subst (λ (ps : Pairs). IsBetween (length ps) c.find_key-found.result) pairs ended) in
     let is = hinted_home c.args.self.now.m c.args.self.now.leaves c.args.page leaf key c.count.ensures.lawful there between in
