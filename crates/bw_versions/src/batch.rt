@@ -12,6 +12,9 @@ pub struct Batch {
     /// All of them in memory.
     pub(crate) start: Option<Start>,
     pub(crate) entries: Vec<Entry>,
+    /// The pages at which the entries' records may be directed, each at the index of its entry.
+    /// Nothing is known of them.
+    pub(crate) pages: Vec<u32>,
 }
 
 impl Drop for Batch {
@@ -19,6 +22,7 @@ impl Drop for Batch {
         let Batch {
             start: _,
             entries: _,
+            pages: _,
         } = self;
     }
 }
@@ -41,25 +45,34 @@ impl Batch {
         requires here { ForSome start (λ leaves. leaves.away ≡ []) }
         ensures { result ≡ record { start = start; entries = entries.items } }
     {
+        let pages = Vec::new(*entries.allocator());
         match start {
-            Some(leaves) => Batch::of(Some(Start::of(leaves)), entries),
-            None => Batch::of(None, entries),
+            Some(leaves) => Batch::of(Some(Start::of(leaves)), entries, pages),
+            None => Batch::of(None, entries, pages),
         }
     }
 
-    /// The same, where the start leaves wait.
-    pub(crate) fn of(start: Option<Start>, entries: Vec<Entry>) -> Batch
+    /// The same, where the start leaves wait, and the entries' pages are guessed.
+    pub(crate) fn of(start: Option<Start>, entries: Vec<Entry>, pages: Vec<u32>) -> Batch
         requires here { ForSome start (λ leaves. leaves.away ≡ []) }
         ensures { result ≡ record { start = start; entries = entries.items } }
     {
-        Batch { start, entries }
+        Batch {
+            start,
+            entries,
+            pages,
+        }
     }
 
     /// The start leaves that it brings.
     pub(crate) fn into_start(self) -> Option<Start>
         ensures { result ≡ self.start }
     {
-        let Batch { start, entries: _ } = self;
+        let Batch {
+            start,
+            entries: _,
+            pages: _,
+        } = self;
         start
     }
 }

@@ -111,13 +111,29 @@ impl Board {
             → SomeIsSpent (pages_of self.old) (records more.now) }
         ensures unchanged { OnErr result (self.new ≡ self.old) }
     {
+        self.publish_hinted(more, &[])
+    }
+
+    /// The same, where the page at which an entry's record is directed may be the one at its index
+    /// here, which is looked at first. There may be fewer pages than entries, or more.
+    pub fn publish_hinted(&mut self, more: &[Entry], pages: &[u32]) -> Result<(), ApplyError>
+        ensures added { OnOk result
+            (self.new ≡ record self.old { entries = self.old.entries ++ more.now }) }
+
+        // As a batch of records: `Spent` only where one of them needs a page number that does not
+        // exist, and a refusal wherever one does, perhaps for want of memory before that record.
+        ensures spent { SomeIsSpent (pages_of self.old) (records more.now) → IsErr result }
+        ensures only_spent { result ≡ Err ApplyError.Spent
+            → SomeIsSpent (pages_of self.old) (records more.now) }
+        ensures unchanged { OnErr result (self.new ≡ self.old) }
+    {
         self.entries.reserve(more.len())?;
         let Board {
             start: _,
             entries,
             leaves,
         } = self;
-        leaves.apply_all_of(more)?;
+        leaves.apply_all_hinted(more, pages)?;
         append(entries, more);
         Ok(())
     }

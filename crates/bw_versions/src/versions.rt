@@ -120,6 +120,35 @@ impl Versions {
             → (self.new ≡ self.old) × IsOk result }
         ensures unchanged { OnErr result (self.new.published ≡ self.old.published) }
     {
+        self.publish_hinted(rt, end, fresh, &[])
+    }
+
+    /// The same, where the page at which an entry's record is directed may be the one at its index
+    /// among these, which is looked at first. There may be fewer pages than entries, or more; where
+    /// memory is wanting for them, they are not used.
+    pub fn publish_hinted<R: Wait>(
+        &mut self,
+        rt: &R,
+        end: usize,
+        fresh: &[Entry],
+        pages: &[u32],
+    ) -> Result<(), AllocError>
+        requires { length (entries_of self.old.entered) + length fresh.now ≡ end }
+        ensures begins { IsPrefix (entries_of self.new.entered) (history_of self.old fresh.now) }
+        ensures whole { EntersWhole self.old.entered self.new.entered
+            (history_of self.old fresh.now) }
+        ensures same { (self.new.start ≡ self.old.start) × (self.new.book ≡ self.old.book)
+            × (self.new.places ≡ self.old.places) }
+
+        ensures published { OnOk result (posted_of self.new.published
+            ≡ Some (record { start = self.old.start; entries = history_of self.old fresh.now })) }
+        ensures all { OnOk result (IsUpTo self.new (history_of self.old fresh.now)) }
+        ensures grows { OnOk result (IsPrefix self.old.published self.new.published) }
+
+        ensures idle { IsUpTo self.old (history_of self.old fresh.now)
+            → (self.new ≡ self.old) × IsOk result }
+        ensures unchanged { OnErr result (self.new.published ≡ self.old.published) }
+    {
         let Versions {
             alloc,
             publisher,
@@ -131,7 +160,7 @@ impl Versions {
             return publisher.catch_up(rt);
         }
         let entries = copies(*alloc, fresh)?;
-        let batch = Batch::of(start.take(), entries);
+        let batch = Batch::of(start.take(), entries, hints(*alloc, pages));
         match publisher.publish(rt, batch) {
             Ok(()) => {
                 *count = end;
@@ -192,4 +221,12 @@ fn copies(alloc: Global, entries: &[Entry]) -> Result<Vec<Entry>, AllocError>
         all.push(entry.copy())?;
     }
     Ok(all)
+}
+
+// The same pages, or none where memory is wanting.
+fn hints(alloc: Global, pages: &[u32]) -> Vec<u32> {
+    match Vec::from_slice(alloc, pages) {
+        Ok(pages) => pages,
+        Err(_) => Vec::new(alloc),
+    }
 }

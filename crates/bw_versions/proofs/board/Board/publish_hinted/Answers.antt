@@ -11,7 +11,7 @@ use Rattle.bw_page.specs.Shown.{Shown, run}
 use Rattle.bw_versions.specs.declared.entry.Entry.{Entry}
 use Rattle.bw_versions.specs.Entries.{records}
 use Rattle.bw_versions.specs.Posted.{pages_of}
-use Rattle.bw_versions.proofs.board.Board.publish.Goals as goal
+use Rattle.bw_versions.proofs.board.Board.publish_hinted.Goals as goal
 
 -- entries, and then more, are one list of entries
 joined : {B : Type 0} (h : B → Record → B) (b : B) (es more : List Entry) → fold h (fold h b (records es)) (records more) ≡ fold h b (records (es ++ more))
@@ -25,19 +25,19 @@ invariant_of-self-2 c =
     let more = c.args.more.now in
     let all = c.append.ensures ∙ ap (λ ss. map (λ s. s.value) ss ++ more) c.in_ok-reserve.ensures.items in
     record {
-      pages = c.in_ok-apply_all_of.ensures.ok ∙ ap (λ (f : Shown). run f (records more)) c.self.invariant.pages
+      pages = c.in_ok-apply_all_hinted.ensures.ok ∙ ap (λ (f : Shown). run f (records more)) c.self.invariant.pages
           ∙ ap (λ (ls : List Leaf). let f : Shown = record start { leaves = ls } in f) (joined (applied start.m) start.leaves es more)
           ∙ ap (λ (xs : List Entry). run start (records xs)) (sym all);
-      plainly = c.in_ok-apply_all_of.ensures.plain ∙ ap (λ (m : Map). fold changed_map m (records more)) c.self.invariant.plainly
+      plainly = c.in_ok-apply_all_hinted.ensures.plain ∙ ap (λ (m : Map). fold changed_map m (records more)) c.self.invariant.plainly
           ∙ joined changed_map (union start.leaves) es more ∙ ap (λ (xs : List Entry). plain start.leaves (records xs)) (sym all);
       here = c.self.invariant.here;
     }
 
 pub returns-clause-spent : goal.returns-clause-spent
 returns-clause-spent c spent =
-    c.in_ok-apply_all_of.ensures.spent
+    c.in_ok-apply_all_hinted.ensures.spent
     (subst (λ (f : Shown). SomeIsSpent f (records c.args.more.now)) (sym (c.self.invariant.pages ∙ ap pages_of c.self.view_is)) spent)
 
-pub apply_all_of-requires : goal.apply_all_of-requires
-apply_all_of-requires c =
+pub apply_all_hinted-requires : goal.apply_all_hinted-requires
+apply_all_hinted-requires c =
     all_here c.self.inside.leaves (records c.args.more.now) (ap (λ (f : Shown). f.away) c.self.invariant.pages ∙ c.self.invariant.here)
