@@ -132,6 +132,7 @@ impl Store {
             making: _making,
             log,
             versions,
+            hints: _hints,
         } = self;
         versions.shut(rt);
         let (live, spares) = log.into_segments();

@@ -18,6 +18,7 @@ ghost use Rattle.bw_store.specs.Taken.{alone, taken};
 
 use crate::drafting::Row;
 use crate::fault::StoreFault;
+use crate::hints::hint_one;
 use crate::store::Store;
 use crate::tails::{note, reserve_for};
 use bw_buffer::Buffer;
@@ -65,10 +66,12 @@ impl Store {
         let _ = self.leaves.count();
         self.intake.reserve()?;
         self.newest.reserve(1)?;
+        self.hints.reserve(1)?;
         reserve_for(&mut self.tails, page)?;
         let _ = self.leaves.apply_on(page, &item)?;
         note(&mut self.tails, page, &item, blocks.len() > 1);
         file(&mut self.making, &mut self.newest, page, blocks);
+        hint_one(&mut self.hints, page);
         self.intake.enter(lane, Group::one(item));
         Ok(())
     }

@@ -19,6 +19,7 @@ ghost use Rattle.bw_store.specs.Taking.{IsUnplanned, IsWanting};
 use crate::drafting::Draft;
 use crate::entering::file_all;
 use crate::fault::StoreFault;
+use crate::hints::hint_all;
 use crate::store::Store;
 use crate::tails::{note_all, reserve_all};
 use bw_codec::{Leaf, Record};
@@ -181,6 +182,7 @@ impl Store {
         let _ = self.leaves.count();
         self.intake.reserve()?;
         self.newest.reserve(group.len())?;
+        self.hints.reserve(rows.len())?;
         reserve_all(&mut self.tails, rows)?;
         self.leaves.apply_all_of(group.as_slice())?;
         note_all(&mut self.tails, rows, group.as_slice());
@@ -190,6 +192,7 @@ impl Store {
             rows,
             draft.blocks.as_slice(),
         );
+        hint_all(&mut self.hints, rows);
         self.intake.enter(lane, group);
         Ok(())
     }

@@ -25,6 +25,7 @@ mod fault;
 mod flushing;
 mod forgetting;
 mod grouping;
+mod hints;
 mod history;
 mod intake;
 mod opening;

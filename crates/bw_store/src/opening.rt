@@ -246,6 +246,7 @@ impl Store {
             making,
             log,
             versions,
+            hints: Vec::new(alloc),
         };
         (store, feeds)
     }

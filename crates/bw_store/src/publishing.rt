@@ -6,6 +6,7 @@ ghost use Rattle.bw_store.specs.History.{cut};
 ghost use Rattle.bw_store.specs.Following.{Follows, HasBoxes};
 ghost use Rattle.bw_store.specs.Showing.{Hides, Shows, with_places};
 
+use crate::hints::{first_hints, forget_hints};
 use crate::store::Store;
 use bw_versions::{News, ReadFault, Reader};
 use std::alloc::AllocError;
@@ -58,7 +59,11 @@ impl Store {
         let end = self.durable_end();
         let known = self.versions.entered();
         let fresh = self.intake.between(known, end);
-        self.versions.publish_up_to(rt, end, fresh)
+        let pages = first_hints(self.hints.as_slice(), fresh.len());
+        let went = self.versions.publish_hinted(rt, end, fresh, pages);
+        let entered = self.versions.entered().saturating_sub(known);
+        forget_hints(&mut self.hints, entered);
+        went
     }
 
     // The history's length at the durable cut.

@@ -241,6 +241,7 @@ impl Store {
             making,
             log,
             versions,
+            hints: Vec::new(alloc),
         };
         (store, feeds)
     }

@@ -38,6 +38,9 @@ pub struct Store {
     pub(crate) log: Log,
     /// What readers see: the leaves at `open` or `reopen`, and the durable entries since.
     pub(crate) versions: Versions,
+    /// The page of each entry that the readers' book does not have, where its record was directed.
+    /// Nothing is known of them.
+    pub(crate) hints: Vec<u32>,
     ghost tailed: { map tail_of tails.items ≡ tails_for (length leaves.leaves) making.blocks },
     // No cut stands inside a group.
     ghost whole: { are_whole cuts.items intake.history.items ≡ true },
