@@ -5,7 +5,7 @@ ghost use Rattle.std.specs.Prelude.{◌≡◌, ◌∷◌, [], IfOk, IfSome};
 use super::{Row, Try, all_went, put, shows, then, tried, wrong_row};
 use bw_codec::{Block, Key, Leaf, Low, Ops, Pairs, Place, Record, Value};
 use bw_page::{
-    Applied, ApplyError, Chain, Draft, Leaves, change, change_all, cut_in_two, empty_page,
+    Applied, ApplyError, Chain, Draft, Leaves, Start, change, change_all, cut_in_two, empty_page,
     read_block, read_blocks,
 };
 use bw_versions::Entry;
@@ -21,6 +21,8 @@ enum Call {
     /// Leaves are made of two, and these are copied.
     Of,
     CopyLeaves,
+    /// They are copied as a start, and leaves are made of that.
+    CopyStart,
     /// A fifth pair, which cuts the page, by each call that applies records.
     Apply(Way),
     /// What a fifth pair would do, and a stretch of pairs.
@@ -41,8 +43,12 @@ enum Call {
 enum Way {
     One,
     On,
+    /// Its page is looked at first.
+    Hinted,
     All,
     AllOf,
+    /// The first record's page is looked at first.
+    AllHinted,
     /// They are not, but what they would do is told.
     Steps,
     /// What the first would do.
@@ -154,6 +160,24 @@ fn copies_leaves(alloc: Global) -> Option<Try> {
     }
 }
 
+/// The same pages by way of a start.
+fn started(leaves: &Leaves) -> Result<Leaves, AllocError>
+    requires { leaves.now.away ≡ [] }
+{
+    Start::copy_of(leaves)?.leaves()
+}
+
+fn copies_start(alloc: Global) -> Option<Try> {
+    let leaves = two_pages(alloc, false).ok()?;
+    begin(alloc);
+    let copy = started(&leaves);
+    let refused = end(alloc);
+    match copy {
+        Ok(copy) => tried(true, refused, are_pages(&copy, b": a=1", b"c: d=4")),
+        Err(_) => tried(false, refused, are_pages(&leaves, b": a=1", b"c: d=4")),
+    }
+}
+
 /// One letter a pair, without values.
 fn lettered(alloc: Global, letters: &[u8]) -> Option<Vec<Record>> {
     let mut records = Vec::new(alloc);
@@ -191,7 +215,7 @@ fn full(alloc: Global) -> Option<Leaves>
 }
 
 /// What a record does where it is applied.
-fn applies(leaves: &mut Leaves, change: &Record, on: bool) -> Result<bool, ApplyError>
+fn applies(leaves: &mut Leaves, change: &Record, way: Way) -> Result<bool, ApplyError>
     requires { leaves.old.away ≡ [] }
     ensures { leaves.new.away ≡ [] }
 {
@@ -200,10 +224,10 @@ fn applies(leaves: &mut Leaves, change: &Record, on: bool) -> Result<bool, Apply
         made: Some(2),
     };
     let page = leaves.find(change.key());
-    let done = if on {
-        leaves.apply_on(page, change)?
-    } else {
-        leaves.apply(change)?
+    let done = match way {
+        Way::On => leaves.apply_on(page, change)?,
+        Way::Hinted => leaves.apply_hinted(page, change)?,
+        _ => leaves.apply(change)?,
     };
     Ok(done == told)
 }
@@ -271,13 +295,15 @@ fn applied(alloc: Global, leaves: &mut Leaves, way: Way) -> Option<Try>
     let first = put(b"e", b"")?;
     begin(alloc);
     let answer = match way {
-        Way::One => applies(leaves, &first, false),
-        Way::On => applies(leaves, &first, true),
+        Way::One | Way::On | Way::Hinted => applies(leaves, &first, way),
+        Way::AllHinted => leaves
+            .apply_all_hinted(entries.as_slice(), &[1])
+            .map(|_| true),
         Way::All => leaves.apply_all(records.as_slice()).map(|_| true),
         _ => leaves.apply_all_of(entries.as_slice()).map(|_| true),
     };
     let refused = end(alloc);
-    let is_one = (way == Way::One) | (way == Way::On);
+    let is_one = matches!(way, Way::One | Way::On | Way::Hinted);
     match answer {
         Ok(is_so) if is_one => {
             tried(
@@ -526,6 +552,7 @@ fn asks(alloc: Global, call: &Call) -> Option<Try> {
         Call::OneEmpty => makes_leaves(alloc, true),
         Call::Of => makes_leaves(alloc, false),
         Call::CopyLeaves => copies_leaves(alloc),
+        Call::CopyStart => copies_start(alloc),
         Call::ChangeAll(count) => all_change(alloc, *count),
         Call::Read(how, count) => reads(alloc, *how, *count),
         _ => cuts(alloc),
@@ -563,10 +590,13 @@ const CALLS: &[Call] = &[
     Call::OneEmpty,
     Call::Of,
     Call::CopyLeaves,
+    Call::CopyStart,
     Call::Apply(Way::One),
     Call::Apply(Way::On),
+    Call::Apply(Way::Hinted),
     Call::Apply(Way::All),
     Call::Apply(Way::AllOf),
+    Call::Apply(Way::AllHinted),
     Call::Look(Way::Steps),
     Call::Look(Way::Step),
     Call::Look(Way::Scan),

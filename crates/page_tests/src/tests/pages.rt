@@ -13,6 +13,8 @@ use std::alloc::Global;
 pub(super) enum Step {
     /// Puts a value: the page at which it is directed, and the one that it makes, or 0.
     Put(&'static str, &'static str, u32, u32),
+    /// The same, where this page is looked at first.
+    Hinted(u32, &'static str, &'static str, u32, u32),
     /// Deletes a key: the page at which it is directed.
     Del(&'static str, u32),
     /// Puts so many keys of two digits.
@@ -29,11 +31,13 @@ pub(super) enum Step {
     Get(&'static str, &'static str),
     /// All keys of `TEN`, by one batch.
     Batch,
+    /// The same, where these pages are looked at first.
+    HintedBatch(&'static [u32]),
     /// Goes on with a copy.
     Copy,
 }
 
-use Step::{Batch, Copy, Count, Del, Fill, Find, Get, Page, Put};
+use Step::{Batch, Copy, Count, Del, Fill, Find, Get, Hinted, HintedBatch, Page, Put};
 
 fn applied(leaves: &mut Leaves, change: Option<Record>, page: u32, made: u32) -> bool
     requires { leaves.old.away ≡ [] }
@@ -44,6 +48,17 @@ fn applied(leaves: &mut Leaves, change: Option<Record>, page: u32, made: u32) ->
     };
     let made = if made == 0 { None } else { Some(made) };
     leaves.apply(&change) == Ok(Applied { page, made })
+}
+
+fn hinted(leaves: &mut Leaves, hint: u32, change: Option<Record>, page: u32, made: u32) -> bool
+    requires { leaves.old.away ≡ [] }
+    ensures { leaves.new.away ≡ [] }
+{
+    let Some(change) = change else {
+        return false;
+    };
+    let made = if made == 0 { None } else { Some(made) };
+    leaves.apply_hinted(hint, &change) == Ok(Applied { page, made })
 }
 
 fn filled(leaves: &mut Leaves, count: u16) -> bool
@@ -67,6 +82,16 @@ fn batch(alloc: Global, leaves: &mut Leaves) -> bool
 {
     match records(alloc, TEN) {
         Some(records) => leaves.apply_all(records.as_slice()).is_ok(),
+        None => false,
+    }
+}
+
+fn hinted_batch(alloc: Global, leaves: &mut Leaves, pages: &[u32]) -> bool
+    requires { leaves.old.away ≡ [] }
+    ensures { leaves.new.away ≡ [] }
+{
+    match records(alloc, TEN) {
+        Some(records) => leaves.apply_all_hinted(records.as_slice(), pages).is_ok(),
         None => false,
     }
 }
@@ -110,6 +135,10 @@ fn goes(alloc: Global, leaves: &mut Leaves, step: &Step) -> bool
         Step::Put(key, value, page, made) => {
             applied(leaves, put(key.as_bytes(), value.as_bytes()), *page, *made)
         }
+        Step::Hinted(hint, key, value, page, made) => {
+            let change = put(key.as_bytes(), value.as_bytes());
+            hinted(leaves, *hint, change, *page, *made)
+        }
         Step::Del(key, page) => applied(leaves, del(key.as_bytes()), *page, 0),
         Step::Fill(count) => filled(leaves, *count),
         Step::Count(count) => leaves.count() == *count,
@@ -118,6 +147,7 @@ fn goes(alloc: Global, leaves: &mut Leaves, step: &Step) -> bool
         Step::Find(key, page) => leads(leaves, key, *page),
         Step::Get(key, text) => has(leaves, key, text),
         Step::Batch => batch(alloc, leaves),
+        Step::HintedBatch(pages) => hinted_batch(alloc, leaves, pages),
         Step::Copy => copied(leaves),
     }
 }
@@ -196,6 +226,30 @@ const SINGLE: &[Step] = &[
     Page(4, "ab: ab=1 ac=1 b=1"),
 ];
 
+// Pages that are right, those of other keys, of no page, and too few.
+const HINTED: &[Step] = &[
+    HintedBatch(&[0, 1, 1, 1, 1, 1, 9, 2]),
+    Count(4),
+    Page(1, ": a=1 aa=1"),
+    Page(2, "c: c=1 d=1"),
+    Page(3, "e: e=1 f=1 g=1"),
+    Page(4, "ab: ab=1 ac=1 b=1"),
+    Hinted(4, "ab", "2", 4, 0),
+    Hinted(3, "fz", "2", 3, 0),
+    Hinted(2, "dz", "2", 2, 0),
+    Hinted(1, "c", "2", 2, 0),
+    Hinted(3, "zz", "2", 3, 5),
+    Hinted(3, "g", "2", 5, 0),
+    Hinted(0, "a", "2", 1, 0),
+    Hinted(6, "e", "2", 3, 0),
+    Hinted(3, "a0", "2", 1, 0),
+    Page(1, ": a=2 a0=2 aa=1"),
+    Page(2, "c: c=2 d=1 dz=2"),
+    Page(3, "e: e=2 f=1"),
+    Page(4, "ab: ab=2 ac=1 b=1"),
+    Page(5, "fz: fz=2 g=2 zz=2"),
+];
+
 const FIVE: &[Step] = &[
     Put("a", "1", 1, 0),
     Put("b", "1", 1, 0),
@@ -262,7 +316,7 @@ impl Table for OfLimit {
     }
 }
 
-const TABLES: &[OfLimit] = &[(4, FOUR), (4, SINGLE), (5, FIVE)];
+const TABLES: &[OfLimit] = &[(4, FOUR), (4, SINGLE), (4, HINTED), (5, FIVE)];
 
 #[test]
 fn leaves_of_four_and_of_five_go_as_told(rt: HostRuntime) {
