@@ -1,17 +1,9 @@
-//! One call that opens a folder, runs a course over the store in it, and ends the store.
+//! What is done with a store in a folder.
 
-ghost use Rattle.std.specs.Prelude.{◌≡◌, Type, IfOk, MatchResult};
+ghost use Rattle.std.specs.Prelude.{IfSome, MatchOption};
 ghost use Rattle.bw_home.specs.Ready.{IsReady};
 
-use crate::beginning::{NotBegun, begin};
-use crate::fault::HomeFault;
 use crate::home::Home;
-use crate::looking::look;
-use crate::options::Options;
-use crate::site::{Made, Site};
-use crate::system::System;
-use bw_care::RecoverCause;
-use bw_device::{MAX_LEASES, Segment};
 
 /// What is done with a store in a folder, by a handle `R`.
 ///
@@ -21,7 +13,7 @@ pub trait Course<R>: Drop {
     /// What it answers.
     type Answer;
 
-    // What a course says of its answer; nothing, where it does not tell.
+    // What a course says of its answer: nothing, where it does not tell.
     ghost says: { Self → Self.Answer → Type 0 } = { λ _ _. Unit {0} };
 
     /// Does it.
@@ -31,71 +23,39 @@ pub trait Course<R>: Drop {
         ensures answer { says self result };
 }
 
-// What came of an attempt.
-enum Attempt<A, C> {
-    Ended(A),
-    /// The folder had the beginning of a first frame alone, which was cleared. The course is back.
-    Anew(C),
+/// The same in legs. Between two of them what stands in the place of segments that were given up
+/// becomes spares: a box is made by nobody who is lent the store.
+pub trait Legs<R>: Drop {
+    /// What it answers.
+    type Answer;
+
+    // What it says of its answer: nothing, where it does not tell. A leg adds nothing to that.
+    ghost says: { Self → Self.Answer → Type 0 } = { λ _ _. Unit {0} };
+
+    /// Goes on, up to the answer; `None` asks for another leg.
+    fn leg(&mut self, rt: &R, home: &mut Home) -> Option<Self::Answer>
+        requires { IsReady home.old holding }
+        ensures ready { IsReady home.new holding }
+        ensures answer { MatchOption result
+            ((answer : Self.Answer) → says self.new answer → says self.old answer)
+            (λ answer. says self.old answer) };
 }
 
-// Opens the folder, runs the course over the store in it, and ends the store. Boxes are made here
-// alone: a function that takes or gives a box, or a home, makes none.
-fn try_once<R: System, C: Course<R>>(
-    rt: &R,
-    path: &str,
-    options: &Options,
-    course: C,
-) -> Result<Attempt<C::Answer, C>, HomeFault> {
-    look(rt, path, MAX_LEASES, options.segments, options.capacity)?;
-    let mut site = Site::open(rt, Some(path), MAX_LEASES)?;
-    let mut boxes: Vec<Box<dyn Segment>> = Vec::new(rt.alloc());
-    let mut are_new = true;
-    for _ in 0..site.count(rt, options.segments)? {
-        let made = site.segment(rt, options.capacity)?;
-        are_new &= made.is_empty();
-        let segment: Box<dyn Segment> = match made {
-            Made::Memory(segment) => segment,
-            Made::File(segment) => segment,
-        };
-        boxes.push(segment)?;
-    }
-    let mut home = match begin(rt, options, boxes, are_new, site) {
-        Ok(home) => home,
-        Err(NotBegun::Fault(fault)) => return Err(fault),
-        Err(NotBegun::Beginning(_)) => return Ok(Attempt::Anew(course)),
-    };
-    let answer = course.run(rt, &mut home);
-    home.shut(rt);
-    Ok(Attempt::Ended(answer))
+/// A course as one leg.
+#[derive(Drop)]
+pub(crate) struct Whole<C> {
+    pub(crate) course: Option<C>,
 }
 
-/// Opens the folder of this path, runs the course over the store in it, and ends the store: what was
-/// not flushed is gone then.
-///
-/// The folder is looked at first, and what recovery refuses of it is refused, `Recovery`, and stays as
-/// it is. Then it is locked, and made where it is missing. A folder without bytes has a new store, and
-/// so has one with nothing but the beginning of a first frame, which was never durable; any other
-/// goes on with what it holds.
-///
-/// `Folder`: it, or a file in it, was not listed, opened or made, `InUse` among the reasons. `Store`:
-/// `BadConfig`, where a number of the options is out of its range. `Lease`: more than 4,096 segments.
-/// Nothing in the folder is written in these cases, but that files may be made, of no bytes.
-///
-/// It takes memory for all files twice for a moment, and twice the time of a recovery.
-pub fn with_store<R: System, C: Course<R>>(
-    rt: &R,
-    path: &str,
-    options: &Options,
-    course: C,
-) -> Result<C::Answer, HomeFault>
-    ensures answer { IfOk result (λ answer. C.says course answer) }
-{
-    match try_once(rt, path, options, course)? {
-        Attempt::Ended(answer) => Ok(answer),
-        Attempt::Anew(course) => match try_once(rt, path, options, course)? {
-            Attempt::Ended(answer) => Ok(answer),
-            // Only somebody else can have put such a beginning there once more.
-            Attempt::Anew(_) => Err(HomeFault::Recovery(RecoverCause::Empty)),
-        },
+impl<R, C: Course<R>> Legs<R> for Whole<C> {
+    type Answer = C::Answer;
+
+    ghost says = { λ self answer. IfSome self.course (λ course. C.says course answer) };
+
+    fn leg(&mut self, rt: &R, home: &mut Home) -> Option<C::Answer> {
+        match self.course.take() {
+            Some(course) => Some(course.run(rt, home)),
+            None => None,
+        }
     }
 }

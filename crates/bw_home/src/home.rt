@@ -20,7 +20,7 @@ ghost use Rattle.bw_store.specs.Showing.{CleanShows, FlushShows};
 
 use crate::fault::{HomeFault, NotPut};
 use crate::options::Options;
-use crate::site::Site;
+use crate::site::{Made, Site};
 use crate::system::System;
 use bw_care::Recovered;
 use bw_codec::{Key, Record, Value};
@@ -38,8 +38,12 @@ pub struct Home {
     pub store: Store,
     pub feeds: Vec<Feed>,
     site: Site,
-    /// The lease of the segment that was given up last, as long as its file was not emptied.
+    /// How many bytes a new segment has room for.
+    capacity: u64,
+    /// The lease of the segment that was given up last, as long as nothing stands in its place.
     given_up: Option<u32>,
+    /// What stands in the place of segments that were given up: spares from the next leg on.
+    made: Vec<Made>,
 }
 
 // Whether the feed of this writer took the record; else it comes back.
@@ -57,16 +61,19 @@ fn put_at(feeds: &mut Vec<Feed>, writer: usize, item: Record) -> Result<(), Full
 impl Home {
     ghost use Rattle.bw_home.specs.Ready.{kept_in, IsReady, IsReadyBeside};
 
-    // A store, its feeds, and where its segments stand.
-    fn of(store: Store, feeds: Vec<Feed>, site: Site) -> Home
+    // A store, its feeds, and where its segments stand, of which new ones have this capacity.
+    fn of(store: Store, feeds: Vec<Feed>, site: Site, capacity: u64) -> Home
         ensures store { result.store ≡ store }
         ensures feeds { result.feeds ≡ feeds }
     {
+        let made = Vec::new(*feeds.allocator());
         Home {
             store,
             feeds,
             site,
+            capacity,
             given_up: None,
+            made,
         }
     }
 
@@ -83,7 +90,7 @@ impl Home {
         ensures writers { IfOk result (λ home. vec_len home.feeds ≡ options.now.writers) }
     {
         match Store::open(rt, alloc, &options.config(), segments) {
-            Ok((store, feeds)) => Ok(Home::of(store, feeds, site)),
+            Ok((store, feeds)) => Ok(Home::of(store, feeds, site, options.capacity)),
             Err(fault) => Err(HomeFault::from(fault.cause)),
         }
     }
@@ -107,7 +114,7 @@ impl Home {
             ..
         } = *options;
         match Store::reopen(rt, alloc, found, writers, places, readers) {
-            Ok((store, feeds)) => Ok(Home::of(store, feeds, site)),
+            Ok((store, feeds)) => Ok(Home::of(store, feeds, site, options.capacity)),
             Err(fault) => Err(HomeFault::from(fault.cause)),
         }
     }
@@ -271,12 +278,12 @@ impl Home {
         self.store.scan(key, most, found)
     }
 
-    /// Gives up the oldest segment, and empties its file, which is a spare when the folder is opened
-    /// the next time.
+    /// Gives up the oldest segment, and empties its file. A new segment over a file without bytes
+    /// stands in its place: a spare from the next leg on, or once the folder is opened again.
     ///
     /// Refused `Store`, and `NoMemory`, as `Store::clean` is, which says what stands then. `Folder`,
-    /// where the file was not emptied: the segment is given up all the same. The next call empties it
-    /// first, and gives up no other before.
+    /// and `NoMemory` too, where the file was not emptied or the new segment not made: the old one is
+    /// given up all the same. The next call does that first, and gives up no other before.
     pub fn clean<R: System>(&mut self, rt: &R) -> Result<Cleaned, HomeFault>
         requires { IsReady self.old holding }
         ensures ready { IsReady self.new holding }
@@ -286,16 +293,16 @@ impl Home {
         ensures each_cut { EachCutStands (kept_in self.new holding) }
         ensures follows { Continues (kept_in self.old holding) (kept_in self.new holding) }
     {
-        self.empty_given_up(rt)?;
+        self.renew(rt)?;
         let cleaned = self.store.clean(rt)?;
         self.given_up = Some(cleaned.lease);
-        self.empty_given_up(rt)?;
+        self.renew(rt)?;
         Ok(cleaned)
     }
 
-    // Empties the file of the segment that was given up last. A stop must never show a later one gone
-    // and an earlier one still there.
-    fn empty_given_up<R: System>(&mut self, rt: &R) -> Result<(), HomeFault>
+    // Empties the file of the segment that was given up last, and makes a new one. A stop must never
+    // show a later segment gone and an earlier one still there.
+    fn renew<R: System>(&mut self, rt: &R) -> Result<(), HomeFault>
         requires { IsReady self.old holding }
         ensures ready { IsReady self.new holding }
         ensures feeds { self.new.feeds ≡ self.old.feeds }
@@ -303,9 +310,27 @@ impl Home {
     {
         if let Some(lease) = self.given_up {
             self.site.empty(rt, lease)?;
+            let made = self.site.spare(rt, self.capacity)?;
+            self.made.push(made)?;
             self.given_up = None;
         }
         Ok(())
+    }
+
+    /// A segment that stands in the place of one that was given up, and is no spare yet.
+    pub(crate) fn next_made(&mut self) -> Option<Made>
+        requires { IsReady self.old holding }
+        ensures { IsReady self.new holding }
+    {
+        self.made.pop()
+    }
+
+    /// Adds a spare. Where that is refused, there is one fewer until the folder is opened again.
+    pub(crate) fn add(&mut self, spare: Box<dyn Segment>)
+        requires { IsReadyBeside self.old holding }
+        ensures { IsReadyBeside self.new holding }
+    {
+        let _ = self.store.add_segment(spare);
     }
 
     /// Ends the store. Nothing is flushed, and its segments are dropped.
@@ -316,7 +341,9 @@ impl Home {
             store,
             feeds: _feeds,
             site: _site,
+            capacity: _,
             given_up: _,
+            made: _made,
         } = self;
         let _ = store.shut(rt);
     }

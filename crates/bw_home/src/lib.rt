@@ -13,15 +13,17 @@ mod course;
 mod fault;
 mod home;
 mod looking;
+mod opening;
 mod options;
 mod site;
 mod system;
 
 pub use beginning::{Beginning, NotBegun, begin, beginning_of};
-pub use course::{Course, with_store};
+pub use course::{Course, Legs};
 pub use fault::{HomeFault, NotPut};
 pub use home::Home;
 pub use looking::look;
+pub use opening::{with_store, with_store_in_legs};
 pub use options::Options;
 pub use site::{Made, Site, count_over, desk_of, taken};
 pub use system::System;
