@@ -1,14 +1,18 @@
-//! A folder is opened, and a course puts two records there and walks over them; the folder then gives
-//! them back, and one that is damaged is refused and stays as it is.
+//! A store in a folder, by one call: what a course puts there is found again, what is refused stays as
+//! it is, and the room of segments that are given up comes back.
+
+mod again;
+mod refused;
 
 use bw_codec::{Key, Record, Value};
-use bw_home::{Course, Home, HomeFault, Options, System, with_store};
+use bw_home::{Course, Home, Options, System, with_store};
 use std::fs;
 use std::test::Fail;
 
 /// A key and its value.
 type Pair = (Key, Value);
 
+/// Puts two records, and walks to the first pair.
 #[derive(Drop)]
 struct PutAndWalk;
 
@@ -24,7 +28,7 @@ impl<R: System> Course<R> for PutAndWalk {
     }
 }
 
-/// The first pair that a folder has, without a put.
+/// Walks to the first pair of what the folder has.
 #[derive(Drop)]
 struct Walk;
 
@@ -32,11 +36,12 @@ impl<R: System> Course<R> for Walk {
     type Answer = Result<Option<Pair>, Fail>;
 
     fn run(self, _rt: &R, home: &mut Home) -> Result<Option<Pair>, Fail> {
-        Ok(home.next_at(&Key::new(b"a")?)?)
+        let pair = home.next_at(&Key::new(b"a")?)?;
+        Ok(pair)
     }
 }
 
-// Whether this is the pair that `PutAndWalk` puts first.
+// Whether it is the pair that `PutAndWalk` puts first.
 fn is_first(pair: Option<Pair>) -> bool {
     match pair {
         Some((key, value)) => key.as_slice() == b"k".as_slice()
@@ -47,9 +52,17 @@ fn is_first(pair: Option<Pair>) -> bool {
 
 #[test]
 fn the_first_example_of_readme_reads_its_pair(rt: HostRuntime) -> Result<(), Fail> {
-    let path = "folder_tests_data";
+    let path = "folder_tests_first";
     let pair = with_store(&rt, path, &Options::default(), PutAndWalk)??;
     assert!(&rt; is_first(pair));
+    fs::remove_dir_all(&rt, path)?;
+    Ok(())
+}
+
+#[test]
+fn a_second_call_reads_the_pair_again(rt: HostRuntime) -> Result<(), Fail> {
+    let path = "folder_tests_second";
+    let _put = with_store(&rt, path, &Options::default(), PutAndWalk)??;
     let pair = with_store(&rt, path, &Options::default(), Walk)??;
     assert!(&rt; is_first(pair));
     fs::remove_dir_all(&rt, path)?;
