@@ -1,7 +1,7 @@
 //! A store begins over boxes: a new one, or the one that they hold. A folder that has the beginning
 //! of a first frame alone has none: that beginning is cleared, and the store begins anew.
 
-ghost use Rattle.std.specs.Prelude.{◌≡◌, vec_len, IfOk};
+ghost use Rattle.std.specs.Prelude.{IfOk};
 ghost use Rattle.bw_home.specs.Ready.{IsReadyBeside};
 
 use crate::fault::HomeFault;
@@ -22,11 +22,11 @@ pub struct Beginning {
 }
 
 /// Why no store began.
-pub enum NotBegun {
+pub(crate) enum NotBegun {
     Fault(HomeFault),
     /// There was the beginning of a first frame alone. Nothing of that is there any more, so another
     /// attempt finds a folder of no bytes.
-    Beginning(Beginning),
+    Cleared,
 }
 
 impl From<HomeFault> for NotBegun {
@@ -80,15 +80,15 @@ pub fn beginning_of(fault: RecoverFault) -> Result<Beginning, HomeFault> {
 }
 
 /// Empties the file of the beginning of a first frame, where that is all there was.
-fn clear<R: System>(rt: &R, site: &Site, fault: RecoverFault) -> Result<Beginning, HomeFault> {
+fn clear<R: System>(rt: &R, site: &Site, fault: RecoverFault) -> Result<(), HomeFault> {
     let beginning = beginning_of(fault)?;
     site.empty(rt, beginning.lease)?;
-    Ok(beginning)
+    Ok(())
 }
 
 /// A new store where all boxes are new, and else the one that they hold. Where they have the
 /// beginning of a first frame alone, that is cleared.
-pub fn begin<R: System>(
+pub(crate) fn begin<R: System>(
     rt: &R,
     options: &Options,
     boxes: Vec<Box<dyn Segment>>,
@@ -96,14 +96,16 @@ pub fn begin<R: System>(
     site: Site,
 ) -> Result<Home, NotBegun>
     requires { Unit {0} }
-    ensures ready { IfOk result (λ home. IsReadyBeside home holding) }
-    ensures writers { IfOk result (λ home. vec_len home.feeds ≡ options.now.writers) }
+    ensures { IfOk result (λ home. IsReadyBeside home holding) }
 {
     if are_new {
         return Ok(Home::open(rt, rt.alloc(), options, boxes, site)?);
     }
     match recover(rt.alloc(), boxes) {
         Ok(found) => Ok(Home::reopen(rt, rt.alloc(), options, found, site)?),
-        Err(fault) => Err(NotBegun::Beginning(clear(rt, &site, fault)?)),
+        Err(fault) => {
+            clear(rt, &site, fault)?;
+            Err(NotBegun::Cleared)
+        }
     }
 }

@@ -1,6 +1,6 @@
 //! A store in a folder, with the feeds of its writers.
 
-ghost use Rattle.std.specs.Prelude.{◌≡◌, ◌<◌, ◌++◌, ◌∷◌, [], false, Err, length, map, slice_set, slice_index_or, vec_len, IfOk, IfErr, OnOk, OnErr, MatchResult};
+ghost use Rattle.std.specs.Prelude.{◌≡◌, ◌<◌, ◌≤◌, Ok, length, map, IfOk, IfErr, OnOk, OnErr, MatchResult};
 ghost use Rattle.std.specs.FinMap as finite;
 ghost use Rattle.std.specs.List.{AllByRecursion};
 ghost use Rattle.bw_page.specs.Ahead.{IsFirst, IsStretch};
@@ -11,9 +11,11 @@ ghost use Rattle.bw_ring.specs.Ends.{accepted, ring_of_feed};
 ghost use Rattle.bw_care.specs.Found.{IsRecovered};
 ghost use Rattle.bw_versions.specs.Entries.{records};
 ghost use Rattle.bw_home.specs.Putting.{Added};
-ghost use Rattle.bw_store.specs.Following.{Continues, Follows, HasBoxes, Turned};
+ghost use Rattle.bw_store.specs.Faults.{FlushAnswers, flush_refusal};
+ghost use Rattle.bw_store.specs.Following.{Continues, Follows, HasBoxes, RefusedAfter, TookInTurn, Turned, groups_since};
 ghost use Rattle.bw_store.specs.History.{streams};
 ghost use Rattle.bw_store.specs.Kept.{EachCutStands, TellsShare};
+ghost use Rattle.bw_store.specs.Lanes.{AreDry};
 ghost use Rattle.bw_store.specs.Reading.{HasRead};
 ghost use Rattle.bw_store.specs.Settled.{IsAllCut, IsSettled};
 ghost use Rattle.bw_store.specs.Showing.{CleanShows, FlushShows};
@@ -86,8 +88,7 @@ impl Home {
         site: Site,
     ) -> Result<Home, HomeFault>
         requires { Unit {0} }
-        ensures ready { IfOk result (λ home. IsReadyBeside home holding) }
-        ensures writers { IfOk result (λ home. vec_len home.feeds ≡ options.now.writers) }
+        ensures { IfOk result (λ home. IsReadyBeside home holding) }
     {
         match Store::open(rt, alloc, &options.config(), segments) {
             Ok((store, feeds)) => Ok(Home::of(store, feeds, site, options.capacity)),
@@ -104,8 +105,7 @@ impl Home {
         site: Site,
     ) -> Result<Home, HomeFault>
         requires { IsRecovered (λ b. holding (b.vtable, b.value)) found }
-        ensures ready { IfOk result (λ home. IsReady home holding) }
-        ensures writers { IfOk result (λ home. vec_len home.feeds ≡ options.now.writers) }
+        ensures { IfOk result (λ home. IsReady home holding) }
     {
         let Options {
             writers,
@@ -181,6 +181,16 @@ impl Home {
         ensures turned { MatchResult result
             (λ n. Turned n (kept_in self.old holding) (kept_in self.new holding))
             (λ fault. Turned fault.taken (kept_in self.old holding) (kept_in self.new holding)) }
+        ensures within { IfOk result (λ n.
+            groups_since (kept_in self.old holding) (kept_in self.new holding) ≤ limit) }
+        ensures dry { IfOk result (λ n.
+            groups_since (kept_in self.old holding) (kept_in self.new holding) < limit
+            → AreDry self.new.store.intake.lanes.items) }
+        ensures took { IfOk result (λ n.
+            TookInTurn n (kept_in self.old holding) (kept_in self.new holding)) }
+        ensures refused { IfErr result (λ fault. RefusedAfter fault.taken
+            (kept_in self.old holding) self.new.store.intake.lanes.items fault.cause
+            (kept_in self.new holding)) }
     {
         self.store.turn(limit)
     }
@@ -191,6 +201,7 @@ impl Home {
         requires { IsReady self.old holding }
         ensures ready { IsReady self.new holding }
         ensures feeds { self.new.feeds ≡ self.old.feeds }
+        ensures answers { FlushAnswers (flush_refusal (kept_in self.old holding)) result }
         ensures leaves { FlushShows (kept_in self.old holding) result (kept_in self.new holding) }
         ensures settled { OnOk result (IsSettled (kept_in self.new holding)) }
         ensures each_cut { EachCutStands (kept_in self.new holding) }

@@ -18,12 +18,12 @@ mod options;
 mod site;
 mod system;
 
-pub use beginning::{Beginning, NotBegun, begin, beginning_of};
+pub use beginning::{Beginning, beginning_of};
 pub use course::{Course, Legs};
 pub use fault::{HomeFault, NotPut};
 pub use home::Home;
 pub use looking::look;
 pub use opening::{with_store, with_store_in_legs};
 pub use options::Options;
-pub use site::{Made, Site, count_over, desk_of, taken};
+pub use site::{Made, Site};
 pub use system::System;

@@ -40,7 +40,7 @@ fn go<R: System, L: Legs<R>>(
     let mut home = match begin(rt, options, boxes, are_new, site) {
         Ok(home) => home,
         Err(NotBegun::Fault(fault)) => return Err(fault),
-        Err(NotBegun::Beginning(_)) => return Ok(None),
+        Err(NotBegun::Cleared) => return Ok(None),
     };
     'legs: for _ in rt.forever() {
         if let Some(made) = home.next_made() {

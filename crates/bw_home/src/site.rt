@@ -41,13 +41,13 @@ impl Made {
 }
 
 /// A desk of so many leases.
-pub fn desk_of(alloc: Global, leases: u32) -> Result<Desk, HomeFault> {
+pub(crate) fn desk_of(alloc: Global, leases: u32) -> Result<Desk, HomeFault> {
     Ok(Desk::new(alloc, leases)?)
 }
 
 /// How many segments a store begins with: so many at least, and one for each lease up to the last of
 /// these, which have a file.
-pub fn count_over(leases: &[u32], least: u32) -> u32 {
+pub(crate) fn count_over(leases: &[u32], least: u32) -> u32 {
     match leases.last() {
         Some(last) => least.max(last.saturating_add(1)),
         None => least,
@@ -55,7 +55,7 @@ pub fn count_over(leases: &[u32], least: u32) -> u32 {
 }
 
 /// A lease of the desk, the least that is free.
-pub fn taken(desk: &mut Desk) -> Result<Lease, HomeFault> {
+pub(crate) fn taken(desk: &mut Desk) -> Result<Lease, HomeFault> {
     Ok(desk.take()?)
 }
 
