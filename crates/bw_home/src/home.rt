@@ -61,12 +61,14 @@ fn put_at(feeds: &mut Vec<Feed>, writer: usize, item: Record) -> Result<(), Full
 }
 
 impl Home {
+    ghost use Rattle.bw_store.specs.Views.{kept_by, IsSound};
     ghost use Rattle.bw_home.specs.Ready.{kept_in, IsReady, IsReadyBeside};
 
     // A store, its feeds, and where its segments stand, of which new ones have this capacity.
     fn of(store: Store, feeds: Vec<Feed>, site: Site, capacity: u64) -> Home
-        ensures store { result.store ≡ store }
-        ensures feeds { result.feeds ≡ feeds }
+        requires sound { IsSound store holding }
+        requires feeds { map ring_of_feed feeds.items ≡ (kept_by store holding).rings }
+        ensures { IsReady result holding }
     {
         let made = Vec::new(*feeds.allocator());
         Home {
