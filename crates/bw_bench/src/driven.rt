@@ -63,6 +63,7 @@ fn drive_span<R: Threads + Wait>(
         limit: u32::from(bench.options.batch).max(1),
         flush_every: 1,
         clean_at: 0,
+        forgets: false,
     };
     let scripts = scripts_of(bench, span, feeds.len())?;
     let start = bench.now();

@@ -18,7 +18,7 @@ use crate::gate::Gate;
 use crate::pace::Pace;
 use crate::plan::Plan;
 use crate::starting::{end_all, start_all};
-use crate::tending::tend;
+use crate::tending::{tell, tend};
 use crate::writers::Writer;
 use bw_ring::{Feed, Group};
 use bw_store::{Store, StoreFault};
@@ -105,7 +105,9 @@ fn run_writers<'s, E, R: Threads + Wait, G: Gate>(
     let count = feeds.len() as u64;
     let (writers, are_all) = start_all(scope, feeds, scripts, writers, gate, flags, max_turns);
     let mut pace = Pace::new();
-    let run = tend(rt, store, &mut pace, flags, are_all, count, plan, max_turns);
+    let run = tend(
+        rt, store, gate, &mut pace, flags, are_all, count, plan, max_turns,
+    );
     if run.is_err() {
         flags.stop();
     }
@@ -118,11 +120,12 @@ fn run_writers<'s, E, R: Threads + Wait, G: Gate>(
 }
 
 // Settles where nothing was refused. What the run was before it, is what both are from its start.
-fn finish<R: Wait>(
+fn finish<R: Wait, G: Gate>(
     rt: &R,
     store: &mut Store,
     left: Left,
-    clean_at: u32,
+    gate: &G,
+    plan: Plan,
 ) -> Result<Driven, DriveFault>
     requires sound { IsSound store.old holding }
     requires feeds { map ring_of_feed left.feeds.items ≡ (kept_by store.old holding).rings }
@@ -133,13 +136,13 @@ fn finish<R: Wait>(
         (λ fault. WroteSome first scripts fault.feeds.items) }
     ensures settled { IfOk result (λ driven.
         HasSettled (kept_by store.new holding) driven.feeds.items driven.entries) }
-    ensures refused { (first : Kept) → Runs clean_at first (kept_by store.old holding)
-        → IfErr left.run (λ cause. Stops clean_at first cause (kept_by store.old holding))
+    ensures refused { (first : Kept) → Runs plan.clean_at first (kept_by store.old holding)
+        → IfErr left.run (λ cause. Stops plan.clean_at first cause (kept_by store.old holding))
         → IfErr result (λ fault.
-        Stops clean_at first fault.cause (kept_by store.new holding)) }
+        Stops plan.clean_at first fault.cause (kept_by store.new holding)) }
     ensures sound { IsSound store.new holding }
-    ensures runs { (first : Kept) → Runs clean_at first (kept_by store.old holding)
-        → Runs clean_at first (kept_by store.new holding) }
+    ensures runs { (first : Kept) → Runs plan.clean_at first (kept_by store.old holding)
+        → Runs plan.clean_at first (kept_by store.new holding) }
 {
     let Left {
         mut feeds,
@@ -150,11 +153,14 @@ fn finish<R: Wait>(
         return Err(DriveFault { feeds, cause });
     }
     match store.settle(rt, &mut feeds) {
-        Ok(entries) => Ok(Driven {
-            feeds,
-            accepted,
-            entries,
-        }),
+        Ok(entries) => {
+            tell(store, gate, feeds.len() as u64, plan.forgets);
+            Ok(Driven {
+                feeds,
+                accepted,
+                entries,
+            })
+        }
         Err(cause) => Err(DriveFault { feeds, cause }),
     }
 }
@@ -165,7 +171,8 @@ fn finish<R: Wait>(
 ///
 /// A writer tries each group until its feed accepts it, at most `max_turns` times, between
 /// `gate.before` and `gate.after`; where these tries are used up it ends. The caller's thread turns
-/// at most `max_turns` times, and then waits for the writers.
+/// at most `max_turns` times, and then waits for the writers. Behind each flush and the last settle
+/// it tells `gate.durable` how many records of each writer are durable.
 ///
 /// The first refusal ends the run, and is the cause: memory or a thread that cannot be had before
 /// the store is turned (`NoMemory`), a turn, a flush, a cleaning, or the last settle. Nothing is
@@ -228,5 +235,5 @@ pub fn drive<R: Threads + Wait, G: Gate>(
             (store, left)
         },
     );
-    finish(rt, store, left, plan.clean_at)
+    finish(rt, store, left, gate, plan)
 }

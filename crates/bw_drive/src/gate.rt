@@ -10,6 +10,10 @@ pub trait Gate: Sync {
     fn before(&self, writer: usize, index: u64);
 
     fn after(&self, writer: usize, index: u64);
+
+    /// Is told in the store's thread, behind each flush and behind the last settle, how many records
+    /// of the writer are durable: `Store::durable_of`. So a writer may answer its own client.
+    fn durable(&self, _writer: usize, _count: u64) {}
 }
 
 /// Lets every group pass.

@@ -9,4 +9,6 @@ pub struct Plan {
     pub flush_every: u32,
     /// After a flush the oldest segment is given up where so many are live or more; 0 for never.
     pub clean_at: u32,
+    /// Whether the history leaves memory behind each flush, as far as readers have it.
+    pub forgets: bool,
 }

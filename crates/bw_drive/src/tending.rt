@@ -7,6 +7,7 @@ ghost use Rattle.bw_drive.specs.Pace.{FlushesAndCleans, FlushOrCleanStops, Paces
 ghost use Rattle.bw_drive.specs.Ran.{Runs, StopsAfter, Stops};
 
 use crate::flags::{Ended, Flags};
+use crate::gate::Gate;
 use crate::pace::Pace;
 use crate::plan::Plan;
 use bw_store::{Store, StoreFault};
@@ -60,12 +61,39 @@ fn turn_and_tend<R: Wait>(
     flush_and_clean(rt, store, plan.clean_at)
 }
 
+/// Tells each writer's gate how much of it is durable, and lets go of what readers have of the
+/// history where the plan wants it. A store has at most 64 writers.
+pub(crate) fn tell<G: Gate>(store: &mut Store, gate: &G, writers: u64, forgets: bool)
+    requires sound { IsSound store.old holding }
+    ensures sound { IsSound store.new holding }
+    ensures same { kept_by store.new holding ≡ kept_by store.old holding }
+{
+    for writer in 0..writers.min(64) {
+        gate.durable(writer as usize, store.durable_of(writer as u16));
+    }
+    if forgets {
+        let _ = store.forget();
+    }
+}
+
+// The same behind a turn, where a flush was due.
+fn tell_due<G: Gate>(store: &mut Store, gate: &G, writers: u64, is_due: bool, plan: Plan)
+    requires sound { IsSound store.old holding }
+    ensures sound { IsSound store.new holding }
+    ensures same { kept_by store.new holding ≡ kept_by store.old holding }
+{
+    if is_due {
+        tell(store, gate, writers, plan.forgets);
+    }
+}
+
 /// Turns, flushes and cleans by the plan until so many writers have ended, at most `max_turns` turns,
 /// and answers what the flags told last. Where not each of them has a thread, the store is left
 /// alone.
-pub(crate) fn tend<R: Wait>(
+pub(crate) fn tend<R: Wait, G: Gate>(
     rt: &R,
     store: &mut Store,
+    gate: &G,
     pace: &mut Pace,
     flags: &Flags,
     are_all: bool,
@@ -103,6 +131,7 @@ pub(crate) fn tend<R: Wait>(
         }
         let is_due = (turn + 1) % every == 0;
         turn_and_tend(rt, store, pace, is_due, plan)?;
+        tell_due(store, gate, writers, is_due, plan);
     }
     Ok(None)
 }

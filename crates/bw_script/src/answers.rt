@@ -121,7 +121,8 @@ fn write_leases<O: Write>(out: &mut Printer<'_, O>, site: &Site) {
 fn write_stats<O: Write>(out: &mut Printer<'_, O>, session: &Session)
     requires { IsReady session.now holding }
 {
-    out.named("history ", session.store.history().len());
+    let kept = session.store.history().len() as u64;
+    out.named("history ", session.store.forgotten().saturating_add(kept));
     out.named(" durable ", session.durable());
     out.named(" segments ", session.store.live());
     out.named(" spares ", session.store.spares());

@@ -216,6 +216,16 @@ impl Session {
         }
     }
 
+    /// The answer, once the history has left memory as far as readers have it: a program that is
+    /// served asks for pairs and pages, and never for the history.
+    fn forgotten(&mut self, answer: Answer) -> Answer
+        requires { IsReady self.old holding }
+        ensures { IsReady self.new holding }
+    {
+        let _ = self.store.forget();
+        answer
+    }
+
     /// The pair with the least key at or above this one, as the history leaves it.
     fn next_at(&mut self, key: &Key) -> Result<Answer, Miss>
         requires { IsReady self.old holding }
@@ -246,9 +256,18 @@ impl Session {
     {
         match request {
             Request::Put(group) => return self.put_taking(0, group),
-            Request::Flush => return self.flush(rt),
-            Request::Settle => return self.settle(rt),
-            Request::Clean => return self.clean(rt),
+            Request::Flush => {
+                let answer = self.flush(rt)?;
+                return Ok(self.forgotten(answer));
+            }
+            Request::Settle => {
+                let answer = self.settle(rt)?;
+                return Ok(self.forgotten(answer));
+            }
+            Request::Clean => {
+                let answer = self.clean(rt)?;
+                return Ok(self.forgotten(answer));
+            }
             Request::Durable => return Ok(Answer::Durable(self.durable())),
             Request::Stats => return Ok(Answer::Stats),
             _ => {}

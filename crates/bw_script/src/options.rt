@@ -76,6 +76,8 @@ pub struct Pace {
     pub clean_at: u32,
     /// How often a group is tried, and how many turns there are, at most: 1 to 1,000,000,000.
     pub tries: u32,
+    /// Whether the history leaves memory behind each flush.
+    pub forgets: bool,
 }
 
 /// What an option takes.
@@ -205,6 +207,12 @@ const TRIES: Row = Row {
     help: "how often a group is tried, and how many turns there are, at most",
 };
 
+const FORGET: Row = Row {
+    name: "forget",
+    kind: Kind::Flag,
+    help: "lets what is flushed of the history leave memory",
+};
+
 /// The store of a script.
 const REPLAY: [Row; 8] = [
     WRITERS, PLACES, M, FRAME, SEGMENTS, CAPACITY, STORE_DIR, TAKE,
@@ -232,7 +240,7 @@ const SERVE: [Row; 6] = [
 const RESTORE: [Row; 3] = [FROM, TO, AS_OF];
 
 /// The store of several writers, then how it is tended, and how often a group is tried.
-const THREADS: [Row; 11] = [
+const THREADS: [Row; 12] = [
     Row {
         kind: Kind::Number(1, 64, "2"),
         ..WRITERS
@@ -250,6 +258,7 @@ const THREADS: [Row; 11] = [
     FLUSH_EVERY,
     CLEAN_AT,
     TRIES,
+    FORGET,
 ];
 
 /// A mode of the program: its name, what it does, and its options in the order of the help.
@@ -383,6 +392,7 @@ fn pace_of<'a>(found: &ArgMatches<'a>) -> Pace {
         flush_every: found.get_one("flush-every").unwrap_or(0),
         clean_at: found.get_one("clean-at").unwrap_or(0),
         tries: found.get_one("tries").unwrap_or(0),
+        forgets: found.get_flag("forget"),
     }
 }
 

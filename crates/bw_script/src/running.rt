@@ -77,6 +77,7 @@ impl Session {
             limit: pace.limit.max(1),
             flush_every: pace.flush_every.max(1),
             clean_at: pace.clean_at,
+            forgets: pace.forgets,
         };
         let tries = u64::from(pace.tries);
         let feeds = mem::replace(&mut self.feeds, Vec::new(rt.alloc()));

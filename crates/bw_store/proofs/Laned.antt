@@ -1,13 +1,13 @@
 -- The records of each writer, where a group is entered.
 
-use Rattle.std.proofs.Common.{◌≡◌, ◌≢◌, ℕ, zero, suc, ◌+◌, ◌<◌, ◌≤◌, Bool, true, false, Option}
-use Rattle.std.proofs.Common.{Some, None, List, [], ◌∷◌, ◌++◌, map, length, set, get_or, take, drop, refl}
+use Rattle.std.proofs.Common.{◌≡◌, ◌≢◌, ℕ, zero, suc, ◌+◌, ◌-◌, ◌<◌, ◌≤◌, Bool, true, false, Option}
+use Rattle.std.proofs.Common.{Some, None, List, [], ◌∷◌, ◌++◌, map, length, length-append, set, get_or, take, drop, refl}
 use Rattle.std.proofs.Common.{sym, ap, ◌∙◌, subst, arith, append-nil, replicate, if◌then◌else◌}
-use Rattle.std.specs.Prelude.{◌==◌, nat_le}
+use Rattle.std.specs.Prelude.{◌==◌, ◌&&◌, nat_le}
 use Rattle.std.specs.List.{slice_get, AllByRecursion as All}
 use Rattle.std.specs.Option.{IsSomeAnd}
 use Rattle.std.proofs.lemmas.Bool.{eq-eqb, ne_eqb, leb-true, leb-false}
-use Rattle.std.proofs.lemmas.List.{length-map, length-replicate}
+use Rattle.std.proofs.lemmas.List.{length-map, length-replicate, length-take, take_more, take-append-drop}
 use mathlib.Core.List.{IsPrefix}
 use Rattle.bw_codec.specs.declared.record.Record.{Record}
 use Rattle.bw_versions.specs.declared.entry.Entry.{Entry}
@@ -17,7 +17,7 @@ use Rattle.bw_ring.specs.declared.feed.Feed.{Feed}
 use Rattle.bw_ring.specs.Marks.{Marked, marked, joined}
 use Rattle.bw_ring.specs.Ends.{accepted, taken, known, given, ring_of_feed, ring_of_lane}
 use Rattle.bw_store.specs.Lanes.{known_at, IsNext, IsDry, Dries, AreDry, TookAt, TookKnown, StayDry}
-use Rattle.bw_store.specs.History.{of_writer, streams, entered}
+use Rattle.bw_store.specs.History.{of_writer, streams, counts_of, entered, is_grouped}
 
 if_more : (b : Bool) (r : Marked) (xs ys : List Marked) (x : List Marked) → ys ≡ xs ++ x → (if b then r ∷ ys else ys) ≡ (if b then r ∷ xs else xs) ++ x
 if_more true r xs ys x e = ap (λ (l : List Marked). r ∷ l) e
@@ -257,3 +257,156 @@ pub writers_of : (lanes : List Lane) (feeds : List Feed) (es : List Entry) → m
     → All (λ e. e.writer < length (map ring_of_lane lanes)) es → All (λ e. e.writer < length feeds) es
 writers_of lanes feeds es ends all =
     subst (λ n. All (λ (e : Entry). e.writer < n) es) (length-map lanes ring_of_lane ∙ sym (as_many ring_of_feed ring_of_lane feeds lanes ends)) all
+
+-- ---- how many records each writer has
+
+marked_count : (g : List Record) → length (marked g) ≡ length g
+marked_count [] = refl
+marked_count (r ∷ []) = refl
+marked_count (r ∷ s ∷ rs) = ap suc (marked_count (s ∷ rs))
+
+count_at : (xs : List (List Marked)) (i : ℕ) → get_or (map (λ (ms : List Marked). length ms) xs) i 0 ≡ length (get_or xs i [])
+count_at [] i = refl
+count_at (x ∷ xs) zero = refl
+count_at (x ∷ xs) (suc i) = count_at xs i
+
+streams_length : (w n : ℕ) (es : List Entry) → length (streams w n es) ≡ n
+streams_length w zero es = refl
+streams_length w (suc n) es = ap suc (streams_length (suc w) n es)
+
+stream_at : (w n i : ℕ) (es : List Entry) → i < n → get_or (streams w n es) i [] ≡ of_writer (w + i) es
+stream_at w zero i es lt = absurd (omega arith)
+stream_at w (suc n) zero es lt = (let is : w ≡ w + 0 = omega arith in ap (λ k. of_writer k es) is)
+stream_at w (suc n) (suc i) es lt =
+    (let is : suc w + i ≡ w + suc i = omega arith in stream_at (suc w) n i es (omega arith) ∙ ap (λ k. of_writer k es) is)
+
+-- the count of a writer is the number of its records
+pub count_of_writer : (n i : ℕ) (es : List Entry) → i < n → get_or (counts_of n es) i 0 ≡ length (of_writer i es)
+count_of_writer n i es lt =
+    (let is : 0 + i ≡ i = omega arith in
+    count_at (streams 0 n es) i ∙ ap length (stream_at 0 n i es lt) ∙ ap (λ k. length (of_writer k es)) is)
+
+pub counts_length : (n : ℕ) (es : List Entry) → length (counts_of n es) ≡ n
+counts_length n es = length-map (streams 0 n es) (λ (ms : List Marked). length ms) ∙ streams_length 0 n es
+
+few_if : (b : Bool) (m : Marked) (ms : List Marked) (n : ℕ) → length ms ≤ n → length (if b then m ∷ ms else ms) ≤ suc n
+few_if true m ms n le = omega arith
+few_if false m ms n le = omega arith
+
+-- a writer has no more records than there are entries
+pub writer_few : (w : ℕ) (es : List Entry) → length (of_writer w es) ≤ length es
+writer_few w [] = omega arith
+writer_few w (e ∷ es) = few_if (e.writer == w) (record { item = e.item; more = e.more }) (of_writer w es) (length es) (writer_few w es)
+
+set_same : (xs : List ℕ) (i : ℕ) (n m : ℕ) → n ≡ m → set xs i n ≡ set xs i m
+set_same xs i n m e = ap (λ k. set xs i k) e
+
+-- a group more
+pub counts_more : (n i : ℕ) (es after : List Entry) (g : List Record) → i < n → after ≡ es ++ entered i (marked g)
+    → counts_of n after ≡ set (counts_of n es) i (get_or (counts_of n es) i 0 + length g)
+counts_more n i es after g lt more =
+    let size : List Marked → ℕ = λ ms. length ms in
+    let here = get_or (streams 0 n es) i [] in
+    let count : length (here ++ marked g) ≡ get_or (counts_of n es) i 0 + length g =
+        length-append here (marked g) ∙ ap (λ k. length here + k) (marked_count g) ∙ ap (λ k. k + length g) (sym (count_at (streams 0 n es) i)) in
+    ap (counts_of n) more
+    ∙ ap (map size) (streams_more 0 n i i es (marked g) (omega arith) lt)
+    ∙ map_set size (streams 0 n es) i (here ++ marked g)
+    ∙ set_same (counts_of n es) i _ _ count
+
+-- and there is room for its count among all entries
+pub counts_within : (n i : ℕ) (es after : List Entry) (g : List Record) → i < n → after ≡ es ++ entered i (marked g)
+    → get_or (counts_of n es) i 0 + length g ≤ length after
+counts_within n i es after g lt more =
+    let was = count_of_writer n i es lt in
+    let few = writer_few i es in
+    let all = ap length more ∙ length-append es (entered i (marked g)) in
+    let added : length (entered i (marked g)) ≡ length g = length-map (marked g) _ ∙ marked_count g in
+    omega arith
+
+zeros : (n : ℕ) → map (λ (ms : List Marked). length ms) (replicate n []) ≡ replicate n 0
+zeros zero = refl
+zeros (suc n) = ap (λ (l : List ℕ). 0 ∷ l) (zeros n)
+
+-- no record yet
+pub no_counts : (n : ℕ) (es : List Entry) → es ≡ [] → counts_of n es ≡ replicate n 0
+no_counts n es none = ap (counts_of n) none ∙ ap (map (λ (ms : List Marked). length ms)) (no_streams 0 n) ∙ zeros n
+
+of_writer_append : (w : ℕ) (xs ys : List Entry) → of_writer w (xs ++ ys) ≡ of_writer w xs ++ of_writer w ys
+of_writer_append w [] ys = refl
+of_writer_append w (x ∷ xs) ys =
+    if_more (x.writer == w) (record { item = x.item; more = x.more }) (of_writer w xs) (of_writer w (xs ++ ys)) (of_writer w ys) (of_writer_append w xs ys)
+
+one_of : (b : Bool) (m : Marked) → length (if b then m ∷ [] else (let none : List Marked = [] in none)) ≡ (if b then 1 else 0)
+one_of true m = refl
+one_of false m = refl
+
+-- one entry more, which is this writer's or is not
+pub count_next : (w : ℕ) (es : List Entry) (i n : ℕ) (e : Entry) (b : Bool) → i < length es → e ≡ get_or es i e → (e.writer == w) ≡ b
+    → n ≡ length (of_writer w (take i es)) → n + (if b then 1 else 0) ≡ length (of_writer w (take (i + 1) es))
+count_next w es i n e b lt at is so_far =
+    let last : of_writer w (e ∷ []) ≡ (if b then record { item = e.item; more = e.more } ∷ [] else []) =
+    ap (λ (t : Bool). if t then (let m : Marked = record { item = e.item; more = e.more } in m ∷ []) else []) is in
+    let grown = ap (of_writer w) (take_more es i e lt ∙ ap (λ (x : Entry). take i es ++ x ∷ []) (sym at)) ∙ of_writer_append w (take i es) (e ∷ []) in
+    let count = ap length grown ∙ length-append (of_writer w (take i es)) (of_writer w (e ∷ [])) in
+    let one = ap length last ∙ one_of b (record { item = e.item; more = e.more }) in
+    omega arith
+
+-- so there are no more of them than entries so far
+pub count_few : (w : ℕ) (es : List Entry) (i n : ℕ) → n ≡ length (of_writer w (take i es)) → n ≤ i
+count_few w es i n is = (let few = writer_few w (take i es) in let short = length-take i es in omega arith)
+
+both_right : (x y : Bool) → (x && y) ≡ true → y ≡ true
+both_right true y h = h
+both_right false y h = absurd cc
+
+drop_grouped : (e : Entry) (es : List Entry) → is_grouped (e ∷ es) ≡ true → is_grouped es ≡ true
+drop_grouped e [] h = refl
+drop_grouped e (f ∷ es) h = both_right (if e.more then f.writer == e.writer else true) (is_grouped (f ∷ es)) h
+
+-- what is left of groups without some first entries
+pub rest_grouped : (n : ℕ) (es : List Entry) → is_grouped es ≡ true → is_grouped (drop n es) ≡ true
+rest_grouped zero es h = h
+rest_grouped (suc n) [] h = refl
+rest_grouped (suc n) (e ∷ es) h = rest_grouped n es (drop_grouped e es h)
+
+-- behind the first of two lists the second goes on
+pub drop_over : {A : Type 0} (xs ys : List A) (n k : ℕ) → n ≡ length xs + k → drop n (xs ++ ys) ≡ drop k ys
+drop_over [] ys n k e = (let is : n ≡ k = omega arith in ap (λ m. drop m ys) is)
+drop_over (x ∷ xs) ys zero k e = absurd (omega arith)
+drop_over (x ∷ xs) ys (suc n) k e = drop_over xs ys n k (omega arith)
+
+-- what a writer has up to a cut, and what of it waits behind the cut
+pub durable_count : (w n : ℕ) (es : List Entry) (end waiting : ℕ) → w < n → waiting ≡ length (of_writer w (drop end es))
+    → get_or (counts_of n es) w 0 - waiting ≡ length (of_writer w (take end es))
+durable_count w n es end waiting lt is =
+    let all = count_of_writer n w es lt in
+    let parts = ap (of_writer w) (sym (take-append-drop end es)) ∙ of_writer_append w (take end es) (drop end es) in
+    let count = ap length parts ∙ length-append (of_writer w (take end es)) (of_writer w (drop end es)) in
+    omega arith
+
+pub waiting_few : (w n : ℕ) (es : List Entry) (end waiting : ℕ) → w < n → waiting ≡ length (of_writer w (drop end es)) → waiting ≤ get_or (counts_of n es) w 0
+waiting_few w n es end waiting lt is =
+    let all = count_of_writer n w es lt in
+    let parts = ap (of_writer w) (sym (take-append-drop end es)) ∙ of_writer_append w (take end es) (drop end es) in
+    let count = ap length parts ∙ length-append (of_writer w (take end es)) (of_writer w (drop end es)) in
+    omega arith
+
+no_writer : (w n : ℕ) (es : List Entry) → n ≤ w → All (λ e. e.writer < n) es → of_writer w es ≡ []
+no_writer w n [] le h = refl
+no_writer w n (e ∷ es) le h =
+    ap (λ (b : Bool). if b then record { item = e.item; more = e.more } ∷ of_writer w es else of_writer w es) (ne_eqb e.writer w (λ same. let low = h.0 in absurd (omega arith)))
+    ∙ no_writer w n es le h.1
+
+-- a number that no writer has stands in no entry
+pub none_durable : (w n : ℕ) (es : List Entry) (end : ℕ) → n ≤ w → All (λ e. e.writer < n) es → 0 ≡ length (of_writer w (take end es))
+none_durable w n es end le h =
+    let none = ap length (no_writer w n es le h) in
+    let parts = ap (of_writer w) (sym (take-append-drop end es)) ∙ of_writer_append w (take end es) (drop end es) in
+    let count = ap length parts ∙ length-append (of_writer w (take end es)) (of_writer w (drop end es)) in
+    omega arith
+
+-- a list that would be told, and is not, is empty
+pub none_waits : {A : Type 0} (ks : List A) (b : Bool) → (0 < length ks → b ≡ true) → b ≡ false → ks ≡ []
+none_waits [] b told e = refl
+none_waits (k ∷ ks) b told e = (let some : 0 < length (k ∷ ks) = omega arith in absurd (let both = sym (told some) ∙ e in cc))

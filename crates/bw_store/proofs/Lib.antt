@@ -38,3 +38,4 @@ pub mod Edging
 pub mod Stopping
 pub mod AwayPages
 pub mod Walks
+pub mod Counted

@@ -1,6 +1,6 @@
 -- What readers have is a beginning of what is durable, step by step.
 
-use Rattle.std.proofs.Common.{◌≡◌, ℕ, zero, suc, ◌≤◌, Some, Result, Ok, Err, OnOk, OnErr, MatchResult, List, [], ◌∷◌, ◌++◌, length, take, refl, sym, ap, ◌∙◌, ◌⊎◌, inl, inr, append-nil, append_assoc, subst, arith}
+use Rattle.std.proofs.Common.{◌≡◌, ℕ, zero, suc, ◌+◌, ◌-◌, ◌≤◌, Some, Result, Ok, Err, OnOk, OnErr, MatchResult, List, [], ◌∷◌, ◌++◌, length, length-append, length-take, length-take-le, take, drop, refl, sym, ap, ◌∙◌, ◌⊎◌, inl, inr, append-nil, append_assoc, subst, arith}
 use Rattle.std.specs.declared.alloc.AllocError.{AllocError}
 use mathlib.Core.List.{IsPrefix}
 use Rattle.bw_codec.specs.declared.leaf.Leaf.{Leaf}
@@ -197,3 +197,47 @@ publish_leaves s new (Ok x) end entries h is all same posted grows err = record 
 publish_leaves s new (Err x) end entries h is all same posted grows err = record {
   is = batches_are s new h.shown same ∙ ap (λ (bs : List BatchData). with_batches s bs new.entered) err;
 }
+
+-- a beginning of a beginning, and what follows it
+rest_of : {A : Type 0} (ys xs : List A) (c k : ℕ) → k + length ys ≡ c → IsPrefix ys (take c xs) → ys ++ take k (drop (length ys) xs) ≡ take c xs
+rest_of [] xs c k e p = (let is : k ≡ c = omega arith in ap (λ n. take n xs) is)
+rest_of (y ∷ ys) xs zero k e p = absurd (omega arith)
+rest_of (y ∷ ys) [] (suc c) k e p = absurd (let none = p.1 in cc)
+rest_of {A} (y ∷ ys) (x ∷ xs) (suc c) k e p =
+    (let head : y ≡ x = (let all = p.1 in cc) in
+    let rest : ys ++ p.0 ≡ take c xs = (let all = p.1 in cc) in
+    ap (λ (z : A). z ∷ (ys ++ take k (drop (length ys) xs))) head
+    ∙ ap (λ (zs : List A). x ∷ zs) (rest_of ys xs c k (omega arith) (p.0, rest)))
+
+longer : {A : Type 0} (ys xs : List A) (c : ℕ) → IsPrefix ys (take c xs) → length ys ≤ c
+longer ys xs c p = (let all = ap length p.1 in let both = length-append ys p.0 in let few = length-take c xs in omega arith)
+
+-- what the book has is durable
+pub known_within : (s : Kept) (end : ℕ) → IsSound s → end ≡ cut s.cuts s.durable → length (entries_of s.versions.entered) ≤ end
+known_within s end h is =
+    (let few = longer (entries_of s.versions.entered) s.entries (cut s.cuts s.durable) h.shown.begins in omega arith)
+
+-- what the book has, and what it lacks of the history up to the durable cut
+pub fresh_is : (s : Kept) (end known : ℕ) (fresh : List Entry) → IsSound s → end ≡ cut s.cuts s.durable → known ≡ length (entries_of s.versions.entered)
+    → fresh ≡ take (end - known) (drop known s.entries) → entries_of s.versions.entered ++ fresh ≡ take end s.entries
+fresh_is s end known fresh h is count new =
+    let book = entries_of s.versions.entered in
+    let low = known_within s end h is in
+    ap (λ es. book ++ es) (new ∙ ap (λ n. take (end - known) (drop n s.entries)) count)
+    ∙ rest_of book s.entries end (end - known) (omega arith) (subst (λ n. IsPrefix book (take n s.entries)) (sym is) h.shown.begins)
+
+pub fresh_count : (s : Kept) (end known : ℕ) (fresh : List Entry) → IsSound s → end ≡ cut s.cuts s.durable → known ≡ length (entries_of s.versions.entered)
+    → fresh ≡ take (end - known) (drop known s.entries) → length (entries_of s.versions.entered) + length fresh ≡ end
+fresh_count s end known fresh h is count new =
+    let all = ap length (fresh_is s end known fresh h is count new) in
+    let both = length-append (entries_of s.versions.entered) fresh in
+    let within = length-take-le end s.entries (end_within s end h is) in
+    omega arith
+
+-- the book gets no shorter
+pub enters_longer : (old new : List BatchData) (es : List Entry) (n : ℕ) → EntersWhole old new es → n ≤ length (entries_of old)
+    → n ≤ length (entries_of new)
+enters_longer old new es n (inl same) le = subst (λ (bs : List BatchData). n ≤ length (entries_of bs)) (sym same) le
+enters_longer old new es n (inr x) le =
+    (let all = ap (λ (bs : List BatchData). length (entries_of bs)) x.1 ∙ ap length (entries_pushed old x.0)
+    ∙ length-append (entries_of old) x.0.entries in omega arith)

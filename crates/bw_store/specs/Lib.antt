@@ -1,5 +1,6 @@
 -- What callers see, in the order in which to read it.
 pub mod History
+pub mod Remembered
 pub mod Share
 pub mod Adding
 pub mod Planning
@@ -24,5 +25,6 @@ pub mod Cleaning
 pub mod Showing
 -- What private functions say.
 pub mod Drafting
+pub mod Remembering
 pub mod Filing
 pub mod Tailing

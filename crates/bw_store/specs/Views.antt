@@ -36,6 +36,10 @@ module _ {I : Type 0} {H : I → Type 0} where
   abbrev pub is_evicted : ℕ → Store I H → Bool
   is_evicted page s = is_away page s.leaves
 
+  -- how many entries of the history left memory, from the first on
+  abbrev pub forgotten_of : Store I H → ℕ
+  forgotten_of s = s.intake.history.gone
+
   -- what every store keeps between calls
   abbrev pub IsSoundBeside : Store I H → (DynBox I Global H → Holding) → Type 0
   IsSoundBeside s v = kept.IsSound (kept_beside s v)

@@ -1,6 +1,6 @@
 //! What a store answers of itself. None of these calls takes memory.
 
-ghost use Rattle.std.specs.Prelude.{◌≡◌, ◌+◌, true, Some, None, length, map, slice_get, MatchOption};
+ghost use Rattle.std.specs.Prelude.{◌≡◌, ◌+◌, true, Some, None, drop, length, map, slice_get, MatchOption};
 ghost use Rattle.bw_ring.specs.Ends.{taken};
 ghost use Rattle.bw_log.specs.Segments.{following};
 ghost use Rattle.bw_store.specs.History.{are_whole, is_grouped, streams};
@@ -9,19 +9,29 @@ use crate::store::Store;
 use bw_versions::Entry;
 
 impl Store {
-    ghost use Rattle.bw_store.specs.Views.{kept_by, IsSound};
+    ghost use Rattle.bw_store.specs.Views.{forgotten_of, kept_by, IsSound};
 
-    /// What was taken, in the order in which it was taken: each writer's records are those that its
-    /// lane gave, in order.
+    /// What was taken and is kept in memory, in the order in which it was taken: all of it, but for
+    /// what was forgotten. Each writer's records in the whole history are those that its lane gave,
+    /// in order.
     pub fn history(&self) -> &[Entry]
-        ensures value { result.now ≡ (kept_by self.now holding).entries }
-        ensures takes { streams 0 (length self.now.intake.lanes.items) result.now
-            ≡ map taken self.now.intake.lanes.items }
+        ensures value { result.now
+            ≡ drop (forgotten_of self.now) (kept_by self.now holding).entries }
+        ensures takes { streams 0 (length self.now.intake.lanes.items)
+            (kept_by self.now holding).entries ≡ map taken self.now.intake.lanes.items }
 
         // No group is there in part: an entry with `more` is followed by one of the same writer.
         ensures grouped { is_grouped result.now ≡ true }
+        ensures all_grouped { is_grouped (kept_by self.now holding).entries ≡ true }
     {
-        self.intake.history.as_slice()
+        self.intake.history.kept()
+    }
+
+    /// How many entries of the history were forgotten: they come before those that are kept.
+    pub fn forgotten(&self) -> u64
+        ensures { result ≡ forgotten_of self.now }
+    {
+        self.intake.history.gone() as u64
     }
 
     /// The history's length at the seal of each frame of this store, the cleaner's too. None of them

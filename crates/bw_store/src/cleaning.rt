@@ -96,7 +96,7 @@ impl Store {
         ensures leaves { MoveLeaves (kept_by self.old holding) result (kept_by self.new holding) }
     {
         let alloc = *self.cuts.allocator();
-        let end = self.intake.history.as_slice().len() as u64;
+        let end = self.intake.history.len();
         let first = self.log.next_frame();
         let result = clean(alloc, &mut self.log);
         let frames = frames_between(first, self.log.next_frame());

@@ -113,7 +113,7 @@ impl Store {
         ensures pages { self.new.leaves ≡ self.old.leaves }
         ensures leaves { AppendLeaves (kept_by self.old holding) result (kept_by self.new holding) }
     {
-        let end = self.intake.history.as_slice().len() as u64;
+        let end = self.intake.history.len();
         self.making.seal();
         self.cuts.push_reserved(end);
         match append_to(&mut self.log, &self.making, takes_last) {

@@ -1,15 +1,16 @@
 //! Lanes and the history: what is taken from a lane stands in the history at once.
 
-ghost use Rattle.std.specs.Prelude.{true, ◌≡◌, ◌≤◌, ◌<◌, ◌↔◌, ◌+◌, ◌∷◌, ◌++◌, [], length, map, vec_len, IsTrue, IfSome, IfNone, slice_get, OnOk};
-ghost use Rattle.std.specs.Vec.{vec_capacity};
+ghost use Rattle.std.specs.Prelude.{true, ◌≡◌, ◌≤◌, ◌<◌, ◌↔◌, ◌+◌, ◌-◌, ◌∷◌, ◌++◌, [], take, drop, length, map, vec_len, IsTrue, IfSome, IfNone, slice_get, slice_set, slice_index_or, OnOk};
 ghost use mathlib.Core.List.{IsPrefix};
 ghost use Rattle.bw_ring.specs.Ends.{accepted, taken, known, given, ring_of_feed, ring_of_lane};
 ghost use Rattle.bw_ring.specs.Items.{listed};
 ghost use Rattle.bw_ring.specs.Marks.{marked};
-ghost use Rattle.bw_store.specs.History.{streams, entered, is_grouped};
+ghost use Rattle.bw_store.specs.History.{streams, counts_of, entered, is_grouped};
 ghost use Rattle.bw_store.specs.Lanes.{IsNext, IsWaiting, Dries, TookAt, TookKnown};
+ghost use Rattle.bw_store.specs.Remembered.{HasRoom};
 
 use crate::beside::look_at_all;
+use crate::history::History;
 use bw_codec::Record;
 use bw_ring::{Feed, Group, Items, Lane};
 use bw_versions::Entry;
@@ -18,9 +19,12 @@ use std::alloc::AllocError;
 /// The lanes, and what was taken from them in order.
 pub struct Intake {
     pub(crate) lanes: Vec<Lane>,
-    pub(crate) history: Vec<Entry>,
+    pub(crate) history: History,
+    /// How many records were taken from each lane.
+    pub(crate) counts: Vec<u64>,
     ghost few: { vec_len lanes ≤ 64 },
     ghost takes: { streams 0 (length lanes.items) history.items ≡ map taken lanes.items },
+    ghost counted: { counts.items ≡ counts_of (length lanes.items) history.items },
     // No group is there in part.
     ghost grouped: { is_grouped history.items ≡ true },
 }
@@ -30,6 +34,7 @@ impl Drop for Intake {
         let Intake {
             lanes: _,
             history: _,
+            counts: _,
         } = self;
     }
 }
@@ -55,6 +60,7 @@ impl Intake {
     pub(crate) fn look_beside(&mut self, feeds: &mut Vec<Feed>)
         requires { map ring_of_feed feeds.old.items ≡ map ring_of_lane self.old.lanes.items }
         ensures history { self.new.history.items ≡ self.old.history.items }
+        ensures gone { self.new.history.gone ≡ self.old.history.gone }
         ensures count { length self.new.lanes.items ≡ length self.old.lanes.items }
         ensures rings { map ring_of_lane self.new.lanes.items
             ≡ map ring_of_lane self.old.lanes.items }
@@ -84,27 +90,32 @@ impl Intake {
         self.lanes[lane].peek_known()
     }
 
-    /// What was taken.
-    pub(crate) fn entries(&self) -> &[Entry]
-        ensures { result.now ≡ self.now.history.items }
+    /// The kept entries from one index of the whole history up to another.
+    pub(crate) fn between(&self, from: usize, to: usize) -> &[Entry]
+        requires kept { self.now.history.gone ≤ from }
+        requires order { from ≤ to }
+        requires within { to ≤ length self.now.history.items }
+        ensures { result.now ≡ take (to - from) (drop from self.now.history.items) }
     {
-        self.history.as_slice()
+        self.history.between(from, to)
     }
 
     /// Makes room for the entries of one more group.
     pub(crate) fn reserve(&mut self) -> Result<(), AllocError>
         ensures lanes { self.new.lanes ≡ self.old.lanes }
         ensures history { self.new.history.items ≡ self.old.history.items }
-        ensures room { OnOk result (vec_len self.new.history + 4 ≤ vec_capacity self.new.history) }
+        ensures gone { self.new.history.gone ≡ self.old.history.gone }
+        ensures room { OnOk result (HasRoom 4 self.new.history) }
     {
-        self.history.reserve(4)
+        self.history.reserve()
     }
 
     /// Takes the group that the lane gives next, and enters its records.
     pub(crate) fn enter(&mut self, lane: usize, group: Group)
         requires inside { lane < length self.old.lanes.items }
         requires next { IsNext self.old.lanes.items lane group }
-        requires room { vec_len self.old.history + 4 ≤ vec_capacity self.old.history }
+        requires room { HasRoom 4 self.old.history }
+        ensures gone { self.new.history.gone ≡ self.old.history.gone }
         ensures count { length self.new.lanes.items ≡ length self.old.lanes.items }
         ensures grows { self.new.history.items
             ≡ self.old.history.items ++ entered lane (marked group) }
@@ -113,27 +124,34 @@ impl Intake {
         ensures given { map given self.new.lanes.items ≡ map given self.old.lanes.items }
         ensures known { TookKnown lane self.old.lanes.items self.new.lanes.items }
     {
-        let Intake { lanes, history } = self;
+        let Intake {
+            lanes,
+            history,
+            counts,
+        } = self;
         take_at(lanes, lane, &group);
-        let _ = group.len();
+        let records = group.len() as u64;
         push_all(history, lane as u16, group.into_items());
+        count_more(counts, lane, records, history.len());
     }
 }
 
-fn push_one(history: &mut Vec<Entry>, writer: u16, more: bool, item: Record)
-    requires { vec_len history.old < vec_capacity history.old }
-    ensures capacity { vec_capacity history.new ≡ vec_capacity history.old }
-    ensures len { vec_len history.new ≡ vec_len history.old + 1 }
+fn push_one(history: &mut History, writer: u16, more: bool, item: Record)
+    requires { HasRoom 1 history.old }
+    ensures gone { history.new.gone ≡ history.old.gone }
+    ensures room { history.new.room + 1 ≡ history.old.room }
+    ensures later { history.new.later + 1 ≡ history.old.later }
     ensures items { history.new.items
         ≡ history.old.items ++ record { writer = writer; more = more; item = item } ∷ [] }
 {
-    history.push_reserved(Entry { writer, more, item });
+    history.push(Entry { writer, more, item });
 }
 
 // Enters the records of one group.
-fn push_all(history: &mut Vec<Entry>, writer: u16, items: Items)
-    requires { vec_len history.old + length (listed items) ≤ vec_capacity history.old }
-    ensures { history.new.items ≡ history.old.items ++ entered writer (marked (listed items)) }
+fn push_all(history: &mut History, writer: u16, items: Items)
+    requires { HasRoom (length (listed items)) history.old }
+    ensures gone { history.new.gone ≡ history.old.gone }
+    ensures items { history.new.items ≡ history.old.items ++ entered writer (marked (listed items)) }
 {
     match items {
         Items::One([a]) => push_one(history, writer, false, a),
@@ -153,6 +171,18 @@ fn push_all(history: &mut Vec<Entry>, writer: u16, items: Items)
             push_one(history, writer, false, d);
         }
     }
+}
+
+// So many records more of one lane; of all lanes there are no more than `most`.
+fn count_more(counts: &mut Vec<u64>, lane: usize, records: u64, most: u64)
+    requires inside { lane < length counts.old.items }
+    requires within { slice_index_or counts.old.items lane 0 + records ≤ most }
+    ensures { counts.new.items ≡ slice_set counts.old.items lane
+        (slice_index_or counts.old.items lane 0 + records) }
+{
+    let _ = most;
+    let _ = counts.as_slice().len();
+    counts[lane] += records;
 }
 
 fn peek_at(lanes: &mut Vec<Lane>, at: usize) -> Option<Group>

@@ -6,7 +6,8 @@
 //! frame and cuts the history there. `clean` gives up the oldest segment, and `reopen` goes on from
 //! what was recovered. `specs/Kept.antt` has what holds between calls, and `specs/Following.antt`
 //! what no call takes back. `evict` drops a page from memory: it is then read from the log, and
-//! `specs/Tails.antt` has what the frame in the making adds to it.
+//! `specs/Tails.antt` has what the frame in the making adds to it. `forget` drops from memory what
+//! readers have of the history; the clauses go on speaking of all of it.
 #![tactic(auto)]
 
 mod appending;
@@ -15,18 +16,22 @@ mod beside;
 mod boxes;
 mod cleaning;
 mod config;
+mod counting;
 mod drafting;
 mod edge;
 mod entering;
 mod evicting;
 mod fault;
 mod flushing;
+mod forgetting;
 mod grouping;
+mod history;
 mod intake;
 mod opening;
 mod planning;
 mod publishing;
 mod reading;
+mod receipts;
 mod renewing;
 mod reopening;
 mod settling;

@@ -1,6 +1,6 @@
 //! A store is opened over empty segments.
 
-ghost use Rattle.std.specs.Prelude.{◌≡◌, ◌≤◌, ◌+◌, ◌↔◌, [], ◌∷◌, length, map, false, None, IsTrue, IfOk, IfErr, MatchResult};
+ghost use Rattle.std.specs.Prelude.{◌≡◌, ◌≤◌, ◌+◌, ◌↔◌, [], ◌∷◌, length, map, replicate, false, None, IsTrue, IfOk, IfErr, MatchResult};
 ghost use Rattle.std.specs.List.{AllByRecursion};
 ghost use Rattle.bw_codec.specs.Grammar.{IsBlock};
 ghost use Rattle.bw_codec.specs.declared.block.Block.TheVariants.{Base};
@@ -14,6 +14,7 @@ ghost use Rattle.bw_store.specs.Showing.{AreUnseen};
 use crate::config::Config;
 use crate::edge::Edge;
 use crate::fault::{OpenFault, StoreFault};
+use crate::history::History;
 use crate::intake::Intake;
 use crate::store::Store;
 use crate::tails::Tail;
@@ -87,17 +88,29 @@ pub(crate) fn intake_of(alloc: Global, config: &Config) -> Result<(Vec<Feed>, In
         map ring_of_lane p.1.lanes.items ≡ map ring_of_feed p.0.items) }
     ensures unused { IfOk result (λ p. AreFresh config.now p.0.items) }
     ensures history { IfOk result (λ p. p.1.history.items ≡ []) }
+    ensures gone { IfOk result (λ p. p.1.history.gone ≡ 0) }
     ensures memory { IfErr result (λ fault. fault ≡ StoreFault.NoMemory) }
 {
     let Ok((feeds, ends)) = lanes(alloc, config.writers, config.places) else {
         return Err(StoreFault::NoMemory);
     };
     let _ = ends.as_slice().len();
+    let counts = no_counts(alloc, config.writers)?;
     let intake = Intake {
         lanes: ends,
-        history: Vec::new(alloc),
+        history: History::new(alloc),
+        counts,
     };
     Ok((feeds, intake))
+}
+
+// A count of none for each lane.
+fn no_counts(alloc: Global, lanes: usize) -> Result<Vec<u64>, AllocError>
+    ensures { IfOk result (λ counts. counts.items ≡ replicate lanes 0) }
+{
+    let mut counts = Vec::new(alloc);
+    counts.resize(lanes, 0)?;
+    Ok(counts)
 }
 
 fn parts_of(alloc: Global, config: &Config) -> Result<Parts, StoreFault>
@@ -106,6 +119,7 @@ fn parts_of(alloc: Global, config: &Config) -> Result<Parts, StoreFault>
         map ring_of_lane p.intake.lanes.items ≡ map ring_of_feed p.feeds.items) }
     ensures unused { IfOk result (λ p. AreFresh config.now p.feeds.items) }
     ensures history { IfOk result (λ p. p.intake.history.items ≡ []) }
+    ensures gone { IfOk result (λ p. p.intake.history.gone ≡ 0) }
     ensures leaves { IfOk result (λ p.
         p.leaves ≡ one_empty config.now.m) }
     ensures newest { IfOk result (λ p. p.newest.items ≡ first_place ∷ []) }
@@ -201,6 +215,7 @@ impl Store {
         requires tails { map tail_of parts.tails.items
             ≡ tails_for (length parts.leaves.leaves) parts.making.blocks }
         requires here { parts.leaves.away ≡ [] }
+        requires gone { parts.intake.history.gone ≡ 0 }
         ensures store { kept_by result.0 holding
             ≡ started (map ring_of_lane parts.intake.lanes.items) parts.intake.history.items
             parts.leaves parts.newest.items parts.making

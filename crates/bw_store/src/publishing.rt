@@ -56,12 +56,13 @@ impl Store {
             (λ _. Hides (kept_by self.old holding) (kept_by self.new holding)) }
     {
         let end = self.durable_end();
-        self.versions
-            .publish_up_to(rt, &self.intake.entries()[..end])
+        let known = self.versions.entered();
+        let fresh = self.intake.between(known, end);
+        self.versions.publish_up_to(rt, end, fresh)
     }
 
     // The history's length at the durable cut.
-    fn durable_end(&self) -> usize
+    pub(crate) fn durable_end(&self) -> usize
         requires { IsSound self.now holding }
         ensures { result ≡ cut (kept_by self.now holding).cuts (kept_by self.now holding).durable }
     {

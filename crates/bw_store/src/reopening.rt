@@ -96,6 +96,7 @@ fn ends_of(alloc: Global, config: &Config, log: &Log, pages: usize) -> Result<En
         map ring_of_lane e.intake.lanes.items ≡ map ring_of_feed e.feeds.items) }
     ensures unused { IfOk result (λ e. AreFresh config.now e.feeds.items) }
     ensures history { IfOk result (λ e. e.intake.history.items ≡ []) }
+    ensures gone { IfOk result (λ e. e.intake.history.gone ≡ 0) }
     ensures count { IfOk result (λ e. length e.newest.items ≡ pages) }
     ensures tails { IfOk result (λ e. map tail_of e.tails.items ≡ tails_for pages []) }
     ensures each { IfOk result (λ e. (p : ℕ) → 1 ≤ p → p ≤ pages
@@ -206,6 +207,7 @@ impl Store {
         requires tails { map tail_of ends.tails.items
             ≡ tails_for (length recovered.leaves.leaves) ends.making.blocks }
         requires here { recovered.leaves.away ≡ [] }
+        requires gone { ends.intake.history.gone ≡ 0 }
         ensures store { kept_by result.0 holding
             ≡ record (reopened (map ring_of_lane ends.intake.lanes.items) recovered.last
             recovered.leaves ends.newest.items ends.making (seen recovered.log holding) versions)

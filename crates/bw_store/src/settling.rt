@@ -85,7 +85,7 @@ impl Store {
         self.take_known()?;
         self.flush_making(false)?;
         self.publish(rt)?;
-        Ok(self.intake.history.as_slice().len() as u64)
+        Ok(self.intake.history.len())
     }
 
     // A look at both ends of all rings.

@@ -1,7 +1,8 @@
 //! The store itself.
 
-ghost use Rattle.std.specs.Prelude.{ℕ, ◌≡◌, true, false, length, map};
+ghost use Rattle.std.specs.Prelude.{ℕ, ◌≡◌, ◌≤◌, true, false, length, map};
 ghost use Rattle.bw_page.specs.Shown.{is_away};
+ghost use Rattle.bw_versions.specs.Batches.{entries_of};
 ghost use Rattle.bw_store.specs.History.{are_whole};
 ghost use Rattle.bw_store.specs.Tails.{tail_of, tails_for, is_made};
 
@@ -42,4 +43,6 @@ pub struct Store {
     ghost whole: { are_whole cuts.items intake.history.items ≡ true },
     // A page that is away is in the log, but for its tail.
     ghost logged: { (p : ℕ) → is_away p leaves ≡ true → is_made p making.blocks ≡ false },
+    // What was forgotten is in the readers' book.
+    ghost forgotten: { intake.history.gone ≤ length (entries_of versions.entered) },
 }

@@ -17,6 +17,10 @@ pub record Versioned : Type 0 where
   -- how many readers may still be made
   pub places : ℕ
 
+-- the history that these entries end: what the book has, and these
+abbrev pub history_of : Versioned → List Entry → List Entry
+history_of v fresh = entries_of v.entered ++ fresh
+
 -- the start and all of these entries are published
 pub record IsUpTo (v : Versioned) (es : List Entry) : Type 0 where
   pub begun : 1 ≤ length v.published

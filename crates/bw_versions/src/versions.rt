@@ -1,10 +1,10 @@
 //! What a store publishes: its start leaves, and its history up to the durable cut.
 
-ghost use Rattle.std.specs.Prelude.{◌≡◌, ◌↔◌, ◌++◌, ◌∷◌, ◌≤◌, ◌<◌, ◌-◌, ◌^◌, [], Some, Err, IsOk, IfOk, OnOk, OnErr, drop, length};
+ghost use Rattle.std.specs.Prelude.{◌≡◌, ◌↔◌, ◌++◌, ◌+◌, ◌∷◌, ◌≤◌, ◌<◌, ◌-◌, ◌^◌, [], Some, Err, IsOk, IfOk, OnOk, OnErr, drop, length};
 ghost use mathlib.Core.List.{IsPrefix};
 ghost use Rattle.bw_versions.specs.Batches.{entries_of};
 ghost use Rattle.bw_versions.specs.Posted.{posted_of};
-ghost use Rattle.bw_versions.specs.Versioned.{EntersWhole, IsUpTo};
+ghost use Rattle.bw_versions.specs.Versioned.{EntersWhole, IsUpTo, history_of};
 
 use crate::batch::Batch;
 use crate::entry::Entry;
@@ -68,25 +68,40 @@ impl Versions {
         })
     }
 
-    /// Publishes a beginning of the history, all of it at once: what is not published yet is one
-    /// batch, and the first also brings the start leaves. Where nothing is new, nothing is done.
+    /// How many entries the book has, those of a refused publication included. No memory is taken.
+    pub fn entered(&self) -> usize
+        ensures { result ≡ length (entries_of self.now.entered) }
+    {
+        self.count
+    }
+
+    /// Publishes the history up to `end`, all of it at once. `fresh` are its entries that the book
+    /// does not have: they are one batch, and the first also brings the start leaves. Where nothing
+    /// is new, nothing is done.
     ///
     /// It may wait for readers. A refused growth is the only error: then what is published stays,
     /// and the next call brings it. A call costs what the new entries cost to apply, and no page
     /// is copied; the first one that succeeds costs all pages of the start.
-    pub fn publish_up_to<R: Wait>(&mut self, rt: &R, history: &[Entry]) -> Result<(), AllocError>
-        requires begins { IsPrefix (entries_of self.old.entered) history.now }
-        ensures begins { IsPrefix (entries_of self.new.entered) history.now }
-        ensures whole { EntersWhole self.old.entered self.new.entered history.now }
+    pub fn publish_up_to<R: Wait>(
+        &mut self,
+        rt: &R,
+        end: usize,
+        fresh: &[Entry],
+    ) -> Result<(), AllocError>
+        requires { length (entries_of self.old.entered) + length fresh.now ≡ end }
+        ensures begins { IsPrefix (entries_of self.new.entered) (history_of self.old fresh.now) }
+        ensures whole { EntersWhole self.old.entered self.new.entered
+            (history_of self.old fresh.now) }
         ensures same { (self.new.start ≡ self.old.start) × (self.new.book ≡ self.old.book)
             × (self.new.places ≡ self.old.places) }
 
         ensures published { OnOk result (posted_of self.new.published
-            ≡ Some (record { start = self.old.start; entries = history.now })) }
-        ensures all { OnOk result (IsUpTo self.new history.now) }
+            ≡ Some (record { start = self.old.start; entries = history_of self.old fresh.now })) }
+        ensures all { OnOk result (IsUpTo self.new (history_of self.old fresh.now)) }
         ensures grows { OnOk result (IsPrefix self.old.published self.new.published) }
 
-        ensures idle { IsUpTo self.old history.now → (self.new ≡ self.old) × IsOk result }
+        ensures idle { IsUpTo self.old (history_of self.old fresh.now)
+            → (self.new ≡ self.old) × IsOk result }
         ensures unchanged { OnErr result (self.new.published ≡ self.old.published) }
     {
         let Versions {
@@ -96,18 +111,18 @@ impl Versions {
             count,
             began: _,
         } = self;
-        if start.is_none() && *count == history.len() {
+        if start.is_none() && fresh.is_empty() {
             return publisher.catch_up(rt);
         }
-        let entries = copies(*alloc, &history[*count..])?;
+        let entries = copies(*alloc, fresh)?;
         let batch = Batch::new(start.take(), entries);
         match publisher.publish(rt, batch) {
             Ok(()) => {
-                *count = history.len();
+                *count = end;
                 Ok(())
             }
             Err(Unpublished::Entered) => {
-                *count = history.len();
+                *count = end;
                 Err(AllocError)
             }
             Err(Unpublished::Back(batch)) => {

@@ -30,6 +30,7 @@ fn example<R: Threads + Wait>(
         limit: 64,
         flush_every: 4,
         clean_at: 3,
+        forgets: false,
     };
     let tries = 1_000_000_000; // for each group
     match drive(rt, store, feeds, scripts, &OpenGate, plan, tries) {

@@ -111,6 +111,7 @@ pub(super) fn drives<R: AllocGlobal + Threads + Wait, G: Gate>(
         limit: limit.max(1),
         flush_every: flush_every.max(1),
         clean_at,
+        forgets: false,
     };
     match drive(rt, store, feeds, scripts, gate, plan, max_turns) {
         Ok(driven) => {

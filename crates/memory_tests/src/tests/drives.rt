@@ -19,6 +19,7 @@ const PLAN: Plan = Plan {
     limit: 4,
     flush_every: 1,
     clean_at: 2,
+    forgets: false,
 };
 
 const CONFIG: &Config = &Config {

@@ -253,11 +253,11 @@ fn publishes_up_to<R: Wait>(
     ensures book { stand.new.versions.book ≡ stand.old.versions.book }
     ensures reader { reader.new.book ≡ reader.old.book }
 {
+    let all = stand.history.len();
+    let known = stand.versions.entered();
+    let fresh = &stand.history[known..];
     begin(alloc);
-    let went = stand
-        .versions
-        .publish_up_to(rt, stand.history.as_slice())
-        .is_ok();
+    let went = stand.versions.publish_up_to(rt, all, fresh).is_ok();
     let refused = end(alloc);
     tried(went, refused, sees(reader, b"c") == Some(went))
 }

@@ -88,10 +88,10 @@ fn publish<R: Wait>(rt: &R, stand: &mut Stand) -> bool
     ensures begins { IsPrefix (entries_of stand.new.versions.entered) stand.new.history.items }
     ensures book { stand.new.versions.book ≡ stand.old.versions.book }
 {
-    stand
-        .versions
-        .publish_up_to(rt, stand.history.as_slice())
-        .is_ok()
+    let end = stand.history.len();
+    let known = stand.versions.entered();
+    let fresh = &stand.history[known..];
+    stand.versions.publish_up_to(rt, end, fresh).is_ok()
 }
 
 /// Ends the versions.

@@ -1,4 +1,6 @@
-use Rattle.std.proofs.Common.{◌+◌, ap, ◌∙◌, inl, inr, refl}
+use Rattle.std.proofs.Common.{◌+◌, ap, ◌∙◌, inl, inr, refl, subst, sym}
+use Rattle.bw_drive.specs.Pace.{Paces}
+use Rattle.bw_drive.specs.Ran.{Runs}
 use Rattle.std.proofs.lemmas.Result.{err_from_is_err_and}
 use Rattle.bw_drive.proofs.Paced.{paced_at, paces_more, stops_as_planned}
 use Rattle.bw_drive.proofs.Runs.{runs_none, runs_then, stops_then}
@@ -12,11 +14,13 @@ turns-init g c = record { sound = c.requires.sound; runs = runs_none _ _; counte
 
 pub turns-preserved : goal.turns-preserved
 turns-preserved g c = record {
-  sound = c.turn_and_tend.ensures.sound;
-  runs = runs_then _ _ _ _ c.turns.invariant.runs c.turn_and_tend.ensures.runs;
+  sound = c.tell_due.ensures.sound;
+  runs = subst (Runs c.args.plan.clean_at _) (sym c.tell_due.ensures.same)
+      (runs_then _ _ _ _ c.turns.invariant.runs c.turn_and_tend.ensures.runs);
   counted = c.turn_and_tend.ensures.counted ∙ ap (λ n. n + 1) c.turns.invariant.counted;
-  paced = paces_more c.args.plan c.turns.turn c.from-every.result _ _ _ _ c.from-every.ensures refl c.turns.invariant.paced
-      c.in_ok-turn_and_tend.ensures.paced;
+  paced = subst (Paces c.args.plan (c.turns.turn + 1) _) (sym c.tell_due.ensures.same)
+      (paces_more c.args.plan c.turns.turn c.from-every.result _ _ _ _ c.from-every.ensures refl c.turns.invariant.paced
+      c.in_ok-turn_and_tend.ensures.paced);
 }
 
 pub returns-in_err-turn_and_tend-clause-runs : goal.returns-in_err-turn_and_tend-clause-runs

@@ -1,15 +1,36 @@
-use Rattle.bw_store.proofs.Laned.{entered_streams}
+use Rattle.bw_store.proofs.Laned.{entered_streams, counts_more, counts_within}
 use Rattle.bw_store.proofs.Grouped.{entered_grouped}
 use Rattle.bw_store.proofs.intake.Intake.enter.Goals as goal
-use Rattle.std.proofs.Common.{ap, ◌∙◌, ◌++◌, List}
+use Rattle.std.proofs.Common.{length, subst, sym, ap, ◌≡◌, ◌∙◌, ◌++◌, ℕ, ◌+◌, ◌≤◌, set, get_or, List, arith}
 use Rattle.bw_ring.specs.Marks.{marked}
-use Rattle.bw_store.specs.History.{entered}
+use Rattle.bw_store.specs.History.{counts_of, entered}
 use Rattle.bw_codec.specs.declared.record.Record.{Record}
 
 pub invariant_of-self-clause-takes : goal.invariant_of-self-clause-takes
 invariant_of-self-clause-takes c = entered_streams _ _ _ _ c.args.lane c.args.group c.requires.inside c.args.self.now.takes c.take_at.ensures.count
-    c.take_at.ensures.took (c.push_all.ensures ∙ ap (λ (g : List Record). c.args.self.now.history.items ++ entered c.args.lane (marked g)) c.into_items.ensures)
+    c.take_at.ensures.took (c.push_all.ensures.items ∙ ap (λ (g : List Record). c.args.self.now.history.items ++ entered c.args.lane (marked g)) c.into_items.ensures)
 
 pub invariant_of-self-clause-grouped : goal.invariant_of-self-clause-grouped
 invariant_of-self-clause-grouped c = entered_grouped _ _ c.args.lane c.args.group c.args.self.now.grouped
-    (c.push_all.ensures ∙ ap (λ (g : List Record). c.args.self.now.history.items ++ entered c.args.lane (marked g)) c.into_items.ensures)
+    (c.push_all.ensures.items ∙ ap (λ (g : List Record). c.args.self.now.history.items ++ entered c.args.lane (marked g)) c.into_items.ensures)
+
+pub count_more-requires-clause-within : goal.count_more-requires-clause-within
+count_more-requires-clause-within c =
+    let was = c.args.self.now in
+    let more = c.push_all.ensures.items ∙ ap (λ (g : List Record). was.history.items ++ entered c.args.lane (marked g)) c.into_items.ensures in
+    let bound = counts_within (length was.lanes.items) c.args.lane was.history.items _ c.args.group c.requires.inside more in
+    let counts = ap (λ (cs : List ℕ). get_or cs c.args.lane 0) was.counted in
+    let records = c.len-records.ensures.value in
+    let all = c.len.ensures in
+    omega arith
+
+pub invariant_of-self-clause-counted : goal.invariant_of-self-clause-counted
+invariant_of-self-clause-counted c =
+    let was = c.args.self.now in
+    let more = c.push_all.ensures.items ∙ ap (λ (g : List Record). was.history.items ++ entered c.args.lane (marked g)) c.into_items.ensures in
+    let n = length was.lanes.items in
+    c.count_more.ensures
+    ∙ ap (λ (cs : List ℕ). set cs c.args.lane (get_or cs c.args.lane 0 + c.len-records.result)) was.counted
+    ∙ ap (λ (k : ℕ). set (counts_of n was.history.items) c.args.lane (get_or (counts_of n was.history.items) c.args.lane 0 + k)) c.len-records.ensures.value
+    ∙ sym (counts_more n c.args.lane was.history.items _ c.args.group c.requires.inside more)
+    ∙ ap (λ (k : ℕ). counts_of k c.push_all.new.history.items) (sym c.take_at.ensures.count)

@@ -37,28 +37,29 @@ pub invariant_of-self : goal.invariant_of-self
 invariant_of-self g c = record {
   whole = ap (λ (cs : List ℕ). are_whole cs c.args.self.now.intake.history.items) c.push_reserved.ensures.items
       ∙ whole_cut c.args.self.now.cuts.items c.args.self.now.intake.history.items _ c.args.self.now.whole c.args.self.now.intake.grouped
-      (ap length c.as_slice.ensures.value);
+      c.len-end.ensures;
   tailed = c.rest.ensures
       ∙ ap (λ (n : ℕ). tails_for n []) (as_many _ _ c.args.self.now.making.blocks c.args.self.now.tailed)
       ∙ ap (tails_for (length c.args.self.now.leaves.leaves)) (sym c.begin_next.ensures.empty);
   logged = λ p away. ap (λ (bs : List Block). is_made p bs) c.begin_next.ensures.empty;
+  forgotten = c.args.self.now.forgotten;
 }
 
 pub returns-in-Ok-clause-sound : goal.returns-in-Ok-clause-sound
 returns-in-Ok-clause-sound g c =
     flushed_at c.requires.sound c.requires.next c.requires.works c.begin_next.new.making c.seal.new.self _ c.push_reserved.new.self.items _ c.seal.ensures
     c.begin_next.ensures c.in-Ok.ensures.leaves.sound c.in-Ok.ensures.leaves.added c.in-Ok.ensures.leaves.log
-    c.push_reserved.ensures.items (ap length c.as_slice.ensures.value)
+    c.push_reserved.ensures.items c.len-end.ensures
 
 pub returns-in-Ok-clause-leaves : goal.returns-in-Ok-clause-leaves
 returns-in-Ok-clause-leaves g c =
     appended_now c.begin_next.new.making c.seal.new.self _ c.push_reserved.new.self.items _ c.seal.ensures
     c.begin_next.ensures c.in-Ok.ensures.leaves.added c.in-Ok.ensures.leaves.log
-    c.push_reserved.ensures.items (ap length c.as_slice.ensures.value)
+    c.push_reserved.ensures.items c.len-end.ensures
 
 pub returns-in-Err-clause-sound : goal.returns-in-Err-clause-sound
 returns-in-Err-clause-sound g c =
     stopped_at c.requires.sound c.requires.next c.requires.works c.seal.new.self _ c.push_reserved.new.self.items _ c.in-Err.fault _ c.seal.ensures
     c.in-Err.ensures.leaves.sound c.in-Err.ensures.leaves.log
     (c.in-Err.ensures.prepared (rw c.seal.ensures c.requires.ready)) c.in-Err.ensures.leaves.device c.push_reserved.ensures.items
-    (ap length c.as_slice.ensures.value)
+    c.len-end.ensures

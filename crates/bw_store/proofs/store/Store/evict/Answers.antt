@@ -54,4 +54,5 @@ invariant_of-self g c =
           ∙ ap (λ (ls : List Leaf). tails_for (length ls) c.args.self.now.making.blocks) (sym c.put_away.ensures.leaves);
       logged = away_more c.args.self.now.leaves c.put_away.new.self c.args.page c.args.self.now.making.blocks c.put_away.ensures.away
           c.args.self.now.logged (made ∙ c.if-is_none.false);
+      forgotten = c.args.self.now.forgotten;
     }

@@ -58,7 +58,7 @@ returns-in-Ok-clause-sound g c =
     cleaned_sound s b _ c.frames_between-frames.result _ _ _ (notes_of s _ x c.frames_between-frames.result _ _ _ _ _ c.next_frame-first.result
     c.next_frame.result c.next_frame-2.result c.requires.sound c.next_frame-first.ensures c.next_frame.ensures c.frames_between-frames.ensures
     c.push_many.ensures
-    (ap length c.as_slice.ensures.value) c.renew.ensures.count c.renew.ensures.each c.begin_at.ensures.limit c.begin_at.ensures.empty
+    c.len-end.ensures c.renew.ensures.count c.renew.ensures.each c.begin_at.ensures.limit c.begin_at.ensures.empty
     c.begin_at.ensures.sealed c.is_failed.ensures c.next_frame-2.ensures c.begin_at.ensures.number)
 
 pub returns-in-Ok-clause-leaves : goal.returns-in-Ok-clause-leaves
@@ -76,7 +76,7 @@ returns-in-Ok-clause-leaves g c =
     let same : c.frames_between-frames.result ≡ c.in-Ok.cleaned.frames = omega arith in
     record {
       is = noted_are s c.frames_between-frames.result c.in-Ok.cleaned.frames _ _ _ _ same
-          (c.push_many.ensures ∙ ap (λ end. s.cuts ++ replicate c.frames_between-frames.result end) (ap length c.as_slice.ensures.value));
+          (c.push_many.ensures ∙ ap (λ end. s.cuts ++ replicate c.frames_between-frames.result end) c.len-end.ensures);
       empty = c.begin_at.ensures.empty;
       log = c.in-Ok.ensures.cleaned;
     }
@@ -92,18 +92,19 @@ returns-in-Err-clause-sound g c =
     refused_sound s b _ c.frames_between-frames.result _ _ _ (notes_of s _ x c.frames_between-frames.result _ _ _ _ _ c.next_frame-first.result
     c.next_frame.result c.next_frame-2.result c.requires.sound c.next_frame-first.ensures c.next_frame.ensures c.frames_between-frames.ensures
     c.push_many.ensures
-    (ap length c.as_slice.ensures.value) c.renew.ensures.count c.renew.ensures.each c.begin_at.ensures.limit c.begin_at.ensures.empty
+    c.len-end.ensures c.renew.ensures.count c.renew.ensures.each c.begin_at.ensures.limit c.begin_at.ensures.empty
     c.begin_at.ensures.sealed c.is_failed.ensures c.next_frame-2.ensures c.begin_at.ensures.number) (refused_counts s stop.0 _ b e.sound stop.1 e.stands)
 
 pub invariant_of-self-in-Ok-clause-whole : goal.invariant_of-self-in-Ok-clause-whole
 invariant_of-self-in-Ok-clause-whole g c =
     whole_many c.args.self.now.cuts.items _ c.args.self.now.intake.history.items c.frames_between-frames.result _ c.args.self.now.whole
-    c.args.self.now.intake.grouped (ap length c.as_slice.ensures.value) c.push_many.ensures
+    c.args.self.now.intake.grouped c.len-end.ensures c.push_many.ensures
 
 pub invariant_of-self-in-Err-1 : goal.invariant_of-self-in-Err-1
 invariant_of-self-in-Err-1 g c = record {
   whole = whole_many c.args.self.now.cuts.items _ c.args.self.now.intake.history.items c.frames_between-frames.result _ c.args.self.now.whole
-      c.args.self.now.intake.grouped (ap length c.as_slice.ensures.value) c.push_many.ensures;
+      c.args.self.now.intake.grouped c.len-end.ensures c.push_many.ensures;
   tailed = c.args.self.now.tailed ∙ ap (tails_for (length c.args.self.now.leaves.leaves)) (c.requires.empty ∙ sym c.begin_at.ensures.empty);
   logged = λ p away. ap (is_made p) c.begin_at.ensures.empty;
+  forgotten = c.args.self.now.forgotten;
 }

@@ -1,23 +1,50 @@
-use Rattle.std.proofs.Common.{length, sym, ap, arith}
-use Rattle.std.proofs.lemmas.List.{length-take-le}
+use Rattle.std.proofs.Common.{◌≡◌, Some, OnOk, List, refl, subst, arith}
+use mathlib.Core.List.{IsPrefix}
+use Rattle.bw_versions.specs.Batches.{entries_of}
+use Rattle.bw_versions.specs.Posted.{posted_of}
+use Rattle.bw_versions.specs.Versioned.{EntersWhole}
+use Rattle.bw_versions.specs.declared.entry.Entry.{Entry}
 use Rattle.bw_store.specs.Views.{kept_by}
-use Rattle.bw_store.proofs.Readers.{end_within, publish_leaves, publish_sound}
+use Rattle.bw_store.proofs.Readers.{end_within, enters_longer, known_within, fresh_is, fresh_count, publish_leaves, publish_sound}
 use Rattle.bw_store.proofs.store.Store.publish.Goals as goal
 
-pub slice_bounds-publish_up_to-end : goal.slice_bounds-publish_up_to-end
-slice_bounds-publish_up_to-end g c =
-    let within = end_within (kept_by c.args.self.now (λ z. (goal.Segment-dyn g z).holding z.1)) c.durable_end-end.result c.requires.sound
-    c.durable_end-end.ensures in
-    let all = ap length c.entries.ensures in
-    sym (length-take-le c.durable_end-end.result c.entries.result.now (omega arith))
+pub between-fresh-requires-clause-order : goal.between-fresh-requires-clause-order
+between-fresh-requires-clause-order g c =
+    let low = known_within (kept_by c.args.self.now (λ z. (goal.Segment-dyn g z).holding z.1)) c.durable_end-end.result c.requires.sound c.durable_end-end.ensures in
+    let known = c.entered-known.ensures in
+    omega arith
+
+pub between-fresh-requires-clause-within : goal.between-fresh-requires-clause-within
+between-fresh-requires-clause-within g c =
+    end_within (kept_by c.args.self.now (λ z. (goal.Segment-dyn g z).holding z.1)) c.durable_end-end.result c.requires.sound c.durable_end-end.ensures
+
+pub publish_up_to-requires : goal.publish_up_to-requires
+publish_up_to-requires g c =
+    fresh_count (kept_by c.args.self.now (λ z. (goal.Segment-dyn g z).holding z.1)) c.durable_end-end.result c.entered-known.result c.between-fresh.result.now
+    c.requires.sound c.durable_end-end.ensures c.entered-known.ensures c.between-fresh.ensures
 
 pub returns-clause-sound : goal.returns-clause-sound
 returns-clause-sound g c =
-    publish_sound (kept_by c.args.self.now (λ z. (goal.Segment-dyn g z).holding z.1)) c.publish_up_to.new.self c.durable_end-end.result c.entries.result.now c.requires.sound
-    c.durable_end-end.ensures c.entries.ensures c.publish_up_to.ensures.same c.publish_up_to.ensures.begins c.publish_up_to.ensures.whole
+    let s = kept_by c.args.self.now (λ z. (goal.Segment-dyn g z).holding z.1) in
+    let all = fresh_is s c.durable_end-end.result c.entered-known.result c.between-fresh.result.now c.requires.sound c.durable_end-end.ensures
+    c.entered-known.ensures c.between-fresh.ensures in
+    publish_sound s c.publish_up_to.new.self c.durable_end-end.result s.entries c.requires.sound
+    c.durable_end-end.ensures refl c.publish_up_to.ensures.same
+    (subst (IsPrefix (entries_of c.publish_up_to.new.self.entered)) all c.publish_up_to.ensures.begins)
+    (subst (EntersWhole s.versions.entered c.publish_up_to.new.self.entered) all c.publish_up_to.ensures.whole)
 
 pub returns-clause-leaves : goal.returns-clause-leaves
 returns-clause-leaves g c =
-    publish_leaves (kept_by c.args.self.now (λ z. (goal.Segment-dyn g z).holding z.1)) c.publish_up_to.new.self c.publish_up_to.result c.durable_end-end.result
-    c.entries.result.now c.requires.sound c.durable_end-end.ensures c.entries.ensures c.publish_up_to.ensures.same
-    c.publish_up_to.ensures.published c.publish_up_to.ensures.grows c.publish_up_to.ensures.unchanged
+    let s = kept_by c.args.self.now (λ z. (goal.Segment-dyn g z).holding z.1) in
+    let all = fresh_is s c.durable_end-end.result c.entered-known.result c.between-fresh.result.now c.requires.sound c.durable_end-end.ensures
+    c.entered-known.ensures c.between-fresh.ensures in
+    publish_leaves s c.publish_up_to.new.self c.publish_up_to.result c.durable_end-end.result
+    s.entries c.requires.sound c.durable_end-end.ensures refl c.publish_up_to.ensures.same
+    (subst (λ (es : List Entry). OnOk c.publish_up_to.result (posted_of c.publish_up_to.new.self.published
+    ≡ Some (record { start = s.versions.start; entries = es }))) all c.publish_up_to.ensures.published)
+    c.publish_up_to.ensures.grows c.publish_up_to.ensures.unchanged
+
+pub invariant_of-self-clause-forgotten : goal.invariant_of-self-clause-forgotten
+invariant_of-self-clause-forgotten g c =
+    enters_longer c.args.self.now.versions.entered c.publish_up_to.new.self.entered _ c.args.self.now.intake.history.gone
+    c.publish_up_to.ensures.whole c.args.self.now.forgotten

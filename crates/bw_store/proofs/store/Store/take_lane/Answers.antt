@@ -1,6 +1,6 @@
 use Rattle.std.proofs.Common.{refl, ◌∙◌}
 use Rattle.bw_store.proofs.FollowMore.{in_turn_as, any_then}
-use Rattle.bw_store.proofs.Laned.{took_dry, took_fewer}
+use Rattle.bw_store.proofs.Laned.{none_waits, took_dry, took_fewer}
 use Rattle.bw_store.proofs.store.Store.take_lane.Goals as goal
 
 pub records-init : goal.records-init
@@ -20,3 +20,6 @@ records-preserved g c =
 pub records-smaller : goal.records-smaller
 records-smaller g c =
     took_fewer c.args.lane _ _ c.in_ok-take_waiting.ensures.known (c.waits.ensures.0 c.records-test.true)
+
+pub returns-clause-dry : goal.returns-clause-dry
+returns-clause-dry g c = none_waits _ c.waits.result c.waits.ensures.1 c.records-test.false

@@ -1,4 +1,4 @@
-use Rattle.std.proofs.Common.{◌≡◌, ℕ, ◌-◌, List, Option, Some, None, [], ◌∷◌, ◌++◌, length, length-append, drop, ap, sym, subst, ◌∙◌, arith}
+use Rattle.std.proofs.Common.{◌≡◌, ℕ, ◌-◌, ◌+◌, List, Option, Some, None, [], ◌∷◌, ◌++◌, length, length-append, drop, ap, sym, subst, ◌∙◌, arith}
 use Rattle.std.proofs.lemmas.List.Concat.{flat_map-append}
 use Rattle.std.proofs.lemmas.List.{append-nil, length-drop, take_all}
 use Rattle.std.proofs.lemmas.List.Sums.{fold_push}
@@ -15,8 +15,8 @@ use Rattle.bw_versions.specs.Holds.{versioned, HasStart, IsHeld}
 use Rattle.bw_versions.proofs.versions.Versions.publish_up_to.Goals as goal
 use Rattle.bw_versions.proofs.versions.Versions.publish_up_to.Goals.{in-Ok, in-Err-Entered, in-Err-Back}
 
-pub returns-then-count-history-clause-idle : goal.returns-then-count-history-clause-idle
-returns-then-count-history-clause-idle g c up =
+pub returns-then-is_empty-clause-idle : goal.returns-then-is_empty-clause-idle
+returns-then-is_empty-clause-idle g c up =
     let seen = c.self.view_is in
     let level = ap (λ (v : Versioned). v.published) seen ∙ sym up.all ∙ sym (ap (λ (v : Versioned). v.entered) seen) in
     let done = c.catch_up.ensures.idle level in
@@ -28,13 +28,10 @@ entries-more : (log : List BatchData) (b : BatchData) → entries_of (log ++ b �
 entries-more log b =
     flat_map-append (λ (x : BatchData). x.entries) log (b ∷ []) ∙ ap (λ (es : List Entry). entries_of log ++ es) (append-nil b.entries)
 
-count-more : (log : List BatchData) (b : BatchData) (es : List Entry) (n : ℕ) → n ≡ length (entries_of log) → IsPrefix (entries_of log) es
-    → b.entries ≡ drop n es → length es ≡ length (entries_of (log ++ b ∷ []))
-count-more log b es n e p d =
+count-more : (log : List BatchData) (b : BatchData) (fresh : List Entry) (end : ℕ) → length (entries_of log) + length fresh ≡ end → b.entries ≡ fresh
+    → end ≡ length (entries_of (log ++ b ∷ []))
+count-more log b fresh end e d =
     let parts = length-append (entries_of log) b.entries in
-    let rest = length-drop n es in
-    let long = length-append (entries_of log) p.0 in
-    let whole = ap length p.1 in
     let added = ap length d in
     let all = ap length (entries-more log b) in
     omega arith
@@ -53,12 +50,10 @@ invariant_of-self-2 g c =
     let held = c.self.invariant in
     let old = c.self.inside.publisher.entered.log in
     let batch = c.new-batch.result in
-    let begins = subst (λ (v : Versioned). IsPrefix (entries_of v.entered) c.args.history.now) (sym c.self.view_is) c.requires.begins in
     let brought = ap (λ (b : BatchData). b.start) c.new-batch.ensures ∙ c.take.ensures.value in
-    let news = ap (λ (b : BatchData). b.entries) c.new-batch.ensures ∙ c.in_ok-entries.ensures
-    ∙ take_all (length c.args.history.now - c.self.inside.count) (drop c.self.inside.count c.args.history.now)
-    (let rest = length-drop c.self.inside.count c.args.history.now in omega arith) in
-    let more = count-more old batch c.args.history.now c.self.inside.count held.count begins news in
+    let news = ap (λ (b : BatchData). b.entries) c.new-batch.ensures ∙ c.in_ok-entries.ensures in
+    let wide = subst (λ (v : Versioned). length (entries_of v.entered) + length c.args.fresh.now ≡ c.args.end) (sym c.self.view_is) c.requires in
+    let more = count-more old batch c.args.fresh.now c.args.end wide news in
     let start = start-more old batch c.self.inside.began.value c.self.inside.start held.start brought in
     let Starts : List BatchData × Option Shown → Type 0 = λ x. HasStart c.self.inside.began.value x.0 x.1 in
     elim c.match-publish.branch [

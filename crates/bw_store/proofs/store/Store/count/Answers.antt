@@ -1,0 +1,65 @@
+use Rattle.std.proofs.Common.{◌≡◌, ◌+◌, ◌-◌, ℕ, get_or, length, refl, sym, ap, ◌∙◌, subst, arith}
+use Rattle.std.specs.FinMap as finite
+use Rattle.bw_codec.specs.declared.leaf.Leaf.{Leaf}
+use Rattle.bw_page.specs.Leaves.{Map, empty_leaf}
+use Rattle.bw_page.specs.Shown.{Shown}
+use Rattle.bw_store.specs.Kept.{Kept}
+use Rattle.bw_store.specs.Reading.{HasRead}
+use Rattle.bw_store.specs.Views.{kept_by}
+use Rattle.bw_store.proofs.Counted.{counted, total, total_all, total_few, total_more, total_none}
+use Rattle.bw_store.proofs.FollowMore.{follows_as, follows_read}
+use Rattle.bw_store.proofs.store.Store.count.Goals as goal
+
+pub pages-init : goal.pages-init
+pages-init g c = record { sound = c.requires; same = refl; pages = refl; so_far = sym (total_none c.args.self.now.leaves.leaves) }
+
+pub returns-in_err-pairs-clause-follows : goal.returns-in_err-pairs-clause-follows
+returns-in_err-pairs-clause-follows g c =
+    (follows_read _ _ (subst (λ (s : Kept). HasRead s (kept_by c.pairs_on.new.self (λ z. (goal.Segment-dyn g z).holding z.1))) c.pages.invariant.same
+    c.pairs_on.ensures.read)).follows
+
+pub overflow_add-pairs : goal.overflow_add-pairs
+overflow_add-pairs g c =
+    let leaves = c.args.self.now.leaves.leaves in
+    let within = c.pages-test.true in
+    let count = c.count-pages.ensures.value in
+    let so_far = c.pages.invariant.so_far in
+    let here = c.in_ok-pairs.ensures.value
+    ∙ ap (λ (f : Shown). length (get_or f.leaves (c.pages.before + 1 - 1) empty_leaf).pairs) c.pages.invariant.pages in
+    let at : c.pages.before + 1 - 1 ≡ c.pages.before = omega arith in
+    let same = ap (λ k. length (get_or leaves k empty_leaf).pairs) at in
+    let more = total_more leaves c.pages.before (omega arith) in
+    let few = total_few c.args.self.now.leaves.m leaves (c.pages.before + 1) c.count-pages.ensures.limit.1 c.count-pages.ensures.lawful in
+    omega arith
+
+pub pages-preserved : goal.pages-preserved
+pages-preserved g c =
+    let leaves = c.args.self.now.leaves.leaves in
+    let within = c.pages-test.true in
+    let count = c.count-pages.ensures.value in
+    let so_far = c.pages.invariant.so_far in
+    let here = c.in_ok-pairs.ensures.value
+    ∙ ap (λ (f : Shown). length (get_or f.leaves (c.pages.before + 1 - 1) empty_leaf).pairs) c.pages.invariant.pages in
+    let at : c.pages.before + 1 - 1 ≡ c.pages.before = omega arith in
+    let same = ap (λ k. length (get_or leaves k empty_leaf).pairs) at in
+    let more = total_more leaves c.pages.before (omega arith) in
+    record {
+      sound = c.pairs_on.ensures.sound;
+      same = c.in_ok-pairs.ensures.leaves ∙ c.pages.invariant.same;
+      pages = c.pairs_on.ensures.pages ∙ c.pages.invariant.pages;
+      so_far = omega arith;
+    }
+
+pub returns-clause-value : goal.returns-clause-value
+returns-clause-value g c =
+    let leaves = c.args.self.now.leaves.leaves in
+    let within = c.pages-test.false in
+    let end = c.pages.auto.before-end in
+    let count = c.count-pages.ensures.value in
+    c.pages.invariant.so_far
+    ∙ total_all leaves c.pages.before (omega arith)
+    ∙ sym (counted c.args.self.now.leaves.m leaves c.count-pages.ensures.lawful)
+    ∙ ap (λ (u : Map). finite.len u) c.requires.mapped
+
+pub returns-clause-follows : goal.returns-clause-follows
+returns-clause-follows g c = (follows_as _ _ c.pages.invariant.same).follows
