@@ -2,6 +2,7 @@
 //! it is, and the room of segments that are given up comes back.
 
 mod again;
+mod memory;
 mod refused;
 
 use bw_codec::{Key, Record, Value};
