@@ -347,7 +347,7 @@ impl Home {
     }
 
     /// Ends the store. Nothing is flushed, and its segments are dropped.
-    pub fn shut<R: Wait>(self, rt: &R)
+    pub(crate) fn shut<R: Wait>(self, rt: &R)
         requires { IsReady self holding }
     {
         let Home {

@@ -17,6 +17,9 @@ pub returns-in-Some-leg-clause-answer : goal.returns-in-Some-leg-clause-answer
 returns-in-Some-leg-clause-answer g c = c.legs.invariant.3 _ c.in-Some-leg.ensures.answer
 
 pub legs-preserved : goal.legs-preserved
-legs-preserved g c =
-    (tt, tt, ready_by_kind (record { first = λ _ _ _. refl; second = λ _ _ _. refl }) c.leg.ensures.ready,
-    λ answer says. c.legs.invariant.3 answer (c.in_default-leg.ensures.answer answer says))
+legs-preserved g c = (
+  tt,
+  tt,
+  ready_by_kind (record { first = λ _ _ _. refl; second = λ _ _ _. refl }) c.leg.ensures.ready,
+  λ answer says. c.legs.invariant.3 answer (c.in_default-leg.ensures.answer answer says),
+)
