@@ -37,7 +37,13 @@ impl<R: System> Course<R> for Settle {
         let Some(item) = record() else {
             return Ok(());
         };
-        if let Err(NotPut { cause: Some(cause), .. }) = home.put(item) {
+        if let Err(
+            NotPut {
+                cause: Some(cause),
+                ..
+            },
+        ) = home.put(item)
+        {
             return Err(cause);
         }
         let _ = home.settle(rt)?;

@@ -34,7 +34,11 @@ const ROWS: &[Row] = &[
     Row(b"BWL", b"BWL", Told::Refused(RecoverCause::Empty)),
     Row(FIRST, b"BWL", Told::Refused(RecoverCause::Empty)),
     Row(SECOND, b"", Told::Refused(RecoverCause::Empty)),
-    Row(b"", b"BWLOGSG2", Told::Refused(RecoverCause::BadBytes { segment: 1, at: 0 })),
+    Row(
+        b"",
+        b"BWLOGSG2",
+        Told::Refused(RecoverCause::BadBytes { segment: 1, at: 0 }),
+    ),
     Row(FIRST, SECOND, Told::Refused(RecoverCause::Empty)),
 ];
 
