@@ -24,8 +24,8 @@ pub struct Beginning {
 /// Why no store began.
 pub(crate) enum NotBegun {
     Fault(HomeFault),
-    /// There was the beginning of a first frame alone. Nothing of that is there any more, so another
-    /// attempt finds a folder of no bytes.
+    /// There was the beginning of a first frame alone. Nothing of that is there any more, so
+    /// another attempt finds a folder of no bytes.
     Cleared,
 }
 
@@ -35,8 +35,8 @@ impl From<HomeFault> for NotBegun {
     }
 }
 
-/// Whether a segment with bytes, of a log in which no frame is whole, may be the first that was ever
-/// begun: it has a part of a header, or the header of segment 1.
+/// Whether a segment with bytes, of a log in which no frame is whole, may be the first that was
+/// ever begun: it has a part of a header, or the header of segment 1.
 fn may_be_first(one: &mut Box<dyn Segment>) -> bool {
     let mut front = [0u8; 24];
     if one.len() < 24 {
@@ -67,8 +67,8 @@ fn beginning_in(boxes: &mut [Box<dyn Segment>]) -> Option<Beginning> {
     found
 }
 
-/// The beginning of a first frame, where that is all there is in what was not recovered; else why it
-/// was not. The boxes are dropped.
+/// The beginning of a first frame, where that is all there is in what was not recovered; else why
+/// it was not. The boxes are dropped.
 pub fn beginning_of(fault: RecoverFault) -> Result<Beginning, HomeFault> {
     let RecoverFault { mut boxes, cause } = fault;
     if matches!(cause, RecoverCause::Empty) {

@@ -121,11 +121,12 @@ impl Home {
         }
     }
 
-    /// Puts a record into the queue of the first writer. Where that is full, the store takes all that
-    /// waits before.
+    /// Puts a record into the queue of the first writer. Where that is full, the store takes all
+    /// that waits before.
     ///
-    /// Where the store is refused that, or the queue is full all the same, or there is no writer, the
-    /// record comes back, and no queue has more than before. It costs a turn where the queue is full.
+    /// Where the store is refused that, or the queue is full all the same, or there is no writer,
+    /// the record comes back, and no queue has more than before. It costs a turn where the queue
+    /// is full.
     pub fn put(&mut self, item: Record) -> Result<(), NotPut>
         requires { IsReady self.old holding }
         ensures ready { IsReady self.new holding }
@@ -256,8 +257,8 @@ impl Home {
         self.store.get(key)
     }
 
-    /// The pair with the least key at or above this one, as all that was taken leaves it, flushed or
-    /// not; `None` behind the last pair. As `Store::next_at`.
+    /// The pair with the least key at or above this one, as all that was taken leaves it, flushed
+    /// or not; `None` behind the last pair. As `Store::next_at`.
     pub fn next_at(&mut self, key: &Key) -> Result<Option<(Key, Value)>, StoreFault>
         requires { IsReady self.old holding }
         ensures ready { IsReady self.new holding }
@@ -271,8 +272,8 @@ impl Home {
         self.store.next_at(key)
     }
 
-    /// Puts the pairs at or above a key into `found`, in the order of keys and no more than so many,
-    /// as all that was taken leaves them, flushed or not. As `Store::scan`.
+    /// Puts the pairs at or above a key into `found`, in the order of keys and no more than so
+    /// many, as all that was taken leaves them, flushed or not. As `Store::scan`.
     pub fn scan(
         &mut self,
         key: &Key,
@@ -294,9 +295,10 @@ impl Home {
     /// Gives up the oldest segment, and empties its file. A new segment over a file without bytes
     /// stands in its place: a spare from the next leg on, or once the folder is opened again.
     ///
-    /// Refused `Store`, and `NoMemory`, as `Store::clean` is, which says what stands then. `Folder`,
-    /// and `NoMemory` too, where the file was not emptied or the new segment not made: the old one is
-    /// given up all the same. The next call does that first, and gives up no other before.
+    /// Refused `Store`, and `NoMemory`, as `Store::clean` is, which says what stands then.
+    /// `Folder`, and `NoMemory` too, where the file was not emptied or the new segment not made:
+    /// the old one is given up all the same. The next call does that first, and gives up no other
+    /// before.
     pub fn clean<R: System>(&mut self, rt: &R) -> Result<Cleaned, HomeFault>
         requires { IsReady self.old holding }
         ensures ready { IsReady self.new holding }
@@ -313,8 +315,8 @@ impl Home {
         Ok(cleaned)
     }
 
-    // Empties the file of the segment that was given up last, and makes a new one. A stop must never
-    // show a later segment gone and an earlier one still there.
+    // Empties the file of the segment that was given up last, and makes a new one. A stop must
+    // never show a later segment gone and an earlier one still there.
     fn renew<R: System>(&mut self, rt: &R) -> Result<(), HomeFault>
         requires { IsReady self.old holding }
         ensures ready { IsReady self.new holding }

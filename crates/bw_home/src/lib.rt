@@ -1,11 +1,12 @@
 //! One call that opens a folder, gives a course the store in it with the feeds of its writers, and
 //! ends the store.
 //!
-//! `with_store` looks before it writes anything: what recovery refuses of the folder is refused, and
-//! the folder stays as it is. Then it locks the folder, which is made where it is missing, goes on
-//! from the store there or begins a new one, and runs the course. A `Course` is handed a `Home`: the
-//! store, its feeds, and where its segments stand. The store is sound and the rings are those of the
-//! feeds (`specs/Ready.antt`), and the course has to leave them so: each call of `Home` does.
+//! `with_store` looks before it writes anything: what recovery refuses of the folder is refused,
+//! and the folder stays as it is. Then it locks the folder, which is made where it is missing,
+//! goes on from the store there or begins a new one, and runs the course. A `Course` is handed a
+//! `Home`: the store, its feeds, and where its segments stand. The store is sound and the rings
+//! are those of the feeds (`specs/Ready.antt`), and the course has to leave them so: each call of
+//! `Home` does.
 #![tactic(auto)]
 
 mod beginning;

@@ -69,9 +69,9 @@ fn copies_of<R: System>(
 /// Looks at the folder of this path, where there is one, and changes nothing there. It would be
 /// opened with so many segments at least, of this capacity in bytes, by a desk of so many leases.
 ///
-/// What recovery refuses of its segments is refused, but for the beginning of a first frame. Whoever
-/// opens it looks again at what is opened, so nothing hangs on what somebody else does in between.
-/// It takes memory for a copy of all files, and the time of a recovery.
+/// What recovery refuses of its segments is refused, but for the beginning of a first frame.
+/// Whoever opens it looks again at what is opened, so nothing hangs on what somebody else does in
+/// between. It takes memory for a copy of all files, and the time of a recovery.
 pub fn look<R: System>(
     rt: &R,
     path: &str,

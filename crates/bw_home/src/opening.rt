@@ -12,9 +12,9 @@ use crate::system::System;
 use bw_care::RecoverCause;
 use bw_device::{MAX_LEASES, Segment};
 
-// Opens the folder, goes leg by leg over the store in it, and ends the store; `None` where the folder
-// had the beginning of a first frame alone, which was cleared. Boxes are made here alone: a function
-// that takes or gives a box, or a home, makes none.
+// Opens the folder, goes leg by leg over the store in it, and ends the store; `None` where the
+// folder had the beginning of a first frame alone, which was cleared. Boxes are made here alone: a
+// function that takes or gives a box, or a home, makes none.
 fn go<R: System, L: Legs<R>>(
     rt: &R,
     path: &str,
@@ -57,8 +57,8 @@ fn go<R: System, L: Legs<R>>(
     unreachable!()
 }
 
-/// Opens the folder of this path, goes leg by leg over the store in it, and ends the store: what was
-/// not flushed is gone then. As `with_store` else.
+/// Opens the folder of this path, goes leg by leg over the store in it, and ends the store: what
+/// was not flushed is gone then. As `with_store` else.
 pub fn with_store_in_legs<R: System, L: Legs<R>>(
     rt: &R,
     path: &str,
@@ -77,17 +77,18 @@ pub fn with_store_in_legs<R: System, L: Legs<R>>(
     }
 }
 
-/// Opens the folder of this path, runs the course over the store in it, and ends the store: what was
-/// not flushed is gone then.
+/// Opens the folder of this path, runs the course over the store in it, and ends the store: what
+/// was not flushed is gone then.
 ///
-/// The folder is looked at first, and what recovery refuses of it is refused, `Recovery`, and stays as
-/// it is. Then it is locked, and made where it is missing. A folder without bytes has a new store, and
-/// so has one with nothing but the beginning of a first frame, which was never durable; any other
-/// goes on with what it holds, whatever the limits of pages and frames in the options are.
+/// The folder is looked at first, and what recovery refuses of it is refused, `Recovery`, and
+/// stays as it is. Then it is locked, and made where it is missing. A folder without bytes has a
+/// new store, and so has one with nothing but the beginning of a first frame, which was never
+/// durable; any other goes on with what it holds, whatever the limits of pages and frames in the
+/// options are.
 ///
-/// `Folder`: it, or a file in it, was not listed, opened or made, `InUse` among the reasons. `Store`:
-/// `BadConfig`, where a number of the options is out of its range. `Lease`: more than 4,096 segments.
-/// Files without bytes may have been made then, and no other is written.
+/// `Folder`: it, or a file in it, was not listed, opened or made, `InUse` among the reasons.
+/// `Store`: `BadConfig`, where a number of the options is out of its range. `Lease`: more than
+/// 4,096 segments. Files without bytes may have been made then, and no other is written.
 ///
 /// It takes memory for all files twice for a moment, and twice the time of a recovery.
 pub fn with_store<R: System, C: Course<R>>(

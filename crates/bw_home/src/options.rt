@@ -2,8 +2,8 @@
 
 use bw_store::Config;
 
-/// How a store in a folder is opened. The limits of pages and frames are for a new one: another goes
-/// on with its own.
+/// How a store in a folder is opened. The limits of pages and frames are for a new one: another
+/// goes on with its own.
 #[derive(Debug, Clone, Copy, PartialEq, Eq)]
 pub struct Options {
     /// How many writers there are, 1 to 64: each has a queue of its own.

@@ -45,8 +45,8 @@ pub(crate) fn desk_of(alloc: Global, leases: u32) -> Result<Desk, HomeFault> {
     Ok(Desk::new(alloc, leases)?)
 }
 
-/// How many segments a store begins with: so many at least, and one for each lease up to the last of
-/// these, which have a file.
+/// How many segments a store begins with: so many at least, and one for each lease up to the last
+/// of these, which have a file.
 pub(crate) fn count_over(leases: &[u32], least: u32) -> u32 {
     match leases.last() {
         Some(last) => least.max(last.saturating_add(1)),
@@ -97,8 +97,8 @@ impl Site {
         Ok(Site { place, desk })
     }
 
-    /// How many segments a store begins with: so many at least, and one for each lease up to the last
-    /// that has a file.
+    /// How many segments a store begins with: so many at least, and one for each lease up to the
+    /// last that has a file.
     pub fn count<R: System>(&self, rt: &R, least: u32) -> Result<u32, HomeFault> {
         match &self.place {
             Place::Memory => Ok(least),
