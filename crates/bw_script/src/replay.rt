@@ -259,8 +259,8 @@ fn told_of(manner: Manner) -> Told {
     }
 }
 
-/// Where the segments of a run stand, and how many it begins with. A folder was looked at before: what
-/// the run would be refused is refused before anything is written there.
+/// Where the segments of a run stand, and how many it begins with. A folder was looked at before:
+/// what the run would be refused is refused before anything is written there.
 pub fn opened<R: System>(rt: &R, options: &Options<'_>) -> Result<(Site, u32), Miss> {
     let least = u32::from(options.segments);
     if let Some(path) = options.dir {
