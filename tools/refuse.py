@@ -26,7 +26,7 @@ import tempfile
 
 HERE = os.path.dirname(os.path.abspath(__file__))
 CRATES = os.path.join(HERE, "..", "crates")
-TESTS = [os.path.join(CRATES, it, "out", it + "_tests") for it in ("memory_tests", "log_tests", "drive_tests")]
+TESTS = [os.path.join(CRATES, it, "out", it + "_tests") for it in ("memory_tests", "log_tests", "drive_tests", "folder_tests")]
 PROGRAM = os.path.join(CRATES, "bwlog", "out", "bwlog")
 REFUSED = b"refused E1 NoMemory\n"
 LIMIT = 60

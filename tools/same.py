@@ -9,7 +9,7 @@ import sys
 EXAMPLES = {
     "README.md": ["crates/folder_tests/src/tests.rt"] * 2,
     "docs/EMBEDDING.md": [
-        "crates/folder_tests/src/tests.rt",
+        "crates/folder_tests/src/tests/again.rt",
         "crates/store_tests/src/tests/readme.rt",
         "crates/store_tests/src/tests/readme.rt",
         "crates/drive_tests/src/tests/readme.rt",

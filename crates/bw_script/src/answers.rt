@@ -2,13 +2,13 @@
 
 ghost use Rattle.bw_script.specs.Session.{IsReady};
 
-use crate::calls::LEASES;
-use crate::home::{Made, Site};
+use crate::leases::LEASES;
 use crate::miss::Miss;
 use crate::printed::{write_dump, write_entry, write_found, write_value};
 use crate::session::Session;
 use crate::system::System;
 use bw_codec::{Key, Leaf, Value};
+use bw_home::{Made, Site};
 use bw_look::{Printer, write_page};
 use bw_store::{Cleaned, Entry};
 use std::io::Write;

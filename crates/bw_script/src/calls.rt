@@ -5,7 +5,6 @@ ghost use Rattle.bw_care.specs.Found.{IsRecovered};
 ghost use Rattle.bw_ring.specs.Ends.{ring_of_feed};
 
 use crate::answers::Answer;
-use crate::home::Site;
 use crate::miss::Miss;
 use crate::options::Options;
 use crate::request::Request;
@@ -15,15 +14,13 @@ use crate::system::System;
 use bw_care::Recovered;
 use bw_codec::Key;
 use bw_device::Segment;
+use bw_home::Site;
 use bw_ring::{Feed, Group};
 use bw_store::{Config, Store};
 use std::alloc::Global;
 
 /// How many places for readers a store is opened with.
 const READERS: usize = 4;
-
-/// How many leases a desk has.
-pub const LEASES: u32 = 64;
 
 // Whether the feed of this writer took the group.
 fn put_at(feeds: &mut Vec<Feed>, writer: usize, group: Group) -> bool

@@ -10,9 +10,8 @@
 
 mod answers;
 mod calls;
-mod home;
+mod leases;
 mod lines;
-mod looking;
 mod looks;
 mod miss;
 mod options;

@@ -1,7 +1,7 @@
 //! `bwlog print`, `stats`, `picture` and `restore`: what segments hold, for people. Each reads the
 //! segments of a folder, or lines in hex, and changes none of them.
 
-use crate::home::{desk_of, taken};
+use crate::leases::{desk_of, taken};
 use crate::lines::{Lines, READS};
 use crate::miss::Miss;
 use crate::options::Copying;

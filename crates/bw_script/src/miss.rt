@@ -4,6 +4,7 @@ use crate::refusal::Refusal;
 use crate::script::Fault;
 use crate::stop::Stop;
 use bw_file::FolderFault;
+use bw_home::HomeFault;
 use bw_look::NotWritten;
 use bw_store::StoreFault;
 use std::alloc::{AllocError, AllocFailed};
@@ -61,6 +62,19 @@ impl From<FolderFault> for Miss {
             FolderFault::NoMemory => Miss::Refused(Refusal::NoMemory),
             FolderFault::BadConfig => Miss::Refused(Refusal::BadConfig),
             other => Miss::Ended(Stop::Folder(other)),
+        }
+    }
+}
+
+impl From<HomeFault> for Miss {
+    fn from(fault: HomeFault) -> Miss {
+        match fault {
+            HomeFault::NoMemory => Miss::Refused(Refusal::NoMemory),
+            HomeFault::Folder(fault) => Miss::from(fault),
+            HomeFault::Made(fault) => Miss::Refused(Refusal::from(fault)),
+            HomeFault::Lease(fault) => Miss::Refused(Refusal::from(fault)),
+            HomeFault::Recovery(cause) => Miss::Refused(Refusal::from(cause)),
+            HomeFault::Store(fault) => Miss::Refused(Refusal::from(fault)),
         }
     }
 }

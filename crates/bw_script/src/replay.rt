@@ -7,9 +7,8 @@ ghost use Rattle.bw_care.specs.Views.{IsSound};
 ghost use Rattle.bw_script.specs.Session.{IsReady, IsReadyBeside};
 
 use crate::answers::{Answer, tell};
-use crate::home::{Made, Site};
+use crate::leases::LEASES;
 use crate::lines::{Lines, READS};
-use crate::looking::{Beginning, beginning_of, look};
 use crate::miss::Miss;
 use crate::options::Options;
 use crate::print::print;
@@ -23,6 +22,7 @@ use crate::system::System;
 use bw_care::{RecoverFault, Recovered, recover};
 use bw_device::Segment;
 use bw_file::FolderFault;
+use bw_home::{Beginning, Made, Site, beginning_of, look};
 use std::alloc::Global;
 use std::io::{Read, Write};
 
@@ -259,6 +259,18 @@ fn told_of(manner: Manner) -> Told {
     }
 }
 
+/// Where the segments of a run stand, and how many it begins with. A folder was looked at before:
+/// what the run would be refused is refused before anything is written there.
+pub fn opened<R: System>(rt: &R, options: &Options<'_>) -> Result<(Site, u32), Miss> {
+    let least = u32::from(options.segments);
+    if let Some(path) = options.dir {
+        look(rt, path, LEASES, least, u64::from(options.capacity))?;
+    }
+    let site = Site::open(rt, options.dir, LEASES)?;
+    let count = site.count(rt, least)?;
+    Ok((site, count))
+}
+
 /// Why a run did not begin.
 pub enum NotBegun {
     Miss(Miss),
@@ -289,7 +301,7 @@ impl From<FolderFault> for NotBegun {
 fn not_begun(fault: RecoverFault) -> NotBegun {
     match beginning_of(fault) {
         Ok(beginning) => NotBegun::Beginning(beginning),
-        Err(refusal) => NotBegun::Miss(Miss::Refused(refusal)),
+        Err(fault) => NotBegun::Miss(Miss::from(fault)),
     }
 }
 
@@ -378,17 +390,16 @@ fn replay_lines<R: System, I: Read, O: Write>(
     lines: &mut Lines<&mut I>,
     output: &mut O,
 ) -> Result<Option<Met>, Stop> {
-    if let Err(miss) = look(rt, options) {
-        return Ok(Some(missed(output, 0, miss)?));
-    }
-    let mut site = Site::open(rt, options.dir)?;
-    let count = site.count(rt, options.segments)?;
+    let (mut site, count) = match opened(rt, options) {
+        Ok(opened) => opened,
+        Err(miss) => return Ok(Some(missed(output, 0, miss)?)),
+    };
     let mut boxes: Vec<Box<dyn Segment>> = Vec::new(rt.alloc());
     let mut are_new = true;
     for _ in 0..count {
         let made = match site.segment(rt, u64::from(options.capacity)) {
             Ok(made) => made,
-            Err(miss) => return Ok(Some(missed(output, 0, miss)?)),
+            Err(fault) => return Ok(Some(missed(output, 0, Miss::from(fault))?)),
         };
         are_new &= made.is_empty();
         let segment: Box<dyn Segment> = match made {

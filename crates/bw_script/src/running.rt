@@ -4,8 +4,7 @@
 ghost use Rattle.std.specs.Prelude.{◌≡◌, vec_len};
 ghost use Rattle.bw_script.specs.Session.{IsReady};
 
-use crate::calls::LEASES;
-use crate::home::Site;
+use crate::leases::LEASES;
 use crate::options::Pace;
 use crate::refusal::Refusal;
 use crate::session::Session;
@@ -15,6 +14,7 @@ use bw_codec::{Key, Leaf, Value};
 use bw_device::Segment;
 use bw_drive::{DriveFault, Driven, OpenGate, Plan, drive};
 use bw_file::FolderFault;
+use bw_home::Site;
 use bw_ring::Group;
 use bw_store::StoreFault;
 use std::alloc::{AllocError, Global};

@@ -2,8 +2,7 @@
 
 ghost use Rattle.bw_care.specs.Views.{IsSound};
 
-use crate::calls::LEASES;
-use crate::home::{desk_of, taken};
+use crate::leases::{LEASES, desk_of, taken};
 use crate::lines::{Lines, READS};
 use crate::miss::Miss;
 use crate::refusal::Refusal;

@@ -1,6 +1,6 @@
 //! What a script has before it: a store, its feeds, and where its segments stand.
 
-use crate::home::Site;
+use bw_home::Site;
 use bw_ring::Feed;
 use bw_store::Store;
 

@@ -1,14 +1,8 @@
 //! What the program asks of the system beside its streams.
 
-use std::fs::File;
-use std::rt::Files;
-use std::sync::Wait;
+pub use bw_home::System;
+
 use std::thread::Threads;
-
-/// A handle that gives memory and files, and by which a call may wait.
-pub trait System: AllocGlobal + Files<File = File> + Wait + Clone + Drop {}
-
-impl<R: AllocGlobal + Files<File = File> + Wait + Clone + Drop> System for R {}
 
 /// One by which a call may start threads, too.
 pub trait Host: System + Threads {}

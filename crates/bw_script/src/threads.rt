@@ -3,13 +3,12 @@
 ghost use Rattle.std.specs.Prelude.{◌≡◌, vec_len, IfOk, IsNone};
 ghost use Rattle.bw_script.specs.Session.{IsReady};
 
-use crate::home::{Made, Site};
 use crate::lines::{Lines, READS};
-use crate::looking::look;
+use crate::miss::Miss;
 use crate::options::{Options, Pace};
 use crate::printed::write_pairs;
 use crate::refusal::Refusal;
-use crate::replay::{ATTEMPTS, NotBegun, Told, begin};
+use crate::replay::{ATTEMPTS, NotBegun, Told, begin, opened};
 use crate::running::Run;
 use crate::script::{LONGEST, parse_group};
 use crate::session::Session;
@@ -17,6 +16,7 @@ use crate::stop::{Met, Stop, missed, no_input, refuse};
 use crate::system::Host;
 use bw_codec::{Key, Value};
 use bw_device::Segment;
+use bw_home::Made;
 use bw_look::Printer;
 use bw_ring::Group;
 use std::alloc::{AllocError, Global};
@@ -191,17 +191,16 @@ fn run_scripts<R: Host, O: Write>(
     requires { vec_len scripts.old ≡ options.now.writers }
     ensures { IfOk result (λ end. IsNone end → scripts.new ≡ scripts.old) }
 {
-    if let Err(miss) = look(rt, options) {
-        return Ok(Some(missed(output, 0, miss)?));
-    }
-    let mut site = Site::open(rt, options.dir)?;
-    let count = site.count(rt, options.segments)?;
+    let (mut site, count) = match opened(rt, options) {
+        Ok(opened) => opened,
+        Err(miss) => return Ok(Some(missed(output, 0, miss)?)),
+    };
     let mut boxes: Vec<Box<dyn Segment>> = Vec::new(rt.alloc());
     let mut are_new = true;
     for _ in 0..count {
         let made = match site.segment(rt, u64::from(options.capacity)) {
             Ok(made) => made,
-            Err(miss) => return Ok(Some(missed(output, 0, miss)?)),
+            Err(fault) => return Ok(Some(missed(output, 0, Miss::from(fault))?)),
         };
         are_new &= made.is_empty();
         let segment: Box<dyn Segment> = match made {

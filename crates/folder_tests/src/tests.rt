@@ -1,110 +1,71 @@
-//! A store is opened in a new folder, takes two records, and walks over them; the folder then gives
-//! it back.
+//! A store in a folder, by one call: what a course puts there is found again, what is refused stays as
+//! it is, and the room of segments that are given up comes back.
 
-ghost use Rattle.std.specs.Prelude.{◌≡◌, ◌<◌, length, map, IfOk};
-ghost use Rattle.bw_ring.specs.Ends.{ring_of_feed};
-ghost use Rattle.bw_store.specs.Views.{kept_by, IsSound};
+mod again;
+mod memory;
+mod refused;
 
-use bw_care::recover;
 use bw_codec::{Key, Record, Value};
-use bw_device::{Desk, Segment};
-use bw_file::Folder;
-use bw_ring::Feed;
-use bw_store::{Config, Store};
-use std::fs::{self, File};
-use std::rt::Files;
-use std::sync::Wait;
+use bw_home::{Course, Home, Options, System, with_store};
+use std::fs;
 use std::test::Fail;
 
 /// A key and its value.
 type Pair = (Key, Value);
 
-// Two records are put and settled, and the first pair from a key on is read.
-fn put_and_walk<R: Wait>(
-    rt: &R,
-    store: &mut Store,
-    feeds: &mut Vec<Feed>,
-) -> Result<Option<Pair>, Fail>
-    requires sound { IsSound store.old holding }
-    requires feeds { map ring_of_feed feeds.old.items ≡ (kept_by store.old holding).rings }
-    ensures { IsSound store.new holding }
-{
-    let first = Record::Put(Key::new(b"k")?, Value::new(b"v")?);
-    let second = Record::Put(Key::new(b"l")?, Value::new(b"w")?);
-    put(feeds, first);
-    put(feeds, second);
-    store.settle(rt, feeds)?; // taken from the queue, and in the folder
-    let pair = store.next_at(&Key::new(b"a")?)?; // the first pair at or above "a"
-    Ok(pair)
+/// Puts two records, and walks to the first pair.
+#[derive(Drop)]
+struct PutAndWalk;
+
+impl<R: System> Course<R> for PutAndWalk {
+    type Answer = Result<Option<Pair>, Fail>;
+
+    fn run(self, rt: &R, home: &mut Home) -> Result<Option<Pair>, Fail> {
+        home.put(Record::Put(Key::new(b"k")?, Value::new(b"v")?))?;
+        home.put(Record::Put(Key::new(b"l")?, Value::new(b"w")?))?;
+        home.settle(rt)?; // taken from the queue, and in the folder
+        let pair = home.next_at(&Key::new(b"a")?)?; // the first pair at or above "a"
+        Ok(pair)
+    }
 }
 
-// Puts a record by the first writer, where its queue has room.
-fn put(feeds: &mut Vec<Feed>, record: Record)
-    ensures { map ring_of_feed feeds.new.items ≡ map ring_of_feed feeds.old.items }
-{
-    if feeds.is_empty() {
-        return;
+/// Walks to the first pair of what the folder has.
+#[derive(Drop)]
+struct Walk;
+
+impl<R: System> Course<R> for Walk {
+    type Answer = Result<Option<Pair>, Fail>;
+
+    fn run(self, _rt: &R, home: &mut Home) -> Result<Option<Pair>, Fail> {
+        let pair = home.next_at(&Key::new(b"a")?)?;
+        Ok(pair)
     }
-    let _ = feeds[0].put(record);
 }
 
-// What a store in a folder that has none yet answers.
-fn is_opened<R: AllocGlobal + Files<File = File> + Wait + Clone + Drop>(
-    rt: &R,
-    path: &str,
-) -> Result<Option<Pair>, Fail> {
-    let alloc = rt.alloc();
-    let folder = Folder::open(rt, path)?; // one process at a time
-    let mut desk = Desk::new(alloc, 4)?; // hands out the numbers of segments
-    let mut boxes: Vec<Box<dyn Segment>> = Vec::new(alloc);
-    for _ in 0..4 {
-        let segment = folder.segment(rt, desk.take()?, 65_536)?;
-        boxes.push(Box::new(alloc, segment)?)?;
+// Whether it is the pair that `PutAndWalk` puts first.
+fn is_first(pair: Option<Pair>) -> bool {
+    match pair {
+        Some((key, value)) => key.as_slice() == b"k".as_slice()
+            && value.as_slice() == b"v".as_slice(),
+        None => false,
     }
-    let config = Config {
-        writers: 1,
-        places: 64,
-        readers: 1,
-        m: 32,
-        f: 16_384,
-    };
-    let Ok((mut store, mut feeds)) = Store::open(rt, alloc, &config, boxes) else {
-        return Ok(None); // the boxes are in the refusal
-    };
-    let pair = put_and_walk(rt, &mut store, &mut feeds);
-    let (_live, _spares) = store.shut(rt); // the boxes, as they stand
-    pair
-}
-
-// How many pages and frames the folder has, read as after a stop.
-fn is_recovered<R: AllocGlobal + Files<File = File> + Wait + Clone + Drop>(
-    rt: &R,
-    path: &str,
-) -> Result<Option<(u32, u64)>, Fail> {
-    let alloc = rt.alloc();
-    let folder = Folder::open(rt, path)?;
-    let mut desk = Desk::new(alloc, 4)?;
-    let mut boxes: Vec<Box<dyn Segment>> = Vec::new(alloc);
-    for _ in 0..4 {
-        let segment = folder.segment(rt, desk.take()?, 65_536)?;
-        boxes.push(Box::new(alloc, segment)?)?;
-    }
-    let Ok(found) = recover(alloc, boxes) else {
-        return Ok(None);
-    };
-    Ok(Some((found.leaves.count(), found.last)))
 }
 
 #[test]
 fn the_first_example_of_readme_reads_its_pair(rt: HostRuntime) -> Result<(), Fail> {
-    let path = "folder_tests_data";
-    let read = match is_opened(&rt, path)? {
-        Some((key, value)) => key.as_slice() == b"k".as_slice()
-            && value.as_slice() == b"v".as_slice(),
-        None => false,
-    };
-    assert!(rt; read);
-    assert!(rt; is_recovered(&rt, path)? == Some((1, 1)));
+    let path = "folder_tests_first";
+    let pair = with_store(&rt, path, &Options::default(), PutAndWalk)??;
+    assert!(&rt; is_first(pair));
+    fs::remove_dir_all(&rt, path)?;
+    Ok(())
+}
+
+#[test]
+fn a_second_call_reads_the_pair_again(rt: HostRuntime) -> Result<(), Fail> {
+    let path = "folder_tests_second";
+    let _put = with_store(&rt, path, &Options::default(), PutAndWalk)??;
+    let pair = with_store(&rt, path, &Options::default(), Walk)??;
+    assert!(&rt; is_first(pair));
     fs::remove_dir_all(&rt, path)?;
     Ok(())
 }

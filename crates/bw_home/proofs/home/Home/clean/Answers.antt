@@ -1,0 +1,5 @@
+use Rattle.bw_store.proofs.FollowMore.{follows_as}
+use Rattle.bw_home.proofs.home.Home.clean.Goals as goal
+
+pub returns-in_err-renew-clause-follows : goal.returns-in_err-renew-clause-follows
+returns-in_err-renew-clause-follows g c = (follows_as _ _ c.renew.ensures.same).follows.continues

@@ -1,0 +1,12 @@
+-- What a put makes of the feeds.
+
+use Rattle.std.specs.Prelude.{◌≡◌, ℕ, List, [], ◌∷◌, ◌++◌, map, slice_set, slice_index_or}
+use Rattle.bw_codec.specs.declared.record.Record.{Record}
+use Rattle.bw_ring.specs.Marks.{marked}
+use Rattle.bw_ring.specs.Ends.{accepted}
+use Rattle.bw_ring.specs.declared.feed.Feed.{Feed}
+
+-- the feed of this writer accepted a record behind all others of it, and no other feed accepted any
+abbrev pub Added : ℕ → Record → List Feed → List Feed → Type 0
+Added writer item old new =
+    map accepted new ≡ slice_set (map accepted old) writer (slice_index_or (map accepted old) writer [] ++ marked (item ∷ []))

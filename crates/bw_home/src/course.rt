@@ -1,0 +1,61 @@
+//! What is done with a store in a folder.
+
+ghost use Rattle.std.specs.Prelude.{IfSome, MatchOption};
+ghost use Rattle.bw_home.specs.Ready.{IsReady};
+
+use crate::home::Home;
+
+/// What is done with a store in a folder, by a handle `R`.
+///
+/// The home that it is handed is ready: its store is sound, and its feeds are those of the store's
+/// rings, all of them, in order. `run` leaves it so, whatever it answers.
+pub trait Course<R>: Drop {
+    /// What it answers.
+    type Answer;
+
+    // What a course says of its answer: nothing, where it does not tell.
+    ghost says: { Self → Self.Answer → Type 0 } = { λ _ _. Unit {0} };
+
+    /// Does it.
+    fn run(self, rt: &R, home: &mut Home) -> Self::Answer
+        requires { IsReady home.old holding }
+        ensures ready { IsReady home.new holding }
+        ensures answer { says self result };
+}
+
+/// The same in legs. Between two of them what stands in the place of segments that were given up
+/// becomes spares: a box is made by nobody who is lent the store.
+pub trait Legs<R>: Drop {
+    /// What it answers.
+    type Answer;
+
+    // What it says of its answer: nothing, where it does not tell. A leg adds nothing to that.
+    ghost says: { Self → Self.Answer → Type 0 } = { λ _ _. Unit {0} };
+
+    /// Goes on, up to the answer; `None` asks for another leg.
+    fn leg(&mut self, rt: &R, home: &mut Home) -> Option<Self::Answer>
+        requires { IsReady home.old holding }
+        ensures ready { IsReady home.new holding }
+        ensures answer { MatchOption result
+            ((answer : Self.Answer) → says self.new answer → says self.old answer)
+            (λ answer. says self.old answer) };
+}
+
+/// A course as one leg.
+#[derive(Drop)]
+pub(crate) struct Whole<C> {
+    pub(crate) course: Option<C>,
+}
+
+impl<R, C: Course<R>> Legs<R> for Whole<C> {
+    type Answer = C::Answer;
+
+    ghost says = { λ self answer. IfSome self.course (λ course. C.says course answer) };
+
+    fn leg(&mut self, rt: &R, home: &mut Home) -> Option<C::Answer> {
+        match self.course.take() {
+            Some(course) => Some(course.run(rt, home)),
+            None => None,
+        }
+    }
+}

@@ -1,0 +1,107 @@
+//! Why a folder was not opened, and why a record was not put.
+
+use bw_care::RecoverCause;
+use bw_codec::Record;
+use bw_device::{NotMade, NotTaken};
+use bw_file::FolderFault;
+use bw_store::StoreFault;
+use std::alloc::{AllocError, AllocFailed};
+use std::fmt::{self, Display, Formatter};
+use thiserror::Error;
+
+/// Why a store in a folder was not opened, or has no new spare, by the step that was refused.
+#[derive(Debug, Clone, Copy, Error)]
+pub enum HomeFault {
+    /// A growth was refused.
+    NoMemory,
+    /// The folder was not listed or opened, or a file in it not opened, made or emptied.
+    Folder(FolderFault),
+    /// A segment in memory, or the desk of the leases, has numbers outside their limits.
+    Made(NotMade),
+    /// There are fewer leases than segments.
+    Lease(NotTaken),
+    /// What the folder holds is no store. Nothing was written there.
+    Recovery(RecoverCause),
+    /// No store is opened with these options, or a call on it was refused.
+    Store(StoreFault),
+}
+
+// By hand, since a derived one writes in each variant, which is dear to prove.
+impl Display for HomeFault {
+    fn fmt<W: fmt::Write>(&self, f: &mut Formatter<W>) -> fmt::Result {
+        match self {
+            HomeFault::NoMemory => f.write_str("out of memory"),
+            HomeFault::Folder(fault) => write!(f, "{fault}"),
+            HomeFault::Made(fault) => write!(f, "{fault}"),
+            HomeFault::Lease(fault) => write!(f, "{fault}"),
+            HomeFault::Recovery(cause) => write!(f, "{cause}"),
+            HomeFault::Store(fault) => write!(f, "{fault}"),
+        }
+    }
+}
+
+impl From<AllocError> for HomeFault {
+    fn from(_error: AllocError) -> HomeFault {
+        HomeFault::NoMemory
+    }
+}
+
+impl<T: Drop> From<AllocFailed<T>> for HomeFault {
+    fn from(_error: AllocFailed<T>) -> HomeFault {
+        HomeFault::NoMemory
+    }
+}
+
+impl From<FolderFault> for HomeFault {
+    fn from(fault: FolderFault) -> HomeFault {
+        match fault {
+            FolderFault::NoMemory => HomeFault::NoMemory,
+            other => HomeFault::Folder(other),
+        }
+    }
+}
+
+impl From<NotMade> for HomeFault {
+    fn from(fault: NotMade) -> HomeFault {
+        match fault {
+            NotMade::NoMemory => HomeFault::NoMemory,
+            other => HomeFault::Made(other),
+        }
+    }
+}
+
+impl From<NotTaken> for HomeFault {
+    fn from(fault: NotTaken) -> HomeFault {
+        match fault {
+            NotTaken::NoMemory => HomeFault::NoMemory,
+            other => HomeFault::Lease(other),
+        }
+    }
+}
+
+impl From<RecoverCause> for HomeFault {
+    fn from(cause: RecoverCause) -> HomeFault {
+        match cause {
+            RecoverCause::NoMemory => HomeFault::NoMemory,
+            other => HomeFault::Recovery(other),
+        }
+    }
+}
+
+impl From<StoreFault> for HomeFault {
+    fn from(fault: StoreFault) -> HomeFault {
+        match fault {
+            StoreFault::NoMemory => HomeFault::NoMemory,
+            other => HomeFault::Store(other),
+        }
+    }
+}
+
+/// A record was not put, and here it is: the queue is full, and what waits there was not taken for
+/// this reason. There is none where the queue is full all the same, or there is no writer.
+#[derive(Debug, Drop, Error)]
+#[error("the queue is full")]
+pub struct NotPut {
+    pub record: Record,
+    pub cause: Option<StoreFault>,
+}

@@ -1,0 +1,30 @@
+//! One call that opens a folder, gives a course the store in it with the feeds of its writers, and
+//! ends the store.
+//!
+//! `with_store` looks before it writes anything: what recovery refuses of the folder is refused,
+//! and the folder stays as it is. Then it locks the folder, which is made where it is missing,
+//! goes on from the store there or begins a new one, and runs the course. A `Course` is handed a
+//! `Home`: the store, its feeds, and where its segments stand. The store is sound and the rings
+//! are those of the feeds (`specs/Ready.antt`), and the course has to leave them so: each call of
+//! `Home` does.
+#![tactic(auto)]
+
+mod beginning;
+mod course;
+mod fault;
+mod home;
+mod looking;
+mod opening;
+mod options;
+mod site;
+mod system;
+
+pub use beginning::{Beginning, beginning_of};
+pub use course::{Course, Legs};
+pub use fault::{HomeFault, NotPut};
+pub use home::Home;
+pub use looking::look;
+pub use opening::{with_store, with_store_in_legs};
+pub use options::Options;
+pub use site::{Made, Site};
+pub use system::System;

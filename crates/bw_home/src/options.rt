@@ -1,0 +1,51 @@
+//! What a store in a folder is opened with.
+
+use bw_store::Config;
+
+/// How a store in a folder is opened. The limits of pages and frames are for a new one: another
+/// goes on with its own.
+#[derive(Debug, Clone, Copy, PartialEq, Eq)]
+pub struct Options {
+    /// How many writers there are, 1 to 64: each has a queue of its own.
+    pub writers: usize,
+    /// The places of each queue, 1 to 4,096.
+    pub places: usize,
+    /// The places for readers, 1 to 64.
+    pub readers: usize,
+    /// The most pairs of a page, 4 to 32.
+    pub m: u16,
+    /// The most bytes of a frame, 16,384 to 65,536.
+    pub f: u32,
+    /// How many segments there are at least, up to 4,096. A folder with more files has more.
+    pub segments: u32,
+    /// How many bytes a new segment has room for, up to 1 GiB. All of it is reserved in memory.
+    pub capacity: u64,
+}
+
+impl Default for Options {
+    /// One writer and one reader, the largest pages and frames, and four segments of 16 MiB.
+    fn default() -> Options {
+        Options {
+            writers: 1,
+            places: 64,
+            readers: 1,
+            m: 32,
+            f: 65_536,
+            segments: 4,
+            capacity: 16_777_216,
+        }
+    }
+}
+
+impl Options {
+    /// What a new store is opened with.
+    pub(crate) fn config(&self) -> Config {
+        Config {
+            writers: self.writers,
+            places: self.places,
+            readers: self.readers,
+            m: self.m,
+            f: self.f,
+        }
+    }
+}

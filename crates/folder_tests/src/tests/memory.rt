@@ -1,0 +1,94 @@
+//! A folder is opened, and one allocation on the way is refused: the call tells it, and goes when it is
+//! made again.
+
+use bw_codec::{Key, Record, Value};
+use bw_home::{Course, Home, HomeFault, NotPut, Options, System, with_store};
+use bw_store::StoreFault;
+use std::fs;
+use test_marks::{begin, end, refuse};
+
+const PATH: &str = "folder_tests_memory";
+
+/// No call takes so many allocations.
+const MOST: u32 = 2_000;
+
+const SMALL: Options = Options {
+    writers: 1,
+    places: 2,
+    readers: 1,
+    m: 4,
+    f: 16_384,
+    segments: 2,
+    capacity: 65_536,
+};
+
+/// Puts a record and settles.
+#[derive(Drop)]
+struct Settle;
+
+fn record() -> Option<Record> {
+    Some(Record::Put(Key::new(b"k").ok()?, Value::new(b"v").ok()?))
+}
+
+impl<R: System> Course<R> for Settle {
+    type Answer = Result<(), StoreFault>;
+
+    fn run(self, rt: &R, home: &mut Home) -> Result<(), StoreFault> {
+        let Some(item) = record() else {
+            return Ok(());
+        };
+        if let Err(
+            NotPut {
+                cause: Some(cause),
+                ..
+            },
+        ) = home.put(item)
+        {
+            return Err(cause);
+        }
+        let _ = home.settle(rt)?;
+        Ok(())
+    }
+}
+
+/// Whether a call was refused memory, where it went or told that; none where it told something else.
+/// What only makes a call faster may be refused, and the call goes.
+fn tried<R: System>(rt: &R) -> Option<bool> {
+    begin(rt.alloc());
+    let answer = with_store(rt, PATH, &SMALL, Settle);
+    let refused = end(rt.alloc());
+    match answer {
+        Ok(Ok(())) => Some(refused),
+        Ok(Err(StoreFault::NoMemory)) | Err(HomeFault::NoMemory) if refused => Some(true),
+        _ => None,
+    }
+}
+
+/// Whether a call goes with memory.
+fn goes<R: System>(rt: &R) -> bool {
+    matches!(with_store(rt, PATH, &SMALL, Settle), Ok(Ok(())))
+}
+
+/// The allocation whose refusal is not told, or behind which the call does not go; none where there
+/// is no such one. The folder is new for each, or has been opened before.
+fn wrong_number<R: System>(rt: &R, is_new: bool) -> Option<u32> {
+    for number in 1..MOST {
+        if is_new {
+            let _ = fs::remove_dir_all(rt, PATH);
+        }
+        refuse(rt.alloc(), number);
+        match tried(rt) {
+            Some(true) if goes(rt) => {}
+            Some(false) => return None,
+            _ => return Some(number),
+        }
+    }
+    Some(MOST)
+}
+
+#[test]
+fn a_call_tells_that_memory_was_refused(rt: HostRuntime) {
+    assert!(&rt; wrong_number(&rt, true).is_none());
+    assert!(&rt; wrong_number(&rt, false).is_none());
+    let _ = fs::remove_dir_all(&rt, PATH);
+}
