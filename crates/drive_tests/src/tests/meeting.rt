@@ -8,7 +8,7 @@ use super::walking::{Table, walked};
 use bw_drive::{Gate, MeetGate};
 use std::alloc::Global;
 use std::sync::Wait;
-use std::sync::atomic::{AtomicU64, Ordering};
+use std::sync::atomic::{AtomicBool, AtomicU64, Ordering};
 use std::thread::Threads;
 
 const PACE: Pace = Pace(64, 4, 3, 1_000_000_000);
@@ -151,6 +151,61 @@ fn wrong_sums<R: AllocGlobal + Threads + Wait>(rt: &R) -> Option<(&'static str, 
 #[test]
 fn each_record_passes_the_gate(rt: HostRuntime) {
     all_went(&rt, wrong_sums(&rt));
+}
+
+/// Keeps how many records of each of two writers were told as durable last, and whether that was ever
+/// fewer than before.
+#[derive(Drop)]
+struct Receipts {
+    first: AtomicU64,
+    second: AtomicU64,
+    fell: AtomicBool,
+}
+
+impl Receipts {
+    fn note(&self, last: &AtomicU64, count: u64) {
+        if last.swap(count, Ordering::SeqCst) > count {
+            self.fell.store(true, Ordering::SeqCst);
+        }
+    }
+}
+
+impl Gate for Receipts {
+    fn before(&self, _writer: usize, _index: u64) {}
+
+    fn after(&self, _writer: usize, _index: u64) {}
+
+    fn durable(&self, writer: usize, count: u64) {
+        if writer == 0 {
+            self.note(&self.first, count);
+        } else {
+            self.note(&self.second, count);
+        }
+    }
+}
+
+// The table behind which a writer was told another number than that of all its records.
+fn wrong_receipts<R: AllocGlobal + Threads + Wait>(rt: &R) -> Option<(&'static str, usize)> {
+    let gate = Receipts {
+        first: AtomicU64::new(0),
+        second: AtomicU64::new(0),
+        fell: AtomicBool::new(false),
+    };
+    let went = walked(rt, HUNDREDS, &gate).is_ok() && !gate.fell.load(Ordering::SeqCst);
+    let told = (
+        gate.first.load(Ordering::SeqCst),
+        gate.second.load(Ordering::SeqCst),
+    );
+    if went && told == (300, 300) {
+        None
+    } else {
+        Some((HUNDREDS.name, 1))
+    }
+}
+
+#[test]
+fn each_writer_is_told_what_is_durable(rt: HostRuntime) {
+    all_went(&rt, wrong_receipts(&rt));
 }
 
 /// A gate for so many writers and tries, who visits it, and whether it is met then.

@@ -11,8 +11,8 @@ pub(super) mod telling;
 
 use self::picture::is_out;
 use self::steps::Step::{
-    Bytes, Clean, CleanFails, Cuts, Evict, Flush, FlushFails, Get, Group, History, Live, NewSees,
-    News, Next, Out, Page, PageFails, Put, Roll, Sees, Settle, Stands, Turn,
+    Bytes, Clean, CleanFails, Count, Cuts, Evict, Flush, FlushFails, Forget, Get, Group, History,
+    Live, NewSees, News, Next, Out, Page, PageFails, Put, Roll, Sees, Settle, Stands, Turn,
 };
 use self::steps::{Beside, Step, goes};
 use super::boxes::{Supply, recovered, supplied};
@@ -417,6 +417,7 @@ const EVICTED: &[Step] = &[
     PageFails(1, StoreFault::Device { lease: 0 }),
     Page(1, b": k=v"),
     Get(b"k", b"v"),
+    Count(1),
 ];
 
 /// What waits is flushed by the cleaning itself; two records wait in the ring for a settling.
@@ -438,6 +439,9 @@ const CLEANS_WHAT_WAITS: &[Step] = &[
     Settle(5),
     Sees(b"h", b"5"),
     History("k=1 j=2 i=3 g=4 h=5 "),
+    Forget(5, 5, 5),
+    History(""),
+    Count(5),
 ];
 
 /// Groups: one that cuts a page, and then the new one; and one over three pages that are away, of which

@@ -57,13 +57,18 @@ pub(super) enum Step {
     Next(u64),
     /// The leases that are out.
     Out(&'static [u32]),
+    /// How many entries are forgotten by this call, how many are then, and how many records of the
+    /// first writer are durable.
+    Forget(u64, u64, u64),
+    /// How many pairs there are.
+    Count(u64),
     /// All entries, each as its key, an equals sign and its value, with spaces between.
     History(&'static str),
 }
 
 use Step::{
-    Bytes, Clean, CleanFails, Cuts, Evict, Flush, FlushFails, Get, Group, History, Live, NewSees,
-    News, Next, Out, Page, PageFails, Put, Roll, Sees, Settle, Stands, Turn,
+    Bytes, Clean, CleanFails, Count, Cuts, Evict, Flush, FlushFails, Forget, Get, Group, History,
+    Live, NewSees, News, Next, Out, Page, PageFails, Put, Roll, Sees, Settle, Stands, Turn,
 };
 
 /// What stands beside a store: the first reader, and the desk of its leases.
@@ -243,6 +248,7 @@ fn tries<R: Wait>(
         Page(page, text) => reads(store, *page, *text),
         PageFails(page, told) => fails(store.page(*page).err(), *told),
         Get(key, value) => has(alloc, store, *key, *value),
+        Count(told) => Ok(store.count()? == *told),
         NewSees(key, value) => new_sees(store, *key, *value),
         Clean(segment, lease, pages, frames) => {
             let told = Cleaned {
@@ -287,6 +293,11 @@ fn goes_without(store: &mut Store, feeds: &mut Vec<Feed>, beside: &mut Beside, s
         Next(frame) => store.next_frame() == Some(*frame),
         Out(leases) => is_out(&mut beside.desk, *leases),
         History(text) => is_history(store.history(), text.as_bytes()),
+        Forget(count, all, durable) => {
+            (store.forget() == *count)
+                & (store.forgotten() == *all)
+                & (store.durable_of(0) == *durable)
+        }
         _ => false,
     }
 }
@@ -294,7 +305,7 @@ fn goes_without(store: &mut Store, feeds: &mut Vec<Feed>, beside: &mut Beside, s
 fn takes_none(step: &Step) -> bool {
     match step {
         Put(..) | Group(_) | Roll | Evict(..) | Sees(..) | Live(..) => true,
-        Cuts(..) | Stands(..) | Next(_) | Out(..) | History(..) => true,
+        Cuts(..) | Stands(..) | Next(_) | Out(..) | History(..) | Forget(..) => true,
         _ => false,
     }
 }

@@ -263,5 +263,7 @@ pub(super) fn gates(alloc: Global) -> Option<bool> {
     OpenGate.after(0, 0);
     gate.before(0, 0);
     gate.after(0, 0);
+    OpenGate.durable(0, 1);
+    gate.durable(0, 1);
     asked(alloc, gate.met())
 }
