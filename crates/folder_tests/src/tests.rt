@@ -1,5 +1,5 @@
-//! A store in a folder, by one call: what a course puts there is found again, what is refused stays as
-//! it is, and the room of segments that are given up comes back.
+//! A store in a folder, by one call: what a course puts there is found again, what is refused
+//! stays as it is, and the room of segments that are given up comes back.
 
 mod again;
 mod memory;
