@@ -1,7 +1,7 @@
 use Rattle.std.proofs.Common.{refl}
 use Rattle.bw_script.proofs.Readings.{ready_by_kind, ready_from_kind}
 use Rattle.bw_script.proofs.replay.replay_lines.Goals as goal
-use Rattle.bw_script.proofs.replay.replay_lines.Goals.{else-spares-test, then-spares-test+in_default-next_spare}
+use Rattle.bw_script.proofs.replay.replay_lines.Goals.{else-spares-test, then-spares-test+in_default}
 
 pub spares-init : goal.spares-init
 spares-init g c = ready_by_kind (record { first = λ _ _ _. refl; second = λ _ _ _. refl }) c.in-Ok-begin.ensures.ready
@@ -17,7 +17,7 @@ pub shut-requires : goal.shut-requires
 shut-requires g c =
     elim c.spares-test.branch [
       | else-spares-test w ↦ rw w.session-is (ready_from_kind (record { first = λ _ _ _. refl; second = λ _ _ _. refl }) c.spares.invariant)
-      | then-spares-test+in_default-next_spare w ↦
+      | then-spares-test+in_default w ↦
           rw w.session-is (ready_from_kind (record { first = λ _ _ _. refl; second = λ _ _ _. refl })
           (ready_by_kind (record { first = λ _ _ _. refl; second = λ _ _ _. refl }) w.next_spare.ensures))
     ]
