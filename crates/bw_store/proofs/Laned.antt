@@ -308,7 +308,7 @@ counts_more n i es after g lt more =
     let size : List Marked → ℕ = λ ms. length ms in
     let here = get_or (streams 0 n es) i [] in
     let count : length (here ++ marked g) ≡ get_or (counts_of n es) i 0 + length g =
-        length-append here (marked g) ∙ ap (λ k. length here + k) (marked_count g) ∙ ap (λ k. k + length g) (sym (count_at (streams 0 n es) i)) in
+    length-append here (marked g) ∙ ap (λ k. length here + k) (marked_count g) ∙ ap (λ k. k + length g) (sym (count_at (streams 0 n es) i)) in
     ap (counts_of n) more
     ∙ ap (map size) (streams_more 0 n i i es (marked g) (omega arith) lt)
     ∙ map_set size (streams 0 n es) i (here ++ marked g)
