@@ -8,7 +8,7 @@ use Rattle.std.proofs.lemmas.Option.{slice_get-map, slice_get-get_or}
 use Rattle.bw_codec.specs.Record.{key_of}
 use Rattle.bw_codec.specs.declared.record.Record.{Record}
 use Rattle.bw_page.specs.declared.journal.Undo.{Undo}
-use Rattle.bw_page.specs.Leaves.{HasPage, HasPages}
+use Rattle.bw_page.specs.Leaves.{HasPages}
 use Rattle.bw_page.specs.Shown.{Shown, IsHere, IsSpent, after_record, run}
 use Rattle.bw_page.specs.Batch.{SomeIsSpent, AreHere}
 use Rattle.bw_page.specs.Journal.{Ran}

@@ -1,6 +1,6 @@
 -- What stays in step where the newest record is taken back.
 
-use Rattle.std.proofs.Common.{◌≡◌, ℕ, List, [], false, Some, Result, map, refl, ◌+◌, ◌-◌, ◌<◌, ◌≤◌, cond, None, length}
+use Rattle.std.proofs.Common.{◌≡◌, ℕ, List, false, Some, Result, map, ◌+◌, ◌-◌, ◌<◌, ◌≤◌, cond, None, length}
 use Rattle.std.proofs.Common.{take, drop, get_or, sym, ap, ◌∙◌, subst, arith, length-take}
 use Rattle.std.specs.Prelude.{slice_set}
 use Rattle.std.specs.Ordering.{eq_by_cmp}

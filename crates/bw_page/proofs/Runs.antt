@@ -16,7 +16,7 @@ use Rattle.bw_page.specs.declared.journal.Displaced.{Displaced}
 use Rattle.bw_page.specs.Leaves.{order, home, result_of, applied, pages, HasPage, HasPages, AreLeaves, union, plain}
 use Rattle.bw_page.specs.Seek.{back_of}
 use Rattle.bw_page.specs.Seats.{is_among}
-use Rattle.bw_page.specs.Shown.{Shown, IsHere, is_away}
+use Rattle.bw_page.specs.Shown.{Shown, IsHere}
 use Rattle.bw_page.specs.Batch.{SomeIsSpent, AreHere, NoneBeyond, step_of, steps_of}
 use Rattle.bw_page.specs.Journal.{after_record, run, displaced_by, undo_by, undo_of, journal_of, undone, all_undone, Ran, IsJournal, IsNewest}
 use Rattle.bw_page.proofs.Sorted.{all-push}

@@ -1,8 +1,7 @@
 -- Records whose pages are in memory find them there when their turn comes.
 
-use Rattle.std.proofs.Common.{◌≡◌, ℕ, ◌+◌, ◌≤◌, ◌<◌, ◌⊎◌, inl, inr, arith, false, List, [], ◌∷◌, ◌++◌, length, map, sym, ap, ◌∙◌, subst}
+use Rattle.std.proofs.Common.{◌≡◌, ℕ, ◌+◌, ◌≤◌, ◌⊎◌, inl, inr, arith, List, [], ◌∷◌, length, map, ap, ◌∙◌}
 use Rattle.std.proofs.lemmas.List.{length-map}
-use Rattle.std.specs.List.{AllByRecursion as All}
 use Rattle.bw_codec.specs.Grammar.{IsOp}
 use Rattle.bw_codec.specs.Record.{key_of}
 use Rattle.bw_codec.specs.declared.leaf.Leaf.{Leaf}
@@ -10,10 +9,10 @@ use Rattle.bw_codec.specs.declared.record.Record.{Record}
 use Rattle.bw_page.specs.Leaves.{Bytes, home, applied, HasPage, AreLeaves}
 use Rattle.bw_page.specs.Laws.{HomesStay, HereTogether}
 use Rattle.bw_page.specs.Shown.{Shown, IsHere, is_away, after_record}
-use Rattle.bw_page.specs.Batch.{AreHere, NoneBeyond}
+use Rattle.bw_page.specs.Batch.{NoneBeyond}
 use Rattle.bw_page.proofs.Sorted.{all-map}
 use Rattle.bw_page.proofs.Homes.{put_in, picks, second, first, home-push}
-use Rattle.bw_page.proofs.Applying.{Replaces, Splits, put_in-page, home-put, put_leaves}
+use Rattle.bw_page.proofs.Applying.{Replaces, put_in-page, home-put, put_leaves}
 use Rattle.bw_page.proofs.Law.{applied-lawful}
 use Rattle.bw_page.proofs.Journals.{Stepped, whole, split, stepped, one_more}
 

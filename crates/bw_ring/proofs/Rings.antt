@@ -1,5 +1,5 @@
 -- Groups that are put together from the two rings.
-use Rattle.std.proofs.Common.{◌≡◌, ℕ, ◌+◌, ◌<◌, List, [], ◌∷◌, ◌++◌, length, refl, ap, ap₂, sym, ◌∙◌, subst, arith, append-nil, append_assoc}
+use Rattle.std.proofs.Common.{◌≡◌, ◌+◌, ◌<◌, List, [], ◌∷◌, ◌++◌, length, refl, ap, ap₂, sym, ◌∙◌, subst, arith, append-nil, append_assoc}
 use mathlib.Core.List.{IsPrefix}
 use Rattle.bw_codec.specs.declared.record.Record.{Record}
 use Rattle.bw_ring.specs.declared.slots.First.{First}

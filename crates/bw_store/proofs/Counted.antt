@@ -1,6 +1,6 @@
 -- All pages have as many pairs as their map has keys.
 
-use Rattle.std.proofs.Common.{◌≡◌, ℕ, zero, suc, ◌+◌, ◌-◌, ◌*◌, ◌≤◌, ◌<◌, Bool, true, false, cond, Option, Some, None, List, [], ◌∷◌, ◌++◌, length, take, take_all, get_or, length-append, append-nil, refl, sym, ap, ◌∙◌, subst, arith}
+use Rattle.std.proofs.Common.{◌≡◌, ℕ, zero, suc, ◌+◌, ◌-◌, ◌*◌, ◌≤◌, ◌<◌, false, cond, Some, None, List, [], ◌∷◌, ◌++◌, length, take, take_all, get_or, length-append, append-nil, refl, sym, ap, ◌∙◌, subst, arith}
 use Rattle.std.specs.Prelude.{is_some}
 use Rattle.std.specs.List.{slice_get, flat_map, AllByRecursion as All}
 use Rattle.std.specs.FinMap as finite
@@ -11,7 +11,7 @@ use Rattle.std.proofs.lemmas.List.Concat.{flat_map-append}
 use Rattle.bw_codec.specs.declared.leaf.Leaf.{Leaf}
 use Rattle.bw_codec.specs.Grammar.{IsBase}
 use Rattle.bw_page.specs.Leaves.{Bytes, Pairs, order, home, union, AreLeaves, AreNumbered, AtHome, empty_leaf, leaf_at}
-use Rattle.bw_page.proofs.Order.{Below, order-total, apart, below-upto, upto-refl, not_both}
+use Rattle.bw_page.proofs.Order.{Below, order-total, apart, upto-refl, not_both}
 use Rattle.bw_page.proofs.Sorted.{all-map, Rises, ascends_rises}
 
 -- none of the pairs has the key

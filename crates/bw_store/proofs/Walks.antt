@@ -1,6 +1,6 @@
 -- A walk from page to page finds the first pair of the map at or above a key.
 
-use Rattle.std.proofs.Common.{◌≡◌, ℕ, ◌≤◌, ◌<◌, true, false, if◌then◌else◌, Option, Some, None, Err, List, [], length, sym, ap, ◌∙◌, subst}
+use Rattle.std.proofs.Common.{◌≡◌, ℕ, ◌≤◌, ◌<◌, true, false, if◌then◌else◌, Option, Some, None, Err, [], length, sym, ap, ◌∙◌, subst}
 use Rattle.std.specs.Prelude.{is_some}
 use Rattle.bw_codec.specs.declared.leaf.Leaf.{Leaf}
 use Rattle.bw_log.specs.Reads.{HoldsPage}

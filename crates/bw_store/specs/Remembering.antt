@@ -1,6 +1,6 @@
 -- A history as it stands in memory.
 
-use Rattle.std.specs.Prelude.{ℕ, ◌+◌, ◌-◌, ◌≤◌, map, ◌++◌, length}
+use Rattle.std.specs.Prelude.{◌+◌, ◌-◌, ◌≤◌, map, ◌++◌}
 use Rattle.std.specs.Vec.{vec_len, vec_capacity}
 use Rattle.bw_store.specs.declared.history.History.TheInside.{Inside}
 use Rattle.bw_store.specs.Remembered.{Remembered}

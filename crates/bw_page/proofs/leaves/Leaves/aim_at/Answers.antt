@@ -1,7 +1,7 @@
-use Rattle.std.proofs.Common.{◌≡◌, ℕ, ◌+◌, ◌-◌, ◌≤◌, ◌<◌, ◌∙◌, ap, sym, subst, length, arith, refl}
+use Rattle.std.proofs.Common.{◌≡◌, ◌+◌, ◌-◌, ◌≤◌, ◌∙◌, ap, sym, subst, length, arith, refl}
 use Rattle.bw_codec.specs.Record.{key_of}
 use Rattle.bw_codec.specs.declared.leaf.Leaf.{Leaf}
-use Rattle.bw_page.specs.Leaves.{Pairs, home, changed_pairs}
+use Rattle.bw_page.specs.Leaves.{Pairs, changed_pairs}
 use Rattle.bw_page.specs.Seek.{seek_of, IsWithin, IsBetween}
 use Rattle.bw_page.proofs.Hinted.{hinted_home, stands_here}
 use Rattle.bw_page.proofs.Indexed.{home_within}

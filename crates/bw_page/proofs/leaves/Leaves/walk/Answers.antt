@@ -1,12 +1,10 @@
-use Rattle.std.proofs.Common.{◌≡◌, ◌+◌, ◌∙◌, ◌∷◌, [], ◌++◌, List, ap, sym, subst, map, take, refl, arith, Err, length}
-use Rattle.std.proofs.lemmas.List.{take_all}
+use Rattle.std.proofs.Common.{◌≡◌, ◌∙◌, ◌∷◌, [], ◌++◌, List, ap, sym, subst, map, take, arith, Err}
 use Rattle.std.proofs.lemmas.Result.{err_from_is_err_and}
 use Rattle.bw_codec.specs.declared.record.Record.{Record}
 use Rattle.bw_page.specs.declared.fault.ApplyError.TheVariants.{Spent}
 use Rattle.bw_page.specs.declared.journal.Undo.{Undo}
-use Rattle.bw_page.specs.Shown.{Shown, run}
+use Rattle.bw_page.specs.Shown.{Shown}
 use Rattle.bw_page.specs.Batch.{step_of, steps_of}
-use Rattle.bw_page.specs.Leaves.{HasPages}
 use Rattle.bw_page.specs.Journal.{Ran}
 use Rattle.bw_page.proofs.Runs.{ran_more, none_run, steps-push}
 use Rattle.bw_page.proofs.Batches.{records_more, next_here, next_spent}

@@ -1,4 +1,4 @@
-use Rattle.std.proofs.Common.{arith, sym, ◌∙◌, ap, ap₂, ◌≡◌, ◌++◌, length}
+use Rattle.std.proofs.Common.{arith, sym, ◌∙◌, ◌≡◌, length}
 use Rattle.bw_ring.specs.Rings.{leading}
 use Rattle.bw_ring.proofs.Rings.{grouped-begins, rest-whole, all-grouped, all-given}
 use Rattle.bw_ring.proofs.lane.Lane.rest_beside.Goals as goal

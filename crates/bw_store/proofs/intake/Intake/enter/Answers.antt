@@ -1,7 +1,7 @@
 use Rattle.bw_store.proofs.Laned.{entered_streams, counts_more, counts_within}
 use Rattle.bw_store.proofs.Grouped.{entered_grouped}
 use Rattle.bw_store.proofs.intake.Intake.enter.Goals as goal
-use Rattle.std.proofs.Common.{length, subst, sym, ap, ◌≡◌, ◌∙◌, ◌++◌, ℕ, ◌+◌, ◌≤◌, set, get_or, List, arith}
+use Rattle.std.proofs.Common.{length, sym, ap, ◌∙◌, ◌++◌, ℕ, ◌+◌, set, get_or, List, arith}
 use Rattle.bw_ring.specs.Marks.{marked}
 use Rattle.bw_store.specs.History.{counts_of, entered}
 use Rattle.bw_codec.specs.declared.record.Record.{Record}

@@ -1,12 +1,11 @@
-use Rattle.std.proofs.Common.{◌≡◌, ◌+◌, ◌-◌, ℕ, get_or, length, refl, sym, ap, ◌∙◌, subst, arith}
+use Rattle.std.proofs.Common.{◌≡◌, ◌+◌, ◌-◌, get_or, length, refl, sym, ap, ◌∙◌, subst, arith}
 use Rattle.std.specs.FinMap as finite
-use Rattle.bw_codec.specs.declared.leaf.Leaf.{Leaf}
 use Rattle.bw_page.specs.Leaves.{Map, empty_leaf}
 use Rattle.bw_page.specs.Shown.{Shown}
 use Rattle.bw_store.specs.Kept.{Kept}
 use Rattle.bw_store.specs.Reading.{HasRead}
 use Rattle.bw_store.specs.Views.{kept_by}
-use Rattle.bw_store.proofs.Counted.{counted, total, total_all, total_few, total_more, total_none}
+use Rattle.bw_store.proofs.Counted.{counted, total_all, total_few, total_more, total_none}
 use Rattle.bw_store.proofs.FollowMore.{follows_as, follows_read}
 use Rattle.bw_store.proofs.store.Store.count.Goals as goal
 

@@ -1,8 +1,8 @@
-use Rattle.std.proofs.Common.{◌≡◌, ℕ, zero, suc, ◌-◌, ◌<◌, List, [], ◌∷◌, length, take, drop, take_all, length-drop, get_or, refl, ap, sym, ◌∙◌, arith}
+use Rattle.std.proofs.Common.{◌≡◌, ℕ, zero, suc, ◌-◌, ◌<◌, List, [], ◌∷◌, length, take, drop, take_all, length-drop, get_or, refl, ap, ◌∙◌, arith}
 use Rattle.std.proofs.lemmas.List.{length-map}
 use Rattle.bw_versions.specs.declared.entry.Entry.{Entry}
 use Rattle.bw_ring.specs.Ends.{ring_of_lane}
-use Rattle.bw_store.specs.History.{of_writer, counts_of}
+use Rattle.bw_store.specs.History.{of_writer}
 use Rattle.bw_store.specs.Views.{kept_by}
 use Rattle.bw_store.proofs.Laned.{counts_length, durable_count, none_durable, waiting_few}
 use Rattle.bw_store.proofs.Readers.{end_within, known_within}

@@ -1,4 +1,4 @@
-use Rattle.std.proofs.Common.{length, List, ap, sym, ◌∙◌, arith}
+use Rattle.std.proofs.Common.{length, ap, sym, ◌∙◌, arith}
 use Rattle.std.specs.Option.{option_copied}
 use Rattle.bw_page.specs.Leaves.{Pairs}
 use Rattle.bw_store.proofs.AwayPages.{none_away, was_away}
