@@ -4,8 +4,8 @@
     steady.py [UPDATES]
 
 After each 1,000 updates comes a flush, and a cleaning where one spare is left. The resident set of the program at the end has to be
-within a tenth of that after the first tenth of the updates; at the end each key has the value that it was last given, also in a
-second run over the folder. A million updates take some twenty seconds."""
+at most a quarter above that after the first million updates, or after half of them; at the end each key has the value that it was last
+given, also in a second run over the folder. A million updates take some ten seconds."""
 
 import os
 import subprocess
@@ -64,7 +64,7 @@ def wrong_key(run, updates):
 def steady(folder, updates):
     """What went otherwise than told, or nothing."""
     run = Run(folder)
-    early = 0
+    first, early = min(updates // 2, 1000000), 0
     for start in range(0, updates, KEYS):
         lines = ["put k%d %s" % (number % KEYS, value_of(number)) for number in range(start, start + KEYS)]
         wrong = [answer for answer in run.ask(lines) if answer != "ok"]
@@ -77,11 +77,11 @@ def steady(folder, updates):
             answer = run.ask(["clean"])[0]
             if not answer.startswith("cleaned "):
                 return "a cleaning was answered " + answer
-        if start + KEYS == updates // 10:
+        if start + KEYS == first:
             early = resident(run.child)
     late = resident(run.child)
-    print("resident set: %d KiB after %d updates, %d KiB after %d" % (early, updates // 10, late, updates))
-    if abs(late - early) * 10 > early:
+    print("resident set: %d KiB after %d updates, %d KiB after %d" % (early, first, late, updates))
+    if late * 4 > early * 5:
         return "memory is not flat"
     wrong = wrong_key(run, updates)
     if wrong is not None or run.end() != 0:
