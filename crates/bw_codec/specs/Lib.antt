@@ -1,4 +1,5 @@
 -- what callers see, in reading order
+pub mod Version
 pub mod Bytes
 pub mod Record
 pub mod Grammar

@@ -8,7 +8,7 @@ use crate::key::{Key, Value};
 use std::alloc::{AllocError, Global};
 use std::marker::Model;
 
-/// The low key of a page: 0 to 64 bytes, empty for page 1 alone. No key of the page is below it.
+/// The low key of a page: 0 to 128 bytes, empty for page 1 alone. No key of the page is below it.
 pub struct Low {
     bytes: Vec<u8>,
 }

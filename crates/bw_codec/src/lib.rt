@@ -19,6 +19,7 @@ mod outline;
 mod parts;
 mod reading;
 mod record;
+mod version;
 mod writing;
 
 pub use block::{Block, Blocks, Frame, FrameRead, Head, Header, HeaderRead, Place};

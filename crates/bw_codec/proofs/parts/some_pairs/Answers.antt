@@ -5,24 +5,24 @@ use Rattle.bw_codec.proofs.Many.{prefixed, many_goes_on, many_stops, many_ends, 
 use Rattle.bw_codec.proofs.parts.some_pairs.Goals as goal
 
 pub loop-i-init : goal.loop-i-init
-loop-i-init c = rw c.in_ok-items.ensures.items (many_begins pair_at c.args.count c.args.bytes.now)
+loop-i-init c = rw c.in_ok-items.ensures.items (many_begins (pair_at c.args.version) c.args.count c.args.bytes.now)
 
 pub returns-in_err-pair : goal.returns-in_err-pair
 returns-in_err-pair c =
     let p = err_from_is_err_and c.from_residual-in_err-pair.result c.from_residual-in_err-pair.ensures.1 in
-    let stops = λ (none : pair_at c.loop-i.rest.now ≡ None). sym c.loop-i.invariant
-    ∙ many_stops pair_at c.args.count c.loop-i._i c.loop-i.items.items c.loop-i.rest.now c.loop-i-test.true none in
-    rw (p.1, p.2) (fault_goes_on c.in_err-pair.field-0.0 (pair_at c.loop-i.rest.now) (many_at pair_at c.args.count c.args.bytes.now) stops
+    let stops = λ (none : (pair_at c.args.version) c.loop-i.rest.now ≡ None). sym c.loop-i.invariant
+    ∙ many_stops (pair_at c.args.version) c.args.count c.loop-i._i c.loop-i.items.items c.loop-i.rest.now c.loop-i-test.true none in
+    rw (p.1, p.2) (fault_goes_on c.in_err-pair.field-0.0 ((pair_at c.args.version) c.loop-i.rest.now) (many_at (pair_at c.args.version) c.args.count c.args.bytes.now) stops
     c.in_err-pair.ensures.gives)
 
 pub loop-i-preserved : goal.loop-i-preserved
 loop-i-preserved c =
-    rw c.in_ok-push.ensures.items (sym (many_goes_on pair_at c.args.count c.loop-i._i c.loop-i.items.items c.loop-i.rest.now c.in_ok-pair.pair
+    rw c.in_ok-push.ensures.items (sym (many_goes_on (pair_at c.args.version) c.args.count c.loop-i._i c.loop-i.items.items c.loop-i.rest.now c.in_ok-pair.pair
     c.in_ok-pair.others.now c.loop-i-test.true c.in_ok-pair.ensures.gives) ∙ c.loop-i.invariant)
 
 pub returns : goal.returns
 returns c =
     let all : c.loop-i._i ≡ c.args.count = omega arith in
-    let last = subst (λ i. prefixed c.loop-i.items.items (many_at pair_at (c.args.count - i) c.loop-i.rest.now) ≡ many_at pair_at c.args.count c.args.bytes.now)
+    let last = subst (λ i. prefixed c.loop-i.items.items (many_at (pair_at c.args.version) (c.args.count - i) c.loop-i.rest.now) ≡ many_at (pair_at c.args.version) c.args.count c.args.bytes.now)
     all c.loop-i.invariant in
-    sym last ∙ many_ends pair_at c.args.count c.loop-i.items.items c.loop-i.rest.now ∙ rw (append-nil c.loop-i.items.items, c.of.ensures) refl
+    sym last ∙ many_ends (pair_at c.args.version) c.args.count c.loop-i.items.items c.loop-i.rest.now ∙ rw (append-nil c.loop-i.items.items, c.of.ensures) refl
