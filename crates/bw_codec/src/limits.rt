@@ -47,5 +47,8 @@ pub const MIN_BLOCK: u32 = 8;
 /// The fewest bytes of a record in a Delta: a delete of a key of one byte.
 pub const MIN_OP: usize = 3;
 
+/// The most records of a Delta: their number has two bytes.
+pub const MAX_OPS: usize = 65_535;
+
 /// The fewest bytes of a pair: a key of one byte with an empty value.
 pub const MIN_PAIR: usize = 3;
