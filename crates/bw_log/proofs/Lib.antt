@@ -3,6 +3,7 @@ pub mod Walk
 pub mod Fields
 pub mod Links
 pub mod LastNumber
+pub mod LastOfLive
 pub mod LogLeft
 pub mod GivenUp
 pub mod Walked

@@ -147,11 +147,19 @@ impl Log {
         ensures paged { result ≢ Err LogFault.NoPage }
     {
         let line = self.frames[i];
+        let version = self.version_at(line.segment);
         let m = self.m;
         let at = (line.segment - self.number) as usize;
         let mut bytes = Vec::new(*self.frames.allocator());
         self.read_onto(at, line.at, line.len, &mut bytes)?;
-        match frame_of_page(*self.frames.allocator(), &bytes, line.number, m, page) {
+        match frame_of_page(
+            *self.frames.allocator(),
+            &bytes,
+            version,
+            line.number,
+            m,
+            page,
+        ) {
             Ok(frame) => Ok(frame),
             Err(CodecFault::NoMemory) => Err(LogFault::NoMemory),
             Err(CodecFault::BadBytes) => unreachable!(),
