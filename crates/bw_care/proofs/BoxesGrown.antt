@@ -191,6 +191,7 @@ read_failed reads lease old new r =
         m = refl;
         f = refl;
         number = refl;
+        old_to = refl;
         leases = map-append (λ (h : Holding). h.lease) live old.spares ∙ ap (λ (l : List ℕ). l ++ map (λ (h : Holding). h.lease) old.spares) leases
             ∙ sym (map-append (λ (h : Holding). h.lease) old.live old.spares);
         rooms = map-append (λ (h : Holding). h.room) live old.spares

@@ -69,7 +69,7 @@ pub read_lawful : (c : Contents) (p : ℕ) (leaf : Leaf) → IsSound c → PageR
 read_lawful c p leaf sound r = block_wider c.m 32 (Base leaf) (let few = sound.holds.limits.1 in omega arith) r.lawful
 
 -- a page that does not fit is not the first
-not_first_by : (blocks : List Block) (pages : List ℕ) (i limit : ℕ) (leaf : Leaf) → map page_of blocks ≡ take i pages → i ≡ 0 → 16384 ≤ limit → IsBase 32 leaf
+not_first_by : (blocks : List Block) (pages : List ℕ) (i limit : ℕ) (leaf : Leaf) → map page_of blocks ≡ take i pages → i ≡ 0 → 65536 ≤ limit → IsBase 32 leaf
     → limit < 20 + length (body_bytes blocks) + length (block_bytes (Base leaf)) → ⊥
 not_first_by [] pages i limit leaf told none most is over =
     let small = largest_base 32 leaf (omega arith) is in

@@ -115,6 +115,7 @@ moved_one old new x pages rest full more a b some holds number added same =
       m = same.m;
       f = same.f;
       number = same.number;
+      old_to = same.old_to;
     }
 
 pub moved_none : (c : Contents) (rest : List ℕ) → c.is_failed ≡ false → Moved c c [] rest 0
@@ -133,6 +134,7 @@ moved_none c rest works = record {
   m = refl;
   f = refl;
   number = refl;
+  old_to = refl;
 }
 
 -- ---- the oldest segment stays
@@ -196,6 +198,7 @@ moved_then old now new ps qs rs n k a b two works x y =
       m = y.m ∙ x.m;
       f = y.f ∙ x.f;
       number = y.number ∙ x.number;
+      old_to = y.old_to ∙ x.old_to;
     }
 
 -- ---- parts of a list

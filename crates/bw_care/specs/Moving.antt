@@ -74,6 +74,7 @@ pub record Moved (old now : Contents) (pages rest : List ℕ) (frames : ℕ) : T
   pub m : now.m ≡ old.m
   pub f : now.f ≡ old.f
   pub number : now.number ≡ old.number
+  pub old_to : now.old_to ≡ old.old_to
 
 -- ---- refusals
 

@@ -37,7 +37,8 @@ pub enum RecoverCause {
     BadBytes { segment: u32, at: u64 },
     /// The numbers of segments, or of frames, have a gap.
     Gap,
-    /// Headers differ in their limits.
+    /// Headers differ in their page limit, or those of one version in their frame limit, or a
+    /// segment of version 1 is numbered above one of version 2.
     Mixed,
     /// A block of this page does not link back to the one before it.
     BadLink { page: u32 },

@@ -6,12 +6,12 @@ use Rattle.bw_log.specs.Places.{all_placed}
 use Rattle.bw_log.specs.declared.places.FrameAt.{FrameAt}
 use Rattle.bw_care.specs.Reading.{IsRead}
 use Rattle.bw_care.proofs.FrontsRead.{IsReadTo}
-use Rattle.bw_care.proofs.forward.read_segment.Given as goal
+use Rattle.bw_care.proofs.forward.read_frames.Given as goal
 
 -- some frames were read, and their blocks are in the map
 abbrev pub invariant-frames : goal.invariant-frames
 invariant-frames l = record {
-  seen : (seen : List Frame) × (told : List FrameAt) × IsReadTo l.m l.f l.bytes l.at seen told
+  seen : (seen : List Frame) × (told : List FrameAt) × IsReadTo l.header l.bytes l.at seen told
       × ((done : List (Place × Block)) → IsRead l.first done l.initial.lines → IsRead l.first (done ++ all_placed seen) l.lines);
 }
 
