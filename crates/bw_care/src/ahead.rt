@@ -320,8 +320,8 @@ fn spell_rest(alloc: Global, log: &Log, bytes: &mut Vec<u8>, spots: &mut [Spot],
     }
 }
 
-// No bytes and no spots.
-fn nothing(alloc: Global) -> Ahead
+/// No bytes and no spots.
+pub(crate) fn nothing(alloc: Global) -> Ahead
     ensures { result.spots.items ≡ [] }
 {
     Ahead {

@@ -33,8 +33,10 @@ mod recovered;
 mod recovering;
 mod scanning;
 mod surveying;
+mod upgrading;
 
 pub use cleaning::{Cleaned, clean};
 pub use fault::{CleanFault, RecoverCause};
 pub use recovered::Recovered;
 pub use recovering::{RecoverFault, recover};
+pub use upgrading::{Upgraded, upgrade};
