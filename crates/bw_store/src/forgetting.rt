@@ -13,7 +13,7 @@ impl Store {
     /// Lets go of what the readers' book has of the history, all of it durable, and answers how many
     /// entries more are forgotten by that. They leave memory alone: nothing that a clause says of
     /// the store changes, `history` then has the entries behind them, and `forgotten` tells how
-    /// many they are. No other call forgets anything.
+    /// many they are. No other call does this, which a clause says of `flush` alone (`intake`).
     ///
     /// Behind a `flush`, `settle` or `clean` that answered Ok these are all entries up to the last
     /// durable cut. No memory is taken, and the room of what was forgotten is used again. It costs
