@@ -21,10 +21,10 @@ SUBJECTS = pages cleaning alone beside late one one-beside many many-beside
 
 run:
 	@python3 tools/prove.py bwlog
-	@cat $(PROGRAM)/stdin && cd $(PROGRAM) && rt run -- replay < stdin
+	@mkdir -p $(PROGRAM)/out && head -n 4 $(PROGRAM)/stdin | tee $(PROGRAM)/out/first && cd $(PROGRAM) && rt run -- replay < out/first
 
 try:
-	@echo "(nothing is proved by this run)" && cd $(PROGRAM) && rt try -- replay < stdin
+	@echo "(nothing is proved by this run)" && cd $(PROGRAM) && mkdir -p out && head -n 4 stdin > out/first && rt try -- replay < out/first
 
 test:
 	python3 tools/same.py

@@ -1,7 +1,7 @@
 /* A store in a folder, held by a child process `bwlog serve`: one line asked, one line answered.
  *
  * cc -O2 -o bwlog_client bwlog.c, then ./bwlog_client PROGRAM FOLDER COUNT keeps so many records over
- * a stop; with -DBWLOG_NO_MAIN it is a module. Keys have 1 to 64 bytes, values up to 128. What was put
+ * a stop; with -DBWLOG_NO_MAIN it is a module. Keys have 1 to 128 bytes, values up to 512. What was put
  * and not flushed is lost where the child ends. Each call answers 0, or -1 where the store refused:
  * store->line then has its words. */
 #include <stdio.h>
@@ -10,7 +10,7 @@
 #include <sys/wait.h>
 #include <unistd.h>
 
-enum { MAX_KEY = 64, MAX_VALUE = 128, BURST = 512 };
+enum { MAX_KEY = 128, MAX_VALUE = 512, BURST = 512 };
 
 struct store {
     FILE *in, *out;

@@ -6,7 +6,7 @@
         for key, value in store.walk():
             ...
 
-Keys have 1 to 64 bytes, values up to 128. What was put and not flushed is lost where the child ends.
+Keys have 1 to 128 bytes, values up to 512. What was put and not flushed is lost where the child ends.
 """
 
 import subprocess
@@ -124,7 +124,7 @@ def bytes_of(word):
 
 def after(key):
     """The least key above this one; None above the greatest."""
-    if len(key) < 64:
+    if len(key) < 128:
         return key + b"\0"
     front = key.rstrip(b"\xff")
     return front[:-1] + bytes([front[-1] + 1]) if front else None

@@ -1,7 +1,7 @@
 //! A store in a folder, held by a child process `bwlog serve`: one line asked, one line answered.
 //!
 //! Std alone. `rustc -O bwlog.rs`, then `./bwlog PROGRAM FOLDER COUNT` keeps so many records over a
-//! stop; as a module, `Store` is all that is needed. Keys have 1 to 64 bytes, values up to 128. What
+//! stop; as a module, `Store` is all that is needed. Keys have 1 to 128 bytes, values up to 512. What
 //! was put and not flushed is lost where the child ends.
 
 use std::io::{BufRead, BufReader, BufWriter, Error, ErrorKind, Result, Write};
@@ -42,7 +42,7 @@ fn bytes_of(word: &str) -> Result<Vec<u8>> {
 /// The least key above this one; `None` above the greatest.
 pub fn after(key: &[u8]) -> Option<Vec<u8>> {
     let mut next = key.to_vec();
-    if next.len() < 64 {
+    if next.len() < 128 {
         next.push(0);
         return Some(next);
     }

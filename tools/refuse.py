@@ -107,10 +107,11 @@ CASES = [
     Case("a print", ["print"], "\n" + FIRST + "\n42574c\n"),
     Case("counts", ["stats"], "\n" + FIRST + "\n42574c\n"),
     Case("a picture", ["picture"], "\n" + FIRST + "\n42574c\n"),
+    Case("an upgrade", ["upgrade"], "\n" + FIRST + "\n42574c\n"),
     Case("a folder as of a frame", ["restore", "--dir={}/from", "--to={}/to", "--frame=1"], "", segment=FIRST),
 ]
 # Modes that look at segments, and keep none.
-LOOKS = ("scan", "print", "stats", "picture", "restore")
+LOOKS = ("scan", "print", "stats", "picture", "restore", "upgrade")
 
 
 def pairs_in(printed):

@@ -20,7 +20,7 @@ HERE = os.path.dirname(os.path.abspath(__file__))
 PROGRAM = os.path.join(HERE, "..", "..", "crates", "bwlog", "out", "bwlog")
 ROUNDS = int(sys.argv[1]) if len(sys.argv) > 1 else 100
 WRITERS, RECORDS, M = 4, 1000, 4
-OPTIONS = ["--writers", str(WRITERS), "--segments", "64", "--capacity", "32768", "--m", str(M)]
+OPTIONS = ["--writers", str(WRITERS), "--segments", "64", "--capacity", "65560", "--m", str(M)]
 
 
 def records(writer, run):

@@ -48,8 +48,8 @@ def key_of(number):
 
 
 def value_of(number):
-    """Its four bytes, and up to 124 more."""
-    return number.to_bytes(4, "big") + bytes([number & 0xFF]) * (number % 125)
+    """Its four bytes, and up to 508 more."""
+    return number.to_bytes(4, "big") + bytes([number & 0xFF]) * (number % 509)
 
 
 def word(data):
@@ -341,11 +341,11 @@ class Life:
         return word(key_of(drawn if self.table.are_shared else drawn // 2 * 2 + writer))
 
     def op(self, writer):
-        """A put or a delete of a group; each put has a value of its own."""
+        """A put or a delete of a group; each put has a value of its own, so short that a line has room for four."""
         if below(self.draw, 4) == 0:
             return "del " + self.key(writer)
         self.table.steps_of_groups += 1
-        return "put %s %s" % (self.key(writer), word(value_of(1000000 + self.table.steps_of_groups)))
+        return "put %s %s" % (self.key(writer), word(value_of(1000000 + self.table.steps_of_groups)[:360]))
 
     def drawn(self, card):
         """The lines of a card."""
@@ -389,7 +389,7 @@ class Life:
 class Table:
     """What a store is opened with, and what its lives draw from."""
 
-    def __init__(self, program, seed, keys, are_shared=True, m=4, places=8, segments=4, capacity=16408):
+    def __init__(self, program, seed, keys, are_shared=True, m=4, places=8, segments=4, capacity=65560):
         self.program, self.keys, self.are_shared, self.m = program, keys, are_shared, m
         self.options = ["--writers=2", "--m=%d" % m, "--places=%d" % places, "--segments=%d" % segments, "--capacity=%d" % capacity]
         self.draw = random.Random(seed)
@@ -431,7 +431,7 @@ def scripts(program, _folder):
     for table in (
         Table(program, 1, keys=24, segments=24),
         Table(program, 2, keys=400, segments=24),
-        Table(program, 3, keys=400, segments=24, m=32, capacity=20000),
+        Table(program, 3, keys=400, segments=24, m=32, capacity=80000),
     ):
         table.live([(10, 200, SCRIPT, ["read all"])])
         check(table.steps == 2000, "steps")
@@ -457,7 +457,7 @@ def lives(program, folder):
     plans = [(2, 200, deck, ["read all", "evict all"]), (1, 20, ["put"], ["settle", "read all"])]
     for table, place in (
         (Table(program, 21, keys=100, are_shared=False, segments=12), "small"),
-        (Table(program, 22, keys=200, are_shared=False, segments=12, m=32, capacity=20000), "large"),
+        (Table(program, 22, keys=200, are_shared=False, segments=12, m=32, capacity=80000), "large"),
     ):
         place = os.path.join(folder, place)
         os.mkdir(place)
@@ -514,7 +514,7 @@ def twin_of(table, place, plans):
 def broken(program, place, sizes, plans, number, keep):
     """Three lives: in the second a cleaning fails at its append of this number, of which so many bytes stand then, or all (-1). How many there are."""
     os.mkdir(place)
-    table = Table(program, 41, keys=600, are_shared=False, m=32, places=16, segments=6, capacity=131072)
+    table = Table(program, 41, keys=600, are_shared=False, m=32, places=16, segments=6, capacity=524288)
     # The segment that fails is the longest, since a file is limited by its length.
     table.live([(1, sizes[0], RECORDS, ["settle", "roll"]), (1, sizes[1], RECORDS, ["settle"])], place)
     table.model.stop(True)

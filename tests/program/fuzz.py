@@ -4,7 +4,8 @@
 Segments are made by drawn runs of the program or by this script, and changed: bits, numbers, pieces; frames and blocks exchanged,
 doubled, dropped, cut, or spliced from two runs. `bwlog scan` has to answer what hostile/reader.py answers, byte by byte, which is
 written from docs/FORMAT.md alone and shares nothing with the program. Scripts have to end at the fault that README tells, behind
-the answers of the lines before it. Folders have to be refused as README tells, and stay as they are.
+the answers of the lines before it. Folders have to be refused as README tells, and stay as they are. Logs
+of both formats are upgraded, and have the same pages then.
 
     fuzz.py [--cases N] [--seed N] [--from N] [--program FILE] [--jobs N]
 
@@ -25,6 +26,7 @@ from hostile.program import FAST, Otherwise, Program, run_of
 from hostile.scans import a_page_of_many_pairs, scanned
 from hostile.scripts import in_lines, scripted, threaded
 from hostile.segments import Draw, drawn_segments
+from hostile.upgrades import upgrades
 
 HERE = os.path.dirname(os.path.abspath(__file__))
 BUILT = os.path.join(HERE, "..", "..", "crates", "bwlog", "out", "bwlog")
@@ -45,6 +47,8 @@ def case(program, seed, number, runs, folder):
         hostile(program, os.path.join(place, "store"), [it for it in draw.choice(runs) if it][:8], draw)
         shutil.rmtree(place)
         return hostile.__name__
+    if kind % 10 in (3, 7):
+        return "upgrade: " + upgrades(program, runs, place, draw)
     segments = drawn_segments(draw, runs)
     try:
         found = scanned(program, segments, draw)

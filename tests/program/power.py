@@ -27,8 +27,10 @@ SOURCE = os.path.join(HERE, "..", "..", "tools", "watch.c")
 FAST = "/dev/shm" if os.path.isdir("/dev/shm") else None
 FOLDERS = int(sys.argv[1]) if len(sys.argv) > 1 else 10000
 SEED = int(sys.argv[2]) if len(sys.argv) > 2 else 1
-OPTIONS = ["--places", "64", "--segments", "6", "--capacity", "16408"]
-WORD, HEAD = b"FRM1", 24
+OPTIONS = ["--places", "64", "--segments", "6", "--capacity", "65560"]
+WORD, HEAD = b"FRM2", 24
+# What stands on standard error behind a run that met a full log.
+FULL = "the log is full: `clean` gives up its oldest segment, and `add` adds a new one\n"
 
 
 class Wrong(Exception):
@@ -100,7 +102,7 @@ class Life:
             check=False,
             env={"LD_PRELOAD": shim, "WATCH": folder, "WATCH_LOG": log},
         )
-        ask(ran.returncode in (0, 4) and not ran.stderr, "status", ran.returncode, ran.stdout[-300:], ran.stderr)
+        ask(ran.returncode in (0, 4) and ran.stderr in ("", FULL), "status", ran.returncode, ran.stdout[-300:], ran.stderr)
         printed = ran.stdout.splitlines()
         began = re.fullmatch(r"frames \d+ (\d+) tail 0", printed[1]) if number > 0 else None
         self.before = int(began[1]) if began else 0
@@ -208,7 +210,7 @@ def look(folder, last, life):
 def go_on(folder, last):
     """A further run over the folder appends the next frame."""
     ran = subprocess.run(
-        [PROGRAM, "replay", "--dir", folder, "--segments", "12", "--capacity", "16408"],
+        [PROGRAM, "replay", "--dir", folder, "--segments", "12", "--capacity", "65560"],
         input="put 0 more 1\nflush\nget more\n",
         capture_output=True,
         text=True,
@@ -257,8 +259,8 @@ def last_whole(data):
 
 
 def end_again(shim, room):
-    """Whether opening a file writes its last 65,560 bytes again at their place, or all of a shorter one."""
-    for records, most in ((200, 65560), (1000, 65560)):
+    """Whether opening a file writes its last 262,168 bytes again at their place, or all of a shorter one."""
+    for records, most in ((800, 262168), (4000, 262168)):
         folder, log = os.path.join(room, "end%d" % records), os.path.join(room, "end%d.notes" % records)
         os.makedirs(folder)
         lines = "".join("put 0 k%d %s\nflush\n" % (i, "v" * 100) for i in range(records))
@@ -269,7 +271,7 @@ def end_again(shim, room):
                 env={"LD_PRELOAD": shim, "WATCH": folder, "WATCH_LOG": log} if words != lines else {},
             )
         length = os.path.getsize(os.path.join(folder, "segment-0000.bw"))
-        ask(length > 16408 and (length > most) == (records == 1000), "a file of", length, "bytes")
+        ask(length > 65560 and (length > most) == (records == 4000), "a file of", length, "bytes")
         again = [(at, many) for letter, at, many, name, _ in notes_of(log) if letter == "w" and name == "segment-0000.bw"]
         ask(again == [(max(0, length - most), min(length, most))], "at opening", again, "of", length, "bytes")
 

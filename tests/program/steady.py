@@ -1,11 +1,13 @@
 #!/usr/bin/env python3
-"""Updates of a thousand keys over a folder of four segments, by `bwlog serve`: no segment is ever added, and memory stays flat.
+"""Updates of a thousand keys over a folder of four segments, by `bwlog`: no segment is ever added, and memory stays flat.
 
-    steady.py [UPDATES]
+    steady.py [UPDATES [MODE ..]]
 
-After each 1,000 updates comes a flush, and a cleaning where one spare is left. The resident set of the program at the end has to be
-at most a quarter above that after the first million updates, or after half of them; at the end each key has the value that it was last
-given, also in a second run over the folder. A million updates take some ten seconds."""
+A mode is serve, replay or threads; without one all three are run. In serve and in replay, which has --take and --reuse, a flush comes
+after each 1,000 updates, and a cleaning where one spare is left. threads has --reuse and --forget, and two writers of half of the keys
+each. The resident set of serve behind its last cleaning has to be at most a tenth above that behind the first cleaning after a million
+updates, or after half of them. At the end each key has the value that it was last given, also in a second run over the folder. A million
+updates take some ten seconds by serve."""
 
 import os
 import subprocess
@@ -15,10 +17,16 @@ import tempfile
 HERE = os.path.dirname(os.path.abspath(__file__))
 PROGRAM = os.path.abspath(os.path.join(HERE, "..", "..", "crates", "bwlog", "out", "bwlog"))
 KEYS = 1000
+ROOM = ["--segments", "4", "--capacity", "1048576"]
 
 
 def value_of(number):
     return "v%d" % (number * 7919)
+
+
+def last_of(key, updates):
+    """The last of so many updates that is of a key."""
+    return updates - 1 - (updates - 1 - key) % KEYS
 
 
 def resident(child):
@@ -27,46 +35,100 @@ def resident(child):
         return next(int(line.split()[1]) for line in lines if line.startswith("VmRSS:"))
 
 
-class Run:
+class Served:
     """A run of `serve` over a folder."""
 
+    words = ["serve"]
+    put = "put k%d %s"
+    forgets = True
+
     def __init__(self, folder):
-        words = [PROGRAM, "serve", "--dir", folder, "--segments", "4", "--capacity", "1048576"]
+        words = [PROGRAM] + self.words + ["--dir", folder] + ROOM
+        is_old = os.path.isdir(folder)
         self.child = subprocess.Popen(words, stdin=subprocess.PIPE, stdout=subprocess.PIPE, bufsize=1 << 20)
+        self.greet(is_old)
+
+    def greet(self, _is_old):
         self.answers(1)
 
     def answers(self, count):
         return [self.child.stdout.readline().decode().rstrip("\n") for _ in range(count)]
 
-    def ask(self, lines):
+    def send(self, lines):
         self.child.stdin.write(("\n".join(lines) + "\n").encode())
         self.child.stdin.flush()
+
+    def ask(self, lines):
+        self.send(lines)
         return self.answers(len(lines))
 
     def spares(self):
         words = self.ask(["stats"])[0].split()
         return int(words[words.index("spares") + 1])
 
+    def clean(self):
+        return self.ask(["clean"])[0]
+
     def end(self):
         self.ask(["quit"])
+        return self.child.wait(timeout=60)
+
+
+class Replayed(Served):
+    """A run of `replay` over a folder."""
+
+    words = ["replay", "--take", "--reuse", "--places", "1024", "--m", "32"]
+    put = "put 0 k%d %s"
+    forgets = False
+
+    def greet(self, is_old):
+        # What was found is told by two lines, once something is asked.
+        self.is_old = is_old
+
+    def send(self, lines):
+        super().send(lines)
+        if self.is_old:
+            self.answers(2)
+            self.is_old = False
+
+    def spares(self):
+        self.send(["segments"])
+        while True:
+            words = self.answers(1)[0].split()
+            if words[0] == "spares":
+                return int(words[1])
+
+    def clean(self):
+        self.send(["clean"])
+        cleaned, added = self.answers(2)
+        return cleaned if added.startswith("added ") else added
+
+    def end(self):
+        self.child.stdin.close()
         return self.child.wait(timeout=60)
 
 
 def wrong_key(run, updates):
     """A key that has another value than it was given last."""
     for key in range(KEYS):
-        last = updates - 1 - (updates - 1 - key) % KEYS
-        if run.ask(["get k%d" % key])[0] != "value " + value_of(last):
+        if run.ask(["get k%d" % key])[0] != "value " + value_of(last_of(key, updates)):
             return key
     return None
 
 
-def steady(folder, updates):
-    """What went otherwise than told, or nothing."""
-    run = Run(folder)
-    first, early = min(updates // 2, 1000000), 0
+def ended(run, updates):
+    """Whether each key of a run has its value, and the run ends well."""
+    wrong = wrong_key(run, updates)
+    status = run.end()
+    return "" if wrong is None and status == 0 else "key %s has another value, or the run ended with status %d" % (wrong, status)
+
+
+def asked(folder, updates, of):
+    """What went otherwise than told where each line is answered, or nothing."""
+    run = of(folder)
+    first, looks = min(updates // 2, 1000000), []
     for start in range(0, updates, KEYS):
-        lines = ["put k%d %s" % (number % KEYS, value_of(number)) for number in range(start, start + KEYS)]
+        lines = [of.put % (number % KEYS, value_of(number)) for number in range(start, start + KEYS)]
         wrong = [answer for answer in run.ask(lines) if answer != "ok"]
         if wrong:
             return "a put was answered " + wrong[0]
@@ -74,23 +136,38 @@ def steady(folder, updates):
         if not answer.startswith("frame "):
             return "a flush was answered " + answer
         if run.spares() < 2:
-            answer = run.ask(["clean"])[0]
+            answer = run.clean()
             if not answer.startswith("cleaned "):
                 return "a cleaning was answered " + answer
-        if start + KEYS == first:
-            early = resident(run.child)
-    late = resident(run.child)
-    print("resident set: %d KiB after %d updates, %d KiB after %d" % (early, first, late, updates))
-    if late * 4 > early * 5:
+            if start + KEYS >= first:
+                looks.append(resident(run.child))
+    print("resident set: %s KiB behind the first cleaning after %d updates, %s KiB behind the last of %d" % (looks[:1], first, looks[-1:], updates))
+    if of.forgets and looks and looks[-1] * 10 > looks[0] * 11:
         return "memory is not flat"
-    wrong = wrong_key(run, updates)
-    if wrong is not None or run.end() != 0:
-        return "key %s has another value, or the run did not end well" % wrong
-    again = Run(folder)
-    wrong = wrong_key(again, updates)
-    if wrong is not None or again.end() != 0:
-        return "in a second run key %s has another value, or it did not end well" % wrong
-    return ""
+    return ended(run, updates) or ended(of(folder), updates)
+
+
+def threaded(folder, updates):
+    """The same of `threads`: its whole script is written first."""
+    script = []
+    for start in range(0, updates, 4):
+        for writer in range(2):
+            numbers = [number for number in range(start, start + 4) if number % KEYS % 2 == writer]
+            script.append("group %d %s" % (writer, " ".join("put k%d %s" % (number % KEYS, value_of(number)) for number in numbers)))
+    words = [PROGRAM, "threads", "--reuse", "--forget", "--m", "32", "--dir", folder] + ROOM
+    run = subprocess.run(words, input=("\n".join(script) + "\n").encode(), stdout=subprocess.PIPE, check=False)
+    lines = run.stdout.decode().split("\n")
+    wanted = ["entries %d" % updates] + ["writer %d %d of %d" % (writer, updates // 2, updates // 2) for writer in range(2)]
+    if run.returncode != 0 or lines[:3] != wanted:
+        return "threads ended with status %d, and told %s" % (run.returncode, lines[:3])
+    return ended(Served(folder), updates)
+
+
+MODES = {
+    "serve": lambda folder, updates: asked(folder, updates, Served),
+    "replay": lambda folder, updates: asked(folder, updates, Replayed),
+    "threads": threaded,
+}
 
 
 def main():
@@ -98,9 +175,12 @@ def main():
     if not os.path.isfile(PROGRAM):
         print(PROGRAM + " is not built: make run")
         return 1
-    with tempfile.TemporaryDirectory(dir="/dev/shm" if os.path.isdir("/dev/shm") else None) as folder:
-        wrong = steady(os.path.join(folder, "store"), updates)
-    print(wrong or "%d updates of %d keys went through four segments" % (updates, KEYS))
+    wrong = ""
+    for mode in sys.argv[2:] or MODES:
+        with tempfile.TemporaryDirectory(dir="/dev/shm" if os.path.isdir("/dev/shm") else None) as folder:
+            came = MODES[mode](os.path.join(folder, "store"), updates)
+        print("%s: %s" % (mode, came or "%d updates of %d keys went through four segments" % (updates, KEYS)))
+        wrong = wrong or came
     return 1 if wrong else 0
 
 

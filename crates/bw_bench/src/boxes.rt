@@ -10,6 +10,7 @@ use crate::driven::driven;
 use crate::options::Options;
 use crate::reopened::reopened;
 use crate::subject::Course;
+use bw_codec::limits::MIN_FRAME;
 use bw_device::{Desk, MemSegment, Segment};
 use bw_ring::Feed;
 use bw_store::{Config, Store};
@@ -20,13 +21,14 @@ use std::thread::Threads;
 /// How many bytes a segment has room for, all of which it takes when it is made.
 pub const CAPACITY: u64 = 16_777_216;
 
-/// The most bytes that a put adds to the log: a record of 8 and 128 bytes with what stands around
-/// it, and its part of a page that is cut.
-const EACH: u64 = 400;
+/// The most bytes that a put adds to the log beside its key and value, of which a second copy is its
+/// part of a page that is cut.
+const AROUND: u64 = 144;
 
 /// How many segments hold all puts, with two spares more.
 pub fn count_of(options: Options) -> u32 {
-    let bytes = options.puts().saturating_mul(EACH);
+    let pair = u64::from(options.shared) + u64::from(options.value_length);
+    let bytes = options.puts().saturating_mul(AROUND + 2 * pair);
     let full = bytes / CAPACITY;
     u32::try_from(full).unwrap_or(u32::MAX).saturating_add(4)
 }
@@ -37,7 +39,7 @@ fn config_of(options: Options, course: Course) -> Config {
         places: usize::from(options.batch),
         readers: 4,
         m: 32,
-        f: 65536,
+        f: MIN_FRAME,
     }
 }
 

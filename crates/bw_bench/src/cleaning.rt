@@ -7,6 +7,7 @@ use crate::bench::Bench;
 use crate::boxes::memory;
 use crate::stop::Stop;
 use bw_care::{clean, recover};
+use bw_codec::limits::{LATEST, MIN_FRAME};
 use bw_codec::{Header, encode_frame_head, encode_header};
 use bw_device::{Desk, Segment};
 use bw_log::Log;
@@ -25,10 +26,10 @@ const ROUNDS: u32 = 50;
 
 /// A key of 8 bytes and a value of 16.
 fn put_pair(out: &mut Vec<u8>, key: u64) -> Result<(), AllocError> {
-    let mut pair = [b'v'; 26];
+    let mut pair = [b'v'; 27];
     pair[0] = 8;
     pair[1..9].copy_from_slice(&key.to_be_bytes());
-    pair[9] = 16;
+    pair[9..11].copy_from_slice(&16u16.to_le_bytes());
     out.extend_from_slice(&pair)
 }
 
@@ -72,9 +73,10 @@ fn put_frame(alloc: Global, out: &mut Vec<u8>, number: u64) -> Result<(), AllocE
 
 fn put_header(out: &mut Vec<u8>, number: u64) -> Result<(), AllocError> {
     let header = Header {
+        version: LATEST,
         number,
         m: 4,
-        f: 16_384,
+        f: MIN_FRAME,
     };
     encode_header(&header, out)
 }

@@ -44,6 +44,12 @@ fn new_folder(bench: &Bench, dir: &str, name: &'static str) -> Option<Folder> {
     Some(folder)
 }
 
+/// There are no segments in the folder of this name.
+pub fn must_be_new(bench: &Bench, dir: &str, name: &'static str) -> Option<()> {
+    let _folder = new_folder(bench, dir, name)?;
+    Some(())
+}
+
 /// A new file of the next lease, or the one that is there. The desk has a lease.
 fn file(bench: &Bench, folder: &Folder, desk: &mut Desk, is_new: bool) -> Option<FileSegment> {
     let lease = desk.take().ok()?;

@@ -21,16 +21,17 @@ mod pages;
 mod reopened;
 mod report;
 mod shape;
+mod steady;
 mod stop;
 mod subject;
 mod watch;
 
 use bench::Bench;
+use bw_home::System;
 use clap::Error;
 use options::{is_memory, options_of};
 use std::io;
 use std::process::ExitCode;
-use std::sync::Wait;
 use std::thread::Threads;
 use stop::Stop;
 use subject::run;
@@ -57,7 +58,7 @@ fn usage(system: HostRuntime, error: &Error) -> Stop {
 
 /// Does what the words after the program's name ask for. The handle by which it may wait is told
 /// apart: only `main` knows that the system is one.
-fn start<R: Threads + Wait>(rt: &R, system: HostRuntime, words: &[String]) -> Result<(), Stop> {
+fn start<R: Threads + System>(rt: &R, system: HostRuntime, words: &[String]) -> Result<(), Stop> {
     let (options, scope) = match options_of(system.alloc(), words) {
         Ok(asked) => asked,
         Err(error) => return Err(usage(system, &error)),

@@ -1,6 +1,7 @@
 //! The command line, read by `clap`. Nothing else of the program stands here.
 
 use crate::shape::{Shape, Span};
+use bw_codec::limits::{MAX_KEY, MAX_VALUE};
 use clap::error::ErrorKind;
 use clap::{Arg, ArgMatches, Command, Error};
 use std::alloc::{AllocError, Global};
@@ -10,9 +11,9 @@ use std::alloc::{AllocError, Global};
 pub struct Options {
     /// How many keys there are, 1 to 10,000,000.
     pub keys: u32,
-    /// How many bytes all keys share before those that tell them apart, 0 to 56.
+    /// How many bytes all keys share before those that tell them apart, 0 to 120.
     pub shared: u16,
-    /// How many bytes a value has, 8 to 128.
+    /// How many bytes a value has, 8 to 512.
     pub value_length: u16,
     /// How many updates and gets there are, 1 to 10,000,000.
     pub operations: u32,
@@ -77,6 +78,7 @@ const SUBJECTS: &[&str] = &[
     "one-beside",
     "many",
     "many-beside",
+    "steady",
 ];
 
 /// What an option takes.
@@ -104,12 +106,12 @@ const ROWS: &[Row] = &[
     },
     Row {
         name: "shared",
-        kind: Kind::Number(0, 56, "0"),
+        kind: Kind::Number(0, MAX_KEY as i64 - 8, "0"),
         help: "how many bytes all keys have before those 8",
     },
     Row {
         name: "value-length",
-        kind: Kind::Number(8, 128, "100"),
+        kind: Kind::Number(8, MAX_VALUE as i64, "100"),
         help: "how many bytes a value has",
     },
     Row {

@@ -6,8 +6,9 @@ use crate::cleaning::cleaning;
 use crate::folders::{appends, over_files};
 use crate::options::Scope;
 use crate::pages::pages;
+use crate::steady::steady;
 use crate::stop::Stop;
-use std::sync::Wait;
+use bw_home::System;
 use std::thread::Threads;
 
 /// What is done with a store.
@@ -64,6 +65,7 @@ enum Work {
     Pages,
     Cleaning,
     Appends,
+    Steady,
     Over(Course),
 }
 
@@ -78,15 +80,16 @@ const SUBJECTS: &[(&str, Work)] = &[
     ("one-beside", Work::Over(ONE_BESIDE)),
     ("many", Work::Over(MANY)),
     ("many-beside", Work::Over(MANY_BESIDE)),
+    ("steady", Work::Steady),
 ];
 
-/// Whether the subject is run. Appends are none where segments stand in memory.
+/// Whether the subject is run: appends and a steady folder are none where segments stand in memory.
 fn is_asked(scope: Scope<'_>, name: &'static str, work: Work) -> bool {
-    let is_there = scope.dir.is_some() || !matches!(work, Work::Appends);
+    let is_there = scope.dir.is_some() || !matches!(work, Work::Appends | Work::Steady);
     is_there && scope.only.unwrap_or(name) == name
 }
 
-fn run_one<R: Threads + Wait>(
+fn run_one<R: Threads + System>(
     rt: &R,
     bench: &Bench,
     dir: Option<&str>,
@@ -97,13 +100,14 @@ fn run_one<R: Threads + Wait>(
         (Work::Pages, _) => pages(bench),
         (Work::Cleaning, _) => cleaning(bench),
         (Work::Appends, dir) => appends(bench, dir.unwrap_or(".")),
+        (Work::Steady, dir) => steady(rt, bench, dir.unwrap_or("."), name),
         (Work::Over(course), Some(dir)) => over_files(rt, bench, course, dir, name),
         (Work::Over(course), None) => over_memory(rt, bench, course),
     }
 }
 
 /// Runs all subjects, or the one that is asked for.
-pub fn run<R: Threads + Wait>(rt: &R, bench: &Bench, scope: Scope<'_>) -> Result<(), Stop> {
+pub fn run<R: Threads + System>(rt: &R, bench: &Bench, scope: Scope<'_>) -> Result<(), Stop> {
     bench.tell_sizes();
     for &(name, work) in SUBJECTS {
         if is_asked(scope, name, work) {

@@ -18,7 +18,7 @@ pub record Begun (a : Inside) : Type 0 where
   pub unsealed : a.is_sealed ≡ false
   pub deltas : a.deltas.entries ≡ []
   pub numbered : 1 ≤ a.frame
-  pub limited : (16384 ≤ a.limit) × (a.limit ≤ 65536)
+  pub limited : (65536 ≤ a.limit) × (a.limit ≤ 262144)
   pub rows_room : a.limit ≤ 8 * vec_capacity a.rows + 7
   pub pieces_room : a.limit ≤ 3 * vec_capacity a.pieces + 2
   pub arena_room : a.limit ≤ vec_capacity a.arena

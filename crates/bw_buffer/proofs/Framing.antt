@@ -4,7 +4,7 @@ use Rattle.std.proofs.Common.{◌^◌, ◌<◌, ◌≤◌, arith}
 use Rattle.bw_buffer.specs.Filling.{Filling, size_of, IsLawfulFrame}
 use Rattle.bw_buffer.proofs.Holding.{few_blocks}
 
-pub lawful_frame : (b : Filling) → 1 ≤ b.frame → b.frame < 2 ^ 64 → size_of b ≤ b.limit → b.limit ≤ 65536 → IsLawfulFrame b
+pub lawful_frame : (b : Filling) → 1 ≤ b.frame → b.frame < 2 ^ 64 → size_of b ≤ b.limit → b.limit ≤ 262144 → IsLawfulFrame b
 lawful_frame b numbered counted fits small m some lawful =
     let few = few_blocks b.blocks in
     record {

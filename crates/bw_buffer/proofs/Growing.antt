@@ -1,12 +1,16 @@
 -- One block more in a buffer's fields: in a row of its own, or joined.
 
 use Rattle.std.proofs.Common.{◌≡◌, ℕ, zero, suc, ◌+◌, ◌*◌, ◌<◌, ◌≤◌, ◌^◌, false, Option, Some, None, List, [], ◌∷◌, ◌++◌, length, set, refl, sym, ap, ◌∙◌, subst, arith}
-use Rattle.std.proofs.Common.{append-nil, length-append, length-set}
+use Rattle.std.proofs.Common.{append-nil, length-append, length-set, if◌then◌else◌, true}
+use Rattle.std.specs.Prelude.{◌==◌, unwrap_or}
+use Rattle.std.proofs.lemmas.Bool.{eqb-true}
 use Rattle.std.specs.List.{AllByRecursion as All, flat_map, slice_get}
 use Rattle.std.specs.Vec.{vec_capacity}
 use Rattle.std.specs.HashMap.{spare, hash_map_len}
 use Rattle.bw_buffer.specs.Index.{index_at}
 use Rattle.std.proofs.lemmas.Grind.{flat_map-append}
+use Rattle.bw_codec.specs.Version.{latest}
+use Rattle.bw_codec.specs.Bytes.{text, value_bytes}
 use Rattle.bw_codec.specs.Grammar.{op_bytes, block_bytes, body_bytes, IsBlock, IsOp}
 use Rattle.bw_codec.specs.declared.record.Record.{Record}
 use Rattle.bw_codec.specs.declared.record.Record.TheVariants.{Put, Del}
@@ -14,13 +18,13 @@ use Rattle.bw_codec.specs.declared.block.Place.{Place}
 use Rattle.bw_codec.specs.declared.block.Block.{Block}
 use Rattle.bw_codec.specs.declared.block.Block.TheVariants.{Delta, Base, Split}
 use Rattle.bw_codec.proofs.Lengths.{length-delta}
-use Rattle.bw_buffer.specs.Joining.{open_after, open_from, joins, with_ops, ops_added, joined}
+use Rattle.bw_buffer.specs.Joining.{open_after, open_from, last_delta, joins_of, with_ops, ops_added, joined_by, joined}
 use Rattle.bw_buffer.specs.Rows.{Parts, parts, pieces_length, bytes_at, AreRows, IsRow}
 use Rattle.bw_buffer.specs.Laid.{blocks_of, parts_of, Holds, IsLaid}
 use Rattle.bw_buffer.specs.declared.buffer.Buffer.TheInside.{Inside}
 use Rattle.bw_buffer.specs.declared.rows.Row.{Row}
 use Rattle.bw_buffer.specs.declared.rows.Piece.{Piece}
-use Rattle.bw_buffer.proofs.Joined.{StandsOpen, JoinsOne, joins_one}
+use Rattle.bw_buffer.proofs.Joined.{StandsOpen, JoinsOne, joins_one, joins_parts}
 use Rattle.bw_buffer.proofs.Pieces.{parts_more, length_more, rows_more, rows_longer, longer, none_at, rows_count}
 use Rattle.bw_buffer.proofs.Holding.{some_bytes, few_blocks}
 
@@ -32,7 +36,7 @@ all-into : {X : Type 0} (P Q : X → Type 0) (xs : List X) → ((x : X) → P x 
 all-into P Q [] f h = tt
 all-into P Q (x ∷ xs) f h = (f x h.0, all-into P Q xs f h.1)
 
--- ---- which block is joined
+-- ---- which block is the last of a page
 
 open_push : (p i : ℕ) (was : Option ℕ) (bs : List Block) (b : Block) → open_from p i was (bs ++ b ∷ []) ≡ open_after p (i + length bs) b (open_from p i was bs)
 open_push p i was [] b = ap (λ (n : ℕ). open_after p n b was) (omega arith)
@@ -40,8 +44,8 @@ open_push p i was (c ∷ cs) b =
     open_push p (suc i) (open_after p i c was) cs b
     ∙ ap (λ (n : ℕ). open_after p n b (open_from p (suc i) (open_after p i c was) cs)) (omega arith)
 
-pub joins_push : (p : ℕ) (bs : List Block) (b : Block) → joins p (bs ++ b ∷ []) ≡ open_after p (length bs) b (joins p bs)
-joins_push p bs b = open_push p 0 None bs b ∙ ap (λ (n : ℕ). open_after p n b (joins p bs)) (omega arith)
+pub last_push : (p : ℕ) (bs : List Block) (b : Block) → last_delta p (bs ++ b ∷ []) ≡ open_after p (length bs) b (last_delta p bs)
+last_push p bs b = open_push p 0 None bs b ∙ ap (λ (n : ℕ). open_after p n b (last_delta p bs)) (omega arith)
 
 same_open : (p i : ℕ) (ops : List Record) (b : Block) (was : Option ℕ) → open_after p i (with_ops ops b) was ≡ open_after p i b was
 same_open p i ops (Delta page back old) was = refl
@@ -53,13 +57,28 @@ open_ops p i was k ops [] = refl
 open_ops p i was zero ops (b ∷ bs) = ap (λ (o : Option ℕ). open_from p (suc i) o bs) (same_open p i ops b was)
 open_ops p i was (suc k) ops (b ∷ bs) = open_ops p (suc i) (open_after p i b was) k ops bs
 
-pub joins_ops : (p k : ℕ) (ops : List Record) (bs : List Block) → joins p (ops_added k ops bs) ≡ joins p bs
-joins_ops p k ops bs = open_ops p 0 None k ops bs
+pub last_ops : (p k : ℕ) (ops : List Record) (bs : List Block) → last_delta p (ops_added k ops bs) ≡ last_delta p bs
+last_ops p k ops bs = open_ops p 0 None k ops bs
+
+-- a Delta that joins or stands behind all blocks is the last of its page, and leaves other pages as they were
+pub last_joined : (p page : ℕ) (back : Place) (ops : List Record) (bs : List Block)
+    → last_delta p (joined bs (Delta page back ops)) ≡ (if page == p then Some (unwrap_or (joins_of (length ops) page bs) (length bs)) else last_delta p bs)
+last_joined p page back ops bs =
+    (elim (joins_of (length ops) page bs) as (λ o. joins_of (length ops) page bs ≡ o → last_delta p (joined_by o ops (Delta page back ops) bs)
+    ≡ (if page == p then Some (unwrap_or o (length bs)) else last_delta p bs)) [
+      | None ↦ λ e. last_push p bs (Delta page back ops)
+      | Some i ↦ λ e. (
+          last_ops p i ops bs
+          ∙ elim (page == p) as (λ t. (page == p) ≡ t → last_delta p bs ≡ (if t then Some i else last_delta p bs)) [
+            | true ↦ λ same. subst (λ (q : ℕ). last_delta q bs ≡ Some i) (eqb-true page p same) (joins_parts (length ops) page i bs e).0
+            | false ↦ λ other. refl
+          ] refl)
+    ] refl)
 
 -- ---- lengths
 
 op_some : (r : Record) → IsOp r → 3 ≤ length (op_bytes r)
-op_some (Put key value) h = (let e = length-append (length key ∷ key) (length value ∷ value) in let k = h.0.0 in omega arith)
+op_some (Put key value) h = (let e = length-append (text key) (value_bytes latest value) in let k = h.0.0 in omega arith)
 op_some (Del key) h = (let k = h.0 in omega arith)
 
 pub ops_some : (ops : List Record) → All IsOp ops → 3 * length ops ≤ length (flat_map op_bytes ops)
@@ -127,7 +146,7 @@ pushed a b block xs row q x =
       cut = ap pieces_length x.pieces ∙ length_more a.pieces.items q ∙ (let e = x.piece.1 in let c = h.cut in omega arith);
       size = (let s = h.size in omega arith);
       lawful = all-append (IsBlock 32) bs (block ∷ []) h.lawful (x.lawful, tt);
-      told = λ p. x.told p ∙ ap (λ (n : ℕ). open_after p n block (index_at a.deltas p)) count ∙ ap (open_after p (length bs) block) (h.told p) ∙ sym (joins_push p bs block);
+      told = λ p. x.told p ∙ ap (λ (n : ℕ). open_after p n block (index_at a.deltas p)) count ∙ ap (open_after p (length bs) block) (h.told p) ∙ sym (last_push p bs block);
       numbered = (let n = h.numbered in let e = x.frame in omega arith);
       fits = omega arith;
       limited = (let l = h.limited in (omega arith, omega arith));
@@ -150,7 +169,7 @@ pub record Lengthened (a b : Inside) (page at : ℕ) (ops : List Record) (xs : L
   pub unsealed : a.is_sealed ≡ false
   pub some : 1 ≤ length ops
   pub lawful : All IsOp ops
-  pub joins : joins page (blocks_of a) ≡ Some at
+  pub joins : joins_of (length ops) page (blocks_of a) ≡ Some at
   pub fits : a.size + length xs ≤ a.limit
   pub frame : b.frame ≡ a.frame
   pub limit : b.limit ≡ a.limit
@@ -227,17 +246,7 @@ lengthened a b page at back ops xs row q x =
     let parts_lawful = all-more (IsBlock 32) s.before (Delta page s.back s.was) s.behind [] (subst (All (IsBlock 32)) s.split h.lawful) in
     let delta = parts_lawful.0 in
     let all_ops : All IsOp (s.was ++ ops) = all-append IsOp s.was ops delta.each x.lawful in
-    let body_size : 20 + length (body_bytes more) ≤ 65536 = (let z = h.size in let l = h.limited.1 in omega arith) in
-    let few : length (s.was ++ ops) < 2 ^ 16 =
-    omega (
-      arith,
-      ops_some (s.was ++ ops) all_ops,
-      length-delta page s.back (s.was ++ ops),
-      ap (λ (l : List ℕ). length l) new_body,
-      length-append (body_bytes s.before) (block_bytes (Delta page s.back (s.was ++ ops)) ++ body_bytes s.behind),
-      length-append (block_bytes (Delta page s.back (s.was ++ ops))) (body_bytes s.behind),
-      body_size,
-    ) in
+    let few : length (s.was ++ ops) < 2 ^ 16 = omega (arith, length-append s.was ops, j.few) in
     subst (Holds b) (sym j.is)
     (record {
       rows = subst (λ (ps : Parts). AreRows 0 b.rows.items ps more) (sym now)
@@ -255,8 +264,8 @@ lengthened a b page at back ops xs row q x =
             count = ((let c = delta.count.0 in let e = length-append s.was ops in omega arith), few);
             each = all_ops;
           }) parts_lawful.2;
-      told = λ p. ap (λ (d : _). index_at d p) x.deltas ∙ h.told p ∙ sym (joins_ops p at ops bs)
-          ∙ ap (joins p) (ap (ops_added at ops) s.split ∙ Rattle.bw_buffer.proofs.Joined.added_there s.before (Delta page s.back s.was) s.behind at ops s.index);
+      told = λ p. ap (λ (d : _). index_at d p) x.deltas ∙ h.told p ∙ sym (last_ops p at ops bs)
+          ∙ ap (last_delta p) (ap (ops_added at ops) s.split ∙ Rattle.bw_buffer.proofs.Joined.added_there s.before (Delta page s.back s.was) s.behind at ops s.index);
       numbered = (let n = h.numbered in let e = x.frame in omega arith);
       fits = omega arith;
       limited = (let l = h.limited in (omega arith, omega arith));

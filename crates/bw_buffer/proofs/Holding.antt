@@ -3,6 +3,7 @@
 use Rattle.std.proofs.Common.{◌≡◌, ℕ, zero, suc, ◌*◌, ◌<◌, ◌≤◌, Some, List, [], ◌∷◌, ◌++◌, length, get_or, sym, ap, ◌∙◌, subst, arith}
 use Rattle.std.proofs.Common.{append-nil, length-append}
 use Rattle.std.specs.List.{AllByRecursion as All, slice_get}
+use Rattle.bw_codec.specs.Version.{latest}
 use Rattle.bw_codec.specs.Grammar.{block_bytes, body_bytes, head_bytes, frame_bytes, IsBlock}
 use Rattle.bw_codec.specs.Reading.{many_at, block_at}
 use Rattle.bw_codec.specs.declared.block.Block.{Block}
@@ -21,9 +22,9 @@ pub read_again : (count : ℕ) (blocks : List Block) (body : List ℕ) → All (
 unfolding blocks_in
 read_again count blocks body lawful counted is =
     let whole : body ≡ body_bytes blocks ++ [] = is ∙ sym (append-nil (body_bytes blocks)) in
-    let read : many_at (block_at 32) count body ≡ Some (blocks, []) =
-    ap (λ (n : ℕ). many_at (block_at 32) n body) (sym counted) ∙ ap (many_at (block_at 32) (length blocks)) whole
-    ∙ many_again block_bytes (IsBlock 32) (block_at 32) (block_format 32 (omega arith)) blocks [] lawful in
+    let read : many_at (block_at latest 32) count body ≡ Some (blocks, []) =
+    ap (λ (n : ℕ). many_at (block_at latest 32) n body) (sym counted) ∙ ap (many_at (block_at latest 32) (length blocks)) whole
+    ∙ many_again block_bytes (IsBlock 32) (block_at latest 32) (block_format latest 32 (omega arith)) blocks [] lawful in
     ap first_of read
 
 -- fields that hold blocks hold those that callers see
@@ -65,7 +66,7 @@ got {X} (y ∷ ys) zero x lt e = ap (λ (z : X). Some z) (sym e)
 got (y ∷ ys) (suc i) x lt e = got ys i x (omega arith) e
 
 -- rows are few
-pub few_rows : (a : Inside) → IsLaid a → 8 * length a.rows.items ≤ 65536
+pub few_rows : (a : Inside) → IsLaid a → 8 * length a.rows.items ≤ 262144
 few_rows a h = (let n = counted a h in let f = few_blocks (blocks_of a) in let s = h.size in let l = h.fits in let m = h.limited.1 in omega arith)
 
 -- the frame's length
@@ -73,17 +74,17 @@ pub length_of_frame : (b : Filling) → length (frame_bytes (frame_of b)) ≡ si
 length_of_frame b =
     omega (
       arith,
-      length-head b.frame (length (body_bytes b.blocks)) (length b.blocks),
+      length-head latest b.frame (length (body_bytes b.blocks)) (length b.blocks),
       length-append (head_bytes b.frame (length (body_bytes b.blocks)) (length b.blocks)) (body_bytes b.blocks),
     )
 
 -- no other lawful block has the same bytes
 pub same_block : (a b : Block) → IsBlock 32 a → IsBlock 32 b → block_bytes a ≡ block_bytes b → a ≡ b
 same_block a b law_a law_b same =
-    let format = block_format 32 (omega arith) in
+    let format = block_format latest 32 (omega arith) in
     let first : Block × List ℕ = (a, []) in
     let second : Block × List ℕ = (b, []) in
     let reads : Some first ≡ Some second =
-    sym (format.again a [] law_a) ∙ ap (λ (bytes : List ℕ). block_at 32 (bytes ++ [])) same ∙ format.again b [] law_b in
+    sym (format.again a [] law_a) ∙ ap (λ (bytes : List ℕ). block_at latest 32 (bytes ++ [])) same ∙ format.again b [] law_b in
     let pairs : first ≡ second = cc in
     ap (λ (read : Block × List ℕ). read.0) pairs

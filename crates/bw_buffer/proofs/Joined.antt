@@ -1,17 +1,17 @@
 -- One more block, joined or behind the others: what it does to every question that is asked of blocks.
 
-use Rattle.std.proofs.Common.{◌≡◌, ℕ, zero, suc, ◌+◌, Bool, true, false, Option, Some, None, List, [], ◌∷◌, ◌++◌, length, refl, sym, ap, ◌∙◌, subst, arith, ◌⊎◌, inl, inr}
+use Rattle.std.proofs.Common.{◌≡◌, ℕ, zero, suc, ◌+◌, ◌≤◌, Bool, true, false, Option, Some, None, List, [], ◌∷◌, ◌++◌, length, refl, sym, ap, ◌∙◌, subst, arith, ◌⊎◌, inl, inr}
 use Rattle.std.proofs.Common.{append_assoc, append-nil, if◌then◌else◌}
 use Rattle.std.specs.Prelude.{◌==◌, ◌||◌}
 use Rattle.std.specs.List.{flat_map, fold, list_any}
 use Rattle.std.proofs.lemmas.Grind.{fold-append, flat_map-append}
-use Rattle.std.proofs.lemmas.Bool.{eqb-true, or_parts}
+use Rattle.std.proofs.lemmas.Bool.{eqb-true, eq-eqb, leb-true, or_parts}
 use Rattle.bw_codec.specs.Touch.{touches}
 use Rattle.bw_codec.specs.declared.record.Record.{Record}
 use Rattle.bw_codec.specs.declared.block.Place.{Place}
 use Rattle.bw_codec.specs.declared.block.Block.{Block}
 use Rattle.bw_codec.specs.declared.block.Block.TheVariants.{Delta, Base, Split}
-use Rattle.bw_buffer.specs.Joining.{open_after, open_from, joins, with_ops, ops_added, joined_by, joined, added}
+use Rattle.bw_buffer.specs.Joining.{open_after, open_from, last_delta, records_in, records_after, open_records, takes, joins_of, with_ops, ops_added, joined_by, joined, added}
 
 or_none : (a : Bool) → a ≡ (a || false)
 or_none true = refl
@@ -103,7 +103,7 @@ found_from p i was (b ∷ bs) j e =
       )
     ]
 
-pub found : (p : ℕ) (blocks : List Block) (i : ℕ) → joins p blocks ≡ Some i → StandsOpen p i blocks
+pub found : (p : ℕ) (blocks : List Block) (i : ℕ) → last_delta p blocks ≡ Some i → StandsOpen p i blocks
 found p blocks i e = elim (found_from p 0 None blocks i e) [
   | inl x ↦ absurd (let y = x.0 in cc)
   | inr x ↦ (let e = x.1 in let same : x.0 ≡ i = omega arith in subst (λ (k : ℕ). StandsOpen p k blocks) same x.2)
@@ -116,22 +116,54 @@ added_there [] b behind (suc i) ops e = absurd (omega arith)
 added_there (x ∷ xs) b behind zero ops e = absurd (omega arith)
 added_there (x ∷ xs) b behind (suc i) ops e = ap (λ (l : List Block). x ∷ l) (added_there xs b behind i ops (omega arith))
 
+-- ---- how many records stand there
+
+-- blocks that do not touch a page leave the number
+records_quiet : (p : ℕ) (was : Option ℕ) (bs : List Block) → list_any (touches p) bs ≡ false → fold (records_after p) was bs ≡ was
+records_quiet p was [] quiet = refl
+records_quiet p was (b ∷ bs) quiet =
+    let parts = or_parts (touches p b) (list_any (touches p) bs) quiet in
+    ap (λ (t : Bool). fold (records_after p) (if t then records_in b else was) bs) parts.0 ∙ records_quiet p was bs parts.1
+
+pub records_here : (p : ℕ) (before behind : List Block) (back : Place) (ops : List Record) → list_any (touches p) behind ≡ false
+    → open_records p (before ++ Delta p back ops ∷ behind) ≡ Some (length ops)
+records_here p before behind back ops quiet =
+    fold-append (records_after p) None before (Delta p back ops ∷ behind)
+    ∙ ap (λ (t : Bool). fold (records_after p) (if t then Some (length ops) else open_records p before) behind) (eq-eqb p p refl)
+    ∙ records_quiet p (Some (length ops)) behind quiet
+
+pub records_stand : (p i : ℕ) (blocks : List Block) (s : StandsOpen p i blocks) → open_records p blocks ≡ Some (length s.was)
+records_stand p i blocks s = ap (open_records p) s.split ∙ records_here p s.before s.behind s.back s.was s.quiet
+
+-- a Delta that joins one joins the last block of its page, which has room
+pub joins_parts : (n p i : ℕ) (blocks : List Block) → joins_of n p blocks ≡ Some i
+    → (last_delta p blocks ≡ Some i) × (takes n (open_records p blocks) ≡ true)
+joins_parts n p i blocks e =
+    (elim (takes n (open_records p blocks)) as (λ t. takes n (open_records p blocks) ≡ t → (if t then last_delta p blocks else None) ≡ Some i
+    → (last_delta p blocks ≡ Some i) × (takes n (open_records p blocks) ≡ true)) [
+      | true ↦ λ t e. (e, t)
+      | false ↦ λ t e. absurd cc
+    ] refl e)
+
 -- a Delta of a page and the blocks with it: it stands behind them all, or its records stand in the last block of its page
 pub record JoinsOne (p : ℕ) (back : Place) (ops : List Record) (i : ℕ) (blocks : List Block) : Type 0 where
   pub stands : StandsOpen p i blocks
   pub is : joined blocks (Delta p back ops) ≡ stands.before ++ Delta p stands.back (stands.was ++ ops) ∷ stands.behind
+  pub few : length stands.was + length ops ≤ 65535
 
-pub joins_one : (p : ℕ) (back : Place) (ops : List Record) (i : ℕ) (blocks : List Block) → joins p blocks ≡ Some i → JoinsOne p back ops i blocks
+pub joins_one : (p : ℕ) (back : Place) (ops : List Record) (i : ℕ) (blocks : List Block) → joins_of (length ops) p blocks ≡ Some i → JoinsOne p back ops i blocks
 joins_one p back ops i blocks e =
-    let o = found p blocks i e in
+    let parts = joins_parts (length ops) p i blocks e in
+    let o = found p blocks i parts.0 in
     record {
       stands = o;
       is = ap (λ (j : Option ℕ). joined_by j ops (Delta p back ops) blocks) e
           ∙ ap (ops_added i ops) o.split
           ∙ added_there o.before (Delta p o.back o.was) o.behind i ops o.index;
+      few = leb-true (length o.was + length ops) 65535 (ap (takes (length ops)) (sym (records_stand p i blocks o)) ∙ parts.1);
     }
 
-pub joins_none : (p : ℕ) (back : Place) (ops : List Record) (blocks : List Block) → joins p blocks ≡ None
+pub joins_none : (p : ℕ) (back : Place) (ops : List Record) (blocks : List Block) → joins_of (length ops) p blocks ≡ None
     → joined blocks (Delta p back ops) ≡ blocks ++ Delta p back ops ∷ []
 joins_none p back ops blocks e = ap (λ (j : Option ℕ). joined_by j ops (Delta p back ops) blocks) e
 
@@ -153,7 +185,7 @@ pub record Joinable {A : Type 0} (step : A → Block → A) : Type 0 where
       → step (step a c) (Delta p back new) ≡ step (step a (Delta p back new)) c
 
 delta_fold : {A : Type 0} (step : A → Block → A) → Joinable step → (was : A) (blocks : List Block) (p : ℕ) (back : Place) (ops : List Record) (j : Option ℕ)
-    → joins p blocks ≡ j → fold step was (joined blocks (Delta p back ops)) ≡ fold step was (blocks ++ Delta p back ops ∷ [])
+    → joins_of (length ops) p blocks ≡ j → fold step was (joined blocks (Delta p back ops)) ≡ fold step was (blocks ++ Delta p back ops ∷ [])
 delta_fold {A} step law was blocks p back ops None e = ap (fold step was) (joins_none p back ops blocks e)
 delta_fold {A} step law was blocks p back ops (Some i) e =
     let x = joins_one p back ops i blocks e in
@@ -173,7 +205,7 @@ pub joined_fold : {A : Type 0} (step : A → Block → A) → Joinable step → 
     → fold step was (joined blocks block) ≡ fold step was (blocks ++ block ∷ [])
 joined_fold step law was blocks (Base leaf) = refl
 joined_fold step law was blocks (Split page back upper) = refl
-joined_fold step law was blocks (Delta p back ops) = delta_fold step law was blocks p back ops (joins p blocks) refl
+joined_fold step law was blocks (Delta p back ops) = delta_fold step law was blocks p back ops (joins_of (length ops) p blocks) refl
 
 -- and so it does for several
 pub added_fold : {A : Type 0} (step : A → Block → A) → Joinable step → (was : A) (blocks more : List Block)

@@ -10,6 +10,7 @@ use Rattle.bw_codec.proofs.Adding.{taken_within}
 use Rattle.bw_buffer.specs.Rows.{Parts, parts, pieces_length, bytes_at, front_of, laid, IsFewBy, AreMeasured}
 use Rattle.std.proofs.lemmas.List.{take_more, take_all}
 use Rattle.std.proofs.lemmas.Bool.{eq-eqb}
+use Rattle.bw_codec.specs.Version.{latest}
 use Rattle.bw_codec.specs.Grammar.{head_bytes}
 use Rattle.bw_codec.proofs.FrontFormat.{length-head}
 use Rattle.bw_buffer.specs.Gaps.{zeros, padded, filled, ends, written}
@@ -134,7 +135,7 @@ rows_room rows ps number size count i row bytes measured is told lt here =
       is,
       ap (λ (l : List ℕ). length l) told,
       length-append (head_bytes number (size - 20) count) (filled 0 (take i rows) []),
-      length-head number (size - 20) count,
+      length-head latest number (size - 20) count,
       gaps_length 0 (take i rows),
       total_take rows i row lt here,
       laid_length 0 rows ps measured,

@@ -5,11 +5,12 @@ use Rattle.std.specs.List.{AllByRecursion}
 use Rattle.std.specs.Vec.{vec_capacity}
 use Rattle.std.specs.HashMap.{spare, hash_map_len}
 use Rattle.bw_buffer.specs.Index.{index_at}
+use Rattle.bw_codec.specs.Version.{latest}
 use Rattle.bw_codec.specs.Grammar.{body_bytes, head_bytes, IsBlock}
 use Rattle.bw_codec.specs.Reading.{Found, many_at, block_at}
 use Rattle.bw_codec.specs.declared.block.Block.{Block}
 use Rattle.bw_buffer.specs.Filling.{Filling}
-use Rattle.bw_buffer.specs.Joining.{joins}
+use Rattle.bw_buffer.specs.Joining.{last_delta}
 use Rattle.bw_buffer.specs.Rows.{Parts, parts, pieces_length, laid, AreRows}
 use Rattle.bw_buffer.specs.declared.buffer.Buffer.TheInside.{Inside}
 
@@ -25,7 +26,7 @@ body_of a = laid 0 a.rows.items (parts_of a)
 
 -- the blocks that a frame's body spells
 unfoldable pub blocks_in : ℕ → List ℕ → List Block
-blocks_in count body = first_of (many_at (block_at 32) count body)
+blocks_in count body = first_of (many_at (block_at latest 32) count body)
 
 abbrev pub blocks_of : Inside → List Block
 blocks_of a = blocks_in (length a.rows.items) (body_of a)
@@ -40,11 +41,11 @@ pub record Holds (a : Inside) (blocks : List Block) : Type 0 where
   pub cut : pieces_length a.pieces.items ≡ length a.arena.items
   pub size : a.size ≡ 20 + length (body_bytes blocks)
   pub lawful : AllByRecursion (IsBlock 32) blocks
-  -- the map tells which block a Delta joins
-  pub told : (p : ℕ) → index_at a.deltas p ≡ joins p blocks
+  -- the map tells the last block of each page, where that is a Delta
+  pub told : (p : ℕ) → index_at a.deltas p ≡ last_delta p blocks
   pub numbered : 1 ≤ a.frame
   pub fits : a.size ≤ a.limit
-  pub limited : (16384 ≤ a.limit) × (a.limit ≤ 65536)
+  pub limited : (65536 ≤ a.limit) × (a.limit ≤ 262144)
   -- once sealed, the bytes are those of the frame
   pub sealed : a.is_sealed ≡ true → a.bytes.items ≡ head_bytes a.frame (length (body_bytes blocks)) (length blocks) ++ body_bytes blocks
   -- room for all that may come: no block has fewer than eight bytes, and no piece fewer than three

@@ -10,7 +10,8 @@ ghost use Rattle.bw_codec.specs.declared.block.Block.TheVariants.{Delta, Base};
 ghost use Rattle.std.specs.HashMap.{spare, hash_map_len};
 ghost use Rattle.bw_buffer.specs.Index.{index_at};
 ghost use Rattle.bw_buffer.specs.Filling.{frame_of, size_of, with_all, place_at, IsLawfulFrame, SpellsBase};
-ghost use Rattle.bw_buffer.specs.Joining.{joins, added, index_for, is_delta};
+ghost use Rattle.bw_buffer.specs.Joining.{joins, joins_of, open_records, takes, added, index_for, is_delta};
+ghost use Rattle.bw_buffer.specs.Counting.{grown, records_with};
 ghost use Rattle.bw_buffer.specs.Marks.{mark_of, is_closed_by};
 
 use crate::fault::PutError;
@@ -18,7 +19,7 @@ use crate::index::{Index, forget, forget_all, look, note};
 use crate::layout::{copy_in, lay_out};
 use crate::mark::Mark;
 use crate::rows::{DELTA_HEAD, MIN_PIECE, Piece, Row};
-use bw_codec::limits::{HEAD_LEN, MIN_BLOCK};
+use bw_codec::limits::{HEAD_LEN, MAX_OPS, MIN_BLOCK};
 use bw_codec::{Block, Ops, Place, Record, block_length, ops_length, write_block, write_ops};
 use std::alloc::{AllocError, Global};
 use std::marker::Model;
@@ -76,12 +77,12 @@ impl Model for Buffer {
 }
 
 impl Buffer {
-    /// An empty buffer for the frame of this number, from 1, of at most `limit` bytes, 16,384 to
-    /// 65,536. The room for all of them is reserved here, so that a buffer never grows again; a
+    /// An empty buffer for the frame of this number, from 1, of at most `limit` bytes, 65,536 to
+    /// 262,144. The room for all of them is reserved here, so that a buffer never grows again; a
     /// refusal of it is the only error.
     pub fn new(alloc: Global, frame: u64, limit: u32) -> Result<Buffer, AllocError>
         requires numbered { 1 ≤ frame }
-        requires limit { (16384 ≤ limit) × (limit ≤ 65536) }
+        requires limit { (65536 ≤ limit) × (limit ≤ 262144) }
         ensures { IfOk result (λ b. b
             ≡ record { frame = frame; limit = limit; blocks = []; is_sealed = false }) }
     {
@@ -124,8 +125,9 @@ impl Buffer {
     }
 
     /// Adds all the blocks, one or more that are lawful for 32 pairs a page, or none, and answers the
-    /// place of the first. A Delta joins the last block of its page where that is a Delta: its back
-    /// place is not used, and its place is that of the block. `Sealed` after the seal, else `NoRoom`
+    /// place of the first. A Delta joins the last block of its page where that is a Delta and the
+    /// records of both are at most 65,535: its back place is not used, and its place is that of the
+    /// block. `Sealed` after the seal, else `NoRoom`
     /// where the frame would be longer than the limit. No memory is taken. Time is linear in the
     /// bytes of these blocks, and in the square of their number, whatever stands in the buffer.
     pub fn put_all(&mut self, blocks: &[Block]) -> Result<Place, PutError>
@@ -231,8 +233,8 @@ impl Buffer {
     {
         let length = block_length(block);
         match block {
-            Block::Delta { page, .. } => {
-                if self.joins_behind(others, *page) {
+            Block::Delta { page, ops, .. } => {
+                if self.joins_behind(others, *page, ops.as_slice().len()) {
                     length - DELTA_HEAD as usize
                 } else {
                     length
@@ -243,15 +245,53 @@ impl Buffer {
         }
     }
 
-    // Whether a Delta of a page joins a block, behind these others.
-    fn joins_behind(&self, others: &[Block], page: u32) -> bool
-        ensures { result ≡ is_some (joins page (added self.now.blocks others.now)) }
+    // Whether a Delta of so many records of a page joins a block, behind these others.
+    fn joins_behind(&self, others: &[Block], page: u32, records: usize) -> bool
+        ensures { result ≡ takes records (open_records page (added self.now.blocks others.now)) }
     {
-        let mut joins = self.joins(page).is_some();
-        for block in others {
-            joins = joins_after(page, block, joins);
+        match self.records_behind(others, page) {
+            Some(was) => have_room(was, records),
+            None => false,
         }
-        joins
+    }
+
+    // How many records the last block of a page has behind these others, where that is a Delta.
+    fn records_behind(&self, others: &[Block], page: u32) -> Option<usize>
+        ensures { result ≡ open_records page (added self.now.blocks others.now) }
+    {
+        let mut records = self.records(page);
+        for block in others {
+            records = records_with(page, block, records);
+        }
+        records
+    }
+
+    /// How many records the last block of a page has, where that is a Delta: at most 65,535, and
+    /// with so many none joins it. No memory is taken. Time is that of a look-up, however many blocks
+    /// there are.
+    pub fn records(&self, page: u32) -> Option<usize>
+        ensures { result ≡ open_records page self.now.blocks }
+    {
+        match look(&self.deltas, page) {
+            Some(at) => Some(self.rows[at as usize].ops as usize),
+            None => None,
+        }
+    }
+
+    // The index of the block that a Delta of so many records of a page joins.
+    fn joining(&self, page: u32, records: usize) -> Option<u32>
+        ensures { result ≡ joins_of records page self.now.blocks }
+    {
+        match look(&self.deltas, page) {
+            Some(at) => {
+                if have_room(self.rows[at as usize].ops as usize, records) {
+                    Some(at)
+                } else {
+                    None
+                }
+            }
+            None => None,
+        }
     }
 
     // Where a block goes.
@@ -259,10 +299,12 @@ impl Buffer {
         ensures { result ≡ index_for self.now.blocks block.now }
     {
         match block {
-            Block::Delta { page, .. } => match self.joins(*page) {
-                Some(place) => place.index,
-                None => self.count(),
-            },
+            Block::Delta { page, ops, .. } => {
+                match self.joining(*page, ops.as_slice().len()) {
+                    Some(at) => at,
+                    None => self.count(),
+                }
+            }
             Block::Base(_) => self.count(),
             Block::Split { .. } => self.count(),
         }
@@ -307,7 +349,7 @@ impl Buffer {
             ≤ self.old.limit }
         ensures { self.new ≡ with_all self.old (Delta page back.now ops.now ∷ []) }
     {
-        match look(&self.deltas, page) {
+        match self.joining(page, ops.as_slice().len()) {
             Some(at) => self.join(page, at, back, ops.as_slice()),
             None => self.put_new(page, back, ops.as_slice()),
         }
@@ -317,7 +359,7 @@ impl Buffer {
     fn join(&mut self, page: u32, at: u32, back: &Place, ops: &[Record])
         requires lawful { IsBlock 32 (Delta page back.now ops.now) }
         requires unsealed { self.old.is_sealed ≡ false }
-        requires joins { joins page self.old.blocks ≡ Some at }
+        requires joins { joins_of (length ops.now) page self.old.blocks ≡ Some at }
         requires fits { size_of (with_all self.old (Delta page back.now ops.now ∷ []))
             ≤ self.old.limit }
         ensures { self.new ≡ with_all self.old (Delta page back.now ops.now ∷ []) }
@@ -341,7 +383,7 @@ impl Buffer {
     fn put_new(&mut self, page: u32, back: &Place, ops: &[Record])
         requires lawful { IsBlock 32 (Delta page back.now ops.now) }
         requires unsealed { self.old.is_sealed ≡ false }
-        requires none { joins page self.old.blocks ≡ None }
+        requires none { joins_of (length ops.now) page self.old.blocks ≡ None }
         requires fits { size_of self.old + length (block_bytes (Delta page back.now ops.now))
             ≤ self.old.limit }
         ensures { self.new ≡ with_all self.old (Delta page back.now ops.now ∷ []) }
@@ -360,12 +402,12 @@ impl Buffer {
         self.size += DELTA_HEAD + len;
     }
 
-    /// The place of the Delta that a Delta of this page joins, if there is one. No memory is taken.
-    /// Time is that of a look-up, however many blocks there are.
+    /// The place of the Delta that a Delta of this page and of one record joins, if there is one. No
+    /// memory is taken. Time is that of a look-up, however many blocks there are.
     pub fn joins(&self, page: u32) -> Option<Place>
         ensures { result ≡ option_map (place_at self.now) (joins page self.now.blocks) }
     {
-        match look(&self.deltas, page) {
+        match self.joining(page, 1) {
             Some(index) => Some(Place {
                 frame: self.frame,
                 index,
@@ -401,10 +443,10 @@ impl Buffer {
         self.is_sealed
     }
 
-    /// The most bytes that the frame may have, 16,384 to 65,536.
+    /// The most bytes that the frame may have, 65,536 to 262,144.
     pub fn limit(&self) -> u32
         ensures value { result ≡ self.now.limit }
-        ensures range { (16384 ≤ result) × (result ≤ 65536) }
+        ensures range { (65536 ≤ result) × (result ≤ 262144) }
     {
         // The read tells the proof what holds of the fields, here the range of the limit.
         let _ = &self.bytes;
@@ -469,18 +511,42 @@ impl Buffer {
     }
 }
 
-// Whether a Delta of a page joins a block behind this one, by whether it did before.
-fn joins_after(page: u32, block: &Block, before: bool) -> bool
-    ensures { result ≡ (if touches page block.now then is_delta block.now else before) }
+// How many records the last block of a page has behind this one, where that is a Delta, by how many
+// it had before.
+fn records_with(page: u32, block: &Block, before: Option<usize>) -> Option<usize>
+    ensures { result ≡ records_with page before block.now }
 {
     if !block.touches(page) {
         return before;
     }
     match block {
-        Block::Delta { .. } => true,
-        Block::Base(_) => false,
-        Block::Split { .. } => false,
+        Block::Delta { ops, .. } => Some(grown(before, ops.as_slice().len())),
+        Block::Base(_) => None,
+        Block::Split { .. } => None,
     }
+}
+
+// How many records a Delta has that so many join, or that begins with them.
+fn grown(before: Option<usize>, records: usize) -> usize
+    ensures { result ≡ grown before records }
+{
+    match before {
+        Some(was) => {
+            if have_room(was, records) {
+                was + records
+            } else {
+                records
+            }
+        }
+        None => records,
+    }
+}
+
+// Whether so many records fit beside those of a Delta.
+fn have_room(was: usize, records: usize) -> bool
+    ensures { result ≡ takes records (Some was) }
+{
+    records <= MAX_OPS && was <= MAX_OPS - records
 }
 
 // The row of a block that is one piece of so many bytes.

@@ -53,7 +53,7 @@ fn push_front(row: &Row, bytes: &mut Vec<u8>)
 fn push_row(row: &Row, spots: &mut Vec<u32>, bytes: &mut Vec<u8>)
     requires few { IsFewBy row.now.mark row.now.ops }
     requires room { HasRoom bytes.old (length (front_of row.now) + row.now.len) }
-    requires short { length bytes.old.items + (length (front_of row.now) + row.now.len) ≤ 65536 }
+    requires short { length bytes.old.items + (length (front_of row.now) + row.now.len) ≤ 262144 }
     requires spot { HasRoom spots.old 1 }
     ensures bytes { Adds bytes.old bytes.new (front_of row.now ++ zeros row.now.len) }
     ensures spots { Adds spots.old spots.new
@@ -77,7 +77,7 @@ fn put_piece(block: u32, piece: &[u8], spots: &mut Vec<u32>, bytes: &mut Vec<u8>
     requires spot { block < length spots.old.items }
     requires within { slice_index spots.old.items block + length piece.now
         ≤ length bytes.old.items }
-    requires short { length bytes.old.items ≤ 65536 }
+    requires short { length bytes.old.items ≤ 262144 }
     ensures bytes { bytes.new.items
         ≡ written (slice_index spots.old.items block) piece.now bytes.old.items }
     ensures spots { spots.new.items ≡ slice_set spots.old.items block
@@ -104,7 +104,7 @@ pub(crate) fn lay_out(
     requires within { AllByRecursion (λ q. q.block < length rows.now) pieces.now }
     requires cut { pieces_length pieces.now ≡ length arena.now }
     requires size { size ≡ 20 + length (laid 0 rows.now (parts pieces.now arena.now)) }
-    requires short { size ≤ 65536 }
+    requires short { size ≤ 262144 }
     requires few { length rows.now < 2 ^ 32 }
     requires room { size ≤ vec_capacity bytes.old }
     requires spots { length rows.now ≤ vec_capacity spots.old }

@@ -1,18 +1,18 @@
 -- Bases of pages as they stand leave every page, and may follow.
 
-use Rattle.std.proofs.Common.{inl, inr, ◌≡◌, ℕ, zero, suc, ◌+◌, ◌*◌, ◌^◌, ◌<◌, ◌≤◌, ◌==◌, nat_lt, Bool, true, false, if◌then◌else◌, Option, Some, None, List}
+use Rattle.std.proofs.Common.{inl, inr, ◌≡◌, ℕ, zero, suc, ◌+◌, ◌^◌, ◌<◌, ◌≤◌, ◌==◌, nat_lt, Bool, true, false, if◌then◌else◌, Option, Some, None, List}
 use Rattle.std.proofs.Common.{[], ◌∷◌, ◌++◌, length, slice_get, refl, sym, ap, subst, lit≤, lit<, ◌∙◌, append-nil, length-append, arith}
-use Rattle.std.specs.List.{fold, flat_map, AllByRecursion}
+use Rattle.std.specs.List.{fold, AllByRecursion}
 use Rattle.std.proofs.lemmas.Bool.{eqb-true, ltb-true}
 use Rattle.std.proofs.lemmas.Grind.{fold-append}
-use Rattle.bw_codec.specs.Grammar.{pair_bytes, block_bytes, IsPair, IsBase, IsFrame}
+use Rattle.bw_codec.specs.Grammar.{block_bytes, IsBase, IsFrame}
 use Rattle.bw_codec.specs.Touch.{touches}
 use Rattle.bw_codec.specs.declared.leaf.Leaf.{Leaf}
 use Rattle.bw_codec.specs.declared.block.Place.{Place}
 use Rattle.bw_codec.specs.declared.block.Block.{Block}
 use Rattle.bw_codec.specs.declared.block.Block.TheVariants.{Delta, Base, Split}
 use Rattle.bw_codec.specs.declared.block.Frame.{Frame}
-use Rattle.bw_codec.proofs.Lengths.{length-base}
+use Rattle.bw_codec.proofs.Sizing.{block_lengths}
 use Rattle.bw_page.specs.Leaves.{AreNumbered}
 use Rattle.bw_page.specs.Standing.{after, content, blocks_of, Stand}
 use Rattle.bw_log.specs.Places.{placed, all_placed, or_else, bad_link, AreLinked}
@@ -187,17 +187,6 @@ page_read c p leaf sound some inside is =
 
 -- ---- sizes
 
-length-pair : (p : List ℕ × List ℕ) → IsPair p → length (pair_bytes p) ≤ 194
-length-pair p is =
-    let key = is.0.1 in let value = is.1 in
-    omega (arith, length-append (length p.0 ∷ p.0) (length p.1 ∷ p.1))
-
-length-pairs : (ps : List (List ℕ × List ℕ)) → AllByRecursion IsPair ps → length (flat_map pair_bytes ps) ≤ 194 * length ps
-length-pairs [] are = omega arith
-length-pairs (p ∷ ps) are = omega (arith, length-append (pair_bytes p) (flat_map pair_bytes ps), length-pair p are.0, length-pairs ps are.1)
-
 -- a Base is far smaller than a frame
-pub largest_base : (m : ℕ) (leaf : Leaf) → m ≤ 32 → IsBase m leaf → length (block_bytes (Base leaf)) ≤ 6280
-largest_base m leaf few is =
-    let low = is.low in let count = is.count in
-    omega (arith, length-base leaf, length-pairs leaf.pairs is.pairs)
+pub largest_base : (m : ℕ) (leaf : Leaf) → m ≤ 32 → IsBase m leaf → length (block_bytes (Base leaf)) ≤ 20712
+largest_base m leaf few is = (let bound = block_lengths.base m leaf is in omega arith)

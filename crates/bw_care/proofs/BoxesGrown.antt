@@ -1,6 +1,6 @@
 -- Boxes that only grew, and the failure of one of them.
 
-use Rattle.std.proofs.Common.{inl, ◌≡◌, ℕ, zero, suc, ◌+◌, ◌<◌, Bool, true, false, if◌then◌else◌, Some, List, [], ◌∷◌}
+use Rattle.std.proofs.Common.{inl, ◌≡◌, ℕ, zero, suc, ◌+◌, ◌<◌, ◌≤◌, ◌&&◌, not, nat_lt, Bool, true, false, if◌then◌else◌, Option, Some, None, Ok, List, [], ◌∷◌}
 use Rattle.std.proofs.Common.{◌++◌, length, map, slice_get, slice_set, refl, sym, ap, subst, ◌∙◌, append_assoc, append-nil, length-append, arith}
 use Rattle.bw_codec.specs.Grammar.{frame_bytes, header_bytes}
 use Rattle.bw_codec.specs.declared.block.Frame.{Frame}
@@ -8,8 +8,10 @@ use Rattle.bw_device.specs.Holding.{Holding, appended, failed_once}
 use Rattle.bw_log.specs.Contents.{Contents, image, boxes, roster, counted_in}
 use Rattle.std.proofs.lemmas.List.{map-append}
 use Rattle.bw_log.specs.Reads.{FailedRead}
-use Rattle.bw_log.specs.Appends.{header_of, begun, begun_with, with_last, wants_segment, roomy, Appended, Rose}
-use Rattle.bw_care.specs.Moving.{IsLonger, AreLonger, KeepsOlder, DeviceFailed}
+use Rattle.bw_log.specs.Appends.{header_of, begun, begun_with, with_last, last_of, has_room, wants_segment, is_spent, refusal, roomy, Answers, Appended, Rose}
+use Rattle.bw_log.specs.declared.fault.LogFault.{LogFault}
+use Rattle.bw_log.specs.declared.fault.LogFault.TheVariants.{NoSegment, Failed, Spent}
+use Rattle.bw_care.specs.Moving.{IsLonger, AreLonger, KeepsOlder, KeepsNewest, DeviceFailed}
 
 -- ---- only bytes were added
 
@@ -126,6 +128,43 @@ appended_older old x new a =
     record { many = omega (arith, with_last_long change live); same = λ i inside. with_last_at change live i inside } in
     older_all old.live live new.live (older_roomy old (wants_segment old len)) (subst (KeepsOlder live) (sym a.live) last)
 
+-- ---- the newest live segment, where it takes no frames
+
+answered : (o : Option LogFault) (x : Unit {0}) → Answers o (Ok x) → o ≡ None
+answered None x a = refl
+answered (Some fault) x a = absurd cc
+
+enough_by : (failed wants : Bool) (spares : List Holding) (rest : Option LogFault)
+    → (if failed then Some Failed else if wants && nat_lt (length spares) 1 then Some NoSegment else rest) ≡ None → wants ≡ true → 1 ≤ length spares
+enough_by true wants spares rest e is = absurd cc
+enough_by false true [] rest e is = absurd cc
+enough_by false true (s ∷ ss) rest e is = omega arith
+enough_by false false spares rest e is = absurd cc
+
+begun_at : (c : Contents) (spares new : List Holding) (change : Holding → Holding) → 1 ≤ length spares → new ≡ with_last change (begun_with c spares).live
+    → (length c.live < length new) × ((i : ℕ) → i < length c.live → slice_get new i ≡ slice_get c.live i)
+begun_at c [] new change some is = absurd (omega arith)
+begun_at c (s ∷ ss) new change some is =
+    let first = appended s (header_bytes (header_of c)) in
+    let live = c.live ++ first ∷ [] in
+    let long = length-append c.live (first ∷ []) in (
+      omega (arith, long, ap (λ (l : List Holding). length l) is, with_last_long change live),
+      λ i inside. ap (λ (l : List Holding). slice_get l i) is ∙ with_last_at change live i (omega (arith, long)) ∙ get_front c.live (first ∷ []) i inside,
+    )
+
+pub keeps_newest : (old : Contents) (x : Frame) (new : Contents) (u : Unit {0}) → Appended old x new
+    → Answers (refusal old (length (frame_bytes x)) true) (Ok u) → KeepsNewest old new 1
+keeps_newest old x new u a answers =
+    let len = length (frame_bytes x) in
+    let change : Holding → Holding = λ h. appended h (frame_bytes x) in
+    let wants : old.is_open ≡ false → wants_segment old len ≡ true = λ shut. ap (λ (t : Bool). not (t && has_room len (last_of old.live))) shut in
+    let told = answered (refusal old len true) u answers in
+    let rest : Option LogFault = if is_spent old len then Some Spent else None in
+    let at : old.is_open ≡ false → (length old.live < length new.live) × ((i : ℕ) → i < length old.live → slice_get new.live i ≡ slice_get old.live i) =
+    (λ shut. begun_at old old.spares new.live change (enough_by old.is_failed (wants_segment old len) old.spares rest told (wants shut))
+    (a.live ∙ ap (λ (t : Bool). with_last change (if t then begun old else old).live) (wants shut))) in
+    record { closed = λ shut none. absurd (omega arith); begun = λ shut some. (at shut).0; all = λ shut i inside. (at shut).1 i inside }
+
 -- ---- a failure
 
 pub longer_at : (hs ks : List Holding) (i : ℕ) (k : Holding) → AreLonger hs ks → slice_get ks i ≡ Some k
@@ -191,6 +230,7 @@ read_failed reads lease old new r =
         m = refl;
         f = refl;
         number = refl;
+        old_to = refl;
         leases = map-append (λ (h : Holding). h.lease) live old.spares ∙ ap (λ (l : List ℕ). l ++ map (λ (h : Holding). h.lease) old.spares) leases
             ∙ sym (map-append (λ (h : Holding). h.lease) old.live old.spares);
         rooms = map-append (λ (h : Holding). h.room) live old.spares

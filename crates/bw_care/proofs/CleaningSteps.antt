@@ -1,7 +1,7 @@
 -- What the functions hand on.
 
 use Rattle.std.proofs.Common.{inl, inr, ◌≡◌, ◌⊎◌, ℕ, zero, suc, ◌+◌, ◌-◌, ◌<◌, ◌≤◌, ◌&&◌, nat_lt, Bool, true, false, if◌then◌else◌, Option, Some, None}
-use Rattle.std.proofs.Common.{Result, Err, List, [], ◌∷◌, ◌++◌, length, map, take, drop, get_or, refl, sym, ap, subst, ◌∙◌, append_assoc}
+use Rattle.std.proofs.Common.{Result, Ok, Err, IfOk, IfErr, take_all, List, [], ◌∷◌, ◌++◌, length, map, take, drop, get_or, refl, sym, ap, subst, ◌∙◌, append_assoc}
 use Rattle.std.proofs.Common.{arith}
 use Rattle.std.specs.List.{AllByRecursion}
 use Rattle.std.proofs.lemmas.Bool.{cases_lt}
@@ -24,12 +24,19 @@ use Rattle.bw_log.proofs.Entries.{all_mapped}
 use Rattle.bw_log.proofs.GivenUp.{all_behind}
 use Rattle.bw_log.proofs.Reread.{length-frame}
 use Rattle.bw_care.specs.Ahead.{PageRead}
-use Rattle.bw_care.specs.Cleaning.{is_old, old_from, old_pages, page_of}
-use Rattle.bw_care.specs.Moving.{AreBases, IsFull, IsReason, Moved, NextFrame, Refused, Stopped}
-use Rattle.bw_care.proofs.BasesLeave.{largest_base, may_follow, stand_more}
-use Rattle.bw_care.proofs.BoxesGrown.{read_failed}
-use Rattle.bw_care.proofs.OldPages.{old_step, old_are_pages}
+use Rattle.bw_care.specs.Cleaning.{is_old, old_from, oldest_last, page_of}
+use Rattle.bw_care.specs.Moving.{AreBases, IsFull, IsNextBehind, IsReason, MovedBehind, NextFrame, Refused, StoppedBehind}
+use Rattle.bw_care.proofs.BasesLeave.{largest_base, may_follow, next_range, stand_more}
+use Rattle.bw_care.proofs.BoxesGrown.{keeps_newest, read_failed}
+use Rattle.bw_care.proofs.OldPages.{oldest_below, old_step}
 use Rattle.bw_care.proofs.PagesMoved.{frame_lawful, moved_one, moved_none, moved_then, take_more, take_drop_all, drop_twice}
+
+-- each frame has a number from 1 on
+pub none_behind : (c : Contents) → IsSound c → IsNextBehind 0 c
+none_behind c sound = λ n is. (next_range c n sound is).0
+
+pub oldest_behind : (c : Contents) → IsSound c → IsNextBehind (oldest_last c c.live) c
+oldest_behind c sound = λ n is. oldest_below c n is (next_range c n sound is).0
 
 -- ---- the pages that are old
 
@@ -69,7 +76,7 @@ pub read_lawful : (c : Contents) (p : ℕ) (leaf : Leaf) → IsSound c → PageR
 read_lawful c p leaf sound r = block_wider c.m 32 (Base leaf) (let few = sound.holds.limits.1 in omega arith) r.lawful
 
 -- a page that does not fit is not the first
-not_first_by : (blocks : List Block) (pages : List ℕ) (i limit : ℕ) (leaf : Leaf) → map page_of blocks ≡ take i pages → i ≡ 0 → 16384 ≤ limit → IsBase 32 leaf
+not_first_by : (blocks : List Block) (pages : List ℕ) (i limit : ℕ) (leaf : Leaf) → map page_of blocks ≡ take i pages → i ≡ 0 → 65536 ≤ limit → IsBase 32 leaf
     → limit < 20 + length (body_bytes blocks) + length (block_bytes (Base leaf)) → ⊥
 not_first_by [] pages i limit leaf told none most is over =
     let small = largest_base 32 leaf (omega arith) is in
@@ -236,11 +243,15 @@ long_taken zero xs some inside = absurd (omega arith)
 long_taken (suc n) [] some inside = absurd (omega arith)
 long_taken (suc n) (x ∷ xs) some inside = omega arith
 
-pub moved_filled : (old now new : Contents) (x : Frame) (pages : List ℕ) (n : ℕ) → 0 < n → n ≤ length pages → IsSound old → IsSound new → now ≡ old
+pub moved_filled : (last : ℕ) (old now new : Contents) (x : Frame) (pages : List ℕ) (n : ℕ) (u : Unit {0}) → IsNextBehind last old
+    → Answers (refusal now (length (frame_bytes x)) true) (Ok u) → 0 < n → n ≤ length pages → IsSound old → IsSound new → now ≡ old
     → AllByRecursion (IsPage old) pages → 0 < length pages → AreBases old x.blocks (take n pages)
-    → old.next ≡ Some x.number → Appended now x new → IsFull old x (drop n pages) → IsSameLog now new → Moved old new (take n pages) (drop n pages) 1
-moved_filled old now new x pages n more inside sound after same are some bs number added full log =
-    moved_one old new x (take n pages) (drop n pages) full (long_taken n pages more inside) sound after (some_page old pages are some) bs number
+    → old.next ≡ Some x.number → Appended now x new → IsFull old x (drop n pages) → IsSameLog now new → MovedBehind last old new (take n pages) (drop n pages) 1
+moved_filled last old now new x pages n u behind answers more inside sound after same are some bs number added full log =
+    moved_one last old new x (take n pages) (drop n pages) behind
+    (keeps_newest old x new u (subst (λ (c : Contents). Appended c x new) same added)
+    (subst (λ (c : Contents). Answers (refusal c (length (frame_bytes x)) true) (Ok u)) same answers))
+    full (long_taken n pages more inside) sound after (some_page old pages are some) bs number
     (subst (λ (c : Contents). Appended c x new) same added) (subst (λ (c : Contents). IsSameLog c new) same log)
 
 -- ---- all frames
@@ -260,61 +271,87 @@ drop_long (x ∷ xs) (suc i) = let e = drop_long xs i in omega arith
 pub rest_is : (xs : List ℕ) (i : ℕ) → take (length xs - i) (drop i xs) ≡ drop i xs
 rest_is xs i = take_whole (drop i xs) (length xs - i) (sym (drop_long xs i))
 
-pub rest_pages : (old now : Contents) (pages : List ℕ) (i : ℕ) (ps : List ℕ) (n : ℕ) → pages ≡ old_pages old → Moved old now ps (drop i pages) n
+pub rest_pages : (last : ℕ) (old now : Contents) (pages : List ℕ) (i : ℕ) (ps : List ℕ) (n : ℕ) → AllByRecursion (IsPage old) pages
+    → MovedBehind last old now ps (drop i pages) n
     → AllByRecursion (IsPage now) (take (length pages - i) (drop i pages))
-rest_pages old now pages i ps n is moved =
+rest_pages last old now pages i ps n are moved =
     subst (AllByRecursion (IsPage now)) (sym (rest_is pages i))
     (all_behind (IsPage now) (take i pages) (drop i pages) (subst (AllByRecursion (IsPage now)) (take_drop_all pages i)
-    (all_mapped (IsPage old) (IsPage now) pages (λ p there. (there.0, let high = there.1 in let table = moved.table in omega arith))
-    (subst (AllByRecursion (IsPage old)) (sym is) (old_are_pages old)))))
+    (all_mapped (IsPage old) (IsPage now) pages (λ p there. (there.0, let high = there.1 in let table = moved.table in omega arith)) are)))
 
-pub moved_more : (old now new : Contents) (pages : List ℕ) (i k n : ℕ) → IsSound old → IsSound now → 2 ≤ length old.live → old.is_failed ≡ false
-    → Moved old now (take i pages) (drop i pages) n
-    → Moved now new (take k (take (length pages - i) (drop i pages))) (drop k (take (length pages - i) (drop i pages))) 1
-    → Moved old new (take (i + k) pages) (drop (i + k) pages) (n + 1)
-moved_more old now new pages i k n a b two works x y =
-    subst (λ (l : List ℕ). Moved old new l (drop (i + k) pages) (n + 1)) (take_more pages i k)
-    (subst (λ (l : List ℕ). Moved old new (take i pages ++ take k (drop i pages)) l (n + 1)) (drop_twice k i pages)
-    (moved_then old now new (take i pages) (take k (drop i pages)) (drop k (drop i pages)) n 1 a b two works
-    (subst (λ (l : List ℕ). Moved old now (take i pages) l n) (take_drop_all (drop i pages) k) x)
-    (subst (λ (l : List ℕ). Moved now new (take k l) (drop k l) 1) (rest_is pages i) y)))
+pub moved_more : (last : ℕ) (old now new : Contents) (pages : List ℕ) (i k n : ℕ) → MovedBehind last old now (take i pages) (drop i pages) n
+    → MovedBehind last now new (take k (take (length pages - i) (drop i pages))) (drop k (take (length pages - i) (drop i pages))) 1
+    → MovedBehind last old new (take (i + k) pages) (drop (i + k) pages) (n + 1)
+moved_more last old now new pages i k n x y =
+    subst (λ (l : List ℕ). MovedBehind last old new l (drop (i + k) pages) (n + 1)) (take_more pages i k)
+    (subst (λ (l : List ℕ). MovedBehind last old new (take i pages ++ take k (drop i pages)) l (n + 1)) (drop_twice k i pages)
+    (moved_then last old now new (take i pages) (take k (drop i pages)) (drop k (drop i pages)) n 1
+    (subst (λ (l : List ℕ). MovedBehind last old now (take i pages) l n) (take_drop_all (drop i pages) k) x)
+    (subst (λ (l : List ℕ). MovedBehind last now new (take k l) (drop k l) 1) (rest_is pages i) y)))
 
-pub stopped_at : (old now new : Contents) (pages : List ℕ) (i n : ℕ) (fault : LogFault) → pages ≡ old_pages old → Moved old now (take i pages) (drop i pages) n
-    → Refused fault now new → IsReason fault now (take (length pages - i) (drop i pages)) → Stopped old fault new
-stopped_at old now new pages i n fault is moved refused reason = record {
+drop_all : (xs : List ℕ) (i : ℕ) → length xs ≤ i → drop i xs ≡ []
+drop_all [] zero long = refl
+drop_all [] (suc i) long = refl
+drop_all (x ∷ xs) zero long = absurd (omega arith)
+drop_all (x ∷ xs) (suc i) long = drop_all xs i (omega arith)
+
+pub moved_end : (last : ℕ) (old now : Contents) (pages : List ℕ) (i n : ℕ) → length pages ≤ i → MovedBehind last old now (take i pages) (drop i pages) n
+    → MovedBehind last old now pages [] n
+moved_end last old now pages i n end x =
+    subst (λ (l : List ℕ). MovedBehind last old now l [] n) (take_all i pages end)
+    (subst (λ (l : List ℕ). MovedBehind last old now (take i pages) l n) (drop_all pages i end) x)
+
+-- as the pages of the log as it was
+pub moved_told : (last : ℕ) (old now new : Contents) (pages ps : List ℕ) (result : Result ℕ LogFault) → now ≡ old → pages ≡ ps → IsNextBehind last old
+    → ((k : ℕ) → IsNextBehind k now → IfOk result (λ frames. MovedBehind k now new pages [] frames))
+    → IfOk result (λ frames. MovedBehind last old new ps [] frames)
+moved_told last old now new pages ps result same is behind told =
+    subst (λ (l : List ℕ). IfOk result (λ frames. MovedBehind last old new l [] frames)) is
+    (subst (λ (c : Contents). (k : ℕ) → IsNextBehind k c → IfOk result (λ frames. MovedBehind k c new pages [] frames)) same told last behind)
+
+pub stopped_told : (last : ℕ) (old now new : Contents) (pages ps : List ℕ) (result : Result ℕ LogFault) → now ≡ old → pages ≡ ps → IsNextBehind last old
+    → ((k : ℕ) → IsNextBehind k now → IfErr result (λ fault. StoppedBehind k now pages fault new))
+    → IfErr result (λ fault. StoppedBehind last old ps fault new)
+stopped_told last old now new pages ps result same is behind told =
+    subst (λ (l : List ℕ). IfErr result (λ fault. StoppedBehind last old l fault new)) is
+    (subst (λ (c : Contents). (k : ℕ) → IsNextBehind k c → IfErr result (λ fault. StoppedBehind k c pages fault new)) same told last behind)
+
+pub stopped_at : (last : ℕ) (old now new : Contents) (pages : List ℕ) (i n : ℕ) (fault : LogFault) → MovedBehind last old now (take i pages) (drop i pages) n
+    → Refused fault now new → IsReason fault now (take (length pages - i) (drop i pages)) → StoppedBehind last old pages fault new
+stopped_at last old now new pages i n fault moved refused reason = record {
   then_log = now;
   frames = n;
   done = take i pages;
   rest = drop i pages;
-  pages = sym is ∙ take_drop_all pages i;
+  pages = take_drop_all pages i;
   moved = moved;
   refused = refused;
   reason = subst (IsReason fault now) (rest_is pages i) reason;
 }
 
-pub stopped_first : (old new : Contents) (fault : LogFault) → old.is_failed ≡ false → Refused fault old new → IsReason fault old (old_pages old)
-    → Stopped old fault new
-stopped_first old new fault works refused reason = record {
+pub stopped_first : (last : ℕ) (old new : Contents) (pages : List ℕ) (fault : LogFault) → IsNextBehind last old → old.is_failed ≡ false → Refused fault old new
+    → IsReason fault old pages → StoppedBehind last old pages fault new
+stopped_first last old new pages fault behind works refused reason = record {
   then_log = old;
   frames = 0;
   done = [];
-  rest = old_pages old;
+  rest = pages;
   pages = refl;
-  moved = moved_none old (old_pages old) works;
+  moved = moved_none last old pages behind works;
   refused = refused;
   reason = reason;
 }
 
 -- ---- what stands
 
-moved_stands : (old now : Contents) (ps rs : List ℕ) (n : ℕ) (leaves : List Leaf) → Moved old now ps rs n → Stand old.m (counted old) leaves
+moved_stands : (last : ℕ) (old now : Contents) (ps rs : List ℕ) (n : ℕ) (leaves : List Leaf) → MovedBehind last old now ps rs n → Stand old.m (counted old) leaves
     → Stand old.m (counted now) leaves
-moved_stands old now ps rs n leaves moved stand =
+moved_stands last old now ps rs n leaves moved stand =
     subst (λ (fs : List Frame). Stand old.m fs leaves) (sym moved.counts) (stand_more old.m (counted old) moved.written leaves stand moved.holds.bases)
 
-pub moved_stand : (old now : Contents) (ps rs : List ℕ) (n : ℕ) (leaves : List Leaf) → Moved old now ps rs n → Stand old.m (counted old) leaves
+pub moved_stand : (last : ℕ) (old now : Contents) (ps rs : List ℕ) (n : ℕ) (leaves : List Leaf) → MovedBehind last old now ps rs n → Stand old.m (counted old) leaves
     → Stand now.m (counted now) leaves
-moved_stand old now ps rs n leaves moved stand = subst (λ (m : ℕ). Stand m (counted now) leaves) (sym moved.m) (moved_stands old now ps rs n leaves moved stand)
+moved_stand last old now ps rs n leaves moved stand = subst (λ (m : ℕ). Stand m (counted now) leaves) (sym moved.m) (moved_stands last old now ps rs n leaves moved stand)
 
 same_counts : (old new : Contents) (fault : LogFault) → Refused fault old new → counted new ≡ counted old
 same_counts old new NoMemory refused = ap counted refused
@@ -325,15 +362,15 @@ same_counts old new Failed refused = absurd refused
 same_counts old new Spent refused = ap counted refused
 same_counts old new NoPage refused = absurd refused
 
-pub stopped_stands : (old new : Contents) (fault : LogFault) → Stopped old fault new → (leaves : List Leaf) → Stand old.m (counted old) leaves
+pub stopped_stands : (last : ℕ) (old new : Contents) (pages : List ℕ) (fault : LogFault) → StoppedBehind last old pages fault new → (leaves : List Leaf) → Stand old.m (counted old) leaves
     → Stand old.m (counted new) leaves
-stopped_stands old new fault s leaves stand =
+stopped_stands last old new pages fault s leaves stand =
     subst (λ (fs : List Frame). Stand old.m fs leaves) (sym (same_counts s.then_log new fault s.refused))
-    (moved_stands old s.then_log s.done s.rest s.frames leaves s.moved stand)
+    (moved_stands last old s.then_log s.done s.rest s.frames leaves s.moved stand)
 
-pub same_m : (old now : Contents) (fs : List Frame) (ps rs : List ℕ) (n : ℕ) (leaves : List Leaf) → Moved old now ps rs n → Stand now.m fs leaves
+pub same_m : (last : ℕ) (old now : Contents) (fs : List Frame) (ps rs : List ℕ) (n : ℕ) (leaves : List Leaf) → MovedBehind last old now ps rs n → Stand now.m fs leaves
     → Stand old.m fs leaves
-same_m old now fs ps rs n leaves moved stand = subst (λ (m : ℕ). Stand m fs leaves) moved.m stand
+same_m last old now fs ps rs n leaves moved stand = subst (λ (m : ℕ). Stand m fs leaves) moved.m stand
 
 -- ---- the buffer of one frame
 
@@ -362,12 +399,13 @@ pub follows_sent : (old now : Contents) (x : Filling) (pages : List ℕ) (n firs
 follows_sent old now x pages n first sound same are some s more inside next fits =
     follows_filled old now (frame_of x) pages n sound same are some s.holds more inside (next ∙ ap (λ (k : ℕ). Some k) (sym s.number)) (short_enough s fits)
 
-pub moved_sent : (old now new : Contents) (x : Filling) (pages : List ℕ) (n first : ℕ) → 0 < n → n ≤ length pages → IsSound old → IsSound new → now ≡ old
+pub moved_sent : (last : ℕ) (old now new : Contents) (x : Filling) (pages : List ℕ) (n first : ℕ) (u : Unit {0}) → IsNextBehind last old
+    → Answers (refusal now (length (frame_bytes (frame_of x))) true) (Ok u) → 0 < n → n ≤ length pages → IsSound old → IsSound new → now ≡ old
     → AllByRecursion (IsPage old) pages → 0 < length pages → Sends old pages n first x
     → old.next ≡ Some first → Appended now (frame_of x) new → IsFull old (frame_of x) (drop n pages) → IsSameLog now new
-    → Moved old new (take n pages) (drop n pages) 1
-moved_sent old now new x pages n first more inside sound after same are some s next added full log =
-    moved_filled old now new (frame_of x) pages n more inside sound after same are some s.holds (next ∙ ap (λ (k : ℕ). Some k) (sym s.number)) added full log
+    → MovedBehind last old new (take n pages) (drop n pages) 1
+moved_sent last old now new x pages n first u behind answers more inside sound after same are some s next added full log =
+    moved_filled last old now new (frame_of x) pages n u behind answers more inside sound after same are some s.holds (next ∙ ap (λ (k : ℕ). Some k) (sym s.number)) added full log
 
 -- the frame sent is the next one of these pages
 pub next_sent : (old : Contents) (filled sent : Filling) (pages : List ℕ) (n first : ℕ) → Sends old pages n first sent → 0 < n → n ≤ length pages

@@ -1,15 +1,15 @@
 -- The boxes of a log behind a cut of its newest segment, and behind an append that failed.
 
-use Rattle.std.proofs.Common.{inl, inr, ◌≡◌, ℕ, zero, suc, ◌+◌, ◌<◌, ◌≤◌, ◌==◌, nat_lt, Bool, true, false, if◌then◌else◌, Some, Err, List, [], ◌∷◌, ◌++◌}
+use Rattle.std.proofs.Common.{inl, inr, ◌≡◌, ◌⊎◌, ℕ, zero, suc, ◌+◌, ◌<◌, ◌≤◌, ◌==◌, nat_lt, Bool, true, false, if◌then◌else◌, Some, Err, List, [], ◌∷◌, ◌++◌}
 use Rattle.std.proofs.Common.{length, map, take, drop, refl, sym, ap, ◌∙◌, subst, arith, append_assoc, append-nil, length-append, take_all, take-append-drop}
 use Rattle.std.specs.Prelude.{IfSome}
 use Rattle.std.specs.List.{flat_map, AllByRecursion}
-use Rattle.std.proofs.lemmas.Bool.{cases_lt, lt-ltb}
+use Rattle.std.proofs.lemmas.Bool.{cases_lt, lt-ltb, true≢false}
 use Rattle.std.proofs.lemmas.List.{length-map, map-append}
 use Rattle.byteorder.specs.Endian.{little_number}
 use Rattle.bw_codec.specs.Bytes.{number_bytes}
-use Rattle.bw_codec.specs.Grammar.{agrees, segment_word, frame_bytes, header_bytes, is_header, IsHeader}
-use Rattle.bw_codec.specs.Reading.{header_in, heading_of}
+use Rattle.bw_codec.specs.Grammar.{agrees, segment_word, frame_bytes_in, header_bytes, is_header, IsHeader}
+use Rattle.bw_codec.specs.Reading.{version_in, header_in, heading_of}
 use Rattle.bw_codec.specs.declared.leaf.Leaf.{Leaf}
 use Rattle.bw_codec.specs.declared.block.Frame.{Frame}
 use Rattle.bw_codec.specs.declared.block.Header.{Header}
@@ -19,46 +19,47 @@ use Rattle.bw_codec.proofs.Heading.{length-header}
 use Rattle.bw_device.specs.Holding.{Holding}
 use Rattle.bw_page.specs.Standing.{Stand}
 use Rattle.bw_log.specs.Appends.{last_of}
-use Rattle.bw_log.specs.Contents.{Contents, Image, IsBounded, IsRoomy, IsLeft, AreTorn, IsImage, IsSound, boxes, image, counted, counted_in}
+use Rattle.bw_log.specs.Contents.{Contents, Image, limits_of, IsBounded, IsRoomy, IsLeft, AreTorn, IsImage, IsSound, boxes, image, counted, counted_in}
 use Rattle.bw_log.specs.Places.{all_placed, bad_link, first_number, AreLinked}
-use Rattle.bw_log.specs.Segments.{segment_frames, frames_of, next_of, AreFrom, AreLive, IsLive}
+use Rattle.bw_log.specs.Segments.{Limits, version_at, header_with, segment_frames, frames_of, next_of, AreFrom, AreLive, IsLive}
+use Rattle.bw_log.specs.Segments as log
 use Rattle.bw_log.proofs.Adding.{frames_last, live_last, next_is}
 use Rattle.bw_log.proofs.Cut.{live_cut}
 use Rattle.bw_log.proofs.GivenUp.{placed_more}
 use Rattle.bw_log.proofs.Links.{bad_link-append, neither}
-use Rattle.bw_log.proofs.Reread.{clean_is_live, header_is_clean}
+use Rattle.bw_log.proofs.Reread.{clean_is_new, header_is_clean, header_new, new_is_live}
 use Rattle.bw_care.specs.Laws.{AreSorted, IsFound, IsLoose, OwnCutsFound, OwnStopFound, cut_newest, frames_held, sorted_finding}
 use Rattle.bw_care.specs.Recovery.{frames_in, last_number, recovery}
 use Rattle.bw_care.specs.declared.fault.RecoverCause.TheVariants.{Empty}
 use Rattle.bw_care.proofs.OwnFound.{all_bounded, empty_boxes, frames_sorted, sorted_boxes, spares_loose}
 
 -- boxes that are segments and boxes without one, with these frames
-pub record SortsOut (m f : ℕ) (hs : List Holding) (frames : List Frame) : Type 0 where
+pub record SortsOut (z : Limits) (hs : List Holding) (frames : List Frame) : Type 0 where
   pub number : ℕ
   pub live : List Holding
   pub loose : List Holding
   pub is : hs ≡ live ++ loose
-  pub sorted : AreSorted m f number live loose
+  pub sorted : AreSorted z number live loose
   pub holds : frames_held live ≡ frames
 
-pub sorted_found : (m f : ℕ) (hs : List Holding) (frames : List Frame) (leaves : List Leaf) → SortsOut m f hs frames
-    → AreFrom (first_number frames) frames → AreLinked frames → Stand m frames leaves → IsFound hs frames leaves
-sorted_found m f hs frames leaves x numbered linked stand =
+pub sorted_found : (z : Limits) (hs : List Holding) (frames : List Frame) (leaves : List Leaf) → SortsOut z hs frames
+    → AreFrom (first_number frames) frames → AreLinked frames → Stand z.m frames leaves → IsFound hs frames leaves
+sorted_found z hs frames leaves x numbered linked stand =
     let same = sym x.holds in
     record {
       finding = sorted_finding x.live x.loose leaves;
-      found = ap recovery x.is ∙ sorted_boxes m f x.number x.live x.loose leaves x.sorted
+      found = ap recovery x.is ∙ sorted_boxes z x.number x.live x.loose leaves x.sorted
           (subst (λ (fs : List Frame). AreFrom (first_number fs) fs) same numbered) (subst AreLinked same linked)
-          (subst (λ (fs : List Frame). Stand m fs leaves) same stand);
+          (subst (λ (fs : List Frame). Stand z.m fs leaves) same stand);
       leaves_are = refl;
       last = ap last_number x.holds;
     }
 
-pub sorted_empty : (m f : ℕ) (hs : List Holding) (frames : List Frame) → SortsOut m f hs frames → frames ≡ []
+pub sorted_empty : (z : Limits) (hs : List Holding) (frames : List Frame) → SortsOut z hs frames → frames ≡ []
     → (recovery hs ≡ Err Empty) × (frames_in hs ≡ [])
-sorted_empty m f hs frames x none = (
-  ap recovery x.is ∙ empty_boxes m f x.number x.live x.loose x.sorted (x.holds ∙ none),
-  ap frames_in x.is ∙ frames_sorted m f x.number x.live x.loose x.sorted ∙ x.holds ∙ none,
+sorted_empty z hs frames x none = (
+  ap recovery x.is ∙ empty_boxes z x.number x.live x.loose x.sorted (x.holds ∙ none),
+  ap frames_in x.is ∙ frames_sorted z x.number x.live x.loose x.sorted ∙ x.holds ∙ none,
 )
 
 -- ---- a part of a header
@@ -76,21 +77,31 @@ part_by true true false d e x p q r = absurd cc
 part_by true false c d e x p q r = absurd cc
 part_by false b c d e x p q r = absurd cc
 
-part_is : (bytes : List ℕ) → agrees bytes segment_word ≡ true → 1 ≤ length bytes → length bytes < 24 → heading_of bytes ≡ heading.Part
+part_is : (bytes : List ℕ) → agrees bytes (segment_word (version_in bytes)) ≡ true → 1 ≤ length bytes → length bytes < 24 → heading_of bytes ≡ heading.Part
 unfolding heading_of
 part_is bytes agree some short =
-    part_by (agrees bytes segment_word) (nat_lt (length bytes) 24) (nat_lt 0 (length bytes)) (little_number 2 (drop 18 bytes) == 0)
+    part_by (agrees bytes (segment_word (version_in bytes))) (nat_lt (length bytes) 24) (nat_lt 0 (length bytes)) (little_number 2 (drop 18 bytes) == 0)
     (is_header (header_in bytes)) (header_in bytes) agree (lt-ltb (length bytes) 24 short) (lt-ltb 0 (length bytes) (omega arith))
 
-part_of : (h : Header) (bytes rest : List ℕ) (n : ℕ) → bytes ≡ header_bytes h ++ rest → 1 ≤ n → n < 24 → heading_of (take n bytes) ≡ heading.Part
-part_of h bytes rest n parts some short =
+-- bytes that agree with a word of the two agree with that of their version
+word_by : (bytes : List ℕ) (v : ℕ) (t : Bool) → agrees bytes (segment_word 1) ≡ t → (v ≡ 1) ⊎ (v ≡ 2) → agrees bytes (segment_word v) ≡ true
+    → agrees bytes (segment_word (if t then 1 else 2)) ≡ true
+word_by bytes v true is version agree = is
+word_by bytes v false is (inl old) agree =
+    absurd (true≢false (sym (ap (λ (k : ℕ). agrees bytes (segment_word k)) (sym old) ∙ agree) ∙ is))
+word_by bytes v false is (inr new) agree = ap (λ (k : ℕ). agrees bytes (segment_word k)) (sym new) ∙ agree
+
+part_of : (h : Header) (bytes rest : List ℕ) (n : ℕ) → (h.version ≡ 1) ⊎ (h.version ≡ 2) → bytes ≡ header_bytes h ++ rest → 1 ≤ n → n < 24
+    → heading_of (take n bytes) ≡ heading.Part
+part_of h bytes rest n version parts some short =
+    let word = segment_word h.version in
     let size = ap (λ (b : List ℕ). length b) parts in
     let long : n ≤ length bytes = omega (arith, size, length-header h, length-append (header_bytes h) rest) in
     let len = take_length n bytes long in
     let after = number_bytes 8 h.number ++ (number_bytes 2 h.m ++ (number_bytes 2 0 ++ number_bytes 4 h.f)) in
-    part_is (take n bytes)
-    (ap (λ (b : List ℕ). agrees (take n b) segment_word) (parts ∙ append_assoc segment_word after rest) ∙ agrees_cut segment_word (after ++ rest) n)
-    (omega arith) (omega arith)
+    let agree : agrees (take n bytes) word ≡ true =
+    ap (λ (b : List ℕ). agrees (take n b) word) (parts ∙ append_assoc word after rest) ∙ agrees_cut word (after ++ rest) n in
+    part_is (take n bytes) (word_by (take n bytes) h.version (agrees (take n bytes) (segment_word 1)) refl version agree) (omega arith) (omega arith)
 
 no_frames_by : (bytes : List ℕ) → heading_of bytes ≡ heading.Part → segment_frames bytes ≡ []
 unfolding segment_frames
@@ -125,27 +136,29 @@ linked_taken (suc k) (x ∷ xs) linked =
 
 -- ---- the newest segment is cut
 
-record Parted (m f number n : ℕ) (hs : List Holding) : Type 0 where
+record Parted (z : Limits) (number n : ℕ) (hs : List Holding) : Type 0 where
   live : List Holding
   loose : List Holding
   is : cut_newest n hs ≡ live ++ loose
-  segments : AreLive m f number (map (λ h. h.bytes) live)
-  others : AllByRecursion (IsLoose f) loose
+  segments : AreLive z number (map (λ h. h.bytes) live)
+  others : AllByRecursion (IsLoose z.f) loose
   holds : frames_held live ≡ frames_held (cut_newest n hs)
 
-loose_by : (m f number n : ℕ) (h : Holding) → IsLive m f number h.bytes → (n ≡ 0 → IsRoomy f h) → n < 24
-    → IsLoose f (record h { bytes = take n h.bytes }) × (segment_frames (take n h.bytes) ≡ [])
-loose_by m f number zero h live roomy short = (inl (refl, (roomy refl).0), no_bytes_no_frames)
-loose_by m f number (suc n) h live roomy short =
-    let part = part_of (record { number = number; m = m; f = f }) h.bytes (flat_map frame_bytes (segment_frames h.bytes) ++ live.cut) (suc n) live.whole.parts
+loose_by : (z : Limits) (number n : ℕ) (h : Holding) → IsLive z number h.bytes → (n ≡ 0 → IsRoomy z.f h) → n < 24
+    → IsLoose z.f (record h { bytes = take n h.bytes }) × (segment_frames (take n h.bytes) ≡ [])
+loose_by z number zero h live roomy short = (inl (refl, (roomy refl).0), no_bytes_no_frames)
+loose_by z number (suc n) h live roomy short =
+    let part = part_of (log.header_in z number) h.bytes
+    (flat_map (frame_bytes_in (version_at z.old_to number)) (segment_frames h.bytes) ++ live.cut) (suc n) live.whole.lawful.version live.whole.parts
     (omega arith) short in
     (inr part, no_frames_by (take (suc n) h.bytes) part)
 
-short_frames : (m f number n : ℕ) (h : Holding) → IsLive m f number h.bytes → n < 24 → segment_frames (take n h.bytes) ≡ []
-short_frames m f number zero h live short = no_bytes_no_frames
-short_frames m f number (suc n) h live short =
-    no_frames_by (take (suc n) h.bytes) (part_of (record { number = number; m = m; f = f }) h.bytes
-    (flat_map frame_bytes (segment_frames h.bytes) ++ live.cut) (suc n) live.whole.parts (omega arith) short)
+short_frames : (z : Limits) (number n : ℕ) (h : Holding) → IsLive z number h.bytes → n < 24 → segment_frames (take n h.bytes) ≡ []
+short_frames z number zero h live short = no_bytes_no_frames
+short_frames z number (suc n) h live short =
+    no_frames_by (take (suc n) h.bytes) (part_of (log.header_in z number) h.bytes
+    (flat_map (frame_bytes_in (version_at z.old_to number)) (segment_frames h.bytes) ++ live.cut) (suc n) live.whole.lawful.version live.whole.parts
+    (omega arith) short)
 
 -- the frames of one segment are those of the row of it alone
 one_segment : (h : Holding) → frames_held (h ∷ []) ≡ segment_frames h.bytes
@@ -157,19 +170,19 @@ take_joined (x ∷ xs) ys k =
     let one : length (x ∷ xs) + k ≡ suc (length xs + k) = omega arith in
     ap (λ (n : ℕ). take n (x ∷ (xs ++ ys))) one ∙ ap (λ (l : List Frame). x ∷ l) (take_joined xs ys k)
 
-parted_by : (m f number n : ℕ) (hs : List Holding) → AreLive m f number (map (λ h. h.bytes) hs) → (n ≡ 0 → IfSome (last_of hs) (IsRoomy f))
-    → Parted m f number n hs
-parted_by m f number n [] live roomy =
+parted_by : (z : Limits) (number n : ℕ) (hs : List Holding) → AreLive z number (map (λ h. h.bytes) hs) → (n ≡ 0 → IfSome (last_of hs) (IsRoomy z.f))
+    → Parted z number n hs
+parted_by z number n [] live roomy =
     record { live = []; loose = []; is = refl; segments = tt; others = tt; holds = refl }
-parted_by m f number n (h ∷ []) live roomy =
+parted_by z number n (h ∷ []) live roomy =
     let cut : Holding = record h { bytes = take n h.bytes } in
     elim (cases_lt n 24) [
       | inl short ↦ (
-          let x = loose_by m f number n h live.0 roomy short in
+          let x = loose_by z number n h live.0 roomy short in
           let none : frames_held (cut ∷ []) ≡ [] = one_segment cut ∙ x.1 in
           record { live = []; loose = cut ∷ []; is = refl; segments = tt; others = (x.0, tt); holds = sym none })
       | inr more ↦ (
-          let x = live_cut m f number h.bytes n live.0 more in
+          let x = live_cut z number h.bytes n live.0 more in
           record {
             live = cut ∷ [];
             loose = [];
@@ -179,8 +192,8 @@ parted_by m f number n (h ∷ []) live roomy =
             holds = refl;
           })
     ]
-parted_by m f number n (h ∷ k ∷ hs) live roomy =
-    let x = parted_by m f (number + 1) n (k ∷ hs) live.1 roomy in
+parted_by z number n (h ∷ k ∷ hs) live roomy =
+    let x = parted_by z (number + 1) n (k ∷ hs) live.1 roomy in
     record {
       live = h ∷ x.live;
       loose = x.loose;
@@ -205,10 +218,10 @@ all_joined : {X : Type 0} (P : X → Type 0) (xs ys : List X) → AllByRecursion
 all_joined P [] ys a b = b
 all_joined P (x ∷ xs) ys a b = (a.0, all_joined P xs ys a.1 b)
 
-cut_sorts : (c : Contents) (n : ℕ) → IsSound c → c.is_failed ≡ false → (n ≡ 0 → IfSome (last_of c.live) (IsRoomy c.f))
-    → SortsOut c.m c.f (cut_newest n c.live ++ c.spares) (frames_held (cut_newest n c.live))
+cut_sorts : (c : Contents) (n : ℕ) (sound : IsSound c) → c.is_failed ≡ false → (n ≡ 0 → IfSome (last_of c.live) (IsRoomy c.f))
+    → SortsOut (limits_of (image c) sound.holds.live.0) (cut_newest n c.live ++ c.spares) (frames_held (cut_newest n c.live))
 cut_sorts c n sound works roomy =
-    let x = parted_by c.m c.f c.number n c.live sound.holds.live roomy in
+    let x = parted_by (limits_of (image c) sound.holds.live.0) c.number n c.live sound.holds.live.1 roomy in
     let is : cut_newest n c.live ++ c.spares ≡ x.live ++ (x.loose ++ c.spares) =
     ap (λ (l : List Holding). l ++ c.spares) x.is ∙ append_assoc x.live x.loose c.spares in
     let few = sound.few in
@@ -220,6 +233,7 @@ cut_sorts c n sound works roomy =
       is = is;
       sorted = record {
         segments = x.segments;
+        least = sound.holds.limits.2;
         others = all_joined (IsLoose c.f) x.loose c.spares x.others (spares_loose c.f c.spares (sound.empty works));
         few = omega (arith, few, long, cut_long n c.live, length-append x.live x.loose, length-append x.loose c.spares);
         bounds = subst (AllByRecursion IsBounded) is
@@ -228,17 +242,17 @@ cut_sorts c n sound works roomy =
       holds = x.holds;
     }
 
-held_taken : (n : ℕ) (hs : List Holding) (m f number : ℕ) → AreLive m f number (map (λ h. h.bytes) hs)
+held_taken : (n : ℕ) (hs : List Holding) (z : Limits) (number : ℕ) → AreLive z number (map (λ h. h.bytes) hs)
     → (count : ℕ) × (frames_held (cut_newest n hs) ≡ take count (frames_held hs))
-held_taken n [] m f number live = (0, refl)
-held_taken n (h ∷ []) m f number live =
+held_taken n [] z number live = (0, refl)
+held_taken n (h ∷ []) z number live =
     let cut : Holding = record h { bytes = take n h.bytes } in
     elim (cases_lt n 24) [
-      | inl short ↦ (0, one_segment cut ∙ short_frames m f number n h live.0 short)
-      | inr more ↦ (let x = live_cut m f number h.bytes n live.0 more in (x.0, one_segment cut ∙ x.1 ∙ ap (take x.0) (sym (one_segment h))))
+      | inl short ↦ (0, one_segment cut ∙ short_frames z number n h live.0 short)
+      | inr more ↦ (let x = live_cut z number h.bytes n live.0 more in (x.0, one_segment cut ∙ x.1 ∙ ap (take x.0) (sym (one_segment h))))
     ]
-held_taken n (h ∷ k ∷ hs) m f number live =
-    let x = held_taken n (k ∷ hs) m f (number + 1) live.1 in (
+held_taken n (h ∷ k ∷ hs) z number live =
+    let x = held_taken n (k ∷ hs) z (number + 1) live.1 in (
       length (segment_frames h.bytes) + x.0,
       ap (λ (fs : List Frame). segment_frames h.bytes ++ fs) x.1
           ∙ sym (take_joined (segment_frames h.bytes) (frames_held (k ∷ hs)) x.0),
@@ -247,17 +261,17 @@ held_taken n (h ∷ k ∷ hs) m f number live =
 -- what is left of the counted frames
 pub cut_taken : (c : Contents) (n : ℕ) → IsSound c → c.is_failed ≡ false → (count : ℕ) × (frames_held (cut_newest n c.live) ≡ take count (counted c))
 cut_taken c n sound works =
-    (let x = held_taken n c.live c.m c.f c.number sound.holds.live in (x.0, x.1 ∙ ap (take x.0) (sym (sound.holds.every works))))
+    (let x = held_taken n c.live (limits_of (image c) sound.holds.live.0) c.number sound.holds.live.1 in (x.0, x.1 ∙ ap (take x.0) (sym (sound.holds.every works))))
 
 pub cut_boxes : OwnCutsFound
 cut_boxes c n sound works roomy =
     let x = cut_taken c n sound works in
     let sorts = cut_sorts c n sound works roomy in
     let frames = x.1 in (
-      λ leaves stand. sorted_found c.m c.f (cut_newest n c.live ++ c.spares) (frames_held (cut_newest n c.live)) leaves sorts
+      λ leaves stand. sorted_found (limits_of (image c) sound.holds.live.0) (cut_newest n c.live ++ c.spares) (frames_held (cut_newest n c.live)) leaves sorts
           (subst (λ (fs : List Frame). AreFrom (first_number fs) fs) (sym frames) (numbered_taken x.0 (counted c) sound.holds.numbered))
           (subst AreLinked (sym frames) (linked_taken x.0 (counted c) sound.holds.linked)) stand,
-      λ none. sorted_empty c.m c.f (cut_newest n c.live ++ c.spares) (frames_held (cut_newest n c.live)) sorts none,
+      λ none. sorted_empty (limits_of (image c) sound.holds.live.0) (cut_newest n c.live ++ c.spares) (frames_held (cut_newest n c.live)) sorts none,
     )
 
 -- ---- an append failed
@@ -280,34 +294,35 @@ left_numbered i fs h (inr more) is = (
 )
 
 -- the spares, the first of which may have a beginning of the next header, maybe all of it
-torn_sorts : (c : Contents) (ss : List Holding) → IsImage (image c) → c.spares ≡ ss → AreTorn (c.number + length c.live) c.m c.f ss
+torn_sorts : (c : Contents) (ss : List Holding) (h : IsImage (image c)) → c.spares ≡ ss → AreTorn (c.number + length c.live) c.m c.f ss
     → AllByRecursion (IsRoomy c.f) ss → length c.live + length ss ≤ 4096 → AllByRecursion IsBounded (c.live ++ ss)
-    → SortsOut c.m c.f (c.live ++ ss) (frames_held c.live)
+    → SortsOut (limits_of (image c) h.live.0) (c.live ++ ss) (frames_held c.live)
 torn_sorts c [] h is torn roomy few bounds =
-    record { number = c.number; live = c.live; loose = []; is = refl; sorted = record { segments = h.live; others = tt; few = few; bounds = bounds }; holds = refl }
+    record { number = c.number; live = c.live; loose = []; is = refl; sorted = record { segments = h.live.1; least = h.limits.2; others = tt; few = few; bounds = bounds }; holds = refl }
 torn_sorts c (s ∷ ss) h is (inl bare, empty) roomy few bounds =
     record {
       number = c.number;
       live = c.live;
       loose = s ∷ ss;
       is = refl;
-      sorted = record { segments = h.live; others = (inl (bare, roomy.0.0), spares_loose c.f ss empty); few = few; bounds = bounds };
+      sorted = record { segments = h.live.1; least = h.limits.2; others = (inl (bare, roomy.0.0), spares_loose c.f ss empty); few = few; bounds = bounds };
       holds = refl;
     }
 torn_sorts c (s ∷ ss) h is (inr (small, kept, begins), empty) roomy few bounds =
-    let head : Header = record { number = c.number + length c.live; m = c.m; f = c.f } in
+    let z = limits_of (image c) h.live.0 in
+    let head = header_with (c.number + length c.live) c.m c.f in
     let size = length-header head in
     elim (cases_lt kept 24) [
       | inl short ↦ elim (cases_lt 0 kept) [
         | inl some ↦ (
             let part : heading_of s.bytes ≡ heading.Part =
-            ap heading_of begins ∙ part_of head (header_bytes head) [] kept (sym (append-nil (header_bytes head))) some short in
+            ap heading_of begins ∙ part_of head (header_bytes head) [] kept (inr refl) (sym (append-nil (header_bytes head))) some short in
             record {
               number = c.number;
               live = c.live;
               loose = s ∷ ss;
               is = refl;
-              sorted = record { segments = h.live; others = (inr part, spares_loose c.f ss empty); few = few; bounds = bounds };
+              sorted = record { segments = h.live.1; least = h.limits.2; others = (inr part, spares_loose c.f ss empty); few = few; bounds = bounds };
               holds = refl;
             })
         | inr none ↦ (
@@ -318,7 +333,7 @@ torn_sorts c (s ∷ ss) h is (inr (small, kept, begins), empty) roomy few bounds
               live = c.live;
               loose = s ∷ ss;
               is = refl;
-              sorted = record { segments = h.live; others = (inl (bare, roomy.0.0), spares_loose c.f ss empty); few = few; bounds = bounds };
+              sorted = record { segments = h.live.1; least = h.limits.2; others = (inl (bare, roomy.0.0), spares_loose c.f ss empty); few = few; bounds = bounds };
               holds = refl;
             })
       ]
@@ -326,11 +341,15 @@ torn_sorts c (s ∷ ss) h is (inr (small, kept, begins), empty) roomy few bounds
           let whole : s.bytes ≡ header_bytes head = begins ∙ take_all kept (header_bytes head) (omega (arith, size)) in
           let one = h.numbers in
           let limits = h.limits in
-          let lawful : IsHeader head = record { number = (omega arith, small); m = (limits.0, limits.1); f = (limits.2, limits.3) } in
+          let news = h.news in
+          let beyond : c.old_to < c.number + length c.live = omega (arith, news, length-map c.live (λ (x : Holding). x.bytes)) in
+          let lawful : IsHeader head = record { version = inr refl; number = (omega arith, small); m = (limits.0, limits.1); f = (limits.2, limits.3) } in
           let alone = header_is_clean c.m c.f (c.number + length c.live) lawful in
-          let last : IsLive c.m c.f (c.number + length (map (λ (h : Holding). h.bytes) c.live)) s.bytes =
-          subst (λ (k : ℕ). IsLive c.m c.f (c.number + k) s.bytes) (sym (length-map c.live (λ (h : Holding). h.bytes)))
-          (subst (IsLive c.m c.f (c.number + length c.live)) (sym whole) (clean_is_live c.m c.f (c.number + length c.live) (header_bytes head) alone.1)) in
+          let last : IsLive z (c.number + length (map (λ (h : Holding). h.bytes) c.live)) s.bytes =
+          subst (λ (k : ℕ). IsLive z (c.number + k) s.bytes) (sym (length-map c.live (λ (h : Holding). h.bytes)))
+          (subst (IsLive z (c.number + length c.live)) (sym whole)
+          (new_is_live z (c.number + length c.live) (header_bytes head) (header_new z (c.number + length c.live) beyond)
+          (clean_is_new c.m c.f (c.number + length c.live) (header_bytes head) alone.1))) in
           let bytes_are : map (λ (h : Holding). h.bytes) (c.live ++ s ∷ []) ≡ map (λ (h : Holding). h.bytes) c.live ++ s.bytes ∷ [] =
           map-append (λ (h : Holding). h.bytes) c.live (s ∷ []) in
           let joined : c.live ++ s ∷ ss ≡ (c.live ++ s ∷ []) ++ ss = sym (append_assoc c.live (s ∷ []) ss) in
@@ -340,7 +359,8 @@ torn_sorts c (s ∷ ss) h is (inr (small, kept, begins), empty) roomy few bounds
             loose = ss;
             is = joined;
             sorted = record {
-              segments = subst (AreLive c.m c.f c.number) (sym bytes_are) (live_last c.m c.f c.number (map (λ (h : Holding). h.bytes) c.live) s.bytes h.live last);
+              segments = subst (AreLive z c.number) (sym bytes_are) (live_last z c.number (map (λ (h : Holding). h.bytes) c.live) s.bytes h.live.1 last);
+              least = h.limits.2;
               others = spares_loose c.f ss empty;
               few = omega (arith, few, length-append c.live (s ∷ []));
               bounds = subst (AllByRecursion IsBounded) joined bounds;
@@ -354,6 +374,6 @@ pub stopped_boxes : OwnStopFound
 stopped_boxes c sound failed =
     let sorts = torn_sorts c c.spares sound.holds refl (sound.torn failed) sound.rooms sound.few (all_bounded c.f c.live c.spares sound.bounds sound.rooms) in
     let order = left_numbered (image c) (frames_held c.live) sound.holds (sound.holds.left failed) refl in (
-      λ leaves stand. sorted_found c.m c.f (boxes c) (frames_held c.live) leaves sorts order.0 order.1 stand,
-      λ none. sorted_empty c.m c.f (boxes c) (frames_held c.live) sorts none,
+      λ leaves stand. sorted_found (limits_of (image c) sound.holds.live.0) (boxes c) (frames_held c.live) leaves sorts order.0 order.1 stand,
+      λ none. sorted_empty (limits_of (image c) sound.holds.live.0) (boxes c) (frames_held c.live) sorts none,
     )

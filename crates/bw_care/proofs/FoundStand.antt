@@ -4,7 +4,7 @@ use Rattle.std.proofs.Common.{◌≡◌, ℕ, zero, suc, ◌+◌, ◌^◌, ◌<�
 use Rattle.std.proofs.Common.{List, [], ◌∷◌, ◌++◌, length, slice_get, refl, sym, ap, ◌∙◌, subst, arith, length-append}
 use Rattle.std.specs.List.{AllByRecursion}
 use Rattle.std.proofs.lemmas.Bool.{eqb-true}
-use Rattle.bw_codec.specs.Grammar.{IsBlock, IsFrame}
+use Rattle.bw_codec.specs.Grammar.{IsBlock}
 use Rattle.bw_codec.specs.Touch.{touches}
 use Rattle.bw_codec.specs.declared.block.Block.{Block}
 use Rattle.bw_codec.specs.declared.block.Block.TheVariants.{Delta, Base, Split}
@@ -14,7 +14,7 @@ use Rattle.bw_page.specs.Leaves.{leaf_at}
 use Rattle.bw_page.specs.Standing.{content, blocks_of, Stand}
 use Rattle.bw_page.proofs.Order.{must_not}
 use Rattle.bw_log.specs.PageTable.{top_of, top_page}
-use Rattle.bw_care.specs.Lawful.{contents}
+use Rattle.bw_care.specs.Lawful.{HasLawful, contents}
 use Rattle.bw_care.proofs.PagesAtFault.{NoneAtFault, all_set, contents_at, contents_length, leaves_lawful}
 
 -- ---- pages that are touched
@@ -57,13 +57,13 @@ all_join : {X : Type 0} (P : X → Type 0) (xs ys : List X) → AllByRecursion P
 all_join P [] ys a b = b
 all_join P (x ∷ xs) ys a b = (a.0, all_join P xs ys a.1 b)
 
-pub blocks_lawful : (m f : ℕ) (fs : List Frame) → AllByRecursion (IsFrame m f) fs → AllByRecursion (IsBlock m) (blocks_of fs)
-blocks_lawful m f [] laws = tt
-blocks_lawful m f (x ∷ xs) laws = all_join (IsBlock m) x.blocks (blocks_of xs) laws.0.blocks (blocks_lawful m f xs laws.1)
+pub blocks_lawful : (m : ℕ) (fs : List Frame) → AllByRecursion (HasLawful m) fs → AllByRecursion (IsBlock m) (blocks_of fs)
+blocks_lawful m [] laws = tt
+blocks_lawful m (x ∷ xs) laws = all_join (IsBlock m) x.blocks (blocks_of xs) laws.0.2 (blocks_lawful m xs laws.1)
 
-pub blocks_some : (m f : ℕ) (fs : List Frame) → AllByRecursion (IsFrame m f) fs → 1 ≤ length fs → 1 ≤ length (blocks_of fs)
-blocks_some m f [] laws some = absurd (omega arith)
-blocks_some m f (x ∷ xs) laws some = let head = laws.0.head.some in omega (arith, length-append x.blocks (blocks_of xs))
+pub blocks_some : (m : ℕ) (fs : List Frame) → AllByRecursion (HasLawful m) fs → 1 ≤ length fs → 1 ≤ length (blocks_of fs)
+blocks_some m [] laws some = absurd (omega arith)
+blocks_some m (x ∷ xs) laws some = let head = laws.0.1 in omega (arith, length-append x.blocks (blocks_of xs))
 
 -- ---- what is found stands
 
@@ -72,16 +72,16 @@ page_here : (blocks : List Block) (n p : ℕ) → 1 ≤ p → p ≤ n → ((i : 
 page_here blocks n zero from to at = absurd (omega arith)
 page_here blocks n (suc i) from to at = (let same : suc i ≡ 1 + i = omega arith in ap (λ (k : ℕ). content k blocks) same) ∙ at i (omega arith)
 
-pub found_stands : (m f : ℕ) (frames : List Frame) → AllByRecursion (IsFrame m f) frames → 1 ≤ length frames
+pub found_stands : (m : ℕ) (frames : List Frame) → AllByRecursion (HasLawful m) frames → 1 ≤ length frames
     → NoneAtFault m (blocks_of frames) (top_page (blocks_of frames))
     → Stand m frames (contents (blocks_of frames) 1 (top_page (blocks_of frames)))
-found_stands m f frames laws some none = by_top (top_page (blocks_of frames)) refl
-    (top_some m (blocks_of frames) (blocks_lawful m f frames laws) (blocks_some m f frames laws some)) where
+found_stands m frames laws some none = by_top (top_page (blocks_of frames)) refl
+    (top_some m (blocks_of frames) (blocks_lawful m frames laws) (blocks_some m frames laws some)) where
       by_top : (n : ℕ) → top_page (blocks_of frames) ≡ n → 1 ≤ n → Stand m frames (contents (blocks_of frames) 1 (top_page (blocks_of frames)))
       by_top zero is one = absurd (omega arith)
       by_top (suc n) is one =
           let blocks = blocks_of frames in
-          let blocks_law = blocks_lawful m f frames laws in
+          let blocks_law = blocks_lawful m frames laws in
           let none_here : NoneAtFault m blocks (suc n) = subst (NoneAtFault m blocks) is none in
           let set = all_set m blocks (suc n) none_here in
           let small = top_small m blocks blocks_law in

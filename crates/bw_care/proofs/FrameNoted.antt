@@ -1,11 +1,13 @@
 -- The walk over one frame's blocks: each Base that is its page's last block may be noted.
 
-use Rattle.std.proofs.Common.{◌≡◌, ℕ, ◌+◌, ◌-◌, ◌^◌, ◌<◌, ◌≤◌, Option, Some, IfSome, List, [], ◌∷◌, ◌++◌, length, take, drop, get_or, slice_get, refl, sym, ap, subst, ◌∙◌}
+use Rattle.std.proofs.Common.{◌≡◌, ℕ, None, MatchOption, map, ◌+◌, ◌-◌, ◌^◌, ◌<◌, ◌≤◌, Option, Some, IfSome, List, [], ◌∷◌, ◌++◌, length, take, drop, get_or, slice_get, refl, sym, ap, subst, ◌∙◌}
 use Rattle.std.proofs.Common.{append_assoc, length-append, length-drop, arith}
 use Rattle.std.specs.List.{AllByRecursion}
 use Rattle.std.proofs.lemmas.List.{drop-drop, take-append-drop, length-take-le, take_at, drop_at}
 use Rattle.std.proofs.lemmas.Option.{slice_get_within, get_or_from_slice_get}
-use Rattle.bw_codec.specs.Grammar.{block_bytes, body_bytes, head_bytes, frame_bytes, IsBlock}
+use Rattle.bw_codec.specs.Grammar.{block_bytes, body_bytes, head_bytes, frame_bytes, frame_bytes_in, IsBlock, IsFrameIn}
+use Rattle.bw_codec.specs.Reading.{version_in}
+use Rattle.bw_codec.specs.Version.{latest}
 use Rattle.bw_codec.specs.Outline.{outline_of}
 use Rattle.bw_codec.specs.declared.leaf.Leaf.{Leaf}
 use Rattle.bw_codec.specs.declared.block.Block.{Block}
@@ -17,33 +19,52 @@ use Rattle.bw_codec.proofs.FrontFormat.{length-head}
 use Rattle.bw_codec.proofs.Stepping.{length-outlined}
 use Rattle.bw_device.specs.Holding.{Holding}
 use Rattle.bw_page.specs.Standing.{content, blocks_of}
-use Rattle.bw_log.specs.Contents.{Contents, counted, IsSound}
+use Rattle.bw_log.specs.Contents.{Contents, counted, image, limits_of, IsSound}
 use Rattle.bw_log.specs.Places.{place_of, first_number}
-use Rattle.bw_log.specs.Segments.{AreFrom}
+use Rattle.bw_log.specs.Segments.{version_at, AreLive, AreFrom}
 use Rattle.bw_log.specs.declared.places.FrameAt.{FrameAt}
 use Rattle.bw_log.proofs.Fetched.{boxed_line}
+use Rattle.bw_log.proofs.Reread.{live_version}
 use Rattle.bw_care.specs.Ahead.{IsBaseOf, IsLineOf, IsOldest, Tells}
 use Rattle.bw_care.proofs.BasesFound.{base_found}
 use Rattle.bw_care.proofs.CleaningSteps.{rest_is}
 
 -- ---- the frame
 
+-- the version that is told of the oldest segment is that of its number
+version_by : (c : Contents) (live : List Holding) (o : Option ℕ) → IsSound c → c.live ≡ live → 0 < length live
+    → MatchOption (slice_get live 0) (o ≡ None) (λ h. o ≡ Some (version_in h.bytes)) → o ≡ Some latest → version_at c.old_to c.number ≡ latest
+version_by c [] o sound is some told new = absurd (omega arith)
+version_by c (h ∷ hs) o sound is some told new =
+    let z = limits_of (image c) sound.holds.live.0 in
+    let live = (subst (λ (l : List Holding). AreLive z c.number (map (λ (x : Holding). x.bytes) l)) is sound.holds.live.1).0 in
+    let both : Some (version_in h.bytes) ≡ Some latest = sym told ∙ new in
+    let version : version_in h.bytes ≡ latest = cc in
+    sym (live_version z c.number h.bytes live) ∙ version
+
+pub oldest_version : (c : Contents) (o : Option ℕ) → IsSound c → 0 < length c.live
+    → MatchOption (slice_get c.live 0) (o ≡ None) (λ h. o ≡ Some (version_in h.bytes)) → o ≡ Some latest → version_at c.old_to c.number ≡ latest
+oldest_version c o sound some told new = version_by c c.live o sound refl some told new
+
 -- a line of the oldest segment, in its bytes
 pub line_of : (c : Contents) (k : ℕ) (line : FrameAt) (bytes : List ℕ) → IsSound c → Some line ≡ slice_get c.frames k → line.segment ≡ c.number + 0
-    → IsOldest c bytes → IsLineOf c bytes line
-line_of c k line bytes sound told first oldest =
+    → version_at c.old_to c.number ≡ latest → IsOldest c bytes → IsLineOf c bytes line
+line_of c k line bytes sound told first new oldest =
     let is : slice_get c.frames k ≡ Some line = sym told in
     let l = boxed_line c k line sound (slice_get_within c.frames k line is) (sym (get_or_from_slice_get c.frames k line line is)) in
     let none : line.segment - c.number ≡ 0 = omega arith in
+    let number : line.segment ≡ c.number = omega arith in
+    let version : version_at c.old_to line.segment ≡ latest = ap (version_at c.old_to) number ∙ new in
     let same : bytes ≡ l.box.bytes =
     subst (λ (o : Option Holding). IfSome o (λ h. bytes ≡ h.bytes)) (ap (slice_get c.live) (sym none) ∙ l.there) oldest in
     record {
       index = k;
       frame = l.frame;
       stands = l.stands;
-      lawful = l.lawful;
+      limit = l.limit;
+      lawful = subst (λ (v : ℕ). IsFrameIn v c.m l.limit l.frame) version l.lawful;
       within = (let long = ap (λ (b : List ℕ). length b) same in let inside = l.within in omega arith);
-      spelled = ap (λ (b : List ℕ). take line.len (drop line.at b)) same ∙ l.spelled;
+      spelled = ap (λ (b : List ℕ). take line.len (drop line.at b)) same ∙ l.spelled ∙ ap (λ (v : ℕ). frame_bytes_in v l.frame) version;
       numbered = l.numbered;
     }
 
@@ -70,7 +91,7 @@ frame_parts at len bytes frame spelled =
     let back = drop len (drop at bytes) in
     sym (drop-drop 20 at bytes)
     ∙ ap (drop 20) (sym (take-append-drop len (drop at bytes)) ∙ ap (λ (l : List ℕ). l ++ back) spelled ∙ append_assoc head body back)
-    ∙ drop_at head (body ++ back) 20 (length-head frame.number (length body) (length frame.blocks))
+    ∙ drop_at head (body ++ back) 20 (length-head latest frame.number (length body) (length frame.blocks))
 
 frame_long : (at len : ℕ) (bytes : List ℕ) (frame : Frame) → at + len ≤ length bytes → take len (drop at bytes) ≡ frame_bytes frame
     → len ≡ 20 + length (body_bytes frame.blocks)
@@ -81,7 +102,7 @@ frame_long at len bytes frame within spelled =
       arith,
       length-take-le len (drop at bytes) long,
       ap (λ (l : List ℕ). length l) spelled,
-      length-head frame.number (length body) (length frame.blocks),
+      length-head latest frame.number (length body) (length frame.blocks),
       length-append (head_bytes frame.number (length body) (length frame.blocks)) body,
     )
 
@@ -118,13 +139,13 @@ drop_parts n b = n.parts ∙ ap (λ (l : List Block). body_bytes l ++ n.back) b.
 -- .. and what is told of it
 pub record Step {c : Contents} {bytes : List ℕ} {line : FrameAt} {end at count : ℕ} (n : Noting c bytes line end at count) (o : Outline) : Type 0 where
   pub next : NextOf n.left
-  pub told : o ≡ outline_of next.0
+  pub told : o ≡ outline_of latest next.0
 
 -- what is told of the blocks at the front of the bytes from here on
 abbrev Outlines : List ℕ → Outline → Type 0
-Outlines front o = (m : ℕ) (block : Block) (rest : List ℕ) → m < 2 ^ 16 → IsBlock m block → front ≡ block_bytes block ++ rest → Some o ≡ Some (outline_of block)
+Outlines front o = (m : ℕ) (block : Block) (rest : List ℕ) → m < 2 ^ 16 → IsBlock m block → front ≡ block_bytes block ++ rest → Some o ≡ Some (outline_of latest block)
 
-outlined_so : (b : Block) (o : Outline) → Some o ≡ Some (outline_of b) → o ≡ outline_of b
+outlined_so : (b : Block) (o : Outline) → Some o ≡ Some (outline_of latest b) → o ≡ outline_of latest b
 outlined_so b o is = cc
 
 pub step_of : {c : Contents} {bytes : List ℕ} {line : FrameAt} {end at count : ℕ} (n : Noting c bytes line end at count) (o : Outline) → IsSound c → at < end
@@ -138,15 +159,15 @@ step_of {c} {bytes} {line} {end} {at} {count} n o sound some told =
           (rest_is bytes at ∙ drop_parts n b));
     }
 
-outline_long : (b : Block) (o : Outline) → o ≡ outline_of b → o.len ≡ length (block_bytes b)
-outline_long b o is = ap (λ (x : Outline). x.len) is ∙ length-outlined b
+outline_long : (b : Block) (o : Outline) → o ≡ outline_of latest b → o.len ≡ length (block_bytes b)
+outline_long b o is = ap (λ (x : Outline). x.len) is ∙ length-outlined latest b
 
 some_spelled : (b : Block) → 0 < length (block_bytes b)
 some_spelled (Delta page back ops) = omega arith
 some_spelled (Base leaf) = omega arith
 some_spelled (Split page back upper) = omega arith
 
-page_by : (m : ℕ) (b : Block) → IsBlock m b → 1 ≤ (outline_of b).page
+page_by : (m : ℕ) (b : Block) → IsBlock m b → 1 ≤ (outline_of latest b).page
 page_by m (Delta page back ops) law = law.changes.0
 page_by m (Base leaf) law = law.page.0
 page_by m (Split page back upper) law = law.cuts.0
@@ -218,7 +239,7 @@ base_read c fs x xs bs cs leaf place sound stands split there last =
     (ap (place_of leaf.page) (sym stands) ∙ last ∙ ap (λ (p : Place). Some p) there)
 
 tells_by : {c : Contents} {bytes : List ℕ} {line : FrameAt} {end at count : ℕ} (n : Noting c bytes line end at count) (leaf : Leaf) (others : List Block)
-    (o : Outline) (place : Place) → IsSound c → n.left ≡ Base leaf ∷ others → o ≡ outline_of (Base leaf)
+    (o : Outline) (place : Place) → IsSound c → n.left ≡ Base leaf ∷ others → o ≡ outline_of latest (Base leaf)
     → place ≡ record { frame = line.number; index = count } → place_of o.page (counted c) ≡ Some place
     → IsBaseOf c o.page (take o.len (drop at bytes))
 tells_by {c} {bytes} {line} {end} {at} {count} n leaf others o place sound left told there last =
@@ -252,7 +273,7 @@ spot_tells {c} {bytes} {line} {end} {at} {count} {n} {o} s place sound there fir
     let b = s.next in
     let base = base_here b.0 (take (length bytes - at) (drop at bytes)) (body_bytes b.1 ++ n.back) (rest_is bytes at ∙ drop_parts n b) first in
     let left : n.left ≡ Base base.0 ∷ b.1 = b.2 ∙ ap (λ (x : Block). x ∷ b.1) base.1 in
-    let told : o ≡ outline_of (Base base.0) = s.told ∙ ap outline_of base.1 in
+    let told : o ≡ outline_of latest (Base base.0) = s.told ∙ ap (outline_of latest) base.1 in
     let on = steps_on s in
     let within = on.within in
     let long = on.long in

@@ -1,23 +1,28 @@
 -- Frames in order, as a log has them.
 
-use Rattle.std.proofs.Common.{◌≡◌, ℕ, ◌+◌, ◌==◌, true, Option, Some, None, List, [], ◌∷◌, ◌++◌, map, refl, sym, ap}
+use Rattle.std.proofs.Common.{inl, inr, ◌≡◌, ◌⊎◌, ℕ, ◌+◌, ◌==◌, true, Option, Some, None, List, [], ◌∷◌, ◌++◌, map, refl, sym, ap}
 use Rattle.std.proofs.Common.{◌∙◌, subst}
 use Rattle.std.specs.List.{fold, AllByRecursion}
 use Rattle.std.proofs.lemmas.Bool.{and_parts, eqb-true}
-use Rattle.bw_codec.specs.Grammar.{IsFrame}
+use Rattle.bw_codec.specs.Grammar.{IsBlock, IsBlockIn, IsFrameIn}
+use Rattle.bw_codec.specs.declared.block.Block.{Block}
+use Rattle.bw_codec.specs.declared.block.Header.{Header}
+use Rattle.bw_codec.proofs.Versions.{old_may_be_written}
 use Rattle.bw_codec.specs.declared.block.Frame.{Frame}
 use Rattle.bw_device.specs.Holding.{Holding}
 use Rattle.bw_log.specs.Places.{first_number}
-use Rattle.bw_log.specs.Segments.{segment_frames, frames_of, AreFrom, following, next_of}
+use Rattle.bw_log.specs.Segments.{Limits, segment_frames, frames_of, AreFrom, following, next_of}
 use Rattle.bw_log.specs.Adopting.{next_in}
 use Rattle.bw_log.specs.declared.places.FrameAt.{FrameAt}
 use Rattle.bw_care.specs.Behind.{frames_behind}
+use Rattle.bw_care.specs.Lawful.{HasLawful}
 use Rattle.bw_care.specs.Scanned.{IsScan}
 use Rattle.bw_care.specs.Ordering.{follow_from, AreFound, lines_found}
 use Rattle.bw_care.specs.declared.scanning.Scan.TheVariants.{Live}
 use Rattle.bw_care.proofs.NumberOrder.{frames_here, all_numbers}
 use Rattle.bw_care.specs.declared.ordering.Found.{Found}
 use Rattle.bw_care.proofs.LiveRow.{IsLike}
+use Rattle.bw_care.proofs.RoomsParted.{all_by}
 
 abbrev number : Frame → ℕ
 number f = f.number
@@ -58,18 +63,28 @@ all_join : {X : Type 0} (P : X → Type 0) (xs ys : List X) → AllByRecursion P
 all_join P [] ys a b = b
 all_join P (x ∷ xs) ys a b = (a.0, all_join P xs ys a.1 b)
 
-here_lawful : (m f : ℕ) (h : Holding) (r : Found) → IsLike m f r → IsScan h.bytes (Live r.header r.behind)
-    → AllByRecursion (IsFrame m f) (segment_frames h.bytes)
-here_lawful m f h r like is =
-    subst (AllByRecursion (IsFrame m f)) (sym (frames_here h r is))
-    (subst (λ (k : ℕ). AllByRecursion (IsFrame k f) (frames_behind r.header.m r.header.f h.bytes)) like.0
-    (subst (λ (k : ℕ). AllByRecursion (IsFrame r.header.m k) (frames_behind r.header.m r.header.f h.bytes)) like.1 is.2.laws))
+-- a block that is lawful in a format may be written
+block_lawful : (v m : ℕ) (b : Block) → (v ≡ 1) ⊎ (v ≡ 2) → IsBlockIn v m b → IsBlock m b
+block_lawful v m b (inl old) law = old_may_be_written m b (subst (λ (k : ℕ). IsBlockIn k m b) old law)
+block_lawful v m b (inr new) law = subst (λ (k : ℕ). IsBlockIn k m b) new law
 
-pub all_lawful : (m f : ℕ) (boxes hs : List Holding) (rs : List Found) → AreFound boxes hs rs → AllByRecursion (IsLike m f) rs
-    → AllByRecursion (IsFrame m f) (frames_of (map (λ h. h.bytes) hs))
-all_lawful m f boxes [] [] all like = tt
-all_lawful m f boxes [] (r ∷ rs) all like = absurd all
-all_lawful m f boxes (h ∷ hs) [] all like = absurd all
-all_lawful m f boxes (h ∷ hs) (r ∷ rs) all like =
-    all_join (IsFrame m f) (segment_frames h.bytes) (frames_of (map (λ x. x.bytes) hs)) (here_lawful m f h r like.0 all.0)
-    (all_lawful m f boxes hs rs all.1 like.1)
+pub frame_lawful : (v m f : ℕ) (x : Frame) → (v ≡ 1) ⊎ (v ≡ 2) → IsFrameIn v m f x → HasLawful m x
+frame_lawful v m f x version law = (law.head.numbered.0, law.head.some.0, all_by (IsBlockIn v m) (IsBlock m) x.blocks (λ b one. block_lawful v m b version one) law.blocks)
+
+here_lawful : (l : Limits) (h : Holding) (r : Found) → IsLike l r → IsScan h.bytes (Live r.header r.behind)
+    → AllByRecursion (HasLawful l.m) (segment_frames h.bytes)
+here_lawful l h r like is =
+    let k = r.header in
+    subst (AllByRecursion (HasLawful l.m)) (sym (frames_here h r is))
+    (subst (λ (m : ℕ). AllByRecursion (HasLawful m) (frames_behind k h.bytes)) (ap (λ (x : Header). x.m) like)
+    (all_by (IsFrameIn k.version k.m k.f) (HasLawful k.m) (frames_behind k h.bytes)
+    (λ x one. frame_lawful k.version k.m k.f x is.3.0.version one) is.2.laws))
+
+pub all_lawful : (l : Limits) (boxes hs : List Holding) (rs : List Found) → AreFound boxes hs rs → AllByRecursion (IsLike l) rs
+    → AllByRecursion (HasLawful l.m) (frames_of (map (λ h. h.bytes) hs))
+all_lawful l boxes [] [] all like = tt
+all_lawful l boxes [] (r ∷ rs) all like = absurd all
+all_lawful l boxes (h ∷ hs) [] all like = absurd all
+all_lawful l boxes (h ∷ hs) (r ∷ rs) all like =
+    all_join (HasLawful l.m) (segment_frames h.bytes) (frames_of (map (λ x. x.bytes) hs)) (here_lawful l h r like.0 all.0)
+    (all_lawful l boxes hs rs all.1 like.1)

@@ -56,8 +56,8 @@ pub fault_same : (o p : Option ℕ) (fault : ScanFault) → o ≡ p → FaultIs 
 fault_same o p fault same is = subst (λ (x : Option ℕ). FaultIs x fault) (sym same) is
 
 -- a segment with a header, frames and a tail
-pub live_is : (bytes : List ℕ) (h : Header) (b : Behind) → IsHeading bytes (heading.Whole h) → IsBehind h.m h.f bytes b
-    → IsWhole bytes h (frames_behind h.m h.f bytes) (rest_of h.m h.f bytes)
+pub live_is : (bytes : List ℕ) (h : Header) (b : Behind) → IsHeading bytes (heading.Whole h) → IsBehind h bytes b
+    → IsWhole bytes h (frames_behind h bytes) (rest_of h bytes)
 live_is bytes h b there is = record {
   lawful = there.0;
   each = is.laws;

@@ -75,7 +75,7 @@ not_false true e = absurd cc
 not_false false e = refl
 
 -- a low above another one, and no longer than a key, is a key
-above_key : (low k : Bytes) → is_below low k ≡ true → length k ≤ 64 → IsKey k
+above_key : (low k : Bytes) → is_below low k ≡ true → length k ≤ 128 → IsKey k
 above_key low [] over short = absurd (not_both (is_below low []) over (upto_empty low))
 above_key low (x ∷ xs) over short = (omega arith, short)
 
@@ -84,7 +84,7 @@ above_key low (x ∷ xs) over short = (omega arith, short)
 none_over : (set : List Leaf) (got : Bytes → Option ℕ) (low : Bytes) → IsLows set got → ((k : Bytes) → IsKey k → is_below low k ≡ true → got k ≡ None)
     → AllByRecursion (λ l. is_below low l.low ≡ false) set
 none_over set got low i none =
-    all_two (λ (l : Leaf). length l.low ≤ 64) (λ (l : Leaf). IsKey l.low → IsSome (got l.low)) (λ (l : Leaf). is_below low l.low ≡ false) set
+    all_two (λ (l : Leaf). length l.low ≤ 128) (λ (l : Leaf). IsKey l.low → IsSome (got l.low)) (λ (l : Leaf). is_below low l.low ≡ false) set
     (λ l short listed. must_not (is_below low l.low) (λ over. (let key = above_key low l.low over short in
     let some = listed key in let nothing : IsSome {T = ℕ} None = subst (λ (o : Option ℕ). IsSome o) (none l.low key over) some in cc))) i.short i.listed
 
@@ -96,7 +96,7 @@ past_by : (set : List Leaf) (got : Bytes → Option ℕ) (low next key : Bytes) 
     → list_any (λ l. is_below low l.low && not (is_below key l.low)) set ≡ not t
 past_by set got low next key true i n e =
     none_any (λ l. is_below low l.low && not (is_below key l.low)) set
-    (all_two (λ (l : Leaf). length l.low ≤ 64) (λ (l : Leaf). IsKey l.low → IsSome (got l.low))
+    (all_two (λ (l : Leaf). length l.low ≤ 128) (λ (l : Leaf). IsKey l.low → IsSome (got l.low))
     (λ (l : Leaf). (is_below low l.low && not (is_below key l.low)) ≡ false) set
     (λ l short listed. and_not (is_below low l.low) (not (is_below key l.low)) (λ over past.
     not_both (is_below key l.low) (below-upto key next l.low e (n.3 l.low over (listed (above_key low l.low over short))))
@@ -161,7 +161,7 @@ none_before set got leaf i one =
 
 -- ---- a page
 
-not_key_empty : (k : Bytes) → length k ≤ 64 → (IsKey k → ⊥) → k ≡ []
+not_key_empty : (k : Bytes) → length k ≤ 128 → (IsKey k → ⊥) → k ≡ []
 not_key_empty [] short never = refl
 not_key_empty (x ∷ xs) short never = absurd (never (omega arith, short))
 
@@ -170,7 +170,7 @@ key_not_empty [] key = absurd (let one = key.0 in omega arith)
 key_not_empty (x ∷ xs) key = refl
 
 -- a page with the empty low
-pub empty_is : (m : ℕ) (set : List Leaf) (got : Bytes → Option ℕ) (leaf : Leaf) (next : Option Bytes) → IsLows set got → length leaf.low ≤ 64
+pub empty_is : (m : ℕ) (set : List Leaf) (got : Bytes → Option ℕ) (leaf : Leaf) (next : Option Bytes) → IsLows set got → length leaf.low ≤ 128
     → (IsKey leaf.low → ⊥) → IsNext [] got next
     → (not (leaf.page == 1) || (nat_lt m (length leaf.pairs) || list_any (λ p. is_below p.0 leaf.low || is_past next p.0) leaf.pairs)) ≡ is_bad_leaf m set leaf
 empty_is m set got leaf next i short never n = by_page (leaf.page == 1) refl where

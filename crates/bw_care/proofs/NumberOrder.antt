@@ -4,7 +4,7 @@ use Rattle.std.proofs.Common.{◌≡◌, ℕ, suc, ◌+◌, ◌==◌, ◌&&◌, 
 use Rattle.std.proofs.Common.{slice_get, length, map, refl, sym, ap, ◌∙◌, subst, arith}
 use Rattle.std.specs.List.{fold, list_any}
 use Rattle.std.proofs.lemmas.List.{map-append}
-use Rattle.bw_codec.specs.Grammar.{frame_bytes}
+use Rattle.bw_codec.specs.Grammar.{frame_bytes_in}
 use Rattle.bw_log.specs.Segments.{entries_from}
 use Rattle.bw_log.specs.declared.places.FrameAt.{FrameAt}
 use Rattle.bw_care.specs.Behind.{frames_behind}
@@ -15,13 +15,13 @@ use Rattle.bw_device.specs.Holding.{Holding}
 use Rattle.bw_log.specs.Segments.{segment_frames, frames_of}
 use Rattle.bw_care.specs.Scanning.{has_header, has_header_by, is_bare}
 use Rattle.bw_care.specs.Scanned.{IsScan, AreScans}
-use Rattle.bw_care.specs.Recovery.{placed_by, number_in, segments_in, live_in, spares_in, frames_in, first_header, header_of_all, is_like, is_mixed}
+use Rattle.bw_care.specs.Recovery.{placed_by, number_in, segments_in, live_in, spares_in, frames_in, headers_in, limit_of, are_mixed, is_mixed}
 use Rattle.bw_care.specs.Recovery.{follow_on, has_gap, is_small, is_none, when, fault_of_order}
 use Rattle.bw_log.specs.Places.{or_else}
 use Rattle.bw_care.specs.declared.fault.RecoverCause.{RecoverCause}
 use Rattle.bw_care.specs.declared.fault.RecoverCause.TheVariants.{BadConfig, Empty, Gap, Mixed}
-use Rattle.bw_care.specs.Ordering.{order_fault_by, order_fault, lives_from, lives, number_found, sorted, moved_to, lines_found, line_number, has_none}
-use Rattle.bw_care.specs.Ordering.{first_found, is_other, any_narrow}
+use Rattle.bw_care.specs.Ordering.{order_fault, lives_from, lives, number_found, sorted, moved_to, lines_found, line_number, has_none}
+use Rattle.bw_care.specs.Ordering.{headers_of, any_narrow}
 use Rattle.bw_care.specs.Ordering.{follow_from, AreFound}
 use Rattle.bw_care.specs.declared.scanning.Scan.{Scan}
 use Rattle.bw_care.specs.declared.scanning.Scan.TheVariants.{Bare, Part, Live}
@@ -111,16 +111,17 @@ numbers_found boxes (h ∷ hs) [] all = absurd all
 numbers_found boxes (h ∷ hs) (r ∷ rs) all = ap (λ (n : ℕ). n ∷ map (λ x. number_in x.bytes) hs) (sym (number_same h r all.0))
     ∙ ap (λ (l : List ℕ). number_found r ∷ l) (numbers_found boxes hs rs all.1)
 
-pub frames_here : (h : Holding) (r : Found) → IsScan h.bytes (Live r.header r.behind) → segment_frames h.bytes ≡ frames_behind r.header.m r.header.f h.bytes
+pub frames_here : (h : Holding) (r : Found) → IsScan h.bytes (Live r.header r.behind) → segment_frames h.bytes ≡ frames_behind r.header h.bytes
 unfolding segment_frames
 frames_here h r is = rw (segment_frames, is.0) refl
 
 abbrev frame_number : Frame → ℕ
 frame_number f = f.number
 
-pub line_numbers : (k at : ℕ) (fs : List Frame) → map line_number (map (moved_to k) (map (λ e. e.0) (entries_from 0 at fs))) ≡ map (λ f. f.number) fs
-line_numbers k at [] = refl
-line_numbers k at (f ∷ fs) = ap (λ (l : List ℕ). f.number ∷ l) (line_numbers k (at + length (frame_bytes f)) fs)
+pub line_numbers : (v k at : ℕ) (fs : List Frame)
+    → map line_number (map (moved_to k) (map (λ e. e.0) (entries_from v 0 at fs))) ≡ map (λ f. f.number) fs
+line_numbers v k at [] = refl
+line_numbers v k at (f ∷ fs) = ap (λ (l : List ℕ). f.number ∷ l) (line_numbers v k (at + length (frame_bytes_in v f)) fs)
 
 -- the lines have the numbers of the frames
 pub all_numbers : (k : ℕ) (boxes hs : List Holding) (rs : List Found) → AreFound boxes hs rs
@@ -131,8 +132,8 @@ all_numbers k boxes (h ∷ hs) [] all = absurd all
 all_numbers k boxes (h ∷ hs) (r ∷ rs) all =
     map-append line_number (map (moved_to k) r.behind.lines.items) (lines_found (k + 1) rs)
     ∙ ap (λ (l : List FrameAt). map line_number (map (moved_to k) l) ++ map line_number (lines_found (k + 1) rs)) all.0.2.lines
-    ∙ ap (λ (l : List ℕ). l ++ map line_number (lines_found (k + 1) rs)) (line_numbers k 24 (frames_behind r.header.m r.header.f h.bytes))
-    ∙ ap (λ (l : List ℕ). map frame_number (frames_behind r.header.m r.header.f h.bytes) ++ l) (all_numbers (k + 1) boxes hs rs all.1)
+    ∙ ap (λ (l : List ℕ). l ++ map line_number (lines_found (k + 1) rs)) (line_numbers r.header.version k 24 (frames_behind r.header h.bytes))
+    ∙ ap (λ (l : List ℕ). map frame_number (frames_behind r.header h.bytes) ++ l) (all_numbers (k + 1) boxes hs rs all.1)
     ∙ ap (λ (l : List Frame). map frame_number l ++ map frame_number (frames_of (map (λ x. x.bytes) hs))) (sym (frames_here h r all.0))
     ∙ sym (map-append frame_number (segment_frames h.bytes) (frames_of (map (λ x. x.bytes) hs)))
 
@@ -142,43 +143,21 @@ none_by [] (f ∷ fs) same = absurd cc
 none_by (e ∷ es) [] same = absurd cc
 none_by (e ∷ es) (f ∷ fs) same = refl
 
--- ---- the first header, and other limits
+-- ---- headers
 
-pub header_first : (hs : List Holding) (ss : List Scan) (header : Header) → AreScans hs ss → first_found ss ≡ Some header → header_of_all hs ≡ header
-header_first hs [] header all is = absurd cc
-header_first [] (s ∷ ss) header all is = absurd all
-header_first (h ∷ hs) (Bare ∷ ss) header all is =
-    ap first_header (drops (λ (x : Holding). has_header x.bytes) h hs (ap has_header all.0 ∙ bare_none)) ∙ header_first hs ss header all.1 is
-header_first (h ∷ hs) (Part ∷ ss) header all is =
-    ap first_header (drops (λ (x : Holding). has_header x.bytes) h hs (ap has_header_by all.0.0)) ∙ header_first hs ss header all.1 is
-header_first (h ∷ hs) (Live one b ∷ ss) header all is =
-    let same : one ≡ header = cc in
-    ap first_header (keeps (λ (x : Holding). has_header x.bytes) h hs (ap has_header_by all.0.0)) ∙ sym (header_is h.bytes one all.0.0) ∙ same
-
-pub other_is : (hs : List Holding) (ss : List Scan) (header : Header) → AreScans hs ss
-    → list_any (λ h. not (is_like header (header_in h.bytes))) (segments_in hs) ≡ list_any (is_other header.m header.f) ss
-other_is [] [] header all = refl
-other_is [] (s ∷ ss) header all = absurd all
-other_is (h ∷ hs) [] header all = absurd all
-other_is (h ∷ hs) (Bare ∷ ss) header all =
-    ap (list_any (λ (x : Holding). not (is_like header (header_in x.bytes))))
-    (drops (λ (x : Holding). has_header x.bytes) h hs (ap has_header all.0 ∙ bare_none)) ∙ other_is hs ss header all.1
-other_is (h ∷ hs) (Part ∷ ss) header all =
-    ap (list_any (λ (x : Holding). not (is_like header (header_in x.bytes)))) (drops (λ (x : Holding). has_header x.bytes) h hs (ap has_header_by all.0.0))
-    ∙ other_is hs ss header all.1
-other_is (h ∷ hs) (Live one b ∷ ss) header all =
-    ap (list_any (λ (x : Holding). not (is_like header (header_in x.bytes)))) (keeps (λ (x : Holding). has_header x.bytes) h hs (ap has_header_by all.0.0))
-    ∙ ap (λ (k : Header). not (is_like header k) || list_any (λ (x : Holding). not (is_like header (header_in x.bytes))) (segments_in hs))
-    (sym (header_is h.bytes one all.0.0))
-    ∙ ap (λ (t : Bool). not (is_like header one) || t) (other_is hs ss header all.1)
-
-pub no_header : (hs : List Holding) (ss : List Scan) → AreScans hs ss → first_found ss ≡ None → segments_in hs ≡ []
-no_header [] [] all is = refl
-no_header [] (s ∷ ss) all is = absurd all
-no_header (h ∷ hs) [] all is = absurd all
-no_header (h ∷ hs) (Bare ∷ ss) all is = drops (λ (x : Holding). has_header x.bytes) h hs (ap has_header all.0 ∙ bare_none) ∙ no_header hs ss all.1 is
-no_header (h ∷ hs) (Part ∷ ss) all is = drops (λ (x : Holding). has_header x.bytes) h hs (ap has_header_by all.0.0) ∙ no_header hs ss all.1 is
-no_header (h ∷ hs) (Live one b ∷ ss) all is = absurd cc
+pub headers_are : (hs : List Holding) (ss : List Scan) → AreScans hs ss → headers_in hs ≡ headers_of ss
+headers_are [] [] all = refl
+headers_are [] (s ∷ ss) all = absurd all
+headers_are (h ∷ hs) [] all = absurd all
+headers_are (h ∷ hs) (Bare ∷ ss) all =
+    ap (map (λ (x : Holding). header_in x.bytes)) (drops (λ (x : Holding). has_header x.bytes) h hs (ap has_header all.0 ∙ bare_none))
+    ∙ headers_are hs ss all.1
+headers_are (h ∷ hs) (Part ∷ ss) all =
+    ap (map (λ (x : Holding). header_in x.bytes)) (drops (λ (x : Holding). has_header x.bytes) h hs (ap has_header_by all.0.0))
+    ∙ headers_are hs ss all.1
+headers_are (h ∷ hs) (Live one b ∷ ss) all =
+    ap (map (λ (x : Holding). header_in x.bytes)) (keeps (λ (x : Holding). has_header x.bytes) h hs (ap has_header_by all.0.0))
+    ∙ ap (λ (k : Header). k ∷ headers_in hs) (sym (header_is h.bytes one all.0.0)) ∙ ap (λ (l : List Header). one ∷ l) (headers_are hs ss all.1)
 
 -- ---- spares
 
@@ -213,28 +192,12 @@ pub joined : (a b d : Option RecoverCause) → or_else (or_else a b) d ≡ or_el
 joined None b d = refl
 joined (Some x) b d = refl
 
-none_live : (hs : List Holding) → segments_in hs ≡ [] → live_in hs ≡ []
-none_live hs none = ap (λ (l : List Holding). fold (λ acc x. placed_by number_at x acc) [] l) none
-
-order_by : (hs : List Holding) (ss : List Scan) (o : Option Header) → AreScans hs ss → first_found ss ≡ o
-    → or_else (fault_of_order hs) (when (is_small hs) BadConfig) ≡ order_fault_by o ss (map (λ h. h.room) hs)
-order_by hs ss None all is =
-    let none = no_header hs ss all is in
-    let live = none_live hs none in
-    let frames : frames_in hs ≡ [] = ap (λ (l : List Holding). frames_of (map (λ h. h.bytes) l)) live in
-    let mixed : is_mixed hs ≡ false = ap (list_any (λ (h : Holding). not (is_like (header_of_all hs) (header_in h.bytes)))) none in
-    let gap : has_gap hs ≡ false = ap (λ (l : List Holding). not
-    (follow_on (map (λ h. number_in h.bytes) l) && follow_on (map (λ f. f.number) (frames_of (map (λ h. h.bytes) l))))) live in
-    let empty : is_none (frames_in hs) ≡ true = ap is_none frames in
-    ap (λ (t : Bool). or_else (or_else (when t Mixed) (or_else (when (has_gap hs) Gap) (when (is_none (frames_in hs)) Empty)))
-    (when (is_small hs) BadConfig)) mixed
-    ∙ ap (λ (t : Bool). or_else (or_else (when t Gap) (when (is_none (frames_in hs)) Empty)) (when (is_small hs) BadConfig)) gap
-    ∙ ap (λ (t : Bool). or_else (when t Empty) (when (is_small hs) BadConfig)) empty
-order_by hs ss (Some header) all is =
-    let first = header_first hs ss header all is in
+pub order_is : (hs : List Holding) (ss : List Scan) → AreScans hs ss
+    → or_else (fault_of_order hs) (when (is_small hs) BadConfig) ≡ order_fault ss (map (λ h. h.room) hs)
+order_is hs ss all =
+    let headers = headers_are hs ss all in
     let found = live_found hs ss all in
-    let mixed : is_mixed hs ≡ list_any (is_other header.m header.f) ss =
-    ap (λ (k : Header). list_any (λ (h : Holding). not (is_like k (header_in h.bytes))) (segments_in hs)) first ∙ other_is hs ss header all in
+    let mixed : is_mixed hs ≡ are_mixed (headers_of ss) = ap are_mixed headers in
     let numbers : follow_on (map (λ h. number_in h.bytes) (live_in hs)) ≡ follow_from None (map number_found (sorted ss)) =
     ap follow_on (numbers_found hs (live_in hs) (sorted ss) found) ∙ sym (follow_is (map number_found (sorted ss))) in
     let same : map line_number (lines_found 0 (sorted ss)) ≡ map (λ f. f.number) (frames_in hs) = all_numbers 0 hs (live_in hs) (sorted ss) found in
@@ -244,19 +207,16 @@ order_by hs ss (Some header) all is =
     ap (λ (t : Bool). not (t && follow_on (map (λ f. f.number) (frames_in hs)))) numbers
     ∙ ap (λ (t : Bool). not (follow_from None (map number_found (sorted ss)) && t)) follow in
     let empty : is_none (frames_in hs) ≡ has_none (lines_found 0 (sorted ss)) = none_by (lines_found 0 (sorted ss)) (frames_in hs) same in
-    let small : is_small hs ≡ any_narrow (24 + header.f) ss (map (λ h. h.room) hs) =
-    ap (λ (k : Header). list_any (λ (h : Holding). nat_lt h.room (24 + k.f)) (spares_in hs)) first ∙ narrow_is hs ss (24 + header.f) all in
+    let small : is_small hs ≡ any_narrow (24 + limit_of (headers_of ss)) ss (map (λ h. h.room) hs) =
+    ap (λ (l : List Header). list_any (λ (h : Holding). nat_lt h.room (24 + limit_of l)) (spares_in hs)) headers
+    ∙ narrow_is hs ss (24 + limit_of (headers_of ss)) all in
     joined (when (is_mixed hs) Mixed) (or_else (when (has_gap hs) Gap) (when (is_none (frames_in hs)) Empty)) (when (is_small hs) BadConfig)
     ∙ ap (λ (t : Bool). or_else (when t Mixed)
     (or_else (or_else (when (has_gap hs) Gap) (when (is_none (frames_in hs)) Empty)) (when (is_small hs) BadConfig))) mixed
-    ∙ ap (λ (o : Option RecoverCause). or_else (when (list_any (is_other header.m header.f) ss) Mixed) o)
+    ∙ ap (λ (o : Option RecoverCause). or_else (when (are_mixed (headers_of ss)) Mixed) o)
     (joined (when (has_gap hs) Gap) (when (is_none (frames_in hs)) Empty) (when (is_small hs) BadConfig)
     ∙ ap (λ (t : Bool). or_else (when t Gap) (or_else (when (is_none (frames_in hs)) Empty) (when (is_small hs) BadConfig))) gap
     ∙ ap (λ (o : Option RecoverCause). or_else
     (when (not (follow_from None (map number_found (sorted ss)) && follow_from None (map line_number (lines_found 0 (sorted ss))))) Gap) o)
     (ap (λ (t : Bool). or_else (when t Empty) (when (is_small hs) BadConfig)) empty
     ∙ ap (λ (t : Bool). or_else (when (has_none (lines_found 0 (sorted ss))) Empty) (when t BadConfig)) small))
-
-pub order_is : (hs : List Holding) (ss : List Scan) → AreScans hs ss
-    → or_else (fault_of_order hs) (when (is_small hs) BadConfig) ≡ order_fault ss (map (λ h. h.room) hs)
-order_is hs ss all = order_by hs ss (first_found ss) all refl

@@ -21,7 +21,7 @@ use Rattle.bw_log.specs.Oldest.{IsAfter, last_number}
 use Rattle.bw_log.proofs.Adding.{filter_all}
 use Rattle.bw_log.proofs.Entries.{all_append}
 use Rattle.bw_log.proofs.GivenUp.{all_pass, all_before, placed_more}
-use Rattle.bw_care.specs.Cleaning.{is_old, old_from, old_pages, oldest_last, IsRewritten, page_of}
+use Rattle.bw_care.specs.Cleaning.{is_old, old_from, pages_upto, oldest_last, IsRewritten, page_of}
 
 -- ---- which pages are old
 
@@ -54,8 +54,8 @@ old_within last frames p (suc n) q some le =
     within_by p n q (old_from last frames (p + 1) n) (is_old last (base_of p frames)) some (omega arith)
     (old_within last frames (p + 1) n q (omega arith) (omega arith))
 
-pub old_are_pages : (c : Contents) → AllByRecursion (IsPage c) (old_pages c)
-old_are_pages c = old_within (oldest_last c c.live) (counted c) 1 (length c.pages) (length c.pages) (omega arith) (omega arith)
+pub old_are_pages : (last : ℕ) (c : Contents) → AllByRecursion (IsPage c) (pages_upto last c)
+old_are_pages last c = old_within last (counted c) 1 (length c.pages) (length c.pages) (omega arith) (omega arith)
 
 -- an old page is among them
 is_among : (p : ℕ) → List ℕ → Bool
@@ -187,7 +187,7 @@ last_below : (next w : ℕ) (fs : List Frame) → AllByRecursion (λ f. is_befor
 last_below next w [] are less = less
 last_below next w (f ∷ fs) are less = last_below next f.number fs are.1 (ltb-true f.number next are.0)
 
-oldest_by : (c : Contents) (live : List Holding) (n : ℕ) → c.next ≡ Some n → 1 ≤ n → oldest_last c live < n
+pub oldest_by : (c : Contents) (live : List Holding) (n : ℕ) → c.next ≡ Some n → 1 ≤ n → oldest_last c live < n
 oldest_by c [] n is some = omega arith
 oldest_by c (h ∷ hs) n is some =
     let fs = segment_frames h.bytes in

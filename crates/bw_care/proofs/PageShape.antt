@@ -20,7 +20,7 @@ use Rattle.bw_page.proofs.Sorted.{Rises, ascends_rises, rises_ascends, rises-cha
 -- a leaf of page p, of lawful parts, with any number of pairs
 pub record IsShaped (p : ℕ) (leaf : Leaf) : Type 0 where
   pub page : leaf.page ≡ p
-  pub low : length leaf.low ≤ 64
+  pub low : length leaf.low ≤ 128
   pub pairs : AllByRecursion IsPair leaf.pairs
   pub rises : Rises leaf.pairs
 

@@ -1,9 +1,10 @@
 -- Frames of Bases one after the other, and the oldest segment after all of them.
 
-use Rattle.std.proofs.Common.{◌≡◌, ℕ, zero, suc, ◌+◌, ◌<◌, ◌≤◌, false, Option, Some, None, MatchOption}
+use Rattle.std.proofs.Common.{inl, inr, ◌≡◌, ℕ, zero, suc, ◌+◌, ◌^◌, ◌<◌, ◌≤◌, nat_lt, Bool, true, false, if◌then◌else◌, Option, Some, None, MatchOption}
 use Rattle.std.proofs.Common.{List, [], ◌∷◌, ◌++◌, length, map, take, drop, slice_get, refl, sym, ap, subst, ◌∙◌, append_assoc, append-nil}
 use Rattle.std.proofs.Common.{length-append, arith}
 use Rattle.std.specs.List.{AllByRecursion}
+use Rattle.std.proofs.lemmas.Bool.{cases_lt}
 use Rattle.std.proofs.lemmas.List.{map-append, length-map}
 use Rattle.bw_codec.specs.Grammar.{frame_bytes, IsBlock, IsFrame}
 use Rattle.bw_codec.specs.declared.block.Block.{Block}
@@ -22,10 +23,10 @@ use Rattle.bw_log.proofs.Reread.{length-frame}
 use Rattle.bw_log.proofs.Walks.{blocks_more}
 use Rattle.bw_log.proofs.LogLeft.{same_count}
 use Rattle.bw_care.specs.Cleaning.{IsRewritten, page_of, old_pages, oldest_last}
-use Rattle.bw_care.specs.Moving.{AreBases, IsFull, AreFull, Moved, KeepsOlder, IsCleaned}
+use Rattle.bw_care.specs.Moving.{AreBases, IsFull, AreFull, IsNextBehind, Moved, MovedBehind, KeepsOlder, KeepsNewest, IsCleaned}
 use Rattle.bw_care.proofs.BasesLeave.{frames_leave, all_rewritten, one_frame, some_stand, stand_more, next_range}
 use Rattle.bw_care.proofs.BoxesGrown.{longer_same, longer_all, appended_longer, appended_older, older_same, older_all, same_roster}
-use Rattle.bw_care.proofs.OldPages.{oldest_below, same_last, base_moved}
+use Rattle.bw_care.proofs.OldPages.{same_last, base_moved}
 use Rattle.bw_care.specs.declared.cleaning.Cleaned.{Cleaned}
 
 -- ---- one frame
@@ -95,11 +96,16 @@ full_then : (c : Contents) (xs ys : List Frame) (ps rest : List ℕ) → map pag
     → AreFull c (xs ++ ys) (ps ++ rest)
 full_then c xs ys ps rest told a b = full_more c xs ys (ps ++ rest) a (subst (AreFull c ys) (sym (drop_told ps rest (blocks_of xs) told)) b)
 
-pub moved_one : (old new : Contents) (x : Frame) (pages rest : List ℕ) → IsFull old x rest → 1 ≤ length pages → IsSound old → IsSound new → 1 ≤ length old.pages
+following_next : (number last n : ℕ) (t : Bool) → last < number → (if t then Some (number + 1) else None) ≡ Some n → last < n
+following_next number last n true less is = (let e : number + 1 ≡ n = cc in omega arith)
+following_next number last n false less is = absurd cc
+
+pub moved_one : (last : ℕ) (old new : Contents) (x : Frame) (pages rest : List ℕ) → IsNextBehind last old → KeepsNewest old new 1 → IsFull old x rest
+    → 1 ≤ length pages → IsSound old → IsSound new → 1 ≤ length old.pages
     → AreBases old x.blocks pages → old.next ≡ Some x.number → Appended old x new → IsSameLog old new
-    → Moved old new pages rest 1
-moved_one old new x pages rest full more a b some holds number added same =
-    let one = next_range old x.number a number in
+    → MovedBehind last old new pages rest 1
+moved_one last old new x pages rest next newest full more a b some holds number added same =
+    let behind = next x.number number in
     record {
       written = x ∷ [];
       counts = added.frames;
@@ -107,18 +113,21 @@ moved_one old new x pages rest full more a b some holds number added same =
       few = more;
       full = (subst (IsFull old x) (sym (drop_told pages rest x.blocks holds.told)) full, tt);
       holds = subst (λ (bs : List Block). AreBases old bs pages) (sym (one_frame x)) holds;
-      later = (oldest_below old x.number number one.0, tt);
+      later = (behind, tt);
+      next = λ n is. following_next x.number last n (nat_lt (x.number + 1) (2 ^ 64)) behind (sym added.next ∙ is);
       boxes_grew = appended_longer old x new added;
       older = appended_older old x new added;
+      newest = newest;
       works = added.works;
       table = same_pages old new x a b some holds.bases added.frames same.m;
       m = same.m;
       f = same.f;
       number = same.number;
+      old_to = same.old_to;
     }
 
-pub moved_none : (c : Contents) (rest : List ℕ) → c.is_failed ≡ false → Moved c c [] rest 0
-moved_none c rest works = record {
+pub moved_none : (last : ℕ) (c : Contents) (rest : List ℕ) → IsNextBehind last c → c.is_failed ≡ false → MovedBehind last c c [] rest 0
+moved_none last c rest next works = record {
   written = [];
   counts = sym (append-nil (counted c));
   count = refl;
@@ -126,14 +135,36 @@ moved_none c rest works = record {
   full = tt;
   holds = record { bases = tt; lawful = tt; told = refl };
   later = tt;
+  next = next;
   boxes_grew = longer_same (boxes c);
   older = older_same c.live;
+  newest = record { closed = λ shut none. shut; begun = λ shut some. absurd (omega arith); all = λ shut i inside. refl };
   works = works;
   table = refl;
   m = refl;
   f = refl;
   number = refl;
+  old_to = refl;
 }
+
+-- the newest segment stays over both
+newest_then : (old now new : Contents) (n k : ℕ) → KeepsOlder old.live now.live → KeepsOlder now.live new.live → KeepsNewest old now n → KeepsNewest now new k
+    → KeepsNewest old new (n + k)
+newest_then old now new n k a b x y = elim (cases_lt 0 n) [
+  | inl some ↦ record {
+    closed = λ shut none. absurd (omega arith);
+    begun = λ shut more. (let long = x.begun shut (omega arith) in let many = b.many in omega arith);
+    all = λ shut i inside. (let long = x.begun shut (omega arith) in b.same i (omega arith) ∙ x.all shut i inside);
+  }
+  | inr none ↦ (
+      let zero_frames : n ≡ 0 = omega arith in
+      record {
+        closed = λ shut all_none. y.closed (x.closed shut zero_frames) (omega arith);
+        begun = λ shut more. (let long = y.begun (x.closed shut zero_frames) (omega arith) in let many = a.many in omega arith);
+        all = λ shut i inside. (let many = a.many in y.all (x.closed shut zero_frames) i (omega arith) ∙ x.all shut i inside);
+      }
+      )
+]
 
 -- ---- the oldest segment stays
 
@@ -154,22 +185,15 @@ heads (h ∷ hs) (k ∷ ks) keeps two =
     let e : k ≡ h = cc in
     record { first = h; olds = hs; nows = ks; was = refl; is = ap (λ (x : Holding). x ∷ ks) e; more = omega arith }
 
-same_oldest : (old now : Contents) → IsSound old → IsSound now → 2 ≤ length old.live → KeepsOlder old.live now.live → old.is_failed ≡ false
-    → now.is_failed ≡ false → oldest_last now now.live ≡ oldest_last old old.live
-same_oldest old now a b two keeps works goes =
-    let hd = heads old.live now.live keeps two in
-    ap (oldest_last now) hd.is ∙ same_last old now hd.first hd.olds hd.nows a b hd.was hd.is works goes ∙ ap (oldest_last old) (sym hd.was)
-
 -- ---- frames after frames
 
-pub moved_then : (old now new : Contents) (ps qs rs : List ℕ) (n k : ℕ) → IsSound old → IsSound now → 2 ≤ length old.live → old.is_failed ≡ false
-    → Moved old now ps (qs ++ rs) n → Moved now new qs rs k → Moved old new (ps ++ qs) rs (n + k)
-moved_then old now new ps qs rs n k a b two works x y =
+pub moved_then : (last : ℕ) (old now new : Contents) (ps qs rs : List ℕ) (n k : ℕ) → MovedBehind last old now ps (qs ++ rs) n
+    → MovedBehind last now new qs rs k → MovedBehind last old new (ps ++ qs) rs (n + k)
+moved_then last old now new ps qs rs n k x y =
     let xs = x.written in
     let ys = y.written in
     let then_same : (p : ℕ) → content p (blocks_of (counted now)) ≡ content p (blocks_of (counted old)) =
     λ p. ap (λ (fs : List Frame). content p (blocks_of fs)) x.counts ∙ frames_leave p (counted old) xs x.holds.bases in
-    let last = same_oldest old now a b two x.older works x.works in
     let xn = x.count in let yn = y.count in
     let xf = x.few in let yf = y.few in
     record {
@@ -187,15 +211,17 @@ moved_then old now new ps qs rs n k a b two works x y =
         told = map-append page_of (blocks_of xs) (blocks_of ys) ∙ ap (λ (l : List ℕ). l ++ map page_of (blocks_of ys)) x.holds.told
             ∙ ap (λ (l : List ℕ). ps ++ l) y.holds.told;
       });
-      later = all_append (λ (f : Frame). oldest_last old old.live < f.number) xs ys x.later
-          (subst (λ (w : ℕ). AllByRecursion (λ (f : Frame). w < f.number) ys) last y.later);
+      later = all_append (λ (f : Frame). last < f.number) xs ys x.later y.later;
+      next = y.next;
       boxes_grew = longer_all (boxes old) (boxes now) (boxes new) x.boxes_grew y.boxes_grew;
       older = older_all old.live now.live new.live x.older y.older;
+      newest = newest_then old now new n k x.older y.older x.newest y.newest;
       works = y.works;
       table = y.table ∙ x.table;
       m = y.m ∙ x.m;
       f = y.f ∙ x.f;
       number = y.number ∙ x.number;
+      old_to = y.old_to ∙ x.old_to;
     }
 
 -- ---- parts of a list

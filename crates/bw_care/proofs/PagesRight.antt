@@ -8,7 +8,7 @@ use Rattle.std.specs.Option.{option_map}
 use Rattle.std.specs.Ordering.{nat_cmp}
 use Rattle.std.proofs.lemmas.Bool.{or_parts, eqb-true}
 use Rattle.bw_codec.specs.Bytes.{IsKey}
-use Rattle.bw_codec.specs.Grammar.{IsBlock, IsFrame}
+use Rattle.bw_codec.specs.Grammar.{IsBlock}
 use Rattle.bw_codec.specs.Touch.{touches}
 use Rattle.bw_codec.specs.declared.leaf.Leaf.{Leaf}
 use Rattle.bw_codec.specs.declared.block.Block.{Block}
@@ -23,7 +23,7 @@ use Rattle.bw_log.specs.Places.{all_placed, place_of, base_of}
 use Rattle.bw_log.specs.Contents.{IsTable, some_place, entry_place}
 use Rattle.bw_log.specs.Contents as log
 use Rattle.bw_log.specs.declared.places.PageAt.{PageAt}
-use Rattle.bw_care.specs.Lawful.{leaves_set, is_at_fault, first_such, contents}
+use Rattle.bw_care.specs.Lawful.{HasLawful, leaves_set, is_at_fault, first_such, contents}
 use Rattle.bw_care.specs.Paging.{Paged, Rise, IsIndex, IsLows, IsShortIf, first_wrong, leaves_in, line_at, AreOf, at_line, fault_among}
 use Rattle.bw_care.specs.Paging.{IsRight}
 use Rattle.bw_care.specs.Reading.{place_in, base_in, leaf_in, line_of}
@@ -53,7 +53,7 @@ pub lows_are : (m : ℕ) (blocks : List Block) (es : List Paged) (got : Bytes �
     → IsIndex es got → IsLows (leaves_set blocks) got
 lows_are m blocks es got laws rise from index = record {
   from = set_all_by m blocks (λ l. 1 ≤ l.page) (λ p l one is. (let page = (content_shaped m p blocks l laws is).page in omega arith)) blocks laws;
-  short = set_all_by m blocks (λ l. length l.low ≤ 64) (λ p l one is. (content_shaped m p blocks l laws is).low) blocks laws;
+  short = set_all_by m blocks (λ l. length l.low ≤ 128) (λ p l one is. (content_shaped m p blocks l laws is).low) blocks laws;
   listed = set_all_by m blocks (λ l. IsKey l.low → IsSome (got l.low)) (λ p l one is key. (
       let first = up_to l.low 0 p es l rise (from p (omega arith) ∙ is) refl in
       subst (λ (o : Option ℕ). IsSome o) (sym (index l.low key ∙ first.first)) refl)) blocks laws;
@@ -97,9 +97,9 @@ rise_from [] none sorted = tt
 rise_from (e ∷ es) none sorted =
     (above_zero e.0 (λ z. (let here = here_is 0 e es (sym z) in absurd cc)), rise_by e.0 es (all_less e.0 es sorted.0) sorted.1)
 
-pub rise_is : (m f : ℕ) (frames : List Frame) (es : List Paged) → AllByRecursion (IsFrame m f) frames → AreOf frames es
+pub rise_is : (m : ℕ) (frames : List Frame) (es : List Paged) → AllByRecursion (HasLawful m) frames → AreOf frames es
     → IsStrictlySortedBy nat_cmp (map (λ e. e.0) es) → Rise 0 es
-rise_is m f frames es laws of sorted = rise_from es (of 0 ∙ line_untouched 0 frames (none_zero m (blocks_of frames) (blocks_lawful m f frames laws))) sorted
+rise_is m frames es laws of sorted = rise_from es (of 0 ∙ line_untouched 0 frames (none_zero m (blocks_of frames) (blocks_lawful m frames laws))) sorted
 
 -- ---- lows are short
 
@@ -183,44 +183,44 @@ table_is m frames es rise of from none = record { places = places; bases = bases
 
 -- ---- together
 
-pub wrong_among : (m f : ℕ) (frames : List Frame) (es : List Paged) (got : Bytes → Option ℕ) (o : Option ℕ) → AllByRecursion (IsFrame m f) frames → Rise 0 es
+pub wrong_among : (m : ℕ) (frames : List Frame) (es : List Paged) (got : Bytes → Option ℕ) (o : Option ℕ) → AllByRecursion (HasLawful m) frames → Rise 0 es
     → AreOf frames es → IsIndex es got
     → ((set : List Leaf) → IsLows set got → AllByRecursion (λ e. IsShortIf e.1.leaf) es → o ≡ first_wrong m set 0 es) → o ≡ fault_among m frames
-wrong_among m f frames es got o laws rise of index is =
-    let blocks_law = blocks_lawful m f frames laws in
+wrong_among m frames es got o laws rise of index is =
+    let blocks_law = blocks_lawful m frames laws in
     let from = from_of frames es of in
     is (leaves_set (blocks_of frames)) (lows_are m (blocks_of frames) es got blocks_law rise from index)
     (short_all m (blocks_of frames) es blocks_law rise from)
     ∙ fault_is m frames es rise of
 
-numbers_from : (m f : ℕ) (frames : List Frame) → AllByRecursion (IsFrame m f) frames → AllByRecursion (λ x. 1 ≤ x.number) frames
-numbers_from m f [] laws = tt
-numbers_from m f (x ∷ xs) laws = (laws.0.head.numbered.0, numbers_from m f xs laws.1)
+numbers_from : (m : ℕ) (frames : List Frame) → AllByRecursion (HasLawful m) frames → AllByRecursion (λ x. 1 ≤ x.number) frames
+numbers_from m [] laws = tt
+numbers_from m (x ∷ xs) laws = (laws.0.0, numbers_from m xs laws.1)
 
 none_wrong : (m : ℕ) (frames : List Frame) (es : List Paged) → Rise 0 es → AreOf frames es → fault_among m frames ≡ None
     → first_wrong m (leaves_set (blocks_of frames)) 0 es ≡ None
 none_wrong m frames es rise of none = fault_is m frames es rise of ∙ none
 
-pub lawful_leaves : (m f : ℕ) (frames : List Frame) (es : List Paged) → AllByRecursion (IsFrame m f) frames → 1 ≤ length frames → Rise 0 es → AreOf frames es
+pub lawful_leaves : (m : ℕ) (frames : List Frame) (es : List Paged) → AllByRecursion (HasLawful m) frames → 1 ≤ length frames → Rise 0 es → AreOf frames es
     → fault_among m frames ≡ None → AreLeaves m (leaves_in es)
-lawful_leaves m f frames es laws some rise of none =
-    subst (AreLeaves m) (sym (found_leaves m frames es rise of (none_wrong m frames es rise of none))) (found_stands m f frames laws some none).lawful
+lawful_leaves m frames es laws some rise of none =
+    subst (AreLeaves m) (sym (found_leaves m frames es rise of (none_wrong m frames es rise of none))) (found_stands m frames laws some none).lawful
 
 map_length : {A B : Type 0} (g : A → B) (xs : List A) → length (map g xs) ≡ length xs
 map_length g [] = refl
 map_length g (x ∷ xs) = ap suc (map_length g xs)
 
-pub right_pages : (m f : ℕ) (frames : List Frame) (es : List Paged) (r : Pages) → AllByRecursion (IsFrame m f) frames → Rise 0 es → AreOf frames es
+pub right_pages : (m : ℕ) (frames : List Frame) (es : List Paged) (r : Pages) → AllByRecursion (HasLawful m) frames → Rise 0 es → AreOf frames es
     → fault_among m frames ≡ None
     → r.leaves.m ≡ m → r.leaves.away ≡ [] → r.leaves.leaves ≡ leaves_in es → r.table.items ≡ map at_line es → IsRight m frames r
-right_pages m f frames es r laws rise of none limit here leaves table =
+right_pages m frames es r laws rise of none limit here leaves table =
     let no_fault = none_wrong m frames es rise of none in
     record {
       none = none;
       limit = limit;
       here = here;
       leaves = leaves ∙ found_leaves m frames es rise of no_fault;
-      table = subst (λ (t : List PageAt). IsTable t frames) (sym table) (table_is m frames es rise of (numbers_from m f frames laws) no_fault);
+      table = subst (λ (t : List PageAt). IsTable t frames) (sym table) (table_is m frames es rise of (numbers_from m frames laws) no_fault);
       count = ap (λ (t : List PageAt). length t) table ∙ map_length at_line es ∙ sym (leaves_count m 0 (leaves_set (blocks_of frames)) es no_fault)
           ∙ sym (ap (λ (l : List Leaf). length l) leaves);
     }

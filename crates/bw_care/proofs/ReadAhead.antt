@@ -19,7 +19,7 @@ use Rattle.bw_page.specs.Standing.{content, blocks_of}
 use Rattle.bw_log.specs.Contents.{Contents, counted}
 use Rattle.bw_log.specs.Reads.{IsPage, segment_at}
 use Rattle.bw_care.specs.Ahead.{PageRead, IsBaseOf, IsWithin, Tells, AreSpots, IsPiece, IsNoted, IsOldest, Puts}
-use Rattle.bw_care.specs.Moving.{Moved}
+use Rattle.bw_care.specs.Moving.{MovedBehind}
 use Rattle.bw_care.specs.declared.ahead.Spot.{Spot}
 use Rattle.bw_care.proofs.BasesLeave.{frames_leave}
 use Rattle.bw_care.proofs.CleaningSteps.{each_of, rest_is}
@@ -186,9 +186,10 @@ spots_behind c bytes (s ∷ ss) [] (suc i) are = none_behind c bytes (drop i ss)
   none_behind c bytes (s ∷ ss) = tt
 spots_behind c bytes (s ∷ ss) (p ∷ ps) (suc i) are = spots_behind c bytes ss ps i are.1
 
-pub spots_rest : (old now : Contents) (bytes : List ℕ) (spots : List Spot) (pages : List ℕ) (i : ℕ) (ps rest : List ℕ) (n : ℕ) → Moved old now ps rest n
+pub spots_rest : (last : ℕ) (old now : Contents) (bytes : List ℕ) (spots : List Spot) (pages : List ℕ) (i : ℕ) (ps rest : List ℕ) (n : ℕ)
+    → MovedBehind last old now ps rest n
     → AreSpots old bytes spots pages → AreSpots now bytes (drop i spots) (take (length pages - i) (drop i pages))
-spots_rest old now bytes spots pages i ps rest n moved are =
+spots_rest last old now bytes spots pages i ps rest n moved are =
     let same : (p : ℕ) → content p (blocks_of (counted now)) ≡ content p (blocks_of (counted old)) =
     λ p. ap (λ (fs : List Frame). content p (blocks_of fs)) moved.counts ∙ frames_leave p (counted old) moved.written moved.holds.bases in
     subst (AreSpots now bytes (drop i spots)) (sym (rest_is pages i))

@@ -11,14 +11,14 @@ use Rattle.bw_log.specs.declared.places.Tables.{Tables}
 use Rattle.bw_care.proofs.ScannedLog.{IsScanned, scanned_image}
 use Rattle.bw_log.specs.Contents.{image, IsSound, IsBounded, IsRoomy, IsSpare}
 use Rattle.bw_care.specs.Scanning.{has_header, is_bare}
-use Rattle.bw_care.specs.Recovery.{placed_by, segments_in, live_in, spares_in, too_large, is_small, header_of_all}
+use Rattle.bw_care.specs.Recovery.{placed_by, segments_in, live_in, spares_in, too_large, is_small, limit_in}
 use Rattle.bw_care.proofs.SortedOut.{not_bare, number_at}
 
 any_none : {X : Type 0} (test : X → Bool) (xs : List X) → list_any test xs ≡ false → AllByRecursion (λ x. test x ≡ false) xs
 any_none test [] e = tt
 any_none test (x ∷ xs) e = let two = or_parts (test x) (list_any test xs) e in (two.0, any_none test xs two.1)
 
-all_by : {X : Type 0} (P Q : X → Type 0) (xs : List X) → ((x : X) → P x → Q x) → AllByRecursion P xs → AllByRecursion Q xs
+pub all_by : {X : Type 0} (P Q : X → Type 0) (xs : List X) → ((x : X) → P x → Q x) → AllByRecursion P xs → AllByRecursion Q xs
 all_by P Q [] f all = tt
 all_by P Q (x ∷ xs) f all = (f x all.0, all_by P Q xs f all.1)
 
@@ -106,11 +106,11 @@ all_two : {X : Type 0} (P Q R : X → Type 0) (xs : List X) → ((x : X) → P x
 all_two P Q R [] f ps qs = tt
 all_two P Q R (x ∷ xs) f ps qs = (f x ps.0 qs.0, all_two P Q R xs f ps.1 qs.1)
 
-pub spares_roomy : (hs : List Holding) → too_large hs ≡ false → is_small hs ≡ false → AllByRecursion (IsRoomy (header_of_all hs).f) (spares_in hs)
+pub spares_roomy : (hs : List Holding) → too_large hs ≡ false → is_small hs ≡ false → AllByRecursion (IsRoomy (limit_in hs)) (spares_in hs)
 spares_roomy hs large small =
-    all_two (λ (h : Holding). nat_lt h.room (24 + (header_of_all hs).f) ≡ false) IsBounded (IsRoomy (header_of_all hs).f) (spares_in hs)
-    (λ h off sized. (ltb-false h.room (24 + (header_of_all hs).f) off, sized))
-    (any_none (λ (h : Holding). nat_lt h.room (24 + (header_of_all hs).f)) (spares_in hs) small)
+    all_two (λ (h : Holding). nat_lt h.room (24 + limit_in hs) ≡ false) IsBounded (IsRoomy (limit_in hs)) (spares_in hs)
+    (λ h off sized. (ltb-false h.room (24 + limit_in hs) off, sized))
+    (any_none (λ (h : Holding). nat_lt h.room (24 + limit_in hs)) (spares_in hs) small)
     (filter_all IsBounded (λ h. is_bare h.bytes) hs (all_bounded hs large))
 
 bare_empty : (bytes : List ℕ) → is_bare bytes ≡ true → bytes ≡ []
@@ -131,7 +131,7 @@ are_spares f hs wide = all_two (λ (x : Holding). x.bytes ≡ []) (IsRoomy f) (I
 
 -- ---- the log is sound
 
-pub sound_is : (hs : List Holding) (t : Tables) (leaves : List Leaf) → too_large hs ≡ false → is_small hs ≡ false → t.f ≡ (header_of_all hs).f
+pub sound_is : (hs : List Holding) (t : Tables) (leaves : List Leaf) → too_large hs ≡ false → is_small hs ≡ false → t.f ≡ limit_in hs
     → IsScanned (image (adopted (live_in hs) (spares_in hs) t)) leaves
     → IsSound (adopted (live_in hs) (spares_in hs) t)
 sound_is hs t leaves large small same s =

@@ -9,7 +9,7 @@ use Rattle.bw_codec.specs.declared.leaf.Leaf.{Leaf}
 use Rattle.bw_page.specs.Standing.{Stand}
 use Rattle.bw_log.specs.Places.{first_number, AreLinked}
 use Rattle.bw_log.specs.Segments.{frames_of, entries, AreLive, IsCleanLast, AreFrom, following, is_before_next, next_of}
-use Rattle.bw_log.specs.Contents.{Image, IsImage, IsTable, counted_in, counted_at}
+use Rattle.bw_log.specs.Contents.{Image, IsImage, limits_of, IsTable, counted_in, counted_at}
 use Rattle.bw_log.specs.declared.places.FrameAt.{FrameAt}
 use Rattle.bw_log.proofs.Entries.{frames_of_entries}
 
@@ -47,9 +47,10 @@ counted_all n (f ∷ fs) from some =
 
 -- what a scan has seen of the segments, as a log has it
 pub record IsScanned (i : Image) (leaves : List Leaf) : Type 0 where
-  pub limits : (4 ≤ i.m) × (i.m ≤ 32) × (16384 ≤ i.f) × (i.f ≤ 65536)
+  pub limits : (4 ≤ i.m) × (i.m ≤ 32) × (65536 ≤ i.f) × (i.f ≤ 262144)
   pub numbers : 1 ≤ i.number
-  pub live : AreLive i.m i.f i.number i.bytes
+  pub live : (old_f : ℕ) × AreLive (limits_of i old_f) i.number i.bytes
+  pub news : i.old_to < i.number + length i.bytes
   pub ends : i.is_open ≡ true → IsCleanLast i.m i.f i.number i.bytes
   pub some : 1 ≤ length (frames_of i.bytes)
   pub numbered : AreFrom (first_number (frames_of i.bytes)) (frames_of i.bytes)
@@ -85,6 +86,7 @@ scanned_image i leaves s =
       limits = s.limits;
       numbers = s.numbers;
       live = s.live;
+      news = s.news;
       ends = λ opened works. s.ends opened;
       every = λ works. all;
       left = λ failed. inl (sym all);

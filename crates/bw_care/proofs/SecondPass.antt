@@ -3,10 +3,12 @@
 use Rattle.std.proofs.Common.{◌≡◌, ℕ, zero, suc, ◌+◌, ◌-◌, ◌<◌, Option, Some, None, List, [], ◌∷◌, ◌++◌, length, drop, map}
 use Rattle.std.proofs.Common.{slice_get, get_or, IfSome, refl, sym, ap, subst, ◌∙◌, append_assoc, append-nil, arith}
 use Rattle.std.proofs.lemmas.List.{length-map}
-use Rattle.bw_codec.specs.Reading.{front_at}
+use Rattle.bw_codec.specs.Reading.{front_at, heading_of}
 use Rattle.bw_codec.specs.declared.block.Place.{Place}
 use Rattle.bw_codec.specs.declared.block.Block.{Block}
 use Rattle.bw_codec.specs.declared.block.Frame.{Frame}
+use Rattle.bw_codec.specs.declared.block.Header.{Header}
+use Rattle.bw_codec.specs.declared.block.HeaderRead.TheVariants as heading
 use Rattle.bw_device.specs.Holding.{Holding}
 use Rattle.bw_log.specs.Places.{all_placed, bad_link}
 use Rattle.bw_log.specs.Segments.{frames_at, segment_frames, frames_of}
@@ -24,18 +26,25 @@ use Rattle.bw_care.proofs.FramesJoined.{placed_join}
 -- ---- one segment
 
 -- the frames that were read, one more, and the rest
-pub frames_around : (m f : ℕ) (bytes : List ℕ) (at : ℕ) (seen : List Frame) (told : List FrameAt) (frame : Frame)
-    → IsReadTo m f bytes at (seen ++ frame ∷ []) told → (more : List Frame) × (seen ++ frame ∷ more ≡ frames_behind m f bytes)
-frames_around m f bytes at seen told frame r =
-    let more = (frames_at (length bytes - length (seen ++ frame ∷ [])) m f (drop at bytes)).0 in
+pub frames_around : (head : Header) (bytes : List ℕ) (at : ℕ) (seen : List Frame) (told : List FrameAt) (frame : Frame)
+    → IsReadTo head bytes at (seen ++ frame ∷ []) told → (more : List Frame) × (seen ++ frame ∷ more ≡ frames_behind head bytes)
+frames_around head bytes at seen told frame r =
+    let more = (frames_at (length bytes - length (seen ++ frame ∷ [])) head.version head.m head.f (drop at bytes)).0 in
     (more, sym (append_assoc seen (frame ∷ []) more) ∙ sym (ap (λ (x : List Frame × List ℕ). x.0) r.read))
 
 -- bytes that end in a tail have nothing else behind their frames
-pub never_bad : (m f : ℕ) (bytes : List ℕ) (at : ℕ) (seen : List Frame) (told : List FrameAt) → EndsInTail m f bytes → IsReadTo m f bytes at seen told
-    → front_at m f (drop at bytes) ≡ None → ⊥
-never_bad m f bytes at seen told ends r none =
-    let bad = bad_there m f bytes at seen (ends_bad m f bytes at seen told r none) none in
+pub never_bad : (head : Header) (bytes : List ℕ) (at : ℕ) (seen : List Frame) (told : List FrameAt) → EndsInTail head bytes → IsReadTo head bytes at seen told
+    → front_at head.version head.m head.f (drop at bytes) ≡ None → ⊥
+never_bad head bytes at seen told ends r none =
+    let bad = bad_there head bytes at seen (ends_bad head bytes at seen told r none) none in
     (let e : Some at ≡ None = sym bad ∙ ends in absurd cc)
+
+-- a segment's frames stand behind the header that is read
+pub framed_header : (bytes : List ℕ) (h : Header) (x : IsFramed bytes) → heading_of bytes ≡ heading.Whole h → x.header ≡ h
+framed_header bytes h x is = (let e : heading.Whole x.header ≡ heading.Whole h = sym x.read ∙ is in cc)
+
+pub never_headless : (bytes : List ℕ) → IsFramed bytes → heading_of bytes ≡ heading.Bad → ⊥
+never_headless bytes x is = (let e : heading.Whole x.header ≡ heading.Bad = sym x.read ∙ is in absurd cc)
 
 -- ---- one box
 
@@ -51,10 +60,9 @@ some_told P (Some k) h is told = (let same : k ≡ h = cc in subst P same told)
 some_told P None h is told = absurd cc
 
 -- the blocks behind the bytes that were read are those of the box
-pub box_frames : (m f : ℕ) (items bytes : List ℕ) (o : Option Holding) (h : Holding) → o ≡ Some h → IfSome o (λ k. IsFramed m f k.bytes)
-    → IfSome o (λ k. items ≡ k.bytes) → bytes ≡ items → frames_behind m f bytes ≡ segment_frames h.bytes
-box_frames m f items bytes o h there framed told same =
-    ap (frames_behind m f) (same ∙ some_told (λ k. items ≡ k.bytes) o h there told) ∙ sym (some_told (λ k. IsFramed m f k.bytes) o h there framed).frames
+pub box_frames : (items bytes : List ℕ) (o : Option Holding) (h : Holding) → o ≡ Some h → IfSome o (λ k. items ≡ k.bytes) → bytes ≡ items
+    → segment_frames bytes ≡ segment_frames h.bytes
+box_frames items bytes o h there told same = ap segment_frames (same ∙ some_told (λ k. items ≡ k.bytes) o h there told)
 
 pub box_wrong : (first : ℕ) (done rest : List (Place × Block)) (fs gs : List Frame) (old new : List Holding) (fault : ReadFault) (cause : RecoverCause)
     → fs ≡ gs → new ≡ old → LinkFaultIs (bad_link first [] (done ++ (all_placed fs ++ rest))) fault → cause ≡ as_cause fault
@@ -82,23 +90,23 @@ place_inside v xs old place h same there =
     omega (arith, ap (λ (l : List Holding). length l) same, length-map xs v)
 
 -- the next segment that is ready
-pub record Next (m f : ℕ) (boxes : List Holding) (place : ℕ) (places : List ℕ) (hs : List Holding) : Type 0 where
+pub record Next (boxes : List Holding) (place : ℕ) (places : List ℕ) (hs : List Holding) : Type 0 where
   pub here : Holding
   pub rest : List Holding
   pub is : hs ≡ here ∷ rest
   pub at : slice_get boxes place ≡ Some here
-  pub framed : IsFramed m f here.bytes
-  pub ready : AreReady m f boxes places rest
+  pub framed : IsFramed here.bytes
+  pub ready : AreReady boxes places rest
 
-pub next_ready : (m f : ℕ) (boxes : List Holding) (places : List ℕ) (n : ℕ) (hs : List Holding) → n < length places
-    → AreReady m f boxes (drop n places) hs → Next m f boxes (get_or places n 0) (drop (n + 1) places) hs
-next_ready m f boxes [] n hs inside ready = absurd (omega arith)
-next_ready m f boxes (p ∷ ps) zero [] inside ready = absurd ready
-next_ready m f boxes (p ∷ ps) zero (h ∷ hs) inside ready =
+pub next_ready : (boxes : List Holding) (places : List ℕ) (n : ℕ) (hs : List Holding) → n < length places
+    → AreReady boxes (drop n places) hs → Next boxes (get_or places n 0) (drop (n + 1) places) hs
+next_ready boxes [] n hs inside ready = absurd (omega arith)
+next_ready boxes (p ∷ ps) zero [] inside ready = absurd ready
+next_ready boxes (p ∷ ps) zero (h ∷ hs) inside ready =
     record { here = h; rest = hs; is = refl; at = ready.0; framed = ready.1; ready = ready.2 }
-next_ready m f boxes (p ∷ ps) (suc n) hs inside ready =
+next_ready boxes (p ∷ ps) (suc n) hs inside ready =
     let next : suc (n + 1) ≡ suc n + 1 = omega arith in
-    subst (λ (k : ℕ). Next m f boxes (get_or ps n 0) (drop k (p ∷ ps)) hs) next (next_ready m f boxes ps n hs (omega arith) ready)
+    subst (λ (k : ℕ). Next boxes (get_or ps n 0) (drop k (p ∷ ps)) hs) next (next_ready boxes ps n hs (omega arith) ready)
 
 -- one more segment was read
 pub segment_more : (seen : List Holding) (h : Holding)

@@ -5,7 +5,7 @@ use Rattle.std.proofs.Common.{append_assoc, append-nil}
 use Rattle.std.specs.List.{fold, filter}
 use Rattle.byteorder.specs.Endian.{little_number}
 use Rattle.bw_codec.specs.Grammar.{agrees, segment_word, is_header}
-use Rattle.bw_codec.specs.Reading.{header_in, heading_of}
+use Rattle.bw_codec.specs.Reading.{version_in, header_in, heading_of}
 use Rattle.bw_codec.specs.declared.block.Header.{Header}
 use Rattle.bw_codec.specs.declared.block.HeaderRead.TheVariants as heading
 use Rattle.bw_device.specs.Holding.{Holding}
@@ -37,7 +37,7 @@ whole_by false b c d e x h is = absurd cc
 
 pub header_is : (bytes : List ℕ) (h : Header) → heading_of bytes ≡ heading.Whole h → h ≡ header_in bytes
 unfolding heading_of
-header_is bytes h is = whole_by (agrees bytes segment_word) (nat_lt (length bytes) 24) (nat_lt 0 (length bytes)) (little_number 2 (drop 18 bytes) == 0)
+header_is bytes h is = whole_by (agrees bytes (segment_word (version_in bytes))) (nat_lt (length bytes) 24) (nat_lt 0 (length bytes)) (little_number 2 (drop 18 bytes) == 0)
     (is_header (header_in bytes)) (header_in bytes) h is
 
 pub bare_none : has_header [] ≡ false

@@ -17,15 +17,17 @@ use Rattle.bw_codec.specs.declared.block.Place.{Place}
 use Rattle.bw_codec.specs.declared.leaf.Leaf.{Leaf}
 use Rattle.bw_device.specs.Holding.{Holding}
 use Rattle.bw_page.specs.Standing.{after, content, blocks_of}
-use Rattle.bw_log.specs.Contents.{Contents, counted, IsSound}
+use Rattle.bw_log.specs.Contents.{Contents, image, limits_of, counted, IsSound}
 use Rattle.bw_log.specs.Oldest.{last_number}
 use Rattle.bw_log.specs.Places.{later, last_place, all_placed, first_number, place_of}
 use Rattle.bw_log.specs.Reads.{IsPage}
-use Rattle.bw_log.specs.Segments.{segment_frames, frames_of, AreFrom, AreLive, IsLive}
+use Rattle.bw_log.specs.Segments.{Limits, segment_frames, frames_of, AreFrom, AreLive, IsLive}
+use Rattle.bw_log.specs.Segments as log
 use Rattle.bw_log.proofs.GivenUp.{placed_more}
 use Rattle.bw_log.proofs.Walk.{same_fold}
 use Rattle.bw_care.specs.Ahead.{PageRead, IsBaseOf, Tells, AreSpots, piece_at, IsOldest, oldest_frames, Says, IsSpelled}
-use Rattle.bw_care.specs.Behind.{frames_behind, EndsInTail}
+use Rattle.bw_care.specs.Behind.{frames_behind}
+use Rattle.bw_care.specs.Forward.{IsFramed}
 use Rattle.bw_care.specs.Cleaning.{is_old, oldest_last}
 use Rattle.bw_care.specs.Reading.{IsRead, leaf_in, line_of}
 use Rattle.bw_care.specs.declared.ahead.Spot.{Spot}
@@ -106,31 +108,35 @@ says_read c lines last p sound works ends says page old leaf is =
 
 -- ---- the bytes
 
-behind_is : (m f n : ℕ) (bytes : List ℕ) → IsLive m f n bytes → frames_behind m f bytes ≡ segment_frames bytes
+behind_is : (z : Limits) (n : ℕ) (bytes : List ℕ) → IsLive z n bytes → segment_frames bytes ≡ frames_behind (log.header_in z n) bytes
 unfolding segment_frames
-behind_is m f n bytes live = rw (live_heading m f n bytes live, segment_frames) refl
+behind_is z n bytes live = rw (live_heading z n bytes live, segment_frames) refl
 
--- frames behind a header, those of the oldest segment, and a tail
-pub record HoldsOldest (c : Contents) (m f : ℕ) (bytes : List ℕ) : Type 0 where
-  pub long : 24 ≤ length bytes
-  pub lawful : EndsInTail m f bytes
-  pub frames : frames_behind m f bytes ≡ oldest_frames c.live
+-- a header, the frames of the oldest segment, and a tail
+pub record HoldsOldest (c : Contents) (bytes : List ℕ) : Type 0 where
+  pub framed : IsFramed bytes
+  pub frames : segment_frames bytes ≡ oldest_frames c.live
 
 oldest_by : (c : Contents) (live : List Holding) (bytes : List ℕ) → IsSound c → c.live ≡ live → 0 < length live
-    → IfSome (slice_get live 0) (λ h. bytes ≡ h.bytes) → HoldsOldest c c.m c.f bytes
+    → IfSome (slice_get live 0) (λ h. bytes ≡ h.bytes) → HoldsOldest c bytes
 oldest_by c [] bytes sound is some same = absurd (omega arith)
 oldest_by c (h ∷ hs) bytes sound is some same =
-    let live : IsLive c.m c.f c.number h.bytes =
-    (subst (λ (l : List Holding). AreLive c.m c.f c.number (map (λ (x : Holding). x.bytes) l)) is sound.holds.live).0 in
-    subst (HoldsOldest c c.m c.f) (sym same) (record {
-      long = live_long c.m c.f c.number h.bytes live;
-      lawful = live_ends c.m c.f c.number h.bytes live;
-      frames = behind_is c.m c.f c.number h.bytes live ∙ ap oldest_frames (sym is);
+    let z = limits_of (image c) sound.holds.live.0 in
+    let live : IsLive z c.number h.bytes =
+    (subst (λ (l : List Holding). AreLive z c.number (map (λ (x : Holding). x.bytes) l)) is sound.holds.live.1).0 in
+    subst (HoldsOldest c) (sym same) (record {
+      framed = record {
+        header = log.header_in z c.number;
+        read = live_heading z c.number h.bytes live;
+        long = live_long z c.number h.bytes live;
+        frames = behind_is z c.number h.bytes live;
+        lawful = live_ends z c.number h.bytes live;
+      };
+      frames = ap oldest_frames (sym is);
     })
 
-pub holds_oldest : (c : Contents) (m f : ℕ) (bytes read : List ℕ) → IsSound c → 0 < length c.live → IsOldest c bytes → read ≡ bytes → m ≡ c.m → f ≡ c.f
-    → HoldsOldest c m f read
-holds_oldest c m f bytes read sound some oldest same ms fl = rw (same, ms, fl) (oldest_by c c.live bytes sound refl some oldest)
+pub holds_oldest : (c : Contents) (bytes read : List ℕ) → IsSound c → 0 < length c.live → IsOldest c bytes → read ≡ bytes → HoldsOldest c read
+holds_oldest c bytes read sound some oldest same = rw same (oldest_by c c.live bytes sound refl some oldest)
 
 -- ---- a page spelled behind them
 

@@ -1,29 +1,32 @@
 -- From what was scanned to a plan: rooms, causes, and a log that may be adopted.
 
-use Rattle.std.proofs.Common.{◌≡◌, ℕ, zero, suc, ◌<◌, ◌≤◌, ◌||◌, not, nat_lt, Bool, true, false, Option, Some, None}
+use Rattle.std.proofs.Common.{◌≡◌, ℕ, zero, suc, ◌<◌, ◌≤◌, ◌==◌, ◌||◌, if◌then◌else◌, not, nat_lt, Bool, true, false, Option, Some, None}
 use Rattle.std.proofs.Common.{Ok, Err, IfSome, List, [], ◌∷◌, ◌++◌, length, map, drop, slice_get, refl, sym, ap, subst, ◌∙◌, arith, length-append, length-drop}
 use Rattle.std.specs.List.{fold, list_any, AllByRecursion}
-use Rattle.std.proofs.lemmas.Bool.{and_parts, le-ltb, ltb-false}
+use Rattle.std.proofs.lemmas.Bool.{and_parts, eqb-true, le-ltb, ltb-false}
 use Rattle.std.proofs.lemmas.List.{length-map}
-use Rattle.bw_codec.specs.Grammar.{IsHeader, IsFrame}
+use Rattle.bw_codec.specs.Grammar.{IsHeader}
+use Rattle.bw_codec.specs.Version.{least_limit, greatest_limit}
 use Rattle.bw_codec.specs.declared.block.Header.{Header}
 use Rattle.bw_codec.specs.declared.block.Frame.{Frame}
 use Rattle.bw_device.specs.Holding.{Holding}
 use Rattle.bw_page.specs.Standing.{blocks_of}
 use Rattle.bw_log.specs.Places.{or_else, bad_link, first_number, all_placed}
+use Rattle.bw_log.specs.Segments.{Limits, frames_of}
 use Rattle.bw_log.specs.declared.places.FrameAt.{FrameAt}
 use Rattle.bw_care.specs.Scanning.{rest_of}
 use Rattle.bw_care.specs.Scanned.{IsScan, AreScans}
 use Rattle.bw_care.specs.Recovery.{recovery, answer, found_in, too_large, bytes_fault, fault_of_order, fault_of_frames, is_small, when}
-use Rattle.bw_care.specs.Recovery.{header_of_all, frames_in, live_in, is_none, link_fault, link_fault_by, page_fault, page_fault_by, last_number}
+use Rattle.bw_care.specs.Recovery.{pairs_in, limit_in, pairs_of, limit_of, are_mixed, frames_in, live_in, is_none, link_fault, link_fault_by, page_fault, page_fault_by, last_number}
 use Rattle.bw_care.specs.Passing.{PassStops}
 use Rattle.bw_care.specs.Found.{Refuses}
+use Rattle.bw_care.specs.Lawful.{HasLawful}
 use Rattle.bw_care.specs.Forward.{IsFramed, AreReady, ForwardStops}
 use Rattle.bw_care.specs.Paging.{PageFaultIs, fault_among}
 use Rattle.bw_care.specs.Planned.{HasRoom, AreRooms, RoomsStop, IsSurvey, first_line, last_line}
 use Rattle.bw_care.specs.Surveying.{HasShortTail}
-use Rattle.bw_care.specs.Ordering.{number_found, sorted, is_other, follow_from, first_found, lines_found, line_number, has_none}
-use Rattle.bw_care.specs.Ordering.{order_fault_by, order_fault, AreFound, CauseIs}
+use Rattle.bw_care.specs.Ordering.{number_found, sorted, headers_of, follow_from, lines_found, line_number, has_none}
+use Rattle.bw_care.specs.Ordering.{order_fault, AreFound, CauseIs}
 use Rattle.bw_care.specs.declared.fault.RecoverCause.{RecoverCause}
 use Rattle.bw_care.specs.declared.fault.RecoverCause.TheVariants.{NoMemory, BadConfig, Device, Spent, Empty, BadBytes, Gap, Mixed, BadLink, Unlawful}
 use Rattle.bw_care.specs.declared.scanning.Scan.{Scan}
@@ -32,8 +35,8 @@ use Rattle.bw_care.specs.declared.ordering.Found.{Found}
 use Rattle.bw_care.specs.declared.plan.Survey.{Survey}
 use Rattle.bw_care.proofs.HeadersRead.{header_long}
 use Rattle.bw_care.proofs.TailsCounted.{no_bytes_fault}
-use Rattle.bw_care.proofs.NumberOrder.{joined, header_first, live_found, all_numbers, order_is, frames_here, none_by}
-use Rattle.bw_care.proofs.LiveRow.{IsLike, sorted_like}
+use Rattle.bw_care.proofs.NumberOrder.{joined, headers_are, live_found, all_numbers, order_is, frames_here, none_by}
+use Rattle.bw_care.proofs.LiveRow.{IsLike, row_limits, sorted_like}
 use Rattle.bw_care.proofs.FrameRow.{all_lawful}
 
 -- ---- rooms
@@ -92,8 +95,8 @@ scans_count [] (s ∷ ss) all = absurd all
 scans_count (h ∷ hs) [] all = absurd all
 scans_count (h ∷ hs) (s ∷ ss) all = ap suc (scans_count hs ss all.1)
 
-rest_short : (m f : ℕ) (bytes : List ℕ) (flat rest : List ℕ) → drop 24 bytes ≡ flat ++ rest → length rest ≤ length bytes
-rest_short m f bytes flat rest parts =
+rest_short : (bytes : List ℕ) (flat rest : List ℕ) → drop 24 bytes ≡ flat ++ rest → length rest ≤ length bytes
+rest_short bytes flat rest parts =
     let size = ap (λ (b : List ℕ). length b) parts in
     omega (arith, size, length-append flat rest, length-drop 24 bytes)
 
@@ -102,7 +105,7 @@ scan_short h Bare room is has = tt
 scan_short h Part room is has = tt
 scan_short h (Live header b) room is has =
     let tail = is.2.tail in
-    let rest = rest_short header.m header.f h.bytes _ (rest_of header.m header.f h.bytes) is.2.parts in
+    let rest = rest_short h.bytes _ (rest_of header h.bytes) is.2.parts in
     let held = has.1 in
     let bound = ltb-false 1073741824 h.room has.2 in
     omega arith
@@ -119,7 +122,7 @@ scans_short (h ∷ hs) (s ∷ ss) (r ∷ rooms) all held count = (scan_short h s
 
 abbrev after_bytes : List Holding → Option RecoverCause
 after_bytes hs =
-    or_else (fault_of_order hs) (or_else (when (is_small hs) BadConfig) (fault_of_frames (header_of_all hs).m (frames_in hs)))
+    or_else (fault_of_order hs) (or_else (when (is_small hs) BadConfig) (fault_of_frames (pairs_in hs) (frames_in hs)))
 
 large_answer : (hs : List Holding) → too_large hs ≡ true → recovery hs ≡ Err BadConfig
 large_answer hs large =
@@ -141,14 +144,14 @@ later_answer hs o large bytes is =
 order_after : (hs : List Holding) (cause : RecoverCause) → or_else (fault_of_order hs) (when (is_small hs) BadConfig) ≡ Some cause
     → after_bytes hs ≡ Some cause
 order_after hs cause is =
-    sym (joined (fault_of_order hs) (when (is_small hs) BadConfig) (fault_of_frames (header_of_all hs).m (frames_in hs)))
-    ∙ ap (λ (o : Option RecoverCause). or_else o (fault_of_frames (header_of_all hs).m (frames_in hs))) is
+    sym (joined (fault_of_order hs) (when (is_small hs) BadConfig) (fault_of_frames (pairs_in hs) (frames_in hs)))
+    ∙ ap (λ (o : Option RecoverCause). or_else o (fault_of_frames (pairs_in hs) (frames_in hs))) is
 
 frames_after : (hs : List Holding) → or_else (fault_of_order hs) (when (is_small hs) BadConfig) ≡ None
-    → after_bytes hs ≡ fault_of_frames (header_of_all hs).m (frames_in hs)
+    → after_bytes hs ≡ fault_of_frames (pairs_in hs) (frames_in hs)
 frames_after hs is =
-    sym (joined (fault_of_order hs) (when (is_small hs) BadConfig) (fault_of_frames (header_of_all hs).m (frames_in hs)))
-    ∙ ap (λ (o : Option RecoverCause). or_else o (fault_of_frames (header_of_all hs).m (frames_in hs))) is
+    sym (joined (fault_of_order hs) (when (is_small hs) BadConfig) (fault_of_frames (pairs_in hs) (frames_in hs)))
+    ∙ ap (λ (o : Option RecoverCause). or_else o (fault_of_frames (pairs_in hs) (frames_in hs))) is
 
 pub rooms_refuse : (hs new : List Holding) (cause : RecoverCause) → new ≡ hs → RoomsStop hs cause → Refuses hs cause new
 rooms_refuse hs new NoMemory same is = same
@@ -209,33 +212,55 @@ not_off true e = refl
 not_off false e = absurd cc
 
 -- the tests of the order, one by one
-record Tested (ss : List Scan) (rooms : List ℕ) (h : Header) : Type 0 where
-  other : list_any (is_other h.m h.f) ss ≡ false
+record Tested (ss : List Scan) : Type 0 where
+  mixed : are_mixed (headers_of ss) ≡ false
   segments : follow_from None (map number_found (sorted ss)) ≡ true
   frames : follow_from None (map line_number (lines_found 0 (sorted ss))) ≡ true
   some : has_none (lines_found 0 (sorted ss)) ≡ false
 
-tested : (ss : List Scan) (rooms : List ℕ) (h : Header) → first_found ss ≡ Some h → order_fault ss rooms ≡ None → Tested ss rooms h
-tested ss rooms h first none =
-    let mixed = when (list_any (is_other h.m h.f) ss) Mixed in
-    let all = or_none _ _ (ap (λ (o : Option Header). order_fault_by o ss rooms) (sym first) ∙ none) in
+tested : (ss : List Scan) (rooms : List ℕ) → order_fault ss rooms ≡ None → Tested ss
+tested ss rooms none =
+    let all = or_none _ _ none in
     let rest = or_none _ _ all.1 in
     let last = or_none _ _ rest.1 in
     let both = and_parts (follow_from None (map number_found (sorted ss))) (follow_from None (map line_number (lines_found 0 (sorted ss))))
     (not_off _ (when_none _ Gap rest.0)) in
     record {
-      other = when_none _ Mixed all.0;
+      mixed = when_none _ Mixed all.0;
       segments = both.0;
       frames = both.1;
       some = when_none _ Empty last.0;
     }
 
-header_lawful : (hs : List Holding) (ss : List Scan) (h : Header) → AreScans hs ss → first_found ss ≡ Some h → IsHeader h
-header_lawful hs [] h all is = absurd cc
-header_lawful [] (s ∷ ss) h all is = absurd all
-header_lawful (x ∷ hs) (Bare ∷ ss) h all is = header_lawful hs ss h all.1 is
-header_lawful (x ∷ hs) (Part ∷ ss) h all is = header_lawful hs ss h all.1 is
-header_lawful (x ∷ hs) (Live one b ∷ ss) h all is = (let same : one ≡ h = cc in subst IsHeader same all.0.3.0)
+-- ---- limits
+
+headers_lawful : (hs : List Holding) (ss : List Scan) → AreScans hs ss → AllByRecursion IsHeader (headers_of ss)
+headers_lawful [] [] all = tt
+headers_lawful [] (s ∷ ss) all = absurd all
+headers_lawful (x ∷ hs) [] all = absurd all
+headers_lawful (x ∷ hs) (Bare ∷ ss) all = headers_lawful hs ss all.1
+headers_lawful (x ∷ hs) (Part ∷ ss) all = headers_lawful hs ss all.1
+headers_lawful (x ∷ hs) (Live one b ∷ ss) all = (all.0.3.0, headers_lawful hs ss all.1)
+
+limit_by : (h : Header) (t : Bool) (n : ℕ) → (h.version == 2) ≡ t → IsHeader h → (65536 ≤ n) × (n ≤ 262144)
+    → (65536 ≤ (if t then h.f else n)) × ((if t then h.f else n) ≤ 262144)
+limit_by h true n is law others =
+    subst (λ (v : ℕ). (least_limit v ≤ h.f) × (h.f ≤ greatest_limit v)) (eqb-true h.version 2 is) law.f
+limit_by h false n is law others = others
+
+-- the frame limit is one that a log may have
+pub limit_lawful : (hs : List Header) → AllByRecursion IsHeader hs → (65536 ≤ limit_of hs) × (limit_of hs ≤ 262144)
+limit_lawful [] laws = (omega arith, omega arith)
+limit_lawful (h ∷ hs) laws = limit_by h (h.version == 2) (limit_of hs) refl laws.0 (limit_lawful hs laws.1)
+
+-- and so is the page limit, where there is a segment
+pairs_lawful : (l : Limits) (boxes hs : List Holding) (rs : List Found) → AreFound boxes hs rs → AllByRecursion (IsLike l) rs
+    → 1 ≤ length (frames_of (map (λ h. h.bytes) hs)) → (4 ≤ l.m) × (l.m ≤ 32)
+pairs_lawful l boxes [] [] all like some = absurd (omega arith)
+pairs_lawful l boxes [] (r ∷ rs) all like some = absurd all
+pairs_lawful l boxes (h ∷ hs) [] all like some = absurd all
+pairs_lawful l boxes (h ∷ hs) (r ∷ rs) all like some =
+    subst (λ (m : ℕ). (4 ≤ m) × (m ≤ 32)) (ap (λ (k : Header). k.m) like.0) all.0.3.0.m
 
 some_frames : (fs : List Frame) → is_none fs ≡ false → 1 ≤ length fs
 some_frames [] e = absurd cc
@@ -243,13 +268,15 @@ some_frames (f ∷ fs) e = omega arith
 
 -- all that later steps want of a survey
 pub record Facts (hs : List Holding) (s : Survey) (ss : List Scan) : Type 0 where
-  pub lawful : IsHeader s.order.header
-  pub header : header_of_all hs ≡ s.order.header
+  pub pairs : (4 ≤ s.order.m) × (s.order.m ≤ 32)
+  pub limit : (65536 ≤ s.order.f) × (s.order.f ≤ 262144)
+  pub m : pairs_in hs ≡ s.order.m
+  pub f : limit_in hs ≡ s.order.f
   pub bytes : bytes_fault 0 hs ≡ None
   pub ordered : or_else (fault_of_order hs) (when (is_small hs) BadConfig) ≡ None
   pub found : AreFound hs (live_in hs) (sorted ss)
-  pub like : AllByRecursion (IsLike s.order.header.m s.order.header.f) (sorted ss)
-  pub frames : AllByRecursion (IsFrame s.order.header.m s.order.header.f) (frames_in hs)
+  pub like : AllByRecursion (IsLike (row_limits ss)) (sorted ss)
+  pub frames : AllByRecursion (HasLawful s.order.m) (frames_in hs)
   pub some : 1 ≤ length (frames_in hs)
   pub numbers : map line_number s.order.lines.items ≡ map (λ f. f.number) (frames_in hs)
   pub segments : follow_from None (map number_found (sorted ss)) ≡ true
@@ -259,19 +286,23 @@ pub facts : (hs : List Holding) (s : Survey) (x : IsSurvey hs s) → Facts hs s 
 facts hs s x =
     let ss = x.scans in
     let o = x.order in
-    let t = tested ss (map (λ (h : Holding). h.room) hs) s.order.header o.header o.none in
+    let t = tested ss (map (λ (h : Holding). h.room) hs) o.none in
     let found = live_found hs ss x.are in
-    let like = sorted_like s.order.header.m s.order.header.f ss t.other in
+    let like = sorted_like hs (live_in hs) ss t.mixed found t.segments in
     let same = all_numbers 0 hs (live_in hs) (sorted ss) found in
+    let some = some_frames (frames_in hs) (none_by (lines_found 0 (sorted ss)) (frames_in hs) same ∙ t.some) in
+    let headers = headers_are hs ss x.are in
     record {
-      lawful = header_lawful hs ss s.order.header x.are o.header;
-      header = header_first hs ss s.order.header x.are o.header;
+      pairs = subst (λ (m : ℕ). (4 ≤ m) × (m ≤ 32)) (sym o.m) (pairs_lawful (row_limits ss) hs (live_in hs) (sorted ss) found like some);
+      limit = subst (λ (f : ℕ). (65536 ≤ f) × (f ≤ 262144)) (sym o.f) (limit_lawful (headers_of ss) (headers_lawful hs ss x.are));
+      m = ap pairs_of headers ∙ sym o.m;
+      f = ap limit_of headers ∙ sym o.f;
       bytes = no_bytes_fault 0 hs ss x.are;
       ordered = order_is hs ss x.are ∙ o.none;
       found = found;
       like = like;
-      frames = all_lawful s.order.header.m s.order.header.f hs (live_in hs) (sorted ss) found like;
-      some = some_frames (frames_in hs) (none_by (lines_found 0 (sorted ss)) (frames_in hs) same ∙ t.some);
+      frames = subst (λ (m : ℕ). AllByRecursion (HasLawful m) (frames_in hs)) (sym o.m) (all_lawful (row_limits ss) hs (live_in hs) (sorted ss) found like);
+      some = some;
       numbers = ap (map line_number) o.lines ∙ same;
       segments = t.segments;
       follows = ap (follow_from None) (sym same) ∙ t.frames;
@@ -279,24 +310,20 @@ facts hs s x =
 
 -- ---- the second pass
 
-framed_of : (m f : ℕ) (h : Holding) (r : Found) → IsScan h.bytes (Live r.header r.behind) → IsLike m f r → IsFramed m f h.bytes
-framed_of m f h r is like =
-    subst (λ (k : ℕ). IsFramed k f h.bytes) like.0 (subst (λ (k : ℕ). IsFramed r.header.m k h.bytes) like.1
-    (record { long = header_long h.bytes r.header is.3; frames = frames_here h r is; lawful = is.2.lawful }))
+framed_of : (h : Holding) (r : Found) → IsScan h.bytes (Live r.header r.behind) → IsFramed h.bytes
+framed_of h r is =
+    record { header = r.header; read = is.0; long = header_long h.bytes r.header is.3; frames = frames_here h r is; lawful = is.2.lawful }
 
-ready_of : (m f : ℕ) (boxes hs : List Holding) (rs : List Found) → AreFound boxes hs rs → AllByRecursion (IsLike m f) rs
-    → AreReady m f boxes (map (λ r. r.index) rs) hs
-ready_of m f boxes [] [] all like = tt
-ready_of m f boxes [] (r ∷ rs) all like = absurd all
-ready_of m f boxes (h ∷ hs) [] all like = absurd all
-ready_of m f boxes (h ∷ hs) (r ∷ rs) all like = (all.2, framed_of m f h r all.0 like.0, ready_of m f boxes hs rs all.1 like.1)
+ready_of : (boxes hs : List Holding) (rs : List Found) → AreFound boxes hs rs → AreReady boxes (map (λ r. r.index) rs) hs
+ready_of boxes [] [] all = tt
+ready_of boxes [] (r ∷ rs) all = absurd all
+ready_of boxes (h ∷ hs) [] all = absurd all
+ready_of boxes (h ∷ hs) (r ∷ rs) all = (all.2, framed_of h r all.0, ready_of boxes hs rs all.1)
 
-pub ready : (hs : List Holding) (s : Survey) (x : IsSurvey hs s) (slice : List ℕ) → slice ≡ s.order.boxes.items
-    → AreReady s.order.header.m s.order.header.f hs slice (live_in hs)
+pub ready : (hs : List Holding) (s : Survey) (x : IsSurvey hs s) (slice : List ℕ) → slice ≡ s.order.boxes.items → AreReady hs slice (live_in hs)
 ready hs s x slice same =
     let y = facts hs s x in
-    subst (λ (l : List ℕ). AreReady s.order.header.m s.order.header.f hs l (live_in hs)) (sym (same ∙ x.order.boxes))
-    (ready_of s.order.header.m s.order.header.f hs (live_in hs) (sorted x.scans) y.found y.like)
+    subst (λ (l : List ℕ). AreReady hs l (live_in hs)) (sym (same ∙ x.order.boxes)) (ready_of hs (live_in hs) (sorted x.scans) y.found)
 
 -- ---- first and last numbers
 
@@ -326,11 +353,11 @@ last_is hs s x n slice is same = is ∙ ap (last_line 0) same ∙ last_same 0 s.
 -- ---- faults of the frames
 
 frames_answer : (hs : List Holding) (s : Survey) (x : IsSurvey hs s) (cause : RecoverCause)
-    → fault_of_frames s.order.header.m (frames_in hs) ≡ Some cause → recovery hs ≡ Err cause
+    → fault_of_frames s.order.m (frames_in hs) ≡ Some cause → recovery hs ≡ Err cause
 frames_answer hs s x cause is =
     let y = facts hs s x in
     later_answer hs (Some cause) x.sized y.bytes
-    (frames_after hs y.ordered ∙ ap (λ (h : Header). fault_of_frames h.m (frames_in hs)) y.header ∙ is)
+    (frames_after hs y.ordered ∙ ap (λ (m : ℕ). fault_of_frames m (frames_in hs)) y.m ∙ is)
 
 pub forward_refuses : (hs new : List Holding) (s : Survey) (x : IsSurvey hs s) (first : ℕ) (cause : RecoverCause) → first ≡ first_number (frames_in hs)
     → ForwardStops first (all_placed (frames_in hs)) hs cause new → Refuses hs cause new
@@ -341,7 +368,7 @@ forward_refuses hs new s x first cause begins stops = by cause stops where
   by Spent is = (is.0, record { at = is.1; box = is.2.box; was = is.2.was; held = is.2.held; greatest = is.2.greatest })
   by (BadLink page) is = (
     frames_answer hs s x (BadLink page)
-        (ap (λ (o : Option RecoverCause). or_else o (page_fault s.order.header.m (blocks_of (frames_in hs))))
+        (ap (λ (o : Option RecoverCause). or_else o (page_fault s.order.m (blocks_of (frames_in hs))))
         (ap link_fault_by (ap (λ (n : ℕ). bad_link n [] (all_placed (frames_in hs))) (sym begins) ∙ is.1))),
     is.0,
   )
@@ -353,13 +380,13 @@ forward_refuses hs new s x first cause begins stops = by cause stops where
   by (Unlawful page) is = absurd is
 
 pub page_refuses : (hs new : List Holding) (s : Survey) (x : IsSurvey hs s) (cause : RecoverCause) → link_fault (frames_in hs) ≡ None → new ≡ hs
-    → PageFaultIs (fault_among s.order.header.m (frames_in hs)) cause → Refuses hs cause new
+    → PageFaultIs (fault_among s.order.m (frames_in hs)) cause → Refuses hs cause new
 page_refuses hs new s x cause linked same told = by cause told where
-  by : (c : RecoverCause) → PageFaultIs (fault_among s.order.header.m (frames_in hs)) c → Refuses hs c new
+  by : (c : RecoverCause) → PageFaultIs (fault_among s.order.m (frames_in hs)) c → Refuses hs c new
   by NoMemory is = same
   by (Unlawful page) is = (
     frames_answer hs s x (Unlawful page)
-        (ap (λ (o : Option RecoverCause). or_else o (page_fault s.order.header.m (blocks_of (frames_in hs)))) linked ∙ ap page_fault_by is),
+        (ap (λ (o : Option RecoverCause). or_else o (page_fault s.order.m (blocks_of (frames_in hs)))) linked ∙ ap page_fault_by is),
     same,
   )
   by (Device lease) is = absurd is
@@ -373,12 +400,12 @@ page_refuses hs new s x cause linked same told = by cause told where
 
 -- where nothing is at fault
 pub all_answer : (hs : List Holding) (s : Survey) (x : IsSurvey hs s) → link_fault (frames_in hs) ≡ None
-    → fault_among s.order.header.m (frames_in hs) ≡ None → recovery hs ≡ Ok (found_in hs)
+    → fault_among s.order.m (frames_in hs) ≡ None → recovery hs ≡ Ok (found_in hs)
 all_answer hs s x linked none =
     let y = facts hs s x in
     later_answer hs None x.sized y.bytes
-    (frames_after hs y.ordered ∙ ap (λ (h : Header). fault_of_frames h.m (frames_in hs)) y.header
-    ∙ ap (λ (o : Option RecoverCause). or_else o (page_fault s.order.header.m (blocks_of (frames_in hs)))) linked ∙ ap page_fault_by none)
+    (frames_after hs y.ordered ∙ ap (λ (m : ℕ). fault_of_frames m (frames_in hs)) y.m
+    ∙ ap (λ (o : Option RecoverCause). or_else o (page_fault s.order.m (blocks_of (frames_in hs)))) linked ∙ ap page_fault_by none)
 
 -- ---- as the code goes
 

@@ -1,6 +1,6 @@
 -- Tails, parts of headers, and bytes without a fault, as the scans say.
 
-use Rattle.std.proofs.Common.{◌≡◌, ℕ, suc, ◌+◌, ◌==◌, Bool, false, Option, None, List, [], ◌∷◌, length, refl, sym, ap, ◌∙◌, arith}
+use Rattle.std.proofs.Common.{◌≡◌, ℕ, suc, ◌+◌, ◌==◌, ◌&&◌, Bool, false, Option, None, List, [], ◌∷◌, length, refl, sym, ap, ◌∙◌, arith}
 use Rattle.std.specs.List.{fold}
 use Rattle.bw_codec.specs.Reading.{heading_of}
 use Rattle.bw_codec.specs.declared.block.Header.{Header}
@@ -8,8 +8,8 @@ use Rattle.bw_device.specs.Holding.{Holding}
 use Rattle.std.proofs.lemmas.Bool.{ne_eqb}
 use Rattle.bw_care.specs.Scanning.{has_part, has_part_by, is_bare, rest_of, rest_in}
 use Rattle.bw_care.specs.Scanned.{IsScan, AreScans}
-use Rattle.bw_care.specs.Recovery.{parts_in, tails_of, bytes_fault, bytes_fault_by, ends_whole_from, ends_whole}
-use Rattle.bw_care.specs.Ordering.{AreFound, is_clean_from}
+use Rattle.bw_care.specs.Recovery.{parts_in, tails_of, bytes_fault, bytes_fault_by, takes_frames, ends_whole_from, ends_whole}
+use Rattle.bw_care.specs.Ordering.{AreFound, is_clean, is_clean_from}
 use Rattle.bw_care.specs.Surveying.{parts_seen, tails_found}
 use Rattle.bw_care.specs.declared.scanning.Scan.{Scan}
 use Rattle.bw_care.specs.declared.scanning.Scan.TheVariants.{Bare, Part, Live}
@@ -20,7 +20,7 @@ use Rattle.bw_care.proofs.PassSoFar.{no_fault}
 -- ---- tails
 
 tail_here : (h : Holding) (r : Found) → IsScan h.bytes (Live r.header r.behind) → length (rest_in h.bytes) ≡ r.behind.tail
-tail_here h r is = ap (λ (k : Header). length (rest_of k.m k.f h.bytes)) (sym (header_is h.bytes r.header is.0)) ∙ sym is.2.tail
+tail_here h r is = ap (λ (k : Header). length (rest_of k h.bytes)) (sym (header_is h.bytes r.header is.0)) ∙ sym is.2.tail
 
 tails_by : (n : ℕ) (boxes hs : List Holding) (rs : List Found) → AreFound boxes hs rs
     → fold (λ k h. k + length (rest_in h.bytes)) n hs ≡ fold (λ k r. k + r.behind.tail) n rs
@@ -37,13 +37,17 @@ bare_is : (xs : List ℕ) → is_bare xs ≡ (length xs == 0)
 bare_is [] = refl
 bare_is (x ∷ xs) = sym (ne_eqb (suc (length xs)) 0 (λ e. absurd (omega arith)))
 
+takes_here : (h : Holding) (r : Found) → IsScan h.bytes (Live r.header r.behind) → takes_frames h.bytes ≡ is_clean r
+takes_here h r is =
+    ap (λ (k : Header). (k.version == 2) && is_bare (rest_in h.bytes)) (sym (header_is h.bytes r.header is.0))
+    ∙ ap (λ (t : Bool). (r.header.version == 2) && t) (bare_is (rest_in h.bytes) ∙ ap (λ (n : ℕ). n == 0) (tail_here h r is))
+
 ends_by : (whole : Bool) (boxes hs : List Holding) (rs : List Found) → AreFound boxes hs rs → ends_whole_from whole hs ≡ is_clean_from whole rs
 ends_by whole boxes [] [] all = refl
 ends_by whole boxes [] (r ∷ rs) all = absurd all
 ends_by whole boxes (h ∷ hs) [] all = absurd all
 ends_by whole boxes (h ∷ hs) (r ∷ rs) all =
-    ap (λ (t : Bool). ends_whole_from t hs) (bare_is (rest_in h.bytes) ∙ ap (λ (n : ℕ). n == 0) (tail_here h r all.0))
-    ∙ ends_by (r.behind.tail == 0) boxes hs rs all.1
+    ap (λ (t : Bool). ends_whole_from t hs) (takes_here h r all.0) ∙ ends_by (is_clean r) boxes hs rs all.1
 
 -- the newest segment ends whole where the scan says so
 pub ends_are : (boxes hs : List Holding) (rs : List Found) → AreFound boxes hs rs → ends_whole hs ≡ is_clean_from false rs

@@ -81,7 +81,8 @@ pub record IsLineOf (c : Contents) (bytes : List ℕ) (line : FrameAt) : Type 0 
   pub index : ℕ
   pub frame : Frame
   pub stands : StandsAt (counted c) index frame
-  pub lawful : IsFrame c.m c.f frame
+  pub limit : ℕ
+  pub lawful : IsFrame c.m limit frame
   pub within : line.at + line.len ≤ length bytes
   pub spelled : take line.len (drop line.at bytes) ≡ frame_bytes frame
   pub numbered : line.number ≡ frame.number

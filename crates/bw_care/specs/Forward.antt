@@ -2,7 +2,10 @@
 
 use Rattle.std.specs.Prelude.{ℕ, ◌≤◌, ◌≡◌, Some, List, [], ◌∷◌, length, slice_get}
 use Rattle.bw_codec.specs.declared.block.Place.{Place}
+use Rattle.bw_codec.specs.Reading.{heading_of}
 use Rattle.bw_codec.specs.declared.block.Block.{Block}
+use Rattle.bw_codec.specs.declared.block.Header.{Header}
+use Rattle.bw_codec.specs.declared.block.HeaderRead.TheVariants as heading
 use Rattle.bw_device.specs.Holding.{Holding}
 use Rattle.bw_log.specs.Places.{bad_link}
 use Rattle.bw_log.specs.Segments.{segment_frames}
@@ -12,17 +15,19 @@ use Rattle.bw_care.specs.declared.fault.RecoverCause.{RecoverCause}
 use Rattle.bw_care.specs.declared.fault.RecoverCause.TheVariants.{NoMemory, BadConfig, Device, Spent, Empty, BadBytes, Gap, Mixed, BadLink, Unlawful}
 
 -- a segment's frames stand behind its header, and a tail behind them
-pub record IsFramed (m f : ℕ) (bytes : List ℕ) : Type 0 where
+pub record IsFramed (bytes : List ℕ) : Type 0 where
+  pub header : Header
+  pub read : heading_of bytes ≡ heading.Whole header
   pub long : 24 ≤ length bytes
-  pub frames : segment_frames bytes ≡ frames_behind m f bytes
-  pub lawful : EndsInTail m f bytes
+  pub frames : segment_frames bytes ≡ frames_behind header bytes
+  pub lawful : EndsInTail header bytes
 
 -- these segments stand among the boxes at these positions
-abbrev pub AreReady : ℕ → ℕ → List Holding → List ℕ → List Holding → Type 0
-AreReady m f boxes [] [] = Unit {0}
-AreReady m f boxes [] (h ∷ hs) = ⊥
-AreReady m f boxes (i ∷ is) [] = ⊥
-AreReady m f boxes (i ∷ is) (h ∷ hs) = (slice_get boxes i ≡ Some h) × IsFramed m f h.bytes × AreReady m f boxes is hs
+abbrev pub AreReady : List Holding → List ℕ → List Holding → Type 0
+AreReady boxes [] [] = Unit {0}
+AreReady boxes [] (h ∷ hs) = ⊥
+AreReady boxes (i ∷ is) [] = ⊥
+AreReady boxes (i ∷ is) (h ∷ hs) = (slice_get boxes i ≡ Some h) × IsFramed h.bytes × AreReady boxes is hs
 
 -- why the pass over these blocks stops
 abbrev pub ForwardStops : ℕ → List (Place × Block) → List Holding → RecoverCause → List Holding → Type 0

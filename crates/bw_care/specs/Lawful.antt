@@ -1,12 +1,14 @@
 -- Which page of a forward reading is at fault, and the leaves where none is.
 
-use Rattle.std.specs.Prelude.{ℕ, zero, suc, ◌+◌, ◌==◌, ◌&&◌, ◌||◌, not, nat_lt, nat_eq, Bool, true, if◌then◌else◌, Option, Some, None, List, [], ◌∷◌}
+use Rattle.std.specs.Prelude.{ℕ, zero, suc, ◌+◌, ◌≤◌, ◌==◌, ◌&&◌, ◌||◌, not, nat_lt, nat_eq, Bool, true, if◌then◌else◌, Option, Some, None, List, [], ◌∷◌}
 use Rattle.std.specs.Prelude.{length}
-use Rattle.std.specs.List.{flat_map, list_any}
+use Rattle.std.specs.List.{flat_map, list_any, AllByRecursion}
 use lib.Pointwise.{pointwise}
 use Rattle.bw_codec.specs.Bytes.{is_below}
+use Rattle.bw_codec.specs.Grammar.{IsBlock}
 use Rattle.bw_codec.specs.declared.leaf.Leaf.{Leaf}
 use Rattle.bw_codec.specs.declared.block.Block.{Block}
+use Rattle.bw_codec.specs.declared.block.Frame.{Frame}
 use Rattle.bw_codec.specs.declared.block.Block.TheVariants.{Delta, Base, Split}
 use Rattle.bw_page.specs.Leaves.{Bytes}
 use Rattle.bw_page.specs.Standing.{content}
@@ -14,6 +16,12 @@ use Rattle.bw_page.specs.Standing.{content}
 abbrev pub as_list : {A : Type 0} → Option A → List A
 as_list None = []
 as_list (Some x) = x ∷ []
+
+-- ---- frames
+
+-- a frame from number 1 on, with a block, all of them lawful where pages have at most so many pairs
+abbrev pub HasLawful : ℕ → Frame → Type 0
+HasLawful m f = (1 ≤ f.number) × (1 ≤ length f.blocks) × AllByRecursion (IsBlock m) f.blocks
 
 -- ---- pages that are set
 

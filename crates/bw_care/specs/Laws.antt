@@ -2,7 +2,6 @@
 
 use Rattle.std.specs.Prelude.{ℕ, ◌+◌, ◌≡◌, ◌≤◌, ◌⊎◌, true, false, None, Ok, Err, IfSome, List, [], ◌++◌, length, map, take}
 use Rattle.std.specs.List.{AllByRecursion}
-use Rattle.bw_codec.specs.Grammar.{IsFrame}
 use Rattle.bw_codec.specs.Reading.{heading_of}
 use Rattle.bw_codec.specs.declared.block.HeaderRead.TheVariants as heading
 use Rattle.bw_codec.specs.declared.block.Frame.{Frame}
@@ -13,8 +12,8 @@ use Rattle.bw_log.specs.Appends.{last_of, with_last}
 use Rattle.bw_log.specs.Contents.{Contents, IsBounded, IsRoomy, IsSound, boxes, counted}
 use Rattle.bw_log.specs.PageTable.{top_page}
 use Rattle.bw_log.specs.Places.{first_number, AreLinked}
-use Rattle.bw_log.specs.Segments.{frames_of, AreFrom, AreLive}
-use Rattle.bw_care.specs.Lawful.{is_at_fault, first_such, contents}
+use Rattle.bw_log.specs.Segments.{Limits, frames_of, AreFrom, AreLive}
+use Rattle.bw_care.specs.Lawful.{HasLawful, is_at_fault, first_such, contents}
 use Rattle.bw_care.specs.Recovery.{Finding, frames_in, last_number, parts_in, recovery, tails_of}
 use Rattle.bw_care.specs.Scanning.{rest_in}
 use Rattle.bw_care.specs.declared.fault.RecoverCause.TheVariants.{Empty}
@@ -22,14 +21,14 @@ use Rattle.bw_care.specs.declared.fault.RecoverCause.TheVariants.{Empty}
 -- where no page is at fault, the frames stand for the leaves found
 abbrev pub FoundStand : Type 0
 FoundStand =
-    (m f : ℕ) (frames : List Frame) → AllByRecursion (IsFrame m f) frames → 1 ≤ length frames
+    (m : ℕ) (frames : List Frame) → AllByRecursion (HasLawful m) frames → 1 ≤ length frames
     → first_such (is_at_fault m (blocks_of frames)) 1 (top_page (blocks_of frames)) ≡ None
     → Stand m frames (contents (blocks_of frames) 1 (top_page (blocks_of frames)))
 
 -- where frames stand for leaves, none of their pages is at fault
 abbrev pub StandingUnfaulted : Type 0
 StandingUnfaulted =
-    (m f : ℕ) (frames : List Frame) (leaves : List Leaf) → AllByRecursion (IsFrame m f) frames → Stand m frames leaves
+    (m : ℕ) (frames : List Frame) (leaves : List Leaf) → AllByRecursion (HasLawful m) frames → Stand m frames leaves
     → first_such (is_at_fault m (blocks_of frames)) 1 (length leaves) ≡ None
 
 -- ---- segments, and boxes without one
@@ -39,9 +38,10 @@ abbrev pub IsLoose : ℕ → Holding → Type 0
 IsLoose f h = ((h.bytes ≡ []) × (24 + f ≤ h.room)) ⊎ (heading_of h.bytes ≡ heading.Part)
 
 -- segments numbered one after the other, whatever their tails, and such boxes
-pub record AreSorted (m f number : ℕ) (live loose : List Holding) : Type 0 where
-  pub segments : AreLive m f number (map (λ h. h.bytes) live)
-  pub others : AllByRecursion (IsLoose f) loose
+pub record AreSorted (l : Limits) (number : ℕ) (live loose : List Holding) : Type 0 where
+  pub segments : AreLive l number (map (λ h. h.bytes) live)
+  pub least : 65536 ≤ l.f
+  pub others : AllByRecursion (IsLoose l.f) loose
   pub few : length live + length loose ≤ 4096
   pub bounds : AllByRecursion IsBounded (live ++ loose)
 
@@ -61,14 +61,14 @@ sorted_finding live loose leaves = record {
 -- where frames stand they are found, with their tails, and the boxes with a part of a header
 abbrev pub SortedBoxesFound : Type 0
 SortedBoxesFound =
-    (m f number : ℕ) (live loose : List Holding) (leaves : List Leaf) → AreSorted m f number live loose
-    → AreFrom (first_number (frames_held live)) (frames_held live) → AreLinked (frames_held live) → Stand m (frames_held live) leaves
+    (l : Limits) (number : ℕ) (live loose : List Holding) (leaves : List Leaf) → AreSorted l number live loose
+    → AreFrom (first_number (frames_held live)) (frames_held live) → AreLinked (frames_held live) → Stand l.m (frames_held live) leaves
     → recovery (live ++ loose) ≡ Ok (sorted_finding live loose leaves)
 
 -- where there is no whole frame, this is the fault
 abbrev pub SortedBoxesEmpty : Type 0
 SortedBoxesEmpty =
-    (m f number : ℕ) (live loose : List Holding) → AreSorted m f number live loose → frames_held live ≡ []
+    (l : Limits) (number : ℕ) (live loose : List Holding) → AreSorted l number live loose → frames_held live ≡ []
     → recovery (live ++ loose) ≡ Err Empty
 
 -- ---- cuts

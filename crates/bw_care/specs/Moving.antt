@@ -39,6 +39,12 @@ pub record KeepsOlder (old new : List Holding) : Type 0 where
   pub many : length old ≤ length new
   pub same : (i : ℕ) → i + 1 < length old → slice_get new i ≡ slice_get old i
 
+-- and the newest too, where it takes no frames: so the first frame begins a segment
+pub record KeepsNewest (old now : Contents) (frames : ℕ) : Type 0 where
+  pub closed : old.is_open ≡ false → frames ≡ 0 → now.is_open ≡ false
+  pub begun : old.is_open ≡ false → 1 ≤ frames → length old.live < length now.live
+  pub all : old.is_open ≡ false → (i : ℕ) → i < length old.live → slice_get now.live i ≡ slice_get old.live i
+
 -- ---- pages written again
 
 -- these blocks are these pages, each in a Base as it stands
@@ -58,22 +64,33 @@ abbrev pub AreFull : Contents → List Frame → List ℕ → Type 0
 AreFull c [] ps = Unit {0}
 AreFull c (x ∷ xs) ps = IsFull c x (drop (length x.blocks) ps) × AreFull c xs (drop (length x.blocks) ps)
 
--- so many frames were added, which hold these pages and nothing else; the rest is still to come
-pub record Moved (old now : Contents) (pages rest : List ℕ) (frames : ℕ) : Type 0 where
+-- the next frame, if it has a number, stands behind this one
+abbrev pub IsNextBehind : ℕ → Contents → Type 0
+IsNextBehind last c = (n : ℕ) → c.next ≡ Some n → last < n
+
+-- so many frames were added, all behind this one, which hold these pages and nothing else; the rest is still to come
+pub record MovedBehind (last : ℕ) (old now : Contents) (pages rest : List ℕ) (frames : ℕ) : Type 0 where
   pub written : List Frame
   pub counts : counted now ≡ counted old ++ written
   pub count : length written ≡ frames
   pub few : frames ≤ length pages
   pub holds : AreBases old (blocks_of written) pages
   pub full : AreFull old written (pages ++ rest)
-  pub later : AllByRecursion (λ f. oldest_last old old.live < f.number) written
+  pub later : AllByRecursion (λ f. last < f.number) written
+  pub next : IsNextBehind last now
   pub boxes_grew : AreLonger (boxes old) (boxes now)
   pub older : KeepsOlder old.live now.live
+  pub newest : KeepsNewest old now frames
   pub works : now.is_failed ≡ false
   pub table : length now.pages ≡ length old.pages
   pub m : now.m ≡ old.m
   pub f : now.f ≡ old.f
   pub number : now.number ≡ old.number
+  pub old_to : now.old_to ≡ old.old_to
+
+-- those of the oldest segment
+abbrev pub Moved : Contents → Contents → List ℕ → List ℕ → ℕ → Type 0
+Moved old now pages rest frames = MovedBehind (oldest_last old old.live) old now pages rest frames
 
 -- ---- refusals
 
@@ -128,16 +145,20 @@ Refused Failed old new = ⊥
 Refused Spent old new = new ≡ old
 Refused NoPage old new = ⊥
 
--- some of the pages were written again, then a step was refused
-pub record Stopped (old : Contents) (fault : LogFault) (new : Contents) : Type 0 where
+-- some of these pages were written again, then a step was refused
+pub record StoppedBehind (last : ℕ) (old : Contents) (all : List ℕ) (fault : LogFault) (new : Contents) : Type 0 where
   pub then_log : Contents
   pub frames : ℕ
   pub done : List ℕ
   pub rest : List ℕ
-  pub pages : old_pages old ≡ done ++ rest
-  pub moved : Moved old then_log done rest frames
+  pub pages : all ≡ done ++ rest
+  pub moved : MovedBehind last old then_log done rest frames
   pub refused : Refused fault then_log new
   pub reason : IsReason fault then_log rest
+
+-- the pages of the oldest segment
+abbrev pub Stopped : Contents → LogFault → Contents → Type 0
+Stopped old fault new = StoppedBehind (oldest_last old old.live) old (old_pages old) fault new
 
 -- what a refused cleaning leaves
 abbrev pub Refuses : CleanFault → Contents → Contents → Type 0

@@ -2,11 +2,10 @@
 
 use Rattle.std.specs.Prelude.{ℕ, ◌+◌, ◌==◌, ◌&&◌, ◌||◌, not, nat_lt, ◌≡◌, Bool, true, false, Option, Some, None, List, [], ◌∷◌, ◌++◌, map}
 use Rattle.std.specs.Prelude.{slice_get}
-use Rattle.std.specs.List.{list_any}
 use Rattle.bw_codec.specs.declared.block.Header.{Header}
 use Rattle.bw_device.specs.Holding.{Holding}
 use Rattle.bw_log.specs.Places.{or_else}
-use Rattle.bw_care.specs.Recovery.{in_order, when}
+use Rattle.bw_care.specs.Recovery.{pairs_of, limit_of, are_mixed, in_order, when}
 use Rattle.bw_care.specs.Surveying.{tails_found}
 use Rattle.bw_care.specs.declared.ordering.Order.{Order}
 use Rattle.bw_care.specs.declared.fault.RecoverCause.{RecoverCause}
@@ -33,18 +32,12 @@ number_found r = r.header.number
 abbrev pub sorted : List Scan → List Found
 sorted ss = in_order number_found (lives ss)
 
--- the first segment's header
-abbrev pub first_found : List Scan → Option Header
-first_found [] = None
-first_found (Bare ∷ ss) = first_found ss
-first_found (Part ∷ ss) = first_found ss
-first_found (Live header b ∷ ss) = Some header
-
--- a segment with other limits
-abbrev pub is_other : ℕ → ℕ → Scan → Bool
-is_other m f Bare = false
-is_other m f Part = false
-is_other m f (Live header b) = not ((header.m == m) && (header.f == f))
+-- the segments' headers, in the order of the boxes
+abbrev pub headers_of : List Scan → List Header
+headers_of [] = []
+headers_of (Bare ∷ ss) = headers_of ss
+headers_of (Part ∷ ss) = headers_of ss
+headers_of (Live header b ∷ ss) = header ∷ headers_of ss
 
 -- an empty box of less room
 abbrev pub is_narrow : ℕ → Scan → ℕ → Bool
@@ -91,29 +84,30 @@ has_none (e ∷ es) = false
 
 -- ---- the first fault of the order
 
-abbrev pub order_fault_by : Option Header → List Scan → List ℕ → Option RecoverCause
-order_fault_by None ss rooms = Some Empty
-order_fault_by (Some h) ss rooms =
-    or_else (when (list_any (is_other h.m h.f) ss) Mixed)
-    (or_else (when (not (follow_from None (map number_found (sorted ss)) && follow_from None (map line_number (lines_found 0 (sorted ss))))) Gap)
-    (or_else (when (has_none (lines_found 0 (sorted ss))) Empty) (when (any_narrow (24 + h.f) ss rooms) BadConfig)))
-
 abbrev pub order_fault : List Scan → List ℕ → Option RecoverCause
-order_fault ss rooms = order_fault_by (first_found ss) ss rooms
+order_fault ss rooms =
+    or_else (when (are_mixed (headers_of ss)) Mixed)
+    (or_else (when (not (follow_from None (map number_found (sorted ss)) && follow_from None (map line_number (lines_found 0 (sorted ss))))) Gap)
+    (or_else (when (has_none (lines_found 0 (sorted ss))) Empty) (when (any_narrow (24 + limit_of (headers_of ss)) ss rooms) BadConfig)))
 
 abbrev pub oldest_number : List Found → ℕ
 oldest_number [] = 0
 oldest_number (r ∷ rs) = r.header.number
 
--- whether the last one has no tail
+-- whether the last one has version 2 and no tail
+abbrev pub is_clean : Found → Bool
+is_clean r = (r.header.version == 2) && (r.behind.tail == 0)
+
 abbrev pub is_clean_from : Bool → List Found → Bool
 is_clean_from clean [] = clean
-is_clean_from clean (r ∷ rs) = is_clean_from (r.behind.tail == 0) rs
+is_clean_from clean (r ∷ rs) = is_clean_from (is_clean r) rs
 
 -- segments whose order is right
 pub record IsOrder (ss : List Scan) (rooms : List ℕ) (o : Order) : Type 0 where
   pub none : order_fault ss rooms ≡ None
-  pub header : first_found ss ≡ Some o.header
+  pub m : o.m ≡ pairs_of (headers_of ss)
+  pub f : o.f ≡ limit_of (headers_of ss)
+  pub versions : o.versions.items ≡ map (λ r. r.header.version) (sorted ss)
   pub number : o.number ≡ oldest_number (sorted ss)
   pub clean : o.is_open ≡ is_clean_from false (sorted ss)
   pub tail : o.tail ≡ tails_found (sorted ss)

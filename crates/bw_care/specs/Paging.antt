@@ -8,14 +8,13 @@ use Rattle.bw_codec.specs.declared.leaf.Leaf.{Leaf}
 use Rattle.bw_page.specs.Leaves.{Bytes}
 use Rattle.std.specs.BTreeMap as tree
 use Rattle.std.specs.Ordering.{nat_cmp}
-use Rattle.bw_codec.specs.Grammar.{IsFrame}
 use Rattle.bw_codec.specs.declared.block.Frame.{Frame}
 use Rattle.bw_page.specs.Standing.{blocks_of}
 use Rattle.bw_log.specs.PageTable.{top_page}
 use Rattle.bw_log.specs.Places.{all_placed}
 use Rattle.bw_log.specs.Contents.{IsTable}
 use Rattle.bw_log.specs.declared.places.PageAt.{PageAt}
-use Rattle.bw_care.specs.Lawful.{as_list, is_same, is_bad_page, is_at_fault, first_such, contents}
+use Rattle.bw_care.specs.Lawful.{HasLawful, as_list, is_same, is_bad_page, is_at_fault, first_such, contents}
 use Rattle.bw_care.specs.Reading.{line_of}
 use Rattle.bw_care.specs.declared.lawful.Pages.{Pages}
 use Rattle.bw_care.specs.declared.fault.RecoverCause.{RecoverCause}
@@ -65,7 +64,7 @@ taken_before (Some first) page = nat_lt first page
 -- an index tells the lows of these leaves, and the least page of each
 pub record IsLows (set : List Leaf) (got : Bytes → Option ℕ) : Type 0 where
   pub from : AllByRecursion (λ l. 1 ≤ l.page) set
-  pub short : AllByRecursion (λ l. length l.low ≤ 64) set
+  pub short : AllByRecursion (λ l. length l.low ≤ 128) set
   pub listed : AllByRecursion (λ l. IsKey l.low → IsSome (got l.low)) set
   pub least : AllByRecursion (λ l. IsKey l.low → (page : ℕ) → got l.low ≡ Some page → page ≤ l.page) set
   pub taken : (k : Bytes) (page : ℕ) → IsKey k → got k ≡ Some page
@@ -74,7 +73,7 @@ pub record IsLows (set : List Leaf) (got : Bytes → Option ℕ) : Type 0 where
 -- a low is no longer than a key
 abbrev pub IsShortIf : Option Leaf → Type 0
 IsShortIf None = Unit {0}
-IsShortIf (Some leaf) = length leaf.low ≤ 64
+IsShortIf (Some leaf) = length leaf.low ≤ 128
 
 -- ---- pages one after the other
 
@@ -118,7 +117,7 @@ at_line e = record { place = e.1.place; base = e.1.base }
 
 -- there are lawful frames, of which these are the lines
 abbrev pub HasFrames : ℕ → tree.BTreeMap ℕ Line → Type 0
-HasFrames m lines = (f : ℕ) × (frames : List Frame) × AllByRecursion (IsFrame m f) frames × (1 ≤ length frames) × IsMapOf frames lines
+HasFrames m lines = (frames : List Frame) × AllByRecursion (HasLawful m) frames × (1 ≤ length frames) × IsMapOf frames lines
 
 -- the pages of frames, where none is at fault
 pub record IsRight (m : ℕ) (frames : List Frame) (r : Pages) : Type 0 where

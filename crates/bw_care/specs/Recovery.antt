@@ -49,22 +49,37 @@ parts_in boxes = filter (λ h. has_part h.bytes) boxes
 abbrev pub frames_in : List Holding → List Frame
 frames_in boxes = frames_of (map (λ h. h.bytes) (live_in boxes))
 
--- the numbers in the first segment's header
-abbrev pub first_header : List Holding → Header
-first_header [] = record { number = 0; m = 0; f = 0 }
-first_header (h ∷ hs) = header_in h.bytes
+-- the segments' headers, in the order of the boxes
+abbrev pub headers_in : List Holding → List Header
+headers_in boxes = map (λ h. header_in h.bytes) (segments_in boxes)
 
-abbrev pub header_of_all : List Holding → Header
-header_of_all boxes = first_header (segments_in boxes)
+-- the page limit of the first of them, which is that of all where none clashes
+abbrev pub pairs_of : List Header → ℕ
+pairs_of [] = 0
+pairs_of (h ∷ hs) = h.m
+
+abbrev pub pairs_in : List Holding → ℕ
+pairs_in boxes = pairs_of (headers_in boxes)
+
+-- the frame limit of the first of version 2, else the least that a log may have
+abbrev pub limit_of : List Header → ℕ
+limit_of [] = 65536
+limit_of (h ∷ hs) = if h.version == 2 then h.f else limit_of hs
+
+abbrev pub limit_in : List Holding → ℕ
+limit_in boxes = limit_of (headers_in boxes)
 
 -- the bytes of all tails
 abbrev pub tails_of : List Holding → ℕ
 tails_of hs = fold (λ n h. n + length (rest_in h.bytes)) 0 hs
 
--- whether the last of these segments has no tail
+-- whether the last of these segments has version 2 and no tail
+abbrev pub takes_frames : List ℕ → Bool
+takes_frames bytes = ((header_in bytes).version == 2) && is_bare (rest_in bytes)
+
 abbrev pub ends_whole_from : Bool → List Holding → Bool
 ends_whole_from whole [] = whole
-ends_whole_from whole (h ∷ hs) = ends_whole_from (is_bare (rest_in h.bytes)) hs
+ends_whole_from whole (h ∷ hs) = ends_whole_from (takes_frames h.bytes) hs
 
 abbrev pub ends_whole : List Holding → Bool
 ends_whole hs = ends_whole_from false hs
@@ -88,12 +103,18 @@ abbrev pub bytes_fault : ℕ → List Holding → Option RecoverCause
 bytes_fault i [] = None
 bytes_fault i (h ∷ hs) = bytes_fault_by i (fault_in h.bytes) (bytes_fault (i + 1) hs)
 
--- headers differ in their limits
-abbrev pub is_like : Header → Header → Bool
-is_like a b = (b.m == a.m) && (b.f == a.f)
+-- headers differ in their page limit, or in the frame limit of one version, or a new one is numbered below an old one
+abbrev pub clash : Header → Header → Bool
+clash a b =
+    not (a.m == b.m)
+    || ((a.version == b.version) && not (a.f == b.f))
+    || ((a.version == 2) && (b.version == 1) && nat_lt a.number b.number)
+
+abbrev pub are_mixed : List Header → Bool
+are_mixed headers = list_any (λ a. list_any (clash a) headers) headers
 
 abbrev pub is_mixed : List Holding → Bool
-is_mixed boxes = list_any (λ h. not (is_like (header_of_all boxes) (header_in h.bytes))) (segments_in boxes)
+is_mixed boxes = are_mixed (headers_in boxes)
 
 -- numbers that follow one after the other
 abbrev pub follow_on : List ℕ → Bool
@@ -111,7 +132,7 @@ is_none (f ∷ fs) = false
 
 -- a spare without room for a header and a frame
 abbrev pub is_small : List Holding → Bool
-is_small boxes = list_any (λ h. nat_lt h.room (24 + (header_of_all boxes).f)) (spares_in boxes)
+is_small boxes = list_any (λ h. nat_lt h.room (24 + limit_in boxes)) (spares_in boxes)
 
 abbrev pub link_fault_by : Option ℕ → Option RecoverCause
 link_fault_by None = None
@@ -139,7 +160,7 @@ first_fault boxes =
     or_else (when (too_large boxes) BadConfig)
     (or_else (bytes_fault 0 boxes)
     (or_else (fault_of_order boxes)
-    (or_else (when (is_small boxes) BadConfig) (fault_of_frames (header_of_all boxes).m (frames_in boxes)))))
+    (or_else (when (is_small boxes) BadConfig) (fault_of_frames (pairs_in boxes) (frames_in boxes)))))
 
 -- ---- what is found
 

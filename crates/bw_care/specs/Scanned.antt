@@ -13,7 +13,7 @@ use Rattle.bw_care.specs.declared.scanning.Scan.TheVariants.{Bare, Part, Live}
 abbrev pub IsScan : List ℕ → Scan → Type 0
 IsScan bytes Bare = bytes ≡ []
 IsScan bytes Part = (heading_of bytes ≡ heading.Part) × (fault_in bytes ≡ None)
-IsScan bytes (Live header b) = (heading_of bytes ≡ heading.Whole header) × (fault_in bytes ≡ None) × IsBehind header.m header.f bytes b
+IsScan bytes (Live header b) = (heading_of bytes ≡ heading.Whole header) × (fault_in bytes ≡ None) × IsBehind header bytes b
     × IsHeading bytes (heading.Whole header)
 
 abbrev pub AreScans : List Holding → List Scan → Type 0

@@ -20,7 +20,8 @@ ghost use Rattle.bw_log.specs.Places as places;
 ghost use Rattle.bw_log.specs.Reads.{IsPage, ReadStops};
 ghost use Rattle.bw_care.specs.Ahead.{AreSpots, IsLineOf, IsNoted, IsOldest, IsWithin, IsPiece};
 ghost use Rattle.bw_care.specs.Ahead.{oldest_frames, Says, IsPart, IsSpelled};
-ghost use Rattle.bw_care.specs.Behind.{frames_behind, EndsInTail};
+ghost use Rattle.bw_log.specs.Segments.{segment_frames};
+ghost use Rattle.bw_care.specs.Forward.{IsFramed};
 ghost use Rattle.bw_care.specs.Cleaning.{is_old, oldest_last};
 ghost use Rattle.bw_care.specs.Reading.{leaf_in};
 ghost use Rattle.bw_care.specs.Views.{seen, IsSound};
@@ -28,7 +29,7 @@ ghost use Rattle.bw_care.specs.Views.{seen, IsSound};
 use crate::forward::read_segment;
 use crate::moving::{is_old, last_old};
 use crate::reading::{DraftLine, take_line};
-use bw_codec::limits::HEAD_LEN;
+use bw_codec::limits::{HEAD_LEN, LATEST};
 use bw_codec::{Block, Leaf, Outline, Place, encode_block};
 use bw_device::Segment;
 use bw_log::{FrameAt, Log, LogFault};
@@ -146,7 +147,7 @@ fn note_frame(log: &Log, line: FrameAt, bytes: &[u8], pages: &[u32], spots: &mut
     let mut at = line.at as usize + HEAD_LEN;
     let mut index: u32 = 0;
     while at < end {
-        let Some(outline) = Outline::read(&bytes[at..]) else {
+        let Some(outline) = Outline::read(LATEST, &bytes[at..]) else {
             return;
         };
         let place = Place {
@@ -186,7 +187,14 @@ fn find_spots(
     let Some((segment, _, _)) = log.live_segment(0) else {
         unreachable!();
     };
+    let Some(version) = log.live_version(0) else {
+        unreachable!();
+    };
     let mut spots = no_spots(alloc, pages.len())?;
+    // The bytes of a Base in format 1 are not those of one that is written.
+    if version != LATEST {
+        return Ok(spots);
+    }
     // The frames of the oldest segment come first.
     for i in 0..usize::MAX {
         let Some(line) = log.line(i) else {
@@ -200,15 +208,14 @@ fn find_spots(
     Ok(spots)
 }
 
-// Each page as the frames behind a header leave it; none where memory for them is refused.
-fn pages_in(alloc: Global, bytes: &[u8], m: u16, f: u32) -> BTreeMap<u32, DraftLine>
-    requires long { 24 ≤ length bytes.now }
-    requires lawful { EndsInTail m f bytes.now }
-    ensures { Says (blocks_of (frames_behind m f bytes.now)) result }
+// Each page as the frames of a segment leave it; none where memory for them is refused.
+fn pages_in(alloc: Global, bytes: &[u8]) -> BTreeMap<u32, DraftLine>
+    requires { IsFramed bytes.now }
+    ensures { Says (blocks_of (segment_frames bytes.now)) result }
 {
     let mut lines = BTreeMap::new(alloc);
     // The links back may lead to segments that were given up: so before any frame at all.
-    match read_segment(alloc, &mut lines, u64::MAX, bytes, m, f) {
+    match read_segment(alloc, &mut lines, u64::MAX, bytes) {
         Ok(()) => lines,
         Err(_) => BTreeMap::new(alloc),
     }
@@ -308,13 +315,13 @@ fn spell_rest(alloc: Global, log: &Log, bytes: &mut Vec<u8>, spots: &mut [Spot],
 {
     let last = last_old(log);
     if is_some_wanted(log, last, spots, pages) {
-        let mut lines = pages_in(alloc, bytes, log.m(), log.limit());
+        let mut lines = pages_in(alloc, bytes);
         spell_wanted(log, last, &mut lines, bytes, spots, pages);
     }
 }
 
-// No bytes and no spots.
-fn nothing(alloc: Global) -> Ahead
+/// No bytes and no spots.
+pub(crate) fn nothing(alloc: Global) -> Ahead
     ensures { result.spots.items ≡ [] }
 {
     Ahead {

@@ -9,7 +9,7 @@ ghost use Rattle.bw_care.specs.Moving.{IsCleaned, Refuses};
 ghost use Rattle.bw_care.specs.Views.{seen, IsSound};
 
 use crate::fault::CleanFault;
-use crate::moving::{move_pages, old_pages};
+use crate::moving::{last_old, move_pages, old_pages};
 use bw_device::Segment;
 use bw_log::{Log, LogFault};
 use std::alloc::Global;
@@ -78,7 +78,7 @@ pub fn clean(alloc: Global, log: &mut Log) -> Result<Cleaned, CleanFault>
     let Some((segment, lease, _)) = log.live_segment(0) else {
         unreachable!();
     };
-    let pages = match old_pages(alloc, log) {
+    let pages = match old_pages(alloc, log, last_old(log)) {
         Ok(pages) => pages,
         Err(_) => return Err(CleanFault::Log(LogFault::NoMemory)),
     };

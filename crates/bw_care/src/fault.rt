@@ -8,10 +8,11 @@ use std::alloc::{AllocError, AllocFailed};
 use std::fmt::{self, Display, Formatter};
 use thiserror::Error;
 
-/// Why a cleaning was refused. What stands then is said at `clean`.
+/// Why a cleaning or an upgrade was refused. What stands then is said at `clean` and `upgrade`.
 #[derive(Debug, Clone, Copy, PartialEq, Eq, Error)]
 pub enum CleanFault {
-    /// E11: fewer than two segments are live. It is asked first, and nothing has changed.
+    /// E11: of `clean`, fewer than two segments are live; of `upgrade`, none of them has version 1.
+    /// It is asked first, and nothing has changed.
     #[error("nothing old")]
     NothingOld,
     /// A step on the log was refused: E1, E5, E6, E7 or E8. The log never answers `BadConfig` or
@@ -37,7 +38,8 @@ pub enum RecoverCause {
     BadBytes { segment: u32, at: u64 },
     /// The numbers of segments, or of frames, have a gap.
     Gap,
-    /// Headers differ in their limits.
+    /// Headers differ in their page limit, or those of one version in their frame limit, or a
+    /// segment of version 1 is numbered above one of version 2.
     Mixed,
     /// A block of this page does not link back to the one before it.
     BadLink { page: u32 },

@@ -16,31 +16,31 @@ use crate::fault::RecoverCause;
 use crate::passing::read_box;
 use crate::reading::{DraftLine, ReadFault, read_blocks_linked};
 use crate::scanning::front;
-use bw_codec::{CodecFault, Frame, FrameRead};
+use bw_codec::{CodecFault, Frame, FrameRead, Header, HeaderRead, read_header};
 use bw_device::Segment;
 use std::alloc::Global;
 use std::collections::BTreeMap;
 
-/// The blocks of one segment's frames, which a scan has found lawful.
-pub fn read_segment(
+// The blocks of the frames behind this header of a segment, which a scan has found lawful.
+fn read_frames(
     alloc: Global,
     lines: &mut BTreeMap<u32, DraftLine>,
     first: u64,
     bytes: &[u8],
-    m: u16,
-    f: u32,
+    header: Header,
 ) -> Result<(), ReadFault>
     requires long { 24 ≤ length bytes.now }
-    requires lawful { EndsInTail m f bytes.now }
+    requires lawful { EndsInTail header bytes.now }
     ensures ok { (done : List (PlaceValue × BlockValue)) → IsRead first done lines.old
-        → OnOk result (IsRead first (done ++ all_placed (frames_behind m f bytes.now)) lines.new) }
+        → OnOk result
+        (IsRead first (done ++ all_placed (frames_behind header bytes.now)) lines.new) }
     ensures fault { (done rest : List (PlaceValue × BlockValue)) → IsRead first done lines.old
         → IfErr result (LinkFaultIs
-        (bad_link first [] (done ++ (all_placed (frames_behind m f bytes.now) ++ rest)))) }
+        (bad_link first [] (done ++ (all_placed (frames_behind header bytes.now) ++ rest)))) }
 {
     let mut at = 24;
     'frames: loop {
-        match front(alloc, &bytes[at..], m, f) {
+        match front(alloc, &bytes[at..], header.version, header.m, header.f) {
             Ok(FrameRead::Whole(frame, used)) => {
                 let Frame { number, blocks } = frame;
                 read_blocks_linked(lines, first, number, blocks.into_vec())?;
@@ -50,6 +50,27 @@ pub fn read_segment(
             Err(CodecFault::NoMemory) => return Err(ReadFault::NoMemory),
             Err(CodecFault::BadBytes) => unreachable!(),
         }
+    }
+}
+
+/// The blocks of one segment's frames, which a scan has found lawful.
+pub fn read_segment(
+    alloc: Global,
+    lines: &mut BTreeMap<u32, DraftLine>,
+    first: u64,
+    bytes: &[u8],
+) -> Result<(), ReadFault>
+    requires { IsFramed bytes.now }
+    ensures ok { (done : List (PlaceValue × BlockValue)) → IsRead first done lines.old
+        → OnOk result (IsRead first (done ++ all_placed (segment_frames bytes.now)) lines.new) }
+    ensures fault { (done rest : List (PlaceValue × BlockValue)) → IsRead first done lines.old
+        → IfErr result (LinkFaultIs
+        (bad_link first [] (done ++ (all_placed (segment_frames bytes.now) ++ rest)))) }
+{
+    match read_header(bytes) {
+        HeaderRead::Whole(header) => read_frames(alloc, lines, first, bytes, header),
+        HeaderRead::Part => unreachable!(),
+        HeaderRead::Bad => unreachable!(),
     }
 }
 
@@ -70,12 +91,10 @@ fn read_box_forward(
     boxes: &mut Vec<Box<dyn Segment>>,
     at: usize,
     first: u64,
-    m: u16,
-    f: u32,
 ) -> Result<(), RecoverCause>
     requires inside { at < length boxes.old.items }
     requires framed { IfSome (slice_get (map holding boxes.old.items) at)
-        (λ h. IsFramed m f h.bytes) }
+        (λ h. IsFramed h.bytes) }
     ensures ok { (h : Holding) (done : List (PlaceValue × BlockValue))
         → slice_get (map holding boxes.old.items) at ≡ Some h → IsRead first done lines.old
         → OnOk result (IsRead first (done ++ all_placed (segment_frames h.bytes)) lines.new) }
@@ -88,7 +107,7 @@ fn read_box_forward(
     ensures len { length boxes.new.items ≡ length boxes.old.items }
 {
     let bytes = read_box(alloc, boxes, at)?;
-    match read_segment(alloc, lines, first, &bytes, m, f) {
+    match read_segment(alloc, lines, first, &bytes) {
         Ok(()) => Ok(()),
         Err(fault) => Err(cause_of(fault)),
     }
@@ -102,14 +121,12 @@ pub fn read_forward(
     boxes: &mut Vec<Box<dyn Segment>>,
     places: &[usize],
     first: u64,
-    m: u16,
-    f: u32,
 ) -> Result<BTreeMap<u32, DraftLine>, RecoverCause>
-    requires { (hs : List Holding) × AreReady m f (map holding boxes.old.items) places.now hs }
-    ensures read { (hs : List Holding) → AreReady m f (map holding boxes.old.items) places.now hs
+    requires { (hs : List Holding) × AreReady (map holding boxes.old.items) places.now hs }
+    ensures read { (hs : List Holding) → AreReady (map holding boxes.old.items) places.now hs
         → IfOk result (IsRead first (all_placed (frames_of (map (λ h. h.bytes) hs)))) }
     ensures same { OnOk result (map holding boxes.new.items ≡ map holding boxes.old.items) }
-    ensures stops { (hs : List Holding) → AreReady m f (map holding boxes.old.items) places.now hs
+    ensures stops { (hs : List Holding) → AreReady (map holding boxes.old.items) places.now hs
         → IfErr result (λ cause. ForwardStops first
         (all_placed (frames_of (map (λ h. h.bytes) hs)))
         (map holding boxes.old.items) cause (map holding boxes.new.items)) }
@@ -118,7 +135,7 @@ pub fn read_forward(
     let mut next = 0;
     'segments: while next < places.len() {
         let place = places[next];
-        read_box_forward(alloc, &mut lines, boxes, place, first, m, f)?;
+        read_box_forward(alloc, &mut lines, boxes, place, first)?;
         next += 1;
     }
     Ok(lines)

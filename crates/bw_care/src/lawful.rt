@@ -6,15 +6,14 @@ ghost use Rattle.std.specs.BTreeMap as tree;
 ghost use Rattle.std.specs.Ordering.{nat_cmp};
 ghost use Rattle.bw_codec.specs.Bytes.{is_below, IsKey};
 ghost use Rattle.bw_page.specs.Leaves.{Bytes, order};
-ghost use Rattle.bw_care.specs.Lawful.{is_bad_leaf, is_bad_page};
+ghost use Rattle.bw_care.specs.Lawful.{HasLawful, is_bad_leaf, is_bad_page};
 ghost use Rattle.bw_care.specs.Paging.{IsNext, is_past, has_low, taken_before, IsLows, IsShortIf, IsIndex, first_wrong, Rise, leaves_in, at_line, AreOf, IsMapOf, HasFrames, IsRight, PageFaultIs, fault_among};
-ghost use Rattle.bw_codec.specs.Grammar.{IsFrame};
 ghost use Rattle.bw_codec.specs.declared.block.Frame.{Frame as FrameValue};
 ghost use Rattle.bw_codec.specs.declared.leaf.Leaf.{Leaf as LeafValue};
 
 use crate::fault::RecoverCause;
 use crate::reading::{DraftLine, Line};
-use bw_codec::{Key, Leaf, Value};
+use bw_codec::{Key, Leaf, Pair};
 use bw_log::PageAt;
 use bw_page::Leaves;
 use std::alloc::{AllocError, Global};
@@ -45,11 +44,11 @@ fn least_low(lows: &BTreeMap<Key, u32>) -> Option<Key>
 }
 
 // Whether there is a key below a low, or not below the next one.
-fn some_astray(pairs: &[(Key, Value)], low: &[u8], next: &Option<Key>) -> bool
+fn some_astray(pairs: &[Pair], low: &[u8], next: &Option<Key>) -> bool
     ensures { result ≡ list_any (λ p. is_below p.0 low.now || is_past next.now p.0) pairs.now }
 {
     for pair in pairs {
-        if is_astray(pair.0.as_slice(), low, next) {
+        if is_astray(pair.key(), low, next) {
             return true;
         }
     }
@@ -100,7 +99,7 @@ fn has_bad_pairs(m: u16, leaf: &Leaf, next: Option<Key>) -> bool
 // Whether a page that was set is at fault.
 fn is_wrong_leaf(m: u16, leaf: &Leaf, lows: &BTreeMap<Key, u32>) -> bool
     ensures { (set : List LeafValue) → IsLows set (tree.get order lows.now)
-        → length leaf.now.low ≤ 64 → result ≡ is_bad_leaf m set leaf.now }
+        → length leaf.now.low ≤ 128 → result ≡ is_bad_leaf m set leaf.now }
 {
     match Key::new(leaf.low.as_slice()) {
         Err(_) => leaf.page != 1 || has_bad_pairs(m, leaf, least_low(lows)),
@@ -198,7 +197,7 @@ pub struct Pages {
 // The least page at fault.
 fn wrong_among(alloc: Global, m: u16, pages: &[(u32, Line)]) -> Result<Option<u32>, AllocError>
     requires { Rise 0 pages.now }
-    ensures { (f : ℕ) (frames : List FrameValue) → AllByRecursion (IsFrame m f) frames
+    ensures { (frames : List FrameValue) → AllByRecursion (HasLawful m) frames
         → AreOf frames pages.now
         → IfOk result (λ page. page ≡ fault_among m frames) }
 {
@@ -238,10 +237,10 @@ pub fn pages_of(
 ) -> Result<Pages, RecoverCause>
     requires limit { (4 ≤ m) × (m ≤ 32) }
     requires read { HasFrames m lines }
-    ensures right { (f : ℕ) (frames : List FrameValue) → AllByRecursion (IsFrame m f) frames
+    ensures right { (frames : List FrameValue) → AllByRecursion (HasLawful m) frames
         → IsMapOf frames lines
         → IfOk result (IsRight m frames) }
-    ensures fault { (f : ℕ) (frames : List FrameValue) → AllByRecursion (IsFrame m f) frames
+    ensures fault { (frames : List FrameValue) → AllByRecursion (HasLawful m) frames
         → IsMapOf frames lines
         → IfErr result (PageFaultIs (fault_among m frames)) }
 {

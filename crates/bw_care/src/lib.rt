@@ -31,10 +31,14 @@ mod plan;
 mod reading;
 mod recovered;
 mod recovering;
+mod rewriting;
 mod scanning;
 mod surveying;
+mod upgrading;
 
 pub use cleaning::{Cleaned, clean};
 pub use fault::{CleanFault, RecoverCause};
 pub use recovered::Recovered;
 pub use recovering::{RecoverFault, recover};
+pub use rewriting::rewrite;
+pub use upgrading::{Upgraded, old_segments, upgrade};

@@ -1,12 +1,12 @@
 //! The steps of a cleaning.
 
-ghost use Rattle.std.specs.Prelude.{◌≡◌, ◌≢◌, ◌+◌, ◌^◌, ◌<◌, ◌≤◌, [], take, drop, length, false, Err, IfOk, IfErr, IfSome};
+ghost use Rattle.std.specs.Prelude.{◌≡◌, ◌≢◌, ◌+◌, ◌^◌, ◌<◌, ◌≤◌, ℕ, [], take, drop, length, false, Err, IfOk, IfErr, IfSome};
 ghost use Rattle.std.specs.List.{AllByRecursion};
 ghost use Rattle.bw_buffer.specs.Filling.{frame_of};
 ghost use Rattle.bw_log.specs.Reads.{IsPage, ReadStops};
 ghost use Rattle.bw_care.specs.Ahead.{AreSpots, IsBaseOf, Puts};
-ghost use Rattle.bw_care.specs.Cleaning.{is_old, old_pages, oldest_last};
-ghost use Rattle.bw_care.specs.Moving.{AreBases, IsFull, IsReason, Moved, Refused, Stopped};
+ghost use Rattle.bw_care.specs.Cleaning.{is_old, old_pages, oldest_last, pages_upto};
+ghost use Rattle.bw_care.specs.Moving.{AreBases, IsFull, IsNextBehind, IsReason, Moved, MovedBehind, Refused, Stopped, StoppedBehind};
 ghost use Rattle.bw_care.specs.Views.{seen, IsSound};
 
 use crate::ahead::{Ahead, read_ahead};
@@ -38,14 +38,12 @@ pub(crate) fn last_old(log: &Log) -> u64
     }
 }
 
-/// The pages whose last setting block stands in the oldest segment, ascending. It looks at each
-/// page once, in memory.
-pub(crate) fn old_pages(alloc: Global, log: &Log) -> Result<Vec<u32>, AllocError>
-    requires sound { IsSound log.now holding }
-    requires some { 0 < length (seen log.now holding).live }
-    ensures { IfOk result (λ pages. pages.items ≡ old_pages (seen log.now holding)) }
+/// The pages whose last setting block stands in the frames up to this one, ascending. It looks at
+/// each page once, in memory.
+pub(crate) fn old_pages(alloc: Global, log: &Log, last: u64) -> Result<Vec<u32>, AllocError>
+    requires { IsSound log.now holding }
+    ensures { IfOk result (λ pages. pages.items ≡ pages_upto last (seen log.now holding)) }
 {
-    let last = last_old(log);
     let mut pages = Vec::new(alloc);
     for index in 0..log.pages() {
         let page = index + 1;
@@ -137,8 +135,9 @@ fn move_some(
         ahead.now.bytes.items (drop from ahead.now.spots.items) pages.now }
     requires few { from + length pages.now < 2 ^ 64 }
     ensures sound { IsSound log.new holding }
-    ensures moved { IfOk result (λ n. (0 < n) × (n ≤ length pages.now)
-        × Moved (seen log.old holding) (seen log.new holding)
+    ensures some { IfOk result (λ n. (0 < n) × (n ≤ length pages.now)) }
+    ensures moved { (last : ℕ) → IsNextBehind last (seen log.old holding)
+        → IfOk result (λ n. MovedBehind last (seen log.old holding) (seen log.new holding)
         (take n pages.now) (drop n pages.now) 1) }
     ensures refused { IfErr result (λ fault.
         Refused fault (seen log.old holding) (seen log.new holding)) }
@@ -156,19 +155,25 @@ fn move_some(
     Ok(count)
 }
 
-// Writes all the pages again, those that were found ahead as copies.
-fn move_all(alloc: Global, log: &mut Log, ahead: &Ahead, pages: &[u32]) -> Result<u64, LogFault>
+/// Writes all the pages again, those that were found ahead as copies.
+pub(crate) fn move_all(
+    alloc: Global,
+    log: &mut Log,
+    ahead: &Ahead,
+    pages: &[u32],
+) -> Result<u64, LogFault>
     requires sound { IsSound log.old holding }
     requires works { (seen log.old holding).is_failed ≡ false }
-    requires two { 2 ≤ length (seen log.old holding).live }
-    requires pages { pages.now ≡ old_pages (seen log.old holding) }
+    requires pages { AllByRecursion (IsPage (seen log.old holding)) pages.now }
     requires ahead { AreSpots (seen log.old holding)
         ahead.now.bytes.items ahead.now.spots.items pages.now }
     ensures sound { IsSound log.new holding }
-    ensures moved { IfOk result (λ frames. Moved (seen log.old holding) (seen log.new holding)
-        (old_pages (seen log.old holding)) [] frames) }
-    ensures refused { IfErr result (λ fault.
-        Stopped (seen log.old holding) fault (seen log.new holding)) }
+    ensures moved { (last : ℕ) → IsNextBehind last (seen log.old holding)
+        → IfOk result (λ frames. MovedBehind last (seen log.old holding) (seen log.new holding)
+        pages.now [] frames) }
+    ensures refused { (last : ℕ) → IsNextBehind last (seen log.old holding)
+        → IfErr result (λ fault. StoppedBehind last (seen log.old holding) pages.now fault
+        (seen log.new holding)) }
 {
     let mut frames = 0;
     let mut at = 0;
@@ -183,7 +188,7 @@ fn move_all(alloc: Global, log: &mut Log, ahead: &Ahead, pages: &[u32]) -> Resul
 pub(crate) fn move_pages(alloc: Global, log: &mut Log, pages: &[u32]) -> Result<u64, LogFault>
     requires sound { IsSound log.old holding }
     requires works { (seen log.old holding).is_failed ≡ false }
-    requires two { 2 ≤ length (seen log.old holding).live }
+    requires some { 0 < length (seen log.old holding).live }
     requires pages { pages.now ≡ old_pages (seen log.old holding) }
     ensures sound { IsSound log.new holding }
     ensures moved { IfOk result (λ frames. Moved (seen log.old holding) (seen log.new holding)

@@ -2,15 +2,16 @@
 
 ghost use Rattle.std.specs.Prelude.{◌≡◌, ◌≤◌, ◌==◌, ◌+◌, ◌++◌, ◌&&◌, Some, None, false, IfErr, IfOk, OnOk, map, length};
 ghost use Rattle.std.specs.List.{list_any, AllByRecursion};
-ghost use Rattle.bw_care.specs.Recovery.{placed_by};
+ghost use Rattle.bw_care.specs.Recovery.{placed_by, clash, are_mixed, pairs_of, limit_of};
 ghost use Rattle.bw_care.specs.Parting.{place_among};
 ghost use Rattle.bw_care.specs.Surveying.{HasShortTail};
-ghost use Rattle.bw_care.specs.Ordering.{first_found, is_other, is_narrow, any_narrow, follow_from, may_follow, number_found, sorted, moved_to, lines_found, line_number, has_none, IsOrder, CauseIs, order_fault, oldest_number, is_clean_from};
+ghost use Rattle.bw_care.specs.Ordering.{headers_of, is_clean, is_narrow, any_narrow, follow_from, may_follow, number_found, sorted, moved_to, lines_found, line_number, has_none, IsOrder, CauseIs, order_fault, oldest_number, is_clean_from};
 
 use crate::fault::RecoverCause;
 use crate::scanning::{Behind, Scan};
 use crate::surveying::tail_of;
 use bw_codec::Header;
+use bw_codec::limits::{HEADER_LEN, LATEST, MIN_FRAME};
 use bw_log::FrameAt;
 use std::alloc::{AllocError, Global};
 
@@ -23,42 +24,63 @@ pub struct Found {
     pub behind: Behind,
 }
 
-/// The header of the first segment.
-pub fn header_of(scans: &[Scan]) -> Option<Header>
-    ensures { result ≡ first_found scans.now }
+/// The headers of the segments, in the order of their boxes.
+pub fn headers_of(alloc: Global, scans: &[Scan]) -> Result<Vec<Header>, AllocError>
+    ensures { IfOk result (λ headers. headers.items ≡ headers_of scans.now) }
 {
-    let mut at = 0;
-    'scans: while at < scans.len() {
-        match &scans[at] {
-            Scan::Live(header, _) => return Some(*header),
+    let mut headers = Vec::new(alloc);
+    for scan in scans {
+        match scan {
+            Scan::Live(header, _) => headers.push(*header)?,
             Scan::Bare => {}
             Scan::Part => {}
         }
-        at += 1;
     }
-    None
+    Ok(headers)
 }
 
-fn is_other_than(m: u16, f: u32, scan: &Scan) -> bool
-    ensures { result ≡ is_other m f scan.now }
+// Whether two headers stand in no log together.
+fn clash(a: &Header, b: &Header) -> bool
+    ensures { result ≡ clash a.now b.now }
 {
-    match scan {
-        Scan::Live(header, _) => !(header.m == m && header.f == f),
-        Scan::Bare => false,
-        Scan::Part => false,
+    a.m != b.m
+        || (a.version == b.version && a.f != b.f)
+        || (a.version == 2 && b.version == 1 && a.number < b.number)
+}
+
+fn clashes(a: &Header, headers: &[Header]) -> bool
+    ensures { result ≡ list_any (clash a.now) headers.now }
+{
+    headers.iter().any(|b| clash(a, b))
+}
+
+/// Whether some two headers stand in no log together.
+pub fn are_mixed(headers: &[Header]) -> bool
+    ensures { result ≡ are_mixed headers.now }
+{
+    headers.iter().any(|a| clashes(a, headers))
+}
+
+/// The most pairs of a page, by the first header.
+pub fn pairs_of(headers: &[Header]) -> u16
+    ensures { result ≡ pairs_of headers.now }
+{
+    match headers.first() {
+        Some(header) => header.m,
+        None => 0,
     }
 }
 
-/// Whether a segment has other limits.
-pub fn some_other(m: u16, f: u32, scans: &[Scan]) -> bool
-    ensures { result ≡ list_any (is_other m f) scans.now }
+/// The most bytes of a frame that is written, by the first header of version 2.
+pub fn limit_of(headers: &[Header]) -> u32
+    ensures { result ≡ limit_of headers.now }
 {
-    for scan in scans {
-        if is_other_than(m, f, scan) {
-            return true;
+    for header in headers {
+        if header.version == LATEST {
+            return header.f;
         }
     }
-    false
+    MIN_FRAME
 }
 
 fn is_too_narrow(least: u64, scan: &Scan, room: u64) -> bool
@@ -184,6 +206,8 @@ pub struct Gathered {
     pub lines: Vec<FrameAt>,
     /// The position of each segment's box among those handed in.
     pub boxes: Vec<usize>,
+    /// The version of each segment.
+    pub versions: Vec<u16>,
 }
 
 // The lines of the segment at a position.
@@ -201,37 +225,49 @@ fn add_lines(lines: &mut Vec<FrameAt>, more: &[FrameAt], segment: u64) -> Result
     Ok(())
 }
 
-/// Where all frames stand.
+/// Where all frames stand, and the segments' boxes and versions.
 pub fn gather(alloc: Global, live: Vec<Found>) -> Result<Gathered, AllocError>
     ensures boxes { IfOk result (λ g. g.boxes.items ≡ map (λ r. r.index) live.items) }
     ensures lines { IfOk result (λ g. g.lines.items ≡ lines_found 0 live.items) }
+    ensures versions { IfOk result (λ g.
+        g.versions.items ≡ map (λ r. r.header.version) live.items) }
 {
     let mut live = live;
     let mut boxes = Vec::new(alloc);
+    let mut versions = Vec::new(alloc);
     let mut lines = Vec::new(alloc);
     let mut segment: u64 = 0;
     live.reverse();
     'next: while let Some(found) = live.pop() {
         let Found {
             index,
-            header: _,
+            header,
             behind,
         } = found;
         add_lines(&mut lines, &behind.lines, segment)?;
         boxes.push(index)?;
+        versions.push(header.version)?;
         segment += 1;
     }
-    Ok(Gathered { lines, boxes })
+    Ok(Gathered {
+        lines,
+        boxes,
+        versions,
+    })
 }
 
 /// What stands in segments whose order is right.
 #[derive(Drop)]
 pub struct Order {
-    /// The first segment's, with the limits of all.
-    pub header: Header,
+    /// The most pairs of a page.
+    pub m: u16,
+    /// The most bytes of a frame that is written.
+    pub f: u32,
     /// The oldest segment's number.
     pub number: u64,
-    /// Whether the newest segment has no tail.
+    /// The version of each live segment.
+    pub versions: Vec<u16>,
+    /// Whether the newest segment has version 2 and no tail.
     pub is_open: bool,
     /// How many bytes all tails have.
     pub tail: u64,
@@ -251,14 +287,21 @@ fn oldest(live: &[Found]) -> u64
     }
 }
 
-// Whether the newest segment has no tail.
+// Whether a segment has version 2 and no tail.
+fn is_clean(found: &Found) -> bool
+    ensures { result ≡ is_clean found.now }
+{
+    found.header.version == LATEST && found.behind.tail == 0
+}
+
+// Whether the newest segment does.
 fn ends_clean(live: &[Found]) -> bool
     ensures { result ≡ is_clean_from false live.now }
 {
     let mut clean = false;
     let mut at = 0;
     'live: while at < live.len() {
-        clean = live[at].behind.tail == 0;
+        clean = is_clean(&live[at]);
         at += 1;
     }
     clean
@@ -278,20 +321,23 @@ pub fn order_of(alloc: Global, scans: Vec<Scan>, rooms: &[u64]) -> Result<Order,
     ensures right { IfOk result (IsOrder scans.items rooms.now) }
     ensures fault { IfErr result (CauseIs (order_fault scans.items rooms.now)) }
 {
-    let Some(header) = header_of(&scans) else {
-        return Err(RecoverCause::Empty);
-    };
-    let (m, f) = (header.m, header.f);
-    if some_other(m, f, &scans) {
+    let headers = headers_of(alloc, &scans)?;
+    if are_mixed(&headers) {
         return Err(RecoverCause::Mixed);
     }
-    let narrow = some_narrow(24 + u64::from(f), &scans, rooms);
+    let m = pairs_of(&headers);
+    let f = limit_of(&headers);
+    let narrow = some_narrow(HEADER_LEN as u64 + u64::from(f), &scans, rooms);
     let live = in_number_order(alloc, scans)?;
     let follows = segments_follow(&live);
     let number = oldest(&live);
     let is_open = ends_clean(&live);
     let tail = tail_of(&live);
-    let Gathered { lines, boxes } = gather(alloc, live)?;
+    let Gathered {
+        lines,
+        boxes,
+        versions,
+    } = gather(alloc, live)?;
     if !is_gapless(follows, &lines) {
         return Err(RecoverCause::Gap);
     }
@@ -302,8 +348,10 @@ pub fn order_of(alloc: Global, scans: Vec<Scan>, rooms: &[u64]) -> Result<Order,
         return Err(RecoverCause::BadConfig);
     }
     Ok(Order {
-        header,
+        m,
+        f,
         number,
+        versions,
         is_open,
         tail,
         lines,

@@ -141,22 +141,24 @@ fn plan_of(
         order,
     } = survey;
     let Order {
-        header,
+        m,
+        f,
         number,
+        versions,
         is_open,
         tail,
         lines: frames,
         boxes: places,
     } = order;
-    let (m, f) = (header.m, header.f);
     let first = first_of(&frames);
     let last = last_of(&frames);
-    let lines = read_forward(alloc, boxes, &places, first, m, f)?;
+    let lines = read_forward(alloc, boxes, &places, first)?;
     let Pages { leaves, table } = pages_of(alloc, m, lines)?;
     let tables = Tables {
         m,
         f,
         number,
+        versions,
         is_open,
         frames,
         pages: table,

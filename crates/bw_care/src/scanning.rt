@@ -1,9 +1,9 @@
 //! One box's bytes, read from left to right.
 
-ghost use Rattle.std.specs.Prelude.{◌≡◌, ◌≤◌, ◌<◌, ◌-◌, ◌^◌, Some, IfOk, IfErr, Result, Ok, Err, length, drop};
+ghost use Rattle.std.specs.Prelude.{◌≡◌, ◌≤◌, ◌<◌, ◌^◌, Some, IfOk, IfErr, Result, Ok, Err, length, drop};
 ghost use Rattle.bw_codec.specs.Grammar.{IsFront};
 ghost use Rattle.bw_codec.specs.Reading.{Gives, front_at};
-ghost use Rattle.bw_care.specs.Scanning.{rest_of, fault_by, fault_in, FaultIs};
+ghost use Rattle.bw_care.specs.Scanning.{fault_behind, fault_in, FaultIs};
 ghost use Rattle.bw_care.specs.Scanned.{IsScan};
 ghost use Rattle.bw_care.specs.Behind.{IsBehind};
 
@@ -53,27 +53,36 @@ impl Drop for Behind {
     }
 }
 
-/// What stands at the front of bytes behind a header with these limits.
-pub(crate) fn front(alloc: Global, bytes: &[u8], m: u16, f: u32) -> Result<FrameRead, CodecFault>
-    ensures found { IfOk result (IsFront m f bytes.now) }
-    ensures gives { Gives (λ x. x) result (front_at m f bytes.now) }
+/// What stands at the front of bytes behind a header of this version and with these limits.
+pub(crate) fn front(
+    alloc: Global,
+    bytes: &[u8],
+    version: u16,
+    m: u16,
+    f: u32,
+) -> Result<FrameRead, CodecFault>
+    ensures found { IfOk result (IsFront version m f bytes.now) }
+    ensures gives { Gives (λ x. x) result (front_at version m f bytes.now) }
 {
-    let header = Header { number: 1, m, f };
+    let header = Header {
+        version,
+        number: 1,
+        m,
+        f,
+    };
     read_frame(alloc, bytes, &header)
 }
 
-/// All whole frames behind the header of a segment. It costs what the bytes do.
-pub fn read_behind(alloc: Global, bytes: &[u8], m: u16, f: u32) -> Result<Behind, ScanFault>
+/// All whole frames behind this header of a segment. It costs what the bytes do.
+pub fn read_behind(alloc: Global, bytes: &[u8], header: Header) -> Result<Behind, ScanFault>
     requires { 24 ≤ length bytes.now }
-    ensures found { IfOk result (IsBehind m f bytes.now) }
-    ensures fault { IfErr result (FaultIs
-        (fault_by (length bytes.now - length (rest_of m f bytes.now))
-        (front_at m f (rest_of m f bytes.now)))) }
+    ensures found { IfOk result (IsBehind header bytes.now) }
+    ensures fault { IfErr result (FaultIs (fault_behind header bytes.now)) }
 {
     let mut lines = Vec::new(alloc);
     let mut at = 24;
     'frames: loop {
-        match front(alloc, &bytes[at..], m, f) {
+        match front(alloc, &bytes[at..], header.version, header.m, header.f) {
             Ok(FrameRead::Whole(frame, used)) => {
                 lines.push(FrameAt {
                     number: frame.number,
@@ -113,8 +122,7 @@ pub fn scan_bytes(alloc: Global, bytes: &[u8]) -> Result<Scan, ScanFault>
     }
     match read_header(bytes) {
         HeaderRead::Whole(header) => {
-            let (m, f) = (header.m, header.f);
-            let behind = read_behind(alloc, bytes, m, f)?;
+            let behind = read_behind(alloc, bytes, header)?;
             Ok(Scan::Live(header, behind))
         }
         HeaderRead::Part => Ok(Scan::Part),

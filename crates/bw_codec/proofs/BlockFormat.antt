@@ -5,10 +5,11 @@ use Rattle.std.proofs.Common.{sym, ap, subst, ◌∙◌, arith}
 use Rattle.std.proofs.lemmas.Bool.{ltb-false, le-ltb, eqb-true, eqb-false, ne_eqb}
 use Rattle.std.specs.List.{flat_map, AllByRecursion}
 use lib.Pointwise.{bytes_decides}
-use Rattle.bw_codec.specs.Bytes.{number_bytes, text, ascends, IsBytes}
-use Rattle.bw_codec.specs.Grammar.{op_bytes, pair_bytes, place_bytes, pairs_bytes, ops_bytes, upper_bytes, block_bytes, IsPair, IsOp, IsPage, IsPlace, IsDelta}
-use Rattle.bw_codec.specs.Grammar.{IsBase, IsSplit, IsBlock, first_key}
-use Rattle.bw_codec.specs.Reading.{Found, ◌>>=◌, number_at, text_at, put_at, del_at, op_at, pair_at, many_at, place_at, page_at, pairs_at, delta_at, base_at}
+use Rattle.bw_codec.specs.Version.{key_limit}
+use Rattle.bw_codec.specs.Bytes.{number_bytes, text, value_bytes, ascends, IsBytes}
+use Rattle.bw_codec.specs.Grammar.{op_bytes_in, pair_bytes_in, place_bytes, pairs_bytes_in, ops_bytes_in, upper_bytes_in, block_bytes_in, IsPairIn, IsOpIn, IsPage, IsPlace, IsDeltaIn}
+use Rattle.bw_codec.specs.Grammar.{IsBaseIn, IsSplitIn, IsBlockIn, first_key}
+use Rattle.bw_codec.specs.Reading.{Found, ◌>>=◌, number_at, text_at, value_at, put_at, del_at, op_at, pair_at, many_at, place_at, page_at, pairs_at, delta_at, base_at}
 use Rattle.bw_codec.specs.Reading.{upper_at, split_at, block_at, is_led}
 use Rattle.bw_codec.specs.declared.record.Record.{Record}
 use Rattle.bw_codec.specs.declared.record.Record.TheVariants.{Put, Del}
@@ -16,47 +17,47 @@ use Rattle.bw_codec.specs.declared.leaf.Leaf.{Leaf}
 use Rattle.bw_codec.specs.declared.block.Place.{Place}
 use Rattle.bw_codec.specs.declared.block.Block.{Block}
 use Rattle.bw_codec.specs.declared.block.Block.TheVariants.{Delta, Base, Split}
-use Rattle.bw_codec.proofs.Format.{Takes, IsFormat, IsRun, found, takes_as, bind_some, passed, held, then_parts, again_on, number_format, text_format}
+use Rattle.bw_codec.proofs.Format.{Takes, IsFormat, IsRun, found, takes_as, bind_some, passed, held, then_parts, again_on, number_format, text_format, value_format}
 
 -- ---- pairs and records
 
-pair_takes : (bytes : List ℕ) (x : List ℕ × List ℕ) (rest : List ℕ) → IsBytes bytes → pair_at bytes ≡ Some (x, rest) → Takes pair_bytes IsPair bytes x rest
+pair_takes : (v : ℕ) → (bytes : List ℕ) (x : List ℕ × List ℕ) (rest : List ℕ) → IsBytes bytes → pair_at v bytes ≡ Some (x, rest) → Takes (pair_bytes_in v) (IsPairIn v) bytes x rest
 unfolding pair_at
-pair_takes bytes x rest fits read =
-    let k = bind_some (text_at 1 64 bytes) (λ key. text_at 0 128 key.1 >>= λ value. Some ((key.0, value.0), value.1)) (x, rest) read in
-    let key = (text_format 1 64).takes bytes k.0.0 k.0.1 fits k.1 in
-    let v = bind_some (text_at 0 128 k.0.1) (λ value. Some ((k.0.0, value.0), value.1)) (x, rest) k.2 in
-    let value = (text_format 0 128).takes k.0.1 v.0.0 v.0.1 key.others v.1 in
-    takes_as pair_bytes IsPair bytes ((k.0.0, v.0.0), v.0.1) (x, rest) (found v.2)
+pair_takes v bytes x rest fits read =
+    let k = bind_some (text_at 1 (key_limit v) bytes) (λ key. value_at v key.1 >>= λ value. Some ((key.0, value.0), value.1)) (x, rest) read in
+    let key = (text_format 1 (key_limit v)).takes bytes k.0.0 k.0.1 fits k.1 in
+    let w = bind_some (value_at v k.0.1) (λ value. Some ((k.0.0, value.0), value.1)) (x, rest) k.2 in
+    let value = (value_format v).takes k.0.1 w.0.0 w.0.1 key.others w.1 in
+    takes_as (pair_bytes_in v) (IsPairIn v) bytes ((k.0.0, w.0.0), w.0.1) (x, rest) (found w.2)
     (record {
-      parts = then_parts bytes (text k.0.0) (text v.0.0) k.0.1 v.0.1 key.parts value.parts;
-      lawful = (key.lawful, value.lawful.1);
+      parts = then_parts bytes (text k.0.0) (value_bytes v w.0.0) k.0.1 w.0.1 key.parts value.parts;
+      lawful = (key.lawful, value.lawful);
       others = value.others;
     })
 
-pair_again : (x : List ℕ × List ℕ) (rest : List ℕ) → IsPair x → pair_at (pair_bytes x ++ rest) ≡ Some (x, rest)
+pair_again : (v : ℕ) → (x : List ℕ × List ℕ) (rest : List ℕ) → IsPairIn v x → pair_at v (pair_bytes_in v x ++ rest) ≡ Some (x, rest)
 unfolding pair_at
-pair_again x rest law =
-    rw (again_on text (IsRun 1 64) (text_at 1 64) (text_format 1 64) x.0 (text x.1) rest law.0, (text_format 0 128).again x.1 rest (omega arith, law.1)) refl
+pair_again v x rest law =
+    rw (again_on text (IsRun 1 (key_limit v)) (text_at 1 (key_limit v)) (text_format 1 (key_limit v)) x.0 (value_bytes v x.1) rest law.0, (value_format v).again x.1 rest law.1) refl
 
-pub pair_format : IsFormat pair_bytes IsPair pair_at
-pair_format = record { takes = pair_takes; again = pair_again }
+pub pair_format : (v : ℕ) → IsFormat (pair_bytes_in v) (IsPairIn v) (pair_at v)
+pair_format v = record { takes = pair_takes v; again = pair_again v }
 
-put_takes : (bytes : List ℕ) (x : Record) (rest : List ℕ) → IsBytes bytes → put_at bytes ≡ Some (x, rest) → Takes op_bytes IsOp (1 ∷ bytes) x rest
-put_takes bytes x rest fits read =
-    let k = bind_some (text_at 1 64 bytes) (λ key. text_at 0 128 key.1 >>= λ value. Some (Put key.0 value.0, value.1)) (x, rest) read in
-    let key = (text_format 1 64).takes bytes k.0.0 k.0.1 fits k.1 in
-    let v = bind_some (text_at 0 128 k.0.1) (λ value. Some (Put k.0.0 value.0, value.1)) (x, rest) k.2 in
-    let value = (text_format 0 128).takes k.0.1 v.0.0 v.0.1 key.others v.1 in
-    let parts = ap (λ (r : List ℕ). 1 ∷ r) (then_parts bytes (text k.0.0) (text v.0.0) k.0.1 v.0.1 key.parts value.parts) in
-    takes_as op_bytes IsOp (1 ∷ bytes) (Put k.0.0 v.0.0, v.0.1) (x, rest) (found v.2)
-    (record { parts = parts; lawful = (key.lawful, value.lawful.1); others = value.others })
+put_takes : (v : ℕ) → (bytes : List ℕ) (x : Record) (rest : List ℕ) → IsBytes bytes → put_at v bytes ≡ Some (x, rest) → Takes (op_bytes_in v) (IsOpIn v) (1 ∷ bytes) x rest
+put_takes v bytes x rest fits read =
+    let k = bind_some (text_at 1 (key_limit v) bytes) (λ key. value_at v key.1 >>= λ value. Some (Put key.0 value.0, value.1)) (x, rest) read in
+    let key = (text_format 1 (key_limit v)).takes bytes k.0.0 k.0.1 fits k.1 in
+    let w = bind_some (value_at v k.0.1) (λ value. Some (Put k.0.0 value.0, value.1)) (x, rest) k.2 in
+    let value = (value_format v).takes k.0.1 w.0.0 w.0.1 key.others w.1 in
+    let parts = ap (λ (r : List ℕ). 1 ∷ r) (then_parts bytes (text k.0.0) (value_bytes v w.0.0) k.0.1 w.0.1 key.parts value.parts) in
+    takes_as (op_bytes_in v) (IsOpIn v) (1 ∷ bytes) (Put k.0.0 w.0.0, w.0.1) (x, rest) (found w.2)
+    (record { parts = parts; lawful = (key.lawful, value.lawful); others = value.others })
 
-del_takes : (bytes : List ℕ) (x : Record) (rest : List ℕ) → IsBytes bytes → del_at bytes ≡ Some (x, rest) → Takes op_bytes IsOp (2 ∷ bytes) x rest
-del_takes bytes x rest fits read =
-    let k = bind_some (text_at 1 64 bytes) (λ key. Some (Del key.0, key.1)) (x, rest) read in
-    let key = (text_format 1 64).takes bytes k.0.0 k.0.1 fits k.1 in
-    takes_as op_bytes IsOp (2 ∷ bytes) (Del k.0.0, k.0.1) (x, rest) (found k.2)
+del_takes : (v : ℕ) → (bytes : List ℕ) (x : Record) (rest : List ℕ) → IsBytes bytes → del_at v bytes ≡ Some (x, rest) → Takes (op_bytes_in v) (IsOpIn v) (2 ∷ bytes) x rest
+del_takes v bytes x rest fits read =
+    let k = bind_some (text_at 1 (key_limit v) bytes) (λ key. Some (Del key.0, key.1)) (x, rest) read in
+    let key = (text_format 1 (key_limit v)).takes bytes k.0.0 k.0.1 fits k.1 in
+    takes_as (op_bytes_in v) (IsOpIn v) (2 ∷ bytes) (Del k.0.0, k.0.1) (x, rest) (found k.2)
     (record { parts = ap (λ (r : List ℕ). 2 ∷ r) key.parts; lawful = key.lawful; others = key.others })
 
 -- the tag in front says which kind it is
@@ -64,30 +65,30 @@ tagged : {X : Type 0} (spell : X → List ℕ) (Law : X → Type 0) (tag n : ℕ
     → Takes spell Law (n ∷ bytes) x rest → Takes spell Law (tag ∷ bytes) x rest
 tagged spell Law tag n bytes x rest is takes = subst (λ (t : ℕ). Takes spell Law (t ∷ bytes) x rest) (sym (eqb-true tag n is)) takes
 
-op_takes : (bytes : List ℕ) (x : Record) (rest : List ℕ) → IsBytes bytes → op_at bytes ≡ Some (x, rest) → Takes op_bytes IsOp bytes x rest
+op_takes : (v : ℕ) → (bytes : List ℕ) (x : Record) (rest : List ℕ) → IsBytes bytes → op_at v bytes ≡ Some (x, rest) → Takes (op_bytes_in v) (IsOpIn v) bytes x rest
 unfolding op_at
-op_takes [] x rest fits read = absurd cc
-op_takes (tag ∷ bytes) x rest fits read =
+op_takes v [] x rest fits read = absurd cc
+op_takes v (tag ∷ bytes) x rest fits read =
     let behind : IsBytes bytes = λ i. fits (suc i) in
-    elim (tag == 1) as (λ t. (tag == 1) ≡ t → (if t then put_at bytes else if tag == 2 then del_at bytes else None) ≡ Some (x, rest)
-    → Takes op_bytes IsOp (tag ∷ bytes) x rest) [
-      | true ↦ λ one put. tagged op_bytes IsOp tag 1 bytes x rest one (put_takes bytes x rest behind put)
+    elim (tag == 1) as (λ t. (tag == 1) ≡ t → (if t then put_at v bytes else if tag == 2 then del_at v bytes else None) ≡ Some (x, rest)
+    → Takes (op_bytes_in v) (IsOpIn v) (tag ∷ bytes) x rest) [
+      | true ↦ λ one put. tagged (op_bytes_in v) (IsOpIn v) tag 1 bytes x rest one (put_takes v bytes x rest behind put)
       | false ↦ λ other read2. (
-          let two = held (tag == 2) (del_at bytes) (x, rest) read2 in
-          tagged op_bytes IsOp tag 2 bytes x rest two.0 (del_takes bytes x rest behind two.1))
+          let two = held (tag == 2) (del_at v bytes) (x, rest) read2 in
+          tagged (op_bytes_in v) (IsOpIn v) tag 2 bytes x rest two.0 (del_takes v bytes x rest behind two.1))
     ] refl read
 
-op_again : (x : Record) (rest : List ℕ) → IsOp x → op_at (op_bytes x ++ rest) ≡ Some (x, rest)
+op_again : (v : ℕ) → (x : Record) (rest : List ℕ) → IsOpIn v x → op_at v (op_bytes_in v x ++ rest) ≡ Some (x, rest)
 unfolding op_at
-op_again (Put key value) rest law =
+op_again v (Put key value) rest law =
     rw (
-      again_on text (IsRun 1 64) (text_at 1 64) (text_format 1 64) key (text value) rest law.0,
-      (text_format 0 128).again value rest (omega arith, law.1),
+      again_on text (IsRun 1 (key_limit v)) (text_at 1 (key_limit v)) (text_format 1 (key_limit v)) key (value_bytes v value) rest law.0,
+      (value_format v).again value rest law.1,
     ) refl
-op_again (Del key) rest law = rw ((text_format 1 64).again key rest law) refl
+op_again v (Del key) rest law = rw ((text_format 1 (key_limit v)).again key rest law) refl
 
-pub op_format : IsFormat op_bytes IsOp op_at
-op_format = record { takes = op_takes; again = op_again }
+pub op_format : (v : ℕ) → IsFormat (op_bytes_in v) (IsOpIn v) (op_at v)
+op_format v = record { takes = op_takes v; again = op_again v }
 
 -- ---- many of a kind
 
@@ -166,28 +167,28 @@ pub place_format : IsFormat place_bytes IsPlace place_at
 place_format = record { takes = place_takes; again = place_again }
 
 -- at most m pairs, in the order of their keys
-pub record ArePairs (m : ℕ) (pairs : List (List ℕ × List ℕ)) : Type 0 where
+pub record ArePairs (v m : ℕ) (pairs : List (List ℕ × List ℕ)) : Type 0 where
   pub count : length pairs ≤ m
   pub few : length pairs < 2 ^ 16
-  pub each : AllByRecursion IsPair pairs
+  pub each : AllByRecursion (IsPairIn v) pairs
   pub ascends : IsTrue (ascends pairs)
 
-pairs_takes : (m : ℕ) (bytes : List ℕ) (x : List (List ℕ × List ℕ)) (rest : List ℕ) → IsBytes bytes → pairs_at m bytes ≡ Some (x, rest)
-    → Takes pairs_bytes (ArePairs m) bytes x rest
+pairs_takes : (v : ℕ) → (m : ℕ) (bytes : List ℕ) (x : List (List ℕ × List ℕ)) (rest : List ℕ) → IsBytes bytes → pairs_at v m bytes ≡ Some (x, rest)
+    → Takes (pairs_bytes_in v) (ArePairs v m) bytes x rest
 unfolding pairs_at
-pairs_takes m bytes x rest fits read =
+pairs_takes v m bytes x rest fits read =
     let n = bind_some (number_at 2 bytes) (λ count. if nat_lt m count.0 then None else
-    (many_at pair_at count.0 count.1 >>= λ pairs. if ascends pairs.0 then Some pairs else None)) (x, rest) read in
+    (many_at (pair_at v) count.0 count.1 >>= λ pairs. if ascends pairs.0 then Some pairs else None)) (x, rest) read in
     let number = (number_format 2).takes bytes n.0.0 n.0.1 fits n.1 in
-    let few = passed (nat_lt m n.0.0) (many_at pair_at n.0.0 n.0.1 >>= λ pairs. if ascends pairs.0 then Some pairs else None) (x, rest) n.2 in
-    let p = bind_some (many_at pair_at n.0.0 n.0.1) (λ pairs. if ascends pairs.0 then Some pairs else None) (x, rest) few.1 in
-    let pairs = many_takes pair_bytes IsPair pair_at pair_format n.0.0 n.0.1 p.0.0 p.0.1 number.others p.1 in
+    let few = passed (nat_lt m n.0.0) (many_at (pair_at v) n.0.0 n.0.1 >>= λ pairs. if ascends pairs.0 then Some pairs else None) (x, rest) n.2 in
+    let p = bind_some (many_at (pair_at v) n.0.0 n.0.1) (λ pairs. if ascends pairs.0 then Some pairs else None) (x, rest) few.1 in
+    let pairs = many_takes (pair_bytes_in v) (IsPairIn v) (pair_at v) (pair_format v) n.0.0 n.0.1 p.0.0 p.0.1 number.others p.1 in
     let order = held (ascends p.0.0) (Some p.0) (x, rest) p.2 in
     let counted : length p.0.0 ≡ n.0.0 = pairs.lawful.0 in
     let parts : bytes ≡ number_bytes 2 (length p.0.0) ++ n.0.1 = number.parts ∙ ap (λ (k : ℕ). number_bytes 2 k ++ n.0.1) (sym counted) in
-    takes_as pairs_bytes (ArePairs m) bytes p.0 (x, rest) (found order.1)
+    takes_as (pairs_bytes_in v) (ArePairs v m) bytes p.0 (x, rest) (found order.1)
     (record {
-      parts = then_parts bytes (number_bytes 2 (length p.0.0)) (flat_map pair_bytes p.0.0) n.0.1 p.0.1 parts pairs.parts;
+      parts = then_parts bytes (number_bytes 2 (length p.0.0)) (flat_map (pair_bytes_in v) p.0.0) n.0.1 p.0.1 parts pairs.parts;
       lawful = record {
         count = subst (λ (k : ℕ). k ≤ m) (sym counted) (ltb-false m n.0.0 few.0);
         few = subst (λ (k : ℕ). k < 2 ^ 16) (sym counted) number.lawful;
@@ -197,43 +198,43 @@ pairs_takes m bytes x rest fits read =
       others = pairs.others;
     })
 
-pairs_again : (m : ℕ) (x : List (List ℕ × List ℕ)) (rest : List ℕ) → ArePairs m x → pairs_at m (pairs_bytes x ++ rest) ≡ Some (x, rest)
+pairs_again : (v : ℕ) → (m : ℕ) (x : List (List ℕ × List ℕ)) (rest : List ℕ) → ArePairs v m x → pairs_at v m (pairs_bytes_in v x ++ rest) ≡ Some (x, rest)
 unfolding pairs_at
-pairs_again m x rest law =
+pairs_again v m x rest law =
     rw (
-      again_on (number_bytes 2) (λ n. n < 256 ^ 2) (number_at 2) (number_format 2) (length x) (flat_map pair_bytes x) rest law.few,
+      again_on (number_bytes 2) (λ n. n < 256 ^ 2) (number_at 2) (number_format 2) (length x) (flat_map (pair_bytes_in v) x) rest law.few,
       le-ltb m (length x) law.count,
-      many_again pair_bytes IsPair pair_at pair_format x rest law.each,
+      many_again (pair_bytes_in v) (IsPairIn v) (pair_at v) (pair_format v) x rest law.each,
       law.ascends,
     ) refl
 
-pub pairs_format : (m : ℕ) → IsFormat pairs_bytes (ArePairs m) (pairs_at m)
-pairs_format m = record { takes = pairs_takes m; again = pairs_again m }
+pub pairs_format : (v : ℕ) → (m : ℕ) → IsFormat (pairs_bytes_in v) (ArePairs v m) (pairs_at v m)
+pairs_format v m = record { takes = pairs_takes v m; again = pairs_again v m }
 
 -- ---- blocks
 
-delta_takes : (bytes : List ℕ) (x : Block) (rest : List ℕ) (m : ℕ) → IsBytes bytes → delta_at bytes ≡ Some (x, rest)
-    → Takes block_bytes (IsBlock m) (1 ∷ bytes) x rest
+delta_takes : (v : ℕ) → (bytes : List ℕ) (x : Block) (rest : List ℕ) (m : ℕ) → IsBytes bytes → delta_at v bytes ≡ Some (x, rest)
+    → Takes (block_bytes_in v) (IsBlockIn v m) (1 ∷ bytes) x rest
 unfolding delta_at
-delta_takes bytes x rest m fits read =
+delta_takes v bytes x rest m fits read =
     let g = bind_some (page_at bytes) (λ page. place_at page.1 >>= λ back. number_at 2 back.1 >>= λ count. if nat_lt count.0 1 then None else
-    (many_at op_at count.0 count.1 >>= λ ops. Some (Delta page.0 back.0 ops.0, ops.1))) (x, rest) read in
+    (many_at (op_at v) count.0 count.1 >>= λ ops. Some (Delta page.0 back.0 ops.0, ops.1))) (x, rest) read in
     let page = page_format.takes bytes g.0.0 g.0.1 fits g.1 in
     let b = bind_some (place_at g.0.1) (λ back. number_at 2 back.1 >>= λ count. if nat_lt count.0 1 then None else
-    (many_at op_at count.0 count.1 >>= λ ops. Some (Delta g.0.0 back.0 ops.0, ops.1))) (x, rest) g.2 in
+    (many_at (op_at v) count.0 count.1 >>= λ ops. Some (Delta g.0.0 back.0 ops.0, ops.1))) (x, rest) g.2 in
     let back = place_format.takes g.0.1 b.0.0 b.0.1 page.others b.1 in
     let n = bind_some (number_at 2 b.0.1) (λ count. if nat_lt count.0 1 then None else
-    (many_at op_at count.0 count.1 >>= λ ops. Some (Delta g.0.0 b.0.0 ops.0, ops.1))) (x, rest) b.2 in
+    (many_at (op_at v) count.0 count.1 >>= λ ops. Some (Delta g.0.0 b.0.0 ops.0, ops.1))) (x, rest) b.2 in
     let number = (number_format 2).takes b.0.1 n.0.0 n.0.1 back.others n.1 in
-    let some = passed (nat_lt n.0.0 1) (many_at op_at n.0.0 n.0.1 >>= λ ops. Some (Delta g.0.0 b.0.0 ops.0, ops.1)) (x, rest) n.2 in
-    let o = bind_some (many_at op_at n.0.0 n.0.1) (λ ops. Some (Delta g.0.0 b.0.0 ops.0, ops.1)) (x, rest) some.1 in
-    let ops = many_takes op_bytes IsOp op_at op_format n.0.0 n.0.1 o.0.0 o.0.1 number.others o.1 in
+    let some = passed (nat_lt n.0.0 1) (many_at (op_at v) n.0.0 n.0.1 >>= λ ops. Some (Delta g.0.0 b.0.0 ops.0, ops.1)) (x, rest) n.2 in
+    let o = bind_some (many_at (op_at v) n.0.0 n.0.1) (λ ops. Some (Delta g.0.0 b.0.0 ops.0, ops.1)) (x, rest) some.1 in
+    let ops = many_takes (op_bytes_in v) (IsOpIn v) (op_at v) (op_format v) n.0.0 n.0.1 o.0.0 o.0.1 number.others o.1 in
     let counted : length o.0.0 ≡ n.0.0 = ops.lawful.0 in
     let count : b.0.1 ≡ number_bytes 2 (length o.0.0) ++ n.0.1 = number.parts ∙ ap (λ (k : ℕ). number_bytes 2 k ++ n.0.1) (sym counted) in
-    let ops_parts = then_parts b.0.1 (number_bytes 2 (length o.0.0)) (flat_map op_bytes o.0.0) n.0.1 o.0.1 count ops.parts in
-    let back_parts = then_parts g.0.1 (place_bytes b.0.0) (ops_bytes o.0.0) b.0.1 o.0.1 back.parts ops_parts in
-    let parts = then_parts bytes (number_bytes 4 g.0.0) (place_bytes b.0.0 ++ ops_bytes o.0.0) g.0.1 o.0.1 page.parts back_parts in
-    takes_as block_bytes (IsBlock m) (1 ∷ bytes) (Delta g.0.0 b.0.0 o.0.0, o.0.1) (x, rest) (found o.2)
+    let ops_parts = then_parts b.0.1 (number_bytes 2 (length o.0.0)) (flat_map (op_bytes_in v) o.0.0) n.0.1 o.0.1 count ops.parts in
+    let back_parts = then_parts g.0.1 (place_bytes b.0.0) (ops_bytes_in v o.0.0) b.0.1 o.0.1 back.parts ops_parts in
+    let parts = then_parts bytes (number_bytes 4 g.0.0) (place_bytes b.0.0 ++ ops_bytes_in v o.0.0) g.0.1 o.0.1 page.parts back_parts in
+    takes_as (block_bytes_in v) (IsBlockIn v m) (1 ∷ bytes) (Delta g.0.0 b.0.0 o.0.0, o.0.1) (x, rest) (found o.2)
     (record {
       parts = ap (λ (r : List ℕ). 1 ∷ r) parts;
       lawful = record {
@@ -245,59 +246,59 @@ delta_takes bytes x rest m fits read =
       others = ops.others;
     })
 
-delta_again : (page : ℕ) (back : Place) (ops : List Record) (rest : List ℕ) → IsDelta page back ops
-    → delta_at ((number_bytes 4 page ++ (place_bytes back ++ ops_bytes ops)) ++ rest) ≡ Some (Delta page back ops, rest)
+delta_again : (v : ℕ) → (page : ℕ) (back : Place) (ops : List Record) (rest : List ℕ) → IsDeltaIn v page back ops
+    → delta_at v ((number_bytes 4 page ++ (place_bytes back ++ ops_bytes_in v ops)) ++ rest) ≡ Some (Delta page back ops, rest)
 unfolding delta_at
-delta_again page back ops rest law =
+delta_again v page back ops rest law =
     rw (
-      again_on (number_bytes 4) IsPage page_at page_format page (place_bytes back ++ ops_bytes ops) rest law.changes,
-      again_on place_bytes IsPlace place_at place_format back (ops_bytes ops) rest law.links,
-      again_on (number_bytes 2) (λ n. n < 256 ^ 2) (number_at 2) (number_format 2) (length ops) (flat_map op_bytes ops) rest law.count.1,
+      again_on (number_bytes 4) IsPage page_at page_format page (place_bytes back ++ ops_bytes_in v ops) rest law.changes,
+      again_on place_bytes IsPlace place_at place_format back (ops_bytes_in v ops) rest law.links,
+      again_on (number_bytes 2) (λ n. n < 256 ^ 2) (number_at 2) (number_format 2) (length ops) (flat_map (op_bytes_in v) ops) rest law.count.1,
       le-ltb (length ops) 1 law.count.0,
-      many_again op_bytes IsOp op_at op_format ops rest law.each,
+      many_again (op_bytes_in v) (IsOpIn v) (op_at v) (op_format v) ops rest law.each,
     ) refl
 
 -- pairs of a lawful leaf
-pairs_of_base : (m : ℕ) (leaf : Leaf) → m < 2 ^ 16 → IsBase m leaf → ArePairs m leaf.pairs
-pairs_of_base m leaf small law = record { count = law.count; few = (let h = law.count in omega arith); each = law.pairs; ascends = law.ascends }
+pairs_of_base : (v : ℕ) → (m : ℕ) (leaf : Leaf) → m < 2 ^ 16 → IsBaseIn v m leaf → ArePairs v m leaf.pairs
+pairs_of_base v m leaf small law = record { count = law.count; few = (let h = law.count in omega arith); each = law.pairs; ascends = law.ascends }
 
-base_takes : (m : ℕ) (bytes : List ℕ) (x : Block) (rest : List ℕ) → IsBytes bytes → base_at m bytes ≡ Some (x, rest)
-    → Takes block_bytes (IsBlock m) (2 ∷ bytes) x rest
+base_takes : (v : ℕ) → (m : ℕ) (bytes : List ℕ) (x : Block) (rest : List ℕ) → IsBytes bytes → base_at v m bytes ≡ Some (x, rest)
+    → Takes (block_bytes_in v) (IsBlockIn v m) (2 ∷ bytes) x rest
 unfolding base_at
-base_takes m bytes x rest fits read =
-    let g = bind_some (page_at bytes) (λ page. text_at 0 64 page.1 >>= λ low. pairs_at m low.1 >>= λ pairs. Some
+base_takes v m bytes x rest fits read =
+    let g = bind_some (page_at bytes) (λ page. text_at 0 (key_limit v) page.1 >>= λ low. pairs_at v m low.1 >>= λ pairs. Some
     (Base (record { page = page.0; low = low.0; pairs = pairs.0 }), pairs.1)) (x, rest) read in
     let page = page_format.takes bytes g.0.0 g.0.1 fits g.1 in
-    let l = bind_some (text_at 0 64 g.0.1) (λ low. pairs_at m low.1 >>= λ pairs. Some
+    let l = bind_some (text_at 0 (key_limit v) g.0.1) (λ low. pairs_at v m low.1 >>= λ pairs. Some
     (Base (record { page = g.0.0; low = low.0; pairs = pairs.0 }), pairs.1)) (x, rest) g.2 in
-    let low = (text_format 0 64).takes g.0.1 l.0.0 l.0.1 page.others l.1 in
-    let p = bind_some (pairs_at m l.0.1) (λ pairs. Some (Base (record { page = g.0.0; low = l.0.0; pairs = pairs.0 }), pairs.1)) (x, rest) l.2 in
-    let pairs = (pairs_format m).takes l.0.1 p.0.0 p.0.1 low.others p.1 in
+    let low = (text_format 0 (key_limit v)).takes g.0.1 l.0.0 l.0.1 page.others l.1 in
+    let p = bind_some (pairs_at v m l.0.1) (λ pairs. Some (Base (record { page = g.0.0; low = l.0.0; pairs = pairs.0 }), pairs.1)) (x, rest) l.2 in
+    let pairs = (pairs_format v m).takes l.0.1 p.0.0 p.0.1 low.others p.1 in
     let leaf : Leaf = record { page = g.0.0; low = l.0.0; pairs = p.0.0 } in
-    let low_parts = then_parts g.0.1 (text l.0.0) (pairs_bytes p.0.0) l.0.1 p.0.1 low.parts pairs.parts in
-    let parts = then_parts bytes (number_bytes 4 g.0.0) (text l.0.0 ++ pairs_bytes p.0.0) g.0.1 p.0.1 page.parts low_parts in
-    takes_as block_bytes (IsBlock m) (2 ∷ bytes) (Base leaf, p.0.1) (x, rest) (found p.2)
+    let low_parts = then_parts g.0.1 (text l.0.0) (pairs_bytes_in v p.0.0) l.0.1 p.0.1 low.parts pairs.parts in
+    let parts = then_parts bytes (number_bytes 4 g.0.0) (text l.0.0 ++ pairs_bytes_in v p.0.0) g.0.1 p.0.1 page.parts low_parts in
+    takes_as (block_bytes_in v) (IsBlockIn v m) (2 ∷ bytes) (Base leaf, p.0.1) (x, rest) (found p.2)
     (record {
       parts = ap (λ (r : List ℕ). 2 ∷ r) parts;
       lawful = record { page = page.lawful; low = low.lawful.1; count = pairs.lawful.count; pairs = pairs.lawful.each; ascends = pairs.lawful.ascends };
       others = pairs.others;
     })
 
-base_again : (m : ℕ) (leaf : Leaf) (rest : List ℕ) → m < 2 ^ 16 → IsBase m leaf
-    → base_at m ((number_bytes 4 leaf.page ++ (text leaf.low ++ pairs_bytes leaf.pairs)) ++ rest) ≡ Some (Base leaf, rest)
+base_again : (v : ℕ) → (m : ℕ) (leaf : Leaf) (rest : List ℕ) → m < 2 ^ 16 → IsBaseIn v m leaf
+    → base_at v m ((number_bytes 4 leaf.page ++ (text leaf.low ++ pairs_bytes_in v leaf.pairs)) ++ rest) ≡ Some (Base leaf, rest)
 unfolding base_at
-base_again m leaf rest small law =
+base_again v m leaf rest small law =
     rw (
-      again_on (number_bytes 4) IsPage page_at page_format leaf.page (text leaf.low ++ pairs_bytes leaf.pairs) rest law.page,
-      again_on text (IsRun 0 64) (text_at 0 64) (text_format 0 64) leaf.low (pairs_bytes leaf.pairs) rest (omega arith, law.low),
-      (pairs_format m).again leaf.pairs rest (pairs_of_base m leaf small law),
+      again_on (number_bytes 4) IsPage page_at page_format leaf.page (text leaf.low ++ pairs_bytes_in v leaf.pairs) rest law.page,
+      again_on text (IsRun 0 (key_limit v)) (text_at 0 (key_limit v)) (text_format 0 (key_limit v)) leaf.low (pairs_bytes_in v leaf.pairs) rest (omega arith, law.low),
+      (pairs_format v m).again leaf.pairs rest (pairs_of_base v m leaf small law),
     ) refl
 
 -- ---- the new page of a Split
 
 -- a lawful leaf but page 1, led by its first pair's key
-pub record IsUpper (m : ℕ) (leaf : Leaf) : Type 0 where
-  pub makes : IsBase m leaf
+pub record IsUpper (v m : ℕ) (leaf : Leaf) : Type 0 where
+  pub makes : IsBaseIn v m leaf
   pub low : leaf.low ≡ first_key leaf.pairs
   pub count : 1 ≤ length leaf.pairs
   pub page : 2 ≤ leaf.page
@@ -310,27 +311,27 @@ led : (low : List ℕ) (pairs : List (List ℕ × List ℕ)) → low ≡ first_k
 led low [] e some = absurd (omega arith)
 led low (p ∷ ps) e some = (bytes_decides p.0 low).1 (sym e)
 
-upper_takes : (m : ℕ) (bytes : List ℕ) (x : Leaf) (rest : List ℕ) → IsBytes bytes → upper_at m bytes ≡ Some (x, rest)
-    → Takes upper_bytes (IsUpper m) bytes x rest
+upper_takes : (v : ℕ) → (m : ℕ) (bytes : List ℕ) (x : Leaf) (rest : List ℕ) → IsBytes bytes → upper_at v m bytes ≡ Some (x, rest)
+    → Takes (upper_bytes_in v) (IsUpper v m) bytes x rest
 unfolding upper_at
-upper_takes m bytes x rest fits read =
-    let l = bind_some (text_at 0 64 bytes) (λ low. number_at 4 low.1 >>= λ page. pairs_at m page.1 >>= λ pairs. if nat_lt page.0 2 then None else if is_led
+upper_takes v m bytes x rest fits read =
+    let l = bind_some (text_at 0 (key_limit v) bytes) (λ low. number_at 4 low.1 >>= λ page. pairs_at v m page.1 >>= λ pairs. if nat_lt page.0 2 then None else if is_led
     low.0 pairs.0 then Some (record { page = page.0; low = low.0; pairs = pairs.0 }, pairs.1) else None) (x, rest) read in
-    let low = (text_format 0 64).takes bytes l.0.0 l.0.1 fits l.1 in
-    let g = bind_some (number_at 4 l.0.1) (λ page. pairs_at m page.1 >>= λ pairs. if nat_lt page.0 2 then None else if is_led l.0.0 pairs.0 then Some
+    let low = (text_format 0 (key_limit v)).takes bytes l.0.0 l.0.1 fits l.1 in
+    let g = bind_some (number_at 4 l.0.1) (λ page. pairs_at v m page.1 >>= λ pairs. if nat_lt page.0 2 then None else if is_led l.0.0 pairs.0 then Some
     (record { page = page.0; low = l.0.0; pairs = pairs.0 }, pairs.1) else None) (x, rest) l.2 in
     let page = (number_format 4).takes l.0.1 g.0.0 g.0.1 low.others g.1 in
-    let p = bind_some (pairs_at m g.0.1) (λ pairs. if nat_lt g.0.0 2 then None else if is_led l.0.0 pairs.0 then Some
+    let p = bind_some (pairs_at v m g.0.1) (λ pairs. if nat_lt g.0.0 2 then None else if is_led l.0.0 pairs.0 then Some
     (record { page = g.0.0; low = l.0.0; pairs = pairs.0 }, pairs.1) else None) (x, rest) g.2 in
-    let pairs = (pairs_format m).takes g.0.1 p.0.0 p.0.1 page.others p.1 in
+    let pairs = (pairs_format v m).takes g.0.1 p.0.0 p.0.1 page.others p.1 in
     let leaf : Leaf = record { page = g.0.0; low = l.0.0; pairs = p.0.0 } in
     let two = passed (nat_lt g.0.0 2) (if is_led l.0.0 p.0.0 then Some (leaf, p.0.1) else None) (x, rest) p.2 in
     let first = held (is_led l.0.0 p.0.0) (Some (leaf, p.0.1)) (x, rest) two.1 in
-    let page_parts = then_parts l.0.1 (number_bytes 4 g.0.0) (pairs_bytes p.0.0) g.0.1 p.0.1 page.parts pairs.parts in
-    let parts = then_parts bytes (text l.0.0) (number_bytes 4 g.0.0 ++ pairs_bytes p.0.0) l.0.1 p.0.1 low.parts page_parts in
+    let page_parts = then_parts l.0.1 (number_bytes 4 g.0.0) (pairs_bytes_in v p.0.0) g.0.1 p.0.1 page.parts pairs.parts in
+    let parts = then_parts bytes (text l.0.0) (number_bytes 4 g.0.0 ++ pairs_bytes_in v p.0.0) l.0.1 p.0.1 low.parts page_parts in
     let second = ltb-false g.0.0 2 two.0 in
     let lead = leads l.0.0 p.0.0 first.0 in
-    takes_as upper_bytes (IsUpper m) bytes (leaf, p.0.1) (x, rest) (found first.1)
+    takes_as (upper_bytes_in v) (IsUpper v m) bytes (leaf, p.0.1) (x, rest) (found first.1)
     (record {
       parts = parts;
       lawful = record {
@@ -348,34 +349,34 @@ upper_takes m bytes x rest fits read =
       others = pairs.others;
     })
 
-upper_again : (m : ℕ) (leaf : Leaf) (rest : List ℕ) → m < 2 ^ 16 → IsUpper m leaf → upper_at m (upper_bytes leaf ++ rest) ≡ Some (leaf, rest)
+upper_again : (v : ℕ) → (m : ℕ) (leaf : Leaf) (rest : List ℕ) → m < 2 ^ 16 → IsUpper v m leaf → upper_at v m (upper_bytes_in v leaf ++ rest) ≡ Some (leaf, rest)
 unfolding upper_at
-upper_again m leaf rest small law =
+upper_again v m leaf rest small law =
     rw (
-      again_on text (IsRun 0 64) (text_at 0 64) (text_format 0 64) leaf.low (number_bytes 4 leaf.page ++ pairs_bytes leaf.pairs) rest
+      again_on text (IsRun 0 (key_limit v)) (text_at 0 (key_limit v)) (text_format 0 (key_limit v)) leaf.low (number_bytes 4 leaf.page ++ pairs_bytes_in v leaf.pairs) rest
           (omega arith, law.makes.low),
-      again_on (number_bytes 4) (λ n. n < 256 ^ 4) (number_at 4) (number_format 4) leaf.page (pairs_bytes leaf.pairs) rest law.makes.page.1,
-      (pairs_format m).again leaf.pairs rest (pairs_of_base m leaf small law.makes),
+      again_on (number_bytes 4) (λ n. n < 256 ^ 4) (number_at 4) (number_format 4) leaf.page (pairs_bytes_in v leaf.pairs) rest law.makes.page.1,
+      (pairs_format v m).again leaf.pairs rest (pairs_of_base v m leaf small law.makes),
       le-ltb leaf.page 2 law.page,
       led leaf.low leaf.pairs law.low law.count,
     ) refl
 
-split_takes : (m : ℕ) (bytes : List ℕ) (x : Block) (rest : List ℕ) → IsBytes bytes → split_at m bytes ≡ Some (x, rest)
-    → Takes block_bytes (IsBlock m) (3 ∷ bytes) x rest
+split_takes : (v : ℕ) → (m : ℕ) (bytes : List ℕ) (x : Block) (rest : List ℕ) → IsBytes bytes → split_at v m bytes ≡ Some (x, rest)
+    → Takes (block_bytes_in v) (IsBlockIn v m) (3 ∷ bytes) x rest
 unfolding split_at
-split_takes m bytes x rest fits read =
-    let g = bind_some (page_at bytes) (λ page. place_at page.1 >>= λ back. upper_at m back.1 >>= λ upper. if upper.0.page == page.0 then None else Some
+split_takes v m bytes x rest fits read =
+    let g = bind_some (page_at bytes) (λ page. place_at page.1 >>= λ back. upper_at v m back.1 >>= λ upper. if upper.0.page == page.0 then None else Some
     (Split page.0 back.0 upper.0, upper.1)) (x, rest) read in
     let page = page_format.takes bytes g.0.0 g.0.1 fits g.1 in
-    let b = bind_some (place_at g.0.1) (λ back. upper_at m back.1 >>= λ upper. if upper.0.page == g.0.0 then None else Some
+    let b = bind_some (place_at g.0.1) (λ back. upper_at v m back.1 >>= λ upper. if upper.0.page == g.0.0 then None else Some
     (Split g.0.0 back.0 upper.0, upper.1)) (x, rest) g.2 in
     let back = place_format.takes g.0.1 b.0.0 b.0.1 page.others b.1 in
-    let u = bind_some (upper_at m b.0.1) (λ upper. if upper.0.page == g.0.0 then None else Some (Split g.0.0 b.0.0 upper.0, upper.1)) (x, rest) b.2 in
-    let upper = upper_takes m b.0.1 u.0.0 u.0.1 back.others u.1 in
+    let u = bind_some (upper_at v m b.0.1) (λ upper. if upper.0.page == g.0.0 then None else Some (Split g.0.0 b.0.0 upper.0, upper.1)) (x, rest) b.2 in
+    let upper = upper_takes v m b.0.1 u.0.0 u.0.1 back.others u.1 in
     let other = passed (u.0.0.page == g.0.0) (Some (Split g.0.0 b.0.0 u.0.0, u.0.1)) (x, rest) u.2 in
-    let back_parts = then_parts g.0.1 (place_bytes b.0.0) (upper_bytes u.0.0) b.0.1 u.0.1 back.parts upper.parts in
-    let parts = then_parts bytes (number_bytes 4 g.0.0) (place_bytes b.0.0 ++ upper_bytes u.0.0) g.0.1 u.0.1 page.parts back_parts in
-    takes_as block_bytes (IsBlock m) (3 ∷ bytes) (Split g.0.0 b.0.0 u.0.0, u.0.1) (x, rest) (found other.1)
+    let back_parts = then_parts g.0.1 (place_bytes b.0.0) (upper_bytes_in v u.0.0) b.0.1 u.0.1 back.parts upper.parts in
+    let parts = then_parts bytes (number_bytes 4 g.0.0) (place_bytes b.0.0 ++ upper_bytes_in v u.0.0) g.0.1 u.0.1 page.parts back_parts in
+    takes_as (block_bytes_in v) (IsBlockIn v m) (3 ∷ bytes) (Split g.0.0 b.0.0 u.0.0, u.0.1) (x, rest) (found other.1)
     (record {
       parts = ap (λ (r : List ℕ). 3 ∷ r) parts;
       lawful = record {
@@ -389,40 +390,40 @@ split_takes m bytes x rest fits read =
       others = upper.others;
     })
 
-split_again : (m page : ℕ) (back : Place) (upper : Leaf) (rest : List ℕ) → m < 2 ^ 16 → IsSplit m page back upper
-    → split_at m ((number_bytes 4 page ++ (place_bytes back ++ upper_bytes upper)) ++ rest) ≡ Some (Split page back upper, rest)
+split_again : (v : ℕ) → (m page : ℕ) (back : Place) (upper : Leaf) (rest : List ℕ) → m < 2 ^ 16 → IsSplitIn v m page back upper
+    → split_at v m ((number_bytes 4 page ++ (place_bytes back ++ upper_bytes_in v upper)) ++ rest) ≡ Some (Split page back upper, rest)
 unfolding split_at
-split_again m page back upper rest small law =
+split_again v m page back upper rest small law =
     rw (
-      again_on (number_bytes 4) IsPage page_at page_format page (place_bytes back ++ upper_bytes upper) rest law.cuts,
-      again_on place_bytes IsPlace place_at place_format back (upper_bytes upper) rest law.links,
-      upper_again m upper rest small (record { makes = law.makes; low = law.low; count = law.count; page = law.new.0 }),
+      again_on (number_bytes 4) IsPage page_at page_format page (place_bytes back ++ upper_bytes_in v upper) rest law.cuts,
+      again_on place_bytes IsPlace place_at place_format back (upper_bytes_in v upper) rest law.links,
+      (upper_again v) m upper rest small (record { makes = law.makes; low = law.low; count = law.count; page = law.new.0 }),
       ne_eqb upper.page page law.new.1,
     ) refl
 
-block_takes : (m : ℕ) (bytes : List ℕ) (x : Block) (rest : List ℕ) → IsBytes bytes → block_at m bytes ≡ Some (x, rest)
-    → Takes block_bytes (IsBlock m) bytes x rest
+block_takes : (v : ℕ) → (m : ℕ) (bytes : List ℕ) (x : Block) (rest : List ℕ) → IsBytes bytes → block_at v m bytes ≡ Some (x, rest)
+    → Takes (block_bytes_in v) (IsBlockIn v m) bytes x rest
 unfolding block_at
-block_takes m [] x rest fits read = absurd cc
-block_takes m (tag ∷ bytes) x rest fits read =
+block_takes v m [] x rest fits read = absurd cc
+block_takes v m (tag ∷ bytes) x rest fits read =
     let behind : IsBytes bytes = λ i. fits (suc i) in
-    elim (tag == 1) as (λ t. (tag == 1) ≡ t → (if t then delta_at bytes else if tag == 2 then base_at m bytes else if tag == 3 then split_at m bytes else None)
-    ≡ Some (x, rest) → Takes block_bytes (IsBlock m) (tag ∷ bytes) x rest) [
-      | true ↦ λ one delta. tagged block_bytes (IsBlock m) tag 1 bytes x rest one (delta_takes bytes x rest m behind delta)
+    elim (tag == 1) as (λ t. (tag == 1) ≡ t → (if t then delta_at v bytes else if tag == 2 then base_at v m bytes else if tag == 3 then split_at v m bytes else None)
+    ≡ Some (x, rest) → Takes (block_bytes_in v) (IsBlockIn v m) (tag ∷ bytes) x rest) [
+      | true ↦ λ one delta. tagged (block_bytes_in v) (IsBlockIn v m) tag 1 bytes x rest one (delta_takes v bytes x rest m behind delta)
       | false ↦ λ _ read2. elim (tag == 2) as (λ t. (tag == 2) ≡ t
-          → (if t then base_at m bytes else if tag == 3 then split_at m bytes else None) ≡ Some (x, rest)
-          → Takes block_bytes (IsBlock m) (tag ∷ bytes) x rest) [
-            | true ↦ λ two base. tagged block_bytes (IsBlock m) tag 2 bytes x rest two (base_takes m bytes x rest behind base)
-            | false ↦ λ _ read3. (let three = held (tag == 3) (split_at m bytes) (x, rest) read3
-                in tagged block_bytes (IsBlock m) tag 3 bytes x rest three.0 (split_takes m bytes x rest behind three.1))
+          → (if t then base_at v m bytes else if tag == 3 then split_at v m bytes else None) ≡ Some (x, rest)
+          → Takes (block_bytes_in v) (IsBlockIn v m) (tag ∷ bytes) x rest) [
+            | true ↦ λ two base. tagged (block_bytes_in v) (IsBlockIn v m) tag 2 bytes x rest two (base_takes v m bytes x rest behind base)
+            | false ↦ λ _ read3. (let three = held (tag == 3) (split_at v m bytes) (x, rest) read3
+                in tagged (block_bytes_in v) (IsBlockIn v m) tag 3 bytes x rest three.0 (split_takes v m bytes x rest behind three.1))
           ] refl read2
     ] refl read
 
-block_again : (m : ℕ) → m < 2 ^ 16 → (x : Block) (rest : List ℕ) → IsBlock m x → block_at m (block_bytes x ++ rest) ≡ Some (x, rest)
+block_again : (v : ℕ) → (m : ℕ) → m < 2 ^ 16 → (x : Block) (rest : List ℕ) → IsBlockIn v m x → block_at v m (block_bytes_in v x ++ rest) ≡ Some (x, rest)
 unfolding block_at
-block_again m small (Delta page back ops) rest law = delta_again page back ops rest law
-block_again m small (Base leaf) rest law = base_again m leaf rest small law
-block_again m small (Split page back upper) rest law = split_again m page back upper rest small law
+block_again v m small (Delta page back ops) rest law = delta_again v page back ops rest law
+block_again v m small (Base leaf) rest law = base_again v m leaf rest small law
+block_again v m small (Split page back upper) rest law = split_again v m page back upper rest small law
 
-pub block_format : (m : ℕ) → m < 2 ^ 16 → IsFormat block_bytes (IsBlock m) (block_at m)
-block_format m small = record { takes = block_takes m; again = block_again m small }
+pub block_format : (v : ℕ) → (m : ℕ) → m < 2 ^ 16 → IsFormat (block_bytes_in v) (IsBlockIn v m) (block_at v m)
+block_format v m small = record { takes = block_takes v m; again = block_again v m small }

@@ -1,6 +1,6 @@
 -- A format: what is read from the front of bytes was spelled there, and what is spelled is read again.
 
-use Rattle.std.proofs.Common.{◌≡◌, ℕ, zero, suc, ◌+◌, ◌*◌, ◌/◌, ◌%◌, ◌^◌, ◌<◌, ◌≤◌, Bool, true, false, if◌then◌else◌, Option, Some, None, List, [], ◌∷◌, ◌++◌}
+use Rattle.std.proofs.Common.{◌≡◌, ℕ, zero, suc, ◌+◌, ◌*◌, ◌/◌, ◌%◌, ◌^◌, ◌<◌, ◌≤◌, ◌==◌, Bool, true, false, if◌then◌else◌, Option, Some, None, List, [], ◌∷◌, ◌++◌}
 use Rattle.std.proofs.Common.{length, take, drop, nat_lt, inl, inr, refl, sym, ap, subst, ◌∙◌, append_assoc, arith, length-append, length-take}
 use Rattle.std.proofs.lemmas.List.{take-append-drop, take_at, drop_at, get_or-append-add, get_or-take, get_or_past, length-take-le}
 use Rattle.std.proofs.lemmas.Bool.{ltb-false, le-ltb, cases_lt}
@@ -8,8 +8,9 @@ use Rattle.std.proofs.Math.Nat.{pow-succ', div-div-eq-div-mul}
 use Rattle.std.specs.Int.{byte_at, bytes_low_first}
 use Rattle.byteorder.specs.Endian.{little_from, little_number}
 use Rattle.byteorder.specs.Numbers.{little_from-cons, little_from-take, little_from-lt, little_number-reads_back, length-bytes_low_first}
-use Rattle.bw_codec.specs.Bytes.{IsBytes, number_bytes, text}
-use Rattle.bw_codec.specs.Reading.{Found, ◌>>=◌, number_at, run_at, text_at}
+use Rattle.bw_codec.specs.Version.{value_limit, value_width}
+use Rattle.bw_codec.specs.Bytes.{IsBytes, number_bytes, text, value_bytes}
+use Rattle.bw_codec.specs.Reading.{Found, ◌>>=◌, number_at, run_at, text_at, value_at}
 
 -- what was taken from the front
 pub record Takes {X : Type 0} (spell : X → List ℕ) (Law : X → Type 0) (bytes : List ℕ) (x : X) (rest : List ℕ) : Type 0 where
@@ -170,3 +171,50 @@ text_again low high x rest law =
 
 pub text_format : (low high : ℕ) → IsFormat text (IsRun low high) (text_at low high)
 text_format low high = record { takes = text_takes low high; again = text_again low high }
+
+-- ---- values
+
+-- a value's length goes into its bytes
+pub size_small : (v : ℕ) → value_limit v < 256 ^ value_width v
+size_small v = elim (v == 1) as (λ t. (if t then 128 else 512) < 256 ^ (if t then 1 else 2)) [ true ↦ omega arith | false ↦ omega arith ]
+
+abbrev pub IsValue : ℕ → List ℕ → Type 0
+IsValue v x = length x ≤ value_limit v
+
+value_takes : (v : ℕ) (bytes x rest : List ℕ) → IsBytes bytes → value_at v bytes ≡ Some (x, rest) → Takes (value_bytes v) (IsValue v) bytes x rest
+unfolding value_at
+value_takes v bytes x rest fits read =
+    let n = bind_some (number_at (value_width v) bytes) (λ size. if nat_lt (value_limit v) size.0 then None else if nat_lt (length size.1) size.0 then None
+    else Some (take size.0 size.1, drop size.0 size.1)) (x, rest) read in
+    let number = (number_format (value_width v)).takes bytes n.0.0 n.0.1 fits n.1 in
+    let below = passed (nat_lt (value_limit v) n.0.0) (if nat_lt (length n.0.1) n.0.0 then None else Some (take n.0.0 n.0.1, drop n.0.0 n.0.1)) (x, rest) n.2 in
+    let there = passed (nat_lt (length n.0.1) n.0.0) (Some (take n.0.0 n.0.1, drop n.0.0 n.0.1)) (x, rest) below.1 in
+    let long : n.0.0 ≤ length n.0.1 = ltb-false (length n.0.1) n.0.0 there.0 in
+    let size : length (take n.0.0 n.0.1) ≡ n.0.0 = length-take-le n.0.0 n.0.1 long in
+    let front : bytes ≡ number_bytes (value_width v) (length (take n.0.0 n.0.1)) ++ n.0.1 =
+    number.parts ∙ ap (λ (k : ℕ). number_bytes (value_width v) k ++ n.0.1) (sym size) in
+    let parts : bytes ≡ value_bytes v (take n.0.0 n.0.1) ++ drop n.0.0 n.0.1 =
+    then_parts bytes (number_bytes (value_width v) (length (take n.0.0 n.0.1))) (take n.0.0 n.0.1) n.0.1 (drop n.0.0 n.0.1) front
+    (sym (take-append-drop n.0.0 n.0.1)) in
+    takes_as (value_bytes v) (IsValue v) bytes (take n.0.0 n.0.1, drop n.0.0 n.0.1) (x, rest) (found there.1)
+    (record {
+      parts = parts;
+      lawful = subst (λ (k : ℕ). k ≤ value_limit v) (sym size) (ltb-false (value_limit v) n.0.0 below.0);
+      others = bytes_after bytes (value_bytes v (take n.0.0 n.0.1)) (drop n.0.0 n.0.1) parts fits;
+    })
+
+value_again : (v : ℕ) (x rest : List ℕ) → IsValue v x → value_at v (value_bytes v x ++ rest) ≡ Some (x, rest)
+unfolding value_at
+value_again v x rest law =
+    let small : length x < 256 ^ value_width v = (let all = size_small v in omega arith) in
+    let long : nat_lt (length (x ++ rest)) (length x) ≡ false = le-ltb (length (x ++ rest)) (length x) (omega (arith, length-append x rest)) in
+    rw (
+      again_on (number_bytes (value_width v)) (λ n. n < 256 ^ value_width v) (number_at (value_width v)) (number_format (value_width v)) (length x) x rest small,
+      le-ltb (value_limit v) (length x) law,
+      long,
+      take_at x rest (length x) refl,
+      drop_at x rest (length x) refl,
+    ) refl
+
+pub value_format : (v : ℕ) → IsFormat (value_bytes v) (IsValue v) (value_at v)
+value_format v = record { takes = value_takes v; again = value_again v }

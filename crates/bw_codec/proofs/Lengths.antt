@@ -2,7 +2,8 @@
 
 use Rattle.std.proofs.Common.{◌≡◌, ℕ, ◌+◌, List, ◌++◌, length, arith, length-append}
 use Rattle.std.specs.List.{flat_map}
-use Rattle.bw_codec.specs.Bytes.{number_bytes, text}
+use Rattle.bw_codec.specs.Version.{latest}
+use Rattle.bw_codec.specs.Bytes.{number_bytes, text, value_bytes}
 use Rattle.bw_codec.specs.Grammar.{op_bytes, pair_bytes, place_bytes, pairs_bytes, ops_bytes, delta_front, upper_bytes, block_bytes}
 use Rattle.bw_codec.specs.declared.record.Record.{Record}
 use Rattle.bw_codec.specs.declared.leaf.Leaf.{Leaf}
@@ -17,6 +18,10 @@ length-place place = omega (
   length-number 4 place.index,
   length-append (number_bytes 8 place.frame) (number_bytes 4 place.index),
 )
+
+-- a value as it is written
+pub length-value : (x : List ℕ) → length (value_bytes latest x) ≡ 2 + length x
+length-value x = omega (arith, length-number 2 (length x), length-append (number_bytes 2 (length x)) x)
 
 length-pairs : (pairs : List (List ℕ × List ℕ)) → length (pairs_bytes pairs) ≡ 2 + length (flat_map pair_bytes pairs)
 length-pairs pairs = omega (arith, length-number 2 (length pairs), length-append (number_bytes 2 (length pairs)) (flat_map pair_bytes pairs))

@@ -12,3 +12,4 @@ pub mod FirstBlock
 pub mod Stepping
 pub mod Vectors
 pub mod Wider
+pub mod Versions

@@ -1,29 +1,31 @@
 -- How long lawful blocks are.
 
-use Rattle.std.proofs.Common.{◌≡◌, ℕ, ◌+◌, ◌*◌, ◌≤◌, List, [], ◌∷◌, length, arith, length-append}
+use Rattle.std.proofs.Common.{◌≡◌, ℕ, ◌+◌, ◌*◌, ◌≤◌, List, [], ◌∷◌, length, subst, arith, length-append}
 use Rattle.std.specs.List.{flat_map, AllByRecursion}
-use Rattle.bw_codec.specs.Bytes.{text}
-use Rattle.bw_codec.specs.Grammar.{op_bytes, pair_bytes, block_bytes, body_bytes, IsPair, IsOp}
+use Rattle.bw_codec.specs.Version.{latest, least_limit}
+use Rattle.bw_codec.specs.Bytes.{text, value_bytes}
+use Rattle.bw_codec.specs.Grammar.{op_bytes, pair_bytes, block_bytes, body_bytes, IsPair, IsOp, IsHeader}
 use Rattle.bw_codec.specs.Sizes.{BlockLengths, LargestBlocks, LargestFit}
 use Rattle.bw_codec.specs.declared.record.Record.{Record}
 use Rattle.bw_codec.specs.declared.record.Record.TheVariants.{Put, Del}
+use Rattle.bw_codec.specs.declared.block.Header.{Header}
 use Rattle.bw_codec.specs.declared.block.Block.{Block}
 use Rattle.bw_codec.specs.declared.block.Block.TheVariants.{Delta, Base, Split}
-use Rattle.bw_codec.proofs.Lengths.{length-delta, length-base, length-split}
+use Rattle.bw_codec.proofs.Lengths.{length-value, length-delta, length-base, length-split}
 
-short_op : (op : Record) → IsOp op → length (op_bytes op) ≤ 195
-short_op (Put key value) h = let l = length-append (text key) (text value) in let a = h.0.1 in let b = h.1 in omega arith
+short_op : (op : Record) → IsOp op → length (op_bytes op) ≤ 644
+short_op (Put key value) h = let l = length-append (text key) (value_bytes latest value) in let w = length-value value in let a = h.0.1 in let b = h.1 in omega arith
 short_op (Del key) h = let a = h.1 in omega arith
 
-short_pair : (p : List ℕ × List ℕ) → IsPair p → length (pair_bytes p) ≤ 194
-short_pair p h = let l = length-append (text p.0) (text p.1) in let a = h.0.1 in let b = h.1 in omega arith
+short_pair : (p : List ℕ × List ℕ) → IsPair p → length (pair_bytes p) ≤ 643
+short_pair p h = let l = length-append (text p.0) (value_bytes latest p.1) in let w = length-value p.1 in let a = h.0.1 in let b = h.1 in omega arith
 
-short_ops : (ops : List Record) → AllByRecursion IsOp ops → length (flat_map op_bytes ops) ≤ length ops * 195
+short_ops : (ops : List Record) → AllByRecursion IsOp ops → length (flat_map op_bytes ops) ≤ length ops * 644
 short_ops [] h = omega arith
 short_ops (op ∷ ops) h =
     let l = length-append (op_bytes op) (flat_map op_bytes ops) in let a = short_op op h.0 in let b = short_ops ops h.1 in omega arith
 
-short_pairs : (ps : List (List ℕ × List ℕ)) → AllByRecursion IsPair ps → length (flat_map pair_bytes ps) ≤ length ps * 194
+short_pairs : (ps : List (List ℕ × List ℕ)) → AllByRecursion IsPair ps → length (flat_map pair_bytes ps) ≤ length ps * 643
 short_pairs [] h = omega arith
 short_pairs (p ∷ ps) h =
     let l = length-append (pair_bytes p) (flat_map pair_bytes ps) in let a = short_pair p h.0 in let b = short_pairs ps h.1 in omega arith
@@ -55,13 +57,17 @@ largest_blocks = record {
       let b = block_lengths.split 32 cut link upper k in let few = k.makes.count in omega arith);
 }
 
+-- the frame limit of a segment that may be written
+fitting : (h : Header) → IsHeader h → h.version ≡ latest → 65536 ≤ h.f
+fitting h law is = subst (λ (v : ℕ). least_limit v ≤ h.f) is law.f.0
+
 pub largest_fit : LargestFit
 largest_fit = record {
-  base = λ h leaf law k. (let l = length-one (Base leaf) in let a = block_lengths.base h.m leaf k in
-      let m = law.m in let f = law.f in omega arith);
-  delta = λ h page back op law k. (let l = length-one (Delta page back (op ∷ [])) in let a = block_lengths.delta page back (op ∷ []) k in
-      let f = law.f in omega arith);
-  both = λ h page back op cut link upper law d k.
+  base = λ h leaf law is k. (let l = length-one (Base leaf) in let a = block_lengths.base h.m leaf k in
+      let m = law.m in let f = fitting h law is in omega arith);
+  delta = λ h page back op law is k. (let l = length-one (Delta page back (op ∷ [])) in let a = block_lengths.delta page back (op ∷ []) k in
+      let f = fitting h law is in omega arith);
+  both = λ h page back op cut link upper law is d k.
       (let l = length-two (Delta page back (op ∷ [])) (Split cut link upper) in let a = block_lengths.delta page back (op ∷ []) d in
-      let b = block_lengths.split h.m cut link upper k in let few = k.makes.count in let m = law.m in let f = law.f in omega arith);
+      let b = block_lengths.split h.m cut link upper k in let few = k.makes.count in let m = law.m in let f = fitting h law is in omega arith);
 }

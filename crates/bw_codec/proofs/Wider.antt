@@ -7,7 +7,7 @@ use Rattle.bw_codec.specs.declared.leaf.Leaf.{Leaf}
 use Rattle.bw_codec.specs.declared.block.Block.{Block}
 use Rattle.bw_codec.specs.declared.block.Block.TheVariants.{Delta, Base, Split}
 
-base_wider : (m n : ℕ) (leaf : Leaf) → m ≤ n → IsBase m leaf → IsBase n leaf
+pub base_wider : (m n : ℕ) (leaf : Leaf) → m ≤ n → IsBase m leaf → IsBase n leaf
 base_wider m n leaf more law =
     record { page = law.page; low = law.low; count = (let few = law.count in omega arith); pairs = law.pairs; ascends = law.ascends }
 

@@ -1,9 +1,10 @@
 -- Keys as bytes, their order, and a run of bytes behind its length.
 
-use Rattle.std.specs.Prelude.{ℕ, ◌<◌, ◌≤◌, ◌&&◌, Bool, true, List, [], ◌∷◌, get_or, length}
+use Rattle.std.specs.Prelude.{ℕ, ◌<◌, ◌≤◌, ◌&&◌, Bool, true, List, [], ◌∷◌, ◌++◌, get_or, length}
 use Rattle.std.specs.Ordering.{nat_cmp, is_lt}
 use Rattle.std.specs.Cmp.Lexicographic.{slice_cmp}
 use Rattle.byteorder.specs.Endian.{little_bytes}
+use Rattle.bw_codec.specs.Version.{latest, key_limit, value_width}
 
 -- keys are ordered by bytes, a beginning before its continuation
 abbrev pub is_below : List ℕ → List ℕ → Bool
@@ -19,9 +20,13 @@ ascends (p ∷ q ∷ rest) = is_below p.0 q.0 && ascends (q ∷ rest)
 abbrev pub text : List ℕ → List ℕ
 text bytes = length bytes ∷ bytes
 
+-- the length of a key in a format
+abbrev pub IsKeyIn : ℕ → List ℕ → Type 0
+IsKeyIn v k = (1 ≤ length k) × (length k ≤ key_limit v)
+
 -- the length of a key
 abbrev pub IsKey : List ℕ → Type 0
-IsKey k = (1 ≤ length k) × (length k ≤ 64)
+IsKey k = IsKeyIn latest k
 
 -- each of these numbers is a byte
 abbrev pub IsBytes : List ℕ → Type 0
@@ -30,3 +35,7 @@ IsBytes bytes = (i : ℕ) → get_or bytes i 0 < 256
 -- a number in n bytes, the lowest first
 unfoldable pub number_bytes : ℕ → ℕ → List ℕ
 number_bytes n x = little_bytes n x
+
+-- a value: its length, in as many bytes as the format has for it, and that many bytes
+abbrev pub value_bytes : ℕ → List ℕ → List ℕ
+value_bytes v x = number_bytes (value_width v) (length x) ++ x

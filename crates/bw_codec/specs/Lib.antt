@@ -1,4 +1,5 @@
 -- what callers see, in reading order
+pub mod Version
 pub mod Bytes
 pub mod Record
 pub mod Grammar
@@ -12,3 +13,4 @@ pub mod Laws
 pub mod Reading
 pub mod Skipping
 pub mod Items
+pub mod Paired

@@ -4,6 +4,7 @@ use Rattle.std.specs.Prelude.{ℕ, zero, suc, ◌+◌, ◌≡◌, ◌==◌, nat_
 use Rattle.std.specs.Prelude.{length, take, drop}
 use lib.Pointwise.{pointwise}
 use Rattle.byteorder.specs.Endian.{little_number}
+use Rattle.bw_codec.specs.Version.{key_limit, value_limit, value_width}
 use Rattle.bw_codec.specs.Bytes.{ascends}
 use Rattle.bw_codec.specs.Grammar.{agrees, frame_word, segment_word, is_head, is_header}
 use Rattle.bw_codec.specs.declared.record.Record.{Record}
@@ -45,25 +46,32 @@ text_at low high bytes = do
   run ← run_at bytes
   if nat_lt (length run.0) low then None else if nat_lt high (length run.0) then None else Some run
 
-abbrev pub put_at : List ℕ → Found Record
-put_at bytes = do
-  key ← text_at 1 64 bytes
-  value ← text_at 0 128 key.1
+-- a value of a format: its length, and that many bytes
+unfoldable pub value_at : ℕ → List ℕ → Found (List ℕ)
+value_at v bytes = do
+  size ← number_at (value_width v) bytes
+  if nat_lt (value_limit v) size.0 then None
+      else if nat_lt (length size.1) size.0 then None else Some (take size.0 size.1, drop size.0 size.1)
+
+abbrev pub put_at : ℕ → List ℕ → Found Record
+put_at v bytes = do
+  key ← text_at 1 (key_limit v) bytes
+  value ← value_at v key.1
   Some (Put key.0 value.0, value.1)
 
-abbrev pub del_at : List ℕ → Found Record
-del_at bytes = do
-  key ← text_at 1 64 bytes
+abbrev pub del_at : ℕ → List ℕ → Found Record
+del_at v bytes = do
+  key ← text_at 1 (key_limit v) bytes
   Some (Del key.0, key.1)
 
-unfoldable pub op_at : List ℕ → Found Record
-op_at [] = None
-op_at (tag ∷ bytes) = if tag == 1 then put_at bytes else if tag == 2 then del_at bytes else None
+unfoldable pub op_at : ℕ → List ℕ → Found Record
+op_at v [] = None
+op_at v (tag ∷ bytes) = if tag == 1 then put_at v bytes else if tag == 2 then del_at v bytes else None
 
-unfoldable pub pair_at : List ℕ → Found (List ℕ × List ℕ)
-pair_at bytes = do
-  key ← text_at 1 64 bytes
-  value ← text_at 0 128 key.1
+unfoldable pub pair_at : ℕ → List ℕ → Found (List ℕ × List ℕ)
+pair_at v bytes = do
+  key ← text_at 1 (key_limit v) bytes
+  value ← value_at v key.1
   Some ((key.0, value.0), value.1)
 
 -- n things, one after the other
@@ -85,27 +93,27 @@ page_at bytes = do
   page ← number_at 4 bytes
   if nat_lt page.0 1 then None else Some page
 
-unfoldable pub pairs_at : ℕ → List ℕ → Found (List (List ℕ × List ℕ))
-pairs_at m bytes = do
+unfoldable pub pairs_at : ℕ → ℕ → List ℕ → Found (List (List ℕ × List ℕ))
+pairs_at v m bytes = do
   count ← number_at 2 bytes
   if nat_lt m count.0 then None else (do
-    pairs ← many_at pair_at count.0 count.1
+    pairs ← many_at (pair_at v) count.0 count.1
     if ascends pairs.0 then Some pairs else None)
 
-unfoldable pub delta_at : List ℕ → Found Block
-delta_at bytes = do
+unfoldable pub delta_at : ℕ → List ℕ → Found Block
+delta_at v bytes = do
   page ← page_at bytes
   back ← place_at page.1
   count ← number_at 2 back.1
   if nat_lt count.0 1 then None else (do
-    ops ← many_at op_at count.0 count.1
+    ops ← many_at (op_at v) count.0 count.1
     Some (Delta page.0 back.0 ops.0, ops.1))
 
-unfoldable pub base_at : ℕ → List ℕ → Found Block
-base_at m bytes = do
+unfoldable pub base_at : ℕ → ℕ → List ℕ → Found Block
+base_at v m bytes = do
   page ← page_at bytes
-  low ← text_at 0 64 page.1
-  pairs ← pairs_at m low.1
+  low ← text_at 0 (key_limit v) page.1
+  pairs ← pairs_at v m low.1
   Some (Base (record { page = page.0; low = low.0; pairs = pairs.0 }), pairs.1)
 
 -- whether the first pair's key is the low key
@@ -114,28 +122,28 @@ is_led low [] = false
 is_led low (p ∷ ps) = pointwise nat_eq p.0 low
 
 -- the new page of a split
-unfoldable pub upper_at : ℕ → List ℕ → Found Leaf
-upper_at m bytes = do
-  low ← text_at 0 64 bytes
+unfoldable pub upper_at : ℕ → ℕ → List ℕ → Found Leaf
+upper_at v m bytes = do
+  low ← text_at 0 (key_limit v) bytes
   page ← number_at 4 low.1
-  pairs ← pairs_at m page.1
+  pairs ← pairs_at v m page.1
   if nat_lt page.0 2 then None else if is_led low.0 pairs.0 then Some (record { page = page.0; low = low.0; pairs = pairs.0 }, pairs.1) else None
 
-unfoldable pub split_at : ℕ → List ℕ → Found Block
-split_at m bytes = do
+unfoldable pub split_at : ℕ → ℕ → List ℕ → Found Block
+split_at v m bytes = do
   page ← page_at bytes
   back ← place_at page.1
-  upper ← upper_at m back.1
+  upper ← upper_at v m back.1
   if upper.0.page == page.0 then None else Some (Split page.0 back.0 upper.0, upper.1)
 
-unfoldable pub block_at : ℕ → List ℕ → Found Block
-block_at m [] = None
-block_at m (tag ∷ bytes) =
-    if tag == 1 then delta_at bytes else if tag == 2 then base_at m bytes else if tag == 3 then split_at m bytes else None
+unfoldable pub block_at : ℕ → ℕ → List ℕ → Found Block
+block_at v m [] = None
+block_at v m (tag ∷ bytes) =
+    if tag == 1 then delta_at v bytes else if tag == 2 then base_at v m bytes else if tag == 3 then split_at v m bytes else None
 
-unfoldable pub head_at : ℕ → List ℕ → Found Head
-head_at f bytes =
-    if agrees bytes frame_word then (do
+unfoldable pub head_at : ℕ → ℕ → List ℕ → Found Head
+head_at v f bytes =
+    if agrees bytes (frame_word v) then (do
       number ← number_at 8 (drop 4 bytes)
       body ← number_at 4 number.1
       blocks ← number_at 4 body.1
@@ -144,14 +152,14 @@ head_at f bytes =
     else None
 
 -- what stands at the front, where that is lawful
-unfoldable pub front_at : ℕ → ℕ → List ℕ → Option FrameRead
-front_at m f bytes =
-    if nat_lt (length bytes) 20 then (if agrees bytes frame_word then Some Tail else None)
+unfoldable pub front_at : ℕ → ℕ → ℕ → List ℕ → Option FrameRead
+front_at v m f bytes =
+    if nat_lt (length bytes) 20 then (if agrees bytes (frame_word v) then Some Tail else None)
     else (do
-      head ← head_at f bytes
+      head ← head_at v f bytes
       if nat_lt (length head.1) head.0.body then Some Tail
           else (do
-            blocks ← many_at (block_at m) head.0.blocks (take head.0.body head.1)
+            blocks ← many_at (block_at v m) head.0.blocks (take head.0.body head.1)
             if length blocks.1 == 0 then Some (Whole (record { number = head.0.number; blocks = blocks.0 }) (head.0.body + 20)) else None))
 
 -- what a fault says of what reading gives: nothing where memory ran out, and else that it gives nothing
@@ -164,13 +172,17 @@ abbrev pub Gives : {X Y : Type 0} → (X → Y) → Result X CodecFault → Opti
 Gives view (Ok x) read = read ≡ Some (view x)
 Gives view (Err fault) read = Says fault read
 
+-- the format whose word the first bytes agree with, if there is one: of a beginning of both words, format 1
+abbrev pub version_in : List ℕ → ℕ
+version_in bytes = if agrees bytes (segment_word 1) then 1 else 2
+
 -- the numbers in the first 24 bytes
 abbrev pub header_in : List ℕ → Header
-header_in bytes = record { number = little_number 8 (drop 8 bytes); m = little_number 2 (drop 16 bytes); f = little_number 4 (drop 20 bytes) }
+header_in bytes = record { version = version_in bytes; number = little_number 8 (drop 8 bytes); m = little_number 2 (drop 16 bytes); f = little_number 4 (drop 20 bytes) }
 
 unfoldable pub heading_of : List ℕ → HeaderRead
 heading_of bytes =
-    if agrees bytes segment_word then (
+    if agrees bytes (segment_word (version_in bytes)) then (
     if nat_lt (length bytes) 24 then (if nat_lt 0 (length bytes) then heading.Part else heading.Bad)
     else if little_number 2 (drop 18 bytes) == 0 then (if is_header (header_in bytes) then heading.Whole (header_in bytes) else heading.Bad) else heading.Bad)
     else heading.Bad

@@ -5,8 +5,9 @@ ghost use Rattle.bw_codec.specs.Grammar.{is_head, is_header};
 ghost use Rattle.bw_codec.specs.Touch.{sets, touches, back_of};
 
 use crate::leaf::Leaf;
-use crate::limits::{HEAD_LEN, MAX_FRAME, MAX_PAIRS, MIN_BLOCK, MIN_FRAME, MIN_PAIRS};
+use crate::limits::{HEAD_LEN, MAX_PAIRS, MIN_BLOCK, MIN_PAIRS};
 use crate::record::Ops;
+use crate::version::{greatest_limit, least_limit};
 use std::marker::Model;
 
 /// Where a block stands: its frame's number, from 1, and its index in that frame, from 0. It does
@@ -148,11 +149,13 @@ impl Head {
 /// What a segment begins with.
 #[derive(Debug, Clone, Copy, PartialEq, Eq)]
 pub struct Header {
+    /// The format of the segment and its frames, 1 or 2.
+    pub version: u16,
     /// The segment's number, from 1, in the order in which segments were begun.
     pub number: u64,
     /// The most pairs that a page holds, 4 to 32.
     pub m: u16,
-    /// The most bytes that a frame has, 16,384 to 65,536.
+    /// The most bytes that a frame has: 65,536 to 262,144, and in format 1 16,384 to 65,536.
     pub f: u32,
 }
 
@@ -161,11 +164,12 @@ impl Header {
     pub fn is_lawful(&self) -> bool
         ensures { result ≡ is_header self.now }
     {
-        0 < self.number
+        (self.version == 1 || self.version == 2)
+            && 0 < self.number
             && MIN_PAIRS <= self.m
             && self.m <= MAX_PAIRS
-            && MIN_FRAME <= self.f
-            && self.f <= MAX_FRAME
+            && least_limit(self.version) <= self.f
+            && self.f <= greatest_limit(self.version)
     }
 }
 

@@ -6,7 +6,7 @@ ghost use Rattle.std.specs.List.{AllByRecursion};
 ghost use Rattle.bw_codec.specs.Bytes.{IsBytes};
 ghost use Rattle.bw_codec.specs.Heads.{PairList, head, IsRow};
 
-use crate::key::{Key, Value};
+use crate::pair::Pair;
 use std::alloc::Global;
 
 // A byte of a key; zeros stand behind its end.
@@ -48,14 +48,14 @@ pub(crate) fn head_of(key: &[u8]) -> u64
 
 /// The heads of the keys of pairs, in their order, with room for one more; none where memory for
 /// them is refused.
-pub(crate) fn row_of(alloc: Global, pairs: &[(Key, Value)]) -> Vec<u64>
+pub(crate) fn row_of(alloc: Global, pairs: &[Pair]) -> Vec<u64>
     ensures { IsRow result.items pairs.now }
 {
     let Ok(mut row) = Vec::with_capacity(alloc, pairs.len() + 1) else {
         return Vec::new(alloc);
     };
-    for (key, _) in pairs {
-        if row.push(head_of(key.as_slice())).is_err() {
+    for pair in pairs {
+        if row.push(head_of(pair.key())).is_err() {
             return Vec::new(alloc);
         }
     }

@@ -19,7 +19,7 @@ pub struct LengthError {
     pub given: usize,
 }
 
-/// A key of 1 to 64 bytes. Keys are ordered by their bytes, a beginning before its continuation.
+/// A key of 1 to 128 bytes. Keys are ordered by their bytes, a beginning before its continuation.
 #[derive(Debug, PartialEq, Eq, PartialOrd, Ord, Hash, Drop)]
 pub struct Key {
     bytes: ArrayVec<u8, MAX_KEY>,
@@ -32,7 +32,7 @@ impl Model for Key {
 
     ghost view = { λ k. k.bytes.items };
 
-    ghost invariant = { λ k. (1 ≤ length k.bytes.items) × (length k.bytes.items ≤ 64) };
+    ghost invariant = { λ k. (1 ≤ length k.bytes.items) × (length k.bytes.items ≤ 128) };
 
     ghost inverse = { λ bytes. record { bytes = record { items = bytes } } };
 }
@@ -40,7 +40,7 @@ impl Model for Key {
 impl Key {
     /// A key of these bytes, or their length where it is no key's.
     pub fn new(bytes: &[u8]) -> Result<Key, LengthError>
-        ensures variant { IsOk result ↔ ((1 ≤ length bytes.now) × (length bytes.now ≤ 64)) }
+        ensures variant { IsOk result ↔ ((1 ≤ length bytes.now) × (length bytes.now ≤ 128)) }
         ensures ok { IfOk result (λ key. key ≡ bytes.now) }
         ensures err { IfErr result (λ error. error.given ≡ length bytes.now) }
     {
@@ -57,7 +57,7 @@ impl Key {
     /// The key's bytes.
     pub fn as_slice(&self) -> &[u8]
         ensures value { result.now ≡ self.now }
-        ensures lawful { (1 ≤ length self.now) × (length self.now ≤ 64) }
+        ensures lawful { (1 ≤ length self.now) × (length self.now ≤ 128) }
     {
         self.bytes.as_slice()
     }
@@ -81,7 +81,7 @@ impl Key {
     }
 }
 
-/// A value of 0 to 128 bytes.
+/// A value of 0 to 512 bytes.
 #[derive(Debug, PartialEq, Eq, PartialOrd, Ord, Hash, Drop)]
 pub struct Value {
     bytes: ArrayVec<u8, MAX_VALUE>,
@@ -94,7 +94,7 @@ impl Model for Value {
 
     ghost view = { λ v. v.bytes.items };
 
-    ghost invariant = { λ v. length v.bytes.items ≤ 128 };
+    ghost invariant = { λ v. length v.bytes.items ≤ 512 };
 
     ghost inverse = { λ bytes. record { bytes = record { items = bytes } } };
 }
@@ -102,7 +102,7 @@ impl Model for Value {
 impl Value {
     /// A value of these bytes, or their length where it is no value's.
     pub fn new(bytes: &[u8]) -> Result<Value, LengthError>
-        ensures variant { IsOk result ↔ (length bytes.now ≤ 128) }
+        ensures variant { IsOk result ↔ (length bytes.now ≤ 512) }
         ensures ok { IfOk result (λ value. value ≡ bytes.now) }
         ensures err { IfErr result (λ error. error.given ≡ length bytes.now) }
     {
@@ -116,7 +116,7 @@ impl Value {
     /// The value's bytes.
     pub fn as_slice(&self) -> &[u8]
         ensures value { result.now ≡ self.now }
-        ensures lawful { length self.now ≤ 128 }
+        ensures lawful { length self.now ≤ 512 }
     {
         self.bytes.as_slice()
     }

@@ -1,7 +1,7 @@
 //! What holds of the grammar itself: each function's contract is a law, and there is nothing to
 //! run.
 
-ghost use Rattle.bw_codec.specs.Laws.{OneSpelling, OneHeaderSpelling, BeginningsAreTails};
+ghost use Rattle.bw_codec.specs.Laws.{OneSpelling, OneHeaderSpelling, BeginningsAreTails, OldMayBeWritten, NoFrameOfBoth};
 ghost use Rattle.bw_codec.specs.Outline.{OutlinesTouch};
 ghost use Rattle.bw_codec.specs.Sizes.{BlockLengths, LargestBlocks, LargestFit};
 
@@ -22,14 +22,24 @@ pub fn one_header_spelling()
     ensures { OneHeaderSpelling }
 {}
 
+/// What is lawful in format 1 may be written in the latest format.
+pub fn old_may_be_written()
+    ensures { OldMayBeWritten }
+{}
+
+/// No frame of one format is a frame of the other.
+pub fn no_frame_of_both()
+    ensures { NoFrameOfBoth }
+{}
+
 /// How long a lawful block is at most, by the pairs and records in it.
 pub fn block_lengths()
     ensures { BlockLengths }
 {}
 
-/// The largest blocks where a page has at most 32 pairs: a Base has 6,280 bytes, a Delta of one
-/// record 214, a Split of a page that holds one pair too many 3,386, and all blocks of one record
-/// have less than 7,000.
+/// The largest blocks where a page has at most 32 pairs: a Base has 20,712 bytes, a Delta of one
+/// record 663, a Split of a page that holds one pair too many 11,083, and all blocks of one record
+/// have less than 21,500.
 pub fn largest_blocks()
     ensures { LargestBlocks }
 {}

@@ -1,14 +1,16 @@
 //! A leaf: a page's low key and its pairs in the order of their keys.
 
-ghost use Rattle.std.specs.Prelude.{◌≡◌, ◌<◌, ◌≤◌, length, insert, remove, take, slice_set, OnOk, OnErr, IfOk};
-ghost use Rattle.bw_codec.specs.Heads.{AreBelow};
+ghost use Rattle.std.specs.Prelude.{◌≡◌, ◌<◌, ◌≤◌, length, insert, remove, take, drop, slice_set, slice_index_or, OnOk, OnErr, IfOk};
+ghost use Rattle.bw_codec.specs.Heads.{AreBelow, IsRow};
 
 use crate::heads::{count_below, head_of, insert_head, remove_head, row_of, set_head};
 use crate::key::{Key, Value};
+use crate::pair::Pair;
 use std::alloc::{AllocError, Global};
 use std::marker::Model;
+use std::mem;
 
-/// The low key of a page: 0 to 64 bytes, empty for page 1 alone. No key of the page is below it.
+/// The low key of a page: 0 to 128 bytes, empty for page 1 alone. No key of the page is below it.
 pub struct Low {
     bytes: Vec<u8>,
 }
@@ -59,13 +61,14 @@ impl Low {
     }
 }
 
-/// Keys with their values, in the order of the keys where a lawful leaf holds them.
+/// Keys with their values, in the order of the keys where a lawful leaf holds them. Each pair takes
+/// memory of its own, and no more than it needs.
 ///
 /// Beside them stands a row with the first eight bytes of each key as a number, which a search reads
 /// in place of most keys. It takes memory of its own, and where that is refused there is none: then
 /// a search is slower, and nothing else changes.
 pub struct Pairs {
-    items: Vec<(Key, Value)>,
+    items: Vec<Pair>,
     row: Vec<u64>,
 }
 
@@ -89,7 +92,7 @@ impl Model for Pairs {
 impl Pairs {
     /// Pairs as they stand in a `Vec`. It is never refused; their row takes memory, and is linear in
     /// them.
-    pub fn of(items: Vec<(Key, Value)>) -> Pairs
+    pub fn of(items: Vec<Pair>) -> Pairs
         ensures { result ≡ items.items }
     {
         let row = row_of(*items.allocator(), items.as_slice());
@@ -97,7 +100,7 @@ impl Pairs {
     }
 
     /// The `Vec` again. No memory is taken.
-    pub fn into_vec(self) -> Vec<(Key, Value)>
+    pub fn into_vec(self) -> Vec<Pair>
         ensures { result.items ≡ self }
     {
         let Pairs { items, row: _ } = self;
@@ -105,35 +108,48 @@ impl Pairs {
     }
 
     /// The pairs.
-    pub fn as_slice(&self) -> &[(Key, Value)]
+    pub fn as_slice(&self) -> &[Pair]
         ensures { result.now ≡ self.now }
     {
         self.items.as_slice()
     }
 
     /// Puts a pair before the one at an index, or last. A refusal changes nothing.
-    pub fn insert(&mut self, at: usize, key: Key, value: Value) -> Result<(), AllocError>
+    pub fn insert(&mut self, at: usize, key: &Key, value: &Value) -> Result<(), AllocError>
         requires { at ≤ length self.old }
-        ensures ok { OnOk result (self.new ≡ insert self.old at (key, value)) }
+        ensures ok { OnOk result (self.new ≡ insert self.old at (key.now, value.now)) }
         ensures err { OnErr result (self.new ≡ self.old) }
     {
         // Tells the proof that the list is as long as the `Vec`; so below.
         let count = self.items.as_slice().len();
         self.items.reserve(1)?;
+        let pair = Pair::of(*self.items.allocator(), key, value)?;
         insert_head(&mut self.row, count, at, key.as_slice());
-        self.items.insert(at, (key, value))?;
+        self.items.insert(at, pair)?;
         Ok(())
     }
 
-    /// Puts this pair in the place of the one at an index. That the keys still ascend is the caller's
-    /// care.
-    pub fn replace(&mut self, at: usize, key: Key, value: Value)
+    /// Puts a pair in the place of the one at an index, which it gives back. That the keys still
+    /// ascend is the caller's care. A refusal changes nothing.
+    pub fn replace(&mut self, at: usize, key: &Key, value: &Value) -> Result<Pair, AllocError>
         requires { at < length self.old }
-        ensures { self.new ≡ slice_set self.old at (key, value) }
+        ensures ok { OnOk result (self.new ≡ slice_set self.old at (key.now, value.now)) }
+        ensures was { IfOk result (λ was. was ≡ slice_index_or self.old at was) }
+        ensures err { OnErr result (self.new ≡ self.old) }
+    {
+        let pair = Pair::of(*self.items.allocator(), key, value)?;
+        Ok(self.set(at, pair))
+    }
+
+    /// The same with a pair that has its memory. None is taken.
+    pub fn set(&mut self, at: usize, pair: Pair) -> Pair
+        requires { at < length self.old }
+        ensures set { self.new ≡ slice_set self.old at pair }
+        ensures was { result ≡ slice_index_or self.old at result }
     {
         let _ = self.items.as_slice().len();
-        set_head(&mut self.row, at, key.as_slice());
-        self.items[at] = (key, value);
+        set_head(&mut self.row, at, pair.key());
+        mem::replace(&mut self.items[at], pair)
     }
 
     /// Removes the pair at an index; those behind it move up.
@@ -154,6 +170,20 @@ impl Pairs {
         self.items.truncate(count);
     }
 
+    /// Takes off the pairs from an index on, and gives them. The others keep their room. A refusal
+    /// changes nothing.
+    pub fn split_off(&mut self, at: usize) -> Result<Pairs, AllocError>
+        requires { at ≤ length self.old }
+        ensures kept { OnOk result (self.new ≡ take at self.old) }
+        ensures rest { IfOk result (λ rest. rest ≡ drop at self.old) }
+        ensures err { OnErr result (self.new ≡ self.old) }
+    {
+        let _ = self.items.as_slice().len();
+        let rest = self.items.split_off(at)?;
+        self.row.truncate(at);
+        Ok(Pairs::of(rest))
+    }
+
     /// How many pairs from the first on have a key below this one, as far as the first eight bytes
     /// tell: a search for the key can begin behind them. There may be more.
     pub fn skipped(&self, key: &[u8]) -> usize
@@ -163,14 +193,21 @@ impl Pairs {
         count_below(self.row.as_slice(), head_of(key))
     }
 
+    /// The first eight bytes of each key as a number, or none at all.
+    pub fn heads(&self) -> &[u64]
+        ensures { IsRow result.now self.now }
+    {
+        self.row.as_slice()
+    }
+
     /// The same pairs as these, with room for one more: what is copied is about to change. It takes
     /// memory, whose refusal is the only error; linear in the pairs.
-    pub fn copy_of(alloc: Global, pairs: &[(Key, Value)]) -> Result<Pairs, AllocError>
+    pub fn copy_of(alloc: Global, pairs: &[Pair]) -> Result<Pairs, AllocError>
         ensures { IfOk result (λ copy. copy ≡ pairs.now) }
     {
         let mut items = Vec::with_capacity(alloc, pairs.len() + 1)?;
-        for (key, value) in pairs {
-            items.push((key.copy(), value.copy()))?;
+        for pair in pairs {
+            items.push(pair.copy()?)?;
         }
         Ok(Pairs::of(items))
     }

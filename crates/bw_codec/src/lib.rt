@@ -16,9 +16,11 @@ pub mod laws;
 mod leaf;
 pub mod limits;
 mod outline;
+mod pair;
 mod parts;
 mod reading;
 mod record;
+mod version;
 mod writing;
 
 pub use block::{Block, Blocks, Frame, FrameRead, Head, Header, HeaderRead, Place};
@@ -26,9 +28,10 @@ pub use fault::CodecFault;
 pub use key::{Key, LengthError, Value, is_before};
 pub use leaf::{Leaf, Low, Pairs};
 pub use outline::Outline;
+pub use pair::Pair;
 pub use reading::{read_block, read_frame, read_header};
 pub use record::{Ops, Record};
 pub use writing::{
-    block_length, encode_block, encode_frame_head, encode_header, frame_cells, header_cells,
-    ops_length, write_block, write_delta_head, write_ops,
+    base_length, block_length, encode_block, encode_frame_head, encode_header, frame_cells,
+    header_cells, ops_length, write_block, write_delta_head, write_ops,
 };

@@ -3,10 +3,10 @@
 //! grammar.
 
 /// The greatest length of a key, in bytes; the least is 1.
-pub const MAX_KEY: usize = 64;
+pub const MAX_KEY: usize = 128;
 
 /// The greatest length of a value, in bytes; the least is 0.
-pub const MAX_VALUE: usize = 128;
+pub const MAX_VALUE: usize = 512;
 
 /// The least page limit that a segment may have, in pairs.
 pub const MIN_PAIRS: u16 = 4;
@@ -15,10 +15,25 @@ pub const MIN_PAIRS: u16 = 4;
 pub const MAX_PAIRS: u16 = 32;
 
 /// The least frame limit that a segment may have, in bytes of the whole frame.
-pub const MIN_FRAME: u32 = 16_384;
+pub const MIN_FRAME: u32 = 65_536;
 
 /// The greatest frame limit that a segment may have, in bytes of the whole frame.
-pub const MAX_FRAME: u32 = 65_536;
+pub const MAX_FRAME: u32 = 262_144;
+
+/// The greatest length of a key in format 1.
+pub const OLD_MAX_KEY: usize = 64;
+
+/// The greatest length of a value in format 1.
+pub const OLD_MAX_VALUE: usize = 128;
+
+/// The least frame limit of a segment in format 1.
+pub const OLD_MIN_FRAME: u32 = 16_384;
+
+/// The greatest frame limit of a segment in format 1.
+pub const OLD_MAX_FRAME: u32 = 65_536;
+
+/// The format that is written; 1 is read beside it.
+pub const LATEST: u16 = 2;
 
 /// The length of a segment's header, in bytes.
 pub const HEADER_LEN: usize = 24;
@@ -31,6 +46,9 @@ pub const MIN_BLOCK: u32 = 8;
 
 /// The fewest bytes of a record in a Delta: a delete of a key of one byte.
 pub const MIN_OP: usize = 3;
+
+/// The most records of a Delta: their number has two bytes.
+pub const MAX_OPS: usize = 65_535;
 
 /// The fewest bytes of a pair: a key of one byte with an empty value.
 pub const MIN_PAIR: usize = 3;

@@ -5,14 +5,17 @@
 ghost use Rattle.std.specs.Prelude.{◌≡◌, ◌≤◌, ◌/◌, [], length, min, IfOk, IfErr};
 ghost use Rattle.std.specs.Vec.{vec_capacity};
 ghost use Rattle.bw_codec.specs.Bytes.{ascends};
-ghost use Rattle.bw_codec.specs.Reading.{Gives, number_at, run_at, text_at, op_at, pair_at, many_at, place_at, page_at, pairs_at};
+ghost use Rattle.bw_codec.specs.Version.{key_limit, value_width};
+ghost use Rattle.bw_codec.specs.Reading.{Gives, number_at, run_at, text_at, value_at, op_at, pair_at, many_at, place_at, page_at, pairs_at};
 
 use crate::block::Place;
 use crate::fault::CodecFault;
 use crate::key::{Key, Value, is_before};
 use crate::leaf::{Low, Pairs};
-use crate::limits::{MAX_KEY, MIN_OP, MIN_PAIR};
+use crate::limits::{MIN_OP, MIN_PAIR};
+use crate::pair::Pair;
 use crate::record::{Ops, Record};
+use crate::version::{key_limit, value_limit};
 use byteorder::{ByteOrder, LittleEndian};
 use std::alloc::{AllocError, Global};
 
@@ -67,23 +70,54 @@ pub(crate) fn run_of(bytes: &[u8]) -> Result<(&[u8], &[u8]), CodecFault>
 }
 
 #[tactic(auto, unfolding(crate::specs::Reading::text_at))]
-pub(crate) fn key_at(bytes: &[u8]) -> Result<(Key, &[u8]), CodecFault>
-    ensures gives { Gives (λ x. (x.0, x.1.now)) result (text_at 1 64 bytes.now) }
+pub(crate) fn key_at(version: u16, bytes: &[u8]) -> Result<(Key, &[u8]), CodecFault>
+    ensures gives { Gives (λ x. (x.0, x.1.now)) result (text_at 1 (key_limit version) bytes.now) }
     ensures bad { IfErr result (λ fault. fault ≡ CodecFault.BadBytes) }
 {
     let (run, rest) = run_of(bytes)?;
+    if key_limit(version) < run.len() {
+        return Err(CodecFault::BadBytes);
+    }
     match Key::new(run) {
         Ok(key) => Ok((key, rest)),
         Err(_) => Err(CodecFault::BadBytes),
     }
 }
 
-#[tactic(auto, unfolding(crate::specs::Reading::text_at))]
-pub(crate) fn value_at(bytes: &[u8]) -> Result<(Value, &[u8]), CodecFault>
-    ensures gives { Gives (λ x. (x.0, x.1.now)) result (text_at 0 128 bytes.now) }
+/// A number in one byte.
+fn one_of(bytes: &[u8]) -> Result<(u16, &[u8]), CodecFault>
+    ensures gives { Gives (λ x. (x.0, x.1.now)) result (number_at 1 bytes.now) }
     ensures bad { IfErr result (λ fault. fault ≡ CodecFault.BadBytes) }
 {
-    let (run, rest) = run_of(bytes)?;
+    match bytes {
+        [] => Err(CodecFault::BadBytes),
+        [byte, rest @ ..] => Ok((u16::from(*byte), rest)),
+    }
+}
+
+/// The length of a value.
+pub(crate) fn size_of(version: u16, bytes: &[u8]) -> Result<(u16, &[u8]), CodecFault>
+    ensures gives { Gives (λ x. (x.0, x.1.now)) result (number_at (value_width version) bytes.now) }
+    ensures bad { IfErr result (λ fault. fault ≡ CodecFault.BadBytes) }
+{
+    if version == 1 {
+        one_of(bytes)
+    } else {
+        two_of(bytes)
+    }
+}
+
+#[tactic(auto, unfolding(crate::specs::Reading::value_at))]
+pub(crate) fn value_at(version: u16, bytes: &[u8]) -> Result<(Value, &[u8]), CodecFault>
+    ensures gives { Gives (λ x. (x.0, x.1.now)) result (value_at version bytes.now) }
+    ensures bad { IfErr result (λ fault. fault ≡ CodecFault.BadBytes) }
+{
+    let (size, rest) = size_of(version, bytes)?;
+    let size = size as usize;
+    if value_limit(version) < size || rest.len() < size {
+        return Err(CodecFault::BadBytes);
+    }
+    let (run, rest) = (&rest[..size], &rest[size..]);
     match Value::new(run) {
         Ok(value) => Ok((value, rest)),
         Err(_) => Err(CodecFault::BadBytes),
@@ -91,11 +125,11 @@ pub(crate) fn value_at(bytes: &[u8]) -> Result<(Value, &[u8]), CodecFault>
 }
 
 #[tactic(auto, unfolding(crate::specs::Reading::text_at))]
-pub(crate) fn low_of(alloc: Global, bytes: &[u8]) -> Result<(Low, &[u8]), CodecFault>
-    ensures { Gives (λ x. (x.0, x.1.now)) result (text_at 0 64 bytes.now) }
+pub(crate) fn low_of(alloc: Global, version: u16, bytes: &[u8]) -> Result<(Low, &[u8]), CodecFault>
+    ensures { Gives (λ x. (x.0, x.1.now)) result (text_at 0 (key_limit version) bytes.now) }
 {
     let (run, rest) = run_of(bytes)?;
-    if MAX_KEY < run.len() {
+    if key_limit(version) < run.len() {
         return Err(CodecFault::BadBytes);
     }
     let low = Vec::from_slice(alloc, run)?;
@@ -104,19 +138,19 @@ pub(crate) fn low_of(alloc: Global, bytes: &[u8]) -> Result<(Low, &[u8]), CodecF
 
 /// One record behind its tag.
 #[tactic(auto, unfolding(crate::specs::Reading::op_at))]
-pub(crate) fn op_of(bytes: &[u8]) -> Result<(Record, &[u8]), CodecFault>
-    ensures gives { Gives (λ x. (x.0, x.1.now)) result (op_at bytes.now) }
+pub(crate) fn op_of(version: u16, bytes: &[u8]) -> Result<(Record, &[u8]), CodecFault>
+    ensures gives { Gives (λ x. (x.0, x.1.now)) result (op_at version bytes.now) }
     ensures bad { IfErr result (λ fault. fault ≡ CodecFault.BadBytes) }
 {
     match bytes {
         [] => Err(CodecFault::BadBytes),
         [tag, rest @ ..] => {
             if *tag == 1 {
-                let (key, rest) = key_at(rest)?;
-                let (value, rest) = value_at(rest)?;
+                let (key, rest) = key_at(version, rest)?;
+                let (value, rest) = value_at(version, rest)?;
                 Ok((Record::Put(key, value), rest))
             } else if *tag == 2 {
-                let (key, rest) = key_at(rest)?;
+                let (key, rest) = key_at(version, rest)?;
                 Ok((Record::Del(key), rest))
             } else {
                 Err(CodecFault::BadBytes)
@@ -126,12 +160,12 @@ pub(crate) fn op_of(bytes: &[u8]) -> Result<(Record, &[u8]), CodecFault>
 }
 
 #[tactic(auto, unfolding(crate::specs::Reading::pair_at))]
-pub(crate) fn pair_of(bytes: &[u8]) -> Result<((Key, Value), &[u8]), CodecFault>
-    ensures gives { Gives (λ x. (x.0, x.1.now)) result (pair_at bytes.now) }
+pub(crate) fn pair_of(version: u16, bytes: &[u8]) -> Result<((Key, Value), &[u8]), CodecFault>
+    ensures gives { Gives (λ x. (x.0, x.1.now)) result (pair_at version bytes.now) }
     ensures bad { IfErr result (λ fault. fault ≡ CodecFault.BadBytes) }
 {
-    let (key, rest) = key_at(bytes)?;
-    let (value, rest) = value_at(rest)?;
+    let (key, rest) = key_at(version, bytes)?;
+    let (value, rest) = value_at(version, rest)?;
     Ok(((key, value), rest))
 }
 
@@ -152,38 +186,45 @@ pub(crate) fn room_for<T>(
 
 pub(crate) fn some_pairs(
     alloc: Global,
+    version: u16,
     count: u16,
     bytes: &[u8],
 ) -> Result<(Pairs, &[u8]), CodecFault>
-    ensures { Gives (λ x. (x.0, x.1.now)) result (many_at pair_at count bytes.now) }
+    ensures { Gives (λ x. (x.0, x.1.now)) result (many_at (pair_at version) count bytes.now) }
 {
     let mut items = room_for(alloc, count as usize, bytes, MIN_PAIR)?;
     let mut rest = bytes;
     for _i in 0..count {
-        let (pair, others) = pair_of(rest)?;
+        let (read, others) = pair_of(version, rest)?;
+        let pair = Pair::of(alloc, &read.0, &read.1)?;
         items.push(pair)?;
         rest = others;
     }
     Ok((Pairs::of(items), rest))
 }
 
-fn one_op(bytes: &[u8]) -> Result<(Ops, &[u8]), CodecFault>
-    ensures { Gives (λ x. (x.0, x.1.now)) result (many_at op_at 1 bytes.now) }
+fn one_op(version: u16, bytes: &[u8]) -> Result<(Ops, &[u8]), CodecFault>
+    ensures { Gives (λ x. (x.0, x.1.now)) result (many_at (op_at version) 1 bytes.now) }
 {
-    let (op, rest) = op_of(bytes)?;
+    let (op, rest) = op_of(version, bytes)?;
     Ok((Ops::one(op), rest))
 }
 
-pub(crate) fn some_ops(alloc: Global, count: u16, bytes: &[u8]) -> Result<(Ops, &[u8]), CodecFault>
-    ensures { Gives (λ x. (x.0, x.1.now)) result (many_at op_at count bytes.now) }
+pub(crate) fn some_ops(
+    alloc: Global,
+    version: u16,
+    count: u16,
+    bytes: &[u8],
+) -> Result<(Ops, &[u8]), CodecFault>
+    ensures { Gives (λ x. (x.0, x.1.now)) result (many_at (op_at version) count bytes.now) }
 {
     if count == 1 {
-        return one_op(bytes);
+        return one_op(version, bytes);
     }
     let mut items = room_for(alloc, count as usize, bytes, MIN_OP)?;
     let mut rest = bytes;
     for _i in 0..count {
-        let (op, others) = op_of(rest)?;
+        let (op, others) = op_of(version, rest)?;
         items.push(op)?;
         rest = others;
     }
@@ -191,15 +232,16 @@ pub(crate) fn some_ops(alloc: Global, count: u16, bytes: &[u8]) -> Result<(Ops, 
 }
 
 /// Whether each key is below the next.
-pub(crate) fn ascend(pairs: &[(Key, Value)]) -> bool
+pub(crate) fn ascend(pairs: &[Pair]) -> bool
     ensures { result ≡ ascends pairs.now }
 {
-    let mut last: Option<&Key> = None;
-    for (key, _) in pairs {
+    let mut last: Option<&[u8]> = None;
+    for pair in pairs {
+        let key = pair.key();
         match last {
             None => {}
             Some(before) => {
-                if !is_before(before.as_slice(), key.as_slice()) {
+                if !is_before(before, key) {
                     return false;
                 }
             }
@@ -211,14 +253,19 @@ pub(crate) fn ascend(pairs: &[(Key, Value)]) -> bool
 
 /// A count of at most `m`, and that many pairs in the order of their keys.
 #[tactic(auto, unfolding(crate::specs::Reading::pairs_at))]
-pub(crate) fn pairs_of(alloc: Global, m: u16, bytes: &[u8]) -> Result<(Pairs, &[u8]), CodecFault>
-    ensures { Gives (λ x. (x.0, x.1.now)) result (pairs_at m bytes.now) }
+pub(crate) fn pairs_of(
+    alloc: Global,
+    version: u16,
+    m: u16,
+    bytes: &[u8],
+) -> Result<(Pairs, &[u8]), CodecFault>
+    ensures { Gives (λ x. (x.0, x.1.now)) result (pairs_at version m bytes.now) }
 {
     let (count, rest) = two_of(bytes)?;
     if m < count {
         return Err(CodecFault::BadBytes);
     }
-    let (pairs, rest) = some_pairs(alloc, count, rest)?;
+    let (pairs, rest) = some_pairs(alloc, version, count, rest)?;
     if !ascend(pairs.as_slice()) {
         return Err(CodecFault::BadBytes);
     }

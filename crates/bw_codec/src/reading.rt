@@ -4,7 +4,7 @@ ghost use Rattle.std.specs.Prelude.{◌≡◌, ◌≤◌, IfOk, IfErr, Some, len
 ghost use Rattle.bw_codec.specs.declared.block.FrameRead.{FrameRead};
 ghost use Rattle.bw_codec.specs.declared.block.Block.{Block};
 ghost use Rattle.bw_codec.specs.Grammar.{agrees, IsFirst, IsFront, IsHeading};
-ghost use Rattle.bw_codec.specs.Reading.{Gives, delta_at, base_at, upper_at, split_at, block_at, many_at, head_at, front_at, heading_of, is_led};
+ghost use Rattle.bw_codec.specs.Reading.{Gives, delta_at, base_at, upper_at, split_at, block_at, many_at, head_at, front_at, heading_of, version_in, is_led};
 
 use crate::block::{Block, Blocks, Frame, FrameRead, Head, Header, HeaderRead};
 use crate::fault::CodecFault;
@@ -13,12 +13,13 @@ use crate::limits::{HEAD_LEN, HEADER_LEN, MIN_BLOCK};
 use crate::parts::{
     eight_of, four_of, low_of, page_of, pairs_of, place_of, room_for, some_ops, two_of,
 };
+use crate::version::{frame_word, segment_word};
 use byteorder::{ByteOrder, LittleEndian};
 use std::alloc::Global;
 
 #[tactic(auto, unfolding(crate::specs::Reading::delta_at))]
-fn delta_of(alloc: Global, bytes: &[u8]) -> Result<(Block, &[u8]), CodecFault>
-    ensures { Gives (λ x. (x.0, x.1.now)) result (delta_at bytes.now) }
+fn delta_of(alloc: Global, version: u16, bytes: &[u8]) -> Result<(Block, &[u8]), CodecFault>
+    ensures { Gives (λ x. (x.0, x.1.now)) result (delta_at version bytes.now) }
 {
     let (page, rest) = page_of(bytes)?;
     let (back, rest) = place_of(rest)?;
@@ -26,17 +27,17 @@ fn delta_of(alloc: Global, bytes: &[u8]) -> Result<(Block, &[u8]), CodecFault>
     if count < 1 {
         return Err(CodecFault::BadBytes);
     }
-    let (ops, rest) = some_ops(alloc, count, rest)?;
+    let (ops, rest) = some_ops(alloc, version, count, rest)?;
     Ok((Block::Delta { page, back, ops }, rest))
 }
 
 #[tactic(auto, unfolding(crate::specs::Reading::base_at))]
-fn base_of(alloc: Global, m: u16, bytes: &[u8]) -> Result<(Block, &[u8]), CodecFault>
-    ensures { Gives (λ x. (x.0, x.1.now)) result (base_at m bytes.now) }
+fn base_of(alloc: Global, version: u16, m: u16, bytes: &[u8]) -> Result<(Block, &[u8]), CodecFault>
+    ensures { Gives (λ x. (x.0, x.1.now)) result (base_at version m bytes.now) }
 {
     let (page, rest) = page_of(bytes)?;
-    let (low, rest) = low_of(alloc, rest)?;
-    let (pairs, rest) = pairs_of(alloc, m, rest)?;
+    let (low, rest) = low_of(alloc, version, rest)?;
+    let (pairs, rest) = pairs_of(alloc, version, m, rest)?;
     Ok((Block::Base(Leaf { page, low, pairs }), rest))
 }
 
@@ -46,18 +47,18 @@ fn leads(leaf: &Leaf) -> bool
 {
     match leaf.pairs.as_slice().first() {
         None => false,
-        Some((key, _)) => key.as_slice() == leaf.low.as_slice(),
+        Some(pair) => pair.key() == leaf.low.as_slice(),
     }
 }
 
 /// The new page of a Split.
 #[tactic(auto, unfolding(crate::specs::Reading::upper_at))]
-fn upper_of(alloc: Global, m: u16, bytes: &[u8]) -> Result<(Leaf, &[u8]), CodecFault>
-    ensures { Gives (λ x. (x.0, x.1.now)) result (upper_at m bytes.now) }
+fn upper_of(alloc: Global, version: u16, m: u16, bytes: &[u8]) -> Result<(Leaf, &[u8]), CodecFault>
+    ensures { Gives (λ x. (x.0, x.1.now)) result (upper_at version m bytes.now) }
 {
-    let (low, rest) = low_of(alloc, bytes)?;
+    let (low, rest) = low_of(alloc, version, bytes)?;
     let (page, rest) = four_of(rest)?;
-    let (pairs, rest) = pairs_of(alloc, m, rest)?;
+    let (pairs, rest) = pairs_of(alloc, version, m, rest)?;
     if page < 2 {
         return Err(CodecFault::BadBytes);
     }
@@ -69,12 +70,12 @@ fn upper_of(alloc: Global, m: u16, bytes: &[u8]) -> Result<(Leaf, &[u8]), CodecF
 }
 
 #[tactic(auto, unfolding(crate::specs::Reading::split_at))]
-fn split_of(alloc: Global, m: u16, bytes: &[u8]) -> Result<(Block, &[u8]), CodecFault>
-    ensures { Gives (λ x. (x.0, x.1.now)) result (split_at m bytes.now) }
+fn split_of(alloc: Global, version: u16, m: u16, bytes: &[u8]) -> Result<(Block, &[u8]), CodecFault>
+    ensures { Gives (λ x. (x.0, x.1.now)) result (split_at version m bytes.now) }
 {
     let (page, rest) = page_of(bytes)?;
     let (back, rest) = place_of(rest)?;
-    let (upper, rest) = upper_of(alloc, m, rest)?;
+    let (upper, rest) = upper_of(alloc, version, m, rest)?;
     if upper.page == page {
         return Err(CodecFault::BadBytes);
     }
@@ -82,18 +83,18 @@ fn split_of(alloc: Global, m: u16, bytes: &[u8]) -> Result<(Block, &[u8]), Codec
 }
 
 #[tactic(auto, unfolding(crate::specs::Reading::block_at))]
-fn block_of(alloc: Global, m: u16, bytes: &[u8]) -> Result<(Block, &[u8]), CodecFault>
-    ensures { Gives (λ x. (x.0, x.1.now)) result (block_at m bytes.now) }
+fn block_of(alloc: Global, version: u16, m: u16, bytes: &[u8]) -> Result<(Block, &[u8]), CodecFault>
+    ensures { Gives (λ x. (x.0, x.1.now)) result (block_at version m bytes.now) }
 {
     match bytes {
         [] => Err(CodecFault::BadBytes),
         [tag, rest @ ..] => {
             if *tag == 1 {
-                delta_of(alloc, rest)
+                delta_of(alloc, version, rest)
             } else if *tag == 2 {
-                base_of(alloc, m, rest)
+                base_of(alloc, version, m, rest)
             } else if *tag == 3 {
-                split_of(alloc, m, rest)
+                split_of(alloc, version, m, rest)
             } else {
                 Err(CodecFault::BadBytes)
             }
@@ -103,16 +104,17 @@ fn block_of(alloc: Global, m: u16, bytes: &[u8]) -> Result<(Block, &[u8]), Codec
 
 fn some_blocks(
     alloc: Global,
+    version: u16,
     m: u16,
     count: u32,
     bytes: &[u8],
 ) -> Result<(Blocks, &[u8]), CodecFault>
-    ensures { Gives (λ x. (x.0, x.1.now)) result (many_at (block_at m) count bytes.now) }
+    ensures { Gives (λ x. (x.0, x.1.now)) result (many_at (block_at version m) count bytes.now) }
 {
     let mut items = room_for(alloc, count as usize, bytes, MIN_BLOCK as usize)?;
     let mut rest = bytes;
     for _i in 0..count {
-        let (block, others) = block_of(alloc, m, rest)?;
+        let (block, others) = block_of(alloc, version, m, rest)?;
         items.push(block)?;
         rest = others;
     }
@@ -127,12 +129,12 @@ fn begins_as(bytes: &[u8], word: &[u8]) -> bool
 }
 
 #[tactic(auto, unfolding(crate::specs::Reading::head_at))]
-fn head_of(limit: u32, bytes: &[u8]) -> Result<(Head, &[u8]), CodecFault>
+fn head_of(version: u16, limit: u32, bytes: &[u8]) -> Result<(Head, &[u8]), CodecFault>
     requires { 20 ≤ length bytes.now }
-    ensures gives { Gives (λ x. (x.0, x.1.now)) result (head_at limit bytes.now) }
+    ensures gives { Gives (λ x. (x.0, x.1.now)) result (head_at version limit bytes.now) }
     ensures bad { IfErr result (λ fault. fault ≡ CodecFault.BadBytes) }
 {
-    if !begins_as(bytes, b"FRM1") {
+    if !begins_as(bytes, &frame_word(version)) {
         return Err(CodecFault::BadBytes);
     }
     let (number, rest) = eight_of(&bytes[4..])?;
@@ -150,21 +152,27 @@ fn head_of(limit: u32, bytes: &[u8]) -> Result<(Head, &[u8]), CodecFault>
 }
 
 #[tactic(auto, unfolding(crate::specs::Reading::front_at))]
-fn front_of(alloc: Global, m: u16, limit: u32, bytes: &[u8]) -> Result<FrameRead, CodecFault>
-    ensures { Gives (λ x. x) result (front_at m limit bytes.now) }
+fn front_of(
+    alloc: Global,
+    version: u16,
+    m: u16,
+    limit: u32,
+    bytes: &[u8],
+) -> Result<FrameRead, CodecFault>
+    ensures { Gives (λ x. x) result (front_at version m limit bytes.now) }
 {
     if bytes.len() < HEAD_LEN {
-        if begins_as(bytes, b"FRM1") {
+        if begins_as(bytes, &frame_word(version)) {
             return Ok(FrameRead::Tail);
         }
         return Err(CodecFault::BadBytes);
     }
-    let (head, rest) = head_of(limit, bytes)?;
+    let (head, rest) = head_of(version, limit, bytes)?;
     let body = head.body as usize;
     if rest.len() < body {
         return Ok(FrameRead::Tail);
     }
-    let (blocks, after) = some_blocks(alloc, m, head.blocks, &rest[..body])?;
+    let (blocks, after) = some_blocks(alloc, version, m, head.blocks, &rest[..body])?;
     if !after.is_empty() {
         return Err(CodecFault::BadBytes);
     }
@@ -175,11 +183,23 @@ fn front_of(alloc: Global, m: u16, limit: u32, bytes: &[u8]) -> Result<FrameRead
     Ok(FrameRead::Whole(frame, body + HEAD_LEN))
 }
 
+/// The format whose word the first bytes agree with, if there is one.
+fn version_of(bytes: &[u8]) -> u16
+    ensures { result ≡ version_in bytes.now }
+{
+    if begins_as(bytes, &segment_word(1)) {
+        1
+    } else {
+        2
+    }
+}
+
 #[tactic(auto, unfolding(crate::specs::Reading::heading_of))]
 fn heading(bytes: &[u8]) -> HeaderRead
     ensures { result ≡ heading_of bytes.now }
 {
-    if !begins_as(bytes, b"BWLOGSG1") {
+    let version = version_of(bytes);
+    if !begins_as(bytes, &segment_word(version)) {
         return HeaderRead::Bad;
     }
     if bytes.len() < HEADER_LEN {
@@ -193,6 +213,7 @@ fn heading(bytes: &[u8]) -> HeaderRead
         return HeaderRead::Bad;
     }
     let header = Header {
+        version,
         number: LittleEndian::read_u64(&bytes[8..]),
         m: LittleEndian::read_u16(&bytes[16..]),
         f: LittleEndian::read_u32(&bytes[20..]),
@@ -205,41 +226,49 @@ fn heading(bytes: &[u8]) -> HeaderRead
 }
 
 /// `read_frame` with the header's numbers by value, whose ranges the proof needs.
-fn read_within(alloc: Global, m: u16, limit: u32, bytes: &[u8]) -> Result<FrameRead, CodecFault>
-    ensures found { IfOk result (IsFront m limit bytes.now) }
-    ensures only { (read : FrameRead) → IsFront m limit bytes.now read
+fn read_within(
+    alloc: Global,
+    version: u16,
+    m: u16,
+    limit: u32,
+    bytes: &[u8],
+) -> Result<FrameRead, CodecFault>
+    ensures found { IfOk result (IsFront version m limit bytes.now) }
+    ensures only { (read : FrameRead) → IsFront version m limit bytes.now read
         → Gives (λ x. x) result (Some read) }
 {
-    front_of(alloc, m, limit, bytes)
+    front_of(alloc, version, m, limit, bytes)
 }
 
 /// What stands at the front of the bytes behind a header or a frame: a whole frame of a segment
-/// with this header, or bytes at which one was cut off. `BadBytes` for all other bytes, `NoMemory`
-/// only where a growth was refused. Time and memory are linear in the bytes: room is made for no more
-/// blocks, records and pairs than the bytes can hold, whatever counts were read.
+/// with this header, in the format that it names, or bytes at which one was cut off. `BadBytes` for
+/// all other bytes, `NoMemory` only where a growth was refused. Time and memory are linear in the
+/// bytes: room is made for no more blocks, records and pairs than the bytes can hold, whatever counts
+/// were read.
 pub fn read_frame(alloc: Global, bytes: &[u8], header: &Header) -> Result<FrameRead, CodecFault>
     // What is answered stands there.
-    ensures found { IfOk result (IsFront header.now.m header.now.f bytes.now) }
+    ensures found { IfOk result (IsFront header.now.version header.now.m header.now.f bytes.now) }
 
     // What stands there is answered, unless memory runs out.
-    ensures only { (read : FrameRead) → IsFront header.now.m header.now.f bytes.now read
+    ensures only { (read : FrameRead)
+        → IsFront header.now.version header.now.m header.now.f bytes.now read
         → Gives (λ x. x) result (Some read) }
 {
-    read_within(alloc, header.m, header.f, bytes)
+    read_within(alloc, header.version, header.m, header.f, bytes)
 }
 
-/// The block at the front of the bytes, in a segment whose pages have at most `m` pairs, whatever
-/// follows it. `BadBytes` where no lawful block stands there, `NoMemory` only where a growth was
-/// refused. Time and memory are linear in the block.
-pub fn read_block(alloc: Global, bytes: &[u8], m: u16) -> Result<Block, CodecFault>
+/// The block at the front of the bytes, in a segment of this format whose pages have at most `m`
+/// pairs, whatever follows it. `BadBytes` where no lawful block stands there, `NoMemory` only where a
+/// growth was refused. Time and memory are linear in the block.
+pub fn read_block(alloc: Global, bytes: &[u8], version: u16, m: u16) -> Result<Block, CodecFault>
     // What is answered stands there.
-    ensures found { IfOk result (IsFirst m bytes.now) }
+    ensures found { IfOk result (IsFirst version m bytes.now) }
 
     // What stands there is answered, unless memory runs out.
-    ensures only { (block : Block) → IsFirst m bytes.now block
+    ensures only { (block : Block) → IsFirst version m bytes.now block
         → Gives (λ x. x) result (Some block) }
 {
-    let (block, _) = block_of(alloc, m, bytes)?;
+    let (block, _) = block_of(alloc, version, m, bytes)?;
     Ok(block)
 }
 

@@ -3,38 +3,39 @@
 
 ghost use Rattle.std.specs.Prelude.{◌≡◌, ◌≤◌, ◌<◌, ◌+◌, ◌*◌, ◌^◌, ◌++◌, length, OnOk, OnErr};
 ghost use Rattle.std.specs.List.{flat_map};
-ghost use Rattle.bw_codec.specs.Bytes.{number_bytes, text};
-ghost use Rattle.bw_codec.specs.Grammar.{op_bytes, pair_bytes, place_bytes, pairs_bytes, ops_bytes, delta_front, upper_bytes, block_bytes, head_bytes, header_bytes, IsBlock};
+ghost use Rattle.bw_codec.specs.Bytes.{number_bytes, text, value_bytes};
+ghost use Rattle.bw_codec.specs.Version.{latest};
+ghost use Rattle.bw_codec.specs.Grammar.{op_bytes, pair_bytes, place_bytes, pairs_bytes, ops_bytes, delta_front, upper_bytes, block_bytes, head_bytes, header_bytes, IsBase, IsBlock};
 ghost use Rattle.bw_codec.specs.Writing.{HasRoom, Adds};
 
 use crate::block::{Block, Header, Place};
-use crate::key::{Key, Value};
 use crate::leaf::Leaf;
 use crate::limits::{HEAD_LEN, HEADER_LEN};
+use crate::pair::Pair;
 use crate::record::Record;
 use byteorder::{ByteOrder, LittleEndian};
 use std::alloc::AllocError;
 
 // ---- lengths
 
-fn pairs_length(pairs: &[(Key, Value)]) -> usize
+fn pairs_length(pairs: &[Pair]) -> usize
     requires { length pairs.now < 2 ^ 16 }
     ensures value { result ≡ length (flat_map pair_bytes pairs.now) }
-    ensures small { result ≤ 194 * length pairs.now }
+    ensures small { result ≤ 643 * length pairs.now }
 {
     let mut total = 0;
-    for (key, value) in pairs {
-        total += 2 + key.as_slice().len() + value.as_slice().len();
+    for pair in pairs {
+        total += 3 + pair.key().len() + pair.value().len();
     }
     total
 }
 
 fn op_length(op: &Record) -> usize
     ensures value { result ≡ length (op_bytes op.now) }
-    ensures small { result ≤ 195 }
+    ensures small { result ≤ 644 }
 {
     match op {
-        Record::Put(key, value) => 3 + key.as_slice().len() + value.as_slice().len(),
+        Record::Put(key, value) => 4 + key.as_slice().len() + value.as_slice().len(),
         Record::Del(key) => 2 + key.as_slice().len(),
     }
 }
@@ -43,7 +44,7 @@ fn op_length(op: &Record) -> usize
 pub fn ops_length(ops: &[Record]) -> usize
     requires { length ops.now < 2 ^ 16 }
     ensures value { result ≡ length (flat_map op_bytes ops.now) }
-    ensures small { result ≤ 195 * length ops.now }
+    ensures small { result ≤ 644 * length ops.now }
 {
     let mut total = 0;
     for op in ops {
@@ -103,6 +104,15 @@ fn push_text(out: &mut Vec<u8>, bytes: &[u8])
     push(out, bytes);
 }
 
+fn push_value(out: &mut Vec<u8>, bytes: &[u8])
+    requires room { HasRoom out.old (2 + length bytes.now) }
+    requires short { length bytes.now ≤ 512 }
+    ensures { Adds out.old out.new (value_bytes latest bytes.now) }
+{
+    push_two(out, bytes.len() as u16);
+    push(out, bytes);
+}
+
 fn push_place(out: &mut Vec<u8>, place: &Place)
     requires { HasRoom out.old 12 }
     ensures { Adds out.old out.new (place_bytes place.now) }
@@ -111,22 +121,22 @@ fn push_place(out: &mut Vec<u8>, place: &Place)
     push_four(out, place.index);
 }
 
-fn push_pair(out: &mut Vec<u8>, key: &Key, value: &Value)
-    requires { HasRoom out.old (length (pair_bytes (key.now, value.now))) }
-    ensures { Adds out.old out.new (pair_bytes (key.now, value.now)) }
+fn push_pair(out: &mut Vec<u8>, pair: &Pair)
+    requires { HasRoom out.old (length (pair_bytes pair.now)) }
+    ensures { Adds out.old out.new (pair_bytes pair.now) }
 {
-    push_text(out, key.as_slice());
-    push_text(out, value.as_slice());
+    push_text(out, pair.key());
+    push_value(out, pair.value());
 }
 
-fn push_pairs(out: &mut Vec<u8>, pairs: &[(Key, Value)])
+fn push_pairs(out: &mut Vec<u8>, pairs: &[Pair])
     requires room { HasRoom out.old (length (pairs_bytes pairs.now)) }
     requires few { length pairs.now < 2 ^ 16 }
     ensures { Adds out.old out.new (pairs_bytes pairs.now) }
 {
     push_two(out, pairs.len() as u16);
-    for (key, value) in pairs {
-        push_pair(out, key, value);
+    for pair in pairs {
+        push_pair(out, pair);
     }
 }
 
@@ -138,7 +148,7 @@ fn push_op(out: &mut Vec<u8>, op: &Record)
         Record::Put(key, value) => {
             push(out, &[1]);
             push_text(out, key.as_slice());
-            push_text(out, value.as_slice());
+            push_value(out, value.as_slice());
         }
         Record::Del(key) => {
             push(out, &[2]);
@@ -169,11 +179,11 @@ fn push_ops(out: &mut Vec<u8>, ops: &[Record])
 
 // ---- heads
 
-/// A segment header's 24 bytes. The numbers are not checked: see `Header::is_lawful`. No memory is
-/// taken.
+/// The 24 bytes of a segment header of the latest format. The numbers are not checked: see
+/// `Header::is_lawful`. No memory is taken.
 #[tactic(auto, unfolding(crate::specs::Bytes::number_bytes))]
 pub fn header_cells(number: u64, m: u16, f: u32) -> [u8; HEADER_LEN]
-    ensures { result ≡ header_bytes (record { number = number; m = m; f = f }) }
+    ensures { result ≡ header_bytes (record { version = latest; number = number; m = m; f = f }) }
 {
     // From the back, so that what stands behind each number is known when it is written.
     let mut cells = [0u8; HEADER_LEN];
@@ -181,11 +191,12 @@ pub fn header_cells(number: u64, m: u16, f: u32) -> [u8; HEADER_LEN]
     LittleEndian::write_u16(&mut cells[18..], 0);
     LittleEndian::write_u16(&mut cells[16..], m);
     LittleEndian::write_u64(&mut cells[8..], number);
-    cells[..8].copy_from_slice(b"BWLOGSG1");
+    cells[..8].copy_from_slice(b"BWLOGSG2");
     cells
 }
 
-/// A frame's first 20 bytes. The numbers are not checked: see `Head::is_lawful`. No memory is taken.
+/// The first 20 bytes of a frame of the latest format. The numbers are not checked: see
+/// `Head::is_lawful`. No memory is taken.
 #[tactic(auto, unfolding(crate::specs::Bytes::number_bytes))]
 pub fn frame_cells(number: u64, body: u32, blocks: u32) -> [u8; HEAD_LEN]
     ensures { result ≡ head_bytes number body blocks }
@@ -194,13 +205,14 @@ pub fn frame_cells(number: u64, body: u32, blocks: u32) -> [u8; HEAD_LEN]
     LittleEndian::write_u32(&mut cells[16..], blocks);
     LittleEndian::write_u32(&mut cells[12..], body);
     LittleEndian::write_u64(&mut cells[4..], number);
-    cells[..4].copy_from_slice(b"FRM1");
+    cells[..4].copy_from_slice(b"FRM2");
     cells
 }
 
-/// Appends a segment header's 24 bytes. The numbers are not checked. A refused growth is the only
-/// error, and changes nothing.
+/// Appends the 24 bytes of a segment header of the latest format. The numbers are not checked. A
+/// refused growth is the only error, and changes nothing.
 pub fn encode_header(header: &Header, out: &mut Vec<u8>) -> Result<(), AllocError>
+    requires { header.now.version ≡ latest }
     ensures ok { OnOk result (out.new.items ≡ out.old.items ++ header_bytes header.now) }
     ensures err { OnErr result (out.new.items ≡ out.old.items) }
 {
@@ -228,7 +240,7 @@ pub fn encode_frame_head(
 pub fn block_length(block: &Block) -> usize
     requires { IsBlock 32 block.now }
     ensures value { result ≡ length (block_bytes block.now) }
-    ensures small { result < 2 ^ 24 }
+    ensures small { result < 2 ^ 26 }
 {
     match block {
         Block::Delta { ops, .. } => 19 + ops_length(ops.as_slice()),
@@ -252,7 +264,7 @@ pub fn write_delta_head(page: u32, back: &Place, ops: u16, out: &mut Vec<u8>)
 
 fn push_upper(out: &mut Vec<u8>, upper: &Leaf)
     requires room { HasRoom out.old (length (upper_bytes upper.now)) }
-    requires low { length upper.now.low ≤ 64 }
+    requires low { length upper.now.low ≤ 128 }
     requires few { length upper.now.pairs < 2 ^ 16 }
     ensures { Adds out.old out.new (upper_bytes upper.now) }
 {
@@ -300,4 +312,14 @@ pub fn encode_block(block: &Block, out: &mut Vec<u8>) -> Result<(), AllocError>
     out.reserve(block_length(block))?;
     write_block(block, out);
     Ok(())
+}
+
+/// How many bytes the Base of a leaf, lawful for 32 pairs a page, is spelled in. Linear in its pairs,
+/// whatever their lengths.
+pub fn base_length(leaf: &Leaf) -> usize
+    requires { IsBase 32 leaf.now }
+    ensures value { result ≡ length (block_bytes (Block.Base leaf.now)) }
+    ensures small { result < 2 ^ 24 }
+{
+    8 + leaf.low.as_slice().len() + pairs_length(leaf.pairs.as_slice())
 }

@@ -31,12 +31,12 @@ gave_up a b f gone at =
     record { before = a; after = b; reached = stays a; gone = gone; cleaned = f; at = at; rest = stays b; floor = refl }
 
 -- whether a segment was given up is told by the floor and by the row of boxes alike
-refused_floor : (a b : Kept) (cause : StoreFault) → Continues a b → HasFloorAfter a (Err cause) b → (b.floor ≡ a.floor) ⊎ GaveUp a b
+refused_floor : (a b : Kept) (cause : StoreFault) → Continues a b → HasFloorAfter {A = Cleaned} 1 a (Err cause) b → (b.floor ≡ a.floor) ⊎ GaveUp a b
 refused_floor a b cause f (inl same) = inl same
 refused_floor a b cause f (inr up) = inr (gave_up a b f up.2 up.1)
 
 -- a cleaning, whatever its answer
-pub kept_but : (n : ℕ) (a b : Kept) (r : Result Cleaned StoreFault) → 1 ≤ n → Continues a b → HasBoxesAfter a r b → HasFloorAfter a r b → Runs n a b
+pub kept_but : (n : ℕ) (a b : Kept) (r : Result Cleaned StoreFault) → 1 ≤ n → Continues a b → HasBoxesAfter 1 a r b → HasFloorAfter 1 a r b → Runs n a b
 kept_but zero a b r some f k floor = absurd (omega arith)
 kept_but (suc n) a b (Ok x) some f k floor =
     record { continues = f; boxes = record { count = 1; rest = k }; floor = inr (gave_up a b f k floor) }

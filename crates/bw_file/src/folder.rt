@@ -21,7 +21,7 @@ use std::sync::Arc;
 
 // So many bytes at the end of a file are written once more when it is opened: no append is longer,
 // a header or the longest frame.
-const LAST: usize = 65_560;
+const LAST: usize = 262_168;
 
 /// A folder with a file for each segment, named by its lease, which nobody else has open.
 ///

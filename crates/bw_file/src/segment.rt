@@ -98,7 +98,7 @@ impl<F: SegmentFile + Send + Sync> Segment for FileSegment<F> {
     /// Adds the piece, and waits until the system says that the file has it. Where it fails, the
     /// held bytes stay, and every later append in this folder fails.
     ///
-    /// A piece is at most 65,560 bytes where the files are to be opened again after a sync that
+    /// A piece is at most 262,168 bytes where the files are to be opened again after a sync that
     /// failed: so many the next opening writes once more.
     fn append(&mut self, piece: &[u8]) -> Result<(), Fault>
         requires fits { length (file_holding self.old).bytes + length piece.now ≤

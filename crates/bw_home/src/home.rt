@@ -26,10 +26,10 @@ use crate::site::{Made, Site};
 use crate::system::System;
 use bw_care::Recovered;
 use bw_codec::{Key, Record, Value};
-use bw_device::Segment;
+use bw_device::{NotTaken, Segment};
 use bw_ring::{Feed, Full};
-use bw_store::{Cleaned, Store, StoreFault, TurnFault};
-use std::alloc::Global;
+use bw_store::{Cleaned, Store, StoreFault, TurnFault, Upgraded};
+use std::alloc::{AllocError, Global};
 use std::sync::Wait;
 
 /// A store, the feeds of its writers, and where its segments stand and have their leases from.
@@ -329,6 +329,59 @@ impl Home {
             self.made.push(made)?;
             self.given_up = None;
         }
+        Ok(())
+    }
+
+    /// The leases of the live segments, the oldest first.
+    fn live_leases(&self) -> Result<Vec<u32>, AllocError>
+        requires { IsReady self.now holding }
+    {
+        let mut leases = Vec::new(*self.feeds.allocator());
+        for i in 0..self.store.live() {
+            if let Some((_, lease, _)) = self.store.live_segment(i) {
+                leases.push(lease)?;
+            }
+        }
+        Ok(leases)
+    }
+
+    /// Gives up all segments of format 1, and empties their files, the oldest first: a stop must
+    /// never show a later segment gone and an earlier one still there.
+    ///
+    /// Refused `Store`, and `NoMemory`, as `Store::upgrade` is, which says what stands then; `Folder`
+    /// where a file was not emptied. The home is of no further use then: the next opening of the
+    /// folder finds these segments there, and gives them up.
+    pub(crate) fn upgrade<R: System>(&mut self, rt: &R) -> Result<Upgraded, HomeFault>
+        requires { IsReady self.old holding }
+        ensures ready { IsReady self.new holding }
+        ensures feeds { self.new.feeds ≡ self.old.feeds }
+    {
+        let leases = self.live_leases()?;
+        let upgraded = self.store.upgrade(rt)?;
+        for lease in leases.iter().take(upgraded.segments as usize) {
+            self.site.empty(rt, *lease)?;
+        }
+        Ok(upgraded)
+    }
+
+    /// The number of the next frame; 0 where there is none.
+    pub(crate) fn next_frame(&self) -> u64
+        requires { IsReady self.now holding }
+    {
+        self.store.next_frame().unwrap_or(0)
+    }
+
+    /// Makes a further segment, a spare from the next leg on, where there are so many leases.
+    pub(crate) fn make_spare<R: System>(&mut self, rt: &R, leases: u32) -> Result<(), HomeFault>
+        requires { IsReady self.old holding }
+        ensures ready { IsReady self.new holding }
+        ensures feeds { self.new.feeds ≡ self.old.feeds }
+    {
+        let made = self.site.spare(rt, self.capacity)?;
+        if made.lease() >= leases {
+            return Err(HomeFault::Lease(NotTaken::NoLease));
+        }
+        self.made.push(made)?;
         Ok(())
     }
 

@@ -18,6 +18,7 @@ mod opening;
 mod options;
 mod site;
 mod system;
+mod upgrading;
 
 pub use beginning::{Beginning, beginning_of};
 pub use course::{Course, Legs};
@@ -28,3 +29,4 @@ pub use opening::{with_store, with_store_in_legs};
 pub use options::Options;
 pub use site::{Made, Site};
 pub use system::System;
+pub use upgrading::upgrade;

@@ -1,5 +1,6 @@
 //! What a store in a folder is opened with.
 
+use bw_codec::limits::{MAX_PAIRS, MIN_FRAME};
 use bw_store::Config;
 
 /// How a store in a folder is opened. The limits of pages and frames are for a new one: another
@@ -14,7 +15,7 @@ pub struct Options {
     pub readers: usize,
     /// The most pairs of a page, 4 to 32.
     pub m: u16,
-    /// The most bytes of a frame, 16,384 to 65,536.
+    /// The most bytes of a frame, 65,536 to 262,144.
     pub f: u32,
     /// How many segments there are at least, up to 4,096. A folder with more files has more.
     pub segments: u32,
@@ -23,14 +24,14 @@ pub struct Options {
 }
 
 impl Default for Options {
-    /// One writer and one reader, the largest pages and frames, and four segments of 16 MiB.
+    /// One writer and one reader, the largest pages, frames of 64 KiB, and four segments of 16 MiB.
     fn default() -> Options {
         Options {
             writers: 1,
             places: 64,
             readers: 1,
-            m: 32,
-            f: 65_536,
+            m: MAX_PAIRS,
+            f: MIN_FRAME,
             segments: 4,
             capacity: 16_777_216,
         }

@@ -6,18 +6,20 @@ use Rattle.std.proofs.lemmas.List.{map-append}
 use Rattle.std.proofs.lemmas.Bool.{lt-ltb}
 use Rattle.std.proofs.lemmas.Grind.{flat_map-append}
 use Rattle.std.specs.List.{flat_map, filter, fold, AllByRecursion}
-use Rattle.bw_codec.specs.Grammar.{frame_bytes, IsFrame}
+use Rattle.bw_codec.specs.Version.{latest}
+use Rattle.bw_codec.specs.Grammar.{frame_bytes, frame_bytes_in, IsFrame}
+use Rattle.bw_codec.specs.Reading.{version_in}
 use Rattle.bw_codec.specs.declared.leaf.Leaf.{Leaf}
 use Rattle.bw_codec.specs.declared.block.Frame.{Frame}
 use Rattle.bw_codec.proofs.Format.{held, found}
 use Rattle.bw_page.specs.Standing.{Stand}
 use Rattle.bw_log.specs.Places.{first_number, AreLinked}
-use Rattle.bw_log.specs.Segments.{segment_frames, frames_of, IsLive, AreLive, IsClean, IsCleanLast, entry_of, entries_from, entries, following, next_of}
+use Rattle.bw_log.specs.Segments.{segment_frames, frames_of, Limits, header_with, header_in, IsLive, AreLive, IsClean, IsCleanLast, entry_of, entries_from, entries, following, next_of}
 use Rattle.bw_log.specs.Segments.{is_before_next, AreFrom}
-use Rattle.bw_log.specs.Contents.{Image, IsImage, IsTable, counted_in, counted_at}
+use Rattle.bw_log.specs.Contents.{Image, limits_of, IsImage, IsTable, counted_in, counted_at}
 use Rattle.bw_log.specs.declared.places.FrameAt.{FrameAt}
 use Rattle.bw_log.specs.declared.places.PageAt.{PageAt}
-use Rattle.bw_log.proofs.Reread.{all-push, clean_more, clean_len, clean_is_live}
+use Rattle.bw_log.proofs.Reread.{all-push, clean_more, clean_len, clean_is_new, clean_header, new_is_live, new_version, IsNew}
 
 -- ---- lists
 
@@ -81,43 +83,49 @@ pub frames_last : (older : List (List ℕ)) (b : List ℕ) → frames_of (older 
 frames_last older b = flat_map-append segment_frames older (b ∷ []) ∙ ap (λ (l : List Frame). frames_of older ++ l) (append-nil (segment_frames b))
 
 pub entries_last : (n : ℕ) (older : List (List ℕ)) (b : List ℕ)
-    → entries n (older ++ b ∷ []) ≡ entries n older ++ entries_from (n + length older) 24 (segment_frames b)
-entries_last n [] b = append-nil (entries_from n 24 (segment_frames b)) ∙ ap (λ (k : ℕ). entries_from k 24 (segment_frames b)) (omega arith)
+    → entries n (older ++ b ∷ []) ≡ entries n older ++ entries_from (version_in b) (n + length older) 24 (segment_frames b)
+entries_last n [] b =
+    append-nil (entries_from (version_in b) n 24 (segment_frames b)) ∙ ap (λ (k : ℕ). entries_from (version_in b) k 24 (segment_frames b)) (omega arith)
 entries_last n (o ∷ os) b =
-    ap (λ (l : List (FrameAt × Frame)). entries_from n 24 (segment_frames o) ++ l)
-    (entries_last (n + 1) os b ∙ ap (λ (k : ℕ). entries (n + 1) os ++ entries_from k 24 (segment_frames b)) (omega arith))
-    ∙ sym (append_assoc (entries_from n 24 (segment_frames o)) (entries (n + 1) os) (entries_from (n + length (o ∷ os)) 24 (segment_frames b)))
+    ap (λ (l : List (FrameAt × Frame)). entries_from (version_in o) n 24 (segment_frames o) ++ l)
+    (entries_last (n + 1) os b ∙ ap (λ (k : ℕ). entries (n + 1) os ++ entries_from (version_in b) k 24 (segment_frames b)) (omega arith))
+    ∙ sym (append_assoc (entries_from (version_in o) n 24 (segment_frames o)) (entries (n + 1) os)
+    (entries_from (version_in b) (n + length (o ∷ os)) 24 (segment_frames b)))
 
-pub entries_more : (s at : ℕ) (fs : List Frame) (x : Frame)
-    → entries_from s at (fs ++ x ∷ []) ≡ entries_from s at fs ++ (entry_of s (at + length (flat_map frame_bytes fs)) x, x) ∷ []
-entries_more s at [] x = ap (λ (k : ℕ). (entry_of s k x, x) ∷ []) (omega arith)
-entries_more s at (f ∷ fs) x =
-    ap (λ (l : List (FrameAt × Frame)). (entry_of s at f, f) ∷ l)
-    (entries_more s (at + length (frame_bytes f)) fs x
-    ∙ ap (λ (k : ℕ). entries_from s (at + length (frame_bytes f)) fs ++ (entry_of s k x, x) ∷ [])
-    (omega (arith, length-append (frame_bytes f) (flat_map frame_bytes fs))))
+pub entries_more : (v s at : ℕ) (fs : List Frame) (x : Frame)
+    → entries_from v s at (fs ++ x ∷ []) ≡ entries_from v s at fs ++ (entry_of v s (at + length (flat_map (frame_bytes_in v) fs)) x, x) ∷ []
+entries_more v s at [] x = ap (λ (k : ℕ). (entry_of v s k x, x) ∷ []) (omega arith)
+entries_more v s at (f ∷ fs) x =
+    ap (λ (l : List (FrameAt × Frame)). (entry_of v s at f, f) ∷ l)
+    (entries_more v s (at + length (frame_bytes_in v f)) fs x
+    ∙ ap (λ (k : ℕ). entries_from v s (at + length (frame_bytes_in v f)) fs ++ (entry_of v s k x, x) ∷ [])
+    (omega (arith, length-append (frame_bytes_in v f) (flat_map (frame_bytes_in v) fs))))
 
-from_frames : (s at : ℕ) (fs : List Frame) → map (λ (e : FrameAt × Frame). e.1) (entries_from s at fs) ≡ fs
-from_frames s at [] = refl
-from_frames s at (f ∷ fs) = ap (λ (l : List Frame). f ∷ l) (from_frames s (at + length (frame_bytes f)) fs)
+from_frames : (v s at : ℕ) (fs : List Frame) → map (λ (e : FrameAt × Frame). e.1) (entries_from v s at fs) ≡ fs
+from_frames v s at [] = refl
+from_frames v s at (f ∷ fs) = ap (λ (l : List Frame). f ∷ l) (from_frames v s (at + length (frame_bytes_in v f)) fs)
 
 -- the entries' frames are the frames
 pub entries_frames : (n : ℕ) (bs : List (List ℕ)) → map (λ (e : FrameAt × Frame). e.1) (entries n bs) ≡ frames_of bs
 entries_frames n [] = refl
 entries_frames n (b ∷ bs) =
-    map-append (λ (e : FrameAt × Frame). e.1) (entries_from n 24 (segment_frames b)) (entries (n + 1) bs)
-    ∙ ap (λ (l : List Frame). l ++ map (λ (e : FrameAt × Frame). e.1) (entries (n + 1) bs)) (from_frames n 24 (segment_frames b))
+    map-append (λ (e : FrameAt × Frame). e.1) (entries_from (version_in b) n 24 (segment_frames b)) (entries (n + 1) bs)
+    ∙ ap (λ (l : List Frame). l ++ map (λ (e : FrameAt × Frame). e.1) (entries (n + 1) bs)) (from_frames (version_in b) n 24 (segment_frames b))
     ∙ ap (λ (l : List Frame). segment_frames b ++ l) (entries_frames (n + 1) bs)
 
 -- ---- live segments
 
-pub live_last : (m f n : ℕ) (older : List (List ℕ)) (b : List ℕ) → AreLive m f n older → IsLive m f (n + length older) b → AreLive m f n (older ++ b ∷ [])
-live_last m f n [] b live last = (subst (λ (k : ℕ). IsLive m f k b) (omega arith) last, tt)
-live_last m f n (o ∷ os) b live last = (live.0, live_last m f (n + 1) os b live.1 (subst (λ (k : ℕ). IsLive m f k b) (omega arith) last))
+pub live_last : (l : Limits) (n : ℕ) (older : List (List ℕ)) (b : List ℕ) → AreLive l n older → IsLive l (n + length older) b → AreLive l n (older ++ b ∷ [])
+live_last l n [] b live last = (subst (λ (k : ℕ). IsLive l k b) (omega arith) last, tt)
+live_last l n (o ∷ os) b live last = (live.0, live_last l (n + 1) os b live.1 (subst (λ (k : ℕ). IsLive l k b) (omega arith) last))
 
-pub live_older : (m f n : ℕ) (older : List (List ℕ)) (b : List ℕ) → AreLive m f n (older ++ b ∷ []) → AreLive m f n older
-live_older m f n [] b live = tt
-live_older m f n (o ∷ os) b live = (live.0, live_older m f (n + 1) os b live.1)
+pub live_older : (l : Limits) (n : ℕ) (older : List (List ℕ)) (b : List ℕ) → AreLive l n (older ++ b ∷ []) → AreLive l n older
+live_older l n [] b live = tt
+live_older l n (o ∷ os) b live = (live.0, live_older l (n + 1) os b live.1)
+
+pub live_newest : (l : Limits) (n : ℕ) (older : List (List ℕ)) (b : List ℕ) → AreLive l n (older ++ b ∷ []) → IsLive l (n + length older) b
+live_newest l n [] b live = subst (λ (k : ℕ). IsLive l k b) (omega arith) live.0
+live_newest l n (o ∷ os) b live = subst (λ (k : ℕ). IsLive l k b) (omega arith) (live_newest l (n + 1) os b live.1)
 
 pub clean_of_last : (m f n : ℕ) (older : List (List ℕ)) (b : List ℕ) → IsCleanLast m f n (older ++ b ∷ []) → IsClean m f (n + length older) b
 clean_of_last m f n [] b last = subst (λ (k : ℕ). IsClean m f k b) (omega arith) last
@@ -135,7 +143,7 @@ abbrev pub added : Image → List (List ℕ) → List ℕ → Frame → List Pag
 added i older b x pages = record i {
   next = following x.number;
   bytes = older ++ (b ++ frame_bytes x) ∷ [];
-  frames = i.frames ++ entry_of (i.number + length older) (length b) x ∷ [];
+  frames = i.frames ++ entry_of latest (i.number + length older) (length b) x ∷ [];
   pages = pages;
 }
 
@@ -150,6 +158,27 @@ pub record Takes (i : Image) (older : List (List ℕ)) (b : List ℕ) (x : Frame
 
 pub takes_clean : (i : Image) (older : List (List ℕ)) (b : List ℕ) (x : Frame) → Takes i older b x → IsClean i.m i.f (i.number + length older) b
 takes_clean i older b x t = clean_of_last i.m i.f i.number older b (subst (IsCleanLast i.m i.f i.number) t.ends (t.holds.ends t.takes t.works))
+
+-- the segment that takes it has a header of version 2
+pub takes_header : (i : Image) (older : List (List ℕ)) (b : List ℕ) (x : Frame) (t : Takes i older b x)
+    → header_in (limits_of i t.holds.live.0) (i.number + length older) ≡ header_with (i.number + length older) i.m i.f
+takes_header i older b x t =
+    let l = limits_of i t.holds.live.0 in
+    clean_header l (i.number + length older) b
+    (live_newest l i.number older b (subst (AreLive l i.number) t.ends t.holds.live.1)) (takes_clean i older b x t)
+
+-- the segments once its bytes are these
+pub takes_live : (i : Image) (older : List (List ℕ)) (b c : List ℕ) (x : Frame) (t : Takes i older b x) → IsNew i.m i.f (i.number + length older) c
+    → AreLive (limits_of i t.holds.live.0) i.number (older ++ c ∷ [])
+takes_live i older b c x t new =
+    let l = limits_of i t.holds.live.0 in
+    live_last l i.number older c (live_older l i.number older b (subst (AreLive l i.number) t.ends t.holds.live.1))
+    (new_is_live l (i.number + length older) c (takes_header i older b x t) new)
+
+pub takes_news : (i : Image) (older : List (List ℕ)) (b c : List ℕ) (x : Frame) → Takes i older b x → i.old_to < i.number + length (older ++ c ∷ [])
+takes_news i older b c x t =
+    (let n = t.holds.news in let same = ap (λ (l : List (List ℕ)). length l) t.ends in
+    omega (arith, same, length-append older (b ∷ []), length-append older (c ∷ [])))
 
 -- all frames are counted, and stand before the new one
 takes_before : (i : Image) (older : List (List ℕ)) (b : List ℕ) (x : Frame) → Takes i older b x → AllByRecursion (λ f. f.number < x.number) (frames_of i.bytes)
@@ -183,18 +212,23 @@ listed_more : (i : Image) (older : List (List ℕ)) (b : List ℕ) (x : Frame) (
 listed_more i older b x pages t =
     let clean = takes_clean i older b x t in
     let more = clean_more i.m i.f (i.number + length older) b x clean t.lawful in
-    let line = entry_of (i.number + length older) (length b) x in
+    let line = entry_of latest (i.number + length older) (length b) x in
+    let old_version = new_version i.m i.f (i.number + length older) b (clean_is_new i.m i.f (i.number + length older) b clean) in
+    let new_one = new_version i.m i.f (i.number + length older) (b ++ frame_bytes x)
+    (clean_is_new i.m i.f (i.number + length older) (b ++ frame_bytes x) more.1) in
     let test = λ (e : FrameAt × Frame). is_before_next (following x.number) e.1.number in
     let old_test = λ (e : FrameAt × Frame). is_before_next i.next e.1.number in
     let old = entries i.number i.bytes in
     let there : entries i.number (older ++ (b ++ frame_bytes x) ∷ []) ≡ old ++ (line, x) ∷ [] =
     entries_last i.number older (b ++ frame_bytes x)
-    ∙ ap (λ (fs : List Frame). entries i.number older ++ entries_from (i.number + length older) 24 fs) more.0
+    ∙ ap (λ (v : ℕ). entries i.number older ++ entries_from v (i.number + length older) 24 (segment_frames (b ++ frame_bytes x))) new_one
+    ∙ ap (λ (fs : List Frame). entries i.number older ++ entries_from latest (i.number + length older) 24 fs) more.0
     ∙ ap (λ (l : List (FrameAt × Frame)). entries i.number older ++ l)
-    (entries_more (i.number + length older) 24 (segment_frames b) x
-    ∙ ap (λ (k : ℕ). entries_from (i.number + length older) 24 (segment_frames b) ++ (entry_of (i.number + length older) k x, x) ∷ [])
+    (entries_more latest (i.number + length older) 24 (segment_frames b) x
+    ∙ ap (λ (k : ℕ). entries_from latest (i.number + length older) 24 (segment_frames b) ++ (entry_of latest (i.number + length older) k x, x) ∷ [])
     (sym (clean_len i.m i.f (i.number + length older) b clean)))
-    ∙ sym (append_assoc (entries i.number older) (entries_from (i.number + length older) 24 (segment_frames b)) ((line, x) ∷ []))
+    ∙ sym (append_assoc (entries i.number older) (entries_from latest (i.number + length older) 24 (segment_frames b)) ((line, x) ∷ []))
+    ∙ ap (λ (v : ℕ). (entries i.number older ++ entries_from v (i.number + length older) 24 (segment_frames b)) ++ (line, x) ∷ []) (sym old_version)
     ∙ ap (λ (l : List (FrameAt × Frame)). l ++ (line, x) ∷ []) (sym (entries_last i.number older b) ∙ ap (entries i.number) (sym t.ends)) in
     let below : AllByRecursion (λ (e : FrameAt × Frame). e.1.number < x.number) old =
     all-of_map (λ (f : Frame). f.number < x.number) (λ (e : FrameAt × Frame). e.1) old
@@ -225,8 +259,11 @@ sound_more i older b x pages leaves t linked stands table same few =
     record {
       limits = t.holds.limits;
       numbers = t.holds.numbers;
-      live = live_last i.m i.f i.number older (b ++ frame_bytes x) (live_older i.m i.f i.number older b (subst (AreLive i.m i.f i.number) t.ends t.holds.live))
-          (clean_is_live i.m i.f (i.number + length older) (b ++ frame_bytes x) more.1);
+      live = (
+        t.holds.live.0,
+        takes_live i older b (b ++ frame_bytes x) x t (clean_is_new i.m i.f (i.number + length older) (b ++ frame_bytes x) more.1),
+      );
+      news = takes_news i older b (b ++ frame_bytes x) x t;
       ends = λ _ _. clean_last i.m i.f i.number older (b ++ frame_bytes x) more.1;
       every = λ _. counts_more i older b x pages t ∙ ap (λ (l : List Frame). l ++ x ∷ []) (t.holds.every t.works) ∙ sym (frames_with i older b x t);
       left = λ failed. (let no : true ≡ false = sym failed ∙ t.works in absurd cc);

@@ -1,15 +1,19 @@
 -- Lines that name their segments by number, one after the other.
 
-use Rattle.std.proofs.Common.{◌≡◌, ℕ, ◌+◌, ◌^◌, ◌<◌, ◌≤◌, Bool, Option, Some, List, [], ◌∷◌, ◌++◌, length, map, get_or, set, refl, sym}
+use Rattle.std.proofs.Common.{◌≡◌, ◌≢◌, ℕ, zero, suc, ◌+◌, ◌-◌, ◌==◌, ◌^◌, ◌<◌, ◌≤◌, Bool, true, false, if◌then◌else◌, drop, Option, Some, List, [], ◌∷◌, ◌++◌, length, map, get_or, set, refl, sym}
 use Rattle.std.proofs.Common.{ap, subst, ◌∙◌, append_assoc, append-nil, arith, length-append}
 use Rattle.std.proofs.lemmas.List.{map-append, length-map}
+use Rattle.std.proofs.lemmas.List.{drop_all}
+use Rattle.std.proofs.lemmas.Bool.{eq-eqb, ne_eqb}
 use Rattle.std.proofs.lemmas.Grind.{fold-append}
 use Rattle.std.specs.List.{filter, AllByRecursion}
-use Rattle.bw_codec.specs.Grammar.{frame_bytes}
+use Rattle.bw_codec.specs.Grammar.{frame_bytes_in}
+use Rattle.bw_codec.specs.Reading.{version_in}
 use Rattle.bw_codec.specs.declared.block.Frame.{Frame}
-use Rattle.bw_log.specs.Segments.{segment_frames, entries_from, entries, following, AreLive, is_before_next}
-use Rattle.bw_log.specs.Adopting.{next_in, in_segments, Numbering}
+use Rattle.bw_log.specs.Segments.{Limits, segment_frames, entries_from, entries, following, AreLive, is_before_next}
+use Rattle.bw_log.specs.Adopting.{next_in, in_segments, old_in, Numbering}
 use Rattle.bw_log.specs.declared.places.FrameAt.{FrameAt}
+use Rattle.bw_log.proofs.Asked.{live_number}
 use Rattle.bw_log.proofs.Entries.{all_append, all_filtered}
 use Rattle.bw_log.proofs.GivenUp.{all_map, all_behind}
 
@@ -91,27 +95,58 @@ numbering_ends number old i now next n all = ends_by number old now next n.done 
 
 -- ---- the numbers fit
 
-small_from : (segment at : ℕ) (fs : List Frame) → segment < 2 ^ 64 → AllByRecursion (λ e. e.0.segment < 2 ^ 64) (entries_from segment at fs)
-small_from segment at [] small = tt
-small_from segment at (f ∷ fs) small = (small, small_from segment (at + length (frame_bytes f)) fs small)
+small_from : (v segment at : ℕ) (fs : List Frame) → segment < 2 ^ 64 → AllByRecursion (λ e. e.0.segment < 2 ^ 64) (entries_from v segment at fs)
+small_from v segment at [] small = tt
+small_from v segment at (f ∷ fs) small = (small, small_from v segment (at + length (frame_bytes_in v f)) fs small)
 
-small_entries : (m f number : ℕ) (bs : List (List ℕ)) → AreLive m f number bs → AllByRecursion (λ e. e.0.segment < 2 ^ 64) (entries number bs)
-small_entries m f number [] live = tt
-small_entries m f number (b ∷ bs) live =
-    all_append (λ (e : FrameAt × Frame). e.0.segment < 2 ^ 64) (entries_from number 24 (segment_frames b)) (entries (number + 1) bs)
-    (small_from number 24 (segment_frames b) live.0.whole.lawful.number.1) (small_entries m f (number + 1) bs live.1)
+small_entries : (l : Limits) (number : ℕ) (bs : List (List ℕ)) → AreLive l number bs → AllByRecursion (λ e. e.0.segment < 2 ^ 64) (entries number bs)
+small_entries l number [] live = tt
+small_entries l number (b ∷ bs) live =
+    all_append (λ (e : FrameAt × Frame). e.0.segment < 2 ^ 64) (entries_from (version_in b) number 24 (segment_frames b)) (entries (number + 1) bs)
+    (small_from (version_in b) number 24 (segment_frames b) live.0.whole.lawful.number.1) (small_entries l (number + 1) bs live.1)
 
 unmapped : (number : ℕ) (xs : List FrameAt) → AllByRecursion (λ e. e.segment < 2 ^ 64) (in_segments number xs)
     → AllByRecursion (λ e. number + e.segment < 2 ^ 64) xs
 unmapped number [] all = tt
 unmapped number (x ∷ xs) all = (all.0, unmapped number xs all.1)
 
-pub small_lines : (m f number : ℕ) (next : Option ℕ) (bs : List (List ℕ)) (lines : List FrameAt) → AreLive m f number bs
+pub small_lines : (l : Limits) (number : ℕ) (next : Option ℕ) (bs : List (List ℕ)) (lines : List FrameAt) → AreLive l number bs
     → in_segments number lines ≡ map (λ e. e.0) (filter (λ e. is_before_next next e.1.number) (entries number bs))
     → AllByRecursion (λ e. number + e.segment < 2 ^ 64) lines
-small_lines m f number next bs lines live is =
+small_lines l number next bs lines live is =
     let test : FrameAt × Frame → Bool = λ e. is_before_next next e.1.number in
     let line : FrameAt × Frame → FrameAt = λ e. e.0 in
     unmapped number lines (subst (λ (l : List FrameAt). AllByRecursion (λ e. e.segment < 2 ^ 64) l) (sym is)
     (all_map line (λ (e : FrameAt). e.segment < 2 ^ 64) (filter test (entries number bs))
-    (all_filtered (λ (e : FrameAt × Frame). e.0.segment < 2 ^ 64) test (entries number bs) (small_entries m f number bs live))))
+    (all_filtered (λ (e : FrameAt × Frame). e.0.segment < 2 ^ 64) test (entries number bs) (small_entries l number bs live))))
+
+-- ---- how many segments have version 1
+
+pub old_next : (vs : List ℕ) (i v : ℕ) → i < length vs → v ≡ get_or vs i v → old_in (drop i vs) ≡ (if v == 1 then suc (old_in (drop (i + 1) vs)) else 0)
+old_next [] i v inside is = absurd (omega arith)
+old_next (x ∷ xs) zero v inside is = ap (λ (n : ℕ). if n == 1 then suc (old_in xs) else 0) (sym is)
+old_next (x ∷ xs) (suc i) v inside is =
+    let e : suc (i + 1) ≡ suc i + 1 = omega arith in
+    old_next xs i v (omega arith) is ∙ ap (λ (n : ℕ). if v == 1 then suc (old_in (drop n (x ∷ xs))) else 0) e
+
+pub none_left : (vs : List ℕ) (i : ℕ) → length vs ≤ i → old_in (drop i vs) ≡ 0
+none_left vs i all = ap old_in (drop_all i vs all)
+
+pub old_counts : (vs : List ℕ) (i v count : ℕ) → i < length vs → v ≡ get_or vs i v → v ≡ 1 → old_in vs ≡ count + old_in (drop i vs)
+    → old_in vs ≡ (count + 1) + old_in (drop (i + 1) vs)
+old_counts vs i v count inside is one was =
+    (let n = old_next vs i v inside is in let t : (v == 1) ≡ true = eq-eqb v 1 one in
+    let next : old_in (drop i vs) ≡ suc (old_in (drop (i + 1) vs)) = n ∙ ap (λ (b : Bool). if b then suc (old_in (drop (i + 1) vs)) else 0) t in
+    omega arith)
+
+pub old_ends : (vs : List ℕ) (i v count : ℕ) → i < length vs → v ≡ get_or vs i v → v ≢ 1 → old_in vs ≡ count + old_in (drop i vs) → count ≡ old_in vs
+old_ends vs i v count inside is other was =
+    (let n = old_next vs i v inside is in let f : (v == 1) ≡ false = ne_eqb v 1 other in
+    let next : old_in (drop i vs) ≡ 0 = n ∙ ap (λ (b : Bool). if b then suc (old_in (drop (i + 1) vs)) else 0) f in
+    omega arith)
+
+-- the last number of version 1 fits
+pub old_small : (l : Limits) (number old : ℕ) (bytes : List (List ℕ)) → AreLive l number bytes → number < 2 ^ 64 → number - 1 + old < number + length bytes
+    → number - 1 + old < 2 ^ 64
+old_small l number old [] live small news = omega arith
+old_small l number old (b ∷ bs) live small news = (let last = live_number l number (b ∷ bs) (length bs) live (omega arith) in omega arith)

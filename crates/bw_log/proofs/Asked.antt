@@ -6,7 +6,9 @@ use Rattle.std.proofs.lemmas.Bool.{eq-eqb, true≢false, cases_lt}
 use Rattle.std.proofs.lemmas.List.{length-map}
 use Rattle.std.proofs.lemmas.Option.{slice_get_within}
 use Rattle.bw_device.specs.Holding.{Holding}
-use Rattle.bw_log.specs.Segments.{AreLive}
+use Rattle.bw_log.specs.Segments.{Limits, version_at, AreLive}
+use Rattle.bw_codec.specs.Reading.{version_in}
+use Rattle.bw_log.proofs.Reread.{live_version}
 use Rattle.bw_log.specs.declared.places.PageAt.{PageAt}
 
 -- ---- one box, as a question tells it
@@ -45,16 +47,32 @@ segment_told {X} v xs ys zs i number k lease len ys_same zs_same inside at lease
     subst P (sym there.1) (λ e1 e2. rw (at, e1, e2) refl) leases lens
 
 -- each live segment has a number below the limit
-pub live_number : (m f number : ℕ) (live : List (List ℕ)) (i : ℕ) → AreLive m f number live → i < length live → number + i < 2 ^ 64
-live_number m f number [] i are inside = absurd (omega arith)
-live_number m f number (b ∷ bs) zero are inside = let law = are.0.whole.lawful.number in omega arith
-live_number m f number (b ∷ bs) (suc i) are inside = let more = live_number m f (number + 1) bs i are.1 (omega arith) in omega arith
+pub live_number : (l : Limits) (number : ℕ) (live : List (List ℕ)) (i : ℕ) → AreLive l number live → i < length live → number + i < 2 ^ 64
+live_number l number [] i are inside = absurd (omega arith)
+live_number l number (b ∷ bs) zero are inside = let law = are.0.whole.lawful.number in omega arith
+live_number l number (b ∷ bs) (suc i) are inside = let more = live_number l (number + 1) bs i are.1 (omega arith) in omega arith
 
 -- the same of boxes
-pub box_number : {X : Type 0} (v : X → Holding) (m f number : ℕ) (xs : List X) (i : ℕ) → AreLive m f number (map (λ h. h.bytes) (map v xs)) → i < length xs
+pub box_number : {X : Type 0} (v : X → Holding) (l : Limits) (number : ℕ) (xs : List X) (i : ℕ) → AreLive l number (map (λ h. h.bytes) (map v xs)) → i < length xs
     → number + i < 2 ^ 64
-box_number v m f number xs i are inside =
-    live_number m f number (map (λ h. h.bytes) (map v xs)) i are (omega (arith, length-map (map v xs) (λ (h : Holding). h.bytes), length-map xs v))
+box_number v l number xs i are inside =
+    live_number l number (map (λ h. h.bytes) (map v xs)) i are (omega (arith, length-map (map v xs) (λ (h : Holding). h.bytes), length-map xs v))
+
+-- the version of a live segment, by its bytes
+version_told_in : (l : Limits) (number : ℕ) (hs : List Holding) (i v : ℕ) → AreLive l number (map (λ h. h.bytes) hs) → i < length hs
+    → v ≡ version_at l.old_to (number + i) → MatchOption (slice_get hs i) (Some v ≡ None) (λ h. Some v ≡ Some (version_in h.bytes))
+version_told_in l number [] i v are inside is = absurd (omega arith)
+version_told_in l number (h ∷ hs) zero v are inside is =
+    (let e : number + 0 ≡ number = omega arith in
+    ap (λ (n : ℕ). Some n) (is ∙ ap (version_at l.old_to) e ∙ sym (live_version l number h.bytes are.0)))
+version_told_in l number (h ∷ hs) (suc i) v are inside is =
+    (let e : number + suc i ≡ number + 1 + i = omega arith in
+    version_told_in l (number + 1) hs i v are.1 (omega arith) (is ∙ ap (version_at l.old_to) e))
+
+pub version_told : {X : Type 0} (v : X → Holding) (l : Limits) (number : ℕ) (xs : List X) (i version : ℕ)
+    → AreLive l number (map (λ h. h.bytes) (map v xs)) → i < length xs → version ≡ version_at l.old_to (number + i)
+    → MatchOption (slice_get (map v xs) i) (Some version ≡ None) (λ h. Some version ≡ Some (version_in h.bytes))
+version_told v l number xs i version are inside is = version_told_in l number (map v xs) i version are (omega (arith, length-map xs v)) is
 
 -- ---- a line of the table
 

@@ -1,19 +1,21 @@
 -- A segment begun, and a frame torn at the end of the newest one.
 
 use Rattle.std.proofs.Common.{◌≡◌, ℕ, ◌+◌, ◌^◌, ◌<◌, ◌⊎◌, inl, inr, Bool, true, false, if◌then◌else◌, Option, Some, List, [], ◌∷◌, ◌++◌, length, take, map}
-use Rattle.std.proofs.Common.{refl, sym, ap, subst, ◌∙◌, append_assoc, append-nil, arith}
+use Rattle.std.proofs.Common.{refl, sym, ap, subst, ◌∙◌, append_assoc, append-nil, arith, length-append}
 use Rattle.std.proofs.lemmas.Bool.{le-ltb}
 use Rattle.std.specs.List.{filter, flat_map}
+use Rattle.bw_codec.specs.Version.{latest}
 use Rattle.bw_codec.specs.Grammar.{frame_bytes, header_bytes, IsHeader}
+use Rattle.bw_codec.specs.Reading.{version_in}
 use Rattle.bw_codec.specs.declared.block.Frame.{Frame}
 use Rattle.bw_codec.specs.declared.block.Header.{Header}
-use Rattle.bw_log.specs.Segments.{segment_frames, frames_of, AreLive, entry_of, entries_from, entries, is_before_next, next_of, AreFrom}
+use Rattle.bw_log.specs.Segments.{segment_frames, frames_of, header_with, entry_of, entries_from, entries, is_before_next, next_of, AreFrom}
 use Rattle.bw_log.specs.Places.{first_number, AreLinked}
 use Rattle.bw_page.specs.Standing.{Stand}
-use Rattle.bw_log.specs.Contents.{Image, IsImage, IsStanding, IsTable, CouldFollow, IsLeft, counted_in, counted_at}
+use Rattle.bw_log.specs.Contents.{Image, limits_of, IsImage, IsStanding, IsTable, CouldFollow, IsLeft, counted_in, counted_at}
 use Rattle.bw_log.specs.declared.places.FrameAt.{FrameAt}
-use Rattle.bw_log.proofs.Reread.{header_is_clean, clean_torn, clean_is_live, clean_more}
-use Rattle.bw_log.proofs.Adding.{Takes, takes_clean, frames_with, frames_last, entries_last, entries_more, live_last, live_older, clean_last}
+use Rattle.bw_log.proofs.Reread.{header_is_clean, clean_torn, clean_is_new, clean_more, header_new, new_is_live, new_version}
+use Rattle.bw_log.proofs.Adding.{Takes, takes_clean, takes_live, takes_news, frames_with, frames_last, entries_last, entries_more, live_last, clean_last}
 
 -- ---- what a failed append left, in another image
 
@@ -34,14 +36,14 @@ left_same i j next m counts frames (inr one) =
 -- ---- a new current segment
 
 abbrev pub header_in : Image → Header
-header_in i = record { number = i.number + length i.bytes; m = i.m; f = i.f }
+header_in i = header_with (i.number + length i.bytes) i.m i.f
 
 -- the image with a segment of a header alone
 abbrev pub with_segment : Image → Image
 with_segment i = record i { bytes = i.bytes ++ header_bytes (header_in i) ∷ []; is_open = true }
 
 lawful_header : (i : Image) → IsImage i → i.number + length i.bytes < 2 ^ 64 → IsHeader (header_in i)
-lawful_header i h fits = let n = h.numbers in let l = h.limits in record { number = (omega arith, fits); m = (l.0, l.1); f = (l.2, l.3) }
+lawful_header i h fits = let n = h.numbers in let l = h.limits in record { version = inr refl; number = (omega arith, fits); m = (l.0, l.1); f = (l.2, l.3) }
 
 pub frames_begun : (i : Image) → IsImage i → i.number + length i.bytes < 2 ^ 64 → frames_of (with_segment i).bytes ≡ frames_of i.bytes
 frames_begun i h fits =
@@ -52,7 +54,7 @@ entries_begun : (i : Image) → IsImage i → i.number + length i.bytes < 2 ^ 64
 entries_begun i h fits =
     let clean = header_is_clean i.m i.f (i.number + length i.bytes) (lawful_header i h fits) in
     entries_last i.number i.bytes (header_bytes (header_in i))
-    ∙ ap (λ (fs : List Frame). entries i.number i.bytes ++ entries_from (i.number + length i.bytes) 24 fs) clean.0
+    ∙ ap (λ (fs : List Frame). entries i.number i.bytes ++ entries_from (version_in (header_bytes (header_in i))) (i.number + length i.bytes) 24 fs) clean.0
     ∙ append-nil (entries i.number i.bytes)
 
 pub counted_begun : (i : Image) → IsImage i → i.number + length i.bytes < 2 ^ 64 → counted_in (with_segment i) ≡ counted_in i
@@ -65,8 +67,13 @@ sound_begun i h fits =
     record {
       limits = h.limits;
       numbers = h.numbers;
-      live = live_last i.m i.f i.number i.bytes (header_bytes (header_in i)) h.live
-          (clean_is_live i.m i.f (i.number + length i.bytes) (header_bytes (header_in i)) clean.1);
+      live = (
+        h.live.0,
+        (let l = limits_of i h.live.0 in let n = i.number + length i.bytes in
+            live_last l i.number i.bytes (header_bytes (header_in i)) h.live.1
+            (new_is_live l n (header_bytes (header_in i)) (header_new l n h.news) (clean_is_new i.m i.f n (header_bytes (header_in i)) clean.1))),
+      );
+      news = (let n = h.news in omega (arith, length-append i.bytes (header_bytes (header_in i) ∷ [])));
       ends = λ _ _. clean_last i.m i.f i.number i.bytes (header_bytes (header_in i)) clean.1;
       every = λ works. counted_begun i h fits ∙ h.every works ∙ sym (frames_begun i h fits);
       left = λ failed. left_same i (with_segment i) refl refl (counted_begun i h fits) (frames_begun i h fits) (h.left failed);
@@ -125,21 +132,27 @@ entries_torn i older b x n t =
     let test = λ (e : FrameAt × Frame). is_before_next i.next e.1.number in
     let number = i.number + length older in
     let now = b ++ take n (frame_bytes x) in
-    let was : entries i.number i.bytes ≡ entries i.number older ++ entries_from number 24 (segment_frames b) =
-    ap (entries i.number) t.ends ∙ entries_last i.number older b in
-    elim (clean_torn i.m i.f number b x n clean t.lawful).1 [
+    let torn = clean_torn i.m i.f number b x n clean t.lawful in
+    let old_version = new_version i.m i.f number b (clean_is_new i.m i.f number b clean) in
+    let now_version = new_version i.m i.f number now torn.0 in
+    let was : entries i.number i.bytes ≡ entries i.number older ++ entries_from latest number 24 (segment_frames b) =
+    ap (entries i.number) t.ends ∙ entries_last i.number older b
+    ∙ ap (λ (v : ℕ). entries i.number older ++ entries_from v number 24 (segment_frames b)) old_version in
+    let is : entries i.number (older ++ now ∷ []) ≡ entries i.number older ++ entries_from latest number 24 (segment_frames now) =
+    entries_last i.number older now ∙ ap (λ (v : ℕ). entries i.number older ++ entries_from v number 24 (segment_frames now)) now_version in
+    elim torn.1 [
       | inl same ↦ ap (λ (l : List (FrameAt × Frame)). map (λ (e : FrameAt × Frame). e.0) (filter test l))
-          (entries_last i.number older now ∙ ap (λ (fs : List Frame). entries i.number older ++ entries_from number 24 fs) same ∙ sym was)
+          (is ∙ ap (λ (fs : List Frame). entries i.number older ++ entries_from latest number 24 fs) same ∙ sym was)
       | inr whole ↦ (
           let more = clean_more i.m i.f number b x clean t.lawful in
-          let line : FrameAt × Frame = (entry_of number (24 + length (flat_map frame_bytes (segment_frames b))) x, x) in
+          let line : FrameAt × Frame = (entry_of latest number (24 + length (flat_map frame_bytes (segment_frames b))) x, x) in
           let none : test line ≡ false = ap (λ (o : Option ℕ). is_before_next o x.number) t.number ∙ not_before x in
           let there : entries i.number (older ++ now ∷ []) ≡ entries i.number i.bytes ++ line ∷ [] =
-          entries_last i.number older now
-          ∙ ap (λ (c : List ℕ). entries i.number older ++ entries_from number 24 (segment_frames c)) whole
-          ∙ ap (λ (fs : List Frame). entries i.number older ++ entries_from number 24 fs) more.0
-          ∙ ap (λ (l : List (FrameAt × Frame)). entries i.number older ++ l) (entries_more number 24 (segment_frames b) x)
-          ∙ sym (append_assoc (entries i.number older) (entries_from number 24 (segment_frames b)) (line ∷ []))
+          is
+          ∙ ap (λ (c : List ℕ). entries i.number older ++ entries_from latest number 24 (segment_frames c)) whole
+          ∙ ap (λ (fs : List Frame). entries i.number older ++ entries_from latest number 24 fs) more.0
+          ∙ ap (λ (l : List (FrameAt × Frame)). entries i.number older ++ l) (entries_more latest number 24 (segment_frames b) x)
+          ∙ sym (append_assoc (entries i.number older) (entries_from latest number 24 (segment_frames b)) (line ∷ []))
           ∙ ap (λ (l : List (FrameAt × Frame)). l ++ line ∷ []) (sym was) in
           ap (λ (l : List (FrameAt × Frame)). map (λ (e : FrameAt × Frame). e.0) (filter test l)) there
           ∙ ap (λ (l : List (FrameAt × Frame)). map (λ (e : FrameAt × Frame). e.0) l) (filter_without test (entries i.number i.bytes) line none))
@@ -169,8 +182,8 @@ sound_torn i older b x n t f =
     record {
       limits = h.limits;
       numbers = h.numbers;
-      live = live_last i.m i.f i.number older (b ++ take n (frame_bytes x))
-          (live_older i.m i.f i.number older b (subst (AreLive i.m i.f i.number) t.ends h.live)) torn.0;
+      live = (h.live.0, takes_live i older b (b ++ take n (frame_bytes x)) x t torn.0);
+      news = takes_news i older b (b ++ take n (frame_bytes x)) x t;
       ends = λ _ works. absurd cc;
       every = λ works. absurd cc;
       left = λ _. is_left i (torn_image i older b x n) x refl refl (counted_torn i older b x n t) f (torn_left i older b x n t);
@@ -192,6 +205,7 @@ sound_failed i h works = record {
   limits = h.limits;
   numbers = h.numbers;
   live = h.live;
+  news = h.news;
   ends = λ _ works. absurd cc;
   every = λ works. absurd cc;
   left = λ _. inl (sym (h.every works));

@@ -4,12 +4,13 @@ use Rattle.std.proofs.Common.{◌≡◌, ℕ, zero, suc, ◌-◌, ◌≤◌, inl
 use Rattle.std.proofs.Common.{refl, sym, ap, subst, ◌∙◌, append_assoc, arith}
 use Rattle.std.specs.List.{flat_map, AllByRecursion}
 use Rattle.std.proofs.lemmas.Bool.{and_parts, and_from, cases_lt}
-use Rattle.bw_codec.specs.Grammar.{agrees, frame_word, frame_bytes, head_bytes, header_bytes, IsFrame, IsTail, IsWhole}
+use Rattle.bw_codec.specs.Bytes.{number_bytes}
+use Rattle.bw_codec.specs.Grammar.{agrees, frame_word, frame_bytes_in, head_bytes_in, header_bytes, IsFrameIn, IsTailIn, IsWhole}
 use Rattle.bw_codec.specs.declared.block.Frame.{Frame}
 use Rattle.bw_codec.specs.declared.block.Header.{Header}
-use Rattle.bw_codec.proofs.FrontFormat.{beginnings_are_tails, length-head}
+use Rattle.bw_codec.proofs.FrontFormat.{agrees_whole, beginnings_are_tails, length-head}
 use Rattle.bw_codec.proofs.Heading.{length-header}
-use Rattle.bw_log.specs.Segments.{segment_frames, IsLive}
+use Rattle.bw_log.specs.Segments.{Limits, header_in, segment_frames, IsLive}
 use Rattle.bw_log.proofs.Reread.{segment_read}
 
 take_part : {X : Type 0} (xs ys : List X) (n : ℕ) → n ≤ length xs → take n (xs ++ ys) ≡ take n xs
@@ -41,17 +42,19 @@ agrees_shorter (w ∷ ws) (b ∷ bs) (suc n) h = let two =
     and_parts (w == b) (agrees bs ws) h in and_from (w == b) (agrees (take n bs) ws) two.0 (agrees_shorter ws bs n two.1)
 
 -- a beginning of a tail is a tail
-pub tail_cut : (f : ℕ) (cut : List ℕ) (n : ℕ) → IsTail f cut → IsTail f (take n cut)
-tail_cut f cut n (inl short) = inl (omega (arith, take_less cut n, short.0), agrees_shorter frame_word cut n short.1)
-tail_cut f cut n (inr t) =
+pub tail_cut : (v f : ℕ) (cut : List ℕ) (n : ℕ) → IsTailIn v f cut → IsTailIn v f (take n cut)
+tail_cut v f cut n (inl short) = inl (omega (arith, take_less cut n, short.0), agrees_shorter (frame_word v) cut n short.1)
+tail_cut v f cut n (inr t) =
     let head = t.0 in
     let rest = t.1 in
-    let spelled = head_bytes head.number head.body head.blocks in
-    let size : length spelled ≡ 20 = length-head head.number head.body head.blocks in
+    let spelled = head_bytes_in v head.number head.body head.blocks in
+    let numbers = number_bytes 8 head.number ++ (number_bytes 4 head.body ++ number_bytes 4 head.blocks) in
+    let size : length spelled ≡ 20 = length-head v head.number head.body head.blocks in
     elim (cases_lt n 20) [
       | inl less ↦ inl (
         omega (arith, take_short cut n),
-        ap (λ (b : List ℕ). agrees (take n b) frame_word) (t.4) ∙ agrees_shorter frame_word (spelled ++ rest) n refl,
+        ap (λ (b : List ℕ). agrees (take n b) (frame_word v)) (t.4)
+            ∙ agrees_shorter (frame_word v) (spelled ++ rest) n (agrees_whole (frame_word v) (numbers ++ rest)),
       )
       | inr more ↦ inr (
         head,
@@ -63,34 +66,34 @@ tail_cut f cut n (inr t) =
     ]
 
 -- so many whole frames, and a tail
-pub record Cut (f : ℕ) (fs : List Frame) (bytes : List ℕ) : Type 0 where
+pub record Cut (v f : ℕ) (fs : List Frame) (bytes : List ℕ) : Type 0 where
   pub count : ℕ
   pub rest : List ℕ
-  pub tail : IsTail f rest
-  pub parts : bytes ≡ flat_map frame_bytes (take count fs) ++ rest
+  pub tail : IsTailIn v f rest
+  pub parts : bytes ≡ flat_map (frame_bytes_in v) (take count fs) ++ rest
 
-pub frames_cut : (m f : ℕ) (fs : List Frame) (cut : List ℕ) (n : ℕ) → AllByRecursion (IsFrame m f) fs → IsTail f cut
-    → Cut f fs (take n (flat_map frame_bytes fs ++ cut))
-frames_cut m f [] cut n laws tail = record { count = 0; rest = take n cut; tail = tail_cut f cut n tail; parts = refl }
-frames_cut m f (x ∷ fs) cut n laws tail =
-    let spelled = frame_bytes x in
-    let others = flat_map frame_bytes fs ++ cut in
-    let parts : flat_map frame_bytes (x ∷ fs) ++ cut ≡ spelled ++ others = append_assoc spelled (flat_map frame_bytes fs) cut in
+pub frames_cut : (v m f : ℕ) (fs : List Frame) (cut : List ℕ) (n : ℕ) → AllByRecursion (IsFrameIn v m f) fs → IsTailIn v f cut
+    → Cut v f fs (take n (flat_map (frame_bytes_in v) fs ++ cut))
+frames_cut v m f [] cut n laws tail = record { count = 0; rest = take n cut; tail = tail_cut v f cut n tail; parts = refl }
+frames_cut v m f (x ∷ fs) cut n laws tail =
+    let spelled = frame_bytes_in v x in
+    let others = flat_map (frame_bytes_in v) fs ++ cut in
+    let parts : flat_map (frame_bytes_in v) (x ∷ fs) ++ cut ≡ spelled ++ others = append_assoc spelled (flat_map (frame_bytes_in v) fs) cut in
     elim (cases_lt n (length spelled)) [
       | inl less ↦ record {
         count = 0;
         rest = take n spelled;
-        tail = beginnings_are_tails m f x n laws.0 less;
+        tail = beginnings_are_tails v m f x n laws.0 less;
         parts = ap (take n) parts ∙ take_part spelled others n (omega arith);
       }
       | inr more ↦ (
-          let c = frames_cut m f fs cut (n - length spelled) laws.1 tail in
+          let c = frames_cut v m f fs cut (n - length spelled) laws.1 tail in
           record {
             count = suc c.count;
             rest = c.rest;
             tail = c.tail;
             parts = ap (take n) parts ∙ take_past spelled others n more ∙ ap (λ (l : List ℕ). spelled ++ l) c.parts
-                ∙ sym (append_assoc spelled (flat_map frame_bytes (take c.count fs)) c.rest);
+                ∙ sym (append_assoc spelled (flat_map (frame_bytes_in v) (take c.count fs)) c.rest);
           })
     ]
 
@@ -100,18 +103,19 @@ all_taken P (suc n) [] all = tt
 all_taken P (suc n) (x ∷ xs) all = (all.0, all_taken P n xs all.1)
 
 -- a live segment that is cut behind its header: live, with a beginning of its frames
-pub live_cut : (m f number : ℕ) (bytes : List ℕ) (n : ℕ) → IsLive m f number bytes → 24 ≤ n
-    → (count : ℕ) × (segment_frames (take n bytes) ≡ take count (segment_frames bytes)) × IsLive m f number (take n bytes)
-live_cut m f number bytes n live some =
-    let h : Header = record { number = number; m = m; f = f } in
+pub live_cut : (l : Limits) (number : ℕ) (bytes : List ℕ) (n : ℕ) → IsLive l number bytes → 24 ≤ n
+    → (count : ℕ) × (segment_frames (take n bytes) ≡ take count (segment_frames bytes)) × IsLive l number (take n bytes)
+live_cut l number bytes n live some =
+    let h : Header = header_in l number in
+    let v = h.version in
     let w = live.whole in
     let fs = segment_frames bytes in
     let size : length (header_bytes h) ≡ 24 = length-header h in
-    let c = frames_cut m f fs live.cut (n - 24) w.each w.tail in
-    let parts : take n bytes ≡ header_bytes h ++ (flat_map frame_bytes (take c.count fs) ++ c.rest) =
-    ap (take n) w.parts ∙ take_past (header_bytes h) (flat_map frame_bytes fs ++ live.cut) n (omega arith)
-    ∙ ap (λ (k : ℕ). header_bytes h ++ take (n - k) (flat_map frame_bytes fs ++ live.cut)) size ∙ ap (λ (l : List ℕ). header_bytes h ++ l) c.parts in
+    let c = frames_cut v h.m h.f fs live.cut (n - 24) w.each w.tail in
+    let parts : take n bytes ≡ header_bytes h ++ (flat_map (frame_bytes_in v) (take c.count fs) ++ c.rest) =
+    ap (take n) w.parts ∙ take_past (header_bytes h) (flat_map (frame_bytes_in v) fs ++ live.cut) n (omega arith)
+    ∙ ap (λ (k : ℕ). header_bytes h ++ take (n - k) (flat_map (frame_bytes_in v) fs ++ live.cut)) size ∙ ap (λ (l : List ℕ). header_bytes h ++ l) c.parts in
     let whole : IsWhole (take n bytes) h (take c.count fs) c.rest =
-    record { lawful = w.lawful; each = all_taken (IsFrame m f) c.count fs w.each; tail = c.tail; parts = parts } in
+    record { lawful = w.lawful; each = all_taken (IsFrameIn v h.m h.f) c.count fs w.each; tail = c.tail; parts = parts } in
     let read = segment_read (take n bytes) h (take c.count fs) c.rest whole in
     (c.count, read, record { cut = c.rest; whole = subst (λ (gs : List Frame). IsWhole (take n bytes) h gs c.rest) (sym read) whole })

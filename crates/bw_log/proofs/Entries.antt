@@ -4,14 +4,16 @@ use Rattle.std.proofs.Common.{◌≡◌, ℕ, zero, suc, ◌+◌, ◌<◌, Bool,
 use Rattle.std.proofs.Common.{◌∙◌, append_assoc, arith, length-append}
 use Rattle.std.specs.List.{filter, flat_map, AllByRecursion}
 use Rattle.std.proofs.lemmas.List.{map-append, length-map, get_or_at}
-use Rattle.bw_codec.specs.Grammar.{frame_bytes, IsFrame}
+use Rattle.bw_codec.specs.Grammar.{frame_bytes_in, IsFrameIn}
+use Rattle.bw_codec.specs.Reading.{version_in}
 use Rattle.bw_codec.specs.declared.block.Frame.{Frame}
 use Rattle.bw_codec.specs.declared.block.Header.{Header}
-use Rattle.bw_log.specs.Segments.{segment_frames, frames_of, entries_from, entries, AreLive, IsLive, is_before_next}
-use Rattle.bw_log.specs.Contents.{Image, IsImage, counted_in}
+use Rattle.bw_log.specs.Segments.{Limits, header_in, version_at, limit_at, segment_frames, frames_of, entries_from, entries, AreLive, IsLive, is_before_next}
+use Rattle.bw_log.specs.Contents.{Image, limits_of, IsImage, counted_in}
 use Rattle.bw_log.specs.Walking.{StandsAt}
 use Rattle.bw_log.specs.declared.places.FrameAt.{FrameAt}
 use Rattle.bw_codec.proofs.Heading.{length-header}
+use Rattle.bw_log.proofs.Reread.{live_version}
 use Rattle.bw_codec.specs.Grammar.{header_bytes}
 
 -- ---- lists
@@ -63,77 +65,82 @@ split_at {Y} (x ∷ xs) (suc k) inside =
 -- ---- one segment
 
 -- a line of the table and its frame, in these bytes
-pub record InSegment (m f segment : ℕ) (bytes : List ℕ) (e : FrameAt × Frame) : Type 0 where
+pub record InSegment (v m f segment : ℕ) (bytes : List ℕ) (e : FrameAt × Frame) : Type 0 where
   pub names : e.0.segment ≡ segment
   pub front : List ℕ
   pub back : List ℕ
-  pub parts : bytes ≡ front ++ (frame_bytes e.1 ++ back)
+  pub parts : bytes ≡ front ++ (frame_bytes_in v e.1 ++ back)
   pub at : e.0.at ≡ length front
-  pub len : e.0.len ≡ length (frame_bytes e.1)
-  pub lawful : IsFrame m f e.1
+  pub len : e.0.len ≡ length (frame_bytes_in v e.1)
+  pub lawful : IsFrameIn v m f e.1
   pub numbered : e.0.number ≡ e.1.number
 
-in_segment : (m f segment : ℕ) (bytes front : List ℕ) (fs : List Frame) (cut : List ℕ) → bytes ≡ front ++ (flat_map frame_bytes fs ++ cut)
-    → AllByRecursion (IsFrame m f) fs
-    → AllByRecursion (InSegment m f segment bytes) (entries_from segment (length front) fs)
-in_segment m f segment bytes front [] cut parts lawful = tt
-in_segment m f segment bytes front (x ∷ xs) cut parts lawful =
-    let here : bytes ≡ front ++ (frame_bytes x ++ (flat_map frame_bytes xs ++ cut)) =
-    parts ∙ ap (λ (r : List ℕ). front ++ r) (append_assoc (frame_bytes x) (flat_map frame_bytes xs) cut) in
-    let next : bytes ≡ (front ++ frame_bytes x) ++ (flat_map frame_bytes xs ++ cut) =
-    here ∙ sym (append_assoc front (frame_bytes x) (flat_map frame_bytes xs ++ cut)) in (
-      record { names = refl; front = front; back = flat_map frame_bytes xs ++ cut; parts = here; at = refl; len = refl; lawful = lawful.0; numbered = refl },
-      subst (λ (n : ℕ). AllByRecursion (InSegment m f segment bytes) (entries_from segment n xs)) (length-append front (frame_bytes x))
-          (in_segment m f segment bytes (front ++ frame_bytes x) xs cut next lawful.1),
+in_segment : (v m f segment : ℕ) (bytes front : List ℕ) (fs : List Frame) (cut : List ℕ) → bytes ≡ front ++ (flat_map (frame_bytes_in v) fs ++ cut)
+    → AllByRecursion (IsFrameIn v m f) fs
+    → AllByRecursion (InSegment v m f segment bytes) (entries_from v segment (length front) fs)
+in_segment v m f segment bytes front [] cut parts lawful = tt
+in_segment v m f segment bytes front (x ∷ xs) cut parts lawful =
+    let here : bytes ≡ front ++ (frame_bytes_in v x ++ (flat_map (frame_bytes_in v) xs ++ cut)) =
+    parts ∙ ap (λ (r : List ℕ). front ++ r) (append_assoc (frame_bytes_in v x) (flat_map (frame_bytes_in v) xs) cut) in
+    let next : bytes ≡ (front ++ frame_bytes_in v x) ++ (flat_map (frame_bytes_in v) xs ++ cut) =
+    here ∙ sym (append_assoc front (frame_bytes_in v x) (flat_map (frame_bytes_in v) xs ++ cut)) in (
+      record { names = refl; front = front; back = flat_map (frame_bytes_in v) xs ++ cut; parts = here; at = refl; len = refl; lawful = lawful.0; numbered = refl },
+      subst (λ (n : ℕ). AllByRecursion (InSegment v m f segment bytes) (entries_from v segment n xs)) (length-append front (frame_bytes_in v x))
+          (in_segment v m f segment bytes (front ++ frame_bytes_in v x) xs cut next lawful.1),
     )
 
-live_segment : (m f number : ℕ) (bytes : List ℕ) → IsLive m f number bytes
-    → AllByRecursion (InSegment m f number bytes) (entries_from number 24 (segment_frames bytes))
-live_segment m f number bytes live =
-    let h : Header = record { number = number; m = m; f = f } in
-    subst (λ (n : ℕ). AllByRecursion (InSegment m f number bytes) (entries_from number n (segment_frames bytes))) (length-header h)
-    (in_segment m f number bytes (header_bytes h) (segment_frames bytes) live.cut live.whole.parts live.whole.each)
+-- the same in a segment of a log
+abbrev pub InLive : Limits → ℕ → List ℕ → FrameAt × Frame → Type 0
+InLive l number bytes e = InSegment (version_at l.old_to number) l.m (limit_at l number) number bytes e
+
+live_segment : (l : Limits) (number : ℕ) (bytes : List ℕ) → IsLive l number bytes
+    → AllByRecursion (InLive l number bytes) (entries_from (version_in bytes) number 24 (segment_frames bytes))
+live_segment l number bytes live =
+    let h : Header = header_in l number in
+    subst (λ (v : ℕ). AllByRecursion (InLive l number bytes) (entries_from v number 24 (segment_frames bytes))) (sym (live_version l number bytes live))
+    (subst (λ (n : ℕ). AllByRecursion (InLive l number bytes) (entries_from h.version number n (segment_frames bytes))) (length-header h)
+    (in_segment h.version h.m h.f number bytes (header_bytes h) (segment_frames bytes) live.cut live.whole.parts live.whole.each))
 
 -- ---- all live segments
 
-pub record IsEntry (m f number : ℕ) (live : List (List ℕ)) (e : FrameAt × Frame) : Type 0 where
+pub record IsEntry (l : Limits) (number : ℕ) (live : List (List ℕ)) (e : FrameAt × Frame) : Type 0 where
   pub older : List (List ℕ)
   pub bytes : List ℕ
   pub newer : List (List ℕ)
   pub split : live ≡ older ++ bytes ∷ newer
-  pub stands : InSegment m f (number + length older) bytes e
+  pub stands : InLive l (number + length older) bytes e
 
-entries_behind : (m f number : ℕ) (older live all : List (List ℕ)) → all ≡ older ++ live → AreLive m f (number + length older) live
-    → AllByRecursion (IsEntry m f number all) (entries (number + length older) live)
-entries_behind m f number older [] all split are = tt
-entries_behind m f number older (b ∷ bs) all split are =
+entries_behind : (l : Limits) (number : ℕ) (older live all : List (List ℕ)) → all ≡ older ++ live → AreLive l (number + length older) live
+    → AllByRecursion (IsEntry l number all) (entries (number + length older) live)
+entries_behind l number older [] all split are = tt
+entries_behind l number older (b ∷ bs) all split are =
     let n = number + length older in
     let more : number + length (older ++ b ∷ []) ≡ n + 1 = omega (arith, length-append older (b ∷ [])) in
     let next : all ≡ (older ++ b ∷ []) ++ bs = split ∙ sym (append_assoc older (b ∷ []) bs) in
-    all_append (IsEntry m f number all) (entries_from n 24 (segment_frames b)) (entries (n + 1) bs)
-    (all_mapped (InSegment m f n b) (IsEntry m f number all) (entries_from n 24 (segment_frames b))
-    (λ e here. record { older = older; bytes = b; newer = bs; split = split; stands = here }) (live_segment m f n b are.0))
-    (subst (λ (k : ℕ). AllByRecursion (IsEntry m f number all) (entries k bs)) more
-    (entries_behind m f number (older ++ b ∷ []) bs all next (subst (λ (k : ℕ). AreLive m f k bs) (sym more) are.1)))
+    all_append (IsEntry l number all) (entries_from (version_in b) n 24 (segment_frames b)) (entries (n + 1) bs)
+    (all_mapped (InLive l n b) (IsEntry l number all) (entries_from (version_in b) n 24 (segment_frames b))
+    (λ e here. record { older = older; bytes = b; newer = bs; split = split; stands = here }) (live_segment l n b are.0))
+    (subst (λ (k : ℕ). AllByRecursion (IsEntry l number all) (entries k bs)) more
+    (entries_behind l number (older ++ b ∷ []) bs all next (subst (λ (k : ℕ). AreLive l k bs) (sym more) are.1)))
 
-pub are_entries : (m f number : ℕ) (live : List (List ℕ)) → AreLive m f number live → AllByRecursion (IsEntry m f number live) (entries number live)
-are_entries m f number live are =
+pub are_entries : (l : Limits) (number : ℕ) (live : List (List ℕ)) → AreLive l number live → AllByRecursion (IsEntry l number live) (entries number live)
+are_entries l number live are =
     let same : number + length {A = List ℕ} [] ≡ number = omega arith in
-    subst (λ (k : ℕ). AllByRecursion (IsEntry m f number live) (entries k live)) same
-    (entries_behind m f number [] live live refl (subst (λ (k : ℕ). AreLive m f k live) (sym same) are))
+    subst (λ (k : ℕ). AllByRecursion (IsEntry l number live) (entries k live)) same
+    (entries_behind l number [] live live refl (subst (λ (k : ℕ). AreLive l k live) (sym same) are))
 
 -- ---- counted frames are those of the counted lines
 
-pub frames_in : (segment at : ℕ) (fs : List Frame) → map (λ e. e.1) (entries_from segment at fs) ≡ fs
-frames_in segment at [] = refl
-frames_in segment at (f ∷ fs) = ap (λ (r : List Frame). f ∷ r) (frames_in segment (at + length (frame_bytes f)) fs)
+pub frames_in : (v segment at : ℕ) (fs : List Frame) → map (λ e. e.1) (entries_from v segment at fs) ≡ fs
+frames_in v segment at [] = refl
+frames_in v segment at (f ∷ fs) = ap (λ (r : List Frame). f ∷ r) (frames_in v segment (at + length (frame_bytes_in v f)) fs)
 
 pub frames_of_entries : (number : ℕ) (live : List (List ℕ)) → map (λ e. e.1) (entries number live) ≡ frames_of live
 frames_of_entries number [] = refl
 frames_of_entries number (b ∷ bs) =
     let second : FrameAt × Frame → Frame = λ e. e.1 in
-    map-append second (entries_from number 24 (segment_frames b)) (entries (number + 1) bs)
-    ∙ ap (λ (r : List Frame). r ++ map second (entries (number + 1) bs)) (frames_in number 24 (segment_frames b))
+    map-append second (entries_from (version_in b) number 24 (segment_frames b)) (entries (number + 1) bs)
+    ∙ ap (λ (r : List Frame). r ++ map second (entries (number + 1) bs)) (frames_in (version_in b) number 24 (segment_frames b))
     ∙ ap (λ (r : List Frame). segment_frames b ++ r) (frames_of_entries (number + 1) bs)
 
 abbrev pub counted_entries : Image → List (FrameAt × Frame)
@@ -148,14 +155,18 @@ counted_is i =
 
 -- the k-th counted frame, and where it stands
 pub record LineAt (i : Image) (k : ℕ) (line : FrameAt) : Type 0 where
+  pub limits : Limits
+  pub of_old : limits.old_to ≡ i.old_to
+  pub of_pages : limits.m ≡ i.m
   pub frame : Frame
   pub stands : StandsAt (counted_in i) k frame
-  pub entry : IsEntry i.m i.f i.number i.bytes (line, frame)
+  pub entry : IsEntry limits i.number i.bytes (line, frame)
 
 pub line_at : (i : Image) (k : ℕ) (line : FrameAt) → IsImage i → k < length i.frames → line ≡ get_or i.frames k line → LineAt i k line
 line_at i k line holds inside is =
     let first : FrameAt × Frame → FrameAt = λ e. e.0 in
     let second : FrameAt × Frame → Frame = λ e. e.1 in
+    let limits = limits_of i holds.live.0 in
     let es = counted_entries i in
     let s = split_at es k (omega (arith, ap (λ (l : List FrameAt). length l) holds.listed, length-map es first)) in
     let lines : i.frames ≡ map first s.before ++ s.item.0 ∷ map first s.beyond =
@@ -164,14 +175,17 @@ line_at i k line holds inside is =
     ∙ get_or_at (map first s.before) s.item.0 (map first s.beyond) line k (length-map s.before first ∙ s.index) in
     let frames : counted_in i ≡ map second s.before ++ s.item.1 ∷ map second s.beyond =
     counted_is i ∙ ap (map second) s.split ∙ map-append second s.before (s.item ∷ s.beyond) in
-    let all = all_filtered (IsEntry i.m i.f i.number i.bytes) (λ e. is_before_next i.next e.1.number) (entries i.number i.bytes)
-    (are_entries i.m i.f i.number i.bytes holds.live) in
-    let one : IsEntry i.m i.f i.number i.bytes s.item =
-    all_between (IsEntry i.m i.f i.number i.bytes) s.before s.item s.beyond (subst (AllByRecursion (IsEntry i.m i.f i.number i.bytes)) s.split all) in
+    let all = all_filtered (IsEntry limits i.number i.bytes) (λ e. is_before_next i.next e.1.number) (entries i.number i.bytes)
+    (are_entries limits i.number i.bytes holds.live.1) in
+    let one : IsEntry limits i.number i.bytes s.item =
+    all_between (IsEntry limits i.number i.bytes) s.before s.item s.beyond (subst (AllByRecursion (IsEntry limits i.number i.bytes)) s.split all) in
     record {
+      limits = limits;
+      of_old = refl;
+      of_pages = refl;
       frame = s.item.1;
       stands = record { before = map second s.before; beyond = map second s.beyond; split = frames; index = length-map s.before second ∙ s.index };
-      entry = subst (λ (l : FrameAt). IsEntry i.m i.f i.number i.bytes (l, s.item.1)) (sym same) one;
+      entry = subst (λ (l : FrameAt). IsEntry limits i.number i.bytes (l, s.item.1)) (sym same) one;
     }
 
 pub listed_length : (i : Image) → IsImage i → length i.frames ≡ length (counted_in i)

@@ -16,7 +16,8 @@ use Rattle.bw_log.specs.Walking.{thinned, StandsAt, ThinnedAt, IsWalk}
 use Rattle.bw_log.specs.declared.places.FrameAt.{FrameAt}
 use Rattle.bw_log.specs.declared.fault.LogFault.{LogFault}
 use Rattle.bw_log.specs.declared.fault.LogFault.TheVariants.{NoMemory, BadConfig, NoSegment, Device, Failed, Spent, NoPage}
-use Rattle.bw_codec.specs.Grammar.{frame_bytes, IsFrame}
+use Rattle.bw_codec.specs.Grammar.{frame_bytes_in, IsFrameIn}
+use Rattle.bw_log.specs.Segments.{version_at, limit_at}
 use Rattle.bw_codec.specs.declared.block.Frame.{Frame}
 use Rattle.bw_log.proofs.Entries.{line_at}
 
@@ -66,13 +67,14 @@ box_at (h ∷ hs) (o ∷ older) b newer split =
 pub record BoxedLine (c : Contents) (k : ℕ) (line : FrameAt) : Type 0 where
   pub frame : Frame
   pub stands : StandsAt (counted c) k frame
-  pub lawful : IsFrame c.m c.f frame
+  pub limit : ℕ
+  pub lawful : IsFrameIn (version_at c.old_to line.segment) c.m limit frame
   pub from_first : c.number ≤ line.segment
   pub inside : line.segment - c.number < length c.live
   pub box : Holding
   pub there : slice_get c.live (line.segment - c.number) ≡ Some box
   pub within : line.at + line.len ≤ length box.bytes
-  pub spelled : take line.len (drop line.at box.bytes) ≡ frame_bytes frame
+  pub spelled : take line.len (drop line.at box.bytes) ≡ frame_bytes_in (version_at c.old_to line.segment) frame
   pub numbered : line.number ≡ frame.number
 
 pub boxed_line : (c : Contents) (k : ℕ) (line : FrameAt) → IsSound c → k < length c.frames → line ≡ get_or c.frames k line → BoxedLine c k line
@@ -85,16 +87,22 @@ boxed_line c k line sound inside is =
     let index : line.segment - c.number ≡ length l.entry.older = omega arith in
     let box = box_at c.live l.entry.older l.entry.bytes l.entry.newer l.entry.split in
     let there : slice_get c.live (line.segment - c.number) ≡ Some box.1 = ap (slice_get c.live) index ∙ box.2 in
-    let parts : box.1.bytes ≡ e.front ++ (frame_bytes l.frame ++ e.back) = box.3 ∙ e.parts in
-    let spelled : take line.len (drop line.at box.1.bytes) ≡ frame_bytes l.frame =
+    let v = version_at l.limits.old_to (c.number + length l.entry.older) in
+    let version : v ≡ version_at c.old_to line.segment =
+    ap (λ (n : ℕ). version_at n (c.number + length l.entry.older)) l.of_old ∙ ap (version_at c.old_to) (sym names) in
+    let parts : box.1.bytes ≡ e.front ++ (frame_bytes_in v l.frame ++ e.back) = box.3 ∙ e.parts in
+    let spelled : take line.len (drop line.at box.1.bytes) ≡ frame_bytes_in v l.frame =
     ap (λ (r : List ℕ). take line.len (drop line.at r)) parts
-    ∙ ap (take line.len) (drop_at e.front (frame_bytes l.frame ++ e.back) line.at (sym at))
-    ∙ take_at (frame_bytes l.frame) e.back line.len (sym len) in
+    ∙ ap (take line.len) (drop_at e.front (frame_bytes_in v l.frame ++ e.back) line.at (sym at))
+    ∙ take_at (frame_bytes_in v l.frame) e.back line.len (sym len) in
+    let limit = limit_at l.limits (c.number + length l.entry.older) in
     let first = box.0 in
     record {
       frame = l.frame;
       stands = l.stands;
-      lawful = e.lawful;
+      limit = limit;
+      lawful = subst (λ (n : ℕ). IsFrameIn n c.m limit l.frame) version
+          (subst (λ (n : ℕ). IsFrameIn v n limit l.frame) l.of_pages e.lawful);
       from_first = omega arith;
       inside = omega arith;
       box = box.1;
@@ -102,10 +110,10 @@ boxed_line c k line sound inside is =
       within = omega (
         arith,
         ap (λ (r : List ℕ). length r) parts,
-        length-append e.front (frame_bytes l.frame ++ e.back),
-        length-append (frame_bytes l.frame) e.back,
+        length-append e.front (frame_bytes_in v l.frame ++ e.back),
+        length-append (frame_bytes_in v l.frame) e.back,
       );
-      spelled = spelled;
+      spelled = spelled ∙ ap (λ (n : ℕ). frame_bytes_in n l.frame) version;
       numbered = e.numbered;
     }
 
@@ -114,7 +122,7 @@ pub line_within : {c : Contents} {k : ℕ} {line : FrameAt} (l : BoxedLine c k l
 line_within {c} {k} {line} l = subst (λ (o : Option Holding). IfSome o (λ h. line.at + line.len ≤ length h.bytes)) (sym l.there) l.within
 
 pub line_bytes : {c : Contents} {k : ℕ} {line : FrameAt} (l : BoxedLine c k line) (none bytes : List ℕ) → none ≡ []
-    → IfSome (slice_get c.live (line.segment - c.number)) (λ h. bytes ≡ none ++ take line.len (drop line.at h.bytes)) → bytes ≡ frame_bytes l.frame
+    → IfSome (slice_get c.live (line.segment - c.number)) (λ h. bytes ≡ none ++ take line.len (drop line.at h.bytes)) → bytes ≡ frame_bytes_in (version_at c.old_to line.segment) l.frame
 line_bytes {c} {k} {line} l none bytes empty read =
     subst (λ (o : Option Holding). IfSome o (λ h. bytes ≡ none ++ take line.len (drop line.at h.bytes))) l.there read
     ∙ ap (λ (n : List ℕ). n ++ take line.len (drop line.at l.box.bytes)) empty

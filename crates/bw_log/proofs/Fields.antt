@@ -5,6 +5,7 @@ use Rattle.std.proofs.lemmas.List.{map-append}
 use Rattle.std.specs.List.{AllByRecursion}
 use Rattle.bw_device.specs.Holding.{Holding}
 use Rattle.bw_codec.specs.Grammar.{header_bytes}
+use Rattle.bw_log.specs.Segments.{header_with}
 use Rattle.bw_log.specs.Contents.{Contents, IsBounded, IsRoomy, IsSpare, AreTorn, IsSound}
 use Rattle.bw_log.specs.Limits.{fresh, IsFit}
 use Rattle.bw_log.specs.Appends.{with_last, with_first, torn}
@@ -73,10 +74,10 @@ empty_torn number m f [] all = tt
 empty_torn number m f (s ∷ ss) all = (inl all.0.0, all.1)
 
 pub first_torn : (number m f n : ℕ) (spares : List Holding) → number < 2 ^ 64 → AllByRecursion (IsSpare f) spares
-    → AreTorn number m f (with_first (torn n (header_bytes (record { number = number; m = m; f = f }))) spares)
+    → AreTorn number m f (with_first (torn n (header_bytes (header_with number m f))) spares)
 first_torn number m f n [] small all = tt
 first_torn number m f n (s ∷ ss) small all =
-    (inr (small, n, ap (λ (l : List ℕ). l ++ take n (header_bytes (record { number = number; m = m; f = f }))) all.0.0), all.1)
+    (inr (small, n, ap (λ (l : List ℕ). l ++ take n (header_bytes (header_with number m f))) all.0.0), all.1)
 
 pub spares_push : (f : ℕ) (spares : List Holding) (h : Holding) → AllByRecursion (IsSpare f) spares → IsSpare f h
     → AllByRecursion (IsSpare f) (spares ++ h ∷ [])
@@ -101,7 +102,8 @@ fresh_sound m f spares fit =
       holds = record {
         limits = fit.limits;
         numbers = omega arith;
-        live = tt;
+        live = (0, tt);
+        news = omega arith;
         ends = λ e. absurd cc;
         every = λ _. refl;
         left = λ e. absurd cc;

@@ -11,7 +11,8 @@ use Rattle.std.proofs.lemmas.List.Elements.{filter-append}
 use Rattle.std.proofs.lemmas.Option.{slice_get_past}
 use Rattle.std.proofs.lemmas.Grind.{fold-append, flat_map-append}
 use Rattle.bw_codec.specs.Touch.{sets, touches}
-use Rattle.bw_codec.specs.Grammar.{frame_bytes, IsFrame}
+use Rattle.bw_codec.specs.Grammar.{frame_bytes_in, IsFrameIn}
+use Rattle.bw_codec.specs.Reading.{version_in}
 use Rattle.bw_codec.specs.declared.leaf.Leaf.{Leaf}
 use Rattle.bw_codec.specs.declared.block.Place.{Place}
 use Rattle.bw_codec.specs.declared.block.Block.{Block}
@@ -22,7 +23,7 @@ use Rattle.bw_page.specs.Standing.{after, content, blocks_of, Stand}
 use Rattle.bw_log.specs.Places.{placed, all_placed, later, last_place, is_back, fault_at, fault_of, or_else, bad_link, first_number, place_of, base_of}
 use Rattle.bw_log.specs.Places.{AreLinked}
 use Rattle.bw_log.specs.Segments.{segment_frames, frames_of, entries_from, entries, AreLive, IsCleanLast, AreFrom, following, next_of, is_before_next}
-use Rattle.bw_log.specs.Contents.{Image, counted_in, place_in, entry_place, IsImage, IsStanding}
+use Rattle.bw_log.specs.Contents.{Image, limits_of, counted_in, place_in, entry_place, IsImage, IsStanding}
 use Rattle.bw_log.specs.Oldest.{IsAfter}
 use Rattle.bw_log.specs.declared.places.FrameAt.{FrameAt}
 use Rattle.bw_log.specs.declared.places.PageAt.{PageAt}
@@ -392,29 +393,29 @@ linked_by : (n : ℕ) (kept : List Frame) → AreFrom n kept → bad_link n [] (
 linked_by n [] are linked = refl
 linked_by n (x ∷ xs) are linked = subst (λ (k : ℕ). bad_link k [] (all_placed (x ∷ xs)) ≡ None) (sym are.0) linked
 
-low_by : (m f : ℕ) (gone kept : List Frame) → AllByRecursion (IsFrame m f) gone → 1 ≤ first_number (gone ++ kept) ⊎ (gone ≡ [])
-low_by m f [] kept lawful = inr refl
-low_by m f (x ∷ xs) kept lawful = inl lawful.0.head.numbered.0
+low_by : (v m f : ℕ) (gone kept : List Frame) → AllByRecursion (IsFrameIn v m f) gone → 1 ≤ first_number (gone ++ kept) ⊎ (gone ≡ [])
+low_by v m f [] kept lawful = inr refl
+low_by v m f (x ∷ xs) kept lawful = inl lawful.0.head.numbered.0
 
 -- ---- the table of frames
 
-own_segment : (segment at : ℕ) (fs : List Frame) → AllByRecursion (λ e. not (e.0.segment == segment) ≡ false) (entries_from segment at fs)
-own_segment segment at [] = tt
-own_segment segment at (f ∷ fs) = (ap not (eq-eqb segment segment refl), own_segment segment (at + length (frame_bytes f)) fs)
+own_segment : (v segment at : ℕ) (fs : List Frame) → AllByRecursion (λ e. not (e.0.segment == segment) ≡ false) (entries_from v segment at fs)
+own_segment v segment at [] = tt
+own_segment v segment at (f ∷ fs) = (ap not (eq-eqb segment segment refl), own_segment v segment (at + length (frame_bytes_in v f)) fs)
 
-later_from : (segment number at : ℕ) (fs : List Frame) → segment < number
-    → AllByRecursion (λ e. not (e.0.segment == segment) ≡ true) (entries_from number at fs)
-later_from segment number at [] less = tt
-later_from segment number at (f ∷ fs) less =
+later_from : (v segment number at : ℕ) (fs : List Frame) → segment < number
+    → AllByRecursion (λ e. not (e.0.segment == segment) ≡ true) (entries_from v number at fs)
+later_from v segment number at [] less = tt
+later_from v segment number at (f ∷ fs) less =
     let other : number ≢ segment = λ e. absurd (omega arith) in
-    (ap not (ne_eqb number segment other), later_from segment number (at + length (frame_bytes f)) fs less)
+    (ap not (ne_eqb number segment other), later_from v segment number (at + length (frame_bytes_in v f)) fs less)
 
 later_segments : (segment number : ℕ) (live : List (List ℕ)) → segment < number
     → AllByRecursion (λ e. not (e.0.segment == segment) ≡ true) (entries number live)
 later_segments segment number [] less = tt
 later_segments segment number (b ∷ bs) less =
-    all_append (λ (e : FrameAt × Frame). not (e.0.segment == segment) ≡ true) (entries_from number 24 (segment_frames b)) (entries (number + 1) bs)
-    (later_from segment number 24 (segment_frames b) less) (later_segments segment (number + 1) bs (omega arith))
+    all_append (λ (e : FrameAt × Frame). not (e.0.segment == segment) ≡ true) (entries_from (version_in b) number 24 (segment_frames b)) (entries (number + 1) bs)
+    (later_from (version_in b) segment number 24 (segment_frames b) less) (later_segments segment (number + 1) bs (omega arith))
 
 -- the lines of the oldest segment go
 pub lines_kept : (number : ℕ) (next : Option ℕ) (b : List ℕ) (bs : List (List ℕ))
@@ -424,17 +425,17 @@ lines_kept number next b bs =
     let line : FrameAt × Frame → FrameAt = λ e. e.0 in
     let test : FrameAt × Frame → Bool = λ e. is_before_next next e.1.number in
     let other : FrameAt → Bool = λ e. not (e.segment == number) in
-    let own = filter test (entries_from number 24 (segment_frames b)) in
+    let own = filter test (entries_from (version_in b) number 24 (segment_frames b)) in
     let rest = filter test (entries (number + 1) bs) in
     let gone : filter other (map line own) ≡ [] =
     filter_none other (map line own) (all_map line (λ (e : FrameAt). other e ≡ false) own
-    (all_filtered (λ (e : FrameAt × Frame). not (e.0.segment == number) ≡ false) test (entries_from number 24 (segment_frames b))
-    (own_segment number 24 (segment_frames b)))) in
+    (all_filtered (λ (e : FrameAt × Frame). not (e.0.segment == number) ≡ false) test (entries_from (version_in b) number 24 (segment_frames b))
+    (own_segment (version_in b) number 24 (segment_frames b)))) in
     let kept : filter other (map line rest) ≡ map line rest =
     filter_all other (map line rest) (all_map line (λ (e : FrameAt). other e ≡ true) rest
     (all_filtered (λ (e : FrameAt × Frame). not (e.0.segment == number) ≡ true) test (entries (number + 1) bs)
     (later_segments number (number + 1) bs (omega arith)))) in
-    ap (λ (l : List (FrameAt × Frame)). filter other (map line l)) (filter-append test (entries_from number 24 (segment_frames b)) (entries (number + 1) bs))
+    ap (λ (l : List (FrameAt × Frame)). filter other (map line l)) (filter-append test (entries_from (version_in b) number 24 (segment_frames b)) (entries (number + 1) bs))
     ∙ ap (filter other) (map-append line own rest)
     ∙ filter-append other (map line own) (map line rest)
     ∙ ap (λ (l : List FrameAt). l ++ filter other (map line rest)) gone
@@ -458,7 +459,10 @@ given_up i b bs frames go lines =
     let set = set_kept i b bs go in
     let are = numbers i b bs go in
     let behind = from_behind n gone kept are in
-    let live : AreLive i.m i.f i.number (b ∷ bs) = subst (AreLive i.m i.f i.number) go.bytes go.holds.live in
+    let limits = limits_of i go.holds.live.0 in
+    let live : AreLive limits i.number (b ∷ bs) = subst (AreLive limits i.number) go.bytes go.holds.live.1 in
+    let news = go.holds.news in
+    let size = ap (λ (l : List (List ℕ)). length l) go.bytes in
     let was : bad_link n [] (all_placed (gone ++ kept)) ≡ None = subst (λ (fs : List Frame). AreLinked fs) (counts i b bs go) go.holds.linked in
     let touched : (p : ℕ) → 1 ≤ p → p ≤ pages → list_any (touches p) (blocks_of kept) ≡ true =
     λ p some inside. true_from_ne_false (list_any (touches p) (blocks_of kept))
@@ -467,7 +471,8 @@ given_up i b bs frames go lines =
     record {
       limits = go.holds.limits;
       numbers = omega arith;
-      live = live.1;
+      live = (go.holds.live.0, live.1);
+      news = omega arith;
       ends = λ is_open works. ends_kept i.m i.f i.number b bs go.more (subst (IsCleanLast i.m i.f i.number) go.bytes (go.holds.ends is_open go.works));
       every = λ _. counted;
       left = λ failed. (let no : true ≡ false = sym failed ∙ go.works in absurd cc);
@@ -478,7 +483,7 @@ given_up i b bs frames go lines =
           ∙ lines_kept i.number i.next b bs;
       count = go.holds.count;
       linked = subst AreLinked (sym counted) (linked_by (n + length gone) kept behind
-          (links_by n gone kept (low_by i.m i.f gone kept live.0.whole.each) are was));
+          (links_by n gone kept (low_by _ _ _ gone kept live.0.whole.each) are was));
       stands = subst (λ (fs : List Frame). IsStanding i.m fs pages) (sym counted) (standing_kept i.m pages gone kept set (stood i b bs go));
       table = record {
         places = λ p some. table_by (λ e. e.place) (touches p) i.pages p (n + length gone) gone kept (last_place (touches p) (all_placed kept)) some behind

@@ -7,7 +7,8 @@ use Rattle.std.specs.List.Sorted.{IsPartitionedBy, IsPartitionPoint}
 use Rattle.std.proofs.lemmas.Bool.{true≢false, eq-eqb, ne_eqb, cases_lt}
 use Rattle.std.proofs.lemmas.List.{map-append, get_or_append_left, get_or-append-add}
 use Rattle.std.proofs.lemmas.List.Elements.{filter-append}
-use Rattle.bw_codec.specs.Grammar.{frame_bytes}
+use Rattle.bw_codec.specs.Grammar.{frame_bytes_in}
+use Rattle.bw_codec.specs.Reading.{version_in}
 use Rattle.bw_codec.specs.declared.block.Frame.{Frame}
 use Rattle.bw_device.specs.Holding.{Holding}
 use Rattle.bw_log.specs.Segments.{segment_frames, entries_from, entries, is_before_next}
@@ -19,12 +20,12 @@ use Rattle.bw_log.proofs.GivenUp.{all_map}
 
 -- ---- a list in two parts, of which a test passes the first
 
-all_get : {X : Type 0} (P : X → Type 0) (xs : List X) (k : ℕ) (d : X) → AllByRecursion P xs → k < length xs → P (get_or xs k d)
+pub all_get : {X : Type 0} (P : X → Type 0) (xs : List X) (k : ℕ) (d : X) → AllByRecursion P xs → k < length xs → P (get_or xs k d)
 all_get P [] k d all inside = absurd (omega arith)
 all_get P (x ∷ xs) zero d all inside = all.0
 all_get P (x ∷ xs) (suc k) d all inside = all_get P xs k d all.1 (omega arith)
 
-at_front : {X : Type 0} (P : X → Type 0) (xs ys : List X) (k : ℕ) (d : X) → AllByRecursion P xs → k < length xs → P (get_or (xs ++ ys) k d)
+pub at_front : {X : Type 0} (P : X → Type 0) (xs ys : List X) (k : ℕ) (d : X) → AllByRecursion P xs → k < length xs → P (get_or (xs ++ ys) k d)
 at_front P xs ys k d all inside = subst P (sym (get_or_append_left xs ys d k inside)) (all_get P xs k d all inside)
 
 at_back : {X : Type 0} (P : X → Type 0) (xs ys : List X) (k : ℕ) (d : X) → AllByRecursion P ys → length xs ≤ k → k < length (xs ++ ys)
@@ -34,7 +35,7 @@ at_back {X} P xs ys k d all beyond inside =
     subst (λ (n : ℕ). P (get_or (xs ++ ys) n d)) at
     (subst P (sym (get_or-append-add xs ys (k - length xs) d)) (all_get P ys (k - length xs) d all (omega (arith, length-append xs ys))))
 
-parted : {X : Type 0} (p : X → Bool) (xs ys : List X) → AllByRecursion (λ x. p x ≡ true) xs → AllByRecursion (λ x. p x ≡ false) ys
+pub parted : {X : Type 0} (p : X → Bool) (xs ys : List X) → AllByRecursion (λ x. p x ≡ true) xs → AllByRecursion (λ x. p x ≡ false) ys
     → IsPartitionedBy p (xs ++ ys)
 parted p xs ys front back i j d le inside passes =
     elim (cases_lt j (length xs)) [
@@ -42,7 +43,7 @@ parted p xs ys front back i j d le inside passes =
       | inr high ↦ absurd (true≢false (sym passes ∙ at_back (λ x. p x ≡ false) xs ys j d back high inside))
     ]
 
-point_is : {X : Type 0} (p : X → Bool) (xs ys : List X) (n : ℕ) (d : X) → AllByRecursion (λ x. p x ≡ true) xs → AllByRecursion (λ x. p x ≡ false) ys
+pub point_is : {X : Type 0} (p : X → Bool) (xs ys : List X) (n : ℕ) (d : X) → AllByRecursion (λ x. p x ≡ true) xs → AllByRecursion (λ x. p x ≡ false) ys
     → n ≤ length (xs ++ ys)
     → IsPartitionPoint (λ x. p x ≡ true) (λ x. p x ≡ false) (xs ++ ys) n → n ≡ length xs
 point_is p xs ys n d front back inside point =
@@ -57,21 +58,21 @@ point_is p xs ys n d front back inside point =
 
 -- ---- the lines of the oldest segment, and the others
 
-own_lines : (segment at : ℕ) (fs : List Frame) → AllByRecursion (λ e. (e.0.segment == segment) ≡ true) (entries_from segment at fs)
-own_lines segment at [] = tt
-own_lines segment at (f ∷ fs) = (eq-eqb segment segment refl, own_lines segment (at + length (frame_bytes f)) fs)
+own_lines : (v segment at : ℕ) (fs : List Frame) → AllByRecursion (λ e. (e.0.segment == segment) ≡ true) (entries_from v segment at fs)
+own_lines v segment at [] = tt
+own_lines v segment at (f ∷ fs) = (eq-eqb segment segment refl, own_lines v segment (at + length (frame_bytes_in v f)) fs)
 
-later_lines : (segment number at : ℕ) (fs : List Frame) → segment < number → AllByRecursion (λ e. (e.0.segment == segment) ≡ false) (entries_from number at fs)
-later_lines segment number at [] less = tt
-later_lines segment number at (f ∷ fs) less =
+later_lines : (v segment number at : ℕ) (fs : List Frame) → segment < number → AllByRecursion (λ e. (e.0.segment == segment) ≡ false) (entries_from v number at fs)
+later_lines v segment number at [] less = tt
+later_lines v segment number at (f ∷ fs) less =
     let other : number ≢ segment = λ e. absurd (omega arith) in
-    (ne_eqb number segment other, later_lines segment number (at + length (frame_bytes f)) fs less)
+    (ne_eqb number segment other, later_lines v segment number (at + length (frame_bytes_in v f)) fs less)
 
 others_lines : (segment number : ℕ) (live : List (List ℕ)) → segment < number → AllByRecursion (λ e. (e.0.segment == segment) ≡ false) (entries number live)
 others_lines segment number [] less = tt
 others_lines segment number (b ∷ bs) less =
-    all_append (λ (e : FrameAt × Frame). (e.0.segment == segment) ≡ false) (entries_from number 24 (segment_frames b)) (entries (number + 1) bs)
-    (later_lines segment number 24 (segment_frames b) less) (others_lines segment (number + 1) bs (omega arith))
+    all_append (λ (e : FrameAt × Frame). (e.0.segment == segment) ≡ false) (entries_from (version_in b) number 24 (segment_frames b)) (entries (number + 1) bs)
+    (later_lines (version_in b) segment number 24 (segment_frames b) less) (others_lines segment (number + 1) bs (omega arith))
 
 -- the two parts of the table
 pub record TwoParts (segment : ℕ) (lines : List FrameAt) (last : ℕ) : Type 0 where
@@ -82,11 +83,11 @@ pub record TwoParts (segment : ℕ) (lines : List FrameAt) (last : ℕ) : Type 0
   pub back : AllByRecursion (λ e. (e.segment == segment) ≡ false) others
   pub tells : last ≡ fold (λ was e. e.number) 0 own
 
-numbers_in : (segment at : ℕ) (fs : List Frame) → AllByRecursion (λ e. e.1.number ≡ e.0.number) (entries_from segment at fs)
-numbers_in segment at [] = tt
-numbers_in segment at (f ∷ fs) = (refl, numbers_in segment (at + length (frame_bytes f)) fs)
+pub numbers_in : (v segment at : ℕ) (fs : List Frame) → AllByRecursion (λ e. e.1.number ≡ e.0.number) (entries_from v segment at fs)
+numbers_in v segment at [] = tt
+numbers_in v segment at (f ∷ fs) = (refl, numbers_in v segment (at + length (frame_bytes_in v f)) fs)
 
-same_last : (w : ℕ) (es : List (FrameAt × Frame)) → AllByRecursion (λ e. e.1.number ≡ e.0.number) es
+pub same_last : (w : ℕ) (es : List (FrameAt × Frame)) → AllByRecursion (λ e. e.1.number ≡ e.0.number) es
     → fold (λ was f. f.number) w (map (λ e. e.1) es) ≡ fold (λ was e. e.number) w (map (λ e. e.0) es)
 same_last w [] all = refl
 same_last w (e ∷ es) all = ap (λ (n : ℕ). fold (λ was (f : Frame). f.number) n (map (λ e. e.1) es)) all.0 ∙ same_last e.0.number es all.1
@@ -98,23 +99,23 @@ two_parts number next b bs =
     let line : FrameAt × Frame → FrameAt = λ e. e.0 in
     let frame : FrameAt × Frame → Frame = λ e. e.1 in
     let test : FrameAt × Frame → Bool = λ e. is_before_next next e.1.number in
-    let all = entries_from number 24 (segment_frames b) in
+    let all = entries_from (version_in b) number 24 (segment_frames b) in
     let own = filter test all in
     let rest = filter test (entries (number + 1) bs) in
     let frames : filter (λ (f : Frame). is_before_next next f.number) (segment_frames b) ≡ map frame own =
-    ap (filter (λ (f : Frame). is_before_next next f.number)) (sym (frames_in number 24 (segment_frames b)))
+    ap (filter (λ (f : Frame). is_before_next next f.number)) (sym (frames_in (version_in b) number 24 (segment_frames b)))
     ∙ filter_mapped (λ (f : Frame). is_before_next next f.number) frame all in
     record {
       own = map line own;
       others = map line rest;
       split = ap (map line) (filter-append test all (entries (number + 1) bs)) ∙ map-append line own rest;
       front = all_map line (λ (e : FrameAt). (e.segment == number) ≡ true) own
-          (all_filtered (λ (e : FrameAt × Frame). (e.0.segment == number) ≡ true) test all (own_lines number 24 (segment_frames b)));
+          (all_filtered (λ (e : FrameAt × Frame). (e.0.segment == number) ≡ true) test all (own_lines (version_in b) number 24 (segment_frames b)));
       back = all_map line (λ (e : FrameAt). (e.segment == number) ≡ false) rest
           (all_filtered (λ (e : FrameAt × Frame). (e.0.segment == number) ≡ false) test (entries (number + 1) bs)
           (others_lines number (number + 1) bs (omega arith)));
       tells = ap (fold (λ was (f : Frame). f.number) 0) frames
-          ∙ same_last 0 own (all_filtered (λ (e : FrameAt × Frame). e.1.number ≡ e.0.number) test all (numbers_in number 24 (segment_frames b)));
+          ∙ same_last 0 own (all_filtered (λ (e : FrameAt × Frame). e.1.number ≡ e.0.number) test all (numbers_in (version_in b) number 24 (segment_frames b)));
     }
 
 parts_of : (c : Contents) (h : Holding) (hs : List Holding) → IsSound c → c.live ≡ h ∷ hs → TwoParts c.number c.frames (last_number c h)
@@ -130,7 +131,7 @@ fold_last : (w : ℕ) (x : FrameAt) (xs : List FrameAt) (d : FrameAt) → fold (
 fold_last w x [] d = refl
 fold_last w x (y ∷ ys) d = fold_last x.number y ys d
 
-own_last : (own others : List FrameAt) (n : ℕ) (d : FrameAt) → n ≡ length own → 0 < n
+pub own_last : (own others : List FrameAt) (n : ℕ) (d : FrameAt) → n ≡ length own → 0 < n
     → fold (λ was e. e.number) 0 own ≡ (get_or (own ++ others) (n - 1) d).number
 own_last [] others n d same some = absurd (omega arith)
 own_last (x ∷ xs) others n d same some =

@@ -3,6 +3,7 @@ pub mod Walk
 pub mod Fields
 pub mod Links
 pub mod LastNumber
+pub mod LastOfLive
 pub mod LogLeft
 pub mod GivenUp
 pub mod Walked
@@ -24,3 +25,4 @@ pub mod Whole
 pub mod Growing
 pub mod Cut
 pub mod Adopted
+pub mod Valued

@@ -4,12 +4,13 @@ use Rattle.std.proofs.Common.{◌≡◌, ◌⊎◌, ℕ, suc, ◌+◌, ◌-◌, 
 use Rattle.std.proofs.Common.{◌∙◌, arith, length-append}
 use Rattle.std.proofs.lemmas.List.{map-append, length-map, length-replicate}
 use Rattle.std.specs.List.{AllByRecursion}
+use Rattle.bw_codec.specs.Version.{latest}
 use Rattle.bw_codec.specs.Grammar.{frame_bytes, header_bytes, IsBlock}
 use Rattle.bw_codec.specs.declared.block.Block.{Block}
 use Rattle.bw_codec.specs.declared.block.Block.TheVariants.{Delta, Base, Split}
 use Rattle.bw_codec.specs.declared.block.Frame.{Frame}
 use Rattle.bw_device.specs.Holding.{Holding, appended}
-use Rattle.bw_log.specs.Segments.{entry_of, frames_of}
+use Rattle.bw_log.specs.Segments.{header_with, entry_of, frames_of}
 use Rattle.bw_log.proofs.Fields.{field_last, field_first, bounded_same, roomy_same, spares_roomy, empty_torn, first_torn}
 use Rattle.bw_log.specs.Contents.{Contents, Image, image, IsImage, IsSound, IsBounded, IsRoomy, IsSpare, IsTable, counted, counted_in}
 use Rattle.bw_log.specs.Appends.{header_of, begun, begun_with, last_of, with_last, with_first, torn, MayFollow, LeftBehind}
@@ -89,14 +90,15 @@ image_begun c s ss b =
     let empty = (spares_empty c s ss b).0 in
     let number : length (map (λ (h : Holding). h.bytes) c.live) ≡ length c.live = length-map c.live (λ (h : Holding). h.bytes) in
     let bytes : map (λ (h : Holding). h.bytes) (c.live ++ appended s (header_bytes (header_of c)) ∷ []) ≡ map (λ (h : Holding). h.bytes) c.live
-    ++ header_bytes (record { number = c.number + length (map (λ (h : Holding). h.bytes) c.live); m = c.m; f = c.f }) ∷ [] =
+    ++ header_bytes (header_with (c.number + length (map (λ (h : Holding). h.bytes) c.live)) c.m c.f) ∷ [] =
     map-append (λ (h : Holding). h.bytes) c.live (appended s (header_bytes (header_of c)) ∷ [])
     ∙ ap (λ (l : List ℕ). map (λ (h : Holding). h.bytes) c.live ++ (l ++ header_bytes (header_of c)) ∷ []) empty.0
-    ∙ ap (λ (n : ℕ). map (λ (h : Holding). h.bytes) c.live ++ header_bytes (record { number = c.number + n; m = c.m; f = c.f }) ∷ []) (sym number) in
+    ∙ ap (λ (n : ℕ). map (λ (h : Holding). h.bytes) c.live ++ header_bytes (header_with (c.number + n) c.m c.f) ∷ []) (sym number) in
     ap image (begun_is c s ss b) ∙ ap (λ (l : List (List ℕ)). let i : Image = record {
       m = c.m;
       f = c.f;
       number = c.number;
+      old_to = c.old_to;
       is_open = true;
       is_failed = c.is_failed;
       next = c.next;
@@ -190,10 +192,10 @@ image_put c x older h p =
     let place : length c.live - 1 ≡ length (map (λ (k : Holding). k.bytes) older) =
     (let size = ap (λ (l : List Holding). length l) p.last in omega (arith, size, length-append older (h ∷ []), length-map older (λ (k : Holding). k.bytes))) in
     let at : length_of (last_of c.live) ≡ length h.bytes = ap (λ (l : List Holding). length_of (last_of l)) p.last ∙ ap length_of (last_of_at older h) in
-    let line : entry_of (c.number + (length c.live - 1)) (length_of (last_of c.live)) x
-    ≡ entry_of (c.number + length (map (λ (k : Holding). k.bytes) older)) (length h.bytes) x =
-    ap (λ (n : ℕ). entry_of (c.number + n) (length_of (last_of c.live)) x) place
-    ∙ ap (λ (n : ℕ). entry_of (c.number + length (map (λ (k : Holding). k.bytes) older)) n x) at in
+    let line : entry_of latest (c.number + (length c.live - 1)) (length_of (last_of c.live)) x
+    ≡ entry_of latest (c.number + length (map (λ (k : Holding). k.bytes) older)) (length h.bytes) x =
+    ap (λ (n : ℕ). entry_of latest (c.number + n) (length_of (last_of c.live)) x) place
+    ∙ ap (λ (n : ℕ). entry_of latest (c.number + length (map (λ (k : Holding). k.bytes) older)) n x) at in
     ap (λ (l : List (List ℕ)). let i : Image = record (image (with_frame c x)) { bytes = l } in i) bytes
     ∙ ap (λ (e : FrameAt). let i : Image = record (image (with_frame c x))
     { bytes = map (λ (k : Holding). k.bytes) older ++ (h.bytes ++ frame_bytes x) ∷ []; frames = c.frames ++ e ∷ [] } in i) line

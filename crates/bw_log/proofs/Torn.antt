@@ -9,11 +9,12 @@ use Rattle.bw_device.specs.Boxes.{ChangedAt}
 use Rattle.std.specs.Prelude.{map, true, nat_lt, ◌^◌}
 use Rattle.std.specs.Option.{SomeIff}
 use Rattle.std.proofs.lemmas.Bool.{cond-true, cond-false, le-ltb, lt-ltb}
-use Rattle.bw_log.specs.Segments.{following, entry_of}
+use Rattle.bw_log.specs.Segments.{header_with, following, entry_of}
 use Rattle.bw_log.specs.PageTable.{noted_all, grown_to, top_page}
 use Rattle.bw_log.specs.declared.places.FrameAt.{FrameAt}
 use Rattle.bw_log.specs.declared.places.PageAt.{PageAt}
 use Rattle.std.proofs.lemmas.List.{length-map}
+use Rattle.bw_codec.specs.Version.{latest}
 use Rattle.bw_codec.specs.Grammar.{header_bytes, frame_bytes}
 use Rattle.bw_codec.specs.declared.block.Frame.{Frame}
 use Rattle.bw_log.specs.Contents.{Contents}
@@ -131,14 +132,14 @@ frame_told old live x piece lease i some at is changed told =
 
 -- a header's bytes, from the parts of a log
 pub header_is : {X : Type 0} (v : X → Holding) (old : Contents) (xs : List X) (number count : ℕ) (cells : List ℕ) → old.live ≡ map v xs → count ≡ length xs
-    → number ≡ old.number + count → cells ≡ header_bytes (record { number = number; m = old.m; f = old.f }) → cells ≡ header_bytes (header_of old)
+    → number ≡ old.number + count → cells ≡ header_bytes (header_with number old.m old.f) → cells ≡ header_bytes (header_of old)
 header_is v old xs number count cells live size at is =
     let same : number ≡ old.number + length old.live =
     at ∙ ap (λ (n : ℕ). old.number + n) (size ∙ sym (length-map xs v) ∙ ap (λ (l : List Holding). length l) (sym live)) in
-    is ∙ ap (λ (n : ℕ). header_bytes (record { number = n; m = old.m; f = old.f })) same
+    is ∙ ap (λ (n : ℕ). header_bytes (header_with n old.m old.f)) same
 
 pub begin_told : {X : Type 0} (v : X → Holding) (old : Contents) (xs : List X) (spares : List Holding) (number count : ℕ) (cells : List ℕ) (lease : ℕ)
-    → old.live ≡ map v xs → count ≡ length xs → number ≡ old.number + count → cells ≡ header_bytes (record { number = number; m = old.m; f = old.f })
+    → old.live ≡ map v xs → count ≡ length xs → number ≡ old.number + count → cells ≡ header_bytes (header_with number old.m old.f)
     → ChangedAt (λ h k. IsTorn h cells k) 0 old.spares spares → IfSome (slice_get spares 0) (λ h. lease ≡ h.lease)
     → SpareTorn lease old (record old { spares = spares; is_failed = true })
 begin_told v old xs spares number count cells lease live size at is changed told =
@@ -166,7 +167,7 @@ put_done old live x piece i at next frames grown pages some place is changed tol
     subst (λ (o : Option Holding). IfSome o (λ h. at ≡ length h.bytes)) there told
     ∙ sym (ap (λ (l : List Holding). length_of (last_of l)) e.split ∙ ap length_of (last_of_at e.older e.newest)) in
     let line : ◌≡◌ {A = FrameAt} (record { number = x.number; segment = old.number + i; at = at; len = length piece })
-    (entry_of (old.number + (length old.live - 1)) (length_of (last_of old.live)) x) =
+    (entry_of latest (old.number + (length old.live - 1)) (length_of (last_of old.live)) x) =
     λ k. record { number = x.number; segment = old.number + place k; at = at_is k; len = length (is k) } in
     let live_is : live ≡ with_last (λ h. appended h (frame_bytes x)) old.live =
     last_appended old.live live piece i some place changed ∙ ap (λ (b : List ℕ). with_last (λ h. appended h b) old.live) is in

@@ -77,14 +77,14 @@ kept_is : {p : ℕ} {all : List Frame} {at : ℕ} {newer : List Frame} {kept : F
 kept_is {p} {all} {at} {newer} {kept} w t = ap (thinned p) (walk_frame w t.stands) ∙ t.is
 
 -- what was read, once one frame more is read
-read_more : (p : ℕ) (w : Option Leaf) (frame : Frame) (newer : List Frame)
+pub read_more : (p : ℕ) (w : Option Leaf) (frame : Frame) (newer : List Frame)
     → fold (after p) (fold (after p) w frame.blocks) (blocks_of (reverse newer)) ≡ fold (after p) w (blocks_of (reverse (newer ++ thinned p frame ∷ [])))
 read_more p w frame newer =
     ap (λ (o : Option Leaf). fold (after p) o (blocks_of (reverse newer))) (sym (thin_fold p w frame.blocks))
     ∙ sym (fold-append (after p) w (thinned p frame).blocks (blocks_of (reverse newer)))
     ∙ ap (λ (fs : List Frame). fold (after p) w (blocks_of fs)) (sym (reverse-append newer (thinned p frame ∷ [])))
 
-reads_more : {p : ℕ} {all : List Frame} {at : ℕ} {newer : List Frame} (w : IsWalk p all at newer)
+pub reads_more : {p : ℕ} {all : List Frame} {at : ℕ} {newer : List Frame} (w : IsWalk p all at newer)
     → content p (blocks_of all) ≡ fold (after p) (fold (after p) (content p (blocks_of w.before)) w.frame.blocks) (blocks_of (reverse newer))
 reads_more {p} {all} {at} {newer} w = w.reads ∙ ap (λ (o : Option Leaf). fold (after p) o (blocks_of (reverse newer))) (content_push p w.before w.frame)
 

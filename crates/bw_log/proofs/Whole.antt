@@ -12,12 +12,12 @@ use Rattle.bw_page.specs.Standing.{Stand}
 use Rattle.bw_device.specs.Holding.{Holding, appended}
 use Rattle.bw_buffer.proofs.Holding.{few_blocks}
 use Rattle.bw_log.specs.Places.{AreLinked}
-use Rattle.bw_log.specs.Contents.{Contents, image, IsSound, counted, boxes, roster, rooms_of}
+use Rattle.bw_log.specs.Contents.{Contents, image, limits_of, IsSound, counted, boxes, roster, rooms_of}
 use Rattle.bw_log.specs.Appends.{header_of, begun, last_of, with_last, with_first, has_room, wants_segment, roomy, spares_wanted, is_worn, is_spent, refusal}
 use Rattle.bw_log.specs.Appends.{torn, MayFollow, LeftBehind, Appended, Stopped, Rose, IsSameLog, Answers, Checks, OnDevice, AfterAppend}
 use Rattle.std.specs.Prelude.{Result, Ok, Err, MatchResult}
 use Rattle.bw_codec.proofs.Heading.{length-header}
-use Rattle.bw_log.specs.Segments.{AreLive, frames_of}
+use Rattle.bw_log.specs.Segments.{Limits, AreLive, frames_of}
 use Rattle.bw_log.specs.PageTable.{HaveLines, grown_to, top_page}
 use Rattle.bw_log.specs.declared.places.PageAt.{PageAt}
 use Rattle.bw_log.specs.Appending.{OfDevice, Beginnable, SpareTorn, FramePut, FrameTorn, with_frame}
@@ -236,14 +236,15 @@ keeps_appended piece h = refl
 keeps_room : (piece : List ℕ) (h : Holding) → (appended h piece).room ≡ h.room
 keeps_room piece h = refl
 
-ended_put : (c d : Contents) (x : Frame) (older : List Holding) (h : Holding) → Puts d x older h → d.m ≡ c.m → d.f ≡ c.f → d.number ≡ c.number
+ended_put : (c d : Contents) (x : Frame) (older : List Holding) (h : Holding) → Puts d x older h → d.m ≡ c.m → d.f ≡ c.f → d.number ≡ c.number → d.old_to ≡ c.old_to
     → roster d ≡ roster c → rooms_of d ≡ rooms_of c → Ended c x (with_frame d x)
-ended_put c d x older h p m f number leases rooms = record {
+ended_put c d x older h p m f number old_to leases rooms = record {
   sound = put_sound d x older h p;
   same = record {
     m = m;
     f = f;
     number = number;
+    old_to = old_to;
     leases = both_fields (λ (h : Holding). h.lease) d.live d.spares (with_last (λ (k : Holding). appended k (frame_bytes x)) d.live) d.spares
         (field_last (λ (h : Holding). h.lease) (λ (k : Holding). appended k (frame_bytes x)) (keeps_appended (frame_bytes x)) d.live) refl ∙ leases;
     rooms = both_fields (λ (h : Holding). h.room) d.live d.spares (with_last (λ (k : Holding). appended k (frame_bytes x)) d.live) d.spares
@@ -257,7 +258,7 @@ ok_here c x care new st w put =
     let p = puts_here c x care st w in
     let room = sym (roomy_here c (length (frame_bytes x)) w) in
     let there : EndedOk c x (with_frame c x) = record {
-      ended = ended_put c c x p.0 p.1 p.2 refl refl refl refl refl;
+      ended = ended_put c c x p.0 p.1 p.2 refl refl refl refl refl refl;
       appended = record {
         takes = p.2.takes;
         works = p.2.works;
@@ -279,7 +280,7 @@ ok_begun c x care new st w put =
     let room = sym (roomy_begun c (length (frame_bytes x)) w) in
     let there : EndedOk c x (with_frame d x) = record {
       ended = ended_put c d x c.live (appended b.0 (header_bytes (header_of c))) p (ap (λ (e : Contents). e.m) is) (ap (λ (e : Contents). e.f) is)
-          (ap (λ (e : Contents). e.number) is) (begun_leases c b.0 b.1 b.2) (begun_rooms c b.0 b.1 b.2);
+          (ap (λ (e : Contents). e.number) is) (ap (λ (e : Contents). e.old_to) is) (begun_leases c b.0 b.1 b.2) (begun_rooms c b.0 b.1 b.2);
       appended = record {
         takes = p.takes;
         works = p.works;
@@ -304,6 +305,7 @@ torn_here lease c x care new st w t =
           m = refl;
           f = refl;
           number = refl;
+          old_to = refl;
           leases = both_fields (λ (h : Holding). h.lease) c.live c.spares
               (with_last (torn t.kept (frame_bytes x)) c.live) c.spares
               (field_last (λ (h : Holding). h.lease) (torn t.kept (frame_bytes x)) (λ k. refl) c.live) refl;
@@ -343,6 +345,7 @@ torn_begun lease c x care new st w t =
           m = ap (λ (e : Contents). e.m) is;
           f = ap (λ (e : Contents). e.f) is;
           number = ap (λ (e : Contents). e.number) is;
+          old_to = ap (λ (e : Contents). e.old_to) is;
           leases = both_fields (λ (h : Holding). h.lease) d.live d.spares (with_last (torn t.kept (frame_bytes x)) d.live) d.spares
               (field_last (λ (h : Holding). h.lease) (torn t.kept (frame_bytes x)) (λ k. refl) d.live) refl ∙ begun_leases c b.0 b.1 b.2;
           rooms = both_fields (λ (h : Holding). h.room) d.live d.spares (with_last (torn t.kept (frame_bytes x)) d.live) d.spares
@@ -377,6 +380,7 @@ torn_spare lease c x care new st w t =
           m = refl;
           f = refl;
           number = refl;
+          old_to = refl;
           leases = both_fields (λ (h : Holding). h.lease) c.live c.spares c.live
               (with_first (torn t.kept (header_bytes (header_of c))) c.spares) refl
               (field_first (λ (h : Holding). h.lease) (torn t.kept (header_bytes (header_of c))) (λ k. refl) c.spares);
@@ -397,8 +401,8 @@ torn_spare lease c x care new st w t =
 
 -- ---- what the frame's append asks of the log with room
 
-live_limit : (m f number : ℕ) (bytes : List (List ℕ)) → AreLive m f number bytes → 0 < length bytes → number + length bytes ≤ 2 ^ 64
-live_limit m f number bytes live some = let last = live_number m f number bytes (length bytes - 1) live (omega arith) in omega arith
+live_limit : (l : Limits) (number : ℕ) (bytes : List (List ℕ)) → AreLive l number bytes → 0 < length bytes → number + length bytes ≤ 2 ^ 64
+live_limit l number bytes live some = let last = live_number l number bytes (length bytes - 1) live (omega arith) in omega arith
 
 pub puts_roomy : (c : Contents) (x : Frame) (care : Bool) → Starts c x care
     → (older : List Holding) × (h : Holding) × Puts (roomy c (length (frame_bytes x))) x older h
@@ -444,7 +448,7 @@ takes_here c x care st w =
     let bytes = map (λ (h : Holding). h.bytes) c.live in
     let size = length-map c.live (λ (h : Holding). h.bytes) in
     let some : 0 < length c.live = (let s = ap (λ (l : List Holding). length l) p.2.last in omega (arith, s, length-append p.0 (p.1 ∷ []))) in
-    let limit = live_limit c.m c.f c.number bytes st.sound.holds.live (omega arith) in
+    let limit = live_limit (limits_of (image c) st.sound.holds.live.0) c.number bytes st.sound.holds.live.1 (omega arith) in
     takes_of c (length (frame_bytes x)) p.0 p.1 p.2.last (leb-true (length p.1.bytes + length (frame_bytes x)) p.1.room room) (not_worn p.1 fresh) (omega arith)
 
 takes_begun : (c : Contents) (x : Frame) (care : Bool) → Starts c x care → wants_segment c (length (frame_bytes x)) ≡ true
@@ -633,7 +637,7 @@ refused_ends old now x care fault len sound same size checks =
     record {
       sound = sound;
       added = tt;
-      log = subst (IsSameLog old) (sym same) (record { m = refl; f = refl; number = refl; leases = refl; rooms = refl });
+      log = subst (IsSameLog old) (sym same) (record { m = refl; f = refl; number = refl; old_to = refl; leases = refl; rooms = refl });
       answers = told_of (refusal old (length (frame_bytes x)) care) fault told;
       device = unasked (refusal old (length (frame_bytes x)) care) (λ lease. Rose lease (boxes old) (boxes now) × Stopped old x now) (now ≡ old) fault
           (λ lease. refusals old (length (frame_bytes x)) lease care) told same;

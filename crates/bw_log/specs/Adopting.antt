@@ -1,6 +1,6 @@
 -- What a log is made of that a scan found.
 
-use Rattle.std.specs.Prelude.{ℕ, ◌+◌, ◌≡◌, ◌++◌, false, Option, Some, List, map, length}
+use Rattle.std.specs.Prelude.{ℕ, suc, ◌+◌, ◌-◌, ◌≡◌, ◌==◌, ◌++◌, false, if◌then◌else◌, Option, Some, List, [], ◌∷◌, map, length}
 use Rattle.std.specs.List.{fold}
 use Rattle.bw_device.specs.Holding.{Holding}
 use Rattle.bw_log.specs.Segments.{following}
@@ -17,6 +17,11 @@ next_in frames = fold (λ was e. following e.number) (Some 1) frames
 abbrev pub in_segments : ℕ → List FrameAt → List FrameAt
 in_segments number frames = map {A = FrameAt} (λ e. record e { segment = number + e.segment }) frames
 
+-- how many of the first segments have version 1
+abbrev pub old_in : List ℕ → ℕ
+old_in [] = 0
+old_in (v ∷ vs) = if v == 1 then suc (old_in vs) else 0
+
 abbrev pub adopted : List Holding → List Holding → Tables → Contents
 adopted live spares t = record {
   live = live;
@@ -24,6 +29,7 @@ adopted live spares t = record {
   m = t.m;
   f = t.f;
   number = t.number;
+  old_to = t.number - 1 + old_in t.versions.items;
   is_open = t.is_open;
   is_failed = false;
   next = next_in t.frames.items;

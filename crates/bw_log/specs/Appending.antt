@@ -1,6 +1,7 @@
 -- The two appends of a frame, each by itself: a header that begins a segment, and the frame.
 
 use Rattle.std.specs.Prelude.{ℕ, ◌+◌, ◌-◌, ◌^◌, ◌<◌, ◌≤◌, ◌≡◌, true, Option, Some, None, IfSome, slice_get, [], ◌∷◌, ◌++◌, length}
+use Rattle.bw_codec.specs.Version.{latest}
 use Rattle.bw_codec.specs.Grammar.{frame_bytes, header_bytes}
 use Rattle.bw_codec.specs.declared.block.Frame.{Frame}
 use Rattle.bw_device.specs.Holding.{Holding, appended}
@@ -43,7 +44,7 @@ abbrev pub with_frame : Contents → Frame → Contents
 with_frame old x = record old {
   live = with_last (λ h. appended h (frame_bytes x)) old.live;
   next = following x.number;
-  frames = old.frames ++ entry_of (old.number + (length old.live - 1)) (length_of (last_of old.live)) x ∷ [];
+  frames = old.frames ++ entry_of latest (old.number + (length old.live - 1)) (length_of (last_of old.live)) x ∷ [];
   pages = noted_all x.number 0 x.blocks (grown_to (top_page x.blocks) old.pages);
 }
 

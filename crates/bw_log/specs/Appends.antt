@@ -10,7 +10,7 @@ use Rattle.bw_codec.specs.declared.block.Header.{Header}
 use Rattle.bw_page.specs.Standing.{Stand}
 use Rattle.bw_device.specs.Holding.{Holding, appended, torn_at}
 use Rattle.bw_log.specs.Places.{AreLinked}
-use Rattle.bw_log.specs.Segments.{following, frames_of}
+use Rattle.bw_log.specs.Segments.{header_with, following, frames_of}
 use Rattle.bw_log.specs.Contents.{Contents, image, boxes, roster, rooms_of, counted, IsSound}
 use Rattle.bw_log.specs.declared.fault.LogFault.{LogFault}
 use Rattle.bw_log.specs.declared.fault.LogFault.TheVariants.{NoMemory, BadConfig, NoSegment, Device, Failed, Spent, NoPage}
@@ -18,7 +18,7 @@ use Rattle.bw_log.specs.declared.fault.LogFault.TheVariants.{NoMemory, BadConfig
 -- ---- a new current segment
 
 abbrev pub header_of : Contents → Header
-header_of c = record { number = c.number + length c.live; m = c.m; f = c.f }
+header_of c = header_with (c.number + length c.live) c.m c.f
 
 -- the first spare has its header, and is the newest segment
 abbrev pub begun_with : Contents → List Holding → Contents
@@ -186,6 +186,7 @@ pub record IsSameLog (old new : Contents) : Type 0 where
   pub m : new.m ≡ old.m
   pub f : new.f ≡ old.f
   pub number : new.number ≡ old.number
+  pub old_to : new.old_to ≡ old.old_to
   pub leases : roster new ≡ roster old
   pub rooms : rooms_of new ≡ rooms_of old
 

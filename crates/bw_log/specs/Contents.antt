@@ -12,7 +12,7 @@ use Rattle.bw_device.specs.Boxes.{HasRoomOf, IsSpareOf}
 use Rattle.bw_device.specs.Holding.{Holding}
 use Rattle.bw_device.specs.declared.memory.TheConstants.{MAX_CAPACITY}
 use Rattle.bw_log.specs.Places.{place_of, base_of, first_number, AreLinked}
-use Rattle.bw_log.specs.Segments.{frames_of, entries, AreLive, IsCleanLast, AreFrom, is_before_next, next_of}
+use Rattle.bw_log.specs.Segments.{Limits, header_with, frames_of, entries, AreLive, IsCleanLast, AreFrom, is_before_next, next_of}
 use Rattle.bw_log.specs.declared.places.FrameAt.{FrameAt}
 use Rattle.bw_log.specs.declared.places.PageAt.{PageAt}
 
@@ -26,6 +26,8 @@ pub record Contents : Type 0 where
   pub f : ℕ
   -- the oldest live segment's, or else the next segment's
   pub number : ℕ
+  -- the segments up to this number have version 1, those after it version 2
+  pub old_to : ℕ
   -- the newest live segment takes frames
   pub is_open : Bool
   pub is_failed : Bool
@@ -52,6 +54,7 @@ pub record Image : Type 0 where
   pub m : ℕ
   pub f : ℕ
   pub number : ℕ
+  pub old_to : ℕ
   pub is_open : Bool
   pub is_failed : Bool
   pub next : Option ℕ
@@ -65,6 +68,7 @@ image c = record {
   m = c.m;
   f = c.f;
   number = c.number;
+  old_to = c.old_to;
   is_open = c.is_open;
   is_failed = c.is_failed;
   next = c.next;
@@ -139,7 +143,7 @@ IsLeft i =
 abbrev pub HasBeginning : ℕ → ℕ → ℕ → Holding → Type 0
 HasBeginning number m f h =
     (h.bytes ≡ [])
-    ⊎ ((number < 2 ^ 64) × (kept : ℕ) × (h.bytes ≡ take kept (header_bytes (record { number = number; m = m; f = f }))))
+    ⊎ ((number < 2 ^ 64) × (kept : ℕ) × (h.bytes ≡ take kept (header_bytes (header_with number m f))))
 
 -- the first spare does, and the others are empty
 abbrev pub AreTorn : ℕ → ℕ → ℕ → List Holding → Type 0
@@ -148,15 +152,21 @@ AreTorn number m f (s ∷ ss) = HasBeginning number m f s × AllByRecursion (IsS
 
 -- ---- what every log keeps between calls
 
+-- where the frame limit of version 1 is this
+abbrev pub limits_of : Image → ℕ → Limits
+limits_of i old_f = record { m = i.m; f = i.f; old_f = old_f; old_to = i.old_to }
+
 -- of its image
 pub record IsImage (i : Image) : Type 0 where
   -- 1. the limits are those that a log may have
-  pub limits : (4 ≤ i.m) × (i.m ≤ 32) × (16384 ≤ i.f) × (i.f ≤ 65536)
+  pub limits : (4 ≤ i.m) × (i.m ≤ 32) × (65536 ≤ i.f) × (i.f ≤ 262144)
   -- 2. segments are numbered from 1
   pub numbers : 1 ≤ i.number
-  -- 3. each live segment is a header with its number, whole frames and a tail, and the numbers follow one another
-  pub live : AreLive i.m i.f i.number i.bytes
-  -- 4. a newest segment that takes frames has no tail
+  -- 3. each live segment is a header with its number, whole frames and a tail, and the numbers follow one another;
+  -- those of version 1 come first and have one frame limit, and the next segment has version 2
+  pub live : (old_f : ℕ) × AreLive (limits_of i old_f) i.number i.bytes
+  pub news : i.old_to < i.number + length i.bytes
+  -- 4. a newest segment that takes frames has version 2 and no tail
   pub ends : i.is_open ≡ true → i.is_failed ≡ false → IsCleanLast i.m i.f i.number i.bytes
   -- 5. unless an append failed, all whole frames count
   pub every : i.is_failed ≡ false → counted_in i ≡ frames_of i.bytes

@@ -6,6 +6,7 @@ pub mod Appends
 pub mod Limits
 pub mod Reads
 pub mod Oldest
+pub mod Spans
 pub mod Adopting
 pub mod Views
 pub mod Laws

@@ -13,6 +13,7 @@ fresh m f spares = record {
   m = m;
   f = f;
   number = 1;
+  old_to = 0;
   is_open = false;
   is_failed = false;
   next = Some 1;
@@ -22,7 +23,7 @@ fresh m f spares = record {
 
 -- the most pairs of a page, and the most bytes of a frame
 abbrev pub AreLimits : ℕ → ℕ → Type 0
-AreLimits m f = (4 ≤ m) × (m ≤ 32) × (16384 ≤ f) × (f ≤ 65536)
+AreLimits m f = (4 ≤ m) × (m ≤ 32) × (65536 ≤ f) × (f ≤ 262144)
 
 -- limits and spares that a log takes
 pub record IsFit (m f : ℕ) (spares : List Holding) : Type 0 where

@@ -18,6 +18,7 @@ module _ {I : Type 0} {H : I → Type 0} where
     m = l.m;
     f = l.f;
     number = l.number;
+    old_to = l.old_to;
     is_open = l.is_open;
     is_failed = l.is_failed;
     next = l.next;

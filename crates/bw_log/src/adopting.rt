@@ -2,7 +2,7 @@
 
 ghost use Rattle.std.specs.Prelude.{◌≡◌, ◌+◌, ◌^◌, ◌<◌, Some, map};
 ghost use Rattle.std.specs.List.{AllByRecursion};
-ghost use Rattle.bw_log.specs.Adopting.{next_in, in_segments, adopted, IsAdoptable};
+ghost use Rattle.bw_log.specs.Adopting.{next_in, in_segments, old_in, adopted, IsAdoptable};
 
 use crate::log::Log;
 use crate::places::{FrameAt, Tables};
@@ -23,6 +23,20 @@ fn number_lines(lines: &mut Vec<FrameAt>, number: u64) -> Option<u64>
     next
 }
 
+// How many of the first segments have version 1.
+fn old_in(versions: &[u16]) -> usize
+    ensures { result ≡ old_in versions.now }
+{
+    let mut count = 0;
+    for version in versions {
+        if *version != 1 {
+            return count;
+        }
+        count += 1;
+    }
+    count
+}
+
 impl Log {
     ghost use Rattle.bw_log.specs.Views.{seen_by, IsSound};
 
@@ -39,10 +53,12 @@ impl Log {
             m,
             f,
             number,
+            versions,
             is_open,
             frames,
             pages,
         } = tables;
+        let old_to = number - 1 + old_in(&versions) as u64;
         let mut frames = frames;
         let next = number_lines(&mut frames, number);
         Log {
@@ -51,6 +67,7 @@ impl Log {
             m,
             f,
             number,
+            old_to,
             is_open,
             is_failed: false,
             next,

@@ -30,6 +30,8 @@ mod oldest;
 mod picking;
 mod places;
 mod reading;
+mod spans;
+mod values;
 
 pub use fault::LogFault;
 pub use laws::locality;

@@ -2,6 +2,8 @@
 
 ghost use Rattle.std.specs.Prelude.{◌≡◌, ◌+◌, ◌-◌, ◌<◌, ◌≤◌, ◌==◌, ◌↔◌, ◌⊎◌, ◌∷◌, ◌++◌, [], length, map, Some, None, false, slice_get, if◌then◌else◌, IsTrue, IfOk, IfErr, OnOk, IfSome, MatchOption, MatchResult, IsErrAnd, vec_len};
 ghost use Rattle.std.specs.Vec.{vec_capacity};
+ghost use Rattle.bw_codec.specs.Reading.{version_in};
+ghost use Rattle.bw_log.specs.Segments.{version_at};
 ghost use Rattle.bw_log.specs.Contents.{IsSpare, counted, some_place};
 ghost use Rattle.bw_log.specs.Limits.{fresh, AreLimits, IsFit, IsNotTaken};
 ghost use Rattle.bw_log.specs.Reads.{IsPage};
@@ -11,6 +13,7 @@ ghost use Rattle.bw_log.specs.Places.{place_of, base_of};
 use crate::fault::LogFault;
 use crate::places::{FrameAt, PageAt};
 use bw_codec::Place;
+use bw_codec::limits::{HEADER_LEN, LATEST, MAX_FRAME, MAX_PAIRS, MIN_FRAME, MIN_PAIRS};
 use bw_device::{Segment, are_spares, is_spare, lease_of, len_of};
 use std::alloc::Global;
 
@@ -27,6 +30,8 @@ pub struct Log {
     pub(crate) f: u32,
     /// The oldest live segment's number, or else the next segment's.
     pub(crate) number: u64,
+    /// The segments up to this number have version 1, those after it version 2.
+    pub(crate) old_to: u64,
     /// Whether the newest live segment takes frames.
     pub(crate) is_open: bool,
     /// Whether an append failed.
@@ -47,6 +52,7 @@ impl Drop for Log {
             m: _,
             f: _,
             number: _,
+            old_to: _,
             is_open: _,
             is_failed: _,
             next: _,
@@ -59,14 +65,14 @@ impl Drop for Log {
 fn are_limits(m: u16, f: u32) -> bool
     ensures { IsTrue result ↔ AreLimits m f }
 {
-    4 <= m && m <= 32 && 16384 <= f && f <= 65536
+    MIN_PAIRS <= m && m <= MAX_PAIRS && MIN_FRAME <= f && f <= MAX_FRAME
 }
 
 // How many bytes a spare has room for at least: a header and one frame.
 fn least_room(f: u32) -> u64
     ensures { result ≡ 24 + f }
 {
-    24 + u64::from(f)
+    HEADER_LEN as u64 + u64::from(f)
 }
 
 fn are_fit(m: u16, f: u32, spares: &[Box<dyn Segment>]) -> bool
@@ -85,7 +91,7 @@ impl Log {
     ghost use Rattle.bw_log.specs.Views.{seen_by, IsSound};
 
     /// A log of spares alone, for pages of at most `m` pairs, 4 to 32, and frames of at most `f`
-    /// bytes, 16,384 to 65,536. Each of at most 4,096 boxes is empty and has room for 24 + `f`
+    /// bytes, 65,536 to 262,144. Each of at most 4,096 boxes is empty and has room for 24 + `f`
     /// bytes to 1,073,741,824; else all come back with `BadConfig`.
     pub fn new(
         alloc: Global,
@@ -111,6 +117,7 @@ impl Log {
             m,
             f,
             number: 1,
+            old_to: 0,
             is_open: false,
             is_failed: false,
             next: Some(1),
@@ -163,6 +170,7 @@ impl Log {
             m: _,
             f: _,
             number: _,
+            old_to: _,
             is_open: _,
             is_failed: _,
             next: _,
@@ -289,6 +297,26 @@ impl Log {
         let lease = lease_of(&self.live, at);
         let len = len_of(&self.live, at);
         Some((self.number + u64::from(i), lease, len))
+    }
+
+    /// The version of the i-th live segment, from 0: 1, or 2 for what is written now.
+    pub fn live_version(&self, i: u32) -> Option<u16>
+        requires { IsSound holding self.now }
+        ensures { MatchOption (slice_get (seen_by holding self.now).live i)
+            (result ≡ None)
+            (λ h. result ≡ Some (version_in h.bytes)) }
+    {
+        if i as usize >= self.live.len() {
+            return None;
+        }
+        Some(self.version_at(self.number + u64::from(i)))
+    }
+
+    // The version of a live segment of this number.
+    pub(crate) fn version_at(&self, number: u64) -> u16
+        ensures { result ≡ version_at self.now.old_to number }
+    {
+        if number <= self.old_to { 1 } else { LATEST }
     }
 
     /// The lease of the i-th spare, from 0.

@@ -1,6 +1,6 @@
-//! The oldest segment: what the cleaner asks of it, and gives up.
+//! The oldest segments: what the cleaner asks of them, and gives up.
 
-ghost use Rattle.std.specs.Prelude.{◌≡◌, ◌+◌, ◌<◌, ◌≤◌, List, Some, None, false, length, drop, slice_get, MatchOption};
+ghost use Rattle.std.specs.Prelude.{◌≡◌, ◌+◌, ◌-◌, ◌<◌, ◌≤◌, List, Some, None, false, length, drop, slice_get, MatchOption};
 ghost use Rattle.bw_codec.specs.declared.leaf.Leaf.{Leaf};
 ghost use Rattle.bw_page.specs.Standing.{Stand};
 ghost use Rattle.bw_log.specs.Contents.{counted};
@@ -40,6 +40,43 @@ impl Log {
             return 0;
         }
         lines[count - 1].number
+    }
+
+    /// The number of the last counted frame in the i-th live segment, from 0, or 0 where it has none.
+    /// It costs a binary search among the lines of the counted frames.
+    pub fn live_last(&self, i: u32) -> Option<u64>
+        requires { IsSound holding self.now }
+        ensures { MatchOption (slice_get (seen_by holding self.now).live i)
+            (result ≡ None)
+            (λ h. result ≡ Some (last_number (seen_by holding self.now) h)) }
+    {
+        if i as usize >= self.live.len() {
+            return None;
+        }
+        Some(self.last_in(self.number + u64::from(i)))
+    }
+
+    // The number of the last counted frame in the live segment of this number, or 0.
+    fn last_in(&self, segment: u64) -> u64
+        requires sound { IsSound holding self.now }
+        requires from { self.now.number ≤ segment }
+        requires inside { segment - self.now.number < length self.now.live.items }
+        ensures { MatchOption
+            (slice_get (seen_by holding self.now).live (segment - self.now.number))
+            (result ≡ 0)
+            (λ h. result ≡ last_number (seen_by holding self.now) h) }
+    {
+        let lines = self.frames.as_slice();
+        let count = lines.partition_point(|line| line.segment <= segment);
+        if count == 0 {
+            return 0;
+        }
+        let line = lines[count - 1];
+        if line.segment == segment {
+            line.number
+        } else {
+            0
+        }
     }
 
     /// Gives up the oldest of two or more live segments, in which no page's last setting block

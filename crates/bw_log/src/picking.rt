@@ -2,7 +2,7 @@
 
 ghost use Rattle.std.specs.Prelude.{◌≡◌, ◌<◌, ◌≤◌, ℕ, List, Some, length, drop, IfOk, IfErr};
 ghost use Rattle.std.specs.List.{filter, AllByRecursion};
-ghost use Rattle.bw_codec.specs.Grammar.{body_bytes, frame_bytes, IsBlock, IsFrame};
+ghost use Rattle.bw_codec.specs.Grammar.{body_bytes_in, frame_bytes_in, IsBlockIn, IsFrameIn};
 ghost use Rattle.bw_codec.specs.Reading.{Gives};
 ghost use Rattle.bw_codec.specs.Touch.{touches};
 ghost use Rattle.bw_codec.specs.declared.block.Block.{Block};
@@ -27,19 +27,25 @@ fn behind(bytes: &[u8], len: usize) -> Result<&[u8], CodecFault>
 }
 
 // The blocks that touch a page among those that the bytes spell.
-fn blocks_of_page(alloc: Global, bytes: &[u8], m: u16, page: u32) -> Result<Vec<Block>, CodecFault>
-    ensures { (blocks : List Block) → AllByRecursion (IsBlock m) blocks
-        → bytes.now ≡ body_bytes blocks
+fn blocks_of_page(
+    alloc: Global,
+    bytes: &[u8],
+    version: u16,
+    m: u16,
+    page: u32,
+) -> Result<Vec<Block>, CodecFault>
+    ensures { (blocks : List Block) → AllByRecursion (IsBlockIn version m) blocks
+        → bytes.now ≡ body_bytes_in version blocks
         → Gives (λ x. x.items) result (Some (filter (touches page) blocks)) }
 {
     let mut found = Vec::new(alloc);
     let mut rest = bytes;
     while !rest.is_empty() {
-        match Outline::read(rest) {
+        match Outline::read(version, rest) {
             None => return Err(CodecFault::BadBytes),
             Some(outline) => {
                 if outline.touches(page) {
-                    let block = read_block(alloc, rest, m)?;
+                    let block = read_block(alloc, rest, version, m)?;
                     found.push(block)?;
                 }
                 rest = behind(rest, outline.len)?;
@@ -49,20 +55,22 @@ fn blocks_of_page(alloc: Global, bytes: &[u8], m: u16, page: u32) -> Result<Vec<
     Ok(found)
 }
 
-/// The frame that the bytes spell, whose number is known, without the blocks that do not touch a
-/// page. No block but those is decoded.
+/// The frame that the bytes spell in a format, whose number is known, without the blocks that do not
+/// touch a page. No block but those is decoded.
 pub(crate) fn frame_of_page(
     alloc: Global,
     bytes: &[u8],
+    version: u16,
     number: u64,
     m: u16,
     page: u32,
 ) -> Result<Frame, CodecFault>
-    ensures { (f : ℕ) (frame : Frame) → IsFrame m f frame → bytes.now ≡ frame_bytes frame
-        → number ≡ frame.number → Gives (λ x. x) result (Some (thinned page frame)) }
+    ensures { (f : ℕ) (frame : Frame) → IsFrameIn version m f frame
+        → bytes.now ≡ frame_bytes_in version frame → number ≡ frame.number
+        → Gives (λ x. x) result (Some (thinned page frame)) }
 {
     let body = behind(bytes, HEAD_LEN)?;
-    let blocks = blocks_of_page(alloc, body, m, page)?;
+    let blocks = blocks_of_page(alloc, body, version, m, page)?;
     Ok(Frame {
         number,
         blocks: Blocks::of(blocks),

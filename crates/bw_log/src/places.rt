@@ -24,14 +24,15 @@ pub struct PageAt {
     pub base: Place,
 }
 
-/// What a scan found: limits, the oldest live segment's number, whether the newest takes frames,
-/// where each whole frame stands (its segment by position among the live ones), and where each page
-/// does.
+/// What a scan found: limits, the oldest live segment's number, the version of each live segment in
+/// order, whether the newest takes frames, where each whole frame stands (its segment by position
+/// among the live ones), and where each page does.
 #[derive(Drop)]
 pub struct Tables {
     pub m: u16,
     pub f: u32,
     pub number: u64,
+    pub versions: Vec<u16>,
     pub is_open: bool,
     pub frames: Vec<FrameAt>,
     pub pages: Vec<PageAt>,

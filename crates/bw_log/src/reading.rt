@@ -72,8 +72,8 @@ fn set_page(page: u32, blocks: &[Block]) -> bool
     false
 }
 
-// Where the first of the blocks that touches a page links back to.
-fn link_back(page: u32, blocks: &[Block]) -> Option<Place>
+//// Where the first of the blocks that touches a page links back to.
+pub(crate) fn link_back(page: u32, blocks: &[Block]) -> Option<Place>
     ensures { result ≡ first_back page blocks.now }
 {
     for block in blocks {
@@ -137,8 +137,8 @@ impl Log {
         }
     }
 
-    // Reads a counted frame by its line, without the blocks that do not touch a page.
-    fn read_frame_at(&mut self, i: usize, page: u32) -> Result<Frame, LogFault>
+    /// Reads a counted frame by its line, without the blocks that do not touch a page.
+    pub(crate) fn read_frame_at(&mut self, i: usize, page: u32) -> Result<Frame, LogFault>
         requires sound { IsSound holding self.old }
         requires inside { i < length self.old.frames.items }
         ensures found { IfOk result (ThinnedAt page (counted (seen_by holding self.old)) i) }
@@ -147,11 +147,19 @@ impl Log {
         ensures paged { result ≢ Err LogFault.NoPage }
     {
         let line = self.frames[i];
+        let version = self.version_at(line.segment);
         let m = self.m;
         let at = (line.segment - self.number) as usize;
         let mut bytes = Vec::new(*self.frames.allocator());
         self.read_onto(at, line.at, line.len, &mut bytes)?;
-        match frame_of_page(*self.frames.allocator(), &bytes, line.number, m, page) {
+        match frame_of_page(
+            *self.frames.allocator(),
+            &bytes,
+            version,
+            line.number,
+            m,
+            page,
+        ) {
             Ok(frame) => Ok(frame),
             Err(CodecFault::NoMemory) => Err(LogFault::NoMemory),
             Err(CodecFault::BadBytes) => unreachable!(),

@@ -41,6 +41,7 @@ fn write_block<O: Write>(out: &mut Printer<'_, O>, block: &Block) {
 /// A frame that begins at this offset of a segment, and each of its blocks.
 fn write_frame<O: Write>(
     out: &mut Printer<'_, O>,
+    version: u16,
     bytes: &[u8],
     at: usize,
     frame: &Frame,
@@ -57,16 +58,16 @@ fn write_frame<O: Write>(
         out.named(" place ", frame.number);
         out.named(" ", index);
         write_block(out, block);
-        from = from.saturating_add(length_at(bytes, from));
+        from = from.saturating_add(length_at(version, bytes, from));
     }
 }
 
-/// How many bytes the block has that begins at this offset; 0 where none does.
-pub(crate) fn length_at(bytes: &[u8], from: usize) -> usize {
+/// How many bytes the block of this format has that begins at this offset; 0 where none does.
+pub(crate) fn length_at(version: u16, bytes: &[u8], from: usize) -> usize {
     if from > bytes.len() {
         return 0;
     }
-    match Outline::read(&bytes[from..]) {
+    match Outline::read(version, &bytes[from..]) {
         Some(outline) => outline.len,
         None => 0,
     }
@@ -84,7 +85,9 @@ fn write_frames<O: Write>(
     for _ in 0..bytes.len() {
         let at = frames.at();
         match frames.step(alloc)? {
-            Step::Frame(frame, len) => write_frame(out, bytes, at, &frame, len),
+            Step::Frame(frame, len) => {
+                write_frame(out, header.version, bytes, at, &frame, len);
+            }
             Step::Tail(0) => return Ok(None),
             Step::Tail(len) => {
                 out.named("at ", at);

@@ -146,7 +146,7 @@ impl Survey {
                         at,
                         len,
                     })?;
-                    self.add_blocks(bytes, segment, at, &frame)?;
+                    self.add_blocks(header.version, bytes, segment, at, &frame)?;
                 }
                 _ => break,
             }
@@ -156,6 +156,7 @@ impl Survey {
 
     fn add_blocks(
         &mut self,
+        version: u16,
         bytes: &[u8],
         segment: usize,
         at: usize,
@@ -166,7 +167,7 @@ impl Survey {
             if from > bytes.len() {
                 break;
             }
-            let Some(outline) = Outline::read(&bytes[from..]) else {
+            let Some(outline) = Outline::read(version, &bytes[from..]) else {
                 break;
             };
             let row = BlockRow {

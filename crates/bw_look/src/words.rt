@@ -46,9 +46,11 @@ pub(crate) fn write_leaf<O: Write>(out: &mut Printer<'_, O>, leaf: &Leaf) {
     out.text(b" low ");
     write_word(out, leaf.low.as_slice());
     out.named(" pairs ", pairs.len());
-    for (key, value) in pairs {
+    for pair in pairs {
         out.text(b" ");
-        write_pair(out, key, value);
+        write_word(out, pair.key());
+        out.text(b"=");
+        write_word(out, pair.value());
     }
 }
 

@@ -36,7 +36,7 @@ pub record Directed (m : ℕ) (leaves : List Leaf) (k : Bytes) (d : Leaf) : Type
   pub rises : Rises d.pairs
   pub few : length d.pairs ≤ m + 1
   pub number : (1 ≤ d.page) × (d.page < 2 ^ 32)
-  pub short : length d.low ≤ 64
+  pub short : length d.low ≤ 128
 
 pub home_base : (m : ℕ) (leaves : List Leaf) (k : Bytes) → AreLeaves m leaves → IsBase m (home k leaves)
 home_base m leaves k a = home-all (IsBase m) k leaves a.first a.each
@@ -132,8 +132,8 @@ module _ (m : ℕ) (leaves : List Leaf) (k : Bytes) (d : Leaf) (some : 1 ≤ m) 
     page = ap (λ n. n + 1) (sym (length-map leaves (put_in (lower_of m d))));
     base = record {
       page = (omega arith, room);
-      low = first-all (λ q. length q ≤ 64) (drop ((m + 1) / 2) d.pairs) upper_some
-          (all-map IsPair (λ p. length p.0 ≤ 64) (λ p is. is.0.1) (drop ((m + 1) / 2) d.pairs) (all-drop IsPair ((m + 1) / 2) d.pairs t.pairs));
+      low = first-all (λ q. length q ≤ 128) (drop ((m + 1) / 2) d.pairs) upper_some
+          (all-map IsPair (λ p. length p.0 ≤ 128) (λ p is. is.0.1) (drop ((m + 1) / 2) d.pairs) (all-drop IsPair ((m + 1) / 2) d.pairs t.pairs));
       count = (let long = length-drop ((m + 1) / 2) d.pairs in let lies = half_lies m some in let few = t.few in omega arith);
       pairs = all-drop IsPair ((m + 1) / 2) d.pairs t.pairs;
       ascends = rises_ascends (drop ((m + 1) / 2) d.pairs) (rises-drop ((m + 1) / 2) d.pairs t.rises);

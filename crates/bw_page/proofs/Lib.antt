@@ -10,6 +10,7 @@ pub mod HeadedLows
 pub mod Indexed
 pub mod Valued
 pub mod Closed
+pub mod Bases
 pub mod Indexing
 pub mod Chains
 pub mod Ranges
@@ -30,3 +31,4 @@ pub mod LowsAlone
 pub mod Trees
 pub mod Ahead
 pub mod Stretch
+pub mod Wording

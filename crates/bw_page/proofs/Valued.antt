@@ -1,12 +1,15 @@
 -- A search in sorted pairs finds the value of a key.
 
+use Rattle.std.specs.Prelude.{is_ok, is_none, is_some, not}
 use Rattle.std.proofs.Common.{◌≡◌, ℕ, ◌-◌, cond, false, Option, Some, None, Result, Ok, Err, List, [], ◌∷◌, get_or, refl, sym, ap, ◌∙◌, subst, one-add}
 use Rattle.std.specs.Ordering.{is_lt, is_eq, eq_by_cmp}
 use Rattle.std.specs.FinMap.Entries.{find, by_order}
 use Rattle.std.specs.declared.cmp.Ordering.TheVariants.{Less, Equal, Greater}
 use Rattle.bw_codec.specs.declared.leaf.Leaf.{Leaf}
 use Rattle.bw_page.specs.Leaves.{Bytes, Pairs, order, home, AreLeaves}
-use Rattle.bw_page.specs.Seek.{seek_of, passed}
+use Rattle.bw_codec.specs.declared.record.Record.TheVariants.{Del}
+use Rattle.bw_page.specs.Seek.{seek_of, passed, back_of}
+use Rattle.bw_page.proofs.Seeking.{order-same}
 use Rattle.bw_page.proofs.Order.{Below, below_apart, below-trans}
 use Rattle.bw_page.proofs.Sorted.{all-map, Rises, find-none}
 use Rattle.bw_page.proofs.Homes.{home-all, stands_at}
@@ -38,3 +41,35 @@ reads_all key (p ∷ ps) r =
 -- the same at what a search answered
 pub reads : (key : Bytes) (ps : Pairs) (s : Result ℕ ℕ) → Rises ps → s ≡ seek_of key ps → Reads (find order key ps) ps s
 reads key ps s r e = subst (Reads (find order key ps) ps) (sym e) (reads_all key ps r)
+
+-- ---- the key that is found is the one that was sought
+
+abbrev pub HasKey : Bytes → Pairs → Result ℕ ℕ → Type 0
+HasKey key ps (Ok at) = (d : Bytes × Bytes) → (get_or ps at d).0 ≡ key
+HasKey key ps (Err at) = Unit {0}
+
+further-key : (key : Bytes) (p : Bytes × Bytes) (ps : Pairs) (s : Result ℕ ℕ) → HasKey key ps s → HasKey key (p ∷ ps) (passed 1 s)
+further-key key p ps (Ok at) h = λ d. ap (λ n. (get_or (p ∷ ps) n d).0) (one-add at) ∙ h d
+further-key key p ps (Err at) h = tt
+
+has_key : (key : Bytes) (ps : Pairs) → HasKey key ps (seek_of key ps)
+has_key key [] = tt
+has_key key (p ∷ ps) =
+    elim (order key p.0) as (λ o. order key p.0 ≡ o → HasKey key (p ∷ ps) (by_order o (Err 0) (Ok 0) (passed 1 (seek_of key ps)))) [
+      | Less ↦ λ e. tt
+      | Equal ↦ λ e d. sym (order-same key p.0 e)
+      | Greater ↦ λ e. further-key key p ps (seek_of key ps) (has_key key ps)
+    ] refl
+
+pub sought_key : (key : Bytes) (ps : Pairs) (at : ℕ) → Ok at ≡ seek_of key ps → (d : Bytes × Bytes) → (get_or ps at d).0 ≡ key
+sought_key key ps at e = subst (HasKey key ps) (sym e) (has_key key ps)
+
+-- ---- a delete removes a pair exactly where the key is found
+
+pub removed : (key : Bytes) (ps : Pairs) (s : Result ℕ ℕ) → Rises ps → s ≡ seek_of key ps → is_ok s ≡ is_none (back_of (Del key) (find order key ps))
+removed key ps (Ok at) r e = sym (ap (λ (o : Option Bytes). is_none (back_of (Del key) o)) (reads key ps (Ok at) r e ([], [])))
+removed key ps (Err at) r e = sym (ap (λ (o : Option Bytes). is_none (back_of (Del key) o)) (reads key ps (Err at) r e))
+
+pub some_unless_none : {X : Type 0} (o : Option X) → is_some o ≡ not (is_none o)
+some_unless_none None = refl
+some_unless_none (Some x) = refl

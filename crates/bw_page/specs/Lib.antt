@@ -5,6 +5,7 @@ pub mod Shown
 pub mod Batch
 pub mod Standing
 pub mod Links
+pub mod Words
 pub mod Lows
 pub mod Ahead
 pub mod Laws
@@ -22,4 +23,5 @@ pub mod Seek
 pub mod Drafting
 pub mod Aim
 pub mod Cutting
+pub mod Means
 pub mod Journal

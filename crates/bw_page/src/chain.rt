@@ -3,11 +3,13 @@
 ghost use Rattle.std.specs.Prelude.{◌≡◌, ◌<◌, ◌≤◌, ◌-◌, true, [], ◌∷◌, None, length, is_some, IsTrue, IsOk, IfOk, IfSome, OnOk, OnErr};
 ghost use Rattle.std.specs.List.{list_any};
 ghost use Rattle.bw_codec.specs.declared.leaf.Leaf.{Leaf as LeafValue};
-ghost use Rattle.bw_page.specs.Links.{count_deltas, content_of, log_end, is_flushed, evicted, consolidated, after_evict, after_consolidate, marked_content};
+ghost use Rattle.bw_page.specs.Links.{count_deltas, content_of, log_end, is_flushed, evicted, consolidated, after_evict, after_consolidate, marked_content, records_of};
+ghost use Rattle.bw_page.specs.Words.{records_word};
 ghost use Rattle.bw_page.specs.Marks.{mark_after};
 
 use crate::changes::change;
-use bw_codec::{Leaf, Place, Record};
+use crate::words::{Word, word_of};
+use bw_codec::{Key, Leaf, Place, Record};
 use smallvec::SmallVec;
 use std::alloc::{AllocError, Global};
 use std::marker::Model;
@@ -158,6 +160,20 @@ impl Chain {
             }
         }
         Ok(leaf)
+    }
+
+    /// What the newest of the chain's records that speaks of a key says. No memory is taken. Time is
+    /// linear in the links.
+    pub fn word(&self, key: &Key) -> Word
+        ensures { result ≡ records_word key.now (records_of self.now.links) }
+    {
+        let mut word = Word::Silent;
+        for link in self.links.as_slice() {
+            if let Link::Delta(item) = link {
+                word = word.then(word_of(item, key));
+            }
+        }
+        word
     }
 
     /// Drops from memory what stands in the log: the newest flushed link and all below it become

@@ -1,15 +1,16 @@
 //! One leaf and one record.
 
-ghost use Rattle.std.specs.Prelude.{◌≡◌, ◌+◌, ◌≤◌, ◌++◌, length, vec_len, IsOk, OnOk, OnErr, IsTrue};
+ghost use Rattle.std.specs.Prelude.{◌≡◌, ◌+◌, ◌≤◌, ◌++◌, length, vec_len, is_none, IfOk, OnOk, OnErr, IsTrue};
 ghost use Rattle.std.specs.Vec.{vec_capacity};
 ghost use Rattle.std.specs.FinMap.Entries.{find};
 ghost use Rattle.bw_codec.specs.Bytes.{ascends};
 ghost use Rattle.bw_page.specs.Ahead.{pair_above, pairs_above, with_some};
-ghost use Rattle.bw_page.specs.Leaves.{order, empty_leaf, changed, changed_pairs};
+ghost use Rattle.bw_page.specs.Leaves.{Pairs as PairList, order, empty_leaf, changed, changed_pairs};
 ghost use Rattle.bw_codec.specs.Record.{key_of};
 ghost use Rattle.bw_page.specs.Seek.{seek_of, end_of, IsWithin, AddsNone, back_of};
 
-use bw_codec::{Key, Leaf, Low, Pairs, Record, Value};
+use crate::journal::Back;
+use bw_codec::{Key, Leaf, Low, Pair, Pairs, Record, Value};
 use std::alloc::{AllocError, Global};
 use std::cmp::Ordering;
 
@@ -27,12 +28,12 @@ pub(crate) fn find_key(pairs: &Pairs, key: &[u8]) -> Result<usize, usize>
 }
 
 // The same among pairs whose whole keys are compared.
-fn find_whole(pairs: &[(Key, Value)], key: &[u8]) -> Result<usize, usize>
+fn find_whole(pairs: &[Pair], key: &[u8]) -> Result<usize, usize>
     ensures found { result ≡ seek_of key.now pairs.now }
     ensures within { IsWithin (length pairs.now) result }
 {
     for (i, pair) in pairs.iter().enumerate() {
-        match key.cmp(pair.0.as_slice()) {
+        match key.cmp(pair.key()) {
             Ordering::Less => return Err(i),
             Ordering::Equal => return Ok(i),
             Ordering::Greater => {}
@@ -54,11 +55,7 @@ pub fn count_after(leaf: &Leaf, change: &Record) -> usize
 }
 
 /// How many pairs there are after a record, where the search for its key ended so.
-pub(crate) fn count_found(
-    pairs: &[(Key, Value)],
-    found: Result<usize, usize>,
-    change: &Record,
-) -> usize
+pub(crate) fn count_found(pairs: &[Pair], found: Result<usize, usize>, change: &Record) -> usize
     requires found { found ≡ seek_of (key_of change.now) pairs.now }
     requires within { IsWithin (length pairs.now) found }
     ensures { result ≡ length (changed_pairs change.now pairs.now) }
@@ -84,60 +81,72 @@ pub fn change(leaf: &mut Leaf, change: &Record) -> Result<(), AllocError>
     ensures unchanged { OnErr result (leaf.new ≡ leaf.old) }
 {
     let found = find_key(&leaf.pairs, change.key().as_slice());
-    change_found(leaf, found, change)
+    let _ = change_found(leaf, found, change)?;
+    Ok(())
 }
 
-/// The same, where the search for the record's key ended so. A record that adds no pair is never
-/// refused.
+/// The same, where the search for the record's key ended so. It gives the record that takes this
+/// one back; there is none for a record that removes a pair, since to put that one back may take
+/// memory.
 pub(crate) fn change_found(
     leaf: &mut Leaf,
     found: Result<usize, usize>,
     change: &Record,
-) -> Result<(), AllocError>
+) -> Result<Option<Back>, AllocError>
     requires found { found ≡ seek_of (key_of change.now) leaf.old.pairs }
     requires within { IsWithin (length leaf.old.pairs) found }
     ensures ok { OnOk result (leaf.new ≡ changed change.now leaf.old) }
-    ensures succeeds { AddsNone change.now found → IsOk result }
+    ensures back { IsTrue (ascends leaf.old.pairs) → IfOk result (λ back.
+        back ≡ back_of change.now (find order (key_of change.now) leaf.old.pairs)) }
     ensures unchanged { OnErr result (leaf.new ≡ leaf.old) }
 {
     match change {
         Record::Put(key, value) => match found {
             Ok(at) => {
-                leaf.pairs.replace(at, key.copy(), value.copy());
-                Ok(())
+                let was = leaf.pairs.replace(at, key, value)?;
+                Ok(Some(Back::to(was)))
             }
-            Err(at) => leaf.pairs.insert(at, key.copy(), value.copy()),
+            Err(at) => {
+                leaf.pairs.insert(at, key, value)?;
+                Ok(Some(Back::without(key.copy())))
+            }
         },
-        Record::Del(_) => {
-            if let Ok(at) = found {
+        Record::Del(key) => match found {
+            Ok(at) => {
                 leaf.pairs.remove(at);
+                Ok(None)
             }
-            Ok(())
-        }
+            Err(_) => Ok(Some(Back::without(key.copy()))),
+        },
     }
 }
 
-/// The record that takes a record back from these pairs, where the search for its key ended so.
-/// There is none for a record that removes a pair: to put that one back may take memory.
-pub(crate) fn back_from(
-    pairs: &[(Key, Value)],
-    found: Result<usize, usize>,
-    change: &Record,
-) -> Option<Record>
-    requires found { found ≡ seek_of (key_of change.now) pairs.now }
-    requires within { IsWithin (length pairs.now) found }
-    requires ascends { IsTrue (ascends pairs.now) }
-    ensures { result ≡ back_of change.now (find order (key_of change.now) pairs.now) }
+/// Changes a leaf by a record that adds no pair and has its memory, where the search for its key
+/// ended so. No memory is taken.
+pub(crate) fn take_back(leaf: &mut Leaf, found: Result<usize, usize>, back: Back)
+    requires found { found ≡ seek_of (key_of back) leaf.old.pairs }
+    requires within { IsWithin (length leaf.old.pairs) found }
+    requires none { AddsNone back found }
+    ensures { leaf.new ≡ changed back leaf.old }
+{
+    match (found, back.into_pair()) {
+        (Ok(at), Ok(pair)) => {
+            let _ = leaf.pairs.set(at, pair);
+        }
+        (Err(_), Ok(_)) => unreachable!(),
+        (Ok(at), Err(_)) => leaf.pairs.remove(at),
+        (Err(_), Err(_)) => {}
+    }
+}
+
+/// Whether a record removes a pair, where the search for its key ended so.
+pub(crate) fn removes(found: Result<usize, usize>, change: &Record) -> bool
+    ensures { (pairs : PairList) → IsTrue (ascends pairs) → found ≡ seek_of (key_of change.now) pairs
+        → result ≡ is_none (back_of change.now (find order (key_of change.now) pairs)) }
 {
     match change {
-        Record::Put(key, _) => match found {
-            Ok(at) => Some(Record::Put(key.copy(), pairs[at].1.copy())),
-            Err(_) => Some(Record::Del(key.copy())),
-        },
-        Record::Del(key) => match found {
-            Ok(_) => None,
-            Err(_) => Some(Record::Del(key.copy())),
-        },
+        Record::Put(_, _) => false,
+        Record::Del(_) => found.is_ok(),
     }
 }
 
@@ -148,7 +157,7 @@ pub fn value_in(leaf: &Leaf, key: &Key) -> Option<Value>
 {
     let pairs = leaf.pairs.as_slice();
     match find_key(&leaf.pairs, key.as_slice()) {
-        Ok(at) => Some(pairs[at].1.copy()),
+        Ok(at) => Some(pairs[at].to_value()),
         Err(_) => None,
     }
 }
@@ -184,12 +193,12 @@ pub fn add_pairs(
 }
 
 /// Adds copies of pairs, for which there is room.
-pub(crate) fn push_pairs(found: &mut Vec<(Key, Value)>, pairs: &[(Key, Value)])
+pub(crate) fn push_pairs(found: &mut Vec<(Key, Value)>, pairs: &[Pair])
     requires { vec_len found.old + length pairs.now ≤ vec_capacity found.old }
     ensures { found.new.items ≡ found.old.items ++ pairs.now }
 {
-    for (key, value) in pairs {
-        found.push_reserved((key.copy(), value.copy()));
+    for pair in pairs {
+        found.push_reserved((pair.to_key(), pair.to_value()));
     }
 }
 
@@ -200,7 +209,7 @@ pub fn pair_from(leaf: &Leaf, key: &Key) -> Option<(Key, Value)>
     let pairs = leaf.pairs.as_slice();
     let at = end_of(find_key(&leaf.pairs, key.as_slice()));
     if at < pairs.len() {
-        return Some((pairs[at].0.copy(), pairs[at].1.copy()));
+        return Some((pairs[at].to_key(), pairs[at].to_value()));
     }
     None
 }

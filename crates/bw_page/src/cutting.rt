@@ -1,6 +1,6 @@
 //! A leaf changed in its place, and a leaf cut in two by the split rule.
 
-ghost use Rattle.std.specs.Prelude.{◌≡◌, ◌<◌, ◌≤◌, ◌+◌, ◌/◌, ◌++◌, false, [], ◌∷◌, length, slice_set, Some, if◌then◌else◌, OnOk, OnErr, IfOk};
+ghost use Rattle.std.specs.Prelude.{◌≡◌, ◌<◌, ◌≤◌, ◌+◌, ◌/◌, ◌++◌, false, [], ◌∷◌, length, slice_set, slice_index_or, Some, if◌then◌else◌, OnOk, OnErr, IfOk};
 ghost use Rattle.std.specs.Ordering.{eq_by_cmp};
 ghost use Rattle.bw_codec.specs.declared.leaf.Leaf.{Leaf as LeafValue};
 ghost use Rattle.bw_page.specs.Leaves.{Bytes, order, changed, lower_of, upper_of};
@@ -11,7 +11,7 @@ ghost use Rattle.bw_page.specs.Seats.{is_among};
 use crate::changes;
 use crate::lows::LowIndex;
 use crate::seats::Seats;
-use bw_codec::{Key, Leaf, Low, Pairs, Record};
+use bw_codec::{Key, Leaf, Low, Record};
 use std::alloc::{AllocError, Global};
 
 /// A leaf that was cut in two.
@@ -31,10 +31,8 @@ pub fn cut_in_two(alloc: Global, m: u16, leaf: Leaf, page: u32) -> Result<Cut, A
     ensures lower { IfOk result (λ c. c.lower ≡ lower_of m leaf) }
     ensures upper { IfOk result (λ c. c.upper ≡ upper_of m page leaf) }
 {
-    let half = half_of(m);
-    let upper = upper_part(alloc, m, &leaf, page)?;
     let mut lower = leaf;
-    lower.pairs.truncate(half);
+    let upper = take_upper(alloc, m, &mut lower, page)?;
     Ok(Cut { lower, upper })
 }
 
@@ -45,14 +43,15 @@ fn half_of(m: u16) -> usize
     (usize::from(m) + 1) / 2
 }
 
-// The part of a leaf that becomes a new page.
-fn upper_part(alloc: Global, m: u16, leaf: &Leaf, page: u32) -> Result<Leaf, AllocError>
+// Takes the part off a leaf that becomes a new page.
+fn take_upper(alloc: Global, m: u16, leaf: &mut Leaf, page: u32) -> Result<Leaf, AllocError>
     requires some { 1 ≤ m }
-    requires over { m < length leaf.now.pairs }
-    ensures { IfOk result (λ upper. upper ≡ upper_of m page leaf.now) }
+    requires over { m < length leaf.old.pairs }
+    ensures lower { OnOk result (leaf.new ≡ lower_of m leaf.old) }
+    ensures upper { IfOk result (λ upper. upper ≡ upper_of m page leaf.old) }
 {
-    let pairs = Pairs::copy_of(alloc, &leaf.pairs.as_slice()[half_of(m)..])?;
-    let low = Vec::from_slice(alloc, pairs.as_slice()[0].0.as_slice())?;
+    let pairs = leaf.pairs.split_off(half_of(m))?;
+    let low = Vec::from_slice(alloc, pairs.as_slice()[0].key())?;
     Ok(Leaf {
         page,
         low: Low::of(low),
@@ -85,12 +84,13 @@ pub(crate) fn parts(
     let mut whole = leaf.copy()?;
     changes::change(&mut whole, item)?;
     let Cut { lower, upper } = cut_in_two(alloc, m, whole, page)?;
-    let low = upper.pairs.as_slice()[0].0.copy();
+    let low = upper.pairs.as_slice()[0].to_key();
     Ok(Pieces { lower, upper, low })
 }
 
 /// Cuts one of some leaves that has too many pairs after a record: the lower part stands in its
-/// place, the upper one last and in the index. A refusal changes nothing.
+/// place, the upper one last and in the index, and what stood there is given. A refusal changes
+/// nothing.
 pub(crate) fn cut_at(
     leaves: &mut Seats,
     index: &mut LowIndex,
@@ -98,7 +98,7 @@ pub(crate) fn cut_at(
     at: usize,
     item: &Record,
     page: u32,
-) -> Result<(), AllocError>
+) -> Result<Leaf, AllocError>
     requires some { 1 ≤ m }
     requires within { at < length leaves.old.items }
     requires here { is_among (at + 1) leaves.old.away ≡ false }
@@ -109,6 +109,7 @@ pub(crate) fn cut_at(
     ensures index { (d : LeafValue) (q : Bytes) → OnOk result (page_of_low index.new q
         ≡ (if eq_by_cmp order q (upper_of m page (changed_at item.now leaves.old.items at d)).low
         then Some page else page_of_low index.old q)) }
+    ensures was { (d : LeafValue) → IfOk result (λ was. was ≡ slice_index_or leaves.old.items at d) }
     ensures away { leaves.new.away ≡ leaves.old.away }
     ensures leaves_stay { OnErr result (leaves.new.items ≡ leaves.old.items) }
     ensures index_stays { OnErr result (index.new ≡ index.old) }
@@ -117,9 +118,9 @@ pub(crate) fn cut_at(
     let Pieces { lower, upper, low } = parts(alloc, m, leaves.get(at), item, page)?;
     leaves.reserve(1)?;
     index.insert(low, page)?;
-    leaves.set(at, lower);
+    let was = leaves.exchange(at, lower);
     match leaves.push(upper) {
-        Ok(()) => Ok(()),
+        Ok(()) => Ok(was),
         Err(_) => unreachable!(),
     }
 }

@@ -8,12 +8,17 @@ ghost use Rattle.std.specs.Option.{option_copied};
 ghost use Rattle.std.specs.FinMap as finite;
 ghost use Rattle.std.specs.FinMap.Entries.{find};
 ghost use Rattle.bw_codec.specs.Bytes.{ascends};
+ghost use Rattle.bw_codec.specs.Grammar.{block_bytes};
 ghost use Rattle.bw_codec.specs.Record.{key_of};
+ghost use Rattle.bw_codec.specs.declared.block.Block.TheVariants.{Base};
 ghost use Rattle.bw_page.specs.Leaves.{order, empty_leaf, home, leaf_at, directed_at, AreLeaves, changed_map, union};
 ghost use Rattle.bw_page.specs.Shown.{TakesKey, IsSpent, after_record, is_away, leaf_here, IsHere, applied_by};
 ghost use Rattle.bw_page.specs.Aim.{IsAim};
+ghost use Rattle.bw_page.specs.Journal.{displaced_by};
+ghost use Rattle.bw_page.specs.Seek.{back_of};
 ghost use Rattle.bw_page.specs.Ahead.{HasNoLowAbove, IsNextLow};
 
+mod ahead;
 mod batch;
 mod hinted;
 mod walk;
@@ -22,6 +27,7 @@ use crate::changes::{count_found, empty_page, find_key};
 use crate::cutting::cut_at;
 use crate::fault::ApplyError;
 use crate::index::{copy_all, index_of};
+use crate::journal::{Back, Displaced};
 use crate::lows::LowIndex;
 use crate::seats::Seats;
 pub use batch::{HasRecord, Step};
@@ -131,6 +137,16 @@ impl Leaves {
         self.leaves.put_away(page as usize - 1);
     }
 
+    /// How many bytes the Base of a page has, whether it is away or not; what is away is not read.
+    pub fn base_length(&self, page: u32) -> u64
+        requires { (1 ≤ page) × (page ≤ length self.now.leaves) }
+        ensures value { IfSome (leaf_at page self.now.leaves)
+            (λ leaf. result ≡ length (block_bytes (Base leaf))) }
+        ensures small { result < 2 ^ 32 }
+    {
+        self.leaves.base_length(page as usize - 1)
+    }
+
     /// Takes back a page's leaf, which it has to be.
     pub fn bring_back(&mut self, page: u32, leaf: Leaf)
         requires { leaf_at page self.old.leaves ≡ Some leaf }
@@ -171,7 +187,7 @@ impl Leaves {
         let leaf = self.home_of(key);
         let pairs = leaf.pairs.as_slice();
         match find_key(&leaf.pairs, key.as_slice()) {
-            Ok(at) => Some(pairs[at].1.copy()),
+            Ok(at) => Some(pairs[at].to_value()),
             Err(_) => None,
         }
     }
@@ -277,28 +293,77 @@ impl Leaves {
         ensures unchanged { OnErr result (self.new ≡ self.old) }
     {
         if count <= usize::from(self.m) {
-            self.leaves.change(at, found, change)?;
+            let _ = self.change_at(at, count, found, change)?;
             return Ok(Applied {
                 page: at as u32 + 1,
                 made: None,
             });
         }
-        let pages = self.leaves.len();
-        if pages >= u32::MAX as usize {
+        let (_, made) = self.cut_page(at, count, found, change)?;
+        Ok(Applied {
+            page: at as u32 + 1,
+            made: Some(made),
+        })
+    }
+
+    /// Applies a record where `aim` says, which cuts no page, and gives the record that takes it
+    /// back. There is none for a record that removes a pair.
+    fn change_at(
+        &mut self,
+        at: usize,
+        count: usize,
+        found: Result<usize, usize>,
+        change: &Record,
+    ) -> Result<Option<Back>, AllocError>
+        requires aim { IsAim self.old change.now at count found }
+        requires few { count ≤ self.old.m }
+        ensures ok { OnOk result (self.new ≡ after_record self.old change.now) }
+        ensures plain { OnOk result (union self.new.leaves
+            ≡ changed_map (union self.old.leaves) change.now) }
+        ensures away { self.new.away ≡ self.old.away }
+        ensures back { IfOk result (λ back. back ≡ back_of change.now
+            (find order (key_of change.now) (home (key_of change.now) self.old.leaves).pairs)) }
+        ensures unchanged { OnErr result (self.new ≡ self.old) }
+    {
+        let back = self.leaves.change(at, found, change)?;
+        Ok(back)
+    }
+
+    /// Applies a record where `aim` says, which cuts the page in two. It gives the page as it was,
+    /// with how many pages there were, and the number of the page that is made.
+    fn cut_page(
+        &mut self,
+        at: usize,
+        count: usize,
+        found: Result<usize, usize>,
+        change: &Record,
+    ) -> Result<(Displaced, u32), ApplyError>
+        requires aim { IsAim self.old change.now at count found }
+        requires many { self.old.m < count }
+        ensures ok { OnOk result (self.new ≡ after_record self.old change.now) }
+        ensures plain { OnOk result (union self.new.leaves
+            ≡ changed_map (union self.old.leaves) change.now) }
+        ensures away { self.new.away ≡ self.old.away }
+        ensures was { IfOk result (λ r. r.0 ≡ displaced_by self.old change.now) }
+        ensures made { IfOk result (λ r. r.1 ≡ length self.old.leaves + 1) }
+        ensures spent { IsSpent self.old change.now → result ≡ Err ApplyError.Spent }
+        ensures only_spent { result ≡ Err ApplyError.Spent → IsSpent self.old change.now }
+        ensures unchanged { OnErr result (self.new ≡ self.old) }
+    {
+        let before = self.leaves.len();
+        if before >= u32::MAX as usize {
             return Err(ApplyError::Spent);
         }
-        cut_at(
+        let pages = before as u32;
+        let leaf = cut_at(
             &mut self.leaves,
             &mut self.index,
             self.m,
             at,
             change,
-            pages as u32 + 1,
+            pages + 1,
         )?;
-        Ok(Applied {
-            page: at as u32 + 1,
-            made: Some(pages as u32 + 1),
-        })
+        Ok((Displaced { leaf, pages }, pages + 1))
     }
 
     /// The leaves as they stand.

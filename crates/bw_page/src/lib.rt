@@ -23,6 +23,7 @@ mod room;
 mod seats;
 mod start;
 mod tree;
+mod words;
 
 pub use chain::{Chain, End, Link};
 pub use changes::{add_pairs, change, count_after, empty_page, pair_from, value_in};
@@ -36,3 +37,4 @@ pub use laws::{
 pub use leaves::{Applied, HasRecord, Leaves, Step};
 pub use reading::{change_all, keep_below, read_block, read_blocks};
 pub use start::Start;
+pub use words::{Word, word_in_blocks, word_in_records};

@@ -25,7 +25,7 @@ pub fn keep_below(leaf: Leaf, separator: &[u8]) -> Leaf
     let page = leaf.page;
     let (low, pairs) = leaf.into_parts();
     let mut kept = pairs.into_vec();
-    kept.retain(|pair| bw_codec::is_before(pair.0.as_slice(), separator));
+    kept.retain(|pair| bw_codec::is_before(pair.key(), separator));
     kept.shrink_to_fit();
     Leaf {
         page,

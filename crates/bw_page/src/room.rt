@@ -3,8 +3,7 @@
 
 ghost use Rattle.std.specs.Prelude.{◌≡◌, IfOk};
 
-use crate::changes::push_pairs;
-use bw_codec::{Leaf, Pairs};
+use bw_codec::{Leaf, Pair, Pairs};
 use std::alloc::{AllocError, Global};
 
 /// The same leaf in no more room than it needs. It is never refused; where memory is wanting it
@@ -29,12 +28,21 @@ pub(crate) fn fitted_copy(alloc: Global, leaf: &Leaf) -> Result<Leaf, AllocError
     ensures { IfOk result (λ copy. copy ≡ leaf.now) }
 {
     let low = leaf.low.copy()?;
-    let pairs = leaf.pairs.as_slice();
-    let mut copy = Vec::with_capacity(alloc, pairs.len())?;
-    push_pairs(&mut copy, pairs);
+    let pairs = same_pairs(alloc, leaf.pairs.as_slice())?;
     Ok(Leaf {
         page: leaf.page,
         low,
-        pairs: Pairs::of(copy),
+        pairs: Pairs::of(pairs),
     })
+}
+
+// The same pairs in no more room than they need.
+fn same_pairs(alloc: Global, pairs: &[Pair]) -> Result<Vec<Pair>, AllocError>
+    ensures { IfOk result (λ copy. copy.items ≡ pairs.now) }
+{
+    let mut copy = Vec::with_capacity(alloc, pairs.len())?;
+    for pair in pairs {
+        copy.push(pair.copy()?)?;
+    }
+    Ok(copy)
 }

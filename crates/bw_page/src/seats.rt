@@ -2,30 +2,43 @@
 //!
 //! What a leaf that is away holds is known to the proof alone: a snapshot has no bytes.
 
-ghost use Rattle.std.specs.Prelude.{ℕ, ◌≡◌, ◌==◌, ◌<◌, ◌≤◌, ◌+◌, ◌-◌, ◌++◌, [], ◌∷◌, true, false, None, Some, length, take, slice_get, slice_set, slice_index_or, if◌then◌else◌, IsOk, IfOk, OnOk, OnErr};
+ghost use Rattle.std.specs.Prelude.{ℕ, ◌≡◌, ◌==◌, ◌<◌, ◌≤◌, ◌+◌, ◌-◌, ◌++◌, ◌^◌, [], ◌∷◌, true, false, None, Some, length, take, slice_get, slice_set, slice_index_or, if◌then◌else◌, IfSome, IsOk, IfOk, OnOk, OnErr, IsTrue};
+ghost use Rattle.std.specs.List.{AllByRecursion};
+ghost use Rattle.bw_codec.specs.Grammar.{block_bytes, IsBase};
+ghost use Rattle.bw_codec.specs.declared.block.Block.TheVariants.{Base};
 ghost use Rattle.std.specs.Option.{option_copied};
 ghost use Rattle.bw_codec.specs.declared.leaf.Leaf.{Leaf as LeafValue};
-ghost use Rattle.bw_page.specs.Leaves.{changed};
+ghost use Rattle.std.specs.FinMap.Entries.{find};
+ghost use Rattle.bw_codec.specs.Bytes.{ascends};
+ghost use Rattle.bw_page.specs.Leaves.{order, changed};
 ghost use Rattle.bw_page.specs.Cutting.{changed_at};
 ghost use Rattle.bw_page.specs.Seats.{is_among};
-ghost use Rattle.bw_page.specs.Seek.{seek_of, IsWithin, AddsNone};
+ghost use Rattle.bw_page.specs.Seek.{seek_of, back_of, IsWithin, AddsNone};
 ghost use Rattle.bw_codec.specs.Record.{key_of};
 
 use crate::changes;
-use bw_codec::{Leaf, Record};
+use crate::journal::Back;
+use bw_codec::{Leaf, Record, base_length};
 use std::alloc::{AllocError, Global};
 use std::marker::Model;
+use std::mem;
 use std::snapshot::Snapshot;
 
 /// One leaf, in memory or away.
 pub(crate) struct Seat {
     leaf: Option<Leaf>,
     was: Snapshot<Leaf>,
+    /// How many bytes its Base has, where it is away.
+    len: u32,
 }
 
 impl Drop for Seat {
     fn drop(self) {
-        let Seat { leaf: _, was: _ } = self;
+        let Seat {
+            leaf: _,
+            was: _,
+            len: _,
+        } = self;
     }
 }
 
@@ -50,6 +63,7 @@ impl Seat {
         Seat {
             leaf: Some(leaf),
             was,
+            len: 0,
         }
     }
 
@@ -61,30 +75,68 @@ impl Seat {
         self.leaf.as_ref()
     }
 
+    /// How many bytes its Base has.
+    fn base_length(&self) -> u64
+        requires { IsBase 32 self.now.leaf }
+        ensures value { result ≡ length (block_bytes (Base self.now.leaf)) }
+        ensures small { result < 2 ^ 32 }
+    {
+        match &self.leaf {
+            Some(leaf) => base_length(leaf) as u64,
+            None => u64::from(self.len),
+        }
+    }
+
     /// Drops the leaf.
     fn put_away(&mut self)
+        requires { IsBase 32 self.old.leaf }
         ensures { self.new ≡ record self.old { is_away = true } }
     {
+        self.len = self.base_length() as u32;
         self.leaf = None;
     }
 
-    /// Changes the leaf, in which the search for the record's key ended so. A refusal changes
-    /// nothing.
-    fn change(&mut self, found: Result<usize, usize>, item: &Record) -> Result<(), AllocError>
+    /// Changes the leaf, in which the search for the record's key ended so, and gives what
+    /// `change_found` gives. A refusal changes nothing.
+    fn change(
+        &mut self,
+        found: Result<usize, usize>,
+        item: &Record,
+    ) -> Result<Option<Back>, AllocError>
         requires here { self.old.is_away ≡ false }
         requires found { found ≡ seek_of (key_of item.now) self.old.leaf.pairs }
         requires within { IsWithin (length self.old.leaf.pairs) found }
         ensures ok { OnOk result (self.new
             ≡ record self.old { leaf = changed item.now self.old.leaf }) }
         ensures here { self.new.is_away ≡ false }
-        ensures succeeds { AddsNone item.now found → IsOk result }
+        ensures back { IsTrue (ascends self.old.leaf.pairs) → IfOk result (λ back.
+            back ≡ back_of item.now (find order (key_of item.now) self.old.leaf.pairs)) }
         ensures unchanged { OnErr result (self.new ≡ self.old) }
     {
         match &mut self.leaf {
             Some(leaf) => {
-                changes::change_found(leaf, found, item)?;
+                let back = changes::change_found(leaf, found, item)?;
                 self.was = Snapshot::of(leaf);
-                Ok(())
+                Ok(back)
+            }
+            None => unreachable!(),
+        }
+    }
+
+    /// Changes the leaf by a record that adds no pair and has its memory, where the search for its
+    /// key ended so.
+    fn take_back(&mut self, found: Result<usize, usize>, back: Back)
+        requires here { self.old.is_away ≡ false }
+        requires found { found ≡ seek_of (key_of back) self.old.leaf.pairs }
+        requires within { IsWithin (length self.old.leaf.pairs) found }
+        requires none { AddsNone back found }
+        ensures changed { self.new ≡ record self.old { leaf = changed back self.old.leaf } }
+        ensures here { self.new.is_away ≡ false }
+    {
+        match &mut self.leaf {
+            Some(leaf) => {
+                changes::take_back(leaf, found, back);
+                self.was = Snapshot::of(leaf);
             }
             None => unreachable!(),
         }
@@ -95,7 +147,11 @@ impl Seat {
         requires { self.is_away ≡ false }
         ensures { result ≡ self.leaf }
     {
-        let Seat { leaf, was: _ } = self;
+        let Seat {
+            leaf,
+            was: _,
+            len: _,
+        } = self;
         match leaf {
             Some(leaf) => leaf,
             None => unreachable!(),
@@ -233,14 +289,27 @@ impl Seats {
         self.seats[at] = Seat::of(leaf);
     }
 
-    /// Changes a leaf, which is in memory, and in which the search for the record's key ended so. A
-    /// refusal changes nothing.
+    /// Sets the leaf at an index, which is in memory, and gives it as it was.
+    pub(crate) fn exchange(&mut self, at: usize, leaf: Leaf) -> Leaf
+        requires within { at < length self.old.items }
+        requires here { is_among (at + 1) self.old.away ≡ false }
+        ensures items { self.new.items ≡ slice_set self.old.items at leaf }
+        ensures was { (d : LeafValue) → result ≡ slice_index_or self.old.items at d }
+        ensures away { self.new.away ≡ self.old.away }
+        ensures room { self.new.room ≡ self.old.room }
+    {
+        let _ = self.seats.as_slice().len();
+        mem::replace(&mut self.seats[at], Seat::of(leaf)).into_leaf()
+    }
+
+    /// Changes a leaf, which is in memory, and in which the search for the record's key ended so. It
+    /// gives what `change_found` gives. A refusal changes nothing.
     pub(crate) fn change(
         &mut self,
         at: usize,
         found: Result<usize, usize>,
         item: &Record,
-    ) -> Result<(), AllocError>
+    ) -> Result<Option<Back>, AllocError>
         requires within { at < length self.old.items }
         requires here { is_among (at + 1) self.old.away ≡ false }
         requires found { (d : LeafValue)
@@ -250,16 +319,49 @@ impl Seats {
         ensures ok { (d : LeafValue) → OnOk result (self.new.items
             ≡ slice_set self.old.items at (changed_at item.now self.old.items at d)) }
         ensures away { self.new.away ≡ self.old.away }
-        ensures succeeds { AddsNone item.now found → IsOk result }
+        ensures back { (d : LeafValue) → IsTrue (ascends (slice_index_or self.old.items at d).pairs)
+            → IfOk result (λ back. back ≡ back_of item.now
+            (find order (key_of item.now) (slice_index_or self.old.items at d).pairs)) }
         ensures unchanged { OnErr result (self.new.items ≡ self.old.items) }
     {
         let _ = self.seats.as_slice().len();
         self.seats[at].change(found, item)
     }
 
+    /// Changes a leaf, which is in memory, by a record that adds no pair and has its memory, where
+    /// the search for its key ended so.
+    pub(crate) fn take_back(&mut self, at: usize, found: Result<usize, usize>, back: Back)
+        requires within { at < length self.old.items }
+        requires here { is_among (at + 1) self.old.away ≡ false }
+        requires found { (d : LeafValue)
+            → found ≡ seek_of (key_of back) (slice_index_or self.old.items at d).pairs }
+        requires found_within { (d : LeafValue)
+            → IsWithin (length (slice_index_or self.old.items at d).pairs) found }
+        requires none { AddsNone back found }
+        ensures items { (d : LeafValue) → self.new.items
+            ≡ slice_set self.old.items at (changed_at back self.old.items at d) }
+        ensures away { self.new.away ≡ self.old.away }
+    {
+        let _ = self.seats.as_slice().len();
+        self.seats[at].take_back(found, back);
+    }
+
+    /// How many bytes the Base of the leaf at an index has.
+    pub(crate) fn base_length(&self, at: usize) -> u64
+        requires within { at < length self.now.items }
+        requires lawful { AllByRecursion (IsBase 32) self.now.items }
+        ensures value { IfSome (slice_get self.now.items at)
+            (λ leaf. result ≡ length (block_bytes (Base leaf))) }
+        ensures small { result < 2 ^ 32 }
+    {
+        let _ = self.seats.as_slice().len();
+        self.seats[at].base_length()
+    }
+
     /// Drops the leaf at an index from memory.
     pub(crate) fn put_away(&mut self, at: usize)
-        requires { at < length self.old.items }
+        requires within { at < length self.old.items }
+        requires lawful { AllByRecursion (IsBase 32) self.old.items }
         ensures items { self.new.items ≡ self.old.items }
         ensures away { (p : ℕ) → is_among p self.new.away
             ≡ (if p == at + 1 then true else is_among p self.old.away) }

@@ -5,20 +5,21 @@ ghost use Rattle.std.specs.List.{filter};
 ghost use Rattle.bw_codec.specs.Bytes.{ascends, is_below};
 ghost use Rattle.bw_page.specs.Leaves.{Bytes, Pairs, changed_pairs};
 
-use bw_codec::{Key, Record, Value, is_before};
+use bw_codec::{Key, Pair, Record, Value, is_before};
 use std::alloc::AllocError;
 use std::collections::BTreeMap;
 
 /// Whether the keys of pairs ascend.
-pub(crate) fn ascend(pairs: &[(Key, Value)]) -> bool
+pub(crate) fn ascend(pairs: &[Pair]) -> bool
     ensures { result ≡ ascends pairs.now }
 {
-    let mut last: Option<&Key> = None;
-    for (key, _) in pairs {
+    let mut last: Option<&[u8]> = None;
+    for pair in pairs {
+        let key = pair.key();
         match last {
             None => {}
             Some(before) => {
-                if !is_before(before.as_slice(), key.as_slice()) {
+                if !is_before(before, key) {
                     return false;
                 }
             }
@@ -29,30 +30,28 @@ pub(crate) fn ascend(pairs: &[(Key, Value)]) -> bool
 }
 
 /// The same pairs in a tree. They are taken from the last one down, so each key is the least so far.
-pub(crate) fn tree_of(pairs: Vec<(Key, Value)>) -> Result<BTreeMap<Key, Value>, AllocError>
+pub(crate) fn tree_of(pairs: Vec<Pair>) -> Result<BTreeMap<Key, Value>, AllocError>
     requires { IsTrue (ascends pairs.items) }
     ensures { IfOk result (λ tree. tree.entries ≡ pairs.items) }
 {
     let mut pairs = pairs;
     let mut tree = BTreeMap::new(*pairs.allocator());
-    'down: while let Some((key, value)) = pairs.pop() {
-        let _ = tree.insert(key, value)?;
+    'down: while let Some(pair) = pairs.pop() {
+        let _ = tree.insert(pair.to_key(), pair.to_value())?;
     }
     Ok(tree)
 }
 
 /// The pairs of a tree in a row, in the place of what the row held.
-pub(crate) fn row_of(
-    row: Vec<(Key, Value)>,
-    tree: BTreeMap<Key, Value>,
-) -> Result<Vec<(Key, Value)>, AllocError>
+pub(crate) fn row_of(row: Vec<Pair>, tree: BTreeMap<Key, Value>) -> Result<Vec<Pair>, AllocError>
     ensures { IfOk result (λ pairs. pairs.items ≡ tree.entries) }
 {
+    let alloc = *row.allocator();
     let mut row = row;
     let mut tree = tree;
     row.clear();
     'next: while let Some((key, value)) = tree.pop_first() {
-        row.push((key, value))?;
+        row.push(Pair::of(alloc, &key, &value)?)?;
     }
     Ok(row)
 }

@@ -34,6 +34,8 @@ pub enum Answer {
     Durable(u64),
     /// Whether the page left memory.
     Evicted(bool),
+    /// In how many frames a page was written again.
+    Rewritten(u64),
     /// What was given up with the oldest segment.
     Cleaned(Cleaned),
     Rolled,
@@ -72,6 +74,7 @@ fn write_answer<O: Write>(out: &mut Printer<'_, O>, answer: &Answer) {
         Answer::Durable(frame) => out.line("durable ", *frame),
         Answer::Evicted(true) => out.text(b"evicted\n"),
         Answer::Evicted(false) => out.text(b"kept\n"),
+        Answer::Rewritten(frames) => out.line("rewritten frames ", *frames),
         Answer::Cleaned(cleaned) => write_cleaned(out, cleaned),
         Answer::Rolled => out.text(b"rolled\n"),
         Answer::Dump(bytes) => write_dump(out, bytes.as_slice()),

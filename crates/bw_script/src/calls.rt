@@ -183,6 +183,17 @@ impl Session {
         }
     }
 
+    /// In how many frames a page was written again, whole.
+    fn rewrite<R: System>(&mut self, rt: &R, page: u32) -> Result<Answer, Miss>
+        requires { IsReady self.old holding }
+        ensures { IsReady self.new holding }
+    {
+        match self.store.rewrite(rt, &[page]) {
+            Ok(frames) => Ok(Answer::Rewritten(frames)),
+            Err(fault) => Err(Miss::from(fault)),
+        }
+    }
+
     /// What was given up with the oldest segment.
     fn clean<R: System>(&mut self, rt: &R) -> Result<Answer, Miss>
         requires { IsReady self.old holding }
@@ -278,6 +289,7 @@ impl Session {
             Request::Next(key) => self.next_at(&key),
             Request::Page(page) => self.page(page),
             Request::Evict(page) => self.evict(page),
+            Request::Rewrite(page) => self.rewrite(rt, page),
             _ => Ok(Answer::Pages(self.store.pages())),
         }
     }
@@ -318,6 +330,7 @@ impl Session {
             Command::Page(page) => self.page(page),
             Command::Get(key) => self.get(&key),
             Command::Evict(page) => self.evict(page),
+            Command::Rewrite(page) => self.rewrite(rt, page),
             Command::Clean => self.clean(rt),
             Command::Roll => self.roll(),
             Command::Add => self.spare(rt, capacity),

@@ -1,7 +1,7 @@
 //! The program `bwlog`: `replay` runs a script over a store, line by line, and prints what each line
 //! answers; `serve` answers the requests of another program; `threads` runs each writer's script in a
-//! thread of its own; `scan`, `print`, `stats` and `picture` say what segments hold, and `restore`
-//! makes a folder as of an earlier frame.
+//! thread of its own; `scan`, `print`, `stats` and `picture` say what segments hold, `restore` makes
+//! a folder as of an earlier frame, and `upgrade` brings segments of format 1 to format 2.
 //!
 //! A script has a session before it: a store over segments in memory or in a folder, a feed for
 //! each writer, and the desk of the segments' leases. `run` is the whole program `bwlog` over any
@@ -11,6 +11,7 @@
 mod answers;
 mod calls;
 mod leases;
+mod legs;
 mod lines;
 mod looks;
 mod miss;
@@ -28,6 +29,7 @@ mod session;
 mod stop;
 mod system;
 mod threads;
+mod upgrade;
 
 pub use lines::Lines;
 pub use program::run;

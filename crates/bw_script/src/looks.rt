@@ -97,12 +97,13 @@ fn spares_in(images: &[Image]) -> u64 {
     spares
 }
 
-/// How many bytes a page has as a Base.
+/// How many bytes a page has as a Base: a pair is its key and value, with one byte for the length of
+/// the key and two for that of the value.
 fn base_length(leaf: &Leaf) -> u64 {
     let mut length = 8 + leaf.low.as_slice().len() as u64;
-    for (key, value) in leaf.pairs.as_slice() {
-        let pair = 2 + key.as_slice().len() as u64 + value.as_slice().len() as u64;
-        length = length.saturating_add(pair);
+    for pair in leaf.pairs.as_slice() {
+        let cells = 3 + pair.key().len() as u64 + pair.value().len() as u64;
+        length = length.saturating_add(cells);
     }
     length
 }

@@ -1,6 +1,7 @@
 //! The command line, read by `clap`. Nothing else of the program stands here.
 
 use crate::replay::Manner;
+use bw_codec::limits::{HEADER_LEN, MAX_FRAME, MAX_PAIRS, MIN_FRAME, MIN_PAIRS};
 use clap::error::ErrorKind;
 use clap::{Arg, ArgAction, ArgMatches, Command, Error};
 use std::alloc::{AllocError, Global};
@@ -22,6 +23,8 @@ pub enum Mode<'a> {
     Picture(Option<&'a str>),
     /// A folder as of an earlier frame, in another folder.
     Restore(Copying<'a>),
+    /// Segments of format 1 are written again in format 2: those of a folder, or lines in hex.
+    Upgrade(Option<&'a str>),
 }
 
 /// What is restored.
@@ -40,7 +43,8 @@ impl<'a> Mode<'a> {
     pub fn dir(&self) -> Option<&'a str> {
         match self {
             Mode::Lines(options, _) | Mode::Threads(options, _) => options.dir,
-            Mode::Scan(dir) | Mode::Print(dir) | Mode::Stats(dir) | Mode::Picture(dir) => *dir,
+            Mode::Scan(dir) | Mode::Print(dir) | Mode::Stats(dir) => *dir,
+            Mode::Picture(dir) | Mode::Upgrade(dir) => *dir,
             Mode::Restore(copying) => Some(copying.to),
         }
     }
@@ -55,14 +59,16 @@ pub struct Options<'a> {
     pub places: u16,
     /// The most pairs that a page holds, 4 to 32.
     pub m: u16,
-    /// The most bytes that a frame has, 16,384 to 65,536.
+    /// The most bytes that a frame has, 65,536 to 262,144.
     pub f: u32,
     /// How many segments there are at the beginning, 2 to 64.
     pub segments: u16,
-    /// How many bytes a segment has room for, 16,408 to 16,777,216.
+    /// How many bytes a segment has room for, 65,560 to 16,777,216.
     pub capacity: u32,
     /// The folder in which they are; in memory where there is none.
     pub dir: Option<&'a str>,
+    /// Whether a segment that was given up comes back as the last spare.
+    pub reuse: bool,
 }
 
 /// How the writers of `threads` put, and how the store is tended meanwhile.
@@ -79,6 +85,12 @@ pub struct Pace {
     /// Whether the history leaves memory behind each flush.
     pub forgets: bool,
 }
+
+/// The least capacity of a segment, in bytes: a header and the shortest of the longest frames.
+const LEAST: i64 = HEADER_LEN as i64 + MIN_FRAME as i64;
+
+/// The greatest capacity of a segment, in bytes.
+const MOST: i64 = 16_777_216;
 
 /// What an option takes.
 #[derive(Clone, Copy)]
@@ -116,13 +128,13 @@ const PLACES: Row = Row {
 
 const M: Row = Row {
     name: "m",
-    kind: Kind::Number(4, 32, "4"),
+    kind: Kind::Number(MIN_PAIRS as i64, MAX_PAIRS as i64, "4"),
     help: "the most pairs that a page holds",
 };
 
 const FRAME: Row = Row {
     name: "frame",
-    kind: Kind::Number(16384, 65536, "16384"),
+    kind: Kind::Number(MIN_FRAME as i64, MAX_FRAME as i64, "65536"),
     help: "the most bytes that a frame has",
 };
 
@@ -134,7 +146,7 @@ const SEGMENTS: Row = Row {
 
 const CAPACITY: Row = Row {
     name: "capacity",
-    kind: Kind::Number(16408, 16777216, "65536"),
+    kind: Kind::Number(LEAST, MOST, "262168"),
     help: "how many bytes a segment has room for",
 };
 
@@ -158,10 +170,29 @@ const LOOK_DIR: Row = Row {
     help: "a folder whose segments are looked at, in place of lines",
 };
 
+const UPGRADE_DIR: Row = Row {
+    name: "dir",
+    kind: Kind::Folder,
+    help: "a folder whose segments are upgraded where they stand, in place of lines",
+};
+
 const TAKE: Row = Row {
     name: "take",
     kind: Kind::Flag,
     help: "a group that finds its ring full has the store take what waits first",
+};
+
+const REUSE: Row = Row {
+    name: "reuse",
+    kind: Kind::Flag,
+    help: "a segment that was given up comes back as the last spare",
+};
+
+/// The same of `threads`, which then cleans where it pays.
+const REUSE_BETWEEN: Row = Row {
+    help: "runs the scripts in parts that a segment has room for, gives up the oldest segment \
+        between two of them where --clean-at says so and it pays, and has it back as the last spare",
+    ..REUSE
 };
 
 const FROM: Row = Row {
@@ -214,8 +245,8 @@ const FORGET: Row = Row {
 };
 
 /// The store of a script.
-const REPLAY: [Row; 8] = [
-    WRITERS, PLACES, M, FRAME, SEGMENTS, CAPACITY, STORE_DIR, TAKE,
+const REPLAY: [Row; 9] = [
+    WRITERS, PLACES, M, FRAME, SEGMENTS, CAPACITY, STORE_DIR, TAKE, REUSE,
 ];
 
 /// The store of a program, which is one writer.
@@ -225,13 +256,13 @@ const SERVE: [Row; 6] = [
         ..PLACES
     },
     Row {
-        kind: Kind::Number(4, 32, "32"),
+        kind: Kind::Number(MIN_PAIRS as i64, MAX_PAIRS as i64, "32"),
         ..M
     },
     FRAME,
     SEGMENTS,
     Row {
-        kind: Kind::Number(16408, 16777216, "16777216"),
+        kind: Kind::Number(LEAST, MOST, "16777216"),
         ..CAPACITY
     },
     STORE_DIR,
@@ -240,7 +271,7 @@ const SERVE: [Row; 6] = [
 const RESTORE: [Row; 3] = [FROM, TO, AS_OF];
 
 /// The store of several writers, then how it is tended, and how often a group is tried.
-const THREADS: [Row; 12] = [
+const THREADS: [Row; 13] = [
     Row {
         kind: Kind::Number(1, 64, "2"),
         ..WRITERS
@@ -259,6 +290,7 @@ const THREADS: [Row; 12] = [
     CLEAN_AT,
     TRIES,
     FORGET,
+    REUSE_BETWEEN,
 ];
 
 /// A mode of the program: its name, what it does, and its options in the order of the help.
@@ -268,7 +300,7 @@ struct Form {
     options: &'static [Row],
 }
 
-const FORMS: [Form; 8] = [
+const FORMS: [Form; 9] = [
     Form {
         name: "replay",
         about: "Runs a script from standard input",
@@ -309,6 +341,11 @@ const FORMS: [Form; 8] = [
         about: "Makes a folder that holds a store as of an earlier frame",
         options: &RESTORE,
     },
+    Form {
+        name: "upgrade",
+        about: "Writes the pages of segments of format 1 again in format 2, and gives these up",
+        options: &[UPGRADE_DIR],
+    },
 ];
 
 /// What `--help` begins with. A text that was asked for is told as any other that is no run.
@@ -317,7 +354,7 @@ const ABOUT: &str =
     standard error, and the exit status is 2.)";
 
 /// The program's version, and that of the format of its segments.
-const VERSION: &str = "0.1.0, format 1";
+const VERSION: &str = "0.1.0, format 2";
 
 fn with_number<'a>(option: Arg<'a>, least: i64, most: i64, default: &'a str) -> Arg<'a> {
     option
@@ -382,6 +419,7 @@ fn found_of<'a>(found: &ArgMatches<'a>) -> Options<'a> {
         segments: found.get_one("segments").unwrap_or(0),
         capacity: found.get_one("capacity").unwrap_or(0),
         dir: dir_of(found),
+        reuse: found.get_flag("reuse"),
     }
 }
 
@@ -444,6 +482,9 @@ fn mode_in<'a>(matches: &ArgMatches<'a>) -> Mode<'a> {
     }
     if let Some(found) = matches.subcommand_matches("restore") {
         return Mode::Restore(copying_of(found));
+    }
+    if let Some(found) = matches.subcommand_matches("upgrade") {
+        return Mode::Upgrade(dir_of(found));
     }
     look_in(matches)
 }

@@ -10,6 +10,7 @@ use crate::scan::{scan, scan_folder};
 use crate::stop::{Met, Stop};
 use crate::system::Host;
 use crate::threads::threads;
+use crate::upgrade::{upgrade, upgrade_folder};
 use bw_look::Printer;
 use clap::Error;
 use std::io::{Read, Write};
@@ -30,6 +31,8 @@ fn start<R: Host, I: Read, O: Write>(
         Mode::Stats(dir) => count_segments(rt, *dir, input, output),
         Mode::Picture(dir) => draw_segments(rt, *dir, input, output),
         Mode::Restore(copying) => restore(rt, copying, output),
+        Mode::Upgrade(None) => upgrade(rt, input, output),
+        Mode::Upgrade(Some(path)) => upgrade_folder(rt, *path, output),
     }
 }
 

@@ -24,7 +24,7 @@ pub enum Refusal {
     NoPage,
     /// A limit lies outside its range, or a segment has too little room for it.
     BadConfig,
-    /// Fewer than two segments are live.
+    /// Fewer than two segments are live; of an upgrade, no live segment has version 1.
     NothingOld,
     /// There is no whole frame.
     Empty,
@@ -33,7 +33,7 @@ pub enum Refusal {
     BadBytes { segment: u32, at: u64 },
     /// The numbers of segments, or of frames, have a gap.
     Gap,
-    /// Headers differ in their limits.
+    /// Headers differ in their limits, or a new one stands before an old one.
     Mixed,
     /// A block of this page does not link back to the one before it.
     BadLink { page: u32 },

@@ -117,6 +117,10 @@ fn do_command<R: System, O: Write>(
 {
     let answer = answer_of(rt, session, options, manner, command)?;
     tell(rt, session, output, &answer)?;
+    if options.reuse && matches!(answer, Answer::Cleaned(_)) {
+        let spare = session.spare(rt, u64::from(options.capacity))?;
+        return Ok(done_of(spare));
+    }
     Ok(done_of(answer))
 }
 
@@ -228,6 +232,14 @@ fn next_spare<R: System, I: Read, O: Write>(
         *end = joined(*end, answer);
     }
     None
+}
+
+/// Adds a spare in place of a segment that was given up. One that cannot be added is none.
+pub fn add_again(session: &mut Session, spare: Box<dyn Segment>)
+    requires { IsReadyBeside session.old holding }
+    ensures { IsReadyBeside session.new holding }
+{
+    let _ = session.store.add_segment(spare);
 }
 
 /// Adds a spare, and says so, or why not; a request has its answer before.

@@ -17,6 +17,8 @@ pub enum Request {
     Page(u32),
     /// A page leaves memory.
     Evict(u32),
+    /// A page is written again, whole.
+    Rewrite(u32),
     /// How many pages there are.
     Pages,
     /// All that waits is taken, and the frame in the making is appended.
@@ -39,6 +41,7 @@ fn asked_of(name: &str, word: &str) -> Result<Request, Fault> {
         "get" => Ok(Request::Get(key_of(word)?)),
         "next" => Ok(Request::Next(key_of(word)?)),
         "page" => Ok(Request::Page(number_of(word)?)),
+        "rewrite" => Ok(Request::Rewrite(number_of(word)?)),
         _ => Ok(Request::Evict(number_of(word)?)),
     }
 }
@@ -68,7 +71,9 @@ pub fn parse_request(line: &[u8]) -> Result<Request, Fault> {
     let name = words.next().unwrap_or("");
     match name {
         "put" | "del" | "group" => Ok(Request::Put(group_of(ops_of(name, &mut words)?)?)),
-        "get" | "next" | "page" | "evict" => asked_of(name, single(words.next(), words.next())?),
+        "get" | "next" | "page" | "evict" | "rewrite" => {
+            asked_of(name, single(words.next(), words.next())?)
+        }
         _ => plain_of(name, words.next()),
     }
 }

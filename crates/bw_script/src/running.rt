@@ -53,8 +53,8 @@ fn append_live(row: &mut Vec<u32>, session: &Session) -> Result<(), AllocError>
 
 // The pairs of a page go behind those of the pages before it.
 fn append(pairs: &mut Vec<(Key, Value)>, leaf: &Leaf) -> Result<(), AllocError> {
-    for (key, value) in leaf.pairs.as_slice() {
-        pairs.push((key.copy(), value.copy()))?;
+    for pair in leaf.pairs.as_slice() {
+        pairs.push((pair.to_key(), pair.to_value()))?;
     }
     Ok(())
 }

@@ -10,6 +10,7 @@ use crate::script::{Fault, are_printable};
 use crate::stop::{Met, Stop, missed, no_input, refuse};
 use crate::system::System;
 use bw_care::{Recovered, recover};
+use bw_codec::limits::{HEADER_LEN, MAX_FRAME};
 use bw_device::{Desk, MemSegment, Segment};
 use bw_file::FolderReader;
 use bw_look::{Printer, write_page};
@@ -21,8 +22,8 @@ use std::io::{Read, Write};
 /// The most bytes of a line, which is a segment in hex.
 pub const LONGEST: u32 = 2_097_152;
 
-/// The least capacity of a segment, in bytes: a header and the longest frame.
-pub const LEAST: u64 = 65_560;
+/// The least capacity of a segment that is a line or a copy, in bytes: a header and the longest frame.
+pub const LEAST: u64 = HEADER_LEN as u64 + MAX_FRAME as u64;
 
 /// The bytes that a line stands for. The first fault in the order of the list is told.
 pub fn bytes_of(alloc: Global, line: &[u8]) -> Result<Vec<u8>, Miss> {
@@ -142,12 +143,15 @@ fn next_segment<I: Read>(
     Ok(Some(segment_of(alloc, desk, lines.line())?))
 }
 
-/// A segment of each line.
-fn segments_of<I: Read>(alloc: Global, lines: &mut Lines<&mut I>) -> Result<Vec<MemSegment>, Miss> {
-    let mut desk = desk_of(alloc)?;
+/// A segment of each line, with leases of the desk.
+pub fn segments_of<I: Read>(
+    alloc: Global,
+    desk: &mut Desk,
+    lines: &mut Lines<&mut I>,
+) -> Result<Vec<MemSegment>, Miss> {
     let mut segments = Vec::new(alloc);
     for _ in 0..u64::MAX {
-        match next_segment(alloc, &mut desk, lines)? {
+        match next_segment(alloc, desk, lines)? {
             Some(segment) => segments.push(segment)?,
             None => break,
         }
@@ -162,7 +166,8 @@ pub fn scan<R: System, I: Read, O: Write>(
     output: &mut O,
 ) -> Result<Met, Stop> {
     let mut lines = Lines::new(rt.alloc(), input, READS, LONGEST).map_err(no_input)?;
-    match segments_of(rt.alloc(), &mut lines) {
+    let mut desk = desk_of(rt.alloc())?;
+    match segments_of(rt.alloc(), &mut desk, &mut lines) {
         Ok(segments) => tell_all(rt.alloc(), segments, output),
         Err(miss) => missed(output, lines.number(), miss),
     }

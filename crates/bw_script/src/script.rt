@@ -1,5 +1,6 @@
 //! One line of a script: a command, nothing, or a fault.
 
+use bw_codec::limits::MAX_VALUE;
 use bw_codec::{Key, Record, Value};
 use bw_ring::Group;
 use std::str::SplitWhitespace;
@@ -49,6 +50,8 @@ pub enum Command {
     Get(Key),
     /// A page leaves memory.
     Evict(u32),
+    /// A page is written again, whole.
+    Rewrite(u32),
     /// The oldest segment is given up.
     Clean,
     /// The current segment is closed.
@@ -80,14 +83,14 @@ fn writer_of(word: &str, writers: u16) -> Result<u16, Fault> {
 }
 
 /// The bytes that a word stands for, at the front of `room`: those of its hex digits after `0x`, or
-/// its own.
-fn bytes_of<'a>(word: &'a [u8], room: &'a mut [u8; 128]) -> Result<&'a [u8], Fault> {
+/// its own. The room is enough for a value, and a key is shorter.
+fn bytes_of<'a>(word: &'a [u8], room: &'a mut [u8; MAX_VALUE]) -> Result<&'a [u8], Fault> {
     if !word.starts_with(b"0x") {
         return Ok(word);
     }
     let digits = &word[2..];
     let count = digits.len() / 2;
-    if count > 128 {
+    if count > MAX_VALUE {
         return Err(Fault::BadWord);
     }
     match hex::decode_to_slice(digits, &mut room[..count]) {
@@ -97,13 +100,13 @@ fn bytes_of<'a>(word: &'a [u8], room: &'a mut [u8; 128]) -> Result<&'a [u8], Fau
 }
 
 pub fn key_of(word: &str) -> Result<Key, Fault> {
-    let mut room = [0u8; 128];
+    let mut room = [0u8; MAX_VALUE];
     let bytes = bytes_of(word.as_bytes(), &mut room)?;
     Key::new(bytes).map_err(|_| Fault::BadWord)
 }
 
 pub fn value_of(word: &str) -> Result<Value, Fault> {
-    let mut room = [0u8; 128];
+    let mut room = [0u8; MAX_VALUE];
     let bytes = bytes_of(word.as_bytes(), &mut room)?;
     Value::new(bytes).map_err(|_| Fault::BadWord)
 }
@@ -238,6 +241,7 @@ fn asked_of(name: &str, word: &str) -> Result<Command, Fault> {
         "turn" => Ok(Command::Turn(number)),
         "page" => Ok(Command::Page(number)),
         "evict" => Ok(Command::Evict(number)),
+        "rewrite" => Ok(Command::Rewrite(number)),
         _ => Ok(Command::Dump(number)),
     }
 }
@@ -268,7 +272,7 @@ fn command_of(text: &str, writers: u16) -> Result<Command, Fault> {
     let name = words.next().unwrap_or("");
     match name {
         "put" | "del" | "group" => put_of(name, &mut words, writers),
-        "turn" | "page" | "evict" | "dump" | "get" => {
+        "turn" | "page" | "evict" | "rewrite" | "dump" | "get" => {
             asked_of(name, single(words.next(), words.next())?)
         }
         _ => plain_of(name, words.next()),

@@ -3,13 +3,13 @@
 ghost use Rattle.std.specs.Prelude.{◌≡◌, vec_len, IfOk, IsNone};
 ghost use Rattle.bw_script.specs.Session.{IsReady};
 
+use crate::legs::{Legs, empty_scripts, lengths_of, put_behind};
 use crate::lines::{Lines, READS};
 use crate::miss::Miss;
 use crate::options::{Options, Pace};
 use crate::printed::write_pairs;
 use crate::refusal::Refusal;
-use crate::replay::{ATTEMPTS, NotBegun, Told, begin, opened};
-use crate::running::Run;
+use crate::replay::{ATTEMPTS, NotBegun, Told, add_again, begin, opened};
 use crate::script::{LONGEST, parse_group};
 use crate::session::Session;
 use crate::stop::{Met, Stop, missed, no_input, refuse};
@@ -23,27 +23,6 @@ use std::alloc::{AllocError, Global};
 use std::io::{Read, Write};
 use std::mem;
 
-// The group goes behind those of its writer.
-fn put_behind(scripts: &mut Vec<Vec<Group>>, writer: u16, group: Group) -> Result<(), AllocError>
-    ensures { vec_len scripts.new ≡ vec_len scripts.old }
-{
-    if let Some(script) = scripts.get_mut(usize::from(writer)) {
-        script.push(group)?;
-    }
-    Ok(())
-}
-
-// So many scripts of no group.
-fn empty_scripts(alloc: Global, writers: u16) -> Result<Vec<Vec<Group>>, AllocError>
-    ensures { IfOk result (λ s. vec_len s ≡ writers) }
-{
-    let mut scripts = Vec::new(alloc);
-    'writers: for _ in 0..usize::from(writers) {
-        scripts.push(Vec::new(alloc))?;
-    }
-    Ok(scripts)
-}
-
 // Reads a line and does what it asks for; `false` where there was none.
 fn read_group<I: Read>(
     lines: &mut Lines<&mut I>,
@@ -56,7 +35,7 @@ fn read_group<I: Read>(
         return Ok(false);
     }
     match parse_group(lines.line(), writers) {
-        Ok(Some((writer, group))) => put_behind(scripts, writer, group)?,
+        Ok(Some((writer, group))) => put_behind(scripts, usize::from(writer), group)?,
         Ok(None) => {}
         Err(fault) => return Err(Stop::Fault(lines.number(), fault)),
     }
@@ -71,7 +50,7 @@ fn read_lines<I: Read>(
 ) -> Result<Vec<Vec<Group>>, Stop>
     ensures { IfOk result (λ s. vec_len s ≡ writers) }
 {
-    let mut scripts = empty_scripts(alloc, writers)?;
+    let mut scripts = empty_scripts(alloc, usize::from(writers))?;
     'lines: for _ in 0..u64::MAX {
         if !read_group(lines, &mut scripts, writers)? {
             break;
@@ -92,24 +71,6 @@ fn read_scripts<I: Read>(
     read_lines(alloc, &mut lines, writers)
 }
 
-// How many records the groups have.
-fn length_of(groups: &[Group]) -> u64 {
-    let mut length: u64 = 0;
-    for group in groups {
-        length = length.saturating_add(group.len() as u64);
-    }
-    length
-}
-
-// How many records each script has.
-fn lengths_of(alloc: Global, scripts: &[Vec<Group>]) -> Result<Vec<u64>, AllocError> {
-    let mut lengths = Vec::new(alloc);
-    for script in scripts {
-        lengths.push(length_of(script.as_slice()))?;
-    }
-    Ok(lengths)
-}
-
 /// Prints how many records of each script were accepted, and answers whether a writer gave up.
 fn write_accepted<O: Write>(out: &mut Printer<'_, O>, accepted: &[u64], lengths: &[u64]) -> bool {
     let mut gave_up = false;
@@ -125,13 +86,13 @@ fn write_accepted<O: Write>(out: &mut Printer<'_, O>, accepted: &[u64], lengths:
 /// Prints what a run left, and answers whether a writer gave up.
 fn print_run<O: Write>(
     output: &mut O,
-    run: &Run,
+    legs: &Legs,
     lengths: &[u64],
     pairs: &[(Key, Value)],
 ) -> Result<Met, Stop> {
     let mut out = Printer::new(output);
-    out.line("entries ", run.entries);
-    let gave_up = write_accepted(&mut out, run.accepted.as_slice(), lengths);
+    out.line("entries ", legs.entries);
+    let gave_up = write_accepted(&mut out, legs.accepted.as_slice(), lengths);
     write_pairs(&mut out, pairs);
     out.end()?;
     Ok(Met {
@@ -140,41 +101,49 @@ fn print_run<O: Write>(
     })
 }
 
-/// Prints what a run left in the store and beside it, and answers whether a writer gave up.
+/// Tells what a run left in the store and beside it, or what ended it, and answers whether something
+/// was refused, or a writer gave up.
 fn tell_run<R: Host, O: Write>(
     rt: &R,
     session: &mut Session,
-    run: &Run,
+    end: Result<(), Miss>,
+    legs: &Legs,
     lengths: &[u64],
     output: &mut O,
 ) -> Result<Met, Stop>
     requires { IsReady session.old holding }
     ensures { IsReady session.new holding }
 {
+    if let Err(miss) = end {
+        return missed(output, 0, miss);
+    }
     let mut pairs = match session.pairs(rt.alloc()) {
         Ok(pairs) => pairs,
         Err(refusal) => return refuse(output, refusal),
     };
     pairs.sort()?;
-    print_run(output, run, lengths, pairs.as_slice())
+    print_run(output, legs, lengths, pairs.as_slice())
 }
 
-/// Runs the writers, and prints what came of it: one refusal, or all of it.
-fn run_writers<R: Host, O: Write>(
+/// Runs legs up to where the room of a segment comes back, which is handed out; `None` at the end of
+/// all scripts, or where something ended the run, which is told.
+fn next_made<R: Host>(
     rt: &R,
     session: &mut Session,
-    scripts: Vec<Vec<Group>>,
+    options: &Options<'_>,
     pace: Pace,
-    output: &mut O,
-) -> Result<Met, Stop>
-    requires ready { IsReady session.old holding }
-    requires one_each { vec_len scripts ≡ vec_len session.old.feeds }
+    legs: &mut Legs,
+    end: &mut Result<(), Miss>,
+) -> Option<Made>
+    requires { IsReady session.old holding }
     ensures { IsReady session.new holding }
 {
-    let lengths = lengths_of(rt.alloc(), scripts.as_slice())?;
-    match session.drive_tended(rt, scripts, pace)? {
-        Ok(run) => tell_run(rt, session, &run, lengths.as_slice(), output),
-        Err(refusal) => refuse(output, refusal),
+    match session.next_made(rt, options, pace, legs) {
+        Ok(made) => made,
+        Err(miss) => {
+            *end = Err(miss);
+            None
+        }
     }
 }
 
@@ -209,16 +178,29 @@ fn run_scripts<R: Host, O: Write>(
         };
         boxes.push(segment)?;
     }
+    let lengths = lengths_of(rt.alloc(), scripts.as_slice())?;
+    let mut legs = Legs::new(rt.alloc(), options, scripts.len())?;
     let mut session = match begin(rt, options, boxes, are_new, site, Told::Lines, output) {
         Ok(session) => session,
         Err(NotBegun::Miss(miss)) => return Ok(Some(missed(output, 0, miss)?)),
         Err(NotBegun::Beginning(_)) => return Ok(None),
     };
     // The store is shut whatever ends the run.
-    let scripts = mem::replace(scripts, Vec::new(rt.alloc()));
-    let end = run_writers(rt, &mut session, scripts, pace, output);
+    legs.begin(mem::replace(scripts, Vec::new(rt.alloc())));
+    let mut end = Ok(());
+    'spares: for _ in 0..u64::MAX {
+        let Some(made) = next_made(rt, &mut session, options, pace, &mut legs, &mut end) else {
+            break;
+        };
+        let spare: Box<dyn Segment> = match made {
+            Made::Memory(segment) => segment,
+            Made::File(segment) => segment,
+        };
+        add_again(&mut session, spare);
+    }
+    let met = tell_run(rt, &mut session, end, &legs, lengths.as_slice(), output);
     session.shut(rt);
-    Ok(Some(end?))
+    Ok(Some(met?))
 }
 
 /// Reads the writers' scripts, makes a store, or goes on from the one in a folder, and runs all

@@ -1,8 +1,8 @@
 -- A page that the frame in the making neither makes nor cuts is in the log, and its tail leads from there to it.
 
-use Rattle.std.proofs.Common.{◌≡◌, ℕ, zero, suc, ◌+◌, ◌<◌, ◌≤◌, inl, inr, Bool, true, false, Option, Some, None, Result, Err, List, [], ◌∷◌, ◌++◌}
+use Rattle.std.proofs.Common.{Ok, ◌≡◌, ℕ, zero, suc, ◌+◌, ◌<◌, ◌≤◌, inl, inr, Bool, true, false, Option, Some, None, Result, Err, List, [], ◌∷◌, ◌++◌}
 use Rattle.std.proofs.Common.{length, refl, sym, ap, ◌∙◌, subst, arith, append-nil, if◌then◌else◌}
-use Rattle.std.specs.Prelude.{◌==◌, ◌||◌, ◌&&◌, nat_le, nat_lt, not, is_some, is_none, IsTrue, IsErrOf}
+use Rattle.std.specs.Prelude.{◌==◌, ◌||◌, ◌&&◌, nat_le, nat_lt, not, is_some, is_none, IsTrue, IsErrOf, IfOk}
 use Rattle.std.specs.List.{AllByRecursion as All, fold, list_any, slice_get}
 use Rattle.std.proofs.lemmas.Bool.{ne_eqb, eqb-true, leb-true, leb-false}
 use Rattle.std.proofs.lemmas.Grind.{flat_map-append}
@@ -43,6 +43,10 @@ use Rattle.bw_store.specs.Faults.{fault_of}
 use Rattle.bw_store.specs.Reading.{leaves_now, ReadLeaves, with_log}
 use Rattle.bw_store.specs.Share.{ops_at}
 use Rattle.bw_store.specs.Tails.{Tailed, tail_of, tail_for, makes, is_made, tails_for, tails_after}
+use Rattle.bw_page.specs.Words.{told_by, records_word, value_on}
+use Rattle.bw_page.proofs.Wording.{records_tell}
+use Rattle.bw_log.proofs.Valued.{page_rises}
+use Rattle.bw_log.proofs.Walked.{page_set}
 use Rattle.bw_store.proofs.Joins.{none_touches, added_made}
 use Rattle.bw_store.proofs.Stepping.{length-applied}
 use Rattle.bw_store.proofs.TailSteps.{over_tail, never_made}
@@ -90,6 +94,16 @@ module _ (s : Kept) (h : IsSound s) (p : ℕ) (from : 1 ≤ p) (within : p ≤ l
         let many = standing.2 in
         (from, omega arith))
   ]
+
+  -- a key has the value that the newest record of the frame in the making says, or that of the log
+  pub away_value : (k : Bytes) → value_on k (leaf_at p s.filed.leaves)
+      ≡ told_by (records_word k (ops_at p s.making.blocks)) (value_on k (content p (blocks_of (logs.counted s.log))))
+  away_value k =
+      let log = on_log in
+      let below = page_set s.log p h.log log.0 log.1 in
+      let tells = records_tell k (ops_at p s.making.blocks) below.0 (page_rises s.log p below.0 h.log below.1) in
+      ap (value_on k) (away_page below.0 below.1) ∙ tells.value
+      ∙ ap (λ (w : Option Leaf). told_by (records_word k (ops_at p s.making.blocks)) (value_on k w)) (sym below.1)
 
 -- ---- where a page is
 
@@ -182,6 +196,26 @@ value_is s h key p leaf at there found =
     ∙ ap (λ (l : Leaf). find order key l.pairs) (sym same)
     ∙ sym (get-union s.filed.m key s.filed.leaves lawful)
     ∙ ap (λ (u : Map). finite.get u key) h.mapped
+
+-- the same of what the page has
+pub value_away_is : (s : Kept) → IsSound s → (key : Bytes) (p : ℕ) → p ≡ (home key s.filed.leaves).page → 1 ≤ p → p ≤ length s.filed.leaves
+    → {value : Option Bytes} → value ≡ value_on key (leaf_at p s.filed.leaves) → value ≡ finite.get (plain s.start (records s.entries)) key
+value_away_is s h key p at from to found =
+    let there = some_leaf p s.filed.leaves from to in
+    value_is s h key p there.0 at there.1 (found ∙ ap (value_on key) there.1)
+  where
+    some_leaf : (p : ℕ) (leaves : List Leaf) → 1 ≤ p → p ≤ length leaves → (leaf : Leaf) × (leaf_at p leaves ≡ Some leaf)
+    some_leaf p leaves from to = leaf_there_of (leaf_at p leaves) (page_there p leaves from to)
+      where
+        leaf_there_of : (o : Option Leaf) → (o ≡ None → ⊥) → (leaf : Leaf) × (o ≡ Some leaf)
+        leaf_there_of None none = absurd (none refl)
+        leaf_there_of (Some leaf) none = (leaf, refl)
+
+pub answer_is : (s : Kept) → IsSound s → (key : Bytes) (p : ℕ) → p ≡ (home key s.filed.leaves).page → (1 ≤ p) × (p ≤ length s.filed.leaves)
+    → (r : Result (Option Bytes) StoreFault) → IfOk r (λ value. value ≡ value_on key (leaf_at p s.filed.leaves))
+    → IfOk r (λ value. value ≡ finite.get (plain s.start (records s.entries)) key)
+answer_is s h key p at within (Ok value) found = value_away_is s h key p at within.0 within.1 found
+answer_is s h key p at within (Err fault) found = tt
 
 pub read_no_page : (reads : ℕ → Type 0) (old new : Kept) (r : Result Leaf StoreFault) → ReadLeaves reads old r new → IsErrOf r NoPage → ⊥
 read_no_page reads old new r left is = subst (λ (o : Result Leaf StoreFault). ReadLeaves reads old o new) is left

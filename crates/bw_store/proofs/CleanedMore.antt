@@ -16,7 +16,7 @@ use Rattle.bw_log.specs.Segments.{following, frames_of, next_of, AreFrom}
 use Rattle.bw_log.specs.Oldest.{oldest_count}
 use Rattle.bw_log.specs.declared.fault.LogFault.{LogFault}
 use Rattle.bw_log.specs.declared.fault.LogFault.TheVariants as log
-use Rattle.bw_care.specs.Cleaning.{old_pages, oldest_last, IsRewritten}
+use Rattle.bw_care.specs.Cleaning.{old_pages, oldest_last, pages_upto, IsRewritten}
 use Rattle.bw_care.specs.Moving as care
 use Rattle.bw_care.specs.declared.cleaning.Cleaned.{Cleaned}
 use Rattle.bw_care.specs.declared.fault.CleanFault.{CleanFault}
@@ -50,13 +50,12 @@ pub record Begins (s : Kept) : Type 0 where
   pub done : IsSettled s
   pub empty : s.making.blocks ≡ []
   pub works : s.log.is_failed ≡ false
-  pub two : 2 ≤ length s.log.live
 
 -- the log after a cleaning, whatever its answer: so many frames, and some of the first are gone
-pub record Cleans (s : Kept) (new : logs.Contents) : Type 0 where
+pub record Cleans (s : Kept) (most : ℕ) (new : logs.Contents) : Type 0 where
   pub written : List Frame
   pub adds : Adds s written
-  pub few : length written ≤ length s.log.pages
+  pub few : length written ≤ most
   pub sound : logs.IsSound new
   pub m : new.m ≡ s.log.m
   pub f : new.f ≡ s.log.f
@@ -79,12 +78,14 @@ adds_of s written ps now b sound counts bases =
     (let len = length-append (logs.counted s.log) written in omega arith) in
     record { sound = b.sound; empty = b.empty; done = b.done; bases = bases.bases; numbered = numbered; top = omega arith }
 
-few_pages : (s : Kept) (ps rest : List ℕ) (frames : ℕ) → old_pages s.log ≡ ps ++ rest → frames ≤ length ps → frames ≤ length s.log.pages
-few_pages s ps rest frames all few =
-    let many = few_old (oldest_last s.log s.log.live) (logs.counted s.log) 1 (length s.log.pages) in
-    let len = ap (λ (l : List ℕ). length l) all in
+few_pages : (all ps rest : List ℕ) (frames most : ℕ) → length all ≤ most → all ≡ ps ++ rest → frames ≤ length ps → frames ≤ most
+few_pages all ps rest frames most top is few =
+    let len = ap (λ (l : List ℕ). length l) is in
     let parts = length-append ps rest in
     omega arith
+
+pub few_upto : (s : Kept) (last : ℕ) → length (pages_upto last s.log) ≤ length s.log.pages
+few_upto s last = few_old last (logs.counted s.log) 1 (length s.log.pages)
 
 -- what a refused step leaves of the log
 record StillCounts (old new : logs.Contents) : Type 0 where
@@ -143,9 +144,11 @@ refused_left m old new log.Failed leaves works r stand failed = absurd r
 refused_left m old new log.Spent leaves works r stand failed = absurd (still_works old new works r failed)
 refused_left m old new log.NoPage leaves works r stand failed = absurd r
 
-pub refused_cleans : (s : Kept) (fault : LogFault) (new : logs.Contents) → Begins s → logs.IsSound new → care.Stopped s.log fault new
-    → ((leaves : List Leaf) → Stand s.log.m (logs.counted s.log) leaves → Stand s.log.m (logs.counted new) leaves) → Cleans s new
-refused_cleans s fault new b sound x stands =
+-- some pages were written again, then a step was refused
+pub refused_cleans : (s : Kept) (last : ℕ) (all : List ℕ) (fault : LogFault) (most : ℕ) (new : logs.Contents) → Begins s → logs.IsSound new
+    → length all ≤ most → care.StoppedBehind last s.log all fault new
+    → ((leaves : List Leaf) → Stand s.log.m (logs.counted s.log) leaves → Stand s.log.m (logs.counted new) leaves) → Cleans s most new
+refused_cleans s last all fault most new b sound top x stands =
     let still = still_counts x.then_log new fault x.refused in
     let counts = still.counts ∙ x.moved.counts in
     let adds = adds_of s x.moved.written x.done new b sound counts x.moved.holds in
@@ -154,7 +157,7 @@ refused_cleans s fault new b sound x stands =
     record {
       written = x.moved.written;
       adds = adds;
-      few = (let all = few_pages s x.done x.rest x.frames x.pages few in omega arith);
+      few = (let all_few = few_pages all x.done x.rest x.frames most top x.pages few in omega arith);
       sound = sound;
       m = still.m ∙ x.moved.m;
       f = still.f ∙ x.moved.f;
@@ -163,64 +166,141 @@ refused_cleans s fault new b sound x stands =
       gone = 0;
       counts = counts;
       begun = begun_stays s.edge s.log new b.sound.log.rooms
-          (row_then s.log x.then_log new (moved_row s.log x.then_log x.done x.rest x.frames x.moved) (refused_row x.then_log new fault x.refused)) b.sound.begun;
+          (row_then s.log x.then_log new (moved_row last s.log x.then_log x.done x.rest x.frames x.moved) (refused_row x.then_log new fault x.refused)) b.sound.begun;
       left = refused_left s.filed.m x.then_log new fault s.filed.leaves x.moved.works x.refused (stands_as s new b stands);
     }
 
-pub cleaned_cleans : (s : Kept) (cleaned : Cleaned) (new : logs.Contents) → Begins s → logs.IsSound new → care.IsCleaned s.log cleaned new
-    → ((leaves : List Leaf) → Stand s.log.m (logs.counted s.log) leaves → Stand s.log.m (logs.counted new) leaves) → Cleans s new
-cleaned_cleans s cleaned new b sound x stands =
-    let adds = adds_of s x.moved.written (old_pages s.log) x.then_log b x.sound x.moved.counts x.moved.holds in
-    let many = x.moved.count in
-    let few = x.moved.few in
+-- all pages were written again, and then the first so many segments were given up, whose frames are these first ones
+pub record GaveUp (k gone : ℕ) (then_log new : logs.Contents) : Type 0 where
+  pub sound : logs.IsSound then_log
+  pub less : k < length then_log.live
+  pub is : new ≡ record then_log { live = drop k then_log.live; number = then_log.number + k; frames = new.frames }
+  pub counts : logs.counted new ≡ drop gone (logs.counted then_log)
+
+pub given_cleans : (s : Kept) (last : ℕ) (all : List ℕ) (frames k gone most : ℕ) (then_log new : logs.Contents) → Begins s → logs.IsSound new
+    → length all ≤ most → care.MovedBehind last s.log then_log all [] frames → GaveUp k gone then_log new
+    → ((leaves : List Leaf) → Stand s.log.m (logs.counted s.log) leaves → Stand s.log.m (logs.counted new) leaves) → Cleans s most new
+given_cleans s last all frames k gone most then_log new b sound top moved x stands =
+    let adds = adds_of s moved.written all then_log b x.sound moved.counts moved.holds in
+    let many = moved.count in
+    let few = moved.few in
     record {
-      written = x.moved.written;
+      written = moved.written;
       adds = adds;
-      few = (let all = few_pages s (old_pages s.log) [] cleaned.frames (sym (append-nil (old_pages s.log))) few in omega arith);
+      few = omega arith;
       sound = sound;
-      m = ap (λ (c : logs.Contents). c.m) x.given_up ∙ x.moved.m;
-      f = ap (λ (c : logs.Contents). c.f) x.given_up ∙ x.moved.f;
-      next = ap (λ (c : logs.Contents). c.next) x.given_up ∙ x.sound.holds.follows ∙ ap next_of x.moved.counts ∙ next_then s x.moved.written adds;
+      m = ap (λ (c : logs.Contents). c.m) x.is ∙ moved.m;
+      f = ap (λ (c : logs.Contents). c.f) x.is ∙ moved.f;
+      next = ap (λ (c : logs.Contents). c.next) x.is ∙ x.sound.holds.follows ∙ ap next_of moved.counts ∙ next_then s moved.written adds;
       stands = stands_as s new b stands;
-      gone = oldest_count s.log.live;
-      counts = x.counts ∙ ap (drop (oldest_count s.log.live)) x.moved.counts;
-      begun = begun_dropped s.edge x.then_log new (let many = x.moved.older.many in let two = x.two in omega arith)
-          (ap (λ (c : logs.Contents). c.live) x.given_up) (ap (λ (c : logs.Contents). c.number) x.given_up) (ap (λ (c : logs.Contents). c.f) x.given_up)
-          (begun_stays s.edge s.log x.then_log b.sound.log.rooms
-          (moved_row s.log x.then_log (old_pages s.log) [] cleaned.frames x.moved) b.sound.begun);
-      left = λ failed. (let fine = ap (λ (c : logs.Contents). c.is_failed) x.given_up in let works = x.moved.works in absurd cc);
+      gone = gone;
+      counts = x.counts ∙ ap (drop gone) moved.counts;
+      begun = begun_dropped s.edge k then_log new x.less
+          (ap (λ (c : logs.Contents). c.live) x.is) (ap (λ (c : logs.Contents). c.number) x.is) (ap (λ (c : logs.Contents). c.f) x.is)
+          (begun_stays s.edge s.log then_log b.sound.log.rooms
+          (moved_row last s.log then_log all [] frames moved) b.sound.begun);
+      left = λ failed. (let fine = ap (λ (c : logs.Contents). c.is_failed) x.is in let works = moved.works in absurd cc);
     }
+
+pub given_told : (s : Kept) (last : ℕ) (all : List ℕ) (frames k gone most : ℕ) (then_log new : logs.Contents) (b : Begins s) (sound : logs.IsSound new)
+    (top : length all ≤ most) (moved : care.MovedBehind last s.log then_log all [] frames) (x : GaveUp k gone then_log new)
+    (stands : (leaves : List Leaf) → Stand s.log.m (logs.counted s.log) leaves → Stand s.log.m (logs.counted new) leaves)
+    → length (given_cleans s last all frames k gone most then_log new b sound top moved x stands).written ≡ frames
+unfolding given_cleans
+given_told s last all frames k gone most then_log new b sound top moved x stands = moved.count
+
+pub refused_counts : (s : Kept) (last : ℕ) (all : List ℕ) (fault : LogFault) (most : ℕ) (new : logs.Contents) (b : Begins s) (sound : logs.IsSound new)
+    (top : length all ≤ most) (x : care.StoppedBehind last s.log all fault new)
+    (stands : (leaves : List Leaf) → Stand s.log.m (logs.counted s.log) leaves → Stand s.log.m (logs.counted new) leaves)
+    → logs.counted new ≡ logs.counted s.log ++ (refused_cleans s last all fault most new b sound top x stands).written
+unfolding refused_cleans
+refused_counts s last all fault most new b sound top x stands = (still_counts x.then_log new fault x.refused).counts ∙ x.moved.counts
+
+-- all pages were written again, and no segment was given up
+pub moved_cleans : (s : Kept) (last : ℕ) (all : List ℕ) (frames most : ℕ) (new : logs.Contents) → Begins s → logs.IsSound new
+    → length all ≤ most → care.MovedBehind last s.log new all [] frames
+    → ((leaves : List Leaf) → Stand s.log.m (logs.counted s.log) leaves → Stand s.log.m (logs.counted new) leaves) → Cleans s most new
+moved_cleans s last all frames most new b sound top moved stands =
+    let adds = adds_of s moved.written all new b sound moved.counts moved.holds in
+    let many = moved.count in
+    let few = moved.few in
+    record {
+      written = moved.written;
+      adds = adds;
+      few = omega arith;
+      sound = sound;
+      m = moved.m;
+      f = moved.f;
+      next = sound.holds.follows ∙ ap next_of moved.counts ∙ next_then s moved.written adds;
+      stands = stands_as s new b stands;
+      gone = 0;
+      counts = moved.counts;
+      begun = begun_stays s.edge s.log new b.sound.log.rooms (moved_row last s.log new all [] frames moved) b.sound.begun;
+      left = λ failed. (let works = moved.works in absurd cc);
+    }
+
+pub moved_counts : (s : Kept) (last : ℕ) (all : List ℕ) (frames most : ℕ) (new : logs.Contents) (b : Begins s) (sound : logs.IsSound new)
+    (top : length all ≤ most) (moved : care.MovedBehind last s.log new all [] frames)
+    (stands : (leaves : List Leaf) → Stand s.log.m (logs.counted s.log) leaves → Stand s.log.m (logs.counted new) leaves)
+    → (logs.counted new ≡ logs.counted s.log ++ (moved_cleans s last all frames most new b sound top moved stands).written)
+    × (length (moved_cleans s last all frames most new b sound top moved stands).written ≡ frames)
+unfolding moved_cleans
+moved_counts s last all frames most new b sound top moved stands = (moved.counts, moved.count)
+
+-- ---- the cleaner's own answers
+
+gave_up_oldest : (s : Kept) (cleaned : Cleaned) (new : logs.Contents) (x : care.IsCleaned s.log cleaned new) → GaveUp 1 (oldest_count s.log.live) x.then_log new
+gave_up_oldest s cleaned new x = record {
+  sound = x.sound;
+  less = (let many = x.moved.older.many in let two = x.two in omega arith);
+  is = x.given_up;
+  counts = x.counts;
+}
+
+pub cleaned_cleans : (s : Kept) (cleaned : Cleaned) (new : logs.Contents) → Begins s → logs.IsSound new → care.IsCleaned s.log cleaned new
+    → ((leaves : List Leaf) → Stand s.log.m (logs.counted s.log) leaves → Stand s.log.m (logs.counted new) leaves) → Cleans s (length s.log.pages) new
+cleaned_cleans s cleaned new b sound x stands =
+    given_cleans s (oldest_last s.log s.log.live) (old_pages s.log) cleaned.frames 1 (oldest_count s.log.live) (length s.log.pages) x.then_log new b sound
+    (few_upto s (oldest_last s.log s.log.live)) x.moved (gave_up_oldest s cleaned new x) stands
 
 pub cleaned_told : (s : Kept) (cleaned : Cleaned) (new : logs.Contents) (b : Begins s) (sound : logs.IsSound new) (x : care.IsCleaned s.log cleaned new)
     (stands : (leaves : List Leaf) → Stand s.log.m (logs.counted s.log) leaves → Stand s.log.m (logs.counted new) leaves)
     → length (cleaned_cleans s cleaned new b sound x stands).written ≡ cleaned.frames
 unfolding cleaned_cleans
-cleaned_told s cleaned new b sound x stands = x.moved.count
-
-pub refused_counts : (s : Kept) (fault : LogFault) (new : logs.Contents) (b : Begins s) (sound : logs.IsSound new) (x : care.Stopped s.log fault new)
-    (stands : (leaves : List Leaf) → Stand s.log.m (logs.counted s.log) leaves → Stand s.log.m (logs.counted new) leaves)
-    → logs.counted new ≡ logs.counted s.log ++ (refused_cleans s fault new b sound x stands).written
-unfolding refused_cleans
-refused_counts s fault new b sound x stands = (still_counts x.then_log new fault x.refused).counts ∙ x.moved.counts
+cleaned_told s cleaned new b sound x stands =
+    given_told s (oldest_last s.log s.log.live) (old_pages s.log) cleaned.frames 1 (oldest_count s.log.live) (length s.log.pages) x.then_log new b sound
+    (few_upto s (oldest_last s.log s.log.live)) x.moved (gave_up_oldest s cleaned new x) stands
 
 -- a cleaning that is not refused at once
-pub stopped_of : (s : Kept) (cause : CleanFault) (new : logs.Contents) → Begins s → care.Refuses cause s.log new
+pub stopped_of : (s : Kept) (cause : CleanFault) (new : logs.Contents) → Begins s → 2 ≤ length s.log.live → care.Refuses cause s.log new
     → (fault : LogFault) × care.Stopped s.log fault new
-stopped_of s NothingOld new b r = (let two = b.two in let few = r.1 in absurd (omega arith))
-stopped_of s (Log log.NoMemory) new b r = (log.NoMemory, r.2)
-stopped_of s (Log log.BadConfig) new b r = absurd r
-stopped_of s (Log log.NoSegment) new b r = (log.NoSegment, r.2)
-stopped_of s (Log (log.Device lease)) new b r = (log.Device lease, r.2)
-stopped_of s (Log log.Failed) new b r = (let works = b.works in let failed = r.2 in absurd cc)
-stopped_of s (Log log.Spent) new b r = (log.Spent, r.2)
-stopped_of s (Log log.NoPage) new b r = absurd r
+stopped_of s NothingOld new b two r = (let few = r.1 in absurd (omega arith))
+stopped_of s (Log log.NoMemory) new b two r = (log.NoMemory, r.2)
+stopped_of s (Log log.BadConfig) new b two r = absurd r
+stopped_of s (Log log.NoSegment) new b two r = (log.NoSegment, r.2)
+stopped_of s (Log (log.Device lease)) new b two r = (log.Device lease, r.2)
+stopped_of s (Log log.Failed) new b two r = (let works = b.works in let failed = r.2 in absurd cc)
+stopped_of s (Log log.Spent) new b two r = (log.Spent, r.2)
+stopped_of s (Log log.NoPage) new b two r = absurd r
 
-pub cleans_of : (s : Kept) (new : logs.Contents) (r : Result Cleaned CleanFault) → Begins s → logs.IsSound new
+pub stopped_cleans : (s : Kept) (fault : LogFault) (new : logs.Contents) → Begins s → logs.IsSound new → care.Stopped s.log fault new
+    → ((leaves : List Leaf) → Stand s.log.m (logs.counted s.log) leaves → Stand s.log.m (logs.counted new) leaves) → Cleans s (length s.log.pages) new
+stopped_cleans s fault new b sound x stands =
+    refused_cleans s (oldest_last s.log s.log.live) (old_pages s.log) fault (length s.log.pages) new b sound (few_upto s (oldest_last s.log s.log.live)) x stands
+
+pub stopped_counts : (s : Kept) (fault : LogFault) (new : logs.Contents) (b : Begins s) (sound : logs.IsSound new) (x : care.Stopped s.log fault new)
+    (stands : (leaves : List Leaf) → Stand s.log.m (logs.counted s.log) leaves → Stand s.log.m (logs.counted new) leaves)
+    → logs.counted new ≡ logs.counted s.log ++ (stopped_cleans s fault new b sound x stands).written
+unfolding stopped_cleans
+stopped_counts s fault new b sound x stands =
+    refused_counts s (oldest_last s.log s.log.live) (old_pages s.log) fault (length s.log.pages) new b sound (few_upto s (oldest_last s.log s.log.live)) x stands
+
+pub cleans_of : (s : Kept) (new : logs.Contents) (r : Result Cleaned CleanFault) → Begins s → 2 ≤ length s.log.live → logs.IsSound new
     → IfOk r (λ cleaned. care.IsCleaned s.log cleaned new) → IfErr r (λ cause. care.Refuses cause s.log new)
-    → ((leaves : List Leaf) → Stand s.log.m (logs.counted s.log) leaves → Stand s.log.m (logs.counted new) leaves) → Cleans s new
-cleans_of s new (Ok cleaned) b sound ok err stands = cleaned_cleans s cleaned new b sound ok stands
-cleans_of s new (Err cause) b sound ok err stands =
-    (let x = stopped_of s cause new b err in refused_cleans s x.0 new b sound x.1 stands)
+    → ((leaves : List Leaf) → Stand s.log.m (logs.counted s.log) leaves → Stand s.log.m (logs.counted new) leaves) → Cleans s (length s.log.pages) new
+cleans_of s new (Ok cleaned) b two sound ok err stands = cleaned_cleans s cleaned new b sound ok stands
+cleans_of s new (Err cause) b two sound ok err stands =
+    (let x = stopped_of s cause new b two err in stopped_cleans s x.0 new b sound x.1 stands)
 
 -- ---- what the store does next
 
@@ -228,16 +308,16 @@ cleans_of s new (Err cause) b sound ok err stands =
 pub end_before : (s : Kept) → IsSound s → end_by s.log.next ≡ s.before + s.durable + 1
 end_before s h = (let top = h.last in ap end_by h.next ∙ end_is (s.before + s.durable) (omega arith))
 
-pub end_after : (s : Kept) (new : logs.Contents) (c : Cleans s new) → end_by new.next ≡ s.before + s.durable + 1 + length c.written
+pub end_after : (s : Kept) (new : logs.Contents) {most : ℕ} (c : Cleans s most new) → end_by new.next ≡ s.before + s.durable + 1 + length c.written
 end_after s new c =
     (let top = high s c.written c.adds in
     ap end_by c.next ∙ end_is (s.before + (s.durable + length c.written)) (omega arith) ∙ omega arith)
 
-pub frames_are : (s : Kept) (new : logs.Contents) (c : Cleans s new) (frames : ℕ) → IsSound s → frames + end_by s.log.next ≡ end_by new.next
+pub frames_are : (s : Kept) (new : logs.Contents) {most : ℕ} (c : Cleans s most new) (frames : ℕ) → IsSound s → frames + end_by s.log.next ≡ end_by new.next
     → frames ≡ length c.written
 frames_are s new c frames h e = (let one = end_before s h in let two = end_after s new c in omega arith)
 
-pub there : (s : Kept) (new : logs.Contents) (c : Cleans s new) (p : ℕ) → 1 ≤ p → p ≤ length s.newest → IsSound s → place_of p (logs.counted new) ≡ None → ⊥
+pub there : (s : Kept) (new : logs.Contents) {most : ℕ} (c : Cleans s most new) (p : ℕ) → 1 ≤ p → p ≤ length s.newest → IsSound s → place_of p (logs.counted new) ≡ None → ⊥
 there s new c p from to h = (let count = h.grown.count in placed_page new s.filed.m s.filed.leaves p c.sound c.stands from (omega arith))
 
 pub few_newest : (s : Kept) → IsSound s → IsSettled s → length s.newest < 2 ^ 32
@@ -251,8 +331,8 @@ few_newest s h done =
     omega arith)
 
 -- what was noted
-pub record Notes (s : Kept) (new : logs.Contents) (frames : ℕ) (cuts : List ℕ) (newest : List Place) (making : Filling) : Type 0 where
-  pub cleans : Cleans s new
+pub record Notes (s : Kept) (most : ℕ) (new : logs.Contents) (frames : ℕ) (cuts : List ℕ) (newest : List Place) (making : Filling) : Type 0 where
+  pub cleans : Cleans s most new
   pub frames_are : frames ≡ length cleans.written
   pub cuts_are : cuts ≡ s.cuts ++ replicate frames (length s.entries)
   pub count : length newest ≡ length s.newest
@@ -262,8 +342,8 @@ pub record Notes (s : Kept) (new : logs.Contents) (frames : ℕ) (cuts : List �
   pub sealed : making.is_sealed ≡ new.is_failed
   pub numbered : (new.next ≡ Some making.frame) ⊎ (new.next ≡ None)
 
-module _ (s : Kept) (b : Begins s) (new : logs.Contents) (frames : ℕ) (cuts : List ℕ) (newest : List Place) (making : Filling)
-    (x : Notes s new frames cuts newest making) where
+module _ (s : Kept) (most : ℕ) (b : Begins s) (new : logs.Contents) (frames : ℕ) (cuts : List ℕ) (newest : List Place) (making : Filling)
+    (x : Notes s most new frames cuts newest making) where
   abbrev noted : ℕ → Kept
   noted floor = record s { floor = floor; cuts = cuts; durable = s.durable + frames; newest = newest; making = making; log = new }
 
@@ -314,44 +394,69 @@ module _ (s : Kept) (b : Begins s) (new : logs.Contents) (frames : ℕ) (cuts : 
       subst IsSound (sym (noted_is s.floor ∙ ap (λ k. with_moved s k s.floor newest making new) same))
       (moved_sound s c.written c.adds s.floor newest making new (moves s.floor (omega arith) (all_cuts s c.written c.adds new counts)))
 
--- a store with these parts is the one with so many frames moved
-pub noted_are : (s : Kept) (frames told : ℕ) (cuts : List ℕ) (newest : List Place) (making : Filling) (new : logs.Contents) → frames ≡ told
-    → cuts ≡ s.cuts ++ replicate frames (length s.entries)
-    → record s { floor = s.durable + frames; cuts = cuts; durable = s.durable + frames; newest = newest; making = making; log = new }
-    ≡ with_moved s told (s.durable + told) newest making new
-noted_are s frames told cuts newest making new same is =
-    ap (λ (cs : List ℕ). record s { floor = s.durable + frames; cuts = cs; durable = s.durable + frames; newest = newest; making = making; log = new }) is
-    ∙ ap (λ k. with_moved s k (s.durable + k) newest making new) same
+pub numbered_of : (next : Option ℕ) (frame : ℕ) → IfSome next (λ n. frame ≡ n) → (next ≡ Some frame) ⊎ (next ≡ None)
+numbered_of None frame h = inr refl
+numbered_of (Some n) frame h = inl (ap (λ (k : ℕ). Some k) (sym h))
 
-pub numbered_of : (o next : Option ℕ) (frame : ℕ) → o ≡ next → IfSome o (λ n. frame ≡ n) → (next ≡ Some frame) ⊎ (next ≡ None)
-numbered_of None next frame e h = inr (sym e)
-numbered_of (Some n) next frame e h = inl (sym e ∙ ap (λ (k : ℕ). Some k) (sym h))
+-- what noting asks, and what it tells
+module _ (s : Kept) (most : ℕ) (new : logs.Contents) (x : Cleans s most new) (first : Option ℕ) (h : IsSound s) (at_first : first ≡ s.log.next) where
+  pub note_some : 1 ≤ end_by first
+  note_some = (let one = end_before s h in let e = ap end_by at_first in omega arith)
 
-pub first_numbered : (s : Kept) (new : logs.Contents) (c : Cleans s new) (o : Option ℕ) → o ≡ new.next → IfSome o (λ n. 1 ≤ n)
-first_numbered s new c None e = tt
-first_numbered s new c (Some n) e = (let two = end_after s new c in let same = ap end_by e in omega arith)
+  pub note_after : end_by first ≤ end_by new.next
+  note_after = (let one = end_before s h in let two = end_after s new x in let e = ap end_by at_first in omega arith)
 
--- the same of what the steps of the code answered
-abbrev pub notes_of : (s : Kept) (new : logs.Contents) (x : Cleans s new) (frames end : ℕ) (cuts : List ℕ) (newest : List Place) (making : Filling)
-    (failed : Bool) (first next told : Option ℕ) → IsSound s → first ≡ s.log.next → next ≡ new.next → frames + end_by first ≡ end_by next
-    → cuts ≡ s.cuts ++ replicate frames end → end ≡ length s.entries → length newest ≡ length s.newest
-    → ((p : ℕ) → 1 ≤ p → p ≤ length s.newest → slice_get newest (p - 1) ≡ place_of p (logs.counted new))
-    → making.limit ≡ s.making.limit → making.blocks ≡ [] → making.is_sealed ≡ failed → failed ≡ new.is_failed
-    → told ≡ new.next → IfSome told (λ n. making.frame ≡ n) → Notes s new frames cuts newest making
-notes_of s new x frames end cuts newest making failed first next told h at_first at_next added pushed ends count each limit empty sealed is numbered number =
-    let one = ap end_by at_first in
-    let two = ap end_by at_next in
-    record {
-      cleans = x;
-      frames_are = frames_are s new x frames h (omega arith);
-      cuts_are = pushed ∙ ap (λ e. s.cuts ++ replicate frames e) ends;
-      count = count;
-      each = each;
-      limit = limit;
-      empty = empty;
-      sealed = sealed ∙ is;
-      numbered = numbered_of told new.next making.frame numbered number;
-    }
+  pub note_few : s.durable + end_by new.next < 2 ^ 64 + end_by first
+  note_few =
+      (let one = end_before s h in let two = end_after s new x in let e = ap end_by at_first in let top = high s x.written x.adds in omega arith)
+
+  pub note_room : (cuts room : ℕ) → cuts + most ≤ room → cuts + end_by new.next ≤ room + end_by first
+  note_room cuts room roomy =
+      (let one = end_before s h in let two = end_after s new x in let e = ap end_by at_first in let few = x.few in omega arith)
+
+  pub note_frames : (frames : ℕ) → frames + end_by first ≡ end_by new.next → frames ≡ length x.written
+  note_frames frames e = frames_are s new x frames h (let f = ap end_by at_first in omega arith)
+
+  abbrev pub notes_of : (frames : ℕ) (newest : List Place) (making : Filling) → frames + end_by first ≡ end_by new.next
+      → length newest ≡ length s.newest → ((p : ℕ) → 1 ≤ p → p ≤ length s.newest → slice_get newest (p - 1) ≡ place_of p (logs.counted new))
+      → making.limit ≡ s.making.limit → making.blocks ≡ [] → making.is_sealed ≡ new.is_failed → IfSome new.next (λ n. making.frame ≡ n)
+      → Notes s most new frames (s.cuts ++ replicate frames (length s.entries)) newest making
+  notes_of frames newest making e count each limit empty sealed number = record {
+    cleans = x;
+    frames_are = note_frames frames e;
+    cuts_are = refl;
+    count = count;
+    each = each;
+    limit = limit;
+    empty = empty;
+    sealed = sealed;
+    numbered = numbered_of new.next making.frame number;
+  }
+
+-- a store that noted them, where segments were given up: the floor is what is durable
+pub moved_done : (s t : Kept) (new : logs.Contents) (frames told : ℕ) (newest : List Place) (making : Filling)
+    → t ≡ with_moved s frames s.floor newest making new → frames ≡ told
+    → record t { floor = t.durable } ≡ with_moved s told (s.durable + told) newest making new
+moved_done s t new frames told newest making is same =
+    ap (λ (k : Kept). record k { floor = k.durable }) is ∙ ap (λ (n : ℕ). with_moved s n (s.durable + n) newest making new) same
+
+-- the same, as the store has its log
+pub moved_told : (s t : Kept) (new : logs.Contents) (frames told : ℕ) (newest : List Place) (making : Filling)
+    → t ≡ with_moved s frames s.floor newest making new → frames ≡ told
+    → record t { floor = t.durable } ≡ with_moved s told (s.durable + told) newest making t.log
+moved_told s t new frames told newest making is same =
+    moved_done s t new frames told newest making is same
+    ∙ ap (with_moved s told (s.durable + told) newest making) (sym (ap (λ (k : Kept). k.log) is))
+
+pub moved_as : (s t : Kept) (new : logs.Contents) (frames told : ℕ) (newest : List Place) (making : Filling)
+    → t ≡ with_moved s frames s.floor newest making new → frames ≡ told → t ≡ with_moved s told s.floor newest making t.log
+moved_as s t new frames told newest making is same =
+    is ∙ ap (λ (n : ℕ). with_moved s n s.floor newest making new) same
+    ∙ ap (with_moved s told s.floor newest making) (sym (ap (λ (k : Kept). k.log) is))
+
+pub moved_kept : (s t : Kept) (new : logs.Contents) (frames : ℕ) (newest : List Place) (making : Filling)
+    → t ≡ with_moved s frames s.floor newest making new → t ≡ with_moved s frames s.floor newest making t.log
+moved_kept s t new frames newest making is = is ∙ ap (with_moved s frames s.floor newest making) (sym (ap (λ (k : Kept). k.log) is))
 
 -- ---- a flush before it
 
@@ -380,7 +485,7 @@ live_stay old new (Some n) left =
 
 -- ---- what no cleaning takes back
 
-moved_follows : (s : Kept) (frames floor : ℕ) (newest : List Place) (making : Filling) (log : logs.Contents) (new : Kept) → s.floor ≤ floor
+pub moved_follows : (s : Kept) (frames floor : ℕ) (newest : List Place) (making : Filling) (log : logs.Contents) (new : Kept) → s.floor ≤ floor
     → new ≡ with_moved s frames floor newest making log → Continues s new
 moved_follows s frames floor newest making log new low is = record {
   rings = ap (λ (k : Kept). k.rings) is;
@@ -412,20 +517,21 @@ refused_roster old new log.Failed r = absurd r
 refused_roster old new log.Spent r = ap logs.roster r
 refused_roster old new log.NoPage r = absurd r
 
-stopped_roster : (old new : logs.Contents) (fault : LogFault) → care.Stopped old fault new → logs.roster new ≡ logs.roster old
-stopped_roster old new fault x = refused_roster x.then_log new fault x.refused ∙ same_roster old x.then_log x.moved.boxes_grew
+pub stopped_roster : (last : ℕ) (all : List ℕ) (old new : logs.Contents) (fault : LogFault) → care.StoppedBehind last old all fault new
+    → logs.roster new ≡ logs.roster old
+stopped_roster last all old new fault x = refused_roster x.then_log new fault x.refused ∙ same_roster old x.then_log x.moved.boxes_grew
 
 cause_roster : (old new : logs.Contents) (cause : CleanFault) → care.Refuses cause old new → logs.roster new ≡ logs.roster old
 cause_roster old new NothingOld r = ap logs.roster r.0
-cause_roster old new (Log log.NoMemory) r = stopped_roster old new log.NoMemory r.2
+cause_roster old new (Log log.NoMemory) r = stopped_roster (oldest_last old old.live) (old_pages old) old new log.NoMemory r.2
 cause_roster old new (Log log.BadConfig) r = absurd r
-cause_roster old new (Log log.NoSegment) r = stopped_roster old new log.NoSegment r.2
-cause_roster old new (Log (log.Device lease)) r = stopped_roster old new (log.Device lease) r.2
+cause_roster old new (Log log.NoSegment) r = stopped_roster (oldest_last old old.live) (old_pages old) old new log.NoSegment r.2
+cause_roster old new (Log (log.Device lease)) r = stopped_roster (oldest_last old old.live) (old_pages old) old new (log.Device lease) r.2
 cause_roster old new (Log log.Failed) r = ap logs.roster r.0
-cause_roster old new (Log log.Spent) r = stopped_roster old new log.Spent r.2
+cause_roster old new (Log log.Spent) r = stopped_roster (oldest_last old old.live) (old_pages old) old new log.Spent r.2
 cause_roster old new (Log log.NoPage) r = absurd r
 
-pub move_boxes : (old s new : Kept) (r : Result Cleaned StoreFault) → logs.roster s.log ≡ logs.roster old.log → MoveLeaves s r new → HasBoxesBut old r new
+pub move_boxes : (old s new : Kept) (r : Result Cleaned StoreFault) → logs.roster s.log ≡ logs.roster old.log → MoveLeaves s r new → HasBoxesBut 1 old r new
 move_boxes old s new (Ok cleaned) same left = left.log.leases ∙ ap (drop 1) same
 move_boxes old s new (Err fault) same left = cause_roster s.log new.log left.0 left.2.log ∙ same
 

@@ -17,7 +17,8 @@ use Rattle.bw_page.specs.Leaves.{directed_at, HasPage, AreLeaves}
 use Rattle.bw_page.proofs.Indexed.{home_within}
 use Rattle.bw_store.proofs.Joins.{all-append}
 use Rattle.bw_buffer.specs.Filling.{Filling, frame_of, with_all, size_of}
-use Rattle.bw_buffer.specs.Joining.{joins}
+use Rattle.bw_buffer.specs.Counting.{grown}
+use Rattle.bw_buffer.specs.Joining.{joins, open_records}
 use Rattle.bw_buffer.proofs.Holding.{few_blocks}
 use Rattle.bw_log.specs.Contents as logs
 use Rattle.bw_log.proofs.Adding.{following_is}
@@ -25,7 +26,7 @@ use Rattle.bw_ring.specs.Marks.{Marked}
 use Rattle.bw_store.specs.declared.drafting.Row.{Row}
 use Rattle.bw_store.specs.declared.drafting.Draft.{Draft}
 use Rattle.bw_store.specs.Adding.{Drawn, back_in, blocks_in, count_after, drawn_by, here_for, last_for, nowhere, planned, result_of, upper_if}
-use Rattle.bw_store.specs.Drafting.{Added, IsAhead, Stands, behind, count_with, drawn_behind, open_in, place_by, place_in, place_with, row_by, row_for, row_in}
+use Rattle.bw_store.specs.Drafting.{Added, IsAhead, Stands, behind, count_with, drawn_behind, open_in, place_by, place_in, place_with, records_in, row_by, row_for, row_in}
 use Rattle.bw_store.specs.Fitting.{back_for, drawn_of, group_blocks}
 use Rattle.bw_store.specs.Kept.{Kept, IsSound}
 use Rattle.bw_store.specs.Taken.{alone, taken, taken_all}
@@ -132,7 +133,6 @@ module _ (s : Kept) (lane : ℕ) (done : List Record) where
           takes = takes_next r op room;
           number = number;
           inside = subst (λ (n : ℕ). lane < n) (rings_are s lane (map alone done)) inside;
-          short = omega arith;
         } in
         let sound = taken_sound now lane (alone r) (back_for now r) one in
         subst (λ (k : Kept). (IsSound k × (k.log.next ≡ Some k.making.frame) × (size_of k.making ≤ k.making.limit)) → Stands s lane (done ++ r ∷ []))
@@ -171,6 +171,8 @@ module _ (s : Kept) (lane : ℕ) (done : List Record) where
           ap (λ (o : Option Place). unwrap_or o nowhere) (a.places page (omega arith) (omega arith)) ∙ ap (λ (p : ℕ). unwrap_or (slice_get d.newest (p - 1)) nowhere) at in
           let open_is : open_in old.rows.items s.making.blocks page ≡ joins p0 d.frame.blocks =
           a.opens page (omega arith) (omega arith) ∙ ap (λ (p : ℕ). joins p d.frame.blocks) at in
+          let records_is : records_in old.rows.items s.making.blocks page ≡ open_records p0 d.frame.blocks =
+          a.records page (omega arith) (omega arith) ∙ ap (λ (p : ℕ). open_records p d.frame.blocks) at in
           let here : place_with s.making.frame (unwrap_or (open_in old.rows.items s.making.blocks page) old.count) ≡ here_for d.frame p0 =
           ap (λ (n : ℕ). place_with n (unwrap_or (open_in old.rows.items s.making.blocks page) old.count)) (sym number_is)
           ∙ ap (λ (o : Option ℕ). place_with d.frame.number (unwrap_or o old.count)) open_is
@@ -188,11 +190,14 @@ module _ (s : Kept) (lane : ℕ) (done : List Record) where
           ∙ ap (λ (u : Option Leaf). planned p0 (back_in d r) (here_for d.frame p0) r u) up
           ∙ planned_for_is m d.leaves (back_in d r) (here_for d.frame p0) r in
           let row : row_by page (place_with s.making.frame (unwrap_or (open_in old.rows.items s.making.blocks page) old.count))
-          (place_with s.making.frame (count_after (open_in old.rows.items s.making.blocks page) old.count)) upper ≡ row_for m d r =
-          ap (λ (h : Place). row_by page h (place_with s.making.frame (count_after (open_in old.rows.items s.making.blocks page) old.count)) upper) here
-          ∙ ap (λ (l : Place). row_by page (here_for d.frame p0) l upper) last
-          ∙ ap (λ (p : ℕ). row_by p (here_for d.frame p0) (last_for d.frame p0) upper) at
-          ∙ ap (λ (u : Option Leaf). row_by p0 (here_for d.frame p0) (last_for d.frame p0) u) up in
+          (place_with s.making.frame (count_after (open_in old.rows.items s.making.blocks page) old.count))
+          (grown (records_in old.rows.items s.making.blocks page) 1) upper ≡ row_for m d r =
+          ap (λ (h : Place). row_by page h (place_with s.making.frame (count_after (open_in old.rows.items s.making.blocks page) old.count))
+          (grown (records_in old.rows.items s.making.blocks page) 1) upper) here
+          ∙ ap (λ (l : Place). row_by page (here_for d.frame p0) l (grown (records_in old.rows.items s.making.blocks page) 1) upper) last
+          ∙ ap (λ (o : Option ℕ). row_by page (here_for d.frame p0) (last_for d.frame p0) (grown o 1) upper) records_is
+          ∙ ap (λ (p : ℕ). row_by p (here_for d.frame p0) (last_for d.frame p0) (grown (open_records p0 d.frame.blocks) 1) upper) at
+          ∙ ap (λ (u : Option Leaf). row_by p0 (here_for d.frame p0) (last_for d.frame p0) (grown (open_records p0 d.frame.blocks) 1) u) up in
           let blocks : new.blocks.items ≡ group_blocks s (done ++ r ∷ []) =
           x.blocks ∙ ap (λ (bs : List Block). old.blocks.items ++ bs) more ∙ ap (λ (bs : List Block). bs ++ blocks_in m d r) a.blocks
           ∙ sym (blocks_push m (drawn_of s) done r) in
@@ -203,7 +208,7 @@ module _ (s : Kept) (lane : ℕ) (done : List Record) where
           ∙ ap (λ (n : ℕ). count_with upper (count_after (joins p0 d.frame.blocks) n)) a.count
           ∙ ap (λ (u : Option Leaf). count_with u (count_after (joins p0 d.frame.blocks) (length d.frame.blocks))) up
           ∙ sym (count_more m d r some_pairs lawful_is op count_is range.0 range.1) in
-          let known : Knows old.rows.items s.newest s.making.blocks d = record { places = a.places; opens = a.opens } in
+          let known : Knows old.rows.items s.newest s.making.blocks d = record { places = a.places; opens = a.opens; records = a.records } in
           let more_known : Knows new.rows.items s.newest s.making.blocks (drawn_by m d r) =
           subst (λ (rows : List Row). Knows rows s.newest s.making.blocks (drawn_by m d r)) (sym added_row)
           (knows_more m d r some_pairs lawful_is op count_is range.0 range.1 old.rows.items s.newest s.making.blocks known) in
@@ -217,4 +222,5 @@ module _ (s : Kept) (lane : ℕ) (done : List Record) where
                 (all-append (IsBlock 32) old.blocks.items (blocks_in m d r) a.lawful (next_lawful r op room));
             places = now_known.places;
             opens = now_known.opens;
+            records = now_known.records;
           }

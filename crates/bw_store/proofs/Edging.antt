@@ -1,7 +1,7 @@
 -- The segments that a store began: what an append, a cleaning and `reopen` say of the newest one.
 
-use Rattle.std.proofs.Common.{inl, inr, ◌≡◌, ◌⊎◌, ℕ, zero, suc, ◌+◌, ◌-◌, ◌≤◌, Bool, true, false, if◌then◌else◌, Option, Some, None, List, [], ◌∷◌, ◌++◌}
-use Rattle.std.proofs.Common.{length, map, drop, refl, sym, ap, ◌∙◌, subst, arith, length-append}
+use Rattle.std.proofs.Common.{inl, inr, ◌≡◌, ◌⊎◌, ℕ, zero, suc, ◌+◌, ◌-◌, ◌<◌, ◌≤◌, Bool, true, false, if◌then◌else◌, Option, Some, None, List, [], ◌∷◌, ◌++◌}
+use Rattle.std.proofs.Common.{length, map, drop, refl, sym, ap, ◌∙◌, subst, arith, length-append, length-drop}
 use Rattle.std.specs.Prelude.{IfSome, slice_get}
 use Rattle.std.specs.List.{AllByRecursion as All}
 use Rattle.std.proofs.lemmas.List.{length-map}
@@ -12,7 +12,7 @@ use Rattle.bw_device.specs.Holding.{Holding, appended}
 use Rattle.bw_device.specs.declared.memory.TheConstants.{MAX_CAPACITY}
 use Rattle.bw_log.specs.Appends.{last_of, with_last, begun, begun_with, header_of, roomy, wants_segment, torn, Appended, Stopped}
 use Rattle.bw_log.specs.Contents.{Contents, Image, IsRoomy, boxes, image, rooms_of}
-use Rattle.bw_log.specs.Segments.{AreLive}
+use Rattle.bw_log.specs.Segments.{Limits, AreLive}
 use Rattle.bw_log.specs.declared.fault.LogFault.{LogFault}
 use Rattle.bw_log.specs.declared.fault.LogFault.TheVariants as log
 use Rattle.bw_care.specs.Moving as care
@@ -126,8 +126,8 @@ row_then a b c x y =
 pub begun_stays : (edge : Edge) (old new : Contents) → All (IsRoomy old.f) old.spares → StaysRow old new → IsBegun edge old → IsBegun edge new
 begun_stays edge old new spares x was = begun_on edge old new spares x.rooms_are x.number x.limit x.more was
 
-pub moved_row : (old now : Contents) (ps rest : List ℕ) (frames : ℕ) → care.Moved old now ps rest frames → StaysRow old now
-moved_row old now ps rest frames x =
+pub moved_row : (last : ℕ) (old now : Contents) (ps rest : List ℕ) (frames : ℕ) → care.MovedBehind last old now ps rest frames → StaysRow old now
+moved_row last old now ps rest frames x =
     record { rooms_are = longer_rooms (boxes old) (boxes now) x.boxes_grew; number = x.number; limit = x.f; more = x.older.many }
 
 same_row : (old new : Contents) → new ≡ old → StaysRow old new
@@ -155,23 +155,20 @@ refused_row old new log.Failed r = absurd r
 refused_row old new log.Spent r = same_row old new r
 refused_row old new log.NoPage r = absurd r
 
--- the oldest of two or more segments is given up
-dropped_last : (hs : List Holding) → 2 ≤ length hs → last_of (drop 1 hs) ≡ last_of hs
-dropped_last [] two = absurd (omega arith)
-dropped_last (h ∷ []) two = absurd (omega arith)
-dropped_last (h ∷ k ∷ hs) two = refl
+-- the first so many segments are given up, and not the newest
+dropped_last : (k : ℕ) (hs : List Holding) → k < length hs → last_of (drop k hs) ≡ last_of hs
+dropped_last zero hs less = refl
+dropped_last (suc k) [] less = absurd (omega arith)
+dropped_last (suc k) (h ∷ []) less = absurd (omega arith)
+dropped_last (suc k) (h ∷ x ∷ hs) less = dropped_last k (x ∷ hs) (omega arith)
 
-dropped_long : (hs : List Holding) → 2 ≤ length hs → length (drop 1 hs) + 1 ≡ length hs
-dropped_long [] two = absurd (omega arith)
-dropped_long (h ∷ hs) two = omega arith
-
-pub begun_dropped : (edge : Edge) (c new : Contents) → 2 ≤ length c.live → new.live ≡ drop 1 c.live → new.number ≡ c.number + 1 → new.f ≡ c.f
+pub begun_dropped : (edge : Edge) (k : ℕ) (c new : Contents) → k < length c.live → new.live ≡ drop k c.live → new.number ≡ c.number + k → new.f ≡ c.f
     → IsBegun edge c → IsBegun edge new
-begun_dropped edge c new two live number limit was =
+begun_dropped edge k c new two live number limit was =
     let long = ap (λ (hs : List Holding). length hs) live in
-    let less = dropped_long c.live two in
+    let less = length-drop k c.live in
     let newest : newest_number c ≡ newest_number new = omega arith in
-    subst (λ (o : Option Holding). IfSome o (λ h. (newest_number new ≡ edge.segment) ⊎ IsRoomy new.f h)) (sym (ap last_of live ∙ dropped_last c.live two))
+    subst (λ (o : Option Holding). IfSome o (λ h. (newest_number new ≡ edge.segment) ⊎ IsRoomy new.f h)) (sym (ap last_of live ∙ dropped_last k c.live two))
     (some_map (λ (h : Holding). (newest_number c ≡ edge.segment) ⊎ IsRoomy c.f h) (λ h. (newest_number new ≡ edge.segment) ⊎ IsRoomy new.f h)
     (λ h is. elim is [
       | inl e ↦ inl (sym newest ∙ e)
@@ -180,13 +177,13 @@ begun_dropped edge c new two live number limit was =
 
 -- ---- reopen
 
-edged_at : (m f number k i : ℕ) (hs : List Holding) → AreLive m f number (map (λ h. h.bytes) hs) → IsEdge (edge_at k (slice_get hs i))
-edged_at m f number k i [] live = inl refl
-edged_at m f number k zero (h ∷ hs) live = inr (live_long m f number h.bytes live.0)
-edged_at m f number k (suc i) (h ∷ hs) live = edged_at m f (number + 1) k i hs live.1
+edged_at : (l : Limits) (number k i : ℕ) (hs : List Holding) → AreLive l number (map (λ h. h.bytes) hs) → IsEdge (edge_at k (slice_get hs i))
+edged_at l number k i [] live = inl refl
+edged_at l number k zero (h ∷ hs) live = inr (live_long l number h.bytes live.0)
+edged_at l number k (suc i) (h ∷ hs) live = edged_at l (number + 1) k i hs live.1
 
-pub edged_by : (c : Contents) → AreLive c.m c.f c.number (map (λ h. h.bytes) c.live) → IsEdge (edge_of c)
-edged_by c live = edged_at c.m c.f c.number (newest_number c) (length c.live - 1) c.live live
+pub edged_by : (c : Contents) (l : Limits) → AreLive l c.number (map (λ h. h.bytes) c.live) → IsEdge (edge_of c)
+edged_by c l live = edged_at l c.number (newest_number c) (length c.live - 1) c.live live
 
 last_there : (k : ℕ) (h : Holding) (hs : List Holding) → (edge_at k (slice_get (h ∷ hs) (length hs))).segment ≡ k
 last_there k h [] = refl

@@ -22,7 +22,6 @@ use Rattle.bw_log.specs.Places.{all_placed, placed, bad_link, first_number, last
 use Rattle.bw_log.specs.Segments.{following, frames_of, next_of, AreFrom}
 use Rattle.bw_log.specs.Appends.{Appended, IsSameLog, LeftBehind, Stopped}
 use Rattle.bw_log.proofs.Adding.{before_next, following_is, filter_all, next_is}
-use Rattle.bw_codec.specs.Grammar.{IsFrame}
 use Rattle.std.proofs.lemmas.List.Elements.{filter-append}
 use Rattle.std.proofs.lemmas.Bool.{leb-true, leb-false, le-leb, lt-leb}
 use Rattle.std.specs.Prelude.{nat_le}
@@ -32,7 +31,7 @@ use Rattle.bw_store.specs.History.{cut, upto, share}
 use Rattle.bw_store.specs.Growing.{Grown, frames_upto}
 use Rattle.bw_store.specs.Kept.{Kept, leaves_at, TellsBy, TellsAs, TellsShare, waiting, AreCuts, AreLeft, IsSound, with_frame, with_stop}
 use Rattle.bw_store.proofs.Readers.{ends_later, later_cut}
-use Rattle.bw_store.proofs.FramesBehind.{following_fits, counted_lawful}
+use Rattle.bw_store.proofs.FramesBehind.{IsNumbered, following_fits, counted_lawful}
 use Rattle.bw_store.proofs.Edging.{begun_on, appended_more, stopped_more}
 use Rattle.bw_store.proofs.CutMore.{same_leaves, old_shares}
 use Rattle.bw_store.proofs.Telling.{tells_none}
@@ -246,8 +245,8 @@ module _ (s : Kept) (h : IsSound s) (works : s.log.is_failed ≡ false) where
       → 1 ≤ s.before + s.durable
   some_counted x xs next number is =
       let from : AreFrom x.number (x ∷ xs) = subst (λ (fs : List Frame). AreFrom (first_number fs) fs) is h.log.holds.numbered in
-      let laws : All (IsFrame s.log.m s.log.f) (x ∷ xs) = subst (All (IsFrame s.log.m s.log.f)) is (counted_lawful s.log h.log) in
-      let low = laws.0.head.numbered.0 in
+      let laws : All IsNumbered (x ∷ xs) = subst (All IsNumbered) is (counted_lawful s.log h.log) in
+      let low = laws.0.number.0 in
       let after = next_is x.number x xs s.making.frame from (ap next_of (sym is) ∙ sym h.log.holds.follows ∙ next) in
       omega arith
 

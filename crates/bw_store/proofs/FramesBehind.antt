@@ -5,7 +5,7 @@ use Rattle.std.proofs.Common.{length, refl, sym, ap, ◌∙◌, subst, arith}
 use Rattle.std.specs.Prelude.{nat_le, nat_lt, IfSome}
 use Rattle.std.specs.List.{AllByRecursion as All, fold, slice_get}
 use Rattle.std.proofs.lemmas.Bool.{leb-true, leb-false, ltb-true, ltb-false}
-use Rattle.bw_codec.specs.Grammar.{IsFrame, IsPlace}
+use Rattle.bw_codec.specs.Grammar.{IsFrameIn, IsPlace}
 use Rattle.bw_codec.specs.Touch.{touches}
 use Rattle.bw_codec.specs.declared.leaf.Leaf.{Leaf}
 use Rattle.bw_codec.specs.declared.block.Place.{Place}
@@ -18,7 +18,7 @@ use Rattle.bw_page.proofs.OneStanding.{one}
 use Rattle.bw_log.specs.Contents as logs
 use Rattle.bw_store.specs.Cleaning.{end_by}
 use Rattle.bw_log.specs.Places.{placed, all_placed, later, place_of, first_number}
-use Rattle.bw_log.specs.Segments.{frames_of, segment_frames, following, next_of, AreFrom, AreLive, is_before_next}
+use Rattle.bw_log.specs.Segments.{Limits, version_at, limit_at, frames_of, segment_frames, following, next_of, AreFrom, AreLive, is_before_next}
 use Rattle.bw_log.proofs.Entries.{all_append, all_filtered}
 use Rattle.bw_log.proofs.GivenUp.{none_placed}
 use Rattle.bw_log.proofs.Walk.{same_fold}
@@ -65,23 +65,34 @@ first_ahead (x ∷ xs) ys some = refl
 
 -- ---- the frames of a log are lawful
 
-live_lawful : (m f number : ℕ) (bytes : List (List ℕ)) → AreLive m f number bytes → All (IsFrame m f) (frames_of bytes)
-live_lawful m f number [] live = tt
-live_lawful m f number (b ∷ bs) live =
-    all_append (IsFrame m f) (segment_frames b) (frames_of bs) live.0.whole.each (live_lawful m f (number + 1) bs live.1)
+-- whatever its format, a frame has a number of eight bytes from 1 on, and a number of blocks of four bytes
+pub record IsNumbered (frame : Frame) : Type 0 where
+  pub number : (1 ≤ frame.number) × (frame.number < 2 ^ 64)
+  pub few : length frame.blocks < 2 ^ 32
 
-pub counted_lawful : (c : logs.Contents) → logs.IsSound c → All (IsFrame c.m c.f) (logs.counted c)
+frames_lawful : (v m f : ℕ) (fs : List Frame) → All (IsFrameIn v m f) fs → All IsNumbered fs
+frames_lawful v m f [] all = tt
+frames_lawful v m f (x ∷ xs) all = (record { number = all.0.head.numbered; few = all.0.head.some.1 }, frames_lawful v m f xs all.1)
+
+live_lawful : (l : Limits) (number : ℕ) (bytes : List (List ℕ)) → AreLive l number bytes → All IsNumbered (frames_of bytes)
+live_lawful l number [] live = tt
+live_lawful l number (b ∷ bs) live =
+    all_append IsNumbered (segment_frames b) (frames_of bs)
+    (frames_lawful (version_at l.old_to number) l.m (limit_at l number) (segment_frames b) live.0.whole.each)
+    (live_lawful l (number + 1) bs live.1)
+
+pub counted_lawful : (c : logs.Contents) → logs.IsSound c → All IsNumbered (logs.counted c)
 counted_lawful c sound =
-    all_filtered (IsFrame c.m c.f) (λ x. is_before_next c.next x.number) (frames_of (logs.image c).bytes)
-    (live_lawful c.m c.f c.number (logs.image c).bytes sound.holds.live)
+    all_filtered IsNumbered (λ x. is_before_next c.next x.number) (frames_of (logs.image c).bytes)
+    (live_lawful (logs.limits_of (logs.image c) sound.holds.live.0) c.number (logs.image c).bytes sound.holds.live.1)
 
-last_below : (m f n : ℕ) (fs : List Frame) → All (IsFrame m f) fs → AreFrom n fs → 1 ≤ length fs → n + length fs ≤ 2 ^ 64
-last_below m f n [] lawful are some = absurd (omega arith)
-last_below m f n (x ∷ []) lawful are some = (let e = are.0 in let top = lawful.0.head.numbered.1 in omega arith)
-last_below m f n (x ∷ y ∷ ys) lawful are some = (let e = last_below m f (n + 1) (y ∷ ys) lawful.1 are.1 (omega arith) in omega arith)
+last_below : (n : ℕ) (fs : List Frame) → All IsNumbered fs → AreFrom n fs → 1 ≤ length fs → n + length fs ≤ 2 ^ 64
+last_below n [] lawful are some = absurd (omega arith)
+last_below n (x ∷ []) lawful are some = (let e = are.0 in let top = lawful.0.number.1 in omega arith)
+last_below n (x ∷ y ∷ ys) lawful are some = (let e = last_below (n + 1) (y ∷ ys) lawful.1 are.1 (omega arith) in omega arith)
 
 pub none_above : (c : logs.Contents) (fs : List Frame) (n : ℕ) → logs.IsSound c → logs.counted c ≡ fs → AreFrom n fs → 1 ≤ length fs → n + length fs ≤ 2 ^ 64
-none_above c fs n sound is are some = last_below c.m c.f n fs (subst (All (IsFrame c.m c.f)) is (counted_lawful c sound)) are some
+none_above c fs n sound is are some = last_below n fs (subst (All IsNumbered) is (counted_lawful c sound)) are some
 
 -- ---- places
 
@@ -89,12 +100,12 @@ placed_lawful : (number i : ℕ) (bs : List Block) → (1 ≤ number) × (number
 placed_lawful number i [] n few = tt
 placed_lawful number i (b ∷ bs) n few = (record { frame = n; index = omega arith }, placed_lawful number (i + 1) bs n (omega arith))
 
-all_lawful : (m f : ℕ) (fs : List Frame) → All (IsFrame m f) fs → All (λ x. IsPlace x.0) (all_placed fs)
-all_lawful m f [] lawful = tt
-all_lawful m f (x ∷ xs) lawful =
-    (let few = lawful.0.head.some.1 in
+all_lawful : (fs : List Frame) → All IsNumbered fs → All (λ x. IsPlace x.0) (all_placed fs)
+all_lawful [] lawful = tt
+all_lawful (x ∷ xs) lawful =
+    (let few = lawful.0.few in
     all_append (λ (p : Place × Block). IsPlace p.0) (placed x.number 0 x.blocks) (all_placed xs)
-    (placed_lawful x.number 0 x.blocks lawful.0.head.numbered (omega arith)) (all_lawful m f xs lawful.1))
+    (placed_lawful x.number 0 x.blocks lawful.0.number (omega arith)) (all_lawful xs lawful.1))
 
 later_one : (test : Block → Bool) (was : Option Place) (x : Place × Block) (passes : Bool) → IfSome was IsPlace → IsPlace x.0
     → IfSome (if passes then Some x.0 else was) IsPlace
@@ -109,7 +120,7 @@ later_lawful test was (x ∷ xs) old all = later_lawful test (later test was x) 
 pub place_lawful : (c : logs.Contents) (p : ℕ) (place : Place) → logs.IsSound c → place_of p (logs.counted c) ≡ Some place → IsPlace place
 place_lawful c p place sound is =
     subst (λ (o : Option Place). IfSome o IsPlace) is
-    (later_lawful (touches p) None (all_placed (logs.counted c)) tt (all_lawful c.m c.f (logs.counted c) (counted_lawful c sound)))
+    (later_lawful (touches p) None (all_placed (logs.counted c)) tt (all_lawful (logs.counted c) (counted_lawful c sound)))
 
 some_leaf : (leaves : List Leaf) (i : ℕ) → i < length leaves → slice_get leaves i ≡ None → ⊥
 some_leaf [] i inside none = omega arith

@@ -86,7 +86,7 @@ pub opened_sound : (rings : List Ring) (m f : ℕ) (spares : List Holding) (vers
 opened_sound rings m f spares versions start unseen sound =
     subst (λ (s : Shown). IsSound (opened rings m f spares (record versions { start = s }))) (sym start) (opened_by rings m f spares versions unseen sound)
 
-first_fits : (f : ℕ) (blocks : List Block) → 16384 ≤ f → blocks ≡ Base empty_leaf ∷ [] → 20 + length (body_bytes (added [] blocks)) ≤ f
+first_fits : (f : ℕ) (blocks : List Block) → 65536 ≤ f → blocks ≡ Base empty_leaf ∷ [] → 20 + length (body_bytes (added [] blocks)) ≤ f
 first_fits f blocks h is =
     (let e = ap (λ (bs : List Block). length (body_bytes (added [] bs))) is in
     let a = ap length (append-nil (block_bytes (Base empty_leaf))) in
@@ -97,7 +97,7 @@ pub first_lawful : (blocks : List Block) → blocks ≡ Base empty_leaf ∷ [] �
 first_lawful blocks is = subst (All (IsBlock 32)) (sym is)
     (record { page = (lit≤ tt, lit< tt); low = lit≤ tt; count = lit≤ tt; pairs = tt; ascends = refl }, tt)
 
-pub fits_at : (b : Filling) (f : ℕ) (items shown : List Block) → b ≡ record { frame = 1; limit = f; blocks = []; is_sealed = false } → 16384 ≤ f
+pub fits_at : (b : Filling) (f : ℕ) (items shown : List Block) → b ≡ record { frame = 1; limit = f; blocks = []; is_sealed = false } → 65536 ≤ f
     → items ≡ Base empty_leaf ∷ [] → shown ≡ items → size_of (with_all b shown) ≤ b.limit
 fits_at b f items shown is h made same =
     subst (λ (x : Filling). size_of (with_all x shown) ≤ x.limit) (sym is) (first_fits f shown h (same ∙ made))

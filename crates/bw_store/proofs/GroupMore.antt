@@ -19,7 +19,8 @@ use Rattle.bw_page.specs.Shown.{Shown}
 use Rattle.bw_page.proofs.Indexed.{home_within}
 use Rattle.bw_page.proofs.Law.{applied-lawful}
 use Rattle.bw_buffer.specs.Filling.{frame_of, with_all, size_of}
-use Rattle.bw_buffer.specs.Joining.{joined, added}
+use Rattle.bw_buffer.specs.Counting.{grown}
+use Rattle.bw_buffer.specs.Joining.{joined, added, open_records}
 use Rattle.bw_log.proofs.Adding.{following_is}
 use Rattle.bw_ring.specs.Marks.{Marked}
 use Rattle.bw_versions.specs.declared.entry.Entry.{Entry}
@@ -44,24 +45,24 @@ use Rattle.bw_store.proofs.Stepping.{length-applied}
 
 -- ---- rows
 
-row_page : (p : ℕ) (here last : Place) (o : Option Leaf) → (row_by p here last o).page ≡ p
-row_page p here last None = refl
-row_page p here last (Some u) = refl
+row_page : (p : ℕ) (here last : Place) (k : ℕ) (o : Option Leaf) → (row_by p here last k o).page ≡ p
+row_page p here last k None = refl
+row_page p here last k (Some u) = refl
 
-row_made : (p : ℕ) (here last : Place) (o : Option Leaf) → is_some (row_by p here last o).made ≡ is_some o
-row_made p here last None = refl
-row_made p here last (Some u) = refl
+row_made : (p : ℕ) (here last : Place) (k : ℕ) (o : Option Leaf) → is_some (row_by p here last k o).made ≡ is_some o
+row_made p here last k None = refl
+row_made p here last k (Some u) = refl
 
-row_count : (p n : ℕ) (here last : Place) (m page : ℕ) (leaf : Leaf) → count_by (row_by p here last (upper_if m page leaf)).made n ≡ (if nat_le (length leaf.pairs) m then n else n + 1)
-row_count p n here last m page leaf =
-    elim (nat_le (length leaf.pairs) m) as (λ b. count_by (row_by p here last (if b then None else Some (upper_of m page leaf))).made n ≡ (if b then n else n + 1))
+row_count : (p n : ℕ) (here last : Place) (k m page : ℕ) (leaf : Leaf) → count_by (row_by p here last k (upper_if m page leaf)).made n ≡ (if nat_le (length leaf.pairs) m then n else n + 1)
+row_count p n here last k m page leaf =
+    elim (nat_le (length leaf.pairs) m) as (λ b. count_by (row_by p here last k (if b then None else Some (upper_of m page leaf))).made n ≡ (if b then n else n + 1))
     [ true ↦ refl | false ↦ refl ]
 
 pub row_set : (m : ℕ) (d : Drawn) (r : Record) → set_row d.newest (row_for m d r) ≡ (drawn_by m d r).newest
 row_set m d r =
     elim (nat_le (length (result_of d.leaves r).pairs) m) as (λ b.
     set_row d.newest (row_by (directed_at d.leaves r) (here_for d.frame (directed_at d.leaves r)) (last_for d.frame (directed_at d.leaves r))
-    (if b then None else Some (upper_of m (length d.leaves + 1) (result_of d.leaves r))))
+    (grown (open_records (directed_at d.leaves r) d.frame.blocks) 1) (if b then None else Some (upper_of m (length d.leaves + 1) (result_of d.leaves r))))
     ≡ (if b then set d.newest (directed_at d.leaves r - 1) (here_for d.frame (directed_at d.leaves r))
     else set d.newest (directed_at d.leaves r - 1) (last_for d.frame (directed_at d.leaves r)) ++ last_for d.frame (directed_at d.leaves r) ∷ []))
     [ true ↦ refl | false ↦ refl ]
@@ -96,8 +97,8 @@ rows_in m d [] l = tt
 rows_in m d (r ∷ rs) l =
     let p0 = directed_at d.leaves r in
     let range = home_within m (key_of r) d.leaves l.leaves in
-    let page = row_page p0 (here_for d.frame p0) (last_for d.frame p0) (upper_if m (length d.leaves + 1) (result_of d.leaves r)) in
-    let count = row_count p0 (length d.leaves) (here_for d.frame p0) (last_for d.frame p0) m (length d.leaves + 1) (result_of d.leaves r)
+    let page = row_page p0 (here_for d.frame p0) (last_for d.frame p0) (grown (open_records p0 d.frame.blocks) 1) (upper_if m (length d.leaves + 1) (result_of d.leaves r)) in
+    let count = row_count p0 (length d.leaves) (here_for d.frame p0) (last_for d.frame p0) (grown (open_records p0 d.frame.blocks) 1) m (length d.leaves + 1) (result_of d.leaves r)
     ∙ sym (length-applied m d.leaves r l.some l.leaves l.ops.0) in (
       (omega arith, omega arith),
       subst (λ (n : ℕ). AreIn n (rows_all m (drawn_by m d r) rs)) (sym count) (rows_in m (drawn_by m d r) rs (lawful_next m d r rs l)),
@@ -123,9 +124,9 @@ rows_tails m d (r ∷ rs) l =
     let range = home_within m (key_of r) d.leaves l.leaves in
     let upper = upper_if m (length d.leaves + 1) (result_of d.leaves r) in
     let row = row_for m d r in
-    let page : row.page ≡ p0 = row_page p0 (here_for d.frame p0) (last_for d.frame p0) upper in
+    let page : row.page ≡ p0 = row_page p0 (here_for d.frame p0) (last_for d.frame p0) (grown (open_records p0 d.frame.blocks) 1) upper in
     let made : is_some row.made ≡ nat_lt 1 (length (blocks_in m d r)) =
-    row_made p0 (here_for d.frame p0) (last_for d.frame p0) upper ∙ cuts_are m d.leaves (back_in d r) (here_for d.frame p0) r in
+    row_made p0 (here_for d.frame p0) (last_for d.frame p0) (grown (open_records p0 d.frame.blocks) 1) upper ∙ cuts_are m d.leaves (back_in d r) (here_for d.frame p0) r in
     let was = tails_for (length d.leaves) d.frame.blocks in
     let step : tails_after row.page r (is_some row.made) was ≡ tails_for (length (applied m d.leaves r)) (added d.frame.blocks (blocks_in m d r)) =
     ap (λ (p : ℕ). tails_after p r (is_some row.made) was) page
@@ -195,13 +196,12 @@ taken_all_sound s w (m ∷ ms) h next ops room inside fits =
       takes = takes_by s h m.item back ops.0 room.0 next now (some_at s.newest (directed_at s.filed.leaves m.item - 1) nowhere (omega arith));
       number = following_is (s.before + s.durable) s.making.frame (sym h.next ∙ next);
       inside = inside;
-      short = omega arith;
     } in
     taken_all_sound one w ms (taken_sound s w m back t) next ops.1 room.1 inside fits
 
--- an empty frame has room for any group: a record's blocks are at most 3,600 bytes
+-- an empty frame has room for any group: a record's blocks are at most 12,000 bytes
 pub fresh_fits : (s : Kept) (w k : ℕ) (rs : List Record) → IsSound s → s.log.next ≡ Some s.making.frame → All IsOp rs
-    → HasPages s.filed.m s.filed.leaves rs → w < length s.rings → size_of s.making ≤ 20 + 3600 * k → k + length rs ≤ 4 → Fits s rs
+    → HasPages s.filed.m s.filed.leaves rs → w < length s.rings → size_of s.making ≤ 20 + 12000 * k → k + length rs ≤ 4 → Fits s rs
 fresh_fits s w k [] h next ops room inside small few =
     (let limit = h.limit in let most = h.log.holds.limits.2 in omega arith)
 fresh_fits s w k (r ∷ rs) h next ops room inside small few =
@@ -219,13 +219,12 @@ fresh_fits s w k (r ∷ rs) h next ops room inside small few =
     let l = h.log.holds.limits in
     let short = blocks_short s.filed.m s.filed.leaves back (here_at s r) r (omega arith) h.grown.stands.lawful ops.0 lawful in
     let added_size = added_shorter s.making.blocks (blocks_in s.filed.m (drawn_of s) r) in
-    let next_small : size_of one.making ≤ 20 + 3600 * (k + 1) = omega arith in
+    let next_small : size_of one.making ≤ 20 + 12000 * (k + 1) = omega arith in
     let t : TakesOne s w r back = record {
       sound = h;
       takes = takes;
       number = following_is (s.before + s.durable) s.making.frame (sym h.next ∙ next);
       inside = inside;
-      short = omega arith;
     } in
     let rest : Fits one rs = fresh_fits one w (k + 1) rs (taken_sound s w (alone r) back t) next ops.1 room.1 inside next_small (omega arith) in
     subst (λ (bs : List Block). size_of (record s.making { blocks = bs }) ≤ s.making.limit)

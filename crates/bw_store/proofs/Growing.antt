@@ -139,10 +139,10 @@ module _ (m : ℕ) (counted : List Frame) (o : Frame) (leaves : List Leaf) (newe
   middle = with_blocks o (Delta (directed_at leaves r) back (r ∷ []) ∷ [])
 
   middle_linked : AreLinked (counted ++ middle ∷ [])
-  middle_linked = delta_linked counted o (directed_at leaves r) back (r ∷ []) t.grown.linked last_touch
+  middle_linked = delta_linked counted o (directed_at leaves r) back r t.grown.linked last_touch
 
   middle_place : (q : ℕ) → place_of q (counted ++ middle ∷ []) ≡ (if directed_at leaves r == q then Some at else place_of q (counted ++ o ∷ []))
-  middle_place q = delta_place counted o (directed_at leaves r) back (r ∷ []) q
+  middle_place q = delta_place counted o (directed_at leaves r) back r q
 
   middle_touch : place_of (directed_at leaves r) (counted ++ middle ∷ []) ≡ Some at
   middle_touch =
@@ -181,7 +181,7 @@ module _ (m : ℕ) (counted : List Frame) (o : Frame) (leaves : List Leaf) (newe
             ≡ (if b || ((length leaves + 1) == p) then Some last else if b then Some at else old)) [ true ↦ refl | false ↦ refl ]
             ∙ ap (λ (w : Option Place). if (directed_at leaves r == p) || ((length leaves + 1) == p) then Some last else w) (sym (middle_place p))
             ∙ ap (λ (x : Place). if (directed_at leaves r == p) || ((length leaves + 1) == p) then Some x else place_of p (counted ++ middle ∷ []))
-            (sym (delta_end counted o (directed_at leaves r) back (r ∷ [])))
+            (sym (delta_end counted o (directed_at leaves r) back r))
             ∙ sym (split_place counted middle (directed_at leaves r) at upper p)
       ]
 
@@ -241,8 +241,8 @@ module _ (m : ℕ) (counted : List Frame) (o : Frame) (leaves : List Leaf) (newe
 
   -- ---- all of it
 
-  pub grown_more : 20 + length (body_bytes (added o.blocks (blocks_for m leaves back at r))) ≤ 65536 → Grown m counted (with_blocks o (blocks_for m leaves back at r)) (applied m leaves r) (places_after m leaves at last r newest)
-  grown_more short =
+  pub grown_more : Grown m counted (with_blocks o (blocks_for m leaves back at r)) (applied m leaves r) (places_after m leaves at last r newest)
+  grown_more =
       let count = t.grown.count in
       let long = length-applied m leaves r one lawful_now t.op in
       record {
@@ -263,5 +263,5 @@ module _ (m : ℕ) (counted : List Frame) (o : Frame) (leaves : List Leaf) (newe
                   (all-write IsPlace newest (directed_at leaves r - 1) last t.grown.places last_lawful) last_lawful
             ];
         each = newest_more;
-        lawful = added_lawful m o.blocks (blocks_for m leaves back at r) t.grown.lawful blocks_lawful (omega arith);
+        lawful = added_lawful m o.blocks (blocks_for m leaves back at r) t.grown.lawful blocks_lawful;
       }

@@ -16,13 +16,11 @@ use Rattle.bw_codec.specs.declared.block.Place.{Place}
 use Rattle.bw_codec.specs.declared.block.Block.{Block}
 use Rattle.bw_codec.specs.declared.block.Block.TheVariants.{Delta, Base, Split}
 use Rattle.bw_codec.specs.declared.block.Frame.{Frame}
-use Rattle.bw_codec.proofs.Lengths.{length-delta}
 use Rattle.bw_page.specs.Leaves.{changed, all_changed}
 use Rattle.bw_page.specs.Standing.{after, content, blocks_of}
 use Rattle.bw_page.proofs.OneStanding.{untouched}
-use Rattle.bw_buffer.specs.Joining.{is_delta, open_after, open_from, joins, ops_added, joined_by, joined, added}
-use Rattle.bw_buffer.proofs.Growing.{ops_some}
-use Rattle.bw_buffer.proofs.Joined.{StandsOpen, Joinable, JoinsIn, found, added_fold, added_flat, added_any, added_touches}
+use Rattle.bw_buffer.specs.Joining.{is_delta, open_after, open_from, last_delta, open_records, records_after, records_in, takes, joins, joins_of, joined_by, joined, added}
+use Rattle.bw_buffer.proofs.Joined.{StandsOpen, Joinable, JoinsIn, JoinsOne, found, joins_parts, joins_one, joins_none, added_fold, added_flat, added_any, added_touches}
 use Rattle.bw_buffer.proofs.Sizes.{pushed_size, joined_size, added_longer}
 use Rattle.bw_log.proofs.Walks.{content_push}
 use Rattle.bw_store.specs.Adding.{with_blocks}
@@ -149,15 +147,23 @@ open_suc p i was (b ∷ bs) =
     ])
     ∙ open_suc p (suc i) (open_after p i b was) bs
 
-joins_behind : (p : ℕ) (leaf : Leaf) (bs : List Block) → joins p (Base leaf ∷ bs) ≡ option_map suc (joins p bs)
-joins_behind p leaf bs =
+behind_none : (p : ℕ) (leaf : Leaf) → (if touches p (Base leaf) then records_in (Base leaf) else None) ≡ None
+behind_none p leaf = elim (leaf.page == p) as (λ t. ◌≡◌ {A = Option ℕ} (if t then None else None) None) [ true ↦ refl | false ↦ refl ]
+
+joins_behind : (n p : ℕ) (leaf : Leaf) (bs : List Block) → joins_of n p (Base leaf ∷ bs) ≡ option_map suc (joins_of n p bs)
+joins_behind n p leaf bs =
+    let last : last_delta p (Base leaf ∷ bs) ≡ option_map suc (last_delta p bs) =
     ap (λ (o : Option ℕ). open_from p (suc 0) o bs) (elim (leaf.page == p) as (λ t. ◌≡◌ {A = Option ℕ} (if t then None else None) None) [ true ↦ refl | false ↦ refl ])
-    ∙ open_suc p 0 None bs
+    ∙ open_suc p 0 None bs in
+    ap (λ (o : Option ℕ). if takes n (fold (records_after p) o bs) then last_delta p (Base leaf ∷ bs) else None) (behind_none p leaf)
+    ∙ ap (λ (o : Option ℕ). if takes n (open_records p bs) then o else None) last
+    ∙ elim (takes n (open_records p bs)) as (λ t. (if t then option_map suc (last_delta p bs) else None) ≡ option_map suc (if t then last_delta p bs else None))
+    [ true ↦ refl | false ↦ refl ]
 
 joined_behind : (leaf : Leaf) (bs : List Block) (b : Block) → joined (Base leaf ∷ bs) b ≡ Base leaf ∷ joined bs b
 joined_behind leaf bs (Delta p back ops) =
-    ap (λ (o : Option ℕ). joined_by o ops (Delta p back ops) (Base leaf ∷ bs)) (joins_behind p leaf bs)
-    ∙ elim (joins p bs) as (λ o. joined_by (option_map suc o) ops (Delta p back ops) (Base leaf ∷ bs) ≡ Base leaf ∷ joined_by o ops (Delta p back ops) bs) [
+    ap (λ (o : Option ℕ). joined_by o ops (Delta p back ops) (Base leaf ∷ bs)) (joins_behind (length ops) p leaf bs)
+    ∙ elim (joins_of (length ops) p bs) as (λ o. joined_by (option_map suc o) ops (Delta p back ops) (Base leaf ∷ bs) ≡ Base leaf ∷ joined_by o ops (Delta p back ops) bs) [
       | None ↦ refl
       | Some i ↦ refl
     ]
@@ -170,43 +176,33 @@ added_behind leaf bs (b ∷ more) = ap (λ (l : List Block). added l more) (join
 
 -- ---- lawful blocks
 
-ops_lawful : (m i : ℕ) (ops : List Record) (bs : List Block) → All (IsBlock m) bs → All IsOp ops → length (body_bytes (ops_added i ops bs)) ≤ 65536
-    → All (IsBlock m) (ops_added i ops bs)
-ops_lawful m i ops [] h each short = tt
-ops_lawful m zero ops (Delta page back was ∷ bs) h each short =
-    let delta = h.0 in
-    let all : All IsOp (was ++ ops) = all-append IsOp was ops delta.each each in
-    let some : 1 ≤ length (was ++ ops) = (let c = delta.count.0 in let e = length-append was ops in omega arith) in
-    let few : length (was ++ ops) < 2 ^ 16 =
-    omega (
-      arith,
-      ops_some (was ++ ops) all,
-      length-delta page back (was ++ ops),
-      length-append (block_bytes (Delta page back (was ++ ops))) (body_bytes bs),
-      short,
-    ) in
-    (record { changes = delta.changes; links = delta.links; count = (some, few); each = all }, h.1)
-ops_lawful m zero ops (Base leaf ∷ bs) h each short = h
-ops_lawful m zero ops (Split page back upper ∷ bs) h each short = h
-ops_lawful m (suc i) ops (b ∷ bs) h each short =
-    (h.0, ops_lawful m i ops bs h.1 each (let e = length-append (block_bytes b) (body_bytes (ops_added i ops bs)) in omega arith))
+all-parts : {X : Type 0} (P : X → Type 0) (xs : List X) (y : X) (ys : List X) → All P (xs ++ y ∷ ys) → All P xs × P y × All P ys
+all-parts P [] y ys h = (tt, h.0, h.1)
+all-parts P (x ∷ xs) y ys h = (let r = all-parts P xs y ys h.1 in ((h.0, r.0), r.1, r.2))
 
-joined_lawful : (m : ℕ) (bs : List Block) (b : Block) → All (IsBlock m) bs → IsBlock m b → length (body_bytes (joined bs b)) ≤ 65536 → All (IsBlock m) (joined bs b)
-joined_lawful m bs (Delta p back ops) old new short =
-    elim (joins p bs) as (λ o. length (body_bytes (joined_by o ops (Delta p back ops) bs)) ≤ 65536 → All (IsBlock m) (joined_by o ops (Delta p back ops) bs)) [
-      | None ↦ λ short. all-append (IsBlock m) bs (Delta p back ops ∷ []) old (new, tt)
-      | Some i ↦ λ short. ops_lawful m i ops bs old new.each short
-    ] short
-joined_lawful m bs (Base leaf) old new short = all-append (IsBlock m) bs (Base leaf ∷ []) old (new, tt)
-joined_lawful m bs (Split page back upper) old new short = all-append (IsBlock m) bs (Split page back upper ∷ []) old (new, tt)
+joined_lawful : (m : ℕ) (bs : List Block) (b : Block) → All (IsBlock m) bs → IsBlock m b → All (IsBlock m) (joined bs b)
+joined_lawful m bs (Delta p back ops) old new =
+    elim (joins_of (length ops) p bs) as (λ o. joins_of (length ops) p bs ≡ o → All (IsBlock m) (joined bs (Delta p back ops))) [
+      | None ↦ λ e. subst (All (IsBlock m)) (sym (joins_none p back ops bs e)) (all-append (IsBlock m) bs (Delta p back ops ∷ []) old (new, tt))
+      | Some i ↦ λ e. (
+          let j = joins_one p back ops i bs e in
+          let s = j.stands in
+          let parts = all-parts (IsBlock m) s.before (Delta p s.back s.was) s.behind (subst (All (IsBlock m)) s.split old) in
+          let delta = parts.1 in
+          let all : All IsOp (s.was ++ ops) = all-append IsOp s.was ops delta.each new.each in
+          let few : length (s.was ++ ops) < 2 ^ 16 = omega (arith, length-append s.was ops, j.few) in
+          let some : 1 ≤ length (s.was ++ ops) = (let c = delta.count.0 in let e = length-append s.was ops in omega arith) in
+          subst (All (IsBlock m)) (sym j.is)
+          (all-append (IsBlock m) s.before (Delta p s.back (s.was ++ ops) ∷ s.behind) parts.0
+          (record { changes = delta.changes; links = delta.links; count = (some, few); each = all }, parts.2)))
+    ] refl
+joined_lawful m bs (Base leaf) old new = all-append (IsBlock m) bs (Base leaf ∷ []) old (new, tt)
+joined_lawful m bs (Split page back upper) old new = all-append (IsBlock m) bs (Split page back upper ∷ []) old (new, tt)
 
--- blocks in a frame of at most 65,536 bytes
-pub added_lawful : (m : ℕ) (bs more : List Block) → All (IsBlock m) bs → All (IsBlock m) more → length (body_bytes (added bs more)) ≤ 65536
-    → All (IsBlock m) (added bs more)
-added_lawful m bs [] old new short = old
-added_lawful m bs (b ∷ more) old new short =
-    (let longer = added_longer (joined bs b) more in
-    added_lawful m (joined bs b) more (joined_lawful m bs b old new.0 (omega arith)) new.1 short)
+-- blocks that join are lawful: none gets more records than a Delta may have
+pub added_lawful : (m : ℕ) (bs more : List Block) → All (IsBlock m) bs → All (IsBlock m) more → All (IsBlock m) (added bs more)
+added_lawful m bs [] old new = old
+added_lawful m bs (b ∷ more) old new = added_lawful m (joined bs b) more (joined_lawful m bs b old new.0) new.1
 
 -- ---- sizes and indices
 
@@ -227,7 +223,7 @@ joins_within p bs =
     elim (joins p bs) as (λ o. joins p bs ≡ o → unwrap_or o (length bs) ≤ length bs) [
       | None ↦ λ e. omega arith
       | Some i ↦ λ e. (
-          let s : StandsOpen p i bs = found p bs i e in
+          let s : StandsOpen p i bs = found p bs i (joins_parts 1 p i bs e).0 in
           let long = ap (λ (l : List Block). length l) s.split ∙ length-append s.before (Delta p s.back s.was ∷ s.behind) in
           let at = s.index in
           omega arith)

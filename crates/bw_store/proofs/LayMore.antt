@@ -16,7 +16,7 @@ use Rattle.bw_page.specs.Shown.{Shown, after_record, run}
 use Rattle.bw_buffer.specs.Filling.{Filling, with_all, size_of}
 use Rattle.bw_store.specs.declared.drafting.Draft.{Draft}
 use Rattle.bw_store.specs.Adding.{Drawn, blocks_in, blocks_all, drawn_by}
-use Rattle.bw_store.specs.Drafting.{Added, IsAhead, IsDraft, Stands, drawn_behind, open_in, place_in, row_in, rows_all}
+use Rattle.bw_store.specs.Drafting.{Added, IsAhead, IsDraft, Stands, drawn_behind, open_in, place_in, records_in, row_in, rows_all}
 use Rattle.bw_store.specs.declared.drafting.Row.{Row}
 use Rattle.bw_store.specs.Fitting.{Fits, drawn_of, group_blocks}
 use Rattle.bw_store.specs.Kept.{Kept}
@@ -116,6 +116,7 @@ ahead_none s d blocks rows count = record {
   count = count;
   places = λ p some top. ap (λ (ws : List Row). place_in ws s.newest p) rows;
   opens = λ p some top. ap (λ (ws : List Row). open_in ws s.making.blocks p) rows;
+  records = λ p some top. ap (λ (ws : List Row). records_in ws s.making.blocks p) rows;
 }
 
 -- ---- one record more of a group, behind those before it

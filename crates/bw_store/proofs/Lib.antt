@@ -17,6 +17,8 @@ pub mod SettledMore
 pub mod EmptyBehind
 pub mod MovedMore
 pub mod CleanedMore
+pub mod UpgradedMore
+pub mod RewrittenMore
 pub mod ReopenedMore
 pub mod Laned
 pub mod Grouped
@@ -39,3 +41,6 @@ pub mod Stopping
 pub mod AwayPages
 pub mod Walks
 pub mod Counted
+pub mod Tallied
+pub mod NeededMore
+pub mod CountsMore

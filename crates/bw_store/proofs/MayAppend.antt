@@ -4,10 +4,10 @@ use Rattle.std.proofs.Common.{◌≡◌, ℕ, ◌+◌, ◌≤◌, ◌⊎◌, inl
 use Rattle.std.proofs.Common.{[], ◌∷◌, ◌++◌, length, refl, sym, ap, ◌∙◌, subst, arith, length-append}
 use Rattle.std.specs.List.{AllByRecursion as All}
 use Rattle.std.proofs.lemmas.Grind.{fold-append}
-use Rattle.bw_codec.specs.Grammar.{body_bytes, frame_bytes, head_bytes, IsBlock}
-use Rattle.bw_codec.proofs.FrontFormat.{length-head}
+use Rattle.bw_codec.specs.Grammar.{frame_bytes, IsBlock, IsFrame}
 use Rattle.bw_buffer.specs.Filling.{Filling, frame_of}
-use Rattle.bw_buffer.proofs.Holding.{few_blocks}
+use Rattle.bw_buffer.proofs.Framing.{lawful_frame}
+use Rattle.bw_buffer.proofs.Holding.{length_of_frame}
 use Rattle.bw_log.specs.declared.fault.LogFault.{LogFault}
 use Rattle.bw_log.specs.declared.fault.LogFault.TheVariants as log
 use Rattle.bw_log.specs.Contents as logs
@@ -39,19 +39,16 @@ may_follow s g =
     let h = g.sound in
     let bound = following_fits (s.before + s.durable) s.making.frame (sym h.next ∙ g.next) in
     let number = numbered s g in
-    let long = length-append (head_bytes s.making.frame (length (body_bytes s.making.blocks)) (length s.making.blocks)) (body_bytes s.making.blocks) in
-    let head = length-head s.making.frame (length (body_bytes s.making.blocks)) (length s.making.blocks) in
-    let few = few_blocks s.making.blocks in
+    let size = length_of_frame s.making in
     let limit = h.limit in
     let fits = g.fits in
     let some = g.some in
     let top = h.log.holds.limits.3 in
+    let blocks : All (IsBlock s.log.m) s.making.blocks = subst (λ (m : ℕ). All (IsBlock m) s.making.blocks) h.pairs h.grown.lawful in
     record {
       number = g.next;
-      lawful = record {
-        head = record { numbered = (omega arith, bound); fits = (omega arith, omega arith); some = (some, omega arith) };
-        blocks = subst (λ (m : ℕ). All (IsBlock m) s.making.blocks) h.pairs h.grown.lawful;
-      };
+      lawful = subst (λ (f : ℕ). IsFrame s.log.m f (frame_of s.making)) limit
+          (lawful_frame s.making (omega arith) bound (omega arith) (omega arith) s.log.m some blocks);
       links = h.grown.linked;
       leaves = s.filed.leaves;
       stands = subst (λ (m : ℕ). Rattle.bw_page.specs.Standing.Stand m (logs.counted s.log ++ frame_of s.making ∷ []) s.filed.leaves) h.pairs h.grown.stands;

@@ -2,7 +2,7 @@
 
 use Rattle.std.proofs.Common.{◌≡◌, ℕ, ◌+◌, ◌-◌, ◌^◌, ◌<◌, ◌≤◌, true, false, Some, List}
 use Rattle.std.proofs.Common.{[], ◌∷◌, ◌++◌, length, map, set, refl, sym, ap, ◌∙◌, subst, arith, if◌then◌else◌, length-append}
-use Rattle.std.specs.Prelude.{nat_le, IfSome}
+use Rattle.std.specs.Prelude.{nat_le, IfSome, unwrap_or}
 use Rattle.std.specs.List.{AllByRecursion as All, slice_get}
 use Rattle.bw_codec.specs.Grammar.{IsBlock, IsOp}
 use Rattle.bw_codec.specs.declared.record.Record.{Record}
@@ -18,7 +18,7 @@ use Rattle.bw_page.proofs.Indexing.{count_fits}
 use Rattle.bw_page.proofs.Indexed.{home_within}
 use Rattle.bw_codec.specs.Record.{key_of}
 use Rattle.bw_buffer.specs.Filling.{Filling, frame_of, size_of, with_all, place_at}
-use Rattle.bw_buffer.specs.Joining.{joins, joined, index_for, added}
+use Rattle.bw_buffer.specs.Joining.{joins, joins_of, joined, index_for, added}
 use Rattle.bw_buffer.proofs.Holding.{few_blocks}
 use Rattle.bw_buffer.proofs.Sizes.{added_longer}
 use Rattle.bw_ring.specs.declared.lane.Lane.{Lane}
@@ -104,8 +104,6 @@ takes_one s writer item back blocks e not inside = record {
   takes = takes_it s item back blocks e not;
   number = following_is (s.before + s.durable) s.making.frame (sym e.sound.next ∙ e.next);
   inside = inside;
-  short = subst (λ (bs : List Block). size_of (with_all s.making bs) ≤ 65536) e.made
-      (let fits = e.fits in let l = e.sound.limit in let top = e.sound.log.holds.limits.3 in omega arith);
 }
 
 -- ---- what filing the blocks asks
@@ -125,7 +123,7 @@ module _ {s : Kept} {item : Record} {back : Place} {blocks : List Block} (e : En
       (λ b. AreOne page (if b then Delta (directed_at s.filed.leaves item) back (item ∷ []) ∷ [] else Delta (directed_at s.filed.leaves item) back
       (item ∷ []) ∷ Split (directed_at s.filed.leaves item) (here_at s item)
       (upper_of s.filed.m (length s.filed.leaves + 1) (result_of s.filed.leaves item)) ∷ []))
-      [ true ↦ sym is | false ↦ (sym is, tt) ])
+      [ true ↦ (sym is, refl) | false ↦ ((sym is, refl), tt) ])
 
   pub file_lawful : (IsSpent (shown_of s.filed) item → ⊥) → All (IsBlock 32) blocks
   file_lawful not =
@@ -139,7 +137,9 @@ same_at frame index = record { frame = frame; index = index }
 
 module _ (making now : Filling) (page : ℕ) (blocks : List Block) (one : AreOne page blocks) where
   delta_first : (b : Block) → IsDeltaOf page b → place_at making (index_for making.blocks b) ≡ here_for (frame_of making) page
-  delta_first (Delta p back ops) is = ap (λ (q : ℕ). here_for (frame_of making) q) is
+  delta_first (Delta p back ops) is =
+      ap (λ (n : ℕ). place_at making (unwrap_or (joins_of n p making.blocks) (length making.blocks))) is.1
+      ∙ ap (λ (q : ℕ). here_for (frame_of making) q) is.0
   delta_first (Base leaf) is = absurd is
   delta_first (Split p back upper) is = absurd is
 
@@ -158,10 +158,12 @@ module _ (making now : Filling) (page : ℕ) (blocks : List Block) (one : AreOne
       → length (added making.blocks (b ∷ c ∷ [])) ≡ count_after (joins page making.blocks) (length making.blocks) + 1
   two (Delta p back ops) (Delta q k more) is split = absurd split
   two (Delta p back ops) (Base leaf) is split = absurd split
-  two (Delta p back ops) (Split q k upper) is split =
-      length-append (joined making.blocks (Delta p back ops)) (Split q k upper ∷ [])
-      ∙ ap (λ (x : Place). x.index + 1) (delta_end [] (frame_of making) p back ops)
-      ∙ ap (λ (n : ℕ). count_after (joins n making.blocks) (length making.blocks) + 1) is
+  two (Delta p back []) (Split q k upper) is split = absurd (let none = is.1 in omega arith)
+  two (Delta p back (r ∷ [])) (Split q k upper) is split =
+      length-append (joined making.blocks (Delta p back (r ∷ []))) (Split q k upper ∷ [])
+      ∙ ap (λ (x : Place). x.index + 1) (delta_end [] (frame_of making) p back r)
+      ∙ ap (λ (n : ℕ). count_after (joins n making.blocks) (length making.blocks) + 1) is.0
+  two (Delta p back (r ∷ s ∷ rs)) (Split q k upper) is split = absurd (let more = is.1 in omega arith)
   two (Base leaf) c is split = absurd is
   two (Split p back upper) c is split = absurd is
 

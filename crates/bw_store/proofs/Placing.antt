@@ -14,7 +14,7 @@ use Rattle.bw_codec.specs.declared.block.Block.{Block}
 use Rattle.bw_codec.specs.declared.block.Block.TheVariants.{Delta, Base, Split}
 use Rattle.bw_codec.specs.declared.block.Frame.{Frame}
 use Rattle.bw_buffer.specs.Joining.{joins, with_ops, ops_added, joined_by}
-use Rattle.bw_buffer.proofs.Joined.{StandsOpen, found}
+use Rattle.bw_buffer.proofs.Joined.{StandsOpen, found, joins_parts}
 use Rattle.bw_log.specs.Places.{placed, all_placed, later, last_place, place_of, is_place, is_back, fault_at, fault_of, or_else, bad_link, first_number, AreLinked}
 use Rattle.bw_log.proofs.Links.{bad_link-append}
 use Rattle.bw_store.specs.Adding.{with_blocks, end_of, count_after, here_for, last_for}
@@ -195,7 +195,7 @@ joined_place : (p : ℕ) (fs : List Frame) (f : Frame) (i : ℕ) → joins p f.b
 joined_place p fs f i e =
     ap (last_place (touches p)) (placed_push fs f)
     ∙ fold-append (later (touches p)) None (all_placed fs) (placed f.number 0 f.blocks)
-    ∙ open_place p f.number i (last_place (touches p) (all_placed fs)) f.blocks (found p f.blocks i e)
+    ∙ open_place p f.number i (last_place (touches p) (all_placed fs)) f.blocks (found p f.blocks i (joins_parts 1 p i f.blocks e).0)
 
 -- ---- a record's Delta
 
@@ -208,7 +208,10 @@ links_back first before p back e =
     ap (λ (o : Option Place). if is_back first o back then None else Some p) e
     ∙ ap (λ (b : Bool). if b then None else Some p) (same_place back)
 
-module _ (fs : List Frame) (f : Frame) (p : ℕ) (back : Place) (ops : List Record) where
+module _ (fs : List Frame) (f : Frame) (p : ℕ) (back : Place) (r : Record) where
+  abbrev ops : List Record
+  ops = r ∷ []
+
   pub delta_linked : AreLinked (fs ++ f ∷ []) → place_of p (fs ++ f ∷ []) ≡ Some back → AreLinked (fs ++ with_blocks f (Delta p back ops ∷ []) ∷ [])
   delta_linked old last =
       elim (joins p f.blocks) as (λ o. AreLinked (fs ++ record f { blocks = joined_by o ops (Delta p back ops) f.blocks } ∷ [])) [

@@ -16,16 +16,15 @@ use Rattle.bw_store.specs.Fitting.{Fits, back_for, group_blocks, here_at}
 use Rattle.bw_store.specs.Taking.{MakesRoom, IsPlan, GroupLeaves, Took, WaitingLeaves, IsWanting, IsUnplanned, Works}
 use Rattle.bw_store.proofs.Refusing.{entered_not}
 use Rattle.bw_store.specs.Taken.{alone, taken, taken_all}
-use Rattle.std.specs.List.{AllByRecursion as All, flat_map}
-use Rattle.bw_codec.specs.Grammar.{body_bytes, block_bytes, op_bytes, pair_bytes, IsBlock, IsOp, IsPair}
+use Rattle.std.specs.List.{AllByRecursion as All}
+use Rattle.bw_codec.specs.Grammar.{body_bytes, block_bytes, IsBlock, IsOp}
 use Rattle.bw_codec.specs.Record.{key_of}
 use Rattle.bw_codec.specs.declared.record.Record.{Record}
-use Rattle.bw_codec.specs.declared.record.Record.TheVariants.{Put, Del}
 use Rattle.bw_codec.specs.declared.leaf.Leaf.{Leaf}
 use Rattle.bw_codec.specs.declared.block.Place.{Place}
 use Rattle.bw_codec.specs.declared.block.Block.{Block}
 use Rattle.bw_codec.specs.declared.block.Block.TheVariants.{Delta, Split}
-use Rattle.bw_codec.proofs.Lengths.{length-delta, length-split}
+use Rattle.bw_codec.proofs.Sizing.{largest_blocks}
 use Rattle.bw_page.specs.Leaves.{home, changed, directed_at, upper_of, leaf_at, HasPage, AreLeaves}
 use Rattle.std.specs.List.{slice_get}
 use Rattle.bw_page.specs.declared.fault.ApplyError.{ApplyError}
@@ -74,50 +73,32 @@ planned_is m leaves back here item key page pages n leaf upper bs a k at there s
 
 -- ---- lengths
 
-op_short : (r : Record) → IsOp r → length (op_bytes r) ≤ 195
-op_short (Put key value) h = (let e = length-append (length key ∷ key) (length value ∷ value) in let k = h.0.1 in let v = h.1 in omega arith)
-op_short (Del key) h = (let k = h.1 in omega arith)
-
-pairs_short : (ps : List (List ℕ × List ℕ)) → All IsPair ps → length (flat_map pair_bytes ps) ≤ 194 * length ps
-pairs_short [] h = omega arith
-pairs_short (p ∷ ps) h =
-    (let e = length-append (pair_bytes p) (flat_map pair_bytes ps) in
-    let f = length-append (length p.0 ∷ p.0) (length p.1 ∷ p.1) in
-    let k = h.0.0.1 in
-    let v = h.0.1 in
-    let rest = pairs_short ps h.1 in
-    omega arith)
-
-one_op : (r : Record) → IsOp r → length (flat_map op_bytes (r ∷ [])) ≤ 195
-one_op r h = (let e = ap length (append-nil (op_bytes r)) in let s = op_short r h in omega arith)
-
 half_top : (m : ℕ) → m ≤ 32 → m + 1 ≤ (m + 1) / 2 + 17
 half_top m le = omega arith
 
 pub blocks_short : (m : ℕ) (leaves : List Leaf) (back here : Place) (r : Record) → m ≤ 32 → AreLeaves m leaves → IsOp r
-    → All (IsBlock m) (blocks_for m leaves back here r) → length (body_bytes (blocks_for m leaves back here r)) ≤ 3600
+    → All (IsBlock m) (blocks_for m leaves back here r) → length (body_bytes (blocks_for m leaves back here r)) ≤ 12000
 blocks_short m leaves back here r le a op lawful =
     elim (nat_le (length (result_of leaves r).pairs) m) as (λ b.
     All (IsBlock m) (if b then Delta (directed_at leaves r) back (r ∷ []) ∷ [] else Delta (directed_at leaves r) back (r ∷ []) ∷ Split
     (directed_at leaves r) here (upper_of m (length leaves + 1) (result_of leaves r)) ∷ [])
     → length (body_bytes (if b then Delta (directed_at leaves r) back (r ∷ []) ∷ [] else Delta (directed_at leaves r) back (r ∷ []) ∷ Split
-    (directed_at leaves r) here (upper_of m (length leaves + 1) (result_of leaves r)) ∷ [])) ≤ 3600) [
-      | true ↦ λ h. (let e = ap length (append-nil (block_bytes (Delta (directed_at leaves r) back (r ∷ []))))
-          in let d = length-delta (directed_at leaves r) back (r ∷ []) in let s = one_op r op in omega arith)
+    (directed_at leaves r) here (upper_of m (length leaves + 1) (result_of leaves r)) ∷ [])) ≤ 12000) [
+      | true ↦ λ h. (let d = largest_blocks.delta (directed_at leaves r) back r h.0 in omega arith)
       | false ↦ λ h. (
           let u = upper_of m (length leaves + 1) (result_of leaves r) in
-          let split = h.1.0 in
-          let low = split.makes.low in
-          let pairs = pairs_short u.pairs split.makes.pairs in
+          let wide : All (IsBlock 32) (Delta (directed_at leaves r) back (r ∷ []) ∷ Split (directed_at leaves r) here u ∷ []) =
+          blocks_wider m 32 (Delta (directed_at leaves r) back (r ∷ []) ∷ Split (directed_at leaves r) here u ∷ []) le h in
           let few = (law.directed m leaves r a op).few in
           let half = half_top m le in
           let long = length-drop ((m + 1) / 2) (result_of leaves r).pairs in
           let count : length u.pairs ≤ 17 = omega arith in
-          let e = length-append (block_bytes (Delta (directed_at leaves r) back (r ∷ []))) (body_bytes (Split (directed_at leaves r) here u ∷ [])) in
-          let f = ap length (append-nil (block_bytes (Split (directed_at leaves r) here u))) in
-          let d = length-delta (directed_at leaves r) back (r ∷ []) in
-          let g = length-split (directed_at leaves r) here u in
-          let s = one_op r op in omega arith)
+          let delta = Delta (directed_at leaves r) back (r ∷ []) in
+          let split = Split (directed_at leaves r) here u in
+          let d = largest_blocks.delta (directed_at leaves r) back r h.0 in
+          let g = largest_blocks.split (directed_at leaves r) here u wide.1.0 count in
+          let e = length-append (block_bytes delta) (body_bytes (split ∷ [])) in
+          let f = ap length (append-nil (block_bytes delta)) in omega arith)
     ] lawful
 
 pub room_is : (m : ℕ) (leaves : List Leaf) (item : Record) (key : List ℕ) (page pages n : ℕ) (leaf : Leaf) → AreLeaves m leaves → key ≡ key_of item
@@ -161,7 +142,7 @@ some_blocks s item back =
 pub plan_lawful : (s : Kept) → IsSound s → (item : Record) (back : Place) (blocks : List Block) → IsOp item → HasPage s.filed.m s.filed.leaves item
     → s.log.next ≡ Some s.making.frame → size_of s.making ≤ s.making.limit
     → slice_get s.newest (directed_at s.filed.leaves item - 1) ≡ Some back → blocks ≡ blocks_for s.filed.m s.filed.leaves back (here_at s item) item
-    → All (IsBlock 32) blocks × (length blocks ≤ 2) × (1 ≤ length blocks) × (length (body_bytes blocks) ≤ 3600)
+    → All (IsBlock 32) blocks × (length blocks ≤ 2) × (1 ≤ length blocks) × (length (body_bytes blocks) ≤ 12000)
 plan_lawful s h item back blocks op room next fits last made =
     let t = takes_by s h item back op room next fits last in
     let all = blocks_lawful s.filed.m (logs.counted s.log) (frame_of s.making) s.filed.leaves s.newest back item t in
@@ -172,7 +153,7 @@ plan_lawful s h item back blocks op room next fits last made =
       subst (All (IsBlock 32)) (sym made) (blocks_wider s.filed.m 32 _ le all),
       subst (λ (bs : List Block). length bs ≤ 2) (sym made) some.1,
       subst (λ (bs : List Block). 1 ≤ length bs) (sym made) some.0,
-      subst (λ (bs : List Block). length (body_bytes bs) ≤ 3600) (sym made)
+      subst (λ (bs : List Block). length (body_bytes bs) ≤ 12000) (sym made)
           (blocks_short s.filed.m s.filed.leaves back (here_at s item) item le h.grown.stands.lawful op all),
     )
 
@@ -182,7 +163,7 @@ module _ (s : Kept) (h : IsSound s) (item : Record) (op : IsOp item) (next : s.l
     (at : here ≡ here_for (frame_of s.making) page) where
   plan_all : (p : Plan) → p.page ≡ directed_at s.filed.leaves item → slice_get s.newest (p.page - 1) ≡ Some p.back → HasPage s.filed.m s.filed.leaves item
       → listed p.blocks ≡ blocks_for s.filed.m s.filed.leaves p.back here item
-      → All (IsBlock 32) (listed p.blocks) × (length (listed p.blocks) ≤ 2) × (1 ≤ length (listed p.blocks)) × (length (body_bytes (listed p.blocks)) ≤ 3600)
+      → All (IsBlock 32) (listed p.blocks) × (length (listed p.blocks) ≤ 2) × (1 ≤ length (listed p.blocks)) × (length (body_bytes (listed p.blocks)) ≤ 12000)
   plan_all p page back room blocks =
       plan_lawful s h item p.back (listed p.blocks) op room next (omega arith)
       (subst (λ (n : ℕ). slice_get s.newest (n - 1) ≡ Some p.back) page back)
@@ -198,7 +179,7 @@ module _ (s : Kept) (h : IsSound s) (item : Record) (op : IsOp item) (next : s.l
   pub answer_short : (o : Result Plan StoreFault) → IfOk o (λ p. p.page ≡ directed_at s.filed.leaves item)
       → IfOk o (λ p. slice_get s.newest (p.page - 1) ≡ Some p.back) → OnOk o (HasPage s.filed.m s.filed.leaves item)
       → IfOk o (λ p. listed p.blocks ≡ blocks_for s.filed.m s.filed.leaves p.back here item)
-      → IfOk o (λ p. length (body_bytes (listed p.blocks)) ≤ 3600)
+      → IfOk o (λ p. length (body_bytes (listed p.blocks)) ≤ 12000)
   answer_short (Err e) page back room blocks = tt
   answer_short (Ok p) page back room blocks = (plan_all p page back room blocks).3
 
@@ -239,7 +220,7 @@ pub flushed_empty : (old new : Kept) (o : Option ℕ) → FlushLeaves old (Ok o)
 flushed_empty old new None f = ap (λ (s : Kept). s.making.blocks) f.0 ∙ f.1
 flushed_empty old new (Some n) f = ap (λ (s : Kept). s.making.blocks) f.is ∙ f.empty
 
-pub fits_empty : (s : Kept) (blocks : List Block) → IsSound s → s.making.blocks ≡ [] → length (body_bytes blocks) ≤ 3600
+pub fits_empty : (s : Kept) (blocks : List Block) → IsSound s → s.making.blocks ≡ [] → length (body_bytes blocks) ≤ 12000
     → size_of (with_all s.making blocks) ≤ s.making.limit
 fits_empty s blocks h empty few =
     let shorter = added_shorter s.making.blocks blocks in

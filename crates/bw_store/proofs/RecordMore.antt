@@ -81,7 +81,6 @@ pub record TakesOne (s : Kept) (writer : ℕ) (item : Record) (back : Place) : T
   pub takes : Takes s.filed.m (logs.counted s.log) (frame_of s.making) s.filed.leaves s.newest back item
   pub number : s.making.frame ≡ s.before + s.durable + 1
   pub inside : writer < length s.rings
-  pub short : size_of (with_all s.making (blocks_for s.filed.m s.filed.leaves back (here_at s item) item)) ≤ 65536
 
 module _ (s : Kept) (writer : ℕ) (m : Marked) (back : Place) (t : TakesOne s writer m.item back) where
   same_leaves : (k : ℕ) → leaves_at (taken s writer m back) k ≡ leaves_at s k
@@ -134,7 +133,7 @@ module _ (s : Kept) (writer : ℕ) (m : Marked) (back : Place) (t : TakesOne s w
             ∙ fold-append changed_map (union s.start) (records s.entries) (m.item ∷ []));
         ops = all-push (λ (e : Entry). IsOp e.item) s.entries (record { writer = writer; more = m.more; item = m.item }) h.ops t.takes.op;
         writers = all-push (λ (e : Entry). e.writer < length s.rings) s.entries (record { writer = writer; more = m.more; item = m.item }) h.writers t.inside;
-        grown = grown_more s.filed.m (logs.counted s.log) (frame_of s.making) s.filed.leaves s.newest back m.item t.takes t.short;
+        grown = grown_more s.filed.m (logs.counted s.log) (frame_of s.making) s.filed.leaves s.newest back m.item t.takes;
         next = h.next;
         last = h.last;
         number = inl t.number;

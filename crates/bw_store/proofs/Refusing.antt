@@ -163,6 +163,10 @@ prepared_leaves takes_last old new cause r same =
 pub never_nothing : (takes_last : Bool) (s : Kept) → FlushAnswers (refusal_by takes_last s) (Err NothingOld) → ⊥
 never_nothing takes_last s a = is_cause takes_last s NothingOld (λ x. x) a
 
+-- nor that there is no such page
+pub never_page : (takes_last : Bool) (s : Kept) → FlushAnswers (refusal_by takes_last s) (Err NoPage) → ⊥
+never_page takes_last s a = is_cause takes_last s NoPage (λ x. x) a
+
 -- a flush that was refused for another cause than Failed was not of a failed store
 other_cause : (failed : Bool) (rest : Option StoreFault) (fault : StoreFault) → (fault ≡ Failed → ⊥)
     → FlushAnswers (if failed then Some Failed else rest) (Err fault) → failed ≡ false

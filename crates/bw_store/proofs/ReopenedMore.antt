@@ -5,7 +5,6 @@ use Rattle.std.proofs.Common.{length, refl, sym, ap, ◌∙◌, subst, arith}
 use Rattle.std.specs.Prelude.{nat_le, IfSome}
 use Rattle.std.specs.List.{AllByRecursion as All, fold}
 use Rattle.std.proofs.lemmas.Bool.{le-leb}
-use Rattle.bw_codec.specs.Grammar.{IsFrame}
 use Rattle.bw_codec.specs.declared.block.Place.{Place}
 use Rattle.bw_codec.specs.declared.block.Block.{Block}
 use Rattle.bw_codec.specs.declared.block.Frame.{Frame}
@@ -31,7 +30,7 @@ use Rattle.bw_versions.specs.Versioned.{Versioned}
 use Rattle.bw_store.specs.Showing.{AreUnseen}
 use Rattle.bw_store.proofs.Readers.{unseen_begins, unseen_ends}
 use Rattle.bw_store.specs.Reopened.{reopened}
-use Rattle.bw_store.proofs.FramesBehind.{from_within, none_above, counted_lawful, placed_page, pages_counted}
+use Rattle.bw_store.proofs.FramesBehind.{IsNumbered, from_within, none_above, counted_lawful, placed_page, pages_counted}
 use Rattle.bw_store.proofs.EmptyBehind.{AreNoted, grown_empty}
 use Rattle.bw_store.proofs.Telling.{tells_none}
 use Rattle.bw_store.proofs.Edging.{edged_by, begun_by}
@@ -66,9 +65,9 @@ pub last_is : (n : ℕ) (fs : List Frame) → AreFrom n fs → 1 ≤ length fs �
 last_is n [] are some = absurd (omega arith)
 last_is n (x ∷ xs) are some = last_from n 0 x xs are
 
-first_some : (m f : ℕ) (fs : List Frame) → All (IsFrame m f) fs → 1 ≤ length fs → 1 ≤ first_number fs
-first_some m f [] lawful some = absurd (omega arith)
-first_some m f (x ∷ xs) lawful some = lawful.0.head.numbered.0
+first_some : (fs : List Frame) → All IsNumbered fs → 1 ≤ length fs → 1 ≤ first_number fs
+first_some [] lawful some = absurd (omega arith)
+first_some (x ∷ xs) lawful some = lawful.0.number.0
 
 some_next : (last : ℕ) (o : Option ℕ) → o ≡ following last → IfSome o (λ n. 1 ≤ n)
 some_next last None e = tt
@@ -94,7 +93,7 @@ module _ (c : logs.Contents) (filed : Shown) (last : ℕ) (x : Found c filed las
 
   pub from_one : 1 ≤ last
   from_one =
-      let low = first_some c.m c.f (logs.counted c) (counted_lawful c x.sound) some in
+      let low = first_some (logs.counted c) (counted_lawful c x.sound) some in
       let is = last_at in
       let many = some in
       omega arith
@@ -158,7 +157,7 @@ module _ (c : logs.Contents) (filed : Shown) (last : ℕ) (x : Found c filed las
           begins = unseen_begins versions [] unseen;
           ends = unseen_ends t versions.entered unseen;
         };
-        edged = edged_by c x.sound.holds.live;
+        edged = edged_by c (logs.limits_of (logs.image c) x.sound.holds.live.0) x.sound.holds.live.1;
         begun = begun_by c;
         left = λ failed. (let works = x.works in absurd cc);
       }

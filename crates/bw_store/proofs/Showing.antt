@@ -92,14 +92,14 @@ pub hides_roster : (middle new : Kept) → Hides middle new → roster new.log �
 hides_roster middle new x = ap (λ (s : Kept). roster s.log) x.is
 
 -- a publication leaves the floor and what is durable
-pub shows_floor : (old middle new : Kept) (cleaned : Cleaned) → HasFloorBut old (Ok cleaned) middle → Shows middle new
-    → HasFloorAfter old (Ok cleaned) new
-shows_floor old middle new cleaned floor x =
+pub shows_floor : {A : Type 0} (k : ℕ) (old middle new : Kept) (given : A) → HasFloorBut old (Ok given) middle → Shows middle new
+    → HasFloorAfter k old (Ok given) new
+shows_floor k old middle new given floor x =
     ap (λ (s : Kept). s.floor) x.is ∙ floor ∙ sym (ap (λ (s : Kept). s.durable) x.is)
 
-pub hides_floor : (old middle new : Kept) (cleaned : Cleaned) → HasFloorBut old (Ok cleaned) middle → HasBoxesBut old (Ok cleaned) middle
-    → Hides middle new → HasFloorAfter old (Err NoMemory) new
-hides_floor old middle new cleaned floor boxes x = inr (
+pub hides_floor : {A : Type 0} (k : ℕ) (old middle new : Kept) (given : A) → HasFloorBut old (Ok given) middle → HasBoxesBut k old (Ok given) middle
+    → Hides middle new → HasFloorAfter {A = A} k old (Err NoMemory) new
+hides_floor k old middle new given floor boxes x = inr (
   refl,
   ap (λ (s : Kept). s.floor) x.is ∙ floor ∙ sym (ap (λ (s : Kept). s.durable) x.is),
   hides_roster middle new x ∙ boxes,

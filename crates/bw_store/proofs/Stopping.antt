@@ -6,7 +6,6 @@ use Rattle.std.specs.Prelude.{IfSome, MatchResult, nat_le}
 use Rattle.std.specs.List.{AllByRecursion as All}
 use Rattle.std.proofs.lemmas.Bool.{cases_lt, le-leb, lt-leb}
 use Rattle.std.proofs.lemmas.List.Elements.{filter-append}
-use Rattle.bw_codec.specs.Grammar.{IsFrame}
 use Rattle.bw_codec.specs.declared.leaf.Leaf.{Leaf}
 use Rattle.bw_codec.specs.declared.block.Frame.{Frame}
 use Rattle.bw_page.specs.Standing.{Stand}
@@ -25,7 +24,7 @@ use Rattle.bw_store.specs.Edges.{newest_number}
 use Rattle.bw_store.specs.Growing.{frames_upto}
 use Rattle.bw_store.specs.Kept.{Kept, leaves_at, IsSound}
 use Rattle.bw_store.specs.Stopping.{FindsCut, FindsStop, HoldsUpto, MayCut}
-use Rattle.bw_store.proofs.FramesBehind.{counted_lawful, next_after, none_above, same_end}
+use Rattle.bw_store.proofs.FramesBehind.{IsNumbered, counted_lawful, next_after, none_above, same_end}
 use Rattle.bw_store.proofs.ReopenedMore.{last_is}
 
 -- ---- a stop
@@ -194,9 +193,9 @@ module _ (s : Kept) (h : IsSound s) (works : s.log.is_failed ≡ false) (n : ℕ
 
     from_one : 1 ≤ first
     from_one = lawful_first counted (counted_lawful s.log h.log) (let here = some in let many = within in omega arith) where
-      lawful_first : (fs : List Frame) → All (IsFrame s.log.m s.log.f) fs → 1 ≤ length fs → 1 ≤ first_number fs
+      lawful_first : (fs : List Frame) → All IsNumbered fs → 1 ≤ length fs → 1 ≤ first_number fs
       lawful_first [] are more = absurd (omega arith)
-      lawful_first (x ∷ xs) are more = are.0.head.numbered.0
+      lawful_first (x ∷ xs) are more = are.0.number.0
 
     -- no frame up to the floor's is missing
     low : s.before + s.floor ≤ last_number cut_frames

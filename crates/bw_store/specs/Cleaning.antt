@@ -67,12 +67,12 @@ CleanLeaves old (Ok cleaned) new =
 CleanLeaves old (Err fault) new =
     ((length old.log.live < 2) × (fault ≡ NothingOld) × (new ≡ old)) ⊎ ((2 ≤ length old.log.live) × RefusesClean old fault new)
 
--- the row of all boxes lacks its first on Ok, and is the same else
-abbrev pub HasBoxesBut : Kept → Result Cleaned StoreFault → Kept → Type 0
-HasBoxesBut old (Ok cleaned) new = logs.roster new.log ≡ drop 1 (logs.roster old.log)
-HasBoxesBut old (Err fault) new = logs.roster new.log ≡ logs.roster old.log
+-- the row of all boxes lacks its first so many on Ok, and is the same else
+abbrev pub HasBoxesBut : {A : Type 0} → ℕ → Kept → Result A StoreFault → Kept → Type 0
+HasBoxesBut k old (Ok given) new = logs.roster new.log ≡ drop k (logs.roster old.log)
+HasBoxesBut k old (Err fault) new = logs.roster new.log ≡ logs.roster old.log
 
 -- the floor is what is durable on Ok, and stays else
-abbrev pub HasFloorBut : Kept → Result Cleaned StoreFault → Kept → Type 0
-HasFloorBut old (Ok cleaned) new = new.floor ≡ new.durable
+abbrev pub HasFloorBut : {A : Type 0} → Kept → Result A StoreFault → Kept → Type 0
+HasFloorBut old (Ok given) new = new.floor ≡ new.durable
 HasFloorBut old (Err fault) new = new.floor ≡ old.floor

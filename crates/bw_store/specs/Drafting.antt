@@ -1,6 +1,6 @@
 -- A group that is planned record by record: what is known of it so far, and of the pages that it touches.
 
-use Rattle.std.specs.Prelude.{ℕ, ◌+◌, ◌-◌, ◌≡◌, ◌≤◌, ◌==◌, ◌||◌, Bool, false, if◌then◌else◌, Option, Some, None, is_none, is_some, unwrap_or, List, [], ◌∷◌, ◌++◌, length, map, slice_get, slice_set}
+use Rattle.std.specs.Prelude.{ℕ, ◌+◌, ◌-◌, ◌≡◌, ◌≤◌, ◌==◌, ◌||◌, Bool, false, if◌then◌else◌, Option, Some, None, is_some, unwrap_or, List, [], ◌∷◌, ◌++◌, length, map, slice_get, slice_set}
 use Rattle.std.specs.List.{fold, AllByRecursion}
 use Rattle.bw_codec.specs.Grammar.{IsBlock}
 use Rattle.bw_codec.specs.declared.record.Record.{Record}
@@ -9,7 +9,8 @@ use Rattle.bw_codec.specs.declared.block.Place.{Place}
 use Rattle.bw_codec.specs.declared.block.Block.{Block}
 use Rattle.bw_page.specs.Leaves.{directed_at, HasPages}
 use Rattle.bw_buffer.specs.Filling.{Filling, size_of}
-use Rattle.bw_buffer.specs.Joining.{joins}
+use Rattle.bw_buffer.specs.Counting.{grown}
+use Rattle.bw_buffer.specs.Joining.{joins, open_records, takes}
 use Rattle.bw_store.specs.declared.drafting.Row.{Row}
 use Rattle.bw_store.specs.declared.drafting.Draft.{Draft}
 use Rattle.bw_store.specs.Adding.{Drawn, count_after, here_for, last_for, result_of, upper_if, planned, nowhere, drawn_by}
@@ -20,14 +21,14 @@ use Rattle.bw_store.specs.Taken.{alone, taken_all}
 
 -- ---- what each record of a group does to the places
 
-abbrev pub row_by : ℕ → Place → Place → Option Leaf → Row
-row_by page here last None = record { page = page; made = None; place = here }
-row_by page here last (Some upper) = record { page = page; made = Some upper.page; place = last }
+abbrev pub row_by : ℕ → Place → Place → ℕ → Option Leaf → Row
+row_by page here last count None = record { page = page; made = None; place = here; records = Some count }
+row_by page here last count (Some upper) = record { page = page; made = Some upper.page; place = last; records = None }
 
 abbrev pub row_for : ℕ → Drawn → Record → Row
 row_for m d r =
     row_by (directed_at d.leaves r) (here_for d.frame (directed_at d.leaves r)) (last_for d.frame (directed_at d.leaves r))
-    (upper_if m (length d.leaves + 1) (result_of d.leaves r))
+    (grown (open_records (directed_at d.leaves r) d.frame.blocks) 1) (upper_if m (length d.leaves + 1) (result_of d.leaves r))
 
 abbrev pub rows_all : ℕ → Drawn → List Record → List Row
 rows_all m d [] = []
@@ -78,14 +79,19 @@ place_by (Some row) was = Some row.place
 abbrev pub place_in : List Row → List Place → ℕ → Option Place
 place_in rows newest p = place_by (row_in rows p) (slice_get newest (p - 1))
 
-abbrev pub index_if : Bool → ℕ → Option ℕ
-index_if open_now index = if open_now then Some index else None
+abbrev pub records_by : Option Row → Option ℕ → Option ℕ
+records_by None was = was
+records_by (Some row) was = row.records
+
+-- how many records it has, where that is a Delta of the frame in the making
+abbrev pub records_in : List Row → List Block → ℕ → Option ℕ
+records_in rows blocks p = records_by (row_in rows p) (open_records p blocks)
 
 abbrev pub open_by : Option Row → Option ℕ → Option ℕ
 open_by None was = was
-open_by (Some row) was = index_if (is_none row.made) row.place.index
+open_by (Some row) was = if takes 1 row.records then Some row.place.index else None
 
--- its index, where that is a Delta of the frame in the making
+-- its index, where that is a Delta of the frame in the making with room for one more record
 abbrev pub open_in : List Row → List Block → ℕ → Option ℕ
 open_in rows blocks p = open_by (row_in rows p) (joins p blocks)
 
@@ -103,7 +109,8 @@ pub record Added (old : Draft) (making : Filling) (newest : List Place) (item : 
   pub blocks : new.blocks.items ≡ old.blocks.items ++ planned page (unwrap_or (place_in old.rows.items newest page) nowhere)
       (place_with making.frame (unwrap_or (open_in old.rows.items making.blocks page) old.count)) item upper
   pub rows : new.rows.items ≡ old.rows.items ++ row_by page (place_with making.frame (unwrap_or (open_in old.rows.items making.blocks page) old.count))
-      (place_with making.frame (count_after (open_in old.rows.items making.blocks page) old.count)) upper ∷ []
+      (place_with making.frame (count_after (open_in old.rows.items making.blocks page) old.count))
+      (grown (records_in old.rows.items making.blocks page) 1) upper ∷ []
   pub count : new.count ≡ count_with upper (count_after (open_in old.rows.items making.blocks page) old.count)
 
 -- ---- a draft of the first records of a group
@@ -120,6 +127,8 @@ pub record IsAhead (s : Kept) (done : List Record) (draft : Draft) : Type 0 wher
       → place_in draft.rows.items s.newest p ≡ slice_get (drawn_behind s done).newest (p - 1)
   pub opens : (p : ℕ) → 1 ≤ p → p ≤ length (drawn_behind s done).leaves
       → open_in draft.rows.items s.making.blocks p ≡ joins p (drawn_behind s done).frame.blocks
+  pub records : (p : ℕ) → 1 ≤ p → p ≤ length (drawn_behind s done).leaves
+      → records_in draft.rows.items s.making.blocks p ≡ open_records p (drawn_behind s done).frame.blocks
 
 -- the store as it would be behind these records of a lane
 abbrev pub behind : Kept → ℕ → List Record → Kept

@@ -1,11 +1,12 @@
 -- The blocks of one record, as they are put into the frame in the making.
 
-use Rattle.std.specs.Prelude.{ℕ, ◌≡◌, List, [], ◌∷◌}
+use Rattle.std.specs.Prelude.{ℕ, ◌≡◌, List, [], ◌∷◌, length}
 use Rattle.bw_codec.specs.declared.block.Block.{Block}
 use Rattle.bw_codec.specs.declared.block.Block.TheVariants.{Delta, Base, Split}
 
+-- a Delta of one record of a page
 abbrev pub IsDeltaOf : ℕ → Block → Type 0
-IsDeltaOf page (Delta p back ops) = p ≡ page
+IsDeltaOf page (Delta p back ops) = (p ≡ page) × (length ops ≡ 1)
 IsDeltaOf page (Base leaf) = ⊥
 IsDeltaOf page (Split p back upper) = ⊥
 

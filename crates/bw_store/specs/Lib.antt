@@ -10,6 +10,7 @@ pub mod Edges
 pub mod Kept
 pub mod Stopping
 pub mod Faults
+pub mod Noted
 pub mod Views
 pub mod Taken
 pub mod Fitting
@@ -23,6 +24,10 @@ pub mod Reopened
 pub mod Following
 pub mod Cleaning
 pub mod Showing
+pub mod Upgrading
+pub mod Rewriting
+pub mod Counting
+pub mod Needed
 -- What private functions say.
 pub mod Drafting
 pub mod Remembering

@@ -69,15 +69,15 @@ CleanShows old (Err fault) new =
     CleanLeaves old (Err fault) new
     ⊎ ((fault ≡ NoMemory) × ((middle : Kept) × ((cleaned : Cleaned) × CleanLeaves old (Ok cleaned) middle) × Hides middle new))
 
--- the row of all boxes lacks its first on Ok, and also where nothing but the publication was refused; it is the same else
-abbrev pub HasBoxesAfter : Kept → Result Cleaned StoreFault → Kept → Type 0
-HasBoxesAfter old (Ok cleaned) new = roster new.log ≡ drop 1 (roster old.log)
-HasBoxesAfter old (Err fault) new =
-    (roster new.log ≡ roster old.log) ⊎ ((fault ≡ NoMemory) × (roster new.log ≡ drop 1 (roster old.log)))
+-- the row of all boxes lacks its first so many on Ok, and also where nothing but the publication was refused; it is the same else
+abbrev pub HasBoxesAfter : {A : Type 0} → ℕ → Kept → Result A StoreFault → Kept → Type 0
+HasBoxesAfter k old (Ok given) new = roster new.log ≡ drop k (roster old.log)
+HasBoxesAfter k old (Err fault) new =
+    (roster new.log ≡ roster old.log) ⊎ ((fault ≡ NoMemory) × (roster new.log ≡ drop k (roster old.log)))
 
--- the floor is what is durable where a segment was given up, and what it was else
-abbrev pub HasFloorAfter : Kept → Result Cleaned StoreFault → Kept → Type 0
-HasFloorAfter old (Ok cleaned) new = new.floor ≡ new.durable
-HasFloorAfter old (Err fault) new =
+-- the floor is what is durable where so many segments were given up, and what it was else
+abbrev pub HasFloorAfter : {A : Type 0} → ℕ → Kept → Result A StoreFault → Kept → Type 0
+HasFloorAfter k old (Ok given) new = new.floor ≡ new.durable
+HasFloorAfter k old (Err fault) new =
     (new.floor ≡ old.floor)
-    ⊎ ((fault ≡ NoMemory) × (new.floor ≡ new.durable) × (roster new.log ≡ drop 1 (roster old.log)))
+    ⊎ ((fault ≡ NoMemory) × (new.floor ≡ new.durable) × (roster new.log ≡ drop k (roster old.log)))

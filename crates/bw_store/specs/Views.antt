@@ -8,6 +8,7 @@ use Rattle.bw_page.specs.Shown.{is_away}
 use Rattle.bw_ring.specs.Ends.{ring_of_lane}
 use Rattle.bw_log.specs.Views.{seen_by}
 use Rattle.bw_store.specs.Kept.{Kept, filed_of}
+use Rattle.bw_store.specs.Noted.{Noted}
 use Rattle.bw_store.specs.Kept as kept
 use Rattle.bw_store.specs.declared.store.Store.{Store}
 
@@ -39,6 +40,10 @@ module _ {I : Type 0} {H : I → Type 0} where
   -- how many entries of the history left memory, from the first on
   abbrev pub forgotten_of : Store I H → ℕ
   forgotten_of s = s.intake.history.gone
+
+  -- what it notes beside what it keeps
+  abbrev pub noted_of : Store I H → Noted
+  noted_of s = record { gone = s.intake.history.gone; tally = s.tally }
 
   -- what every store keeps between calls
   abbrev pub IsSoundBeside : Store I H → (DynBox I Global H → Holding) → Type 0

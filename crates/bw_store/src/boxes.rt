@@ -15,7 +15,7 @@ use bw_device::Segment;
 use std::sync::Wait;
 
 impl Store {
-    ghost use Rattle.bw_store.specs.Views.{kept_by, kept_beside, IsSound, IsSoundBeside};
+    ghost use Rattle.bw_store.specs.Views.{kept_by, kept_beside, noted_of, IsSound, IsSoundBeside};
 
     /// A further spare, which goes last. A box that is not empty or has not the room that `open`
     /// asks, or one above 4,096, comes back with `BadConfig`, and any box with `NoMemory` where a
@@ -39,6 +39,7 @@ impl Store {
             (kept_beside self.new holding ≡ kept_beside self.old holding) }
 
         ensures follows { Follows (kept_beside self.old holding) (kept_beside self.new holding) }
+        ensures noted { noted_of self.new ≡ noted_of self.old }
     {
         match self.log.add_segment(one) {
             Ok(()) => Ok(()),
@@ -57,6 +58,7 @@ impl Store {
             (kept_by self.new holding) }
         ensures boxes { HasBoxes (kept_by self.old holding)
             (kept_by self.new holding) }
+        ensures noted { noted_of self.new ≡ noted_of self.old }
     {
         self.log.roll();
     }
@@ -85,6 +87,7 @@ impl Store {
             (kept_by self.new holding) }
         ensures boxes { HasBoxes (kept_by self.old holding)
             (kept_by self.new holding) }
+        ensures noted { noted_of self.new ≡ noted_of self.old }
     {
         match self.log.dump(segment, out) {
             Ok(found) => Ok(found),
@@ -133,6 +136,8 @@ impl Store {
             log,
             versions,
             hints: _hints,
+            tally: _,
+            looks: _,
         } = self;
         versions.shut(rt);
         let (live, spares) = log.into_segments();

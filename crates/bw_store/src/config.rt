@@ -4,6 +4,8 @@ ghost use Rattle.std.specs.Prelude.{◌↔◌, IsTrue};
 ghost use Rattle.bw_store.specs.Opened.{AreWriters, IsConfig};
 ghost use Rattle.bw_log.specs.Limits.{AreLimits};
 
+use bw_codec::limits::{MAX_FRAME, MAX_PAIRS, MIN_FRAME, MIN_PAIRS};
+
 /// How many writers a store has, and its limits.
 #[derive(Debug, Clone, Copy, PartialEq, Eq)]
 pub struct Config {
@@ -15,7 +17,7 @@ pub struct Config {
     pub readers: usize,
     /// The most pairs of a page, 4 to 32.
     pub m: u16,
-    /// The most bytes of a frame, 16,384 to 65,536.
+    /// The most bytes of a frame, 65,536 to 262,144.
     pub f: u32,
 }
 
@@ -40,6 +42,6 @@ impl Config {
     fn are_limits(&self) -> bool
         ensures { IsTrue result ↔ AreLimits self.now.m self.now.f }
     {
-        4 <= self.m && self.m <= 32 && 16384 <= self.f && self.f <= 65536
+        MIN_PAIRS <= self.m && self.m <= MAX_PAIRS && MIN_FRAME <= self.f && self.f <= MAX_FRAME
     }
 }

@@ -12,7 +12,7 @@ use crate::fault::StoreFault;
 use crate::store::Store;
 
 impl Store {
-    ghost use Rattle.bw_store.specs.Views.{kept_by, is_evicted, IsSound};
+    ghost use Rattle.bw_store.specs.Views.{kept_by, is_evicted, noted_of, IsSound};
 
     // How many pairs a page has.
     fn pairs_on(&mut self, page: u32) -> Result<u64, StoreFault>
@@ -27,6 +27,7 @@ impl Store {
             (kept_by self.old holding) result (kept_by self.new holding) }
         ensures memory { is_evicted page self.old ≡ false
             → IfErr result (λ fault. fault ≡ StoreFault.NoMemory) }
+        ensures noted { noted_of self.new ≡ noted_of self.old }
     {
         if let Some(leaf) = self.leaves.page(page) {
             return Ok(leaf.pairs.as_slice().len() as u64);
@@ -54,6 +55,7 @@ impl Store {
 
         ensures follows { Follows (kept_by self.old holding) (kept_by self.new holding) }
         ensures boxes { HasBoxes (kept_by self.old holding) (kept_by self.new holding) }
+        ensures noted { noted_of self.new ≡ noted_of self.old }
     {
         let pages = self.leaves.count();
         let mut pairs = 0;

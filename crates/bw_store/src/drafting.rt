@@ -7,21 +7,25 @@
 ghost use Rattle.std.specs.Prelude.{◌≡◌, ◌≤◌, ◌<◌, ◌+◌, ◌-◌, ◌^◌, ◌++◌, [], None, length, vec_len, unwrap_or, OnOk};
 ghost use Rattle.std.specs.Vec.{vec_capacity};
 ghost use Rattle.bw_store.specs.Adding.{count_after, nowhere};
-ghost use Rattle.bw_store.specs.Drafting.{Added, count_with, is_row_of, open_in, place_in, place_with, row_by, row_in};
+ghost use Rattle.bw_buffer.specs.Counting.{grown};
+ghost use Rattle.bw_buffer.specs.Joining.{takes};
+ghost use Rattle.bw_store.specs.Drafting.{Added, count_with, is_row_of, open_in, place_in, place_with, records_in, row_by, row_in};
 ghost use Rattle.bw_store.specs.Planning.{listed};
 
 use crate::planning::{Blocks, blocks_of};
 use bw_buffer::Buffer;
+use bw_codec::limits::MAX_OPS;
 use bw_codec::{Block, Leaf, Place, Record};
 use std::alloc::{AllocError, Global};
 
-/// What one record of a group does: the page that it changes, the page that it makes, if it does, and
-/// where the last block of both goes.
+/// What one record of a group does: the page that it changes, the page that it makes, if it does,
+/// where the last block of both goes, and how many records that block has, where it is a Delta.
 #[derive(Clone, Copy)]
 pub(crate) struct Row {
     pub(crate) page: u32,
     pub(crate) made: Option<u32>,
     pub(crate) place: Place,
+    pub(crate) records: Option<usize>,
 }
 
 /// The blocks of the first records of a group, and what these records do.
@@ -87,7 +91,8 @@ impl Draft {
         let joins = self.open(making, page);
         let here = place_of(making, joins, self.count);
         let count = counted(joins, self.count);
-        let row = row_of(page, here, making.frame(), count, &upper);
+        let records = one_more(self.records(making, page));
+        let row = row_of(page, here, making.frame(), count, records, &upper);
         let count = count_behind(&upper, count);
         self.rows.reserve(1)?;
         self.blocks.reserve(2)?;
@@ -122,20 +127,53 @@ impl Draft {
         }
     }
 
-    // The index of the Delta that a Delta of this page joins, if there is one.
+    // The index of the Delta that a Delta of one record of this page joins, if there is one.
     fn open(&self, making: &Buffer, page: u32) -> Option<u32>
         ensures { result ≡ open_in self.now.rows.items making.now.blocks page }
     {
         match self.last(page) {
-            Some(row) => match row.made {
-                Some(_) => None,
-                None => Some(row.place.index),
-            },
+            Some(row) => {
+                if takes_one(row.records) {
+                    Some(row.place.index)
+                } else {
+                    None
+                }
+            }
             None => match making.joins(page) {
                 Some(place) => Some(place.index),
                 None => None,
             },
         }
+    }
+
+    // How many records the last block of a page has, where it is a Delta of the frame in the making.
+    fn records(&self, making: &Buffer, page: u32) -> Option<usize>
+        ensures { result ≡ records_in self.now.rows.items making.now.blocks page }
+    {
+        match self.last(page) {
+            Some(row) => row.records,
+            None => making.records(page),
+        }
+    }
+}
+
+// Whether a Delta of so many records has room for one more, where there is one.
+fn takes_one(records: Option<usize>) -> bool
+    ensures { result ≡ takes 1 records }
+{
+    match records {
+        Some(records) => records < MAX_OPS,
+        None => false,
+    }
+}
+
+// How many records a Delta has with one more, or a new one where it has no room.
+fn one_more(records: Option<usize>) -> usize
+    ensures { result ≡ grown records 1 }
+{
+    match records {
+        Some(records) => { if records < MAX_OPS { records + 1 } else { 1 } }
+        None => 1,
     }
 }
 
@@ -176,8 +214,15 @@ fn count_behind(upper: &Option<Leaf>, count: u32) -> u32
 }
 
 // What the record does: a Split goes behind all blocks.
-fn row_of(page: u32, here: Place, frame: u64, count: u32, upper: &Option<Leaf>) -> Row
-    ensures { result ≡ row_by page here (place_with frame count) upper.now }
+fn row_of(
+    page: u32,
+    here: Place,
+    frame: u64,
+    count: u32,
+    records: usize,
+    upper: &Option<Leaf>,
+) -> Row
+    ensures { result ≡ row_by page here (place_with frame count) records upper.now }
 {
     match upper {
         Some(leaf) => Row {
@@ -187,11 +232,13 @@ fn row_of(page: u32, here: Place, frame: u64, count: u32, upper: &Option<Leaf>) 
                 frame,
                 index: count,
             },
+            records: None,
         },
         None => Row {
             page,
             made: None,
             place: here,
+            records: Some(records),
         },
     }
 }

@@ -26,7 +26,7 @@ use bw_codec::{Block, Place, Record};
 use bw_ring::Group;
 
 impl Store {
-    ghost use Rattle.bw_store.specs.Views.{kept_by, IsSound};
+    ghost use Rattle.bw_store.specs.Views.{kept_by, noted_of, IsSound};
 
     // Enters a record whose blocks fit the frame in the making.
     pub(crate) fn enter(
@@ -61,6 +61,7 @@ impl Store {
             ≡ map given self.old.intake.lanes.items) }
         ensures known { OnOk result
             (TookKnown lane self.old.intake.lanes.items self.new.intake.lanes.items) }
+        ensures noted { noted_of self.new ≡ noted_of self.old }
     {
         let _ = item.key();
         let _ = self.leaves.count();

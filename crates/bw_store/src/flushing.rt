@@ -20,7 +20,7 @@ use bw_buffer::Buffer;
 use std::sync::Wait;
 
 impl Store {
-    ghost use Rattle.bw_store.specs.Views.{kept_by, IsSound};
+    ghost use Rattle.bw_store.specs.Views.{kept_by, noted_of, IsSound};
 
     /// Seals the frame in the making and appends it; answers its number, or `None` where nothing
     /// waited.
@@ -47,6 +47,7 @@ impl Store {
 
         ensures follows { Follows (kept_by self.old holding) (kept_by self.new holding) }
         ensures boxes { HasBoxes (kept_by self.old holding) (kept_by self.new holding) }
+        ensures noted { noted_of self.new ≡ noted_of self.old }
     {
         let number = self.flush_making(false)?;
         self.publish(rt)?;
@@ -61,6 +62,7 @@ impl Store {
         ensures pages { self.new.leaves ≡ self.old.leaves }
         ensures answers { FlushAnswers (refusal_by takes_last (kept_by self.old holding)) result }
         ensures leaves { FlushLeaves (kept_by self.old holding) result (kept_by self.new holding) }
+        ensures noted { noted_of self.new ≡ noted_of self.old }
     {
         if self.log.is_failed() {
             return Err(StoreFault::Failed);
@@ -90,6 +92,7 @@ impl Store {
         ensures refused { IfErr result (IsRefused
             (refusal (kept_by self.old holding).log
             (length (frame_bytes (frame_of self.old.making))) takes_last)) }
+        ensures noted { noted_of self.new ≡ noted_of self.old }
     {
         let len = self.making.len();
         self.log.ready(len, takes_last)?;
@@ -112,6 +115,7 @@ impl Store {
         ensures intake { self.new.intake ≡ self.old.intake }
         ensures pages { self.new.leaves ≡ self.old.leaves }
         ensures leaves { AppendLeaves (kept_by self.old holding) result (kept_by self.new holding) }
+        ensures noted { noted_of self.new ≡ noted_of self.old }
     {
         let end = self.intake.history.len();
         self.making.seal();

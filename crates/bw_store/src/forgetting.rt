@@ -8,12 +8,12 @@ ghost use Rattle.bw_store.specs.History.{cut};
 use crate::store::Store;
 
 impl Store {
-    ghost use Rattle.bw_store.specs.Views.{forgotten_of, kept_by, IsSound};
+    ghost use Rattle.bw_store.specs.Views.{forgotten_of, kept_by, noted_of, IsSound};
 
     /// Lets go of what the readers' book has of the history, all of it durable, and answers how many
     /// entries more are forgotten by that. They leave memory alone: nothing that a clause says of
     /// the store changes, `history` then has the entries behind them, and `forgotten` tells how
-    /// many they are. No other call does this, which a clause says of `flush` alone (`intake`).
+    /// many they are. No other call does this (`noted` of each).
     ///
     /// Behind a `flush`, `settle` or `clean` that answered Ok these are all entries up to the last
     /// durable cut. No memory is taken, and the room of what was forgotten is used again. It costs
@@ -23,6 +23,8 @@ impl Store {
         ensures sound { IsSound self.new holding }
         ensures same { kept_by self.new holding ≡ kept_by self.old holding }
         ensures answer { forgotten_of self.new ≡ forgotten_of self.old + result }
+        ensures noted { noted_of self.new
+            ≡ record (noted_of self.old) { gone = forgotten_of self.new } }
         ensures shown { forgotten_of self.new
             ≡ length (entries_of (kept_by self.new holding).versions.entered) }
 

@@ -28,7 +28,7 @@ use bw_ring::Group;
 use std::alloc::AllocError;
 
 impl Store {
-    ghost use Rattle.bw_store.specs.Views.{kept_by, IsSound};
+    ghost use Rattle.bw_store.specs.Views.{kept_by, noted_of, IsSound};
 
     /// Brings back the pages of all records of a group, before it is planned. A page that one of
     /// them makes comes out of a page that is then in memory.
@@ -40,6 +40,7 @@ impl Store {
         ensures lawful { OnOk result (AllByRecursion IsOp records.now) }
         ensures leaves { WalkLeaves (kept_by self.old holding) result
             (kept_by self.new holding) }
+        ensures noted { noted_of self.new ≡ noted_of self.old }
     {
         'records: for at in 0..records.len() {
             self.fetch_one(&records[at])?;
@@ -59,6 +60,7 @@ impl Store {
         ensures lawful { IsOp item.now }
         ensures leaves { WalkLeaves (kept_by self.old holding) result
             (kept_by self.new holding) }
+        ensures noted { noted_of self.new ≡ noted_of self.old }
     {
         let _ = self.fetch(item.key())?;
         Ok(())
@@ -88,6 +90,7 @@ impl Store {
             (IsDraft (kept_by self.old holding) records.now)) }
         ensures refused { IfErr result
             (IsUnplanned (kept_by self.old holding) records.now) }
+        ensures noted { noted_of self.new ≡ noted_of self.old }
     {
         self.goes_on()?;
         let steps = self.leaves.steps(records)?;
@@ -177,6 +180,7 @@ impl Store {
             ≡ map given self.old.intake.lanes.items) }
         ensures known { OnOk result
             (TookKnown lane self.old.intake.lanes.items self.new.intake.lanes.items) }
+        ensures noted { noted_of self.new ≡ noted_of self.old }
     {
         let rows = draft.rows.as_slice();
         let _ = self.leaves.count();

@@ -3,8 +3,8 @@
 //!
 //! Writers live in threads of their own, each with a feed; one thread owns the store. What it took
 //! stands in the history at once, in the pages, and in a frame in the making; a flush appends that
-//! frame and cuts the history there. `clean` gives up the oldest segment, and `reopen` goes on from
-//! what was recovered. `specs/Kept.antt` has what holds between calls, and `specs/Following.antt`
+//! frame and cuts the history there. `clean` gives up the oldest segment, `upgrade` all segments of
+//! format 1, and `reopen` goes on from what was recovered. `specs/Kept.antt` has what holds between calls, and `specs/Following.antt`
 //! what no call takes back. `evict` drops a page from memory: it is then read from the log, and
 //! `specs/Tails.antt` has what the frame in the making adds to it. `forget` drops from memory what
 //! readers have of the history; the clauses go on speaking of all of it.
@@ -16,6 +16,7 @@ mod beside;
 mod boxes;
 mod cleaning;
 mod config;
+mod counters;
 mod counting;
 mod drafting;
 mod edge;
@@ -28,6 +29,8 @@ mod grouping;
 mod hints;
 mod history;
 mod intake;
+mod moved;
+mod needed;
 mod opening;
 mod planning;
 mod publishing;
@@ -35,16 +38,19 @@ mod reading;
 mod receipts;
 mod renewing;
 mod reopening;
+mod rewriting;
 mod settling;
 mod store;
 mod tails;
 mod taking;
 mod turning;
+mod upgrading;
 mod walk;
 
-pub use bw_care::Cleaned;
+pub use bw_care::{Cleaned, Upgraded};
 pub use bw_versions::{Entry, News, NoReader, ReadFault, Reader};
 pub use config::Config;
+pub use counters::Counters;
 pub use edge::Edge;
 pub use fault::{OpenFault, StoreFault};
 pub use reopening::ReopenFault;

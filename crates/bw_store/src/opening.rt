@@ -9,9 +9,11 @@ ghost use Rattle.bw_page.specs.Leaves.{empty_leaf};
 ghost use Rattle.bw_ring.specs.Ends.{ring_of_feed, ring_of_lane};
 ghost use Rattle.bw_store.specs.Tails.{tail_of, tails_for};
 ghost use Rattle.bw_store.specs.Opened.{opened, one_empty, started, first_place, first_making, AreFresh, AreTaken, IsConfig, IsOpenFault};
+ghost use Rattle.bw_store.specs.Counting.{noted_from};
 ghost use Rattle.bw_store.specs.Showing.{AreUnseen};
 
 use crate::config::Config;
+use crate::counters::{Looks, Tally};
 use crate::edge::Edge;
 use crate::fault::{OpenFault, StoreFault};
 use crate::history::History;
@@ -52,7 +54,7 @@ fn are_taken(config: &Config, segments: &[Box<dyn Segment>]) -> bool
 
 // The frame in the making, with the first page.
 fn first_frame(alloc: Global, f: u32) -> Result<Buffer, AllocError>
-    requires { (16384 ≤ f) × (f ≤ 65536) }
+    requires { (65536 ≤ f) × (f ≤ 262144) }
     ensures { IfOk result (λ b. b ≡ first_making f) }
 {
     let blocks = first_blocks(alloc)?;
@@ -159,7 +161,7 @@ fn unseen<R: Wait>(rt: &R, alloc: Global, config: &Config) -> Result<Versions, A
 
 impl Store {
     ghost use Rattle.bw_log.specs.Views.{seen_by};
-    ghost use Rattle.bw_store.specs.Views.{kept_by, kept_beside, IsSoundBeside};
+    ghost use Rattle.bw_store.specs.Views.{kept_by, kept_beside, noted_of, IsSoundBeside};
 
     /// A store of one empty page over empty segments, and a feed for each writer, which may go to
     /// another thread. The first page is the first block of frame 1.
@@ -181,6 +183,8 @@ impl Store {
         ensures feeds { IfOk result (λ r. AreFresh config.now r.1.items) }
         ensures unseen { IfOk result (λ r. AreUnseen (one_empty config.now.m) config.now.readers
             (kept_beside r.0 holding).versions) }
+
+        ensures noted { IfOk result (λ r. noted_of r.0 ≡ noted_from 1 0) }
 
         // The limits and the boxes are looked at before memory is.
         ensures bad_config { MatchResult result
@@ -216,11 +220,13 @@ impl Store {
             ≡ tails_for (length parts.leaves.leaves) parts.making.blocks }
         requires here { parts.leaves.away ≡ [] }
         requires gone { parts.intake.history.gone ≡ 0 }
+        requires start { versions.start ≡ parts.leaves }
         ensures store { kept_by result.0 holding
             ≡ started (map ring_of_lane parts.intake.lanes.items) parts.intake.history.items
             parts.leaves parts.newest.items parts.making
             (seen_by (λ b. holding (b.vtable, b.value)) log) versions }
         ensures feeds { result.1 ≡ parts.feeds }
+        ensures noted { noted_of result.0 ≡ noted_from (length parts.leaves.leaves) 0 }
     {
         let Parts {
             feeds,
@@ -230,6 +236,7 @@ impl Store {
             tails,
             making,
         } = parts;
+        let tally = Tally::from(leaves.count(), 0);
         let store = Store {
             intake,
             before: 0,
@@ -247,6 +254,8 @@ impl Store {
             log,
             versions,
             hints: Vec::new(alloc),
+            tally,
+            looks: Looks::new(),
         };
         (store, feeds)
     }

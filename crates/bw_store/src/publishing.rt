@@ -13,7 +13,7 @@ use std::alloc::AllocError;
 use std::sync::Wait;
 
 impl Store {
-    ghost use Rattle.bw_store.specs.Views.{kept_by, IsSound};
+    ghost use Rattle.bw_store.specs.Views.{kept_by, noted_of, IsSound};
 
     /// A reader of what this store publishes, which may go to another thread. It saw nothing yet.
     ///
@@ -33,6 +33,7 @@ impl Store {
         ensures unchanged { OnErr result (kept_by self.new holding ≡ kept_by self.old holding) }
         ensures follows { Follows (kept_by self.old holding) (kept_by self.new holding) }
         ensures boxes { HasBoxes (kept_by self.old holding) (kept_by self.new holding) }
+        ensures noted { noted_of self.new ≡ noted_of self.old }
     {
         self.versions.reader()
     }
@@ -55,6 +56,7 @@ impl Store {
         ensures leaves { MatchResult result
             (λ _. Shows (kept_by self.old holding) (kept_by self.new holding))
             (λ _. Hides (kept_by self.old holding) (kept_by self.new holding)) }
+        ensures noted { noted_of self.new ≡ noted_of self.old }
     {
         let end = self.durable_end();
         let known = self.versions.entered();
@@ -63,6 +65,7 @@ impl Store {
         let went = self.versions.publish_hinted(rt, end, fresh, pages);
         let entered = self.versions.entered().saturating_sub(known);
         forget_hints(&mut self.hints, entered);
+        self.looks.show_upto(end as u64, went.is_ok());
         went
     }
 

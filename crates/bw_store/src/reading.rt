@@ -11,10 +11,9 @@ ghost use Rattle.bw_store.specs.Reading.{leaves_now, HasRead, ReadLeaves, PageLe
 use crate::fault::StoreFault;
 use crate::store::Store;
 use bw_codec::{Key, Leaf, Value};
-use bw_page::value_in;
 
 impl Store {
-    ghost use Rattle.bw_store.specs.Views.{kept_by, is_evicted, IsSound};
+    ghost use Rattle.bw_store.specs.Views.{kept_by, is_evicted, noted_of, IsSound};
 
     /// A copy of a page as all records of the history leave it, flushed or not, in memory or away.
     /// A page that is away is read from the log, and stays away.
@@ -39,6 +38,7 @@ impl Store {
 
         ensures follows { Follows (kept_by self.old holding) (kept_by self.new holding) }
         ensures boxes { HasBoxes (kept_by self.old holding) (kept_by self.new holding) }
+        ensures noted { noted_of self.new ≡ noted_of self.old }
     {
         if page == 0 || page > self.leaves.count() {
             return Err(StoreFault::NoPage);
@@ -50,7 +50,9 @@ impl Store {
     }
 
     /// The value of a key as all records of the history leave it, flushed or not, in memory or
-    /// away. It is refused as `page` is, but never `NoPage`, and its page stays where it is.
+    /// away. It is refused as `page` is, but never `NoPage`, and its page stays where it is. Where
+    /// the page is away, it is read from its newest block back, up to the first that speaks of the
+    /// key: a key that changed lately costs one frame.
     pub fn get(&mut self, key: &Key) -> Result<Option<Value>, StoreFault>
         requires { IsSound self.old holding }
         ensures value { IfOk result (λ value. value
@@ -68,12 +70,12 @@ impl Store {
 
         ensures follows { Follows (kept_by self.old holding) (kept_by self.new holding) }
         ensures boxes { HasBoxes (kept_by self.old holding) (kept_by self.new holding) }
+        ensures noted { noted_of self.new ≡ noted_of self.old }
     {
         let page = self.leaves.find(key);
         if self.leaves.is_here(page) {
             return Ok(self.leaves.get(key));
         }
-        let leaf = self.read_away(page)?;
-        Ok(value_in(&leaf, key))
+        self.value_away(page, key)
     }
 }

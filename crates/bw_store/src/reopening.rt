@@ -7,10 +7,12 @@ ghost use Rattle.bw_ring.specs.Ends.{ring_of_feed, ring_of_lane};
 ghost use Rattle.bw_care.specs.Views.{seen, IsSound as IsSoundLog};
 ghost use Rattle.bw_store.specs.Tails.{tail_of, tails_for};
 ghost use Rattle.bw_store.specs.Opened.{AreEnds, AreFresh, AreUnused, IsConfig};
+ghost use Rattle.bw_store.specs.Counting.{bytes_of, noted_from, up};
 ghost use Rattle.bw_store.specs.Showing.{AreUnseen};
 ghost use Rattle.bw_store.specs.Reopened.{edge_of as newest_edge, reopened, IsReopenFault};
 
 use crate::config::Config;
+use crate::counters::{Looks, Tally, live_bytes};
 use crate::edge::Edge;
 use crate::fault::StoreFault;
 use crate::intake::Intake;
@@ -73,7 +75,7 @@ fn edge_of(log: &Log) -> Edge
 // The frame in the making, the next one if it has a number.
 fn next_buffer(alloc: Global, next: Option<u64>, f: u32) -> Result<Buffer, AllocError>
     requires some { IfSome next (λ n. 1 ≤ n) }
-    requires limit { (16384 ≤ f) × (f ≤ 65536) }
+    requires limit { (65536 ≤ f) × (f ≤ 262144) }
     ensures limit { IfOk result (λ b. b.limit ≡ f) }
     ensures empty { IfOk result (λ b. b.blocks ≡ []) }
     ensures unsealed { IfOk result (λ b. b.is_sealed ≡ false) }
@@ -139,7 +141,7 @@ fn unseen<R: Wait>(
 
 impl Store {
     ghost use Rattle.bw_care.specs.Found.{IsRecovered};
-    ghost use Rattle.bw_store.specs.Views.{kept_by, IsSound};
+    ghost use Rattle.bw_store.specs.Views.{kept_by, noted_of, IsSound};
 
     /// A store that goes on from what was recovered, and a feed for each of `writers` writers, 1 to
     /// 64, with rings of `places` places, 1 to 4,096; `readers` is 1 to 64. Its pages are the
@@ -166,6 +168,9 @@ impl Store {
         ensures feeds { IfOk result (λ r. AreUnused writers places r.1.items) }
         ensures unseen { IfOk result (λ r. AreUnseen recovered.leaves readers
             (kept_by r.0 holding).versions) }
+        ensures noted { IfOk result (λ r. noted_of r.0
+            ≡ noted_from (length recovered.leaves.leaves)
+            (up 0 (bytes_of (seen recovered.log holding).live))) }
 
         ensures bad_config { MatchResult result (λ _. AreEnds writers places readers)
             (λ e. IsReopenFault writers places readers e.cause) }
@@ -208,11 +213,14 @@ impl Store {
             ≡ tails_for (length recovered.leaves.leaves) ends.making.blocks }
         requires here { recovered.leaves.away ≡ [] }
         requires gone { ends.intake.history.gone ≡ 0 }
+        requires start { versions.start ≡ recovered.leaves }
         ensures store { kept_by result.0 holding
             ≡ record (reopened (map ring_of_lane ends.intake.lanes.items) recovered.last
             recovered.leaves ends.newest.items ends.making (seen recovered.log holding) versions)
             { entries = ends.intake.history.items } }
         ensures feeds { result.1 ≡ ends.feeds }
+        ensures noted { noted_of result.0 ≡ noted_from (length recovered.leaves.leaves)
+            (up 0 (bytes_of (seen recovered.log holding).live)) }
     {
         let Ends {
             feeds,
@@ -228,6 +236,7 @@ impl Store {
             ..
         } = recovered;
         let edge = edge_of(&log);
+        let tally = Tally::from(leaves.count(), live_bytes(&log));
         let store = Store {
             intake,
             before: last,
@@ -242,6 +251,8 @@ impl Store {
             log,
             versions,
             hints: Vec::new(alloc),
+            tally,
+            looks: Looks::new(),
         };
         (store, feeds)
     }

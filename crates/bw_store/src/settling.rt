@@ -1,11 +1,11 @@
 //! All that was accepted is taken and appended.
 
-ghost use Rattle.std.specs.Prelude.{◌≡◌, ◌<◌, Some, Err, [], true, length, map, IfOk, IfErr, OnOk, MatchResult};
+ghost use Rattle.std.specs.Prelude.{ℕ, ◌≡◌, ◌<◌, Some, Err, [], true, length, map, IfOk, IfErr, OnOk, MatchResult};
 ghost use Rattle.std.specs.List.{AllByRecursion};
 ghost use Rattle.bw_page.specs.Leaves.{pages};
 ghost use Rattle.bw_page.specs.Standing.{Stand};
 ghost use Rattle.bw_ring.specs.Ends.{accepted, taken, given, ring_of_feed};
-ghost use Rattle.bw_log.specs.Contents.{counted, image};
+ghost use Rattle.bw_log.specs.Contents.{counted, image, limits_of};
 ghost use Rattle.bw_log.specs.Segments.{AreLive};
 ghost use Rattle.bw_versions.specs.Entries.{records};
 ghost use Rattle.bw_store.specs.History.{streams};
@@ -22,7 +22,7 @@ use bw_ring::Feed;
 use std::sync::Wait;
 
 impl Store {
-    ghost use Rattle.bw_store.specs.Views.{kept_by, IsSound};
+    ghost use Rattle.bw_store.specs.Views.{kept_by, noted_of, IsSound};
 
     /// Takes all that the feeds accepted, flushes, and answers the length of the history. The feeds
     /// are those that `open` or `reopen` gave, all of them, in order.
@@ -47,9 +47,10 @@ impl Store {
             (AllByRecursion (λ f. (kept_by self.new holding).before < f.number
             → TellsShare (kept_by self.new holding) f) (counted (kept_by self.new holding).log)) }
 
-        // Each live segment is whole, and the counted frames stand for the pages of the history.
-        ensures whole { OnOk result
-            (AreLive (kept_by self.new holding).log.m (kept_by self.new holding).log.f
+        // Each live segment is whole, those of format 1 come first and have one frame limit, and the
+        // counted frames stand for the pages of the history.
+        ensures whole { OnOk result ((old_f : ℕ)
+            × AreLive (limits_of (image (kept_by self.new holding).log) old_f)
             (kept_by self.new holding).log.number
             (image (kept_by self.new holding).log).bytes) }
         ensures pages { OnOk result
@@ -80,6 +81,7 @@ impl Store {
         ensures each_cut { EachCutStands (kept_by self.new holding) }
         ensures follows { Follows (kept_by self.old holding) (kept_by self.new holding) }
         ensures boxes { HasBoxes (kept_by self.old holding) (kept_by self.new holding) }
+        ensures noted { noted_of self.new ≡ noted_of self.old }
     {
         self.look_beside(feeds);
         self.take_known()?;
@@ -95,6 +97,7 @@ impl Store {
         ensures ends { map ring_of_feed feeds.new.items ≡ map ring_of_feed feeds.old.items }
         ensures accepted { map accepted feeds.new.items ≡ map accepted feeds.old.items }
         ensures whole { map given self.new.intake.lanes.items ≡ map accepted feeds.old.items }
+        ensures noted { noted_of self.new ≡ noted_of self.old }
     {
         self.intake.look_beside(feeds);
     }
@@ -109,6 +112,7 @@ impl Store {
             (λ _. TookSome (kept_by self.old holding) (kept_by self.new holding))
             (λ cause. RefusedAt (kept_by self.old holding) self.new.intake.lanes.items cause
             (kept_by self.new holding)) }
+        ensures noted { noted_of self.new ≡ noted_of self.old }
     {
         let lanes = self.intake.lanes.as_slice().len();
         'lanes: for lane in 0..lanes {
@@ -132,6 +136,7 @@ impl Store {
             (λ _. TookSome (kept_by self.old holding) (kept_by self.new holding))
             (λ cause. RefusedAt (kept_by self.old holding) self.new.intake.lanes.items cause
             (kept_by self.new holding)) }
+        ensures noted { noted_of self.new ≡ noted_of self.old }
     {
         'records: while self.intake.waits(lane) {
             self.take_waiting(lane)?;

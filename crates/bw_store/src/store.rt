@@ -6,6 +6,7 @@ ghost use Rattle.bw_versions.specs.Batches.{entries_of};
 ghost use Rattle.bw_store.specs.History.{are_whole};
 ghost use Rattle.bw_store.specs.Tails.{tail_of, tails_for, is_made};
 
+use crate::counters::{Looks, Tally};
 use crate::edge::Edge;
 use crate::intake::Intake;
 use crate::tails::Tail;
@@ -41,6 +42,9 @@ pub struct Store {
     /// The page of each entry that the readers' book does not have, where its record was directed.
     /// Nothing is known of them.
     pub(crate) hints: Vec<u32>,
+    /// What is counted.
+    pub(crate) tally: Tally,
+    pub(crate) looks: Looks,
     ghost tailed: { map tail_of tails.items ≡ tails_for (length leaves.leaves) making.blocks },
     // No cut stands inside a group.
     ghost whole: { are_whole cuts.items intake.history.items ≡ true },
@@ -48,4 +52,5 @@ pub struct Store {
     ghost logged: { (p : ℕ) → is_away p leaves ≡ true → is_made p making.blocks ≡ false },
     // What was forgotten is in the readers' book.
     ghost forgotten: { intake.history.gone ≤ length (entries_of versions.entered) },
+    ghost began: { tally.pages ≡ length versions.start.leaves },
 }

@@ -7,6 +7,7 @@
 ghost use Rattle.std.specs.Prelude.{ℕ, ◌≡◌, ◌≤◌, ◌<◌, ◌+◌, ◌-◌, ◌++◌, ◌∷◌, [], true, Some, None, length, map, vec_len, slice_set, IfOk, IfSome, OnOk};
 ghost use Rattle.std.specs.Vec.{vec_capacity};
 ghost use Rattle.bw_page.specs.Leaves.{all_changed};
+ghost use Rattle.bw_page.specs.Words.{records_word};
 ghost use Rattle.bw_codec.specs.Touch.{touches};
 ghost use Rattle.std.specs.List.{list_any, AllByRecursion};
 ghost use Rattle.bw_store.specs.Drafting.{AreIn, tails_all};
@@ -14,8 +15,8 @@ ghost use Rattle.bw_store.specs.Tails.{tail_of, tails_for, tails_after, rest_by,
 
 use crate::drafting::Row;
 use bw_buffer::{Buffer, Mark};
-use bw_codec::{Leaf, Place, Record};
-use bw_page::Chain;
+use bw_codec::{Key, Leaf, Place, Record};
+use bw_page::{Chain, Word};
 use std::alloc::{AllocError, Global};
 use std::marker::Model;
 
@@ -85,6 +86,13 @@ impl Tail {
         ensures { IfOk result (λ leaf. leaf ≡ all_changed self.now.records below.now) }
     {
         self.chain.content(below)
+    }
+
+    /// What the newest of the records that speaks of a key says. No memory is taken.
+    pub(crate) fn word(&self, key: &Key) -> Word
+        ensures { result ≡ records_word key.now self.now.records }
+    {
+        self.chain.word(key)
     }
 }
 

@@ -21,7 +21,7 @@ use bw_codec::Record;
 use bw_ring::{Group, Items};
 
 impl Store {
-    ghost use Rattle.bw_store.specs.Views.{kept_by, IsSound};
+    ghost use Rattle.bw_store.specs.Views.{kept_by, noted_of, IsSound};
 
     /// Takes the next group of a lane, if there is one; answers how many records it has, 1 to 4.
     pub(crate) fn take_from(&mut self, lane: usize) -> Result<Option<u64>, StoreFault>
@@ -34,6 +34,7 @@ impl Store {
         ensures few { IfOk result (λ took. IfSome took (λ n. n ≤ 4)) }
         ensures leaves { TakeLeaves lane self.new.intake.lanes.items (kept_by self.old holding)
             result (kept_by self.new holding) }
+        ensures noted { noted_of self.new ≡ noted_of self.old }
     {
         let Some(group) = self.look(lane) else {
             return Ok(None);
@@ -56,6 +57,7 @@ impl Store {
             (TookKnown lane self.old.intake.lanes.items self.new.intake.lanes.items) }
         ensures leaves { WaitingLeaves lane self.new.intake.lanes.items
             (kept_by self.old holding) result (kept_by self.new holding) }
+        ensures noted { noted_of self.new ≡ noted_of self.old }
     {
         let group = self.intake.first(lane);
         self.take_group(lane, group)
@@ -76,6 +78,7 @@ impl Store {
             (self.new.intake.lanes.items ≡ self.old.intake.lanes.items) }
         ensures leaves { GroupLeaves lane group (kept_by self.old holding) result
             (kept_by self.new holding) }
+        ensures noted { noted_of self.new ≡ noted_of self.old }
     {
         match alone(group) {
             Ok(item) => self.take_item(lane, item),
@@ -98,6 +101,7 @@ impl Store {
             (self.new.intake.lanes.items ≡ self.old.intake.lanes.items) }
         ensures leaves { GroupLeaves lane (item ∷ []) (kept_by self.old holding) result
             (kept_by self.new holding) }
+        ensures noted { noted_of self.new ≡ noted_of self.old }
     {
         self.goes_on()?;
         let page = self.fetch(item.key())?;
@@ -121,6 +125,7 @@ impl Store {
             (self.new.intake.lanes.items ≡ self.old.intake.lanes.items) }
         ensures leaves { GroupLeaves lane (item ∷ []) (kept_by self.old holding) result
             (kept_by self.new holding) }
+        ensures noted { noted_of self.new ≡ noted_of self.old }
     {
         let plan = self.plan(page, &item)?;
         if self.making.has_room(plan.blocks.as_slice()) {
@@ -146,6 +151,7 @@ impl Store {
             (self.new.intake.lanes.items ≡ self.old.intake.lanes.items) }
         ensures leaves { GroupLeaves lane group (kept_by self.old holding) result
             (kept_by self.new holding) }
+        ensures noted { noted_of self.new ≡ noted_of self.old }
     {
         let _ = group.len();
         self.goes_on()?;
@@ -176,6 +182,7 @@ impl Store {
             (self.new.intake.lanes.items ≡ self.old.intake.lanes.items) }
         ensures leaves { GroupLeaves lane group (kept_by self.old holding) result
             (kept_by self.new holding) }
+        ensures noted { noted_of self.new ≡ noted_of self.old }
     {
         let _ = group.len();
         self.flush_making(false)?;
@@ -193,6 +200,7 @@ impl Store {
         ensures next { IfSome result (IsNext self.new.intake.lanes.items lane) }
         ensures none { IfNone result (Dries lane self.old.intake.lanes.items
             self.new.intake.lanes.items) }
+        ensures noted { noted_of self.new ≡ noted_of self.old }
     {
         self.intake.next(lane)
     }
@@ -227,7 +235,7 @@ impl Store {
         ensures plan { IfOk result (IsPlan (kept_by self.now holding) item.now) }
         ensures lawful { IfOk result (λ p. AllByRecursion (IsBlock 32) (listed p.blocks)
             × (length (listed p.blocks) ≤ 2)) }
-        ensures short { IfOk result (λ p. length (body_bytes (listed p.blocks)) ≤ 3600) }
+        ensures short { IfOk result (λ p. length (body_bytes (listed p.blocks)) ≤ 12000) }
         ensures refused { IfErr result
             (IsUnplanned (kept_by self.now holding) (item.now ∷ [])) }
     {

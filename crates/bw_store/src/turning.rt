@@ -23,7 +23,7 @@ pub(crate) struct Count {
 }
 
 impl Store {
-    ghost use Rattle.bw_store.specs.Views.{kept_by, IsSound};
+    ghost use Rattle.bw_store.specs.Views.{kept_by, noted_of, IsSound};
 
     /// Takes groups in rounds over lanes 0, 1, .., one from each that has one, until `limit` of
     /// them are taken or a round took none; answers how many records these have. A group's blocks
@@ -58,6 +58,7 @@ impl Store {
         ensures refused { IfErr result (λ fault. RefusedAfter fault.taken
             (kept_by self.old holding) self.new.intake.lanes.items fault.cause
             (kept_by self.new holding)) }
+        ensures noted { noted_of self.new ≡ noted_of self.old }
     {
         let mut taken = Count {
             groups: 0,
@@ -89,6 +90,7 @@ impl Store {
         ensures few { IfOk result (λ n. n.records ≤ 4 * n.groups) }
         ensures dry { IfOk result (λ n. n.groups ≡ taken.groups → taken.groups < limit
             → AreDry self.new.intake.lanes.items) }
+        ensures noted { noted_of self.new ≡ noted_of self.old }
     {
         let mut so_far = taken;
         let lanes = self.intake.lanes.as_slice().len();
@@ -120,6 +122,7 @@ impl Store {
         ensures few { IfOk result (λ n. n.records ≤ 4 * n.groups) }
         ensures dry { IfOk result (λ n. n.groups ≡ taken.groups
             → Dries lane self.old.intake.lanes.items self.new.intake.lanes.items) }
+        ensures noted { noted_of self.new ≡ noted_of self.old }
     {
         match self.take_from(lane) {
             Ok(Some(records)) => Ok(Count {

@@ -17,7 +17,7 @@ use bw_codec::{Key, Value};
 use bw_page::{add_pairs, pair_from};
 
 impl Store {
-    ghost use Rattle.bw_store.specs.Views.{kept_by, is_evicted, IsSound};
+    ghost use Rattle.bw_store.specs.Views.{kept_by, is_evicted, noted_of, IsSound};
 
     /// The first pair at or above a key of the page on which a record of the key would stand.
     fn pair_from(&mut self, key: &Key) -> Result<Option<(Key, Value)>, StoreFault>
@@ -32,6 +32,7 @@ impl Store {
             (kept_by self.old holding) result (kept_by self.new holding) }
         ensures memory { is_evicted (home key.now self.old.leaves.leaves).page
             self.old ≡ false → IfErr result (λ fault. fault ≡ StoreFault.NoMemory) }
+        ensures noted { noted_of self.new ≡ noted_of self.old }
     {
         let page = self.leaves.find(key);
         if let Some(leaf) = self.leaves.page(page) {
@@ -61,6 +62,7 @@ impl Store {
 
         ensures follows { Follows (kept_by self.old holding) (kept_by self.new holding) }
         ensures boxes { HasBoxes (kept_by self.old holding) (kept_by self.new holding) }
+        ensures noted { noted_of self.new ≡ noted_of self.old }
     {
         let mut from = key.copy();
         'pages: loop {
@@ -94,6 +96,7 @@ impl Store {
             (kept_by self.old holding) result (kept_by self.new holding) }
         ensures memory { is_evicted (home key.now self.old.leaves.leaves).page
             self.old ≡ false → IfErr result (λ fault. fault ≡ StoreFault.NoMemory) }
+        ensures noted { noted_of self.new ≡ noted_of self.old }
     {
         let page = self.leaves.find(key);
         if let Some(leaf) = self.leaves.page(page) {
@@ -130,6 +133,7 @@ impl Store {
 
         ensures follows { Follows (kept_by self.old holding) (kept_by self.new holding) }
         ensures boxes { HasBoxes (kept_by self.old holding) (kept_by self.new holding) }
+        ensures noted { noted_of self.new ≡ noted_of self.old }
     {
         found.clear();
         let mut from = key.copy();

@@ -44,14 +44,14 @@ second_lawful m = (
   tt,
 )
 
-pub first_frame_lawful : IsFrame 4 16384 first_example
+pub first_frame_lawful : IsFrame 4 65536 first_example
 unfolding number_bytes
 first_frame_lawful = record {
   head = record { numbered = (lit≤ tt, lit< tt); fits = (lit≤ tt, lit≤ tt); some = (lit≤ tt, lit< tt) };
   blocks = first_lawful 4 (lit≤ tt);
 }
 
-pub second_frame_lawful : IsFrame 4 16384 split_frame_2
+pub second_frame_lawful : IsFrame 4 65536 split_frame_2
 unfolding number_bytes
 second_frame_lawful = record { head = record { numbered = (lit≤ tt, lit< tt); fits = (lit≤ tt, lit≤ tt); some = (lit≤ tt, lit< tt) }; blocks = second_lawful 4 }
 
@@ -76,8 +76,8 @@ first_stands = record {
 }
 
 -- a frame may follow where it may follow these frames
-pub follows_of : (c : Contents) (all : List Frame) (x : Frame) (leaves : List Leaf) → IsSound c → counted c ≡ all → c.m ≡ 4 → c.f ≡ 16384
-    → next_of all ≡ Some x.number → IsFrame 4 16384 x → AreLinked (all ++ x ∷ []) → Stand 4 (all ++ x ∷ []) leaves → MayFollow c x
+pub follows_of : (c : Contents) (all : List Frame) (x : Frame) (leaves : List Leaf) → IsSound c → counted c ≡ all → c.m ≡ 4 → c.f ≡ 65536
+    → next_of all ≡ Some x.number → IsFrame 4 65536 x → AreLinked (all ++ x ∷ []) → Stand 4 (all ++ x ∷ []) leaves → MayFollow c x
 follows_of c all x leaves sound counts m f next lawful links stands =
     let back = sym counts in
     record {
@@ -88,12 +88,12 @@ follows_of c all x leaves sound counts m f next lawful links stands =
       stands = subst (λ (n : ℕ). Stand n (counted c ++ x ∷ []) leaves) (sym m) (subst (λ (l : List Frame). Stand 4 (l ++ x ∷ []) leaves) back stands);
     }
 
-pub first_follows : (c : Contents) → IsSound c → counted c ≡ [] → c.m ≡ 4 → c.f ≡ 16384 → MayFollow c first_example
+pub first_follows : (c : Contents) → IsSound c → counted c ≡ [] → c.m ≡ 4 → c.f ≡ 65536 → MayFollow c first_example
 first_follows c sound counts m f = follows_of c [] first_example (first_leaf ∷ []) sound counts m f refl first_frame_lawful refl first_stands
 
 -- ---- as the tests find a log
 
-pub new_counts : (c : Contents) (spares : List Holding) → IsSound c → c ≡ fresh 4 16384 spares → Counts c []
+pub new_counts : (c : Contents) (spares : List Holding) → IsSound c → c ≡ fresh 4 65536 spares → Counts c []
 new_counts c spares sound is = record { sound = sound; frames = ap counted is; m = ap (λ (x : Contents). x.m) is; f = ap (λ (x : Contents). x.f) is }
 
 pub more_counts : (old new : Contents) (all : List Frame) (x : Frame) → Counts old all → IsSound new → Appended old x new → IsSameLog old new
@@ -105,6 +105,6 @@ more_counts old new all x counts sound added same = record {
   f = same.f ∙ counts.f;
 }
 
-pub first_on : (c : Contents) (frame : Filling) → Counts c [] → frame ≡ record { frame = 1; limit = 16384; blocks = first_blocks; is_sealed = true }
+pub first_on : (c : Contents) (frame : Filling) → Counts c [] → frame ≡ record { frame = 1; limit = 65536; blocks = first_blocks; is_sealed = true }
     → MayFollow c (frame_of frame)
 first_on c frame counts is = subst (λ (f : Filling). MayFollow c (frame_of f)) (sym is) (first_follows c counts.sound counts.frames counts.m counts.f)

@@ -1,4 +1,4 @@
--- A frame of 16,384 bytes may be the first.
+-- A frame of 65,536 bytes may be the first.
 
 use Rattle.std.proofs.Common.{◌≡◌, ℕ, suc, zero, ◌+◌, ◌≤◌, lit≤, lit<, true, List, [], ◌∷◌, ◌++◌, replicate, refl, sym, ap, subst, ◌∙◌, arith}
 use Rattle.std.proofs.lemmas.List.{replicate_more}
@@ -28,8 +28,8 @@ one_more n items new r so_far is pushed =
     pushed ∙ ap (λ (k : Record). items ++ k ∷ []) is ∙ ap (λ (l : List Record). l ++ long_put ∷ []) so_far ∙ replicate_more n long_put
 
 -- the last one
-pub last_one : (n : ℕ) (items new : List Record) (r : Record) → items ≡ replicate n long_put → n ≡ 123 → r ≡ last_put → new ≡ items ++ r ∷ []
-    → new ≡ replicate 123 long_put ++ last_put ∷ []
+pub last_one : (n : ℕ) (items new : List Record) (r : Record) → items ≡ replicate n long_put → n ≡ 126 → r ≡ last_put → new ≡ items ++ r ∷ []
+    → new ≡ replicate 126 long_put ++ last_put ∷ []
 last_one n items new r so_far all is pushed =
     pushed ∙ ap (λ (k : Record). items ++ k ∷ []) is
     ∙ ap (λ (l : List Record). l ++ last_put ∷ []) (so_far ∙ ap (λ (k : ℕ). replicate k long_put) all)
@@ -42,14 +42,14 @@ filling_lawful m some = (
       changes = (lit≤ tt, lit< tt);
       links = record { frame = (lit≤ tt, lit< tt); index = lit< tt };
       count = (lit≤ tt, lit< tt);
-      each = puts_lawful 123;
+      each = puts_lawful 126;
     },
     tt,
   ),
 )
 
 abbrev all_puts : List Record
-all_puts = replicate 123 long_put ++ last_put ∷ []
+all_puts = replicate 126 long_put ++ last_put ∷ []
 
 abbrev delta_of : List Record → Block
 delta_of ops = Delta 1 (record { frame = 1; index = 0 }) ops
@@ -57,7 +57,7 @@ delta_of ops = Delta 1 (record { frame = 1; index = 0 }) ops
 pub puts_fit : (ops : List Record) → ops ≡ all_puts → IsBlock 32 (delta_of ops)
 puts_fit ops is = subst (λ (o : List Record). IsBlock 32 (delta_of o)) (sym is) ((filling_lawful 32 (lit≤ tt)).1.0)
 
-filling_frame_lawful : IsFrame 4 16384 filling_example
+filling_frame_lawful : IsFrame 4 65536 filling_example
 unfolding number_bytes
 filling_frame_lawful = record {
   head = record { numbered = (lit≤ tt, lit< tt); fits = (lit≤ tt, lit≤ tt); some = (lit≤ tt, lit< tt) };
@@ -78,7 +78,7 @@ filling_stands = record {
   all = λ p h. (not_one p h, (not_one p h, tt));
 }
 
-filling_opens : Opens (record { frame = 1; limit = 16384; blocks = filling_blocks; is_sealed = true }) filling_leaf
+filling_opens : Opens (record { frame = 1; limit = 65536; blocks = filling_blocks; is_sealed = true }) filling_leaf
 filling_opens = record {
   sealed = refl;
   limit = refl;
@@ -91,9 +91,9 @@ filling_opens = record {
 
 -- as they are made
 pub full_opens : (b : Filling) (ops : List Record) (leaf empty : Leaf) (r : Record) → ops ≡ all_puts
-    → b ≡ record { frame = 1; limit = 16384; blocks = first_with ops; is_sealed = true } → r ≡ last_put → empty ≡ leaf_with [] → leaf ≡ changed r empty
+    → b ≡ record { frame = 1; limit = 65536; blocks = first_with ops; is_sealed = true } → r ≡ last_put → empty ≡ leaf_with [] → leaf ≡ changed r empty
     → Opens b leaf
 full_opens b ops leaf empty r ops_is is r_is none page =
-    let frame_is = is ∙ ap (λ (o : List Record). record { frame = 1; limit = 16384; blocks = first_with o; is_sealed = true }) ops_is in
+    let frame_is = is ∙ ap (λ (o : List Record). record { frame = 1; limit = 65536; blocks = first_with o; is_sealed = true }) ops_is in
     let page_is : leaf ≡ filling_leaf = page ∙ ap (λ (l : Leaf). changed r l) none ∙ ap (λ (k : Record). changed k (leaf_with [])) r_is in
-    subst (λ (f : Filling). Opens f leaf) (sym frame_is) (subst (Opens (record { frame = 1; limit = 16384; blocks = filling_blocks; is_sealed = true })) (sym page_is) filling_opens)
+    subst (λ (f : Filling). Opens f leaf) (sym frame_is) (subst (Opens (record { frame = 1; limit = 65536; blocks = filling_blocks; is_sealed = true })) (sym page_is) filling_opens)

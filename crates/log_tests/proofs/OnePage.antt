@@ -79,15 +79,15 @@ change_lawful r ps a op few =
     let whole = applied-whole 4 (leaf_with ps ∷ []) r (lit≤ tt) a op few in
     subst (AreLeaves 4) whole (applied-lawful 4 (leaf_with ps ∷ []) r (lit≤ tt) (λ over. absurd (omega arith)) a op)
 
-pub one_frame_lawful : (n : ℕ) (b : Block) → 1 ≤ n → n < 2 ^ 64 → IsBlock 4 b → length (frame_bytes (frame_of_one n b)) ≤ 16384
-    → IsFrame 4 16384 (frame_of_one n b)
+pub one_frame_lawful : (n : ℕ) (b : Block) → 1 ≤ n → n < 2 ^ 64 → IsBlock 4 b → length (frame_bytes (frame_of_one n b)) ≤ 65536
+    → IsFrame 4 65536 (frame_of_one n b)
 one_frame_lawful n b from to law fits =
     let size = length-frame (frame_of_one n b) in
     let few = few_blocks (b ∷ []) in
     record { head = record { numbered = (from, to); fits = (omega arith, omega arith); some = (lit≤ tt, lit< tt) }; blocks = (law, tt) }
 
 pub block_follows : (c : Contents) (n : ℕ) (b : Block) (was is : Leaf) → HoldsOne c was → Some n ≡ c.next → 1 ≤ n → n < 2 ^ 64 → IsBlock 4 b
-    → length (frame_bytes (frame_of_one n b)) ≤ 16384 → fault_of (first_number (counted c)) (all_placed (counted c)) b ≡ None
+    → length (frame_bytes (frame_of_one n b)) ≤ 65536 → fault_of (first_number (counted c)) (all_placed (counted c)) b ≡ None
     → Stand 4 (counted c ++ frame_of_one n b ∷ []) (is ∷ []) → MayFollow c (frame_of_one n b)
 block_follows c n b was is one next from to law fits links stands =
     let x = frame_of_one n b in
@@ -113,7 +113,7 @@ put_stands c n back r leaf one op few =
 
 pub put_follows : (c : Contents) (n : ℕ) (back : Place) (r : Record) (leaf : Leaf) → HoldsOne c leaf → Some n ≡ c.next → 1 ≤ n → n < 2 ^ 64
     → place_of 1 (counted c) ≡ Some back → IsPlace back → IsOp r → length (changed r leaf).pairs ≤ 4
-    → length (frame_bytes (frame_of_one n (Delta 1 back (r ∷ [])))) ≤ 16384 → MayFollow c (frame_of_one n (Delta 1 back (r ∷ [])))
+    → length (frame_bytes (frame_of_one n (Delta 1 back (r ∷ [])))) ≤ 65536 → MayFollow c (frame_of_one n (Delta 1 back (r ∷ [])))
 put_follows c n back r leaf one next from to last place op few fits =
     block_follows c n (Delta 1 back (r ∷ [])) leaf (changed r leaf) one next from to
     (record { changes = (lit≤ tt, lit< tt); links = place; count = (lit≤ tt, lit< tt); each = (op, tt) }) fits
@@ -125,7 +125,7 @@ base_stands c n leaf one =
     block_stands (counted c) n (Base leaf) leaf leaf one.stands one.stands.lawful (rw page refl) (λ p from. rw page (not_one p from))
 
 pub base_follows : (c : Contents) (n : ℕ) (leaf : Leaf) → HoldsOne c leaf → Some n ≡ c.next → 1 ≤ n → n < 2 ^ 64
-    → length (frame_bytes (frame_of_one n (Base leaf))) ≤ 16384 → MayFollow c (frame_of_one n (Base leaf))
+    → length (frame_bytes (frame_of_one n (Base leaf))) ≤ 65536 → MayFollow c (frame_of_one n (Base leaf))
 base_follows c n leaf one next from to fits =
     block_follows c n (Base leaf) leaf leaf one next from to one.stands.lawful.each.0 fits refl (base_stands c n leaf one)
 
@@ -188,7 +188,7 @@ holds_fewer old new leaf one sound is stands = record {
 -- ---- as the buffers are made
 
 abbrev pub filled : ℕ → List Block → Filling
-filled n blocks = record { frame = n; limit = 16384; blocks = blocks; is_sealed = true }
+filled n blocks = record { frame = n; limit = 65536; blocks = blocks; is_sealed = true }
 
 pub put_on : (c : Contents) (n : ℕ) (back : Place) (key value : ℕ) (leaf : Leaf) (buffer : Filling) (r : Record) → HoldsOne c leaf
     → Some n ≡ c.next → 1 ≤ n → n < 2 ^ 64
@@ -241,7 +241,7 @@ first_page key value = leaf_with ((key ∷ [], value ∷ []) ∷ [])
 abbrev first_blocks_of : ℕ → ℕ → List Block
 first_blocks_of key value = first_with (put_of key value ∷ [])
 
-first_of_lawful : (key value : ℕ) → IsFrame 4 16384 (record { number = 1; blocks = first_blocks_of key value })
+first_of_lawful : (key value : ℕ) → IsFrame 4 65536 (record { number = 1; blocks = first_blocks_of key value })
 unfolding number_bytes
 first_of_lawful key value = record {
   head = record { numbered = (lit≤ tt, lit< tt); fits = (lit≤ tt, lit≤ tt); some = (lit≤ tt, lit< tt) };

@@ -22,29 +22,30 @@ use Rattle.log_tests.proofs.Vectors.{first_segment, first_is_read}
 
 abbrev pub small : ℕ → Contents
 small lease = record {
-  live = record { bytes = first_segment; room = 76; lease = lease; failed = 0 } ∷ [];
+  live = record { bytes = first_segment; room = 77; lease = lease; failed = 0 } ∷ [];
   spares = [];
   m = 4;
-  f = 16384;
+  f = 65536;
   number = 1;
+  old_to = 0;
   is_open = true;
   is_failed = false;
   next = Some 2;
-  frames = entry_of 1 24 first_example ∷ [];
+  frames = entry_of 2 1 24 first_example ∷ [];
   pages = record { place = record { frame = 1; index = 1 }; base = record { frame = 1; index = 0 } } ∷ [];
 }
 
-first_whole : IsWhole first_segment (record { number = 1; m = 4; f = 16384 }) (first_example ∷ []) []
+first_whole : IsWhole first_segment (record { version = 2; number = 1; m = 4; f = 65536 }) (first_example ∷ []) []
 unfolding number_bytes
 first_whole = record {
-  lawful = record { number = (lit≤ tt, lit< tt); m = (lit≤ tt, lit≤ tt); f = (lit≤ tt, lit≤ tt) };
+  lawful = record { version = inr refl; number = (lit≤ tt, lit< tt); m = (lit≤ tt, lit≤ tt); f = (lit≤ tt, lit≤ tt) };
   each = (first_frame_lawful, tt);
   tail = inl (lit< tt, refl);
   parts = refl;
 }
 
-whole : IsWhole first_segment (record { number = 1; m = 4; f = 16384 }) (segment_frames first_segment) []
-whole = subst (λ (fs : List Frame). IsWhole first_segment (record { number = 1; m = 4; f = 16384 }) fs []) (sym first_is_read) first_whole
+whole : IsWhole first_segment (record { version = 2; number = 1; m = 4; f = 65536 }) (segment_frames first_segment) []
+whole = subst (λ (fs : List Frame). IsWhole first_segment (record { version = 2; number = 1; m = 4; f = 65536 }) fs []) (sym first_is_read) first_whole
 
 abbrev pub small_pages : List PageAt
 small_pages = record { place = record { frame = 1; index = 1 }; base = record { frame = 1; index = 0 } } ∷ []
@@ -73,7 +74,8 @@ small_is_sound lease = record {
   holds = record {
     limits = (lit≤ tt, lit≤ tt, lit≤ tt, lit≤ tt);
     numbers = lit≤ tt;
-    live = (record { cut = []; whole = whole }, tt);
+    live = (65536, (record { cut = []; whole = whole }, tt));
+    news = lit< tt;
     ends = λ _ _. whole;
     every = λ _. rw first_is_read refl;
     left = λ e. absurd cc;
@@ -88,11 +90,11 @@ small_is_sound lease = record {
 }
 
 -- the log that is adopted from the box and its tables
-pub small_is : (live spares : List Holding) (t : Tables) (lease : ℕ) → live ≡ record { bytes = first_segment; room = 76; lease = lease; failed = 0 } ∷ []
-    → spares ≡ [] → t.m ≡ 4 → t.f ≡ 16384 → t.number ≡ 1 → t.is_open ≡ true → t.frames.items ≡ record { number = 1; segment = 0; at = 24; len = 52 } ∷ []
+pub small_is : (live spares : List Holding) (t : Tables) (lease : ℕ) → live ≡ record { bytes = first_segment; room = 77; lease = lease; failed = 0 } ∷ []
+    → spares ≡ [] → t.m ≡ 4 → t.f ≡ 65536 → t.number ≡ 1 → t.versions.items ≡ 2 ∷ [] → t.is_open ≡ true → t.frames.items ≡ record { number = 1; segment = 0; at = 24; len = 53 } ∷ []
     → t.pages.items ≡ small_pages → adopted live spares t ≡ small lease
 unfolding number_bytes
-small_is live spares t lease boxes none m f number takes frames pages = rw (boxes, none, m, f, number, takes, frames, pages) refl
+small_is live spares t lease boxes none m f number versions takes frames pages = rw (boxes, none, m, f, number, versions, takes, frames, pages) refl
 
 pub small_holds : (c : Contents) (lease : ℕ) (leaf : Leaf) → IsSound c → c ≡ small lease → leaf ≡ first_leaf → HoldsOne c leaf
 small_holds c lease leaf sound is page = record {

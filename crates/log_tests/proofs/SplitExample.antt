@@ -14,7 +14,7 @@ use Rattle.log_tests.specs.Examples.{split_frame_2, split_frame_1, split_frame_3
 use Rattle.log_tests.specs.OnePage.{Counts}
 use Rattle.log_tests.proofs.Exampled.{only_one, not_one, follows_of, more_counts, second_frame_lawful}
 
-opening_lawful : IsFrame 4 16384 split_frame_1
+opening_lawful : IsFrame 4 65536 split_frame_1
 unfolding number_bytes
 opening_lawful = record {
   head = record { numbered = (lit≤ tt, lit< tt); fits = (lit≤ tt, lit≤ tt); some = (lit≤ tt, lit< tt) };
@@ -32,7 +32,7 @@ opening_lawful = record {
   );
 }
 
-third_lawful : IsFrame 4 16384 split_frame_3
+third_lawful : IsFrame 4 65536 split_frame_3
 unfolding number_bytes
 third_lawful = record {
   head = record { numbered = (lit≤ tt, lit< tt); fits = (lit≤ tt, lit≤ tt); some = (lit≤ tt, lit< tt) };
@@ -47,7 +47,7 @@ third_lawful = record {
   );
 }
 
-fourth_lawful : IsFrame 4 16384 split_frame_4
+fourth_lawful : IsFrame 4 65536 split_frame_4
 unfolding number_bytes
 fourth_lawful = record {
   head = record { numbered = (lit≤ tt, lit< tt); fits = (lit≤ tt, lit≤ tt); some = (lit≤ tt, lit< tt) };
@@ -62,7 +62,7 @@ fourth_lawful = record {
   );
 }
 
-fifth_lawful : IsFrame 4 16384 split_frame_5
+fifth_lawful : IsFrame 4 65536 split_frame_5
 unfolding number_bytes
 fifth_lawful = record {
   head = record { numbered = (lit≤ tt, lit< tt); fits = (lit≤ tt, lit≤ tt); some = (lit≤ tt, lit< tt) };

@@ -3,7 +3,7 @@
 
 use Rattle.std.proofs.Common.{◌≡◌, ℕ, Some, None, true, false, List, [], ◌∷◌, ◌++◌, length, take, refl}
 use Rattle.bw_codec.specs.Bytes.{number_bytes}
-use Rattle.bw_codec.specs.Reading.{front_at, heading_of, text_at, op_at, pair_at, many_at, place_at, page_at, pairs_at, delta_at, base_at, upper_at, split_at}
+use Rattle.bw_codec.specs.Reading.{front_at, heading_of, text_at, value_at, op_at, pair_at, many_at, place_at, page_at, pairs_at, delta_at, base_at, upper_at, split_at}
 use Rattle.bw_codec.specs.Reading.{block_at, head_at}
 use Rattle.bw_codec.specs.declared.block.Block.TheVariants.{Delta}
 use Rattle.bw_codec.specs.declared.block.Frame.{Frame}
@@ -18,19 +18,18 @@ use Rattle.log_tests.specs.Examples.{after_second_example, rewritten_example}
 -- one segment: frame 1 sets page 1, and then gives it k=v
 abbrev pub first_segment : List ℕ
 first_segment =
-    66 ∷ 87 ∷ 76 ∷ 79 ∷ 71 ∷ 83 ∷ 71 ∷ 49 ∷ 1 ∷ 0 ∷ 0 ∷ 0 ∷ 0 ∷ 0 ∷ 0 ∷ 0 ∷ 4 ∷ 0 ∷ 0 ∷ 0 ∷ 0 ∷ 64 ∷ 0 ∷ 0 ∷
-    70 ∷ 82 ∷ 77 ∷ 49 ∷ 1 ∷ 0 ∷ 0 ∷ 0 ∷ 0 ∷ 0 ∷ 0 ∷ 0 ∷ 32 ∷ 0 ∷ 0 ∷ 0 ∷ 2 ∷ 0 ∷ 0 ∷ 0 ∷ 2 ∷ 1 ∷ 0 ∷ 0 ∷ 0 ∷
-    0 ∷ 0 ∷ 0 ∷ 1 ∷ 1 ∷ 0 ∷ 0 ∷ 0 ∷ 1 ∷ 0 ∷ 0 ∷ 0 ∷ 0 ∷ 0 ∷ 0 ∷ 0 ∷ 0 ∷ 0 ∷ 0 ∷ 0 ∷ 1 ∷ 0 ∷ 1 ∷ 1 ∷ 107 ∷
-    1 ∷ 118 ∷ []
+    66 ∷ 87 ∷ 76 ∷ 79 ∷ 71 ∷ 83 ∷ 71 ∷ 50 ∷ 1 ∷ 0 ∷ 0 ∷ 0 ∷ 0 ∷ 0 ∷ 0 ∷ 0 ∷ 4 ∷ 0 ∷ 0 ∷ 0 ∷ 0 ∷ 0 ∷ 1 ∷ 0 ∷ 70 ∷ 82 ∷ 77 ∷ 50 ∷ 1 ∷ 0 ∷ 0 ∷ 0 ∷ 0 ∷
+    0 ∷ 0 ∷ 0 ∷ 33 ∷ 0 ∷ 0 ∷ 0 ∷ 2 ∷ 0 ∷ 0 ∷ 0 ∷ 2 ∷ 1 ∷ 0 ∷ 0 ∷ 0 ∷ 0 ∷ 0 ∷ 0 ∷ 1 ∷ 1 ∷ 0 ∷ 0 ∷ 0 ∷ 1 ∷ 0 ∷ 0 ∷ 0 ∷ 0 ∷ 0 ∷ 0 ∷ 0 ∷ 0 ∷ 0 ∷ 0 ∷ 0 ∷
+    1 ∷ 0 ∷ 1 ∷ 1 ∷ 107 ∷ 1 ∷ 0 ∷ 118 ∷ []
 
 pub first_is_read : segment_frames first_segment ≡ first_example ∷ []
-unfolding segment_frames frames_at heading_of front_at text_at op_at pair_at many_at place_at page_at pairs_at delta_at base_at upper_at split_at block_at
+unfolding segment_frames frames_at heading_of front_at text_at value_at op_at pair_at many_at place_at page_at pairs_at delta_at base_at upper_at split_at block_at
     head_at number_bytes
 first_is_read = refl
 
 -- cut by one byte it holds no whole frame, and cut in its header none either
-first_is_cut : segment_frames (take 75 first_segment) ++ segment_frames (take 23 first_segment) ≡ []
-unfolding segment_frames frames_at heading_of front_at text_at op_at pair_at many_at place_at page_at pairs_at delta_at base_at upper_at split_at block_at
+first_is_cut : segment_frames (take 76 first_segment) ++ segment_frames (take 23 first_segment) ≡ []
+unfolding segment_frames frames_at heading_of front_at text_at value_at op_at pair_at many_at place_at page_at pairs_at delta_at base_at upper_at split_at block_at
     head_at number_bytes
 first_is_cut = refl
 
@@ -44,23 +43,23 @@ first_links = (refl, refl)
 -- the segments 2 and 3 of a log that gave up segment 1: frame 2 links back to frame 1, and the cleaner's frame 4 sets page 1
 abbrev second_segment : List ℕ
 second_segment =
-    66 ∷ 87 ∷ 76 ∷ 79 ∷ 71 ∷ 83 ∷ 71 ∷ 49 ∷ 2 ∷ 0 ∷ 0 ∷ 0 ∷ 0 ∷ 0 ∷ 0 ∷ 0 ∷ 4 ∷ 0 ∷ 0 ∷ 0 ∷ 0 ∷ 64 ∷ 0 ∷ 0 ∷
-    70 ∷ 82 ∷ 77 ∷ 49 ∷ 2 ∷ 0 ∷ 0 ∷ 0 ∷ 0 ∷ 0 ∷ 0 ∷ 0 ∷ 24 ∷ 0 ∷ 0 ∷ 0 ∷ 1 ∷ 0 ∷ 0 ∷ 0 ∷ 1 ∷ 1 ∷ 0 ∷ 0 ∷ 0 ∷
-    1 ∷ 0 ∷ 0 ∷ 0 ∷ 0 ∷ 0 ∷ 0 ∷ 0 ∷ 1 ∷ 0 ∷ 0 ∷ 0 ∷ 1 ∷ 0 ∷ 1 ∷ 1 ∷ 106 ∷ 1 ∷ 50 ∷ []
+    66 ∷ 87 ∷ 76 ∷ 79 ∷ 71 ∷ 83 ∷ 71 ∷ 50 ∷ 2 ∷ 0 ∷ 0 ∷ 0 ∷ 0 ∷ 0 ∷ 0 ∷ 0 ∷ 4 ∷ 0 ∷ 0 ∷ 0 ∷ 0 ∷ 0 ∷ 1 ∷ 0 ∷ 70 ∷ 82 ∷ 77 ∷ 50 ∷ 2 ∷ 0 ∷ 0 ∷ 0 ∷ 0 ∷
+    0 ∷ 0 ∷ 0 ∷ 25 ∷ 0 ∷ 0 ∷ 0 ∷ 1 ∷ 0 ∷ 0 ∷ 0 ∷ 1 ∷ 1 ∷ 0 ∷ 0 ∷ 0 ∷ 1 ∷ 0 ∷ 0 ∷ 0 ∷ 0 ∷ 0 ∷ 0 ∷ 0 ∷ 1 ∷ 0 ∷ 0 ∷ 0 ∷ 1 ∷ 0 ∷ 1 ∷ 1 ∷ 106 ∷ 1 ∷ 0 ∷
+    50 ∷ []
 
 abbrev third_segment : List ℕ
 third_segment =
-    66 ∷ 87 ∷ 76 ∷ 79 ∷ 71 ∷ 83 ∷ 71 ∷ 49 ∷ 3 ∷ 0 ∷ 0 ∷ 0 ∷ 0 ∷ 0 ∷ 0 ∷ 0 ∷ 4 ∷ 0 ∷ 0 ∷ 0 ∷ 0 ∷ 64 ∷ 0 ∷ 0 ∷
-    70 ∷ 82 ∷ 77 ∷ 49 ∷ 3 ∷ 0 ∷ 0 ∷ 0 ∷ 0 ∷ 0 ∷ 0 ∷ 0 ∷ 24 ∷ 0 ∷ 0 ∷ 0 ∷ 1 ∷ 0 ∷ 0 ∷ 0 ∷ 1 ∷ 1 ∷ 0 ∷ 0 ∷ 0 ∷
-    2 ∷ 0 ∷ 0 ∷ 0 ∷ 0 ∷ 0 ∷ 0 ∷ 0 ∷ 0 ∷ 0 ∷ 0 ∷ 0 ∷ 1 ∷ 0 ∷ 1 ∷ 1 ∷ 107 ∷ 1 ∷ 51 ∷ 70 ∷ 82 ∷ 77 ∷ 49 ∷ 4 ∷
-    0 ∷ 0 ∷ 0 ∷ 0 ∷ 0 ∷ 0 ∷ 0 ∷ 16 ∷ 0 ∷ 0 ∷ 0 ∷ 1 ∷ 0 ∷ 0 ∷ 0 ∷ 2 ∷ 1 ∷ 0 ∷ 0 ∷ 0 ∷ 0 ∷ 2 ∷ 0 ∷ 1 ∷ 106 ∷
-    1 ∷ 50 ∷ 1 ∷ 107 ∷ 1 ∷ 51 ∷ []
+    66 ∷ 87 ∷ 76 ∷ 79 ∷ 71 ∷ 83 ∷ 71 ∷ 50 ∷ 3 ∷ 0 ∷ 0 ∷ 0 ∷ 0 ∷ 0 ∷ 0 ∷ 0 ∷ 4 ∷ 0 ∷ 0 ∷ 0 ∷ 0 ∷ 0 ∷ 1 ∷ 0 ∷ 70 ∷ 82 ∷ 77 ∷ 50 ∷ 3 ∷ 0 ∷ 0 ∷ 0 ∷ 0 ∷
+    0 ∷ 0 ∷ 0 ∷ 25 ∷ 0 ∷ 0 ∷ 0 ∷ 1 ∷ 0 ∷ 0 ∷ 0 ∷ 1 ∷ 1 ∷ 0 ∷ 0 ∷ 0 ∷ 2 ∷ 0 ∷ 0 ∷ 0 ∷ 0 ∷ 0 ∷ 0 ∷ 0 ∷ 0 ∷ 0 ∷ 0 ∷ 0 ∷ 1 ∷ 0 ∷ 1 ∷ 1 ∷ 107 ∷ 1 ∷ 0 ∷
+    51 ∷ 70 ∷ 82 ∷ 77 ∷ 50 ∷ 4 ∷ 0 ∷ 0 ∷ 0 ∷ 0 ∷ 0 ∷ 0 ∷ 0 ∷ 18 ∷ 0 ∷ 0 ∷ 0 ∷ 1 ∷ 0 ∷ 0 ∷ 0 ∷ 2 ∷ 1 ∷ 0 ∷ 0 ∷ 0 ∷ 0 ∷ 2 ∷ 0 ∷ 1 ∷ 106 ∷ 1 ∷ 0 ∷ 50 ∷
+    1 ∷ 107 ∷ 1 ∷ 0 ∷ 51 ∷ []
 
 abbrev cleaned : Image
 cleaned = record {
   m = 4;
-  f = 16384;
+  f = 65536;
   number = 2;
+  old_to = 0;
   is_open = true;
   is_failed = false;
   next = Some 5;
@@ -70,24 +69,24 @@ cleaned = record {
 }
 
 cleaned_frames : counted_in cleaned ≡ after_first_example ∷ after_second_example ∷ rewritten_example ∷ []
-unfolding segment_frames frames_at heading_of front_at text_at op_at pair_at many_at place_at page_at pairs_at delta_at base_at upper_at split_at block_at
+unfolding segment_frames frames_at heading_of front_at text_at value_at op_at pair_at many_at place_at page_at pairs_at delta_at base_at upper_at split_at block_at
     head_at number_bytes
 cleaned_frames = refl
 
-cleaned_at : counted_at cleaned ≡ record { number = 2; segment = 2; at = 24; len = 44 } ∷ record { number = 3; segment = 3; at = 24; len = 44 } ∷ record
-    { number = 4; segment = 3; at = 68; len = 36 } ∷ []
-unfolding segment_frames frames_at heading_of front_at text_at op_at pair_at many_at place_at page_at pairs_at delta_at base_at upper_at split_at block_at
+cleaned_at : counted_at cleaned ≡ record { number = 2; segment = 2; at = 24; len = 45 } ∷ record { number = 3; segment = 3; at = 24; len = 45 } ∷ record
+    { number = 4; segment = 3; at = 69; len = 38 } ∷ []
+unfolding segment_frames frames_at heading_of front_at text_at value_at op_at pair_at many_at place_at page_at pairs_at delta_at base_at upper_at split_at block_at
     head_at number_bytes
 cleaned_at = refl
 
 cleaned_places : (place_of 1 (counted_in cleaned) ≡ Some (record { frame = 4; index = 0 }))
     × (base_of 1 (counted_in cleaned) ≡ Some (record { frame = 4; index = 0 }))
-unfolding segment_frames frames_at heading_of front_at text_at op_at pair_at many_at place_at page_at pairs_at delta_at base_at upper_at split_at block_at
+unfolding segment_frames frames_at heading_of front_at text_at value_at op_at pair_at many_at place_at page_at pairs_at delta_at base_at upper_at split_at block_at
     head_at number_bytes
 cleaned_places = (refl, refl)
 
 cleaned_links : (first_number (counted_in cleaned) ≡ 2) × (bad_link 2 [] (all_placed (counted_in cleaned)) ≡ None)
-unfolding segment_frames frames_at heading_of front_at text_at op_at pair_at many_at place_at page_at pairs_at delta_at base_at upper_at split_at block_at
+unfolding segment_frames frames_at heading_of front_at text_at value_at op_at pair_at many_at place_at page_at pairs_at delta_at base_at upper_at split_at block_at
     head_at number_bytes
 cleaned_links = (refl, refl)
 
@@ -96,7 +95,7 @@ abbrev failed : Image
 failed = record cleaned { is_failed = true; next = Some 4 }
 
 failed_count : (length (counted_in failed) ≡ 2) × (length (frames_of failed.bytes) ≡ 3) × (base_of 1 (counted_in failed) ≡ None)
-unfolding segment_frames frames_at heading_of front_at text_at op_at pair_at many_at place_at page_at pairs_at delta_at base_at upper_at split_at block_at
+unfolding segment_frames frames_at heading_of front_at text_at value_at op_at pair_at many_at place_at page_at pairs_at delta_at base_at upper_at split_at block_at
     head_at number_bytes
 failed_count = (refl, refl, refl)
 
@@ -120,8 +119,8 @@ split_links = (refl, refl)
 -- ---- the roster
 
 abbrev box : List ℕ → ℕ → Holding
-box bytes lease = record { bytes = bytes; room = 16408; lease = lease; failed = 0 }
+box bytes lease = record { bytes = bytes; room = 65560; lease = lease; failed = 0 }
 
 -- live segments first, then spares
-its_roster : roster (record (fresh 4 16384 (box [] 3 ∷ [])) { live = box second_segment 1 ∷ box third_segment 2 ∷ [] }) ≡ 1 ∷ 2 ∷ 3 ∷ []
+its_roster : roster (record (fresh 4 65536 (box [] 3 ∷ [])) { live = box second_segment 1 ∷ box third_segment 2 ∷ [] }) ≡ 1 ∷ 2 ∷ 3 ∷ []
 its_roster = refl

@@ -5,7 +5,7 @@ use Rattle.std.specs.List.{AllByRecursion}
 use Rattle.bw_codec.specs.declared.leaf.Leaf.{Leaf}
 use Rattle.bw_codec.specs.declared.block.Block.TheVariants.{Base}
 use Rattle.bw_codec.specs.Bytes.{number_bytes}
-use Rattle.bw_codec.specs.Reading.{front_at, heading_of, text_at, op_at, pair_at, many_at, place_at, page_at, pairs_at, delta_at, base_at, upper_at, split_at}
+use Rattle.bw_codec.specs.Reading.{front_at, heading_of, text_at, value_at, op_at, pair_at, many_at, place_at, page_at, pairs_at, delta_at, base_at, upper_at, split_at}
 use Rattle.bw_codec.specs.Reading.{block_at, head_at}
 use Rattle.bw_device.specs.Holding.{Holding}
 use Rattle.bw_log.specs.Segments.{segment_frames, frames_at}
@@ -20,41 +20,42 @@ use Rattle.bw_care.specs.declared.fault.RecoverCause.TheVariants.{BadConfig, Emp
 -- one frame: the empty page 1, and a record that puts k=v
 abbrev first : List ℕ
 first =
-    66 ∷ 87 ∷ 76 ∷ 79 ∷ 71 ∷ 83 ∷ 71 ∷ 49 ∷ 1 ∷ 0 ∷ 0 ∷ 0 ∷ 0 ∷ 0 ∷ 0 ∷ 0 ∷ 4 ∷ 0 ∷ 0 ∷ 0 ∷ 0 ∷ 64 ∷ 0 ∷ 0 ∷ 70 ∷ 82 ∷ 77 ∷ 49 ∷ 1 ∷ 0 ∷ 0 ∷ 0 ∷ 0 ∷
-    0 ∷ 0 ∷ 0 ∷ 32 ∷ 0 ∷ 0 ∷ 0 ∷ 2 ∷ 0 ∷ 0 ∷ 0 ∷ 2 ∷ 1 ∷ 0 ∷ 0 ∷ 0 ∷ 0 ∷ 0 ∷ 0 ∷ 1 ∷ 1 ∷ 0 ∷ 0 ∷ 0 ∷ 1 ∷ 0 ∷ 0 ∷ 0 ∷ 0 ∷ 0 ∷ 0 ∷ 0 ∷ 0 ∷ 0 ∷ 0 ∷ 0 ∷
-    1 ∷ 0 ∷ 1 ∷ 1 ∷ 107 ∷ 1 ∷ 118 ∷ []
+    66 ∷ 87 ∷ 76 ∷ 79 ∷ 71 ∷ 83 ∷ 71 ∷ 50 ∷ 1 ∷ 0 ∷ 0 ∷ 0 ∷ 0 ∷ 0 ∷ 0 ∷ 0 ∷ 4 ∷ 0 ∷ 0 ∷ 0 ∷ 0 ∷ 0 ∷ 1 ∷ 0 ∷ 70 ∷ 82 ∷ 77 ∷ 50 ∷ 1 ∷ 0 ∷ 0 ∷ 0 ∷ 0 ∷
+    0 ∷ 0 ∷ 0 ∷ 33 ∷ 0 ∷ 0 ∷ 0 ∷ 2 ∷ 0 ∷ 0 ∷ 0 ∷ 2 ∷ 1 ∷ 0 ∷ 0 ∷ 0 ∷ 0 ∷ 0 ∷ 0 ∷ 1 ∷ 1 ∷ 0 ∷ 0 ∷ 0 ∷ 1 ∷ 0 ∷ 0 ∷ 0 ∷ 0 ∷ 0 ∷ 0 ∷ 0 ∷ 0 ∷ 0 ∷ 0 ∷ 0 ∷
+    1 ∷ 0 ∷ 1 ∷ 1 ∷ 107 ∷ 1 ∷ 0 ∷ 118 ∷ []
 
 -- five frames, the last with a Delta and its Split
 abbrev second : List ℕ
 second =
-    66 ∷ 87 ∷ 76 ∷ 79 ∷ 71 ∷ 83 ∷ 71 ∷ 49 ∷ 1 ∷ 0 ∷ 0 ∷ 0 ∷ 0 ∷ 0 ∷ 0 ∷ 0 ∷ 4 ∷ 0 ∷ 0 ∷ 0 ∷ 0 ∷ 64 ∷ 0 ∷ 0 ∷ 70 ∷ 82 ∷ 77 ∷ 49 ∷ 1 ∷ 0 ∷ 0 ∷ 0 ∷ 0 ∷
-    0 ∷ 0 ∷ 0 ∷ 32 ∷ 0 ∷ 0 ∷ 0 ∷ 2 ∷ 0 ∷ 0 ∷ 0 ∷ 2 ∷ 1 ∷ 0 ∷ 0 ∷ 0 ∷ 0 ∷ 0 ∷ 0 ∷ 1 ∷ 1 ∷ 0 ∷ 0 ∷ 0 ∷ 1 ∷ 0 ∷ 0 ∷ 0 ∷ 0 ∷ 0 ∷ 0 ∷ 0 ∷ 0 ∷ 0 ∷ 0 ∷ 0 ∷
-    1 ∷ 0 ∷ 1 ∷ 1 ∷ 97 ∷ 1 ∷ 49 ∷ 70 ∷ 82 ∷ 77 ∷ 49 ∷ 2 ∷ 0 ∷ 0 ∷ 0 ∷ 0 ∷ 0 ∷ 0 ∷ 0 ∷ 24 ∷ 0 ∷ 0 ∷ 0 ∷ 1 ∷ 0 ∷ 0 ∷ 0 ∷ 1 ∷ 1 ∷ 0 ∷ 0 ∷ 0 ∷ 1 ∷ 0 ∷ 0 ∷
-    0 ∷ 0 ∷ 0 ∷ 0 ∷ 0 ∷ 1 ∷ 0 ∷ 0 ∷ 0 ∷ 1 ∷ 0 ∷ 1 ∷ 1 ∷ 98 ∷ 1 ∷ 50 ∷ 70 ∷ 82 ∷ 77 ∷ 49 ∷ 3 ∷ 0 ∷ 0 ∷ 0 ∷ 0 ∷ 0 ∷ 0 ∷ 0 ∷ 24 ∷ 0 ∷ 0 ∷ 0 ∷ 1 ∷ 0 ∷ 0 ∷
-    0 ∷ 1 ∷ 1 ∷ 0 ∷ 0 ∷ 0 ∷ 2 ∷ 0 ∷ 0 ∷ 0 ∷ 0 ∷ 0 ∷ 0 ∷ 0 ∷ 0 ∷ 0 ∷ 0 ∷ 0 ∷ 1 ∷ 0 ∷ 1 ∷ 1 ∷ 99 ∷ 1 ∷ 51 ∷ 70 ∷ 82 ∷ 77 ∷ 49 ∷ 4 ∷ 0 ∷ 0 ∷ 0 ∷ 0 ∷ 0 ∷
-    0 ∷ 0 ∷ 24 ∷ 0 ∷ 0 ∷ 0 ∷ 1 ∷ 0 ∷ 0 ∷ 0 ∷ 1 ∷ 1 ∷ 0 ∷ 0 ∷ 0 ∷ 3 ∷ 0 ∷ 0 ∷ 0 ∷ 0 ∷ 0 ∷ 0 ∷ 0 ∷ 0 ∷ 0 ∷ 0 ∷ 0 ∷ 1 ∷ 0 ∷ 1 ∷ 1 ∷ 100 ∷ 1 ∷ 52 ∷ 70 ∷
-    82 ∷ 77 ∷ 49 ∷ 5 ∷ 0 ∷ 0 ∷ 0 ∷ 0 ∷ 0 ∷ 0 ∷ 0 ∷ 61 ∷ 0 ∷ 0 ∷ 0 ∷ 2 ∷ 0 ∷ 0 ∷ 0 ∷ 1 ∷ 1 ∷ 0 ∷ 0 ∷ 0 ∷ 4 ∷ 0 ∷ 0 ∷ 0 ∷ 0 ∷ 0 ∷ 0 ∷ 0 ∷ 0 ∷ 0 ∷ 0 ∷
-    0 ∷ 1 ∷ 0 ∷ 1 ∷ 1 ∷ 101 ∷ 1 ∷ 53 ∷ 3 ∷ 1 ∷ 0 ∷ 0 ∷ 0 ∷ 5 ∷ 0 ∷ 0 ∷ 0 ∷ 0 ∷ 0 ∷ 0 ∷ 0 ∷ 0 ∷ 0 ∷ 0 ∷ 0 ∷ 1 ∷ 99 ∷ 2 ∷ 0 ∷ 0 ∷ 0 ∷ 3 ∷ 0 ∷ 1 ∷ 99 ∷
-    1 ∷ 51 ∷ 1 ∷ 100 ∷ 1 ∷ 52 ∷ 1 ∷ 101 ∷ 1 ∷ 53 ∷ []
+    66 ∷ 87 ∷ 76 ∷ 79 ∷ 71 ∷ 83 ∷ 71 ∷ 50 ∷ 1 ∷ 0 ∷ 0 ∷ 0 ∷ 0 ∷ 0 ∷ 0 ∷ 0 ∷ 4 ∷ 0 ∷ 0 ∷ 0 ∷ 0 ∷ 0 ∷ 1 ∷ 0 ∷ 70 ∷ 82 ∷ 77 ∷ 50 ∷ 1 ∷ 0 ∷ 0 ∷ 0 ∷ 0 ∷
+    0 ∷ 0 ∷ 0 ∷ 33 ∷ 0 ∷ 0 ∷ 0 ∷ 2 ∷ 0 ∷ 0 ∷ 0 ∷ 2 ∷ 1 ∷ 0 ∷ 0 ∷ 0 ∷ 0 ∷ 0 ∷ 0 ∷ 1 ∷ 1 ∷ 0 ∷ 0 ∷ 0 ∷ 1 ∷ 0 ∷ 0 ∷ 0 ∷ 0 ∷ 0 ∷ 0 ∷ 0 ∷ 0 ∷ 0 ∷ 0 ∷ 0 ∷
+    1 ∷ 0 ∷ 1 ∷ 1 ∷ 97 ∷ 1 ∷ 0 ∷ 49 ∷ 70 ∷ 82 ∷ 77 ∷ 50 ∷ 2 ∷ 0 ∷ 0 ∷ 0 ∷ 0 ∷ 0 ∷ 0 ∷ 0 ∷ 25 ∷ 0 ∷ 0 ∷ 0 ∷ 1 ∷ 0 ∷ 0 ∷ 0 ∷ 1 ∷ 1 ∷ 0 ∷ 0 ∷ 0 ∷ 1 ∷
+    0 ∷ 0 ∷ 0 ∷ 0 ∷ 0 ∷ 0 ∷ 0 ∷ 1 ∷ 0 ∷ 0 ∷ 0 ∷ 1 ∷ 0 ∷ 1 ∷ 1 ∷ 98 ∷ 1 ∷ 0 ∷ 50 ∷ 70 ∷ 82 ∷ 77 ∷ 50 ∷ 3 ∷ 0 ∷ 0 ∷ 0 ∷ 0 ∷ 0 ∷ 0 ∷ 0 ∷ 25 ∷ 0 ∷ 0 ∷
+    0 ∷ 1 ∷ 0 ∷ 0 ∷ 0 ∷ 1 ∷ 1 ∷ 0 ∷ 0 ∷ 0 ∷ 2 ∷ 0 ∷ 0 ∷ 0 ∷ 0 ∷ 0 ∷ 0 ∷ 0 ∷ 0 ∷ 0 ∷ 0 ∷ 0 ∷ 1 ∷ 0 ∷ 1 ∷ 1 ∷ 99 ∷ 1 ∷ 0 ∷ 51 ∷ 70 ∷ 82 ∷ 77 ∷ 50 ∷ 4 ∷
+    0 ∷ 0 ∷ 0 ∷ 0 ∷ 0 ∷ 0 ∷ 0 ∷ 25 ∷ 0 ∷ 0 ∷ 0 ∷ 1 ∷ 0 ∷ 0 ∷ 0 ∷ 1 ∷ 1 ∷ 0 ∷ 0 ∷ 0 ∷ 3 ∷ 0 ∷ 0 ∷ 0 ∷ 0 ∷ 0 ∷ 0 ∷ 0 ∷ 0 ∷ 0 ∷ 0 ∷ 0 ∷ 1 ∷ 0 ∷ 1 ∷ 1 ∷
+    100 ∷ 1 ∷ 0 ∷ 52 ∷ 70 ∷ 82 ∷ 77 ∷ 50 ∷ 5 ∷ 0 ∷ 0 ∷ 0 ∷ 0 ∷ 0 ∷ 0 ∷ 0 ∷ 65 ∷ 0 ∷ 0 ∷ 0 ∷ 2 ∷ 0 ∷ 0 ∷ 0 ∷ 1 ∷ 1 ∷ 0 ∷ 0 ∷ 0 ∷ 4 ∷ 0 ∷ 0 ∷ 0 ∷ 0 ∷
+    0 ∷ 0 ∷ 0 ∷ 0 ∷ 0 ∷ 0 ∷ 0 ∷ 1 ∷ 0 ∷ 1 ∷ 1 ∷ 101 ∷ 1 ∷ 0 ∷ 53 ∷ 3 ∷ 1 ∷ 0 ∷ 0 ∷ 0 ∷ 5 ∷ 0 ∷ 0 ∷ 0 ∷ 0 ∷ 0 ∷ 0 ∷ 0 ∷ 0 ∷ 0 ∷ 0 ∷ 0 ∷ 1 ∷ 99 ∷ 2 ∷
+    0 ∷ 0 ∷ 0 ∷ 3 ∷ 0 ∷ 1 ∷ 99 ∷ 1 ∷ 0 ∷ 51 ∷ 1 ∷ 100 ∷ 1 ∷ 0 ∷ 52 ∷ 1 ∷ 101 ∷ 1 ∷ 0 ∷ 53 ∷ []
 
 -- the older of the two segments that a cleaning left: its frame links to a lost segment
 abbrev third_older : List ℕ
 third_older =
-    66 ∷ 87 ∷ 76 ∷ 79 ∷ 71 ∷ 83 ∷ 71 ∷ 49 ∷ 2 ∷ 0 ∷ 0 ∷ 0 ∷ 0 ∷ 0 ∷ 0 ∷ 0 ∷ 4 ∷ 0 ∷ 0 ∷ 0 ∷ 0 ∷ 64 ∷ 0 ∷ 0 ∷ 70 ∷ 82 ∷ 77 ∷ 49 ∷ 2 ∷ 0 ∷ 0 ∷ 0 ∷ 0 ∷
-    0 ∷ 0 ∷ 0 ∷ 24 ∷ 0 ∷ 0 ∷ 0 ∷ 1 ∷ 0 ∷ 0 ∷ 0 ∷ 1 ∷ 1 ∷ 0 ∷ 0 ∷ 0 ∷ 1 ∷ 0 ∷ 0 ∷ 0 ∷ 0 ∷ 0 ∷ 0 ∷ 0 ∷ 1 ∷ 0 ∷ 0 ∷ 0 ∷ 1 ∷ 0 ∷ 1 ∷ 1 ∷ 106 ∷ 1 ∷ 50 ∷ []
+    66 ∷ 87 ∷ 76 ∷ 79 ∷ 71 ∷ 83 ∷ 71 ∷ 50 ∷ 2 ∷ 0 ∷ 0 ∷ 0 ∷ 0 ∷ 0 ∷ 0 ∷ 0 ∷ 4 ∷ 0 ∷ 0 ∷ 0 ∷ 0 ∷ 0 ∷ 1 ∷ 0 ∷ 70 ∷ 82 ∷ 77 ∷ 50 ∷ 2 ∷ 0 ∷ 0 ∷ 0 ∷ 0 ∷
+    0 ∷ 0 ∷ 0 ∷ 25 ∷ 0 ∷ 0 ∷ 0 ∷ 1 ∷ 0 ∷ 0 ∷ 0 ∷ 1 ∷ 1 ∷ 0 ∷ 0 ∷ 0 ∷ 1 ∷ 0 ∷ 0 ∷ 0 ∷ 0 ∷ 0 ∷ 0 ∷ 0 ∷ 1 ∷ 0 ∷ 0 ∷ 0 ∷ 1 ∷ 0 ∷ 1 ∷ 1 ∷ 106 ∷ 1 ∷ 0 ∷
+    50 ∷ []
 
 -- the newer one: a frame of its own, and the cleaner's
 abbrev third_newer : List ℕ
 third_newer =
-    66 ∷ 87 ∷ 76 ∷ 79 ∷ 71 ∷ 83 ∷ 71 ∷ 49 ∷ 3 ∷ 0 ∷ 0 ∷ 0 ∷ 0 ∷ 0 ∷ 0 ∷ 0 ∷ 4 ∷ 0 ∷ 0 ∷ 0 ∷ 0 ∷ 64 ∷ 0 ∷ 0 ∷ 70 ∷ 82 ∷ 77 ∷ 49 ∷ 3 ∷ 0 ∷ 0 ∷ 0 ∷ 0 ∷
-    0 ∷ 0 ∷ 0 ∷ 24 ∷ 0 ∷ 0 ∷ 0 ∷ 1 ∷ 0 ∷ 0 ∷ 0 ∷ 1 ∷ 1 ∷ 0 ∷ 0 ∷ 0 ∷ 2 ∷ 0 ∷ 0 ∷ 0 ∷ 0 ∷ 0 ∷ 0 ∷ 0 ∷ 0 ∷ 0 ∷ 0 ∷ 0 ∷ 1 ∷ 0 ∷ 1 ∷ 1 ∷ 107 ∷ 1 ∷ 51 ∷
-    70 ∷ 82 ∷ 77 ∷ 49 ∷ 4 ∷ 0 ∷ 0 ∷ 0 ∷ 0 ∷ 0 ∷ 0 ∷ 0 ∷ 16 ∷ 0 ∷ 0 ∷ 0 ∷ 1 ∷ 0 ∷ 0 ∷ 0 ∷ 2 ∷ 1 ∷ 0 ∷ 0 ∷ 0 ∷ 0 ∷ 2 ∷ 0 ∷ 1 ∷ 106 ∷ 1 ∷ 50 ∷ 1 ∷ 107 ∷
-    1 ∷ 51 ∷ []
+    66 ∷ 87 ∷ 76 ∷ 79 ∷ 71 ∷ 83 ∷ 71 ∷ 50 ∷ 3 ∷ 0 ∷ 0 ∷ 0 ∷ 0 ∷ 0 ∷ 0 ∷ 0 ∷ 4 ∷ 0 ∷ 0 ∷ 0 ∷ 0 ∷ 0 ∷ 1 ∷ 0 ∷ 70 ∷ 82 ∷ 77 ∷ 50 ∷ 3 ∷ 0 ∷ 0 ∷ 0 ∷ 0 ∷
+    0 ∷ 0 ∷ 0 ∷ 25 ∷ 0 ∷ 0 ∷ 0 ∷ 1 ∷ 0 ∷ 0 ∷ 0 ∷ 1 ∷ 1 ∷ 0 ∷ 0 ∷ 0 ∷ 2 ∷ 0 ∷ 0 ∷ 0 ∷ 0 ∷ 0 ∷ 0 ∷ 0 ∷ 0 ∷ 0 ∷ 0 ∷ 0 ∷ 1 ∷ 0 ∷ 1 ∷ 1 ∷ 107 ∷ 1 ∷ 0 ∷
+    51 ∷ 70 ∷ 82 ∷ 77 ∷ 50 ∷ 4 ∷ 0 ∷ 0 ∷ 0 ∷ 0 ∷ 0 ∷ 0 ∷ 0 ∷ 18 ∷ 0 ∷ 0 ∷ 0 ∷ 1 ∷ 0 ∷ 0 ∷ 0 ∷ 2 ∷ 1 ∷ 0 ∷ 0 ∷ 0 ∷ 0 ∷ 2 ∷ 0 ∷ 1 ∷ 106 ∷ 1 ∷ 0 ∷ 50 ∷
+    1 ∷ 107 ∷ 1 ∷ 0 ∷ 51 ∷ []
 
 -- one frame of the greatest number, with the empty page 1
 abbrev greatest : List ℕ
 greatest =
-    66 ∷ 87 ∷ 76 ∷ 79 ∷ 71 ∷ 83 ∷ 71 ∷ 49 ∷ 1 ∷ 0 ∷ 0 ∷ 0 ∷ 0 ∷ 0 ∷ 0 ∷ 0 ∷ 4 ∷ 0 ∷ 0 ∷ 0 ∷ 0 ∷ 64 ∷ 0 ∷ 0 ∷ 70 ∷ 82 ∷ 77 ∷ 49 ∷ 255 ∷ 255 ∷ 255 ∷
+    66 ∷ 87 ∷ 76 ∷ 79 ∷ 71 ∷ 83 ∷ 71 ∷ 50 ∷ 1 ∷ 0 ∷ 0 ∷ 0 ∷ 0 ∷ 0 ∷ 0 ∷ 0 ∷ 4 ∷ 0 ∷ 0 ∷ 0 ∷ 0 ∷ 0 ∷ 1 ∷ 0 ∷ 70 ∷ 82 ∷ 77 ∷ 50 ∷ 255 ∷ 255 ∷ 255 ∷
     255 ∷ 255 ∷ 255 ∷ 255 ∷ 255 ∷ 8 ∷ 0 ∷ 0 ∷ 0 ∷ 1 ∷ 0 ∷ 0 ∷ 0 ∷ 2 ∷ 1 ∷ 0 ∷ 0 ∷ 0 ∷ 0 ∷ 0 ∷ 0 ∷ []
 
 -- ---- boxes and rows
@@ -101,33 +102,33 @@ pub vectors_whole : AreTold ((
     (box first ∷ box third_older ∷ [], found (page_one ((106 ∷ [], 50 ∷ []) ∷ (107 ∷ [], 118 ∷ []) ∷ []) ∷ []) 1 2 0 0) ∷
     (box [] ∷ box first ∷ box (take 3 first) ∷ [], found (page_one ((107 ∷ [], 118 ∷ []) ∷ []) ∷ []) 1 1 0 1) ∷
     [])
-unfolding segment_frames frames_at heading_of front_at text_at op_at pair_at many_at place_at page_at pairs_at delta_at base_at upper_at split_at block_at
+unfolding segment_frames frames_at heading_of front_at text_at value_at op_at pair_at many_at place_at page_at pairs_at delta_at base_at upper_at split_at block_at
     head_at number_bytes rest_of first_such contents
 vectors_whole = (refl, (refl, (refl, (refl, (refl, (refl, tt))))))
 
 -- vectors cut, and with bytes behind
 pub vectors_cut : AreTold (
-    (box (take 288 second) ∷ [], found (page_one ((97 ∷ [], 49 ∷ []) ∷ (98 ∷ [], 50 ∷ []) ∷ (99 ∷ [], 51 ∷ []) ∷ (100 ∷ [], 52 ∷ []) ∷ []) ∷ []) 1 4 80 0) ∷
-    (box (take 75 second) ∷ [], Err Empty) ∷
+    (box (take 296 second) ∷ [], found (page_one ((97 ∷ [], 49 ∷ []) ∷ (98 ∷ [], 50 ∷ []) ∷ (99 ∷ [], 51 ∷ []) ∷ (100 ∷ [], 52 ∷ []) ∷ []) ∷ []) 1 4 84 0) ∷
+    (box (take 76 second) ∷ [], Err Empty) ∷
     (box (take 24 first) ∷ [], Err Empty) ∷
     (box (take 23 first) ∷ [], Err Empty) ∷
-    (box (first ++ 88 ∷ []) ∷ [], Err (BadBytes 0 76)) ∷
+    (box (first ++ 88 ∷ []) ∷ [], Err (BadBytes 0 77)) ∷
     (box (first ++ 70 ∷ []) ∷ [], found (page_one ((107 ∷ [], 118 ∷ []) ∷ []) ∷ []) 1 1 1 0) ∷
     ([], Err Empty) ∷
     [])
-unfolding segment_frames frames_at heading_of front_at text_at op_at pair_at many_at place_at page_at pairs_at delta_at base_at upper_at split_at block_at
+unfolding segment_frames frames_at heading_of front_at text_at value_at op_at pair_at many_at place_at page_at pairs_at delta_at base_at upper_at split_at block_at
     head_at number_bytes rest_of first_such contents
 vectors_cut = (refl, (refl, (refl, (refl, (refl, (refl, (refl, tt)))))))
 
 -- bytes that cannot be read
 pub bytes_changed : AreTold (
-    (box (with 27 (50 ∷ []) first) ∷ [], Err (BadBytes 0 24)) ∷
+    (box (with 27 (51 ∷ []) first) ∷ [], Err (BadBytes 0 24)) ∷
     (box (with 16 (3 ∷ []) first) ∷ [], Err (BadBytes 0 0)) ∷
-    (box first ∷ box (with 27 (50 ∷ []) third_older) ∷ [], Err (BadBytes 1 24)) ∷
+    (box first ∷ box (with 27 (51 ∷ []) third_older) ∷ [], Err (BadBytes 1 24)) ∷
     (box (with 36 (255 ∷ 255 ∷ 255 ∷ 255 ∷ []) first) ∷ [], Err (BadBytes 0 24)) ∷
     (box (with 40 (255 ∷ 255 ∷ 255 ∷ 255 ∷ []) first) ∷ [], Err (BadBytes 0 24)) ∷
     [])
-unfolding segment_frames frames_at heading_of front_at text_at op_at pair_at many_at place_at page_at pairs_at delta_at base_at upper_at split_at block_at
+unfolding segment_frames frames_at heading_of front_at text_at value_at op_at pair_at many_at place_at page_at pairs_at delta_at base_at upper_at split_at block_at
     head_at number_bytes rest_of first_such contents
 bytes_changed = (refl, (refl, (refl, (refl, (refl, tt)))))
 
@@ -136,21 +137,21 @@ pub gaps_and_limits : AreTold (
     (box third_older ∷ box third_older ∷ [], Err Gap) ∷
     (box first ∷ box third_newer ∷ [], Err Gap) ∷
     (box first ∷ box (with 16 (5 ∷ []) third_older) ∷ [], Err Mixed) ∷
-    (box first ∷ roomed 16407 ∷ [], Err BadConfig) ∷
+    (box first ∷ roomed 65559 ∷ [], Err BadConfig) ∷
     [])
-unfolding segment_frames frames_at heading_of front_at text_at op_at pair_at many_at place_at page_at pairs_at delta_at base_at upper_at split_at block_at
+unfolding segment_frames frames_at heading_of front_at text_at value_at op_at pair_at many_at place_at page_at pairs_at delta_at base_at upper_at split_at block_at
     head_at number_bytes rest_of first_such contents
 gaps_and_limits = (refl, (refl, (refl, (refl, tt))))
 
 -- wrong links, and pages at fault
 pub links_and_pages : AreTold (
     (box third_older ∷ [], Err (Unlawful 1)) ∷
-    (box third_older ∷ box (take 103 third_newer) ∷ [], Err (Unlawful 1)) ∷
+    (box third_older ∷ box (take 106 third_newer) ∷ [], Err (Unlawful 1)) ∷
     (box first ∷ box (with 57 (0 ∷ []) third_older) ∷ [], Err (BadLink 1)) ∷
     (box (with 53 (3 ∷ []) first) ∷ [], Err (BadLink 3)) ∷
     (box (with 45 (2 ∷ []) greatest) ∷ [], Err (Unlawful 1)) ∷
     [])
-unfolding segment_frames frames_at heading_of front_at text_at op_at pair_at many_at place_at page_at pairs_at delta_at base_at upper_at split_at block_at
+unfolding segment_frames frames_at heading_of front_at text_at value_at op_at pair_at many_at place_at page_at pairs_at delta_at base_at upper_at split_at block_at
     head_at number_bytes rest_of first_such contents
 links_and_pages = (refl, (refl, (refl, (refl, (refl, tt)))))
 
@@ -160,11 +161,11 @@ pub two_faults : AreTold (
     (box first ∷ box (with 16 (5 ∷ []) (take 24 third_older) ++ 88 ∷ []) ∷ [], Err (BadBytes 1 24)) ∷
     (box first ∷ box (with 16 (5 ∷ []) third_newer) ∷ [], Err Mixed) ∷
     (box (take 24 first) ∷ box (take 24 third_newer) ∷ [], Err Gap) ∷
-    (roomed 16407 ∷ box first ∷ box third_newer ∷ [], Err Gap) ∷
-    (box (take 24 first) ∷ roomed 16407 ∷ [], Err Empty) ∷
-    (box (with 53 (3 ∷ []) first) ∷ roomed 16407 ∷ [], Err BadConfig) ∷
+    (roomed 65559 ∷ box first ∷ box third_newer ∷ [], Err Gap) ∷
+    (box (take 24 first) ∷ roomed 65559 ∷ [], Err Empty) ∷
+    (box (with 53 (3 ∷ []) first) ∷ roomed 65559 ∷ [], Err BadConfig) ∷
     [])
-unfolding segment_frames frames_at heading_of front_at text_at op_at pair_at many_at place_at page_at pairs_at delta_at base_at upper_at split_at block_at
+unfolding segment_frames frames_at heading_of front_at text_at value_at op_at pair_at many_at place_at page_at pairs_at delta_at base_at upper_at split_at block_at
     head_at number_bytes rest_of first_such contents
 two_faults = (refl, (refl, (refl, (refl, (refl, (refl, (refl, tt)))))))
 

@@ -106,22 +106,22 @@ after_second_example = record { number = 3; blocks = after_second_blocks }
 abbrev pub rewritten_example : Frame
 rewritten_example = record { number = 4; blocks = rewritten_blocks }
 
--- ---- a frame of 16,384 bytes: 8 of an empty page 1, and a Delta of 123 puts of 132 bytes and one of 101
+-- ---- a frame of 65,536 bytes: 8 of an empty page 1, and a Delta of 126 puts of 517 bytes and one of 347
 
 abbrev pub long_put : Record
-long_put = Put (107 ∷ []) (replicate 128 118)
+long_put = Put (107 ∷ []) (replicate 512 118)
 
 abbrev pub last_put : Record
-last_put = Put (107 ∷ []) (replicate 97 119)
+last_put = Put (107 ∷ []) (replicate 342 119)
 
 abbrev pub filling_blocks : List Block
 filling_blocks =
     Base (record { page = 1; low = []; pairs = [] })
-    ∷ Delta 1 (record { frame = 1; index = 0 }) (replicate 123 long_put ++ last_put ∷ [])
+    ∷ Delta 1 (record { frame = 1; index = 0 }) (replicate 126 long_put ++ last_put ∷ [])
     ∷ []
 
 abbrev pub filling_example : Frame
 filling_example = record { number = 1; blocks = filling_blocks }
 
 abbrev pub filling_leaf : Leaf
-filling_leaf = leaf_with ((107 ∷ [], replicate 97 119) ∷ [])
+filling_leaf = leaf_with ((107 ∷ [], replicate 342 119) ∷ [])

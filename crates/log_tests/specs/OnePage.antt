@@ -39,7 +39,7 @@ put_after back key value = Delta 1 back (put_of key value ∷ [])
 pub record HoldsOne (c : Contents) (leaf : Leaf) : Type 0 where
   pub sound : IsSound c
   pub m : c.m ≡ 4
-  pub f : c.f ≡ 16384
+  pub f : c.f ≡ 65536
   pub is : leaf ≡ leaf_with leaf.pairs
   pub stands : Stand 4 (counted c) (leaf ∷ [])
 
@@ -48,14 +48,14 @@ pub record Counts (c : Contents) (all : List Frame) : Type 0 where
   pub sound : IsSound c
   pub frames : counted c ≡ all
   pub m : c.m ≡ 4
-  pub f : c.f ≡ 16384
+  pub f : c.f ≡ 65536
 
 -- a sealed frame that may be the first, and leaves this page and no other
 pub record Opens (b : Filling) (leaf : Leaf) : Type 0 where
   pub sealed : b.is_sealed ≡ true
-  pub limit : b.limit ≡ 16384
+  pub limit : b.limit ≡ 65536
   pub number : b.frame ≡ 1
-  pub lawful : IsFrame 4 16384 (frame_of b)
+  pub lawful : IsFrame 4 65536 (frame_of b)
   pub linked : AreLinked (frame_of b ∷ [])
   pub is : leaf ≡ leaf_with leaf.pairs
   pub stands : Stand 4 (frame_of b ∷ []) (leaf ∷ [])

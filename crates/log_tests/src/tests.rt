@@ -51,12 +51,12 @@ fn sealed(alloc: Global, frame: u64, blocks: &[Block]) -> Option<Buffer>
     requires lawful { AllByRecursion (IsBlock 32) blocks.now }
     ensures { IfSome result (λ b. b ≡ record {
       frame = frame;
-      limit = 16384;
+      limit = 65536;
       blocks = added [] blocks.now;
       is_sealed = true;
     }) }
 {
-    let Ok(mut buffer) = Buffer::new(alloc, frame, 16384) else {
+    let Ok(mut buffer) = Buffer::new(alloc, frame, 65_536) else {
         return None;
     };
     match buffer.put_all(blocks) {
@@ -114,8 +114,8 @@ fn add_boxes(yard: &mut Yard, many: u32, bytes: &[u8], room: u64) -> Option<()> 
 /// A yard of a box of the least capacity, which fails so, and so many more, with leases from 0 on.
 fn yard_of(alloc: Global, more: u32, fuse: Fuse) -> Option<Yard> {
     let mut full = empty_yard(alloc, 8)?;
-    add_box(&mut full, &[], 16_408, fuse)?;
-    add_boxes(&mut full, more, &[], 16_408)?;
+    add_box(&mut full, &[], 65_560, fuse)?;
+    add_boxes(&mut full, more, &[], 65_560)?;
     Some(full)
 }
 
@@ -130,7 +130,7 @@ fn taken_out(yard: &mut Yard, room: u64) -> Option<Vec<Box<dyn Segment>>> {
 fn has(leaf: &Leaf, pairs: &[(&[u8], &[u8])]) -> bool {
     let held = leaf.pairs.as_slice();
     for (a, b) in held.iter().zip(pairs) {
-        if a.0.as_slice() != b.0 || a.1.as_slice() != b.1 {
+        if a.key() != b.0 || a.value() != b.1 {
             return false;
         }
     }

@@ -94,9 +94,9 @@ fn behind<'a>(text: Option<&'a [u8]>, part: &[u8]) -> Option<&'a [u8]> {
 /// Whether a text is the low key, a colon, and each pair after a space.
 fn shows(leaf: &Leaf, text: &[u8]) -> bool {
     let mut rest = behind(behind(Some(text), leaf.low.as_slice()), b":");
-    for (key, value) in leaf.pairs.as_slice() {
-        rest = behind(behind(rest, b" "), key.as_slice());
-        rest = behind(behind(rest, b"="), value.as_slice());
+    for pair in leaf.pairs.as_slice() {
+        rest = behind(behind(rest, b" "), pair.key());
+        rest = behind(behind(rest, b"="), pair.value());
     }
     match rest {
         Some(rest) => rest.is_empty(),

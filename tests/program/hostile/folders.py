@@ -34,7 +34,7 @@ def refused(program, segments, folder, draw, wanted):
     """What recovery refuses a run refuses as well, and makes and changes nothing; but where nothing was ever durable it begins anew."""
     before = looked_at(folder)
     words = draw.choice([["replay"], ["threads", "--segments=24"]])
-    answer = program.run([*words, "--capacity=200000", "--dir=" + folder], b"put 0 k v\n")
+    answer = program.run([*words, "--capacity=300000", "--dir=" + folder], b"put 0 k v\n")
     anew = begins_anew(segments) if wanted == "refused E12 Empty\n" else None
     if anew is not None:
         first = answer[1].decode().split("\n", 1)[-1] if anew else anew
@@ -76,7 +76,7 @@ def lived(program, segments, folder, draw):
         gets = ["get " + ("0x" + key.encode().hex() if not key.startswith("0x") else key) for key in pairs]
         script += gets
         wants += ["value " + value for value in pairs.values()]
-    words = ["replay", "--capacity=200000", "--segments=%d" % (len(segments) + 3), "--places=16", "--dir=" + folder]
+    words = ["replay", "--capacity=300000", "--segments=%d" % (len(segments) + 3), "--places=16", "--dir=" + folder]
     status, output, errors = program.run(words, ("\n".join(script) + "\n").encode())
     answers = output.decode().splitlines()
     if status not in (0, 4) or errors or len(answers) != len(script) + 2 or answers[1] != lines[1]:
@@ -237,7 +237,7 @@ def refused_bytes(limit):
 def filled(program, folder, draw, **more):
     """A run whose appends fail at some time: what it flushed is there, and the scan is the reader's."""
     script = "".join("put 0 k%03d %s\nflush\n" % (it, "v" * 100) for it in range(100))
-    status, output, errors = program.run(["replay", "--dir=" + folder, "--capacity=16408", "--segments=8"], script.encode(), **more)
+    status, output, errors = program.run(["replay", "--dir=" + folder, "--capacity=65560", "--segments=8"], script.encode(), **more)
     answers = output.decode().splitlines()
     if status == 6 and not answers and errors.startswith(b"folder "):
         return

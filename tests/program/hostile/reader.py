@@ -1,6 +1,7 @@
 """What a scan of segments has to print: a reader that is written from docs/FORMAT.md alone, and shares nothing with the program.
 
-`told` is the whole of it. `Delta`, `Base`, `Split`, `box_of` and `word` serve those who change segments (segments.py)."""
+`told` is the whole of it. `Delta`, `Base`, `Split`, `box_of` and `word` serve those who change segments (segments.py), `log_of`,
+`pages_told` and `set_last` those who upgrade them (upgrades.py)."""
 
 import collections
 import struct
@@ -10,11 +11,19 @@ class Bad(Exception):
     """Bytes that break a rule."""
 
 
-class Bytes:
-    """Bytes that are read from the front."""
+# A format: the texts of its headers and frames, the ends of F, the most bytes of a key and of a value, and those of a value's length.
+Format = collections.namedtuple("Format", "header frame least most key value width")
+FORMATS = {
+    1: Format(b"BWLOGSG1", b"FRM1", 16384, 65536, 64, 128, 1),
+    2: Format(b"BWLOGSG2", b"FRM2", 65536, 262144, 128, 512, 2),
+}
 
-    def __init__(self, data):
-        self.data, self.at = data, 0
+
+class Bytes:
+    """Bytes of a format that are read from the front."""
+
+    def __init__(self, data, version):
+        self.data, self.at, self.form = data, 0, FORMATS[version]
 
     def take(self, count):
         if len(self.data) - self.at < count:
@@ -28,14 +37,17 @@ class Bytes:
             raise Bad
         return number
 
-    def run(self, least, most):
-        length = self.number(1)
+    def run(self, least, most, width=1):
+        length = self.number(width)
         if not least <= length <= most:
             raise Bad
         return self.take(length)
 
+    def key(self, least=1):
+        return self.run(least, self.form.key)
+
     def pair(self):
-        return self.run(1, 64), self.run(0, 128)
+        return self.key(), self.run(0, self.form.value, self.form.width)
 
     def pairs(self, count):
         pairs = [self.pair() for _ in range(count)]
@@ -53,7 +65,7 @@ def op_of(held):
     tag = held.number(1)
     if tag not in (1, 2):
         raise Bad
-    return held.pair() if tag == 1 else (held.run(1, 64), None)
+    return held.pair() if tag == 1 else (held.key(), None)
 
 
 def block_of(held, m):
@@ -63,14 +75,14 @@ def block_of(held, m):
         back = held.number(8, 1), held.number(4)
         return Delta(page, back, [op_of(held) for _ in range(held.number(2, 1))])
     if tag == 2:
-        low, count = held.run(0, 64), held.number(2)
+        low, count = held.key(0), held.number(2)
         if count > m:
             raise Bad
         return Base(page, low, held.pairs(count))
     if tag != 3:
         raise Bad
     back = held.number(8, 1), held.number(4)
-    low, made, count = held.run(1, 64), held.number(4, 2), held.number(2, 1)
+    low, made, count = held.key(), held.number(4, 2), held.number(2, 1)
     if count > m or made == page:
         raise Bad
     pairs = held.pairs(count)
@@ -79,8 +91,8 @@ def block_of(held, m):
     return Split(page, back, low, made, pairs)
 
 
-def blocks_of(body, count, m):
-    held, blocks = Bytes(body), []
+def blocks_of(body, count, m, version):
+    held, blocks = Bytes(body, version), []
     while held.at < len(body):
         if len(blocks) == count:
             raise Bad
@@ -91,49 +103,55 @@ def blocks_of(body, count, m):
 
 
 def header_of(data):
-    """Its number, M and F."""
+    """Its version, its number, M and F."""
     text, number, m, zero, f = struct.unpack_from("<8sQHHI", data)
-    if text != b"BWLOGSG1" or number < 1 or not 4 <= m <= 32 or zero or not 16384 <= f <= 65536:
-        raise Bad
-    return number, m, f
+    for version, form in FORMATS.items():
+        if text == form.header and number >= 1 and 4 <= m <= 32 and not zero and form.least <= f <= form.most:
+            return version, number, m, f
+    raise Bad
 
 
-def frames_in(data, m, f):
+def frames_in(data, version, m, f):
     """The whole frames, each a number and blocks, and how many bytes the tail has. What is bad begins at the offset that is told."""
-    frames, at = [], 24
+    frames, at, word_of = [], 24, FORMATS[version].frame
     while True:
         rest = data[at:]
         if len(rest) < 20:
-            if rest[:4] != b"FRM1"[: len(rest)]:
+            if rest[:4] != word_of[: len(rest)]:
                 raise Bad(at)
             return frames, len(rest)
         text, number, body, count = struct.unpack_from("<4sQII", rest)
-        if text != b"FRM1" or number < 1 or not 8 <= body <= f - 20 or count < 1:
+        if text != word_of or number < 1 or not 8 <= body <= f - 20 or count < 1:
             raise Bad(at)
         if len(rest) - 20 < body:
             return frames, len(rest)
         try:
-            frames.append((number, blocks_of(rest[20 : 20 + body], count, m)))
+            frames.append((number, blocks_of(rest[20 : 20 + body], count, m, version)))
         except Bad:
             raise Bad(at) from None
         at += 20 + body
 
 
 def is_part(data):
-    return 1 <= len(data) < 24 and data[:8] == b"BWLOGSG1"[: len(data)]
+    return 1 <= len(data) < 24 and any(data[:8] == form.header[: len(data)] for form in FORMATS.values())
 
 
-Box = collections.namedtuple("Box", "number limits frames tail")
+Box = collections.namedtuple("Box", "version number m f frames tail")
 
 
 def box_of(data):
     if len(data) < 24:
         raise Bad(0)
     try:
-        number, m, f = header_of(data)
+        version, number, m, f = header_of(data)
     except Bad:
         raise Bad(0) from None
-    return Box(number, (m, f), *frames_in(data, m, f))
+    return Box(version, number, m, f, *frames_in(data, version, m, f))
+
+
+def do_clash(one, other):
+    """Whether two headers are of no one log."""
+    return one.m != other.m or one.version == other.version and one.f != other.f or one.version > other.version and one.number < other.number
 
 
 def wrong_link(frames):
@@ -201,10 +219,11 @@ def is_in_turn(numbers):
     return all(number + 1 == other for number, other in zip(numbers, numbers[1:]))
 
 
-def told(segments):
-    """What a scan of these segments prints."""
-    if len(segments) > 64:
-        return "refused E20 NoLease\n"
+Log = collections.namedtuple("Log", "boxes frames pages spares dropped")
+
+
+def log_of(segments):
+    """What recovery finds in these segments, or what it says."""
     boxes = []
     for place, data in enumerate(segments):
         if data and not is_part(data):
@@ -212,7 +231,7 @@ def told(segments):
                 boxes.append(box_of(data))
             except Bad as bad:
                 return "refused E13 BadBytes segment %d at %d\n" % (place, bad.args[0])
-    if any(box.limits != boxes[0].limits for box in boxes):
+    if any(do_clash(one, other) for one in boxes for other in boxes):
         return "refused E15 Mixed\n"
     boxes.sort(key=lambda box: box.number)
     frames = [frame for box in boxes for frame in box.frames]
@@ -224,15 +243,44 @@ def told(segments):
     if page is not None:
         return "refused E16 BadLink page %d\n" % page
     pages = read_forwards(frames)
-    page = wrong_page(pages, boxes[0].limits[0])
+    page = wrong_page(pages, boxes[0].m)
     if page is not None:
         return "refused E17 Unlawful page %d\n" % page
-    lines = [
-        "segments %d spares %d dropped %d" % (len(boxes), segments.count(b""), sum(is_part(it) for it in segments)),
-        "frames %d %d tail %d" % (frames[0][0], frames[-1][0], sum(box.tail for box in boxes)),
-    ]
+    return Log(boxes, frames, pages, segments.count(b""), sum(is_part(it) for it in segments))
+
+
+def pages_told(pages):
+    """The line of each page."""
+    lines = []
     for number in range(1, len(pages) + 1):
         low, pairs = pages[number]
         words = ["%s=%s" % (word(key), word(value)) for key, value in sorted(pairs.items())]
         lines.append(" ".join(["page %d low %s pairs %d" % (number, word(low), len(pairs)), *words]))
-    return "\n".join(lines) + "\n"
+    return lines
+
+
+def told(segments):
+    """What a scan of these segments prints."""
+    if len(segments) > 64:
+        return "refused E20 NoLease\n"
+    log = log_of(segments)
+    if isinstance(log, str):
+        return log
+    lines = [
+        "segments %d spares %d dropped %d" % (len(log.boxes), log.spares, log.dropped),
+        "frames %d %d tail %d" % (log.frames[0][0], log.frames[-1][0], sum(box.tail for box in log.boxes)),
+    ]
+    return "\n".join(lines + pages_told(log.pages)) + "\n"
+
+
+def set_last(log):
+    """Of each page the number of the segment in which it was last set."""
+    last = {}
+    for box in log.boxes:
+        for _, blocks in box.frames:
+            for block in blocks:
+                if isinstance(block, Base):
+                    last[block.page] = box.number
+                elif isinstance(block, Split):
+                    last[block.made] = box.number
+    return last

@@ -21,11 +21,11 @@ def scanned(program, segments, draw):
     return wanted.split(b" ")[1].decode() if wanted.startswith(b"refused ") else "lawful"
 
 
-def frames_of(blocks, f):
+def frames_of(blocks, f, version):
     """Frames that hold these blocks, as many as fit in each."""
     frames, size = [[1, []]], 0
     for block in blocks:
-        length = len(block_bytes(block))
+        length = len(block_bytes(block, version))
         if size + length > f - 20:
             frames.append([len(frames) + 1, []])
             size = 0
@@ -34,14 +34,14 @@ def frames_of(blocks, f):
     return frames
 
 
-def many_pairs(keys, records, splits):
+def many_pairs(version, keys, records, splits):
     """A page that holds all these keys for a while, so many records a Delta, then is cut so many times where it has nothing, and down to a
     pair in the end."""
     blocks = [Base(1, b"", [])]
     blocks += [Delta(1, (1, 0), [(key, b"") for key in keys[at : at + records]]) for at in range(0, len(keys), records)]
     end, least = b"\xff" * 4, sorted(keys)[:2]
     blocks += [Split(1, (1, 0), end, 2, [(end, b"")])] * splits + [Split(1, (1, 0), least[1], 2, [(least[1], b"")])]
-    part = Parts(1, 4, 65536, frames_of(blocks, 65536))
+    part = Parts(1, 4, 65536, frames_of(blocks, 65536, version), version=version)
     linked([part])
     return part.bytes(), len(part.frames), least
 
@@ -54,17 +54,17 @@ def of_processor():
 
 def a_page_of_many_pairs(program, folder, segments, draw):
     """About 1 MB of lawful bytes is read in a time that is linear but for a logarithm, in whatever order the keys come."""
-    keys = [it.to_bytes(3, "big") for it in range(170000)]
+    keys = [it.to_bytes(3, "big") for it in range(145000)]
     rows = [
         (keys, 9000, 0),
         (keys[::-1], 9000, 0),
         (draw.sample(keys, len(keys)), 9000, 0),
         (keys[40000::-1], 1, 0),
         (draw.sample(keys[:40000], 40000), 1, 0),
-        (keys[:80000], 9000, 16000),
+        (keys[:65000], 9000, 16000),
     ]
-    for row in rows:
-        held, frames, least = many_pairs(*row)
+    for version, row in ((version, row) for version in (1, 2) for row in rows):
+        held, frames, least = many_pairs(version, *row)
         pages = tuple(word(key) for key in least for _ in range(2))
         wanted = "segments 1 spares 0 dropped 0\nframes 1 %d tail 0\npage 1 low 0x pairs 1 %s=0x\npage 2 low %s pairs 1 %s=0x\n" % (frames, *pages[1:])
         before = of_processor()

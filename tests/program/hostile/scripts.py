@@ -35,10 +35,10 @@ def fault_of(line, writers, known):
     if name in ("put", "del"):
         if not is_number(words[1], writers - 1):
             return "bad number"
-        is_right = is_word(words[2], 1, 64) and (name == "del" or is_word(words[3], 0, 128))
+        is_right = is_word(words[2], 1, 128) and (name == "del" or is_word(words[3], 0, 512))
         return None if is_right else "bad word"
     if name == "get":
-        return None if is_word(words[1], 1, 64) else "bad word"
+        return None if is_word(words[1], 1, 128) else "bad word"
     if name == "dump" and words[1].lstrip(b"0") != b"1":
         return "bad number"
     if len(words) == 2 and not is_number(words[1], (1 << 32) - 1):
@@ -74,11 +74,11 @@ def drawn_line(draw, writers, names):
     words = [name.encode()]
     if name in ("put", "del"):
         words.append(b"%d" % draw.randrange(writers) if not draw.is_so(30) else drawn_number(draw, writers - 1))
-        words.append(drawn_word(draw, 1, 64) if draw.is_so(8) else draw.choice([b"k", b"l", b"0x6b6b", b"m%d" % draw.randrange(30)]))
+        words.append(drawn_word(draw, 1, 128) if draw.is_so(8) else draw.choice([b"k", b"l", b"0x6b6b", b"m%d" % draw.randrange(30)]))
         if name == "put":
-            words.append(drawn_word(draw, 0, 128) if draw.is_so(8) else b"v%d" % draw.randrange(9))
+            words.append(drawn_word(draw, 0, 512) if draw.is_so(8) else b"v%d" % draw.randrange(9))
     elif name == "get":
-        words.append(drawn_word(draw, 1, 64) if draw.is_so(4) else b"k")
+        words.append(drawn_word(draw, 1, 128) if draw.is_so(4) else b"k")
     elif WORDS[name] == 2:
         words.append(drawn_number(draw, 9) if draw.is_so(12) else b"%d" % draw.randrange(1, 4) if name != "dump" else b"1")
     if draw.is_so(60):

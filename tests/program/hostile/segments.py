@@ -3,56 +3,62 @@
 import random
 import struct
 
-from hostile.reader import Bad, Base, Delta, Split, box_of
+from hostile.reader import FORMATS, Bad, Base, Delta, Split, box_of
 
 
-def run_bytes(data):
-    return bytes([len(data) & 0xFF]) + data
+def run_bytes(data, width=1):
+    return (len(data) & ((1 << 8 * width) - 1)).to_bytes(width, "little") + data
 
 
-def pair_bytes(pair):
-    return run_bytes(pair[0]) + run_bytes(pair[1])
+def pair_bytes(pair, version):
+    return run_bytes(pair[0]) + run_bytes(pair[1], FORMATS[version].width)
 
 
-def op_bytes(op):
-    return b"\x02" + run_bytes(op[0]) if op[1] is None else b"\x01" + pair_bytes(op)
+def op_bytes(op, version):
+    return b"\x02" + run_bytes(op[0]) if op[1] is None else b"\x01" + pair_bytes(op, version)
 
 
 def counted(pieces):
     return struct.pack("<H", len(pieces)) + b"".join(pieces)
 
 
-def block_bytes(block):
+def block_bytes(block, version=2):
     if isinstance(block, bytes):
         return block
     page = struct.pack("<I", block.page)
     if isinstance(block, Base):
-        return b"\x02" + page + run_bytes(block.low) + counted([pair_bytes(it) for it in block.pairs])
+        return b"\x02" + page + run_bytes(block.low) + counted([pair_bytes(it, version) for it in block.pairs])
     back = struct.pack("<QI", *block.back)
     if isinstance(block, Delta):
-        return b"\x01" + page + back + counted([op_bytes(it) for it in block.ops])
-    return b"\x03" + page + back + run_bytes(block.low) + struct.pack("<I", block.made) + counted([pair_bytes(it) for it in block.pairs])
+        return b"\x01" + page + back + counted([op_bytes(it, version) for it in block.ops])
+    pairs = counted([pair_bytes(it, version) for it in block.pairs])
+    return b"\x03" + page + back + run_bytes(block.low) + struct.pack("<I", block.made) + pairs
 
 
-def frame_bytes(frame):
-    body = b"".join(block_bytes(it) for it in frame[1])
-    return b"FRM1" + struct.pack("<QII", frame[0], len(body), len(frame[1])) + body
+def frame_bytes(frame, version=2):
+    body = b"".join(block_bytes(it, version) for it in frame[1])
+    return FORMATS[version].frame + struct.pack("<QII", frame[0], len(body), len(frame[1])) + body
+
+
+def segment_bytes(version, number, m, f, frames):
+    header = struct.pack("<8sQHHI", FORMATS[version].header, number, m, 0, f)
+    return header + b"".join(frame_bytes(it, version) for it in frames)
 
 
 class Parts:
     """A segment taken apart: its header's numbers, its frames, and the bytes behind them."""
 
-    def __init__(self, number, m, f, frames, tail=b""):
-        self.number, self.m, self.f, self.frames, self.tail = number, m, f, frames, tail
+    def __init__(self, number, m, f, frames, tail=b"", version=2):
+        self.number, self.m, self.f, self.frames, self.tail, self.version = number, m, f, frames, tail, version
 
     @staticmethod
     def of(data):
         box = box_of(data)
-        return Parts(box.number, *box.limits, [[number, list(blocks)] for number, blocks in box.frames], data[len(data) - box.tail :])
+        frames = [[number, list(blocks)] for number, blocks in box.frames]
+        return Parts(box.number, box.m, box.f, frames, data[len(data) - box.tail :], box.version)
 
     def bytes(self):
-        header = struct.pack("<8sQHHI", b"BWLOGSG1", self.number, self.m, 0, self.f)
-        return header + b"".join(frame_bytes(it) for it in self.frames) + self.tail
+        return segment_bytes(self.version, self.number, self.m, self.f, self.frames) + self.tail
 
 
 def linked(parts):
@@ -79,7 +85,7 @@ def renumbered(parts):
 
 # ---- what is drawn
 
-EXTREMES = [0, 1, 2, 3, 4, 5, 32, 33, 63, 64, 65, 127, 128, 129, 255, 256, 16383, 16384, 65535, 65536, 65537, (1 << 31) - 1, 1 << 31, (1 << 32) - 1, 1 << 32, (1 << 63), (1 << 64) - 1]
+EXTREMES = [0, 1, 2, 3, 4, 5, 32, 33, 63, 64, 65, 127, 128, 129, 255, 256, 511, 512, 513, 16383, 16384, 65535, 65536, 65537, 262144, 262145, (1 << 31) - 1, 1 << 31, (1 << 32) - 1, 1 << 32, (1 << 63), (1 << 64) - 1]
 
 
 class Draw(random.Random):
@@ -91,14 +97,14 @@ class Draw(random.Random):
         most = (1 << (8 * size)) - 1
         return min(self.choice(EXTREMES), most) if self.is_so(2) else self.choice([self.randrange(16), self.randrange(most + 1)])
 
-    def key(self):
+    def key(self, most=128):
         if self.is_so(24):
-            return bytes([self.randrange(256)]) * self.choice([1, 63, 64, self.randrange(1, 65)])
+            return bytes([self.randrange(256)]) * self.choice([1, most // 2, most - 1, most, self.randrange(1, most + 1)])
         return b"".join(self.choice([b"a", b"b", b"k", b"z"]) for _ in range(self.randrange(1, 4)))
 
-    def value(self):
+    def value(self, most=512):
         if self.is_so(24):
-            return self.randbytes(self.choice([0, 1, 127, 128]))
+            return self.randbytes(self.choice([0, 1, most // 2, most // 2 + 1, most - 1, most]))
         return self.choice([b"", b"1", b"22", b"0x", b"=", b"\x00"])
 
     def pairs(self, least, most):
@@ -124,12 +130,14 @@ class Draw(random.Random):
 
     def parts(self):
         """Segments that no run made: blocks as they come, most of them linked."""
-        m, f, number = self.choice([4, 5, 32]), self.choice([16384, 65536]), self.choice([1, 1, 7])
-        first, parts = self.choice([1, 1, 2, 9]), []
+        m, number = self.choice([4, 5, 32]), self.choice([1, 1, 7])
+        limits = {1: self.choice([16384, 65536]), 2: self.choice([65536, 262144])}
+        first, parts, version = self.choice([1, 1, 2, 9]), [], self.choice([1, 2])
         for _ in range(self.choice([1, 1, 2, 3])):
             frames = [[first, [self.block(m) for _ in range(self.randrange(1, 7))]] for _ in range(self.randrange(3))]
-            parts.append(Parts(number, m, f, frames))
+            parts.append(Parts(number, m, limits[version], frames, version=version))
             number += 1
+            version = self.choice([version, 2])
         if not parts[0].frames:
             parts[0].frames = [[first, []]]
         if not self.is_so(3):
@@ -161,7 +169,7 @@ def cut(draw, data, _others):
 
 
 def behind(draw, data, _others):
-    return data + draw.choice([b"\x00", b"F", b"FRM", b"FRM1", b"FRM1" + bytes(16), draw.randbytes(draw.randrange(1, 40))])
+    return data + draw.choice([b"\x00", b"F", b"FRM", b"FRM1", b"FRM2", b"FRM1" + bytes(16), b"FRM2" + bytes(16), draw.randbytes(draw.randrange(1, 40))])
 
 
 def drop_bytes(draw, data, _others):
@@ -227,19 +235,31 @@ def join_frames(draw, parts):
 
 def set_header(draw, parts):
     part = draw.choice(parts)
-    kind = draw.randrange(3)
+    kind = draw.randrange(4)
     if kind == 0:
         part.number = draw.number(8)
     elif kind == 1:
         part.m = draw.choice([0, 3, 4, 5, 32, 33, 65535])
+    elif kind == 2:
+        part.version = 3 - part.version
     else:
-        part.f = draw.choice([0, 16383, 16384, 65536, 65537, (1 << 32) - 1])
+        part.f = draw.choice([0, 16383, 16384, 65535, 65536, 65537, 262144, 262145, (1 << 32) - 1])
 
 
 def one_limit(draw, parts):
-    m, f = draw.choice([4, 5, 8, 32]), draw.choice([16384, 20000, 65536])
+    m, limits = draw.choice([4, 5, 8, 32]), {1: draw.choice([16384, 20000, 65536]), 2: draw.choice([65536, 70000, 262144])}
     for part in parts:
-        part.m, part.f = m, f
+        part.m, part.f = m, limits[part.version]
+
+
+def aged(draw, parts):
+    """The older segments, or all, as the program wrote them in format 1."""
+    numbers = sorted(part.number for part in parts)
+    young, f = draw.choice([numbers[-1] + 1, *numbers]), draw.choice([16384, 65536])
+    for part in parts:
+        if part.number < young:
+            part.version, part.f = 1, f
+            part.tail = part.tail.replace(FORMATS[2].frame, FORMATS[1].frame)
 
 
 FRAME_CHANGES = [drop_frame, double_frame, exchange_frames, move_frame, number_frame, join_frames, set_header, one_limit]
@@ -352,6 +372,18 @@ def changed_list(draw, segments, others):
         segments.insert(draw.randrange(len(segments) + 1), draw.randbytes(draw.randrange(1, 40)))
 
 
+def aged_log(draw, runs):
+    """The segments of a run, most of them in format 1; no byte is wrong, but that a tail may be torn."""
+    segments = list(draw.choice(runs))
+    parts = taken_apart(segments)
+    if not parts:
+        return segments
+    aged(draw, parts)
+    if draw.is_so(4):
+        parts[-1].tail = draw.choice([b"F", FORMATS[parts[-1].version].frame, FORMATS[parts[-1].version].frame + bytes(9)])
+    return [part.bytes() for part in parts] + [b""] * draw.randrange(3)
+
+
 def taken_apart(segments):
     try:
         return [Parts.of(it) for it in segments if it]
@@ -364,6 +396,9 @@ def drawn_segments(draw, runs):
     others = [it for run in runs for it in run if it]
     segments = [it.bytes() for it in draw.parts()] if draw.is_so(3) else list(draw.choice(runs))
     parts = taken_apart(segments)
+    if parts and draw.is_so(2):
+        aged(draw, parts)
+        segments = [part.bytes() for part in parts]
     if parts and not draw.is_so(3):
         for _ in range(draw.choice([1, 1, 1, 2, 3, 6])):
             if any(part.frames for part in parts):

@@ -4,22 +4,24 @@
 //! a key that had none. To put back a pair that was removed, or to join a page that was cut, might
 //! take memory; there the leaf is kept as it was before.
 
-ghost use Rattle.std.specs.Prelude.{◌≡◌, ◌≤◌, ◌<◌, ◌+◌, [], length, map, vec_len, IfOk, IsOk, IsErr, OnOk, OnErr, ◌⊎◌};
+ghost use Rattle.std.specs.Prelude.{◌≡◌, ◌≤◌, ◌<◌, ◌+◌, [], length, map, vec_len, is_none, is_some, IfOk, IfSome, IsOk, IsErr, OnOk, OnErr, ◌⊎◌};
 ghost use Rattle.std.specs.Vec.{vec_capacity};
 ghost use Rattle.bw_codec.specs.Grammar.{IsOp};
 ghost use Rattle.bw_codec.specs.Record.{key_of};
-ghost use Rattle.bw_page.specs.Leaves.{HasPage, HasPages, directed_at, result_of, union, plain};
+ghost use Rattle.std.specs.FinMap.Entries.{find};
+ghost use Rattle.bw_page.specs.Leaves.{order, home, HasPage, HasPages, directed_at, result_of, union, plain};
+ghost use Rattle.bw_page.specs.Seek.{back_of};
 ghost use Rattle.bw_page.specs.Shown.{IsSpent, after_record, run, IsHere};
 ghost use Rattle.bw_page.specs.Journal.{undo_of, undone, all_undone, GoesBack, IsJournal, IsNewest};
 ghost use Rattle.bw_page.specs.Batch.{SomeIsSpent, AreHere, upper_if, step_of, steps_of};
 ghost use Rattle.bw_page.specs.Aim.{IsAim};
 
 use super::Leaves;
-use crate::changes::{back_from, change as change_leaf, count_after};
+use crate::changes::{change as change_leaf, count_after, removes};
 use crate::cutting::{Cut, cut_in_two};
 use crate::fault::ApplyError;
 use crate::index::drop_above;
-use crate::journal::{Displaced, Undo};
+use crate::journal::{Back, Displaced, Undo};
 use bw_codec::{Leaf, Record};
 use std::alloc::AllocError;
 use std::slice;
@@ -114,7 +116,8 @@ impl Leaves {
         ensures unchanged { OnErr result (self.new ≡ self.old) }
     {
         let _ = self.count();
-        let mut journal = Vec::with_capacity(self.leaves.allocator(), items.len())?;
+        let ahead = (self.read_ahead(items, pages) % 2) as usize;
+        let mut journal = Vec::with_capacity(self.leaves.allocator(), items.len().max(ahead))?;
         let mut hints = pages.iter();
         for item in items {
             let page = next_hint(&mut hints);
@@ -259,32 +262,57 @@ impl Leaves {
         ensures unchanged { OnErr result (self.new ≡ self.old) }
     {
         let (at, count, found) = self.aim_by(page, change);
-        let undo = self.undo_at(at, count, found, change)?;
-        self.apply_at(at, count, found, change)?;
-        Ok(undo)
+        if count <= usize::from(self.m) {
+            return Ok(self.displace_pair(at, count, found, change)?);
+        }
+        let (displaced, _) = self.cut_page(at, count, found, change)?;
+        Ok(Undo::Page(displaced))
     }
 
-    /// What takes a record back that will be applied where `aim` says. A refused growth is the only
-    /// error.
-    fn undo_at(
-        &self,
+    /// Applies a record where `aim` says, which cuts no page, and gives what takes it back. A
+    /// refusal changes nothing.
+    fn displace_pair(
+        &mut self,
         at: usize,
         count: usize,
         found: Result<usize, usize>,
         change: &Record,
     ) -> Result<Undo, AllocError>
-        requires { IsAim self.now change.now at count found }
-        ensures { IfOk result (λ undo. undo ≡ undo_of self.now change.now) }
+        requires aim { IsAim self.old change.now at count found }
+        requires few { count ≤ self.old.m }
+        ensures undo { IfOk result (λ undo. undo ≡ undo_of self.old change.now) }
+        ensures ok { OnOk result (self.new ≡ after_record self.old change.now) }
+        ensures unchanged { OnErr result (self.new ≡ self.old) }
     {
         let pages = self.count();
-        let leaf = self.leaves.get(at);
-        if count <= usize::from(self.m) {
-            if let Some(back) = back_from(leaf.pairs.as_slice(), found, change) {
-                return Ok(Undo::Back(back));
-            }
+        let kept = self.lost_page(at, count, found, change)?;
+        match self.change_at(at, count, found, change)? {
+            Some(back) => Ok(Undo::Back(back)),
+            None => match kept {
+                Some(leaf) => Ok(Undo::Page(Displaced { leaf, pages })),
+                None => unreachable!(),
+            },
         }
-        let leaf = leaf.copy()?;
-        Ok(Undo::Page(Displaced { leaf, pages }))
+    }
+
+    /// The page where `aim` says, if the record removes a pair from it.
+    fn lost_page(
+        &self,
+        at: usize,
+        count: usize,
+        found: Result<usize, usize>,
+        change: &Record,
+    ) -> Result<Option<Leaf>, AllocError>
+        requires { IsAim self.now change.now at count found }
+        ensures leaf { IfOk result (λ kept. IfSome kept (λ leaf.
+            leaf ≡ home (key_of change.now) self.now.leaves)) }
+        ensures kept { IfOk result (λ kept. is_none kept ≡ is_some (back_of change.now
+            (find order (key_of change.now) (home (key_of change.now) self.now.leaves).pairs))) }
+    {
+        if removes(found, change) {
+            return Ok(Some(self.leaves.get(at).copy()?));
+        }
+        Ok(None)
     }
 
     /// Takes records back, the newest first. No memory is taken.
@@ -304,21 +332,19 @@ impl Leaves {
         ensures { self.new ≡ undone self.old undo }
     {
         match undo {
-            Undo::Back(back) => self.change_back(&back),
+            Undo::Back(back) => self.change_back(back),
             Undo::Page(displaced) => self.put_page_back(displaced),
         }
     }
 
     /// Takes the newest record back by another.
-    fn change_back(&mut self, back: &Record)
-        requires { IsNewest self.old (Undo.Back back.now) }
-        ensures { self.new ≡ undone self.old (Undo.Back back.now) }
+    fn change_back(&mut self, back: Back)
+        requires { IsNewest self.old (Undo.Back back) }
+        ensures { self.new ≡ undone self.old (Undo.Back back) }
     {
-        let (at, _, found) = self.aim(self.find(back.key()), back);
-        match self.leaves.change(at, found, back) {
-            Ok(()) => {}
-            Err(_) => unreachable!(),
-        }
+        let record = back.record();
+        let (at, _, found) = self.aim(self.find(record.key()), &record);
+        self.leaves.take_back(at, found, back);
     }
 
     /// Takes the newest record back by the leaf that it displaced.

@@ -12,8 +12,8 @@ use bw_store::Store;
 use std::sync::Wait;
 use std::thread::Threads;
 
-/// 2,000 records of each writer, over 100 keys in turn.
-const PART: Part = Part(0, 2000, 100);
+/// 8,000 records of each writer, over 100 keys in turn.
+const PART: Part = Part(0, 8000, 100);
 
 /// The oldest segment is given up where three are live.
 const PACE: Pace = Pace(64, 4, 3, 1_000_000_000);
@@ -25,9 +25,9 @@ const TABLE: &Table = &Table {
     writers: 2,
     places: 8,
     boxes: BOXES,
-    capacity: 16408,
+    capacity: 65_560,
     fuse: None,
-    steps: &[Drives(Run(PART, PACE, Ok((2000, 2000))))],
+    steps: &[Drives(Run(PART, PACE, Ok((8000, 8000))))],
 };
 
 // Whether each key is in the pages recovered from these boxes.

@@ -22,7 +22,7 @@ const TWICE: &Table = &Table {
     writers: 2,
     places: 8,
     boxes: 8,
-    capacity: 65536,
+    capacity: 65_560,
     fuse: None,
     steps: &[
         Drives(Run(Part(0, 300, KEYS), Pace(64, 4, 0, MANY), Ok((300, 300)))),
@@ -40,7 +40,7 @@ const SIXTY_FOUR: &Table = &Table {
     writers: 64,
     places: 8,
     boxes: 16,
-    capacity: 65536,
+    capacity: 65_560,
     fuse: None,
     steps: &[
         Drives(Run(Part(0, 100, KEYS), Pace(64, 4, 0, MANY), Ok((100, 100)))),
@@ -54,7 +54,7 @@ const ONE_PLACE: &Table = &Table {
     writers: 2,
     places: 1,
     boxes: 8,
-    capacity: 65536,
+    capacity: 65_560,
     fuse: None,
     steps: &[
         Drives(Run(Part(0, 300, KEYS), Pace(64, 4, 0, MANY), Ok((300, 300)))),
@@ -68,7 +68,7 @@ const FEW_TRIES: &Table = &Table {
     writers: 2,
     places: 8,
     boxes: 4,
-    capacity: 65536,
+    capacity: 65_560,
     fuse: None,
     steps: &[
         Drives(Run(Part(0, 1000, KEYS), Pace(64, 4, 0, 0), Ok((0, 0)))),
@@ -84,7 +84,7 @@ const FIRST_APPEND: &Table = &Table {
     writers: 2,
     places: 8,
     boxes: 4,
-    capacity: 65536,
+    capacity: 65_560,
     fuse: Some(0),
     steps: &[
         Drives(Run(
@@ -112,7 +112,7 @@ const FIFTH_FRAME: &Table = &Table {
     writers: 2,
     places: 8,
     boxes: 4,
-    capacity: 65536,
+    capacity: 65_560,
     fuse: Some(5),
     steps: &[
         Drives(Run(
@@ -134,7 +134,7 @@ const NOTHING_OLD: &Table = &Table {
     writers: 2,
     places: 8,
     boxes: 4,
-    capacity: 65536,
+    capacity: 65_560,
     fuse: None,
     steps: &[
         Drives(Run(
@@ -158,7 +158,7 @@ const NO_SPARE: &Table = &Table {
     writers: 2,
     places: 8,
     boxes: 1,
-    capacity: 65536,
+    capacity: 65_560,
     fuse: None,
     steps: &[
         Drives(Run(

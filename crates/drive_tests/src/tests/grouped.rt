@@ -22,7 +22,7 @@ const TWICE: &Table = &Table {
     writers: 3,
     places: 8,
     boxes: 8,
-    capacity: 65536,
+    capacity: 65_560,
     fuse: None,
     steps: &[
         DrivesGroups(Run(Part(0, 300, KEYS), Pace(64, 4, 0, MANY), Ok((300, 300)))),
@@ -42,7 +42,7 @@ const ONE_PLACE: &Table = &Table {
     writers: 2,
     places: 1,
     boxes: 8,
-    capacity: 65536,
+    capacity: 65_560,
     fuse: None,
     steps: &[
         DrivesGroups(Run(Part(0, 300, KEYS), Pace(64, 4, 0, MANY), Ok((300, 300)))),
@@ -58,7 +58,7 @@ const FEW_TRIES: &Table = &Table {
     writers: 2,
     places: 8,
     boxes: 4,
-    capacity: 65536,
+    capacity: 65_560,
     fuse: None,
     steps: &[
         DrivesGroups(Run(Part(0, 1000, KEYS), Pace(1, 1, 0, 1), Ok((20, 21)))),
@@ -73,7 +73,7 @@ const FIFTH_FRAME: &Table = &Table {
     writers: 2,
     places: 8,
     boxes: 4,
-    capacity: 65536,
+    capacity: 65_560,
     fuse: Some(5),
     steps: &[
         DrivesGroups(Run(

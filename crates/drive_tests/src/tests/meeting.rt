@@ -19,7 +19,7 @@ const THOUSAND: &Table = &Table {
     writers: 2,
     places: 8,
     boxes: 32,
-    capacity: 65536,
+    capacity: 65_560,
     fuse: None,
     steps: &[
         Drives(Run(Part(0, 1000, 10_000), PACE, Ok((1000, 1000)))),
@@ -34,7 +34,7 @@ const HUNDREDS: &Table = &Table {
     writers: 2,
     places: 8,
     boxes: 32,
-    capacity: 65536,
+    capacity: 65_560,
     fuse: None,
     steps: &[
         Drives(Run(Part(0, 300, 10_000), PACE, Ok((300, 300)))),
@@ -49,7 +49,7 @@ const GROUPS: &Table = &Table {
     writers: 2,
     places: 8,
     boxes: 32,
-    capacity: 65536,
+    capacity: 65_560,
     fuse: None,
     steps: &[
         DrivesGroups(Run(Part(0, 300, 10_000), PACE, Ok((300, 300)))),
@@ -112,7 +112,7 @@ const GIVEN_UP: &Table = &Table {
     writers: 1,
     places: 1,
     boxes: 8,
-    capacity: 65536,
+    capacity: 65_560,
     fuse: None,
     steps: &[Drives(Run(Part(0, 3, 10_000), Pace(1, 1, 0, 1), Ok((1, 2))))],
 };

@@ -77,8 +77,8 @@ pub(super) fn is_split(store: &mut Store) -> bool
 // Whether these are the first two records of writer 0.
 fn are_two(leaf: &Leaf) -> bool {
     let mut next: u32 = 0;
-    for (key, value) in leaf.pairs.as_slice() {
-        if Record::Put(key.copy(), value.copy()) != numbered(0, next, 10_000) {
+    for pair in leaf.pairs.as_slice() {
+        if Record::Put(pair.to_key(), pair.to_value()) != numbered(0, next, 10_000) {
             return false;
         }
         next = next.saturating_add(1);

@@ -41,7 +41,7 @@ fn example<R: Threads + Wait>(
 
 // The same over a new store of two writers.
 fn is_settled<R: Threads + Wait>(rt: &R, alloc: Global) -> bool {
-    let Some(boxes) = boxes(alloc, 4, &[], 65536, None) else {
+    let Some(boxes) = boxes(alloc, 4, &[], 65_560, None) else {
         return false;
     };
     let config = Config {
@@ -49,7 +49,7 @@ fn is_settled<R: Threads + Wait>(rt: &R, alloc: Global) -> bool {
         places: 8,
         readers: 1,
         m: 4,
-        f: 16384,
+        f: 65_536,
     };
     let Ok((mut store, feeds)) = Store::open(rt, alloc, &config, boxes) else {
         return false;

@@ -73,7 +73,7 @@ pub(super) fn walked<R: AllocGlobal + Threads + Wait, G: Gate>(
         places: table.places,
         readers: 1,
         m: 4,
-        f: 16384,
+        f: 65_536,
     };
     let Ok((mut store, feeds)) = Store::open(rt, rt.alloc(), &config, boxes) else {
         return Err(0);

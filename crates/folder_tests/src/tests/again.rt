@@ -4,6 +4,7 @@
 ghost use Rattle.bw_home.specs.Ready.{IsReady};
 
 use super::{Pair, Walk};
+use bw_codec::limits::MIN_FRAME;
 use bw_codec::{Key, Record, Value};
 use bw_file::FolderReader;
 use bw_home::{Home, Legs, Options, System, with_store, with_store_in_legs};
@@ -15,16 +16,16 @@ const SMALL: Options = Options {
     places: 8,
     readers: 1,
     m: 4,
-    f: 16_384,
+    f: MIN_FRAME,
     segments: 4,
-    capacity: 65_536,
+    capacity: 65_560,
 };
 
 /// How many records are put, each flushed by itself: more than a megabyte.
 const RECORDS: u32 = 10_000;
 
 // Puts a record of one of 16 keys and settles, and gives up the oldest segment where one spare is
-// left.
+// left and it pays.
 fn update<R: System>(rt: &R, home: &mut Home, number: u32) -> Result<(), Fail>
     requires { IsReady home.old holding }
     ensures { IsReady home.new holding }
@@ -33,7 +34,7 @@ fn update<R: System>(rt: &R, home: &mut Home, number: u32) -> Result<(), Fail>
     let value = Value::new(&[(number % 251) as u8; 100])?;
     home.put(Record::Put(key, value))?;
     home.settle(rt)?;
-    if home.store.spares() < 2 && home.store.live() > 1 {
+    if home.store.spares() < 2 && home.store.pays() {
         let _ = home.clean(rt)?;
     }
     Ok(())

@@ -1,6 +1,7 @@
 //! A folder is opened, and one allocation on the way is refused: the call tells it, and goes when
 //! it is made again.
 
+use bw_codec::limits::MIN_FRAME;
 use bw_codec::{Key, Record, Value};
 use bw_home::{Course, Home, HomeFault, NotPut, Options, System, with_store};
 use bw_store::StoreFault;
@@ -17,9 +18,9 @@ const SMALL: Options = Options {
     places: 2,
     readers: 1,
     m: 4,
-    f: 16_384,
+    f: MIN_FRAME,
     segments: 2,
-    capacity: 65_536,
+    capacity: 65_560,
 };
 
 /// Puts a record and settles.

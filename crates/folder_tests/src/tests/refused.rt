@@ -3,6 +3,7 @@
 
 use super::{PutAndWalk, is_first};
 use bw_care::RecoverCause;
+use bw_codec::limits::MIN_FRAME;
 use bw_home::{HomeFault, Options, System, with_store};
 use bw_store::StoreFault;
 use std::fs;
@@ -19,14 +20,22 @@ enum Told {
 struct Row(&'static [u8], &'static [u8], Told);
 
 /// The header of segment 1, then of segment 2, for pages of 32 pairs and frames of 65,536 bytes.
-const FIRST: &[u8] = b"BWLOGSG1\x01\0\0\0\0\0\0\0\x20\0\0\0\0\0\x01\0";
+const FIRST: &[u8] = b"BWLOGSG2\x01\0\0\0\0\0\0\0\x20\0\0\0\0\0\x01\0";
 
-const SECOND: &[u8] = b"BWLOGSG1\x02\0\0\0\0\0\0\0\x20\0\0\0\0\0\x01\0";
+const SECOND: &[u8] = b"BWLOGSG2\x02\0\0\0\0\0\0\0\x20\0\0\0\0\0\x01\0";
 
 /// The same, with the beginning of a frame behind it.
-const TORN: &[u8] = b"BWLOGSG1\x01\0\0\0\0\0\0\0\x20\0\0\0\0\0\x01\0FRM1\x01";
+const TORN: &[u8] = b"BWLOGSG2\x01\0\0\0\0\0\0\0\x20\0\0\0\0\0\x01\0FRM2\x01";
+
+/// The beginning of segment 1 in format 1, and the same with the beginning of a frame behind it.
+const OLD_FIRST: &[u8] = b"BWLOGSG1\x01\0\0\0\0\0\0\0\x20\0\0\0\0\x40\0\0";
+
+const OLD_TORN: &[u8] = b"BWLOGSG1\x01\0\0\0\0\0\0\0\x20\0\0\0\0\x40\0\0FRM1\x01";
 
 const ROWS: &[Row] = &[
+    Row(b"BWLOGSG1", b"", Told::Begins),
+    Row(OLD_FIRST, b"", Told::Begins),
+    Row(b"", OLD_TORN, Told::Begins),
     Row(b"", b"", Told::Begins),
     Row(b"BWLOG", b"", Told::Begins),
     Row(b"", FIRST, Told::Begins),
@@ -36,7 +45,7 @@ const ROWS: &[Row] = &[
     Row(SECOND, b"", Told::Refused(RecoverCause::Empty)),
     Row(
         b"",
-        b"BWLOGSG2",
+        b"BWLOGSG3",
         Told::Refused(RecoverCause::BadBytes { segment: 1, at: 0 }),
     ),
     Row(FIRST, SECOND, Told::Refused(RecoverCause::Empty)),
@@ -99,9 +108,9 @@ const NO_WRITER: Options = Options {
     places: 64,
     readers: 1,
     m: 32,
-    f: 16_384,
+    f: MIN_FRAME,
     segments: 2,
-    capacity: 65_536,
+    capacity: 65_560,
 };
 
 // Why the course did not run; `None` where it did.

@@ -40,7 +40,7 @@ const ROWS: &[Row] = &[
     Row {
         calls: 1,
         before: 24,
-        piece: 52,
+        piece: 53,
         live: 1,
         spares: 1,
         next: 1,
@@ -49,8 +49,8 @@ const ROWS: &[Row] = &[
     // The second append fails in its frame: the page reads as before it.
     Row {
         calls: 2,
-        before: 76,
-        piece: 44,
+        before: 77,
+        piece: 45,
         live: 1,
         spares: 1,
         next: 2,
@@ -78,13 +78,13 @@ fn tells(log: &mut Log, row: &Row) -> bool
     requires { IsSound log.old holding }
     ensures { IsSound log.new holding }
 {
-    if log.live() != row.live || log.spares() != row.spares || log.limit() < 52 {
+    if log.live() != row.live || log.spares() != row.spares || log.limit() < 53 {
         return false;
     }
     if log.next_frame() != Some(row.next) {
         return false;
     }
-    if log.ready(52, false) != Err(LogFault::Failed) {
+    if log.ready(53, false) != Err(LogFault::Failed) {
         return false;
     }
     is_page(log, 1, "1 : k=v;") == row.is_read

@@ -10,15 +10,15 @@ use bw_codec::{Leaf, Ops};
 use bw_page::{change, empty_page};
 use std::alloc::Global;
 
-const LONG: [u8; 128] = [b'v'; 128];
+const LONG: [u8; 512] = [b'v'; 512];
 
-const LAST: [u8; 97] = [b'w'; 97];
+const LAST: [u8; 342] = [b'w'; 342];
 
 fn puts(alloc: Global) -> Option<Ops>
-    ensures { IfSome result (λ ops. ops ≡ replicate 123 long_put ++ last_put ∷ []) }
+    ensures { IfSome result (λ ops. ops ≡ replicate 126 long_put ++ last_put ∷ []) }
 {
     let mut ops = Vec::new(alloc);
-    for _ in 0..123usize {
+    for _ in 0..126usize {
         let Ok(()) = ops.push(record_of(b"k", &LONG)?) else {
             return None;
         };

@@ -56,7 +56,7 @@ pub(crate) fn put_frame(
     requires back { 1 ≤ back.frame }
     ensures made { IfSome result (λ b. b ≡ record {
       frame = number;
-      limit = 16384;
+      limit = 65536;
       blocks = put_after back key value ∷ [];
       is_sealed = true;
     }) }
@@ -70,7 +70,7 @@ pub(crate) fn put_frame(
 pub(crate) fn first_frame(alloc: Global, ops: Ops) -> Option<Buffer>
     requires { IsBlock 32 (Delta 1 (record { frame = 1; index = 0 }) ops) }
     ensures { IfSome result (λ b.
-        b ≡ record { frame = 1; limit = 16384; blocks = first_with ops; is_sealed = true }) }
+        b ≡ record { frame = 1; limit = 65536; blocks = first_with ops; is_sealed = true }) }
 {
     let blocks = [
         Block::Base(empty_page(alloc)),
@@ -174,8 +174,8 @@ pub(crate) fn log_over(alloc: Global, more: u32, fuse: Fuse) -> Option<(Log, Yar
     ensures { IfSome result (λ o. Counts (seen_by holding o.0) []) }
 {
     let mut yard = yard_of(alloc, more, fuse)?;
-    let boxes = taken_out(&mut yard, 16_408)?;
-    match Log::new(alloc, boxes, 4, 16384) {
+    let boxes = taken_out(&mut yard, 65_560)?;
+    match Log::new(alloc, boxes, 4, 65_536) {
         Ok(log) => Some((log, yard)),
         Err(_) => None,
     }

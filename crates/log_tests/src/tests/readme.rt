@@ -11,10 +11,10 @@ fn write_and_read_back(alloc: Global) -> Result<Option<Leaf>, Fail> {
     let mut desk = Desk::new(alloc, 2)?;
     let mut boxes: Vec<Box<dyn Segment>> = Vec::new(alloc);
     for _ in 0..2 {
-        let segment = MemSegment::new(alloc, desk.take()?, 24 + 16_384)?;
+        let segment = MemSegment::new(alloc, desk.take()?, 24 + 65_536)?;
         boxes.push(Box::new(alloc, segment)?)?;
     }
-    let Ok(mut log) = Log::new(alloc, boxes, 4, 16_384) else {
+    let Ok(mut log) = Log::new(alloc, boxes, 4, 65_536) else {
         return Ok(None);
     };
 
@@ -32,7 +32,7 @@ fn write_and_read_back(alloc: Global) -> Result<Option<Leaf>, Fail> {
         ops: Ops::of(ops),
     })?;
 
-    let mut frame = Buffer::new(alloc, 1, 16_384)?;
+    let mut frame = Buffer::new(alloc, 1, 65_536)?;
     frame.put_all(blocks.as_slice())?;
     frame.seal();
     log.append(&frame)?;

@@ -23,7 +23,7 @@ fn is_empty(log: &Log) -> bool
         && log.pages() == 0
         && log.place_of(1).is_none()
         && log.base_of(1).is_none()
-        && log.limit() == 16_384
+        && log.limit() == 65_536
         && log.next_frame() == Some(1)
         && !log.is_failed()
 }
@@ -57,7 +57,7 @@ fn is_refused(log: &mut Log, more: &mut Yard) -> bool
 // one that is not, and hands them all out again.
 fn spares_come_and_go(alloc: Global) -> Option<bool> {
     let (mut log, mut more) = log_over(alloc, 1, NEVER)?;
-    add_box(&mut more, &[], 16_407, NEVER)?;
+    add_box(&mut more, &[], 65_559, NEVER)?;
     let come = is_refused(&mut log, &mut more) & is_added(&mut log, &mut more);
     log.roll();
     let told = is_empty(&log) & reads_nothing(alloc, &mut log);

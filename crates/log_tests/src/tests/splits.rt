@@ -10,13 +10,13 @@ use super::care::vectors::SECOND;
 use super::page::{append, first_frame, log_over, ops_of, put_frame};
 use super::{NEVER, sealed};
 use bw_buffer::Buffer;
-use bw_codec::{Block, Key, Leaf, Low, Pairs, Place, Value};
+use bw_codec::{Block, Key, Leaf, Low, Pair, Pairs, Place, Value};
 use bw_device::Segment;
 use bw_log::{Log, LogFault};
 use std::alloc::Global;
 
 // A pair of a byte at a byte.
-fn pair(key: u8, value: u8) -> Option<(Key, Value)>
+fn pair(alloc: Global, key: u8, value: u8) -> Option<Pair>
     ensures { IfSome result (λ p. p ≡ (key ∷ [], value ∷ [])) }
 {
     let Ok(key) = Key::new(&[key]) else {
@@ -25,14 +25,21 @@ fn pair(key: u8, value: u8) -> Option<(Key, Value)>
     let Ok(value) = Value::new(&[value]) else {
         return None;
     };
-    Some((key, value))
+    match Pair::of(alloc, &key, &value) {
+        Ok(pair) => Some(pair),
+        Err(_) => None,
+    }
 }
 
 // The page that the Split makes.
 fn upper(alloc: Global) -> Option<Leaf>
     ensures { IfSome result (λ l. l ≡ split_upper) }
 {
-    let pairs = [pair(b'c', b'3')?, pair(b'd', b'4')?, pair(b'e', b'5')?];
+    let pairs = [
+        pair(alloc, b'c', b'3')?,
+        pair(alloc, b'd', b'4')?,
+        pair(alloc, b'e', b'5')?,
+    ];
     let Ok(pairs) = Pairs::copy_of(alloc, &pairs) else {
         return None;
     };
@@ -48,7 +55,7 @@ fn upper(alloc: Global) -> Option<Leaf>
 
 fn fifth(alloc: Global) -> Option<Buffer>
     ensures { IfSome result (λ b.
-        b ≡ record { frame = 5; limit = 16384; blocks = fifth_blocks; is_sealed = true }) }
+        b ≡ record { frame = 5; limit = 65536; blocks = fifth_blocks; is_sealed = true }) }
 {
     let blocks = [
         Block::Delta {
@@ -69,7 +76,7 @@ fn fifth(alloc: Global) -> Option<Buffer>
 fn frame_of(alloc: Global, number: u64) -> Option<Buffer>
     ensures { IfSome result (λ b. b ≡ record {
       frame = number;
-      limit = 16384;
+      limit = 65536;
       blocks = split_blocks number;
       is_sealed = true;
     }) }

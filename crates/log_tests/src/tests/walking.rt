@@ -158,7 +158,10 @@ fn tells(log: &Log, leaf: &Leaf, step: &Step) -> bool
             && log.base_of(1) == Some(*base),
         Step::Next(number) => log.next_frame() == Some(*number),
         Step::Oldest(number, last) => log.oldest() == Some((*number, *last)),
-        Step::Works => !log.is_failed() && log.pages() == 1 && log.m() == 4 && log.limit() == 16384,
+        Step::Works => !log.is_failed()
+            && log.pages() == 1
+            && log.m() == 4
+            && log.limit() == 65_536,
         _ => false,
     }
 }
@@ -249,13 +252,13 @@ impl Table for Walk {
 const A_SECOND_SEGMENT: &[Step] = &[
     Step::Roll,
     Step::Put(b'b', b'2', Some(LogFault::NoSegment)),
-    Step::Boxes(&[(1, 0, 76)], &[1]),
+    Step::Boxes(&[(1, 0, 77)], &[1]),
     Step::Add(true),
     Step::Put(b'b', b'2', None),
     Step::Read("1 : b=2 k=v;"),
     Step::NoPage(2),
     Step::NoPage(0),
-    Step::Boxes(&[(1, 0, 76), (2, 1, 68)], &[2]),
+    Step::Boxes(&[(1, 0, 77), (2, 1, 69)], &[2]),
     Step::Next(3),
     Step::Works,
 ];
@@ -275,10 +278,10 @@ const A_FAILED_APPEND: &[Step] = &[
     Step::Next(2),
     Step::Read("1 : k=v;"),
     Step::Put(b'b', b'2', Some(LogFault::Failed)),
-    Step::Ready(44, Some(LogFault::Failed)),
-    Step::ReadyCare(44, Some(LogFault::Failed)),
+    Step::Ready(45, Some(LogFault::Failed)),
+    Step::ReadyCare(45, Some(LogFault::Failed)),
     Step::GiveUp(false),
-    Step::Boxes(&[(1, 0, 86)], &[1]),
+    Step::Boxes(&[(1, 0, 87)], &[1]),
 ];
 
 // The page's older places are given up with their segments, whose boxes are dropped.
@@ -293,7 +296,7 @@ const GIVEN_UP: &[Step] = &[
     Step::Collect(0),
     Step::GiveUp(true),
     Step::Collect(1),
-    Step::Boxes(&[(2, 1, 68), (3, 2, 104)], &[3]),
+    Step::Boxes(&[(2, 1, 69), (3, 2, 107)], &[3]),
     Step::Dump(1, ""),
     // Its frame links back to the first segment.
     Step::Dump(2, THIRD_OLDER),
@@ -321,15 +324,18 @@ const MANY_FRAMES: &[Step] = &[
     Step::Read("1 : k=v;"),
 ];
 
-// The last of 124 puts at k in one frame, which fills its segment to the last byte.
+// The last of 127 puts at k in one frame, which fills its segment to the last byte.
 const FILLED: &[Step] = &[
-    Step::Boxes(&[(1, 0, 16_408)], &[1]),
+    Step::Boxes(&[(1, 0, 65_560)], &[1]),
     Step::Read(
-        "1 : k=wwwwwwwwwwwwwwwwwwwwwwwwwwwwwwwwwwwwwwwwwwwwwwww\
-        wwwwwwwwwwwwwwwwwwwwwwwwwwwwwwwwwwwwwwwwwwwwwwwww;",
+        "1 : k=wwwwwwwwwwwwwwwwwwwwwwwwwwwwwwwwwwwwwwwwwwwwwwwwwwwwwwwwwwwwwwwwwwwwwwwwwwwwww\
+        wwwwwwwwwwwwwwwwwwwwwwwwwwwwwwwwwwwwwwwwwwwwwwwwwwwwwwwwwwwwwwwwwwwwwwwwwwwwwwwwwwww\
+        wwwwwwwwwwwwwwwwwwwwwwwwwwwwwwwwwwwwwwwwwwwwwwwwwwwwwwwwwwwwwwwwwwwwwwwwwwwwwwwwwwww\
+        wwwwwwwwwwwwwwwwwwwwwwwwwwwwwwwwwwwwwwwwwwwwwwwwwwwwwwwwwwwwwwwwwwwwwwwwwwwwwwwwwwww\
+        wwwwwwwwwwww;",
     ),
-    Step::Ready(44, Some(LogFault::NoSegment)),
-    Step::ReadyCare(44, None),
+    Step::Ready(45, Some(LogFault::NoSegment)),
+    Step::ReadyCare(45, None),
 ];
 
 const TABLES: &[Walk] = &[

@@ -8,7 +8,7 @@ ghost use Rattle.bw_log.specs.Views.{IsSound as IsSoundBeside};
 use super::boxes::{Supply, recovered, supplied};
 use super::stores::telling::spells;
 use super::{Row, Try, all_went, shows, then, tried, wrong_row};
-use bw_care::{CleanFault, Cleaned, Recovered, clean, recover};
+use bw_care::{CleanFault, Cleaned, Recovered, Upgraded, clean, recover, upgrade};
 use bw_device::Segment;
 use bw_log::{Log, LogFault};
 use std::alloc::Global;
@@ -18,24 +18,42 @@ use test_marks::{begin, end};
 
 /// The oldest segment: the empty page 1, and k=1.
 const LOST: &str =
-    "42574c4f475347310100000000000000040000000040000046524d3101000000000000002000000002000000\
-    02010000000000000101000000010000000000000000000000010001016b0131";
+    "42574c4f475347320100000000000000040000000000010046524d3201000000000000002100000002000000\
+    02010000000000000101000000010000000000000000000000010001016b010031";
 
 /// The one behind it: j=2.
 const OLDER: &str =
-    "42574c4f475347310200000000000000040000000040000046524d3102000000000000001800000001000000\
-    0101000000010000000000000001000000010001016a0132";
+    "42574c4f475347320200000000000000040000000000010046524d3202000000000000001900000001000000\
+    0101000000010000000000000001000000010001016a010032";
 
 /// The newest: k=3.
 const NEWER: &str =
-    "42574c4f475347310300000000000000040000000040000046524d3103000000000000001800000001000000\
-    0101000000020000000000000000000000010001016b0133";
+    "42574c4f475347320300000000000000040000000000010046524d3203000000000000001900000001000000\
+    0101000000020000000000000000000000010001016b010033";
 
 /// The same behind a cleaning: the page is written once more.
 const CLEANED: &str =
+    "42574c4f475347320300000000000000040000000000010046524d3203000000000000001900000001000000\
+    0101000000020000000000000000000000010001016b01003346524d32040000000000000012000000010000\
+    000201000000000200016a010032016b010033";
+
+/// The three of them in format 1.
+const OLD_LOST: &str =
+    "42574c4f475347310100000000000000040000000040000046524d3101000000000000002000000002000000\
+    02010000000000000101000000010000000000000000000000010001016b0131";
+
+const OLD_OLDER: &str =
+    "42574c4f475347310200000000000000040000000040000046524d3102000000000000001800000001000000\
+    0101000000010000000000000001000000010001016a0132";
+
+const OLD_NEWER: &str =
     "42574c4f475347310300000000000000040000000040000046524d3103000000000000001800000001000000\
-    0101000000020000000000000000000000010001016b013346524d3104000000000000001000000001000000\
-    0201000000000200016a0132016b0133";
+    0101000000020000000000000000000000010001016b0133";
+
+/// What an upgrade writes: the page in a segment of its own.
+const UPGRADED: &str =
+    "42574c4f475347320400000000000000040000000000010046524d3204000000000000001200000001000000\
+    0201000000000200016a010032016b010033";
 
 /// One call over these three segments and a spare, or one of boxes alone.
 #[derive(Drop)]
@@ -43,6 +61,8 @@ enum Call {
     /// Recovery alone: the page is right.
     Recover,
     Clean,
+    /// Over the three segments in format 1.
+    Upgrade,
     ReadPage,
     Dump,
     /// A box more is a spare.
@@ -100,13 +120,45 @@ fn cleans(alloc: Global, log: &mut Log) -> Option<Try>
     match answer {
         Ok(cleaned) => {
             let holds = holds(alloc, log, 3, CLEANED);
-            let is_so = cleaned == TOLD && now == (2, Some((3, 2, 104)), 1);
+            let is_so = cleaned == TOLD && now == (2, Some((3, 2, 107)), 1);
             tried(true, refused, is_so & holds)
         }
         Err(fault) => {
             let holds = holds(alloc, log, 3, NEWER);
-            let is_left = now == (3, Some((3, 2, 68)), 1);
+            let is_left = now == (3, Some((3, 2, 69)), 1);
             tried(false, refused, is_left & holds & is_memory(fault))
+        }
+    }
+}
+
+/// What an upgrade of the three segments tells.
+const ALL_THREE: Upgraded = Upgraded {
+    segments: 3,
+    pages: 1,
+    frames: 1,
+};
+
+/// One try of an upgrade: where it is refused, no box is dropped, and nothing is written.
+fn upgrades(alloc: Global, log: &mut Log) -> Option<Try>
+    requires { IsSound log.old holding }
+    ensures { IsSound log.new holding }
+{
+    if log.next_frame() != Some(4) {
+        return None;
+    }
+    begin(alloc);
+    let answer = upgrade(alloc, log);
+    let refused = end(alloc);
+    let now = picture(log);
+    match answer {
+        Ok(upgraded) => {
+            let holds = holds(alloc, log, 4, UPGRADED);
+            let is_so = upgraded == ALL_THREE && now == (1, Some((4, 3, 62)), 0);
+            tried(true, refused, is_so & holds)
+        }
+        Err(fault) => {
+            let is_left = now == (3, Some((3, 2, 68)), 1);
+            tried(false, refused, is_left & is_memory(fault))
         }
     }
 }
@@ -154,7 +206,7 @@ fn readies(alloc: Global, log: &mut Log, takes_last: bool) -> Option<Try>
     begin(alloc);
     let answer = log.ready(16_000, takes_last);
     let refused = end(alloc);
-    let is_left = picture(log) == (3, Some((3, 2, 68)), 1) && log.next_frame() == Some(4);
+    let is_left = picture(log) == (3, Some((3, 2, 69)), 1) && log.next_frame() == Some(4);
     match answer {
         Ok(()) => tried(true, refused, is_left),
         Err(fault) => tried(false, refused, is_left && fault == LogFault::NoMemory),
@@ -215,6 +267,7 @@ fn tries(alloc: Global, log: &mut Log, call: &Call) -> Option<Try>
 {
     match call {
         Call::Clean => cleans(alloc, log),
+        Call::Upgrade => upgrades(alloc, log),
         Call::ReadPage => reads(alloc, log),
         Call::Dump => dumps(alloc, log),
         Call::Ready(takes_last) => readies(alloc, log, *takes_last),
@@ -261,10 +314,17 @@ fn worked(alloc: Global) -> Option<Vec<Box<dyn Segment>>> {
     Some(boxes)
 }
 
+/// The same in format 1.
+fn old(alloc: Global) -> Option<Vec<Box<dyn Segment>>> {
+    let texts = [OLD_LOST, OLD_OLDER, OLD_NEWER, ""];
+    let Supply { boxes, desk: _desk } = supplied(alloc, 4, &texts, None)?;
+    Some(boxes)
+}
+
 /// One try of a log of boxes, which come back in order where that is refused.
 fn makes(alloc: Global, boxes: Vec<Box<dyn Segment>>) -> (Option<Try>, Vec<Box<dyn Segment>>) {
     begin(alloc);
-    let made = Log::new(alloc, boxes, 4, 16_384);
+    let made = Log::new(alloc, boxes, 4, 65_536);
     let refused = end(alloc);
     match made {
         Ok(log) => {
@@ -300,6 +360,10 @@ impl Row for Call {
             Call::Recover => scanned(alloc),
             Call::New => is_made(alloc),
             Call::Add => with_one_more(alloc),
+            Call::Upgrade => {
+                let mut found = log_of(alloc, old(alloc)?)?;
+                asks(alloc, &mut found.log, self)
+            }
             _ => {
                 let mut found = log_of(alloc, worked(alloc)?)?;
                 asks(alloc, &mut found.log, self)
@@ -310,7 +374,7 @@ impl Row for Call {
     // The row of heads beside the pairs of a page.
     fn spares(&self) -> bool {
         match self {
-            Call::Recover | Call::Clean | Call::ReadPage => true,
+            Call::Recover | Call::Clean | Call::Upgrade | Call::ReadPage => true,
             _ => false,
         }
     }
@@ -319,6 +383,7 @@ impl Row for Call {
 const CALLS: &[Call] = &[
     Call::Recover,
     Call::Clean,
+    Call::Upgrade,
     Call::ReadPage,
     Call::Dump,
     Call::Add,

@@ -6,35 +6,37 @@ ghost use Rattle.bw_codec.specs.Grammar.{IsBlock};
 
 use super::{Row, Try, all_went, is, shows, then, tried, wrong_row};
 use bw_buffer::Buffer;
+use bw_codec::limits::{LATEST, MIN_FRAME};
 use bw_codec::{
     Block, Blocks, CodecFault, FrameRead, Head, Header, HeaderRead, Key, Leaf, Low, Ops, Outline,
-    Pairs, Place, Record, Value, block_length, encode_block, encode_frame_head, encode_header,
-    frame_cells, header_cells, is_before, read_block, read_frame, read_header,
+    Pair, Pairs, Place, Record, Value, block_length, encode_block, encode_frame_head,
+    encode_header, frame_cells, header_cells, is_before, read_block, read_frame, read_header,
 };
 use std::alloc::Global;
 use std::sync::Wait;
 use std::thread::Threads;
 use test_marks::{begin, begin_without, end};
 
-/// The header of the first segment with pages of four pairs and frames of 16,384 bytes.
-const HEADER: &[u8] = b"BWLOGSG1\x01\0\0\0\0\0\0\0\x04\0\0\0\0\x40\0\0";
+/// The header of the first segment with pages of four pairs and frames of 65,536 bytes.
+const HEADER: &[u8] = b"BWLOGSG2\x01\0\0\0\0\0\0\0\x04\0\0\0\0\0\x01\0";
 
-/// The head of the first frame, with 32 bytes of two blocks.
-const HEAD: &[u8] = b"FRM1\x01\0\0\0\0\0\0\0\x20\0\0\0\x02\0\0\0";
+/// The head of the first frame, with 33 bytes of two blocks.
+const HEAD: &[u8] = b"FRM2\x01\0\0\0\0\0\0\0\x21\0\0\0\x02\0\0\0";
 
 /// Page 1 as it begins.
 const BASE: &[u8] = b"\x02\x01\0\0\0\0\0\0";
 
 /// Page 1 with k=v.
-const DELTA: &[u8] = b"\x01\x01\0\0\0\x01\0\0\0\0\0\0\0\0\0\0\0\x01\0\x01\x01k\x01v";
+const DELTA: &[u8] = b"\x01\x01\0\0\0\x01\0\0\0\0\0\0\0\0\0\0\0\x01\0\x01\x01k\x01\0v";
 
 /// Page 2 from b on, out of page 1.
-const SPLIT: &[u8] = b"\x03\x01\0\0\0\x01\0\0\0\0\0\0\0\0\0\0\0\x01b\x02\0\0\0\x01\0\x01b\x012";
+const SPLIT: &[u8] = b"\x03\x01\0\0\0\x01\0\0\0\0\0\0\0\0\0\0\0\x01b\x02\0\0\0\x01\0\x01b\x01\02";
 
 const HEADING: Header = Header {
+    version: LATEST,
     number: 1,
     m: 4,
-    f: 16_384,
+    f: MIN_FRAME,
 };
 
 /// One call that may be refused.
@@ -67,7 +69,7 @@ fn is_left(out: &[u8], went: bool, bytes: &[u8]) -> bool {
 fn writes(alloc: Global, out: &mut Vec<u8>, head: bool) -> Option<Try> {
     begin(alloc);
     let went = if head {
-        encode_frame_head(1, 32, 2, out).is_ok()
+        encode_frame_head(1, 33, 2, out).is_ok()
     } else {
         encode_header(&HEADING, out).is_ok()
     };
@@ -89,7 +91,7 @@ fn is_written(alloc: Global, head: bool) -> Option<Try> {
 fn block_of(alloc: Global, bytes: &[u8]) -> Option<Block>
     ensures { IfSome result (IsBlock 32) }
 {
-    read_block(alloc, bytes, 32).ok()
+    read_block(alloc, bytes, LATEST, 32).ok()
 }
 
 /// One try of a block that is written.
@@ -123,7 +125,7 @@ fn spells(alloc: Global, bytes: &[u8], block: &Block) -> bool
 /// One try of a block that is read.
 fn reads_block(alloc: Global, bytes: &[u8]) -> Option<Try> {
     begin(alloc);
-    let answer = read_block(alloc, bytes, 32);
+    let answer = read_block(alloc, bytes, LATEST, 32);
     let refused = end(alloc);
     match answer {
         Ok(block) => tried(true, refused, spells(alloc, bytes, &block)),
@@ -150,7 +152,7 @@ fn reads_frame(alloc: Global) -> Option<Try> {
             tried(
                 true,
                 refused,
-                used == 52 && frame.blocks.as_slice().len() == 2,
+                used == 53 && frame.blocks.as_slice().len() == 2,
             )
         }
         Ok(FrameRead::Tail) => None,
@@ -158,15 +160,15 @@ fn reads_frame(alloc: Global) -> Option<Try> {
     }
 }
 
+fn pair(alloc: Global, key: &[u8], value: &[u8]) -> Option<Pair> {
+    Pair::of(alloc, &Key::new(key).ok()?, &Value::new(value).ok()?).ok()
+}
+
 /// Page 7 from `a` on, with a=1 and c=3.
 fn leaf(alloc: Global) -> Option<Leaf> {
     let mut pairs = Vec::new(alloc);
-    pairs
-        .push((Key::new(b"a").ok()?, Value::new(b"1").ok()?))
-        .ok()?;
-    pairs
-        .push((Key::new(b"c").ok()?, Value::new(b"3").ok()?))
-        .ok()?;
+    pairs.push(pair(alloc, b"a", b"1")?).ok()?;
+    pairs.push(pair(alloc, b"c", b"3")?).ok()?;
     Some(Leaf {
         page: 7,
         low: Low::of(Vec::from_slice(alloc, b"a").ok()?),
@@ -178,10 +180,10 @@ fn leaf(alloc: Global) -> Option<Leaf> {
 fn are_pairs(pairs: &Pairs) -> bool {
     match pairs.as_slice() {
         [first, second] => {
-            is(first.0.as_slice(), b"a")
-                && is(first.1.as_slice(), b"1")
-                && is(second.0.as_slice(), b"c")
-                && is(second.1.as_slice(), b"3")
+            is(first.key(), b"a")
+                && is(first.value(), b"1")
+                && is(second.key(), b"c")
+                && is(second.value(), b"3")
         }
         _ => false,
     }
@@ -231,7 +233,7 @@ fn inserts(alloc: Global, leaf: &mut Leaf) -> Option<Try> {
         return None;
     }
     begin(alloc);
-    let went = leaf.pairs.insert(1, key, value).is_ok();
+    let went = leaf.pairs.insert(1, &key, &value).is_ok();
     let refused = end(alloc);
     let is_left = if went {
         shows(leaf, b"a: a=1 b=2 c=3")
@@ -252,13 +254,13 @@ fn is_inserted(alloc: Global) -> Option<Try> {
 
 fn makes_buffer(alloc: Global) -> Option<Try> {
     begin(alloc);
-    let made = Buffer::new(alloc, 5, 16_384);
+    let made = Buffer::new(alloc, 5, MIN_FRAME);
     let refused = end(alloc);
     match made {
         Ok(buffer) => tried(
             true,
             refused,
-            buffer.frame() == 5 && buffer.room() == 16_364,
+            buffer.frame() == 5 && buffer.room() == 65_516,
         ),
         Err(_) => tried(false, refused, true),
     }

@@ -27,7 +27,7 @@ const CONFIG: &Config = &Config {
     places: 2,
     readers: 1,
     m: 4,
-    f: 16384,
+    f: 65_536,
 };
 
 /// For each group.

@@ -3,7 +3,7 @@
 ghost use Rattle.std.specs.Prelude.{◌≡◌, ◌∷◌, [], IfOk, IfSome};
 
 use super::{Row, Try, all_went, put, shows, then, tried, wrong_row};
-use bw_codec::{Block, Key, Leaf, Low, Ops, Pairs, Place, Record, Value};
+use bw_codec::{Block, Key, Leaf, Low, Ops, Pair, Pairs, Place, Record, Value};
 use bw_page::{
     Applied, ApplyError, Chain, Draft, Leaves, Start, change, change_all, cut_in_two, empty_page,
     read_block, read_blocks,
@@ -99,7 +99,7 @@ fn leaf_of(
     };
     let from = Vec::from_slice(alloc, low)?;
     let mut pairs = Vec::new(alloc);
-    pairs.push((key, value))?;
+    pairs.push(Pair::of(alloc, &key, &value)?)?;
     Ok(Leaf {
         page,
         low: Low::of(from),

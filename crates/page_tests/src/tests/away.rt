@@ -3,7 +3,7 @@
 ghost use Rattle.std.specs.Prelude.{◌≡◌, ◌∷◌, [], IfOk};
 
 use super::{all_went, is_shown, leads, put};
-use bw_codec::{Key, Leaf, Low, Pairs, Value};
+use bw_codec::{Key, Leaf, Low, Pair, Pairs, Value};
 use bw_page::{Applied, Leaves};
 use std::alloc::{AllocError, Global};
 
@@ -23,7 +23,7 @@ pub(super) fn leaf_of(
     };
     let from = Vec::from_slice(alloc, low)?;
     let mut pairs = Vec::new(alloc);
-    pairs.push((key, value))?;
+    pairs.push(Pair::of(alloc, &key, &value)?)?;
     Ok(Leaf {
         page,
         low: Low::of(from),

@@ -79,9 +79,9 @@ fn is_leaf(leaf: &Leaf, text: &str) -> bool {
         &[b'0' + (leaf.page % 10) as u8, b' '],
     );
     rest = behind(behind(rest, leaf.low.as_slice()), b":");
-    for (key, value) in leaf.pairs.as_slice() {
-        rest = behind(behind(rest, b" "), key.as_slice());
-        rest = behind(behind(rest, b"="), value.as_slice());
+    for pair in leaf.pairs.as_slice() {
+        rest = behind(behind(rest, b" "), pair.key());
+        rest = behind(behind(rest, b"="), pair.value());
     }
     is_at_end(rest)
 }

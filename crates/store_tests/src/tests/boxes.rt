@@ -3,8 +3,8 @@
 use bw_device::{DeadSegment, Desk, FuseSegment, MemSegment, Segment};
 use std::alloc::Global;
 
-/// The least capacity of a box for frames of 16,384 bytes.
-pub(super) const LEAST: u64 = 16408;
+/// The least capacity of a box for frames of 65,536 bytes.
+pub(super) const LEAST: u64 = 65_560;
 
 /// Where boxes of one capacity come from.
 #[derive(Drop)]

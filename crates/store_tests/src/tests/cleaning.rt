@@ -27,13 +27,13 @@ const THREE_SEGMENTS: &[Step] = &[
     Clean(1, 0, 1, 1),
     Page(1, "1 : j=2 k=3"),
     Cuts(&[1, 2, 3, 3], 4),
-    Live(0, 2, 1, 68),
-    Live(1, 3, 2, 104),
+    Live(0, 2, 1, 69),
+    Live(1, 3, 2, 107),
     Stands(2, 1),
     Bytes(2, THIRD_OLDER),
     Bytes(3, THIRD_NEWER),
     Clean(2, 1, 0, 0),
-    Live(0, 3, 2, 104),
+    Live(0, 3, 2, 107),
     Stands(1, 1),
     Cuts(&[1, 2, 3, 3], 4),
     Uncleaned(StoreFault::NothingOld),
@@ -52,7 +52,7 @@ const NOTHING_OLD: &[Step] = &[
     Turn(9, 1),
     Uncleaned(StoreFault::NothingOld),
     Cuts(&[1], 1),
-    Live(0, 1, 0, 76),
+    Live(0, 1, 0, 77),
     Flush(Some(2)),
     Cuts(&[1, 2], 2),
 ];
@@ -72,8 +72,8 @@ const THREE_BOXES: &[Step] = &[
     Refused(StoreFault::NoSegment),
     Stands(2, 1),
     Clean(1, 0, 1, 1),
-    Live(0, 2, 1, 68),
-    Live(1, 3, 2, 108),
+    Live(0, 2, 1, 69),
+    Live(1, 3, 2, 112),
     Stands(2, 0),
     Cuts(&[1, 2, 3, 3], 4),
     Page(1, "1 : a=1 b=2 c=3"),
@@ -117,8 +117,8 @@ fn the_oldest_segment_is_given_up(rt: HostRuntime) {
     all_went(&rt, first_wrong(&rt, TABLES));
 }
 
-/// A header, a frame and the read of a page pass; the cleaner's frame has 36 bytes.
-const FAILS: &[(Stand, &[Step])] = &[(Stand::Fuse(1, 3, (0, 36)), FAILED)];
+/// A header, a frame and the read of a page pass; the cleaner's frame has 38 bytes.
+const FAILS: &[(Stand, &[Step])] = &[(Stand::Fuse(1, 3, (0, 38)), FAILED)];
 
 #[test]
 fn a_failed_append_of_the_cleaner_drops_no_box(rt: HostRuntime) {

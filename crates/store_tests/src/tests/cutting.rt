@@ -40,8 +40,8 @@ const AGAIN: &[Step] = &[
     Put(0, b"j", b"2"),
     Turn(8, 1),
     Flush(Some(2)),
-    Live(0, 1, 0, 106),
-    Live(1, 2, 1, 68),
+    Live(0, 1, 0, 107),
+    Live(1, 2, 1, 69),
     Cuts(&[1], 1),
 ];
 
@@ -149,9 +149,9 @@ fn cut_at(
 }
 
 fn is_told(recovered: &Recovered, length: usize) -> bool {
-    let last = if length < 68 { 2 } else { 3 };
+    let last = if length < 69 { 2 } else { 3 };
     let dropped = if (1..24).contains(&length) { 1 } else { 0 };
-    let tail = if (24..68).contains(&length) {
+    let tail = if (24..69).contains(&length) {
         length as u64 - 24
     } else {
         0
@@ -212,7 +212,7 @@ fn cut_shows<R: AllocGlobal + Wait>(rt: &R, bytes: &ThreeSegments, length: usize
     if !is_told(&recovered, length) {
         return false;
     }
-    let steps = if length < 68 { OLDER } else { NEWER };
+    let steps = if length < 69 { OLDER } else { NEWER };
     shows(rt, recovered, &mut supply, steps).is_none()
 }
 
@@ -221,7 +221,7 @@ fn each_cut<R: AllocGlobal + Wait>(rt: &R) -> Option<usize> {
     let Some(bytes) = three(rt) else {
         return Some(1000);
     };
-    for length in 0..=68 {
+    for length in 0..=69 {
         if !cut_shows(rt, &bytes, length) {
             return Some(length);
         }
@@ -232,7 +232,7 @@ fn each_cut<R: AllocGlobal + Wait>(rt: &R) -> Option<usize> {
 #[test]
 fn nothing_is_found_where_no_frame_is_whole(rt: HostRuntime) {
     holds(&rt, finds_nothing(&rt, (0, 10)));
-    holds(&rt, finds_nothing(&rt, (1, 51)));
+    holds(&rt, finds_nothing(&rt, (1, 52)));
 }
 
 #[test]

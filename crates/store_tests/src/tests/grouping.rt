@@ -55,26 +55,26 @@ const ONE_PLACE: &[Step] = &[
     Put(0, b"c", b"3"),
 ];
 
-/// 50 and 57 bytes of a value.
-const SHORT: &[u8] = &[b'v'; 50];
+/// 172 and 179 bytes of a value.
+const SHORT: &[u8] = &[b'v'; 172];
 
-const LONG: &[u8] = &[b'v'; 57];
+const LONG: &[u8] = &[b'v'; 179];
 
 /// The second frame has room for the first record of the group, and not for the second: both stand in
-/// the third. (A record is 4 bytes and its value; 123 of 132 bytes and a head of 19 leave 109.)
+/// the third. (A record is 5 bytes and its value; 126 of 517 bytes and a head of 19 leave 355.)
 const ROOM_FOR_ONE: &[Step] = &[
     Put(0, b"k", b"v"),
     Turn(1, 1),
     Flush(Some(1)),
-    Same(0, b"k", 123, 128),
-    Turn(200, 123),
+    Same(0, b"k", 126, 512),
+    Turn(200, 126),
     Group(0, &[Set(b"k", SHORT), Set(b"k", LONG)]),
     Turn(1, 2),
-    Cuts(&[1, 124], 2),
+    Cuts(&[1, 127], 2),
     Flush(Some(3)),
-    Cuts(&[1, 124, 126], 3),
-    Live(0, 1, 0, 16351),
-    Live(1, 2, 1, 178),
+    Cuts(&[1, 127, 129], 3),
+    Live(0, 1, 0, 65_258),
+    Live(1, 2, 1, 424),
     Get(b"k", LONG),
 ];
 
@@ -83,14 +83,14 @@ const ROOM_FOR_BOTH: &[Step] = &[
     Put(0, b"k", b"v"),
     Turn(1, 1),
     Flush(Some(1)),
-    Same(0, b"k", 123, 128),
+    Same(0, b"k", 126, 512),
     Group(0, &[Set(b"k", SHORT), Set(b"k", SHORT)]),
-    Turn(200, 125),
+    Turn(200, 128),
     Cuts(&[1], 1),
     Flush(Some(2)),
-    Cuts(&[1, 126], 2),
-    Live(0, 1, 0, 76),
-    Live(1, 2, 1, 16407),
+    Cuts(&[1, 129], 2),
+    Live(0, 1, 0, 77),
+    Live(1, 2, 1, 65_559),
 ];
 
 /// A page of four pairs.
@@ -242,9 +242,9 @@ const TWO_FRAMES: &[Step] = &[
 ];
 
 /// Where the second frame begins, and where it ends.
-const FIRST: usize = 91;
+const FIRST: usize = 95;
 
-const WHOLE: usize = 196;
+const WHOLE: usize = 205;
 
 /// No part of the group.
 const BEFORE: &[Step] = &[Page(1, "1 : a=1 b=2 c=3 d=4"), Page(2, "")];

@@ -22,12 +22,12 @@ const LARGE: Row = Row {
     capacity: 25_165_824,
 };
 
-/// A record with the longest value has 135 bytes of log behind others of its page, so 16 rounds of
-/// 8,000 make 17 million.
-const ROUNDS: u64 = 16;
+/// A record with the longest value has 520 bytes of log behind others of its page, so 5 rounds of
+/// 8,000 make 20 million.
+const ROUNDS: u64 = 5;
 
 /// The longest value.
-const LONG: [u8; 128] = [b'v'; 128];
+const LONG: [u8; 512] = [b'v'; 512];
 
 // Whether a writer's feed takes 4,000 records of its first four keys, each with the longest value. Few
 // pages, since each is read back through all frames that touch it.

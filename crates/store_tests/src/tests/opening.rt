@@ -21,7 +21,7 @@ pub(super) fn config_of(writers: usize, places: usize, readers: usize) -> Config
         places,
         readers,
         m: 4,
-        f: 16384,
+        f: 65_536,
     }
 }
 
@@ -99,19 +99,19 @@ fn is_refused<R: AllocGlobal + Wait>(rt: &R, config: &Config) -> bool {
     }
 }
 
-// Writers, places, readers, pairs of a page and bytes of a frame; boxes have room for 16,384.
+// Writers, places, readers, pairs of a page and bytes of a frame; boxes have room for 65,536.
 const BAD: &[(usize, usize, usize, u16, u32)] = &[
-    (0, 8, 1, 4, 16384),
-    (65, 8, 1, 4, 16384),
-    (1, 0, 1, 4, 16384),
-    (1, 4097, 1, 4, 16384),
-    (1, 8, 0, 4, 16384),
-    (1, 8, 65, 4, 16384),
-    (1, 8, 1, 3, 16384),
-    (1, 8, 1, 33, 16384),
-    (1, 8, 1, 4, 16383),
-    (1, 8, 1, 4, 65537),
-    (1, 8, 1, 4, 16385),
+    (0, 8, 1, 4, 65_536),
+    (65, 8, 1, 4, 65_536),
+    (1, 0, 1, 4, 65_536),
+    (1, 4097, 1, 4, 65_536),
+    (1, 8, 0, 4, 65_536),
+    (1, 8, 65, 4, 65_536),
+    (1, 8, 1, 3, 65_536),
+    (1, 8, 1, 33, 65_536),
+    (1, 8, 1, 4, 65_535),
+    (1, 8, 1, 4, 262_145),
+    (1, 8, 1, 4, 65_537),
 ];
 
 // The first of them that is not refused.

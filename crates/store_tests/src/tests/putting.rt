@@ -119,7 +119,7 @@ pub(super) fn are_same(
     requires { writer < length feeds.old.items }
     ensures { map ring_of_feed feeds.new.items ≡ map ring_of_feed feeds.old.items }
 {
-    let value = [b'v'; 128];
+    let value = [b'v'; 512];
     let Some(value) = value.get(..bytes) else {
         return false;
     };

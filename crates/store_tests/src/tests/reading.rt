@@ -10,12 +10,12 @@ use bw_store::{Store, StoreFault};
 // How many pairs a leaf has, if each is the put of a number.
 fn count_in(leaf: &Leaf) -> Option<u32> {
     let mut count: u32 = 0;
-    for (key, value) in leaf.pairs.as_slice() {
-        let [writer, _, middle, low] = key.as_slice() else {
+    for pair in leaf.pairs.as_slice() {
+        let [writer, _, middle, low] = pair.key() else {
             return None;
         };
         let number = u32::from(*middle) * 256 + u32::from(*low);
-        if numbered(*writer, number) != Record::Put(key.copy(), value.copy()) {
+        if numbered(*writer, number) != Record::Put(pair.to_key(), pair.to_value()) {
             return None;
         }
         count = count.saturating_add(1);

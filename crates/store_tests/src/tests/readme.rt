@@ -58,7 +58,7 @@ fn is_there<R: AllocGlobal + Threads + Wait>(rt: &R) -> Result<Option<Value>, Fa
         places: 8,
         readers: 1,
         m: 4,
-        f: 16384,
+        f: 65_536,
     };
     let Ok((mut store, mut feeds)) = Store::open(rt, alloc, &config, boxes) else {
         return Ok(None); // the boxes are in the refusal

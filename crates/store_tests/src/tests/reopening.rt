@@ -21,7 +21,7 @@ const AFTER_THE_FIRST: &[Step] = &[
     Cuts(&[1], 1),
     History("0 put j 2;"),
     Page(1, "1 : j=2 k=v"),
-    Live(1, 2, 1, 68),
+    Live(1, 2, 1, 69),
     Bytes(2, THIRD_OLDER),
 ];
 

@@ -12,8 +12,8 @@ use std::alloc::Global;
 
 /// The first worked segment, with the greatest number.
 const LAST_SEGMENT: &str =
-    "42574c4f47534731ffffffffffffffff040000000040000046524d3101000000000000002000000002000000\
-    02010000000000000101000000010000000000000000000000010001016b0176";
+    "42574c4f47534732ffffffffffffffff040000000000010046524d3201000000000000002100000002000000\
+    02010000000000000101000000010000000000000000000000010001016b010076";
 
 /// No segment follows, and the roster stays.
 const NO_SEGMENT_LEFT: &[Step] = &[
@@ -23,7 +23,7 @@ const NO_SEGMENT_LEFT: &[Step] = &[
     Refused(StoreFault::Spent),
     Refused(StoreFault::Spent),
     Stands(1, 2),
-    Live(0, u64::MAX, 0, 76),
+    Live(0, u64::MAX, 0, 77),
     Page(1, "1 : j=2 k=v"),
 ];
 

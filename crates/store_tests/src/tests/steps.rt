@@ -11,7 +11,7 @@ use super::putting::{Op, are_put, are_same, is_grouped, is_put, record};
 use super::reading::reads;
 use bw_device::Segment;
 use bw_ring::Feed;
-use bw_store::{Cleaned, Store, StoreFault, TurnFault};
+use bw_store::{Cleaned, Counters, Store, StoreFault, TurnFault, Upgraded};
 use std::alloc::Global;
 use std::sync::Wait;
 
@@ -43,6 +43,11 @@ pub(super) enum Step {
     /// The segment given up, its lease, how many pages, in how many frames.
     Clean(u64, u32, usize, u64),
     Uncleaned(StoreFault),
+    /// How many segments were given up, of how many pages, in how many frames.
+    Upgrade(u32, usize, u64),
+    NotUpgraded(StoreFault),
+    /// These pages are written again, in so many frames.
+    Rewrite(&'static [u32], Result<u64, StoreFault>),
     /// A page; no text where there is none.
     Page(u32, &'static str),
     /// A page is not read.
@@ -65,6 +70,12 @@ pub(super) enum Step {
     Receipt(u16, u64),
     /// How many pairs there are.
     Count(u64),
+    /// What was counted.
+    Counts(Counters),
+    /// How many bytes of a live segment are still needed, from 0.
+    Needed(u32, Option<u64>),
+    /// Whether it pays to clean.
+    Pays(bool),
     /// How many segments are live, and how many spares stand.
     Stands(u32, u32),
     Roll,
@@ -73,9 +84,9 @@ pub(super) enum Step {
 }
 
 use Step::{
-    Add, Bytes, Clean, Count, Cuts, Del, Evict, Flush, Forget, Full, FullGroup, Get, Group,
-    History, Live, Page, Put, Puts, Reads, Receipt, Refused, Roll, Same, Settle, Stands, Stops,
-    Turn, Uncleaned, Unread, Unsettled,
+    Add, Bytes, Clean, Count, Counts, Cuts, Del, Evict, Flush, Forget, Full, FullGroup, Get, Group,
+    History, Live, Needed, NotUpgraded, Page, Pays, Put, Puts, Reads, Receipt, Refused, Rewrite,
+    Roll, Same, Settle, Stands, Stops, Turn, Uncleaned, Unread, Unsettled, Upgrade,
 };
 
 fn are_cuts(cuts: &[u64], told: &[u64]) -> bool {
@@ -167,6 +178,9 @@ fn answers(alloc: Global, store: &mut Store, step: &Step) -> bool
         Forget(count, all) => (store.forget() == *count) & (store.forgotten() == *all),
         Receipt(writer, told) => store.durable_of(*writer) == *told,
         Count(told) => store.count() == Ok(*told),
+        Counts(told) => store.counters() == *told,
+        Needed(at, told) => store.needed(*at) == *told,
+        Pays(told) => store.pays() == *told,
         _ => false,
     }
 }
@@ -198,6 +212,16 @@ fn changes<R: Wait>(rt: &R, store: &mut Store, step: &Step) -> bool
             store.clean(rt) == Ok(told)
         }
         Uncleaned(fault) => store.clean(rt) == Err(*fault),
+        Upgrade(segments, pages, frames) => {
+            let told = Upgraded {
+                segments: *segments,
+                pages: *pages,
+                frames: *frames,
+            };
+            store.upgrade(rt) == Ok(told)
+        }
+        NotUpgraded(fault) => store.upgrade(rt) == Err(*fault),
+        Rewrite(pages, told) => store.rewrite(rt, *pages) == *told,
         _ => {
             store.roll();
             true
@@ -220,6 +244,7 @@ pub(super) fn goes<R: Wait>(rt: &R, alloc: Global, opened: &mut Held, step: &Ste
         Turn(..) | Stops(..) | Flush(..) | Refused(..) | Clean(..) | Uncleaned(..) | Roll => {
             changes(rt, &mut opened.store, step)
         }
+        Upgrade(..) | NotUpgraded(..) | Rewrite(..) => changes(rt, &mut opened.store, step),
         Settle(count) => opened.store.settle(rt, &mut opened.feeds) == Ok(*count),
         Unsettled(fault) => opened.store.settle(rt, &mut opened.feeds) == Err(*fault),
         Add => is_added(&mut opened.store, &mut opened.more),

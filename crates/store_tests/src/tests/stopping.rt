@@ -32,7 +32,7 @@ const LAST: &[Step] = &[Page(1, "1 : j=w k=v"), Flush(None)];
 /// The second call of the first box fails, with all bytes kept.
 const ROW: Row = Row {
     boxes: 0,
-    fuse: Some((1, 52)),
+    fuse: Some((1, 53)),
     behind: 3,
     more: 0,
     capacity: LEAST,

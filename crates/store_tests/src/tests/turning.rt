@@ -17,7 +17,7 @@ const FIRST: &[Step] = &[
     Flush(None),
     Cuts(&[1], 1),
     Stands(1, 3),
-    Live(0, 1, 0, 76),
+    Live(0, 1, 0, 77),
     Bytes(1, FIRST_BYTES),
     Page(1, "1 : k=v"),
     Flush(None),
@@ -45,7 +45,7 @@ const SECOND: &[Step] = &[
     Page(2, "2 c: c=3 d=4 e=5"),
     Page(3, ""),
     Page(0, ""),
-    Live(0, 1, 0, 289),
+    Live(0, 1, 0, 297),
     Stands(1, 3),
     Put(0, b"bz", b"6"),
     Put(0, b"c", b"7"),
@@ -64,7 +64,7 @@ const JOINED: &[Step] = &[
     Turn(9, 2),
     Flush(Some(1)),
     Bytes(1, JOINED_BYTES),
-    Live(0, 1, 0, 81),
+    Live(0, 1, 0, 83),
     Page(1, "1 : a=1 b=2"),
 ];
 
@@ -77,7 +77,7 @@ const FIVE: &[Step] = &[
     Put(0, b"e", b"5"),
     Turn(9, 5),
     Flush(Some(1)),
-    Live(0, 1, 0, 133),
+    Live(0, 1, 0, 141),
     Stands(1, 3),
     Page(1, "1 : a=1 b=2"),
     Page(2, "2 c: c=3 d=4 e=5"),
@@ -94,7 +94,7 @@ const SIX: &[Step] = &[
     Turn(9, 6),
     Flush(Some(1)),
     Bytes(1, FOURTH_BYTES),
-    Live(0, 1, 0, 158),
+    Live(0, 1, 0, 167),
     Page(1, "1 : a=1 b=2 bz=6"),
     Page(2, "2 c: c=3 d=4 e=5"),
 ];
@@ -198,8 +198,8 @@ fn turns_and_flushes_go_as_told(rt: HostRuntime) {
 
 /// The append of a header fails, or that of a frame.
 const FAILS: &[(Stand, &[Step])] = &[
-    (Stand::Fuse(0, 0, (0, 53)), FAILED),
-    (Stand::Fuse(0, 1, (0, 53)), FAILED),
+    (Stand::Fuse(0, 0, (0, 54)), FAILED),
+    (Stand::Fuse(0, 1, (0, 54)), FAILED),
 ];
 
 #[test]

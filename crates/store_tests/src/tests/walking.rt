@@ -119,7 +119,7 @@ fn over_fuses<R: AllocGlobal + Wait>(
             boxes,
             fuse: Some((calls, keep)),
             behind: 1,
-            more: 0,
+            more: 1,
             capacity: LEAST,
         };
         if let Some(step) = within(rt, &row, 8, steps) {
@@ -170,7 +170,8 @@ pub(super) enum Stand {
     /// So many boxes, one more in reserve, and rings of so many places.
     Boxes(u32, usize),
     /// So many boxes, then one that fails after so many calls and keeps, one time after the other,
-    /// each of these numbers of bytes of an append (the least and the greatest), and a spare.
+    /// each of these numbers of bytes of an append (the least and the greatest), a spare, and one
+    /// more in reserve.
     Fuse(u32, u64, (u64, u64)),
     /// A box for each of these texts in hex, in any order, and two spares: the store goes on from
     /// what is recovered.

@@ -1,4 +1,5 @@
 use Rattle.std.proofs.Common.{◌≡◌, ◌∙◌, ◌+◌, ◌-◌, ◌<◌, ◌++◌, ◌∷◌, ℕ, zero, suc, List, [], length, set, get_or, refl, ap, arith, length-append}
+use Rattle.bw_codec.specs.Version.{latest}
 use Rattle.bw_codec.specs.Grammar.{head_bytes}
 use Rattle.bw_codec.proofs.FrontFormat.{length-head}
 use Rattle.bw_buffer.specs.Rows.{parts, front_of}
@@ -56,7 +57,7 @@ loop-row-preserved c =
       bytes = bytes_next (head_bytes c.args.number (c.args.size - 20) (length c.args.rows.now)) c.loop-row.bytes.items c.push_row.new.bytes.items c.args.rows.now c.loop-row.row-index row
           c.loop-row-test.true is c.loop-row.invariant.bytes c.push_row.ensures.bytes.items;
       spots = spots_next (head_bytes c.args.number (c.args.size - 20) (length c.args.rows.now)) c.loop-row.bytes.items c.loop-row.spots.items c.push_row.new.spots.items c.args.rows.now c.loop-row.row-index row
-          (length-head c.args.number (c.args.size - 20) (length c.args.rows.now)) c.loop-row-test.true is c.loop-row.invariant.bytes c.loop-row.invariant.spots c.push_row.ensures.spots.items;
+          (length-head latest c.args.number (c.args.size - 20) (length c.args.rows.now)) c.loop-row-test.true is c.loop-row.invariant.bytes c.loop-row.invariant.spots c.push_row.ensures.spots.items;
       bytes_len = (let was = c.loop-row.invariant.bytes_len in let now = c.push_row.ensures.bytes.len in
           omega (arith, ap (λ (l : List ℕ). length l) c.push_row.ensures.bytes.items, length-append c.loop-row.bytes.items more));
       bytes_room = (let was = c.loop-row.invariant.bytes_room in let now = c.push_row.ensures.bytes.capacity in omega arith);
@@ -68,7 +69,7 @@ loop-row-preserved c =
 pub split_at-requires : goal.split_at-requires
 split_at-requires c =
     let step = piece_step (head_bytes c.args.number (c.args.size - 20) (length c.args.rows.now)) c.args.rows.now c.args.pieces.now c.args.arena.now c.loop-piece.piece-index
-    (piece_of c.args.pieces.now c.loop-piece.piece-index) c.loop-piece.rest.now c.loop-piece.bytes.items c.loop-piece.spots.items (length-head c.args.number (c.args.size - 20) (length c.args.rows.now))
+    (piece_of c.args.pieces.now c.loop-piece.piece-index) c.loop-piece.rest.now c.loop-piece.bytes.items c.loop-piece.spots.items (length-head latest c.args.number (c.args.size - 20) (length c.args.rows.now))
     c.requires.measured c.requires.within c.requires.cut c.loop-piece-test.true (piece_is c.args.pieces.now c.loop-piece.piece-index c.loop-piece-test.true)
     c.loop-piece.invariant.rest c.loop-piece.invariant.bytes c.loop-piece.invariant.spots in
     step.inside
@@ -76,7 +77,7 @@ split_at-requires c =
 pub put_piece-requires-clause-spot : goal.put_piece-requires-clause-spot
 put_piece-requires-clause-spot c =
     let step = piece_step (head_bytes c.args.number (c.args.size - 20) (length c.args.rows.now)) c.args.rows.now c.args.pieces.now c.args.arena.now c.loop-piece.piece-index
-    (piece_of c.args.pieces.now c.loop-piece.piece-index) c.loop-piece.rest.now c.loop-piece.bytes.items c.loop-piece.spots.items (length-head c.args.number (c.args.size - 20) (length c.args.rows.now))
+    (piece_of c.args.pieces.now c.loop-piece.piece-index) c.loop-piece.rest.now c.loop-piece.bytes.items c.loop-piece.spots.items (length-head latest c.args.number (c.args.size - 20) (length c.args.rows.now))
     c.requires.measured c.requires.within c.requires.cut c.loop-piece-test.true (piece_is c.args.pieces.now c.loop-piece.piece-index c.loop-piece-test.true)
     c.loop-piece.invariant.rest c.loop-piece.invariant.bytes c.loop-piece.invariant.spots in
     step.spot
@@ -84,7 +85,7 @@ put_piece-requires-clause-spot c =
 pub put_piece-requires-clause-within : goal.put_piece-requires-clause-within
 put_piece-requires-clause-within c =
     let step = piece_step (head_bytes c.args.number (c.args.size - 20) (length c.args.rows.now)) c.args.rows.now c.args.pieces.now c.args.arena.now c.loop-piece.piece-index
-    (piece_of c.args.pieces.now c.loop-piece.piece-index) c.loop-piece.rest.now c.loop-piece.bytes.items c.loop-piece.spots.items (length-head c.args.number (c.args.size - 20) (length c.args.rows.now))
+    (piece_of c.args.pieces.now c.loop-piece.piece-index) c.loop-piece.rest.now c.loop-piece.bytes.items c.loop-piece.spots.items (length-head latest c.args.number (c.args.size - 20) (length c.args.rows.now))
     c.requires.measured c.requires.within c.requires.cut c.loop-piece-test.true (piece_is c.args.pieces.now c.loop-piece.piece-index c.loop-piece-test.true)
     c.loop-piece.invariant.rest c.loop-piece.invariant.bytes c.loop-piece.invariant.spots in
     let within = step.within in
@@ -93,7 +94,7 @@ put_piece-requires-clause-within c =
 pub put_piece-requires-clause-short : goal.put_piece-requires-clause-short
 put_piece-requires-clause-short c =
     let step = piece_step (head_bytes c.args.number (c.args.size - 20) (length c.args.rows.now)) c.args.rows.now c.args.pieces.now c.args.arena.now c.loop-piece.piece-index
-    (piece_of c.args.pieces.now c.loop-piece.piece-index) c.loop-piece.rest.now c.loop-piece.bytes.items c.loop-piece.spots.items (length-head c.args.number (c.args.size - 20) (length c.args.rows.now))
+    (piece_of c.args.pieces.now c.loop-piece.piece-index) c.loop-piece.rest.now c.loop-piece.bytes.items c.loop-piece.spots.items (length-head latest c.args.number (c.args.size - 20) (length c.args.rows.now))
     c.requires.measured c.requires.within c.requires.cut c.loop-piece-test.true (piece_is c.args.pieces.now c.loop-piece.piece-index c.loop-piece-test.true)
     c.loop-piece.invariant.rest c.loop-piece.invariant.bytes c.loop-piece.invariant.spots in
     let size = step.size in
@@ -104,7 +105,7 @@ put_piece-requires-clause-short c =
 pub loop-piece-preserved : goal.loop-piece-preserved
 loop-piece-preserved c =
     let step = piece_step (head_bytes c.args.number (c.args.size - 20) (length c.args.rows.now)) c.args.rows.now c.args.pieces.now c.args.arena.now c.loop-piece.piece-index
-    (piece_of c.args.pieces.now c.loop-piece.piece-index) c.loop-piece.rest.now c.loop-piece.bytes.items c.loop-piece.spots.items (length-head c.args.number (c.args.size - 20) (length c.args.rows.now))
+    (piece_of c.args.pieces.now c.loop-piece.piece-index) c.loop-piece.rest.now c.loop-piece.bytes.items c.loop-piece.spots.items (length-head latest c.args.number (c.args.size - 20) (length c.args.rows.now))
     c.requires.measured c.requires.within c.requires.cut c.loop-piece-test.true (piece_is c.args.pieces.now c.loop-piece.piece-index c.loop-piece-test.true)
     c.loop-piece.invariant.rest c.loop-piece.invariant.bytes c.loop-piece.invariant.spots in
     let block = (piece_of c.args.pieces.now c.loop-piece.piece-index).block in

@@ -4,18 +4,12 @@ use Rattle.bw_care.specs.Ahead.{Says}
 use Rattle.bw_care.proofs.SpelledAhead.{holds_oldest}
 use Rattle.bw_care.proofs.ahead.spell_rest.Goals as goal
 
-pub pages_in-lines-requires-clause-long : goal.pages_in-lines-requires-clause-long
-pages_in-lines-requires-clause-long g c =
-    (holds_oldest _ c.m.result c.limit.result c.args.bytes.now.items c.deref.result.now c.requires.sound c.requires.some c.requires.oldest c.deref.ensures.value
-    c.m.ensures c.limit.ensures).long
-
-pub pages_in-lines-requires-clause-lawful : goal.pages_in-lines-requires-clause-lawful
-pages_in-lines-requires-clause-lawful g c =
-    (holds_oldest _ c.m.result c.limit.result c.args.bytes.now.items c.deref.result.now c.requires.sound c.requires.some c.requires.oldest c.deref.ensures.value
-    c.m.ensures c.limit.ensures).lawful
+pub pages_in-lines-requires : goal.pages_in-lines-requires
+pages_in-lines-requires g c =
+    (holds_oldest _ c.args.bytes.now.items c.deref.result.now c.requires.sound c.requires.some c.requires.oldest c.deref.ensures.value).framed
 
 pub spell_wanted-requires-clause-says : goal.spell_wanted-requires-clause-says
 spell_wanted-requires-clause-says g c =
-    let holds = holds_oldest _ c.m.result c.limit.result c.args.bytes.now.items c.deref.result.now c.requires.sound c.requires.some c.requires.oldest
-    c.deref.ensures.value c.m.ensures c.limit.ensures in
+    let holds =
+    holds_oldest _ c.args.bytes.now.items c.deref.result.now c.requires.sound c.requires.some c.requires.oldest c.deref.ensures.value in
     subst (λ fs. Says (blocks_of fs) c.pages_in-lines.result) holds.frames c.pages_in-lines.ensures

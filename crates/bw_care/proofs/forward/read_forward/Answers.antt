@@ -12,7 +12,7 @@ use Rattle.bw_care.proofs.forward.read_forward.Goals as goal
 pub read_box_forward-requires-clause-inside : goal.read_box_forward-requires-clause-inside
 read_box_forward-requires-clause-inside g c =
     let s = c.segments.invariant.seen c.requires.0 c.requires.1 in
-    let n = next_ready c.args.m c.args.f _ c.args.places.now c.segments.next s.1 c.segments-test.true s.3 in
+    let n = next_ready _ c.args.places.now c.segments.next s.1 c.segments-test.true s.3 in
     place_inside _ c.segments.boxes.items _ (get_or c.args.places.now c.segments.next 0) n.here c.segments.invariant.same n.at
 
 pub segments-preserved : goal.segments-preserved
@@ -21,7 +21,7 @@ segments-preserved g c = record {
   same = c.in_ok-read_box_forward.ensures.same ∙ c.segments.invariant.same;
   seen = λ hs ready. (
       let s = c.segments.invariant.seen hs ready in
-      let n = next_ready c.args.m c.args.f _ c.args.places.now c.segments.next s.1 c.segments-test.true s.3 in
+      let n = next_ready _ c.args.places.now c.segments.next s.1 c.segments-test.true s.3 in
       let there = ap (λ (l : List Holding). slice_get l (get_or c.args.places.now c.segments.next 0)) c.segments.invariant.same ∙ n.at in (
         s.0 ++ n.here ∷ [],
         n.rest,
@@ -37,7 +37,7 @@ returns-in_err-read_box_forward-clause-stops g c =
     let p = err_from_is_err_and c.from_residual.result c.from_residual.ensures.1 in
     λ hs ready. rw (p.1, p.2) (
     let s = c.segments.invariant.seen hs ready in
-    let n = next_ready c.args.m c.args.f _ c.args.places.now c.segments.next s.1 c.segments-test.true s.3 in
+    let n = next_ready _ c.args.places.now c.segments.next s.1 c.segments-test.true s.3 in
     let there = ap (λ (l : List Holding). slice_get l (get_or c.args.places.now c.segments.next 0)) c.segments.invariant.same ∙ n.at in
     let before = all_placed (frames_of (map (λ (h : Holding). h.bytes) s.0)) in
     let after = all_placed (frames_of (map (λ (h : Holding). h.bytes) n.rest)) in

@@ -13,9 +13,9 @@ invariant-segments g l = record {
   same : map (λ b. (goal.Segment-dyn g (b.vtable, b.value)).holding b.value) l.boxes.items
       ≡ map (λ b. (goal.Segment-dyn g (b.vtable, b.value)).holding b.value) l.initial.boxes.items;
   seen : (hs : List Holding)
-      → AreReady l.m l.f (map (λ b. (goal.Segment-dyn g (b.vtable, b.value)).holding b.value) l.initial.boxes.items) l.places hs
+      → AreReady (map (λ b. (goal.Segment-dyn g (b.vtable, b.value)).holding b.value) l.initial.boxes.items) l.places hs
       → (seen : List Holding) × (rest : List Holding) × (seen ++ rest ≡ hs)
-      × AreReady l.m l.f (map (λ b. (goal.Segment-dyn g (b.vtable, b.value)).holding b.value) l.initial.boxes.items) (drop l.next l.places) rest
+      × AreReady (map (λ b. (goal.Segment-dyn g (b.vtable, b.value)).holding b.value) l.initial.boxes.items) (drop l.next l.places) rest
       × IsRead l.first (all_placed (frames_of (map (λ h. h.bytes) seen))) l.lines;
 }
 

@@ -2,4 +2,4 @@ use Rattle.bw_care.proofs.FoundStand.{found_stands}
 use Rattle.bw_care.proofs.laws.found_leaves_stand.Goals as goal
 
 pub returns : goal.returns
-returns c = λ m f frames. found_stands m f frames
+returns c = λ m frames. found_stands m frames

@@ -1,5 +1,5 @@
-use Rattle.std.proofs.Common.{◌≤◌, ◌-◌, length, take, drop}
-use Rattle.bw_care.specs.Moving.{Moved}
+use Rattle.std.proofs.Common.{◌≡◌, ◌≤◌, ℕ, false, ◌-◌, length, take, drop}
+use Rattle.bw_care.specs.Moving.{IsNextBehind, MovedBehind}
 use Rattle.bw_care.specs.Views.{seen, IsSound}
 use Rattle.bw_care.proofs.moving.move_all.Given as goal
 
@@ -8,7 +8,9 @@ invariant-loop-at g l = record {
   inside : l.at ≤ length l.pages;
   few : l.frames ≤ l.at;
   sound : IsSound l.log (λ b. (goal.Segment-dyn g b).holding b.1);
-  moved : Moved (seen l.initial.log (λ b. (goal.Segment-dyn g b).holding b.1)) (seen l.log (λ b. (goal.Segment-dyn g b).holding b.1)) (take l.at l.pages)
+  works : (seen l.log (λ b. (goal.Segment-dyn g b).holding b.1)).is_failed ≡ false;
+  moved : (last : ℕ) → IsNextBehind last (seen l.initial.log (λ b. (goal.Segment-dyn g b).holding b.1))
+      → MovedBehind last (seen l.initial.log (λ b. (goal.Segment-dyn g b).holding b.1)) (seen l.log (λ b. (goal.Segment-dyn g b).holding b.1)) (take l.at l.pages)
       (drop l.at l.pages) l.frames;
 }
 

@@ -48,16 +48,17 @@ returns-in_err-append_care-clause-reason g c =
     (next_sent _ c.fill.new.buffer c.seal.new.self c.args.pages.now c.in_ok-count.count c.in-Some.number s filled.0 filled.1 c.seal.ensures filled.4)
     c.in_ok-count.ensures.stops c.requires.works (short_enough s c.bytes.ensures.fits) c.in_err-append_care.ensures.leaves.answers)
 
+pub returns-clause-some : goal.returns-clause-some
+returns-clause-some g c = (c.in_ok-count.ensures.filled.0, c.in_ok-count.ensures.filled.1)
+
 pub returns-clause-moved : goal.returns-clause-moved
-returns-clause-moved g c =
+returns-clause-moved g c = λ last behind.
     let filled = c.in_ok-count.ensures.filled in
     let s = sends_of _ c.in_ok-buffer.buffer c.fill.new.buffer c.seal.new.self c.args.pages.now c.in_ok-count.count c.in-Some.number c.limit.result
-    c.in_ok-buffer.ensures c.limit.ensures filled.2 filled.3 c.seal.ensures in (
-      filled.0,
-      filled.1,
-      moved_sent _ _ _ c.seal.new.self c.args.pages.now c.in_ok-count.count c.in-Some.number filled.0 filled.1 c.requires.sound
-          c.in_ok-append_care.ensures.leaves.sound c.in_ok-count.ensures.stops c.requires.pages c.requires.some s (sym c.in-Some.ensures)
-          c.in_ok-append_care.ensures.leaves.added
-          (full_sent (seen c.args.log.now (λ b. (goal.Segment-dyn g b).holding b.1)) c.fill.new.buffer c.seal.new.self _ c.seal.ensures filled.4)
-          c.in_ok-append_care.ensures.leaves.log,
-    )
+    c.in_ok-buffer.ensures c.limit.ensures filled.2 filled.3 c.seal.ensures in
+    moved_sent last _ _ _ c.seal.new.self c.args.pages.now c.in_ok-count.count c.in-Some.number _ behind
+    c.in_ok-append_care.ensures.leaves.answers filled.0 filled.1 c.requires.sound
+    c.in_ok-append_care.ensures.leaves.sound c.in_ok-count.ensures.stops c.requires.pages c.requires.some s (sym c.in-Some.ensures)
+    c.in_ok-append_care.ensures.leaves.added
+    (full_sent (seen c.args.log.now (λ b. (goal.Segment-dyn g b).holding b.1)) c.fill.new.buffer c.seal.new.self _ c.seal.ensures filled.4)
+    c.in_ok-append_care.ensures.leaves.log

@@ -6,6 +6,7 @@ abbrev pub invariant-next : goal.invariant-next
 invariant-next l = record {
   count : l.segment + length l.live.items ≡ length l.initial.live.items;
   boxes : l.boxes.items ++ map (λ r. r.index) (reverse l.live.items) ≡ map (λ r. r.index) (reverse l.initial.live.items);
+  versions : l.versions.items ++ map (λ r. r.header.version) (reverse l.live.items) ≡ map (λ r. r.header.version) (reverse l.initial.live.items);
   lines : l.lines.items ++ lines_found l.segment (reverse l.live.items) ≡ lines_found 0 (reverse l.initial.live.items);
 }
 

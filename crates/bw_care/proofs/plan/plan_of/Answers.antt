@@ -14,13 +14,13 @@ returns-in_err-lines-clause-refuses g c =
     (c.in_err-lines.ensures.stops _ (ready _ c.args.survey c.requires c.deref-3.result.now c.deref-3.ensures.value)))
 
 pub pages_of-requires-clause-limit : goal.pages_of-requires-clause-limit
-pages_of-requires-clause-limit g c = (facts _ c.args.survey c.requires).lawful.m
+pages_of-requires-clause-limit g c = (facts _ c.args.survey c.requires).pairs
 
 pub pages_of-requires-clause-read : goal.pages_of-requires-clause-read
 pages_of-requires-clause-read g c =
     let y = facts _ c.args.survey c.requires in
     let read = c.in_ok-lines.ensures.read _ (ready _ c.args.survey c.requires c.deref-3.result.now c.deref-3.ensures.value) in
-    (c.args.survey.order.header.f, _, y.frames, y.some, read.lines)
+    (_, y.frames, y.some, read.lines)
 
 pub returns-in_err-leaves-clause-refuses : goal.returns-in_err-leaves-clause-refuses
 returns-in_err-leaves-clause-refuses g c =
@@ -29,7 +29,7 @@ returns-in_err-leaves-clause-refuses g c =
     let read = c.in_ok-lines.ensures.read _ (ready _ c.args.survey c.requires c.deref-3.result.now c.deref-3.ensures.value) in
     rw (p.1, p.2) (page_refuses _ _ c.args.survey c.requires c.in_err-leaves.field-0.0
     (link_none _ c.first_of-first.result (first_is _ c.args.survey c.requires _ _ c.first_of-first.ensures c.deref.ensures.value) read.linked)
-    c.in_ok-lines.ensures.same (c.in_err-leaves.ensures.fault c.args.survey.order.header.f _ y.frames read.lines))
+    c.in_ok-lines.ensures.same (c.in_err-leaves.ensures.fault _ y.frames read.lines))
 
 pub returns-clause-plan : goal.returns-clause-plan
 returns-clause-plan g c =
@@ -38,4 +38,4 @@ returns-clause-plan g c =
     planned_all _ c.args.survey c.requires c.in_ok-leaves.field-0 c.first_of-first.result c.last_of-last.result
     (first_is _ c.args.survey c.requires _ _ c.first_of-first.ensures c.deref.ensures.value)
     (last_is _ c.args.survey c.requires _ _ c.last_of-last.ensures c.deref-2.ensures.value) read.linked
-    (c.in_ok-leaves.ensures.right c.args.survey.order.header.f _ y.frames read.lines)
+    (c.in_ok-leaves.ensures.right _ y.frames read.lines)

@@ -5,7 +5,7 @@ use Rattle.bw_care.proofs.scanning.read_behind.Given as goal
 
 -- some frames were read, and no one holds them
 abbrev pub invariant-frames : goal.invariant-frames
-invariant-frames l = (done : List Frame) × IsReadTo l.m l.f l.bytes l.at done l.lines.items
+invariant-frames l = (done : List Frame) × IsReadTo l.header l.bytes l.at done l.lines.items
 
 abbrev pub decreases-frames : goal.decreases-frames
 decreases-frames l = length l.bytes - l.at

@@ -3,5 +3,5 @@ use Rattle.std.proofs.Common.{◌≡◌, take}
 use Rattle.bw_codec.specs.Heads.{heads}
 use Rattle.bw_codec.proofs.heads.row_of.Given as goal
 
-abbrev pub invariant-loop-key : goal.invariant-loop-key
-invariant-loop-key l = l.row.items ≡ heads (take l.key-index l.pairs)
+abbrev pub invariant-loop-pair : goal.invariant-loop-pair
+invariant-loop-pair l = l.row.items ≡ heads (take l.pair-index l.pairs)

@@ -3,5 +3,5 @@ use Rattle.std.specs.List.{flat_map}
 use Rattle.bw_codec.specs.Grammar.{pair_bytes}
 use Rattle.bw_codec.proofs.writing.pairs_length.Given as goal
 
-abbrev pub invariant-loop-key : goal.invariant-loop-key
-invariant-loop-key l = record { value : l.total ≡ length (flat_map pair_bytes (take l.key-index l.pairs)); small : l.total ≤ 194 * l.key-index }
+abbrev pub invariant-loop-pair : goal.invariant-loop-pair
+invariant-loop-pair l = record { value : l.total ≡ length (flat_map pair_bytes (take l.pair-index l.pairs)); small : l.total ≤ 643 * l.pair-index }

@@ -19,5 +19,5 @@ pub push_pair-requires : goal.push_pair-requires
 push_pair-requires c =
     let room = room_after c.args.out.now c.push_two.new.out (number_bytes 2 (length c.args.pairs.now)) (flat_map pair_bytes c.args.pairs.now) c.requires.room
     c.push_two.ensures in
-    room_for_next pair_bytes c.push_two.new.out c.loop-key.out c.args.pairs.now c.loop-key.key-index c.loop-key-item.result c.loop-key-test.true
-    c.loop-key-item.is room c.loop-key.invariant
+    room_for_next pair_bytes c.push_two.new.out c.loop-pair.out c.args.pairs.now c.loop-pair.pair-index c.pair-item.result c.loop-pair-test.true
+    c.pair-item.is room c.loop-pair.invariant

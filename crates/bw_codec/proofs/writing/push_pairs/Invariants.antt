@@ -4,5 +4,5 @@ use Rattle.bw_codec.specs.Grammar.{pair_bytes}
 use Rattle.bw_codec.specs.Writing.{Adds}
 use Rattle.bw_codec.proofs.writing.push_pairs.Given as goal
 
-abbrev pub invariant-loop-key : goal.invariant-loop-key
-invariant-loop-key l = Adds l.initial.out l.out (flat_map pair_bytes (take l.key-index l.pairs))
+abbrev pub invariant-loop-pair : goal.invariant-loop-pair
+invariant-loop-pair l = Adds l.initial.out l.out (flat_map pair_bytes (take l.pair-index l.pairs))

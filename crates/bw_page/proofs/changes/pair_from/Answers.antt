@@ -15,14 +15,13 @@ returns-then-at-pairs c =
     ∙ ap (λ (ps : Pairs). slice_get ps c.end_of-at.result) c.as_slice-pairs.ensures
     ∙ ap (λ (n : ℕ). slice_get c.args.leaf.now.pairs n) at
     ∙ pair_sought c.args.key.now c.args.leaf.now.pairs in
-    let one = got c.index-pairs-at.result in
-    let two = got c.index-pairs-at-then-at-pairs.result in
-    let same : get_or c.as_slice-pairs.result.now c.end_of-at.result c.index-pairs-at-then-at-pairs.result
-    ≡ get_or c.as_slice-pairs.result.now c.end_of-at.result c.index-pairs-at.result = cc (one, two) in
-    ap (λ (k : Bytes). Some (k, c.copy-then-at-pairs.result)) c.copy.ensures
-    ∙ ap (λ (v : Bytes). Some ((get_or c.as_slice-pairs.result.now c.end_of-at.result c.index-pairs-at.result).0, v)) c.copy-then-at-pairs.ensures
-    ∙ ap (λ (p : Bytes × Bytes). Some ((get_or c.as_slice-pairs.result.now c.end_of-at.result c.index-pairs-at.result).0, p.1)) same
-    ∙ one
+    let one : c.index-pairs-at.result ≡ get_or c.as_slice-pairs.result.now c.end_of-at.result c.index-pairs-at.result = c.index-pairs-at.is in
+    let two : c.index-pairs-at-then-at-pairs.result ≡ get_or c.as_slice-pairs.result.now c.end_of-at.result c.index-pairs-at.result =
+    let other = got c.index-pairs-at-then-at-pairs.result in
+    let first = got c.index-pairs-at.result in
+    let is = c.index-pairs-at-then-at-pairs.is in cc in
+    (λ i. Some ((c.to_key.ensures ∙ ap (λ (p : Bytes × Bytes). p.0) one) i, (c.to_value.ensures ∙ ap (λ (p : Bytes × Bytes). p.1) two) i))
+    ∙ got c.index-pairs-at.result
 
 pub returns : goal.returns
 returns c =

@@ -1,5 +1,5 @@
 use Rattle.std.proofs.Common.{◌≡◌, ◌∙◌, sym, ap, Ok, Err, Some, get_or}
-use Rattle.bw_page.specs.Leaves.{Pairs}
+use Rattle.bw_page.specs.Leaves.{Bytes, Pairs}
 use Rattle.bw_page.specs.Seek.{seek_of}
 use Rattle.bw_page.proofs.Sorted.{ascends_rises}
 use Rattle.bw_page.proofs.Valued.{reads}
@@ -8,7 +8,7 @@ use Rattle.bw_page.proofs.changes.value_in.Goals as goal
 pub returns-in-Ok : goal.returns-in-Ok
 returns-in-Ok c =
     let found : Ok c.in-Ok.at ≡ seek_of c.args.key.now c.args.leaf.now.pairs = cc (c.in-Ok.ensures.found) in
-    ap Some c.copy.ensures
+    ap Some (c.to_value.ensures ∙ ap (λ (p : Bytes × Bytes). p.1) c.index-pairs-at.is)
     ∙ ap (λ (ps : Pairs). Some (get_or ps c.in-Ok.at c.index-pairs-at.result).1) c.as_slice-pairs.ensures
     ∙ sym (reads c.args.key.now c.args.leaf.now.pairs (Ok c.in-Ok.at) (ascends_rises _ c.requires) found c.index-pairs-at.result)
 

@@ -14,7 +14,7 @@ not_above key (p ∷ ps) (suc i) item inside is falls = not_above key ps i item 
 
 pub returns-then-not-is_before : goal.returns-then-not-is_before
 returns-then-not-is_before c =
-    let falls : is_below c.in-Some.before.now c.loop-key-item.result.0 ≡ false =
-    rw (c.as_slice.ensures.value, c.as_slice-in-Some.ensures.value) at (sym c.is_before.ensures ∙ c.if-not-is_before.true) in
-    sym (not_above c.in-Some.before.now c.args.pairs.now c.loop-key.key-index c.loop-key-item.result c.loop-key-test.true c.loop-key-item.is falls)
-    ∙ rw c.in-Some.is at c.loop-key.invariant
+    let falls : is_below c.in-Some.before.now c.pair-item.result.0 ≡ false =
+    rw c.key-key.ensures.value at (sym c.is_before.ensures ∙ c.if-not-is_before.true) in
+    sym (not_above c.in-Some.before.now c.args.pairs.now c.loop-pair.pair-index c.pair-item.result c.loop-pair-test.true c.pair-item.is falls)
+    ∙ rw c.in-Some.is at c.loop-pair.invariant

@@ -10,9 +10,9 @@ use std::fs;
 /// A file's length, and where its last write goes and how many bytes it has.
 const ENDS: [(usize, u64, u64); 4] = [
     (20_000, 0, 20_000),
-    (65_560, 0, 65_560),
-    (65_561, 1, 65_560),
-    (200_000, 134_440, 65_560),
+    (262_168, 0, 262_168),
+    (262_169, 1, 262_168),
+    (500_000, 237_832, 262_168),
 ];
 
 // Whether a file of so many bytes in this folder is there.
@@ -33,7 +33,7 @@ fn written(rt: HostRuntime, length: usize) -> Option<(u64, u64)> {
     }
     let folder = Folder::open(&watched, "again").ok()?;
     let lease = lease_of(rt.alloc(), 0)?;
-    match folder.segment(&watched, lease, 300_000) {
+    match folder.segment(&watched, lease, 600_000) {
         Ok(_segment) => Some(watched.watch.wrote()),
         Err(_not_opened) => None,
     }

@@ -27,18 +27,18 @@ use Said::{Fault, Found};
 
 /// One frame: the empty page 1, and a record that puts k=v. Two bytes of 0 follow, and a stray one.
 const FIRST: &str =
-    "42574c4f475347310100000000000000040000000040000046524d3101000000000000002000000002000000\
-    02010000000000000101000000010000000000000000000000010001016b0176000058";
+    "42574c4f475347320100000000000000040000000000010046524d3201000000000000002100000002000000\
+    02010000000000000101000000010000000000000000000000010001016b010076000058";
 
-/// Five frames, of which four are whole in the first 288 bytes.
+/// Five frames, of which four are whole in the first 296 bytes.
 const SECOND: &str =
-    "42574c4f475347310100000000000000040000000040000046524d3101000000000000002000000002000000\
-    020100000000000001010000000100000000000000000000000100010161013146524d310200000000000000\
-    180000000100000001010000000100000000000000010000000100010162013246524d310300000000000000\
-    180000000100000001010000000200000000000000000000000100010163013346524d310400000000000000\
-    180000000100000001010000000300000000000000000000000100010164013446524d310500000000000000\
-    3d00000002000000010100000004000000000000000000000001000101650135030100000005000000000000\
-    00000000000163020000000300016301330164013401650135";
+    "42574c4f475347320100000000000000040000000000010046524d3201000000000000002100000002000000\
+    02010000000000000101000000010000000000000000000000010001016101003146524d3202000000000000\
+    0019000000010000000101000000010000000000000001000000010001016201003246524d32030000000000\
+    000019000000010000000101000000020000000000000000000000010001016301003346524d320400000000\
+    00000019000000010000000101000000030000000000000000000000010001016401003446524d3205000000\
+    0000000041000000020000000101000000040000000000000000000000010001016501003503010000000500\
+    000000000000000000000163020000000300016301003301640100340165010035";
 
 /// The words "This is no segment of a log.".
 const TEXT: &str = "54686973206973206e6f207365676d656e74206f662061206c6f672e";
@@ -54,7 +54,7 @@ const WORKED: &[Table] = &[
         "worked-whole",
         &[
             Row(Make, Done, ""),
-            Row(Bytes("segment-0000.bw", FIRST, 76), Done, ""),
+            Row(Bytes("segment-0000.bw", FIRST, 77), Done, ""),
             Row(Tells(1, Found(1, 1, 0, 1, 0, 0, KV)), Done, ""),
             Row(Tells(1, Found(1, 1, 0, 1, 0, 0, KV)), Done, ""),
         ],
@@ -63,9 +63,9 @@ const WORKED: &[Table] = &[
         "worked-torn",
         &[
             Row(Make, Done, ""),
-            Row(Bytes("segment-0000.bw", SECOND, 288), Done, ""),
-            Row(Tells(1, Found(1, 4, 80, 1, 0, 0, ABCD)), Done, ""),
-            Row(Tells(1, Found(1, 4, 80, 1, 0, 0, ABCD)), Done, ""),
+            Row(Bytes("segment-0000.bw", SECOND, 296), Done, ""),
+            Row(Tells(1, Found(1, 4, 84, 1, 0, 0, ABCD)), Done, ""),
+            Row(Tells(1, Found(1, 4, 84, 1, 0, 0, ABCD)), Done, ""),
         ],
     ),
     (
@@ -73,7 +73,7 @@ const WORKED: &[Table] = &[
         &[
             Row(Make, Done, ""),
             Row(Bytes("segment-0000.bw", FIRST, 0), Done, ""),
-            Row(Bytes("segment-0001.bw", FIRST, 76), Done, ""),
+            Row(Bytes("segment-0001.bw", FIRST, 77), Done, ""),
             Row(Bytes("segment-0002.bw", FIRST, 3), Done, ""),
             Row(Tells(3, Found(1, 1, 0, 1, 1, 1, KV)), Done, ""),
             Row(Tells(3, Found(1, 1, 0, 1, 1, 1, KV)), Done, ""),
@@ -119,7 +119,7 @@ const WORKED: &[Table] = &[
         "worked-text-behind",
         &[
             Row(Make, Done, ""),
-            Row(Bytes("segment-0000.bw", FIRST, 76), Done, ""),
+            Row(Bytes("segment-0000.bw", FIRST, 77), Done, ""),
             Row(Bytes("segment-0001.bw", TEXT, 28), Done, ""),
             Row(Tells(2, Fault(BadBytes { segment: 1, at: 0 })), Done, ""),
             Row(Tells(2, Fault(BadBytes { segment: 1, at: 0 })), Done, ""),
@@ -129,16 +129,16 @@ const WORKED: &[Table] = &[
         "worked-stray",
         &[
             Row(Make, Done, ""),
-            Row(Bytes("segment-0000.bw", FIRST, 78), Done, ""),
-            Row(Tells(1, Fault(BadBytes { segment: 0, at: 76 })), Done, ""),
-            Row(Tells(1, Fault(BadBytes { segment: 0, at: 76 })), Done, ""),
+            Row(Bytes("segment-0000.bw", FIRST, 79), Done, ""),
+            Row(Tells(1, Fault(BadBytes { segment: 0, at: 77 })), Done, ""),
+            Row(Tells(1, Fault(BadBytes { segment: 0, at: 77 })), Done, ""),
         ],
     ),
 ];
 
 // One more box, over the file of the next lease.
 fn box_of(rt: &Watched, folder: &Folder<WatchedFile>, desk: &mut Desk) -> Option<Box<dyn Segment>> {
-    let segment = folder.segment(rt, desk.take().ok()?, 16_408).ok()?;
+    let segment = folder.segment(rt, desk.take().ok()?, 65_560).ok()?;
     Some(Box::new(rt.alloc(), segment).ok()?)
 }
 
@@ -162,8 +162,8 @@ fn is_page(leaves: &Leaves, told: &[(&'static str, &'static str)]) -> bool {
         return false;
     };
     let pairs = leaf.pairs.as_slice();
-    for ((key, value), (told_key, told_value)) in pairs.iter().zip(told) {
-        if key.as_slice() != told_key.as_bytes() || value.as_slice() != told_value.as_bytes() {
+    for (pair, (key, value)) in pairs.iter().zip(told) {
+        if pair.key() != key.as_bytes() || pair.value() != value.as_bytes() {
             return false;
         }
     }

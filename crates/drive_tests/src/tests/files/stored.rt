@@ -26,12 +26,12 @@ const JKV: &[(&str, &str)] = &[("j", "w"), ("k", "v")];
 
 /// What the first flush writes, of k=v, and the second, of j=w.
 const BOTH: &str =
-    "42574c4f475347310100000000000000040000000040000046524d3101000000000000002000000002000000\
-    02010000000000000101000000010000000000000000000000010001016b017646524d310200000000000000\
-    18000000010000000101000000010000000000000001000000010001016a0177";
+    "42574c4f475347320100000000000000040000000000010046524d3201000000000000002100000002000000\
+    02010000000000000101000000010000000000000000000000010001016b01007646524d3202000000000000\
+    0019000000010000000101000000010000000000000001000000010001016a010077";
 
 /// How many of these bytes are of the second frame.
-const SECOND_LENGTH: u64 = 44;
+const SECOND_LENGTH: u64 = 45;
 
 // Whether writer 0 could put a record.
 fn is_put(feeds: &mut [Feed], (key, value): (&[u8], &[u8])) -> bool {
@@ -114,7 +114,7 @@ const CONFIG: Config = Config {
     places: 8,
     readers: 1,
     m: 4,
-    f: 16384,
+    f: 65_536,
 };
 
 // A life of a store over these boxes, until it is shut.
@@ -153,7 +153,7 @@ fn is_there<R: Wait>(wait: &R, rt: HostRuntime, stop: Stop, of_second: u64) -> b
     let Some(rt) = Watched::new(rt, "stored") else {
         return false;
     };
-    let length = 76 + of_second.min(SECOND_LENGTH) as usize;
+    let length = 77 + of_second.min(SECOND_LENGTH) as usize;
     lives(wait, &rt, stop)
         && goes_outside(&rt, &First(BOTH, length))
         && goes_outside(&rt, &Tells(2, said_of(of_second)))
@@ -185,12 +185,12 @@ fn what_was_flushed_is_there_after_a_stop(rt: HostRuntime) {
 
 /// Two segments: k=1 on the empty page 1, then j=2.
 const OLDER: &str =
-    "42574c4f475347310100000000000000040000000040000046524d3101000000000000002000000002000000\
-    02010000000000000101000000010000000000000000000000010001016b0131";
+    "42574c4f475347320100000000000000040000000000010046524d3201000000000000002100000002000000\
+    02010000000000000101000000010000000000000000000000010001016b010031";
 
 const NEWER: &str =
-    "42574c4f475347310200000000000000040000000040000046524d3102000000000000001800000001000000\
-    0101000000010000000000000001000000010001016a0132";
+    "42574c4f475347320200000000000000040000000000010046524d3202000000000000001900000001000000\
+    0101000000010000000000000001000000010001016a010032";
 
 const JK: &[(&str, &str)] = &[("j", "2"), ("k", "1")];
 
@@ -219,8 +219,8 @@ pub(super) fn is_given_up(
 /// A cleaning and a stop, before the file is emptied.
 const GIVEN: &[Row] = &[
     Row(Make, Done, ""),
-    Row(Bytes("segment-0000.bw", OLDER, 76), Done, ""),
-    Row(Bytes("segment-0001.bw", NEWER, 68), Done, ""),
+    Row(Bytes("segment-0000.bw", OLDER, 77), Done, ""),
+    Row(Bytes("segment-0001.bw", NEWER, 69), Done, ""),
     Row(Cleans(false), Done, ""),
     Row(Tells(3, Found(1, 3, 0, 2, 1, 0, JK)), Done, ""),
 ];
@@ -228,8 +228,8 @@ const GIVEN: &[Row] = &[
 /// The same behind it.
 const EMPTIED: &[Row] = &[
     Row(Make, Done, ""),
-    Row(Bytes("segment-0000.bw", OLDER, 76), Done, ""),
-    Row(Bytes("segment-0001.bw", NEWER, 68), Done, ""),
+    Row(Bytes("segment-0000.bw", OLDER, 77), Done, ""),
+    Row(Bytes("segment-0001.bw", NEWER, 69), Done, ""),
     Row(Cleans(true), Done, ""),
     Row(Tells(3, Found(2, 3, 0, 1, 2, 0, JK)), Done, ""),
 ];

@@ -98,9 +98,9 @@ fn behind<'a>(text: Option<&'a [u8]>, part: &[u8]) -> Option<&'a [u8]> {
 fn behind_page<'a>(text: Option<&'a [u8]>, leaf: &Leaf) -> Option<&'a [u8]> {
     let mut rest = behind(text, &[b'0' + (leaf.page % 10) as u8, b' ']);
     rest = behind(behind(rest, leaf.low.as_slice()), b":");
-    for (key, value) in leaf.pairs.as_slice() {
-        rest = behind(behind(rest, b" "), key.as_slice());
-        rest = behind(behind(rest, b"="), value.as_slice());
+    for pair in leaf.pairs.as_slice() {
+        rest = behind(behind(rest, b" "), pair.key());
+        rest = behind(behind(rest, b"="), pair.value());
     }
     behind(rest, b";")
 }

@@ -2,7 +2,9 @@
 //! leaves, which are lawful by their type.
 
 use super::super::{NEVER, Table, add_box, all_went, empty_yard, first_wrong};
-use super::vectors::{FIRST, GREATEST, SECOND, THIRD_NEWER};
+use super::vectors::{
+    FIRST, GREATEST, OLD_FIRST, OLD_GREATEST, OLD_SECOND, OLD_THIRD_NEWER, SECOND, THIRD_NEWER,
+};
 use bw_care::recover;
 use bw_device::Segment;
 use std::alloc::Global;
@@ -46,10 +48,14 @@ impl Table for OfBytes {
 }
 
 const VECTORS: &[OfBytes] = &[
-    (FIRST, 76),
-    (SECOND, 289),
-    (THIRD_NEWER, 104),
+    (FIRST, 77),
+    (SECOND, 297),
+    (THIRD_NEWER, 107),
     (GREATEST, 52),
+    (OLD_FIRST, 76),
+    (OLD_SECOND, 289),
+    (OLD_THIRD_NEWER, 104),
+    (OLD_GREATEST, 52),
 ];
 
 #[test]

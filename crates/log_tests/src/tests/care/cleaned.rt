@@ -124,7 +124,7 @@ const FAILED: &[Step] = &[
 const THIRD: &[Kept] = &[
     (Whole(THIRD_LOST), AMPLE, false),
     (Whole(THIRD_OLDER), AMPLE, false),
-    (Cut(THIRD_NEWER, 68), AMPLE, true),
+    (Cut(THIRD_NEWER, 69), AMPLE, true),
     (Cut(THIRD_NEWER, 0), AMPLE, false),
 ];
 
@@ -132,7 +132,7 @@ const THIRD: &[Kept] = &[
 const FULL: &[Kept] = &[
     (Whole(THIRD_LOST), AMPLE, false),
     (Whole(THIRD_OLDER), AMPLE, false),
-    (Cut(THIRD_NEWER, 68), 68, false),
+    (Cut(THIRD_NEWER, 69), 69, false),
 ];
 
 /// The second vector, a segment behind it, and a spare.
@@ -180,8 +180,8 @@ fn cleanings_go_as_told(rt: HostRuntime) {
 
 #[test]
 fn a_failed_append_of_the_cleaner_drops_no_box(rt: HostRuntime) {
-    // The cleaner's frame has 36 bytes, of which each number is kept.
-    for keep in 0..=36usize {
+    // The cleaner's frame has 38 bytes, of which each number is kept.
+    for keep in 0..=38usize {
         // Two reads of a recovery, and one of the page.
         if let Some(step) = walked(rt.alloc(), THIRD, (3, keep as u64), FAILED) {
             all_went(&rt, Some((keep, step)));

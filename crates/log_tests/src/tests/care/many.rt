@@ -1,9 +1,9 @@
 //! A cleaning whose pages need more frames than one.
 
 use super::super::{NEVER, Yard, add_box, empty_yard};
-use super::boxes::AMPLE;
 use super::cleaned::cleans;
 use bw_care::{Cleaned, recover};
+use bw_codec::limits::{LATEST, MIN_FRAME};
 use bw_codec::{Header, encode_frame_head, encode_header};
 use bw_device::Segment;
 use std::alloc::Global;
@@ -16,51 +16,55 @@ fn put(out: &mut Vec<u8>, parts: &[&[u8]]) -> Option<()> {
     Some(())
 }
 
-// A key of 64 bytes: two more tell the page and the pair.
-const KEY: &[u8] = &[b'k'; 62];
+// A key of 128 bytes: two more tell the page and the pair.
+const KEY: &[u8] = &[b'k'; 126];
 
-const VALUE: &[u8] = &[b'v'; 128];
+const VALUE: &[u8] = &[b'v'; 512];
 
-// A page in a Base of 848 bytes, its low key the first of its pairs; that of page 1 has none. Its
-// four pairs, with values of 128 bytes, are 776 of these.
+// Room for two frames of twenty such pages each.
+const ROOM: u64 = 131_072;
+
+// A page in a Base of 2,708 bytes, its low key the first of its pairs; that of page 1 has none. Its
+// four pairs, with values of 512 bytes, are 2,572 of these.
 fn put_base(out: &mut Vec<u8>, page: u8) -> Option<()> {
     if page == 1 {
         put(out, &[&[2, 1, 0, 0, 0, 0, 4, 0]])?;
     } else {
-        put(out, &[&[2, page, 0, 0, 0, 64], KEY, &[page, 0, 4, 0]])?;
+        put(out, &[&[2, page, 0, 0, 0, 128], KEY, &[page, 0, 4, 0]])?;
     }
     for pair in 0..4 {
-        put(out, &[&[64], KEY, &[page, pair, 128], VALUE])?;
+        put(out, &[&[128], KEY, &[page, pair, 0, 2], VALUE])?;
     }
     Some(())
 }
 
-// A frame of ten such pages, from the page behind this one on, with so many bytes of blocks.
+// A frame of twenty such pages, from the page behind this one on, with so many bytes of blocks.
 fn put_frame(out: &mut Vec<u8>, number: u64, behind: u8, body: u32) -> Option<()> {
-    encode_frame_head(number, body, 10, out).ok()?;
-    for page in 1..21 {
-        if behind < page && page - behind <= 10 {
+    encode_frame_head(number, body, 20, out).ok()?;
+    for page in 1..41 {
+        if behind < page && page - behind <= 20 {
             put_base(out, page)?;
         }
     }
     Some(())
 }
 
-// The segment of this number: in the first stand twenty full pages in two frames, the second is
+// The segment of this number: in the first stand forty full pages in two frames, the second is
 // begun behind it.
 fn add_segment(yard: &mut Yard, number: u64) -> Option<()> {
     let header = Header {
+        version: LATEST,
         number,
         m: 4,
-        f: 16_384,
+        f: MIN_FRAME,
     };
     let mut out = Vec::new(yard.alloc);
     encode_header(&header, &mut out).ok()?;
     if number == 1 {
-        put_frame(&mut out, 1, 0, 8_416)?;
-        put_frame(&mut out, 2, 10, 8_480)?;
+        put_frame(&mut out, 1, 0, 54_032)?;
+        put_frame(&mut out, 2, 20, 54_160)?;
     }
-    add_box(yard, &out, AMPLE, NEVER)
+    add_box(yard, &out, ROOM, NEVER)
 }
 
 // Both segments and a spare.
@@ -68,14 +72,14 @@ fn segments(alloc: Global) -> Option<Yard> {
     let mut full = empty_yard(alloc, 8)?;
     add_segment(&mut full, 1)?;
     add_segment(&mut full, 2)?;
-    add_box(&mut full, &[], AMPLE, NEVER)?;
+    add_box(&mut full, &[], ROOM, NEVER)?;
     Some(full)
 }
 
-// Whether twenty pages are recovered again, from the cleaner's frames alone.
+// Whether forty pages are recovered again, from the cleaner's frames alone.
 fn are_there(alloc: Global, live: Vec<Box<dyn Segment>>) -> bool {
     match recover(alloc, live) {
-        Ok(again) => again.leaves.count() == 20 && again.first == 3 && again.last == 4,
+        Ok(again) => again.leaves.count() == 40 && again.first == 3 && again.last == 4,
         Err(_) => false,
     }
 }
@@ -85,7 +89,7 @@ fn are_cleaned(alloc: Global) -> Option<bool> {
     let told = Cleaned {
         segment: 1,
         lease: 0,
-        pages: 20,
+        pages: 40,
         frames: 2,
     };
     match recover(alloc, segments(alloc)?.boxes) {
@@ -99,6 +103,6 @@ fn are_cleaned(alloc: Global) -> Option<bool> {
 }
 
 #[test]
-fn twenty_full_pages_are_cleaned_into_two_frames(rt: HostRuntime) {
+fn forty_full_pages_are_cleaned_into_two_frames(rt: HostRuntime) {
     assert!(rt; are_cleaned(rt.alloc()) == Some(true));
 }

@@ -62,13 +62,17 @@ pub(super) enum Step {
     Forget(u64, u64, u64),
     /// How many pairs there are.
     Count(u64),
+    /// How many records and bytes were counted, how many bytes of the first live segment are still
+    /// needed, and whether it pays to clean.
+    Counted(u64, u64, u64, bool),
     /// All entries, each as its key, an equals sign and its value, with spaces between.
     History(&'static str),
 }
 
 use Step::{
-    Bytes, Clean, CleanFails, Count, Cuts, Evict, Flush, FlushFails, Forget, Get, Group, History,
-    Live, NewSees, News, Next, Out, Page, PageFails, Put, Roll, Sees, Settle, Stands, Turn,
+    Bytes, Clean, CleanFails, Count, Counted, Cuts, Evict, Flush, FlushFails, Forget, Get, Group,
+    History, Live, NewSees, News, Next, Out, Page, PageFails, Put, Roll, Sees, Settle, Stands,
+    Turn,
 };
 
 /// What stands beside a store: the first reader, and the desk of its leases.
@@ -293,6 +297,13 @@ fn goes_without(store: &mut Store, feeds: &mut Vec<Feed>, beside: &mut Beside, s
         Next(frame) => store.next_frame() == Some(*frame),
         Out(leases) => is_out(&mut beside.desk, *leases),
         History(text) => is_history(store.history(), text.as_bytes()),
+        Counted(records, bytes, needed, pays) => {
+            let counters = store.counters();
+            (counters.records == *records)
+                & (counters.bytes == *bytes)
+                & (store.needed(0) == Some(*needed))
+                & (store.pays() == *pays)
+        }
         Forget(count, all, durable) => {
             (store.forget() == *count)
                 & (store.forgotten() == *all)
@@ -305,7 +316,7 @@ fn goes_without(store: &mut Store, feeds: &mut Vec<Feed>, beside: &mut Beside, s
 fn takes_none(step: &Step) -> bool {
     match step {
         Put(..) | Group(_) | Roll | Evict(..) | Sees(..) | Live(..) => true,
-        Cuts(..) | Stands(..) | Next(_) | Out(..) | History(..) | Forget(..) => true,
+        Cuts(..) | Stands(..) | Next(_) | Out(..) | History(..) | Forget(..) | Counted(..) => true,
         _ => false,
     }
 }

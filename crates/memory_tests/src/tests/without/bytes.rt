@@ -5,8 +5,9 @@ ghost use Rattle.bw_codec.specs.Grammar.{IsBlock};
 
 use super::super::{is, put};
 use super::{asked, spared};
+use bw_codec::limits::LATEST;
 use bw_codec::{
-    Block, Blocks, Head, Header, HeaderRead, Key, Low, Ops, Outline, Pairs, Place, Value,
+    Block, Blocks, Head, Header, HeaderRead, Key, Low, Ops, Outline, Pair, Pairs, Place, Value,
     block_length, frame_cells, header_cells, is_before, read_block, read_header, write_block,
 };
 use std::alloc::Global;
@@ -33,7 +34,7 @@ pub(super) fn keys_and_values(alloc: Global) -> Option<bool> {
     let is_so = is_pair()
         && is_before(b"a", b"aa")
         && Key::new(b"").is_err()
-        && Value::new(&[0; 129]).is_err();
+        && Value::new(&[0; 513]).is_err();
     asked(alloc, is_so)
 }
 
@@ -66,30 +67,30 @@ pub(super) fn records(alloc: Global) -> Option<bool> {
     }
 }
 
-/// The header of the first segment with pages of four pairs and frames of 16,384 bytes.
-const HEADER: &[u8] = b"BWLOGSG1\x01\0\0\0\0\0\0\0\x04\0\0\0\0\x40\0\0";
+/// The header of the first segment with pages of four pairs and frames of 65,536 bytes.
+const HEADER: &[u8] = b"BWLOGSG2\x01\0\0\0\0\0\0\0\x04\0\0\0\0\0\x01\0";
 
-/// The head of the first frame, with 32 bytes of two blocks.
-const HEAD: &[u8] = b"FRM1\x01\0\0\0\0\0\0\0\x20\0\0\0\x02\0\0\0";
+/// The head of the first frame, with 33 bytes of two blocks.
+const HEAD: &[u8] = b"FRM2\x01\0\0\0\0\0\0\0\x21\0\0\0\x02\0\0\0";
 
 fn are_heads() -> bool {
     let head = Head {
         number: 1,
-        body: 32,
+        body: 33,
         blocks: 2,
     };
     let is_header = match read_header(HEADER) {
         HeaderRead::Whole(header) => header.number == 1 && header.is_lawful(),
         _ => false,
     };
-    is_header && head.is_lawful(52)
+    is_header && head.is_lawful(53)
 }
 
 pub(super) fn heads(alloc: Global) -> Option<bool> {
     begin_without(alloc);
     let is_so = are_heads()
-        && is(&header_cells(1, 4, 16_384), HEADER)
-        && is(&frame_cells(1, 32, 2), HEAD);
+        && is(&header_cells(1, 4, 65_536), HEADER)
+        && is(&frame_cells(1, 33, 2), HEAD);
     asked(alloc, is_so)
 }
 
@@ -103,12 +104,11 @@ pub(super) fn lows(alloc: Global) -> Option<bool> {
 }
 
 /// The pairs a, b and c.
-fn three(alloc: Global) -> Option<Vec<(Key, Value)>> {
+fn three(alloc: Global) -> Option<Vec<Pair>> {
     let mut items = Vec::new(alloc);
     for key in [b"a", b"b", b"c"] {
-        items
-            .push((Key::new(key).ok()?, Value::new(b"").ok()?))
-            .ok()?;
+        let pair = Pair::of(alloc, &Key::new(key).ok()?, &Value::new(b"").ok()?);
+        items.push(pair.ok()?).ok()?;
     }
     Some(items)
 }
@@ -116,12 +116,13 @@ fn three(alloc: Global) -> Option<Vec<(Key, Value)>> {
 pub(super) fn pairs(alloc: Global) -> Option<bool> {
     let mut pairs = Pairs::of(three(alloc)?);
     let (key, value) = pair()?;
+    let last = Pair::of(alloc, &key, &value).ok()?;
     if pairs.as_slice().len() != 3 {
         return None;
     }
     begin_without(alloc);
     let steps = pairs.skipped(b"c") == 2;
-    pairs.replace(2, key, value);
+    let _ = pairs.set(2, last);
     pairs.remove(0);
     pairs.truncate(1);
     let is_so = steps && pairs.as_slice().len() == 1;
@@ -139,7 +140,7 @@ pub(super) fn pairs_are_made(alloc: Global) -> Option<bool> {
 }
 
 /// Page 1 with k=v.
-const DELTA: &[u8] = b"\x01\x01\0\0\0\x01\0\0\0\0\0\0\0\0\0\0\0\x01\0\x01\x01k\x01v";
+const DELTA: &[u8] = b"\x01\x01\0\0\0\x01\0\0\0\0\0\0\0\0\0\0\0\x01\0\x01\x01k\x01\0v";
 
 const BACK: Place = Place { frame: 1, index: 0 };
 
@@ -147,7 +148,7 @@ const BACK: Place = Place { frame: 1, index: 0 };
 fn block_of(alloc: Global, bytes: &[u8]) -> Option<Block>
     ensures { IfSome result (IsBlock 32) }
 {
-    read_block(alloc, bytes, 32).ok()
+    read_block(alloc, bytes, LATEST, 32).ok()
 }
 
 fn is_delta(block: &Block) -> bool {
@@ -169,7 +170,7 @@ pub(super) fn blocks(alloc: Global) -> Option<bool> {
 
 pub(super) fn outlines(alloc: Global) -> Option<bool> {
     begin_without(alloc);
-    let is_so = match Outline::read(DELTA) {
+    let is_so = match Outline::read(LATEST, DELTA) {
         Some(outline) => outline.touches(1) && !outline.touches(2),
         None => false,
     };

@@ -170,10 +170,10 @@ pub(super) fn boxes(alloc: Global) -> Option<bool> {
 
 /// The empty page 1 and k=1; and behind it j=2.
 const SEGMENTS: &[&str] = &[
-    "42574c4f475347310100000000000000040000000040000046524d3101000000000000002000000002000000\
-    02010000000000000101000000010000000000000000000000010001016b0131",
-    "42574c4f475347310200000000000000040000000040000046524d3102000000000000001800000001000000\
-    0101000000010000000000000001000000010001016a0132",
+    "42574c4f475347320100000000000000040000000000010046524d3201000000000000002100000002000000\
+    02010000000000000101000000010000000000000000000000010001016b010031",
+    "42574c4f475347320200000000000000040000000000010046524d3202000000000000001900000001000000\
+    0101000000010000000000000001000000010001016a010032",
 ];
 
 /// What is recovered from boxes.
@@ -196,13 +196,20 @@ fn worked(alloc: Global) -> Option<Vec<Box<dyn Segment>>> {
 fn is_log(log: &Log) -> bool
     requires { IsSound log.now holding }
 {
-    let numbers = log.m() == 4 && log.limit() == 16_384 && log.next_frame() == Some(3);
+    let numbers = log.m() == 4 && log.limit() == 65_536 && log.next_frame() == Some(3);
     let counts = log.live() == 2 && log.spares() == 1 && log.pages() == 1 && !log.is_failed();
     let newest = Place { frame: 2, index: 0 };
     let places = log.place_of(1) == Some(newest)
         && log.base_of(1) == Some(Place { frame: 1, index: 0 });
-    let boxes = log.live_segment(1) == Some((2, 1, 68)) && log.spare_leases(0) == Some(2);
-    numbers && counts && places && boxes && log.oldest() == Some((1, 1)) && log.line(1).is_some()
+    let boxes = log.live_segment(1) == Some((2, 1, 69)) && log.spare_leases(0) == Some(2);
+    let versions = log.live_version(1) == Some(2) && log.live_last(1) == Some(2);
+    versions
+        && numbers
+        && counts
+        && places
+        && boxes
+        && log.oldest() == Some((1, 1))
+        && log.line(1).is_some()
 }
 
 fn is_closed(log: &mut Log) -> bool

@@ -8,6 +8,7 @@ ghost use Rattle.bw_codec.specs.Grammar.{IsBlock};
 use super::super::{is, put, shows};
 use super::{asked, spared};
 use bw_buffer::{Buffer, Mark};
+use bw_codec::limits::{LATEST, MIN_FRAME};
 use bw_codec::{
     Block, Blocks, FrameRead, Header, Key, Leaf, Place, Record, Value, encode_block, read_frame,
 };
@@ -141,16 +142,17 @@ pub(super) fn reserved_chains(alloc: Global) -> Option<bool> {
 }
 
 /// A frame of the empty page 1.
-const FRAME: &[u8] = b"FRM1\x01\0\0\0\0\0\0\0\x08\0\0\0\x01\0\0\0\x02\x01\0\0\0\0\0\0";
+const FRAME: &[u8] = b"FRM2\x01\0\0\0\0\0\0\0\x08\0\0\0\x01\0\0\0\x02\x01\0\0\0\0\0\0";
 
 fn blocks_of(alloc: Global) -> Option<Blocks>
     ensures some { IfSome result (λ blocks. 1 ≤ length blocks) }
     ensures lawful { IfSome result (λ blocks. AllByRecursion (IsBlock 32) blocks) }
 {
     let header = Header {
+        version: LATEST,
         number: 1,
         m: 32,
-        f: 16_384,
+        f: MIN_FRAME,
     };
     match read_frame(alloc, FRAME, &header).ok()? {
         FrameRead::Whole(frame, _) => Some(frame.blocks),
@@ -160,9 +162,9 @@ fn blocks_of(alloc: Global) -> Option<Blocks>
 
 /// Whether a buffer is the frame of one block of 8 bytes, sealed.
 fn is_frame(buffer: &Buffer, mark: Mark) -> bool {
-    let is_one = buffer.count() == 1 && buffer.room() == 16_356 && buffer.is_sealed();
+    let is_one = buffer.count() == 1 && buffer.room() == 65_508 && buffer.is_sealed();
     is_one
-        && buffer.limit() == 16_384
+        && buffer.limit() == MIN_FRAME
         && buffer.frame() == 1
         && is(buffer.bytes(), FRAME)
         && 0 < buffer.count()
@@ -182,7 +184,7 @@ pub(super) fn buffers(alloc: Global) -> Option<bool> {
     let [first, ..] = blocks.as_slice() else {
         return None;
     };
-    let mut buffer = Buffer::new(alloc, 1, 16_384).ok()?;
+    let mut buffer = Buffer::new(alloc, 1, MIN_FRAME).ok()?;
     begin_without(alloc);
     let is_put = fills(&mut buffer, &blocks);
     buffer.seal();
@@ -208,6 +210,6 @@ fn is_copied(alloc: Global, buffer: &mut Buffer) -> Option<bool> {
 }
 
 pub(super) fn bases(alloc: Global) -> Option<bool> {
-    let mut buffer = Buffer::new(alloc, 1, 16_384).ok()?;
+    let mut buffer = Buffer::new(alloc, 1, MIN_FRAME).ok()?;
     is_copied(alloc, &mut buffer)
 }

@@ -7,34 +7,35 @@ ghost use Rattle.bw_codec.specs.Grammar.{IsBlock};
 use super::hex::{bytes_of, framed};
 use crate::tests::{self, all_went, went, wrong_row, wrong_table};
 use bw_buffer::{Buffer, Mark, PutError};
+use bw_codec::limits::{LATEST, MAX_FRAME, MIN_FRAME};
 use bw_codec::{Block, Blocks, FrameRead, Header, Place, encode_block, read_frame};
 use std::alloc::Global;
 
 /// An empty page 1.
-pub(super) const EMPTY: &str = "46524d31 0100000000000000 08000000 01000000 \
+pub(super) const EMPTY: &str = "46524d32 0100000000000000 08000000 01000000 \
     02 01000000 00 0000";
 
 /// The frames of five flushes of one put each; the last one splits page 1.
-pub(super) const PUT_A: &str = "46524d31 0100000000000000 20000000 02000000 \
+pub(super) const PUT_A: &str = "46524d32 0100000000000000 21000000 02000000 \
     02 01000000 00 0000 \
-    01 01000000 0100000000000000 00000000 0100 01 01 61 01 31";
+    01 01000000 0100000000000000 00000000 0100 01 01 61 0100 31";
 
-pub(super) const PUT_B: &str = "46524d31 0200000000000000 18000000 01000000 \
-    01 01000000 0100000000000000 01000000 0100 01 01 62 01 32";
+pub(super) const PUT_B: &str = "46524d32 0200000000000000 19000000 01000000 \
+    01 01000000 0100000000000000 01000000 0100 01 01 62 0100 32";
 
-pub(super) const PUT_C: &str = "46524d31 0300000000000000 18000000 01000000 \
-    01 01000000 0200000000000000 00000000 0100 01 01 63 01 33";
+pub(super) const PUT_C: &str = "46524d32 0300000000000000 19000000 01000000 \
+    01 01000000 0200000000000000 00000000 0100 01 01 63 0100 33";
 
-pub(super) const PUT_D: &str = "46524d31 0400000000000000 18000000 01000000 \
-    01 01000000 0300000000000000 00000000 0100 01 01 64 01 34";
+pub(super) const PUT_D: &str = "46524d32 0400000000000000 19000000 01000000 \
+    01 01000000 0300000000000000 00000000 0100 01 01 64 0100 34";
 
-const SPLIT: &str = "46524d31 0500000000000000 3d000000 02000000 \
-    01 01000000 0400000000000000 00000000 0100 01 01 65 01 35 \
-    03 01000000 0500000000000000 00000000 01 63 02000000 0300 \
-    01 63 01 33 01 64 01 34 01 65 01 35";
+const SPLIT: &str = "46524d32 0500000000000000 41000000 02000000 \
+    01 01000000 0400000000000000 00000000 0100 01 01 65 0100 35 \
+    03 01000000 0500000000000000 00000000 01 63 02000000 0300 01 63 0100 33 01 64 0100 34 01 65 \
+    0100 35";
 
 /// A head without blocks.
-const NONE: &str = "46524d31 0200000000000000 00000000 00000000";
+const NONE: &str = "46524d32 0200000000000000 00000000 00000000";
 
 /// One call, with what it has to answer.
 #[derive(Drop)]
@@ -45,9 +46,9 @@ pub(super) enum Step {
     Copy(&'static str, Result<(u64, u32), PutError>),
     /// So many Deltas of one put, of a key and a value of so many bytes: of this page and of those
     /// behind it, one each.
-    Spread(u8, u8, u8, u32),
+    Spread(u8, u8, u16, u32),
     /// The same, all of one page.
-    Heap(u8, u8, u8, u32),
+    Heap(u8, u8, u16, u32),
     /// Whether there is room for the blocks of a frame.
     HasRoom(&'static str, bool),
     Seal,
@@ -64,14 +65,15 @@ pub(super) enum Step {
 }
 
 /// The blocks of the frame at the front of bytes, which a buffer takes.
-fn blocks_in(alloc: Global, bytes: &[u8]) -> Option<Blocks>
+pub(super) fn blocks_in(alloc: Global, bytes: &[u8]) -> Option<Blocks>
     ensures some { IfSome result (λ blocks. 1 ≤ length blocks) }
     ensures lawful { IfSome result (λ blocks. AllByRecursion (IsBlock 32) blocks) }
 {
     let header = Header {
+        version: LATEST,
         number: 1,
         m: 32,
-        f: 16384,
+        f: MAX_FRAME,
     };
     match read_frame(alloc, bytes, &header).ok()? {
         FrameRead::Whole(frame, _) => Some(frame.blocks),
@@ -80,7 +82,7 @@ fn blocks_in(alloc: Global, bytes: &[u8]) -> Option<Blocks>
 }
 
 /// The same of bytes as digits.
-fn blocks_of(alloc: Global, hex: &str) -> Option<Blocks>
+pub(super) fn blocks_of(alloc: Global, hex: &str) -> Option<Blocks>
     ensures some { IfSome result (λ blocks. 1 ≤ length blocks) }
     ensures lawful { IfSome result (λ blocks. AllByRecursion (IsBlock 32) blocks) }
 {
@@ -128,20 +130,25 @@ fn copies(
     Some(is_told(buffer.put_base(&bytes, leaf.page), told))
 }
 
+fn pushes(body: &mut Vec<u8>, times: u16) -> Option<()> {
+    for _ in 0..times {
+        body.push(b'a').ok()?;
+    }
+    Some(())
+}
+
 /// The frame of one Delta of a page that puts a key and a value of so many bytes.
-fn delta_of(alloc: Global, page: u8, lengths: (u8, u8)) -> Option<Vec<u8>> {
+fn delta_of(alloc: Global, page: u8, lengths: (u8, u16)) -> Option<Vec<u8>> {
     let mut body = Vec::new(alloc);
     for byte in [1, page] {
         body.push(byte).ok()?;
     }
     body.extend_from_slice(&bytes_of(alloc, "000000 0100000000000000 00000000 0100 01")?)
         .ok()?;
-    for length in [lengths.0, lengths.1] {
-        body.push(length).ok()?;
-        for _ in 0..length {
-            body.push(b'a').ok()?;
-        }
-    }
+    body.push(lengths.0).ok()?;
+    pushes(&mut body, u16::from(lengths.0))?;
+    body.extend_from_slice(&lengths.1.to_le_bytes()).ok()?;
+    pushes(&mut body, lengths.1)?;
     framed(alloc, 1, &body)
 }
 
@@ -150,7 +157,7 @@ fn fills(
     alloc: Global,
     buffer: &mut Buffer,
     pages: (u8, u8),
-    lengths: (u8, u8),
+    lengths: (u8, u16),
     times: u32,
 ) -> Option<bool> {
     let mut page = pages.0;
@@ -185,7 +192,7 @@ fn gives(alloc: Global, buffer: &Buffer, hex: &str) -> Option<bool> {
 }
 
 /// How many records the Deltas have that a sealed buffer's bytes spell.
-fn spelled(alloc: Global, buffer: &Buffer) -> Option<usize> {
+pub(super) fn spelled(alloc: Global, buffer: &Buffer) -> Option<usize> {
     if !buffer.is_sealed() {
         return None;
     }
@@ -229,9 +236,9 @@ fn goes(alloc: Global, buffer: &mut Buffer, step: &Step) -> Option<bool> {
             buffer.frame() == *frame
                 && buffer.count() == *count
                 && buffer.room() == *room
-                && 16384u32.checked_sub(*room) == Some(buffer.len())
+                && MIN_FRAME.checked_sub(*room) == Some(buffer.len())
                 && buffer.is_sealed() == *sealed
-                && buffer.limit() == 16384,
+                && buffer.limit() == MIN_FRAME,
         ),
         Step::Gives(hex) => gives(alloc, buffer, hex),
         Step::Spells(count) => Some(spelled(alloc, buffer)? == *count),
@@ -255,7 +262,7 @@ fn wrong_step(alloc: Global, number: u64, steps: &[Step]) -> Option<usize> {
     if number == 0 {
         return Some(0);
     }
-    match Buffer::new(alloc, number, 16384) {
+    match Buffer::new(alloc, number, MIN_FRAME) {
         Ok(mut buffer) => walked(alloc, &mut buffer, steps),
         Err(_) => Some(0),
     }
@@ -263,13 +270,13 @@ fn wrong_step(alloc: Global, number: u64, steps: &[Step]) -> Option<usize> {
 
 const SEALED: &[Step] = &[
     Step::Put(EMPTY, Ok((1, 0))),
-    Step::Is(1, 1, 16356, false),
+    Step::Is(1, 1, 65508, false),
     Step::Seal,
-    Step::Is(1, 1, 16356, true),
+    Step::Is(1, 1, 65508, true),
     Step::Gives(EMPTY),
     Step::Put(EMPTY, Err(PutError::Sealed)),
     Step::Put(PUT_B, Err(PutError::Sealed)),
-    Step::Is(1, 1, 16356, true),
+    Step::Is(1, 1, 65508, true),
     Step::HasRoom(EMPTY, true),
     Step::Gives(EMPTY),
 ];
@@ -277,36 +284,36 @@ const SEALED: &[Step] = &[
 const COPIED: &[Step] = &[
     Step::Copy(EMPTY, Ok((1, 0))),
     Step::Mark(0, Mark::Sets(1)),
-    Step::Is(1, 1, 16356, false),
+    Step::Is(1, 1, 65508, false),
     Step::Seal,
     Step::Gives(EMPTY),
     Step::Copy(EMPTY, Err(PutError::Sealed)),
-    Step::Is(1, 1, 16356, true),
+    Step::Is(1, 1, 65508, true),
     Step::Gives(EMPTY),
 ];
 
 /// A Base of 8 bytes where 8 are free, then where none is.
 const COPIED_TO_THE_END: &[Step] = &[
-    Step::Spread(2, 64, 128, 76),
-    Step::Spread(78, 1, 69, 1),
-    Step::Is(1, 77, 8, false),
-    Step::Copy(EMPTY, Ok((1, 77))),
-    Step::Is(1, 78, 0, false),
+    Step::Spread(2, 128, 512, 98),
+    Step::Spread(100, 1, 510, 1),
+    Step::Is(1, 99, 8, false),
+    Step::Copy(EMPTY, Ok((1, 99))),
+    Step::Is(1, 100, 0, false),
     Step::Copy(EMPTY, Err(PutError::NoRoom)),
-    Step::Is(1, 78, 0, false),
+    Step::Is(1, 100, 0, false),
     Step::Seal,
-    Step::Spells(77),
+    Step::Spells(99),
 ];
 
-/// 76 Deltas of the greatest length, 214 bytes, and one of 60, of pages 2 to 78: 40 bytes are free,
-/// where a Delta of 24 bytes and its Split of 37 do not fit together.
+/// 98 Deltas of the greatest length, 663 bytes, and one of 502, of pages 2 to 100: 40 bytes are
+/// free, where a Delta of 25 bytes and its Split of 40 do not fit together.
 const FULL: &[Step] = &[
-    Step::Spread(2, 64, 128, 76),
-    Step::Spread(78, 1, 37, 1),
-    Step::Is(1, 77, 40, false),
+    Step::Spread(2, 128, 512, 98),
+    Step::Spread(100, 1, 478, 1),
+    Step::Is(1, 99, 40, false),
     Step::HasRoom(SPLIT, false),
     Step::Put(SPLIT, Err(PutError::NoRoom)),
-    Step::Is(1, 77, 40, false),
+    Step::Is(1, 99, 40, false),
     Step::HasRoom(PUT_D, true),
     Step::Restart(2),
     Step::Put(SPLIT, Ok((2, 0))),
@@ -320,7 +327,7 @@ const WORKED: &[Step] = &[
     Step::Seal,
     Step::Gives(PUT_A),
     Step::Restart(2),
-    Step::Is(2, 0, 16364, false),
+    Step::Is(2, 0, 65516, false),
     Step::Seal,
     Step::Gives(NONE),
     Step::Restart(2),

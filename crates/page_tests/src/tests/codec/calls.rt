@@ -5,8 +5,8 @@ use super::told::{Kind, are_pairs, is_one, says};
 use crate::tests::{Row, all_hold, put, records, went, wrong_row};
 use bw_buffer::PutError;
 use bw_codec::{
-    Block, Blocks, CodecFault, Head, Header, Key, Leaf, LengthError, Low, Ops, Pairs, Place, Value,
-    is_before,
+    Block, Blocks, CodecFault, Head, Header, Key, Leaf, LengthError, Low, Ops, Pair, Pairs, Place,
+    Value, is_before,
 };
 use std::alloc::Global;
 
@@ -15,7 +15,7 @@ type Length = (usize, bool, bool);
 
 impl Row for Length {
     fn goes(&self, _alloc: Global) -> Option<bool> {
-        let all = [0x61; 129];
+        let all = [0x61; 513];
         let bytes = all.get(..self.0)?;
         Some(Key::new(bytes).is_ok() == self.1 && Value::new(bytes).is_ok() == self.2)
     }
@@ -24,14 +24,14 @@ impl Row for Length {
 const LENGTHS: &[Length] = &[
     (0, false, true),
     (1, true, true),
-    (64, true, true),
-    (65, false, true),
-    (128, false, true),
-    (129, false, false),
+    (128, true, true),
+    (129, false, true),
+    (512, false, true),
+    (513, false, false),
 ];
 
 #[test]
-fn keys_have_1_to_64_bytes_and_values_0_to_128(rt: HostRuntime) {
+fn keys_have_1_to_128_bytes_and_values_0_to_512(rt: HostRuntime) {
     went(&rt, wrong_row(rt.alloc(), LENGTHS));
 }
 
@@ -55,20 +55,47 @@ fn inserted_pairs(alloc: Global) -> Option<Pairs> {
         if pairs.as_slice().len() < *at {
             return None;
         }
-        pairs.insert(*at, key, value).ok()?;
+        pairs.insert(*at, &key, &value).ok()?;
     }
     Some(pairs)
+}
+
+/// Whether a pair has this key and this value, of one byte each, also in fixed room and as a copy.
+fn is_pair(pair: &Pair, key: u8, value: u8) -> Option<bool> {
+    let copy = pair.copy().ok()?;
+    Some(
+        is_one(copy.key(), key)
+            && is_one(copy.value(), value)
+            && is_one(pair.to_key().as_slice(), key)
+            && is_one(pair.to_value().as_slice(), value),
+    )
+}
+
+/// Whether a pair is set in another one's place, and goes back there.
+fn is_set_and_back(pairs: &mut Pairs) -> Option<bool> {
+    if pairs.as_slice().len() != 4 {
+        return None;
+    }
+    let (key, value) = pair_of(b"a", b"1")?;
+    let was = pairs.replace(0, &key, &value).ok()?;
+    let first = is_pair(&was, b'a', b'0')?;
+    let newer = pairs.set(0, was);
+    let second = is_pair(&newer, b'a', b'1')?;
+    let _ = pairs.set(0, newer);
+    Some(first && second)
 }
 
 /// The pairs a=1 and c=3, built and changed by each call that does so.
 fn changed_pairs(alloc: Global) -> Option<Pairs> {
     let mut pairs = inserted_pairs(alloc)?;
-    if pairs.as_slice().len() != 4 {
+    if !is_set_and_back(&mut pairs)? || pairs.as_slice().len() != 4 {
         return None;
     }
-    let (key, value) = pair_of(b"a", b"1")?;
-    pairs.replace(0, key, value);
     pairs.remove(1);
+    let rest = pairs.split_off(2).ok()?;
+    if !are_pairs(rest.as_slice(), b"d", b"4") {
+        return None;
+    }
     pairs.truncate(2);
     Some(pairs)
 }
@@ -143,7 +170,8 @@ const STEPS: &[(&[u8], usize)] = &[
 fn near_pairs(alloc: Global) -> Option<Pairs> {
     let mut items = Vec::new(alloc);
     for key in NEAR {
-        items.push(pair_of(key, b"")?).ok()?;
+        let (key, value) = pair_of(key, b"")?;
+        items.push(Pair::of(alloc, &key, &value).ok()?).ok()?;
     }
     Some(Pairs::of(items))
 }
@@ -176,9 +204,10 @@ fn questions_are_answered() -> Option<bool> {
         blocks: 2,
     };
     let header = Header {
+        version: 2,
         number: 1,
         m: 4,
-        f: 16_384,
+        f: 65_536,
     };
     Some(
         key.copy() == key
@@ -207,9 +236,9 @@ fn each_call_succeeds(rt: HostRuntime) {
 #[test]
 fn the_refusals_have_texts(rt: HostRuntime) {
     let alloc = rt.alloc();
-    let length = LengthError { given: 65 };
+    let length = LengthError { given: 129 };
     let said = [
-        is_text(alloc, &length, "a length of 65 bytes is out of range"),
+        is_text(alloc, &length, "a length of 129 bytes is out of range"),
         is_text(alloc, &CodecFault::NoMemory, "out of memory"),
         is_text(alloc, &CodecFault::BadBytes, "unlawful bytes"),
         is_text(alloc, &PutError::Sealed, "the buffer is sealed"),

@@ -3,6 +3,8 @@
 use bw_codec::encode_frame_head;
 use std::alloc::Global;
 
+// ---- segments of format 1
+
 /// Segment 1: page 1 is empty, and then has k=v.
 pub(crate) const FIRST: &str = "42574c4f47534731 0100000000000000 0400 0000 00400000 \
     46524d31 0100000000000000 20000000 02000000 \
@@ -42,6 +44,49 @@ pub(crate) const LAST: &str = "42574c4f47534731 0100000000000000 0400 0000 00400
     46524d31 ffffffffffffffff 08000000 01000000 \
     02 01000000 00 0000";
 
+// ---- the same in format 2
+
+/// Segment 1: page 1 is empty, and then has k=v.
+pub(crate) const NEW_FIRST: &str = "42574c4f47534732 0100000000000000 0400 0000 00000100 \
+    46524d32 0100000000000000 21000000 02000000 \
+    02 01000000 00 0000 \
+    01 01000000 0100000000000000 00000000 0100 01 01 6b 0100 76";
+
+/// Segment 1: five puts, each flushed; the last one splits page 1.
+pub(crate) const NEW_SECOND: &str = "42574c4f47534732 0100000000000000 0400 0000 00000100 \
+    46524d32 0100000000000000 21000000 02000000 \
+    02 01000000 00 0000 \
+    01 01000000 0100000000000000 00000000 0100 01 01 61 0100 31 \
+    46524d32 0200000000000000 19000000 01000000 \
+    01 01000000 0100000000000000 01000000 0100 01 01 62 0100 32 \
+    46524d32 0300000000000000 19000000 01000000 \
+    01 01000000 0200000000000000 00000000 0100 01 01 63 0100 33 \
+    46524d32 0400000000000000 19000000 01000000 \
+    01 01000000 0300000000000000 00000000 0100 01 01 64 0100 34 \
+    46524d32 0500000000000000 41000000 02000000 \
+    01 01000000 0400000000000000 00000000 0100 01 01 65 0100 35 \
+    03 01000000 0500000000000000 00000000 01 63 02000000 0300 01 63 0100 33 01 64 0100 34 01 65 \
+    0100 35";
+
+/// The older of two segments after a cleaning.
+pub(crate) const NEW_OLDER: &str = "42574c4f47534732 0200000000000000 0400 0000 00000100 \
+    46524d32 0200000000000000 19000000 01000000 \
+    01 01000000 0100000000000000 01000000 0100 01 01 6a 0100 32";
+
+/// The newer of them, with the cleaner's frame.
+pub(crate) const NEW_NEWER: &str = "42574c4f47534732 0300000000000000 0400 0000 00000100 \
+    46524d32 0300000000000000 19000000 01000000 \
+    01 01000000 0200000000000000 00000000 0100 01 01 6b 0100 33 \
+    46524d32 0400000000000000 12000000 01000000 \
+    02 01000000 00 0200 01 6a 0100 32 01 6b 0100 33";
+
+/// A segment with a frame of the greatest number.
+pub(crate) const NEW_LAST: &str = "42574c4f47534732 0100000000000000 0400 0000 00000100 \
+    46524d32 ffffffffffffffff 08000000 01000000 \
+    02 01000000 00 0000";
+
+// ---- bytes of digits
+
 /// A hex digit's number.
 fn digit_of(digit: u8) -> Option<u8> {
     match digit {
@@ -51,18 +96,23 @@ fn digit_of(digit: u8) -> Option<u8> {
     }
 }
 
-/// Appends the bytes that hex digits spell. Spaces are for reading only.
-fn spell(hex: &str, bytes: &mut Vec<u8>) -> Option<()> {
+/// Appends the bytes that hex digits spell. Spaces are for reading only. A byte behind a `v` is the
+/// length of a value: it has a second byte, zero, in format 2.
+fn spell(version: u16, hex: &str, bytes: &mut Vec<u8>) -> Option<()> {
     let mut high = None;
+    let mut is_length = false;
     for c in hex.as_bytes() {
-        if *c != b' ' {
-            let digit = digit_of(*c)?;
-            match high {
-                None => high = Some(digit),
-                Some(sixteens) => {
-                    bytes.push(sixteens << 4 | digit).ok()?;
-                    high = None;
+        match (*c, high) {
+            (b' ', _) => {}
+            (b'v', _) => is_length = version == 2,
+            (c, None) => high = Some(digit_of(c)?),
+            (c, Some(sixteens)) => {
+                bytes.push(sixteens << 4 | digit_of(c)?).ok()?;
+                if is_length {
+                    bytes.push(0).ok()?;
                 }
+                high = None;
+                is_length = false;
             }
         }
     }
@@ -72,26 +122,43 @@ fn spell(hex: &str, bytes: &mut Vec<u8>) -> Option<()> {
 /// The bytes that hex digits spell.
 pub(crate) fn bytes_of(alloc: Global, hex: &str) -> Option<Vec<u8>> {
     let mut bytes = Vec::new(alloc);
-    spell(hex, &mut bytes)?;
+    spell(1, hex, &mut bytes)?;
     Some(bytes)
 }
 
-/// The first segment and one byte more, where one byte of them was changed.
-pub(crate) fn changed(alloc: Global, at: usize, to: u8) -> Option<Vec<u8>> {
-    let mut bytes = bytes_of(alloc, FIRST)?;
+/// The body of a frame of this format that hex digits spell, in which a byte behind a `v` is the
+/// length of a value; and how many of these there are.
+pub(crate) fn spelled_body(alloc: Global, version: u16, hex: &str) -> Option<(Vec<u8>, usize)> {
+    let mut bytes = Vec::new(alloc);
+    spell(version, hex, &mut bytes)?;
+    Some((bytes, hex.bytes().filter(|c| *c == b'v').count()))
+}
+
+/// A segment and one byte more, where one byte of them was changed.
+pub(crate) fn changed(alloc: Global, segment: &str, at: usize, to: u8) -> Option<Vec<u8>> {
+    let mut bytes = bytes_of(alloc, segment)?;
     bytes.push(0).ok()?;
     *bytes.as_mut_slice().get_mut(at)? = to;
     Some(bytes)
 }
 
 /// A body: what the digits in front spell, so many bytes `61`, and what the digits behind spell.
-pub(crate) fn body_of(alloc: Global, front: &str, many: u8, behind: &str) -> Option<Vec<u8>> {
+pub(crate) fn body_of(alloc: Global, front: &str, many: u16, behind: &str) -> Option<Vec<u8>> {
     let mut bytes = Vec::new(alloc);
-    spell(front, &mut bytes)?;
+    spell(1, front, &mut bytes)?;
     for _ in 0..many {
         bytes.push(b'a').ok()?;
     }
-    spell(behind, &mut bytes)?;
+    spell(1, behind, &mut bytes)?;
+    Some(bytes)
+}
+
+/// Frame 1 of this format with so many blocks, of which this is the body.
+pub(crate) fn framed_in(alloc: Global, version: u16, count: u32, body: &[u8]) -> Option<Vec<u8>> {
+    let mut bytes = framed(alloc, count, body)?;
+    if version == 1 {
+        *bytes.as_mut_slice().get_mut(3)? = b'1';
+    }
     Some(bytes)
 }
 

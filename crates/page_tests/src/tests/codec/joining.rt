@@ -1,66 +1,70 @@
 // Records that join the last Delta of their page in a buffer, to the byte.
 
-use super::buffers::{EMPTY, PUT_A, PUT_B, PUT_C, PUT_D, Step, walked};
+use super::buffers::{
+    EMPTY, PUT_A, PUT_B, PUT_C, PUT_D, Step, blocks_in, blocks_of, spelled, walked,
+};
+use super::hex::{bytes_of, framed};
 use crate::tests::{self, all_went, went, wrong_row, wrong_table};
 use bw_buffer::{Buffer, Mark, PutError};
+use bw_codec::limits::{MAX_FRAME, MIN_FRAME};
 use std::alloc::Global;
 
 /// An empty page 1 and two puts of it.
-const TWO_PUTS: &str = "46524d31 0100000000000000 25000000 02000000 \
+const TWO_PUTS: &str = "46524d32 0100000000000000 27000000 02000000 \
     02 01000000 00 0000 \
-    01 01000000 0100000000000000 00000000 0200 01 01 61 01 31 01 01 62 01 32";
+    01 01000000 0100000000000000 00000000 0200 01 01 61 0100 31 01 01 62 0100 32";
 
 /// The fifth put of page 1 and its Split, behind the Delta at (1, 1).
-const FIFTH: &str = "46524d31 0100000000000000 3d000000 02000000 \
-    01 01000000 0100000000000000 01000000 0100 01 01 65 01 35 \
-    03 01000000 0100000000000000 01000000 01 63 02000000 0300 \
-    01 63 01 33 01 64 01 34 01 65 01 35";
+const FIFTH: &str = "46524d32 0100000000000000 41000000 02000000 \
+    01 01000000 0100000000000000 01000000 0100 01 01 65 0100 35 \
+    03 01000000 0100000000000000 01000000 01 63 02000000 0300 01 63 0100 33 01 64 0100 34 01 65 \
+    0100 35";
 
 /// A put of page 1 behind the Split at (1, 2).
-const LATER: &str = "46524d31 0100000000000000 19000000 01000000 \
-    01 01000000 0100000000000000 02000000 0100 01 02 62 7a 01 36";
+const LATER: &str = "46524d32 0100000000000000 1a000000 01000000 \
+    01 01000000 0100000000000000 02000000 0100 01 02 627a 0100 36";
 
 /// Five puts of page 1, which is cut then: the Delta, and behind it the Split.
-const CUT: &str = "46524d31 0100000000000000 59000000 03000000 \
+const CUT: &str = "46524d32 0100000000000000 61000000 03000000 \
     02 01000000 00 0000 \
-    01 01000000 0100000000000000 00000000 0500 \
-    01 01 61 01 31 01 01 62 01 32 01 01 63 01 33 01 01 64 01 34 01 01 65 01 35 \
-    03 01000000 0100000000000000 01000000 01 63 02000000 0300 \
-    01 63 01 33 01 64 01 34 01 65 01 35";
+    01 01000000 0100000000000000 00000000 0500 01 01 61 0100 31 01 01 62 0100 32 01 01 63 0100 \
+    33 01 01 64 0100 34 01 01 65 0100 35 \
+    03 01000000 0100000000000000 01000000 01 63 02000000 0300 01 63 0100 33 01 64 0100 34 01 65 \
+    0100 35";
 
 /// The same with a put of page 1 behind the Split, in a Delta of its own.
-const CUT_AND_CHANGED: &str = "46524d31 0100000000000000 72000000 04000000 \
+const CUT_AND_CHANGED: &str = "46524d32 0100000000000000 7b000000 04000000 \
     02 01000000 00 0000 \
-    01 01000000 0100000000000000 00000000 0500 \
-    01 01 61 01 31 01 01 62 01 32 01 01 63 01 33 01 01 64 01 34 01 01 65 01 35 \
-    03 01000000 0100000000000000 01000000 01 63 02000000 0300 \
-    01 63 01 33 01 64 01 34 01 65 01 35 \
-    01 01000000 0100000000000000 02000000 0100 01 02 62 7a 01 36";
+    01 01000000 0100000000000000 00000000 0500 01 01 61 0100 31 01 01 62 0100 32 01 01 63 0100 \
+    33 01 01 64 0100 34 01 01 65 0100 35 \
+    03 01000000 0100000000000000 01000000 01 63 02000000 0300 01 63 0100 33 01 64 0100 34 01 65 \
+    0100 35 \
+    01 01000000 0100000000000000 02000000 0100 01 02 627a 0100 36";
 
 /// A delete at page 1.
-const DELETE: &str = "46524d31 0100000000000000 16000000 01000000 \
+const DELETE: &str = "46524d32 0100000000000000 16000000 01000000 \
     01 01000000 0100000000000000 00000000 0100 02 01 61";
 
 /// Two puts of page 2.
-const SECOND_PAGE: &str = "46524d31 0100000000000000 18000000 01000000 \
-    01 02000000 0100000000000000 00000000 0100 01 01 78 01 37";
+const SECOND_PAGE: &str = "46524d32 0100000000000000 19000000 01000000 \
+    01 02000000 0100000000000000 00000000 0100 01 01 78 0100 37";
 
-const SECOND_AGAIN: &str = "46524d31 0100000000000000 18000000 01000000 \
-    01 02000000 0100000000000000 00000000 0100 01 01 79 01 38";
+const SECOND_AGAIN: &str = "46524d32 0100000000000000 19000000 01000000 \
+    01 02000000 0100000000000000 00000000 0100 01 01 79 0100 38";
 
 /// Page 1 has a, then nothing at a and b; page 2 has x and y.
-const BY_TURNS: &str = "46524d31 0100000000000000 45000000 03000000 \
+const BY_TURNS: &str = "46524d32 0100000000000000 49000000 03000000 \
     02 01000000 00 0000 \
-    01 01000000 0100000000000000 00000000 0300 01 01 61 01 31 02 01 61 01 01 62 01 32 \
-    01 02000000 0100000000000000 00000000 0200 01 01 78 01 37 01 01 79 01 38";
+    01 01000000 0100000000000000 00000000 0300 01 01 61 0100 31 02 01 61 01 01 62 0100 32 \
+    01 02000000 0100000000000000 00000000 0200 01 01 78 0100 37 01 01 79 0100 38";
 
 /// Two puts of page 1 in two Deltas, which one call gives, and those of a frame that took them.
-const APART: &str = "46524d31 0100000000000000 30000000 02000000 \
-    01 01000000 0100000000000000 00000000 0100 01 01 61 01 31 \
-    01 01000000 0100000000000000 01000000 0100 01 01 62 01 32";
+const APART: &str = "46524d32 0100000000000000 32000000 02000000 \
+    01 01000000 0100000000000000 00000000 0100 01 01 61 0100 31 \
+    01 01000000 0100000000000000 01000000 0100 01 01 62 0100 32";
 
-const TOGETHER: &str = "46524d31 0100000000000000 1d000000 01000000 \
-    01 01000000 0100000000000000 00000000 0200 01 01 61 01 31 01 01 62 01 32";
+const TOGETHER: &str = "46524d32 0100000000000000 1f000000 01000000 \
+    01 01000000 0100000000000000 00000000 0200 01 01 61 0100 31 01 01 62 0100 32";
 
 /// A put joins the first one, behind an empty page.
 const JOINED: &[Step] = &[
@@ -68,14 +72,14 @@ const JOINED: &[Step] = &[
     Step::Put(PUT_A, Ok((1, 0))),
     Step::Joins(1, Some((1, 1))),
     Step::Joins(2, None),
-    Step::Is(1, 2, 16332, false),
+    Step::Is(1, 2, 65483, false),
     Step::Put(PUT_B, Ok((1, 1))),
-    Step::Is(1, 2, 16327, false),
+    Step::Is(1, 2, 65477, false),
     Step::Joins(1, Some((1, 1))),
     Step::Mark(0, Mark::Sets(1)),
     Step::Mark(1, Mark::Changes(1)),
     Step::Seal,
-    Step::Is(1, 2, 16327, true),
+    Step::Is(1, 2, 65477, true),
     Step::Gives(TWO_PUTS),
     Step::Joins(1, Some((1, 1))),
     Step::Restart(2),
@@ -92,9 +96,9 @@ const CUT_IN_ONE_FRAME: &[Step] = &[
     Step::Put(PUT_B, Ok((1, 1))),
     Step::Put(PUT_C, Ok((1, 1))),
     Step::Put(PUT_D, Ok((1, 1))),
-    Step::Is(1, 2, 16317, false),
+    Step::Is(1, 2, 65465, false),
     Step::Put(FIFTH, Ok((1, 1))),
-    Step::Is(1, 3, 16275, false),
+    Step::Is(1, 3, 65419, false),
     Step::Mark(1, Mark::Changes(1)),
     Step::Mark(2, Mark::Splits(1, 2)),
     Step::Joins(1, None),
@@ -109,7 +113,7 @@ const CUT_IN_ONE_FRAME: &[Step] = &[
     Step::Put(FIFTH, Ok((1, 1))),
     Step::Put(LATER, Ok((1, 3))),
     Step::Joins(1, Some((1, 3))),
-    Step::Is(1, 4, 16250, false),
+    Step::Is(1, 4, 65393, false),
     Step::Seal,
     Step::Gives(CUT_AND_CHANGED),
     Step::Restart(1),
@@ -119,7 +123,7 @@ const CUT_IN_ONE_FRAME: &[Step] = &[
     Step::Put(LATER, Ok((1, 4))),
     Step::Put(SECOND_AGAIN, Ok((1, 3))),
     Step::Put(PUT_B, Ok((1, 4))),
-    Step::Is(1, 5, 16231, false),
+    Step::Is(1, 5, 65374, false),
     Step::Seal,
     Step::Spells(6),
 ];
@@ -134,7 +138,7 @@ const SET_BETWEEN: &[Step] = &[
     Step::Copy(EMPTY, Ok((1, 4))),
     Step::Joins(1, None),
     Step::Put(PUT_D, Ok((1, 5))),
-    Step::Is(1, 6, 16263, false),
+    Step::Is(1, 6, 65411, false),
     Step::Seal,
     Step::Spells(4),
 ];
@@ -146,57 +150,57 @@ const TURNS: &[Step] = &[
     Step::Put(DELETE, Ok((1, 1))),
     Step::Put(SECOND_AGAIN, Ok((1, 2))),
     Step::Put(PUT_B, Ok((1, 1))),
-    Step::Is(1, 3, 16295, false),
+    Step::Is(1, 3, 65443, false),
     Step::Seal,
     Step::Gives(BY_TURNS),
 ];
 
-/// Two Deltas of one page in one call: the second joins the first. Where 29 bytes are free they fit,
-/// and where 28 are they do not.
+/// Two Deltas of one page in one call: the second joins the first. Where 31 bytes are free they fit,
+/// and where 30 are they do not.
 const ONE_CALL: &[Step] = &[
     Step::Put(APART, Ok((1, 0))),
-    Step::Is(1, 1, 16335, false),
+    Step::Is(1, 1, 65485, false),
     Step::Seal,
     Step::Gives(TOGETHER),
     Step::Restart(1),
-    Step::Spread(2, 64, 128, 76),
-    Step::Spread(78, 1, 49, 1),
-    Step::Is(1, 77, 28, false),
+    Step::Spread(2, 128, 512, 98),
+    Step::Spread(100, 1, 488, 1),
+    Step::Is(1, 99, 30, false),
     Step::HasRoom(APART, false),
     Step::Put(APART, Err(PutError::NoRoom)),
     Step::Restart(1),
-    Step::Spread(2, 64, 128, 76),
-    Step::Spread(78, 1, 48, 1),
-    Step::Is(1, 77, 29, false),
+    Step::Spread(2, 128, 512, 98),
+    Step::Spread(100, 1, 487, 1),
+    Step::Is(1, 99, 31, false),
     Step::HasRoom(APART, true),
-    Step::Put(APART, Ok((1, 77))),
-    Step::Is(1, 78, 0, false),
+    Step::Put(APART, Ok((1, 99))),
+    Step::Is(1, 100, 0, false),
     Step::Seal,
-    Step::Spells(79),
+    Step::Spells(101),
 ];
 
-/// Records of one page up to the frame's last byte, 84 in one Delta. Where 5 bytes are free one more
+/// Records of one page up to the frame's last byte, 102 in one Delta. Where 6 bytes are free one more
 /// of that page fits, and none of another page.
 const TO_THE_END: &[Step] = &[
-    Step::Heap(2, 64, 128, 83),
-    Step::Is(1, 1, 160, false),
-    Step::Heap(2, 64, 93, 1),
+    Step::Heap(2, 128, 512, 101),
+    Step::Is(1, 1, 453, false),
+    Step::Heap(2, 128, 321, 1),
     Step::Is(1, 1, 0, false),
     Step::HasRoom(SECOND_PAGE, false),
     Step::Put(SECOND_PAGE, Err(PutError::NoRoom)),
     Step::Seal,
-    Step::Spells(84),
+    Step::Spells(102),
     Step::Restart(1),
-    Step::Heap(2, 64, 128, 83),
-    Step::Heap(2, 64, 88, 1),
-    Step::Is(1, 1, 5, false),
+    Step::Heap(2, 128, 512, 101),
+    Step::Heap(2, 128, 315, 1),
+    Step::Is(1, 1, 6, false),
     Step::HasRoom(PUT_B, false),
     Step::HasRoom(SECOND_PAGE, true),
     Step::Put(PUT_B, Err(PutError::NoRoom)),
     Step::Put(SECOND_PAGE, Ok((1, 0))),
     Step::Is(1, 1, 0, false),
     Step::Seal,
-    Step::Spells(85),
+    Step::Spells(103),
 ];
 
 const TABLES: &[&[Step]] = &[
@@ -215,7 +219,7 @@ fn records_join_the_last_delta_of_their_page(rt: HostRuntime) {
 
 /// A sealed buffer that was walked so.
 fn made(alloc: Global, steps: &[Step]) -> Option<Buffer> {
-    let mut buffer = Buffer::new(alloc, 1, 16384).ok()?;
+    let mut buffer = Buffer::new(alloc, 1, MIN_FRAME).ok()?;
     if walked(alloc, &mut buffer, steps).is_some() {
         return None;
     }
@@ -235,14 +239,14 @@ impl tests::Row for Refused {
     }
 }
 
-/// One Delta of many records, and 5 bytes free.
-const NEARLY_FULL: &[Step] = &[Step::Heap(2, 64, 128, 83), Step::Heap(2, 64, 88, 1)];
+/// One Delta of many records, and 6 bytes free.
+const NEARLY_FULL: &[Step] = &[Step::Heap(2, 128, 512, 101), Step::Heap(2, 128, 315, 1)];
 
 const REFUSED: &[Refused] = &[
     (
         &[
-            Step::Heap(2, 64, 128, 83),
-            Step::Heap(2, 64, 88, 1),
+            Step::Heap(2, 128, 512, 101),
+            Step::Heap(2, 128, 315, 1),
             Step::Put(PUT_B, Err(PutError::NoRoom)),
             Step::Put(APART, Err(PutError::NoRoom)),
             Step::Copy(EMPTY, Err(PutError::NoRoom)),
@@ -251,8 +255,8 @@ const REFUSED: &[Refused] = &[
     ),
     (
         &[
-            Step::Heap(2, 64, 128, 83),
-            Step::Heap(2, 64, 88, 1),
+            Step::Heap(2, 128, 512, 101),
+            Step::Heap(2, 128, 315, 1),
             Step::Seal,
             Step::Put(SECOND_PAGE, Err(PutError::Sealed)),
             Step::Copy(EMPTY, Err(PutError::Sealed)),
@@ -264,4 +268,44 @@ const REFUSED: &[Refused] = &[
 #[test]
 fn a_refused_put_leaves_the_frame(rt: HostRuntime) {
     went(&rt, wrong_row(rt.alloc(), REFUSED));
+}
+
+/// The frame of one Delta of page 1 that deletes a so many times.
+fn deletes(alloc: Global, times: u16) -> Option<Vec<u8>> {
+    let mut body = bytes_of(alloc, "01 01000000 0100000000000000 00000000")?;
+    body.extend_from_slice(&times.to_le_bytes()).ok()?;
+    for _ in 0..times {
+        body.extend_from_slice(&[2, 1, b'a']).ok()?;
+    }
+    framed(alloc, 1, &body)
+}
+
+/// Whether the last of 65,536 records of one page begins a Delta of its own, behind a Delta of
+/// 65,534 that one more has joined; and the one behind it joins that.
+fn a_full_delta_is_left(alloc: Global) -> Option<bool> {
+    let mut buffer = Buffer::new(alloc, 1, MAX_FRAME).ok()?;
+    let many = deletes(alloc, 65_534)?;
+    let first = blocks_in(alloc, &many)?;
+    let one = blocks_of(alloc, DELETE)?;
+    let placed = buffer.put_all(first.as_slice()).ok()?;
+    let joined = buffer.put_all(one.as_slice()).ok()?;
+    let is_full = buffer.joins(1).is_none() && buffer.len() == 39 + 3 * 65_535;
+    let apart = buffer.put_all(one.as_slice()).ok()?;
+    let again = buffer.put_all(one.as_slice()).ok()?;
+    buffer.seal();
+    Some(
+        placed.index == 0
+            && joined.index == 0
+            && is_full
+            && apart.index == 1
+            && again.index == 1
+            && buffer.count() == 2
+            && buffer.len() == 39 + 3 * 65_535 + 22 + 3
+            && spelled(alloc, &buffer) == Some(65_537),
+    )
+}
+
+#[test]
+fn a_delta_has_no_more_than_65_535_records(rt: HostRuntime) {
+    assert!(rt; a_full_delta_is_left(rt.alloc()) == Some(true));
 }

@@ -1,6 +1,6 @@
 // Frames that are whole, that were cut, or that are bad.
 
-use super::hex::{bytes_of, changed};
+use super::hex::{FIRST, NEW_FIRST, bytes_of, changed};
 use crate::tests::{Row, went, wrong_row};
 use bw_codec::{CodecFault, FrameRead, Header, read_frame};
 use std::alloc::Global;
@@ -13,13 +13,14 @@ pub(crate) enum Found {
     Bad,
 }
 
-/// What stands at the front of the bytes of a frame, where a page has at most so many pairs; `None`
-/// where memory was wanted.
-pub(crate) fn found_in(alloc: Global, m: u16, bytes: &[u8]) -> Option<Found> {
+/// What stands at the front of the bytes of a frame of this format, where a page has at most so many
+/// pairs and frames are of the least limit; `None` where memory was wanted.
+pub(crate) fn found_in(alloc: Global, version: u16, m: u16, bytes: &[u8]) -> Option<Found> {
     let header = Header {
+        version,
         number: 1,
         m,
-        f: 16384,
+        f: if version == 1 { 16_384 } else { 65_536 },
     };
     match read_frame(alloc, bytes, &header) {
         Ok(FrameRead::Whole(_, used)) => Some(Found::Whole(used)),
@@ -31,75 +32,130 @@ pub(crate) fn found_in(alloc: Global, m: u16, bytes: &[u8]) -> Option<Found> {
 
 // ---- a frame that was cut, or one of whose bytes was changed
 
-/// The byte at this index of the first segment's frame, or the one behind it, becomes this, and so
-/// many bytes are left.
-type Change = (usize, u8, usize, Found);
+/// The byte at this index of the frame of the first segment of a format, or the one behind it,
+/// becomes this, and so many bytes are left.
+type Change = (u16, usize, u8, usize, Found);
 
 impl Row for Change {
     /// Whether this stands at the front then.
     fn goes(&self, alloc: Global) -> Option<bool> {
-        let segment = changed(alloc, self.0.checked_add(24)?, self.1)?;
-        let found = found_in(alloc, 4, segment.as_slice().get(24..)?.get(..self.2)?)?;
-        Some(found == self.3)
+        let first = if self.0 == 1 { FIRST } else { NEW_FIRST };
+        let segment = changed(alloc, first, self.1.checked_add(24)?, self.2)?;
+        let frame = segment.as_slice().get(24..)?.get(..self.3)?;
+        Some(found_in(alloc, self.0, 4, frame)? == self.4)
     }
 }
 
 const CHANGED: &[Change] = &[
-    (0, 0x46, 52, Found::Whole(52)),
-    (0, 0x46, 53, Found::Whole(52)),
-    (52, 0x46, 53, Found::Whole(52)),
-    (52, 0xff, 53, Found::Whole(52)),
-    (0, 0x46, 51, Found::Tail),
-    (0, 0x46, 20, Found::Tail),
-    (0, 0x46, 19, Found::Tail),
-    (0, 0x46, 4, Found::Tail),
-    (0, 0x46, 0, Found::Tail),
-    (12, 0x21, 52, Found::Tail),
-    (12, 0x1f, 52, Found::Bad),
-    (45, 0x00, 52, Found::Bad),
-    (0, 0x47, 52, Found::Bad),
-    (0, 0x47, 1, Found::Bad),
+    (1, 0, 0x46, 52, Found::Whole(52)),
+    (1, 0, 0x46, 53, Found::Whole(52)),
+    (1, 52, 0x46, 53, Found::Whole(52)),
+    (1, 52, 0xff, 53, Found::Whole(52)),
+    (1, 0, 0x46, 51, Found::Tail),
+    (1, 0, 0x46, 20, Found::Tail),
+    (1, 0, 0x46, 19, Found::Tail),
+    (1, 0, 0x46, 4, Found::Tail),
+    (1, 0, 0x46, 0, Found::Tail),
+    (1, 12, 0x21, 52, Found::Tail),
+    (1, 12, 0x1f, 52, Found::Bad),
+    (1, 45, 0x00, 52, Found::Bad),
+    (1, 0, 0x47, 52, Found::Bad),
+    (1, 0, 0x47, 1, Found::Bad),
     // Another word, frame 0, a body of 7 bytes, one beyond the limit, no block.
-    (3, 0x32, 52, Found::Bad),
-    (4, 0x00, 52, Found::Bad),
-    (12, 0x07, 52, Found::Bad),
-    (13, 0x40, 52, Found::Bad),
-    (16, 0x00, 52, Found::Bad),
+    (1, 3, 0x32, 52, Found::Bad),
+    (1, 4, 0x00, 52, Found::Bad),
+    (1, 12, 0x07, 52, Found::Bad),
+    (1, 13, 0x40, 52, Found::Bad),
+    (1, 16, 0x00, 52, Found::Bad),
+];
+
+/// The same of format 2, whose frame has 53 bytes.
+const NEW_CHANGED: &[Change] = &[
+    (2, 0, 0x46, 53, Found::Whole(53)),
+    (2, 0, 0x46, 54, Found::Whole(53)),
+    (2, 53, 0xff, 54, Found::Whole(53)),
+    (2, 0, 0x46, 52, Found::Tail),
+    (2, 0, 0x46, 20, Found::Tail),
+    (2, 0, 0x46, 19, Found::Tail),
+    (2, 0, 0x46, 4, Found::Tail),
+    (2, 0, 0x46, 0, Found::Tail),
+    (2, 12, 0x22, 53, Found::Tail),
+    (2, 12, 0x20, 53, Found::Bad),
+    (2, 45, 0x00, 53, Found::Bad),
+    (2, 0, 0x47, 53, Found::Bad),
+    (2, 0, 0x47, 1, Found::Bad),
+    // The word of the other format, frame 0, a body of 7 bytes, one beyond the limit, no block.
+    (2, 3, 0x31, 53, Found::Bad),
+    (2, 3, 0x31, 4, Found::Bad),
+    (2, 3, 0x31, 3, Found::Tail),
+    (2, 4, 0x00, 53, Found::Bad),
+    (2, 12, 0x07, 53, Found::Bad),
+    (2, 14, 0x01, 53, Found::Bad),
+    (2, 16, 0x00, 53, Found::Bad),
+    // The length of the value: none, more than there is, by its first byte or its second.
+    (2, 50, 0x00, 53, Found::Bad),
+    (2, 50, 0x02, 53, Found::Bad),
+    (2, 51, 0x01, 53, Found::Bad),
 ];
 
 #[test]
 fn a_frame_cut_short_is_a_tail_and_a_changed_one_is_bad(rt: HostRuntime) {
     went(&rt, wrong_row(rt.alloc(), CHANGED));
+    went(&rt, wrong_row(rt.alloc(), NEW_CHANGED));
 }
 
 // ---- heads
 
-/// Digits, and what stands at their front.
-type Digits = (&'static str, Found);
+/// Digits of a format, and what stands at their front.
+type Digits = (u16, &'static str, Found);
 
 impl Row for Digits {
     fn goes(&self, alloc: Global) -> Option<bool> {
-        let bytes = bytes_of(alloc, self.0)?;
-        Some(found_in(alloc, 4, bytes.as_slice())? == self.1)
+        let bytes = bytes_of(alloc, self.1)?;
+        Some(found_in(alloc, self.0, 4, bytes.as_slice())? == self.2)
     }
 }
 
 /// Heads of a body of 2^32 - 1 bytes, of one beyond the limit, and of the limit's.
 const HEADS: &[Digits] = &[
     (
+        1,
         "46524d31 0100000000000000 ffffffff 01000000 02 01000000 00 0000",
         Found::Bad,
     ),
     (
+        1,
         "46524d31 0100000000000000 ffffffff ffffffff 02 01000000 00 0000",
         Found::Bad,
     ),
     (
+        1,
         "46524d31 0100000000000000 ed3f0000 01000000 02 01000000 00 0000",
         Found::Bad,
     ),
     (
+        1,
         "46524d31 0100000000000000 ec3f0000 ffffffff 02 01000000 00 0000",
+        Found::Tail,
+    ),
+    (
+        2,
+        "46524d32 0100000000000000 ffffffff 01000000 02 01000000 00 0000",
+        Found::Bad,
+    ),
+    (
+        2,
+        "46524d32 0100000000000000 ffffffff ffffffff 02 01000000 00 0000",
+        Found::Bad,
+    ),
+    (
+        2,
+        "46524d32 0100000000000000 edff0000 01000000 02 01000000 00 0000",
+        Found::Bad,
+    ),
+    (
+        2,
+        "46524d32 0100000000000000 ecff0000 ffffffff 02 01000000 00 0000",
         Found::Tail,
     ),
 ];

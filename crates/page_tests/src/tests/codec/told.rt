@@ -1,9 +1,11 @@
 // What the worked bytes tell, block by block.
 
-use super::hex::{FIRST, NEWER, OLDER, SECOND, bytes_of};
+use super::hex::{
+    FIRST, NEW_FIRST, NEW_NEWER, NEW_OLDER, NEW_SECOND, NEWER, OLDER, SECOND, bytes_of,
+};
 use crate::tests::{self, went, wrong_row};
 use bw_codec::{
-    Block, Frame, FrameRead, Header, HeaderRead, Key, Outline, Place, Record, Value, read_frame,
+    Block, Frame, FrameRead, Header, HeaderRead, Outline, Pair, Place, Record, read_frame,
     read_header,
 };
 use std::alloc::Global;
@@ -25,17 +27,17 @@ pub(crate) fn is_one(bytes: &[u8], one: u8) -> bool {
 }
 
 /// Whether pairs have these keys and values, of one byte each.
-pub(crate) fn are_pairs(pairs: &[(Key, Value)], keys: &[u8], values: &[u8]) -> bool {
+pub(crate) fn are_pairs(pairs: &[Pair], keys: &[u8], values: &[u8]) -> bool {
     pairs.len() == keys.len()
         && pairs.len() == values.len()
         && pairs
             .iter()
             .zip(keys)
-            .all(|(pair, key)| is_one(pair.0.as_slice(), *key))
+            .all(|(pair, key)| is_one(pair.key(), *key))
         && pairs
             .iter()
             .zip(values)
-            .all(|(pair, value)| is_one(pair.1.as_slice(), *value))
+            .all(|(pair, value)| is_one(pair.value(), *value))
 }
 
 /// Whether records are one put of this key and value, of one byte each.
@@ -88,14 +90,14 @@ fn does(block: &Block, kind: Kind, back: Place) -> bool {
         && block.back(2).is_none()
 }
 
-/// Whether the outline of the block of this index in a body tells what its kind does to pages 1, 2
-/// and 3, where the blocks before it are stepped over.
-fn is_outlined(body: &[u8], index: usize, kind: Kind) -> Option<bool> {
+/// Whether the outline of the block of this index in a body of this format tells what its kind does
+/// to pages 1, 2 and 3, where the blocks before it are stepped over.
+fn is_outlined(version: u16, body: &[u8], index: usize, kind: Kind) -> Option<bool> {
     let mut rest = body;
     for _ in 0..index {
-        rest = rest.get(Outline::read(rest)?.len..)?;
+        rest = rest.get(Outline::read(version, rest)?.len..)?;
     }
-    let outline = Outline::read(rest)?;
+    let outline = Outline::read(version, rest)?;
     let made = if kind == Kind::Split { Some(2) } else { None };
     Some(
         outline.page == 1
@@ -129,10 +131,23 @@ const BLOCKS: &[Row] = &[
     (OLDER, (2, 0), Kind::Put, (1, 1), "j", "2"),
     (NEWER, (3, 0), Kind::Put, (2, 0), "k", "3"),
     (NEWER, (4, 0), Kind::Base, (0, 0), "jk", "23"),
+    (NEW_FIRST, (1, 0), Kind::Base, (0, 0), "", ""),
+    (NEW_FIRST, (1, 1), Kind::Put, (1, 0), "k", "v"),
+    (NEW_SECOND, (1, 0), Kind::Base, (0, 0), "", ""),
+    (NEW_SECOND, (1, 1), Kind::Put, (1, 0), "a", "1"),
+    (NEW_SECOND, (2, 0), Kind::Put, (1, 1), "b", "2"),
+    (NEW_SECOND, (3, 0), Kind::Put, (2, 0), "c", "3"),
+    (NEW_SECOND, (4, 0), Kind::Put, (3, 0), "d", "4"),
+    (NEW_SECOND, (5, 0), Kind::Put, (4, 0), "e", "5"),
+    (NEW_SECOND, (5, 1), Kind::Split, (5, 0), "cde", "345"),
+    (NEW_OLDER, (2, 0), Kind::Put, (1, 1), "j", "2"),
+    (NEW_NEWER, (3, 0), Kind::Put, (2, 0), "k", "3"),
+    (NEW_NEWER, (4, 0), Kind::Base, (0, 0), "jk", "23"),
 ];
 
-/// Whether the block of a row says what the row tells, in a frame with this body, if that is there.
-fn tells(frame: &Frame, body: Option<&[u8]>, row: &Row) -> Option<bool> {
+/// Whether the block of a row says what the row tells, in a frame of this format with this body, if
+/// that is there.
+fn tells(version: u16, frame: &Frame, body: Option<&[u8]>, row: &Row) -> Option<bool> {
     let (_, (_, at), kind, (frame_back, index), keys, values) = *row;
     let back = Place {
         frame: frame_back,
@@ -140,7 +155,7 @@ fn tells(frame: &Frame, body: Option<&[u8]>, row: &Row) -> Option<bool> {
     };
     let block = frame.blocks.as_slice().get(at)?;
     Some(
-        is_outlined(body?, at, kind)?
+        is_outlined(version, body?, at, kind)?
             && does(block, kind, back)
             && says(block, kind, back, keys.as_bytes(), values.as_bytes()),
     )
@@ -154,7 +169,7 @@ fn is_told(alloc: Global, frames: &[u8], header: &Header, row: &Row) -> Option<b
             return None;
         };
         if frame.number == row.1.0 {
-            return tells(&frame, rest.get(20..used), row);
+            return tells(header.version, &frame, rest.get(20..used), row);
         }
         rest = rest.get(used..)?;
     }

@@ -3,9 +3,12 @@
 ghost use Rattle.std.specs.List.{AllByRecursion};
 ghost use Rattle.bw_codec.specs.Grammar.{IsBlock};
 
-use super::hex::{FIRST, LAST, NEWER, OLDER, SECOND, bytes_of};
+use super::hex::{
+    FIRST, LAST, NEW_FIRST, NEW_LAST, NEW_NEWER, NEW_OLDER, NEW_SECOND, NEWER, OLDER, SECOND,
+    bytes_of,
+};
 use crate::tests::{Row, behind, went, wrong_row};
-use bw_codec::limits::{HEAD_LEN, HEADER_LEN};
+use bw_codec::limits::{HEADER_LEN, LATEST, MIN_FRAME};
 use bw_codec::{
     Block, Frame, FrameRead, Header, HeaderRead, block_length, encode_block, encode_frame_head,
     encode_header, frame_cells, header_cells, read_frame, read_header, write_block,
@@ -13,11 +16,22 @@ use bw_codec::{
 use bw_page::empty_page;
 use std::alloc::Global;
 
-/// Whether a frame of so many bytes could be written.
-fn write_frame(frame: &Frame, used: usize, out: &mut Vec<u8>) -> Option<()>
+/// How many bytes blocks have in format 2.
+fn body_length(blocks: &[Block]) -> Option<u32>
+    requires { AllByRecursion (IsBlock 32) blocks.now }
+{
+    let mut length: usize = 0;
+    for block in blocks {
+        length = length.checked_add(block_length(block))?;
+    }
+    u32::try_from(length).ok()
+}
+
+/// Whether a frame could be written.
+fn write_frame(frame: &Frame, out: &mut Vec<u8>) -> Option<()>
     requires { AllByRecursion (IsBlock 32) frame.now.blocks }
 {
-    let body = u32::try_from(used.checked_sub(HEAD_LEN)?).ok()?;
+    let body = body_length(frame.blocks.as_slice())?;
     let count = u32::try_from(frame.blocks.as_slice().len()).ok()?;
     encode_frame_head(frame.number, body, count, out).ok()?;
     for block in frame.blocks.as_slice() {
@@ -26,27 +40,34 @@ fn write_frame(frame: &Frame, used: usize, out: &mut Vec<u8>) -> Option<()>
     Some(())
 }
 
-/// Writes the frame at the front of bytes again, and tells its length: 0 where there is none.
-#[tactic(auto, using(bw_codec::proofs::Wider::blocks_wider))]
+/// Writes the frame at the front of bytes in format 2, and tells its length here: 0 where there is
+/// none.
 fn copy_frame(alloc: Global, bytes: &[u8], header: &Header, out: &mut Vec<u8>) -> Option<usize> {
     if 32 < header.m {
         return None;
     }
-    match read_frame(alloc, bytes, header).ok()? {
-        FrameRead::Whole(frame, used) => {
-            write_frame(&frame, used, out)?;
+    match read_frame(alloc, bytes, header) {
+        Ok(FrameRead::Whole(frame, used)) => {
+            write_frame(&frame, out)?;
             Some(used)
         }
-        FrameRead::Tail => Some(0),
+        Ok(FrameRead::Tail) => Some(0),
+        Err(_) => None,
     }
 }
 
-/// Writes a segment's header and whole frames again, from what was read of them.
+/// Writes a segment's header and whole frames in format 2, from what was read of them.
 fn rewrite(alloc: Global, bytes: &[u8], out: &mut Vec<u8>) -> Option<()> {
     let HeaderRead::Whole(header) = read_header(bytes) else {
         return None;
     };
-    encode_header(&header, out).ok()?;
+    let new = Header {
+        version: LATEST,
+        number: header.number,
+        m: header.m,
+        f: MIN_FRAME,
+    };
+    encode_header(&new, out).ok()?;
     let mut rest = bytes.get(HEADER_LEN..)?;
     for _ in 0..5 {
         let used = copy_frame(alloc, rest, &header, out)?;
@@ -55,17 +76,33 @@ fn rewrite(alloc: Global, bytes: &[u8], out: &mut Vec<u8>) -> Option<()> {
     Some(())
 }
 
-impl Row for &'static str {
-    /// Whether a segment of these digits is written again as it stands.
+/// A segment, and what it is in format 2.
+type Written = (&'static str, &'static str);
+
+impl Row for Written {
+    /// Whether a segment of these digits is written so.
     fn goes(&self, alloc: Global) -> Option<bool> {
-        let bytes = bytes_of(alloc, *self)?;
+        let bytes = bytes_of(alloc, self.0)?;
+        let told = bytes_of(alloc, self.1)?;
         let mut again = Vec::new(alloc);
         rewrite(alloc, &bytes, &mut again)?;
-        Some(again.as_slice() == bytes.as_slice())
+        Some(again.as_slice() == told.as_slice())
     }
 }
 
-const SEGMENTS: &[&str] = &[FIRST, SECOND, OLDER, NEWER, LAST];
+/// What is read of either format is written in format 2.
+const SEGMENTS: &[Written] = &[
+    (NEW_FIRST, NEW_FIRST),
+    (NEW_SECOND, NEW_SECOND),
+    (NEW_OLDER, NEW_OLDER),
+    (NEW_NEWER, NEW_NEWER),
+    (NEW_LAST, NEW_LAST),
+    (FIRST, NEW_FIRST),
+    (SECOND, NEW_SECOND),
+    (OLDER, NEW_OLDER),
+    (NEWER, NEW_NEWER),
+    (LAST, NEW_LAST),
+];
 
 #[test]
 fn the_worked_bytes_are_read_and_written_again(rt: HostRuntime) {
@@ -83,13 +120,13 @@ fn is_written(alloc: Global, bytes: &[u8]) -> Option<bool> {
 /// Whether the first segment's head, its frame's, and its first block are written as they stand there
 /// by the calls that take no memory.
 fn are_written(alloc: Global, bytes: &[u8]) -> Option<bool> {
-    let rest = behind(Some(bytes), header_cells(1, 4, 16_384).as_slice());
-    let rest = behind(rest, frame_cells(1, 32, 2).as_slice());
+    let rest = behind(Some(bytes), header_cells(1, 4, 65_536).as_slice());
+    let rest = behind(rest, frame_cells(1, 33, 2).as_slice());
     is_written(alloc, rest?.get(..8)?)
 }
 
 fn parts_are_written(alloc: Global) -> Option<bool> {
-    let bytes = bytes_of(alloc, FIRST)?;
+    let bytes = bytes_of(alloc, NEW_FIRST)?;
     are_written(alloc, &bytes)
 }
 

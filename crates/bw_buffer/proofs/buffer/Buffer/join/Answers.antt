@@ -5,7 +5,7 @@ use Rattle.std.specs.HashMap.{spare, hash_map_len}
 use Rattle.bw_codec.specs.Grammar.{op_bytes}
 use Rattle.bw_codec.specs.declared.block.Block.TheVariants.{Delta}
 use Rattle.bw_buffer.specs.Filling.{Filling, with_all}
-use Rattle.bw_buffer.specs.Joining.{joins, joined}
+use Rattle.bw_buffer.specs.Joining.{joins_of, joined}
 use Rattle.bw_buffer.specs.Laid.{blocks_of, Holds}
 use Rattle.bw_buffer.specs.declared.rows.Row.{Row}
 use Rattle.bw_buffer.specs.declared.rows.Piece.{Piece}
@@ -70,7 +70,7 @@ now_holds c =
       unsealed = ap (λ (f : Filling). f.is_sealed) c.self.view_is ∙ c.requires.unsealed;
       some = c.requires.lawful.count.0;
       lawful = c.requires.lawful.each;
-      joins = ap (λ (f : Filling). joins c.args.page f.blocks) c.self.view_is ∙ c.requires.joins;
+      joins = ap (λ (f : Filling). joins_of (length c.args.ops.now) c.args.page f.blocks) c.self.view_is ∙ c.requires.joins;
       fits = fits;
       frame = refl;
       limit = refl;

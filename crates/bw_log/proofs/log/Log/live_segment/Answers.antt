@@ -6,7 +6,7 @@ pub overflow_add-result : goal.overflow_add-result
 overflow_add-result g c =
     let s = c.args.self.now in
     let inside : c.args.i < length s.live.items = omega (arith, s.live.ok.0) in
-    omega (arith, box_number _ s.m s.f s.number s.live.items c.args.i c.requires.holds.live inside)
+    omega (arith, box_number _ _ s.number s.live.items c.args.i c.requires.holds.live.1 inside)
 
 pub returns : goal.returns
 returns g c =

@@ -1,38 +1,52 @@
-use Rattle.std.proofs.Common.{refl}
+use Rattle.std.proofs.Common.{refl, sym, subst}
+use Rattle.bw_codec.specs.declared.record.Record.{Record}
+use Rattle.bw_page.specs.Shown.{IsHere}
+use Rattle.bw_codec.specs.Record.{key_of}
+use Rattle.bw_page.specs.Aim.{IsAim}
 use Rattle.bw_page.proofs.Closed.{found_at, within_at}
 use Rattle.bw_page.proofs.PutBack.{back_here, back_stays, view_back, filed_back}
 use Rattle.bw_page.proofs.leaves.Leaves.change_back.Goals as goal
 
 pub aim-at-requires-clause-here : goal.aim-at-requires-clause-here
-aim-at-requires-clause-here c = back_here c.self.inside c.self.invariant c.args.self.now c.self.view_is c.args.back.now c.requires
+aim-at-requires-clause-here c =
+    subst (λ (r : Record). IsHere (key_of r) c.args.self.now) (sym c.record-record.ensures)
+    (back_here c.self.inside c.self.invariant c.args.self.now c.self.view_is c.args.back c.requires)
 
-pub change-requires-clause-found : goal.change-requires-clause-found
-change-requires-clause-found c =
-    found_at c.self.inside c.self.invariant c.args.self.now c.self.view_is c.args.back.now c.aim-at.ensures.lawful c.aim-at.result.0 c.aim-at.result.1
-    c.aim-at.ensures.page c.aim-at.ensures.pairs c.aim-at.result.2 c.aim-at.ensures.sought
+pub take_back-requires-clause-found : goal.take_back-requires-clause-found
+take_back-requires-clause-found c =
+    let aim : IsAim c.args.self.now c.args.back c.aim-at.result.0 c.aim-at.result.1 c.aim-at.result.2 =
+    subst (λ (r : Record). IsAim c.args.self.now r c.aim-at.result.0 c.aim-at.result.1 c.aim-at.result.2) c.record-record.ensures c.aim-at.ensures in
+    found_at c.self.inside c.self.invariant c.args.self.now c.self.view_is c.args.back aim.lawful c.aim-at.result.0 c.aim-at.result.1
+    aim.page aim.pairs c.aim-at.result.2 aim.sought
 
-pub change-requires-clause-found_within : goal.change-requires-clause-found_within
-change-requires-clause-found_within c =
-    within_at c.self.inside c.self.invariant c.args.self.now c.self.view_is c.args.back.now c.aim-at.ensures.lawful c.aim-at.result.0 c.aim-at.result.1
-    c.aim-at.ensures.page c.aim-at.ensures.pairs c.aim-at.result.2 c.aim-at.ensures.ends
+pub take_back-requires-clause-found_within : goal.take_back-requires-clause-found_within
+take_back-requires-clause-found_within c =
+    let aim : IsAim c.args.self.now c.args.back c.aim-at.result.0 c.aim-at.result.1 c.aim-at.result.2 =
+    subst (λ (r : Record). IsAim c.args.self.now r c.aim-at.result.0 c.aim-at.result.1 c.aim-at.result.2) c.record-record.ensures c.aim-at.ensures in
+    within_at c.self.inside c.self.invariant c.args.self.now c.self.view_is c.args.back aim.lawful c.aim-at.result.0 c.aim-at.result.1
+    aim.page aim.pairs c.aim-at.result.2 aim.ends
 
-pub unreachable-requires : goal.unreachable-requires
-unreachable-requires c =
-    let adds = back_stays c.self.inside c.self.invariant c.args.self.now c.self.view_is c.args.back.now c.requires c.aim-at.result.2 c.aim-at.ensures.sought in
-    let ok = c.in-Err.ensures.succeeds adds in
-    absurd (cc)
+pub take_back-requires-clause-none : goal.take_back-requires-clause-none
+take_back-requires-clause-none c =
+    let aim : IsAim c.args.self.now c.args.back c.aim-at.result.0 c.aim-at.result.1 c.aim-at.result.2 =
+    subst (λ (r : Record). IsAim c.args.self.now r c.aim-at.result.0 c.aim-at.result.1 c.aim-at.result.2) c.record-record.ensures c.aim-at.ensures in
+    back_stays c.self.inside c.self.invariant c.args.self.now c.self.view_is c.args.back c.requires c.aim-at.result.2 aim.sought
 
 pub returns : goal.returns
 returns c =
-    view_back c.self.inside c.self.invariant c.args.self.now c.self.view_is c.args.back.now c.requires c.aim-at.ensures.lawful c.aim-at.result.0
-    c.aim-at.ensures.page (record { m = c.self.inside.m; leaves = c.change.new.self; index = c.self.inside.index }) refl
-    c.change.ensures.away c.in-Ok.ensures.ok
+    let aim : IsAim c.args.self.now c.args.back c.aim-at.result.0 c.aim-at.result.1 c.aim-at.result.2 =
+    subst (λ (r : Record). IsAim c.args.self.now r c.aim-at.result.0 c.aim-at.result.1 c.aim-at.result.2) c.record-record.ensures c.aim-at.ensures in
+    view_back c.self.inside c.self.invariant c.args.self.now c.self.view_is c.args.back c.requires aim.lawful c.aim-at.result.0
+    aim.page (record { m = c.self.inside.m; leaves = c.take_back.new.self; index = c.self.inside.index }) refl
+    c.take_back.ensures.away c.take_back.ensures.items
 
 pub invariant_of-self : goal.invariant_of-self
 invariant_of-self c =
-    filed_back c.self.inside c.self.invariant c.args.self.now c.self.view_is c.args.back.now c.requires
-    (record { m = c.self.inside.m; leaves = c.change.new.self; index = c.self.inside.index }) refl
-    (view_back c.self.inside c.self.invariant c.args.self.now c.self.view_is c.args.back.now c.requires c.aim-at.ensures.lawful c.aim-at.result.0
-    c.aim-at.ensures.page (record { m = c.self.inside.m; leaves = c.change.new.self; index = c.self.inside.index }) refl
-    c.change.ensures.away c.in-Ok.ensures.ok)
+    let aim : IsAim c.args.self.now c.args.back c.aim-at.result.0 c.aim-at.result.1 c.aim-at.result.2 =
+    subst (λ (r : Record). IsAim c.args.self.now r c.aim-at.result.0 c.aim-at.result.1 c.aim-at.result.2) c.record-record.ensures c.aim-at.ensures in
+    filed_back c.self.inside c.self.invariant c.args.self.now c.self.view_is c.args.back c.requires
+    (record { m = c.self.inside.m; leaves = c.take_back.new.self; index = c.self.inside.index }) refl
+    (view_back c.self.inside c.self.invariant c.args.self.now c.self.view_is c.args.back c.requires aim.lawful c.aim-at.result.0
+    aim.page (record { m = c.self.inside.m; leaves = c.take_back.new.self; index = c.self.inside.index }) refl
+    c.take_back.ensures.away c.take_back.ensures.items)
     (λ q. refl)

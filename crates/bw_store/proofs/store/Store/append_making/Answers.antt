@@ -43,6 +43,7 @@ invariant_of-self g c = record {
       ∙ ap (tails_for (length c.args.self.now.leaves.leaves)) (sym c.begin_next.ensures.empty);
   logged = λ p away. ap (λ (bs : List Block). is_made p bs) c.begin_next.ensures.empty;
   forgotten = c.args.self.now.forgotten;
+  began = c.args.self.now.began;
 }
 
 pub returns-in-Ok-clause-sound : goal.returns-in-Ok-clause-sound

@@ -10,7 +10,7 @@ use Rattle.bw_store.proofs.FollowMore.{follows_as, follows_read}
 use Rattle.bw_store.proofs.store.Store.count.Goals as goal
 
 pub pages-init : goal.pages-init
-pages-init g c = record { sound = c.requires; same = refl; pages = refl; so_far = sym (total_none c.args.self.now.leaves.leaves) }
+pages-init g c = record { sound = c.requires; same = refl; pages = refl; so_far = sym (total_none c.args.self.now.leaves.leaves); noted = refl }
 
 pub returns-in_err-pairs-clause-follows : goal.returns-in_err-pairs-clause-follows
 returns-in_err-pairs-clause-follows g c =
@@ -47,6 +47,7 @@ pages-preserved g c =
       same = c.in_ok-pairs.ensures.leaves ∙ c.pages.invariant.same;
       pages = c.pairs_on.ensures.pages ∙ c.pages.invariant.pages;
       so_far = omega arith;
+      noted = c.pairs_on.ensures.noted ∙ c.pages.invariant.noted;
     }
 
 pub returns-clause-value : goal.returns-clause-value

@@ -1,5 +1,5 @@
 use Rattle.std.proofs.Common.{◌≡◌}
-use Rattle.bw_store.specs.Views.{kept_by, IsSound}
+use Rattle.bw_store.specs.Views.{kept_by, noted_of, IsSound}
 use Rattle.bw_store.proofs.Counted.{total}
 use Rattle.bw_store.proofs.store.Store.count.Given as goal
 
@@ -9,4 +9,5 @@ invariant-pages g l = record {
   same : kept_by l.self (λ z. (goal.Segment-dyn g z).holding z.1) ≡ kept_by l.initial.self (λ z. (goal.Segment-dyn g z).holding z.1);
   pages : l.self.leaves ≡ l.initial.self.leaves;
   so_far : l.pairs ≡ total l.initial.self.leaves.leaves l.before;
+  noted : noted_of l.self ≡ noted_of l.initial.self;
 }

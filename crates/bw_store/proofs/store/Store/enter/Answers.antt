@@ -73,6 +73,7 @@ invariant_of-self-2 g c =
           ∙ away_entered f.m f.leaves c.args.back here c.args.item was.making.blocks f.away q
           (subst (λ (ps : List ℕ). is_among q ps ≡ true) c.apply_on.ensures.away away) c.requires.here
           (c.count.ensures.beyond (length f.leaves + 1) (omega arith)) (was.logged q (subst (λ (ps : List ℕ). is_among q ps ≡ true) c.apply_on.ensures.away away));
+      began = was.began;
       forgotten = (let entered = c.enter.ensures.gone in let reserved = c.reserve.ensures.gone in let known = was.forgotten in omega arith);
     }
 

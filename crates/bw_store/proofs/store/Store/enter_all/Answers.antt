@@ -97,6 +97,7 @@ invariant_of-self-2 g c =
           away_now s c.args.group c.args.draft.now c.requires.sound c.requires.lawful c.requires.draft was.leaves.away q _ _ c.requires.here c.count.ensures.beyond
           (subst (λ (ps : List ℕ). is_among q ps ≡ true) away there) (was.logged q (subst (λ (ps : List ℕ). is_among q ps ≡ true) away there))
           c.file_all.ensures.making c.as_slice-3.ensures.value;
+      began = was.began;
       forgotten = (let entered = c.enter.ensures.gone in let reserved = c.reserve.ensures.gone in let known = was.forgotten in omega arith);
     }
 

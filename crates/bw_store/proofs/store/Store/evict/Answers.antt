@@ -1,6 +1,7 @@
 use Rattle.std.proofs.Common.{◌∙◌, Bool, List, length, ap, sym, arith}
 use Rattle.std.specs.Prelude.{not, ◌&&◌}
 use Rattle.bw_codec.specs.declared.leaf.Leaf.{Leaf}
+use Rattle.bw_store.specs.declared.counters.Tally.{Tally}
 use Rattle.bw_store.specs.Tails.{is_made, tails_for}
 use Rattle.bw_store.proofs.TailLists.{as_many, tail_here}
 use Rattle.bw_store.specs.Views.{kept_by}
@@ -55,4 +56,5 @@ invariant_of-self g c =
       logged = away_more c.args.self.now.leaves c.put_away.new.self c.args.page c.args.self.now.making.blocks c.put_away.ensures.away
           c.args.self.now.logged (made ∙ c.if-is_none.false);
       forgotten = c.args.self.now.forgotten;
+      began = ap (λ (t : Tally). t.pages) c.with_eviction-self.ensures ∙ c.args.self.now.began;
     }

@@ -13,6 +13,7 @@ invariant_of-self g c =
       tailed = read.tailed ∙ ap (λ (ls : List Leaf). tails_for (length ls) read.making.blocks) (sym c.bring_back.ensures.leaves);
       logged = away_less read.leaves c.bring_back.new.self c.find-page.result read.making.blocks c.bring_back.ensures.away read.logged;
       forgotten = read.forgotten;
+      began = read.began;
     }
 
 pub returns-clause-others : goal.returns-clause-others

@@ -8,7 +8,7 @@ use Rattle.bw_store.proofs.Fetched.{all_here, all_more, all_taken, walk_later}
 use Rattle.bw_store.proofs.store.Store.fetch_all.Goals as goal
 
 pub records-init : goal.records-init
-records-init g c = record { sound = c.requires.sound; intake = refl; same = refl; here = tt; ops = tt }
+records-init g c = record { sound = c.requires.sound; intake = refl; same = refl; here = tt; ops = tt; noted = refl }
 
 pub records-preserved : goal.records-preserved
 records-preserved g c =
@@ -16,6 +16,7 @@ records-preserved g c =
     record {
       sound = c.fetch_one.ensures.sound;
       intake = c.fetch_one.ensures.intake ∙ i.intake;
+      noted = c.fetch_one.ensures.noted ∙ i.noted;
       same = c.in_ok-fetch_one.ensures.leaves ∙ i.same;
       here = all_more (λ r. IsHere (key_of r) c.fetch_one.new.self.leaves) c.args.records.now c.records.at _ c.records-test.true c.index-records-at.is
           (all_here c.records.self.leaves c.fetch_one.new.self.leaves _ c.in_ok-fetch_one.ensures.others i.here) c.in_ok-fetch_one.ensures.here;

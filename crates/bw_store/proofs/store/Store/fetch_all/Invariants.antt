@@ -3,7 +3,7 @@ use Rattle.std.specs.List.{AllByRecursion}
 use Rattle.bw_codec.specs.Grammar.{IsOp}
 use Rattle.bw_codec.specs.Record.{key_of}
 use Rattle.bw_page.specs.Shown.{IsHere}
-use Rattle.bw_store.specs.Views.{kept_by, IsSound}
+use Rattle.bw_store.specs.Views.{kept_by, noted_of, IsSound}
 use Rattle.bw_store.proofs.store.Store.fetch_all.Given as goal
 
 abbrev pub invariant-records : goal.invariant-records
@@ -13,4 +13,5 @@ invariant-records g l = record {
   same : kept_by l.self (λ z. (goal.Segment-dyn g z).holding z.1) ≡ kept_by l.initial.self (λ z. (goal.Segment-dyn g z).holding z.1);
   here : AllByRecursion (λ r. IsHere (key_of r) l.self.leaves) (take l.at l.records);
   ops : AllByRecursion IsOp (take l.at l.records);
+  noted : noted_of l.self ≡ noted_of l.initial.self;
 }

@@ -17,6 +17,7 @@ pages-init g c =
       sound = c.requires;
       same = refl;
       pages = refl;
+      noted = refl;
       come = subst (λ (f : Bytes). HasCome (map_of s) c.args.key.now f) (sym c.copy-from.ensures) (walk_first s c.requires c.args.key.now);
     }
 
@@ -54,6 +55,7 @@ pages-preserved g c =
       sound = c.pair_from.ensures.sound;
       same = c.in_ok-found.ensures.leaves ∙ c.pages.invariant.same;
       pages = c.pair_from.ensures.pages ∙ c.pages.invariant.pages;
+      noted = c.pair_from.ensures.noted ∙ c.pages.invariant.noted;
       come = walk_further s c.requires c.args.key.now c.pages.from c.in-Some.low c.pages.invariant.come none next;
     }
 

@@ -2,7 +2,7 @@ use Rattle.std.proofs.Common.{◌≡◌, ◌<◌, ◌≤◌, ◌*◌, ℕ, lengt
 use Rattle.bw_store.specs.Following.{TookGroups}
 use Rattle.bw_store.specs.Kept.{Kept}
 use Rattle.bw_store.specs.Lanes.{IsDry}
-use Rattle.bw_store.specs.Views.{kept_by, IsSound}
+use Rattle.bw_store.specs.Views.{kept_by, noted_of, IsSound}
 use Rattle.bw_store.proofs.store.Store.round_more.Given as goal
 
 abbrev pub invariant-lanes : goal.invariant-lanes
@@ -15,4 +15,5 @@ invariant-lanes g l = record {
   within : l.so_far.groups ≤ l.limit;
   few : l.so_far.records ≤ 4 * l.so_far.groups;
   dry : l.so_far.groups ≡ l.fn.taken.groups → (i : ℕ) → i < l.lane → IsDry l.self.intake.lanes.items i;
+  noted : noted_of l.self ≡ noted_of l.initial.self;
 }

@@ -17,6 +17,7 @@ pages-init g c =
       sound = c.requires;
       same = refl;
       pages = refl;
+      noted = refl;
       gone = subst (λ (x : Bytes × Pairs). HasGone (map_of s) c.args.key.now x.0 c.args.most x.1)
           (λ i. (sym c.copy-from.ensures i, sym c.clear.ensures.items i)) (stretch_first s c.requires c.args.key.now c.args.most);
     }
@@ -43,6 +44,7 @@ pages-preserved g c =
       sound = c.add_pairs.ensures.sound;
       same = c.in_ok-add_pairs.ensures.leaves ∙ c.pages.invariant.same;
       pages = c.add_pairs.ensures.pages ∙ c.pages.invariant.pages;
+      noted = c.add_pairs.ensures.noted ∙ c.pages.invariant.noted;
       gone = subst (λ (ps : Pairs). HasGone (map_of s) c.args.key.now c.in-Some.low c.args.most ps) (sym value)
           (stretch_more s c.requires c.args.key.now c.pages.from c.args.most c.pages.found.items c.pages.invariant.gone c.in-Some.low
           (omega (arith, c.pages-test.true, c.len.ensures)) next);

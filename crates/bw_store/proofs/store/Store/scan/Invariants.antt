@@ -1,6 +1,6 @@
 use Rattle.std.proofs.Common.{◌≡◌}
 use Rattle.bw_page.specs.Ahead.{HasGone, ahead}
-use Rattle.bw_store.specs.Views.{kept_by, IsSound}
+use Rattle.bw_store.specs.Views.{kept_by, noted_of, IsSound}
 use Rattle.bw_store.proofs.Walks.{map_of}
 use Rattle.bw_store.proofs.store.Store.scan.Given as goal
 
@@ -10,6 +10,7 @@ invariant-pages g l = record {
   same : kept_by l.self (λ z. (goal.Segment-dyn g z).holding z.1) ≡ kept_by l.initial.self (λ z. (goal.Segment-dyn g z).holding z.1);
   pages : l.self.leaves ≡ l.initial.self.leaves;
   gone : HasGone (map_of (kept_by l.initial.self (λ z. (goal.Segment-dyn g z).holding z.1))) l.key l.from l.most l.found.items;
+  noted : noted_of l.self ≡ noted_of l.initial.self;
 }
 
 abbrev pub decreases-pages : goal.decreases-pages

@@ -5,7 +5,7 @@ use Rattle.bw_store.proofs.Laned.{dry_next, given_all}
 use Rattle.bw_store.proofs.store.Store.take_known.Goals as goal
 
 pub lanes-init : goal.lanes-init
-lanes-init g c = record { sound = c.requires.sound; count = refl; given = refl; dry = λ i lt. absurd (omega arith); took = (0, in_turn_as _ _ refl) }
+lanes-init g c = record { sound = c.requires.sound; count = refl; given = refl; dry = λ i lt. absurd (omega arith); took = (0, in_turn_as _ _ refl); noted = refl }
 
 pub lanes-preserved : goal.lanes-preserved
 lanes-preserved g c =
@@ -16,6 +16,7 @@ lanes-preserved g c =
       given = c.in_ok-take_lane.ensures.given ∙ i.given;
       dry = dry_next _ _ c.lanes.lane i.dry c.in_ok-take_lane.ensures.others c.in_ok-take_lane.ensures.dry;
       took = some_then _ _ _ i.took c.in_ok-take_lane.ensures.took;
+      noted = c.take_lane.ensures.noted ∙ i.noted;
     }
 
 pub returns-in_err-take_lane-clause-took : goal.returns-in_err-take_lane-clause-took

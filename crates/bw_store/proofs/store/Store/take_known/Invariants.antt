@@ -2,7 +2,7 @@ use Rattle.std.proofs.Common.{◌≡◌, ◌<◌, ℕ, [], length, map}
 use Rattle.bw_ring.specs.Ends.{given}
 use Rattle.bw_store.specs.Following.{TookSome}
 use Rattle.bw_store.specs.Lanes.{known_at}
-use Rattle.bw_store.specs.Views.{kept_by, IsSound}
+use Rattle.bw_store.specs.Views.{kept_by, noted_of, IsSound}
 use Rattle.bw_store.proofs.store.Store.take_known.Given as goal
 
 abbrev pub invariant-lanes : goal.invariant-lanes
@@ -13,4 +13,5 @@ invariant-lanes g l = record {
   dry : (i : ℕ) → i < l.lane → known_at l.self.intake.lanes.items i ≡ [];
   took : TookSome (kept_by l.initial.self (λ z. (goal.Segment-dyn g z).holding z.1))
       (kept_by l.self (λ z. (goal.Segment-dyn g z).holding z.1));
+  noted : noted_of l.self ≡ noted_of l.initial.self;
 }

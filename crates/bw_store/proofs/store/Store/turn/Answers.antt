@@ -1,10 +1,10 @@
-use Rattle.std.proofs.Common.{refl, arith}
+use Rattle.std.proofs.Common.{refl, ◌∙◌, arith}
 use Rattle.std.proofs.lemmas.Result.{err_from_is_err_and}
 use Rattle.bw_store.proofs.FollowMore.{no_groups, refused_turned}
 use Rattle.bw_store.proofs.store.Store.turn.Goals as goal
 
 pub rounds-init : goal.rounds-init
-rounds-init g c = record { sound = c.requires.sound; turned = no_groups _ _ refl; within = omega arith; few = omega arith }
+rounds-init g c = record { sound = c.requires.sound; turned = no_groups _ _ refl; within = omega arith; few = omega arith; noted = refl }
 
 pub rounds-preserved : goal.rounds-preserved
 rounds-preserved g c = record {
@@ -12,6 +12,7 @@ rounds-preserved g c = record {
   turned = c.in_ok-more.ensures.turned _ c.rounds.invariant.turned;
   within = c.in_ok-more.ensures.within.1;
   few = c.in_ok-more.ensures.few;
+  noted = c.in_ok-more.ensures.noted ∙ c.rounds.invariant.noted;
 }
 
 pub returns-then-more-taken-clause-turned : goal.returns-then-more-taken-clause-turned

@@ -1,6 +1,6 @@
-use Rattle.std.proofs.Common.{◌≤◌, ◌*◌, ◌-◌}
+use Rattle.std.proofs.Common.{◌≡◌, ◌≤◌, ◌*◌, ◌-◌}
 use Rattle.bw_store.specs.Following.{TookGroups}
-use Rattle.bw_store.specs.Views.{kept_by, IsSound}
+use Rattle.bw_store.specs.Views.{kept_by, noted_of, IsSound}
 use Rattle.bw_store.proofs.store.Store.turn.Given as goal
 
 abbrev pub invariant-rounds : goal.invariant-rounds
@@ -10,6 +10,7 @@ invariant-rounds g l = record {
       (kept_by l.self (λ z. (goal.Segment-dyn g z).holding z.1));
   within : l.taken.groups ≤ l.limit;
   few : l.taken.records ≤ 4 * l.taken.groups;
+  noted : noted_of l.self ≡ noted_of l.initial.self;
 }
 
 abbrev pub decreases-rounds : goal.decreases-rounds

@@ -1,0 +1,95 @@
+//! A key with its value, in no more room than they take.
+
+ghost use Rattle.std.specs.Prelude.{◌≡◌, ◌≤◌, length, IfOk};
+
+use crate::key::{Key, Value};
+use std::alloc::{AllocError, Global};
+use std::marker::Model;
+
+/// A key and its value, as pages hold them: their bytes in one run of memory.
+pub struct Pair {
+    /// The key's length, the key's bytes, and the value's.
+    bytes: Vec<u8>,
+}
+
+impl Drop for Pair {
+    fn drop(self) {
+        let Pair { bytes: _ } = self;
+    }
+}
+
+impl Model for Pair {
+    ghost use Rattle.std.specs.Prelude.{List, ℕ};
+    ghost use Rattle.bw_codec.specs.Paired.{paired, IsPaired};
+
+    ghost Value = { List ℕ × List ℕ };
+
+    ghost view = { λ p. paired p.bytes.items };
+
+    ghost invariant = { λ p. IsPaired p.bytes.items };
+}
+
+impl Pair {
+    /// This key with this value. It takes memory, whose refusal is the only error.
+    pub fn of(alloc: Global, key: &Key, value: &Value) -> Result<Pair, AllocError>
+        ensures { IfOk result (λ pair. pair ≡ (key.now, value.now)) }
+    {
+        let key = key.as_slice();
+        let value = value.as_slice();
+        let mut bytes = Vec::with_capacity(alloc, 1 + key.len() + value.len())?;
+        bytes.push(key.len() as u8)?;
+        bytes.extend_from_slice(key)?;
+        bytes.extend_from_slice(value)?;
+        Ok(Pair { bytes })
+    }
+
+    /// The key's bytes.
+    pub fn key(&self) -> &[u8]
+        ensures value { result.now ≡ self.now.0 }
+        ensures lawful { (1 ≤ length self.now.0) × (length self.now.0 ≤ 128) }
+    {
+        match self.bytes.as_slice() {
+            [length, rest @ ..] => &rest[..usize::from(*length)],
+            [] => unreachable!(),
+        }
+    }
+
+    /// The value's bytes.
+    pub fn value(&self) -> &[u8]
+        ensures value { result.now ≡ self.now.1 }
+        ensures lawful { length self.now.1 ≤ 512 }
+    {
+        match self.bytes.as_slice() {
+            [length, rest @ ..] => &rest[usize::from(*length)..],
+            [] => unreachable!(),
+        }
+    }
+
+    /// The key in fixed room. No memory is taken.
+    pub fn to_key(&self) -> Key
+        ensures { result ≡ self.now.0 }
+    {
+        match Key::new(self.key()) {
+            Ok(key) => key,
+            Err(_) => unreachable!(),
+        }
+    }
+
+    /// The value in fixed room. No memory is taken.
+    pub fn to_value(&self) -> Value
+        ensures { result ≡ self.now.1 }
+    {
+        match Value::new(self.value()) {
+            Ok(value) => value,
+            Err(_) => unreachable!(),
+        }
+    }
+
+    /// The same pair. It takes memory, whose refusal is the only error.
+    pub fn copy(&self) -> Result<Pair, AllocError>
+        ensures { IfOk result (λ pair. pair ≡ self.now) }
+    {
+        let bytes = Vec::from_slice(*self.bytes.allocator(), self.bytes.as_slice())?;
+        Ok(Pair { bytes })
+    }
+}

@@ -1,0 +1,16 @@
+use Rattle.std.proofs.Common.{◌∙◌, sym, ap}
+use Rattle.std.specs.Prelude.{is_none}
+use Rattle.std.specs.FinMap.Entries.{find}
+use Rattle.bw_codec.specs.Record.{key_of}
+use Rattle.bw_codec.specs.declared.record.Record.{Record}
+use Rattle.bw_codec.specs.declared.record.Record.TheVariants.{Del}
+use Rattle.bw_page.specs.Leaves.{order}
+use Rattle.bw_page.specs.Seek.{back_of}
+use Rattle.bw_page.proofs.Sorted.{ascends_rises}
+use Rattle.bw_page.proofs.Valued.{removed}
+use Rattle.bw_page.proofs.changes.removes.Goals as goal
+
+pub returns-in-Del : goal.returns-in-Del
+returns-in-Del c pairs rises found =
+    c.is_ok.ensures.value ∙ removed (key_of c.args.change.now) pairs c.args.found (ascends_rises _ rises) found
+    ∙ ap (λ (r : Record). is_none (back_of r (find order (key_of c.args.change.now) pairs))) (ap Del (ap key_of c.in-Del.is) ∙ sym c.in-Del.is)

@@ -1,0 +1,69 @@
+//! Pages that are about to change are read ahead.
+//!
+//! A record waits for its page's seat, for the row of heads there, and for one pair, each of which may
+//! be far away in memory. Where many records are to come, these loops ask for all of their pages one
+//! after the other, and the processor waits for many at once.
+//!
+//! What they answer is of no use; but the reads are made only where it is used.
+
+use super::{HasRecord, Leaves};
+use bw_codec::Key;
+
+/// How many heads of a row stand side by side in memory.
+const ROW: usize = 8;
+
+impl Leaves {
+    /// Reads ahead what these records will look at, if the page of each is the one at its index here.
+    pub(super) fn read_ahead<T: HasRecord>(&self, items: &[T], pages: &[u32]) -> u64 {
+        self.read_fronts(pages) ^ self.read_rows(pages) ^ self.read_pairs(items, pages)
+    }
+
+    fn read_fronts(&self, pages: &[u32]) -> u64 {
+        let mut sum = 0;
+        for page in pages {
+            sum ^= self.head_at(*page, 0);
+        }
+        sum
+    }
+
+    fn read_rows(&self, pages: &[u32]) -> u64 {
+        let mut sum = 0;
+        for page in pages {
+            sum ^= self.head_at(*page, ROW)
+                ^ self.head_at(*page, 2 * ROW)
+                ^ self.head_at(*page, 3 * ROW);
+        }
+        sum
+    }
+
+    fn read_pairs<T: HasRecord>(&self, items: &[T], pages: &[u32]) -> u64 {
+        let mut sum = 0;
+        for (item, page) in items.iter().zip(pages) {
+            sum ^= self.length_at(*page, item.record().key());
+        }
+        sum
+    }
+
+    /// A head in the row of a page, or 0.
+    fn head_at(&self, page: u32, at: usize) -> u64 {
+        match self.page(page) {
+            Some(leaf) => match leaf.pairs.heads().get(at) {
+                Some(head) => *head,
+                None => 0,
+            },
+            None => 0,
+        }
+    }
+
+    /// The length of the key on a page at which a search for this key begins, or 0.
+    fn length_at(&self, page: u32, key: &Key) -> u64 {
+        let Some(leaf) = self.page(page) else {
+            return 0;
+        };
+        let from = leaf.pairs.skipped(key.as_slice());
+        match leaf.pairs.as_slice().get(from) {
+            Some(pair) => pair.key().len() as u64,
+            None => 0,
+        }
+    }
+}

@@ -1,0 +1,164 @@
+-- What the answer of an upgrade says of the store.
+
+use Rattle.std.proofs.Common.{inl, inr, ◌≡◌, ◌⊎◌, ℕ, ◌+◌, ◌<◌, ◌≤◌, true, false, Option, Some, None, Result, Ok, Err, List, [], ◌++◌}
+use Rattle.std.proofs.Common.{length, drop, refl, sym, ap, ◌∙◌, subst, arith}
+use Rattle.std.specs.Prelude.{IfOk, IfErr}
+use Rattle.bw_codec.specs.declared.leaf.Leaf.{Leaf}
+use Rattle.bw_codec.specs.declared.block.Frame.{Frame}
+use Rattle.bw_page.specs.Standing.{Stand}
+use Rattle.bw_log.specs.Contents as logs
+use Rattle.bw_log.specs.declared.fault.LogFault.{LogFault}
+use Rattle.bw_log.specs.declared.fault.LogFault.TheVariants as log
+use Rattle.bw_care.specs.Moving as care
+use Rattle.bw_care.specs.Upgrading.{old_segments, last_of_old, pages_of_old, count_in}
+use Rattle.bw_care.specs.Upgrading as upgrades
+use Rattle.bw_care.proofs.UpgradeMoved.{more_left, old_are}
+use Rattle.bw_care.specs.declared.upgrading.Upgraded.{Upgraded}
+use Rattle.bw_care.specs.declared.fault.CleanFault.{CleanFault}
+use Rattle.bw_care.specs.declared.fault.CleanFault.TheVariants.{NothingOld, Log}
+use Rattle.bw_store.specs.declared.fault.StoreFault.{StoreFault}
+use Rattle.bw_store.specs.declared.fault.StoreFault.TheVariants as store
+use Rattle.bw_store.specs.Cleaning.{fault_of_clean, HasBoxesBut, HasFloorBut}
+use Rattle.bw_store.specs.Emptied.{Emptied}
+use Rattle.bw_store.specs.Faults.{FlushLeaves}
+use Rattle.bw_store.specs.Following.{Continues}
+use Rattle.bw_store.specs.Kept.{Kept}
+use Rattle.bw_store.specs.Upgrading.{UpgradeMoves, UpgradeLeaves, UpgradeShows}
+use Rattle.bw_store.specs.Showing.{Shows, Hides}
+use Rattle.bw_store.proofs.CleanedMore.{Begins, Cleans, GaveUp, few_upto, given_cleans, given_told, moved_follows, refused_cleans, refused_counts, stopped_roster}
+
+-- ---- the log behind it
+
+gave_up_old : (s : Kept) (upgraded : Upgraded) (new : logs.Contents) → Begins s → (x : upgrades.IsUpgraded s.log upgraded new)
+    → GaveUp (old_segments s.log) (count_in (old_segments s.log) x.then_log.live) x.then_log new
+gave_up_old s upgraded new b x = record {
+  sound = x.sound;
+  less = more_left s.log x.then_log upgraded.frames b.sound.log b.works b.done.stands.some x.moved;
+  is = x.given_up.given_up;
+  counts = x.given_up.counts;
+}
+
+pub upgraded_cleans : (s : Kept) (upgraded : Upgraded) (new : logs.Contents) → Begins s → logs.IsSound new → upgrades.IsUpgraded s.log upgraded new
+    → ((leaves : List Leaf) → Stand s.log.m (logs.counted s.log) leaves → Stand s.log.m (logs.counted new) leaves) → Cleans s (length s.log.pages) new
+upgraded_cleans s upgraded new b sound x stands =
+    given_cleans s (last_of_old s.log) (pages_of_old s.log) upgraded.frames (old_segments s.log) (count_in (old_segments s.log) x.then_log.live) (length s.log.pages)
+    x.then_log new b sound (few_upto s (last_of_old s.log)) x.moved (gave_up_old s upgraded new b x) stands
+
+pub upgraded_told : (s : Kept) (upgraded : Upgraded) (new : logs.Contents) (b : Begins s) (sound : logs.IsSound new)
+    (x : upgrades.IsUpgraded s.log upgraded new)
+    (stands : (leaves : List Leaf) → Stand s.log.m (logs.counted s.log) leaves → Stand s.log.m (logs.counted new) leaves)
+    → length (upgraded_cleans s upgraded new b sound x stands).written ≡ upgraded.frames
+unfolding upgraded_cleans
+upgraded_told s upgraded new b sound x stands =
+    given_told s (last_of_old s.log) (pages_of_old s.log) upgraded.frames (old_segments s.log) (count_in (old_segments s.log) x.then_log.live) (length s.log.pages)
+    x.then_log new b sound (few_upto s (last_of_old s.log)) x.moved (gave_up_old s upgraded new b x) stands
+
+-- an upgrade that is not refused at once
+abbrev pub Halted : Kept → LogFault → logs.Contents → Type 0
+Halted s fault new = care.StoppedBehind (last_of_old s.log) s.log (pages_of_old s.log) fault new
+
+pub halted_of : (s : Kept) (cause : CleanFault) (new : logs.Contents) → Begins s → 1 ≤ old_segments s.log → upgrades.RefusesUpgrade cause s.log new
+    → (fault : LogFault) × Halted s fault new
+halted_of s NothingOld new b some r = (let none = r.1 in absurd (omega arith))
+halted_of s (Log log.NoMemory) new b some r = (log.NoMemory, r.stopped)
+halted_of s (Log log.BadConfig) new b some r = absurd r
+halted_of s (Log log.NoSegment) new b some r = (log.NoSegment, r.stopped)
+halted_of s (Log (log.Device lease)) new b some r = (log.Device lease, r.stopped)
+halted_of s (Log log.Failed) new b some r = (let works = b.works in let failed = r.2 in absurd cc)
+halted_of s (Log log.Spent) new b some r = (log.Spent, r.stopped)
+halted_of s (Log log.NoPage) new b some r = absurd r
+
+pub halted_cleans : (s : Kept) (fault : LogFault) (new : logs.Contents) → Begins s → logs.IsSound new → Halted s fault new
+    → ((leaves : List Leaf) → Stand s.log.m (logs.counted s.log) leaves → Stand s.log.m (logs.counted new) leaves) → Cleans s (length s.log.pages) new
+halted_cleans s fault new b sound x stands =
+    refused_cleans s (last_of_old s.log) (pages_of_old s.log) fault (length s.log.pages) new b sound (few_upto s (last_of_old s.log)) x stands
+
+pub halted_counts : (s : Kept) (fault : LogFault) (new : logs.Contents) (b : Begins s) (sound : logs.IsSound new) (x : Halted s fault new)
+    (stands : (leaves : List Leaf) → Stand s.log.m (logs.counted s.log) leaves → Stand s.log.m (logs.counted new) leaves)
+    → logs.counted new ≡ logs.counted s.log ++ (halted_cleans s fault new b sound x stands).written
+unfolding halted_cleans
+halted_counts s fault new b sound x stands =
+    refused_counts s (last_of_old s.log) (pages_of_old s.log) fault (length s.log.pages) new b sound (few_upto s (last_of_old s.log)) x stands
+
+pub upgrades_of : (s : Kept) (new : logs.Contents) (r : Result Upgraded CleanFault) → Begins s → 1 ≤ old_segments s.log → logs.IsSound new
+    → IfOk r (λ upgraded. upgrades.IsUpgraded s.log upgraded new) → IfErr r (λ cause. upgrades.RefusesUpgrade cause s.log new)
+    → ((leaves : List Leaf) → Stand s.log.m (logs.counted s.log) leaves → Stand s.log.m (logs.counted new) leaves) → Cleans s (length s.log.pages) new
+upgrades_of s new (Ok upgraded) b some sound ok err stands = upgraded_cleans s upgraded new b sound ok stands
+upgrades_of s new (Err cause) b some sound ok err stands =
+    (let x = halted_of s cause new b some err in halted_cleans s x.0 new b sound x.1 stands)
+
+-- ---- what no upgrade takes back
+
+pub upgrade_follows : (s new : Kept) (r : Result Upgraded StoreFault) → s.floor ≤ s.durable → UpgradeMoves s r new → Continues s new
+upgrade_follows s new (Ok upgraded) low left =
+    moved_follows s upgraded.frames (s.durable + upgraded.frames) new.newest new.making new.log new (omega arith) left.is
+upgrade_follows s new (Err fault) low left = moved_follows s left.2.frames s.floor new.newest new.making new.log new (omega arith) left.2.is
+
+cause_roster : (old new : logs.Contents) (cause : CleanFault) → upgrades.RefusesUpgrade cause old new → logs.roster new ≡ logs.roster old
+cause_roster old new NothingOld r = ap logs.roster r.0
+cause_roster old new (Log log.NoMemory) r = stopped_roster (last_of_old old) (pages_of_old old) old new log.NoMemory r.stopped
+cause_roster old new (Log log.BadConfig) r = absurd r
+cause_roster old new (Log log.NoSegment) r = stopped_roster (last_of_old old) (pages_of_old old) old new log.NoSegment r.stopped
+cause_roster old new (Log (log.Device lease)) r = stopped_roster (last_of_old old) (pages_of_old old) old new (log.Device lease) r.stopped
+cause_roster old new (Log log.Failed) r = ap logs.roster r.0
+cause_roster old new (Log log.Spent) r = stopped_roster (last_of_old old) (pages_of_old old) old new log.Spent r.stopped
+cause_roster old new (Log log.NoPage) r = absurd r
+
+-- the leases of those given up come first in the row
+pub upgrade_boxes : (k : ℕ) (old s new : Kept) (r : Result Upgraded StoreFault) → old_segments s.log ≡ k → logs.roster s.log ≡ logs.roster old.log
+    → UpgradeMoves s r new → HasBoxesBut k old r new
+upgrade_boxes k old s new (Ok upgraded) as_many same left =
+    left.log.leases ∙ ap (λ (n : ℕ). drop n (logs.roster s.log)) as_many ∙ ap (drop k) same
+upgrade_boxes k old s new (Err fault) as_many same left = cause_roster s.log new.log left.0 left.2.log ∙ same
+
+-- the whole call
+pub upgrade_leaves : (old s new : Kept) (r : Result Upgraded StoreFault) → 1 ≤ old_segments old.log → Emptied true old s → UpgradeMoves s r new
+    → UpgradeLeaves old r new
+upgrade_leaves old s new (Ok upgraded) some may left = (some, (s, may, left))
+upgrade_leaves old s new (Err fault) some may left = inr (some, inr (s, may, inr left))
+
+pub upgrade_floor : (old s new : Kept) (r : Result Upgraded StoreFault) → s.floor ≡ old.floor → UpgradeMoves s r new → HasFloorBut old r new
+upgrade_floor old s new (Ok upgraded) same left = ap (λ (k : Kept). k.floor) left.is ∙ sym (ap (λ (k : Kept). k.durable) left.is)
+upgrade_floor old s new (Err fault) same left = ap (λ (k : Kept). k.floor) left.2.is ∙ same
+
+pub reserve_halts : (old s new : Kept) → 1 ≤ old_segments old.log → Emptied true old s → new ≡ s → UpgradeLeaves old (Err store.NoMemory) new
+reserve_halts old s new some may same = inr (some, inr (s, may, inl (refl, same)))
+
+nothing_by : (s new : Kept) (cause : CleanFault) → 1 ≤ old_segments s.log → store.NothingOld ≡ fault_of_clean cause
+    → upgrades.RefusesUpgrade cause s.log new.log → ⊥
+nothing_by s new NothingOld some e r = (let none = r.1 in omega arith)
+nothing_by s new (Log log.NoMemory) some e r = cc
+nothing_by s new (Log log.BadConfig) some e r = cc
+nothing_by s new (Log log.NoSegment) some e r = cc
+nothing_by s new (Log (log.Device lease)) some e r = cc
+nothing_by s new (Log log.Failed) some e r = cc
+nothing_by s new (Log log.Spent) some e r = cc
+nothing_by s new (Log log.NoPage) some e r = cc
+
+pub never_nothing_old : (s new : Kept) (r : Result Upgraded StoreFault) → 1 ≤ old_segments s.log → UpgradeMoves s r new → r ≡ Err store.NothingOld → ⊥
+never_nothing_old s new (Ok upgraded) some left e = cc
+never_nothing_old s new (Err fault) some left e =
+    (let same : fault ≡ store.NothingOld = cc in nothing_by s new left.0 some (sym same ∙ left.1) left.2.log)
+
+-- ---- a flush before it leaves the segments of version 1
+
+pub old_stay : (old new : Kept) (o : Option ℕ) → logs.IsSound old.log → logs.IsSound new.log → FlushLeaves old (Ok o) new
+    → old_segments new.log ≡ old_segments old.log
+old_stay old new None a b left = ap (λ (s : Kept). old_segments s.log) left.0
+old_stay old new (Some n) a b left =
+    let is = ap (λ (s : Kept). s.log) left.is in
+    let number = ap (λ (c : logs.Contents). c.number) is ∙ left.same.number in
+    let to = ap (λ (c : logs.Contents). c.old_to) is ∙ left.same.old_to in
+    let one = old_are old.log a in
+    let two = old_are new.log b in
+    omega arith
+
+-- ---- and a publication behind it
+
+pub upgrade_shows : (old middle new : Kept) (upgraded : Upgraded) → UpgradeLeaves old (Ok upgraded) middle → Shows middle new
+    → UpgradeShows old (Ok upgraded) new
+upgrade_shows old middle new upgraded left x = (middle, left, x)
+
+pub upgrade_hides : (old middle new : Kept) (upgraded : Upgraded) → UpgradeLeaves old (Ok upgraded) middle → Hides middle new
+    → UpgradeShows old (Err store.NoMemory) new
+upgrade_hides old middle new upgraded left x = inr (refl, (middle, (upgraded, left), x))

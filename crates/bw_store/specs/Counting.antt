@@ -1,0 +1,116 @@
+-- What a store counts beside what it keeps.
+
+use Rattle.std.specs.Prelude.{ℕ, zero, suc, ◌+◌, ◌-◌, ◌^◌, ◌≡◌, ◌⊎◌, Bool, true, if◌then◌else◌, min, Result, Ok, Err, List, [], ◌∷◌, length}
+use Rattle.bw_device.specs.Holding.{Holding}
+use Rattle.bw_log.specs.Contents.{Contents}
+use Rattle.bw_care.specs.declared.cleaning.Cleaned.{Cleaned}
+use Rattle.bw_care.specs.declared.fault.CleanFault.{CleanFault}
+use Rattle.bw_store.specs.declared.counters.Counters.{Counters}
+use Rattle.bw_store.specs.declared.counters.Looks.{Looks}
+use Rattle.bw_store.specs.declared.counters.Tally.{Tally}
+use Rattle.bw_store.specs.declared.fault.StoreFault.{StoreFault}
+use Rattle.bw_store.specs.declared.fault.StoreFault.TheVariants.{NoMemory}
+use Rattle.bw_store.specs.Cleaning.{IsCleaned, IsStopped}
+use Rattle.bw_store.specs.Emptied.{Emptied}
+use Rattle.bw_store.specs.Faults.{FlushLeaves}
+use Rattle.bw_store.specs.Kept.{Kept}
+use Rattle.bw_store.specs.Noted.{Noted}
+use Rattle.bw_store.specs.Showing.{Shows, Hides}
+
+-- a count with so many more: it stays where it is at the greatest number
+abbrev pub up : ℕ → ℕ → ℕ
+up n more = min (n + more) (2 ^ 64 - 1)
+
+-- ---- bytes of segments
+
+abbrev pub bytes_of : List Holding → ℕ
+bytes_of [] = 0
+bytes_of (h ∷ hs) = length h.bytes + bytes_of hs
+
+-- those of the one at an index, if there is one
+abbrev pub length_at : List Holding → ℕ → ℕ
+length_at [] i = 0
+length_at (h ∷ hs) zero = length h.bytes
+length_at (h ∷ hs) (suc i) = length_at hs i
+
+-- ---- counts
+
+-- nothing yet, over so many pages and bytes
+abbrev pub counted_from : ℕ → ℕ → Tally
+counted_from pages bytes = record {
+  pages = pages;
+  bytes = bytes;
+  given_up = 0;
+  cleanings = 0;
+  cleaner_frames = 0;
+  cleaner_bytes = 0;
+  evictions = 0;
+}
+
+abbrev pub counted_out : Tally → Tally
+counted_out t = record t { evictions = up t.evictions 1 }
+
+abbrev pub counted_up : Tally → ℕ → ℕ → ℕ → ℕ → Tally
+counted_up t frames bytes given_up cleanings = record t {
+  given_up = up t.given_up given_up;
+  cleanings = up t.cleanings cleanings;
+  cleaner_frames = up t.cleaner_frames frames;
+  cleaner_bytes = up t.cleaner_bytes bytes;
+}
+
+-- a store that begins: nothing is forgotten
+abbrev pub noted_from : ℕ → ℕ → Noted
+noted_from pages bytes = record { gone = 0; tally = counted_from pages bytes }
+
+-- an eviction, by whether the page left
+abbrev pub noted_left : Bool → Noted → Noted
+noted_left left n = if left then record n { tally = counted_out n.tally } else n
+
+-- ---- what a cleaning counts
+
+-- so many frames, and as many bytes as there are more after it than before; the oldest segment's are among these where it was given up
+abbrev pub counted_by : Tally → Result Cleaned StoreFault → ℕ → ℕ → ℕ → ℕ → Tally
+counted_by t (Ok cleaned) frames before after oldest = counted_up t frames (up after oldest - before) oldest 1
+counted_by t (Err fault) frames before after oldest = counted_up t frames (up after 0 - before) 0 0
+
+-- the cleaner, in a store where nothing waits
+abbrev pub counted_moved : Tally → Kept → Result Cleaned StoreFault → Kept → Tally
+counted_moved t old r new =
+    counted_by t r (new.durable - old.durable) (up 0 (bytes_of old.log.live)) (up 0 (bytes_of new.log.live)) (length_at old.log.live 0)
+
+-- the cleaner did nothing: the cleaning was refused before it
+abbrev pub IsUnmoved : Kept → StoreFault → Kept → Type 0
+IsUnmoved old fault new =
+    (new ≡ old) ⊎ (FlushLeaves old (Err fault) new ⊎ ((middle : Kept) × Emptied true old middle × (new ≡ middle)))
+
+-- a cleaning without its publication counts what the cleaner did behind its flush, and nothing else
+abbrev pub CountsClean : Kept → Tally → Result Cleaned StoreFault → Kept → Tally → Type 0
+CountsClean old t (Ok cleaned) new u =
+    (middle : Kept) × Emptied true old middle × IsCleaned middle cleaned new × (u ≡ counted_moved t middle (Ok cleaned) new)
+CountsClean old t (Err fault) new u =
+    (IsUnmoved old fault new × (u ≡ t))
+    ⊎ ((middle : Kept) × Emptied true old middle × ((cause : CleanFault) × IsStopped middle cause new)
+    × (u ≡ counted_moved t middle (Err fault) new))
+
+-- the same with the publication, which counts nothing of this
+abbrev pub CountsCleaning : Kept → Tally → Result Cleaned StoreFault → Kept → Tally → Type 0
+CountsCleaning old t (Ok cleaned) new u = (middle : Kept) × CountsClean old t (Ok cleaned) middle u × Shows middle new
+CountsCleaning old t (Err fault) new u =
+    CountsClean old t (Err fault) new u
+    ⊎ ((fault ≡ NoMemory) × ((middle : Kept) × ((cleaned : Cleaned) × CountsClean old t (Ok cleaned) middle u) × Hides middle new))
+
+-- ---- what is told
+
+abbrev pub counters_of : Kept → Tally → Looks → Counters
+counters_of s t looks = record {
+  records = length s.entries;
+  frames = s.durable;
+  bytes = up t.given_up (bytes_of s.log.live) - t.bytes;
+  cleaner_frames = t.cleaner_frames;
+  cleaner_bytes = t.cleaner_bytes;
+  splits = length s.filed.leaves - length s.start;
+  evictions = t.evictions;
+  reads = looks.reads;
+  publications = looks.publications;
+  cleanings = t.cleanings;
+}

@@ -1,0 +1,188 @@
+//! What a store counts beside what it keeps. Counting takes no memory, and nothing is refused for it.
+
+ghost use Rattle.std.specs.Prelude.{◌≡◌, ◌-◌, length};
+ghost use Rattle.bw_care.specs.Views.{seen, IsSound as IsSoundLog};
+ghost use Rattle.bw_store.specs.Counting.{bytes_of, counters_of, counted_from, counted_out, counted_up, length_at, up};
+
+use crate::fault::StoreFault;
+use crate::store::Store;
+use bw_care::Cleaned;
+use bw_device::Segment;
+use bw_log::Log;
+
+/// How much a store did since it was opened. A number that is at its greatest stays there.
+#[derive(Debug, Clone, Copy, PartialEq, Eq)]
+pub struct Counters {
+    /// Records taken from the writers' rings, the forgotten ones among them.
+    pub records: u64,
+    /// Frames appended, the cleaner's among them.
+    pub frames: u64,
+    /// By how many bytes the live segments grew, those of the segments that were given up since
+    /// among them.
+    pub bytes: u64,
+    /// Frames that the cleaner appended.
+    pub cleaner_frames: u64,
+    /// By how many bytes the live segments grew while the cleaner was at work.
+    pub cleaner_bytes: u64,
+    /// Pages made by cutting another in two.
+    pub splits: u64,
+    /// Pages dropped from memory by `evict`.
+    pub evictions: u64,
+    /// Pages read from the log because they were away.
+    pub reads: u64,
+    /// How often readers were shown something new.
+    pub publications: u64,
+    /// Segments given up by `clean` and `upgrade`.
+    pub cleanings: u64,
+}
+
+/// What is counted where it happens, and where the store began.
+#[derive(Debug, Clone, Copy, PartialEq, Eq)]
+pub struct Tally {
+    /// How many pages there were at the start, and how many bytes the live segments had.
+    pub(crate) pages: u32,
+    pub(crate) bytes: u64,
+    /// The bytes of the segments that were given up.
+    pub(crate) given_up: u64,
+    pub(crate) cleanings: u64,
+    pub(crate) cleaner_frames: u64,
+    pub(crate) cleaner_bytes: u64,
+    pub(crate) evictions: u64,
+}
+
+/// What is counted of reads and publications. No clause speaks of it.
+#[derive(Debug, Clone, Copy, PartialEq, Eq)]
+pub struct Looks {
+    pub(crate) reads: u64,
+    pub(crate) publications: u64,
+    /// The history's length at the last publication, if there was one.
+    shown: Option<u64>,
+}
+
+impl Looks {
+    /// Nothing yet.
+    pub(crate) fn new() -> Looks {
+        Looks {
+            reads: 0,
+            publications: 0,
+            shown: None,
+        }
+    }
+
+    /// A page was read from the log.
+    pub(crate) fn read_one(&mut self) {
+        self.reads = self.reads.saturating_add(1);
+    }
+
+    /// The history is published up to this length, or it was refused. It counts where that is new.
+    pub(crate) fn show_upto(&mut self, end: u64, is_shown: bool) {
+        if is_shown && self.shown != Some(end) {
+            self.publications = self.publications.saturating_add(1);
+            self.shown = Some(end);
+        }
+    }
+}
+
+impl Tally {
+    /// Nothing is counted yet, over so many pages and bytes.
+    pub(crate) fn from(pages: u32, bytes: u64) -> Tally
+        ensures { result ≡ counted_from pages bytes }
+    {
+        Tally {
+            pages,
+            bytes,
+            given_up: 0,
+            cleanings: 0,
+            cleaner_frames: 0,
+            cleaner_bytes: 0,
+            evictions: 0,
+        }
+    }
+
+    /// With one page more that left memory.
+    pub(crate) fn with_eviction(self) -> Tally
+        ensures { result ≡ counted_out self }
+    {
+        Tally {
+            evictions: self.evictions.saturating_add(1),
+            ..self
+        }
+    }
+
+    /// With so many frames and bytes more of the cleaner's, and a segment of so many bytes that was
+    /// given up, if one was.
+    pub(crate) fn with_cleaning(
+        self,
+        frames: u64,
+        bytes: u64,
+        given_up: u64,
+        cleanings: u64,
+    ) -> Tally
+        ensures { result ≡ counted_up self frames bytes given_up cleanings }
+    {
+        Tally {
+            given_up: self.given_up.saturating_add(given_up),
+            cleanings: self.cleanings.saturating_add(cleanings),
+            cleaner_frames: self.cleaner_frames.saturating_add(frames),
+            cleaner_bytes: self.cleaner_bytes.saturating_add(bytes),
+            ..self
+        }
+    }
+}
+
+/// How many bytes the i-th live segment has, from 0; none where there is no such segment.
+pub(crate) fn length_of(log: &Log, i: u32) -> u64
+    requires { IsSoundLog log.now holding }
+    ensures { result ≡ length_at (seen log.now holding).live i }
+{
+    match log.live_segment(i) {
+        Some((_, _, length)) => length,
+        None => 0,
+    }
+}
+
+/// How many bytes the live segments have.
+pub(crate) fn live_bytes(log: &Log) -> u64
+    requires { IsSoundLog log.now holding }
+    ensures { result ≡ up 0 (bytes_of (seen log.now holding).live) }
+{
+    let mut bytes: u64 = 0;
+    'segments: for i in 0..log.live() {
+        bytes = bytes.saturating_add(length_of(log, i));
+    }
+    bytes
+}
+
+impl Store {
+    ghost use Rattle.bw_store.specs.Views.{kept_by, IsSound};
+
+    /// How much the store did since it was opened or opened again. No memory is taken; it costs a
+    /// look at each live segment's length.
+    ///
+    /// `reads` and `publications` are counted where they happen, and no clause says by how much a
+    /// call raises them; nor does one say how much of the cleaner's numbers an `upgrade` adds: its
+    /// frames and their bytes, and a cleaning for each segment given up.
+    pub fn counters(&self) -> Counters
+        requires { IsSound self.now holding }
+        ensures { result
+            ≡ counters_of (kept_by self.now holding) self.now.tally self.now.looks }
+    {
+        let live = live_bytes(&self.log);
+        Counters {
+            records: self.intake.history.len(),
+            frames: self.durable,
+            bytes: self
+                .tally
+                .given_up
+                .saturating_add(live)
+                .saturating_sub(self.tally.bytes),
+            cleaner_frames: self.tally.cleaner_frames,
+            cleaner_bytes: self.tally.cleaner_bytes,
+            splits: u64::from(self.leaves.count().saturating_sub(self.tally.pages)),
+            evictions: self.tally.evictions,
+            reads: self.looks.reads,
+            publications: self.looks.publications,
+            cleanings: self.tally.cleanings,
+        }
+    }
+}

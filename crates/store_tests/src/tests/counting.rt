@@ -1,0 +1,194 @@
+//! What a store counts, how much of a segment is still needed, and when it pays to clean: the
+//! tables.
+
+use super::steps::Step;
+use super::steps::Step::{
+    Clean, Counts, Evict, Flush, Forget, Needed, Page, Pays, Put, Roll, Same, Settle, Turn,
+    Uncleaned,
+};
+use super::telling::all_went;
+use super::vectors::FIRST_BYTES;
+use super::walking::{Stand, first_wrong};
+use bw_store::{Counters, StoreFault};
+
+const NONE: Counters = Counters {
+    records: 0,
+    frames: 0,
+    bytes: 0,
+    cleaner_frames: 0,
+    cleaner_bytes: 0,
+    splits: 0,
+    evictions: 0,
+    reads: 0,
+    publications: 0,
+    cleanings: 0,
+};
+
+/// A header has 24 bytes, a frame 20 around its blocks, an empty Base 8 and each of its pairs 5
+/// here, and a Delta of one put 25. The cleaner writes a Base of two pairs.
+const THREE_SEGMENTS: &[Step] = &[
+    Counts(NONE),
+    Needed(0, None),
+    Pays(false),
+    Put(0, b"k", b"1"),
+    Turn(9, 1),
+    Counts(Counters { records: 1, ..NONE }),
+    Flush(Some(1)),
+    Counts(Counters {
+        records: 1,
+        frames: 1,
+        bytes: 77,
+        publications: 1,
+        ..NONE
+    }),
+    Needed(0, Some(13)),
+    Needed(1, None),
+    Pays(false),
+    Flush(None),
+    Roll,
+    Put(0, b"j", b"2"),
+    Turn(9, 1),
+    Needed(0, Some(18)),
+    Flush(Some(2)),
+    Needed(1, Some(0)),
+    Roll,
+    Put(0, b"k", b"3"),
+    Turn(9, 1),
+    Flush(Some(3)),
+    Forget(3, 3),
+    Counts(Counters {
+        records: 3,
+        frames: 3,
+        bytes: 215,
+        publications: 3,
+        ..NONE
+    }),
+    Evict(1, Ok(true)),
+    Evict(1, Ok(false)),
+    Needed(0, Some(18)),
+    Pays(false),
+    Page(1, "1 : j=2 k=3"),
+    Clean(1, 0, 1, 1),
+    Counts(Counters {
+        records: 3,
+        frames: 4,
+        bytes: 253,
+        cleaner_frames: 1,
+        cleaner_bytes: 38,
+        splits: 0,
+        evictions: 1,
+        reads: 1,
+        publications: 3,
+        cleanings: 1,
+    }),
+    Needed(0, Some(0)),
+    Needed(1, Some(18)),
+    Clean(2, 1, 0, 0),
+    Uncleaned(StoreFault::NothingOld),
+    Counts(Counters {
+        records: 3,
+        frames: 4,
+        bytes: 253,
+        cleaner_frames: 1,
+        cleaner_bytes: 38,
+        splits: 0,
+        evictions: 1,
+        reads: 1,
+        publications: 3,
+        cleanings: 2,
+    }),
+];
+
+/// Five pairs are cut: a Delta of five puts has 49 bytes, and a Split with a low of one byte and
+/// three pairs 40. Both pages are needed.
+const CUT: &[Step] = &[
+    Put(0, b"a", b"1"),
+    Put(0, b"b", b"2"),
+    Put(0, b"c", b"3"),
+    Put(0, b"d", b"4"),
+    Put(0, b"e", b"5"),
+    Settle(5),
+    Counts(Counters {
+        records: 5,
+        frames: 1,
+        bytes: 141,
+        splits: 1,
+        publications: 1,
+        ..NONE
+    }),
+    Needed(0, Some(42)),
+    Evict(2, Ok(true)),
+    Needed(0, Some(42)),
+];
+
+/// Eight puts of a key with 60 bytes each are 65 bytes each, and the segment has 591; of it a Base of
+/// 77 bytes is needed.
+const UPDATED: &[Step] = &[
+    Same(0, b"k", 8, 60),
+    Settle(8),
+    Pays(false),
+    Roll,
+    Put(0, b"j", b"2"),
+    Settle(9),
+    Needed(0, Some(77)),
+    Pays(true),
+    Clean(1, 0, 1, 1),
+    Pays(false),
+    Counts(Counters {
+        records: 9,
+        frames: 3,
+        bytes: 757,
+        cleaner_frames: 1,
+        cleaner_bytes: 97,
+        publications: 2,
+        cleanings: 1,
+        ..NONE
+    }),
+];
+
+/// What was there before a store was opened again is not counted.
+const OPENED_AGAIN: &[Step] = &[
+    Counts(NONE),
+    Needed(0, Some(13)),
+    Put(0, b"j", b"2"),
+    Turn(9, 1),
+    Counts(Counters { records: 1, ..NONE }),
+];
+
+const TABLES: &[(Stand, &[Step])] = &[
+    (Stand::Boxes(4, 8), THREE_SEGMENTS),
+    (Stand::Boxes(4, 8), CUT),
+    (Stand::Boxes(4, 8), UPDATED),
+    (Stand::Bytes(&[FIRST_BYTES]), OPENED_AGAIN),
+];
+
+#[test]
+fn what_was_done_is_counted(rt: HostRuntime) {
+    all_went(&rt, first_wrong(&rt, TABLES));
+}
+
+/// A header, a frame and the read of a page pass; the cleaner's append fails.
+const FAILED: &[Step] = &[
+    Put(0, b"k", b"1"),
+    Turn(9, 1),
+    Flush(Some(1)),
+    Roll,
+    Put(0, b"j", b"2"),
+    Turn(9, 1),
+    Flush(Some(2)),
+    Uncleaned(StoreFault::Device { lease: 1 }),
+    Counts(Counters {
+        records: 2,
+        frames: 2,
+        bytes: 146,
+        publications: 2,
+        ..NONE
+    }),
+];
+
+const FAILS: &[(Stand, &[Step])] = &[(Stand::Fuse(1, 3, (0, 0)), FAILED)];
+
+#[test]
+fn a_frame_that_failed_is_not_counted(rt: HostRuntime) {
+    all_went(&rt, first_wrong(&rt, FAILS));
+}

@@ -1,0 +1,135 @@
+"""Logs of both formats that are upgraded: what is printed, what the folder holds then, and what a stop leaves."""
+
+import shutil
+
+from hostile.folders import laid, looked_at
+from hostile.program import Otherwise, held_in
+from hostile.reader import Base, box_of, is_part, log_of, pages_told, set_last, told
+from hostile.segments import aged_log, block_bytes, drawn_segments, frame_bytes, segment_bytes
+
+MOST = (1 << 64) - 1
+# The spares behind lines, and how many bytes the segment of a line has room for, or a new one.
+SPARES, ROOM = 4, 262168
+
+
+def packed(log, pages):
+    """The frames that hold a Base of each of these pages, as many as fit in each."""
+    limit = max([box.f for box in log.boxes if box.version == 2], default=65536)
+    frames, size = [], 0
+    for number in pages:
+        low, pairs = log.pages[number]
+        block = Base(number, low, sorted(pairs.items()))
+        length = len(block_bytes(block))
+        if not frames or size + length > limit:
+            frames.append([log.frames[-1][0] + 1 + len(frames), []])
+            size = 20
+        frames[-1][1].append(block)
+        size += length
+    return frames, limit
+
+
+def upgraded(segments, spares):
+    """What an upgrade of this log does: its first line, and the segments that stand then; or what refuses it."""
+    log = log_of(segments)
+    if isinstance(log, str):
+        return log, None
+    old = [box.number for box in log.boxes if box.version == 1]
+    if not old:
+        return "refused E11 NothingOld\n", None
+    if log.frames[-1][0] == MOST:
+        return "refused E8 Spent\n", None
+    last = set_last(log)
+    pages = [page for page in sorted(log.pages) if last[page] <= max(old)]
+    frames, limit = packed(log, pages)
+    held = {box_of(it).number: it for it in segments if it and not is_part(it)}
+    newest = log.boxes[-1]
+    end, takes, spares = newest.number, newest.version == 2 and newest.tail == 0, spares + log.spares
+    for frame in frames:
+        piece = frame_bytes(frame)
+        if not takes or len(held[end]) + len(piece) > max(len(held[end]), ROOM):
+            if spares == 0:
+                return "refused E5 NoSegment\n", None
+            if end == MOST:
+                return "refused E8 Spent\n", None
+            end, takes, spares = end + 1, True, spares - 1
+            held[end] = segment_bytes(2, end, newest.m, limit, [])
+        held[end] += piece
+    standing = [held[it] for it in sorted(held) if it > max(old)]
+    return "upgraded segments %d pages %d frames %d\n" % (len(old), len(pages), len(frames)), standing
+
+
+def in_lines(program, segments):
+    """The segments are lines: the answer is told to the last byte."""
+    first, standing = upgraded(segments, SPARES)
+    if len(segments) + SPARES > 64:
+        first, standing = "refused E20 NoLease\n", None
+    wanted = first
+    if standing is not None:
+        wanted += "".join("dump %s\n" % it.hex() for it in standing) + "".join(it + "\n" for it in pages_told(log_of(segments).pages))
+    answer = program.run(["upgrade"], "".join(it.hex() + "\n" for it in segments).encode())
+    is_full = first == "refused E5 NoSegment\n"
+    if answer[:2] != (4 if standing is None else 0, wanted.encode()) or (answer[2] != b"") != is_full:
+        raise Otherwise("upgrade answers %r, and the reader %r" % (answer, wanted))
+    return first.split(" ")[0 if standing is not None else 1]
+
+
+def has_pages(program, folder, pages, what):
+    """The folder has these pages, in format 2 alone."""
+    held = list(held_in(folder).values())
+    answer = program.run(["scan", "--dir=" + folder])
+    if answer != (0, told(held).encode(), b""):
+        raise Otherwise("scan behind %s answers %r, and the reader %r" % (what, answer, told(held)))
+    if answer[1].decode().splitlines()[2:] != pages:
+        raise Otherwise("other pages behind %s: %r, wanted %r" % (what, answer[1], pages))
+    if any(box_of(it).version == 1 for it in held if len(it) >= 24):
+        raise Otherwise("a segment of format 1 stands behind %s" % what)
+
+
+def stopped(program, folder, before, after, pages, draw):
+    """A folder as a stop may leave it: the files of old segments are emptied in order, once all frames stand."""
+    olds = sorted((box_of(it).number, name) for name, it in before.items() if len(it) >= 24 and box_of(it).version == 1)
+    grown = [name for name in after if after[name] != before.get(name, b"") and after[name]]
+    left = {**before, **{name: after[name] for name in grown}}
+    emptied = 0
+    if draw.is_so(2):
+        emptied = draw.randrange(len(olds))
+        left.update({name: b"" for _, name in olds[:emptied]})
+    elif len(grown) == 1:
+        least = len(before.get(grown[0], b"")) if before.get(grown[0], b"") and not is_part(before[grown[0]]) else 0
+        left[grown[0]] = after[grown[0]][: draw.randrange(least, len(after[grown[0]]))]
+    shutil.rmtree(folder)
+    laid(folder, [left[name] for name in sorted(left)])
+    answer = program.run(["upgrade", "--dir=" + folder])
+    if answer[0] != 0 or answer[2] or not answer[1].startswith(b"upgraded segments %d pages " % (len(olds) - emptied)):
+        raise Otherwise("upgrade behind a stop answers %r" % (answer,))
+    has_pages(program, folder, pages, "a second upgrade")
+
+
+def in_a_folder(program, segments, folder, draw):
+    """The segments are a folder's files: it has the same pages then; and a stop on the way leaves what a second upgrade finishes."""
+    segments = segments[:50]
+    laid(folder, segments)
+    before = looked_at(folder)
+    first, standing = upgraded(segments, 64)
+    answer = program.run(["upgrade", "--dir=" + folder])
+    if answer != (4 if standing is None else 0, first.encode(), b""):
+        raise Otherwise("upgrade of a folder answers %r, and the reader %r" % (answer, first))
+    if standing is None:
+        if looked_at(folder) != before and first != "refused E8 Spent\n":
+            raise Otherwise("a refused upgrade changed the folder")
+        return first.split(" ")[1].strip()
+    pages = pages_told(log_of(segments).pages)
+    has_pages(program, folder, pages, "an upgrade")
+    held = {"segment-%04d.bw" % lease: data for lease, data in enumerate(segments)}
+    stopped(program, folder, held, held_in(folder), pages, draw)
+    return "upgraded"
+
+
+def upgrades(program, runs, place, draw):
+    """A case of an upgrade: of hostile segments, or of a log that nobody damaged."""
+    segments = drawn_segments(draw, runs) if draw.is_so(3) else aged_log(draw, runs)
+    if draw.is_so(3):
+        return in_lines(program, segments)
+    found = in_a_folder(program, segments, place, draw)
+    shutil.rmtree(place)
+    return found
