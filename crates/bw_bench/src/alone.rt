@@ -16,7 +16,7 @@ use bw_store::Store;
 use std::sync::Wait;
 use std::thread::Threads;
 
-/// Of how many keys one is asked for when all pages are away.
+/// Of how many keys one is asked for when all pages are evicted.
 const KEYS_AWAY: u64 = 16;
 
 fn tell_cost(bench: &Bench, span: Span, cost: Cost) {
@@ -105,7 +105,7 @@ fn gets(bench: &Bench, store: &mut Store) -> Option<()>
 }
 
 /// Pages leave memory, and some values are asked for.
-fn gets_away(bench: &Bench, store: &mut Store) -> Option<()>
+fn gets_evicted(bench: &Bench, store: &mut Store) -> Option<()>
     requires { IsSound store.old holding }
     ensures { IsSound store.new holding }
 {
@@ -115,8 +115,8 @@ fn gets_away(bench: &Bench, store: &mut Store) -> Option<()>
     bench.tell_each("evict, pages", pages, nanos, "ns");
     let count = (u64::from(bench.options.keys) / KEYS_AWAY).max(1);
     let puts = bench.options.puts();
-    get_all(bench, store, "get of a page that is away", count)?;
-    read_back(bench, store, "away", count, puts)
+    get_all(bench, store, "get of an evicted page", count)?;
+    read_back(bench, store, "evicted", count, puts)
 }
 
 /// New keys, then old ones; and where there is nothing beside and readers see all, gets.
@@ -137,7 +137,7 @@ fn put_and_get<R: Threads + Wait>(
         return Some(());
     }
     gets(bench, store)?;
-    gets_away(bench, store)
+    gets_evicted(bench, store)
 }
 
 /// The same by the last of the feeds.

@@ -10,8 +10,8 @@ use bw_codec::Record;
 use bw_page::{ApplyError, Leaves};
 
 fn apply_all(bench: &Bench, leaves: &mut Leaves, script: &[Record]) -> Option<()>
-    requires { leaves.old.away ≡ [] }
-    ensures { leaves.new.away ≡ [] }
+    requires { leaves.old.evicted ≡ [] }
+    ensures { leaves.new.evicted ≡ [] }
 {
     'records: for item in script {
         match leaves.apply(item) {
@@ -25,7 +25,7 @@ fn apply_all(bench: &Bench, leaves: &mut Leaves, script: &[Record]) -> Option<()
 
 /// How many keys have not the value of the last of so many puts.
 fn wrong_of(leaves: &Leaves, shape: Shape, puts: u64) -> Option<u64>
-    requires { leaves.now.away ≡ [] }
+    requires { leaves.now.evicted ≡ [] }
 {
     let mut wrong = 0u64;
     'keys: for put in 0..shape.keys {
@@ -37,8 +37,8 @@ fn wrong_of(leaves: &Leaves, shape: Shape, puts: u64) -> Option<u64>
 }
 
 fn apply_script(bench: &Bench, leaves: &mut Leaves, span: Span, script: &[Record]) -> Option<()>
-    requires { leaves.old.away ≡ [] }
-    ensures { leaves.new.away ≡ [] }
+    requires { leaves.old.evicted ≡ [] }
+    ensures { leaves.new.evicted ≡ [] }
 {
     let shape = bench.options.shape();
     let before = resident(bench);
@@ -55,16 +55,16 @@ fn apply_script(bench: &Bench, leaves: &mut Leaves, span: Span, script: &[Record
 }
 
 fn apply_span(bench: &Bench, leaves: &mut Leaves, span: Span) -> Option<()>
-    requires { leaves.old.away ≡ [] }
-    ensures { leaves.new.away ≡ [] }
+    requires { leaves.old.evicted ≡ [] }
+    ensures { leaves.new.evicted ≡ [] }
 {
     let script = bench.options.shape().script(bench.alloc, span, WHOLE)?;
     apply_script(bench, leaves, span, script.as_slice())
 }
 
 fn apply_both(bench: &Bench, leaves: &mut Leaves) -> Option<()>
-    requires { leaves.old.away ≡ [] }
-    ensures { leaves.new.away ≡ [] }
+    requires { leaves.old.evicted ≡ [] }
+    ensures { leaves.new.evicted ≡ [] }
 {
     let (load, update) = bench.options.spans();
     apply_span(bench, leaves, load)?;

@@ -8,7 +8,7 @@ use Rattle.bw_log.specs.declared.places.Tables.{Tables}
 use Rattle.bw_care.specs.Recovery.{number_in, live_in, spares_in}
 use Rattle.bw_care.specs.Parting.{Numbered, Parted, parted}
 use Rattle.bw_care.specs.Planned.{IsPlan}
-use Rattle.bw_care.specs.declared.parting.Kind.{Kind}
+use Rattle.bw_care.specs.declared.parts.Kind.{Kind}
 use Rattle.bw_care.specs.declared.plan.Plan.{Plan}
 
 seconds : (hs : List Holding) → map (λ (p : Numbered). p.1) (map (λ (h : Holding). (number_in h.bytes, h)) hs) ≡ hs

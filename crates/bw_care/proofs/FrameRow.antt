@@ -18,9 +18,9 @@ use Rattle.bw_care.specs.Behind.{frames_behind}
 use Rattle.bw_care.specs.Lawful.{HasLawful}
 use Rattle.bw_care.specs.Scanned.{IsScan}
 use Rattle.bw_care.specs.Ordering.{follow_from, AreFound, lines_found}
-use Rattle.bw_care.specs.declared.scanning.Scan.TheVariants.{Live}
+use Rattle.bw_care.specs.declared.scan.Scan.TheVariants.{Live}
 use Rattle.bw_care.proofs.NumberOrder.{frames_here, all_numbers}
-use Rattle.bw_care.specs.declared.ordering.Found.{Found}
+use Rattle.bw_care.specs.declared.order.Found.{Found}
 use Rattle.bw_care.proofs.LiveRow.{IsLike}
 use Rattle.bw_care.proofs.RoomsParted.{all_by}
 

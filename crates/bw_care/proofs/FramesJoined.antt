@@ -7,8 +7,8 @@ use Rattle.bw_codec.specs.declared.block.Block.{Block}
 use Rattle.bw_codec.specs.declared.block.Place.{Place}
 use Rattle.bw_codec.specs.declared.block.Frame.{Frame}
 use Rattle.bw_log.specs.Places.{placed, all_placed, bad_link}
-use Rattle.bw_care.specs.declared.reading.Line.{Line}
-use Rattle.bw_care.specs.declared.reading.ReadFault.{ReadFault}
+use Rattle.bw_care.specs.declared.page_lines.Line.{Line}
+use Rattle.bw_care.specs.declared.page_lines.ReadFault.{ReadFault}
 use Rattle.bw_care.specs.Reading.{IsRead, LinkFaultIs}
 
 pub popped : {A : Type 0} (old new : List A) (x : A) → old ≡ new ++ x ∷ [] → reverse old ≡ x ∷ reverse new

@@ -4,7 +4,7 @@ use Rattle.std.proofs.Common.{◌≡◌, ◌≢◌, ℕ, ◌≤◌, Option, None
 use Rattle.std.proofs.Common.{refl, sym, ap, subst, ◌∙◌, arith, length-append}
 use Rattle.std.proofs.lemmas.List.{drop_at}
 use Rattle.bw_care.specs.Behind.{frames_behind, IsBehind}
-use Rattle.bw_care.specs.declared.scanning.Behind.{Behind}
+use Rattle.bw_care.specs.declared.scan.Behind.{Behind}
 use Rattle.bw_codec.specs.Bytes.{IsBytes}
 use Rattle.bw_codec.specs.Grammar.{IsWhole, header_bytes, IsHeading}
 use Rattle.bw_codec.specs.Reading.{heading_of}
@@ -13,7 +13,7 @@ use Rattle.bw_codec.specs.declared.block.HeaderRead.{HeaderRead}
 use Rattle.bw_codec.specs.declared.block.HeaderRead.TheVariants as heading
 use Rattle.bw_codec.proofs.Heading.{heading_is, header_again, length-header}
 use Rattle.bw_care.specs.Scanning.{rest_of, fault_in, fault_under, fault_behind, FaultIs}
-use Rattle.bw_care.specs.declared.scanning.ScanFault.{ScanFault}
+use Rattle.bw_care.specs.declared.scan.ScanFault.{ScanFault}
 
 pub header_long : (bytes : List ℕ) (h : Header) → IsHeading bytes (heading.Whole h) → 24 ≤ length bytes
 header_long bytes h there = (let size = ap (λ (b : List ℕ). length b) there.2 in omega (arith, size, length-header h, length-append (header_bytes h) there.1))

@@ -11,7 +11,7 @@ use Rattle.bw_codec.specs.declared.leaf.Leaf.{Leaf}
 use Rattle.bw_codec.specs.declared.record.Record.{Record}
 use Rattle.bw_page.specs.Leaves.{all_changed}
 use Rattle.bw_page.specs.Standing.{kept_below}
-use Rattle.bw_care.specs.declared.reading.Line.{Line}
+use Rattle.bw_care.specs.declared.page_lines.Line.{Line}
 use Rattle.bw_care.specs.Reading.{base_in, leaf_in, line_after}
 
 abbrev Lines : Type 0

@@ -15,7 +15,7 @@ use Rattle.bw_page.proofs.Order.{must_not}
 use Rattle.bw_log.specs.Places.{later, placed, all_placed, place_of, base_of}
 use Rattle.bw_log.specs.Contents.{some_place}
 use Rattle.bw_log.proofs.Walk.{same_after, sets_touches}
-use Rattle.bw_care.specs.declared.reading.Line.{Line}
+use Rattle.bw_care.specs.declared.page_lines.Line.{Line}
 use Rattle.bw_care.specs.Reading.{place_in, base_in, leaf_in, line_after, line_of}
 use Rattle.bw_care.proofs.LinksRead.{place_is}
 

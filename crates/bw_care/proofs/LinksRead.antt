@@ -12,9 +12,9 @@ use Rattle.bw_codec.specs.declared.block.Block.{Block}
 use Rattle.bw_codec.specs.declared.block.Place.{Place}
 use Rattle.bw_log.specs.Places.{placed, later, last_place, is_back, fault_at, fault_of, or_else, bad_link}
 use Rattle.bw_log.proofs.Links.{bad_link-append}
-use Rattle.bw_care.specs.declared.reading.Line.{Line}
-use Rattle.bw_care.specs.declared.reading.ReadFault.{ReadFault}
-use Rattle.bw_care.specs.declared.reading.ReadFault.TheVariants.{NoMemory, BadLink}
+use Rattle.bw_care.specs.declared.page_lines.Line.{Line}
+use Rattle.bw_care.specs.declared.page_lines.ReadFault.{ReadFault}
+use Rattle.bw_care.specs.declared.page_lines.ReadFault.TheVariants.{NoMemory, BadLink}
 use Rattle.bw_care.specs.Reading.{place_in, line_after, line_of, AreLines, IsRead, LinkFaultIs}
 
 -- a line's place is the last block that touches the page

@@ -19,9 +19,9 @@ use Rattle.bw_care.specs.Behind.{frames_behind}
 use Rattle.bw_care.specs.Scanned.{IsScan}
 use Rattle.bw_care.specs.Recovery.{clash, are_mixed, pairs_of, limit_of}
 use Rattle.bw_care.specs.Ordering.{lives_from, lives, headers_of, number_found, sorted, oldest_number, follow_from, AreFound, moved_to, lines_found}
-use Rattle.bw_care.specs.declared.scanning.Scan.{Scan}
-use Rattle.bw_care.specs.declared.scanning.Scan.TheVariants.{Bare, Part, Live}
-use Rattle.bw_care.specs.declared.ordering.Found.{Found}
+use Rattle.bw_care.specs.declared.scan.Scan.{Scan}
+use Rattle.bw_care.specs.declared.scan.Scan.TheVariants.{Bare, Part, Live}
+use Rattle.bw_care.specs.declared.order.Found.{Found}
 use Rattle.bw_care.proofs.HeadersRead.{live_is}
 use Rattle.bw_care.proofs.NumberOrder.{frames_here}
 use Rattle.bw_care.proofs.RoomsParted.{all_by, fold_all}

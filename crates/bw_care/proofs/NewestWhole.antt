@@ -12,8 +12,8 @@ use Rattle.bw_log.specs.Segments.{Limits, header_in, header_with, version_at, se
 use Rattle.bw_care.specs.Scanning.{rest_of}
 use Rattle.bw_care.specs.Scanned.{IsScan}
 use Rattle.bw_care.specs.Ordering.{AreFound, is_clean, is_clean_from}
-use Rattle.bw_care.specs.declared.scanning.Scan.TheVariants.{Live}
-use Rattle.bw_care.specs.declared.ordering.Found.{Found}
+use Rattle.bw_care.specs.declared.scan.Scan.TheVariants.{Live}
+use Rattle.bw_care.specs.declared.order.Found.{Found}
 use Rattle.bw_care.proofs.HeadersRead.{live_is}
 use Rattle.bw_care.proofs.NumberOrder.{frames_here}
 use Rattle.bw_care.proofs.LiveRow.{AreNumbers, IsLike, like_at}

@@ -23,9 +23,9 @@ use Rattle.bw_care.specs.declared.fault.RecoverCause.TheVariants.{BadConfig, Emp
 use Rattle.bw_care.specs.Ordering.{order_fault, lives_from, lives, number_found, sorted, moved_to, lines_found, line_number, has_none}
 use Rattle.bw_care.specs.Ordering.{headers_of, any_narrow}
 use Rattle.bw_care.specs.Ordering.{follow_from, AreFound}
-use Rattle.bw_care.specs.declared.scanning.Scan.{Scan}
-use Rattle.bw_care.specs.declared.scanning.Scan.TheVariants.{Bare, Part, Live}
-use Rattle.bw_care.specs.declared.ordering.Found.{Found}
+use Rattle.bw_care.specs.declared.scan.Scan.{Scan}
+use Rattle.bw_care.specs.declared.scan.Scan.TheVariants.{Bare, Part, Live}
+use Rattle.bw_care.specs.declared.order.Found.{Found}
 use Rattle.bw_care.proofs.SortedOut.{header_is, bare_none, not_bare, part_not_bare, keeps, drops, number_at}
 
 -- ---- segments

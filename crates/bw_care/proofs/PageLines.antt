@@ -28,7 +28,7 @@ use Rattle.bw_log.specs.Places.{all_placed}
 use Rattle.bw_care.specs.Lawful.{as_list, leaves_set, is_bad_page, is_at_fault, first_such, contents}
 use Rattle.bw_care.specs.Paging.{Paged, Rise, has_low, first_with, first_wrong, leaves_in, last_page, line_at, AreOf, IsMapOf}
 use Rattle.bw_care.specs.Reading.{leaf_in, line_after, line_of}
-use Rattle.bw_care.specs.declared.reading.Line.{Line}
+use Rattle.bw_care.specs.declared.page_lines.Line.{Line}
 use Rattle.bw_care.proofs.LinesTaken.{leaf_is, blocks_all}
 use Rattle.bw_care.proofs.FoundStand.{all_untouched}
 

@@ -27,7 +27,7 @@ use Rattle.bw_care.specs.Moving.{AreBases, IsFull, AreFull, IsNextBehind, Moved,
 use Rattle.bw_care.proofs.BasesLeave.{frames_leave, all_rewritten, one_frame, some_stand, stand_more, next_range}
 use Rattle.bw_care.proofs.BoxesGrown.{longer_same, longer_all, appended_longer, appended_older, older_same, older_all, same_roster}
 use Rattle.bw_care.proofs.OldPages.{same_last, base_moved}
-use Rattle.bw_care.specs.declared.cleaning.Cleaned.{Cleaned}
+use Rattle.bw_care.specs.declared.cleaner.Cleaned.{Cleaned}
 
 -- ---- one frame
 

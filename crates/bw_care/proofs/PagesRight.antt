@@ -27,7 +27,7 @@ use Rattle.bw_care.specs.Lawful.{HasLawful, leaves_set, is_at_fault, first_such,
 use Rattle.bw_care.specs.Paging.{Paged, Rise, IsIndex, IsLows, IsShortIf, first_wrong, leaves_in, line_at, AreOf, at_line, fault_among}
 use Rattle.bw_care.specs.Paging.{IsRight}
 use Rattle.bw_care.specs.Reading.{place_in, base_in, leaf_in, line_of}
-use Rattle.bw_care.specs.declared.reading.Line.{Line}
+use Rattle.bw_care.specs.declared.page_lines.Line.{Line}
 use Rattle.bw_page.specs.Leaves.{AreLeaves}
 use Rattle.bw_care.specs.declared.lawful.Pages.{Pages}
 use Rattle.bw_care.proofs.PageShape.{content_shaped}
@@ -212,7 +212,7 @@ map_length g (x ∷ xs) = ap suc (map_length g xs)
 
 pub right_pages : (m : ℕ) (frames : List Frame) (es : List Paged) (r : Pages) → AllByRecursion (HasLawful m) frames → Rise 0 es → AreOf frames es
     → fault_among m frames ≡ None
-    → r.leaves.m ≡ m → r.leaves.away ≡ [] → r.leaves.leaves ≡ leaves_in es → r.table.items ≡ map at_line es → IsRight m frames r
+    → r.leaves.m ≡ m → r.leaves.evicted ≡ [] → r.leaves.leaves ≡ leaves_in es → r.table.items ≡ map at_line es → IsRight m frames r
 right_pages m frames es r laws rise of none limit here leaves table =
     let no_fault = none_wrong m frames es rise of none in
     record {

@@ -5,13 +5,13 @@ use Rattle.std.proofs.Common.{refl, sym, ap, subst, ◌∙◌, arith}
 use Rattle.bw_device.specs.Holding.{Holding}
 use Rattle.std.proofs.lemmas.List.{length-map}
 use Rattle.bw_care.specs.Scanning.{fault_in, FaultIs}
-use Rattle.bw_care.specs.declared.scanning.ScanFault.{ScanFault}
-use Rattle.bw_care.specs.declared.scanning.ScanFault.TheVariants.{BadBytes as scan_bad}
+use Rattle.bw_care.specs.declared.scan.ScanFault.{ScanFault}
+use Rattle.bw_care.specs.declared.scan.ScanFault.TheVariants.{BadBytes as scan_bad}
 use Rattle.bw_care.specs.Scanned.{IsScan, AreScans}
 use Rattle.bw_care.specs.Recovery.{bytes_fault, bytes_fault_by}
 use Rattle.bw_care.specs.Passing.{ReadStops, PassStops}
-use Rattle.bw_care.specs.declared.scanning.Scan.{Scan}
-use Rattle.bw_care.specs.declared.scanning.Scan.TheVariants.{Bare, Part, Live}
+use Rattle.bw_care.specs.declared.scan.Scan.{Scan}
+use Rattle.bw_care.specs.declared.scan.Scan.TheVariants.{Bare, Part, Live}
 use Rattle.bw_care.specs.declared.fault.RecoverCause.{RecoverCause}
 use Rattle.bw_care.specs.declared.fault.RecoverCause.TheVariants.{NoMemory, BadConfig, Device, Spent, Empty, BadBytes, Gap, Mixed, BadLink, Unlawful}
 

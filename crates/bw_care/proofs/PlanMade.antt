@@ -23,9 +23,9 @@ use Rattle.bw_care.specs.Surveying.{kind_seen}
 use Rattle.bw_care.specs.Parting.{parted}
 use Rattle.bw_care.specs.Ordering.{number_found, sorted, follow_from, AreFound, oldest_number, is_clean_from}
 use Rattle.bw_care.specs.declared.fault.RecoverCause.TheVariants.{BadConfig}
-use Rattle.bw_care.specs.declared.ordering.Found.{Found}
+use Rattle.bw_care.specs.declared.order.Found.{Found}
 use Rattle.bw_care.specs.declared.lawful.Pages.{Pages}
-use Rattle.bw_care.specs.declared.parting.Kind.{Kind}
+use Rattle.bw_care.specs.declared.parts.Kind.{Kind}
 use Rattle.bw_care.specs.declared.plan.Survey.{Survey}
 use Rattle.bw_care.specs.declared.plan.Plan.{Plan}
 use Rattle.bw_care.proofs.ScannedLog.{IsScanned, counts_all}

@@ -1,6 +1,6 @@
 -- What the writing again of pages leaves, by its answer.
 
-use Rattle.std.proofs.Common.{inr, ◌≡◌, ℕ, true, false, Result, Ok, Err, IfOk, IfErr, List, [], sym, subst, ◌∙◌}
+use Rattle.std.proofs.Common.{inr, ◌≡◌, ℕ, true, false, Result, Ok, Err, IfOk, IfErr, List, [], sym, ◌∙◌}
 use Rattle.std.proofs.lemmas.Bool.{true≢false}
 use Rattle.std.specs.Prelude.{◌↔◌, IsErrOf}
 use Rattle.bw_codec.specs.declared.leaf.Leaf.{Leaf}

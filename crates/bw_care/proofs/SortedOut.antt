@@ -13,8 +13,8 @@ use Rattle.bw_care.specs.Scanning.{has_header, has_header_by, is_bare}
 use Rattle.bw_care.specs.Scanned.{AreScans}
 use Rattle.bw_care.specs.Recovery.{placed_by, number_in, segments_in, spares_in}
 use Rattle.bw_care.specs.Parting.{Numbered, number_of, Parted, parted}
-use Rattle.bw_care.specs.declared.scanning.Scan.{Scan}
-use Rattle.bw_care.specs.declared.scanning.Scan.TheVariants.{Bare, Part, Live}
+use Rattle.bw_care.specs.declared.scan.Scan.{Scan}
+use Rattle.bw_care.specs.declared.scan.Scan.TheVariants.{Bare, Part, Live}
 use Rattle.bw_care.specs.Surveying.{kind_seen}
 
 abbrev pub numbered : Holding → Numbered

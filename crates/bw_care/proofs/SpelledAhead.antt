@@ -31,7 +31,7 @@ use Rattle.bw_care.specs.Forward.{IsFramed}
 use Rattle.bw_care.specs.Cleaning.{is_old, oldest_last}
 use Rattle.bw_care.specs.Reading.{IsRead, leaf_in, line_of}
 use Rattle.bw_care.specs.declared.ahead.Spot.{Spot}
-use Rattle.bw_care.specs.declared.reading.Line.{Line}
+use Rattle.bw_care.specs.declared.page_lines.Line.{Line}
 use Rattle.bw_care.proofs.BasesFound.{above}
 use Rattle.bw_care.proofs.BasesLeave.{page_read}
 use Rattle.bw_care.proofs.LinesTaken.{leaf_is}

@@ -11,9 +11,9 @@ use Rattle.bw_care.specs.Scanned.{IsScan, AreScans}
 use Rattle.bw_care.specs.Recovery.{parts_in, tails_of, bytes_fault, bytes_fault_by, takes_frames, ends_whole_from, ends_whole}
 use Rattle.bw_care.specs.Ordering.{AreFound, is_clean, is_clean_from}
 use Rattle.bw_care.specs.Surveying.{parts_seen, tails_found}
-use Rattle.bw_care.specs.declared.scanning.Scan.{Scan}
-use Rattle.bw_care.specs.declared.scanning.Scan.TheVariants.{Bare, Part, Live}
-use Rattle.bw_care.specs.declared.ordering.Found.{Found}
+use Rattle.bw_care.specs.declared.scan.Scan.{Scan}
+use Rattle.bw_care.specs.declared.scan.Scan.TheVariants.{Bare, Part, Live}
+use Rattle.bw_care.specs.declared.order.Found.{Found}
 use Rattle.bw_care.proofs.SortedOut.{header_is, keeps, drops}
 use Rattle.bw_care.proofs.PassSoFar.{no_fault}
 

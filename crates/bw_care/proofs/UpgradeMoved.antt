@@ -29,7 +29,7 @@ use Rattle.bw_log.proofs.Walk.{none_fold}
 use Rattle.bw_care.specs.Cleaning.{is_old, old_from, pages_upto, page_of}
 use Rattle.bw_care.specs.Moving.{IsNextBehind, MovedBehind, StoppedBehind, Refused}
 use Rattle.bw_care.specs.Upgrading.{old_segments, last_among, last_of_old, pages_of_old, GivenUp, IsUpgraded, RefusesUpgrade}
-use Rattle.bw_care.specs.declared.upgrading.Upgraded.{Upgraded}
+use Rattle.bw_care.specs.declared.upgrader.Upgraded.{Upgraded}
 use Rattle.bw_care.specs.declared.fault.CleanFault.TheVariants.{Log}
 use Rattle.bw_care.proofs.BoxesGrown.{same_roster}
 use Rattle.bw_log.specs.declared.fault.LogFault.{LogFault}

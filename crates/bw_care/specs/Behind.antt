@@ -7,7 +7,7 @@ use Rattle.bw_codec.specs.declared.block.Frame.{Frame}
 use Rattle.bw_codec.specs.declared.block.Header.{Header}
 use Rattle.bw_log.specs.Segments.{frames_at, entries_from}
 use Rattle.bw_care.specs.Scanning.{rest_of, fault_behind}
-use Rattle.bw_care.specs.declared.scanning.Behind.{Behind}
+use Rattle.bw_care.specs.declared.scan.Behind.{Behind}
 
 -- the whole frames behind a header
 abbrev pub frames_behind : Header → List ℕ → List Frame

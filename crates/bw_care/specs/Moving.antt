@@ -20,7 +20,7 @@ use Rattle.bw_log.specs.declared.fault.LogFault.TheVariants.{NoMemory, BadConfig
 use Rattle.bw_care.specs.Cleaning.{IsRewritten, page_of, old_pages, oldest_last}
 use Rattle.bw_care.specs.declared.fault.CleanFault.{CleanFault}
 use Rattle.bw_care.specs.declared.fault.CleanFault.TheVariants.{NothingOld, Log}
-use Rattle.bw_care.specs.declared.cleaning.Cleaned.{Cleaned}
+use Rattle.bw_care.specs.declared.cleaner.Cleaned.{Cleaned}
 
 -- ---- boxes
 

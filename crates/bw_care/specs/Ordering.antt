@@ -7,14 +7,14 @@ use Rattle.bw_device.specs.Holding.{Holding}
 use Rattle.bw_log.specs.Places.{or_else}
 use Rattle.bw_care.specs.Recovery.{pairs_of, limit_of, are_mixed, in_order, when}
 use Rattle.bw_care.specs.Surveying.{tails_found}
-use Rattle.bw_care.specs.declared.ordering.Order.{Order}
+use Rattle.bw_care.specs.declared.order.Order.{Order}
 use Rattle.bw_care.specs.declared.fault.RecoverCause.{RecoverCause}
 use Rattle.bw_care.specs.declared.fault.RecoverCause.TheVariants.{NoMemory, BadConfig, Device, Spent, Empty, BadBytes, Gap, Mixed, BadLink, Unlawful}
 use Rattle.bw_care.specs.Scanned.{IsScan}
-use Rattle.bw_care.specs.declared.scanning.Scan.{Scan}
-use Rattle.bw_care.specs.declared.scanning.Scan.TheVariants.{Bare, Part, Live}
+use Rattle.bw_care.specs.declared.scan.Scan.{Scan}
+use Rattle.bw_care.specs.declared.scan.Scan.TheVariants.{Bare, Part, Live}
 use Rattle.bw_log.specs.declared.places.FrameAt.{FrameAt}
-use Rattle.bw_care.specs.declared.ordering.Found.{Found}
+use Rattle.bw_care.specs.declared.order.Found.{Found}
 
 -- the segments among what was read, the first of which is the box at a position
 abbrev pub lives_from : ℕ → List Scan → List Found

@@ -19,7 +19,7 @@ use Rattle.bw_care.specs.Reading.{line_of}
 use Rattle.bw_care.specs.declared.lawful.Pages.{Pages}
 use Rattle.bw_care.specs.declared.fault.RecoverCause.{RecoverCause}
 use Rattle.bw_care.specs.declared.fault.RecoverCause.TheVariants.{NoMemory, BadConfig, Device, Spent, Empty, BadBytes, Gap, Mixed, BadLink, Unlawful}
-use Rattle.bw_care.specs.declared.reading.Line.{Line}
+use Rattle.bw_care.specs.declared.page_lines.Line.{Line}
 
 -- a page's number and its line
 abbrev pub Paged : Type 0
@@ -123,7 +123,7 @@ HasFrames m lines = (frames : List Frame) × AllByRecursion (HasLawful m) frames
 pub record IsRight (m : ℕ) (frames : List Frame) (r : Pages) : Type 0 where
   pub none : fault_among m frames ≡ None
   pub limit : r.leaves.m ≡ m
-  pub here : r.leaves.away ≡ []
+  pub here : r.leaves.evicted ≡ []
   pub leaves : r.leaves.leaves ≡ contents (blocks_of frames) 1 (top_page (blocks_of frames))
   pub table : IsTable r.table.items frames
   pub count : length r.table.items ≡ length r.leaves.leaves

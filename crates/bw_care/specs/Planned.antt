@@ -13,12 +13,12 @@ use Rattle.bw_care.specs.Recovery.{Finding, recovery, number_in, live_in, spares
 use Rattle.bw_care.specs.Scanned.{AreScans}
 use Rattle.bw_care.specs.Surveying.{kind_seen, parts_seen}
 use Rattle.bw_care.specs.Ordering.{IsOrder}
-use Rattle.bw_care.specs.declared.scanning.Scan.{Scan}
+use Rattle.bw_care.specs.declared.scan.Scan.{Scan}
 use Rattle.bw_care.specs.declared.plan.Survey.{Survey}
 use Rattle.bw_care.specs.Parting.{parted}
 use Rattle.bw_care.specs.declared.plan.Plan.{Plan}
-use Rattle.bw_care.specs.declared.reading.ReadFault.{ReadFault}
-use Rattle.bw_care.specs.declared.reading.ReadFault.TheVariants as read
+use Rattle.bw_care.specs.declared.page_lines.ReadFault.{ReadFault}
+use Rattle.bw_care.specs.declared.page_lines.ReadFault.TheVariants as read
 use Rattle.bw_care.specs.declared.fault.RecoverCause.{RecoverCause}
 use Rattle.bw_care.specs.declared.fault.RecoverCause.TheVariants.{NoMemory, BadConfig, Device, Spent, Empty, BadBytes, Gap, Mixed, BadLink, Unlawful}
 
@@ -86,7 +86,7 @@ pub record IsPlan (boxes : List Holding) (p : Plan) : Type 0 where
   pub opened : p.tables.is_open ≡ ends_whole (live_in boxes)
   pub follows : next_in p.tables.frames.items ≡ following p.last
   pub limit : p.leaves.m ≡ p.tables.m
-  pub here : p.leaves.away ≡ []
+  pub here : p.leaves.evicted ≡ []
   pub pages : length p.leaves.leaves ≡ length p.tables.pages.items
 
 abbrev pub as_cause : ReadFault → RecoverCause

@@ -7,8 +7,8 @@ use Rattle.bw_codec.specs.declared.block.HeaderRead.TheVariants as heading
 use Rattle.bw_device.specs.Holding.{Holding}
 use Rattle.bw_care.specs.Behind.{IsBehind}
 use Rattle.bw_care.specs.Scanning.{fault_in}
-use Rattle.bw_care.specs.declared.scanning.Scan.{Scan}
-use Rattle.bw_care.specs.declared.scanning.Scan.TheVariants.{Bare, Part, Live}
+use Rattle.bw_care.specs.declared.scan.Scan.{Scan}
+use Rattle.bw_care.specs.declared.scan.Scan.TheVariants.{Bare, Part, Live}
 
 abbrev pub IsScan : List ℕ → Scan → Type 0
 IsScan bytes Bare = bytes ≡ []

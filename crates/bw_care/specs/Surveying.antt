@@ -2,11 +2,11 @@
 
 use Rattle.std.specs.Prelude.{ℕ, ◌+◌, ◌≤◌, List, [], ◌∷◌}
 use Rattle.std.specs.List.{fold}
-use Rattle.bw_care.specs.declared.scanning.Scan.{Scan}
-use Rattle.bw_care.specs.declared.scanning.Scan.TheVariants.{Bare, Part, Live}
-use Rattle.bw_care.specs.declared.parting.Kind.{Kind}
-use Rattle.bw_care.specs.declared.parting.Kind.TheVariants as kind
-use Rattle.bw_care.specs.declared.ordering.Found.{Found}
+use Rattle.bw_care.specs.declared.scan.Scan.{Scan}
+use Rattle.bw_care.specs.declared.scan.Scan.TheVariants.{Bare, Part, Live}
+use Rattle.bw_care.specs.declared.parts.Kind.{Kind}
+use Rattle.bw_care.specs.declared.parts.Kind.TheVariants as kind
+use Rattle.bw_care.specs.declared.order.Found.{Found}
 
 abbrev pub kind_seen : Scan → Kind
 kind_seen Bare = kind.Bare

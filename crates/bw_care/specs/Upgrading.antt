@@ -14,7 +14,7 @@ use Rattle.bw_care.specs.Cleaning.{pages_upto}
 use Rattle.bw_care.specs.Moving.{MovedBehind, StoppedBehind}
 use Rattle.bw_care.specs.declared.fault.CleanFault.{CleanFault}
 use Rattle.bw_care.specs.declared.fault.CleanFault.TheVariants.{NothingOld, Log}
-use Rattle.bw_care.specs.declared.upgrading.Upgraded.{Upgraded}
+use Rattle.bw_care.specs.declared.upgrader.Upgraded.{Upgraded}
 
 -- how many of the live segments have version 1: they come first
 abbrev pub old_segments : Contents → ℕ

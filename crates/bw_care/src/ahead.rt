@@ -1,9 +1,9 @@
 //! Pages found ahead: one pass over the oldest segment finds most of what a cleaning writes again.
 //!
 //! Many old pages stand in each frame of the oldest segment. Read one by one, by the links back, a
-//! frame would be read once for each of them. So the segment is read once, forwards, and it is noted
-//! where the last block of a page is its Base. Such a Base is written again as the bytes that it
-//! is, with no decoding. If there are pages whose last block stands there and is no Base, the
+//! frame would be read once for each of them. So the segment is read once, forwards, and it is
+//! noted where the last block of a page is its Base. Such a Base is written again as the bytes that
+//! it is, with no decoding. If there are pages whose last block stands there and is no Base, the
 //! segment is decoded once, and each of them is spelled as a Base behind its bytes. A page that a
 //! later frame touches is read by its links.
 
@@ -27,8 +27,8 @@ ghost use Rattle.bw_care.specs.Reading.{leaf_in};
 ghost use Rattle.bw_care.specs.Views.{seen, IsSound};
 
 use crate::forward::read_segment;
-use crate::moving::{is_old, last_old};
-use crate::reading::{DraftLine, take_line};
+use crate::moves::{is_old, last_old};
+use crate::page_lines::{DraftLine, take_line};
 use bw_codec::limits::{HEAD_LEN, LATEST};
 use bw_codec::{Block, Leaf, Outline, Place, encode_block};
 use bw_device::Segment;

@@ -13,9 +13,9 @@ ghost use Rattle.bw_care.specs.Planned.{as_cause};
 ghost use Rattle.bw_care.specs.Reading.{IsRead, LinkFaultIs};
 
 use crate::fault::RecoverCause;
-use crate::passing::read_box;
-use crate::reading::{DraftLine, ReadFault, read_blocks_linked};
-use crate::scanning::front;
+use crate::page_lines::{DraftLine, ReadFault, read_blocks_linked};
+use crate::pass_over::read_box;
+use crate::scan::front;
 use bw_codec::{CodecFault, Frame, FrameRead, Header, HeaderRead, read_header};
 use bw_device::Segment;
 use std::alloc::Global;

@@ -12,7 +12,7 @@ ghost use Rattle.bw_codec.specs.declared.block.Frame.{Frame as FrameValue};
 ghost use Rattle.bw_codec.specs.declared.leaf.Leaf.{Leaf as LeafValue};
 
 use crate::fault::RecoverCause;
-use crate::reading::{DraftLine, Line};
+use crate::page_lines::{DraftLine, Line};
 use bw_codec::{Key, Leaf, Pair};
 use bw_log::PageAt;
 use bw_page::Leaves;

@@ -13,32 +13,32 @@
 //!
 //! Recovery trusts no byte. It reads boxes, headers, frames, their order, their links and then all
 //! blocks, each step for all segments before the next one, and the first fault is the answer:
-//! `specs/Recovery.antt` is that order, and `docs/FORMAT.md` has it in words. What it reserves hangs
-//! on the bytes that there are, and on no number that it read.
+//! `specs/Recovery.antt` is that order, and `docs/FORMAT.md` has it in words. What it reserves
+//! hangs on the bytes that there are, and on no number that it read.
 #![tactic(auto)]
 
 mod ahead;
-mod cleaning;
+mod cleaner;
 mod fault;
 mod forward;
 mod lawful;
 pub mod laws;
-mod moving;
-mod ordering;
-mod parting;
-mod passing;
+mod moves;
+mod order;
+mod page_lines;
+mod parts;
+mod pass_over;
 mod plan;
-mod reading;
 mod recovered;
-mod recovering;
-mod rewriting;
-mod scanning;
-mod surveying;
-mod upgrading;
+mod recovery;
+mod rewriter;
+mod scan;
+mod survey;
+mod upgrader;
 
-pub use cleaning::{Cleaned, clean};
+pub use cleaner::{Cleaned, clean};
 pub use fault::{CleanFault, RecoverCause};
 pub use recovered::Recovered;
-pub use recovering::{RecoverFault, recover};
-pub use rewriting::rewrite;
-pub use upgrading::{Upgraded, old_segments, upgrade};
+pub use recovery::{RecoverFault, recover};
+pub use rewriter::rewrite;
+pub use upgrader::{Upgraded, old_segments, upgrade};

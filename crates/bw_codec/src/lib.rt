@@ -9,6 +9,8 @@
 #![tactic(auto)]
 
 mod block;
+mod decoder;
+mod encoder;
 mod fault;
 mod heads;
 mod key;
@@ -18,20 +20,18 @@ pub mod limits;
 mod outline;
 mod pair;
 mod parts;
-mod reading;
 mod record;
 mod version;
-mod writing;
 
 pub use block::{Block, Blocks, Frame, FrameRead, Head, Header, HeaderRead, Place};
+pub use decoder::{read_block, read_frame, read_header};
+pub use encoder::{
+    base_length, block_length, encode_block, encode_frame_head, encode_header, frame_cells,
+    header_cells, ops_length, write_block, write_delta_head, write_ops,
+};
 pub use fault::CodecFault;
 pub use key::{Key, LengthError, Value, is_before};
 pub use leaf::{Leaf, Low, Pairs};
 pub use outline::Outline;
 pub use pair::Pair;
-pub use reading::{read_block, read_frame, read_header};
 pub use record::{Ops, Record};
-pub use writing::{
-    base_length, block_length, encode_block, encode_frame_head, encode_header, frame_cells,
-    header_cells, ops_length, write_block, write_delta_head, write_ops,
-};

@@ -1,6 +1,6 @@
 -- One turn more, with what the plan wants behind it.
 
-use Rattle.std.proofs.Common.{◌≡◌, ℕ, suc, ◌+◌, inl, inr, Bool, true, false, Result, Ok, Err, MatchResult, sym, subst, ap, ◌∙◌, arith}
+use Rattle.std.proofs.Common.{◌≡◌, ℕ, suc, ◌+◌, inr, Bool, true, false, Result, Ok, Err, MatchResult, sym, subst, ap, ◌∙◌, arith}
 use Rattle.bw_store.specs.declared.fault.StoreFault.{StoreFault}
 use Rattle.bw_store.specs.Kept.{Kept}
 use Rattle.bw_drive.specs.declared.plan.Plan.{Plan}

@@ -9,24 +9,24 @@
 //! `Home` does.
 #![tactic(auto)]
 
-mod beginning;
+mod begun;
 mod course;
 mod fault;
+mod folder_look;
 mod home;
-mod looking;
-mod opening;
+mod opened;
 mod options;
 mod site;
 mod system;
-mod upgrading;
+mod upgraded;
 
-pub use beginning::{Beginning, beginning_of};
+pub use begun::{Beginning, beginning_of};
 pub use course::{Course, Legs};
 pub use fault::{HomeFault, NotPut};
+pub use folder_look::look;
 pub use home::Home;
-pub use looking::look;
-pub use opening::{with_store, with_store_in_legs};
+pub use opened::{with_store, with_store_in_legs};
 pub use options::Options;
 pub use site::{Made, Site};
 pub use system::System;
-pub use upgrading::upgrade;
+pub use upgraded::upgrade;

@@ -1,7 +1,7 @@
 -- The newest word of a key on a page decides, so a walk back may end there.
 
-use Rattle.std.proofs.Common.{inl, inr, ◌≡◌, ℕ, zero, suc, ◌+◌, ◌-◌, ◌<◌, ◌≤◌, Bool, true, false, Option, Some, None, Result, Ok, Err, List, [], ◌∷◌, ◌++◌, length, get_or, reverse}
-use Rattle.std.proofs.Common.{refl, sym, ap, subst, ◌∙◌, arith, if◌then◌else◌}
+use Rattle.std.proofs.Common.{◌≡◌, ℕ, ◌+◌, ◌-◌, Bool, true, false, Option, Some, None, Result, Ok, Err, List, [], ◌∷◌, ◌++◌, get_or, reverse}
+use Rattle.std.proofs.Common.{refl, sym, ap, subst, ◌∙◌, if◌then◌else◌}
 use Rattle.std.specs.List.{AllByRecursion as All, fold, filter, list_any}
 use Rattle.std.proofs.lemmas.List.{reverse-append}
 use Rattle.bw_codec.specs.Grammar.{IsBlockIn, IsFrameIn}
@@ -14,7 +14,7 @@ use Rattle.bw_page.specs.Leaves.{Bytes, empty_leaf}
 use Rattle.bw_page.specs.Standing.{after, content, blocks_of}
 use Rattle.bw_page.specs.Words.{told_by, blocks_word, value_on, HasOrder}
 use Rattle.bw_page.specs.declared.words.Word.{Word}
-use Rattle.bw_page.specs.declared.words.Word.TheVariants.{Silent, Gone, Holds}
+use Rattle.bw_page.specs.declared.words.Word.TheVariants.{Silent}
 use Rattle.bw_page.proofs.Sorted.{Rises}
 use Rattle.bw_page.proofs.Wording.{RisesIf, rises_all, blocks_tell, words_append, silent_unset, said_over}
 use Rattle.bw_log.specs.Contents.{Contents, image, counted, limits_of, IsSound}
@@ -27,7 +27,7 @@ use Rattle.bw_log.specs.Reads.{IsKept, ReadStops}
 use Rattle.bw_log.specs.declared.fault.LogFault.{LogFault}
 use Rattle.bw_log.proofs.Fetched.{kept_after, kept_same, sound_after}
 use Rattle.bw_log.proofs.Walk.{none_fold, forgets_fold}
-use Rattle.bw_log.proofs.Walks.{blocks_more, content_push, reads_more, read_more, walk_frame}
+use Rattle.bw_log.proofs.Walks.{content_push, reads_more, read_more, walk_frame}
 use Rattle.bw_log.proofs.Thinned.{thin_sets}
 use Rattle.bw_log.proofs.Walked.{Reads, Step, step_is, some_link}
 

@@ -14,22 +14,22 @@
 //! beginning of a lawful frame is a whole frame or begins another (`bw_codec::laws`), so it is read
 //! as a tail, and nothing else changes.
 //!
-//! Nobody appends behind a torn frame, where nothing would be found again. A log whose append failed
-//! has failed for good, and a log that was adopted from a segment with a tail has closed that
-//! segment: its next frame begins a new one.
+//! Nobody appends behind a torn frame, where nothing would be found again. A log whose append
+//! failed has failed for good, and a log that was adopted from a segment with a tail has closed
+//! that segment: its next frame begins a new one.
 #![tactic(auto)]
 
-mod adopting;
-mod appending;
+mod adopt;
+mod append;
 mod current;
 mod fault;
 mod laws;
 mod log;
-mod noting;
 mod oldest;
-mod picking;
+mod page_blocks;
+mod pages;
+mod place_changes;
 mod places;
-mod reading;
 mod spans;
 mod values;
 

@@ -9,7 +9,7 @@ ghost use Rattle.bw_log.specs.Walking.{IsWalk};
 
 use crate::fault::LogFault;
 use crate::log::Log;
-use crate::reading::link_back;
+use crate::pages::link_back;
 use bw_codec::{Key, Value};
 use bw_page::{Word, word_in_blocks};
 
@@ -42,11 +42,11 @@ impl Log {
         }
     }
 
-    /// The value of a key on a page, as the counted frames leave it: it reads the frames with a block
-    /// of the page from the newest back to the first with a record of the key, a block that sets the
-    /// page, or one that cuts the key off, and holds one of them in memory. So a key that changed
-    /// lately costs one frame, however many touch the page. Whether the key belongs to the page is not
-    /// asked. Refused as `read_page` is.
+    /// The value of a key on a page, as the counted frames leave it: it reads the frames with a
+    /// block of the page from the newest back to the first with a record of the key, a block that
+    /// sets the page, or one that cuts the key off, and holds one of them in memory. So a key that
+    /// changed lately costs one frame, however many touch the page. Whether the key belongs to the
+    /// page is not asked. Refused as `read_page` is.
     pub fn read_value(&mut self, page: u32, key: &Key) -> Result<Option<Value>, LogFault>
         requires { IsSound holding self.old }
         ensures value { IfOk result (λ value. value ≡ value_on key.now

@@ -10,7 +10,7 @@ mod image;
 mod listing;
 mod picture;
 mod printer;
-mod restoring;
+mod restored;
 mod survey;
 mod words;
 
@@ -19,6 +19,6 @@ pub use image::Image;
 pub use listing::write_image;
 pub use picture::write_picture;
 pub use printer::{NotWritten, Printer};
-pub use restoring::{kept_bytes, pages_at};
+pub use restored::{kept_bytes, pages_at};
 pub use survey::{BlockRow, FrameRow, Kind, SegmentRow, Survey};
 pub use words::{write_hex, write_page, write_pair, write_record, write_word};

@@ -157,7 +157,7 @@ module _ (a : Inside) (h : IsIndexed a) (r : Record) (op : IsOp r) (at : ℕ) (h
 -- leaves after a record, with their index
 pub record Follows (now : Shown) (r : Record) (b : Inside) : Type 0 where
   pub filed : IsIndexed b
-  pub view : view_of b ≡ record { m = now.m; leaves = applied now.m now.leaves r; away = now.away }
+  pub view : view_of b ≡ record { m = now.m; leaves = applied now.m now.leaves r; evicted = now.evicted }
   pub plain : union b.leaves.items ≡ changed_map (union now.leaves) r
 
 module _ (a : Inside) (h : IsIndexed a) (now : Shown) (v : view_of a ≡ now) (r : Record) (op : IsOp r) (at count : ℕ)
@@ -190,14 +190,14 @@ module _ (a : Inside) (h : IsIndexed a) (now : Shown) (v : view_of a ≡ now) (r
   pub home_at : (leaf : Leaf) → leaf ≡ get_or a.leaves.items at leaf → leaf ≡ home (key_of r) now.leaves
   home_at leaf e = e ∙ leaf_is a h r op at here_inside leaf ∙ ap (λ (f : Shown). home (key_of r) f.leaves) v
 
-  viewed : (b : Inside) → b.m ≡ a.m → b.leaves.away ≡ a.leaves.away → b.leaves.items ≡ applied a.m a.leaves.items r
-      → view_of b ≡ record { m = now.m; leaves = applied now.m now.leaves r; away = now.away }
+  viewed : (b : Inside) → b.m ≡ a.m → b.leaves.evicted ≡ a.leaves.evicted → b.leaves.items ≡ applied a.m a.leaves.items r
+      → view_of b ≡ record { m = now.m; leaves = applied now.m now.leaves r; evicted = now.evicted }
   viewed b em ea el =
-      let to : view_of b ≡ record { m = a.m; leaves = applied a.m a.leaves.items r; away = a.leaves.away } =
-      λ i. record { m = em i; leaves = el i; away = ea i } in
-      to ∙ ap (λ (f : Shown). let g : Shown = record { m = f.m; leaves = applied f.m f.leaves r; away = f.away } in g) v
+      let to : view_of b ≡ record { m = a.m; leaves = applied a.m a.leaves.items r; evicted = a.leaves.evicted } =
+      λ i. record { m = em i; leaves = el i; evicted = ea i } in
+      to ∙ ap (λ (f : Shown). let g : Shown = record { m = f.m; leaves = applied f.m f.leaves r; evicted = f.evicted } in g) v
 
-  pub follows_whole : (b : Inside) → b.m ≡ a.m → b.leaves.away ≡ a.leaves.away → count ≤ a.m
+  pub follows_whole : (b : Inside) → b.m ≡ a.m → b.leaves.evicted ≡ a.leaves.evicted → count ≤ a.m
       → ((d : Leaf) → b.leaves.items ≡ slice_set a.leaves.items at (changed r (get_or a.leaves.items at d)))
       → ((q : Bytes) → page_of_low b.index q ≡ page_of_low a.index q) → Follows now r b
   follows_whole b em ea few set same =
@@ -211,7 +211,7 @@ module _ (a : Inside) (h : IsIndexed a) (now : Shown) (v : view_of a ≡ now) (r
         plain = plain_is a h r op at here_inside b.leaves.items (λ over. absurd (omega arith)) el ∙ ap (λ (f : Shown). changed_map (union f.leaves) r) v;
       }
 
-  pub follows_cut : (b : Inside) (page : ℕ) → b.m ≡ a.m → b.leaves.away ≡ a.leaves.away → a.m < count → page ≡ length a.leaves.items + 1 → page < 2 ^ 32
+  pub follows_cut : (b : Inside) (page : ℕ) → b.m ≡ a.m → b.leaves.evicted ≡ a.leaves.evicted → a.m < count → page ≡ length a.leaves.items + 1 → page < 2 ^ 32
       → ((d : Leaf) → b.leaves.items ≡ slice_set a.leaves.items at (lower_of a.m (changed r (get_or a.leaves.items at d)))
       ++ upper_of a.m page (changed r (get_or a.leaves.items at d)) ∷ [])
       → ((d : Leaf) (q : Bytes) → page_of_low b.index q

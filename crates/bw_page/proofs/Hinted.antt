@@ -10,7 +10,7 @@ use Rattle.bw_codec.specs.declared.leaf.Leaf.{Leaf}
 use Rattle.bw_page.specs.Laws.{LiesBetween}
 use Rattle.bw_page.specs.Leaves.{Bytes, Pairs, order, home, leaf_at, AreLeaves}
 use Rattle.bw_page.specs.Seek.{seek_of, passed, IsBetween}
-use Rattle.bw_page.specs.Shown.{Shown, leaf_here, is_away}
+use Rattle.bw_page.specs.Shown.{Shown, leaf_here, is_evicted_page}
 use Rattle.bw_page.proofs.Homes.{home-max, is_home}
 use Rattle.bw_page.proofs.Order.{Below, UpTo, upto-trans, below-trans}
 use Rattle.bw_page.proofs.PageByPage.{leaf_page}
@@ -100,7 +100,7 @@ hinted_home m leaves (suc n) l q a e b = (leaf_page (suc n) leaves l a.pages e, 
 -- a leaf that is here stands in the list
 pub stands_here : (page : ℕ) (f : Shown) (l : Leaf) → Some l ≡ leaf_here page f → leaf_at page f.leaves ≡ Some l
 stands_here page f l e =
-    elim (is_away page f) as (λ b. Some l ≡ (if b then None else leaf_at page f.leaves) → leaf_at page f.leaves ≡ Some l) [
+    elim (is_evicted_page page f) as (λ b. Some l ≡ (if b then None else leaf_at page f.leaves) → leaf_at page f.leaves ≡ Some l) [
       | true ↦ λ k. absurd cc
       | false ↦ λ k. sym k
     ] e

@@ -53,15 +53,15 @@ module _ (a : Inside) (h : IsIndexed a) (now : Shown) (v : view_of a ≡ now) (u
   page_is : u.leaf.page ≡ (home (key_of n.change) n.before.leaves).page
   page_is = ap (λ (x : Displaced). x.leaf.page) (page_of n.before n.change u n.displaced)
 
-  away_is : a.leaves.away ≡ n.before.away
-  away_is = ap (λ (f : Shown). f.away) (v ∙ n.is)
+  evicted_is : a.leaves.evicted ≡ n.before.evicted
+  evicted_is = ap (λ (f : Shown). f.evicted) (v ∙ n.is)
 
   -- the page that is dropped, and the one that is put back, are in memory
-  pub put_beyond : is_among (u.pages + 1) a.leaves.away ≡ false
-  put_beyond = (λ i. is_among (pages_are i + 1) (away_is i)) ∙ n.beyond
+  pub put_beyond : is_among (u.pages + 1) a.leaves.evicted ≡ false
+  put_beyond = (λ i. is_among (pages_are i + 1) (evicted_is i)) ∙ n.beyond
 
-  pub put_here : is_among u.leaf.page a.leaves.away ≡ false
-  put_here = (λ i. is_among (page_is i) (away_is i)) ∙ n.here
+  pub put_here : is_among u.leaf.page a.leaves.evicted ≡ false
+  put_here = (λ i. is_among (page_is i) (evicted_is i)) ∙ n.here
 
   pub put_within : u.leaf.page - 1 < length (take u.pages a.leaves.items)
   put_within =
@@ -75,14 +75,14 @@ module _ (a : Inside) (h : IsIndexed a) (now : Shown) (v : view_of a ≡ now) (u
   pub put_page : 1 ≤ u.leaf.page
   put_page = let p = page_is in let w = home_within n.before.m (key_of n.change) n.before.leaves n.lawful in omega arith
 
-  pub put_back_filed : (b : Inside) → b.m ≡ a.m → b.leaves.away ≡ a.leaves.away
+  pub put_back_filed : (b : Inside) → b.m ≡ a.m → b.leaves.evicted ≡ a.leaves.evicted
       → b.leaves.items ≡ slice_set (take u.pages a.leaves.items) (u.leaf.page - 1) u.leaf
       → (length a.leaves.items ≤ u.pages → (q : Bytes) → page_of_low b.index q ≡ page_of_low a.index q)
       → ((d : Leaf) → u.pages < length a.leaves.items → (q : Bytes)
       → page_of_low b.index q ≡ cond (eq_by_cmp order q (get_or a.leaves.items u.pages d).low) None (page_of_low a.index q))
       → IsIndexed b
   put_back_filed b em ea el same less =
-      let to : view_of b ≡ undone (view_of a) (Page u) = λ i. record { m = em i; leaves = el i; away = ea i } in
+      let to : view_of b ≡ undone (view_of a) (Page u) = λ i. record { m = em i; leaves = el i; evicted = ea i } in
       let all : view_of b ≡ n.before = to ∙ ap (λ f. undone f (Page u)) v ∙ back_one now (Page u) n in
       let e = pages_are in
       filed_new b (subst (λ (k : ℕ). (4 ≤ k) × (k ≤ 32)) (sym em) h.limit)
@@ -116,7 +116,7 @@ module _ (a : Inside) (h : IsIndexed a) (now : Shown) (v : view_of a ≡ now) (b
       ∙ ap (λ k. (home k n.before.leaves).page) (back-key n.change back (find order (key_of n.change) (home (key_of n.change) n.before.leaves).pairs) takes)
 
   pub back_here : IsHere (key_of back) now
-  back_here = (λ i. is_among (back_page i) ((ap (λ (f : Shown). f.away) n.is) i)) ∙ n.here
+  back_here = (λ i. is_among (back_page i) ((ap (λ (f : Shown). f.evicted) n.is) i)) ∙ n.here
 
   pub back_stays : (s : Result ℕ ℕ) → s ≡ seek_of (key_of back) (home (key_of back) now.leaves).pairs → AddsNone back s
   back_stays s e =
@@ -124,7 +124,7 @@ module _ (a : Inside) (h : IsIndexed a) (now : Shown) (v : view_of a ≡ now) (b
       (e ∙ ap (λ (f : Shown). seek_of (key_of back) (home (key_of back) f.leaves).pairs) n.is)
 
   -- leaves after the record that takes the newest one back
-  pub view_back : (op : IsOp back) (at : ℕ) → at + 1 ≡ (home (key_of back) now.leaves).page → (b : Inside) → b.m ≡ a.m → b.leaves.away ≡ a.leaves.away
+  pub view_back : (op : IsOp back) (at : ℕ) → at + 1 ≡ (home (key_of back) now.leaves).page → (b : Inside) → b.m ≡ a.m → b.leaves.evicted ≡ a.leaves.evicted
       → ((d : Leaf) → b.leaves.items ≡ slice_set a.leaves.items at (changed back (get_or a.leaves.items at d)))
       → view_of b ≡ undone now (Back back)
   view_back op at here b em ea set =
@@ -134,7 +134,7 @@ module _ (a : Inside) (h : IsIndexed a) (now : Shown) (v : view_of a ≡ now) (b
       set empty_leaf
       ∙ ap (λ (l : Leaf). slice_set a.leaves.items at (changed back l)) (leaf_is a h back op at inside empty_leaf)
       ∙ ap (λ i. slice_set a.leaves.items i (result_of a.leaves.items back)) place in
-      let to : view_of b ≡ undone (view_of a) (Back back) = λ i. record { m = em i; leaves = el i; away = ea i } in
+      let to : view_of b ≡ undone (view_of a) (Back back) = λ i. record { m = em i; leaves = el i; evicted = ea i } in
       to ∙ ap (λ f. undone f (Back back)) v
 
   pub filed_back : (b : Inside) → b.m ≡ a.m → view_of b ≡ undone now (Back back)

@@ -66,8 +66,8 @@ here_at f [] k r room h e = absurd (cc)
 here_at f (x ∷ rs) zero r room h e = let same : x ≡ r = cc in subst (λ (y : Record). IsHere (key_of y) f) same h.0
 here_at f (x ∷ rs) (suc k) r room h e = here_at (after_record f x) rs k r room.1 (h.1 room.0) e
 
--- where no page is away, the pages of all records are in memory
-pub all_here : (f : Shown) (rs : List Record) → f.away ≡ [] → AreHere f rs
+-- where no page is evicted, the pages of all records are in memory
+pub all_here : (f : Shown) (rs : List Record) → f.evicted ≡ [] → AreHere f rs
 all_here f [] none = tt
 all_here f (r ∷ rs) none = (ap (is_among (home (key_of r) f.leaves).page) none, λ p. all_here (after_record f r) rs none)
 

@@ -8,7 +8,7 @@ use Rattle.bw_codec.specs.declared.leaf.Leaf.{Leaf}
 use Rattle.bw_codec.specs.declared.record.Record.{Record}
 use Rattle.bw_page.specs.Leaves.{Bytes, home, applied, HasPage, AreLeaves}
 use Rattle.bw_page.specs.Laws.{HomesStay, HereTogether}
-use Rattle.bw_page.specs.Shown.{Shown, IsHere, is_away, after_record}
+use Rattle.bw_page.specs.Shown.{Shown, IsHere, is_evicted_page, after_record}
 use Rattle.bw_page.specs.Batch.{NoneBeyond}
 use Rattle.bw_page.proofs.Sorted.{all-map}
 use Rattle.bw_page.proofs.Homes.{put_in, picks, second, first, home-push}
@@ -42,8 +42,8 @@ here_after : (f : Shown) (r : Record) (key : Bytes) → 1 ≤ f.m → HasPage f.
     → IsHere key (after_record f r)
 here_after f r key some room a beyond op here =
     elim (homes_stay_lem f.m f.leaves r key some room a op) [
-      | inl same ↦ ap (λ p. is_away p f) same ∙ here
-      | inr new ↦ ap (λ p. is_away p f) new ∙ beyond (length f.leaves + 1) (omega arith)
+      | inl same ↦ ap (λ p. is_evicted_page p f) same ∙ here
+      | inr new ↦ ap (λ p. is_evicted_page p f) new ∙ beyond (length f.leaves + 1) (omega arith)
     ]
 
 pub together : HereTogether

@@ -1,11 +1,11 @@
 -- The newest word of a key decides its value, whatever stood before.
 
-use Rattle.std.proofs.Common.{◌≡◌, ℕ, Bool, true, false, cond, if◌then◌else◌, Option, Some, None, IsTrue, List, [], ◌∷◌, ◌++◌, refl, sym, ap, ◌∙◌, subst}
-use Rattle.std.specs.Prelude.{◌==◌, ◌||◌}
+use Rattle.std.proofs.Common.{◌≡◌, ℕ, Bool, true, false, cond, if◌then◌else◌, Option, Some, None, List, [], ◌∷◌, ◌++◌, refl, sym, ap, ◌∙◌, subst}
+use Rattle.std.specs.Prelude.{◌==◌}
 use Rattle.std.specs.List.{AllByRecursion as All, fold, filter, list_any}
 use Rattle.std.specs.Ordering.{eq_by_cmp}
 use Rattle.std.specs.FinMap.Entries.{find}
-use Rattle.bw_codec.specs.Bytes.{is_below, ascends}
+use Rattle.bw_codec.specs.Bytes.{is_below}
 use Rattle.bw_codec.specs.Record.{key_of}
 use Rattle.bw_codec.specs.Touch.{sets}
 use Rattle.bw_codec.specs.declared.leaf.Leaf.{Leaf}

@@ -6,7 +6,7 @@ use Rattle.bw_codec.specs.declared.leaf.Leaf.{Leaf}
 use Rattle.bw_codec.specs.declared.record.Record.{Record}
 use Rattle.bw_page.specs.declared.leaves.batch.Step.{Step}
 use Rattle.bw_page.specs.Leaves.{directed_at, result_of, upper_of, HasPage}
-use Rattle.bw_page.specs.Shown.{Shown, IsSpent, IsHere, is_away, after_record, run}
+use Rattle.bw_page.specs.Shown.{Shown, IsSpent, IsHere, is_evicted_page, after_record, run}
 
 -- one of the records, after those before it, makes a page for which there is no number
 abbrev pub SomeIsSpent : Shown → List Record → Type 0
@@ -18,9 +18,9 @@ abbrev pub AreHere : Shown → List Record → Type 0
 AreHere f [] = Unit {0}
 AreHere f (r ∷ rs) = IsHere (key_of r) f × (HasPage f.m f.leaves r → AreHere (after_record f r) rs)
 
--- no page is away that there is not: what a record makes is in memory
+-- no page is evicted that there is not: what a record makes is in memory
 abbrev pub NoneBeyond : Shown → Type 0
-NoneBeyond f = (p : ℕ) → length f.leaves < p → is_away p f ≡ false
+NoneBeyond f = (p : ℕ) → length f.leaves < p → is_evicted_page p f ≡ false
 
 -- ---- what records do, one after the other
 

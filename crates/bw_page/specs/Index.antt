@@ -9,7 +9,7 @@ use Rattle.bw_page.specs.Shown.{Shown}
 use Rattle.bw_page.specs.Lows.{lows_of}
 
 abbrev pub view_of : Inside → Shown
-view_of a = record { m = a.m; leaves = a.leaves.items; away = a.leaves.away }
+view_of a = record { m = a.m; leaves = a.leaves.items; evicted = a.leaves.evicted }
 
 pub record IsIndexed (a : Inside) : Type 0 where
   pub limit : (4 ≤ a.m) × (a.m ≤ 32)

@@ -11,7 +11,7 @@ use Rattle.bw_page.specs.declared.journal.Undo.TheVariants.{Back, Page}
 use Rattle.bw_page.specs.declared.journal.Displaced.{Displaced}
 use Rattle.bw_page.specs.Leaves.{order, home, result_of, with_leaf, HasPage, HasPages, AreLeaves}
 use Rattle.bw_page.specs.Seek.{back_of}
-use Rattle.bw_page.specs.Shown.{Shown, IsHere, is_away}
+use Rattle.bw_page.specs.Shown.{Shown, IsHere, is_evicted_page}
 use Rattle.bw_page.specs.Batch.{AreHere, NoneBeyond}
 pub use Rattle.bw_page.specs.Shown.{after_record, run}
 
@@ -70,7 +70,7 @@ pub record IsNewest (now : Shown) (undo : Undo) : Type 0 where
   pub change : Record
   pub some : 1 ≤ before.m
   pub here : IsHere (key_of change) before
-  pub beyond : is_away (length before.leaves + 1) before ≡ false
+  pub beyond : is_evicted_page (length before.leaves + 1) before ≡ false
   pub lawful : AreLeaves before.m before.leaves
   pub op : IsOp change
   pub room : HasPage before.m before.leaves change

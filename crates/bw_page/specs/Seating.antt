@@ -10,19 +10,19 @@ use Rattle.bw_page.specs.declared.seats.Seats.TheInside.{Inside as SeatsInside}
 use Rattle.bw_page.specs.Seats.{Seated, Seating}
 
 abbrev pub seat_view : SeatInside → Seated
-seat_view a = record { leaf = a.was.value; is_away = not (is_some a.leaf) }
+seat_view a = record { leaf = a.was.value; is_evicted = not (is_some a.leaf) }
 
--- a leaf in memory is the one known, and of one that is away it is known how long its Base is
+-- a leaf in memory is the one known, and of one that is evicted it is known how long its Base is
 abbrev pub IsSeat : SeatInside → Type 0
 IsSeat a = IfSome a.leaf (λ l. l ≡ a.was.value) × IfNone a.leaf (a.len ≡ length (block_bytes (Base a.was.value)))
 
 abbrev pub leaves_of : List Seated → List Leaf
 leaves_of seats = map (λ s. s.leaf) seats
 
--- the pages that are away, of seats from page n on
-abbrev pub away_from : ℕ → List Seated → List ℕ
-away_from n [] = []
-away_from n (s ∷ ss) = if s.is_away then n ∷ away_from (n + 1) ss else away_from (n + 1) ss
+-- the pages that are evicted, of seats from page n on
+abbrev pub evicted_from : ℕ → List Seated → List ℕ
+evicted_from n [] = []
+evicted_from n (s ∷ ss) = if s.is_evicted then n ∷ evicted_from (n + 1) ss else evicted_from (n + 1) ss
 
 abbrev pub seats_view : SeatsInside → Seating
-seats_view a = record { items = leaves_of a.seats.items; away = away_from 1 a.seats.items; room = vec_capacity a.seats - vec_len a.seats }
+seats_view a = record { items = leaves_of a.seats.items; evicted = evicted_from 1 a.seats.items; room = vec_capacity a.seats - vec_len a.seats }

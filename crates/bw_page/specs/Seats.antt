@@ -1,17 +1,17 @@
--- What contracts see of seats: the leaves, and which of them are away from memory.
+-- What contracts see of seats: the leaves, and which of them are evicted from memory.
 
 use Rattle.std.specs.Prelude.{ℕ, Bool, true, false, ◌==◌, List, [], ◌∷◌, if◌then◌else◌}
 use Rattle.bw_codec.specs.declared.leaf.Leaf.{Leaf}
 
--- one leaf, and whether it is away
+-- one leaf, and whether it is evicted
 pub record Seated : Type 0 where
   pub leaf : Leaf
-  pub is_away : Bool
+  pub is_evicted : Bool
 
--- some leaves, the pages that are away, ascending, and how many more leaves have room
+-- some leaves, the pages that are evicted, ascending, and how many more leaves have room
 pub record Seating : Type 0 where
   pub items : List Leaf
-  pub away : List ℕ
+  pub evicted : List ℕ
   pub room : ℕ
 
 -- whether a page is among some

@@ -16,19 +16,19 @@ pub record Shown : Type 0 where
   pub m : ℕ
   pub leaves : List Leaf
   -- the pages that are not in memory, ascending
-  pub away : List ℕ
+  pub evicted : List ℕ
 
--- a page is not in memory; a page that there is not is not away
-abbrev pub is_away : ℕ → Shown → Bool
-is_away page f = is_among page f.away
+-- a page is not in memory; a page that there is not is not evicted
+abbrev pub is_evicted_page : ℕ → Shown → Bool
+is_evicted_page page f = is_among page f.evicted
 
 -- the leaf of a page, if there is one in memory
 abbrev pub leaf_here : ℕ → Shown → Option Leaf
-leaf_here page f = if is_away page f then None else leaf_at page f.leaves
+leaf_here page f = if is_evicted_page page f then None else leaf_at page f.leaves
 
 -- the page at which a record of a key is directed is in memory
 abbrev pub IsHere : Bytes → Shown → Type 0
-IsHere key f = is_away (home key f.leaves).page f ≡ false
+IsHere key f = is_evicted_page (home key f.leaves).page f ≡ false
 
 -- after one record, and after several
 abbrev pub after_record : Shown → Record → Shown

@@ -19,7 +19,7 @@ use std::alloc::{AllocError, Global};
 
 /// The same leaves, each in no more room than it needs.
 pub(crate) fn copy_all(alloc: Global, leaves: &Seats) -> Result<Vec<Leaf>, AllocError>
-    requires { leaves.now.away ≡ [] }
+    requires { leaves.now.evicted ≡ [] }
     ensures { IfOk result (λ copy. copy.items ≡ leaves.now.items) }
 {
     let count = leaves.len();
@@ -32,9 +32,9 @@ pub(crate) fn copy_all(alloc: Global, leaves: &Seats) -> Result<Vec<Leaf>, Alloc
 
 /// The same leaves with their seats.
 pub(crate) fn copy_seats(leaves: &Seats) -> Result<Seats, AllocError>
-    requires { leaves.now.away ≡ [] }
+    requires { leaves.now.evicted ≡ [] }
     ensures items { IfOk result (λ copy. copy.items ≡ leaves.now.items) }
-    ensures away { IfOk result (λ copy. copy.away ≡ []) }
+    ensures evicted { IfOk result (λ copy. copy.evicted ≡ []) }
 {
     let alloc = leaves.allocator();
     let count = leaves.len();
@@ -75,9 +75,9 @@ pub(crate) fn drop_above(leaves: &mut Seats, index: &mut LowIndex, pages: u32)
     requires over { length leaves.old.items ≤ pages + 1 }
     requires key { (d : LeafValue) → pages < length leaves.old.items
         → IsKey (slice_index_or leaves.old.items pages d).low }
-    requires here { is_among (pages + 1) leaves.old.away ≡ false }
+    requires here { is_among (pages + 1) leaves.old.evicted ≡ false }
     ensures leaves { leaves.new.items ≡ take pages leaves.old.items }
-    ensures away { leaves.new.away ≡ leaves.old.away }
+    ensures evicted { leaves.new.evicted ≡ leaves.old.evicted }
     ensures kept { length leaves.old.items ≤ pages → index.new ≡ index.old }
     ensures dropped { (d : LeafValue) → pages < length leaves.old.items → (q : Bytes)
         → page_of_low index.new q

@@ -12,7 +12,7 @@ ghost use Rattle.bw_codec.specs.Grammar.{block_bytes};
 ghost use Rattle.bw_codec.specs.Record.{key_of};
 ghost use Rattle.bw_codec.specs.declared.block.Block.TheVariants.{Base};
 ghost use Rattle.bw_page.specs.Leaves.{order, empty_leaf, home, leaf_at, directed_at, AreLeaves, changed_map, union};
-ghost use Rattle.bw_page.specs.Shown.{TakesKey, IsSpent, after_record, is_away, leaf_here, IsHere, applied_by};
+ghost use Rattle.bw_page.specs.Shown.{TakesKey, IsSpent, after_record, is_evicted_page, leaf_here, IsHere, applied_by};
 ghost use Rattle.bw_page.specs.Aim.{IsAim};
 ghost use Rattle.bw_page.specs.Journal.{displaced_by};
 ghost use Rattle.bw_page.specs.Seek.{back_of};
@@ -24,7 +24,7 @@ mod hinted;
 mod walk;
 
 use crate::changes::{count_found, empty_page, find_key};
-use crate::cutting::cut_at;
+use crate::cuts::cut_at;
 use crate::fault::ApplyError;
 use crate::index::{copy_all, index_of};
 use crate::journal::{Back, Displaced};
@@ -81,7 +81,7 @@ impl Leaves {
     /// the only error.
     pub fn one_empty(alloc: Global, m: u16) -> Result<Leaves, AllocError>
         requires { (4 ≤ m) × (m ≤ 32) }
-        ensures { IfOk result (λ l. l ≡ record { m = m; leaves = empty_leaf ∷ []; away = [] }) }
+        ensures { IfOk result (λ l. l ≡ record { m = m; leaves = empty_leaf ∷ []; evicted = [] }) }
     {
         let mut leaves = Seats::new(alloc);
         leaves.push(empty_page(alloc))?;
@@ -97,7 +97,7 @@ impl Leaves {
         ensures value { result ≡ length self.now.leaves }
         ensures lawful { AreLeaves self.now.m self.now.leaves }
         ensures limit { (4 ≤ self.now.m) × (self.now.m ≤ 32) }
-        ensures beyond { (p : ℕ) → length self.now.leaves < p → is_away p self.now ≡ false }
+        ensures beyond { (p : ℕ) → length self.now.leaves < p → is_evicted_page p self.now ≡ false }
     {
         self.leaves.len() as u32
     }
@@ -109,7 +109,7 @@ impl Leaves {
         self.m
     }
 
-    /// The leaf of a page, if there is such a page and it is not away.
+    /// The leaf of a page, if there is such a page and it is not evicted.
     pub fn page(&self, page: u32) -> Option<&Leaf>
         ensures { option_copied result ≡ leaf_here page self.now }
     {
@@ -119,7 +119,7 @@ impl Leaves {
         self.leaves.look(page as usize - 1)
     }
 
-    /// Whether there is such a page and it is not away.
+    /// Whether there is such a page and it is not evicted.
     pub fn is_here(&self, page: u32) -> bool
         ensures { result ≡ is_some (leaf_here page self.now) }
     {
@@ -127,17 +127,18 @@ impl Leaves {
     }
 
     /// Drops a page's leaf from memory. The page stays.
-    pub fn put_away(&mut self, page: u32)
+    pub fn evict_page(&mut self, page: u32)
         requires { (1 ≤ page) × (page ≤ length self.old.leaves) }
         ensures m { self.new.m ≡ self.old.m }
         ensures leaves { self.new.leaves ≡ self.old.leaves }
-        ensures away { (p : ℕ) → is_away p self.new
-            ≡ (if p == page then true else is_away p self.old) }
+        ensures evicted { (p : ℕ) → is_evicted_page p self.new
+            ≡ (if p == page then true else is_evicted_page p self.old) }
     {
-        self.leaves.put_away(page as usize - 1);
+        self.leaves.evict_page(page as usize - 1);
     }
 
-    /// How many bytes the Base of a page has, whether it is away or not; what is away is not read.
+    /// How many bytes the Base of a page has, whether it is evicted or not; what is evicted is not
+    /// read.
     pub fn base_length(&self, page: u32) -> u64
         requires { (1 ≤ page) × (page ≤ length self.now.leaves) }
         ensures value { IfSome (leaf_at page self.now.leaves)
@@ -152,8 +153,8 @@ impl Leaves {
         requires { leaf_at page self.old.leaves ≡ Some leaf }
         ensures m { self.new.m ≡ self.old.m }
         ensures leaves { self.new.leaves ≡ self.old.leaves }
-        ensures away { (p : ℕ) → is_away p self.new
-            ≡ (if p == page then false else is_away p self.old) }
+        ensures evicted { (p : ℕ) → is_evicted_page p self.new
+            ≡ (if p == page then false else is_evicted_page p self.old) }
     {
         self.leaves.set(page as usize - 1, leaf);
     }
@@ -229,7 +230,7 @@ impl Leaves {
             ≡ changed_map (union self.old.leaves) change.now) }
 
         ensures applied { IfOk result (λ a. a ≡ applied_by self.old change.now) }
-        ensures away { self.new.away ≡ self.old.away }
+        ensures evicted { self.new.evicted ≡ self.old.evicted }
 
         // The page number is looked for before memory is.
         ensures spent { IsSpent self.old change.now → result ≡ Err ApplyError.Spent }
@@ -249,7 +250,7 @@ impl Leaves {
             ≡ changed_map (union self.old.leaves) change.now) }
 
         ensures applied { IfOk result (λ a. a ≡ applied_by self.old change.now) }
-        ensures away { self.new.away ≡ self.old.away }
+        ensures evicted { self.new.evicted ≡ self.old.evicted }
 
         // The page number is looked for before memory is.
         ensures spent { IsSpent self.old change.now → result ≡ Err ApplyError.Spent }
@@ -287,7 +288,7 @@ impl Leaves {
         ensures plain { OnOk result (union self.new.leaves
             ≡ changed_map (union self.old.leaves) change.now) }
         ensures applied { IfOk result (λ a. a ≡ applied_by self.old change.now) }
-        ensures away { self.new.away ≡ self.old.away }
+        ensures evicted { self.new.evicted ≡ self.old.evicted }
         ensures spent { IsSpent self.old change.now → result ≡ Err ApplyError.Spent }
         ensures only_spent { result ≡ Err ApplyError.Spent → IsSpent self.old change.now }
         ensures unchanged { OnErr result (self.new ≡ self.old) }
@@ -320,7 +321,7 @@ impl Leaves {
         ensures ok { OnOk result (self.new ≡ after_record self.old change.now) }
         ensures plain { OnOk result (union self.new.leaves
             ≡ changed_map (union self.old.leaves) change.now) }
-        ensures away { self.new.away ≡ self.old.away }
+        ensures evicted { self.new.evicted ≡ self.old.evicted }
         ensures back { IfOk result (λ back. back ≡ back_of change.now
             (find order (key_of change.now) (home (key_of change.now) self.old.leaves).pairs)) }
         ensures unchanged { OnErr result (self.new ≡ self.old) }
@@ -343,7 +344,7 @@ impl Leaves {
         ensures ok { OnOk result (self.new ≡ after_record self.old change.now) }
         ensures plain { OnOk result (union self.new.leaves
             ≡ changed_map (union self.old.leaves) change.now) }
-        ensures away { self.new.away ≡ self.old.away }
+        ensures evicted { self.new.evicted ≡ self.old.evicted }
         ensures was { IfOk result (λ r. r.0 ≡ displaced_by self.old change.now) }
         ensures made { IfOk result (λ r. r.1 ≡ length self.old.leaves + 1) }
         ensures spent { IsSpent self.old change.now → result ≡ Err ApplyError.Spent }
@@ -369,7 +370,7 @@ impl Leaves {
     /// The leaves as they stand.
     pub(crate) fn seats(&self) -> &Seats
         ensures items { result.now.items ≡ self.now.leaves }
-        ensures away { result.now.away ≡ self.now.away }
+        ensures evicted { result.now.evicted ≡ self.now.evicted }
         ensures lawful { AreLeaves self.now.m result.now.items }
     {
         &self.leaves
@@ -378,7 +379,7 @@ impl Leaves {
     /// The leaves alone. No memory is taken.
     pub(crate) fn into_seats(self) -> Seats
         ensures items { result.items ≡ self.leaves }
-        ensures away { result.away ≡ self.away }
+        ensures evicted { result.evicted ≡ self.evicted }
     {
         let Leaves {
             m: _,
@@ -390,7 +391,7 @@ impl Leaves {
 
     /// The same leaves. It costs all pages.
     pub fn copy(&self) -> Result<Leaves, AllocError>
-        requires { self.now.away ≡ [] }
+        requires { self.now.evicted ≡ [] }
         ensures { IfOk result (λ l. l ≡ self.now) }
     {
         Leaves::of(copy_all(self.leaves.allocator(), &self.leaves)?, self.m)
@@ -401,7 +402,7 @@ impl Leaves {
     pub fn of(leaves: Vec<Leaf>, m: u16) -> Result<Leaves, AllocError>
         requires limit { (4 ≤ m) × (m ≤ 32) }
         requires lawful { AreLeaves m leaves.items }
-        ensures { IfOk result (λ l. l ≡ record { m = m; leaves = leaves.items; away = [] }) }
+        ensures { IfOk result (λ l. l ≡ record { m = m; leaves = leaves.items; evicted = [] }) }
     {
         let index = index_of(*leaves.allocator(), leaves.as_slice())?;
         Ok(Leaves {

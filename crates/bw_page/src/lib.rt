@@ -10,7 +10,7 @@
 
 mod chain;
 mod changes;
-mod cutting;
+mod cuts;
 mod draft;
 mod fault;
 mod index;
@@ -18,7 +18,7 @@ mod journal;
 mod laws;
 mod leaves;
 mod lows;
-mod reading;
+mod replay;
 mod room;
 mod seats;
 mod start;
@@ -27,7 +27,7 @@ mod words;
 
 pub use chain::{Chain, End, Link};
 pub use changes::{add_pairs, change, count_after, empty_page, pair_from, value_in};
-pub use cutting::{Cut, cut_in_two};
+pub use cuts::{Cut, cut_in_two};
 pub use draft::Draft;
 pub use fault::ApplyError;
 pub use laws::{
@@ -35,6 +35,6 @@ pub use laws::{
     lows_tell, reads_over_newer, stands_as_one, twice_is_once,
 };
 pub use leaves::{Applied, HasRecord, Leaves, Step};
-pub use reading::{change_all, keep_below, read_block, read_blocks};
+pub use replay::{change_all, keep_below, read_block, read_blocks};
 pub use start::Start;
 pub use words::{Word, word_in_blocks, word_in_records};

@@ -1,6 +1,6 @@
-//! Leaves of which each is in memory or away.
+//! Leaves of which each is in memory or evicted.
 //!
-//! What a leaf that is away holds is known to the proof alone: a snapshot has no bytes.
+//! What a leaf that is evicted holds is known to the proof alone: a snapshot has no bytes.
 
 ghost use Rattle.std.specs.Prelude.{ℕ, ◌≡◌, ◌==◌, ◌<◌, ◌≤◌, ◌+◌, ◌-◌, ◌++◌, ◌^◌, [], ◌∷◌, true, false, None, Some, length, take, slice_get, slice_set, slice_index_or, if◌then◌else◌, IfSome, IsOk, IfOk, OnOk, OnErr, IsTrue};
 ghost use Rattle.std.specs.List.{AllByRecursion};
@@ -24,11 +24,11 @@ use std::marker::Model;
 use std::mem;
 use std::snapshot::Snapshot;
 
-/// One leaf, in memory or away.
+/// One leaf, in memory or evicted.
 pub(crate) struct Seat {
     leaf: Option<Leaf>,
     was: Snapshot<Leaf>,
-    /// How many bytes its Base has, where it is away.
+    /// How many bytes its Base has, where it is evicted.
     len: u32,
 }
 
@@ -57,7 +57,7 @@ impl Model for Seat {
 impl Seat {
     /// A leaf in memory.
     fn of(leaf: Leaf) -> Seat
-        ensures { result ≡ record { leaf = leaf; is_away = false } }
+        ensures { result ≡ record { leaf = leaf; is_evicted = false } }
     {
         let was = Snapshot::of(&leaf);
         Seat {
@@ -70,7 +70,7 @@ impl Seat {
     /// The leaf, if it is in memory.
     fn leaf(&self) -> Option<&Leaf>
         ensures { option_copied result
-            ≡ (if self.now.is_away then None else Some self.now.leaf) }
+            ≡ (if self.now.is_evicted then None else Some self.now.leaf) }
     {
         self.leaf.as_ref()
     }
@@ -88,9 +88,9 @@ impl Seat {
     }
 
     /// Drops the leaf.
-    fn put_away(&mut self)
+    fn evict_page(&mut self)
         requires { IsBase 32 self.old.leaf }
-        ensures { self.new ≡ record self.old { is_away = true } }
+        ensures { self.new ≡ record self.old { is_evicted = true } }
     {
         self.len = self.base_length() as u32;
         self.leaf = None;
@@ -103,12 +103,12 @@ impl Seat {
         found: Result<usize, usize>,
         item: &Record,
     ) -> Result<Option<Back>, AllocError>
-        requires here { self.old.is_away ≡ false }
+        requires here { self.old.is_evicted ≡ false }
         requires found { found ≡ seek_of (key_of item.now) self.old.leaf.pairs }
         requires within { IsWithin (length self.old.leaf.pairs) found }
         ensures ok { OnOk result (self.new
             ≡ record self.old { leaf = changed item.now self.old.leaf }) }
-        ensures here { self.new.is_away ≡ false }
+        ensures here { self.new.is_evicted ≡ false }
         ensures back { IsTrue (ascends self.old.leaf.pairs) → IfOk result (λ back.
             back ≡ back_of item.now (find order (key_of item.now) self.old.leaf.pairs)) }
         ensures unchanged { OnErr result (self.new ≡ self.old) }
@@ -126,12 +126,12 @@ impl Seat {
     /// Changes the leaf by a record that adds no pair and has its memory, where the search for its
     /// key ended so.
     fn take_back(&mut self, found: Result<usize, usize>, back: Back)
-        requires here { self.old.is_away ≡ false }
+        requires here { self.old.is_evicted ≡ false }
         requires found { found ≡ seek_of (key_of back) self.old.leaf.pairs }
         requires within { IsWithin (length self.old.leaf.pairs) found }
         requires none { AddsNone back found }
         ensures changed { self.new ≡ record self.old { leaf = changed back self.old.leaf } }
-        ensures here { self.new.is_away ≡ false }
+        ensures here { self.new.is_evicted ≡ false }
     {
         match &mut self.leaf {
             Some(leaf) => {
@@ -144,7 +144,7 @@ impl Seat {
 
     /// The leaf, which is in memory.
     fn into_leaf(self) -> Leaf
-        requires { self.is_away ≡ false }
+        requires { self.is_evicted ≡ false }
         ensures { result ≡ self.leaf }
     {
         let Seat {
@@ -159,7 +159,7 @@ impl Seat {
     }
 }
 
-/// Leaves, each in memory or away.
+/// Leaves, each in memory or evicted.
 pub(crate) struct Seats {
     seats: Vec<Seat>,
 }
@@ -184,7 +184,7 @@ impl Seats {
     /// No leaf.
     pub(crate) fn new(alloc: Global) -> Seats
         ensures items { result.items ≡ [] }
-        ensures away { result.away ≡ [] }
+        ensures evicted { result.evicted ≡ [] }
     {
         Seats {
             seats: Vec::new(alloc),
@@ -194,7 +194,7 @@ impl Seats {
     /// These leaves, all in memory.
     pub(crate) fn of(leaves: Vec<Leaf>) -> Result<Seats, AllocError>
         ensures items { IfOk result (λ s. s.items ≡ leaves.items) }
-        ensures away { IfOk result (λ s. s.away ≡ []) }
+        ensures evicted { IfOk result (λ s. s.evicted ≡ []) }
     {
         let mut seats = Seats::new(*leaves.allocator());
         seats.reserve(leaves.len())?;
@@ -211,7 +211,7 @@ impl Seats {
     /// How many there are.
     pub(crate) fn len(&self) -> usize
         ensures value { result ≡ length self.now.items }
-        ensures beyond { (p : ℕ) → length self.now.items < p → is_among p self.now.away ≡ false }
+        ensures beyond { (p : ℕ) → length self.now.items < p → is_among p self.now.evicted ≡ false }
     {
         self.seats.as_slice().len()
     }
@@ -219,7 +219,7 @@ impl Seats {
     /// The leaf at an index, if there is one in memory.
     pub(crate) fn look(&self, at: usize) -> Option<&Leaf>
         ensures { option_copied result
-            ≡ (if is_among (at + 1) self.now.away then None else slice_get self.now.items at) }
+            ≡ (if is_among (at + 1) self.now.evicted then None else slice_get self.now.items at) }
     {
         let seats = self.seats.as_slice();
         if at < seats.len() {
@@ -231,7 +231,7 @@ impl Seats {
     /// The leaf at an index, which is in memory.
     pub(crate) fn get(&self, at: usize) -> &Leaf
         requires within { at < length self.now.items }
-        requires here { is_among (at + 1) self.now.away ≡ false }
+        requires here { is_among (at + 1) self.now.evicted ≡ false }
         ensures { result.now ≡ slice_index_or self.now.items at result.now }
     {
         match self.look(at) {
@@ -243,7 +243,7 @@ impl Seats {
     /// Room for more. It changes nothing else.
     pub(crate) fn reserve(&mut self, more: usize) -> Result<(), AllocError>
         ensures items { self.new.items ≡ self.old.items }
-        ensures away { self.new.away ≡ self.old.away }
+        ensures evicted { self.new.evicted ≡ self.old.evicted }
         ensures room { OnOk result (more ≤ self.new.room) }
     {
         self.seats.reserve(more)
@@ -252,7 +252,7 @@ impl Seats {
     /// A further leaf, in memory. A refusal changes nothing.
     pub(crate) fn push(&mut self, leaf: Leaf) -> Result<(), AllocError>
         ensures items { OnOk result (self.new.items ≡ self.old.items ++ leaf ∷ []) }
-        ensures away { self.new.away ≡ self.old.away }
+        ensures evicted { self.new.evicted ≡ self.old.evicted }
         ensures room { OnOk result (self.old.room ≤ self.new.room + 1) }
         ensures succeeds { 1 ≤ self.old.room → IsOk result }
         ensures unchanged { OnErr result (self.new.items ≡ self.old.items) }
@@ -264,11 +264,11 @@ impl Seats {
     /// Takes the last leaf, which is in memory.
     pub(crate) fn pop(&mut self) -> Leaf
         requires some { 1 ≤ length self.old.items }
-        requires here { is_among (length self.old.items) self.old.away ≡ false }
+        requires here { is_among (length self.old.items) self.old.evicted ≡ false }
         ensures items { self.new.items ≡ take (length self.old.items - 1) self.old.items }
         ensures value { (d : LeafValue)
             → result ≡ slice_index_or self.old.items (length self.old.items - 1) d }
-        ensures away { self.new.away ≡ self.old.away }
+        ensures evicted { self.new.evicted ≡ self.old.evicted }
     {
         match self.seats.pop() {
             Some(seat) => seat.into_leaf(),
@@ -280,9 +280,9 @@ impl Seats {
     pub(crate) fn set(&mut self, at: usize, leaf: Leaf)
         requires { at < length self.old.items }
         ensures items { self.new.items ≡ slice_set self.old.items at leaf }
-        ensures away { (p : ℕ) → is_among p self.new.away
-            ≡ (if p == at + 1 then false else is_among p self.old.away) }
-        ensures kept { is_among (at + 1) self.old.away ≡ false → self.new.away ≡ self.old.away }
+        ensures evicted { (p : ℕ) → is_among p self.new.evicted
+            ≡ (if p == at + 1 then false else is_among p self.old.evicted) }
+        ensures kept { is_among (at + 1) self.old.evicted ≡ false → self.new.evicted ≡ self.old.evicted }
         ensures room { self.new.room ≡ self.old.room }
     {
         let _ = self.seats.as_slice().len();
@@ -292,18 +292,18 @@ impl Seats {
     /// Sets the leaf at an index, which is in memory, and gives it as it was.
     pub(crate) fn exchange(&mut self, at: usize, leaf: Leaf) -> Leaf
         requires within { at < length self.old.items }
-        requires here { is_among (at + 1) self.old.away ≡ false }
+        requires here { is_among (at + 1) self.old.evicted ≡ false }
         ensures items { self.new.items ≡ slice_set self.old.items at leaf }
         ensures was { (d : LeafValue) → result ≡ slice_index_or self.old.items at d }
-        ensures away { self.new.away ≡ self.old.away }
+        ensures evicted { self.new.evicted ≡ self.old.evicted }
         ensures room { self.new.room ≡ self.old.room }
     {
         let _ = self.seats.as_slice().len();
         mem::replace(&mut self.seats[at], Seat::of(leaf)).into_leaf()
     }
 
-    /// Changes a leaf, which is in memory, and in which the search for the record's key ended so. It
-    /// gives what `change_found` gives. A refusal changes nothing.
+    /// Changes a leaf, which is in memory, and in which the search for the record's key ended so.
+    /// It gives what `change_found` gives. A refusal changes nothing.
     pub(crate) fn change(
         &mut self,
         at: usize,
@@ -311,14 +311,14 @@ impl Seats {
         item: &Record,
     ) -> Result<Option<Back>, AllocError>
         requires within { at < length self.old.items }
-        requires here { is_among (at + 1) self.old.away ≡ false }
+        requires here { is_among (at + 1) self.old.evicted ≡ false }
         requires found { (d : LeafValue)
             → found ≡ seek_of (key_of item.now) (slice_index_or self.old.items at d).pairs }
         requires found_within { (d : LeafValue)
             → IsWithin (length (slice_index_or self.old.items at d).pairs) found }
         ensures ok { (d : LeafValue) → OnOk result (self.new.items
             ≡ slice_set self.old.items at (changed_at item.now self.old.items at d)) }
-        ensures away { self.new.away ≡ self.old.away }
+        ensures evicted { self.new.evicted ≡ self.old.evicted }
         ensures back { (d : LeafValue) → IsTrue (ascends (slice_index_or self.old.items at d).pairs)
             → IfOk result (λ back. back ≡ back_of item.now
             (find order (key_of item.now) (slice_index_or self.old.items at d).pairs)) }
@@ -332,7 +332,7 @@ impl Seats {
     /// the search for its key ended so.
     pub(crate) fn take_back(&mut self, at: usize, found: Result<usize, usize>, back: Back)
         requires within { at < length self.old.items }
-        requires here { is_among (at + 1) self.old.away ≡ false }
+        requires here { is_among (at + 1) self.old.evicted ≡ false }
         requires found { (d : LeafValue)
             → found ≡ seek_of (key_of back) (slice_index_or self.old.items at d).pairs }
         requires found_within { (d : LeafValue)
@@ -340,7 +340,7 @@ impl Seats {
         requires none { AddsNone back found }
         ensures items { (d : LeafValue) → self.new.items
             ≡ slice_set self.old.items at (changed_at back self.old.items at d) }
-        ensures away { self.new.away ≡ self.old.away }
+        ensures evicted { self.new.evicted ≡ self.old.evicted }
     {
         let _ = self.seats.as_slice().len();
         self.seats[at].take_back(found, back);
@@ -359,14 +359,14 @@ impl Seats {
     }
 
     /// Drops the leaf at an index from memory.
-    pub(crate) fn put_away(&mut self, at: usize)
+    pub(crate) fn evict_page(&mut self, at: usize)
         requires within { at < length self.old.items }
         requires lawful { AllByRecursion (IsBase 32) self.old.items }
         ensures items { self.new.items ≡ self.old.items }
-        ensures away { (p : ℕ) → is_among p self.new.away
-            ≡ (if p == at + 1 then true else is_among p self.old.away) }
+        ensures evicted { (p : ℕ) → is_among p self.new.evicted
+            ≡ (if p == at + 1 then true else is_among p self.old.evicted) }
     {
         let _ = self.seats.as_slice().len();
-        self.seats[at].put_away();
+        self.seats[at].evict_page();
     }
 }

@@ -39,7 +39,7 @@ impl Model for Start {
 impl Start {
     /// These leaves, all of them in memory. No memory is taken.
     pub fn of(leaves: Leaves) -> Start
-        requires here { leaves.away ≡ [] }
+        requires here { leaves.evicted ≡ [] }
         ensures { result ≡ leaves }
     {
         let m = leaves.limit();
@@ -52,7 +52,7 @@ impl Start {
     /// The same leaves as these, all of them in memory, in no more room than they need. A refused
     /// growth is the only error. It costs all pages.
     pub fn copy_of(leaves: &Leaves) -> Result<Start, AllocError>
-        requires here { leaves.now.away ≡ [] }
+        requires here { leaves.now.evicted ≡ [] }
         ensures { IfOk result (λ start. start ≡ leaves.now) }
     {
         // Tells the proof that they are lawful.

@@ -172,7 +172,7 @@ impl Session {
         }
     }
 
-    /// Whether the page left memory; it stays where it is away, or where no frame has all of it.
+    /// Whether the page left memory; it stays where it is evicted, or where no frame has all of it.
     fn evict(&mut self, page: u32) -> Result<Answer, Miss>
         requires { IsReady self.old holding }
         ensures { IsReady self.new holding }

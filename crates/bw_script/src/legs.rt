@@ -6,7 +6,7 @@ ghost use Rattle.bw_script.specs.Session.{IsReady};
 
 use crate::miss::Miss;
 use crate::options::{Options, Pace};
-use crate::running::Run;
+use crate::runs::Run;
 use crate::session::Session;
 use crate::system::Host;
 use bw_home::Made;
@@ -232,8 +232,8 @@ impl Session {
         Ok(())
     }
 
-    /// Whether the room of the oldest segment is to come back: so many segments are live as the pace
-    /// tells, and it pays.
+    /// Whether the room of the oldest segment is to come back: so many segments are live as the
+    /// pace tells, and it pays.
     fn is_due(&self, pace: Pace) -> bool
         requires { IsReady self.now holding }
     {

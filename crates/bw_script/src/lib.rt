@@ -1,7 +1,8 @@
-//! The program `bwlog`: `replay` runs a script over a store, line by line, and prints what each line
-//! answers; `serve` answers the requests of another program; `threads` runs each writer's script in a
-//! thread of its own; `scan`, `print`, `stats` and `picture` say what segments hold, `restore` makes
-//! a folder as of an earlier frame, and `upgrade` brings segments of format 1 to format 2.
+//! The program `bwlog`: `replay` runs a script over a store, line by line, and prints what each
+//! line answers; `serve` answers the requests of another program; `threads` runs each writer's
+//! script in a thread of its own; `scan`, `print`, `stats` and `picture` say what segments hold,
+//! `restore` makes a folder as of an earlier frame, and `upgrade` brings segments of format 1 to
+//! format 2.
 //!
 //! A script has a session before it: a store over segments in memory or in a folder, a feed for
 //! each writer, and the desk of the segments' leases. `run` is the whole program `bwlog` over any
@@ -22,7 +23,7 @@ mod program;
 mod refusal;
 mod replay;
 mod request;
-mod running;
+mod runs;
 mod scan;
 mod script;
 mod session;

@@ -1,7 +1,7 @@
 -- One record more is planned: what a look at the rows tells is what the places and blocks behind it are.
 
 use Rattle.std.proofs.Common.{◌≡◌, ◌≢◌, ℕ, ◌+◌, ◌-◌, ◌≤◌, Bool, true, false, Option, Some, None, List, [], ◌∷◌, ◌++◌}
-use Rattle.std.proofs.Common.{length, set, refl, sym, ap, ◌∙◌, subst, arith, if◌then◌else◌, length-append}
+use Rattle.std.proofs.Common.{length, set, refl, sym, ap, ◌∙◌, arith, if◌then◌else◌, length-append}
 use Rattle.std.specs.Prelude.{nat_le, ◌==◌, ◌||◌, unwrap_or, slice_get}
 use Rattle.std.proofs.lemmas.Bool.{eqb-true, eqb-false, leb-true, leb-false}
 use Rattle.std.proofs.lemmas.Grind.{fold-append}
@@ -16,7 +16,7 @@ use Rattle.bw_buffer.specs.Counting.{grown}
 use Rattle.bw_buffer.specs.Joining.{joins, joined, added, last_delta, open_records, records_after, takes}
 use Rattle.bw_buffer.proofs.Growing.{last_push, last_joined}
 use Rattle.bw_buffer.proofs.Sizes.{records_joined}
-use Rattle.bw_store.specs.declared.drafting.Row.{Row}
+use Rattle.bw_store.specs.declared.draft.Row.{Row}
 use Rattle.bw_store.specs.Adding.{Drawn, count_after, here_for, last_for, result_of, upper_if, planned, back_in, blocks_for, drawn_by}
 use Rattle.bw_store.specs.Drafting.{count_with, is_row_of, open_by, open_in, records_by, records_in, place_by, place_in, row_by, row_for, row_in}
 use Rattle.bw_store.proofs.Placing.{set_newest, push_newest, delta_end}

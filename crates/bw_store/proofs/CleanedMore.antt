@@ -18,7 +18,7 @@ use Rattle.bw_log.specs.declared.fault.LogFault.{LogFault}
 use Rattle.bw_log.specs.declared.fault.LogFault.TheVariants as log
 use Rattle.bw_care.specs.Cleaning.{old_pages, oldest_last, pages_upto, IsRewritten}
 use Rattle.bw_care.specs.Moving as care
-use Rattle.bw_care.specs.declared.cleaning.Cleaned.{Cleaned}
+use Rattle.bw_care.specs.declared.cleaner.Cleaned.{Cleaned}
 use Rattle.bw_care.specs.declared.fault.CleanFault.{CleanFault}
 use Rattle.bw_care.specs.declared.fault.CleanFault.TheVariants.{NothingOld, Log}
 use Rattle.bw_care.proofs.OldPages.{few_old}

@@ -1,7 +1,7 @@
 -- What a cleaning counts, with its publication.
 
-use Rattle.std.proofs.Common.{◌≡◌, ℕ, inl, inr, Ok, Err, refl, sym, subst}
-use Rattle.bw_care.specs.declared.cleaning.Cleaned.{Cleaned}
+use Rattle.std.proofs.Common.{◌≡◌, inr, Ok, Err, refl, sym, subst}
+use Rattle.bw_care.specs.declared.cleaner.Cleaned.{Cleaned}
 use Rattle.bw_store.specs.declared.counters.Tally.{Tally}
 use Rattle.bw_store.specs.declared.fault.StoreFault.TheVariants.{NoMemory}
 use Rattle.bw_store.specs.Counting.{CountsClean, CountsCleaning}

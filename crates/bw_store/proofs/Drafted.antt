@@ -23,8 +23,8 @@ use Rattle.bw_buffer.proofs.Holding.{few_blocks}
 use Rattle.bw_log.specs.Contents as logs
 use Rattle.bw_log.proofs.Adding.{following_is}
 use Rattle.bw_ring.specs.Marks.{Marked}
-use Rattle.bw_store.specs.declared.drafting.Row.{Row}
-use Rattle.bw_store.specs.declared.drafting.Draft.{Draft}
+use Rattle.bw_store.specs.declared.draft.Row.{Row}
+use Rattle.bw_store.specs.declared.draft.Draft.{Draft}
 use Rattle.bw_store.specs.Adding.{Drawn, back_in, blocks_in, count_after, drawn_by, here_for, last_for, nowhere, planned, result_of, upper_if}
 use Rattle.bw_store.specs.Drafting.{Added, IsAhead, Stands, behind, count_with, drawn_behind, open_in, place_by, place_in, place_with, records_in, row_by, row_for, row_in}
 use Rattle.bw_store.specs.Fitting.{back_for, drawn_of, group_blocks}

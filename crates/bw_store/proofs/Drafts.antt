@@ -13,7 +13,7 @@ use Rattle.bw_buffer.proofs.Sizes.{added_longer}
 use Rattle.bw_ring.specs.Marks.{Marked, marked}
 use Rattle.bw_store.specs.Adding.{Drawn, blocks_in, blocks_all, drawn_by}
 use Rattle.bw_store.specs.Drafting.{drawn_behind, row_for, rows_all}
-use Rattle.bw_store.specs.declared.drafting.Row.{Row}
+use Rattle.bw_store.specs.declared.draft.Row.{Row}
 use Rattle.bw_store.specs.Fitting.{drawn_of, group_blocks, back_for}
 use Rattle.bw_store.specs.Kept.{Kept}
 use Rattle.bw_store.specs.Taken.{alone, taken, taken_all}

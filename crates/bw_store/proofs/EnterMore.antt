@@ -22,8 +22,8 @@ use Rattle.bw_ring.specs.Ends.{Ring}
 use Rattle.bw_versions.specs.declared.entry.Entry.{Entry}
 use Rattle.std.proofs.lemmas.Grind.{fold-append}
 use Rattle.bw_buffer.specs.Joining.{joined, added}
-use Rattle.bw_store.specs.declared.drafting.Row.{Row}
-use Rattle.bw_store.specs.declared.drafting.Draft.{Draft}
+use Rattle.bw_store.specs.declared.draft.Row.{Row}
+use Rattle.bw_store.specs.declared.draft.Draft.{Draft}
 use Rattle.bw_store.specs.Adding.{Drawn, back_in, blocks_in, blocks_all, drawn_by, here_for, result_of}
 use Rattle.bw_store.specs.Drafting.{AreIn, IsDraft, drawn_behind, rows_all, set_row, tails_all}
 use Rattle.bw_store.specs.Fitting.{Fits, drawn_of, group_blocks}
@@ -36,7 +36,7 @@ use Rattle.bw_store.specs.declared.fault.StoreFault.{StoreFault}
 use Rattle.bw_store.specs.Taking.{GroupLeaves, IsUnplanned, IsWanting, MakesRoom, Works}
 use Rattle.bw_store.proofs.Planned.{entered_or_not}
 use Rattle.bw_store.proofs.Drafts.{items_marked, leaves_all, made_all}
-use Rattle.bw_store.proofs.GroupMore.{Lawful, rows_in, rows_set, rows_tails, rows_away, length_rows, rows_from, fresh_fits, spent_pages, taken_is, taken_all_sound}
+use Rattle.bw_store.proofs.GroupMore.{Lawful, rows_in, rows_set, rows_tails, rows_evicted, length_rows, rows_from, fresh_fits, spent_pages, taken_is, taken_all_sound}
 
 -- the records of a sound store are lawful where there is a number for each page that they make
 pub lawful_of : (s : Kept) (group : List Record) → IsSound s → HasPages s.filed.m s.filed.leaves group → All IsOp group
@@ -115,13 +115,13 @@ module _ (s : Kept) (group : List Record) (d : Draft) (h : IsSound s) (ops : All
       ∙ ap (λ (ls : List Leaf). tails_for (length ls) (drawn_behind s group).frame.blocks) (sym (leaves_is leaves after))
       ∙ ap (tails_for (length leaves)) (sym (making_blocks making blocks made same))
 
-  -- a page that is away is not made
-  pub away_now : (away : List ℕ) (q : ℕ) (making : Filling) (blocks : List Block) → AreHere (record { m = s.filed.m; leaves = s.filed.leaves; away = away }) group
-      → ((p : ℕ) → length s.filed.leaves < p → is_among p away ≡ false) → is_among q away ≡ true → is_made q s.making.blocks ≡ false
+  -- a page that is evicted is not made
+  pub evicted_now : (evicted : List ℕ) (q : ℕ) (making : Filling) (blocks : List Block) → AreHere (record { m = s.filed.m; leaves = s.filed.leaves; evicted = evicted }) group
+      → ((p : ℕ) → length s.filed.leaves < p → is_among p evicted ≡ false) → is_among q evicted ≡ true → is_made q s.making.blocks ≡ false
       → making ≡ with_all s.making blocks → blocks ≡ d.blocks.items → is_made q making.blocks ≡ false
-  away_now away q making blocks here beyond there apart made same =
+  evicted_now evicted q making blocks here beyond there apart made same =
       ap (is_made q) (making_blocks making blocks made same)
-      ∙ rows_away s.filed.m (drawn_of s) group away q lawful_now here beyond there apart
+      ∙ rows_evicted s.filed.m (drawn_of s) group evicted q lawful_now here beyond there apart
 
   -- the store behind it
   pub entered_all : (lane : ℕ) (rings rs : List Ring) (entries es : List Entry) (filed : Filed) (newest ps : List Place) (rows : List Row) (making : Filling)

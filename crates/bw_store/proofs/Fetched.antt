@@ -7,7 +7,7 @@ use Rattle.std.proofs.lemmas.List.{take_more}
 use Rattle.bw_codec.specs.Record.{key_of}
 use Rattle.bw_codec.specs.declared.record.Record.{Record}
 use Rattle.bw_page.specs.Leaves.{home}
-use Rattle.bw_page.specs.Shown.{Shown, IsHere, is_away}
+use Rattle.bw_page.specs.Shown.{Shown, IsHere, is_evicted_page}
 use Rattle.bw_page.proofs.Sorted.{all-map}
 use Rattle.bw_store.specs.declared.fault.StoreFault.{StoreFault}
 use Rattle.bw_store.specs.declared.fault.StoreFault.TheVariants.{NoMemory, BadConfig, NoSegment, Device, Failed, Spent, NoPage, NothingOld}
@@ -18,11 +18,11 @@ use Rattle.bw_store.proofs.Joins.{all-append}
 
 -- a page that is here stays here where one comes back
 pub still_here : (old new : Shown) (page : ℕ) (key : List ℕ) → new.leaves ≡ old.leaves
-    → ((p : ℕ) → is_away p new ≡ (if p == page then false else is_away p old)) → IsHere key old → IsHere key new
+    → ((p : ℕ) → is_evicted_page p new ≡ (if p == page then false else is_evicted_page p old)) → IsHere key old → IsHere key new
 still_here old new page key same step here =
-    ap (λ ls. is_away (home key ls).page new) same
+    ap (λ ls. is_evicted_page (home key ls).page new) same
     ∙ step (home key old.leaves).page
-    ∙ elim ((home key old.leaves).page == page) as (λ b. (if b then false else is_away (home key old.leaves).page old) ≡ false) [ true ↦ refl | false ↦ here ]
+    ∙ elim ((home key old.leaves).page == page) as (λ b. (if b then false else is_evicted_page (home key old.leaves).page old) ≡ false) [ true ↦ refl | false ↦ here ]
 
 pub same_here : (old new : Shown) (key : List ℕ) → new ≡ old → IsHere key old → IsHere key new
 same_here old new key e here = subst (IsHere key) (sym e) here

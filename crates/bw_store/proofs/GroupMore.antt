@@ -24,7 +24,7 @@ use Rattle.bw_buffer.specs.Joining.{joined, added, open_records}
 use Rattle.bw_log.proofs.Adding.{following_is}
 use Rattle.bw_ring.specs.Marks.{Marked}
 use Rattle.bw_versions.specs.declared.entry.Entry.{Entry}
-use Rattle.bw_store.specs.declared.drafting.Row.{Row}
+use Rattle.bw_store.specs.declared.draft.Row.{Row}
 use Rattle.bw_store.specs.Adding.{Drawn, back_in, blocks_in, blocks_all, blocks_for, drawn_by, here_for, last_for, nowhere, result_of, upper_if}
 use Rattle.bw_store.specs.Drafting.{AreIn, count_by, drawn_behind, row_by, row_for, rows_all, set_row, tails_all}
 use Rattle.bw_store.specs.Fitting.{Fits, back_for, drawn_of, group_blocks, here_at}
@@ -33,7 +33,7 @@ use Rattle.bw_store.specs.Kept.{Kept, IsSound}
 use Rattle.bw_store.specs.Tails.{HasRoomsAt, Tailed, tails_after, tails_for, is_made}
 use Rattle.bw_store.specs.Taken.{alone, taken, taken_all}
 use Rattle.bw_store.specs.Taking.{HasAllPages}
-use Rattle.bw_store.proofs.AwayPages.{tails_entered, away_entered}
+use Rattle.bw_store.proofs.EvictedPages.{tails_entered, evicted_entered}
 use Rattle.bw_store.proofs.Drafted.{some_at, none_at}
 use Rattle.bw_store.proofs.Drafts.{items, made_all, part_shorter}
 use Rattle.bw_log.specs.Contents as logs
@@ -134,19 +134,19 @@ rows_tails m d (r ∷ rs) l =
     ap (tails_all (rows_all m (drawn_by m d r) rs) rs) step
     ∙ rows_tails m (drawn_by m d r) rs (lawful_next m d r rs l)
 
--- a page that is away is not made by it
-pub rows_away : (m : ℕ) (d : Drawn) (rs : List Record) (away : List ℕ) (q : ℕ) → Lawful m d rs → AreHere (record { m = m; leaves = d.leaves; away = away }) rs
-    → ((p : ℕ) → length d.leaves < p → is_among p away ≡ false) → is_among q away ≡ true → is_made q d.frame.blocks ≡ false
+-- a page that is evicted is not made by it
+pub rows_evicted : (m : ℕ) (d : Drawn) (rs : List Record) (evicted : List ℕ) (q : ℕ) → Lawful m d rs → AreHere (record { m = m; leaves = d.leaves; evicted = evicted }) rs
+    → ((p : ℕ) → length d.leaves < p → is_among p evicted ≡ false) → is_among q evicted ≡ true → is_made q d.frame.blocks ≡ false
     → is_made q (fold (drawn_by m) d rs).frame.blocks ≡ false
-rows_away m d [] away q l here beyond there apart = apart
-rows_away m d (r ∷ rs) away q l here beyond there apart =
+rows_evicted m d [] evicted q l here beyond there apart = apart
+rows_evicted m d (r ∷ rs) evicted q l here beyond there apart =
     let p0 = directed_at d.leaves r in
     let long = length-applied m d.leaves r l.some l.leaves l.ops.0 in
     let grows : length d.leaves ≤ length (applied m d.leaves r) =
     elim (nat_le (length (result_of d.leaves r).pairs) m) as (λ b. length (applied m d.leaves r) ≡ (if b then length d.leaves else length d.leaves + 1)
     → length d.leaves ≤ length (applied m d.leaves r)) [ true ↦ λ e. omega arith | false ↦ λ e. omega arith ] long in
-    rows_away m (drawn_by m d r) rs away q (lawful_next m d r rs l) (here.1 l.room.0) (λ p more. beyond p (omega arith)) there
-    (away_entered m d.leaves (back_in d r) (here_for d.frame p0) r d.frame.blocks away q there here.0 (beyond (length d.leaves + 1) (omega arith)) apart)
+    rows_evicted m (drawn_by m d r) rs evicted q (lawful_next m d r rs l) (here.1 l.room.0) (λ p more. beyond p (omega arith)) there
+    (evicted_entered m d.leaves (back_in d r) (here_for d.frame p0) r d.frame.blocks evicted q there here.0 (beyond (length d.leaves + 1) (omega arith)) apart)
 
 -- ---- the store behind it
 

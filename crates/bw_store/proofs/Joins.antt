@@ -1,6 +1,6 @@
 -- What each question of the store answers for blocks of which Deltas joined.
 
-use Rattle.std.proofs.Common.{◌≡◌, ℕ, zero, suc, ◌+◌, ◌^◌, ◌<◌, ◌≤◌, Bool, true, false, Option, Some, None, List, [], ◌∷◌, ◌++◌, length}
+use Rattle.std.proofs.Common.{◌≡◌, ℕ, suc, ◌+◌, ◌^◌, ◌<◌, ◌≤◌, Bool, true, false, Option, Some, None, List, [], ◌∷◌, ◌++◌, length}
 use Rattle.std.proofs.Common.{refl, sym, ap, ◌∙◌, subst, append-nil, arith, if◌then◌else◌, length-append}
 use Rattle.std.specs.Prelude.{◌==◌, ◌||◌, unwrap_or}
 use Rattle.std.specs.List.{AllByRecursion as All, fold, list_any}
@@ -20,8 +20,8 @@ use Rattle.bw_page.specs.Leaves.{changed, all_changed}
 use Rattle.bw_page.specs.Standing.{after, content, blocks_of}
 use Rattle.bw_page.proofs.OneStanding.{untouched}
 use Rattle.bw_buffer.specs.Joining.{is_delta, open_after, open_from, last_delta, open_records, records_after, records_in, takes, joins, joins_of, joined_by, joined, added}
-use Rattle.bw_buffer.proofs.Joined.{StandsOpen, Joinable, JoinsIn, JoinsOne, found, joins_parts, joins_one, joins_none, added_fold, added_flat, added_any, added_touches}
-use Rattle.bw_buffer.proofs.Sizes.{pushed_size, joined_size, added_longer}
+use Rattle.bw_buffer.proofs.Joined.{StandsOpen, Joinable, JoinsIn, found, joins_parts, joins_one, joins_none, added_fold, added_flat, added_any, added_touches}
+use Rattle.bw_buffer.proofs.Sizes.{pushed_size, joined_size}
 use Rattle.bw_log.proofs.Walks.{content_push}
 use Rattle.bw_store.specs.Adding.{with_blocks}
 use Rattle.bw_store.specs.Share.{ops_of, ops_at, cut_of, cuts_in, base_of, bases_in}

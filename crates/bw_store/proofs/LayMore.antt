@@ -14,10 +14,10 @@ use Rattle.bw_page.specs.Batch.{step_of, steps_of}
 use Rattle.bw_page.specs.Leaves.{applied, pages, HasPage, HasPages}
 use Rattle.bw_page.specs.Shown.{Shown, after_record, run}
 use Rattle.bw_buffer.specs.Filling.{Filling, with_all, size_of}
-use Rattle.bw_store.specs.declared.drafting.Draft.{Draft}
+use Rattle.bw_store.specs.declared.draft.Draft.{Draft}
 use Rattle.bw_store.specs.Adding.{Drawn, blocks_in, blocks_all, drawn_by}
 use Rattle.bw_store.specs.Drafting.{Added, IsAhead, IsDraft, Stands, drawn_behind, open_in, place_in, records_in, row_in, rows_all}
-use Rattle.bw_store.specs.declared.drafting.Row.{Row}
+use Rattle.bw_store.specs.declared.draft.Row.{Row}
 use Rattle.bw_store.specs.Fitting.{Fits, drawn_of, group_blocks}
 use Rattle.bw_store.specs.Kept.{Kept}
 use Rattle.bw_store.proofs.Drafted.{making_is, row_there, few_before, ahead_next, stands_next}
@@ -59,9 +59,9 @@ part_fits s rs n fits =
     let part = part_shorter s.making (group_blocks s (take n rs)) (blocks_all s.filed.m (drawn_behind s (take n rs)) (drop n rs)) in
     omega arith
 
-module _ (s : Kept) (away : List ℕ) (rs : List Record) (at : ℕ) (item : Record) (inside : at < length rs) (is : item ≡ get_or rs at item) where
+module _ (s : Kept) (evicted : List ℕ) (rs : List Record) (at : ℕ) (item : Record) (inside : at < length rs) (is : item ≡ get_or rs at item) where
   abbrev shown : Shown
-  shown = record { m = s.filed.m; leaves = s.filed.leaves; away = away }
+  shown = record { m = s.filed.m; leaves = s.filed.leaves; evicted = evicted }
 
   pages_are : pages s.filed.m s.filed.leaves (take at rs) ≡ (drawn_behind s (take at rs)).leaves
   pages_are = sym (leaves_all s.filed.m (drawn_of s) (take at rs))
@@ -70,10 +70,10 @@ module _ (s : Kept) (away : List ℕ) (rs : List Record) (at : ℕ) (item : Reco
   here_room h = subst (λ (ls : List Leaf). HasPage s.filed.m ls item) pages_are (room_at s.filed.m s.filed.leaves rs at item inside is h)
 
   pub step_is : (step : Step) (steps : List Step) → steps ≡ steps_of shown rs → step ≡ get_or steps at step
-      → step ≡ step_of (record { m = s.filed.m; leaves = (drawn_behind s (take at rs)).leaves; away = away }) item
+      → step ≡ step_of (record { m = s.filed.m; leaves = (drawn_behind s (take at rs)).leaves; evicted = evicted }) item
   step_is step steps all same =
       step_at shown rs at item step inside is (same ∙ ap (λ (l : List Step). get_or l at step) all)
-      ∙ ap (λ (ls : List Leaf). step_of (record { m = s.filed.m; leaves = ls; away = away }) item) pages_are
+      ∙ ap (λ (ls : List Leaf). step_of (record { m = s.filed.m; leaves = ls; evicted = evicted }) item) pages_are
 
   pub next_take : take (at + 1) rs ≡ take at rs ++ item ∷ []
   next_take = take_more rs at item inside ∙ ap (λ (x : Record). take at rs ++ x ∷ []) (sym is)
@@ -121,20 +121,20 @@ ahead_none s d blocks rows count = record {
 
 -- ---- one record more of a group, behind those before it
 
-module _ (s : Kept) (lane : ℕ) (away : List ℕ) (rs : List Record) (at : ℕ) (item : Record) (inside : at < length rs) (is : item ≡ get_or rs at item)
+module _ (s : Kept) (lane : ℕ) (evicted : List ℕ) (rs : List Record) (at : ℕ) (item : Record) (inside : at < length rs) (is : item ≡ get_or rs at item)
     (t : Stands s lane (take at rs)) (old : Draft) (a : IsAhead s (take at rs) old) (ops : All IsOp rs) (room : HasPages s.filed.m s.filed.leaves rs)
-    (steps : List Step) (all : steps ≡ steps_of (record { m = s.filed.m; leaves = s.filed.leaves; away = away }) rs) (step : Step) (same : step ≡ get_or steps at step) where
+    (steps : List Step) (all : steps ≡ steps_of (record { m = s.filed.m; leaves = s.filed.leaves; evicted = evicted }) rs) (step : Step) (same : step ≡ get_or steps at step) where
   abbrev done : List Record
   done = take at rs
 
-  this : step ≡ step_of (record { m = s.filed.m; leaves = (drawn_behind s done).leaves; away = away }) item
-  this = step_is s away rs at item inside is step steps all same
+  this : step ≡ step_of (record { m = s.filed.m; leaves = (drawn_behind s done).leaves; evicted = evicted }) item
+  this = step_is s evicted rs at item inside is step steps all same
 
   op_now : IsOp item
   op_now = op_at rs at item inside is ops
 
   room_now : HasPage s.filed.m (drawn_behind s done).leaves item
-  room_now = here_room s away rs at item inside is room
+  room_now = here_room s evicted rs at item inside is room
 
   pub lay_inside : row_in old.rows.items step.page ≡ None → (1 ≤ step.page) × (step.page ≤ length s.newest)
   lay_inside = row_there s lane done t old old a item step.page step.upper op_now room_now (ap (λ (x : Step). x.page) this) (ap (λ (x : Step). x.upper) this)
@@ -144,12 +144,12 @@ module _ (s : Kept) (lane : ℕ) (away : List ℕ) (rs : List Record) (at : ℕ)
 
   pub lay_ahead : (new : Draft) (upper : Option Leaf) → upper ≡ step.upper → Added old s.making s.newest item step.page upper new → IsAhead s (take (at + 1) rs) new
   lay_ahead new upper copied x =
-      subst (λ (xs : List Record). IsAhead s xs new) (sym (next_take s away rs at item inside is))
+      subst (λ (xs : List Record). IsAhead s xs new) (sym (next_take s evicted rs at item inside is))
       (ahead_next s lane done t old new a item step.page upper op_now room_now (ap (λ (y : Step). y.page) this) (copied ∙ ap (λ (y : Step). y.upper) this) x)
 
   pub lay_stands : lane < length s.rings → size_of (with_all s.making (group_blocks s (take (at + 1) rs))) ≤ s.making.limit → Stands s lane (take (at + 1) rs)
   lay_stands lane_in fits =
-      let next = next_take s away rs at item inside is in
+      let next = next_take s evicted rs at item inside is in
       subst (Stands s lane) (sym next)
       (stands_next s lane done t item op_now room_now lane_in
       (subst (λ (xs : List Record). size_of (with_all s.making (group_blocks s xs)) ≤ s.making.limit) next fits))

@@ -38,7 +38,7 @@ pub mod Showing
 pub mod Logs
 pub mod Edging
 pub mod Stopping
-pub mod AwayPages
+pub mod EvictedPages
 pub mod Walks
 pub mod Counted
 pub mod Tallied

@@ -48,7 +48,7 @@ pub record Enters (s : Kept) (item : Record) (back : Place) (blocks : List Block
 
 -- the pages, as if all were in memory
 abbrev shown_of : Filed → Shown
-shown_of f = record { m = f.m; leaves = f.leaves; away = [] }
+shown_of f = record { m = f.m; leaves = f.leaves; evicted = [] }
 
 pub enters_at : {s : Kept} {item : Record} {back : Place} {blocks : List Block} (page : ℕ) → IsSound s → s.log.next ≡ Some s.making.frame → IsOp item
     → page ≡ directed_at s.filed.leaves item

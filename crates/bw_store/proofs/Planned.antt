@@ -1,9 +1,9 @@
 -- What was planned is what the record adds, and it is short.
 
-use Rattle.std.proofs.Common.{◌≡◌, ℕ, ◌+◌, ◌-◌, ◌*◌, ◌/◌, ◌^◌, ◌<◌, ◌≤◌, true, false, Option, Some, None, Result, Ok, Err, inl, inr, List, [], ◌∷◌}
+use Rattle.std.proofs.Common.{◌≡◌, ℕ, ◌+◌, ◌-◌, ◌/◌, ◌^◌, ◌<◌, ◌≤◌, true, false, Option, Some, None, Result, Ok, Err, inl, inr, List, [], ◌∷◌}
 use Rattle.std.proofs.Common.{Bool, length, refl, sym, ap, ◌∙◌, subst, arith, if◌then◌else◌, length-append, length-drop, append-nil}
 use Rattle.std.specs.Prelude.{nat_le, IsTrue, ◌↔◌, IfOk, IfErr, OnOk, OnErr}
-use Rattle.bw_store.specs.declared.planning.Plan.{Plan}
+use Rattle.bw_store.specs.declared.plan.Plan.{Plan}
 use Rattle.bw_store.specs.Planning.{listed}
 use Rattle.bw_store.specs.declared.fault.StoreFault.{StoreFault}
 use Rattle.bw_store.specs.declared.fault.StoreFault.TheVariants.{NoMemory, BadConfig, NoSegment, Device, Failed, Spent, NoPage, NothingOld}
@@ -29,7 +29,7 @@ use Rattle.bw_page.specs.Leaves.{home, changed, directed_at, upper_of, leaf_at, 
 use Rattle.std.specs.List.{slice_get}
 use Rattle.bw_page.specs.declared.fault.ApplyError.{ApplyError}
 use Rattle.bw_page.specs.declared.fault.ApplyError.TheVariants as apply
-use Rattle.bw_page.specs.Shown.{Shown, leaf_here, is_away, IsHere, IsSpent}
+use Rattle.bw_page.specs.Shown.{Shown, leaf_here, is_evicted_page, IsHere, IsSpent}
 use Rattle.bw_codec.proofs.Wider.{blocks_wider}
 use Rattle.bw_buffer.specs.Filling.{Filling, frame_of, size_of, with_all}
 use Rattle.bw_buffer.proofs.Holding.{few_blocks}
@@ -48,7 +48,7 @@ pub leaf_is_here : (f : Shown) (p : ℕ) (key : List ℕ) (item : Record) → ke
     → leaf_here p f ≡ leaf_at p f.leaves
 leaf_is_here f p key item k at here =
     ap (λ (b : Bool). if b then None else leaf_at p f.leaves)
-    (ap (λ (q : ℕ). is_away q f) (at ∙ ap (λ (q : List ℕ). (home q f.leaves).page) k) ∙ here)
+    (ap (λ (q : ℕ). is_evicted_page q f) (at ∙ ap (λ (q : List ℕ). (home q f.leaves).page) k) ∙ here)
 
 some_same : {A : Type 0} {a b : A} → Some a ≡ Some b → a ≡ b
 some_same e = cc

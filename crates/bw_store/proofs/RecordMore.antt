@@ -13,7 +13,7 @@ use Rattle.bw_page.specs.Leaves.{Map, pages, applied, empty_leaf, union, plain, 
 use Rattle.bw_page.proofs.Law.{applied-plain}
 use Rattle.bw_page.specs.Standing.{Stand}
 use Rattle.bw_page.proofs.Sorted.{all-map, all-push}
-use Rattle.bw_buffer.specs.Filling.{frame_of, size_of, with_all}
+use Rattle.bw_buffer.specs.Filling.{frame_of}
 use Rattle.bw_buffer.specs.Joining.{added}
 use Rattle.bw_ring.specs.Marks.{Marked}
 use Rattle.bw_log.specs.Contents as logs

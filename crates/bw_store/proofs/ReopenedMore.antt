@@ -43,7 +43,7 @@ pub record Found (c : logs.Contents) (filed : Shown) (last : ℕ) : Type 0 where
   pub follows : c.next ≡ following last
   pub works : c.is_failed ≡ false
   pub limit : filed.m ≡ c.m
-  pub here : filed.away ≡ []
+  pub here : filed.evicted ≡ []
 
 module _ {I : Type 0} {H : I → Type 0} where
   pub found_by : (v : DynBox I Global H → Holding) (r : Recovered I H) → IsRecovered v r → Found (seen_by v r.log) r.leaves r.last
@@ -153,7 +153,7 @@ module _ (c : logs.Contents) (filed : Shown) (last : ℕ) (x : Found c filed las
             subst (λ (bs : List Block). TellsBy t (last + 0 + 1) filed.leaves [] bs) (sym empty)
             (inr (λ zeroth one. (let low = from_one in absurd (omega arith)), tells_none filed.m filed.leaves));
         shown = record {
-          start = ap (λ away. record { m = filed.m; leaves = filed.leaves; away = away }) x.here;
+          start = ap (λ evicted. record { m = filed.m; leaves = filed.leaves; evicted = evicted }) x.here;
           begins = unseen_begins versions [] unseen;
           ends = unseen_ends t versions.entered unseen;
         };

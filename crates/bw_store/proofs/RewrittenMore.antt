@@ -1,19 +1,17 @@
 -- What the writing again of pages says of the store.
 
-use Rattle.std.proofs.Common.{inl, inr, ◌≡◌, ◌⊎◌, ℕ, zero, suc, ◌+◌, ◌<◌, ◌≤◌, ◌&&◌, Bool, true, false, Option, Some, None, Result, Ok, Err, List, [], ◌∷◌, ◌++◌}
+use Rattle.std.proofs.Common.{inl, inr, ◌≡◌, ℕ, ◌≤◌, ◌&&◌, true, Option, Some, None, Result, Ok, Err, List, [], ◌∷◌}
 use Rattle.std.proofs.Common.{length, refl, sym, ap, ◌∙◌, subst, arith}
 use Rattle.std.specs.Prelude.{nat_le, IfOk, IfErr}
 use Rattle.std.specs.List.{AllByRecursion as All, list_all}
 use Rattle.std.proofs.lemmas.Bool.{leb-true, and_parts}
 use Rattle.bw_codec.specs.declared.leaf.Leaf.{Leaf}
-use Rattle.bw_codec.specs.declared.block.Frame.{Frame}
 use Rattle.bw_page.specs.Leaves.{pages}
 use Rattle.bw_page.specs.Standing.{Stand}
 use Rattle.bw_log.specs.Contents as logs
 use Rattle.bw_log.specs.Reads.{IsPage}
 use Rattle.bw_log.specs.declared.fault.LogFault.{LogFault}
 use Rattle.bw_log.specs.declared.fault.LogFault.TheVariants as log
-use Rattle.bw_log.specs.Segments.{next_of}
 use Rattle.bw_care.specs.Moving as care
 use Rattle.bw_care.specs.Rewriting as rewrites
 use Rattle.bw_care.proofs.BoxesGrown.{same_roster}
@@ -21,7 +19,7 @@ use Rattle.bw_versions.specs.Entries.{records}
 use Rattle.bw_store.specs.declared.fault.StoreFault.{StoreFault}
 use Rattle.bw_store.specs.declared.fault.StoreFault.TheVariants as store
 use Rattle.bw_store.specs.Emptied.{Emptied}
-use Rattle.bw_store.specs.Faults.{fault_of, FlushAnswers, FlushLeaves, refusal_by}
+use Rattle.bw_store.specs.Faults.{fault_of, FlushLeaves}
 use Rattle.bw_store.specs.Following.{Follows, HasBoxes}
 use Rattle.bw_store.specs.Kept.{Kept, IsSound}
 use Rattle.bw_store.specs.Rewriting.{are_pages, RewriteMoves, RewriteLeaves, RewriteShows}

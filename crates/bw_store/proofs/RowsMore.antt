@@ -6,7 +6,7 @@ use Rattle.std.specs.List.{AllByRecursion as All, fold, slice_index_or}
 use Rattle.std.proofs.lemmas.List.{take_more, drop_more, length-map}
 use Rattle.bw_codec.specs.declared.record.Record.{Record}
 use Rattle.bw_codec.specs.declared.block.Place.{Place}
-use Rattle.bw_store.specs.declared.drafting.Row.{Row}
+use Rattle.bw_store.specs.declared.draft.Row.{Row}
 use Rattle.bw_store.specs.Drafting.{AreIn, count_by, set_row, tails_all}
 use Rattle.bw_store.specs.Tails.{HasRoomAt, HasRoomsAt, Tailed, tail_of, tails_after}
 use Rattle.bw_store.proofs.Joins.{all-append}

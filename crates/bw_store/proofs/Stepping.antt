@@ -17,7 +17,7 @@ use Rattle.bw_page.specs.Leaves.{changed, directed_at, lower_of, upper_of, leaf_
 use Rattle.bw_page.specs.Standing.{kept_below, after}
 use Rattle.bw_page.proofs.Homes.{put_in}
 use Rattle.bw_page.proofs.PageByPage.{home_there, put_at}
-use Rattle.bw_page.proofs.Law.{directed, cut_within, upper_in, applied-whole, applied-cut, applied-lawful}
+use Rattle.bw_page.proofs.Law.{directed, cut_within, applied-whole, applied-cut}
 use Rattle.bw_page.proofs.Steps.{kept-lower, leaf_at-push, leaf_at-new}
 use Rattle.bw_store.specs.Adding.{result_of, blocks_for}
 

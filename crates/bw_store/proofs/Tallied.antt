@@ -1,6 +1,6 @@
 -- Bytes of segments, summed one after the other.
 
-use Rattle.std.proofs.Common.{◌≡◌, ℕ, zero, suc, ◌+◌, ◌-◌, ◌^◌, ◌≤◌, min, MatchOption, Option, Some, None, List, [], ◌∷◌, length, take, refl, sym, ap, ◌∙◌, arith}
+use Rattle.std.proofs.Common.{◌≡◌, ℕ, zero, suc, ◌+◌, ◌≤◌, MatchOption, Option, Some, None, List, [], ◌∷◌, length, take, refl, sym, ap, arith}
 use Rattle.std.specs.List.{slice_get}
 use Rattle.bw_device.specs.Holding.{Holding}
 use Rattle.bw_store.specs.Counting.{bytes_of, length_at, up}

@@ -1,10 +1,9 @@
 -- What the answer of an upgrade says of the store.
 
-use Rattle.std.proofs.Common.{inl, inr, ◌≡◌, ◌⊎◌, ℕ, ◌+◌, ◌<◌, ◌≤◌, true, false, Option, Some, None, Result, Ok, Err, List, [], ◌++◌}
-use Rattle.std.proofs.Common.{length, drop, refl, sym, ap, ◌∙◌, subst, arith}
+use Rattle.std.proofs.Common.{inl, inr, ◌≡◌, ℕ, ◌+◌, ◌≤◌, true, Option, Some, None, Result, Ok, Err, List, ◌++◌}
+use Rattle.std.proofs.Common.{length, drop, refl, sym, ap, ◌∙◌, arith}
 use Rattle.std.specs.Prelude.{IfOk, IfErr}
 use Rattle.bw_codec.specs.declared.leaf.Leaf.{Leaf}
-use Rattle.bw_codec.specs.declared.block.Frame.{Frame}
 use Rattle.bw_page.specs.Standing.{Stand}
 use Rattle.bw_log.specs.Contents as logs
 use Rattle.bw_log.specs.declared.fault.LogFault.{LogFault}
@@ -13,7 +12,7 @@ use Rattle.bw_care.specs.Moving as care
 use Rattle.bw_care.specs.Upgrading.{old_segments, last_of_old, pages_of_old, count_in}
 use Rattle.bw_care.specs.Upgrading as upgrades
 use Rattle.bw_care.proofs.UpgradeMoved.{more_left, old_are}
-use Rattle.bw_care.specs.declared.upgrading.Upgraded.{Upgraded}
+use Rattle.bw_care.specs.declared.upgrader.Upgraded.{Upgraded}
 use Rattle.bw_care.specs.declared.fault.CleanFault.{CleanFault}
 use Rattle.bw_care.specs.declared.fault.CleanFault.TheVariants.{NothingOld, Log}
 use Rattle.bw_store.specs.declared.fault.StoreFault.{StoreFault}

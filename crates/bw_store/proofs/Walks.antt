@@ -6,7 +6,7 @@ use Rattle.bw_codec.specs.declared.leaf.Leaf.{Leaf}
 use Rattle.bw_log.specs.Reads.{HoldsPage}
 use Rattle.bw_page.specs.Ahead.{IsFirst, IsFirstPair, HasNoPair, HasCome, pair_above, HasNoLowAbove, IsNextLow, IsStretch, HasGone, pairs_above, with_some}
 use Rattle.bw_page.specs.Leaves.{Bytes, Pairs, Map, home, leaf_at, plain, union}
-use Rattle.bw_page.specs.Shown.{Shown, is_away, leaf_here}
+use Rattle.bw_page.specs.Shown.{Shown, is_evicted_page, leaf_here}
 use Rattle.bw_page.proofs.Ahead.{come_first, come_found, come_further, come_last}
 use Rattle.bw_page.proofs.PageByPage.{home_there}
 use Rattle.bw_page.proofs.Stretch.{gone_first, gone_more, gone_last, gone_full}
@@ -22,7 +22,7 @@ map_of s = plain s.start (records s.entries)
 
 -- a leaf in memory is that of its page
 pub here_at : (f : Shown) (p : ℕ) (leaf : Leaf) → leaf_here p f ≡ Some leaf → leaf_at p f.leaves ≡ Some leaf
-here_at f p leaf e = elim (is_away p f) as (λ b. (if b then None else leaf_at p f.leaves) ≡ Some leaf → leaf_at p f.leaves ≡ Some leaf) [
+here_at f p leaf e = elim (is_evicted_page p f) as (λ b. (if b then None else leaf_at p f.leaves) ≡ Some leaf → leaf_at p f.leaves ≡ Some leaf) [
   | true ↦ λ none. absurd cc
   | false ↦ λ some. some
 ] e

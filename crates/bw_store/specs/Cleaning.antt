@@ -6,7 +6,7 @@ use Rattle.std.specs.Prelude.{List}
 use Rattle.bw_buffer.specs.Filling.{Filling}
 use Rattle.bw_log.specs.Contents as logs
 use Rattle.bw_care.specs.Moving as care
-use Rattle.bw_care.specs.declared.cleaning.Cleaned.{Cleaned}
+use Rattle.bw_care.specs.declared.cleaner.Cleaned.{Cleaned}
 use Rattle.bw_care.specs.declared.fault.CleanFault.{CleanFault}
 use Rattle.bw_care.specs.declared.fault.CleanFault.TheVariants as clean
 use Rattle.bw_store.specs.declared.fault.StoreFault.{StoreFault}

@@ -2,8 +2,7 @@
 
 use Rattle.std.specs.Prelude.{ℕ, zero, suc, ◌+◌, ◌-◌, ◌^◌, ◌≡◌, ◌⊎◌, Bool, true, if◌then◌else◌, min, Result, Ok, Err, List, [], ◌∷◌, length}
 use Rattle.bw_device.specs.Holding.{Holding}
-use Rattle.bw_log.specs.Contents.{Contents}
-use Rattle.bw_care.specs.declared.cleaning.Cleaned.{Cleaned}
+use Rattle.bw_care.specs.declared.cleaner.Cleaned.{Cleaned}
 use Rattle.bw_care.specs.declared.fault.CleanFault.{CleanFault}
 use Rattle.bw_store.specs.declared.counters.Counters.{Counters}
 use Rattle.bw_store.specs.declared.counters.Looks.{Looks}

@@ -11,8 +11,8 @@ use Rattle.bw_page.specs.Leaves.{directed_at, HasPages}
 use Rattle.bw_buffer.specs.Filling.{Filling, size_of}
 use Rattle.bw_buffer.specs.Counting.{grown}
 use Rattle.bw_buffer.specs.Joining.{joins, open_records, takes}
-use Rattle.bw_store.specs.declared.drafting.Row.{Row}
-use Rattle.bw_store.specs.declared.drafting.Draft.{Draft}
+use Rattle.bw_store.specs.declared.draft.Row.{Row}
+use Rattle.bw_store.specs.declared.draft.Draft.{Draft}
 use Rattle.bw_store.specs.Adding.{Drawn, count_after, here_for, last_for, result_of, upper_if, planned, nowhere, drawn_by}
 use Rattle.bw_store.specs.Fitting.{Fits, drawn_of, group_blocks}
 use Rattle.bw_store.specs.Kept.{Kept, IsSound}

@@ -27,7 +27,7 @@ use Rattle.bw_store.specs.History.{cut, upto, share}
 use Rattle.bw_store.specs.Share.{Tells, TellsFirst, IsBaseBlock}
 use Rattle.bw_store.specs.Growing.{Grown, frames_upto}
 
--- the pages, whether they are in memory or away
+-- the pages, whether they are in memory or evicted
 pub record Filed : Type 0 where
   pub m : ℕ
   pub leaves : List Leaf
@@ -91,7 +91,7 @@ AreCuts from (c ∷ cs) end = (from ≤ c) × AreCuts c cs end
 
 -- the leaves at open or reopen, all of them in memory
 abbrev pub start_of : Kept → Shown
-start_of s = record { m = s.filed.m; leaves = s.start; away = [] }
+start_of s = record { m = s.filed.m; leaves = s.start; evicted = [] }
 
 -- each beginning of these batches is the history up to a durable cut
 abbrev pub EndAtCuts : Kept → List BatchData → Type 0

@@ -6,7 +6,7 @@ use Rattle.bw_codec.specs.declared.leaf.Leaf.{Leaf}
 use Rattle.bw_codec.specs.declared.block.Place.{Place}
 use Rattle.bw_codec.specs.declared.block.Block.TheVariants.{Base}
 use Rattle.bw_codec.specs.declared.block.Frame.{Frame}
-use Rattle.bw_log.specs.Contents.{Contents, counted}
+use Rattle.bw_log.specs.Contents.{counted}
 use Rattle.bw_log.specs.Places.{base_of}
 use Rattle.bw_log.specs.Spans.{last_upto}
 use Rattle.bw_store.specs.Counting.{length_at}

@@ -29,7 +29,7 @@ first_frame = record { number = 1; blocks = Base empty_leaf ∷ [] }
 
 -- one empty page
 abbrev pub one_empty : ℕ → Shown
-one_empty m = record { m = m; leaves = empty_leaf ∷ []; away = [] }
+one_empty m = record { m = m; leaves = empty_leaf ∷ []; evicted = [] }
 
 abbrev pub no_edge : Edge
 no_edge = record { segment = 0; length = 0 }

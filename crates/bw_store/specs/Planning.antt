@@ -2,8 +2,8 @@
 
 use Rattle.std.specs.Prelude.{List}
 use Rattle.bw_codec.specs.declared.block.Block.{Block}
-use Rattle.bw_store.specs.declared.planning.Blocks.{Blocks}
-use Rattle.bw_store.specs.declared.planning.Blocks.TheVariants.{One, Two}
+use Rattle.bw_store.specs.declared.plan.Blocks.{Blocks}
+use Rattle.bw_store.specs.declared.plan.Blocks.TheVariants.{One, Two}
 
 abbrev pub listed : Blocks → List Block
 listed (One blocks) = blocks

@@ -3,7 +3,7 @@
 use Rattle.std.specs.Prelude.{ℕ, ◌+◌, ◌≤◌, ◌≡◌, ◌⊎◌, true, Result, Ok, Err, []}
 use Rattle.bw_care.specs.Upgrading.{old_segments}
 use Rattle.bw_care.specs.Upgrading as care
-use Rattle.bw_care.specs.declared.upgrading.Upgraded.{Upgraded}
+use Rattle.bw_care.specs.declared.upgrader.Upgraded.{Upgraded}
 use Rattle.bw_care.specs.declared.fault.CleanFault.{CleanFault}
 use Rattle.bw_store.specs.declared.fault.StoreFault.{StoreFault}
 use Rattle.bw_store.specs.declared.fault.StoreFault.TheVariants.{NoMemory, NothingOld}

@@ -4,7 +4,7 @@ use Rattle.std.specs.Prelude.{ℕ, Bool, map}
 use Rattle.std.specs.declared.dyn_box.DynBox.{DynBox}
 use Rattle.std.specs.declared.alloc.Global.{Global}
 use Rattle.bw_device.specs.Holding.{Holding}
-use Rattle.bw_page.specs.Shown.{is_away}
+use Rattle.bw_page.specs.Shown.{is_evicted_page}
 use Rattle.bw_ring.specs.Ends.{ring_of_lane}
 use Rattle.bw_log.specs.Views.{seen_by}
 use Rattle.bw_store.specs.Kept.{Kept, filed_of}
@@ -35,7 +35,7 @@ module _ {I : Type 0} {H : I → Type 0} where
 
   -- a page is not in memory; what a store keeps is the same, wherever its pages are
   abbrev pub is_evicted : ℕ → Store I H → Bool
-  is_evicted page s = is_away page s.leaves
+  is_evicted page s = is_evicted_page page s.leaves
 
   -- how many entries of the history left memory, from the first on
   abbrev pub forgotten_of : Store I H → ℕ

@@ -1,4 +1,5 @@
-//! What a store counts beside what it keeps. Counting takes no memory, and nothing is refused for it.
+//! What a store counts beside what it keeps. Counting takes no memory, and nothing is refused for
+//! it.
 
 ghost use Rattle.std.specs.Prelude.{◌≡◌, ◌-◌, length};
 ghost use Rattle.bw_care.specs.Views.{seen, IsSound as IsSoundLog};
@@ -28,7 +29,7 @@ pub struct Counters {
     pub splits: u64,
     /// Pages dropped from memory by `evict`.
     pub evictions: u64,
-    /// Pages read from the log because they were away.
+    /// Pages read from the log because they were evicted.
     pub reads: u64,
     /// How often readers were shown something new.
     pub publications: u64,

@@ -6,7 +6,7 @@
 ghost use Rattle.std.specs.Prelude.{◌≤◌, ◌+◌, length, vec_len};
 ghost use Rattle.std.specs.Vec.{vec_capacity};
 
-use crate::drafting::Row;
+use crate::draft::Row;
 
 /// Notes the page of the record that was taken last. No memory is taken.
 pub(crate) fn hint_one(hints: &mut Vec<u32>, page: u32)

@@ -4,47 +4,48 @@
 //! Writers live in threads of their own, each with a feed; one thread owns the store. What it took
 //! stands in the history at once, in the pages, and in a frame in the making; a flush appends that
 //! frame and cuts the history there. `clean` gives up the oldest segment, `upgrade` all segments of
-//! format 1, and `reopen` goes on from what was recovered. `specs/Kept.antt` has what holds between calls, and `specs/Following.antt`
-//! what no call takes back. `evict` drops a page from memory: it is then read from the log, and
-//! `specs/Tails.antt` has what the frame in the making adds to it. `forget` drops from memory what
-//! readers have of the history; the clauses go on speaking of all of it.
+//! format 1, and `reopen` goes on from what was recovered. `specs/Kept.antt` has what holds between
+//! calls, and `specs/Following.antt` what no call takes back. `evict` drops a page from memory: it
+//! is then read from the log, and `specs/Tails.antt` has what the frame in the making adds to it.
+//! `forget` drops from memory what readers have of the history; the clauses go on speaking of all
+//! of it.
 #![tactic(auto)]
 
-mod appending;
-mod asking;
+mod append;
 mod beside;
-mod boxes;
-mod cleaning;
+mod clean;
 mod config;
+mod count;
 mod counters;
-mod counting;
-mod drafting;
+mod draft;
 mod edge;
-mod entering;
-mod evicting;
+mod enter;
+mod evict;
 mod fault;
-mod flushing;
-mod forgetting;
-mod grouping;
+mod flush;
+mod forget;
+mod groups;
 mod hints;
 mod history;
 mod intake;
 mod moved;
 mod needed;
-mod opening;
-mod planning;
-mod publishing;
-mod reading;
+mod open;
+mod plan;
+mod publish;
+mod questions;
+mod reads;
 mod receipts;
-mod renewing;
-mod reopening;
-mod rewriting;
-mod settling;
+mod renew;
+mod reopen;
+mod rewrite;
+mod segments;
+mod settle;
 mod store;
 mod tails;
-mod taking;
-mod turning;
-mod upgrading;
+mod take;
+mod turn;
+mod upgrade;
 mod walk;
 
 pub use bw_care::{Cleaned, Upgraded};
@@ -53,6 +54,6 @@ pub use config::Config;
 pub use counters::Counters;
 pub use edge::Edge;
 pub use fault::{OpenFault, StoreFault};
-pub use reopening::ReopenFault;
+pub use reopen::ReopenFault;
 pub use store::Store;
-pub use turning::TurnFault;
+pub use turn::TurnFault;

@@ -8,7 +8,7 @@ ghost use Rattle.bw_log.specs.Places.{place_of};
 ghost use Rattle.bw_care.specs.Views.{seen, IsSound as IsSoundLog};
 ghost use Rattle.bw_store.specs.Cleaning.{end_by, with_moved};
 
-use crate::renewing::renew;
+use crate::renew::renew;
 use crate::store::Store;
 use bw_buffer::Buffer;
 use std::alloc::AllocError;

@@ -1,7 +1,7 @@
 //! The store itself.
 
 ghost use Rattle.std.specs.Prelude.{ℕ, ◌≡◌, ◌≤◌, true, false, length, map};
-ghost use Rattle.bw_page.specs.Shown.{is_away};
+ghost use Rattle.bw_page.specs.Shown.{is_evicted_page};
 ghost use Rattle.bw_versions.specs.Batches.{entries_of};
 ghost use Rattle.bw_store.specs.History.{are_whole};
 ghost use Rattle.bw_store.specs.Tails.{tail_of, tails_for, is_made};
@@ -48,8 +48,8 @@ pub struct Store {
     ghost tailed: { map tail_of tails.items ≡ tails_for (length leaves.leaves) making.blocks },
     // No cut stands inside a group.
     ghost whole: { are_whole cuts.items intake.history.items ≡ true },
-    // A page that is away is in the log, but for its tail.
-    ghost logged: { (p : ℕ) → is_away p leaves ≡ true → is_made p making.blocks ≡ false },
+    // A page that is evicted is in the log, but for its tail.
+    ghost logged: { (p : ℕ) → is_evicted_page p leaves ≡ true → is_made p making.blocks ≡ false },
     // What was forgotten is in the readers' book.
     ghost forgotten: { intake.history.gone ≤ length (entries_of versions.entered) },
     ghost began: { tally.pages ≡ length versions.start.leaves },

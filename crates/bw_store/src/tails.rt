@@ -1,7 +1,7 @@
 //! What the frame in the making does to each page that the log has.
 //!
 //! A page that leaves memory is the page in the log with the records that the frame in the making
-//! has of it. So a chain over the log is kept for each page, here or away, until the frame is
+//! has of it. So a chain over the log is kept for each page, here or evicted, until the frame is
 //! appended. A page that the frame makes or cuts has none: it stays until the log has it whole.
 
 ghost use Rattle.std.specs.Prelude.{ℕ, ◌≡◌, ◌≤◌, ◌<◌, ◌+◌, ◌-◌, ◌++◌, ◌∷◌, [], true, Some, None, length, map, vec_len, slice_set, IfOk, IfSome, OnOk};
@@ -13,7 +13,7 @@ ghost use Rattle.std.specs.List.{list_any, AllByRecursion};
 ghost use Rattle.bw_store.specs.Drafting.{AreIn, tails_all};
 ghost use Rattle.bw_store.specs.Tails.{tail_of, tails_for, tails_after, rest_by, with_one, HasRoomAt, HasRoomsAt, IsMarkWithin};
 
-use crate::drafting::Row;
+use crate::draft::Row;
 use bw_buffer::{Buffer, Mark};
 use bw_codec::{Key, Leaf, Place, Record};
 use bw_page::{Chain, Word};
@@ -130,8 +130,8 @@ fn reserve_one(tail: &mut Option<Tail>) -> Result<(), AllocError>
     }
 }
 
-/// Room for as many pages more as a group may make, and for as many records more of each page of its
-/// records. A page that the group itself makes has no tail.
+/// Room for as many pages more as a group may make, and for as many records more of each page of
+/// its records. A page that the group itself makes has no tail.
 pub(crate) fn reserve_all(tails: &mut Vec<Option<Tail>>, rows: &[Row]) -> Result<(), AllocError>
     requires { AllByRecursion (λ row. 1 ≤ row.page) rows.now }
     ensures same { map tail_of tails.new.items ≡ map tail_of tails.old.items }

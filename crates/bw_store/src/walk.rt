@@ -1,7 +1,7 @@
 //! A walk over the pairs of all pages in the order of their keys.
 //!
-//! Pages are numbered as they were made, and their lows are in no order. So a walk goes from a key's
-//! page to the page with the next low, which a search among the lows tells.
+//! Pages are numbered as they were made, and their lows are in no order. So a walk goes from a
+//! key's page to the page with the next low, which a search among the lows tells.
 
 ghost use Rattle.std.specs.Prelude.{ℕ, ◌≡◌, false, IfOk, IfErr, OnOk};
 ghost use Rattle.bw_log.specs.Reads.{HoldsPage};
@@ -38,16 +38,16 @@ impl Store {
         if let Some(leaf) = self.leaves.page(page) {
             return Ok(pair_from(leaf, key));
         }
-        let leaf = self.read_away(page)?;
+        let leaf = self.read_evicted(page)?;
         Ok(pair_from(&leaf, key))
     }
 
     /// The pair with the least key at or above this one, as all records of the history leave it,
-    /// flushed or not, in memory or away; `None` behind the last pair. Pages that are away are read
-    /// from the log, and stay away.
+    /// flushed or not, in memory or evicted; `None` behind the last pair. Pages that are evicted
+    /// are read from the log, and stay evicted.
     ///
-    /// It costs a search and a look at a page; and, where that page has no such pair, another search
-    /// and look for each page behind it that has none. Refused as `get` is.
+    /// It costs a search and a look at a page; and, where that page has no such pair, another
+    /// search and look for each page behind it that has none. Refused as `get` is.
     pub fn next_at(&mut self, key: &Key) -> Result<Option<(Key, Value)>, StoreFault>
         requires { IsSound self.old holding }
         ensures value { IfOk result (λ pair. IsFirst (plain (kept_by self.old holding).start
@@ -58,7 +58,7 @@ impl Store {
             (kept_by self.new holding) }
         ensures memory { ((p : ℕ) → is_evicted p self.old ≡ false)
             → IfErr result (λ fault. fault ≡ StoreFault.NoMemory) }
-        ensures away { (p : ℕ) → is_evicted p self.new ≡ is_evicted p self.old }
+        ensures evicted { (p : ℕ) → is_evicted p self.new ≡ is_evicted p self.old }
 
         ensures follows { Follows (kept_by self.old holding) (kept_by self.new holding) }
         ensures boxes { HasBoxes (kept_by self.old holding) (kept_by self.new holding) }
@@ -103,14 +103,15 @@ impl Store {
             add_pairs(leaf, key, most, found)?;
             return Ok(());
         }
-        let leaf = self.read_away(page)?;
+        let leaf = self.read_evicted(page)?;
         add_pairs(&leaf, key, most, found)?;
         Ok(())
     }
 
     /// Puts the pairs at or above a key into `found`, as all records of the history leave them, in
     /// the order of keys and no more than so many. What stood in `found` is dropped before. A walk
-    /// goes on behind the last of them. Pages that are away are read from the log, and stay away.
+    /// goes on behind the last of them. Pages that are evicted are read from the log, and stay
+    /// evicted.
     ///
     /// It costs a search and a look for each page, and a copy of each pair. Refused as `get` is, or
     /// `NoMemory` where `found` does not grow; it then has some of the pairs.
@@ -129,7 +130,7 @@ impl Store {
             (kept_by self.new holding) }
         ensures memory { ((p : ℕ) → is_evicted p self.old ≡ false)
             → IfErr result (λ fault. fault ≡ StoreFault.NoMemory) }
-        ensures away { (p : ℕ) → is_evicted p self.new ≡ is_evicted p self.old }
+        ensures evicted { (p : ℕ) → is_evicted p self.new ≡ is_evicted p self.old }
 
         ensures follows { Follows (kept_by self.old holding) (kept_by self.new holding) }
         ensures boxes { HasBoxes (kept_by self.old holding) (kept_by self.new holding) }

@@ -23,6 +23,6 @@ HasStart start log kept = MatchOption kept
     (λ leaves. (leaves ≡ start) × (log ≡ []))
 
 pub record IsHeld (a : Inside) : Type 0 where
-  pub here : a.began.value.away ≡ []
+  pub here : a.began.value.evicted ≡ []
   pub start : HasStart a.began.value a.publisher.entered.log a.start
   pub count : a.count ≡ length (entries_of a.publisher.entered.log)

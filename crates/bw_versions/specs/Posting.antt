@@ -14,4 +14,4 @@ pub record IsPosted (a : Inside) : Type 0 where
   -- the union of all pairs is the plain map
   pub plainly : union a.leaves.leaves ≡ plain a.start.value.leaves (records (view_of a).entries)
   -- every page is in memory
-  pub here : a.start.value.away ≡ []
+  pub here : a.start.value.evicted ≡ []

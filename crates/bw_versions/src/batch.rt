@@ -36,13 +36,13 @@ impl Model for Batch {
 
     ghost view = { λ b. record { start = b.start; entries = b.entries.items } };
 
-    ghost invariant = { λ b. ForSome b.start (λ leaves. leaves.away ≡ []) };
+    ghost invariant = { λ b. ForSome b.start (λ leaves. leaves.evicted ≡ []) };
 }
 
 impl Batch {
     /// A batch of these entries. No memory is taken.
     pub fn new(start: Option<Leaves>, entries: Vec<Entry>) -> Batch
-        requires here { ForSome start (λ leaves. leaves.away ≡ []) }
+        requires here { ForSome start (λ leaves. leaves.evicted ≡ []) }
         ensures { result ≡ record { start = start; entries = entries.items } }
     {
         let pages = Vec::new(*entries.allocator());
@@ -54,7 +54,7 @@ impl Batch {
 
     /// The same, where the start leaves wait, and the entries' pages are guessed.
     pub(crate) fn of(start: Option<Start>, entries: Vec<Entry>, pages: Vec<u32>) -> Batch
-        requires here { ForSome start (λ leaves. leaves.away ≡ []) }
+        requires here { ForSome start (λ leaves. leaves.evicted ≡ []) }
         ensures { result ≡ record { start = start; entries = entries.items } }
     {
         Batch {

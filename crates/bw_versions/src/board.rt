@@ -50,7 +50,7 @@ impl Board {
     /// Start leaves, all of them in memory, and no entry. A refused growth is the only error. It
     /// costs all pages.
     pub fn new(alloc: Global, start: &Leaves) -> Result<Board, AllocError>
-        requires here { start.now.away ≡ [] }
+        requires here { start.now.evicted ≡ [] }
         ensures made { IfOk result (λ b. b ≡ record { start = start.now; entries = [] }) }
     {
         Ok(Board {
@@ -62,7 +62,7 @@ impl Board {
 
     /// The same, where the start leaves wait.
     pub(crate) fn at(alloc: Global, start: &Start) -> Result<Board, AllocError>
-        requires here { start.now.away ≡ [] }
+        requires here { start.now.evicted ≡ [] }
         ensures made { IfOk result (λ b. b ≡ record { start = start.now; entries = [] }) }
     {
         let leaves = start.leaves()?;
@@ -78,7 +78,7 @@ impl Board {
         ensures pages { result.now ≡ pages_of self.now }
         ensures plainly { union result.now.leaves
             ≡ plain self.now.start.leaves (records self.now.entries) }
-        ensures here { result.now.away ≡ [] }
+        ensures here { result.now.evicted ≡ [] }
     {
         &self.leaves
     }

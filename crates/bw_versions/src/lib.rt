@@ -13,18 +13,18 @@
 mod batch;
 mod board;
 mod book;
-mod crossing;
 mod entry;
 mod front;
-mod informing;
+mod informed;
 mod laws;
 mod operation;
 mod publisher;
 mod reader;
-mod reading;
+mod threads;
 mod version;
 mod versions;
-mod writing;
+mod view;
+mod writer;
 
 pub use batch::Batch;
 pub use board::Board;

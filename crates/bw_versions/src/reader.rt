@@ -6,7 +6,7 @@ ghost use Rattle.bw_versions.specs.Posted.{posted_of, value_in, leaf_in, IsFirst
 ghost use Rattle.bw_versions.specs.Heard.{Beyond, Reads};
 
 use crate::front::Front;
-use crate::reading::{Looker, NextAt, PageOf, Question, VersionReader};
+use crate::view::{Looker, NextAt, PageOf, Question, VersionReader};
 use bw_codec::{Key, Leaf, Value};
 use core::mem::replace_with;
 use std::marker::Model;
@@ -124,8 +124,8 @@ impl<L: Looker> ReaderOf<L> {
     /// The pair with the least key at or above this one in what was published, if there is one. No
     /// memory is taken. It costs what a store's `next_at` costs.
     ///
-    /// Each call reads what is published then: a walk by calls may see a later version at each step.
-    /// Refused as `get` is.
+    /// Each call reads what is published then: a walk by calls may see a later version at each
+    /// step. Refused as `get` is.
     pub fn next_at(&mut self, key: &Key) -> Result<Option<(Key, Value)>, NoReader>
         ensures reads { OnOk result (Reads self.old self.new) }
         ensures answer { IfOk result (λ pair. IsFirstIn (posted_of self.new.seen) key.now pair) }

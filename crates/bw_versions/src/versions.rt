@@ -52,7 +52,7 @@ impl Versions {
         start: Leaves,
     ) -> Result<Versions, AllocError>
         requires places { (1 ≤ places) × (places ≤ 64) }
-        requires here { start.away ≡ [] }
+        requires here { start.evicted ≡ [] }
         ensures start { IfOk result (λ v. v.start ≡ start) }
         ensures nothing { IfOk result (λ v. (v.published ≡ []) × (v.entered ≡ [])) }
         ensures places { IfOk result (λ v. v.places ≡ places) }
@@ -68,7 +68,7 @@ impl Versions {
         start: Start,
     ) -> Result<Versions, AllocError>
         requires places { (1 ≤ places) × (places ≤ 64) }
-        requires here { start.away ≡ [] }
+        requires here { start.evicted ≡ [] }
         ensures start { IfOk result (λ v. v.start ≡ start) }
         ensures nothing { IfOk result (λ v. (v.published ≡ []) × (v.entered ≡ [])) }
         ensures places { IfOk result (λ v. v.places ≡ places) }

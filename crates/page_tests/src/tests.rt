@@ -1,9 +1,9 @@
-//! Worked rows as tables of steps, each walked to the first step that goes otherwise than told: bytes,
-//! buffers and rings, pages, chains, and what readers see.
+//! Worked rows as tables of steps, each walked to the first step that goes otherwise than told:
+//! bytes, buffers and rings, pages, chains, and what readers see.
 
-mod away;
 mod chains;
 mod codec;
+mod evicted;
 mod leaf;
 mod pages;
 mod reading;

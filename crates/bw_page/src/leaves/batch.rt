@@ -18,7 +18,7 @@ ghost use Rattle.bw_page.specs.Aim.{IsAim};
 
 use super::Leaves;
 use crate::changes::{change as change_leaf, count_after, removes};
-use crate::cutting::{Cut, cut_in_two};
+use crate::cuts::{Cut, cut_in_two};
 use crate::fault::ApplyError;
 use crate::index::drop_above;
 use crate::journal::{Back, Displaced, Undo};
@@ -71,7 +71,7 @@ impl Leaves {
     /// Beside what `apply` costs, it costs for each record that removes a pair or cuts a page a
     /// copy of that page, for any other a copy of its old pair, held until the end.
     pub fn apply_all(&mut self, records: &[Record]) -> Result<(), ApplyError>
-        requires { self.old.away ≡ [] }
+        requires { self.old.evicted ≡ [] }
         ensures ok { OnOk result (self.new ≡ run self.old records.now) }
         ensures plain { OnOk result (union self.new.leaves ≡ plain self.old.leaves records.now) }
 
@@ -84,8 +84,8 @@ impl Leaves {
         self.apply_all_of(records)
     }
 
-    /// The same, where the records stand in other values, and the page of each is in memory when its
-    /// turn comes: none of the records is copied.
+    /// The same, where the records stand in other values, and the page of each is in memory when
+    /// its turn comes: none of the records is copied.
     pub fn apply_all_of<T: HasRecord>(&mut self, items: &[T]) -> Result<(), ApplyError>
         requires { AreHere self.old (map T.record_of items.now) }
         ensures ok { OnOk result (self.new ≡ run self.old (map T.record_of items.now)) }
@@ -250,8 +250,8 @@ impl Leaves {
         Ok(Some(upper))
     }
 
-    /// Applies a record, which may be directed at this page, and gives what takes it back. A refusal
-    /// changes nothing.
+    /// Applies a record, which may be directed at this page, and gives what takes it back. A
+    /// refusal changes nothing.
     fn displace(&mut self, page: u32, change: &Record) -> Result<Undo, ApplyError>
         requires { IsHere (key_of change.now) self.old }
         ensures undo { IfOk result (λ undo. undo ≡ undo_of self.old change.now) }

@@ -1,5 +1,5 @@
-//! Records whose page is guessed: a look at it tells whether it is the right one, and a search among the
-//! pages follows only where it does not.
+//! Records whose page is guessed: a look at it tells whether it is the right one, and a search
+//! among the pages follows only where it does not.
 
 ghost use Rattle.std.specs.Prelude.{◌≡◌, Err, IfOk, IfSome, OnOk, OnErr, IsTrue, length};
 ghost use Rattle.bw_codec.specs.Record.{key_of};
@@ -24,7 +24,7 @@ impl Leaves {
             ≡ changed_map (union self.old.leaves) change.now) }
 
         ensures applied { IfOk result (λ a. a ≡ applied_by self.old change.now) }
-        ensures away { self.new.away ≡ self.old.away }
+        ensures evicted { self.new.evicted ≡ self.old.evicted }
 
         // The page number is looked for before memory is.
         ensures spent { IsSpent self.old change.now → result ≡ Err ApplyError.Spent }

@@ -10,12 +10,12 @@ use bw_codec::{Key, Value};
 use std::alloc::AllocError;
 
 impl Leaves {
-    /// The pair with the least key at or above this one, if there is one, where no page is away.
+    /// The pair with the least key at or above this one, if there is one, where no page is evicted.
     ///
-    /// It costs a search and a look at a page; and, where that page has no such pair, another search
-    /// and look for each page behind it that has none.
+    /// It costs a search and a look at a page; and, where that page has no such pair, another
+    /// search and look for each page behind it that has none.
     pub fn next_at(&self, key: &Key) -> Option<(Key, Value)>
-        requires { self.now.away ≡ [] }
+        requires { self.now.evicted ≡ [] }
         ensures { IsFirst (union self.now.leaves) key.now result }
     {
         let _ = self.count();
@@ -33,7 +33,7 @@ impl Leaves {
     }
 
     /// Puts the pairs at or above a key into `found`, in order and no more than so many, where no
-    /// page is away. What stood in `found` is dropped before.
+    /// page is evicted. What stood in `found` is dropped before.
     ///
     /// It costs a search and a look for each page, and a copy of each pair. A refused growth is the
     /// only error; `found` then has some of the pairs.
@@ -43,7 +43,7 @@ impl Leaves {
         most: usize,
         found: &mut Vec<(Key, Value)>,
     ) -> Result<(), AllocError>
-        requires { self.now.away ≡ [] }
+        requires { self.now.evicted ≡ [] }
         ensures { OnOk result (IsStretch (union self.now.leaves) key.now most found.new.items) }
     {
         let _ = self.count();

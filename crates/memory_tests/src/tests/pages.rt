@@ -107,10 +107,10 @@ fn leaf_of(
     })
 }
 
-/// Page 1 with `a`, and page 2 from `c` on with `d`: leaves are made of them in a window, where that
-/// is asked.
+/// Page 1 with `a`, and page 2 from `c` on with `d`: leaves are made of them in a window, where
+/// that is asked.
 fn two_pages(alloc: Global, counts: bool) -> Result<Leaves, AllocError>
-    ensures { IfOk result (λ l. l.away ≡ []) }
+    ensures { IfOk result (λ l. l.evicted ≡ []) }
 {
     let mut leaves = Vec::new(alloc);
     leaves.push(leaf_of(alloc, 1, b"", b"a", b"1")?)?;
@@ -162,7 +162,7 @@ fn copies_leaves(alloc: Global) -> Option<Try> {
 
 /// The same pages by way of a start.
 fn started(leaves: &Leaves) -> Result<Leaves, AllocError>
-    requires { leaves.now.away ≡ [] }
+    requires { leaves.now.evicted ≡ [] }
 {
     Start::copy_of(leaves)?.leaves()
 }
@@ -204,7 +204,7 @@ fn entries(alloc: Global, letters: &[u8]) -> Option<Vec<Entry>> {
 
 /// A full page.
 fn full(alloc: Global) -> Option<Leaves>
-    ensures { IfSome result (λ l. l.away ≡ []) }
+    ensures { IfSome result (λ l. l.evicted ≡ []) }
 {
     let mut leaves = Leaves::one_empty(alloc, 4).ok()?;
     let records = lettered(alloc, b"abcd")?;
@@ -216,8 +216,8 @@ fn full(alloc: Global) -> Option<Leaves>
 
 /// What a record does where it is applied.
 fn applies(leaves: &mut Leaves, change: &Record, way: Way) -> Result<bool, ApplyError>
-    requires { leaves.old.away ≡ [] }
-    ensures { leaves.new.away ≡ [] }
+    requires { leaves.old.evicted ≡ [] }
+    ensures { leaves.new.evicted ≡ [] }
 {
     let told = Applied {
         page: 1,
@@ -232,8 +232,8 @@ fn applies(leaves: &mut Leaves, change: &Record, way: Way) -> Result<bool, Apply
     Ok(done == told)
 }
 
-/// What a call tells that leaves the pages as they are: a record cuts the page, and the stretch from
-/// b on has two pairs.
+/// What a call tells that leaves the pages as they are: a record cuts the page, and the stretch
+/// from b on has two pairs.
 fn looked(
     alloc: Global,
     leaves: &mut Leaves,
@@ -241,8 +241,8 @@ fn looked(
     entries: &[Entry],
     way: Way,
 ) -> Result<bool, ApplyError>
-    requires { leaves.old.away ≡ [] }
-    ensures { leaves.new.away ≡ [] }
+    requires { leaves.old.evicted ≡ [] }
+    ensures { leaves.new.evicted ≡ [] }
 {
     if way == Way::Step {
         return Ok(leaves.step(first)?.upper.is_some());
@@ -258,8 +258,8 @@ fn looked(
 
 /// One try: what e would do beside a to d, or f and g behind it.
 fn looks_at(alloc: Global, leaves: &mut Leaves, way: Way) -> Option<Try>
-    requires { leaves.old.away ≡ [] }
-    ensures { leaves.new.away ≡ [] }
+    requires { leaves.old.evicted ≡ [] }
+    ensures { leaves.new.evicted ≡ [] }
 {
     let entries = entries(alloc, b"efg")?;
     let first = match way {
@@ -287,8 +287,8 @@ fn is_looked_at(alloc: Global, way: Way) -> Option<Try> {
 
 /// One try: e is put beside a to d, or f and g behind it.
 fn applied(alloc: Global, leaves: &mut Leaves, way: Way) -> Option<Try>
-    requires { leaves.old.away ≡ [] }
-    ensures { leaves.new.away ≡ [] }
+    requires { leaves.old.evicted ≡ [] }
+    ensures { leaves.new.evicted ≡ [] }
 {
     let records = lettered(alloc, b"efg")?;
     let entries = entries(alloc, b"efg")?;

@@ -27,7 +27,8 @@ use std::sync::Wait;
 use std::thread::Threads;
 use test_marks::{begin, begin_without, end};
 
-/// A run: what its first box does, its steps, and those of the store that is opened again over what it left.
+/// A run: what its first box does, its steps, and those of the store that is opened again over what
+/// it left.
 #[derive(Drop)]
 struct Run {
     /// After how many calls the first box fails once, and how many bytes it then keeps.
@@ -117,7 +118,8 @@ fn lives<R: Wait>(
     }
 }
 
-// Opens a store in a window; once more where memory was refused: all boxes came back then, in order.
+// Opens a store in a window; once more where memory was refused: all boxes came back then, in
+// order.
 fn opens<R: Wait>(rt: &R, alloc: Global, supply: Supply, steps: &[Step]) -> Option<Left> {
     let Supply { boxes, desk } = supply;
     begin(alloc);
@@ -200,7 +202,8 @@ fn first_of(refused: bool) -> Option<Try> {
     Some(if refused { Try::Spared } else { Try::Went })
 }
 
-// Opens a store again in a window; once more where memory was refused: what was recovered came back then.
+// Opens a store again in a window; once more where memory was refused: what was recovered came back
+// then.
 fn reopens<R: Wait>(
     rt: &R,
     alloc: Global,
@@ -447,8 +450,8 @@ const CLEANS_WHAT_WAITS: &[Step] = &[
     Count(5),
 ];
 
-/// Groups: one that cuts a page, and then the new one; and one over three pages that are away, of which
-/// it cuts none.
+/// Groups: one that cuts a page, and then the new one; and one over three pages that are evicted,
+/// of which it cuts none.
 const GROUPS: &[Step] = &[
     Group(&[(b"a", b"1"), (b"b", b"2"), (b"c", b"3"), (b"d", b"4")]),
     Turn(4),

@@ -35,7 +35,7 @@ enum Call {
 
 /// Page 1 without any pair.
 fn start(alloc: Global) -> Result<Leaves, AllocError>
-    ensures { IfOk result (λ l. l.away ≡ []) }
+    ensures { IfOk result (λ l. l.evicted ≡ []) }
 {
     Leaves::one_empty(alloc, 4)
 }
@@ -125,8 +125,8 @@ fn batch(alloc: Global) -> Option<Batch> {
     if end(alloc) { None } else { Some(batch) }
 }
 
-/// One try of a batch, or of what was entered: where it is refused, the reader sees nothing yet. Whether
-/// it went, and the batch where it came back.
+/// One try of a batch, or of what was entered: where it is refused, the reader sees nothing yet.
+/// Whether it went, and the batch where it came back.
 fn publishes<R: Wait>(
     rt: &R,
     alloc: Global,
@@ -158,7 +158,8 @@ fn publishes<R: Wait>(
     }
 }
 
-/// The batch is published; where it was refused, by the next call, with the batch where it came back.
+/// The batch is published; where it was refused, by the next call, with the batch where it came
+/// back.
 fn is_published<R: Wait>(rt: &R, alloc: Global, publisher: &mut Publisher) -> Option<Try> {
     let mut reader = publisher.reader().ok()?;
     let given = batch(alloc)?;

@@ -3,7 +3,7 @@
 ghost use Rattle.std.specs.Prelude.{IsTrue};
 ghost use Rattle.bw_codec.specs.Bytes.{ascends};
 
-use super::away::leaf_of;
+use super::evicted::leaf_of;
 use super::{Row, del, is_shown, put, records, went, wrong_row};
 use bw_codec::{Key, Leaf, Record};
 use bw_page::{Cut, change, change_all, count_after, cut_in_two, empty_page, keep_below, value_in};

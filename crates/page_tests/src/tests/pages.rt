@@ -2,7 +2,7 @@
 
 ghost use Rattle.std.specs.Prelude.{◌≤◌, ◌≡◌, []};
 
-use super::away::two_pages;
+use super::evicted::two_pages;
 use super::{Table, all_went, del, is_shown, leads, put, records, went, wrong_table};
 use bw_codec::{Key, Record};
 use bw_page::{Applied, Leaves};
@@ -40,8 +40,8 @@ pub(super) enum Step {
 use Step::{Batch, Copy, Count, Del, Fill, Find, Get, Hinted, HintedBatch, Page, Put};
 
 fn applied(leaves: &mut Leaves, change: Option<Record>, page: u32, made: u32) -> bool
-    requires { leaves.old.away ≡ [] }
-    ensures { leaves.new.away ≡ [] }
+    requires { leaves.old.evicted ≡ [] }
+    ensures { leaves.new.evicted ≡ [] }
 {
     let Some(change) = change else {
         return false;
@@ -51,8 +51,8 @@ fn applied(leaves: &mut Leaves, change: Option<Record>, page: u32, made: u32) ->
 }
 
 fn hinted(leaves: &mut Leaves, hint: u32, change: Option<Record>, page: u32, made: u32) -> bool
-    requires { leaves.old.away ≡ [] }
-    ensures { leaves.new.away ≡ [] }
+    requires { leaves.old.evicted ≡ [] }
+    ensures { leaves.new.evicted ≡ [] }
 {
     let Some(change) = change else {
         return false;
@@ -62,8 +62,8 @@ fn hinted(leaves: &mut Leaves, hint: u32, change: Option<Record>, page: u32, mad
 }
 
 fn filled(leaves: &mut Leaves, count: u16) -> bool
-    requires { leaves.old.away ≡ [] }
-    ensures { leaves.new.away ≡ [] }
+    requires { leaves.old.evicted ≡ [] }
+    ensures { leaves.new.evicted ≡ [] }
 {
     for i in 0..count {
         let Some(change) = put(&[b'0' + (i / 10 % 10) as u8, b'0' + (i % 10) as u8], b"") else {
@@ -77,8 +77,8 @@ fn filled(leaves: &mut Leaves, count: u16) -> bool
 }
 
 fn batch(alloc: Global, leaves: &mut Leaves) -> bool
-    requires { leaves.old.away ≡ [] }
-    ensures { leaves.new.away ≡ [] }
+    requires { leaves.old.evicted ≡ [] }
+    ensures { leaves.new.evicted ≡ [] }
 {
     match records(alloc, TEN) {
         Some(records) => leaves.apply_all(records.as_slice()).is_ok(),
@@ -87,8 +87,8 @@ fn batch(alloc: Global, leaves: &mut Leaves) -> bool
 }
 
 fn hinted_batch(alloc: Global, leaves: &mut Leaves, pages: &[u32]) -> bool
-    requires { leaves.old.away ≡ [] }
-    ensures { leaves.new.away ≡ [] }
+    requires { leaves.old.evicted ≡ [] }
+    ensures { leaves.new.evicted ≡ [] }
 {
     match records(alloc, TEN) {
         Some(records) => leaves.apply_all_hinted(records.as_slice(), pages).is_ok(),
@@ -97,7 +97,7 @@ fn hinted_batch(alloc: Global, leaves: &mut Leaves, pages: &[u32]) -> bool
 }
 
 fn has(leaves: &Leaves, key: &str, text: &str) -> bool
-    requires { leaves.now.away ≡ [] }
+    requires { leaves.now.evicted ≡ [] }
 {
     let Ok(key) = Key::new(key.as_bytes()) else {
         return false;
@@ -116,8 +116,8 @@ fn pairs(leaves: &Leaves, page: u32) -> usize {
 }
 
 fn copied(leaves: &mut Leaves) -> bool
-    requires { leaves.old.away ≡ [] }
-    ensures { leaves.new.away ≡ [] }
+    requires { leaves.old.evicted ≡ [] }
+    ensures { leaves.new.evicted ≡ [] }
 {
     let Ok(copy) = leaves.copy() else {
         return false;
@@ -128,8 +128,8 @@ fn copied(leaves: &mut Leaves) -> bool
 
 /// Whether the step went as told.
 fn goes(alloc: Global, leaves: &mut Leaves, step: &Step) -> bool
-    requires { leaves.old.away ≡ [] }
-    ensures { leaves.new.away ≡ [] }
+    requires { leaves.old.evicted ≡ [] }
+    ensures { leaves.new.evicted ≡ [] }
 {
     match step {
         Step::Put(key, value, page, made) => {
@@ -154,7 +154,7 @@ fn goes(alloc: Global, leaves: &mut Leaves, step: &Step) -> bool
 
 /// The first step that did not go as told.
 fn walked(alloc: Global, from: Leaves, steps: &[Step]) -> Option<usize>
-    requires { from.away ≡ [] }
+    requires { from.evicted ≡ [] }
 {
     let mut leaves = from;
     for (i, step) in steps.iter().enumerate() {

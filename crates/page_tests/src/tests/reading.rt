@@ -1,6 +1,6 @@
 //! One page, read forwards over blocks.
 
-use super::away::leaf_of;
+use super::evicted::leaf_of;
 use super::{Row, del, is_shown, put, records, went, wrong_row};
 use bw_codec::{Block, Ops, Place};
 use bw_page::{empty_page, read_blocks};
@@ -52,8 +52,8 @@ fn blocks_are_read_page_by_page(rt: HostRuntime) {
     went(&rt, wrong_row(rt.alloc(), PAGES));
 }
 
-/// A Delta of page 1 that puts so many keys of one byte, from the greatest down, and then deletes the
-/// least.
+/// A Delta of page 1 that puts so many keys of one byte, from the greatest down, and then deletes
+/// the least.
 fn long_delta(alloc: Global, count: u8) -> Option<Block> {
     let mut ops = Vec::new(alloc);
     for at in 0..count {

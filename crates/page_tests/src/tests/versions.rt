@@ -22,7 +22,7 @@ use std::thread::Threads;
 
 /// Page 1 without any pair.
 fn start(alloc: Global) -> Result<Leaves, AllocError>
-    ensures { IfOk result (λ l. l.away ≡ []) }
+    ensures { IfOk result (λ l. l.evicted ≡ []) }
 {
     Leaves::one_empty(alloc, 4)
 }

@@ -10,7 +10,7 @@ use super::walking::{Stand, first_wrong};
 use bw_store::StoreFault;
 
 /// A page that no frame has yet stays. One that left is read from its segment, which fails once,
-/// and stays away.
+/// and stays evicted.
 const READ_AGAIN: &[Step] = &[
     Put(0, b"k", b"v"),
     Turn(1, 1),
@@ -62,7 +62,7 @@ const UNFLUSHED: &[Step] = &[
     Get(b"b", b""),
 ];
 
-/// A page that is away is cut; neither part leaves before the frame is appended.
+/// A page that is evicted is cut; neither part leaves before the frame is appended.
 const CUT: &[Step] = &[
     Put(0, b"a", b"1"),
     Put(0, b"b", b"2"),
@@ -87,7 +87,7 @@ const CUT: &[Step] = &[
     Page(0, ""),
 ];
 
-/// A page stays away while it is written again, and is then read from where it stands now.
+/// A page stays evicted while it is written again, and is then read from where it stands now.
 const CLEANED: &[Step] = &[
     Put(0, b"a", b"1"),
     Turn(9, 1),

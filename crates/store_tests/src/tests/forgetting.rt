@@ -9,8 +9,8 @@ use super::steps::Step::{
 use super::telling::all_went;
 use super::walking::{Stand, first_wrong};
 
-/// What was only taken stays in memory, and what was flushed leaves it once. Receipts count what was
-/// flushed, of each writer by itself.
+/// What was only taken stays in memory, and what was flushed leaves it once. Receipts count what
+/// was flushed, of each writer by itself.
 const BY_FLUSHES: &[Step] = &[
     Count(0),
     Receipt(0, 0),
@@ -90,7 +90,7 @@ const CLEANED: &[Step] = &[
     Stands(1, 2),
 ];
 
-/// Pages that are away are counted too.
+/// Pages that are evicted are counted too.
 const AWAY: &[Step] = &[
     Puts(0, 750),
     Puts(1, 750),

@@ -60,8 +60,8 @@ const SHORT: &[u8] = &[b'v'; 172];
 
 const LONG: &[u8] = &[b'v'; 179];
 
-/// The second frame has room for the first record of the group, and not for the second: both stand in
-/// the third. (A record is 5 bytes and its value; 126 of 517 bytes and a head of 19 leave 355.)
+/// The second frame has room for the first record of the group, and not for the second: both stand
+/// in the third. (A record is 5 bytes and its value; 126 of 517 bytes and a head of 19 leave 355.)
 const ROOM_FOR_ONE: &[Step] = &[
     Put(0, b"k", b"v"),
     Turn(1, 1),
@@ -130,7 +130,7 @@ const CUTS_TWICE: &[Step] = &[
     Page(4, ""),
 ];
 
-/// Four pages, all in memory, then all away: a group touches each of them.
+/// Four pages, all in memory, then all evicted: a group touches each of them.
 const FOUR_PAGES: &[Step] = &[
     Group(0, FOUR),
     Group(
@@ -177,8 +177,8 @@ const FOUR_PAGES: &[Step] = &[
     Page(5, "5 i: i=9 j=0 k=k"),
 ];
 
-/// The page of the group's second record is not read: the group stays in its ring, whole, and the next
-/// turn takes it.
+/// The page of the group's second record is not read: the group stays in its ring, whole, and the
+/// next turn takes it.
 const UNREAD: &[Step] = &[
     Group(0, FOUR),
     Put(0, b"e", b"5"),

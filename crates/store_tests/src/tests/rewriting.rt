@@ -1,4 +1,4 @@
-//! Pages are written again, and pages that are away answer from their newest frame: the tables.
+//! Pages are written again, and pages that are evicted answer from their newest frame: the tables.
 
 use super::steps::Step;
 use super::steps::Step::{
@@ -9,8 +9,8 @@ use super::telling::all_went;
 use super::walking::{Stand, first_wrong};
 use bw_store::StoreFault;
 
-/// A frame has 20 bytes around its blocks, a Delta of one put 25, a Base of two pairs 18. What waits
-/// is flushed first. A page that is named twice is written twice, and no page is no frame.
+/// A frame has 20 bytes around its blocks, a Delta of one put 25, a Base of two pairs 18. What
+/// waits is flushed first. A page that is named twice is written twice, and no page is no frame.
 const WRITTEN_AGAIN: &[Step] = &[
     Put(0, b"k", b"1"),
     Settle(1),
@@ -84,8 +84,8 @@ const FAILED: &[Step] = &[
     Rewrite(&[1], Err(StoreFault::Failed)),
 ];
 
-/// The first segment's header and frame pass, and then one read fails: a value of the second segment
-/// is told without it, and so is a key that was deleted there; the page is not.
+/// The first segment's header and frame pass, and then one read fails: a value of the second
+/// segment is told without it, and so is a key that was deleted there; the page is not.
 const NEWEST_FIRST: &[Step] = &[
     Add,
     Put(0, b"k", b"1"),

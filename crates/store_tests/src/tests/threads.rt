@@ -19,7 +19,7 @@ use std::thread::{Promise, PromisedHandle, Threads};
 /// How many records each of the four writers puts into its ring of 256 places.
 const RECORDS: u32 = 1000;
 
-/// How many are taken while the feeds are away: those that are left fit any one ring.
+/// How many are taken while the feeds are evicted: those that are left fit any one ring.
 const TAKEN_MEANWHILE: usize = 3800;
 
 /// How often each side tries at most, so that the test ends whatever the schedule.

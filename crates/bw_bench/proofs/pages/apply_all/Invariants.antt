@@ -3,4 +3,4 @@ use Rattle.std.specs.Prelude.{◌≡◌, []}
 use Rattle.bw_bench.proofs.pages.apply_all.Given as goal
 
 abbrev pub invariant-records : goal.invariant-records
-invariant-records l = l.leaves.away ≡ []
+invariant-records l = l.leaves.evicted ≡ []

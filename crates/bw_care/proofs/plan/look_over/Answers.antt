@@ -2,7 +2,7 @@ use Rattle.std.proofs.Common.{◌∙◌, ℕ, List, sym, ap, subst, arith, lengt
 use Rattle.std.proofs.lemmas.Result.{err_from_is_err_and}
 use Rattle.bw_care.specs.Ordering.{IsOrder}
 use Rattle.bw_care.specs.Surveying.{kind_seen, parts_seen}
-use Rattle.bw_care.specs.declared.scanning.Scan.{Scan}
+use Rattle.bw_care.specs.declared.scan.Scan.{Scan}
 use Rattle.bw_care.proofs.SurveyFacts.{rooms_here, rooms_are, not_large, scans_count, scans_short, pass_refuses, order_refuses}
 use Rattle.bw_care.proofs.plan.look_over.Goals as goal
 

@@ -1,6 +1,6 @@
-use Rattle.std.proofs.Common.{◌≡◌, ℕ, ◌+◌, length, take, suc, refl, sym, ap, ◌∙◌, arith}
+use Rattle.std.proofs.Common.{◌≡◌, ℕ, ◌+◌, take, suc, sym, ap, ◌∙◌, arith}
 use Rattle.bw_care.specs.Views.{seen}
-use Rattle.bw_store.specs.Counting.{bytes_of, length_at, up}
+use Rattle.bw_store.specs.Counting.{bytes_of, up}
 use Rattle.bw_store.proofs.Tallied.{bytes_next, bytes_none, bytes_all, up_more}
 use Rattle.bw_store.proofs.counters.live_bytes.Goals as goal
 

@@ -1,12 +1,12 @@
-//! The tables. A letter is a call of the system: o opens a file, d makes a folder, p looks at a path,
-//! n at what has a name without following it, l takes a lock, k takes one beside other readers, m
-//! asks for a length, r reads, w writes, c cuts, s waits until the bytes stand, a until the length or
-//! the name stands too.
+//! The tables. A letter is a call of the system: o opens a file, d makes a folder, p looks at a
+//! path, n at what has a name without following it, l takes a lock, k takes one beside other
+//! readers, m asks for a length, r reads, w writes, c cuts, s waits until the bytes stand, a until
+//! the length or the name stands too.
 
 use super::super::all_went;
 use super::steps::Act::{
-    Append, Copy, Empty, Fail as Failing, File, Full, Holds, Leave, Lengthen, Link, Look, LookAway,
-    Make, NoFile, Open, Segment, Spare, Stop, Write,
+    Append, Copy, Empty, Fail as Failing, File, Full, Holds, Leave, Lengthen, Link, Look,
+    LookEvicted, Make, NoFile, Open, Segment, Spare, Stop, Write,
 };
 use super::steps::Told::{BadConfig, Done, InUse, No, NotPlain, System, TooLong};
 use super::steps::{Row, Table, wrong_table};
@@ -82,7 +82,7 @@ const ONCE: &[Row] = &[
     Row(Look, Done, "pnok"),
     Row(Look, Done, "pnok"),
     Row(Open, InUse, "dnool"),
-    Row(LookAway, Done, ""),
+    Row(LookEvicted, Done, ""),
     Row(Open, Done, "dnool"),
     Row(File("segment-0001.bw", ""), Done, ""),
 ];
@@ -101,7 +101,7 @@ const READ: &[Row] = &[
     Row(NoFile("lock"), Done, ""),
     Row(Lengthen, Done, ""),
     Row(Copy(0, 64, "abc"), TooLong, "nom"),
-    Row(LookAway, Done, ""),
+    Row(LookEvicted, Done, ""),
     Row(Open, Done, "dnool"),
 ];
 
@@ -161,8 +161,8 @@ const FULL: &[Row] = &[
     Row(File("segment-0000.bw", "abc"), Done, ""),
 ];
 
-/// What is no plain file is not opened, neither to be written nor to be looked at: no link is followed,
-/// also where it leads to nothing yet.
+/// What is no plain file is not opened, neither to be written nor to be looked at: no link is
+/// followed, also where it leads to nothing yet.
 const PLAIN: &[Row] = &[
     Row(Open, Done, "doanool"),
     Row(Write("other", "abc"), Done, ""),
@@ -176,7 +176,7 @@ const PLAIN: &[Row] = &[
     Row(Look, Done, "pnok"),
     Row(Copy(0, 64, "abc"), NotPlain, "n"),
     Row(Copy(1, 64, ""), NotPlain, "n"),
-    Row(LookAway, Done, ""),
+    Row(LookEvicted, Done, ""),
     Row(File("other", "abc"), Done, ""),
     Row(NoFile("nothing"), Done, ""),
 ];

@@ -19,7 +19,7 @@ pub(super) enum Act {
     Look,
     /// The folder is dropped, and its segments stay.
     Leave,
-    LookAway,
+    LookEvicted,
     /// A segment of this capacity is opened.
     Segment(u32, u64),
     /// A new segment of this capacity.
@@ -333,7 +333,7 @@ pub(super) fn goes(stand: &mut Stand, act: &Act) -> Told {
             stand.folder = None;
             Told::Done
         }
-        Act::LookAway => {
+        Act::LookEvicted => {
             stand.reader = None;
             Told::Done
         }
@@ -371,8 +371,8 @@ pub(super) fn wrong_row(stand: &mut Stand, rows: &[Row]) -> Option<usize> {
 /// A folder, and what goes in it.
 pub(super) type Table = (&'static str, &'static [Row]);
 
-// The first row that did not go as told in a folder of its own, and the first one where there was no
-// folder.
+// The first row that did not go as told in a folder of its own, and the first one where there was
+// no folder.
 fn wrong_in(rt: HostRuntime, path: &'static str, rows: &[Row]) -> Option<usize> {
     match at(rt, path) {
         Some(mut stand) => wrong_row(&mut stand, rows),

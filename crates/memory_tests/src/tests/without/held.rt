@@ -29,7 +29,7 @@ fn lettered(alloc: Global, letters: &[u8]) -> Option<Leaf> {
 
 /// Page 1 with `a`.
 fn one_page(alloc: Global) -> Option<Leaves>
-    ensures { IfSome result (λ l. l.away ≡ []) }
+    ensures { IfSome result (λ l. l.evicted ≡ []) }
 {
     let mut leaves = Leaves::one_empty(alloc, 4).ok()?;
     match leaves.apply_all(&[put(b"a", b"1")?]) {
@@ -39,7 +39,7 @@ fn one_page(alloc: Global) -> Option<Leaves>
 }
 
 fn are_so(leaves: &Leaves, key: &Key) -> bool
-    requires { leaves.now.away ≡ [] }
+    requires { leaves.now.evicted ≡ [] }
 {
     let is_page = match leaves.page(1) {
         Some(leaf) => shows(leaf, b": a=1"),
@@ -68,10 +68,10 @@ pub(super) fn a_page_goes_and_comes(alloc: Global) -> Option<bool> {
     };
     let kept = kept.ok()?;
     begin_without(alloc);
-    leaves.put_away(1);
-    let is_away = !leaves.is_here(1);
+    leaves.evict_page(1);
+    let is_evicted_page = !leaves.is_here(1);
     leaves.bring_back(1, kept);
-    asked(alloc, is_away && leaves.is_here(1))
+    asked(alloc, is_evicted_page && leaves.is_here(1))
 }
 
 /// Whether a key has this value in a leaf; no text where it has none.
@@ -94,7 +94,8 @@ pub(super) fn one_leaf(alloc: Global) -> Option<bool> {
     asked(alloc, is_so)
 }
 
-/// Pairs are dropped from a key on, in a leaf and in a draft: no row is asked for that is not there.
+/// Pairs are dropped from a key on, in a leaf and in a draft: no row is asked for that is not
+/// there.
 pub(super) fn pairs_are_dropped(alloc: Global) -> Option<bool> {
     let (leaf, other) = (lettered(alloc, b"abc")?, lettered(alloc, b"abc")?);
     begin_without(alloc);

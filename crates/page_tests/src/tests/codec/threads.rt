@@ -12,7 +12,7 @@ use std::thread::{Promise, Threads};
 /// How many records go through the ring of 8 places.
 const RECORDS: u32 = 1000;
 
-/// How many of them are taken while the feed is away: the groups that are left fit the ring.
+/// How many of them are taken while the feed is evicted: the groups that are left fit the ring.
 const TAKEN_MEANWHILE: u32 = 980;
 
 /// How many groups are left then: twice one, two, three and four records.
@@ -29,8 +29,8 @@ impl Promise<Feed> for OfOneRing {
     ghost kept_by = { λ p feed. ring_of_feed feed ≡ ring_of_feed p.0.value };
 }
 
-/// The group that begins with this number. Those that follow each other have one, two, three and four
-/// records, and then one again.
+/// The group that begins with this number. Those that follow each other have one, two, three and
+/// four records, and then one again.
 fn group_at(number: u32) -> Group {
     let count = match number % 10 {
         0 => 1,
@@ -105,7 +105,7 @@ fn is_left(feed: &mut Feed, lane: &mut Lane) -> bool
         && lane.peek().is_none()
 }
 
-/// Whether all groups are taken in their order, most of them while the feed is away.
+/// Whether all groups are taken in their order, most of them while the feed is evicted.
 fn go_through<R: AllocGlobal + Threads>(rt: &R) -> Option<bool> {
     let Ok((feed, mut lane)) = one_ring(rt.alloc(), 8) else {
         return None;

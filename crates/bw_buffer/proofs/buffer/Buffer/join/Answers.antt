@@ -1,7 +1,5 @@
 use Rattle.std.proofs.Common.{◌∙◌, ◌+◌, ◌∷◌, ℕ, [], length, refl, ap, arith}
-use Rattle.std.specs.Prelude.{◌==◌}
 use Rattle.std.specs.List.{flat_map}
-use Rattle.std.specs.HashMap.{spare, hash_map_len}
 use Rattle.bw_codec.specs.Grammar.{op_bytes}
 use Rattle.bw_codec.specs.declared.block.Block.TheVariants.{Delta}
 use Rattle.bw_buffer.specs.Filling.{Filling, with_all}

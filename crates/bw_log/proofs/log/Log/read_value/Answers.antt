@@ -1,4 +1,4 @@
-use Rattle.std.proofs.Common.{Result, Ok, Err, refl, sym, ◌∙◌, arith}
+use Rattle.std.proofs.Common.{refl, arith}
 use Rattle.bw_log.proofs.Asked.{page_there}
 use Rattle.bw_log.proofs.Valued.{sound_by, kept_by}
 use Rattle.bw_log.proofs.Walked.{page_starts, some_frames, first_is, no_line, page_answer}

@@ -1,4 +1,4 @@
-use Rattle.std.proofs.Common.{◌≡◌, ◌∙◌, refl, sym, ap, arith}
+use Rattle.std.proofs.Common.{◌∙◌, refl, arith}
 use Rattle.std.proofs.lemmas.Result.{err_from_is_err_and}
 use Rattle.bw_page.specs.declared.words.Word.TheVariants.{Gone, Holds}
 use Rattle.bw_log.proofs.Fetched.{on_page, stops_since}

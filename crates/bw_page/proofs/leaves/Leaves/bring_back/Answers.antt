@@ -25,8 +25,8 @@ numbered : (p : ℕ) (leaves : List Leaf) (leaf : Leaf) → leaf_at p leaves ≡
 numbered zero leaves leaf h = absurd (cc)
 numbered (suc n) leaves leaf h = omega arith
 
-pub returns-clause-away : goal.returns-clause-away
-returns-clause-away c p =
-    c.set.ensures.away p
-    ∙ ap (λ n. cond (p == n) false (is_among p c.self.inside.leaves.away)) (numbered c.args.page c.args.self.now.leaves c.args.leaf c.requires)
-    ∙ ap (λ (f : Shown). cond (p == c.args.page) false (is_among p f.away)) c.self.view_is
+pub returns-clause-evicted : goal.returns-clause-evicted
+returns-clause-evicted c p =
+    c.set.ensures.evicted p
+    ∙ ap (λ n. cond (p == n) false (is_among p c.self.inside.leaves.evicted)) (numbered c.args.page c.args.self.now.leaves c.args.leaf c.requires)
+    ∙ ap (λ (f : Shown). cond (p == c.args.page) false (is_among p f.evicted)) c.self.view_is

@@ -30,7 +30,7 @@ whole c =
     let m = ap (λ (f : Shown). f.m) c.self.view_is in
     let few = c.requires.few in
     follows_whole c.self.inside c.self.invariant c.args.self.now c.self.view_is c.args.change.now c.requires.aim.lawful c.args.at c.args.count
-    c.requires.aim.page c.requires.aim.pairs _ refl c.change.ensures.away (omega arith) c.in_ok-back.ensures.ok (λ q. refl)
+    c.requires.aim.page c.requires.aim.pairs _ refl c.change.ensures.evicted (omega arith) c.in_ok-back.ensures.ok (λ q. refl)
 
 pub invariant_of-self-2 : goal.invariant_of-self-2
 invariant_of-self-2 c = (whole c).filed

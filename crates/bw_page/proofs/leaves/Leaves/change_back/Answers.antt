@@ -38,7 +38,7 @@ returns c =
     subst (λ (r : Record). IsAim c.args.self.now r c.aim-at.result.0 c.aim-at.result.1 c.aim-at.result.2) c.record-record.ensures c.aim-at.ensures in
     view_back c.self.inside c.self.invariant c.args.self.now c.self.view_is c.args.back c.requires aim.lawful c.aim-at.result.0
     aim.page (record { m = c.self.inside.m; leaves = c.take_back.new.self; index = c.self.inside.index }) refl
-    c.take_back.ensures.away c.take_back.ensures.items
+    c.take_back.ensures.evicted c.take_back.ensures.items
 
 pub invariant_of-self : goal.invariant_of-self
 invariant_of-self c =
@@ -48,5 +48,5 @@ invariant_of-self c =
     (record { m = c.self.inside.m; leaves = c.take_back.new.self; index = c.self.inside.index }) refl
     (view_back c.self.inside c.self.invariant c.args.self.now c.self.view_is c.args.back c.requires aim.lawful c.aim-at.result.0
     aim.page (record { m = c.self.inside.m; leaves = c.take_back.new.self; index = c.self.inside.index }) refl
-    c.take_back.ensures.away c.take_back.ensures.items)
+    c.take_back.ensures.evicted c.take_back.ensures.items)
     (λ q. refl)

@@ -23,7 +23,7 @@ cut c =
     let m = ap (λ (f : Shown). f.m) c.self.view_is in
     let many = c.requires.many in
     follows_cut c.self.inside c.self.invariant c.args.self.now c.self.view_is c.args.change.now c.requires.aim.lawful c.args.at c.args.count
-    c.requires.aim.page c.requires.aim.pairs _ (c.len-before.result + 1) refl c.in_ok-leaf.ensures.away (omega arith)
+    c.requires.aim.page c.requires.aim.pairs _ (c.len-before.result + 1) refl c.in_ok-leaf.ensures.evicted (omega arith)
     (ap (λ n. n + 1) c.len-before.ensures.value) (omega arith)
     c.in_ok-leaf.ensures.leaves c.in_ok-leaf.ensures.index
 

@@ -30,8 +30,8 @@ get-requires-clause-here c =
     let lawful = subst (λ (f : Shown). AreLeaves f.m f.leaves) c.self.view_is c.self.invariant.lawful in
     let within = home_within c.args.self.now.m c.args._key.now c.args.self.now.leaves lawful in
     let same : c.args.page - 1 + 1 ≡ (home c.args._key.now c.args.self.now.leaves).page = omega (arith, within.0, c.requires.page) in
-    ap (λ p. is_among p c.self.inside.leaves.away) same
-    ∙ ap (λ (f : Shown). is_among (home c.args._key.now c.args.self.now.leaves).page f.away) c.self.view_is ∙ c.requires.here
+    ap (λ p. is_among p c.self.inside.leaves.evicted) same
+    ∙ ap (λ (f : Shown). is_among (home c.args._key.now c.args.self.now.leaves).page f.evicted) c.self.view_is ∙ c.requires.here
 
 pub returns-clause-home : goal.returns-clause-home
 returns-clause-home c =

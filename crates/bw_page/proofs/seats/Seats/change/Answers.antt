@@ -8,7 +8,7 @@ use Rattle.bw_page.specs.Leaves.{changed}
 use Rattle.bw_page.specs.Seek.{seek_of, IsWithin}
 use Rattle.bw_page.specs.Seats.{Seated, Seating}
 use Rattle.bw_page.specs.Seating.{leaves_of}
-use Rattle.bw_page.proofs.Seating.{away-kept, away_get, count_is, away_is, leaf_got}
+use Rattle.bw_page.proofs.Seating.{evicted-kept, evicted_get, count_is, evicted_is, leaf_got}
 use Rattle.bw_page.proofs.seats.Seats.change.Goals as goal
 
 pub change-requires : goal.change-requires
@@ -19,8 +19,8 @@ change-requires c =
     let leaf : get_or c.args.self.now.items c.args.at seat.leaf ≡ seat.leaf =
     leaf_got c.self.inside c.args.self.now c.self.view_is c.args.at seat seat.leaf (omega arith) c.index_mut.ensures.value in
     record {
-      here = ap (λ (s : Seated). s.is_away) c.index_mut.ensures.value ∙ sym (away_get c.self.inside.seats.items c.args.at _ (omega arith))
-          ∙ sym (away_is c.self.inside c.args.self.now c.self.view_is c.args.at) ∙ c.requires.here;
+      here = ap (λ (s : Seated). s.is_evicted) c.index_mut.ensures.value ∙ sym (evicted_get c.self.inside.seats.items c.args.at _ (omega arith))
+          ∙ sym (evicted_is c.self.inside c.args.self.now c.self.view_is c.args.at) ∙ c.requires.here;
       found = c.requires.found seat.leaf ∙ ap (λ (l : Leaf). seek_of (key_of c.args.item.now) l.pairs) leaf;
       within = subst (λ (l : Leaf). IsWithin (length l.pairs) c.args.found) leaf (c.requires.found_within seat.leaf);
     }
@@ -37,8 +37,8 @@ returns-clause-ok c d =
     ∙ ap (λ (v : Seating). slice_set v.items c.args.at (changed c.args.item.now (get_or c.args.self.now.items c.args.at d))) c.self.view_is)
     c.change.ensures.ok
 
-pub returns-clause-away : goal.returns-clause-away
-returns-clause-away c =
-    away-kept 1 c.args.at c.change.new.self c.self.inside.seats.items
-    (c.change.ensures.here ∙ sym (sym (away_is c.self.inside c.args.self.now c.self.view_is c.args.at) ∙ c.requires.here))
-    ∙ ap (λ (v : Seating). v.away) c.self.view_is
+pub returns-clause-evicted : goal.returns-clause-evicted
+returns-clause-evicted c =
+    evicted-kept 1 c.args.at c.change.new.self c.self.inside.seats.items
+    (c.change.ensures.here ∙ sym (sym (evicted_is c.self.inside c.args.self.now c.self.view_is c.args.at) ∙ c.requires.here))
+    ∙ ap (λ (v : Seating). v.evicted) c.self.view_is

@@ -9,4 +9,4 @@ pub returns-clause-beyond : goal.returns-clause-beyond
 returns-clause-beyond c p h =
     let e : length (leaves_of c.self.inside.seats.items) ≡ length c.args.self.now.items = ap (λ (v : Seating). length v.items) c.self.view_is in
     let l = length-map c.self.inside.seats.items (λ (s : Seated). s.leaf) in
-    ap (λ (v : Seating). is_among p v.away) (sym c.self.view_is) ∙ none_beyond c.self.inside.seats.items p (omega arith)
+    ap (λ (v : Seating). is_among p v.evicted) (sym c.self.view_is) ∙ none_beyond c.self.inside.seats.items p (omega arith)

@@ -7,15 +7,15 @@ use Rattle.bw_page.specs.Leaves.{changed}
 use Rattle.bw_page.specs.Seek.{seek_of, IsWithin}
 use Rattle.bw_page.specs.Seats.{Seated, Seating}
 use Rattle.bw_page.specs.Seating.{leaves_of}
-use Rattle.bw_page.proofs.Seating.{away-kept, away_get, count_is, away_is, leaf_got}
+use Rattle.bw_page.proofs.Seating.{evicted-kept, evicted_get, count_is, evicted_is, leaf_got}
 use Rattle.bw_page.proofs.seats.Seats.take_back.Goals as goal
 
 pub take_back-requires-clause-here : goal.take_back-requires-clause-here
 take_back-requires-clause-here c =
     let long = count_is c.self.inside c.args.self.now c.self.view_is in
     let within = c.requires.within in
-    ap (λ (s : Seated). s.is_away) c.index_mut.ensures.value ∙ sym (away_get c.self.inside.seats.items c.args.at _ (omega arith))
-    ∙ sym (away_is c.self.inside c.args.self.now c.self.view_is c.args.at) ∙ c.requires.here
+    ap (λ (s : Seated). s.is_evicted) c.index_mut.ensures.value ∙ sym (evicted_get c.self.inside.seats.items c.args.at _ (omega arith))
+    ∙ sym (evicted_is c.self.inside c.args.self.now c.self.view_is c.args.at) ∙ c.requires.here
 
 pub take_back-requires-clause-found : goal.take_back-requires-clause-found
 take_back-requires-clause-found c =
@@ -46,8 +46,8 @@ returns-clause-items c d =
     ∙ ap (λ (l : Leaf). slice_set (leaves_of c.self.inside.seats.items) c.args.at (changed c.args.back l)) (sym old)
     ∙ ap (λ (v : Seating). slice_set v.items c.args.at (changed c.args.back (get_or c.args.self.now.items c.args.at d))) c.self.view_is
 
-pub returns-clause-away : goal.returns-clause-away
-returns-clause-away c =
-    away-kept 1 c.args.at c.take_back.new.self c.self.inside.seats.items
-    (c.take_back.ensures.here ∙ sym (sym (away_is c.self.inside c.args.self.now c.self.view_is c.args.at) ∙ c.requires.here))
-    ∙ ap (λ (v : Seating). v.away) c.self.view_is
+pub returns-clause-evicted : goal.returns-clause-evicted
+returns-clause-evicted c =
+    evicted-kept 1 c.args.at c.take_back.new.self c.self.inside.seats.items
+    (c.take_back.ensures.here ∙ sym (sym (evicted_is c.self.inside c.args.self.now c.self.view_is c.args.at) ∙ c.requires.here))
+    ∙ ap (λ (v : Seating). v.evicted) c.self.view_is

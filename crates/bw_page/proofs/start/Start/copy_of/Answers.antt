@@ -12,5 +12,5 @@ invariant_of-result c =
       count = omega (arith, long);
       lawful = subst (λ (m : ℕ). AreLeaves m c.in_ok-copy_seats.field-0.items) (sym c.limit.ensures)
           (subst (AreLeaves c.args.leaves.now.m) (sym items) c.count.ensures.lawful);
-      here = c.in_ok-copy_seats.ensures.away;
+      here = c.in_ok-copy_seats.ensures.evicted;
     }

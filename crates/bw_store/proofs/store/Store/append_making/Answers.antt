@@ -6,7 +6,7 @@ use Rattle.bw_buffer.specs.Filling.{Filling}
 use Rattle.bw_store.specs.Tails.{tails_for, is_made}
 use Rattle.bw_store.specs.Views.{kept_by}
 use Rattle.bw_store.proofs.TailLists.{as_many}
-use Rattle.bw_store.proofs.AwayPages.{touched_within}
+use Rattle.bw_store.proofs.EvictedPages.{touched_within}
 use Rattle.bw_store.specs.History.{are_whole}
 use Rattle.bw_store.proofs.Grouped.{whole_cut}
 use Rattle.bw_store.proofs.MayAppend.{may_follow_at, flushed_at, appended_now, stopped_at}
@@ -41,7 +41,7 @@ invariant_of-self g c = record {
   tailed = c.rest.ensures
       ∙ ap (λ (n : ℕ). tails_for n []) (as_many _ _ c.args.self.now.making.blocks c.args.self.now.tailed)
       ∙ ap (tails_for (length c.args.self.now.leaves.leaves)) (sym c.begin_next.ensures.empty);
-  logged = λ p away. ap (λ (bs : List Block). is_made p bs) c.begin_next.ensures.empty;
+  logged = λ p evicted. ap (λ (bs : List Block). is_made p bs) c.begin_next.ensures.empty;
   forgotten = c.args.self.now.forgotten;
   began = c.args.self.now.began;
 }

@@ -10,7 +10,7 @@ use Rattle.bw_buffer.specs.Joining.{added}
 use Rattle.bw_store.specs.Adding.{here_for, blocks_for}
 use Rattle.bw_store.specs.Tails.{tails_for, tails_after, is_made}
 use Rattle.bw_store.specs.Views.{kept_by}
-use Rattle.bw_store.proofs.AwayPages.{page_within, tails_entered, away_entered}
+use Rattle.bw_store.proofs.EvictedPages.{page_within, tails_entered, evicted_entered}
 use Rattle.bw_store.proofs.TailLists.{as_many}
 use Rattle.bw_page.specs.Shown.{IsSpent}
 use Rattle.bw_store.specs.Kept.{filed_of}
@@ -68,11 +68,11 @@ invariant_of-self-2 g c =
           (omega arith) (omega arith) (nat_lt 1 (length c.args.blocks.now)) (ap (λ (bs : List Block). nat_lt 1 (length bs)) c.requires.blocks))
           ∙ ap (tails_for (length (applied f.m f.leaves c.args.item))) (sym made)
           ∙ ap (λ (ls : List Leaf). tails_for (length ls) c.file.new.making.blocks) (sym leaves);
-      logged = λ q away.
+      logged = λ q evicted.
           ap (is_made q) made
-          ∙ away_entered f.m f.leaves c.args.back here c.args.item was.making.blocks f.away q
-          (subst (λ (ps : List ℕ). is_among q ps ≡ true) c.apply_on.ensures.away away) c.requires.here
-          (c.count.ensures.beyond (length f.leaves + 1) (omega arith)) (was.logged q (subst (λ (ps : List ℕ). is_among q ps ≡ true) c.apply_on.ensures.away away));
+          ∙ evicted_entered f.m f.leaves c.args.back here c.args.item was.making.blocks f.evicted q
+          (subst (λ (ps : List ℕ). is_among q ps ≡ true) c.apply_on.ensures.evicted evicted) c.requires.here
+          (c.count.ensures.beyond (length f.leaves + 1) (omega arith)) (was.logged q (subst (λ (ps : List ℕ). is_among q ps ≡ true) c.apply_on.ensures.evicted evicted));
       began = was.began;
       forgotten = (let entered = c.enter.ensures.gone in let reserved = c.reserve.ensures.gone in let known = was.forgotten in omega arith);
     }

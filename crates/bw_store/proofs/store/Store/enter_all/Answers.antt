@@ -9,10 +9,10 @@ use Rattle.bw_ring.specs.Ends.{ring_of_lane}
 use Rattle.bw_ring.specs.Marks.{marked}
 use Rattle.bw_versions.specs.declared.entry.Entry.{Entry}
 use Rattle.bw_store.specs.History.{entered}
-use Rattle.bw_store.specs.Kept.{Filed, filed_of}
+use Rattle.bw_store.specs.Kept.{filed_of}
 use Rattle.bw_store.specs.Kept as kept
 use Rattle.bw_store.specs.Views.{kept_by}
-use Rattle.bw_store.proofs.EnterMore.{all_sound, away_now, blocks_some, entered_all, filed_with, rows_begin, rows_inside, rows_many, tails_now, wanting_of}
+use Rattle.bw_store.proofs.EnterMore.{all_sound, evicted_now, blocks_some, entered_all, filed_with, rows_begin, rows_inside, rows_many, tails_now, wanting_of}
 use Rattle.bw_store.proofs.GroupMore.{as_records, fewer_rooms, spent_as}
 use Rattle.bw_store.proofs.Grouped.{whole_entered}
 use Rattle.bw_store.proofs.MayEnter.{lane_inside}
@@ -86,7 +86,7 @@ invariant_of-self-2 g c =
     let s = kept_by was (λ z. (goal.Segment-dyn g z).holding z.1) in
     let after = c.in_ok-apply_all_of.ensures.ok in
     let leaves = ap (λ (x : Shown). x.leaves) after ∙ ap (pages was.leaves.m was.leaves.leaves) (as_records _ ∙ c.as_slice.ensures.value) in
-    let away = ap (λ (x : Shown). x.away) after in
+    let evicted = ap (λ (x : Shown). x.evicted) after in
     record {
       whole = whole_entered was.cuts.items was.intake.history.items c.enter.new.self.history.items c.args.lane c.args.group c.requires.sound.ordered was.whole
           (c.enter.ensures.grows ∙ ap (λ (es : List Entry). es ++ entered c.args.lane (marked c.args.group)) c.reserve.ensures.history);
@@ -94,8 +94,8 @@ invariant_of-self-2 g c =
           c.as_slice-rows.ensures.value c.as_slice-2.ensures.value (c.reserve_all.ensures.same ∙ was.tailed) c.note_all.ensures
           c.file_all.ensures.making c.as_slice-3.ensures.value leaves;
       logged = λ q there.
-          away_now s c.args.group c.args.draft.now c.requires.sound c.requires.lawful c.requires.draft was.leaves.away q _ _ c.requires.here c.count.ensures.beyond
-          (subst (λ (ps : List ℕ). is_among q ps ≡ true) away there) (was.logged q (subst (λ (ps : List ℕ). is_among q ps ≡ true) away there))
+          evicted_now s c.args.group c.args.draft.now c.requires.sound c.requires.lawful c.requires.draft was.leaves.evicted q _ _ c.requires.here c.count.ensures.beyond
+          (subst (λ (ps : List ℕ). is_among q ps ≡ true) evicted there) (was.logged q (subst (λ (ps : List ℕ). is_among q ps ≡ true) evicted there))
           c.file_all.ensures.making c.as_slice-3.ensures.value;
       began = was.began;
       forgotten = (let entered = c.enter.ensures.gone in let reserved = c.reserve.ensures.gone in let known = was.forgotten in omega arith);

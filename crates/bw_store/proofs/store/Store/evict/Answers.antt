@@ -5,7 +5,7 @@ use Rattle.bw_store.specs.declared.counters.Tally.{Tally}
 use Rattle.bw_store.specs.Tails.{is_made, tails_for}
 use Rattle.bw_store.proofs.TailLists.{as_many, tail_here}
 use Rattle.bw_store.specs.Views.{kept_by}
-use Rattle.bw_store.proofs.AwayPages.{here_or_away, never_none, none_made, away_more, kept_apart}
+use Rattle.bw_store.proofs.EvictedPages.{here_or_evicted, never_none, none_made, evicted_more, kept_apart}
 use Rattle.bw_store.proofs.store.Store.evict.Goals as goal
 
 pub index-requires : goal.index-requires
@@ -22,7 +22,7 @@ returns-then-not-is_here-clause-left g c =
     let low = c.if-page-eq0.false in
     let high = c.if-page-count.false in
     let count = c.count.ensures.value in
-    let here = here_or_away c.args.self.now.leaves c.args.page c.is_here.result c.is_here.ensures (omega arith) (omega arith) in
+    let here = here_or_evicted c.args.self.now.leaves c.args.page c.is_here.result c.is_here.ensures (omega arith) (omega arith) in
     sym (ap (λ (b : Bool). b && not (is_made c.args.page c.args.self.now.making.blocks)) (sym here ∙ c.if-not-is_here.true))
 
 pub returns-then-not-is_here-clause-no_page : goal.returns-then-not-is_here-clause-no_page
@@ -52,8 +52,8 @@ invariant_of-self g c =
     record {
       whole = c.args.self.now.whole;
       tailed = c.args.self.now.tailed
-          ∙ ap (λ (ls : List Leaf). tails_for (length ls) c.args.self.now.making.blocks) (sym c.put_away.ensures.leaves);
-      logged = away_more c.args.self.now.leaves c.put_away.new.self c.args.page c.args.self.now.making.blocks c.put_away.ensures.away
+          ∙ ap (λ (ls : List Leaf). tails_for (length ls) c.args.self.now.making.blocks) (sym c.evict_page.ensures.leaves);
+      logged = evicted_more c.args.self.now.leaves c.evict_page.new.self c.args.page c.args.self.now.making.blocks c.evict_page.ensures.evicted
           c.args.self.now.logged (made ∙ c.if-is_none.false);
       forgotten = c.args.self.now.forgotten;
       began = ap (λ (t : Tally). t.pages) c.with_eviction-self.ensures ∙ c.args.self.now.began;

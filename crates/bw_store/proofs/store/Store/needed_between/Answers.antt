@@ -1,6 +1,5 @@
-use Rattle.std.proofs.Common.{◌≡◌, ℕ, suc, ◌+◌, ◌∙◌, ap, sym, subst, take, length, arith}
+use Rattle.std.proofs.Common.{◌≡◌, ℕ, suc, ◌+◌, ◌∙◌, ap, sym, subst, take, arith}
 use Rattle.std.specs.Prelude.{IfSome}
-use Rattle.bw_codec.specs.declared.leaf.Leaf.{Leaf}
 use Rattle.bw_log.specs.Contents.{counted}
 use Rattle.bw_page.specs.Leaves.{leaf_at}
 use Rattle.bw_store.specs.Needed.{needed_by, needed_of}

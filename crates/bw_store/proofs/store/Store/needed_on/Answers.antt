@@ -1,5 +1,4 @@
-use Rattle.std.proofs.Common.{◌≡◌, ap, sym, ◌∙◌, refl, Option}
-use Rattle.bw_codec.specs.declared.block.Place.{Place}
+use Rattle.std.proofs.Common.{ap, sym, ◌∙◌, refl}
 use Rattle.bw_log.specs.Contents.{counted}
 use Rattle.bw_store.specs.Needed.{is_between}
 use Rattle.bw_store.specs.Views.{kept_by}

@@ -1,4 +1,4 @@
-use Rattle.std.proofs.Common.{◌≡◌, ◌∙◌, ap, sym, replicate, ◌++◌, length}
+use Rattle.std.proofs.Common.{◌∙◌, ap, sym, length}
 use Rattle.bw_store.specs.Tails.{tails_for, is_made}
 use Rattle.bw_store.proofs.Grouped.{whole_many}
 use Rattle.bw_store.proofs.store.Store.note_moved.Goals as goal
@@ -8,7 +8,7 @@ invariant_of-self g c = record {
   whole = whole_many c.args.self.now.cuts.items _ c.args.self.now.intake.history.items c.frames_between-frames.result _ c.args.self.now.whole
       c.args.self.now.intake.grouped c.len-end.ensures c.push_many.ensures;
   tailed = c.args.self.now.tailed ∙ ap (tails_for (length c.args.self.now.leaves.leaves)) (c.requires.empty ∙ sym c.begin_at.ensures.empty);
-  logged = λ p away. ap (is_made p) c.begin_at.ensures.empty;
+  logged = λ p evicted. ap (is_made p) c.begin_at.ensures.empty;
   forgotten = c.args.self.now.forgotten;
   began = c.args.self.now.began;
 }

@@ -1,7 +1,7 @@
 use Rattle.std.proofs.Common.{length, ap, sym, ◌∙◌, arith}
 use Rattle.std.specs.Option.{option_copied}
 use Rattle.bw_page.specs.Leaves.{Pairs}
-use Rattle.bw_store.proofs.AwayPages.{none_away, was_away}
+use Rattle.bw_store.proofs.EvictedPages.{none_evicted, was_evicted}
 use Rattle.bw_store.proofs.Counted.{pairs_at}
 use Rattle.bw_store.proofs.store.Store.pairs_on.Goals as goal
 
@@ -9,7 +9,7 @@ pub returns-in_err-leaf-clause-memory : goal.returns-in_err-leaf-clause-memory
 returns-in_err-leaf-clause-memory g c = λ here. (
     let low = c.requires.inside.0 in
     let high = c.requires.inside.1 in
-    was_away _ (none_away c.args.self.now.leaves c.args.page _ (sym c.page.ensures) (ap option_copied c.in_default.is) (omega arith) (omega arith)) here)
+    was_evicted _ (none_evicted c.args.self.now.leaves c.args.page _ (sym c.page.ensures) (ap option_copied c.in_default.is) (omega arith) (omega arith)) here)
 
 pub returns-clause-value : goal.returns-clause-value
 returns-clause-value g c =

@@ -1,7 +1,7 @@
 use Rattle.std.proofs.Common.{sym, ◌∷◌, []}
 use Rattle.std.proofs.lemmas.Result.{err_from_is_err_and}
 use Rattle.bw_store.specs.Views.{kept_by}
-use Rattle.bw_store.proofs.AwayPages.{page_within}
+use Rattle.bw_store.proofs.EvictedPages.{page_within}
 use Rattle.bw_store.proofs.Planned.{answer_lawful, answer_short, one_refused}
 use Rattle.bw_store.proofs.Refusing.{stopped_unplanned}
 use Rattle.bw_store.proofs.store.Store.plan.Goals as goal

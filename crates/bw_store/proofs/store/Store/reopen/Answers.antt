@@ -2,7 +2,6 @@ use Rattle.std.proofs.Common.{List, sym, ap, ◌∙◌, subst, arith, map}
 use Rattle.bw_ring.specs.Ends.{ring_of_lane}
 use Rattle.bw_care.specs.Views.{seen}
 use Rattle.bw_versions.specs.declared.entry.Entry.{Entry}
-use Rattle.bw_store.specs.Kept.{Kept}
 use Rattle.bw_store.specs.Kept as kept
 use Rattle.bw_store.specs.Reopened.{reopened}
 use Rattle.bw_store.proofs.ReopenedMore.{found_by, all_there, reopened_sound}

@@ -1,6 +1,5 @@
-use Rattle.std.proofs.Common.{inl, ◌∙◌, ap}
+use Rattle.std.proofs.Common.{inl, ◌∙◌}
 use Rattle.std.proofs.lemmas.Result.{err_from_is_err_and}
-use Rattle.bw_store.specs.Views.{kept_by}
 use Rattle.bw_store.proofs.RewrittenMore.{rewrite_hides, rewrite_shows}
 use Rattle.bw_store.proofs.Showing.{hides_follows, hides_roster, shows_follows, shows_roster}
 use Rattle.bw_store.proofs.store.Store.rewrite.Goals as goal

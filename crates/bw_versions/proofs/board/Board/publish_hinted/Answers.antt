@@ -40,4 +40,4 @@ returns-clause-spent c spent =
 
 pub apply_all_hinted-requires : goal.apply_all_hinted-requires
 apply_all_hinted-requires c =
-    all_here c.self.inside.leaves (records c.args.more.now) (ap (λ (f : Shown). f.away) c.self.invariant.pages ∙ c.self.invariant.here)
+    all_here c.self.inside.leaves (records c.args.more.now) (ap (λ (f : Shown). f.evicted) c.self.invariant.pages ∙ c.self.invariant.here)

@@ -1,0 +1,101 @@
+//! Recovery by a scan: from any bytes to the leaves, or to the first fault.
+
+ghost use Rattle.std.specs.Prelude.{◌≡◌, Ok, IfOk, IfErr, map};
+ghost use Rattle.bw_care.specs.Recovery.{recovery, live_in, spares_in, ends_whole};
+ghost use Rattle.bw_care.specs.Found.{finding_of, IsRecovered, Refuses};
+ghost use Rattle.bw_log.specs.Views.{seen_by};
+
+use crate::fault::RecoverCause;
+use crate::parts::{Parts, part};
+use crate::plan::{Plan, boxes_of, places, prepare};
+use crate::recovered::Recovered;
+use bw_device::Segment;
+use bw_log::Log;
+use std::alloc::Global;
+
+/// Why boxes could not be recovered, and all of them in the order in which they were handed in.
+/// Their bytes are as they were; where the cause is `Device`, that box counts one failure more.
+#[derive(Drop)]
+pub struct RecoverFault {
+    pub boxes: Vec<Box<dyn Segment>>,
+    pub cause: RecoverCause,
+}
+
+/// Reads all boxes, in any order, and makes of them the log that they hold, with the leaves for
+/// which its frames stand.
+///
+/// Step by step, and the first fault is the answer: E10 for too many boxes or one that is too
+/// large; E13 for the first box, in list order, with bytes that are neither a header, nor a frame,
+/// nor a tail; E15 where headers differ in their page limit, where those of one version differ in
+/// their frame limit, and where a segment of version 1 is numbered above one of version 2; E14 for
+/// a gap among the numbers of segments or of frames, E12 where there is no whole frame; E10 for a
+/// spare without room for a header and a frame; E16 with the page of the first wrong link; E17 with
+/// the least page at fault. E1, E6 and E8 may come at any growth and any read. A box of no bytes is
+/// a spare and is not read; one that holds a part of a header is dropped, and its lease comes back.
+///
+/// On Ok the live segments stand in the order of their numbers and the spares in list order, with
+/// every byte as it was. The log's frame limit is that of its segments of version 2, or 65,536
+/// where it has none. The newest segment takes frames exactly where it has version 2 and no tail.
+///
+/// It reads each box with bytes twice, and holds the bytes of one box and one parsed frame at a
+/// time, beside a line for each frame and for each page that a block touches, with its leaf.
+/// Nothing is sized by a number that was only read. In time it costs the bytes, a search among the
+/// pages for each block and among the pairs of its page for each record, however many these are
+/// between two blocks, and up to 4,096 comparisons for each segment to put them in order, and as
+/// many of its header with the others.
+pub fn recover(alloc: Global, boxes: Vec<Box<dyn Segment>>) -> Result<Recovered, RecoverFault>
+    requires { Unit {0} }
+    ensures found { IfOk result (λ r. recovery (map holding boxes.items) ≡ Ok (finding_of r)) }
+    ensures recovered { IfOk result (λ r. IsRecovered holding r) }
+    ensures live { IfOk result (λ r.
+        (seen_by holding r.log).live ≡ live_in (map holding boxes.items)) }
+    ensures spares { IfOk result (λ r.
+        (seen_by holding r.log).spares ≡ spares_in (map holding boxes.items)) }
+    ensures open { IfOk result (λ r.
+        (seen_by holding r.log).is_open ≡ ends_whole (live_in (map holding boxes.items))) }
+
+    ensures refuses { IfErr result (λ e.
+        Refuses (map holding boxes.items) e.cause (map holding e.boxes.items)) }
+{
+    let mut boxes = boxes;
+    let (numbered, live, spares) = match places(alloc, boxes.len()) {
+        Ok(places) => places,
+        Err(cause) => return Err(RecoverFault { boxes, cause }),
+    };
+    match prepare(alloc, &mut boxes) {
+        Err(cause) => Err(RecoverFault { boxes, cause }),
+        Ok(plan) => {
+            let Plan {
+                kinds,
+                tables,
+                leaves,
+                first,
+                last,
+                tail,
+                dropped,
+            } = plan;
+            let parts = part(
+                boxes,
+                &kinds,
+                Parts {
+                    live: numbered,
+                    spares,
+                },
+            );
+            let Parts {
+                live: numbered,
+                spares,
+            } = parts;
+            let live = boxes_of(numbered, live);
+            let log = Log::adopt(live, spares, tables);
+            Ok(Recovered {
+                log,
+                leaves,
+                first,
+                last,
+                tail,
+                dropped,
+            })
+        }
+    }
+}

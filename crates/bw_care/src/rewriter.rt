@@ -1,0 +1,50 @@
+//! Pages are written again, and no segment is given up.
+
+ghost use Rattle.std.specs.Prelude.{◌≡◌, ◌↔◌, List, [], true, IfOk, IfErr, IsErrOf};
+ghost use Rattle.std.specs.List.{AllByRecursion};
+ghost use Rattle.bw_codec.specs.declared.leaf.Leaf.{Leaf};
+ghost use Rattle.bw_page.specs.Standing.{Stand};
+ghost use Rattle.bw_log.specs.Contents.{counted};
+ghost use Rattle.bw_log.specs.Reads.{IsPage};
+ghost use Rattle.bw_care.specs.Moving.{MovedBehind};
+ghost use Rattle.bw_care.specs.Rewriting.{RefusesRewrite};
+ghost use Rattle.bw_care.specs.Views.{seen, IsSound};
+
+use crate::ahead::nothing;
+use crate::moves::move_all;
+use bw_device::Segment;
+use bw_log::{Log, LogFault};
+use std::alloc::Global;
+
+/// Writes each of these pages again as one Base, in this order, as many to a frame as fit, and
+/// answers in how many frames. Such a page is then read from its Base on: what stands before it is
+/// not looked at any more, so reading it costs one block and what comes later. No segment is given
+/// up.
+///
+/// E7 comes first, exactly where the log is Failed. Then E8 where a frame is wanted and has no
+/// number, E1, E5 where no spare is left (the last one may be taken), and E6. A refusal part-way
+/// keeps the frames already written and changes no page. After E1, E5 and a failed read it may be
+/// called again; where an append failed, the log is Failed.
+///
+/// Each page costs what `read_page` costs, and then come the bytes of the new frames.
+pub fn rewrite(alloc: Global, log: &mut Log, pages: &[u32]) -> Result<u64, LogFault>
+    requires sound { IsSound log.old holding }
+    requires pages { AllByRecursion (IsPage (seen log.old holding)) pages.now }
+    ensures sound { IsSound log.new holding }
+    ensures failed { IsErrOf result LogFault.Failed ↔ ((seen log.old holding).is_failed ≡ true) }
+
+    ensures rewritten { IfOk result (λ frames.
+        MovedBehind 0 (seen log.old holding) (seen log.new holding) pages.now [] frames) }
+    ensures refused { IfErr result (λ fault.
+        RefusesRewrite fault (seen log.old holding) pages.now (seen log.new holding)) }
+
+    // Whatever is answered, the counted frames stand for the leaves for which they stood.
+    ensures stands { (leaves : List Leaf)
+        → Stand (seen log.old holding).m (counted (seen log.old holding)) leaves
+        → Stand (seen log.old holding).m (counted (seen log.new holding)) leaves }
+{
+    if log.is_failed() {
+        return Err(LogFault::Failed);
+    }
+    move_all(alloc, log, &nothing(alloc), pages)
+}

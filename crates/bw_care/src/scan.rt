@@ -1,0 +1,131 @@
+//! One box's bytes, read from left to right.
+
+ghost use Rattle.std.specs.Prelude.{◌≡◌, ◌≤◌, ◌<◌, ◌^◌, Some, IfOk, IfErr, Result, Ok, Err, length, drop};
+ghost use Rattle.bw_codec.specs.Grammar.{IsFront};
+ghost use Rattle.bw_codec.specs.Reading.{Gives, front_at};
+ghost use Rattle.bw_care.specs.Scanning.{fault_behind, fault_in, FaultIs};
+ghost use Rattle.bw_care.specs.Scanned.{IsScan};
+ghost use Rattle.bw_care.specs.Behind.{IsBehind};
+
+use bw_codec::{CodecFault, FrameRead, Header, HeaderRead, read_frame, read_header};
+use bw_log::FrameAt;
+use std::alloc::{AllocError, AllocFailed, Global};
+
+/// Why bytes cannot be read.
+#[derive(Clone, Copy)]
+pub enum ScanFault {
+    NoMemory,
+    /// What stands here is neither a frame nor a tail.
+    BadBytes(u64),
+}
+
+impl From<AllocError> for ScanFault {
+    ghost use Rattle.bw_care.specs.declared.scan.ScanFault.TheVariants.{NoMemory};
+
+    ghost from_gives = { λ _ fault. fault ≡ NoMemory };
+
+    fn from(_error: AllocError) -> ScanFault {
+        ScanFault::NoMemory
+    }
+}
+
+impl<T: Drop> From<AllocFailed<T>> for ScanFault {
+    ghost use Rattle.bw_care.specs.declared.scan.ScanFault.TheVariants.{NoMemory};
+
+    ghost from_gives = { λ _ fault. fault ≡ NoMemory };
+
+    fn from(_error: AllocFailed<T>) -> ScanFault {
+        ScanFault::NoMemory
+    }
+}
+
+/// What stands behind a header.
+pub struct Behind {
+    /// Where the whole frames stand, each in segment 0.
+    pub lines: Vec<FrameAt>,
+    /// How many bytes follow the last of them.
+    pub tail: usize,
+}
+
+impl Drop for Behind {
+    fn drop(self) {
+        let Behind { lines: _, tail: _ } = self;
+    }
+}
+
+/// What stands at the front of bytes behind a header of this version and with these limits.
+pub(crate) fn front(
+    alloc: Global,
+    bytes: &[u8],
+    version: u16,
+    m: u16,
+    f: u32,
+) -> Result<FrameRead, CodecFault>
+    ensures found { IfOk result (IsFront version m f bytes.now) }
+    ensures gives { Gives (λ x. x) result (front_at version m f bytes.now) }
+{
+    let header = Header {
+        version,
+        number: 1,
+        m,
+        f,
+    };
+    read_frame(alloc, bytes, &header)
+}
+
+/// All whole frames behind this header of a segment. It costs what the bytes do.
+pub fn read_behind(alloc: Global, bytes: &[u8], header: Header) -> Result<Behind, ScanFault>
+    requires { 24 ≤ length bytes.now }
+    ensures found { IfOk result (IsBehind header bytes.now) }
+    ensures fault { IfErr result (FaultIs (fault_behind header bytes.now)) }
+{
+    let mut lines = Vec::new(alloc);
+    let mut at = 24;
+    'frames: loop {
+        match front(alloc, &bytes[at..], header.version, header.m, header.f) {
+            Ok(FrameRead::Whole(frame, used)) => {
+                lines.push(FrameAt {
+                    number: frame.number,
+                    segment: 0,
+                    at: at as u64,
+                    len: used as u32,
+                })?;
+                at += used;
+            }
+            Ok(FrameRead::Tail) => {
+                return Ok(Behind {
+                    lines,
+                    tail: bytes.len() - at,
+                });
+            }
+            Err(CodecFault::NoMemory) => return Err(ScanFault::NoMemory),
+            Err(CodecFault::BadBytes) => return Err(ScanFault::BadBytes(at as u64)),
+        }
+    }
+}
+
+/// What one box is.
+#[derive(Drop)]
+pub enum Scan {
+    Bare,
+    Part,
+    Live(Header, Behind),
+}
+
+/// What a box with these bytes is.
+pub fn scan_bytes(alloc: Global, bytes: &[u8]) -> Result<Scan, ScanFault>
+    ensures found { IfOk result (IsScan bytes.now) }
+    ensures fault { IfErr result (FaultIs (fault_in bytes.now)) }
+{
+    if bytes.is_empty() {
+        return Ok(Scan::Bare);
+    }
+    match read_header(bytes) {
+        HeaderRead::Whole(header) => {
+            let behind = read_behind(alloc, bytes, header)?;
+            Ok(Scan::Live(header, behind))
+        }
+        HeaderRead::Part => Ok(Scan::Part),
+        HeaderRead::Bad => Err(ScanFault::BadBytes(0)),
+    }
+}

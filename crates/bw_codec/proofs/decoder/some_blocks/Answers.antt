@@ -1,0 +1,28 @@
+use Rattle.std.proofs.Common.{◌≡◌, ◌-◌, None, sym, ◌∙◌, append-nil, subst, arith, refl}
+use Rattle.std.proofs.lemmas.Result.{err_from_is_err_and}
+use Rattle.bw_codec.specs.Reading.{many_at, block_at}
+use Rattle.bw_codec.proofs.Many.{prefixed, many_goes_on, many_stops, many_ends, many_begins, fault_goes_on}
+use Rattle.bw_codec.proofs.decoder.some_blocks.Goals as goal
+
+pub loop-i-init : goal.loop-i-init
+loop-i-init c = rw c.in_ok-items.ensures.items (many_begins ((block_at c.args.version) c.args.m) c.args.count c.args.bytes.now)
+
+pub returns-in_err-block : goal.returns-in_err-block
+returns-in_err-block c =
+    let p = err_from_is_err_and c.from_residual-in_err-block.result c.from_residual-in_err-block.ensures.1 in
+    let stops = λ (none : ((block_at c.args.version) c.args.m) c.loop-i.rest.now ≡ None). sym c.loop-i.invariant
+    ∙ many_stops ((block_at c.args.version) c.args.m) c.args.count c.loop-i._i c.loop-i.items.items c.loop-i.rest.now c.loop-i-test.true none in
+    rw (p.1, p.2) (fault_goes_on c.in_err-block.field-0.0 (((block_at c.args.version) c.args.m) c.loop-i.rest.now) (many_at ((block_at c.args.version) c.args.m) c.args.count c.args.bytes.now)
+    stops c.in_err-block.ensures)
+
+pub loop-i-preserved : goal.loop-i-preserved
+loop-i-preserved c =
+    rw c.in_ok-push.ensures.items (sym (many_goes_on ((block_at c.args.version) c.args.m) c.args.count c.loop-i._i c.loop-i.items.items c.loop-i.rest.now c.in_ok-block.block
+    c.in_ok-block.others.now c.loop-i-test.true c.in_ok-block.ensures) ∙ c.loop-i.invariant)
+
+pub returns : goal.returns
+returns c =
+    let all : c.loop-i._i ≡ c.args.count = omega arith in
+    let last = subst (λ i. prefixed c.loop-i.items.items (many_at ((block_at c.args.version) c.args.m) (c.args.count - i) c.loop-i.rest.now)
+    ≡ many_at ((block_at c.args.version) c.args.m) c.args.count c.args.bytes.now) all c.loop-i.invariant in
+    sym last ∙ many_ends ((block_at c.args.version) c.args.m) c.args.count c.loop-i.items.items c.loop-i.rest.now ∙ rw (append-nil c.loop-i.items.items, c.of.ensures) refl

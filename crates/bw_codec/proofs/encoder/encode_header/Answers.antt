@@ -1,0 +1,5 @@
+use Rattle.bw_codec.proofs.Adding.{grown}
+use Rattle.bw_codec.proofs.encoder.encode_header.Goals as goal
+
+pub returns-clause-ok : goal.returns-clause-ok
+returns-clause-ok c = rw c.requires (grown c.extend_from_slice.result _ _ _ (rw c.header_cells.ensures at c.extend_from_slice.ensures.items))

@@ -1,7 +1,0 @@
-use Rattle.std.proofs.Common.{◌≡◌, ◌-◌}
-use Rattle.bw_codec.specs.Reading.{many_at, block_at}
-use Rattle.bw_codec.proofs.Many.{prefixed}
-use Rattle.bw_codec.proofs.reading.some_blocks.Given as goal
-
-abbrev pub invariant-loop-i : goal.invariant-loop-i
-invariant-loop-i l = prefixed l.items.items (many_at ((block_at l.version) l.m) (l.count - l._i) l.rest) ≡ many_at ((block_at l.version) l.m) l.count l.bytes

@@ -1,0 +1,106 @@
+//! One call that opens a folder, runs a course over the store in it, and ends the store.
+
+ghost use Rattle.std.specs.Prelude.{◌≡◌, IfOk, IfSome, IsNone};
+
+use crate::begun::{NotBegun, begin};
+use crate::course::{Course, Legs, Whole};
+use crate::fault::HomeFault;
+use crate::folder_look::look;
+use crate::options::Options;
+use crate::site::{Made, Site};
+use crate::system::System;
+use bw_care::RecoverCause;
+use bw_device::{MAX_LEASES, Segment};
+
+// Opens the folder, goes leg by leg over the store in it, and ends the store; `None` where the
+// folder had the beginning of a first frame alone, which was cleared. Boxes are made here alone: a
+// function that takes or gives a box, or a home, makes none.
+fn go<R: System, L: Legs<R>>(
+    rt: &R,
+    path: &str,
+    options: &Options,
+    legs: &mut L,
+) -> Result<Option<L::Answer>, HomeFault>
+    ensures answer { IfOk result (λ went. IfSome went (λ answer. L.says legs.old answer)) }
+    ensures anew { IfOk result (λ went. IsNone went → legs.new ≡ legs.old) }
+{
+    look(rt, path, MAX_LEASES, options.segments, options.capacity)?;
+    let mut site = Site::open(rt, Some(path), MAX_LEASES)?;
+    let mut boxes: Vec<Box<dyn Segment>> = Vec::new(rt.alloc());
+    let mut are_new = true;
+    for _ in 0..site.count(rt, options.segments)? {
+        let made = site.segment(rt, options.capacity)?;
+        are_new &= made.is_empty();
+        let segment: Box<dyn Segment> = match made {
+            Made::Memory(segment) => segment,
+            Made::File(segment) => segment,
+        };
+        boxes.push(segment)?;
+    }
+    let mut home = match begin(rt, options, boxes, are_new, site) {
+        Ok(home) => home,
+        Err(NotBegun::Fault(fault)) => return Err(fault),
+        Err(NotBegun::Cleared) => return Ok(None),
+    };
+    'legs: for _ in rt.forever() {
+        if let Some(made) = home.next_made() {
+            let spare: Box<dyn Segment> = match made {
+                Made::Memory(segment) => segment,
+                Made::File(segment) => segment,
+            };
+            home.add(spare);
+        } else if let Some(answer) = legs.leg(rt, &mut home) {
+            home.shut(rt);
+            return Ok(Some(answer));
+        }
+    }
+    unreachable!()
+}
+
+/// Opens the folder of this path, goes leg by leg over the store in it, and ends the store: what
+/// was not flushed is gone then. As `with_store` else.
+pub fn with_store_in_legs<R: System, L: Legs<R>>(
+    rt: &R,
+    path: &str,
+    options: &Options,
+    legs: &mut L,
+) -> Result<L::Answer, HomeFault>
+    ensures answer { IfOk result (λ answer. L.says legs.old answer) }
+{
+    if let Some(answer) = go(rt, path, options, legs)? {
+        return Ok(answer);
+    }
+    match go(rt, path, options, legs)? {
+        Some(answer) => Ok(answer),
+        // Only somebody else can have put such a beginning there once more.
+        None => Err(HomeFault::Recovery(RecoverCause::Empty)),
+    }
+}
+
+/// Opens the folder of this path, runs the course over the store in it, and ends the store: what
+/// was not flushed is gone then.
+///
+/// The folder is looked at first, and what recovery refuses of it is refused, `Recovery`, and
+/// stays as it is. Then it is locked, and made where it is missing. A folder without bytes has a
+/// new store, and so has one with nothing but the beginning of a first frame, which was never
+/// durable; any other goes on with what it holds, whatever the limits of pages and frames in the
+/// options are.
+///
+/// `Folder`: it, or a file in it, was not listed, opened or made, `InUse` among the reasons.
+/// `Store`: `BadConfig`, where a number of the options is out of its range. `Lease`: more than
+/// 4,096 segments. Files without bytes may have been made then, and no other is written.
+///
+/// It takes memory for all files twice for a moment, and twice the time of a recovery.
+pub fn with_store<R: System, C: Course<R>>(
+    rt: &R,
+    path: &str,
+    options: &Options,
+    course: C,
+) -> Result<C::Answer, HomeFault>
+    ensures answer { IfOk result (λ answer. C.says course answer) }
+{
+    let mut whole = Whole {
+        course: Some(course),
+    };
+    with_store_in_legs(rt, path, options, &mut whole)
+}

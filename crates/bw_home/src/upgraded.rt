@@ -1,0 +1,69 @@
+//! The store in a folder is brought to format 2, where it stands.
+
+use crate::course::Legs;
+use crate::fault::HomeFault;
+use crate::folder_look::{Old, look_for_old};
+use crate::home::Home;
+use crate::opened::with_store_in_legs;
+use crate::options::Options;
+use crate::system::System;
+use bw_store::{StoreFault, Upgraded};
+
+/// An upgrade, one try a leg: where the spares do not suffice, a further one is asked for, as long
+/// as there are so many leases.
+#[derive(Drop)]
+struct Upgrades {
+    leases: u32,
+    old: Old,
+}
+
+impl<R: System> Legs<R> for Upgrades {
+    type Answer = Result<Upgraded, HomeFault>;
+
+    fn leg(&mut self, rt: &R, home: &mut Home) -> Option<Result<Upgraded, HomeFault>> {
+        match home.upgrade(rt) {
+            Ok(Upgraded { segments, .. }) => Some(Ok(Upgraded {
+                segments,
+                pages: self.old.pages,
+                frames: home.next_frame().wrapping_sub(self.old.next),
+            })),
+            Err(HomeFault::Store(StoreFault::NoSegment)) => {
+                match home.make_spare(rt, self.leases) {
+                    Ok(()) => None,
+                    Err(fault) => Some(Err(fault)),
+                }
+            }
+            Err(fault) => Some(Err(fault)),
+        }
+    }
+}
+
+/// Upgrades the store in the folder of this path, which has to be there: each page that was last
+/// set in a segment of format 1 is written again in format 2, and then the files of these segments
+/// are emptied, the oldest first. It has a desk of so many leases, and adds spares where they run
+/// out: a new segment has room for the longest frame, and for as many bytes as the longest file
+/// has.
+///
+/// A stop at any point leaves a folder with the same pages, and the next call finishes what it
+/// left.
+///
+/// The folder is looked at first, and what recovery refuses of it is refused, `Recovery`; and then
+/// `Store`: `NothingOld`, where no segment has format 1. It stays as it is then. `Folder`: it, or a
+/// file in it, was not opened, made or emptied. `Lease`: there are fewer leases than segments.
+///
+/// It takes memory for all files twice for a moment, and three times the time of a recovery, beside
+/// what `Store::upgrade` costs, at most once for each spare that is added.
+pub fn upgrade<R: System>(rt: &R, path: &str, leases: u32) -> Result<Upgraded, HomeFault> {
+    let old = look_for_old(rt, path, leases)?;
+    // Nobody puts, and nobody reads beside.
+    let options = Options {
+        writers: 1,
+        places: 1,
+        readers: 1,
+        segments: 0,
+        capacity: old.capacity,
+        ..Options::default()
+    };
+    let mut upgrades = Upgrades { leases, old };
+    with_store_in_legs(rt, path, &options, &mut upgrades)?
+}

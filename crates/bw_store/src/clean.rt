@@ -1,0 +1,159 @@
+//! The oldest segment is given up, and no page changes.
+
+ghost use Rattle.std.specs.Prelude.{◌≡◌, ◌≤◌, ◌<◌, ◌+◌, ◌↔◌, [], false, length, vec_len, IsErrOf};
+ghost use Rattle.std.specs.Vec.{vec_capacity};
+ghost use Rattle.bw_store.specs.Cleaning.{MoveLeaves, CleanLeaves, HasBoxesBut, HasFloorBut};
+ghost use Rattle.bw_store.specs.Counting.{counted_by, counted_moved, CountsClean, CountsCleaning};
+ghost use Rattle.bw_store.specs.Following.{Continues};
+ghost use Rattle.bw_store.specs.Kept.{EachCutStands};
+ghost use Rattle.bw_store.specs.Settled.{IsSettled};
+ghost use Rattle.bw_store.specs.Showing.{CleanShows, HasBoxesAfter, HasFloorAfter};
+
+use crate::counters::{Tally, length_of, live_bytes};
+use crate::fault::StoreFault;
+use crate::store::Store;
+use bw_care::{Cleaned, clean};
+use std::sync::Wait;
+
+impl Store {
+    ghost use Rattle.bw_store.specs.Views.{forgotten_of, kept_by, noted_of, IsSound};
+
+    /// Gives up the oldest live segment: what waits is flushed, then each page that was last set in
+    /// that segment is written again, and its box is dropped.
+    ///
+    /// Refused `NothingOld`, exactly where fewer than two segments are live, before anything else;
+    /// then as `flush` is, but `NoSegment` only where no spare stands at all; then `NoMemory`; then
+    /// as the cleaner is. A refused step leaves the steps before it done: frames that were appended
+    /// stay and are durable, each with a cut at the end of the history, and no box is dropped.
+    /// After a refusal other than `Failed` and a failed append it may be called again.
+    ///
+    /// Then what is durable is published, as `flush` does it. Where that alone finds no memory the
+    /// call is refused `NoMemory`, though the segment is given up: its box is dropped.
+    ///
+    /// It costs what a flush and `bw_care::clean` cost, and a look at each page's line in memory.
+    pub fn clean<R: Wait>(&mut self, rt: &R) -> Result<Cleaned, StoreFault>
+        requires sound { IsSound self.old holding }
+        ensures sound { IsSound self.new holding }
+        ensures leaves { CleanShows (kept_by self.old holding) result (kept_by self.new holding) }
+
+        ensures nothing_old { IsErrOf result StoreFault.NothingOld
+            ↔ (length (kept_by self.old holding).log.live < 2) }
+
+        // The floor is what is durable once a segment is given up, and stays else.
+        ensures floor { HasFloorAfter 1 (kept_by self.old holding) result (kept_by self.new holding) }
+        ensures each_cut { EachCutStands (kept_by self.new holding) }
+
+        // Nothing is forgotten, and what is counted is what the cleaner did.
+        ensures gone { forgotten_of self.new ≡ forgotten_of self.old }
+        ensures counts { CountsCleaning (kept_by self.old holding) self.old.tally result
+            (kept_by self.new holding) self.new.tally }
+
+        ensures follows { Continues (kept_by self.old holding) (kept_by self.new holding) }
+        ensures boxes { HasBoxesAfter 1 (kept_by self.old holding) result (kept_by self.new holding) }
+    {
+        let cleaned = self.clean_oldest()?;
+        self.publish(rt)?;
+        Ok(cleaned)
+    }
+
+    // The same without the publication.
+    fn clean_oldest(&mut self) -> Result<Cleaned, StoreFault>
+        requires sound { IsSound self.old holding }
+        ensures sound { IsSound self.new holding }
+        ensures leaves { CleanLeaves (kept_by self.old holding) result (kept_by self.new holding) }
+
+        ensures nothing_old { IsErrOf result StoreFault.NothingOld
+            ↔ (length (kept_by self.old holding).log.live < 2) }
+
+        ensures floor { HasFloorBut (kept_by self.old holding) result (kept_by self.new holding) }
+        ensures gone { forgotten_of self.new ≡ forgotten_of self.old }
+        ensures counts { CountsClean (kept_by self.old holding) self.old.tally result
+            (kept_by self.new holding) self.new.tally }
+        ensures follows { Continues (kept_by self.old holding) (kept_by self.new holding) }
+        ensures boxes { HasBoxesBut 1 (kept_by self.old holding) result (kept_by self.new holding) }
+    {
+        if self.log.live() < 2 {
+            return Err(StoreFault::NothingOld);
+        }
+        self.flush_making(true)?;
+        // There are no more frames than pages.
+        let pages = self.log.pages() as usize;
+        self.reserve_cuts(pages)?;
+        self.move_pages()
+    }
+
+    // The cleaner, where nothing waits, and what is counted of it.
+    fn move_pages(&mut self) -> Result<Cleaned, StoreFault>
+        requires sound { IsSound self.old holding }
+        requires settled { IsSettled (kept_by self.old holding) }
+        requires empty { self.old.making.blocks ≡ [] }
+        requires works { (kept_by self.old holding).log.is_failed ≡ false }
+        requires two { 2 ≤ length (kept_by self.old holding).log.live }
+        requires room { vec_len self.old.cuts + length (kept_by self.old holding).log.pages
+            ≤ vec_capacity self.old.cuts }
+        ensures sound { IsSound self.new holding }
+        ensures leaves { MoveLeaves (kept_by self.old holding) result (kept_by self.new holding) }
+        ensures gone { forgotten_of self.new ≡ forgotten_of self.old }
+        ensures counts { self.new.tally ≡ counted_moved self.old.tally (kept_by self.old holding)
+            result (kept_by self.new holding) }
+    {
+        let durable = self.durable;
+        let before = live_bytes(&self.log);
+        let oldest = length_of(&self.log, 0);
+        let moved = self.move_all();
+        let after = live_bytes(&self.log);
+        let frames = self.durable.saturating_sub(durable);
+        self.tally = tallied(self.tally, &moved, frames, before, after, oldest);
+        moved
+    }
+
+    // The cleaner, and what the store notes of its frames.
+    fn move_all(&mut self) -> Result<Cleaned, StoreFault>
+        requires sound { IsSound self.old holding }
+        requires settled { IsSettled (kept_by self.old holding) }
+        requires empty { self.old.making.blocks ≡ [] }
+        requires works { (kept_by self.old holding).log.is_failed ≡ false }
+        requires two { 2 ≤ length (kept_by self.old holding).log.live }
+        requires room { vec_len self.old.cuts + length (kept_by self.old holding).log.pages
+            ≤ vec_capacity self.old.cuts }
+        ensures sound { IsSound self.new holding }
+        ensures leaves { MoveLeaves (kept_by self.old holding) result (kept_by self.new holding) }
+        ensures noted { noted_of self.new ≡ noted_of self.old }
+    {
+        let alloc = *self.cuts.allocator();
+        let first = self.log.next_frame();
+        let result = clean(alloc, &mut self.log);
+        self.note_moved(first);
+        match result {
+            Ok(cleaned) => {
+                self.floor = self.durable;
+                Ok(cleaned)
+            }
+            Err(fault) => Err(StoreFault::from(fault)),
+        }
+    }
+}
+
+// With what the cleaner did: so many frames, and as many bytes as the live segments have more than
+// before, those of the oldest one among them where it was given up.
+fn tallied(
+    tally: Tally,
+    moved: &Result<Cleaned, StoreFault>,
+    frames: u64,
+    before: u64,
+    after: u64,
+    oldest: u64,
+) -> Tally
+    ensures { result ≡ counted_by tally moved.now frames before after oldest }
+{
+    match moved {
+        Ok(_) => {
+            let bytes = after.saturating_add(oldest).saturating_sub(before);
+            tally.with_cleaning(frames, bytes, oldest, 1)
+        }
+        Err(_) => {
+            let bytes = after.saturating_add(0).saturating_sub(before);
+            tally.with_cleaning(frames, bytes, 0, 0)
+        }
+    }
+}

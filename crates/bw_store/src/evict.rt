@@ -1,0 +1,50 @@
+//! Pages leave memory.
+
+ghost use Rattle.std.specs.Prelude.{ℕ, ◌≡◌, ◌==◌, ◌↔◌, ◌&&◌, not, true, None, if◌then◌else◌, IfOk, IfErr, IsErrOf, MatchResult};
+ghost use Rattle.bw_page.specs.Leaves.{leaf_at};
+ghost use Rattle.bw_store.specs.Counting.{noted_left};
+ghost use Rattle.bw_store.specs.Reading.{leaves_now};
+ghost use Rattle.bw_store.specs.Tails.{is_made};
+
+use crate::fault::StoreFault;
+use crate::store::Store;
+
+impl Store {
+    ghost use Rattle.bw_store.specs.Views.{kept_by, is_evicted, noted_of, IsSound};
+
+    /// Drops a page from memory; answers whether it left. The page stays: it is then read from the
+    /// log, and the records that no frame has yet are kept. It does not leave where it is evicted,
+    /// nor where the frame in the making makes it or cuts it.
+    ///
+    /// Refused `NoPage`, where the number is 0 or above the number of pages. No memory is taken.
+    pub fn evict(&mut self, page: u32) -> Result<bool, StoreFault>
+        requires { IsSound self.old holding }
+        ensures left { IfOk result (λ left. left
+            ≡ (not (is_evicted page self.old)
+            && not (is_made page (kept_by self.old holding).making.blocks))) }
+        ensures evicted { IfOk result (λ left. (p : ℕ) → is_evicted p self.new
+            ≡ (if left && (p == page) then true else is_evicted p self.old)) }
+
+        ensures no_page { IsErrOf result StoreFault.NoPage
+            ↔ (leaf_at page (leaves_now (kept_by self.old holding)) ≡ None) }
+        ensures only { IfErr result (λ fault. fault ≡ StoreFault.NoPage) }
+        ensures same { kept_by self.new holding ≡ kept_by self.old holding }
+        ensures noted { MatchResult result
+            (λ left. noted_of self.new ≡ noted_left left (noted_of self.old))
+            (λ _. noted_of self.new ≡ noted_of self.old) }
+    {
+        if page == 0 || page > self.leaves.count() {
+            return Err(StoreFault::NoPage);
+        }
+        if !self.leaves.is_here(page) {
+            return Ok(false);
+        }
+        let _ = self.tails.as_slice().len();
+        if self.tails[page as usize - 1].is_none() {
+            return Ok(false);
+        }
+        self.leaves.evict_page(page);
+        self.tally = self.tally.with_eviction();
+        Ok(true)
+    }
+}

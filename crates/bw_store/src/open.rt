@@ -1,0 +1,262 @@
+//! A store is opened over empty segments.
+
+ghost use Rattle.std.specs.Prelude.{◌≡◌, ◌≤◌, ◌+◌, ◌↔◌, [], ◌∷◌, length, map, replicate, false, None, IsTrue, IfOk, IfErr, MatchResult};
+ghost use Rattle.std.specs.List.{AllByRecursion};
+ghost use Rattle.bw_codec.specs.Grammar.{IsBlock};
+ghost use Rattle.bw_codec.specs.declared.block.Block.TheVariants.{Base};
+ghost use Rattle.bw_buffer.specs.Filling.{size_of, with_all};
+ghost use Rattle.bw_page.specs.Leaves.{empty_leaf};
+ghost use Rattle.bw_ring.specs.Ends.{ring_of_feed, ring_of_lane};
+ghost use Rattle.bw_store.specs.Tails.{tail_of, tails_for};
+ghost use Rattle.bw_store.specs.Opened.{opened, one_empty, started, first_place, first_making, AreFresh, AreTaken, IsConfig, IsOpenFault};
+ghost use Rattle.bw_store.specs.Counting.{noted_from};
+ghost use Rattle.bw_store.specs.Showing.{AreUnseen};
+
+use crate::config::Config;
+use crate::counters::{Looks, Tally};
+use crate::edge::Edge;
+use crate::fault::{OpenFault, StoreFault};
+use crate::history::History;
+use crate::intake::Intake;
+use crate::store::Store;
+use crate::tails::Tail;
+use bw_buffer::Buffer;
+use bw_codec::{Block, Place};
+use bw_device::{Segment, are_spares};
+use bw_log::Log;
+use bw_page::{Leaves, empty_page};
+use bw_ring::{Feed, lanes};
+use bw_versions::Versions;
+use std::alloc::{AllocError, Global};
+use std::sync::Wait;
+
+/// How many boxes a log has at most.
+const MAX_BOXES: usize = 4096;
+
+// What an opened store has beside its log.
+#[derive(Drop)]
+struct Parts {
+    feeds: Vec<Feed>,
+    intake: Intake,
+    leaves: Leaves,
+    newest: Vec<Place>,
+    tails: Vec<Option<Tail>>,
+    making: Buffer,
+}
+
+fn are_taken(config: &Config, segments: &[Box<dyn Segment>]) -> bool
+    ensures { IsTrue result ↔ AreTaken config.now (map holding segments.now) }
+{
+    config.is_lawful()
+        && segments.len() <= MAX_BOXES
+        && are_spares(segments, 24 + u64::from(config.f))
+}
+
+// The frame in the making, with the first page.
+fn first_frame(alloc: Global, f: u32) -> Result<Buffer, AllocError>
+    requires { (65536 ≤ f) × (f ≤ 262144) }
+    ensures { IfOk result (λ b. b ≡ first_making f) }
+{
+    let blocks = first_blocks(alloc)?;
+    let mut making = Buffer::new(alloc, 1, f)?;
+    put_first(&mut making, &blocks);
+    Ok(making)
+}
+
+fn first_blocks(alloc: Global) -> Result<Vec<Block>, AllocError>
+    ensures { IfOk result (λ bs. bs.items ≡ Base empty_leaf ∷ []) }
+{
+    let mut blocks = Vec::new(alloc);
+    blocks.push(Block::Base(empty_page(alloc)))?;
+    Ok(blocks)
+}
+
+fn put_first(making: &mut Buffer, blocks: &[Block])
+    requires unsealed { making.old.is_sealed ≡ false }
+    requires some { 1 ≤ length blocks.now }
+    requires lawful { AllByRecursion (IsBlock 32) blocks.now }
+    requires fits { size_of (with_all making.old blocks.now) ≤ making.old.limit }
+    ensures { making.new ≡ with_all making.old blocks.now }
+{
+    let Ok(_) = making.put_all(blocks) else {
+        unreachable!();
+    };
+}
+
+// Lanes from which nothing was taken, and the feeds that belong to them.
+pub(crate) fn intake_of(alloc: Global, config: &Config) -> Result<(Vec<Feed>, Intake), StoreFault>
+    requires { IsConfig config.now }
+    ensures feeds { IfOk result (λ p.
+        map ring_of_lane p.1.lanes.items ≡ map ring_of_feed p.0.items) }
+    ensures unused { IfOk result (λ p. AreFresh config.now p.0.items) }
+    ensures history { IfOk result (λ p. p.1.history.items ≡ []) }
+    ensures gone { IfOk result (λ p. p.1.history.gone ≡ 0) }
+    ensures memory { IfErr result (λ fault. fault ≡ StoreFault.NoMemory) }
+{
+    let Ok((feeds, ends)) = lanes(alloc, config.writers, config.places) else {
+        return Err(StoreFault::NoMemory);
+    };
+    let _ = ends.as_slice().len();
+    let counts = no_counts(alloc, config.writers)?;
+    let intake = Intake {
+        lanes: ends,
+        history: History::new(alloc),
+        counts,
+    };
+    Ok((feeds, intake))
+}
+
+// A count of none for each lane.
+fn no_counts(alloc: Global, lanes: usize) -> Result<Vec<u64>, AllocError>
+    ensures { IfOk result (λ counts. counts.items ≡ replicate lanes 0) }
+{
+    let mut counts = Vec::new(alloc);
+    counts.resize(lanes, 0)?;
+    Ok(counts)
+}
+
+fn parts_of(alloc: Global, config: &Config) -> Result<Parts, StoreFault>
+    requires { IsConfig config.now }
+    ensures feeds { IfOk result (λ p.
+        map ring_of_lane p.intake.lanes.items ≡ map ring_of_feed p.feeds.items) }
+    ensures unused { IfOk result (λ p. AreFresh config.now p.feeds.items) }
+    ensures history { IfOk result (λ p. p.intake.history.items ≡ []) }
+    ensures gone { IfOk result (λ p. p.intake.history.gone ≡ 0) }
+    ensures leaves { IfOk result (λ p.
+        p.leaves ≡ one_empty config.now.m) }
+    ensures newest { IfOk result (λ p. p.newest.items ≡ first_place ∷ []) }
+    ensures tails { IfOk result (λ p. map tail_of p.tails.items ≡ None ∷ []) }
+    ensures making { IfOk result (λ p. p.making ≡ first_making config.now.f) }
+    ensures memory { IfErr result (λ fault. fault ≡ StoreFault.NoMemory) }
+{
+    let (feeds, intake) = intake_of(alloc, config)?;
+    let leaves = Leaves::one_empty(alloc, config.m)?;
+    let mut newest = Vec::with_capacity(alloc, 1)?;
+    newest.push_reserved(Place { frame: 1, index: 0 });
+    let mut tails = Vec::with_capacity(alloc, 1)?;
+    tails.push_reserved(None);
+    let making = first_frame(alloc, config.f)?;
+    Ok(Parts {
+        feeds,
+        intake,
+        leaves,
+        newest,
+        tails,
+        making,
+    })
+}
+
+// What readers of an opened store see: nothing yet, and one empty page from the first publication.
+fn unseen<R: Wait>(rt: &R, alloc: Global, config: &Config) -> Result<Versions, AllocError>
+    requires { IsConfig config.now }
+    ensures { IfOk result (λ v. AreUnseen (one_empty config.now.m) config.now.readers v) }
+{
+    Versions::open(
+        rt,
+        alloc,
+        config.readers,
+        Leaves::one_empty(alloc, config.m)?,
+    )
+}
+
+impl Store {
+    ghost use Rattle.bw_log.specs.Views.{seen_by};
+    ghost use Rattle.bw_store.specs.Views.{kept_by, kept_beside, noted_of, IsSoundBeside};
+
+    /// A store of one empty page over empty segments, and a feed for each writer, which may go to
+    /// another thread. The first page is the first block of frame 1.
+    ///
+    /// Refused `BadConfig`, where a value is out of its range, there are more than 4,096 boxes, or
+    /// one of them is not empty or has not room for 24 + `f` bytes to 1,073,741,824; or `NoMemory`.
+    /// The boxes then come back as they were.
+    pub fn open<R: Wait>(
+        rt: &R,
+        alloc: Global,
+        config: &Config,
+        segments: Vec<Box<dyn Segment>>,
+    ) -> Result<(Store, Vec<Feed>), OpenFault>
+        requires { Unit {0} }
+        ensures made { IfOk result (λ r. kept_beside r.0 holding
+            ≡ opened (map ring_of_feed r.1.items) config.now.m config.now.f
+            (map holding segments.items) (kept_beside r.0 holding).versions) }
+        ensures sound { IfOk result (λ r. IsSoundBeside r.0 holding) }
+        ensures feeds { IfOk result (λ r. AreFresh config.now r.1.items) }
+        ensures unseen { IfOk result (λ r. AreUnseen (one_empty config.now.m) config.now.readers
+            (kept_beside r.0 holding).versions) }
+
+        ensures noted { IfOk result (λ r. noted_of r.0 ≡ noted_from 1 0) }
+
+        // The limits and the boxes are looked at before memory is.
+        ensures bad_config { MatchResult result
+            (λ _. AreTaken config.now (map holding segments.items))
+            (λ e. IsOpenFault config.now (map holding segments.items) e.cause) }
+        ensures back { IfErr result (λ e. e.segments.items ≡ segments.items) }
+    {
+        if !are_taken(config, &segments) {
+            let cause = StoreFault::BadConfig;
+            return Err(OpenFault { segments, cause });
+        }
+        let parts = match parts_of(alloc, config) {
+            Ok(parts) => parts,
+            Err(cause) => return Err(OpenFault { segments, cause }),
+        };
+        let Ok(versions) = unseen(rt, alloc, config) else {
+            let cause = StoreFault::NoMemory;
+            return Err(OpenFault { segments, cause });
+        };
+        match Log::new(alloc, segments, config.m, config.f) {
+            Ok(log) => Ok(Store::of(alloc, parts, log, versions)),
+            Err((segments, fault)) => {
+                versions.shut(rt);
+                let cause = StoreFault::from(fault);
+                Err(OpenFault { segments, cause })
+            }
+        }
+    }
+
+    // A store of these parts over a log of spares alone.
+    fn of(alloc: Global, parts: Parts, log: Log, versions: Versions) -> (Store, Vec<Feed>)
+        requires tails { map tail_of parts.tails.items
+            ≡ tails_for (length parts.leaves.leaves) parts.making.blocks }
+        requires here { parts.leaves.evicted ≡ [] }
+        requires gone { parts.intake.history.gone ≡ 0 }
+        requires start { versions.start ≡ parts.leaves }
+        ensures store { kept_by result.0 holding
+            ≡ started (map ring_of_lane parts.intake.lanes.items) parts.intake.history.items
+            parts.leaves parts.newest.items parts.making
+            (seen_by (λ b. holding (b.vtable, b.value)) log) versions }
+        ensures feeds { result.1 ≡ parts.feeds }
+        ensures noted { noted_of result.0 ≡ noted_from (length parts.leaves.leaves) 0 }
+    {
+        let Parts {
+            feeds,
+            intake,
+            leaves,
+            newest,
+            tails,
+            making,
+        } = parts;
+        let tally = Tally::from(leaves.count(), 0);
+        let store = Store {
+            intake,
+            before: 0,
+            floor: 0,
+            edge: Edge {
+                segment: 0,
+                length: 0,
+            },
+            cuts: Vec::new(alloc),
+            durable: 0,
+            leaves,
+            newest,
+            tails,
+            making,
+            log,
+            versions,
+            hints: Vec::new(alloc),
+            tally,
+            looks: Looks::new(),
+        };
+        (store, feeds)
+    }
+}

@@ -1,0 +1,164 @@
+//! All segments of format 1 are given up, and no page changes.
+
+ghost use Rattle.std.specs.Prelude.{◌≡◌, ◌≤◌, ◌+◌, ◌↔◌, [], false, length, vec_len, IsErrOf, IfOk};
+ghost use Rattle.std.specs.Vec.{vec_capacity};
+ghost use Rattle.bw_care.specs.Upgrading.{old_segments};
+ghost use Rattle.bw_store.specs.Cleaning.{HasBoxesBut, HasFloorBut};
+ghost use Rattle.bw_store.specs.Following.{Continues};
+ghost use Rattle.bw_store.specs.Kept.{EachCutStands};
+ghost use Rattle.bw_store.specs.Settled.{IsSettled};
+ghost use Rattle.bw_store.specs.Showing.{HasBoxesAfter, HasFloorAfter};
+ghost use Rattle.bw_store.specs.Upgrading.{UpgradeMoves, UpgradeLeaves, UpgradeShows};
+
+use crate::counters::{length_of, live_bytes};
+use crate::fault::StoreFault;
+use crate::store::Store;
+use bw_care::{Upgraded, old_segments, upgrade};
+use std::sync::Wait;
+
+impl Store {
+    ghost use Rattle.bw_store.specs.Views.{forgotten_of, kept_by, noted_of, IsSound};
+
+    /// Gives up all live segments of format 1: what waits is flushed, then each page that was last
+    /// set in one of them is written again in format 2, and their boxes are dropped, oldest first.
+    ///
+    /// Refused `NothingOld`, exactly where no live segment has format 1, before anything else; then
+    /// as `flush` is, but `NoSegment` only where no spare stands at all; then `NoMemory`; then as
+    /// the upgrade of `bw_care` is. A refused step leaves the steps before it done: frames that
+    /// were appended stay and are durable, each with a cut at the end of the history, and no box is
+    /// dropped. After a refusal other than `Failed` and a failed append it may be called again: it
+    /// does not write a page again that stands in a segment of format 2 by then. So where the
+    /// spares run out (`NoSegment`), `add_segment` and a second call go on.
+    ///
+    /// Then what is durable is published, as `flush` does it. Where that alone finds no memory the
+    /// call is refused `NoMemory`, though the segments are given up: their boxes are dropped.
+    ///
+    /// It costs what a flush and `bw_care::upgrade` cost, and a look at each page's line in memory.
+    pub fn upgrade<R: Wait>(&mut self, rt: &R) -> Result<Upgraded, StoreFault>
+        requires sound { IsSound self.old holding }
+        ensures sound { IsSound self.new holding }
+        ensures leaves { UpgradeShows (kept_by self.old holding) result (kept_by self.new holding) }
+
+        ensures nothing_old { IsErrOf result StoreFault.NothingOld
+            ↔ (old_segments (kept_by self.old holding).log ≡ 0) }
+        ensures none_left { IfOk result (λ _. old_segments (kept_by self.new holding).log ≡ 0) }
+
+        // The floor is what is durable once segments are given up, and stays else.
+        ensures floor { HasFloorAfter (old_segments (kept_by self.old holding).log)
+            (kept_by self.old holding) result (kept_by self.new holding) }
+        ensures each_cut { EachCutStands (kept_by self.new holding) }
+
+        ensures follows { Continues (kept_by self.old holding) (kept_by self.new holding) }
+        ensures boxes { HasBoxesAfter (old_segments (kept_by self.old holding).log)
+            (kept_by self.old holding) result (kept_by self.new holding) }
+        // Nothing is forgotten.
+        ensures gone { forgotten_of self.new ≡ forgotten_of self.old }
+    {
+        let upgraded = self.upgrade_old()?;
+        self.publish(rt)?;
+        Ok(upgraded)
+    }
+
+    // The same without the publication.
+    fn upgrade_old(&mut self) -> Result<Upgraded, StoreFault>
+        requires sound { IsSound self.old holding }
+        ensures sound { IsSound self.new holding }
+        ensures leaves { UpgradeLeaves (kept_by self.old holding) result
+            (kept_by self.new holding) }
+
+        ensures nothing_old { IsErrOf result StoreFault.NothingOld
+            ↔ (old_segments (kept_by self.old holding).log ≡ 0) }
+        ensures none_left { IfOk result (λ _. old_segments (kept_by self.new holding).log ≡ 0) }
+
+        ensures floor { HasFloorBut (kept_by self.old holding) result (kept_by self.new holding) }
+        ensures follows { Continues (kept_by self.old holding) (kept_by self.new holding) }
+        ensures boxes { HasBoxesBut (old_segments (kept_by self.old holding).log)
+            (kept_by self.old holding) result (kept_by self.new holding) }
+        ensures gone { forgotten_of self.new ≡ forgotten_of self.old }
+    {
+        if self.old_segments() == 0 {
+            return Err(StoreFault::NothingOld);
+        }
+        self.flush_making(true)?;
+        // There are no more frames than pages.
+        let pages = self.log.pages() as usize;
+        self.reserve_cuts(pages)?;
+        self.upgrade_counted()
+    }
+
+    /// How many live segments have format 1: an upgrade would give them up. No memory is taken.
+    pub fn old_segments(&self) -> u32
+        requires { IsSound self.now holding }
+        ensures { result ≡ old_segments (kept_by self.now holding).log }
+    {
+        old_segments(&self.log)
+    }
+
+    // The upgrade, where nothing waits, and what is counted of it.
+    fn upgrade_counted(&mut self) -> Result<Upgraded, StoreFault>
+        requires sound { IsSound self.old holding }
+        requires settled { IsSettled (kept_by self.old holding) }
+        requires empty { self.old.making.blocks ≡ [] }
+        requires works { (kept_by self.old holding).log.is_failed ≡ false }
+        requires some { 1 ≤ old_segments (kept_by self.old holding).log }
+        requires room { vec_len self.old.cuts + length (kept_by self.old holding).log.pages
+            ≤ vec_capacity self.old.cuts }
+        ensures sound { IsSound self.new holding }
+        ensures leaves { UpgradeMoves (kept_by self.old holding) result (kept_by self.new holding) }
+        ensures none_left { IfOk result (λ _. old_segments (kept_by self.new holding).log ≡ 0) }
+        ensures gone { forgotten_of self.new ≡ forgotten_of self.old }
+    {
+        let durable = self.durable;
+        let before = live_bytes(&self.log);
+        let segments = self.old_segments();
+        let oldest = self.length_upto(segments);
+        let upgraded = self.upgrade_pages();
+        let after = live_bytes(&self.log);
+        let frames = self.durable.saturating_sub(durable);
+        let (given_up, count) = match &upgraded {
+            Ok(_) => (oldest, u64::from(segments)),
+            Err(_) => (0, 0),
+        };
+        let bytes = after.saturating_add(given_up).saturating_sub(before);
+        self.tally = self.tally.with_cleaning(frames, bytes, given_up, count);
+        upgraded
+    }
+
+    // How many bytes the first live segments have, so many of them.
+    fn length_upto(&self, segments: u32) -> u64
+        requires { IsSound self.now holding }
+    {
+        let mut bytes: u64 = 0;
+        'segments: for i in 0..segments {
+            bytes = bytes.saturating_add(length_of(&self.log, i));
+        }
+        bytes
+    }
+
+    // The upgrade, where nothing waits, and what the store notes of its frames.
+    fn upgrade_pages(&mut self) -> Result<Upgraded, StoreFault>
+        requires sound { IsSound self.old holding }
+        requires settled { IsSettled (kept_by self.old holding) }
+        requires empty { self.old.making.blocks ≡ [] }
+        requires works { (kept_by self.old holding).log.is_failed ≡ false }
+        requires some { 1 ≤ old_segments (kept_by self.old holding).log }
+        requires room { vec_len self.old.cuts + length (kept_by self.old holding).log.pages
+            ≤ vec_capacity self.old.cuts }
+        ensures sound { IsSound self.new holding }
+        ensures leaves { UpgradeMoves (kept_by self.old holding) result (kept_by self.new holding) }
+        ensures none_left { IfOk result (λ _. old_segments (kept_by self.new holding).log ≡ 0) }
+        ensures noted { noted_of self.new ≡ noted_of self.old }
+    {
+        let alloc = *self.cuts.allocator();
+        let first = self.log.next_frame();
+        let result = upgrade(alloc, &mut self.log);
+        self.note_moved(first);
+        match result {
+            Ok(upgraded) => {
+                self.floor = self.durable;
+                Ok(upgraded)
+            }
+            Err(fault) => Err(StoreFault::from(fault)),
+        }
+    }
+}
