@@ -2,7 +2,7 @@
 
 use super::steps::Step;
 use super::steps::Step::{
-    Clean, Del, Evict, Flush, Get, Page, Put, Roll, Settle, Stands, Stops, Turn, Unread,
+    Clean, Del, Evict, Flush, Get, Page, Put, Roll, Settle, Stands, Stops, Turn, Unread, Walk,
 };
 use super::telling::all_went;
 use super::vectors::FIRST_BYTES;
@@ -77,7 +77,11 @@ const CUT: &[Step] = &[
     Evict(2, Ok(false)),
     Evict(3, Err(StoreFault::NoPage)),
     Evict(0, Err(StoreFault::NoPage)),
+    Walk(1, Some(1)),
+    Walk(2, Some(0)),
     Flush(Some(2)),
+    Walk(1, Some(2)),
+    Walk(2, Some(1)),
     Evict(1, Ok(true)),
     Evict(2, Ok(true)),
     Page(1, "1 : a=1 b=2"),
@@ -109,12 +113,15 @@ const CLEANED: &[Step] = &[
 
 /// A recovered page may leave at once.
 const OPENED_AGAIN: &[Step] = &[
+    Walk(1, Some(1)),
     Evict(1, Ok(true)),
     Page(1, "1 : k=v"),
     Put(0, b"j", b"2"),
     Turn(9, 1),
     Evict(1, Ok(true)),
     Page(1, "1 : j=2 k=v"),
+    Flush(Some(2)),
+    Walk(1, Some(2)),
 ];
 
 const TABLES: &[(Stand, &[Step])] = &[

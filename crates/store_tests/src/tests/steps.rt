@@ -74,6 +74,8 @@ pub(super) enum Step {
     Counts(Counters),
     /// How many bytes of a live segment are still needed, from 0.
     Needed(u32, Option<u64>),
+    /// From how many frames a page would be read.
+    Walk(u32, Option<u64>),
     /// Whether it pays to clean.
     Pays(bool),
     /// How many segments are live, and how many spares stand.
@@ -86,7 +88,7 @@ pub(super) enum Step {
 use Step::{
     Add, Bytes, Clean, Count, Counts, Cuts, Del, Evict, Flush, Forget, Full, FullGroup, Get, Group,
     History, Live, Needed, NotUpgraded, Page, Pays, Put, Puts, Reads, Receipt, Refused, Rewrite,
-    Roll, Same, Settle, Stands, Stops, Turn, Uncleaned, Unread, Unsettled, Upgrade,
+    Roll, Same, Settle, Stands, Stops, Turn, Uncleaned, Unread, Unsettled, Upgrade, Walk,
 };
 
 fn are_cuts(cuts: &[u64], told: &[u64]) -> bool {
@@ -180,6 +182,7 @@ fn answers(alloc: Global, store: &mut Store, step: &Step) -> bool
         Count(told) => store.count() == Ok(*told),
         Counts(told) => store.counters() == *told,
         Needed(at, told) => store.needed(*at) == *told,
+        Walk(page, told) => store.walk_of(*page) == *told,
         Pays(told) => store.pays() == *told,
         _ => false,
     }
