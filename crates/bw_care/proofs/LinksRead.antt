@@ -7,20 +7,27 @@ use Rattle.std.specs.BTreeMap as tree
 use Rattle.std.specs.Ordering.{nat_cmp}
 use Rattle.std.proofs.lemmas.Grind.{fold-append}
 use Rattle.std.proofs.lemmas.List.{reverse-append, reverse-reverse}
-use Rattle.bw_codec.specs.Touch.{touches}
+use Rattle.bw_codec.specs.Touch.{sets, touches}
 use Rattle.bw_codec.specs.declared.block.Block.{Block}
 use Rattle.bw_codec.specs.declared.block.Place.{Place}
+use Rattle.bw_log.specs.PageTable.{changed_line, set_line}
+use Rattle.bw_log.specs.declared.places.PageAt.{PageAt}
 use Rattle.bw_log.specs.Places.{placed, later, last_place, is_back, fault_at, fault_of, or_else, bad_link}
 use Rattle.bw_log.proofs.Links.{bad_link-append}
 use Rattle.bw_care.specs.declared.page_lines.Line.{Line}
 use Rattle.bw_care.specs.declared.page_lines.ReadFault.{ReadFault}
 use Rattle.bw_care.specs.declared.page_lines.ReadFault.TheVariants.{NoMemory, BadLink}
-use Rattle.bw_care.specs.Reading.{place_in, line_after, line_of, AreLines, IsRead, LinkFaultIs}
+use Rattle.bw_care.specs.Reading.{place_in, at_in, line_after, line_of, AreLines, IsRead, LinkFaultIs}
 
 -- a line's place is the last block that touches the page
+-- wherever a page was set before, its last block is the one that was read
+pub at_place : (t : Bool) (q : Place) (w : PageAt) → (if t then set_line q else changed_line q w).place ≡ q
+at_place true q w = refl
+at_place false q w = refl
+
 place_step : (p : ℕ) (was : Option Line) (last : Option Place) (x : Place × Block) (t : Bool) → touches p x.1 ≡ t → place_in was ≡ last
     → place_in (line_after p was x) ≡ later (touches p) last x
-place_step p was last x true e same = rw e refl
+place_step p was last x true e same = rw e (ap (λ (q : Place). Some q) (at_place (sets p x.1) x.0 (at_in was)))
 place_step p was last x false e same = rw e same
 
 place_fold : (p : ℕ) (was : Option Line) (last : Option Place) (xs : List (Place × Block)) → place_in was ≡ last

@@ -9,7 +9,7 @@ use Rattle.std.specs.Ordering.{nat_cmp}
 use Rattle.std.proofs.lemmas.Bool.{or_parts, eqb-true}
 use Rattle.bw_codec.specs.Bytes.{IsKey}
 use Rattle.bw_codec.specs.Grammar.{IsBlock}
-use Rattle.bw_codec.specs.Touch.{touches}
+use Rattle.bw_codec.specs.Touch.{sets, touches}
 use Rattle.bw_codec.specs.declared.leaf.Leaf.{Leaf}
 use Rattle.bw_codec.specs.declared.block.Block.{Block}
 use Rattle.bw_codec.specs.declared.block.Block.TheVariants.{Delta, Base, Split}
@@ -32,6 +32,7 @@ use Rattle.bw_page.specs.Leaves.{AreLeaves}
 use Rattle.bw_care.specs.declared.lawful.Pages.{Pages}
 use Rattle.bw_care.proofs.PageShape.{content_shaped}
 use Rattle.bw_care.proofs.PagesAtFault.{in_set}
+use Rattle.bw_care.proofs.LinksRead.{at_place}
 use Rattle.bw_care.proofs.LinesTaken.{all_from, base_is, walk_line, walk_is, place_of_is}
 use Rattle.bw_care.proofs.FoundStand.{blocks_lawful, found_stands}
 use Rattle.bw_care.proofs.StandingAgain.{set_all_by}
@@ -154,7 +155,7 @@ map_get g (x ∷ xs) (suc i) = map_get g xs i
 place_step : (p : ℕ) (was : Option Line) (x : Place × Block) (t : Bool) → touches p x.1 ≡ t → 1 ≤ x.0.frame → ((l : Line) → was ≡ Some l → 1 ≤ l.at.place.frame)
     → (l : Line) → line_of p was (x ∷ []) ≡ Some l → 1 ≤ l.at.place.frame
 place_step p was x true e from all l is =
-    (let same : place_in (line_of p was (x ∷ [])) ≡ Some x.0 = rw e refl in let both : Some l.at.place ≡ Some x.0 = sym (ap place_in is) ∙ same
+    (let same : place_in (line_of p was (x ∷ [])) ≡ Some x.0 = rw e (ap (λ (q : Place). Some q) (at_place (sets p x.1) x.0 (at_in was))) in let both : Some l.at.place ≡ Some x.0 = sym (ap place_in is) ∙ same
     in let eq : l.at.place ≡ x.0 = cc in
     subst (λ (q : Place). 1 ≤ q.frame) (sym eq) from)
 place_step p was x false e from all l is = (let same : line_of p was (x ∷ []) ≡ was = rw e refl in all l (sym same ∙ is))

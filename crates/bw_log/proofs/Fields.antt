@@ -113,7 +113,7 @@ fresh_sound m f spares fit =
         count = omega arith;
         linked = refl;
         stands = inl (refl, refl);
-        table = record { places = λ p from. refl; bases = λ p from. refl };
+        table = record { places = λ p from. refl; bases = λ p from. refl; walks = λ p from. refl };
       };
     }
 

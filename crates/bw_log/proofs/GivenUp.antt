@@ -2,7 +2,7 @@
 
 use Rattle.std.proofs.Common.{inl, inr, ◌≡◌, ◌≢◌, ℕ, suc, ◌+◌, ◌-◌, ◌<◌, ◌≤◌, ◌==◌, ◌⊎◌, not, nat_lt, Bool, true, false, if◌then◌else◌, Option, Some, None}
 use Rattle.std.proofs.Common.{List, [], ◌∷◌, ◌++◌, length, map, refl, sym, ap, subst, ◌∙◌, append_assoc, append-nil, arith, length-append}
-use Rattle.std.specs.List.{fold, filter, list_any, AllByRecursion}
+use Rattle.std.specs.List.{fold, filter, list_any, slice_get, AllByRecursion}
 use Rattle.std.proofs.lemmas.List.Folds.{list_any-append}
 use Rattle.std.proofs.lemmas.Bool.{true_from_ne_false, or_parts, or_from, and_parts, and_from, eqb-true, eq-eqb, ne_eqb, ltb-true, lt-ltb, false≢true}
 use Rattle.std.proofs.lemmas.Bool.{true≢false, cases_lt}
@@ -319,16 +319,17 @@ table_by field test pages p n gone kept None some are here passes says =
       | inr inside ↦ absurd (true≢false (sym (passes inside) ∙ none))
     ]
 
+never_none : {A : Type 0} (x : A) (o : Option A) → or_else o (Some x) ≡ None → ⊥
+never_none x None e = cc
+never_none x (Some y) e = cc
+
 -- a walk does not change where no block touches the page
 stays_by : (p : ℕ) (w : ℕ × ℕ) (x : Place × Block) (xs : List (Place × Block)) (t : Bool) → touches p x.1 ≡ t
     → fold (later (touches p)) (if t then Some x.0 else None) xs ≡ None → (last_place (touches p) xs ≡ None → fold (walked p) w xs ≡ w)
     → fold (walked p) (walked p w x) xs ≡ w
 stays_by p w x xs true is none others =
     let some : or_else (last_place (touches p) xs) (Some x.0) ≡ None = sym (later_over (touches p) (Some x.0) xs) ∙ none in
-    absurd (never (last_place (touches p) xs) some) where
-      never : {A : Type 0} {x : A} (o : Option A) → or_else o (Some x) ≡ None → ⊥
-      never None e = cc
-      never (Some y) e = cc
+    absurd (never_none x.0 (last_place (touches p) xs) some)
 stays_by p w x xs false is none others =
     ap (λ (v : ℕ × ℕ). fold (walked p) v xs) (rw (sets_touches p x.1 is, is) refl) ∙ others none
 
