@@ -16,7 +16,7 @@ EXAMPLES = {
         "crates/log_tests/src/tests/readme.rt",
     ],
 }
-VECTORS = "crates/log_tests/src/tests/care/vectors.rt"
+VECTORS = "crates/test_vectors/src/lib.rt"
 STORED = "crates/bwlog/data/store/segment-0000.bw"
 
 

@@ -1,6 +1,8 @@
 //! One writer in the store's own thread.
 
-ghost use Rattle.bw_store.specs.Views.{IsSound};
+ghost use Rattle.std.specs.Prelude.{◌≡◌, map};
+ghost use Rattle.bw_ring.specs.Ends.{ring_of_feed};
+ghost use Rattle.bw_store.specs.Views.{kept_by, IsSound};
 
 use crate::asking::{evict_all, get_all, read_all, read_back, reader_of};
 use crate::batches::{Cost, bytes_of, put_script};
@@ -48,7 +50,9 @@ fn put_beside<R: Threads + Wait>(
     script: &[Record],
 ) -> Option<(Cost, Option<Seen>)>
     requires { IsSound store.old holding }
-    ensures { IsSound store.new holding }
+    ensures sound { IsSound store.new holding }
+    ensures rings { (kept_by store.new holding).rings ≡ (kept_by store.old holding).rings }
+    ensures feed { ring_of_feed feed.new ≡ ring_of_feed feed.old }
 {
     let looker = start_if(rt, bench, store, span.to, course.is_read)?;
     let cost = put_script(rt, bench, store, feed, script, course.is_late, span.name);
@@ -66,7 +70,9 @@ fn put_all<R: Threads + Wait>(
     span: Span,
 ) -> Option<(Cost, Option<Seen>)>
     requires { IsSound store.old holding }
-    ensures { IsSound store.new holding }
+    ensures sound { IsSound store.new holding }
+    ensures rings { (kept_by store.new holding).rings ≡ (kept_by store.old holding).rings }
+    ensures feed { ring_of_feed feed.new ≡ ring_of_feed feed.old }
 {
     let script = bench.options.shape().script(bench.alloc, span, WHOLE)?;
     put_beside(rt, bench, store, feed, course, span, &script)
@@ -82,7 +88,9 @@ fn put_span<R: Threads + Wait>(
     span: Span,
 ) -> Option<()>
     requires { IsSound store.old holding }
-    ensures { IsSound store.new holding }
+    ensures sound { IsSound store.new holding }
+    ensures rings { (kept_by store.new holding).rings ≡ (kept_by store.old holding).rings }
+    ensures feed { ring_of_feed feed.new ≡ ring_of_feed feed.old }
 {
     let (before, had) = (resident(bench), bytes_of(store));
     let (cost, seen) = put_all(rt, bench, store, feed, course, span)?;
@@ -96,7 +104,8 @@ fn put_span<R: Threads + Wait>(
 /// Gets of the store, and of a reader.
 fn gets(bench: &Bench, store: &mut Store) -> Option<()>
     requires { IsSound store.old holding }
-    ensures { IsSound store.new holding }
+    ensures sound { IsSound store.new holding }
+    ensures rings { (kept_by store.new holding).rings ≡ (kept_by store.old holding).rings }
 {
     let count = u64::from(bench.options.operations);
     get_all(bench, store, "get", count)?;
@@ -107,7 +116,8 @@ fn gets(bench: &Bench, store: &mut Store) -> Option<()>
 /// Pages leave memory, and some values are asked for.
 fn gets_evicted(bench: &Bench, store: &mut Store) -> Option<()>
     requires { IsSound store.old holding }
-    ensures { IsSound store.new holding }
+    ensures sound { IsSound store.new holding }
+    ensures rings { (kept_by store.new holding).rings ≡ (kept_by store.old holding).rings }
 {
     let start = bench.now();
     let pages = evict_all(bench, store)?;
@@ -128,7 +138,9 @@ fn put_and_get<R: Threads + Wait>(
     course: Course,
 ) -> Option<()>
     requires { IsSound store.old holding }
-    ensures { IsSound store.new holding }
+    ensures sound { IsSound store.new holding }
+    ensures rings { (kept_by store.new holding).rings ≡ (kept_by store.old holding).rings }
+    ensures feed { ring_of_feed feed.new ≡ ring_of_feed feed.old }
 {
     let (load, update) = bench.options.spans();
     put_span(rt, bench, store, feed, course, load)?;
@@ -140,19 +152,21 @@ fn put_and_get<R: Threads + Wait>(
     gets_evicted(bench, store)
 }
 
-/// The same by the last of the feeds.
+/// The same by the first of the feeds.
 pub fn alone<R: Threads + Wait>(
     rt: &R,
     bench: &Bench,
     store: &mut Store,
-    mut feeds: Vec<Feed>,
+    feeds: &mut Vec<Feed>,
     course: Course,
 ) -> Option<()>
     requires { IsSound store.old holding }
-    ensures { IsSound store.new holding }
+    ensures sound { IsSound store.new holding }
+    ensures rings { (kept_by store.new holding).rings ≡ (kept_by store.old holding).rings }
+    ensures feeds { map ring_of_feed feeds.new.items ≡ map ring_of_feed feeds.old.items }
 {
-    match feeds.pop() {
-        Some(mut feed) => put_and_get(rt, bench, store, &mut feed, course),
-        None => bench.stop(Stop::Refused, "a store without a writer"),
+    if feeds.is_empty() {
+        return bench.stop(Stop::Refused, "a store without a writer");
     }
+    put_and_get(rt, bench, store, &mut feeds[0], course)
 }

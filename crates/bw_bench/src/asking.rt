@@ -12,7 +12,8 @@ use bw_store::{ReadFault, Reader, Store};
 /// The value of a put's key.
 fn found(bench: &Bench, store: &mut Store, put: u64) -> Option<Option<Value>>
     requires { IsSound store.old holding }
-    ensures { IsSound store.new holding }
+    ensures sound { IsSound store.new holding }
+    ensures rings { (kept_by store.new holding).rings ≡ (kept_by store.old holding).rings }
 {
     match store.get(&bench.options.shape().key(put)?) {
         Ok(value) => Some(value),
@@ -42,7 +43,8 @@ pub fn read_back(
     puts: u64,
 ) -> Option<()>
     requires { IsSound store.old holding }
-    ensures { IsSound store.new holding }
+    ensures sound { IsSound store.new holding }
+    ensures rings { (kept_by store.new holding).rings ≡ (kept_by store.old holding).rings }
 {
     let shape = bench.options.shape();
     let mut wrong = 0u64;
@@ -59,7 +61,8 @@ pub fn read_back(
 /// The store gives a value for the keys of so many puts.
 pub fn get_all(bench: &Bench, store: &mut Store, name: &'static str, puts: u64) -> Option<()>
     requires { IsSound store.old holding }
-    ensures { IsSound store.new holding }
+    ensures sound { IsSound store.new holding }
+    ensures rings { (kept_by store.new holding).rings ≡ (kept_by store.old holding).rings }
 {
     let mut meter = Meter::start(bench, name, puts);
     'gets: for put in 0..puts {
@@ -91,7 +94,8 @@ pub fn read_all(bench: &Bench, reader: &mut Reader, puts: u64) -> Option<()> {
 /// All pages leave memory: how many there are.
 pub fn evict_all(bench: &Bench, store: &mut Store) -> Option<u64>
     requires { IsSound store.old holding }
-    ensures { IsSound store.new holding }
+    ensures sound { IsSound store.new holding }
+    ensures rings { (kept_by store.new holding).rings ≡ (kept_by store.old holding).rings }
 {
     'pages: for page in 1..u32::MAX {
         match store.evict(page) {

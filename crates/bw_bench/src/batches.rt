@@ -1,6 +1,8 @@
 //! Records are put, turned and flushed in batches, by one writer in the store's own thread.
 
-ghost use Rattle.bw_store.specs.Views.{IsSound};
+ghost use Rattle.std.specs.Prelude.{◌≡◌};
+ghost use Rattle.bw_ring.specs.Ends.{ring_of_feed};
+ghost use Rattle.bw_store.specs.Views.{kept_by, IsSound};
 
 use crate::bench::Bench;
 use crate::stop::Stop;
@@ -42,8 +44,10 @@ impl Cost {
 }
 
 /// Puts all of a batch.
-fn put_all(bench: &Bench, feed: &mut Feed, batch: &[Record]) -> Option<()> {
-    for item in batch {
+fn put_all(bench: &Bench, feed: &mut Feed, batch: &[Record]) -> Option<()>
+    ensures { ring_of_feed feed.new ≡ ring_of_feed feed.old }
+{
+    'puts: for item in batch {
         if feed.put(item.copy()).is_err() {
             return bench.stop(Stop::Refused, "a full ring");
         }
@@ -54,7 +58,8 @@ fn put_all(bench: &Bench, feed: &mut Feed, batch: &[Record]) -> Option<()> {
 /// Takes so many records, each in a group of its own.
 fn take_all(bench: &Bench, store: &mut Store, many: usize) -> Option<()>
     requires { IsSound store.old holding }
-    ensures { IsSound store.new holding }
+    ensures sound { IsSound store.new holding }
+    ensures rings { (kept_by store.new holding).rings ≡ (kept_by store.old holding).rings }
 {
     let many = u32::try_from(many).unwrap_or(u32::MAX);
     match store.turn(many) {
@@ -67,7 +72,8 @@ fn take_all(bench: &Bench, store: &mut Store, many: usize) -> Option<()>
 /// Flushes if told.
 fn flush_if<R: Wait>(rt: &R, bench: &Bench, store: &mut Store, is_due: bool) -> Option<()>
     requires { IsSound store.old holding }
-    ensures { IsSound store.new holding }
+    ensures sound { IsSound store.new holding }
+    ensures rings { (kept_by store.new holding).rings ≡ (kept_by store.old holding).rings }
 {
     if !is_due {
         return Some(());
@@ -89,7 +95,9 @@ fn one_batch<R: Wait>(
     cost: Cost,
 ) -> Option<Cost>
     requires { IsSound store.old holding }
-    ensures { IsSound store.new holding }
+    ensures sound { IsSound store.new holding }
+    ensures rings { (kept_by store.new holding).rings ≡ (kept_by store.old holding).rings }
+    ensures feed { ring_of_feed feed.new ≡ ring_of_feed feed.old }
 {
     let start = bench.now();
     put_all(bench, feed, batch)?;
@@ -111,7 +119,9 @@ pub fn put_script<R: Wait>(
     name: &'static str,
 ) -> Option<Cost>
     requires { IsSound store.old holding }
-    ensures { IsSound store.new holding }
+    ensures sound { IsSound store.new holding }
+    ensures rings { (kept_by store.new holding).rings ≡ (kept_by store.old holding).rings }
+    ensures feed { ring_of_feed feed.new ≡ ring_of_feed feed.old }
 {
     let size = usize::from(bench.options.batch).max(1);
     let mut cost = Cost::NONE;

@@ -6,6 +6,7 @@ ghost use Rattle.std.specs.Prelude.{IsNone};
 use crate::options::Options;
 use crate::stop::Stop;
 use bw_file::FolderFault;
+use bw_home::HomeFault;
 use bw_store::StoreFault;
 use std::alloc::Global;
 use std::cell::Cell;
@@ -87,6 +88,16 @@ impl Bench {
     {
         match fault {
             FolderFault::NoMemory => None,
+            other => self.stop(Stop::Refused, other),
+        }
+    }
+
+    /// The same of a store in a folder.
+    pub fn not_begun<T>(&self, fault: HomeFault) -> Option<T>
+        ensures { IsNone result }
+    {
+        match fault {
+            HomeFault::NoMemory => None,
             other => self.stop(Stop::Refused, other),
         }
     }

@@ -25,6 +25,9 @@ pub const CAPACITY: u64 = 16_777_216;
 /// part of a page that is cut.
 const AROUND: u64 = 144;
 
+/// How many readers a store has places for.
+pub const READERS: usize = 4;
+
 /// How many segments hold all puts, with two spares more.
 pub fn count_of(options: Options) -> u32 {
     let pair = u64::from(options.shared) + u64::from(options.value_length);
@@ -33,27 +36,33 @@ pub fn count_of(options: Options) -> u32 {
     u32::try_from(full).unwrap_or(u32::MAX).saturating_add(4)
 }
 
+/// How many writers a course has.
+pub fn writers_of(options: Options, course: Course) -> usize {
+    usize::from(course.threads.max(1).min(options.writers))
+}
+
 fn config_of(options: Options, course: Course) -> Config {
     Config {
-        writers: usize::from(course.threads.max(1).min(options.writers)),
+        writers: writers_of(options, course),
         places: usize::from(options.batch),
-        readers: 4,
+        readers: READERS,
         m: 32,
         f: MIN_FRAME,
     }
 }
 
 /// Runs the course.
-fn go<R: Threads + Wait>(
+pub fn go<R: Threads + Wait>(
     rt: &R,
     bench: &Bench,
     course: Course,
     store: &mut Store,
-    feeds: Vec<Feed>,
+    feeds: &mut Vec<Feed>,
 ) -> Option<()>
     requires sound { IsSound store.old holding }
-    requires feeds { map ring_of_feed feeds.items ≡ (kept_by store.old holding).rings }
-    ensures { IsSound store.new holding }
+    requires feeds { map ring_of_feed feeds.old.items ≡ (kept_by store.old holding).rings }
+    ensures sound { IsSound store.new holding }
+    ensures feeds { map ring_of_feed feeds.new.items ≡ (kept_by store.new holding).rings }
 {
     if course.threads == 0 {
         alone(rt, bench, store, feeds, course)
@@ -63,18 +72,18 @@ fn go<R: Threads + Wait>(
 }
 
 /// Runs the course over a store of these boxes, and gives the live ones back.
-pub fn over<R: Threads + Wait>(
+fn over<R: Threads + Wait>(
     rt: &R,
     bench: &Bench,
     course: Course,
     boxes: Vec<Box<dyn Segment>>,
 ) -> Option<Vec<Box<dyn Segment>>> {
     let config = config_of(bench.options, course);
-    let (mut store, feeds) = match Store::open(rt, bench.alloc, &config, boxes) {
+    let (mut store, mut feeds) = match Store::open(rt, bench.alloc, &config, boxes) {
         Ok(opened) => opened,
         Err(fault) => return bench.refused(fault.cause),
     };
-    let went = go(rt, bench, course, &mut store, feeds);
+    let went = go(rt, bench, course, &mut store, &mut feeds);
     let (live, _spares) = store.shut(rt);
     went?;
     Some(live)

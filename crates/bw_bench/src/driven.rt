@@ -13,6 +13,7 @@ use bw_drive::{OpenGate, Plan, drive};
 use bw_ring::{Feed, Group};
 use bw_store::Store;
 use std::alloc::{AllocError, Global};
+use std::mem;
 use std::sync::Wait;
 use std::thread::Threads;
 
@@ -45,19 +46,18 @@ fn scripts_of(bench: &Bench, span: Span, writers: usize) -> Option<Vec<Vec<Group
     Some(scripts)
 }
 
-/// Runs the writers, and answers the feeds and the nanoseconds.
+/// Runs the writers, and answers the nanoseconds.
 fn drive_span<R: Threads + Wait>(
     rt: &R,
     bench: &Bench,
     store: &mut Store,
-    feeds: Vec<Feed>,
+    feeds: &mut Vec<Feed>,
     span: Span,
-) -> Option<(Vec<Feed>, u64)>
+) -> Option<u64>
     requires sound { IsSound store.old holding }
-    requires feeds { map ring_of_feed feeds.items ≡ (kept_by store.old holding).rings }
+    requires feeds { map ring_of_feed feeds.old.items ≡ (kept_by store.old holding).rings }
     ensures sound { IsSound store.new holding }
-    ensures feeds { IfSome result (λ r.
-        map ring_of_feed r.0.items ≡ (kept_by store.new holding).rings) }
+    ensures feeds { map ring_of_feed feeds.new.items ≡ (kept_by store.new holding).rings }
 {
     let plan = Plan {
         limit: u32::from(bench.options.batch).max(1),
@@ -67,9 +67,16 @@ fn drive_span<R: Threads + Wait>(
     };
     let scripts = scripts_of(bench, span, feeds.len())?;
     let start = bench.now();
-    match drive(rt, store, feeds, scripts, &OpenGate, plan, TRIES) {
-        Ok(driven) => Some((driven.feeds, bench.since(start))),
-        Err(fault) => bench.refused(fault.cause),
+    let lent = mem::replace(feeds, Vec::new(bench.alloc));
+    match drive(rt, store, lent, scripts, &OpenGate, plan, TRIES) {
+        Ok(driven) => {
+            *feeds = driven.feeds;
+            Some(bench.since(start))
+        }
+        Err(fault) => {
+            *feeds = fault.feeds;
+            bench.refused(fault.cause)
+        }
     }
 }
 
@@ -78,15 +85,16 @@ fn drive_both<R: Threads + Wait>(
     rt: &R,
     bench: &Bench,
     store: &mut Store,
-    feeds: Vec<Feed>,
+    feeds: &mut Vec<Feed>,
 ) -> Option<(u64, u64)>
     requires sound { IsSound store.old holding }
-    requires feeds { map ring_of_feed feeds.items ≡ (kept_by store.old holding).rings }
-    ensures { IsSound store.new holding }
+    requires feeds { map ring_of_feed feeds.old.items ≡ (kept_by store.old holding).rings }
+    ensures sound { IsSound store.new holding }
+    ensures feeds { map ring_of_feed feeds.new.items ≡ (kept_by store.new holding).rings }
 {
     let (load, update) = bench.options.spans();
-    let (feeds, first) = drive_span(rt, bench, store, feeds, load)?;
-    let (_feeds, second) = drive_span(rt, bench, store, feeds, update)?;
+    let first = drive_span(rt, bench, store, feeds, load)?;
+    let second = drive_span(rt, bench, store, feeds, update)?;
     Some((first, second))
 }
 
@@ -95,12 +103,13 @@ fn drive_beside<R: Threads + Wait>(
     rt: &R,
     bench: &Bench,
     store: &mut Store,
-    feeds: Vec<Feed>,
+    feeds: &mut Vec<Feed>,
     is_read: bool,
 ) -> Option<(u64, u64, Option<Seen>)>
     requires sound { IsSound store.old holding }
-    requires feeds { map ring_of_feed feeds.items ≡ (kept_by store.old holding).rings }
-    ensures { IsSound store.new holding }
+    requires feeds { map ring_of_feed feeds.old.items ≡ (kept_by store.old holding).rings }
+    ensures sound { IsSound store.new holding }
+    ensures feeds { map ring_of_feed feeds.new.items ≡ (kept_by store.new holding).rings }
 {
     let looker = start_if(rt, bench, store, bench.options.puts(), is_read)?;
     let went = drive_both(rt, bench, store, feeds);
@@ -114,12 +123,13 @@ pub fn driven<R: Threads + Wait>(
     rt: &R,
     bench: &Bench,
     store: &mut Store,
-    feeds: Vec<Feed>,
+    feeds: &mut Vec<Feed>,
     is_read: bool,
 ) -> Option<()>
     requires sound { IsSound store.old holding }
-    requires feeds { map ring_of_feed feeds.items ≡ (kept_by store.old holding).rings }
-    ensures { IsSound store.new holding }
+    requires feeds { map ring_of_feed feeds.old.items ≡ (kept_by store.old holding).rings }
+    ensures sound { IsSound store.new holding }
+    ensures feeds { map ring_of_feed feeds.new.items ≡ (kept_by store.new holding).rings }
 {
     let (first, second, seen) = drive_beside(rt, bench, store, feeds, is_read)?;
     let (load, update) = bench.options.spans();

@@ -1,13 +1,14 @@
-//! Segments in files: appends with their sync, and a store that is opened again from its files.
+//! Segments in files: appends with their sync, and a store in a folder, opened again.
 
 use crate::bench::Bench;
-use crate::boxes::{CAPACITY, count_of, over};
-use crate::reopened::reopened;
+use crate::boxes::{CAPACITY, READERS, count_of, go, writers_of};
+use crate::reopened::tell_opened;
 use crate::stop::Stop;
 use crate::subject::Course;
+use bw_codec::limits::{MAX_PAIRS, MIN_FRAME};
 use bw_device::{Desk, Segment};
 use bw_file::{FileSegment, Folder};
-use std::sync::Wait;
+use bw_home::{Course as InHome, Home, Options, System, with_store};
 use std::thread::Threads;
 
 /// What is appended: as it is told, and its bytes.
@@ -50,15 +51,10 @@ pub fn must_be_new(bench: &Bench, dir: &str, name: &'static str) -> Option<()> {
     Some(())
 }
 
-/// A new file of the next lease, or the one that is there. The desk has a lease.
-fn file(bench: &Bench, folder: &Folder, desk: &mut Desk, is_new: bool) -> Option<FileSegment> {
+/// A new file of the next lease. The desk has one.
+fn file(bench: &Bench, folder: &Folder, desk: &mut Desk) -> Option<FileSegment> {
     let lease = desk.take().ok()?;
-    let opened = if is_new {
-        folder.spare(&bench.system, lease, CAPACITY)
-    } else {
-        folder.segment(&bench.system, lease, CAPACITY)
-    };
-    match opened {
+    match folder.spare(&bench.system, lease, CAPACITY) {
         Ok(segment) => Some(segment),
         Err(refused) => bench.not_opened(refused.cause),
     }
@@ -91,7 +87,7 @@ fn append_to_file(
     name: &'static str,
     piece: &[u8],
 ) -> Option<()> {
-    let mut segment = file(bench, folder, desk, true)?;
+    let mut segment = file(bench, folder, desk)?;
     let start = bench.now();
     append_all(bench, &mut segment, piece)?;
     bench.tell(name, APPENDS, bench.since(start));
@@ -114,65 +110,80 @@ pub fn appends(bench: &Bench, dir: &str) -> Option<()> {
     append_sizes(bench, &folder, &mut desk)
 }
 
-/// Runs a course over these boxes; without one it goes on from what they hold.
-fn with_boxes<R: Threads + Wait>(
-    rt: &R,
-    bench: &Bench,
-    course: Option<Course>,
-    start: u64,
-    boxes: Vec<Box<dyn Segment>>,
-) -> Option<()> {
-    match course {
-        Some(course) => {
-            let _live = over(rt, bench, course, boxes)?;
-            Some(())
-        }
-        None => reopened(rt, bench, start, boxes),
+/// A course over the store in a folder.
+#[derive(Drop)]
+struct Over<'b> {
+    bench: &'b Bench,
+    course: Course,
+}
+
+impl<R: Threads + System> InHome<R> for Over<'_> {
+    type Answer = Option<()>;
+
+    fn run(self, rt: &R, home: &mut Home) -> Option<()> {
+        go(
+            rt,
+            self.bench,
+            self.course,
+            &mut home.store,
+            &mut home.feeds,
+        )
     }
 }
 
-/// The same with the boxes of a folder, which are new for a course.
-fn with_files<R: Threads + Wait>(
-    rt: &R,
-    bench: &Bench,
-    course: Option<Course>,
+/// The store that is there, opened again: what that took from the start on, and all keys.
+#[derive(Drop)]
+struct Again<'b> {
+    bench: &'b Bench,
     start: u64,
-    folder: &Folder,
-    desk: &mut Desk,
-) -> Option<()> {
-    let mut boxes: Vec<Box<dyn Segment>> = Vec::new(bench.alloc);
-    for _ in 0..count_of(bench.options) {
-        let segment = file(bench, folder, desk, course.is_some())?;
-        boxes.push(Box::new(bench.alloc, segment).ok()?).ok()?;
-    }
-    with_boxes(rt, bench, course, start, boxes)
 }
 
-/// The same by leases of a desk.
-fn with_folder<R: Threads + Wait>(
+impl<R: System> InHome<R> for Again<'_> {
+    type Answer = Option<()>;
+
+    fn run(self, _rt: &R, home: &mut Home) -> Option<()> {
+        let opened = self.bench.since(self.start);
+        tell_opened(self.bench, &mut home.store, opened)
+    }
+}
+
+/// Does something with the store in the folder of this name in another.
+fn in_folder<R: System, C: InHome<R, Answer = Option<()>>>(
     rt: &R,
     bench: &Bench,
-    course: Option<Course>,
-    start: u64,
-    folder: &Folder,
+    dir: &str,
+    name: &'static str,
+    writers: usize,
+    what: C,
 ) -> Option<()> {
-    let mut desk = Desk::new(bench.alloc, count_of(bench.options)).ok()?;
-    with_files(rt, bench, course, start, folder, &mut desk)
+    let path = format!(in bench.alloc; "{dir}/{name}").ok()?;
+    let options = Options {
+        writers,
+        places: usize::from(bench.options.batch),
+        readers: READERS,
+        m: MAX_PAIRS,
+        f: MIN_FRAME,
+        segments: count_of(bench.options),
+        capacity: CAPACITY,
+    };
+    match with_store(rt, path.as_str(), &options, what) {
+        Ok(went) => went,
+        Err(fault) => bench.not_begun(fault),
+    }
 }
 
 /// Runs the course over files in a new folder of the subject's name, and then goes on from what
 /// they hold, once nobody has them open any more. They stay.
-pub fn over_files<R: Threads + Wait>(
+pub fn over_files<R: Threads + System>(
     rt: &R,
     bench: &Bench,
     course: Course,
     dir: &str,
     name: &'static str,
 ) -> Option<()> {
-    let folder = new_folder(bench, dir, name)?;
-    with_folder(rt, bench, Some(course), 0, &folder)?;
-    drop(folder);
+    must_be_new(bench, dir, name)?;
+    let writers = writers_of(bench.options, course);
+    in_folder(rt, bench, dir, name, writers, Over { bench, course })?;
     let start = bench.now();
-    let folder = open_folder(bench, dir, name)?;
-    with_folder(rt, bench, None, start, &folder)
+    in_folder(rt, bench, dir, name, 1, Again { bench, start })
 }

@@ -1,6 +1,7 @@
 //! A store goes on from the boxes of another.
 
-ghost use Rattle.bw_store.specs.Views.{IsSound};
+ghost use Rattle.std.specs.Prelude.{◌≡◌};
+ghost use Rattle.bw_store.specs.Views.{kept_by, IsSound};
 
 use crate::asking::read_back;
 use crate::batches::bytes_of;
@@ -11,13 +12,13 @@ use bw_device::Segment;
 use bw_store::Store;
 use std::sync::Wait;
 
-/// Tells what the two steps took from the start on, and reads all keys back.
-fn tell_opened(bench: &Bench, store: &mut Store, recovered: u64, opened: u64) -> Option<()>
+/// Tells what it took to open the store from the start on, and reads all keys back.
+pub fn tell_opened(bench: &Bench, store: &mut Store, opened: u64) -> Option<()>
     requires { IsSound store.old holding }
-    ensures { IsSound store.new holding }
+    ensures sound { IsSound store.new holding }
+    ensures rings { (kept_by store.new holding).rings ≡ (kept_by store.old holding).rings }
 {
     let (keys, puts) = (u64::from(bench.options.keys), bench.options.puts());
-    bench.tell_each("recover, records", puts, recovered, "ns");
     bench.tell("open, records", puts, opened);
     bench.tell_each("  in the log", puts, bytes_of(store), "bytes");
     read_back(bench, store, "open", keys, puts)
@@ -38,7 +39,8 @@ pub fn reopened<R: Wait>(
     match Store::reopen(rt, bench.alloc, found, 1, 1, 1) {
         Ok((mut store, _feeds)) => {
             let opened = bench.since(start);
-            let went = tell_opened(bench, &mut store, recovered, opened);
+            bench.tell_each("recover, records", bench.options.puts(), recovered, "ns");
+            let went = tell_opened(bench, &mut store, opened);
             let _ = store.shut(rt);
             went
         }

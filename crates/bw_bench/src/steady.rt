@@ -8,7 +8,7 @@ use crate::folders::must_be_new;
 use crate::stop::Stop;
 use crate::watch::{Meter, resident};
 use bw_codec::Record;
-use bw_home::{Home, HomeFault, Legs, Options, System, with_store_in_legs};
+use bw_home::{Home, Legs, Options, System, with_store_in_legs};
 
 /// How many segments there are, and how many bytes each has room for.
 const SEGMENTS: u32 = 4;
@@ -39,14 +39,6 @@ impl Drop for Updating<'_> {
             early: _,
             late: _,
         } = self;
-    }
-}
-
-/// What a home refuses ends the run.
-fn failed<T>(bench: &Bench, fault: HomeFault) -> Option<T> {
-    match fault {
-        HomeFault::NoMemory => None,
-        other => bench.stop(Stop::Refused, other),
     }
 }
 
@@ -87,7 +79,7 @@ impl Updating<'_> {
         ensures { IsReady home.new holding }
     {
         if let Err(fault) = home.clean(rt) {
-            return failed(self.bench, fault);
+            return self.bench.not_begun(fault);
         }
         self.cleanings = self.cleanings.saturating_add(1);
         Some(())
@@ -195,6 +187,6 @@ pub fn steady<R: System>(rt: &R, bench: &Bench, dir: &str, name: &'static str) -
     };
     match with_store_in_legs(rt, path.as_str(), &options, &mut legs) {
         Ok(went) => went,
-        Err(fault) => failed(bench, fault),
+        Err(fault) => bench.not_begun(fault),
     }
 }

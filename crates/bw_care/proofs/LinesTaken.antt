@@ -12,11 +12,11 @@ use Rattle.bw_codec.specs.declared.block.Frame.{Frame}
 use Rattle.bw_codec.specs.declared.leaf.Leaf.{Leaf}
 use Rattle.bw_page.specs.Standing.{after, content, blocks_of}
 use Rattle.bw_page.proofs.Order.{must_not}
-use Rattle.bw_log.specs.Places.{later, placed, all_placed, place_of, base_of}
+use Rattle.bw_log.specs.Places.{later, placed, all_placed, place_of, base_of, walked, walk_to}
 use Rattle.bw_log.specs.Contents.{some_place}
 use Rattle.bw_log.proofs.Walk.{same_after, sets_touches}
 use Rattle.bw_care.specs.declared.page_lines.Line.{Line}
-use Rattle.bw_care.specs.Reading.{place_in, base_in, leaf_in, line_after, line_of}
+use Rattle.bw_care.specs.Reading.{place_in, at_in, leaf_in, line_after, line_of}
 use Rattle.bw_care.proofs.LinksRead.{place_is}
 
 -- ---- the leaf
@@ -52,14 +52,14 @@ some_there : (p : Place) → 1 ≤ p.frame → some_place p ≡ Some p
 some_there p from = ap (λ (t : Bool). if t then None else Some p) (must_not (p.frame == 0) (λ e. (let zero_is = eqb-true p.frame 0 e in omega arith)))
 
 base_set : (p : ℕ) (was : Option Line) (last : Option Place) (x : Place × Block) (t u : Bool) → touches p x.1 ≡ t → sets p x.1 ≡ u → 1 ≤ x.0.frame
-    → some_place (base_in was) ≡ last → some_place (base_in (line_after p was x)) ≡ later (sets p) last x
+    → some_place ((at_in was).base) ≡ last → some_place ((at_in (line_after p was x)).base) ≡ later (sets p) last x
 base_set p was last x true true e f from same = rw (e, f) (some_there x.0 from)
 base_set p was last x true false e f from same = rw (e, f) same
 base_set p was last x false true e f from same = absurd (true≢false (sym f ∙ sets_touches p x.1 e))
 base_set p was last x false false e f from same = rw (e, f) same
 
 base_fold : (p : ℕ) (was : Option Line) (last : Option Place) (xs : List (Place × Block)) → AllByRecursion (λ x. 1 ≤ x.0.frame) xs
-    → some_place (base_in was) ≡ last → some_place (base_in (line_of p was xs)) ≡ fold (later (sets p)) last xs
+    → some_place ((at_in was).base) ≡ last → some_place ((at_in (line_of p was xs)).base) ≡ fold (later (sets p)) last xs
 base_fold p was last [] from same = same
 base_fold p was last (x ∷ xs) from same =
     base_fold p (line_after p was x) (later (sets p) last x) xs from.1 (base_set p was last x (touches p x.1) (sets p x.1) refl refl from.0 same)
@@ -77,8 +77,28 @@ all_from [] from = tt
 all_from (f ∷ fs) from = all_join (λ x. 1 ≤ x.0.frame) (placed f.number 0 f.blocks) (all_placed fs) (placed_from f.number 0 f.blocks from.0)
     (all_from fs from.1)
 
-pub base_is : (p : ℕ) (fs : List Frame) → AllByRecursion (λ f. 1 ≤ f.number) fs → some_place (base_in (line_of p None (all_placed fs))) ≡ base_of p fs
+pub base_is : (p : ℕ) (fs : List Frame) → AllByRecursion (λ f. 1 ≤ f.number) fs → some_place ((at_in (line_of p None (all_placed fs))).base) ≡ base_of p fs
 base_is p fs from = base_fold p None None (all_placed fs) (all_from fs from) refl
 
 pub place_of_is : (p : ℕ) (fs : List Frame) → place_in (line_of p None (all_placed fs)) ≡ place_of p fs
 place_of_is p fs = place_is p (all_placed fs)
+
+-- ---- the walk
+
+abbrev pub walk_line : Option Line → ℕ × ℕ
+walk_line o = ((at_in o).place.frame, (at_in o).walk)
+
+walk_step : (p : ℕ) (was : Option Line) (x : Place × Block) (t u : Bool) → touches p x.1 ≡ t → sets p x.1 ≡ u
+    → walk_line (line_after p was x) ≡ walked p (walk_line was) x
+walk_step p was x true true e f = rw (e, f) refl
+walk_step p was x true false e f = rw (e, f) refl
+walk_step p was x false true e f = absurd (true≢false (sym f ∙ sets_touches p x.1 e))
+walk_step p was x false false e f = rw (e, f) refl
+
+walk_fold : (p : ℕ) (was : Option Line) (xs : List (Place × Block)) → walk_line (line_of p was xs) ≡ fold (walked p) (walk_line was) xs
+walk_fold p was [] = refl
+walk_fold p was (x ∷ xs) =
+    walk_fold p (line_after p was x) xs ∙ ap (λ (w : ℕ × ℕ). fold (walked p) w xs) (walk_step p was x (touches p x.1) (sets p x.1) refl refl)
+
+pub walk_is : (p : ℕ) (fs : List Frame) → walk_line (line_of p None (all_placed fs)) ≡ walk_to p fs
+walk_is p fs = walk_fold p None (all_placed fs)

@@ -19,20 +19,20 @@ use Rattle.bw_page.specs.Leaves.{Bytes}
 use Rattle.bw_page.specs.Standing.{content, blocks_of}
 use Rattle.bw_page.proofs.Order.{must_be, must_not, not_both}
 use Rattle.bw_log.specs.PageTable.{top_page}
-use Rattle.bw_log.specs.Places.{all_placed, place_of, base_of}
-use Rattle.bw_log.specs.Contents.{IsTable, some_place, entry_place}
+use Rattle.bw_log.specs.Places.{all_placed, place_of, base_of, walk_to}
+use Rattle.bw_log.specs.Contents.{IsTable, some_place, entry_place, entry_walk}
 use Rattle.bw_log.specs.Contents as log
 use Rattle.bw_log.specs.declared.places.PageAt.{PageAt}
 use Rattle.bw_care.specs.Lawful.{HasLawful, leaves_set, is_at_fault, first_such, contents}
 use Rattle.bw_care.specs.Paging.{Paged, Rise, IsIndex, IsLows, IsShortIf, first_wrong, leaves_in, line_at, AreOf, at_line, fault_among}
 use Rattle.bw_care.specs.Paging.{IsRight}
-use Rattle.bw_care.specs.Reading.{place_in, base_in, leaf_in, line_of}
+use Rattle.bw_care.specs.Reading.{place_in, at_in, leaf_in, line_of}
 use Rattle.bw_care.specs.declared.page_lines.Line.{Line}
 use Rattle.bw_page.specs.Leaves.{AreLeaves}
 use Rattle.bw_care.specs.declared.lawful.Pages.{Pages}
 use Rattle.bw_care.proofs.PageShape.{content_shaped}
 use Rattle.bw_care.proofs.PagesAtFault.{in_set}
-use Rattle.bw_care.proofs.LinesTaken.{all_from, base_is, place_of_is}
+use Rattle.bw_care.proofs.LinesTaken.{all_from, base_is, walk_line, walk_is, place_of_is}
 use Rattle.bw_care.proofs.FoundStand.{blocks_lawful, found_stands}
 use Rattle.bw_care.proofs.StandingAgain.{set_all_by}
 use Rattle.bw_care.proofs.PageLines.{AreFrom, first_found, up_to, from_of, rise_by, all_less, here_is, from_next, line_untouched}
@@ -132,40 +132,44 @@ found_leaves m frames es rise of none = leaves_are m 0 (blocks_of frames) (leave
 
 -- ---- the table
 
-place_by : (o : Option Paged) (q : Option Place) → place_in (option_map (λ e. e.1) o) ≡ q → ((l : Line) → option_map (λ e. e.1) o ≡ Some l → 1 ≤ l.place.frame)
+place_by : (o : Option Paged) (q : Option Place) → place_in (option_map (λ e. e.1) o) ≡ q → ((l : Line) → option_map (λ e. e.1) o ≡ Some l → 1 ≤ l.at.place.frame)
     → entry_place (λ e. e.place) (option_map at_line o) ≡ q
 place_by None q is from = is
-place_by (Some e) q is from = (let off : (e.1.place.frame == 0)
-    ≡ false = must_not (e.1.place.frame == 0) (λ z. (let zero_is = eqb-true e.1.place.frame 0 z in let one = from e.1 refl in omega arith)) in rw off is)
+place_by (Some e) q is from = (let off : (e.1.at.place.frame == 0)
+    ≡ false = must_not (e.1.at.place.frame == 0) (λ z. (let zero_is = eqb-true e.1.at.place.frame 0 z in let one = from e.1 refl in omega arith)) in rw off is)
 
-base_by : (o : Option Paged) (q : Option Place) → some_place (base_in (option_map (λ e. e.1) o)) ≡ q → entry_place (λ e. e.base) (option_map at_line o) ≡ q
+base_by : (o : Option Paged) (q : Option Place) → some_place ((at_in (option_map (λ e. e.1) o)).base) ≡ q → entry_place (λ e. e.base) (option_map at_line o) ≡ q
 base_by None q is = is
 base_by (Some e) q is = is
+
+walk_by : (o : Option Paged) → entry_walk (option_map at_line o) ≡ walk_line (option_map (λ e. e.1) o)
+walk_by None = refl
+walk_by (Some e) = refl
 
 map_get : {A B : Type 0} (g : A → B) (xs : List A) (i : ℕ) → slice_get (map g xs) i ≡ option_map g (slice_get xs i)
 map_get g [] i = refl
 map_get g (x ∷ xs) zero = refl
 map_get g (x ∷ xs) (suc i) = map_get g xs i
 
-place_step : (p : ℕ) (was : Option Line) (x : Place × Block) (t : Bool) → touches p x.1 ≡ t → 1 ≤ x.0.frame → ((l : Line) → was ≡ Some l → 1 ≤ l.place.frame)
-    → (l : Line) → line_of p was (x ∷ []) ≡ Some l → 1 ≤ l.place.frame
+place_step : (p : ℕ) (was : Option Line) (x : Place × Block) (t : Bool) → touches p x.1 ≡ t → 1 ≤ x.0.frame → ((l : Line) → was ≡ Some l → 1 ≤ l.at.place.frame)
+    → (l : Line) → line_of p was (x ∷ []) ≡ Some l → 1 ≤ l.at.place.frame
 place_step p was x true e from all l is =
-    (let same : place_in (line_of p was (x ∷ [])) ≡ Some x.0 = rw e refl in let both : Some l.place ≡ Some x.0 = sym (ap place_in is) ∙ same
-    in let eq : l.place ≡ x.0 = cc in
+    (let same : place_in (line_of p was (x ∷ [])) ≡ Some x.0 = rw e refl in let both : Some l.at.place ≡ Some x.0 = sym (ap place_in is) ∙ same
+    in let eq : l.at.place ≡ x.0 = cc in
     subst (λ (q : Place). 1 ≤ q.frame) (sym eq) from)
 place_step p was x false e from all l is = (let same : line_of p was (x ∷ []) ≡ was = rw e refl in all l (sym same ∙ is))
 
-place_after : (p : ℕ) (was : Option Line) (xs : List (Place × Block)) → AllByRecursion (λ x. 1 ≤ x.0.frame) xs → ((l : Line) → was ≡ Some l → 1 ≤ l.place.frame)
-    → (l : Line) → line_of p was xs ≡ Some l → 1 ≤ l.place.frame
+place_after : (p : ℕ) (was : Option Line) (xs : List (Place × Block)) → AllByRecursion (λ x. 1 ≤ x.0.frame) xs → ((l : Line) → was ≡ Some l → 1 ≤ l.at.place.frame)
+    → (l : Line) → line_of p was xs ≡ Some l → 1 ≤ l.at.place.frame
 place_after p was [] from all l is = all l is
 place_after p was (x ∷ xs) from all l is = place_after p (line_of p was (x ∷ [])) xs from.1 (place_step p was x (touches p x.1) refl from.0 all) l is
 
-none_line : (l : Line) → None ≡ Some l → 1 ≤ l.place.frame
+none_line : (l : Line) → None ≡ Some l → 1 ≤ l.at.place.frame
 none_line l is = absurd cc
 
 pub table_is : (m : ℕ) (frames : List Frame) (es : List Paged) → Rise 0 es → AreOf frames es → AllByRecursion (λ f. 1 ≤ f.number) frames
     → first_wrong m (leaves_set (blocks_of frames)) 0 es ≡ None → IsTable (map at_line es) frames
-table_is m frames es rise of from none = record { places = places; bases = bases } where
+table_is m frames es rise of from none = record { places = places; bases = bases; walks = walks } where
   here : (p : ℕ) → 1 ≤ p → option_map (λ e. e.1) (slice_get es (p - 1)) ≡ line_of p None (all_placed frames)
   here p one = (let same : 0 + 1 + (p - 1) ≡ p = omega arith in stands_here m 0 (leaves_set (blocks_of frames)) es (p - 1) rise none
       ∙ ap (λ (q : ℕ). line_at q es) same ∙ of p)
@@ -179,7 +183,12 @@ table_is m frames es rise of from none = record { places = places; bases = bases
   bases : (p : ℕ) → 1 ≤ p → log.place_in (λ e. e.base) (map at_line es) p ≡ base_of p frames
   bases p one =
       ap (entry_place (λ e. e.base)) (map_get at_line es (p - 1))
-      ∙ base_by (slice_get es (p - 1)) (base_of p frames) (ap (λ (o : Option Line). some_place (base_in o)) (here p one) ∙ base_is p frames from)
+      ∙ base_by (slice_get es (p - 1)) (base_of p frames) (ap (λ (o : Option Line). some_place (at_in o).base) (here p one) ∙ base_is p frames from)
+
+  walks : (p : ℕ) → 1 ≤ p → log.walk_in (map at_line es) p ≡ walk_to p frames
+  walks p one =
+      ap entry_walk (map_get at_line es (p - 1))
+      ∙ walk_by (slice_get es (p - 1)) ∙ ap walk_line (here p one) ∙ walk_is p frames
 
 -- ---- together
 

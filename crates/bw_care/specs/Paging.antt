@@ -113,7 +113,7 @@ fault_among m frames = first_such (is_at_fault m (blocks_of frames)) 1 (top_page
 
 -- a page's places
 abbrev pub at_line : Paged → PageAt
-at_line e = record { place = e.1.place; base = e.1.base }
+at_line e = e.1.at
 
 -- there are lawful frames, of which these are the lines
 abbrev pub HasFrames : ℕ → tree.BTreeMap ℕ Line → Type 0

@@ -219,8 +219,8 @@ fn take_apart(
     pages.reverse();
     'next: while let Some(page) = pages.pop() {
         let (_, line) = page;
-        let Line { place, base, leaf } = line;
-        table.push(PageAt { place, base })?;
+        let Line { at, leaf } = line;
+        table.push(at)?;
         match leaf {
             Some(leaf) => leaves.push(leaf)?,
             None => {}

@@ -11,11 +11,12 @@ ghost use Rattle.std.specs.Ordering.{nat_cmp};
 ghost use Rattle.bw_page.specs.Leaves.{all_changed};
 ghost use Rattle.bw_page.specs.Standing.{kept_below};
 ghost use Rattle.bw_log.specs.Places.{is_back, fault_at, fault_of, placed, all_placed, bad_link};
-ghost use Rattle.bw_care.specs.Reading.{place_in, base_in, leaf_in, line_after, AreLines, IsRead, LinkFaultIs};
+ghost use Rattle.bw_care.specs.Reading.{place_in, at_in, leaf_in, line_after, AreLines, IsRead, LinkFaultIs};
 ghost use Rattle.bw_codec.specs.declared.block.Place.{Place as PlaceValue};
 ghost use Rattle.bw_codec.specs.declared.block.Block.{Block as BlockValue};
 
 use bw_codec::{Block, Leaf, Place, Record};
+use bw_log::PageAt;
 use bw_page::Draft;
 use std::alloc::{AllocError, Global};
 use std::collections::BTreeMap;
@@ -24,17 +25,14 @@ use std::marker::Model;
 /// A page that was touched: where its last blocks stand, and what it is if it was set.
 #[derive(Drop)]
 pub struct Line {
-    pub place: Place,
-    /// The last block that sets it; frame 0 where none did.
-    pub base: Place,
+    pub at: PageAt,
     pub leaf: Option<Leaf>,
 }
 
 /// A line while blocks are read: the page may hold far more pairs than in the end.
 #[derive(Drop)]
 pub struct DraftLine {
-    place: Place,
-    base: Place,
+    at: PageAt,
     draft: Option<Draft>,
 }
 
@@ -43,7 +41,7 @@ impl Model for DraftLine {
 
     ghost Value = { LineValue };
 
-    ghost view = { λ l. record { place = l.place; base = l.base; leaf = l.draft } };
+    ghost view = { λ l. record { at = l.at; leaf = l.draft } };
 }
 
 impl DraftLine {
@@ -51,12 +49,12 @@ impl DraftLine {
     pub fn into_line(self) -> Result<Line, AllocError>
         ensures { IfOk result (λ line. line ≡ self) }
     {
-        let DraftLine { place, base, draft } = self;
+        let DraftLine { at, draft } = self;
         let leaf = match draft {
             Some(draft) => Some(draft.into_leaf()?),
             None => None,
         };
-        Ok(Line { place, base, leaf })
+        Ok(Line { at, leaf })
     }
 }
 
@@ -80,22 +78,18 @@ fn keep_some(draft: Option<Draft>, separator: &[u8]) -> Option<Draft>
 }
 
 // What the map had of a page, taken out of it.
-pub(crate) fn take_line(lines: &mut BTreeMap<u32, DraftLine>, page: u32) -> (Place, Option<Draft>)
-    ensures base { result.0 ≡ base_in (tree.get nat_cmp lines.old page) }
+pub(crate) fn take_line(lines: &mut BTreeMap<u32, DraftLine>, page: u32) -> (PageAt, Option<Draft>)
+    ensures at { result.0 ≡ at_in (tree.get nat_cmp lines.old page) }
     ensures leaf { result.1 ≡ leaf_in (tree.get nat_cmp lines.old page) }
     ensures others { (p : ℕ) → tree.get nat_cmp lines.new p
         ≡ (if nat_eq page p then None else tree.get nat_cmp lines.old p) }
 {
     match lines.remove(&page) {
         Some(line) => {
-            let DraftLine {
-                place: _,
-                base,
-                draft,
-            } = line;
-            (base, draft)
+            let DraftLine { at, draft } = line;
+            (at, draft)
         }
-        None => (Place { frame: 0, index: 0 }, None),
+        None => (PageAt::NONE, None),
     }
 }
 
@@ -122,15 +116,15 @@ pub fn read_one(
 {
     match block {
         Block::Delta { page, back: _, ops } => {
-            let (base, draft) = take_line(lines, page);
+            let (at, draft) = take_line(lines, page);
             let draft = change_some(draft, ops.as_slice())?;
-            put_line(lines, page, DraftLine { place, base, draft })
+            let at = at.changed(place);
+            put_line(lines, page, DraftLine { at, draft })
         }
         Block::Base(leaf) => {
             let page = leaf.page;
             let line = DraftLine {
-                place,
-                base: place,
+                at: PageAt::set(place),
                 draft: Some(Draft::of(leaf)),
             };
             put_line(lines, page, line)
@@ -140,13 +134,13 @@ pub fn read_one(
             back: _,
             upper,
         } => {
-            let (base, draft) = take_line(lines, page);
+            let (at, draft) = take_line(lines, page);
             let draft = keep_some(draft, upper.low.as_slice());
-            put_line(lines, page, DraftLine { place, base, draft })?;
+            let at = at.changed(place);
+            put_line(lines, page, DraftLine { at, draft })?;
             let made = upper.page;
             let line = DraftLine {
-                place,
-                base: place,
+                at: PageAt::set(place),
                 draft: Some(Draft::of(upper)),
             };
             put_line(lines, made, line)
@@ -159,7 +153,7 @@ pub fn links_back(lines: &BTreeMap<u32, DraftLine>, first: u64, page: u32, back:
     ensures { result ≡ is_back first (place_in (tree.get nat_cmp lines.now page)) back }
 {
     match lines.get(&page) {
-        Some(line) => line.place.frame == back.frame && line.place.index == back.index,
+        Some(line) => line.at.place.frame == back.frame && line.at.place.index == back.index,
         None => 0 < back.frame && back.frame < first,
     }
 }

@@ -20,10 +20,10 @@ use Rattle.bw_codec.specs.declared.block.Block.TheVariants.{Delta, Base, Split}
 use Rattle.bw_codec.specs.declared.block.Frame.{Frame}
 use Rattle.bw_page.specs.Leaves.{BeginsEmpty}
 use Rattle.bw_page.specs.Standing.{after, content, blocks_of, Stand}
-use Rattle.bw_log.specs.Places.{placed, all_placed, later, last_place, is_back, fault_at, fault_of, or_else, bad_link, first_number, place_of, base_of}
+use Rattle.bw_log.specs.Places.{placed, all_placed, later, last_place, is_back, fault_at, fault_of, or_else, bad_link, first_number, place_of, base_of, walked, walk_to}
 use Rattle.bw_log.specs.Places.{AreLinked}
 use Rattle.bw_log.specs.Segments.{segment_frames, frames_of, entries_from, entries, AreLive, IsCleanLast, AreFrom, following, next_of, is_before_next}
-use Rattle.bw_log.specs.Contents.{Image, limits_of, counted_in, place_in, entry_place, IsImage, IsStanding}
+use Rattle.bw_log.specs.Contents.{Image, limits_of, counted_in, place_in, entry_place, walk_in, entry_walk, IsImage, IsStanding}
 use Rattle.bw_log.specs.Oldest.{IsAfter}
 use Rattle.bw_log.specs.declared.places.FrameAt.{FrameAt}
 use Rattle.bw_log.specs.declared.places.PageAt.{PageAt}
@@ -319,6 +319,56 @@ table_by field test pages p n gone kept None some are here passes says =
       | inr inside ↦ absurd (true≢false (sym (passes inside) ∙ none))
     ]
 
+-- a walk does not change where no block touches the page
+stays_by : (p : ℕ) (w : ℕ × ℕ) (x : Place × Block) (xs : List (Place × Block)) (t : Bool) → touches p x.1 ≡ t
+    → fold (later (touches p)) (if t then Some x.0 else None) xs ≡ None → (last_place (touches p) xs ≡ None → fold (walked p) w xs ≡ w)
+    → fold (walked p) (walked p w x) xs ≡ w
+stays_by p w x xs true is none others =
+    let some : or_else (last_place (touches p) xs) (Some x.0) ≡ None = sym (later_over (touches p) (Some x.0) xs) ∙ none in
+    absurd (never (last_place (touches p) xs) some) where
+      never : {A : Type 0} {x : A} (o : Option A) → or_else o (Some x) ≡ None → ⊥
+      never None e = cc
+      never (Some y) e = cc
+stays_by p w x xs false is none others =
+    ap (λ (v : ℕ × ℕ). fold (walked p) v xs) (rw (sets_touches p x.1 is, is) refl) ∙ others none
+
+pub walk_stays : (p : ℕ) (w : ℕ × ℕ) (xs : List (Place × Block)) → last_place (touches p) xs ≡ None → fold (walked p) w xs ≡ w
+walk_stays p w [] none = refl
+walk_stays p w (x ∷ xs) none = stays_by p w x xs (touches p x.1) refl none (walk_stays p w xs)
+
+-- what sets the page forgets how far it was read before
+forgets_by : (p : ℕ) (v w : ℕ × ℕ) (x : Place × Block) (xs : List (Place × Block)) (place : Place) (t : Bool) → sets p x.1 ≡ t
+    → fold (later (sets p)) (if t then Some x.0 else None) xs ≡ Some place
+    → ((v w : ℕ × ℕ) → last_place (sets p) xs ≡ Some place → fold (walked p) v xs ≡ fold (walked p) w xs)
+    → fold (walked p) (walked p v x) xs ≡ fold (walked p) (walked p w x) xs
+forgets_by p v w x xs place true is some others =
+    let one : (u : ℕ × ℕ) → walked p u x ≡ (x.0.frame, 1) = λ u. rw is refl in
+    ap (λ (u : ℕ × ℕ). fold (walked p) u xs) (one v ∙ sym (one w))
+forgets_by p v w x xs place false is some others = others (walked p v x) (walked p w x) some
+
+pub walk_forgets : (p : ℕ) (v w : ℕ × ℕ) (xs : List (Place × Block)) (place : Place) → last_place (sets p) xs ≡ Some place
+    → fold (walked p) v xs ≡ fold (walked p) w xs
+walk_forgets p v w [] place some = absurd cc
+walk_forgets p v w (x ∷ xs) place some = forgets_by p v w x xs place (sets p x.1) refl some (λ a b. walk_forgets p a b xs place)
+
+-- the walk over all frames is that over what is left, where the table has the page, or nothing
+walk_by : (pages : List PageAt) (p n : ℕ) (gone kept : List Frame) (in_kept : Option Place) → 1 ≤ p → AreFrom n kept
+    → last_place (sets p) (all_placed kept) ≡ in_kept → (p ≤ length pages → list_any (sets p) (blocks_of kept) ≡ true)
+    → place_in (λ e. e.place) pages p ≡ last_place (touches p) (all_placed kept) → walk_in pages p ≡ walk_to p (gone ++ kept)
+    → walk_in pages p ≡ walk_to p kept
+walk_by pages p n gone kept (Some place) some are here passes there says =
+    says ∙ ap (fold (walked p) (0, 0)) (placed_more gone kept) ∙ fold-append (walked p) (0, 0) (all_placed gone) (all_placed kept)
+    ∙ walk_forgets p (walk_to p gone) (0, 0) (all_placed kept) place here
+walk_by pages p n gone kept None some are here passes there says =
+    let none = none_placed (sets p) n kept are here in
+    elim (cases_lt (length pages) p) [
+      | inl beyond ↦ (
+          let past : slice_get pages (p - 1) ≡ None = slice_get_past pages (p - 1) (omega arith) in
+          ap entry_walk past
+          ∙ sym (walk_stays p (0, 0) (all_placed kept) (sym there ∙ ap (entry_place (λ (e : PageAt). e.place)) past)))
+      | inr inside ↦ absurd (true≢false (sym (passes inside) ∙ none))
+    ]
+
 some_frame : (test : Block → Bool) (fs : List Frame) → list_any test (blocks_of fs) ≡ true → 1 ≤ length fs
 some_frame test [] is = absurd cc
 some_frame test (f ∷ fs) is = omega arith
@@ -468,6 +518,9 @@ given_up i b bs frames go lines =
     λ p some inside. true_from_ne_false (list_any (touches p) (blocks_of kept))
     (λ none. true≢false (sym (set p some inside) ∙ any_touched p (blocks_of kept) none)) in
     let numbers_low = go.holds.numbers in
+    let places : (p : ℕ) → 1 ≤ p → place_in (λ e. e.place) i.pages p ≡ last_place (touches p) (all_placed kept) =
+    λ p some. table_by (λ e. e.place) (touches p) i.pages p (n + length gone) gone kept (last_place (touches p) (all_placed kept)) some behind
+    refl (touched p some) (go.holds.table.places p some ∙ ap (place_of p) (counts i b bs go)) in
     record {
       limits = go.holds.limits;
       numbers = omega arith;
@@ -486,11 +539,11 @@ given_up i b bs frames go lines =
           (links_by n gone kept (low_by _ _ _ gone kept live.0.whole.each) are was));
       stands = subst (λ (fs : List Frame). IsStanding i.m fs pages) (sym counted) (standing_kept i.m pages gone kept set (stood i b bs go));
       table = record {
-        places = λ p some. table_by (λ e. e.place) (touches p) i.pages p (n + length gone) gone kept (last_place (touches p) (all_placed kept)) some behind
-            refl (touched p some)
-            (go.holds.table.places p some ∙ ap (place_of p) (counts i b bs go)) ∙ ap (place_of p) (sym counted);
+        places = λ p some. places p some ∙ ap (place_of p) (sym counted);
         bases = λ p some. table_by (λ e. e.base) (sets p) i.pages p (n + length gone) gone kept (last_place (sets p) (all_placed kept)) some
             behind refl (set p some)
             (go.holds.table.bases p some ∙ ap (base_of p) (counts i b bs go)) ∙ ap (base_of p) (sym counted);
+        walks = λ p some. walk_by i.pages p (n + length gone) gone kept (last_place (sets p) (all_placed kept)) some behind refl (set p some)
+            (places p some) (go.holds.table.walks p some ∙ ap (walk_to p) (counts i b bs go)) ∙ ap (walk_to p) (sym counted);
       };
     }

@@ -16,9 +16,9 @@ use Rattle.bw_codec.specs.declared.block.Frame.{Frame}
 use Rattle.bw_buffer.specs.Marks.{mark_of}
 use Rattle.bw_buffer.specs.declared.mark.Mark.{Mark}
 use Rattle.bw_buffer.specs.declared.mark.Mark.TheVariants.{Changes, Sets, Splits}
-use Rattle.bw_log.specs.Places.{placed, all_placed, later, last_place}
-use Rattle.bw_log.specs.Contents.{some_place, entry_place, place_in, IsTable}
-use Rattle.bw_log.specs.PageTable.{with_place, with_base, noted, noted_all, IsInTable, HasLines, HaveLines, top_of, top_page, no_place, empty_line}
+use Rattle.bw_log.specs.Places.{placed, all_placed, later, last_place, one_more, walked}
+use Rattle.bw_log.specs.Contents.{some_place, entry_place, place_in, entry_walk, walk_in, IsTable}
+use Rattle.bw_log.specs.PageTable.{changed_line, set_line, with_place, with_base, noted, noted_all, IsInTable, HasLines, HaveLines, top_of, top_page, no_place, empty_line}
 use Rattle.bw_log.specs.declared.places.PageAt.{PageAt}
 
 -- ---- one line
@@ -35,20 +35,24 @@ get_set_other (y ∷ ys) zero (suc j) x other = refl
 get_set_other (y ∷ ys) (suc i) zero x other = refl
 get_set_other (y ∷ ys) (suc i) (suc j) x other = get_set_other ys i j x (λ e. other (ap suc e))
 
--- what the table says of each page once the line of one is written
-line_set : (field : PageAt → Place) (pages : List PageAt) (k p : ℕ) (line : PageAt) → IsInTable k (length pages) → 1 ≤ p
-    → place_in field (set pages (k - 1) line) p ≡ (if k == p then some_place (field line) else place_in field pages p)
-line_set field pages k p line inside from =
+-- what is said of each page once the line of one is written
+said_set : {X : Type 0} (say : Option PageAt → X) (pages : List PageAt) (k p : ℕ) (line : PageAt) → IsInTable k (length pages) → 1 ≤ p
+    → say (slice_get (set pages (k - 1) line) (p - 1)) ≡ (if k == p then say (Some line) else say (slice_get pages (p - 1)))
+said_set say pages k p line inside from =
     elim (cases_Bool (k == p)) [
       | inl same ↦ (
           let e : k ≡ p = eqb-true k p same in
           let here : slice_get (set pages (k - 1) line) (p - 1) ≡ Some line =
           ap (λ (i : ℕ). slice_get (set pages (k - 1) line) (i - 1)) (sym e) ∙ get_set_same pages (k - 1) line (omega arith) in
-          ap (entry_place field) here ∙ rw same refl)
+          ap say here ∙ rw same refl)
       | inr apart ↦ (
           let other : p - 1 ≢ k - 1 = λ e. eqb-false k p apart (omega arith) in
-          ap (entry_place field) (get_set_other pages (k - 1) (p - 1) line other) ∙ rw apart refl)
+          ap say (get_set_other pages (k - 1) (p - 1) line other) ∙ rw apart refl)
     ]
+
+line_set : (field : PageAt → Place) (pages : List PageAt) (k p : ℕ) (line : PageAt) → IsInTable k (length pages) → 1 ≤ p
+    → place_in field (set pages (k - 1) line) p ≡ (if k == p then some_place (field line) else place_in field pages p)
+line_set field pages k p line inside from = said_set (entry_place field) pages k p line inside from
 
 real_place : (q : Place) → 1 ≤ q.frame → some_place q ≡ Some q
 real_place q some = rw (ne_eqb q.frame 0 (λ e. absurd (omega arith))) refl
@@ -66,21 +70,37 @@ place_with_place pages k p q inside from some =
     line_set (λ (e : PageAt). e.place) pages k p _ inside from
     ∙ ap (λ (o : Option Place). if k == p then o else place_in (λ e. e.place) pages p) (real_place q some)
 
-place_with_base : (field : PageAt → Place) (pages : List PageAt) (k p : ℕ) (q : Place) → field (record { place = q; base = q }) ≡ q → IsInTable k (length pages)
+place_with_base : (field : PageAt → Place) (pages : List PageAt) (k p : ℕ) (q : Place) → field (set_line q) ≡ q → IsInTable k (length pages)
     → 1 ≤ p → 1 ≤ q.frame
     → place_in field (with_base k q pages) p ≡ (if k == p then Some q else place_in field pages p)
 place_with_base field pages k p q same inside from some =
-    let line : PageAt = record { place = q; base = q } in
-    line_set field pages k p line inside from ∙ ap (λ (o : Option Place). if k == p then o else place_in field pages p) (ap some_place same ∙ real_place q some)
+    line_set field pages k p (set_line q) inside from ∙ ap (λ (o : Option Place). if k == p then o else place_in field pages p) (ap some_place same ∙ real_place q some)
 
 base_with_place : (pages : List PageAt) (k p : ℕ) (q : Place) → IsInTable k (length pages) → 1 ≤ p
     → place_in (λ e. e.base) (with_place k q pages) p ≡ place_in (λ e. e.base) pages p
 base_with_place pages k p q inside from =
-    let d : PageAt = record { place = q; base = q } in
-    let line : PageAt = record { place = q; base = (get_or pages (k - 1) d).base } in
-    line_set (λ (e : PageAt). e.base) pages k p line inside from
+    line_set (λ (e : PageAt). e.base) pages k p (changed_line q (get_or pages (k - 1) (set_line q))) inside from
     ∙ (elim (cases_Bool (k == p)) [
-      | inl same ↦ rw same (base_kept pages k q d inside ∙ ap (place_in (λ e. e.base) pages) (eqb-true k p same))
+      | inl same ↦ rw same (base_kept pages k q (set_line q) inside ∙ ap (place_in (λ e. e.base) pages) (eqb-true k p same))
+      | inr apart ↦ rw apart refl
+    ])
+
+-- what a line says of its walk after a block of its page
+abbrev further : Place → ℕ × ℕ → ℕ × ℕ
+further q was = (q.frame, if was.0 == q.frame then was.1 else one_more was.1)
+
+walk_with_base : (pages : List PageAt) (k p : ℕ) (q : Place) → IsInTable k (length pages) → 1 ≤ p
+    → walk_in (with_base k q pages) p ≡ (if k == p then (q.frame, 1) else walk_in pages p)
+walk_with_base pages k p q inside from = said_set entry_walk pages k p (set_line q) inside from
+
+walk_with_place : (pages : List PageAt) (k p : ℕ) (q : Place) → IsInTable k (length pages) → 1 ≤ p
+    → walk_in (with_place k q pages) p ≡ (if k == p then further q (walk_in pages p) else walk_in pages p)
+walk_with_place pages k p q inside from =
+    said_set entry_walk pages k p (changed_line q (get_or pages (k - 1) (set_line q))) inside from
+    ∙ (elim (cases_Bool (k == p)) [
+      | inl same ↦ rw same (
+          ap (λ (o : Option PageAt). further q (entry_walk o)) (sym (slice_get-get_or pages (k - 1) (set_line q) (omega arith)))
+          ∙ ap (λ (i : ℕ). further q (walk_in pages i)) (eqb-true k p same))
       | inr apart ↦ rw apart refl
     ])
 
@@ -114,6 +134,27 @@ base_noted (Split page back upper) q pages p lines from some =
     place_with_base (λ (e : PageAt). e.base) (with_place page q pages) upper.page p q refl inside from some
     ∙ ap (λ (o : Option Place). if upper.page == p then Some q else o) (base_with_place pages page p q lines.0 from)
 
+twice : {X : Type 0} (t : Bool) (x y z : X) → (if t then x else z) ≡ (if t then x else if t then y else z)
+twice true x y z = refl
+twice false x y z = refl
+
+both_ways : {X : Type 0} (s t : Bool) (x y z : X) → (if t then x else if s then y else z) ≡ (if t then x else if s || t then y else z)
+both_ways true true x y z = refl
+both_ways true false x y z = refl
+both_ways false true x y z = refl
+both_ways false false x y z = refl
+
+walk_noted : (b : Block) (q : Place) (pages : List PageAt) (p : ℕ) → HasLines (mark_of b) (length pages) → 1 ≤ p
+    → walk_in (noted (mark_of b) q pages) p ≡ walked p (walk_in pages p) (q, b)
+walk_noted (Delta page back ops) q pages p lines from = walk_with_place pages page p q lines from
+walk_noted (Base leaf) q pages p lines from =
+    walk_with_base pages leaf.page p q lines from ∙ twice (leaf.page == p) (q.frame, 1) (further q (walk_in pages p)) (walk_in pages p)
+walk_noted (Split page back upper) q pages p lines from =
+    let inside : IsInTable upper.page (length (with_place page q pages)) = subst (IsInTable upper.page) (sym (length-noted (Changes page) q pages)) lines.1 in
+    walk_with_base (with_place page q pages) upper.page p q inside from
+    ∙ ap (λ (w : ℕ × ℕ). if upper.page == p then (q.frame, 1) else w) (walk_with_place pages page p q lines.0 from)
+    ∙ both_ways (page == p) (upper.page == p) (q.frame, 1) (further q (walk_in pages p)) (walk_in pages p)
+
 -- ---- a frame's blocks
 
 lines_stay : (bs : List Block) (m n : ℕ) → m ≡ n → HaveLines bs n → HaveLines bs m
@@ -136,6 +177,15 @@ bases_noted number i (b ∷ bs) pages p lines from some =
     bases_noted number (i + 1) bs (noted (mark_of b) q pages) p
     (lines_stay bs (length (noted (mark_of b) q pages)) (length pages) (length-noted (mark_of b) q pages) lines.1) from some
     ∙ ap (λ (o : Option Place). fold (later (sets p)) o (placed number (i + 1) bs)) (base_noted b q pages p lines.0 from some)
+
+walks_noted : (number i : ℕ) (bs : List Block) (pages : List PageAt) (p : ℕ) → HaveLines bs (length pages) → 1 ≤ p
+    → walk_in (noted_all number i bs pages) p ≡ fold (walked p) (walk_in pages p) (placed number i bs)
+walks_noted number i [] pages p lines from = refl
+walks_noted number i (b ∷ bs) pages p lines from =
+    let q : Place = record { frame = number; index = i } in
+    walks_noted number (i + 1) bs (noted (mark_of b) q pages) p
+    (lines_stay bs (length (noted (mark_of b) q pages)) (length pages) (length-noted (mark_of b) q pages) lines.1) from
+    ∙ ap (λ (w : ℕ × ℕ). fold (walked p) w (placed number (i + 1) bs)) (walk_noted b q pages p lines.0 from)
 
 pub length-noted_all : (number i : ℕ) (bs : List Block) (pages : List PageAt) → length (noted_all number i bs pages) ≡ length pages
 length-noted_all number i [] pages = refl
@@ -163,6 +213,10 @@ table_more pages all x table some lines = record {
       bases_noted x.number 0 x.blocks pages p lines from some
       ∙ ap (λ (o : Option Place). fold (later (sets p)) o (placed x.number 0 x.blocks)) (table.bases p from)
       ∙ sym (ap (last_place (sets p)) (placed_more all x) ∙ fold-append (later (sets p)) None (all_placed all) (placed x.number 0 x.blocks));
+  walks = λ p from.
+      walks_noted x.number 0 x.blocks pages p lines from
+      ∙ ap (λ (w : ℕ × ℕ). fold (walked p) w (placed x.number 0 x.blocks)) (table.walks p from)
+      ∙ sym (ap (fold (walked p) (0, 0)) (placed_more all x) ∙ fold-append (walked p) (0, 0) (all_placed all) (placed x.number 0 x.blocks));
 }
 
 -- ---- lines that say nothing
@@ -174,10 +228,17 @@ grown_at field [] (suc i) none = refl
 grown_at field (e ∷ es) zero none = refl
 grown_at field (e ∷ es) (suc i) none = grown_at field es i none
 
+walk_grown : (pages : List PageAt) (i : ℕ) → entry_walk (slice_get (pages ++ empty_line ∷ []) i) ≡ entry_walk (slice_get pages i)
+walk_grown [] zero = refl
+walk_grown [] (suc i) = refl
+walk_grown (e ∷ es) zero = refl
+walk_grown (e ∷ es) (suc i) = walk_grown es i
+
 table_grown : (pages : List PageAt) (all : List Frame) → IsTable pages all → IsTable (pages ++ empty_line ∷ []) all
 table_grown pages all table = record {
   places = λ p from. grown_at (λ (e : PageAt). e.place) pages (p - 1) refl ∙ table.places p from;
   bases = λ p from. grown_at (λ (e : PageAt). e.base) pages (p - 1) refl ∙ table.bases p from;
+  walks = λ p from. walk_grown pages (p - 1) ∙ table.walks p from;
 }
 
 pub table_grown_by : (k : ℕ) (pages : List PageAt) (all : List Frame) → IsTable pages all → IsTable (pages ++ replicate k empty_line) all

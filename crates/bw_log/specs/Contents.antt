@@ -11,7 +11,7 @@ use Rattle.bw_page.specs.Standing.{Stand}
 use Rattle.bw_device.specs.Boxes.{HasRoomOf, IsSpareOf}
 use Rattle.bw_device.specs.Holding.{Holding}
 use Rattle.bw_device.specs.declared.memory.TheConstants.{MAX_CAPACITY}
-use Rattle.bw_log.specs.Places.{place_of, base_of, first_number, AreLinked}
+use Rattle.bw_log.specs.Places.{place_of, base_of, walk_to, first_number, AreLinked}
 use Rattle.bw_log.specs.Segments.{Limits, header_with, frames_of, entries, AreLive, IsCleanLast, AreFrom, is_before_next, next_of}
 use Rattle.bw_log.specs.declared.places.FrameAt.{FrameAt}
 use Rattle.bw_log.specs.declared.places.PageAt.{PageAt}
@@ -102,10 +102,19 @@ entry_place field (Some e) = some_place (field e)
 abbrev pub place_in : (PageAt → Place) → List PageAt → ℕ → Option Place
 place_in field pages p = entry_place field (slice_get pages (p - 1))
 
--- the table says where each page's last touching and last setting block stand
+-- the frame of a line's last block, and its walk; none of both where there is no line
+abbrev pub entry_walk : Option PageAt → ℕ × ℕ
+entry_walk None = (0, 0)
+entry_walk (Some e) = (e.place.frame, e.walk)
+
+abbrev pub walk_in : List PageAt → ℕ → ℕ × ℕ
+walk_in pages p = entry_walk (slice_get pages (p - 1))
+
+-- the table says where each page's last touching and last setting block stand, and from how many frames it is read
 pub record IsTable (pages : List PageAt) (frames : List Frame) : Type 0 where
   pub places : (p : ℕ) → 1 ≤ p → place_in (λ e. e.place) pages p ≡ place_of p frames
   pub bases : (p : ℕ) → 1 ≤ p → place_in (λ e. e.base) pages p ≡ base_of p frames
+  pub walks : (p : ℕ) → 1 ≤ p → walk_in pages p ≡ walk_to p frames
 
 -- there are no frames and no pages, or the frames are so many leaves
 abbrev pub IsStanding : ℕ → List Frame → ℕ → Type 0

@@ -1,22 +1,32 @@
 -- What a block does to the table of places.
 
-use Rattle.std.specs.Prelude.{ℕ, ◌+◌, ◌-◌, ◌≤◌, max, replicate, length, ◌++◌, List, [], ◌∷◌, slice_set, slice_index_or}
+use Rattle.std.specs.Prelude.{ℕ, ◌+◌, ◌-◌, ◌≤◌, ◌==◌, if◌then◌else◌, max, replicate, length, ◌++◌, List, [], ◌∷◌, slice_set, slice_index_or}
 use Rattle.std.specs.List.{AllByRecursion}
 use Rattle.bw_codec.specs.declared.block.Place.{Place}
 use Rattle.bw_codec.specs.declared.block.Block.{Block}
 use Rattle.bw_buffer.specs.Marks.{mark_of}
 use Rattle.bw_buffer.specs.declared.mark.Mark.{Mark}
 use Rattle.bw_buffer.specs.declared.mark.Mark.TheVariants.{Changes, Sets, Splits}
+use Rattle.bw_log.specs.Places.{one_more}
 use Rattle.bw_log.specs.declared.places.PageAt.{PageAt}
 
--- the page's last touching block stands here now, and its last setting one where it stood
-abbrev pub with_place : ℕ → Place → List PageAt → List PageAt
-with_place page place pages =
-    slice_set pages (page - 1) (record { place = place; base = (slice_index_or pages (page - 1) (record { place = place; base = place })).base })
+-- a page's last touching block stands here now, and its last setting one where it stood
+abbrev pub changed_line : Place → PageAt → PageAt
+changed_line place e = record {
+  place = place;
+  base = e.base;
+  walk = if e.place.frame == place.frame then e.walk else one_more e.walk;
+}
 
 -- both stand here now
+abbrev pub set_line : Place → PageAt
+set_line place = record { place = place; base = place; walk = 1 }
+
+abbrev pub with_place : ℕ → Place → List PageAt → List PageAt
+with_place page place pages = slice_set pages (page - 1) (changed_line place (slice_index_or pages (page - 1) (set_line place)))
+
 abbrev pub with_base : ℕ → Place → List PageAt → List PageAt
-with_base page place pages = slice_set pages (page - 1) (record { place = place; base = place })
+with_base page place pages = slice_set pages (page - 1) (set_line place)
 
 abbrev pub noted : Mark → Place → List PageAt → List PageAt
 noted (Changes page) place pages = with_place page place pages
@@ -58,7 +68,7 @@ no_place = record { frame = 0; index = 0 }
 
 -- the line of a page of which nothing was said yet
 abbrev pub empty_line : PageAt
-empty_line = record { place = no_place; base = no_place }
+empty_line = record { place = no_place; base = no_place; walk = 0 }
 
 -- the table with lines up to a page
 abbrev pub grown_to : ℕ → List PageAt → List PageAt

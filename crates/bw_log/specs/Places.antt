@@ -1,6 +1,6 @@
 -- Where blocks stand, the last block of a page, and links back to it.
 
-use Rattle.std.specs.Prelude.{ℕ, ◌+◌, ◌≡◌, ◌==◌, ◌&&◌, nat_lt, Bool, if◌then◌else◌, Option, Some, None, List, [], ◌∷◌, ◌++◌}
+use Rattle.std.specs.Prelude.{ℕ, ◌+◌, ◌-◌, ◌^◌, min, ◌≡◌, ◌==◌, ◌&&◌, nat_lt, Bool, if◌then◌else◌, Option, Some, None, List, [], ◌∷◌, ◌++◌}
 use Rattle.std.specs.List.{fold, flat_map}
 use Rattle.bw_codec.specs.Touch.{sets, touches}
 use Rattle.bw_codec.specs.declared.block.Place.{Place}
@@ -31,6 +31,26 @@ place_of p frames = last_place (touches p) (all_placed frames)
 -- the last block that sets a page
 abbrev pub base_of : ℕ → List Frame → Option Place
 base_of p frames = last_place (sets p) (all_placed frames)
+
+-- ---- how many frames a page is read from
+
+-- one more; it stays where it is at the greatest number
+abbrev pub one_more : ℕ → ℕ
+one_more n = min (n + 1) (2 ^ 64 - 1)
+
+-- the frame of a page's last block, and in how many frames its blocks stand since the last that sets it, after a block more
+abbrev pub walked : ℕ → ℕ × ℕ → Place × Block → ℕ × ℕ
+walked p was x =
+    if sets p x.1 then (x.0.frame, 1)
+    else if touches p x.1 then (x.0.frame, if was.0 == x.0.frame then was.1 else one_more was.1) else was
+
+-- both, of the blocks of frames
+abbrev pub walk_to : ℕ → List Frame → ℕ × ℕ
+walk_to p frames = fold (walked p) (0, 0) (all_placed frames)
+
+-- in how many frames blocks of a page stand since the last that sets it, which is among them
+abbrev pub walk_of : ℕ → List Frame → ℕ
+walk_of p frames = (walk_to p frames).1
 
 -- ---- links
 

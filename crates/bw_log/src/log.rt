@@ -8,7 +8,7 @@ ghost use Rattle.bw_log.specs.Contents.{IsSpare, counted, some_place};
 ghost use Rattle.bw_log.specs.Limits.{fresh, AreLimits, IsFit, IsNotTaken};
 ghost use Rattle.bw_log.specs.Reads.{IsPage};
 ghost use Rattle.bw_log.specs.Oldest.{last_number};
-ghost use Rattle.bw_log.specs.Places.{place_of, base_of};
+ghost use Rattle.bw_log.specs.Places.{place_of, base_of, walk_of};
 
 use crate::fault::LogFault;
 use crate::places::{FrameAt, PageAt};
@@ -247,6 +247,19 @@ impl Log {
         match self.page_at(page) {
             Some(entry) => place_or_none(entry.base),
             None => None,
+        }
+    }
+
+    /// From how many frames a page is read: those with a block of it since the last that sets it,
+    /// that one among them; 0 where there is no such page. It takes no memory, and constant time.
+    pub fn walk_of(&self, page: u32) -> u64
+        requires { IsSound holding self.now }
+        ensures some { 1 ≤ page → result ≡ walk_of page (counted (seen_by holding self.now)) }
+        ensures none { (IsPage (seen_by holding self.now) page → ⊥) → result ≡ 0 }
+    {
+        match self.page_at(page) {
+            Some(entry) => entry.walk,
+            None => 0,
         }
     }
 

@@ -17,14 +17,14 @@ fn note(pages: &mut Vec<PageAt>, mark: Mark, place: Place)
     let _ = pages.as_slice().len();
     match mark {
         Mark::Changes(page) => {
-            pages[page as usize - 1].place = place;
+            pages[page as usize - 1] = pages[page as usize - 1].changed(place);
         }
         Mark::Sets(page) => {
-            pages[page as usize - 1] = PageAt { place, base: place };
+            pages[page as usize - 1] = PageAt::set(place);
         }
         Mark::Splits(page, made) => {
-            pages[page as usize - 1].place = place;
-            pages[made as usize - 1] = PageAt { place, base: place };
+            pages[page as usize - 1] = pages[page as usize - 1].changed(place);
+            pages[made as usize - 1] = PageAt::set(place);
         }
     }
 }
@@ -66,12 +66,8 @@ pub(crate) fn grow(pages: &mut Vec<PageAt>, top: u32)
     requires { vec_len pages.old + (top - length pages.old.items) ≤ vec_capacity pages.old }
     ensures { pages.new.items ≡ grown_to top pages.old.items }
 {
-    let none = Place { frame: 0, index: 0 };
     let missing = (top as usize).saturating_sub(pages.as_slice().len());
     for _i in 0..missing {
-        pages.push_reserved(PageAt {
-            place: none,
-            base: none,
-        });
+        pages.push_reserved(PageAt::NONE);
     }
 }

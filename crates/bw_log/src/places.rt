@@ -1,5 +1,8 @@
 //! Where frames and pages stand.
 
+ghost use Rattle.std.specs.Prelude.{◌≡◌};
+ghost use Rattle.bw_log.specs.PageTable.{changed_line, set_line};
+
 use bw_codec::Place;
 
 /// Where a frame stands.
@@ -22,6 +25,45 @@ pub struct PageAt {
     pub place: Place,
     /// The last block that sets it.
     pub base: Place,
+    /// In how many frames blocks of the page stand since that one, its frame among them: a read of
+    /// the page reads so many.
+    pub walk: u64,
+}
+
+impl PageAt {
+    /// Of a page of which no block speaks yet.
+    pub const NONE: PageAt = PageAt {
+        place: Place { frame: 0, index: 0 },
+        base: Place { frame: 0, index: 0 },
+        walk: 0,
+    };
+
+    /// Where a block that sets the page stands here.
+    pub fn set(place: Place) -> PageAt
+        ensures { result ≡ set_line place }
+    {
+        PageAt {
+            place,
+            base: place,
+            walk: 1,
+        }
+    }
+
+    /// Where a block that changes or cuts the page stands here.
+    pub fn changed(self, place: Place) -> PageAt
+        ensures { result ≡ changed_line place self }
+    {
+        let walk = if self.place.frame == place.frame {
+            self.walk
+        } else {
+            self.walk.saturating_add(1)
+        };
+        PageAt {
+            place,
+            base: self.base,
+            walk,
+        }
+    }
 }
 
 /// What a scan found: limits, the oldest live segment's number, the version of each live segment in

@@ -12,7 +12,7 @@ ghost use Rattle.bw_page.specs.Standing.{after, kept_below};
 
 use crate::room::fitted;
 use crate::tree::{ascend, change_tree, cut_tree, row_of, tree_of};
-use crate::{changes, reading};
+use crate::{changes, replay};
 use bw_codec::{Block, Key, Leaf, Pairs, Record, Value};
 use std::alloc::AllocError;
 use std::collections::BTreeMap;
@@ -154,7 +154,7 @@ impl Draft {
         let Draft { leaf, tree } = self;
         match tree {
             None => Draft {
-                leaf: reading::keep_below(leaf, separator),
+                leaf: replay::keep_below(leaf, separator),
                 tree: None,
             },
             Some(tree) => {

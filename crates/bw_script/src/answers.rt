@@ -36,6 +36,8 @@ pub enum Answer {
     Evicted(bool),
     /// In how many frames a page was written again.
     Rewritten(u64),
+    /// From how many frames a page is read.
+    Walk(u64),
     /// What was given up with the oldest segment.
     Cleaned(Cleaned),
     Rolled,
@@ -75,6 +77,7 @@ fn write_answer<O: Write>(out: &mut Printer<'_, O>, answer: &Answer) {
         Answer::Evicted(true) => out.text(b"evicted\n"),
         Answer::Evicted(false) => out.text(b"kept\n"),
         Answer::Rewritten(frames) => out.line("rewritten frames ", *frames),
+        Answer::Walk(frames) => out.line("walk ", *frames),
         Answer::Cleaned(cleaned) => write_cleaned(out, cleaned),
         Answer::Rolled => out.text(b"rolled\n"),
         Answer::Dump(bytes) => write_dump(out, bytes.as_slice()),

@@ -16,7 +16,7 @@ use bw_codec::Key;
 use bw_device::Segment;
 use bw_home::Site;
 use bw_ring::{Feed, Group};
-use bw_store::{Config, Store};
+use bw_store::{Config, Store, StoreFault};
 use std::alloc::Global;
 
 /// How many places for readers a store is opened with.
@@ -194,6 +194,16 @@ impl Session {
         }
     }
 
+    /// From how many frames a page is read, once it left memory.
+    fn walk(&self, page: u32) -> Result<Answer, Miss>
+        requires { IsReady self.now holding }
+    {
+        match self.store.walk_of(page) {
+            Some(frames) => Ok(Answer::Walk(frames)),
+            None => Err(Miss::from(StoreFault::NoPage)),
+        }
+    }
+
     /// What was given up with the oldest segment.
     fn clean<R: System>(&mut self, rt: &R) -> Result<Answer, Miss>
         requires { IsReady self.old holding }
@@ -290,6 +300,7 @@ impl Session {
             Request::Page(page) => self.page(page),
             Request::Evict(page) => self.evict(page),
             Request::Rewrite(page) => self.rewrite(rt, page),
+            Request::Walk(page) => self.walk(page),
             _ => Ok(Answer::Pages(self.store.pages())),
         }
     }
@@ -331,6 +342,7 @@ impl Session {
             Command::Get(key) => self.get(&key),
             Command::Evict(page) => self.evict(page),
             Command::Rewrite(page) => self.rewrite(rt, page),
+            Command::Walk(page) => self.walk(page),
             Command::Clean => self.clean(rt),
             Command::Roll => self.roll(),
             Command::Add => self.spare(rt, capacity),

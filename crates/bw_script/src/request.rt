@@ -19,6 +19,8 @@ pub enum Request {
     Evict(u32),
     /// A page is written again, whole.
     Rewrite(u32),
+    /// From how many frames a page is read.
+    Walk(u32),
     /// How many pages there are.
     Pages,
     /// All that waits is taken, and the frame in the making is appended.
@@ -42,6 +44,7 @@ fn asked_of(name: &str, word: &str) -> Result<Request, Fault> {
         "next" => Ok(Request::Next(key_of(word)?)),
         "page" => Ok(Request::Page(number_of(word)?)),
         "rewrite" => Ok(Request::Rewrite(number_of(word)?)),
+        "walk" => Ok(Request::Walk(number_of(word)?)),
         _ => Ok(Request::Evict(number_of(word)?)),
     }
 }
@@ -71,7 +74,7 @@ pub fn parse_request(line: &[u8]) -> Result<Request, Fault> {
     let name = words.next().unwrap_or("");
     match name {
         "put" | "del" | "group" => Ok(Request::Put(group_of(ops_of(name, &mut words)?)?)),
-        "get" | "next" | "page" | "evict" | "rewrite" => {
+        "get" | "next" | "page" | "evict" | "rewrite" | "walk" => {
             asked_of(name, single(words.next(), words.next())?)
         }
         _ => plain_of(name, words.next()),

@@ -52,6 +52,8 @@ pub enum Command {
     Evict(u32),
     /// A page is written again, whole.
     Rewrite(u32),
+    /// From how many frames a page is read.
+    Walk(u32),
     /// The oldest segment is given up.
     Clean,
     /// The current segment is closed.
@@ -242,6 +244,7 @@ fn asked_of(name: &str, word: &str) -> Result<Command, Fault> {
         "page" => Ok(Command::Page(number)),
         "evict" => Ok(Command::Evict(number)),
         "rewrite" => Ok(Command::Rewrite(number)),
+        "walk" => Ok(Command::Walk(number)),
         _ => Ok(Command::Dump(number)),
     }
 }
@@ -272,7 +275,7 @@ fn command_of(text: &str, writers: u16) -> Result<Command, Fault> {
     let name = words.next().unwrap_or("");
     match name {
         "put" | "del" | "group" => put_of(name, &mut words, writers),
-        "turn" | "page" | "evict" | "rewrite" | "dump" | "get" => {
+        "turn" | "page" | "evict" | "rewrite" | "walk" | "dump" | "get" => {
             asked_of(name, single(words.next(), words.next())?)
         }
         _ => plain_of(name, words.next()),

@@ -1,8 +1,10 @@
 -- What a store counts beside what it keeps.
 
-use Rattle.std.specs.Prelude.{ℕ, zero, suc, ◌+◌, ◌-◌, ◌^◌, ◌≡◌, ◌⊎◌, Bool, true, if◌then◌else◌, min, Result, Ok, Err, List, [], ◌∷◌, length}
+use Rattle.std.specs.Prelude.{ℕ, zero, suc, ◌+◌, ◌-◌, ◌^◌, ◌≡◌, ◌⊎◌, Bool, true, false, if◌then◌else◌, min, take, Result, Ok, Err, List, [], ◌∷◌, length}
 use Rattle.bw_device.specs.Holding.{Holding}
+use Rattle.bw_care.specs.Upgrading.{old_segments}
 use Rattle.bw_care.specs.declared.cleaner.Cleaned.{Cleaned}
+use Rattle.bw_care.specs.declared.upgrader.Upgraded.{Upgraded}
 use Rattle.bw_care.specs.declared.fault.CleanFault.{CleanFault}
 use Rattle.bw_store.specs.declared.counters.Counters.{Counters}
 use Rattle.bw_store.specs.declared.counters.Looks.{Looks}
@@ -15,6 +17,7 @@ use Rattle.bw_store.specs.Faults.{FlushLeaves}
 use Rattle.bw_store.specs.Kept.{Kept}
 use Rattle.bw_store.specs.Noted.{Noted}
 use Rattle.bw_store.specs.Showing.{Shows, Hides}
+use Rattle.bw_store.specs.Upgrading.{IsUpgraded, IsHalted}
 
 -- a count with so many more: it stays where it is at the greatest number
 abbrev pub up : ℕ → ℕ → ℕ
@@ -65,19 +68,21 @@ noted_from pages bytes = record { gone = 0; tally = counted_from pages bytes }
 abbrev pub noted_left : Bool → Noted → Noted
 noted_left left n = if left then record n { tally = counted_out n.tally } else n
 
--- ---- what a cleaning counts
+-- ---- what a cleaning counts, and an upgrade
 
--- so many frames, and as many bytes as there are more after it than before; the oldest segment's are among these where it was given up
-abbrev pub counted_by : Tally → Result Cleaned StoreFault → ℕ → ℕ → ℕ → ℕ → Tally
-counted_by t (Ok cleaned) frames before after oldest = counted_up t frames (up after oldest - before) oldest 1
-counted_by t (Err fault) frames before after oldest = counted_up t frames (up after 0 - before) 0 0
+-- so many frames, and as many bytes as there are more after it than before; where it is done, the segments that were given up, and
+-- their bytes, which are among these
+abbrev pub counted_by : Tally → Bool → ℕ → ℕ → ℕ → ℕ → ℕ → Tally
+counted_by t done frames before after gone count =
+    if done then counted_up t frames (up after gone - before) gone count else counted_up t frames (up after 0 - before) 0 0
 
--- the cleaner, in a store where nothing waits
-abbrev pub counted_moved : Tally → Kept → Result Cleaned StoreFault → Kept → Tally
-counted_moved t old r new =
-    counted_by t r (new.durable - old.durable) (up 0 (bytes_of old.log.live)) (up 0 (bytes_of new.log.live)) (length_at old.log.live 0)
+-- the first live segments are given up, so many of them, in a store where nothing waits
+abbrev pub counted_gone : ℕ → Tally → Kept → Bool → Kept → Tally
+counted_gone count t old done new =
+    counted_by t done (new.durable - old.durable) (up 0 (bytes_of old.log.live)) (up 0 (bytes_of new.log.live))
+    (up 0 (bytes_of (take count old.log.live))) count
 
--- the cleaner did nothing: the cleaning was refused before it
+-- nothing was moved: it was refused before that
 abbrev pub IsUnmoved : Kept → StoreFault → Kept → Type 0
 IsUnmoved old fault new =
     (new ≡ old) ⊎ (FlushLeaves old (Err fault) new ⊎ ((middle : Kept) × Emptied true old middle × (new ≡ middle)))
@@ -85,11 +90,11 @@ IsUnmoved old fault new =
 -- a cleaning without its publication counts what the cleaner did behind its flush, and nothing else
 abbrev pub CountsClean : Kept → Tally → Result Cleaned StoreFault → Kept → Tally → Type 0
 CountsClean old t (Ok cleaned) new u =
-    (middle : Kept) × Emptied true old middle × IsCleaned middle cleaned new × (u ≡ counted_moved t middle (Ok cleaned) new)
+    (middle : Kept) × Emptied true old middle × IsCleaned middle cleaned new × (u ≡ counted_gone 1 t middle true new)
 CountsClean old t (Err fault) new u =
     (IsUnmoved old fault new × (u ≡ t))
     ⊎ ((middle : Kept) × Emptied true old middle × ((cause : CleanFault) × IsStopped middle cause new)
-    × (u ≡ counted_moved t middle (Err fault) new))
+    × (u ≡ counted_gone 1 t middle false new))
 
 -- the same with the publication, which counts nothing of this
 abbrev pub CountsCleaning : Kept → Tally → Result Cleaned StoreFault → Kept → Tally → Type 0
@@ -97,6 +102,22 @@ CountsCleaning old t (Ok cleaned) new u = (middle : Kept) × CountsClean old t (
 CountsCleaning old t (Err fault) new u =
     CountsClean old t (Err fault) new u
     ⊎ ((fault ≡ NoMemory) × ((middle : Kept) × ((cleaned : Cleaned) × CountsClean old t (Ok cleaned) middle u) × Hides middle new))
+
+-- an upgrade without its publication
+abbrev pub CountsUpgraded : Kept → Tally → Result Upgraded StoreFault → Kept → Tally → Type 0
+CountsUpgraded old t (Ok upgraded) new u =
+    (middle : Kept) × Emptied true old middle × IsUpgraded middle upgraded new × (u ≡ counted_gone (old_segments middle.log) t middle true new)
+CountsUpgraded old t (Err fault) new u =
+    (IsUnmoved old fault new × (u ≡ t))
+    ⊎ ((middle : Kept) × Emptied true old middle × ((cause : CleanFault) × IsHalted middle cause new)
+    × (u ≡ counted_gone (old_segments middle.log) t middle false new))
+
+-- and with it
+abbrev pub CountsUpgrade : Kept → Tally → Result Upgraded StoreFault → Kept → Tally → Type 0
+CountsUpgrade old t (Ok upgraded) new u = (middle : Kept) × CountsUpgraded old t (Ok upgraded) middle u × Shows middle new
+CountsUpgrade old t (Err fault) new u =
+    CountsUpgraded old t (Err fault) new u
+    ⊎ ((fault ≡ NoMemory) × ((middle : Kept) × ((upgraded : Upgraded) × CountsUpgraded old t (Ok upgraded) middle u) × Hides middle new))
 
 -- ---- what is told
 

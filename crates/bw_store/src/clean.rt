@@ -1,15 +1,15 @@
 //! The oldest segment is given up, and no page changes.
 
-ghost use Rattle.std.specs.Prelude.{◌≡◌, ◌≤◌, ◌<◌, ◌+◌, ◌↔◌, [], false, length, vec_len, IsErrOf};
+ghost use Rattle.std.specs.Prelude.{◌≡◌, ◌≤◌, ◌<◌, ◌+◌, ◌↔◌, [], false, length, vec_len, is_ok, IsErrOf};
 ghost use Rattle.std.specs.Vec.{vec_capacity};
 ghost use Rattle.bw_store.specs.Cleaning.{MoveLeaves, CleanLeaves, HasBoxesBut, HasFloorBut};
-ghost use Rattle.bw_store.specs.Counting.{counted_by, counted_moved, CountsClean, CountsCleaning};
+ghost use Rattle.bw_store.specs.Counting.{counted_gone, CountsClean, CountsCleaning};
 ghost use Rattle.bw_store.specs.Following.{Continues};
 ghost use Rattle.bw_store.specs.Kept.{EachCutStands};
 ghost use Rattle.bw_store.specs.Settled.{IsSettled};
 ghost use Rattle.bw_store.specs.Showing.{CleanShows, HasBoxesAfter, HasFloorAfter};
 
-use crate::counters::{Tally, length_of, live_bytes};
+use crate::counters::{bytes_upto, live_bytes};
 use crate::fault::StoreFault;
 use crate::store::Store;
 use bw_care::{Cleaned, clean};
@@ -94,16 +94,17 @@ impl Store {
         ensures sound { IsSound self.new holding }
         ensures leaves { MoveLeaves (kept_by self.old holding) result (kept_by self.new holding) }
         ensures gone { forgotten_of self.new ≡ forgotten_of self.old }
-        ensures counts { self.new.tally ≡ counted_moved self.old.tally (kept_by self.old holding)
-            result (kept_by self.new holding) }
+        ensures counts { self.new.tally ≡ counted_gone 1 self.old.tally (kept_by self.old holding)
+            (is_ok result) (kept_by self.new holding) }
     {
         let durable = self.durable;
         let before = live_bytes(&self.log);
-        let oldest = length_of(&self.log, 0);
+        let oldest = bytes_upto(&self.log, 1);
         let moved = self.move_all();
         let after = live_bytes(&self.log);
         let frames = self.durable.saturating_sub(durable);
-        self.tally = tallied(self.tally, &moved, frames, before, after, oldest);
+        let tally = self.tally;
+        self.tally = tally.with_moved(moved.is_ok(), frames, before, after, oldest, 1);
         moved
     }
 
@@ -130,30 +131,6 @@ impl Store {
                 Ok(cleaned)
             }
             Err(fault) => Err(StoreFault::from(fault)),
-        }
-    }
-}
-
-// With what the cleaner did: so many frames, and as many bytes as the live segments have more than
-// before, those of the oldest one among them where it was given up.
-fn tallied(
-    tally: Tally,
-    moved: &Result<Cleaned, StoreFault>,
-    frames: u64,
-    before: u64,
-    after: u64,
-    oldest: u64,
-) -> Tally
-    ensures { result ≡ counted_by tally moved.now frames before after oldest }
-{
-    match moved {
-        Ok(_) => {
-            let bytes = after.saturating_add(oldest).saturating_sub(before);
-            tally.with_cleaning(frames, bytes, oldest, 1)
-        }
-        Err(_) => {
-            let bytes = after.saturating_add(0).saturating_sub(before);
-            tally.with_cleaning(frames, bytes, 0, 0)
         }
     }
 }

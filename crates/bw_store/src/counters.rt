@@ -1,13 +1,11 @@
 //! What a store counts beside what it keeps. Counting takes no memory, and nothing is refused for
 //! it.
 
-ghost use Rattle.std.specs.Prelude.{◌≡◌, ◌-◌, length};
+ghost use Rattle.std.specs.Prelude.{◌≡◌, ◌-◌, length, take};
 ghost use Rattle.bw_care.specs.Views.{seen, IsSound as IsSoundLog};
-ghost use Rattle.bw_store.specs.Counting.{bytes_of, counters_of, counted_from, counted_out, counted_up, length_at, up};
+ghost use Rattle.bw_store.specs.Counting.{bytes_of, counters_of, counted_by, counted_from, counted_out, counted_up, length_at, up};
 
-use crate::fault::StoreFault;
 use crate::store::Store;
-use bw_care::Cleaned;
 use bw_device::Segment;
 use bw_log::Log;
 
@@ -110,15 +108,30 @@ impl Tally {
         }
     }
 
-    /// With so many frames and bytes more of the cleaner's, and a segment of so many bytes that was
-    /// given up, if one was.
-    pub(crate) fn with_cleaning(
+    /// With so many frames more of the cleaner's, and as many bytes as the live segments have more
+    /// than before: where it is done, so many segments were given up, whose bytes are among these.
+    pub(crate) fn with_moved(
         self,
+        is_done: bool,
         frames: u64,
-        bytes: u64,
-        given_up: u64,
-        cleanings: u64,
+        before: u64,
+        after: u64,
+        gone: u64,
+        count: u64,
     ) -> Tally
+        ensures { result ≡ counted_by self is_done frames before after gone count }
+    {
+        if is_done {
+            let bytes = after.saturating_add(gone).saturating_sub(before);
+            self.with_cleaning(frames, bytes, gone, count)
+        } else {
+            let bytes = after.saturating_add(0).saturating_sub(before);
+            self.with_cleaning(frames, bytes, 0, 0)
+        }
+    }
+
+    // With so many frames and bytes more of the cleaner's, and so many segments that were given up.
+    fn with_cleaning(self, frames: u64, bytes: u64, given_up: u64, cleanings: u64) -> Tally
         ensures { result ≡ counted_up self frames bytes given_up cleanings }
     {
         Tally {
@@ -142,16 +155,24 @@ pub(crate) fn length_of(log: &Log, i: u32) -> u64
     }
 }
 
+/// How many bytes the first live segments have, so many of them.
+pub(crate) fn bytes_upto(log: &Log, count: u32) -> u64
+    requires { IsSoundLog log.now holding }
+    ensures { result ≡ up 0 (bytes_of (take count (seen log.now holding).live)) }
+{
+    let mut bytes: u64 = 0;
+    'segments: for i in 0..count {
+        bytes = bytes.saturating_add(length_of(log, i));
+    }
+    bytes
+}
+
 /// How many bytes the live segments have.
 pub(crate) fn live_bytes(log: &Log) -> u64
     requires { IsSoundLog log.now holding }
     ensures { result ≡ up 0 (bytes_of (seen log.now holding).live) }
 {
-    let mut bytes: u64 = 0;
-    'segments: for i in 0..log.live() {
-        bytes = bytes.saturating_add(length_of(log, i));
-    }
-    bytes
+    bytes_upto(log, log.live())
 }
 
 impl Store {
@@ -161,8 +182,7 @@ impl Store {
     /// look at each live segment's length.
     ///
     /// `reads` and `publications` are counted where they happen, and no clause says by how much a
-    /// call raises them; nor does one say how much of the cleaner's numbers an `upgrade` adds: its
-    /// frames and their bytes, and a cleaning for each segment given up.
+    /// call raises them.
     pub fn counters(&self) -> Counters
         requires { IsSound self.now holding }
         ensures { result

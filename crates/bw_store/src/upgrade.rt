@@ -1,16 +1,17 @@
 //! All segments of format 1 are given up, and no page changes.
 
-ghost use Rattle.std.specs.Prelude.{◌≡◌, ◌≤◌, ◌+◌, ◌↔◌, [], false, length, vec_len, IsErrOf, IfOk};
+ghost use Rattle.std.specs.Prelude.{◌≡◌, ◌≤◌, ◌+◌, ◌↔◌, [], false, length, vec_len, is_ok, IsErrOf, IfOk};
 ghost use Rattle.std.specs.Vec.{vec_capacity};
 ghost use Rattle.bw_care.specs.Upgrading.{old_segments};
 ghost use Rattle.bw_store.specs.Cleaning.{HasBoxesBut, HasFloorBut};
+ghost use Rattle.bw_store.specs.Counting.{counted_gone, CountsUpgrade, CountsUpgraded};
 ghost use Rattle.bw_store.specs.Following.{Continues};
 ghost use Rattle.bw_store.specs.Kept.{EachCutStands};
 ghost use Rattle.bw_store.specs.Settled.{IsSettled};
 ghost use Rattle.bw_store.specs.Showing.{HasBoxesAfter, HasFloorAfter};
 ghost use Rattle.bw_store.specs.Upgrading.{UpgradeMoves, UpgradeLeaves, UpgradeShows};
 
-use crate::counters::{length_of, live_bytes};
+use crate::counters::{bytes_upto, live_bytes};
 use crate::fault::StoreFault;
 use crate::store::Store;
 use bw_care::{Upgraded, old_segments, upgrade};
@@ -51,8 +52,10 @@ impl Store {
         ensures follows { Continues (kept_by self.old holding) (kept_by self.new holding) }
         ensures boxes { HasBoxesAfter (old_segments (kept_by self.old holding).log)
             (kept_by self.old holding) result (kept_by self.new holding) }
-        // Nothing is forgotten.
+        // Nothing is forgotten, and what is counted is what the upgrade did.
         ensures gone { forgotten_of self.new ≡ forgotten_of self.old }
+        ensures counts { CountsUpgrade (kept_by self.old holding) self.old.tally result
+            (kept_by self.new holding) self.new.tally }
     {
         let upgraded = self.upgrade_old()?;
         self.publish(rt)?;
@@ -75,6 +78,8 @@ impl Store {
         ensures boxes { HasBoxesBut (old_segments (kept_by self.old holding).log)
             (kept_by self.old holding) result (kept_by self.new holding) }
         ensures gone { forgotten_of self.new ≡ forgotten_of self.old }
+        ensures counts { CountsUpgraded (kept_by self.old holding) self.old.tally result
+            (kept_by self.new holding) self.new.tally }
     {
         if self.old_segments() == 0 {
             return Err(StoreFault::NothingOld);
@@ -107,32 +112,20 @@ impl Store {
         ensures leaves { UpgradeMoves (kept_by self.old holding) result (kept_by self.new holding) }
         ensures none_left { IfOk result (λ _. old_segments (kept_by self.new holding).log ≡ 0) }
         ensures gone { forgotten_of self.new ≡ forgotten_of self.old }
+        ensures counts { self.new.tally
+            ≡ counted_gone (old_segments (kept_by self.old holding).log) self.old.tally
+            (kept_by self.old holding) (is_ok result) (kept_by self.new holding) }
     {
         let durable = self.durable;
         let before = live_bytes(&self.log);
         let segments = self.old_segments();
-        let oldest = self.length_upto(segments);
-        let upgraded = self.upgrade_pages();
+        let oldest = bytes_upto(&self.log, segments);
+        let moved = self.upgrade_pages();
         let after = live_bytes(&self.log);
         let frames = self.durable.saturating_sub(durable);
-        let (given_up, count) = match &upgraded {
-            Ok(_) => (oldest, u64::from(segments)),
-            Err(_) => (0, 0),
-        };
-        let bytes = after.saturating_add(given_up).saturating_sub(before);
-        self.tally = self.tally.with_cleaning(frames, bytes, given_up, count);
-        upgraded
-    }
-
-    // How many bytes the first live segments have, so many of them.
-    fn length_upto(&self, segments: u32) -> u64
-        requires { IsSound self.now holding }
-    {
-        let mut bytes: u64 = 0;
-        'segments: for i in 0..segments {
-            bytes = bytes.saturating_add(length_of(&self.log, i));
-        }
-        bytes
+        let (tally, count) = (self.tally, u64::from(segments));
+        self.tally = tally.with_moved(moved.is_ok(), frames, before, after, oldest, count);
+        moved
     }
 
     // The upgrade, where nothing waits, and what the store notes of its frames.

@@ -8,9 +8,9 @@ use Rattle.bw_codec.specs.Grammar.{IsWhole}
 use Rattle.bw_codec.specs.declared.block.Frame.{Frame}
 use Rattle.bw_device.specs.Holding.{Holding}
 use Rattle.bw_page.specs.Standing.{Stand}
-use Rattle.bw_log.specs.Places.{place_of, base_of}
+use Rattle.bw_log.specs.Places.{place_of, base_of, walk_to}
 use Rattle.bw_log.specs.Segments.{segment_frames, entry_of}
-use Rattle.bw_log.specs.Contents.{Contents, counted, place_in, entry_place, IsSound}
+use Rattle.bw_log.specs.Contents.{Contents, counted, place_in, entry_place, walk_in, entry_walk, IsSound}
 use Rattle.log_tests.specs.Examples.{first_example, first_leaf}
 use Rattle.bw_codec.specs.declared.leaf.Leaf.{Leaf}
 use Rattle.bw_log.specs.Adopting.{adopted}
@@ -32,7 +32,7 @@ small lease = record {
   is_failed = false;
   next = Some 2;
   frames = entry_of 2 1 24 first_example ∷ [];
-  pages = record { place = record { frame = 1; index = 1 }; base = record { frame = 1; index = 0 } } ∷ [];
+  pages = record { place = record { frame = 1; index = 1 }; base = record { frame = 1; index = 0 }; walk = 1 } ∷ [];
 }
 
 first_whole : IsWhole first_segment (record { version = 2; number = 1; m = 4; f = 65536 }) (first_example ∷ []) []
@@ -48,18 +48,19 @@ whole : IsWhole first_segment (record { version = 2; number = 1; m = 4; f = 6553
 whole = subst (λ (fs : List Frame). IsWhole first_segment (record { version = 2; number = 1; m = 4; f = 65536 }) fs []) (sym first_is_read) first_whole
 
 abbrev pub small_pages : List PageAt
-small_pages = record { place = record { frame = 1; index = 1 }; base = record { frame = 1; index = 0 } } ∷ []
+small_pages = record { place = record { frame = 1; index = 1 }; base = record { frame = 1; index = 0 }; walk = 1 } ∷ []
 
 pages_are : (p : ℕ) → 1 ≤ p → (place_in (λ e. e.place) small_pages p ≡ place_of p (first_example ∷ []))
-    × (place_in (λ e. e.base) small_pages p ≡ base_of p (first_example ∷ []))
+    × (place_in (λ e. e.base) small_pages p ≡ base_of p (first_example ∷ [])) × (walk_in small_pages p ≡ walk_to p (first_example ∷ []))
 pages_are zero h = absurd (omega arith)
-pages_are (suc zero) h = (refl, refl)
+pages_are (suc zero) h = (refl, refl, refl)
 pages_are (suc (suc n)) h =
     let no = not_one (suc (suc n)) (omega arith) in
     let past : slice_get small_pages (suc (suc n) - 1) ≡ None = slice_get_past small_pages (suc (suc n) - 1) (omega arith) in
     let places : None ≡ place_of (suc (suc n)) (first_example ∷ []) = rw no refl in
     let bases : None ≡ base_of (suc (suc n)) (first_example ∷ []) = rw no refl in
-    (ap (entry_place (λ e. e.place)) past ∙ places, ap (entry_place (λ e. e.base)) past ∙ bases)
+    let walks : (0, 0) ≡ walk_to (suc (suc n)) (first_example ∷ []) = rw no refl in
+    (ap (entry_place (λ e. e.place)) past ∙ places, ap (entry_place (λ e. e.base)) past ∙ bases, ap entry_walk past ∙ walks)
 
 first_counts : counted (small 0) ≡ first_example ∷ []
 first_counts = rw first_is_read refl
@@ -85,7 +86,7 @@ small_is_sound lease = record {
     count = lit< tt;
     linked = rw first_is_read refl;
     stands = rw first_is_read (inr (first_leaf ∷ [], first_stands, refl));
-    table = rw first_is_read (record { places = λ p h. (pages_are p h).0; bases = λ p h. (pages_are p h).1 });
+    table = rw first_is_read (record { places = λ p h. (pages_are p h).0; bases = λ p h. (pages_are p h).1; walks = λ p h. (pages_are p h).2 });
   };
 }
 

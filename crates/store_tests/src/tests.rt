@@ -27,5 +27,4 @@ mod threads;
 mod turning;
 mod two_stores;
 mod upgrading;
-mod vectors;
 mod walking;

@@ -7,4 +7,3 @@ mod cleaned;
 mod many;
 mod recovered;
 mod upgraded;
-pub(super) mod vectors;

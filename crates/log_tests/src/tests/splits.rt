@@ -6,7 +6,6 @@ ghost use Rattle.log_tests.specs.OnePage.{Counts};
 ghost use Rattle.log_tests.specs.Examples.{fifth_blocks, split_blocks, split_frames, split_upper};
 
 use super::care::boxes::{are_bytes, is_page};
-use super::care::vectors::SECOND;
 use super::page::{append, first_frame, log_over, ops_of, put_frame};
 use super::{NEVER, sealed};
 use bw_buffer::Buffer;
@@ -14,6 +13,7 @@ use bw_codec::{Block, Key, Leaf, Low, Pair, Pairs, Place, Value};
 use bw_device::Segment;
 use bw_log::{Log, LogFault};
 use std::alloc::Global;
+use test_vectors::SECOND;
 
 // A pair of a byte at a byte.
 fn pair(alloc: Global, key: u8, value: u8) -> Option<Pair>

@@ -6,7 +6,6 @@ ghost use Rattle.log_tests.specs.Views.{seen};
 ghost use Rattle.log_tests.specs.OnePage.{Counts, HoldsOne, Opens};
 
 use super::care::boxes::{is_shown, is_spelled};
-use super::care::vectors::{FIRST, THIRD_NEWER, THIRD_OLDER};
 use super::filled::full_opening;
 use super::page::{begin, give_up, log_over, opening, put, rewrite};
 use super::{Fuse, NEVER, Table, Yard, all_went, first_wrong};
@@ -15,6 +14,7 @@ use bw_codec::{Leaf, Place};
 use bw_device::Segment;
 use bw_log::{Log, LogFault};
 use std::alloc::Global;
+use test_vectors::{FIRST, THIRD_NEWER, THIRD_OLDER};
 
 /// One step, with what it has to answer.
 #[derive(Drop)]

@@ -2,27 +2,21 @@
 
 use super::steps::Step;
 use super::steps::Step::{
-    Add, Bytes, Clean, Cuts, Flush, Get, History, Live, Page, Put, Refused, Roll, Settle, Stands,
-    Turn, Uncleaned,
+    Add, Bytes, Clean, Cuts, Flush, Frame, Get, History, Live, Page, Put, Refused, Roll, Settle,
+    Stands, Turn, Uncleaned,
 };
 use super::telling::all_went;
-use super::vectors::{THIRD_NEWER, THIRD_OLDER};
 use super::walking::{Stand, first_wrong};
 use bw_store::StoreFault;
+use test_vectors::{THIRD_NEWER, THIRD_OLDER};
 
 /// A cleaning that writes a page again, then one with nothing to write, then none.
 const THREE_SEGMENTS: &[Step] = &[
-    Put(0, b"k", b"1"),
-    Turn(9, 1),
-    Flush(Some(1)),
+    Frame(b"k", b"1", 1),
     Roll,
-    Put(0, b"j", b"2"),
-    Turn(9, 1),
-    Flush(Some(2)),
+    Frame(b"j", b"2", 2),
     Roll,
-    Put(0, b"k", b"3"),
-    Turn(9, 1),
-    Flush(Some(3)),
+    Frame(b"k", b"3", 3),
     Stands(3, 1),
     Clean(1, 0, 1, 1),
     Page(1, "1 : j=2 k=3"),
@@ -45,9 +39,7 @@ const THREE_SEGMENTS: &[Step] = &[
 const NOTHING_OLD: &[Step] = &[
     Uncleaned(StoreFault::NothingOld),
     Cuts(&[], 0),
-    Put(0, b"k", b"v"),
-    Turn(9, 1),
-    Flush(Some(1)),
+    Frame(b"k", b"v", 1),
     Put(0, b"j", b"w"),
     Turn(9, 1),
     Uncleaned(StoreFault::NothingOld),
@@ -59,13 +51,9 @@ const NOTHING_OLD: &[Step] = &[
 
 /// Where one spare is left, a flush is refused; the flush of a cleaning takes it.
 const THREE_BOXES: &[Step] = &[
-    Put(0, b"a", b"1"),
-    Turn(9, 1),
-    Flush(Some(1)),
+    Frame(b"a", b"1", 1),
     Roll,
-    Put(0, b"b", b"2"),
-    Turn(9, 1),
-    Flush(Some(2)),
+    Frame(b"b", b"2", 2),
     Roll,
     Put(0, b"c", b"3"),
     Turn(9, 1),
@@ -87,13 +75,9 @@ const THREE_BOXES: &[Step] = &[
 
 /// The cleaner's append fails: no box is dropped, and pages and values are as before.
 const FAILED: &[Step] = &[
-    Put(0, b"k", b"1"),
-    Turn(9, 1),
-    Flush(Some(1)),
+    Frame(b"k", b"1", 1),
     Roll,
-    Put(0, b"j", b"2"),
-    Turn(9, 1),
-    Flush(Some(2)),
+    Frame(b"j", b"2", 2),
     Stands(2, 1),
     Uncleaned(StoreFault::Device { lease: 1 }),
     Stands(2, 1),

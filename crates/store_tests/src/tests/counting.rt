@@ -3,13 +3,13 @@
 
 use super::steps::Step;
 use super::steps::Step::{
-    Clean, Counts, Evict, Flush, Forget, Needed, Page, Pays, Put, Roll, Same, Settle, Turn,
+    Clean, Counts, Evict, Flush, Forget, Frame, Needed, Page, Pays, Put, Roll, Same, Settle, Turn,
     Uncleaned,
 };
 use super::telling::all_went;
-use super::vectors::FIRST_BYTES;
 use super::walking::{Stand, first_wrong};
 use bw_store::{Counters, StoreFault};
+use test_vectors::FIRST;
 
 const NONE: Counters = Counters {
     records: 0,
@@ -52,9 +52,7 @@ const THREE_SEGMENTS: &[Step] = &[
     Flush(Some(2)),
     Needed(1, Some(0)),
     Roll,
-    Put(0, b"k", b"3"),
-    Turn(9, 1),
-    Flush(Some(3)),
+    Frame(b"k", b"3", 3),
     Forget(3, 3),
     Counts(Counters {
         records: 3,
@@ -159,7 +157,7 @@ const TABLES: &[(Stand, &[Step])] = &[
     (Stand::Boxes(4, 8), THREE_SEGMENTS),
     (Stand::Boxes(4, 8), CUT),
     (Stand::Boxes(4, 8), UPDATED),
-    (Stand::Bytes(&[FIRST_BYTES]), OPENED_AGAIN),
+    (Stand::Bytes(&[FIRST]), OPENED_AGAIN),
 ];
 
 #[test]
@@ -169,13 +167,9 @@ fn what_was_done_is_counted(rt: HostRuntime) {
 
 /// A header, a frame and the read of a page pass; the cleaner's append fails.
 const FAILED: &[Step] = &[
-    Put(0, b"k", b"1"),
-    Turn(9, 1),
-    Flush(Some(1)),
+    Frame(b"k", b"1", 1),
     Roll,
-    Put(0, b"j", b"2"),
-    Turn(9, 1),
-    Flush(Some(2)),
+    Frame(b"j", b"2", 2),
     Uncleaned(StoreFault::Device { lease: 1 }),
     Counts(Counters {
         records: 2,

@@ -7,7 +7,7 @@ ghost use Rattle.bw_store.specs.Views.{IsSoundBeside};
 use super::boxes::{LEAST, Row, Supply, maker_of, plain, supplied};
 use super::opening::{Held, config_of, opened, reopened, shut};
 use super::steps::Step;
-use super::steps::Step::{Cuts, Flush, Live, Page, Put, Refused, Roll, Turn};
+use super::steps::Step::{Cuts, Flush, Frame, Live, Page, Put, Refused, Roll, Turn};
 use super::telling::{holds, went};
 use super::walking::{lives, wrong_step};
 use bw_care::{RecoverCause, Recovered, recover};
@@ -26,9 +26,7 @@ const NOTHING: &[Step] = &[
 
 /// The third append fails.
 const SECOND: &[Step] = &[
-    Put(0, b"k", b"v"),
-    Turn(1, 1),
-    Flush(Some(1)),
+    Frame(b"k", b"v", 1),
     Put(0, b"j", b"2"),
     Turn(1, 1),
     Refused(StoreFault::Device { lease: 0 }),
@@ -47,17 +45,11 @@ const AGAIN: &[Step] = &[
 
 /// Three segments of a frame each.
 const THREE: &[Step] = &[
-    Put(0, b"k", b"1"),
-    Turn(1, 1),
-    Flush(Some(1)),
+    Frame(b"k", b"1", 1),
     Roll,
-    Put(0, b"j", b"2"),
-    Turn(1, 1),
-    Flush(Some(2)),
+    Frame(b"j", b"2", 2),
     Roll,
-    Put(0, b"k", b"3"),
-    Turn(1, 1),
-    Flush(Some(3)),
+    Frame(b"k", b"3", 3),
 ];
 
 fn failing(fuse: (u64, u64)) -> Row {

@@ -2,12 +2,13 @@
 
 use super::steps::Step;
 use super::steps::Step::{
-    Clean, Del, Evict, Flush, Get, Page, Put, Roll, Settle, Stands, Stops, Turn, Unread,
+    Clean, Del, Evict, Flush, Frame, Get, Page, Put, Roll, Settle, Stands, Stops, Turn, Unread,
+    Walk,
 };
 use super::telling::all_went;
-use super::vectors::FIRST_BYTES;
 use super::walking::{Stand, first_wrong};
 use bw_store::StoreFault;
+use test_vectors::FIRST;
 
 /// A page that no frame has yet stays. One that left is read from its segment, which fails once,
 /// and stays evicted.
@@ -26,9 +27,7 @@ const READ_AGAIN: &[Step] = &[
 
 /// A turn that cannot bring a page back leaves the record in its ring, and the next one takes it.
 const TURNED_AGAIN: &[Step] = &[
-    Put(0, b"k", b"v"),
-    Turn(1, 1),
-    Flush(Some(1)),
+    Frame(b"k", b"v", 1),
     Evict(1, Ok(true)),
     Put(0, b"b", b"2"),
     Stops(9, 0, StoreFault::Device { lease: 0 }),
@@ -39,9 +38,7 @@ const TURNED_AGAIN: &[Step] = &[
 
 /// What no frame has yet stays with a page that leaves; a turn brings the page back.
 const UNFLUSHED: &[Step] = &[
-    Put(0, b"a", b"1"),
-    Turn(9, 1),
-    Flush(Some(1)),
+    Frame(b"a", b"1", 1),
     Evict(1, Ok(true)),
     Put(0, b"b", b"2"),
     Turn(9, 1),
@@ -77,7 +74,11 @@ const CUT: &[Step] = &[
     Evict(2, Ok(false)),
     Evict(3, Err(StoreFault::NoPage)),
     Evict(0, Err(StoreFault::NoPage)),
+    Walk(1, Some(1)),
+    Walk(2, Some(0)),
     Flush(Some(2)),
+    Walk(1, Some(2)),
+    Walk(2, Some(1)),
     Evict(1, Ok(true)),
     Evict(2, Ok(true)),
     Page(1, "1 : a=1 b=2"),
@@ -89,13 +90,9 @@ const CUT: &[Step] = &[
 
 /// A page stays evicted while it is written again, and is then read from where it stands now.
 const CLEANED: &[Step] = &[
-    Put(0, b"a", b"1"),
-    Turn(9, 1),
-    Flush(Some(1)),
+    Frame(b"a", b"1", 1),
     Roll,
-    Put(0, b"b", b"2"),
-    Turn(9, 1),
-    Flush(Some(2)),
+    Frame(b"b", b"2", 2),
     Evict(1, Ok(true)),
     Clean(1, 0, 1, 1),
     Stands(1, 2),
@@ -109,12 +106,15 @@ const CLEANED: &[Step] = &[
 
 /// A recovered page may leave at once.
 const OPENED_AGAIN: &[Step] = &[
+    Walk(1, Some(1)),
     Evict(1, Ok(true)),
     Page(1, "1 : k=v"),
     Put(0, b"j", b"2"),
     Turn(9, 1),
     Evict(1, Ok(true)),
     Page(1, "1 : j=2 k=v"),
+    Flush(Some(2)),
+    Walk(1, Some(2)),
 ];
 
 const TABLES: &[(Stand, &[Step])] = &[
@@ -123,7 +123,7 @@ const TABLES: &[(Stand, &[Step])] = &[
     (Stand::Boxes(4, 8), UNFLUSHED),
     (Stand::Boxes(4, 8), CUT),
     (Stand::Boxes(4, 8), CLEANED),
-    (Stand::Bytes(&[FIRST_BYTES]), OPENED_AGAIN),
+    (Stand::Bytes(&[FIRST]), OPENED_AGAIN),
 ];
 
 #[test]

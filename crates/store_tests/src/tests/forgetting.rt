@@ -3,8 +3,8 @@
 use super::putting::Op::{Set, Unset};
 use super::steps::Step;
 use super::steps::Step::{
-    Clean, Count, Cuts, Del, Evict, Flush, Forget, Get, Group, History, Page, Put, Puts, Reads,
-    Receipt, Roll, Settle, Stands, Turn,
+    Clean, Count, Cuts, Del, Evict, Flush, Forget, Frame, Get, Group, History, Page, Put, Puts,
+    Reads, Receipt, Roll, Settle, Stands, Turn,
 };
 use super::telling::all_went;
 use super::walking::{Stand, first_wrong};
@@ -69,9 +69,7 @@ const GROUPS: &[Step] = &[
 
 /// A cleaning's cuts are those of a history that is forgotten.
 const CLEANED: &[Step] = &[
-    Put(0, b"k", b"1"),
-    Turn(9, 1),
-    Flush(Some(1)),
+    Frame(b"k", b"1", 1),
     Forget(1, 1),
     Roll,
     Put(1, b"j", b"2"),

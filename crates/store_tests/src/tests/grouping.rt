@@ -10,8 +10,8 @@ use super::putting::Op;
 use super::putting::Op::{Set, Unset};
 use super::steps::Step;
 use super::steps::Step::{
-    Cuts, Evict, Flush, Full, FullGroup, Get, Group, History, Live, Page, Put, Same, Settle, Stops,
-    Turn,
+    Cuts, Evict, Flush, Frame, Full, FullGroup, Get, Group, History, Live, Page, Put, Same, Settle,
+    Stops, Turn,
 };
 use super::telling::{all_went, went};
 use super::walking::{Stand, first_wrong, wrong_step};
@@ -63,9 +63,7 @@ const LONG: &[u8] = &[b'v'; 179];
 /// The second frame has room for the first record of the group, and not for the second: both stand
 /// in the third. (A record is 5 bytes and its value; 126 of 517 bytes and a head of 19 leave 355.)
 const ROOM_FOR_ONE: &[Step] = &[
-    Put(0, b"k", b"v"),
-    Turn(1, 1),
-    Flush(Some(1)),
+    Frame(b"k", b"v", 1),
     Same(0, b"k", 126, 512),
     Turn(200, 126),
     Group(0, &[Set(b"k", SHORT), Set(b"k", LONG)]),
@@ -80,9 +78,7 @@ const ROOM_FOR_ONE: &[Step] = &[
 
 /// Where both have room, they stand in the second.
 const ROOM_FOR_BOTH: &[Step] = &[
-    Put(0, b"k", b"v"),
-    Turn(1, 1),
-    Flush(Some(1)),
+    Frame(b"k", b"v", 1),
     Same(0, b"k", 126, 512),
     Group(0, &[Set(b"k", SHORT), Set(b"k", SHORT)]),
     Turn(200, 128),

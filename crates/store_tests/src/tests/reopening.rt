@@ -5,9 +5,9 @@ use super::steps::Step::{
     Bytes, Clean, Cuts, Flush, Get, History, Live, Page, Put, Refused, Roll, Settle, Stands,
 };
 use super::telling::all_went;
-use super::vectors::{FIRST_BYTES, GREATEST, THIRD_NEWER, THIRD_OLDER};
 use super::walking::{Stand, first_wrong};
 use bw_store::StoreFault;
+use test_vectors::{FIRST, GREATEST, THIRD_NEWER, THIRD_OLDER};
 
 /// After the first worked segment: frame 2 in a segment of its own has the bytes of the third.
 const AFTER_THE_FIRST: &[Step] = &[
@@ -42,7 +42,7 @@ const AFTER_THE_THIRD: &[Step] = &[
 const AFTER_THE_GREATEST: &[Step] = &[Page(1, "1 :"), Refused(StoreFault::Spent)];
 
 const TABLES: &[(Stand, &[Step])] = &[
-    (Stand::Bytes(&[FIRST_BYTES]), AFTER_THE_FIRST),
+    (Stand::Bytes(&[FIRST]), AFTER_THE_FIRST),
     (Stand::Bytes(&[THIRD_OLDER, THIRD_NEWER]), AFTER_THE_THIRD),
     (Stand::Bytes(&[GREATEST]), AFTER_THE_GREATEST),
 ];

@@ -3,7 +3,7 @@
 use super::steps::Step;
 use super::steps::Step::{
     Add, Clean, Cuts, Del, Evict, Flush, Get, History, Live, Needed, Page, Put, Rewrite, Roll,
-    Settle, Turn, Unread,
+    Settle, Turn, Unread, Walk,
 };
 use super::telling::all_went;
 use super::walking::{Stand, first_wrong};
@@ -12,14 +12,21 @@ use bw_store::StoreFault;
 /// A frame has 20 bytes around its blocks, a Delta of one put 25, a Base of two pairs 18. What
 /// waits is flushed first. A page that is named twice is written twice, and no page is no frame.
 const WRITTEN_AGAIN: &[Step] = &[
+    Walk(1, Some(0)),
     Put(0, b"k", b"1"),
     Settle(1),
+    Walk(1, Some(1)),
     Put(0, b"j", b"2"),
     Settle(2),
+    Walk(1, Some(2)),
     Live(0, 1, 0, 122),
     Put(0, b"k", b"3"),
     Turn(9, 1),
+    Walk(1, Some(2)),
     Rewrite(&[1], Ok(1)),
+    Walk(1, Some(1)),
+    Walk(0, None),
+    Walk(2, None),
     Live(0, 1, 0, 205),
     Cuts(&[1, 2, 3, 3], 4),
     Page(1, "1 : j=2 k=3"),
@@ -34,6 +41,7 @@ const WRITTEN_AGAIN: &[Step] = &[
     Page(1, "1 : j=2 k=3"),
     Put(0, b"k", b"4"),
     Settle(4),
+    Walk(1, Some(2)),
     Page(1, "1 : j=2 k=4"),
 ];
 
@@ -57,7 +65,11 @@ const GIVEN_UP: &[Step] = &[
     Rewrite(&[1], Ok(1)),
     Needed(0, Some(0)),
     Needed(1, Some(13)),
+    Put(0, b"k", b"1"),
+    Settle(2),
+    Walk(1, Some(2)),
     Clean(1, 0, 0, 0),
+    Walk(1, Some(2)),
     Page(1, "1 : k=1"),
 ];
 

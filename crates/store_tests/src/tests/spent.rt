@@ -4,11 +4,11 @@ use super::boxes::worn;
 use super::steps::Step;
 use super::steps::Step::{Live, Page, Put, Refused, Roll, Stands, Turn};
 use super::telling::all_went;
-use super::vectors::{FIRST_BYTES, GREATEST};
 use super::walking::{Stand, first_wrong};
 use bw_care::{RecoverCause, recover};
 use bw_store::StoreFault;
 use std::alloc::Global;
+use test_vectors::{FIRST, GREATEST};
 
 /// The first worked segment, with the greatest number.
 const LAST_SEGMENT: &str =
@@ -77,7 +77,7 @@ fn a_flush_tells_a_counter_at_its_greatest_value(rt: HostRuntime) {
 
 // Whether a recovery of these bytes in a box that is not asked is refused, and all three come back.
 fn is_refused(alloc: Global) -> bool {
-    let Some(supply) = worn(alloc, FIRST_BYTES, 2) else {
+    let Some(supply) = worn(alloc, FIRST, 2) else {
         return false;
     };
     match recover(alloc, supply.boxes) {

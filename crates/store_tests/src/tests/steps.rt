@@ -17,6 +17,8 @@ use std::sync::Wait;
 
 #[derive(Drop)]
 pub(super) enum Step {
+    /// A record of the first writer, taken and appended: its key, its value, and the frame.
+    Frame(&'static [u8], &'static [u8], u64),
     /// A put of a writer.
     Put(usize, &'static [u8], &'static [u8]),
     Del(usize, &'static [u8]),
@@ -74,6 +76,8 @@ pub(super) enum Step {
     Counts(Counters),
     /// How many bytes of a live segment are still needed, from 0.
     Needed(u32, Option<u64>),
+    /// From how many frames a page would be read.
+    Walk(u32, Option<u64>),
     /// Whether it pays to clean.
     Pays(bool),
     /// How many segments are live, and how many spares stand.
@@ -84,9 +88,9 @@ pub(super) enum Step {
 }
 
 use Step::{
-    Add, Bytes, Clean, Count, Counts, Cuts, Del, Evict, Flush, Forget, Full, FullGroup, Get, Group,
-    History, Live, Needed, NotUpgraded, Page, Pays, Put, Puts, Reads, Receipt, Refused, Rewrite,
-    Roll, Same, Settle, Stands, Stops, Turn, Uncleaned, Unread, Unsettled, Upgrade,
+    Add, Bytes, Clean, Count, Counts, Cuts, Del, Evict, Flush, Forget, Frame, Full, FullGroup, Get,
+    Group, History, Live, Needed, NotUpgraded, Page, Pays, Put, Puts, Reads, Receipt, Refused,
+    Rewrite, Roll, Same, Settle, Stands, Stops, Turn, Uncleaned, Unread, Unsettled, Upgrade, Walk,
 };
 
 fn are_cuts(cuts: &[u64], told: &[u64]) -> bool {
@@ -180,6 +184,7 @@ fn answers(alloc: Global, store: &mut Store, step: &Step) -> bool
         Count(told) => store.count() == Ok(*told),
         Counts(told) => store.counters() == *told,
         Needed(at, told) => store.needed(*at) == *told,
+        Walk(page, told) => store.walk_of(*page) == *told,
         Pays(told) => store.pays() == *told,
         _ => false,
     }
@@ -229,6 +234,23 @@ fn changes<R: Wait>(rt: &R, store: &mut Store, step: &Step) -> bool
     }
 }
 
+// Whether a record is put by the first writer, taken, and appended as the frame that is told.
+fn frames<R: Wait>(rt: &R, opened: &mut Held, key: &[u8], value: &[u8], told: u64) -> bool
+    requires sound { IsSoundBeside opened.old.store holding }
+    requires feeds { map ring_of_feed opened.old.feeds.items
+        ≡ (kept_beside opened.old.store holding).rings }
+    ensures sound { IsSoundBeside opened.new.store holding }
+    ensures feeds { map ring_of_feed opened.new.feeds.items
+        ≡ (kept_beside opened.new.store holding).rings }
+{
+    if opened.feeds.is_empty() {
+        return false;
+    }
+    let is_put = puts_one(&mut opened.feeds, 0, key, Some(value), true);
+    let is_taken = takes(&mut opened.store, 9, Ok(1));
+    is_put & is_taken & (opened.store.flush(rt) == Ok(Some(told)))
+}
+
 /// Whether the step goes as told.
 pub(super) fn goes<R: Wait>(rt: &R, alloc: Global, opened: &mut Held, step: &Step) -> bool
     requires sound { IsSoundBeside opened.old.store holding }
@@ -245,6 +267,7 @@ pub(super) fn goes<R: Wait>(rt: &R, alloc: Global, opened: &mut Held, step: &Ste
             changes(rt, &mut opened.store, step)
         }
         Upgrade(..) | NotUpgraded(..) | Rewrite(..) => changes(rt, &mut opened.store, step),
+        Frame(key, value, told) => frames(rt, opened, *key, *value, *told),
         Settle(count) => opened.store.settle(rt, &mut opened.feeds) == Ok(*count),
         Unsettled(fault) => opened.store.settle(rt, &mut opened.feeds) == Err(*fault),
         Add => is_added(&mut opened.store, &mut opened.more),

@@ -7,7 +7,7 @@ ghost use Rattle.bw_store.specs.Views.{kept_beside, IsSoundBeside};
 
 use super::boxes::{LEAST, Row, Supply, dying, supplied};
 use super::opening::{Held, config_of, opened, shut};
-use super::steps::Step::{Clean, Evict, Flush, Get, Page, Put, Roll, Turn};
+use super::steps::Step::{Clean, Evict, Frame, Get, Page, Put, Roll, Turn};
 use super::steps::{Step, goes};
 use super::telling::{all_went, holds};
 use super::walking::{lives_on, wrong_step};
@@ -16,36 +16,20 @@ use std::sync::Wait;
 
 /// Five records, a frame each; the last one cuts its page.
 const FIVE: &[Step] = &[
-    Put(0, b"a", b"1"),
-    Turn(1, 1),
-    Flush(Some(1)),
-    Put(0, b"b", b"2"),
-    Turn(1, 1),
-    Flush(Some(2)),
-    Put(0, b"c", b"3"),
-    Turn(1, 1),
-    Flush(Some(3)),
-    Put(0, b"d", b"4"),
-    Turn(1, 1),
-    Flush(Some(4)),
-    Put(0, b"e", b"5"),
-    Turn(1, 1),
-    Flush(Some(5)),
+    Frame(b"a", b"1", 1),
+    Frame(b"b", b"2", 2),
+    Frame(b"c", b"3", 3),
+    Frame(b"d", b"4", 4),
+    Frame(b"e", b"5", 5),
 ];
 
 /// Three segments of a frame each.
 const THREE: &[Step] = &[
-    Put(0, b"k", b"1"),
-    Turn(1, 1),
-    Flush(Some(1)),
+    Frame(b"k", b"1", 1),
     Roll,
-    Put(0, b"j", b"2"),
-    Turn(1, 1),
-    Flush(Some(2)),
+    Frame(b"j", b"2", 2),
     Roll,
-    Put(0, b"k", b"3"),
-    Turn(1, 1),
-    Flush(Some(3)),
+    Frame(b"k", b"3", 3),
 ];
 
 /// Two of them are given up.
@@ -120,37 +104,18 @@ const COURSES: &[Course] = &[
             },
         ],
         shown: &[
-            &[
-                Page(1, "1 : a=1"),
-                Put(0, b"z", b"9"),
-                Turn(9, 1),
-                Flush(Some(2)),
-            ],
-            &[
-                Page(1, "1 : a=1 b=2"),
-                Put(0, b"z", b"9"),
-                Turn(9, 1),
-                Flush(Some(3)),
-            ],
-            &[
-                Page(1, "1 : a=1 b=2 c=3"),
-                Put(0, b"z", b"9"),
-                Turn(9, 1),
-                Flush(Some(4)),
-            ],
+            &[Page(1, "1 : a=1"), Frame(b"z", b"9", 2)],
+            &[Page(1, "1 : a=1 b=2"), Frame(b"z", b"9", 3)],
+            &[Page(1, "1 : a=1 b=2 c=3"), Frame(b"z", b"9", 4)],
             &[
                 Page(1, "1 : a=1 b=2 c=3 d=4"),
                 Page(2, ""),
-                Put(0, b"a", b"9"),
-                Turn(9, 1),
-                Flush(Some(5)),
+                Frame(b"a", b"9", 5),
             ],
             &[
                 Page(1, "1 : a=1 b=2"),
                 Page(2, "2 c: c=3 d=4 e=5"),
-                Put(0, b"z", b"9"),
-                Turn(9, 1),
-                Flush(Some(6)),
+                Frame(b"z", b"9", 6),
             ],
         ],
     },
@@ -210,30 +175,10 @@ const COURSES: &[Course] = &[
             },
         ],
         shown: &[
-            &[
-                Page(1, "1 : k=1"),
-                Put(0, b"z", b"9"),
-                Turn(9, 1),
-                Flush(Some(2)),
-            ],
-            &[
-                Page(1, "1 : j=2 k=1"),
-                Put(0, b"z", b"9"),
-                Turn(9, 1),
-                Flush(Some(3)),
-            ],
-            &[
-                Page(1, "1 : j=2 k=3"),
-                Put(0, b"z", b"9"),
-                Turn(9, 1),
-                Flush(Some(4)),
-            ],
-            &[
-                Page(1, "1 : j=2 k=3"),
-                Put(0, b"z", b"9"),
-                Turn(9, 1),
-                Flush(Some(5)),
-            ],
+            &[Page(1, "1 : k=1"), Frame(b"z", b"9", 2)],
+            &[Page(1, "1 : j=2 k=1"), Frame(b"z", b"9", 3)],
+            &[Page(1, "1 : j=2 k=3"), Frame(b"z", b"9", 4)],
+            &[Page(1, "1 : j=2 k=3"), Frame(b"z", b"9", 5)],
         ],
     },
 ];

@@ -2,44 +2,32 @@
 
 use super::steps::Step;
 use super::steps::Step::{
-    Add, Bytes, Cuts, Flush, Get, History, Live, Page, Put, Refused, Roll, Stands, Stops, Turn,
-    Unsettled,
+    Add, Bytes, Cuts, Flush, Frame, Get, History, Live, Page, Put, Refused, Roll, Stands, Stops,
+    Turn, Unsettled,
 };
 use super::telling::all_went;
-use super::vectors::{FIRST_BYTES, FOURTH_BYTES, JOINED_BYTES, SECOND_BYTES};
 use super::walking::{Stand, first_wrong};
 use bw_store::StoreFault;
+use test_vectors::{FIRST, JOINED, SECOND, TWO_JOINED};
 
-const FIRST: &[Step] = &[
-    Put(0, b"k", b"v"),
-    Turn(1, 1),
-    Flush(Some(1)),
+const ONE_FRAME: &[Step] = &[
+    Frame(b"k", b"v", 1),
     Flush(None),
     Cuts(&[1], 1),
     Stands(1, 3),
     Live(0, 1, 0, 77),
-    Bytes(1, FIRST_BYTES),
+    Bytes(1, FIRST),
     Page(1, "1 : k=v"),
     Flush(None),
 ];
 
-const SECOND: &[Step] = &[
-    Put(0, b"a", b"1"),
-    Turn(9, 1),
-    Flush(Some(1)),
-    Put(0, b"b", b"2"),
-    Turn(9, 1),
-    Flush(Some(2)),
-    Put(0, b"c", b"3"),
-    Turn(9, 1),
-    Flush(Some(3)),
-    Put(0, b"d", b"4"),
-    Turn(9, 1),
-    Flush(Some(4)),
-    Put(0, b"e", b"5"),
-    Turn(9, 1),
-    Flush(Some(5)),
-    Bytes(1, SECOND_BYTES),
+const FIVE_FRAMES: &[Step] = &[
+    Frame(b"a", b"1", 1),
+    Frame(b"b", b"2", 2),
+    Frame(b"c", b"3", 3),
+    Frame(b"d", b"4", 4),
+    Frame(b"e", b"5", 5),
+    Bytes(1, SECOND),
     Cuts(&[1, 2, 3, 4, 5], 5),
     Page(1, "1 : a=1 b=2"),
     Page(2, "2 c: c=3 d=4 e=5"),
@@ -58,12 +46,12 @@ const SECOND: &[Step] = &[
 ];
 
 /// A record joins the Delta of its page in the frame in the making.
-const JOINED: &[Step] = &[
+const ONE_DELTA: &[Step] = &[
     Put(0, b"a", b"1"),
     Put(0, b"b", b"2"),
     Turn(9, 2),
     Flush(Some(1)),
-    Bytes(1, JOINED_BYTES),
+    Bytes(1, TWO_JOINED),
     Live(0, 1, 0, 83),
     Page(1, "1 : a=1 b=2"),
 ];
@@ -93,7 +81,7 @@ const SIX: &[Step] = &[
     Put(0, b"bz", b"6"),
     Turn(9, 6),
     Flush(Some(1)),
-    Bytes(1, FOURTH_BYTES),
+    Bytes(1, JOINED),
     Live(0, 1, 0, 167),
     Page(1, "1 : a=1 b=2 bz=6"),
     Page(2, "2 c: c=3 d=4 e=5"),
@@ -146,7 +134,7 @@ const NO_SPARE: &[Step] = &[
     Add,
     Stands(0, 2),
     Flush(Some(1)),
-    Bytes(1, FIRST_BYTES),
+    Bytes(1, FIRST),
     Cuts(&[1], 1),
 ];
 
@@ -155,9 +143,7 @@ const ROLLED: &[Step] = &[
     Flush(Some(1)),
     Roll,
     Roll,
-    Put(0, b"k", b"v"),
-    Turn(1, 1),
-    Flush(Some(2)),
+    Frame(b"k", b"v", 2),
     Stands(2, 2),
 ];
 
@@ -179,9 +165,9 @@ const FAILED: &[Step] = &[
 ];
 
 const TABLES: &[(Stand, &[Step])] = &[
-    (Stand::Boxes(4, 8), FIRST),
-    (Stand::Boxes(4, 8), SECOND),
-    (Stand::Boxes(4, 8), JOINED),
+    (Stand::Boxes(4, 8), ONE_FRAME),
+    (Stand::Boxes(4, 8), FIVE_FRAMES),
+    (Stand::Boxes(4, 8), ONE_DELTA),
     (Stand::Boxes(4, 8), FIVE),
     (Stand::Boxes(4, 8), SIX),
     (Stand::Boxes(4, 8), EMPTY),

@@ -7,15 +7,15 @@ use super::steps::Step::{
     Stands, Turn, Upgrade,
 };
 use super::telling::{all_went, went};
-use super::vectors::{
-    FIRST_BYTES, OLD_FIRST, OLD_SECOND, OLD_THIRD_NEWER, OLD_THIRD_OLDER, THIRD_OLDER, UPGRADED,
-    UPGRADED_THIRD,
-};
 use super::walking::{Stand, first_wrong, lives_on};
 use bw_device::Segment;
 use bw_store::StoreFault;
 use std::alloc::Global;
 use std::sync::Wait;
+use test_vectors::{
+    FIRST, OLD_FIRST, OLD_SECOND, OLD_THIRD_NEWER, OLD_THIRD_OLDER, THIRD_OLDER, UPGRADED,
+    UPGRADED_THIRD,
+};
 
 /// The page is written again, and the history goes on behind it.
 const ONE: &[Step] = &[
@@ -137,7 +137,7 @@ const TABLES: &[(Stand, &[Step])] = &[
         BEHIND_THE_FIRST,
     ),
     (Stand::Bytes(&[UPGRADED_THIRD]), BEHIND_BOTH),
-    (Stand::Bytes(&[FIRST_BYTES]), NOTHING_OLD),
+    (Stand::Bytes(&[FIRST]), NOTHING_OLD),
     (Stand::Last(&[OLD_FIRST]), LAST_SPARE),
 ];
 

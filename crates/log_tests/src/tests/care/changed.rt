@@ -2,12 +2,12 @@
 //! leaves, which are lawful by their type.
 
 use super::super::{NEVER, Table, add_box, all_went, empty_yard, first_wrong};
-use super::vectors::{
-    FIRST, GREATEST, OLD_FIRST, OLD_GREATEST, OLD_SECOND, OLD_THIRD_NEWER, SECOND, THIRD_NEWER,
-};
 use bw_care::recover;
 use bw_device::Segment;
 use std::alloc::Global;
+use test_vectors::{
+    FIRST, GREATEST, OLD_FIRST, OLD_GREATEST, OLD_SECOND, OLD_THIRD_NEWER, SECOND, THIRD_NEWER,
+};
 
 // Whether one box with these bytes is answered.
 fn is_answered(alloc: Global, bytes: &[u8]) -> Option<bool> {

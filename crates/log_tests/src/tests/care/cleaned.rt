@@ -5,11 +5,11 @@ ghost use Rattle.log_tests.specs.Views.{IsSound};
 
 use super::super::{Fuse, NEVER, Table, Yard, all_went, first_wrong, taken_out};
 use super::boxes::{AMPLE, Kept, Piece, are_bytes, boxes_with, is_added, is_page};
-use super::vectors::{BEHIND_SECOND, SECOND, THIRD_LOST, THIRD_NEWER, THIRD_OLDER};
 use bw_care::{CleanFault, Cleaned, clean, recover};
 use bw_device::Segment;
 use bw_log::{Log, LogFault};
 use std::alloc::Global;
+use test_vectors::{BEHIND_SECOND, SECOND, THIRD_LOST, THIRD_NEWER, THIRD_OLDER};
 
 /// One call on a log, with what it has to answer.
 #[derive(Drop)]

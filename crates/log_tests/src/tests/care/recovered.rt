@@ -4,13 +4,13 @@ ghost use Rattle.bw_care.specs.Views.{IsSound};
 
 use super::super::{NEVER, Table, Yard, add_box, add_boxes, all_went, empty_yard, first_wrong};
 use super::boxes::{AMPLE, Kept, Piece, are_shown, boxes_of, boxes_with};
-use super::vectors::{
-    CUT_AT_ONCE, FIRST, GREATEST, JOINED, OLD_CUT_AT_ONCE, OLD_FIRST, OLD_GREATEST, OLD_JOINED,
-    OLD_SECOND, OLD_THIRD_NEWER, OLD_THIRD_OLDER, SECOND, THIRD_NEWER, THIRD_OLDER, UPGRADED,
-};
 use bw_care::{RecoverCause, recover};
 use bw_device::{Desk, Segment};
 use std::alloc::Global;
+use test_vectors::{
+    CUT_AT_ONCE, FIRST, GREATEST, JOINED, OLD_CUT_AT_ONCE, OLD_FIRST, OLD_GREATEST, OLD_JOINED,
+    OLD_SECOND, OLD_THIRD_NEWER, OLD_THIRD_OLDER, SECOND, THIRD_NEWER, THIRD_OLDER, UPGRADED,
+};
 
 /// What is told of a list of boxes.
 #[derive(Drop)]

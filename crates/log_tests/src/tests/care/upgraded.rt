@@ -5,14 +5,14 @@ ghost use Rattle.log_tests.specs.Views.{IsSound};
 
 use super::super::{Fuse, NEVER, Table, Yard, all_went, first_wrong, taken_out};
 use super::boxes::{AMPLE, Kept, Piece, are_bytes, boxes_with, is_added, is_page};
-use super::vectors::{
-    FIRST, OLD_BEHIND_SECOND, OLD_FIRST, OLD_GREATEST, OLD_SECOND, OLD_THIRD_LOST, OLD_THIRD_NEWER,
-    OLD_THIRD_OLDER, THIRD_OLDER, UPGRADED,
-};
 use bw_care::{CleanFault, Upgraded, recover, upgrade};
 use bw_device::Segment;
 use bw_log::{Log, LogFault};
 use std::alloc::Global;
+use test_vectors::{
+    FIRST, OLD_BEHIND_SECOND, OLD_FIRST, OLD_GREATEST, OLD_SECOND, OLD_THIRD_LOST, OLD_THIRD_NEWER,
+    OLD_THIRD_OLDER, THIRD_OLDER, UPGRADED,
+};
 
 /// One call on a log, with what it has to answer.
 #[derive(Drop)]

@@ -2,7 +2,9 @@ use Rattle.std.proofs.Common.{inl, ◌∙◌, ap}
 use Rattle.std.proofs.lemmas.Result.{err_from_is_err_and}
 use Rattle.bw_care.specs.Upgrading.{old_segments}
 use Rattle.bw_store.specs.Kept.{Kept}
+use Rattle.bw_store.specs.Noted.{Noted}
 use Rattle.bw_store.specs.Views.{kept_by}
+use Rattle.bw_store.proofs.CountsMore.{upgrade_hidden, upgrade_shown}
 use Rattle.bw_store.proofs.UpgradedMore.{upgrade_hides, upgrade_shows}
 use Rattle.bw_store.proofs.Showing.{hides_continues, hides_floor, shows_continues, shows_floor, shows_roster}
 use Rattle.bw_store.proofs.store.Store.upgrade.Goals as goal
@@ -39,3 +41,17 @@ returns-clause-floor g c = shows_floor (old_segments (kept_by c.args.self.now (�
 
 pub returns-clause-none_left : goal.returns-clause-none_left
 returns-clause-none_left g c = ap (λ (s : Kept). old_segments s.log) c.in_ok-publish.ensures.leaves.is ∙ c.in_ok-upgraded.ensures.none_left
+
+pub returns-in_err-upgraded-clause-counts : goal.returns-in_err-upgraded-clause-counts
+returns-in_err-upgraded-clause-counts g c =
+    let p = err_from_is_err_and c.from_residual.result c.from_residual.ensures.1 in
+    rw (p.1, p.2) (inl c.in_err-upgraded.ensures.counts)
+
+pub returns-in_err-publish-clause-counts : goal.returns-in_err-publish-clause-counts
+returns-in_err-publish-clause-counts g c =
+    let p = err_from_is_err_and c.from_residual-in_err-publish.result c.from_residual-in_err-publish.ensures.1 in
+    rw (p.1, p.2) (upgrade_hidden _ _ _ _ _ _ _ c.in_ok-upgraded.ensures.counts (ap (λ (n : Noted). n.tally) c.publish.ensures.noted) c.in_err-publish.ensures.leaves)
+
+pub returns-clause-counts : goal.returns-clause-counts
+returns-clause-counts g c =
+    upgrade_shown _ _ _ _ _ _ _ c.in_ok-upgraded.ensures.counts (ap (λ (n : Noted). n.tally) c.publish.ensures.noted) c.in_ok-publish.ensures.leaves
