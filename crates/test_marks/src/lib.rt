@@ -1,4 +1,4 @@
-//! Marks by which a test speaks with the shim that refuses allocations (`docs/refuse.c`).
+//! Marks by which a test speaks with the shim that refuses allocations (`tools/refuse.c`).
 //!
 //! A mark is an allocation of a length that no other call asks for. What is to be refused is said before
 //! what is asked stands, so that a test makes all that it needs with memory, and one call without. Where

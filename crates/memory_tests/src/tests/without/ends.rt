@@ -200,7 +200,8 @@ fn is_log(log: &Log) -> bool
     let counts = log.live() == 2 && log.spares() == 1 && log.pages() == 1 && !log.is_failed();
     let newest = Place { frame: 2, index: 0 };
     let places = log.place_of(1) == Some(newest)
-        && log.base_of(1) == Some(Place { frame: 1, index: 0 });
+        && log.base_of(1) == Some(Place { frame: 1, index: 0 })
+        && log.walk_of(1) == 2;
     let boxes = log.live_segment(1) == Some((2, 1, 69)) && log.spare_leases(0) == Some(2);
     let versions = log.live_version(1) == Some(2) && log.live_last(1) == Some(2);
     versions
