@@ -3,13 +3,13 @@
 use super::boxes::{Supply, maker_of};
 use super::steps::Step;
 use super::steps::Step::{
-    Add, Bytes, Clean, Cuts, Flush, Get, History, Live, NotUpgraded, Page, Put, Refused, Settle,
-    Stands, Turn, Upgrade,
+    Add, Bytes, Clean, Counts, Cuts, Flush, Get, History, Live, NotUpgraded, Page, Put, Refused,
+    Settle, Stands, Turn, Upgrade,
 };
 use super::telling::{all_went, went};
 use super::walking::{Stand, first_wrong, lives_on};
 use bw_device::Segment;
-use bw_store::StoreFault;
+use bw_store::{Counters, StoreFault};
 use std::alloc::Global;
 use std::sync::Wait;
 use test_vectors::{
@@ -45,6 +45,28 @@ const WAITING: &[Step] = &[
     Page(1, "1 : j=2 k=v"),
     History("0 put j 2;"),
     Flush(None),
+];
+
+/// What is counted: the flush before is none of the upgrade's. A header has 24 bytes, a frame 20
+/// around its blocks, a Delta of one put 25, an empty Base 8 and each of its pairs 5 here.
+const COUNTED: &[Step] = &[
+    Put(0, b"i", b"1"),
+    Turn(9, 1),
+    Upgrade(2, 1, 1),
+    Live(0, 4, 2, 112),
+    Counts(Counters {
+        records: 1,
+        frames: 2,
+        bytes: 112,
+        cleaner_frames: 1,
+        cleaner_bytes: 43,
+        splits: 0,
+        evictions: 0,
+        reads: 0,
+        publications: 1,
+        cleanings: 2,
+    }),
+    Page(1, "1 : i=1 j=2 k=3"),
 ];
 
 /// A log goes on in format 2 before it is upgraded, and is cleaned across both.
@@ -128,6 +150,7 @@ const TABLES: &[(Stand, &[Step])] = &[
         Stand::Bytes(&[OLD_THIRD_OLDER, OLD_THIRD_NEWER]),
         TWO_SEGMENTS,
     ),
+    (Stand::Bytes(&[OLD_THIRD_OLDER, OLD_THIRD_NEWER]), COUNTED),
     (
         Stand::Bytes(&[OLD_THIRD_OLDER, OLD_THIRD_NEWER, UPGRADED_THIRD]),
         BEFORE_THE_FIRST,
