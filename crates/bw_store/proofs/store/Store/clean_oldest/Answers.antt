@@ -1,12 +1,17 @@
 use Rattle.std.proofs.Common.{◌≡◌, true, Err, length, refl, subst, ap, ◌∙◌, arith}
+use Rattle.std.specs.Prelude.{is_ok}
 use Rattle.std.proofs.lemmas.Result.{err_from_is_err_and}
 use Rattle.bw_log.specs.Contents.{roster}
 use Rattle.bw_store.specs.declared.fault.StoreFault.{StoreFault}
 use Rattle.bw_store.specs.declared.fault.StoreFault.TheVariants.{NothingOld}
+use Rattle.bw_store.specs.declared.counters.Tally.{Tally}
+use Rattle.bw_store.specs.Counting.{counted_gone}
 use Rattle.bw_store.specs.Faults.{FlushAnswers, refusal_by}
 use Rattle.bw_store.specs.Kept.{Kept}
 use Rattle.bw_store.specs.Emptied.{Emptied}
+use Rattle.bw_store.specs.Noted.{Noted}
 use Rattle.bw_store.specs.Views.{kept_by}
+use Rattle.bw_store.proofs.CountsMore.{clean_counts}
 use Rattle.bw_store.proofs.FollowMore.{follows_as, follows_left}
 use Rattle.bw_store.proofs.Refusing.{never_nothing}
 use Rattle.bw_store.proofs.SettledMore.{settled_by}
@@ -97,3 +102,15 @@ returns-clause-nothing_old g c =
     let many = c.if-live-lt2.false in
     let same = ap (λ (s : Kept). length s.log.live) c.reserve_cuts.ensures.same in
     (λ e. absurd (not_nothing _ _ _ (omega arith) c.move_pages.ensures.leaves e), λ few. absurd (omega arith))
+
+pub returns-clause-counts : goal.returns-clause-counts
+returns-clause-counts g c =
+    let empty : Emptied true (kept_by c.args.self.now (λ z. (goal.Segment-dyn g z).holding z.1)) _ =
+    record { number = _; answers = c.in_ok-flush_making.ensures.answers; leaves = c.in_ok-flush_making.ensures.leaves } in
+    let begun : Emptied true (kept_by c.args.self.now (λ z. (goal.Segment-dyn g z).holding z.1))
+    (kept_by c.reserve_cuts.new.self (λ z. (goal.Segment-dyn g z).holding z.1)) = rw c.reserve_cuts.ensures.same empty in
+    let tally = ap (λ (n : Noted). n.tally) (c.reserve_cuts.ensures.stays ∙ c.flush_making.ensures.noted) in
+    clean_counts _ _ _ c.move_pages.result _ _ begun c.move_pages.ensures.leaves
+    (c.move_pages.ensures.counts
+    ∙ ap (λ (t : Tally). counted_gone 1 t (kept_by c.reserve_cuts.new.self (λ z. (goal.Segment-dyn g z).holding z.1)) (is_ok c.move_pages.result)
+    (kept_by c.move_pages.new.self (λ z. (goal.Segment-dyn g z).holding z.1))) tally)

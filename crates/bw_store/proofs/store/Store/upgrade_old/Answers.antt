@@ -1,12 +1,17 @@
 use Rattle.std.proofs.Common.{◌≡◌, ◌≤◌, true, Err, refl, subst, ap, ◌∙◌, arith}
+use Rattle.std.specs.Prelude.{is_ok}
 use Rattle.std.proofs.lemmas.Result.{err_from_is_err_and}
 use Rattle.bw_log.specs.Contents.{roster}
 use Rattle.bw_store.specs.declared.fault.StoreFault.{StoreFault}
 use Rattle.bw_store.specs.declared.fault.StoreFault.TheVariants.{NothingOld}
+use Rattle.bw_store.specs.declared.counters.Tally.{Tally}
+use Rattle.bw_store.specs.Counting.{counted_gone}
 use Rattle.bw_store.specs.Faults.{FlushAnswers, refusal_by}
 use Rattle.bw_store.specs.Kept.{Kept}
 use Rattle.bw_store.specs.Emptied.{Emptied}
+use Rattle.bw_store.specs.Noted.{Noted}
 use Rattle.bw_store.specs.Views.{kept_by}
+use Rattle.bw_store.proofs.CountsMore.{upgrade_counts}
 use Rattle.bw_store.proofs.FollowMore.{follows_as, follows_left}
 use Rattle.bw_store.proofs.Refusing.{never_nothing}
 use Rattle.bw_store.proofs.SettledMore.{settled_by}
@@ -104,3 +109,16 @@ returns-clause-nothing_old g c =
     let many = c.if-old_segments-eq0.false in
     let same = ap (λ (s : Kept). old_segments s.log) c.reserve_cuts.ensures.same in
     (λ e. absurd (never_nothing_old _ _ _ (omega arith) c.upgrade_counted.ensures.leaves e), λ few. absurd (omega arith))
+
+pub returns-clause-counts : goal.returns-clause-counts
+returns-clause-counts g c =
+    let empty : Emptied true (kept_by c.args.self.now (λ z. (goal.Segment-dyn g z).holding z.1)) _ =
+    record { number = _; answers = c.in_ok-flush_making.ensures.answers; leaves = c.in_ok-flush_making.ensures.leaves } in
+    let begun : Emptied true (kept_by c.args.self.now (λ z. (goal.Segment-dyn g z).holding z.1))
+    (kept_by c.reserve_cuts.new.self (λ z. (goal.Segment-dyn g z).holding z.1)) = rw c.reserve_cuts.ensures.same empty in
+    let tally = ap (λ (n : Noted). n.tally) (c.reserve_cuts.ensures.stays ∙ c.flush_making.ensures.noted) in
+    upgrade_counts _ _ _ c.upgrade_counted.result _ _ begun c.upgrade_counted.ensures.leaves
+    (c.upgrade_counted.ensures.counts
+    ∙ ap (λ (t : Tally). counted_gone (old_segments (kept_by c.reserve_cuts.new.self (λ z. (goal.Segment-dyn g z).holding z.1)).log) t
+    (kept_by c.reserve_cuts.new.self (λ z. (goal.Segment-dyn g z).holding z.1)) (is_ok c.upgrade_counted.result)
+    (kept_by c.upgrade_counted.new.self (λ z. (goal.Segment-dyn g z).holding z.1))) tally)
