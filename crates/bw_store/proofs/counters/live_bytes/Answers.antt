@@ -1,4 +1,4 @@
-use Rattle.std.proofs.Common.{ℕ, ap, ◌∙◌, arith}
+use Rattle.std.proofs.Common.{ap, ◌∙◌, arith}
 use Rattle.bw_care.specs.Views.{seen}
 use Rattle.bw_store.specs.Counting.{up}
 use Rattle.bw_store.proofs.Tallied.{bytes_all}

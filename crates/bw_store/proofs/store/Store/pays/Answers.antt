@@ -1,4 +1,4 @@
-use Rattle.std.proofs.Common.{length, arith}
+use Rattle.std.proofs.Common.{arith}
 use Rattle.bw_store.specs.Needed.{needed_in}
 use Rattle.bw_store.specs.Views.{kept_by}
 use Rattle.bw_store.proofs.NeededMore.{needed_told, needed_some}
