@@ -8,16 +8,16 @@
 #![tactic(auto)]
 
 mod driven;
+mod driver;
 mod flags;
 mod gate;
 mod pace;
 mod plan;
-mod runs;
 mod store_thread;
 mod writer_threads;
 mod writers;
 
 pub use driven::{DriveFault, Driven};
+pub use driver::drive;
 pub use gate::{Gate, MeetGate, OpenGate};
 pub use plan::Plan;
-pub use runs::drive;

@@ -1,7 +1,7 @@
 use Rattle.std.proofs.Common.{arith, rules}
 use Rattle.bw_drive.proofs.Ends.{none_wrote}
 use Rattle.bw_drive.proofs.Runs.{runs_none}
-use Rattle.bw_drive.proofs.runs.drive.Goals as goal
+use Rattle.bw_drive.proofs.driver.drive.Goals as goal
 
 pub returns-in-Err-clause-wrote : goal.returns-in-Err-clause-wrote
 returns-in-Err-clause-wrote g c =

@@ -3,7 +3,7 @@ use Rattle.bw_store.specs.Kept.{Kept}
 use Rattle.bw_drive.specs.Ran.{Runs}
 use Rattle.bw_drive.specs.Settling.{HasSettled}
 use Rattle.bw_drive.proofs.Runs.{runs_kept, stops_last}
-use Rattle.bw_drive.proofs.runs.finish.Goals as goal
+use Rattle.bw_drive.proofs.driver.finish.Goals as goal
 
 pub returns-in-Ok-clause-runs : goal.returns-in-Ok-clause-runs
 returns-in-Ok-clause-runs g c = λ first ran.
