@@ -358,10 +358,25 @@ impl Home {
     {
         let leases = self.live_leases()?;
         let upgraded = self.store.upgrade(rt)?;
-        for lease in leases.iter().take(upgraded.segments as usize) {
+        self.empty_first(rt, leases.as_slice(), upgraded.segments as usize)?;
+        Ok(upgraded)
+    }
+
+    // Empties the files of the first of these leases, so many of them.
+    fn empty_first<R: System>(
+        &mut self,
+        rt: &R,
+        leases: &[u32],
+        count: usize,
+    ) -> Result<(), HomeFault>
+        requires { IsReady self.old holding }
+        ensures ready { IsReady self.new holding }
+        ensures feeds { self.new.feeds ≡ self.old.feeds }
+    {
+        'leases: for lease in leases.iter().take(count) {
             self.site.empty(rt, *lease)?;
         }
-        Ok(upgraded)
+        Ok(())
     }
 
     /// The number of the next frame; 0 where there is none.
