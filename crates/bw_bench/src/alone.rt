@@ -1,6 +1,6 @@
 //! One writer in the store's own thread.
 
-ghost use Rattle.std.specs.Prelude.{◌≡◌, map};
+ghost use Rattle.std.specs.Prelude.{◌≡◌, ◌<◌, length, map};
 ghost use Rattle.bw_ring.specs.Ends.{ring_of_feed};
 ghost use Rattle.bw_store.specs.Views.{kept_by, IsSound};
 
@@ -152,6 +152,23 @@ fn put_and_get<R: Threads + Wait>(
     gets_evicted(bench, store)
 }
 
+// The same by the first of the feeds, of which there is one.
+fn by_first<R: Threads + Wait>(
+    rt: &R,
+    bench: &Bench,
+    store: &mut Store,
+    feeds: &mut Vec<Feed>,
+    course: Course,
+) -> Option<()>
+    requires sound { IsSound store.old holding }
+    requires some { 0 < length feeds.old.items }
+    ensures sound { IsSound store.new holding }
+    ensures rings { (kept_by store.new holding).rings ≡ (kept_by store.old holding).rings }
+    ensures feeds { map ring_of_feed feeds.new.items ≡ map ring_of_feed feeds.old.items }
+{
+    put_and_get(rt, bench, store, &mut feeds[0], course)
+}
+
 /// The same by the first of the feeds.
 pub fn alone<R: Threads + Wait>(
     rt: &R,
@@ -168,5 +185,5 @@ pub fn alone<R: Threads + Wait>(
     if feeds.is_empty() {
         return bench.stop(Stop::Refused, "a store without a writer");
     }
-    put_and_get(rt, bench, store, &mut feeds[0], course)
+    by_first(rt, bench, store, feeds, course)
 }
