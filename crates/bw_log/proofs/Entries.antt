@@ -8,6 +8,7 @@ use Rattle.bw_codec.specs.Grammar.{frame_bytes_in, IsFrameIn}
 use Rattle.bw_codec.specs.Reading.{version_in}
 use Rattle.bw_codec.specs.declared.block.Frame.{Frame}
 use Rattle.bw_codec.specs.declared.block.Header.{Header}
+use Rattle.bw_log.specs.Starts.{starts_of}
 use Rattle.bw_log.specs.Segments.{Limits, header_in, version_at, limit_at, segment_frames, frames_of, entries_from, entries, AreLive, IsLive, is_before_next}
 use Rattle.bw_log.specs.Contents.{Image, limits_of, IsImage, counted_in}
 use Rattle.bw_log.specs.Walking.{StandsAt}
@@ -74,6 +75,7 @@ pub record InSegment (v m f segment : ℕ) (bytes : List ℕ) (e : FrameAt × Fr
   pub len : e.0.len ≡ length (frame_bytes_in v e.1)
   pub lawful : IsFrameIn v m f e.1
   pub numbered : e.0.number ≡ e.1.number
+  pub begins : e.0.starts ≡ starts_of v e.1
 
 in_segment : (v m f segment : ℕ) (bytes front : List ℕ) (fs : List Frame) (cut : List ℕ) → bytes ≡ front ++ (flat_map (frame_bytes_in v) fs ++ cut)
     → AllByRecursion (IsFrameIn v m f) fs
@@ -84,7 +86,7 @@ in_segment v m f segment bytes front (x ∷ xs) cut parts lawful =
     parts ∙ ap (λ (r : List ℕ). front ++ r) (append_assoc (frame_bytes_in v x) (flat_map (frame_bytes_in v) xs) cut) in
     let next : bytes ≡ (front ++ frame_bytes_in v x) ++ (flat_map (frame_bytes_in v) xs ++ cut) =
     here ∙ sym (append_assoc front (frame_bytes_in v x) (flat_map (frame_bytes_in v) xs ++ cut)) in (
-      record { names = refl; front = front; back = flat_map (frame_bytes_in v) xs ++ cut; parts = here; at = refl; len = refl; lawful = lawful.0; numbered = refl },
+      record { names = refl; front = front; back = flat_map (frame_bytes_in v) xs ++ cut; parts = here; at = refl; len = refl; lawful = lawful.0; numbered = refl; begins = refl },
       subst (λ (n : ℕ). AllByRecursion (InSegment v m f segment bytes) (entries_from v segment n xs)) (length-append front (frame_bytes_in v x))
           (in_segment v m f segment bytes (front ++ frame_bytes_in v x) xs cut next lawful.1),
     )

@@ -11,8 +11,9 @@ use Rattle.bw_device.specs.Boxes.{ChangedAt}
 use Rattle.bw_log.proofs.Asked.{found}
 use Rattle.bw_log.proofs.Fields.{both_fields, bounded_same}
 use Rattle.bw_log.specs.Contents.{Contents, image, counted, counted_in, AreTorn, IsImage, IsSound, IsBounded}
-use Rattle.bw_log.specs.Reads.{IsKept, FailedRead, StopsAt, IsLineIn, HoldsPage}
-use Rattle.bw_log.specs.Walking.{thinned, StandsAt, ThinnedAt, IsWalk}
+use Rattle.bw_log.specs.Reads.{IsKept, FailedRead, StopsAt, IsLineIn}
+use Rattle.bw_log.specs.Starts.{starts_of}
+use Rattle.bw_log.specs.Walking.{StandsAt}
 use Rattle.bw_log.specs.declared.places.FrameAt.{FrameAt}
 use Rattle.bw_log.specs.declared.fault.LogFault.{LogFault}
 use Rattle.bw_log.specs.declared.fault.LogFault.TheVariants.{NoMemory, BadConfig, NoSegment, Device, Failed, Spent, NoPage}
@@ -76,6 +77,8 @@ pub record BoxedLine (c : Contents) (k : ℕ) (line : FrameAt) : Type 0 where
   pub within : line.at + line.len ≤ length box.bytes
   pub spelled : take line.len (drop line.at box.bytes) ≡ frame_bytes_in (version_at c.old_to line.segment) frame
   pub numbered : line.number ≡ frame.number
+  pub size : line.len ≡ length (frame_bytes_in (version_at c.old_to line.segment) frame)
+  pub begins : line.starts ≡ starts_of (version_at c.old_to line.segment) frame
 
 pub boxed_line : (c : Contents) (k : ℕ) (line : FrameAt) → IsSound c → k < length c.frames → line ≡ get_or c.frames k line → BoxedLine c k line
 boxed_line c k line sound inside is =
@@ -115,6 +118,8 @@ boxed_line c k line sound inside is =
       );
       spelled = spelled ∙ ap (λ (n : ℕ). frame_bytes_in n l.frame) version;
       numbered = e.numbered;
+      size = len ∙ ap (λ (n : ℕ). length (frame_bytes_in n l.frame)) version;
+      begins = e.begins ∙ ap (λ (n : ℕ). starts_of n l.frame) version;
     }
 
 pub line_within : {c : Contents} {k : ℕ} {line : FrameAt} (l : BoxedLine c k line)
@@ -127,11 +132,6 @@ line_bytes {c} {k} {line} l none bytes empty read =
     subst (λ (o : Option Holding). IfSome o (λ h. bytes ≡ none ++ take line.len (drop line.at h.bytes))) l.there read
     ∙ ap (λ (n : List ℕ). n ++ take line.len (drop line.at l.box.bytes)) empty
     ∙ l.spelled
-
--- what was kept of the frame that was read
-pub frame_found : (p : ℕ) {c : Contents} {k : ℕ} {line : FrameAt} (l : BoxedLine c k line) (kept : Frame) → Some (thinned p l.frame) ≡ Some kept
-    → ThinnedAt p (counted c) k kept
-frame_found p {c} {k} {line} l kept same = record { frame = l.frame; stands = l.stands; is = (let e : thinned p l.frame ≡ kept = cc in e) }
 
 -- ---- reads leave a sound log
 
@@ -222,15 +222,6 @@ pub in_line : (c : Contents) (k : ℕ) (line : FrameAt) → IsSound c → k < le
 in_line c k line sound inside is j at =
     let first = (boxed_line c k line sound inside is).from_first in
     record { line = line; told = slice_get-get_or c.frames k line inside ∙ ap (λ (l : FrameAt). Some l) (sym is); inside = omega arith }
-
-pub on_page : (c now : Contents) (p at : ℕ) (newer : List Frame) → now ≡ c → IsWalk p (counted c) at newer → (j : ℕ) → IsLineIn now at j → HoldsPage c p j
-on_page c now p at newer same walk j inside = record {
-  index = at;
-  frame = walk.frame;
-  stands = record { before = walk.before; beyond = walk.beyond; split = walk.split; index = walk.index };
-  touched = walk.touched;
-  inside = subst (λ (d : Contents). IsLineIn d at j) same inside;
-}
 
 -- ---- a segment's bytes, all of them
 

@@ -174,10 +174,14 @@ some_told v c (x ∷ xs) lines n d live boxes sound same found some =
     subst (λ (l : List FrameAt). TwoParts c.number l (last_number c (v x))) (sym same) (parts_of c (v x) (map v xs) sound live) in
     sym (some_last t found d some)
 
+-- what a list without lines is asked with
+pub no_line : FrameAt
+no_line = record { number = 0; segment = 0; at = 0; len = 0; starts = [] }
+
 pub none_told : {X : Type 0} (v : X → Holding) (c : Contents) (xs : List X) (lines : List FrameAt) (n : ℕ) → c.live ≡ map v xs → 0 < length xs → IsSound c
     → lines ≡ c.frames → Found c.number lines n → n ≡ 0 → Tells c (map v xs) 0
 none_told v c [] lines n live boxes sound same found none = absurd (omega arith)
 none_told v c (x ∷ xs) lines n live boxes sound same found none =
     let t : TwoParts c.number lines (last_number c (v x)) =
     subst (λ (l : List FrameAt). TwoParts c.number l (last_number c (v x))) (sym same) (parts_of c (v x) (map v xs) sound live) in
-    sym (no_last t found (record { number = 0; segment = 0; at = 0; len = 0 }) none)
+    sym (no_last t found no_line none)

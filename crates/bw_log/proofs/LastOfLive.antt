@@ -17,7 +17,7 @@ use Rattle.bw_log.specs.Oldest.{last_number}
 use Rattle.bw_log.specs.declared.places.FrameAt.{FrameAt}
 use Rattle.bw_log.proofs.Entries.{frames_in, all_append, all_filtered, all_mapped, filter_mapped, SplitAt, split_at}
 use Rattle.bw_log.proofs.GivenUp.{all_map}
-use Rattle.bw_log.proofs.LastNumber.{at_front, own_last, numbers_in, parted, point_is, same_last}
+use Rattle.bw_log.proofs.LastNumber.{no_line, at_front, own_last, numbers_in, parted, point_is, same_last}
 
 -- ---- the lines before a segment, those in it, and the others
 
@@ -217,27 +217,27 @@ pub none_told : (c : Contents) (lines : List FrameAt) (segment n : ℕ) → line
 none_told c lines segment n same sound from inside found none =
     let a : Around c segment = around c segment sound from inside in
     let f : Found segment c.frames n = subst (λ (l : List FrameAt). Found segment l n) same found in
-    told_at c segment 0 a (sym (none_last a.parts f (record { number = 0; segment = 0; at = 0; len = 0 }) none))
+    told_at c segment 0 a (sym (none_last a.parts f no_line none))
 
-pub own_told : (c : Contents) (lines : List FrameAt) (segment n : ℕ) (d : FrameAt) → lines ≡ c.frames → IsSound c → c.number ≤ segment
-    → segment - c.number < length c.live → Found segment lines n → 0 < n → (get_or lines (n - 1) d).segment ≡ segment
-    → MatchOption (slice_get c.live (segment - c.number)) ((get_or lines (n - 1) d).number ≡ 0) (λ h. (get_or lines (n - 1) d).number ≡ last_number c h)
-own_told c lines segment n d same sound from inside found some own =
+pub own_told : (c : Contents) (lines : List FrameAt) (segment n : ℕ) (line : FrameAt) → line ≡ get_or lines (n - 1) line → lines ≡ c.frames → IsSound c
+    → c.number ≤ segment → segment - c.number < length c.live → Found segment lines n → 0 < n → line.segment ≡ segment
+    → MatchOption (slice_get c.live (segment - c.number)) (line.number ≡ 0) (λ h. line.number ≡ last_number c h)
+own_told c lines segment n line is same sound from inside found some own =
     let a : Around c segment = around c segment sound from inside in
     let t : ThreeParts segment lines (last_number c a.box) = subst (λ (l : List FrameAt). ThreeParts segment l (last_number c a.box)) (sym same) a.parts in
-    elim (last_told t found d some) [
-      | inl x ↦ told_at c segment (get_or lines (n - 1) d).number a (sym x.1)
-      | inr x ↦ absurd (x.0 own)
+    elim (last_told t found line some) [
+      | inl x ↦ told_at c segment line.number a (ap (λ (l : FrameAt). l.number) is ∙ sym x.1)
+      | inr x ↦ absurd (x.0 (ap (λ (l : FrameAt). l.segment) (sym is) ∙ own))
     ]
 
-pub other_told : (c : Contents) (lines : List FrameAt) (segment n : ℕ) (d : FrameAt) → lines ≡ c.frames → IsSound c → c.number ≤ segment
-    → segment - c.number < length c.live → Found segment lines n → 0 < n → (get_or lines (n - 1) d).segment ≢ segment
+pub other_told : (c : Contents) (lines : List FrameAt) (segment n : ℕ) (line : FrameAt) → line ≡ get_or lines (n - 1) line → lines ≡ c.frames → IsSound c
+    → c.number ≤ segment → segment - c.number < length c.live → Found segment lines n → 0 < n → line.segment ≢ segment
     → MatchOption (slice_get c.live (segment - c.number)) (◌≡◌ {A = ℕ} 0 0) (λ h. 0 ≡ last_number c h)
-other_told c lines segment n d same sound from inside found some other =
+other_told c lines segment n line is same sound from inside found some other =
     let a : Around c segment = around c segment sound from inside in
     let t : ThreeParts segment lines (last_number c a.box) = subst (λ (l : List FrameAt). ThreeParts segment l (last_number c a.box)) (sym same) a.parts in
-    elim (last_told t found d some) [
-      | inl x ↦ absurd (other x.0)
+    elim (last_told t found line some) [
+      | inl x ↦ absurd (other (ap (λ (l : FrameAt). l.segment) is ∙ x.0))
       | inr x ↦ told_at c segment 0 a (sym x.1)
     ]
 

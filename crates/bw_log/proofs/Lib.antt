@@ -7,10 +7,9 @@ pub mod LastOfLive
 pub mod LogLeft
 pub mod GivenUp
 pub mod Walked
-pub mod Scans
 pub mod Fetched
-pub mod Thinned
-pub mod Picked
+pub mod Looked
+pub mod Placing
 pub mod Walks
 pub mod Entries
 pub mod Reread
@@ -24,5 +23,6 @@ pub mod Torn
 pub mod Whole
 pub mod Growing
 pub mod Cut
+pub mod BlocksRead
 pub mod Adopted
 pub mod Valued

@@ -9,6 +9,7 @@ use Rattle.bw_device.specs.Boxes.{ChangedAt}
 use Rattle.std.specs.Prelude.{map, true, nat_lt, ◌^◌}
 use Rattle.std.specs.Option.{SomeIff}
 use Rattle.std.proofs.lemmas.Bool.{cond-true, cond-false, le-ltb, lt-ltb}
+use Rattle.bw_log.specs.Starts.{starts_of}
 use Rattle.bw_log.specs.Segments.{header_with, following, entry_of}
 use Rattle.bw_log.specs.PageTable.{noted_all, grown_to, top_page}
 use Rattle.bw_log.specs.declared.places.FrameAt.{FrameAt}
@@ -155,7 +156,7 @@ pub put_done : (old : Contents) (live : List Holding) (x : Frame) (piece : List 
     (grown pages : List PageAt)
     → 0 < length old.live → i ≡ length old.live - 1 → piece ≡ frame_bytes x → ChangedAt (λ h k. k ≡ appended h piece) i old.live live
     → IfSome (slice_get old.live i) (λ h. at ≡ length h.bytes)
-    → frames ≡ old.frames ++ (record { number = x.number; segment = old.number + i; at = at; len = length piece }) ∷ []
+    → frames ≡ old.frames ++ (record { number = x.number; segment = old.number + i; at = at; len = length piece; starts = starts_of latest x }) ∷ []
     → grown ≡ grown_to (top_page x.blocks) old.pages → pages ≡ noted_all x.number 0 x.blocks grown → next ≡ following x.number
     → FramePut old x (record old { live = live; next = next; frames = frames; pages = pages })
 put_done old live x piece i at next frames grown pages some place is changed told frames_is grown_is pages_is next_is =
@@ -166,9 +167,9 @@ put_done old live x piece i at next frames grown pages some place is changed tol
     let at_is : at ≡ length_of (last_of old.live) =
     subst (λ (o : Option Holding). IfSome o (λ h. at ≡ length h.bytes)) there told
     ∙ sym (ap (λ (l : List Holding). length_of (last_of l)) e.split ∙ ap length_of (last_of_at e.older e.newest)) in
-    let line : ◌≡◌ {A = FrameAt} (record { number = x.number; segment = old.number + i; at = at; len = length piece })
+    let line : ◌≡◌ {A = FrameAt} (record { number = x.number; segment = old.number + i; at = at; len = length piece; starts = starts_of latest x })
     (entry_of latest (old.number + (length old.live - 1)) (length_of (last_of old.live)) x) =
-    λ k. record { number = x.number; segment = old.number + place k; at = at_is k; len = length (is k) } in
+    λ k. record { number = x.number; segment = old.number + place k; at = at_is k; len = length (is k); starts = starts_of latest x } in
     let live_is : live ≡ with_last (λ h. appended h (frame_bytes x)) old.live =
     last_appended old.live live piece i some place changed ∙ ap (λ (b : List ℕ). with_last (λ h. appended h b) old.live) is in
     let frames_all : frames ≡ (with_frame old x).frames = frames_is ∙ ap (λ (l : FrameAt). old.frames ++ l ∷ []) line in

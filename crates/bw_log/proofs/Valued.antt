@@ -1,12 +1,13 @@
 -- The newest word of a key on a page decides, so a walk back may end there.
 
-use Rattle.std.proofs.Common.{◌≡◌, ℕ, ◌+◌, ◌-◌, Bool, true, false, Option, Some, None, Result, Ok, Err, List, [], ◌∷◌, ◌++◌, get_or, reverse}
+use Rattle.std.proofs.Common.{◌≡◌, ℕ, ◌+◌, ◌-◌, ◌||◌, Bool, true, false, Option, Some, None, Result, Ok, Err, List, [], ◌∷◌, ◌++◌, reverse}
 use Rattle.std.proofs.Common.{refl, sym, ap, subst, ◌∙◌, if◌then◌else◌}
 use Rattle.std.specs.List.{AllByRecursion as All, fold, filter, list_any}
-use Rattle.std.proofs.lemmas.List.{reverse-append}
+use Rattle.std.proofs.lemmas.Bool.{or_parts}
 use Rattle.bw_codec.specs.Grammar.{IsBlockIn, IsFrameIn}
-use Rattle.bw_codec.specs.Touch.{sets, touches}
+use Rattle.bw_codec.specs.Touch.{sets}
 use Rattle.bw_codec.specs.declared.leaf.Leaf.{Leaf}
+use Rattle.bw_codec.specs.declared.block.Place.{Place}
 use Rattle.bw_codec.specs.declared.block.Block.{Block}
 use Rattle.bw_codec.specs.declared.block.Block.TheVariants.{Delta, Base, Split}
 use Rattle.bw_codec.specs.declared.block.Frame.{Frame}
@@ -17,19 +18,17 @@ use Rattle.bw_page.specs.declared.words.Word.{Word}
 use Rattle.bw_page.specs.declared.words.Word.TheVariants.{Silent}
 use Rattle.bw_page.proofs.Sorted.{Rises}
 use Rattle.bw_page.proofs.Wording.{RisesIf, rises_all, blocks_tell, words_append, silent_unset, said_over}
+use Rattle.bw_log.specs.Places.{all_placed}
 use Rattle.bw_log.specs.Contents.{Contents, image, counted, limits_of, IsSound}
 use Rattle.bw_log.specs.Segments.{Limits, version_at, limit_at, frames_of, segment_frames, is_before_next, AreLive}
-use Rattle.bw_log.specs.Walking.{thinned, ThinnedAt, IsWalk}
-use Rattle.bw_log.specs.declared.places.FrameAt.{FrameAt}
-use Rattle.bw_codec.specs.declared.block.Place.{Place}
-use Rattle.bw_log.specs.Walking.{first_back}
+use Rattle.bw_log.specs.Walking.{first_back, bodies, PlacedAt, IsWalk}
 use Rattle.bw_log.specs.Reads.{IsKept, ReadStops}
 use Rattle.bw_log.specs.declared.fault.LogFault.{LogFault}
 use Rattle.bw_log.proofs.Fetched.{kept_after, kept_same, sound_after}
-use Rattle.bw_log.proofs.Walk.{none_fold, forgets_fold}
-use Rattle.bw_log.proofs.Walks.{content_push, reads_more, read_more, walk_frame}
-use Rattle.bw_log.proofs.Thinned.{thin_sets}
-use Rattle.bw_log.proofs.Walked.{Reads, Step, step_is, some_link}
+use Rattle.bw_log.proofs.Placing.{bodies_all, bodies_more}
+use Rattle.bw_log.proofs.Walk.{none_after, forgets_fold}
+use Rattle.bw_log.proofs.Walks.{content_one, reads_one, newest_last}
+use Rattle.bw_log.proofs.Walked.{Reads, Step, read_is, step_is, some_link}
 
 -- ---- the pairs of counted frames ascend
 
@@ -83,31 +82,28 @@ of_frames (f ∷ fs) h = all_join HasOrder f.blocks (blocks_of fs) h.0 (of_frame
 -- ---- a walk that looks for a key
 
 -- what was read so far says nothing of it
-pub record Looks (p : ℕ) (k : Bytes) (all : List Frame) (at : ℕ) : Type 0 where
-  pub newer : List Frame
+pub record Looks (p : ℕ) (k : Bytes) (all : List (Place × Block)) (at : Place) : Type 0 where
+  pub newer : List Block
   pub walk : IsWalk p all at newer
-  pub silent : blocks_word p k (blocks_of (reverse newer)) ≡ Silent
-  pub ordered : All HasOrder (blocks_of (reverse newer))
+  pub silent : blocks_word p k (reverse newer) ≡ Silent
+  pub ordered : All HasOrder (reverse newer)
 
-pub looks_first : (p : ℕ) (k : Bytes) (all : List Frame) (at : ℕ) → IsWalk p all at [] → Looks p k all at
+pub looks_first : (p : ℕ) (k : Bytes) (all : List (Place × Block)) (at : Place) → IsWalk p all at [] → Looks p k all at
 looks_first p k all at walk = record { newer = []; walk = walk; silent = refl; ordered = tt }
 
-more_blocks : (newer : List Frame) (f : Frame) → blocks_of (reverse (newer ++ f ∷ [])) ≡ f.blocks ++ blocks_of (reverse newer)
-more_blocks newer f = ap blocks_of (reverse-append newer (f ∷ []))
+-- the block at a place is in order, and so are those before it
+pub in_order : {place : Place} {b : Block} (c : Contents) → IsSound c → (s : PlacedAt (all_placed (counted c)) place b)
+    → All HasOrder (bodies s.before) × HasOrder b
+in_order {place} {b} c sound s =
+    all_split HasOrder (bodies s.before) b (bodies s.beyond)
+    (subst (All HasOrder) (sym (bodies_all (counted c)) ∙ ap bodies s.split ∙ bodies_more s.before ((place, b) ∷ s.beyond))
+    (of_frames (counted c) (counted_ordered c sound)))
 
--- the frame that was read is in order
-pub kept_ordered : {p at : ℕ} {newer : List Frame} {kept : Frame} (c : Contents) → IsSound c → IsWalk p (counted c) at newer
-    → ThinnedAt p (counted c) at kept → All HasOrder kept.blocks
-kept_ordered {p} {at} {newer} {kept} c sound w t =
-    let parts = all_split IsOrdered t.stands.before t.frame t.stands.beyond (subst (All IsOrdered) t.stands.split (counted_ordered c sound)) in
-    subst (λ (f : Frame). All HasOrder f.blocks) t.is (all_kept HasOrder (touches p) t.frame.blocks parts.1)
-
-word_more : (p : ℕ) (k : Bytes) (newer : List Frame) (f : Frame) → blocks_word p k (blocks_of (reverse newer)) ≡ Silent
-    → blocks_word p k (blocks_of (reverse (newer ++ f ∷ []))) ≡ blocks_word p k f.blocks
-word_more p k newer f silent =
-    ap (blocks_word p k) (more_blocks newer f)
-    ∙ words_append p k f.blocks (blocks_of (reverse newer))
-    ∙ ap (λ (w : Word). Rattle.bw_page.specs.Words.newer (blocks_word p k f.blocks) w) silent
+word_more : (p : ℕ) (k : Bytes) (newer : List Block) (b : Block) → blocks_word p k (reverse newer) ≡ Silent
+    → blocks_word p k (b ∷ reverse newer) ≡ blocks_word p k (b ∷ [])
+word_more p k newer b silent =
+    words_append p k (b ∷ []) (reverse newer)
+    ∙ ap (λ (w : Word). Rattle.bw_page.specs.Words.newer (blocks_word p k (b ∷ [])) w) silent
 
 -- it says something: that is the value
 decides : (p : ℕ) (k : Bytes) (bs : List Block) (before : Option Leaf) → RisesIf before → All HasOrder bs
@@ -118,105 +114,76 @@ decides p k bs None rises ordered set said =
     ap (value_on k) (forgets_fold p None (Some empty_leaf) bs (set refl))
     ∙ blocks_tell p k bs empty_leaf tt ordered ∙ said_over (blocks_word p k bs) _ None said
 
-any_front : {X : Type 0} (f : X → Bool) (xs ys : List X) → list_any f xs ≡ true → list_any f (xs ++ ys) ≡ true
-any_front f [] ys e = absurd cc
-any_front f (x ∷ xs) ys e = (elim (f x) as (λ t. Rattle.std.specs.Prelude.◌||◌ t (list_any f xs) ≡ true → Rattle.std.specs.Prelude.◌||◌ t (list_any f (xs ++ ys)) ≡ true) [
+set_here : (p : ℕ) (b : Block) (rest : List Block) (before : Option Leaf) (leaf : Leaf) → after p before b ≡ Some leaf → before ≡ None
+    → list_any (sets p) (b ∷ rest) ≡ true
+set_here p b rest before leaf set none = elim (sets p b) as (λ t. sets p b ≡ t → (t || list_any (sets p) rest) ≡ true) [
   | true ↦ λ e. refl
-  | false ↦ λ e. any_front f xs ys e
-] e)
+  | false ↦ λ e. absurd (
+      let whole : None ≡ Some leaf = sym (none_after p b e) ∙ ap (λ (o : Option Leaf). after p o b) (sym none) ∙ set in
+      cc)
+] refl
 
-own_value : {p at : ℕ} (k : Bytes) (c : Contents) → IsSound c → (x : Looks p k (counted c) at)
-    → (blocks_word p k (thinned p x.walk.frame).blocks ≡ Silent → ⊥)
-    → value_on k (content p (blocks_of (counted c))) ≡ told_by (blocks_word p k (thinned p x.walk.frame).blocks) None
+own_value : {p : ℕ} {at : Place} (k : Bytes) (c : Contents) → IsSound c → (x : Looks p k (all_placed (counted c)) at)
+    → (blocks_word p k (x.walk.block ∷ []) ≡ Silent → ⊥)
+    → value_on k (content p (blocks_of (counted c))) ≡ told_by (blocks_word p k (x.walk.block ∷ [])) None
 own_value {p} {at} k c sound x said =
     let w = x.walk in
-    let t : Frame = thinned p w.frame in
-    let bs : List Block = t.blocks ++ blocks_of (reverse x.newer) in
-    let parts = all_split IsOrdered w.before w.frame w.beyond (subst (All IsOrdered) w.split (counted_ordered c sound)) in
-    let before : Option Leaf = content p (blocks_of w.before) in
-    let rises : RisesIf before = rises_all p None (blocks_of w.before) tt (of_frames w.before parts.0) in
-    let ordered : All HasOrder bs = all_join HasOrder t.blocks (blocks_of (reverse x.newer)) (all_kept HasOrder (touches p) w.frame.blocks parts.1) x.ordered in
-    let is : content p (blocks_of (counted c)) ≡ fold (after p) before bs =
-    reads_more w ∙ read_more p before w.frame x.newer ∙ ap (fold (after p) before) (more_blocks x.newer t) in
-    let word : blocks_word p k bs ≡ blocks_word p k t.blocks = ap (blocks_word p k) (sym (more_blocks x.newer t)) ∙ word_more p k x.newer t x.silent in
-    let set : before ≡ None → list_any (sets p) bs ≡ true = λ none.
-    elim (list_any (sets p) w.frame.blocks) as (λ b. list_any (sets p) w.frame.blocks ≡ b → list_any (sets p) bs ≡ true) [
-      | true ↦ λ e. any_front (sets p) t.blocks (blocks_of (reverse x.newer)) (thin_sets p w.frame.blocks ∙ e)
-      | false ↦ λ e. absurd (
-          let whole : None ≡ Some w.leaf =
-          sym (none_fold p w.frame.blocks e) ∙ ap (λ (o : Option Leaf). fold (after p) o w.frame.blocks) (sym none)
-          ∙ sym (content_push p w.before w.frame) ∙ w.set in
-          cc)
-    ] refl in
+    let bs : List Block = w.block ∷ reverse x.newer in
+    let parts = in_order c sound w.stands in
+    let before : Option Leaf = content p (bodies w.stands.before) in
+    let rises : RisesIf before = rises_all p None (bodies w.stands.before) tt parts.0 in
+    let is : content p (blocks_of (counted c)) ≡ fold (after p) before bs = ap (content p) (sym (bodies_all (counted c))) ∙ reads_one w in
+    let word : blocks_word p k bs ≡ blocks_word p k (w.block ∷ []) = word_more p k x.newer w.block x.silent in
+    let set = set_here p w.block (reverse x.newer) before w.leaf (sym (content_one p (bodies w.stands.before) w.block) ∙ w.set) in
     ap (value_on k) is
-    ∙ decides p k bs before rises ordered set (λ e. said (sym word ∙ e))
+    ∙ decides p k bs before rises (parts.1, x.ordered) set (λ e. said (sym word ∙ e))
     ∙ ap (λ (v : Word). told_by v None) word
 
-kept_is : {p : ℕ} {all : List Frame} {at : ℕ} {newer : List Frame} {kept : Frame} (w : IsWalk p all at newer) → ThinnedAt p all at kept
-    → thinned p w.frame ≡ kept
-kept_is {p} {all} {at} {newer} {kept} w t = ap (thinned p) (walk_frame w t.stands) ∙ t.is
-
--- the frame that was read says something of the key
-pub value_is : {p at : ℕ} {kept : Frame} (k : Bytes) (c : Contents) → IsSound c → (x : Looks p k (counted c) at) → ThinnedAt p (counted c) at kept
-    → (word : Word) → word ≡ blocks_word p k kept.blocks → (word ≡ Silent → ⊥)
-    → value_on k (content p (blocks_of (counted c))) ≡ told_by word None
-value_is {p} {at} {kept} k c sound x t word is said =
-    let same : blocks_word p k (thinned p x.walk.frame).blocks ≡ word = ap (λ (f : Frame). blocks_word p k f.blocks) (kept_is x.walk t) ∙ sym is in
-    own_value k c sound x (λ e. said (sym same ∙ e)) ∙ ap (λ (w : Word). told_by w None) same
-
 -- it says nothing: the walk goes on
-pub looks_on : {p at : ℕ} (kept : Frame) (k : Bytes) (c : Contents) (next : ℕ) → (x : Looks p k (counted c) at) → All HasOrder kept.blocks
-    → IsWalk p (counted c) next (x.newer ++ kept ∷ []) → blocks_word p k kept.blocks ≡ Silent → Looks p k (counted c) next
-looks_on {p} {at} kept k c next x ordered walk silent = record {
-  newer = x.newer ++ kept ∷ [];
+looks_on : {p : ℕ} {at : Place} (b : Block) (k : Bytes) (all : List (Place × Block)) (next : Place) → (x : Looks p k all at) → HasOrder b
+    → IsWalk p all next (x.newer ++ b ∷ []) → blocks_word p k (b ∷ []) ≡ Silent → Looks p k all next
+looks_on {p} {at} b k all next x ordered walk silent = record {
+  newer = x.newer ++ b ∷ [];
   walk = walk;
-  silent = word_more p k x.newer kept x.silent ∙ silent;
-  ordered = subst (All HasOrder) (sym (more_blocks x.newer kept)) (all_join HasOrder kept.blocks (blocks_of (reverse x.newer)) ordered x.ordered);
+  silent = ap (blocks_word p k) (newest_last x.newer b) ∙ word_more p k x.newer b x.silent ∙ silent;
+  ordered = subst (All HasOrder) (sym (newest_last x.newer b)) (ordered, x.ordered);
 }
 
 -- ---- one step, on a log that is as it was when the walk began
 
-abbrev pub Found : Contents → Contents → ℕ → Bytes → ℕ → Frame → Type 0
-Found old now p k at frame = (now ≡ old) × IsSound old × Looks p k (counted old) at × ThinnedAt p (counted now) at frame
+abbrev pub Found : Contents → Contents → ℕ → Bytes → Place → Block → Type 0
+Found old now p k at block =
+    (now ≡ old) × IsSound old × Looks p k (all_placed (counted old)) at × ((b : Block) → PlacedAt (all_placed (counted now)) at b → block ≡ b)
 
-found_then : {old now : Contents} {p : ℕ} {k : Bytes} {at : ℕ} {frame : Frame} → Found old now p k at frame → ThinnedAt p (counted old) at frame
-found_then {old} {now} {p} {k} {at} {frame} r = subst (λ (c : Contents). ThinnedAt p (counted c) at frame) r.0 r.3
-
-pub read_ordered : {old now : Contents} {p : ℕ} {k : Bytes} {at : ℕ} {frame : Frame} (blocks : List Block) → Found old now p k at frame
-    → blocks ≡ frame.blocks → All HasOrder blocks
-read_ordered {old} {now} {p} {k} {at} {frame} blocks r is = subst (All HasOrder) (sym is) (kept_ordered old r.1 r.2.walk (found_then r))
-
--- the frame decides
-pub found_value : {old now : Contents} {p : ℕ} {k : Bytes} {at : ℕ} {frame : Frame} (blocks : List Block) (word : Word) → Found old now p k at frame
-    → blocks ≡ frame.blocks → word ≡ blocks_word p k blocks → (word ≡ Silent → ⊥)
-    → told_by word None ≡ value_on k (content p (blocks_of (counted old)))
-found_value {old} {now} {p} {k} {at} {frame} blocks word r is said some =
-    sym (value_is k old r.1 r.2 (found_then r) word (said ∙ ap (blocks_word p k) is) some)
-
-reads_of : {old now : Contents} {p : ℕ} {k : Bytes} {at : ℕ} {frame : Frame} (r : Found old now p k at frame) → Reads old now p at r.2.newer frame
+abbrev reads_of : {old now : Contents} {p : ℕ} {k : Bytes} {at : Place} {block : Block} (r : Found old now p k at block) → Reads old now p at r.2.newer block
 reads_of r = (r.0, r.1, r.2.walk, r.3)
 
-unset_by : (p : ℕ) (k : Bytes) (blocks : List Block) → Silent ≡ blocks_word p k blocks → false ≡ list_any (sets p) blocks
-unset_by p k blocks silent = sym (silent_unset p k blocks (sym silent))
+pub read_ordered : {old now : Contents} {p : ℕ} {k : Bytes} {at : Place} {block : Block} → Found old now p k at block → HasOrder block
+read_ordered {old} {now} {p} {k} {at} {block} r = subst HasOrder (sym (read_is (reads_of r))) (in_order old r.1 r.2.walk.stands).1
 
--- the frame is silent: its link leads on
-pub found_on : {old now : Contents} {p : ℕ} {k : Bytes} {at : ℕ} {frame : Frame} (line : FrameAt) (blocks links : List Block) (place : Place)
-    (r : Found old now p k at frame) → line ≡ get_or old.frames 0 line
-    → blocks ≡ frame.blocks → Silent ≡ blocks_word p k blocks → links ≡ frame.blocks → Some place ≡ first_back p links
-    → Step old p at r.2.newer frame line.number place
-found_on {old} {now} {p} {k} {at} {frame} line blocks links place r first is silent same link =
-    step_is old now p at r.2.newer frame line blocks links place (reads_of r) first is (unset_by p k blocks silent) same link
+-- the block decides
+pub found_value : {old now : Contents} {p : ℕ} {k : Bytes} {at : Place} {block : Block} (word : Word) → Found old now p k at block
+    → word ≡ blocks_word p k (block ∷ []) → (word ≡ Silent → ⊥) → told_by word None ≡ value_on k (content p (blocks_of (counted old)))
+found_value {old} {now} {p} {k} {at} {block} word r said some =
+    let same : word ≡ blocks_word p k (r.2.walk.block ∷ []) = said ∙ ap (λ (b : Block). blocks_word p k (b ∷ [])) (read_is (reads_of r)) in
+    ap (λ (w : Word). told_by w None) same ∙ sym (own_value k old r.1 r.2 (λ e. some (same ∙ e)))
 
-pub found_further : {old now : Contents} {p : ℕ} {k : Bytes} {at : ℕ} {frame : Frame} (first : ℕ) (blocks : List Block) (place : Place)
-    (r : Found old now p k at frame) → Step old p at r.2.newer frame first place → blocks ≡ frame.blocks → Silent ≡ blocks_word p k blocks
-    → Looks p k (counted old) (place.frame - first)
-found_further {old} {now} {p} {k} {at} {frame} first blocks place r step is silent =
-    looks_on frame k old (place.frame - first) r.2 (read_ordered frame.blocks r refl) step.walk (ap (blocks_word p k) (sym is) ∙ sym silent)
+unset_by : (p : ℕ) (k : Bytes) (block : Block) → Silent ≡ blocks_word p k (block ∷ []) → false ≡ sets p block
+unset_by p k block silent = sym (or_parts (sets p block) false (silent_unset p k (block ∷ []) (sym silent))).0
 
-pub never_ends : {old now : Contents} {p : ℕ} {k : Bytes} {at : ℕ} {frame : Frame} (blocks links : List Block) → Found old now p k at frame
-    → blocks ≡ frame.blocks → Silent ≡ blocks_word p k blocks → links ≡ frame.blocks → None ≡ first_back p links → ⊥
-never_ends {old} {now} {p} {k} {at} {frame} blocks links r is silent same none =
-    some_link old now p at r.2.newer frame blocks links (reads_of r) is (unset_by p k blocks silent) same none
+-- the block is silent: its link leads on
+pub found_on : {old now : Contents} {p : ℕ} {k : Bytes} {at : Place} {block : Block} (place : Place) (r : Found old now p k at block)
+    → Silent ≡ blocks_word p k (block ∷ []) → Some place ≡ first_back p (block ∷ []) → Step old p at r.2.newer block place
+found_on {old} {now} {p} {k} {at} {block} place r silent link = step_is place (reads_of r) (unset_by p k block silent) link
+
+pub found_further : {old now : Contents} {p : ℕ} {k : Bytes} {at : Place} {block : Block} (place : Place) (r : Found old now p k at block)
+    → Silent ≡ blocks_word p k (block ∷ []) → Some place ≡ first_back p (block ∷ []) → Looks p k (all_placed (counted old)) place
+found_further {old} {now} {p} {k} {at} {block} place r silent link =
+    looks_on block k (all_placed (counted old)) place r.2 (read_ordered r) (found_on place r silent link).walk (sym silent)
+
+pub never_ends : {old now : Contents} {p : ℕ} {k : Bytes} {at : Place} {block : Block} → Found old now p k at block
+    → Silent ≡ blocks_word p k (block ∷ []) → None ≡ first_back p (block ∷ []) → ⊥
+never_ends {old} {now} {p} {k} {at} {block} r silent none = some_link (reads_of r) (unset_by p k block silent) none
 
 -- ---- what the log is after the walk
 

@@ -1,26 +1,29 @@
 -- A walk and the table of places, on a log.
 
-use Rattle.std.proofs.Common.{inl, inr, ◌≡◌, ℕ, zero, suc, ◌-◌, ◌<◌, ◌≤◌, ◌==◌, Bool, true, false, if◌then◌else◌, Option, Some, None, Result, Err, List, []}
-use Rattle.std.proofs.Common.{◌∷◌, ◌++◌, length, get_or, slice_get, reverse, refl, sym, ap, subst, ◌∙◌, arith}
+use Rattle.std.proofs.Common.{inl, inr, ◌≡◌, ℕ, zero, suc, ◌+◌, ◌*◌, ◌-◌, ◌<◌, ◌≤◌, ◌==◌, Bool, true, false, if◌then◌else◌, Option, Some, None, Result, Err, List, []}
+use Rattle.std.proofs.Common.{◌∷◌, ◌++◌, length, get_or, slice_get, reverse, refl, sym, ap, subst, ◌∙◌, arith, length-append}
 use Rattle.std.specs.List.{fold, list_any}
-use Rattle.std.proofs.lemmas.Bool.{eqb-true}
-use Rattle.bw_codec.specs.Touch.{sets}
+use Rattle.std.proofs.lemmas.Bool.{eqb-true, or_left, or_right}
+use Rattle.bw_codec.specs.Touch.{sets, touches}
 use Rattle.bw_codec.specs.declared.leaf.Leaf.{Leaf}
 use Rattle.bw_codec.specs.declared.block.Place.{Place}
 use Rattle.bw_codec.specs.declared.block.Block.{Block}
 use Rattle.bw_codec.specs.declared.block.Frame.{Frame}
 use Rattle.bw_page.specs.Leaves.{leaf_at}
 use Rattle.bw_page.specs.Standing.{after, content, blocks_of}
-use Rattle.bw_log.specs.Places.{first_number}
+use Rattle.bw_log.specs.Places.{all_placed, first_number}
 use Rattle.bw_log.specs.Contents.{Contents, image, counted, entry_place, place_in, IsSound, IsStanding}
-use Rattle.bw_log.specs.Walking.{first_back, ThinnedAt, IsWalk}
+use Rattle.bw_log.specs.Walking.{first_back, bodies, PlacedAt, IsPlace, IsWalk}
+use Rattle.bw_log.specs.Reads.{IsLineIn, HoldsPage}
+use Rattle.bw_log.specs.BlockBytes.{BlockAt}
 use Rattle.bw_log.specs.declared.fault.LogFault.{LogFault}
 use Rattle.bw_log.specs.declared.fault.LogFault.TheVariants.{NoPage}
 use Rattle.bw_log.specs.declared.places.FrameAt.{FrameAt}
 use Rattle.bw_log.specs.declared.places.PageAt.{PageAt}
 use Rattle.bw_log.proofs.Entries.{listed_length}
 use Rattle.bw_log.proofs.Fetched.{boxed_line}
-use Rattle.bw_log.proofs.Walks.{WalksOn, walk_inside, walk_on, walk_ends, walk_starts}
+use Rattle.bw_log.proofs.Placing.{InFrames, in_frames, IsEarlier, bodies_all}
+use Rattle.bw_log.proofs.Walks.{WalksOn, walk_on, walk_ends, walk_starts}
 use Rattle.bw_log.proofs.Asked.{page_there}
 
 -- ---- the first line
@@ -37,16 +40,49 @@ first_is c line sound some is =
 
 -- ---- the walk
 
-pub inside_of : {c : Contents} {p at : ℕ} {newer : List Frame} → IsSound c → IsWalk p (counted c) at newer → at < length c.frames
-inside_of {c} {p} {at} {newer} sound walk = omega (arith, walk_inside walk, listed_length (image c) sound.holds)
+-- the frame in which a block of the counted ones stands
+pub in_counted : {c : Contents} {place : Place} {b : Block} → IsSound c → PlacedAt (all_placed (counted c)) place b
+    → InFrames (first_number (counted c)) (counted c) place b
+in_counted {c} {place} {b} sound s = in_frames (first_number (counted c)) (counted c) s.before place b s.beyond sound.holds.numbered s.split
 
-pub some_frames : {c : Contents} {p at : ℕ} {newer : List Frame} → IsSound c → IsWalk p (counted c) at newer → 0 < length c.frames
-some_frames {c} {p} {at} {newer} sound walk = omega (arith, inside_of sound walk)
+-- the same by the index of its line
+pub record Numbered (c : Contents) (first : ℕ) (place : Place) (b : Block) : Type 0 where
+  pub from_first : first ≤ place.frame
+  pub inside : place.frame - first < length c.frames
+  pub stands : BlockAt (counted c) (place.frame - first) place.index b
 
-pub goes_on : {c : Contents} {p at : ℕ} {newer : List Frame} {frame : Frame} → IsSound c → IsWalk p (counted c) at newer → ThinnedAt p (counted c) at frame
-    → list_any (sets p) frame.blocks ≡ false
-    → WalksOn p (counted c) at newer frame (first_back p frame.blocks)
-goes_on sound walk kept unset = walk_on walk kept sound.holds.numbered sound.holds.linked unset
+pub numbered_by : {c : Contents} {place : Place} {b : Block} (first : ℕ) → first ≡ first_number (counted c) → IsSound c
+    → PlacedAt (all_placed (counted c)) place b → Numbered c first place b
+numbered_by {c} {place} {b} first is sound s =
+    let i = in_counted sound s in
+    let number = i.number in
+    let own : Numbered c (first_number (counted c)) place b = record {
+      from_first = omega arith;
+      inside = omega (
+        arith,
+        listed_length (image c) sound.holds,
+        ap (λ (l : List Frame). length l) i.split,
+        length-append i.older (i.frame ∷ i.newer),
+      );
+      stands = record {
+        frame = i.frame;
+        stands = record { before = i.older; beyond = i.newer; split = i.split; index = omega arith };
+        front = i.front;
+        back = i.back;
+        split = i.blocks;
+        many = sym i.index;
+      };
+    } in
+    subst (λ (n : ℕ). Numbered c n place b) (sym is) own
+
+pub some_frames : {c : Contents} {place : Place} → IsSound c → IsPlace (all_placed (counted c)) place → 0 < length c.frames
+some_frames {c} {place} sound s =
+    let n = numbered_by (first_number (counted c)) refl sound s.1 in
+    let inside = n.inside in
+    omega arith
+
+pub walk_place : {p : ℕ} {all : List (Place × Block)} {at : Place} {newer : List Block} → IsWalk p all at newer → IsPlace all at
+walk_place w = (w.block, w.stands)
 
 -- ---- the table
 
@@ -82,18 +118,15 @@ pub page_set : (c : Contents) (p : ℕ) → IsSound c → 1 ≤ p → p ≤ leng
 page_set c p sound some inside = set_by c.m (counted c) (length c.pages) p sound.holds.stands some inside
 
 -- where the walk of a page starts
-pub record PageStarts (c : Contents) (p : ℕ) (e : PageAt) : Type 0 where
-  pub from_first : first_number (counted c) ≤ e.place.frame
-  pub walk : IsWalk p (counted c) (e.place.frame - first_number (counted c)) []
-
-pub page_starts : (c : Contents) (p : ℕ) (e : PageAt) → IsSound c → Some e ≡ (if p == 0 then None else slice_get c.pages (p - 1)) → PageStarts c p e
+pub page_starts : (c : Contents) (p : ℕ) (e : PageAt) → IsSound c → Some e ≡ (if p == 0 then None else slice_get c.pages (p - 1))
+    → IsWalk p (all_placed (counted c)) e.place []
 page_starts c p e sound is =
     let there = page_there p c.pages e is in
     let set = page_set c p sound there.0 there.1 in
-    let start = walk_starts p (counted c) set.0 sound.holds.numbered set.1 in
+    let start = walk_starts p (counted c) set.0 set.1 in
     let at : slice_get c.pages (p - 1) ≡ Some e = line_at_page p c.pages e is in
     let same : e.place ≡ start.0 = line_says (λ x. x.place) c.pages p e start.0 at (sound.holds.table.places p there.0 ∙ start.1) in
-    subst (λ (place : Place). PageStarts c p (record e { place = place })) (sym same) (record { from_first = start.2; walk = start.3 })
+    subst (λ (place : Place). IsWalk p (all_placed (counted c)) place []) (sym same) start.2
   where
     line_by : (p : ℕ) (pages : List PageAt) (e : PageAt) (t : Bool) → Some e ≡ (if t then None else slice_get pages (p - 1)) → slice_get pages (p - 1) ≡ Some e
     line_by p pages e true is = absurd cc
@@ -113,56 +146,79 @@ not_none c p replayed sound some inside a b = let set = page_set c p sound some 
 
 -- ---- one step of the loop that walks
 
--- what was kept of a frame that was read, on a log that is as it was when the walk began
-abbrev pub Reads : Contents → Contents → ℕ → ℕ → List Frame → Frame → Type 0
-Reads old now p at newer frame = (now ≡ old) × IsSound old × IsWalk p (counted old) at newer × ThinnedAt p (counted now) at frame
+-- the block that was read at a place of a log that is as it was when the walk began
+abbrev pub Reads : Contents → Contents → ℕ → Place → List Block → Block → Type 0
+Reads old now p at newer block =
+    (now ≡ old) × IsSound old × IsWalk p (all_placed (counted old)) at newer
+    × ((b : Block) → PlacedAt (all_placed (counted now)) at b → block ≡ b)
 
-kept_then : {old now : Contents} {p at : ℕ} {newer : List Frame} {frame : Frame} → Reads old now p at newer frame → ThinnedAt p (counted old) at frame
-kept_then {old} {now} {p} {at} {newer} {frame} r = subst (λ (c : Contents). ThinnedAt p (counted c) at frame) r.0 r.3
+pub read_is : {old now : Contents} {p : ℕ} {at : Place} {newer : List Block} {block : Block} (r : Reads old now p at newer block) → block ≡ r.2.block
+read_is {old} {now} {p} {at} {newer} {block} r =
+    subst (λ (c : Contents). (b : Block) → PlacedAt (all_placed (counted c)) at b → block ≡ b) r.0 r.3 r.2.block r.2.stands
 
-pub record Step (old : Contents) (p at : ℕ) (newer : List Frame) (frame : Frame) (first : ℕ) (place : Place) : Type 0 where
-  pub from_first : first ≤ place.frame
-  pub older : place.frame - first < at
-  pub walk : IsWalk p (counted old) (place.frame - first) (newer ++ frame ∷ [])
+pub record Step (old : Contents) (p : ℕ) (at : Place) (newer : List Block) (block : Block) (place : Place) : Type 0 where
+  pub earlier : IsEarlier place at
+  pub walk : IsWalk p (all_placed (counted old)) place (newer ++ block ∷ [])
 
-on_by : {old : Contents} {p at : ℕ} {newer : List Frame} {frame : Frame} (first : ℕ) (place : Place) (link : Option Place)
-    → WalksOn p (counted old) at newer frame link → Some place ≡ link → first ≡ first_number (counted old)
-    → Step old p at newer frame first place
-on_by {old} {p} {at} {newer} {frame} first place link on is number =
+on_by : {old : Contents} {p : ℕ} {at : Place} {newer : List Block} {block : Block} (place : Place) (link : Option Place)
+    → WalksOn p (all_placed (counted old)) at newer block link → Some place ≡ link → Step old p at newer block place
+on_by {old} {p} {at} {newer} {block} place link on is =
     let same : on.back ≡ place = (let e : Some on.back ≡ Some place = sym on.is ∙ sym is in cc) in
-    let step : Step old p at newer frame (first_number (counted old)) on.back = record { from_first = on.from_first; older = on.older; walk = on.walk } in
-    subst (λ (n : ℕ). Step old p at newer frame n place) (sym number)
-    (subst (λ (x : Place). Step old p at newer frame (first_number (counted old)) x) same step)
+    subst (λ (x : Place). Step old p at newer block x) same (record { earlier = on.earlier; walk = on.walk })
 
-walks_on : {old now : Contents} {p at : ℕ} {newer : List Frame} {frame : Frame} (sets_in link_in : List Block) → Reads old now p at newer frame
-    → sets_in ≡ frame.blocks → false ≡ list_any (sets p) sets_in → link_in ≡ frame.blocks
-    → WalksOn p (counted old) at newer frame (first_back p link_in)
-walks_on {old} {now} {p} {at} {newer} {frame} sets_in link_in r sets_same unset link_same =
-    let none : list_any (sets p) frame.blocks ≡ false = ap (list_any (sets p)) (sym sets_same) ∙ sym unset in
-    subst (λ (bs : List Block). WalksOn p (counted old) at newer frame (first_back p bs)) (sym link_same) (goes_on r.1 r.2 (kept_then r) none)
+walks_on : {old now : Contents} {p : ℕ} {at : Place} {newer : List Block} {block : Block} → Reads old now p at newer block → false ≡ sets p block
+    → WalksOn p (all_placed (counted old)) at newer block (first_back p (block ∷ []))
+walks_on {old} {now} {p} {at} {newer} {block} r unset =
+    let same = read_is r in
+    subst (λ (b : Block). WalksOn p (all_placed (counted old)) at newer b (first_back p (b ∷ []))) (sym same)
+    (walk_on (counted old) r.2 r.1.holds.numbered r.1.holds.linked (ap (sets p) (sym same) ∙ sym unset))
 
-pub step_is : (old now : Contents) (p at : ℕ) (newer : List Frame) (frame : Frame) (line : FrameAt) (sets_in link_in : List Block) (place : Place)
-    → Reads old now p at newer frame → line ≡ get_or old.frames 0 line
-    → sets_in ≡ frame.blocks → false ≡ list_any (sets p) sets_in → link_in ≡ frame.blocks → Some place ≡ first_back p link_in
-    → Step old p at newer frame line.number place
-step_is old now p at newer frame line sets_in link_in place r is sets_same unset link_same link =
-    on_by line.number place (first_back p link_in) (walks_on sets_in link_in r sets_same unset link_same) link (first_is old line r.1 (some_frames r.1 r.2) is)
+pub step_is : {old now : Contents} {p : ℕ} {at : Place} {newer : List Block} {block : Block} (place : Place) → Reads old now p at newer block
+    → false ≡ sets p block → Some place ≡ first_back p (block ∷ []) → Step old p at newer block place
+step_is {old} {now} {p} {at} {newer} {block} place r unset link = on_by place (first_back p (block ∷ [])) (walks_on r unset) link
 
-pub some_link : (old now : Contents) (p at : ℕ) (newer : List Frame) (frame : Frame) (sets_in link_in : List Block) → Reads old now p at newer frame
-    → sets_in ≡ frame.blocks → false ≡ list_any (sets p) sets_in → link_in ≡ frame.blocks → None ≡ first_back p link_in → ⊥
-some_link old now p at newer frame sets_in link_in r sets_same unset link_same none =
-    let on = walks_on sets_in link_in r sets_same unset link_same in
-    (let e : None ≡ Some on.back = none ∙ on.is in cc)
+pub some_link : {old now : Contents} {p : ℕ} {at : Place} {newer : List Block} {block : Block} → Reads old now p at newer block → false ≡ sets p block
+    → None ≡ first_back p (block ∷ []) → ⊥
+some_link r unset none = let on = walks_on r unset in (let e : None ≡ Some on.back = none ∙ on.is in cc)
 
-pub end_is : (old now : Contents) (p at : ℕ) (newer pushed : List Frame) (frame : Frame) (sets_in : List Block) → Reads old now p at newer frame
-    → sets_in ≡ frame.blocks → true ≡ list_any (sets p) sets_in
-    → pushed ≡ newer ++ frame ∷ [] → content p (blocks_of (counted old)) ≡ fold (after p) None (blocks_of (reverse pushed))
-end_is old now p at newer pushed frame sets_in r sets_same set push =
-    walk_ends r.2 (kept_then r) (ap (list_any (sets p)) (sym sets_same) ∙ sym set)
-    ∙ ap (λ (fs : List Frame). fold (after p) None (blocks_of (reverse fs))) (sym push)
+pub end_is : {old now : Contents} {p : ℕ} {at : Place} {newer : List Block} {block : Block} (pushed : List Block) → Reads old now p at newer block
+    → true ≡ sets p block → pushed ≡ newer ++ block ∷ [] → content p (blocks_of (counted old)) ≡ fold (after p) None (reverse pushed)
+end_is {old} {now} {p} {at} {newer} {block} pushed r set push =
+    let same = read_is r in
+    ap (content p) (sym (bodies_all (counted old)))
+    ∙ walk_ends r.2 (ap (sets p) (sym same) ∙ sym set)
+    ∙ ap (λ (b : Block). fold (after p) None (reverse (newer ++ b ∷ []))) (sym same)
+    ∙ ap (λ (bs : List Block). fold (after p) None (reverse bs)) (sym push)
 
-pub inside_now : {c : Contents} {p at : ℕ} {newer : List Frame} (now : Contents) → now ≡ c → IsSound c → IsWalk p (counted c) at newer → at < length now.frames
-inside_now {c} {p} {at} {newer} now same sound walk = subst (λ (x : Contents). at < length x.frames) (sym same) (inside_of sound walk)
+pub place_now : {c : Contents} {p : ℕ} {at : Place} {newer : List Block} (now : Contents) → now ≡ c → IsWalk p (all_placed (counted c)) at newer
+    → IsPlace (all_placed (counted now)) at
+place_now {c} {p} {at} {newer} now same walk = subst (λ (x : Contents). IsPlace (all_placed (counted x)) at) (sym same) (walk_place walk)
+
+any_there : (f : Block → Bool) (front : List Block) (b : Block) (back : List Block) → f b ≡ true → list_any f (front ++ b ∷ back) ≡ true
+any_there f [] b back e = or_left (f b) (list_any f back) e
+any_there f (x ∷ xs) b back e = or_right (f x) (list_any f (xs ++ b ∷ back)) (any_there f xs b back e)
+
+-- which segment has to be read
+pub on_page : (c now : Contents) (p : ℕ) (at : Place) {newer : List Block} → now ≡ c → IsSound c → IsWalk p (all_placed (counted c)) at newer → (j : ℕ)
+    → IsLineIn now (at.frame - first_number (counted now)) j → HoldsPage c p j
+on_page c now p at same sound walk j inside =
+    let n = numbered_by (first_number (counted c)) refl sound walk.stands in
+    let x = n.stands in
+    record {
+      index = at.frame - first_number (counted c);
+      frame = x.frame;
+      stands = x.stands;
+      touched = ap (list_any (touches p)) x.split ∙ any_there (touches p) x.front walk.block x.back walk.touched;
+      inside = subst (λ (d : Contents). IsLineIn d (at.frame - first_number (counted d)) j) same inside;
+    }
+
+-- places in their order, as numbers
+abbrev pub rank : Place → ℕ
+rank a = a.frame * 4294967296 + a.index
+
+pub rank_less : (a b : Place) → IsEarlier a b → a.index < 4294967296 → rank a < rank b
+rank_less a b (inl frames) short = omega arith
+rank_less a b (inr both) short = let same = both.0 in let less = both.1 in omega arith
 
 -- ---- when a page is not there
 

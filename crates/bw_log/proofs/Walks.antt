@@ -1,7 +1,7 @@
--- The steps of a walk back over frames: where it starts, goes on and ends.
+-- The steps of a walk back over the blocks of a page: where it starts, goes on and ends.
 
-use Rattle.std.proofs.Common.{inl, inr, ◌≡◌, ℕ, ◌+◌, ◌-◌, ◌<◌, ◌≤◌, ◌==◌, true, false, Option, Some, None, List, [], ◌∷◌, ◌++◌, length, reverse, refl, sym, ap}
-use Rattle.std.proofs.Common.{subst, ◌∙◌, append_assoc, append-nil, arith, length-append}
+use Rattle.std.proofs.Common.{inl, inr, ◌≡◌, ℕ, ◌+◌, ◌<◌, ◌==◌, ◌||◌, true, false, Bool, Option, Some, None, List, [], ◌∷◌, ◌++◌, length, reverse, refl, sym, ap}
+use Rattle.std.proofs.Common.{subst, ◌∙◌, append_assoc, append-nil, arith}
 use Rattle.std.specs.List.{fold, list_any}
 use Rattle.std.proofs.lemmas.List.{reverse-append}
 use Rattle.std.proofs.lemmas.Bool.{and_parts, eqb-true}
@@ -9,14 +9,15 @@ use Rattle.std.proofs.lemmas.Grind.{fold-append, flat_map-append}
 use Rattle.bw_codec.specs.Touch.{sets, touches}
 use Rattle.bw_codec.specs.declared.leaf.Leaf.{Leaf}
 use Rattle.bw_codec.specs.declared.block.Place.{Place}
+use Rattle.bw_codec.specs.declared.block.Block.{Block}
 use Rattle.bw_codec.specs.declared.block.Frame.{Frame}
 use Rattle.bw_page.specs.Standing.{after, content, blocks_of}
 use Rattle.bw_log.specs.Places.{all_placed, last_place, is_back, bad_link, first_number, AreLinked, place_of}
 use Rattle.bw_log.specs.Segments.{AreFrom}
-use Rattle.bw_log.specs.Walking.{first_back, thinned, StandsAt, ThinnedAt, IsWalk}
-use Rattle.bw_log.proofs.Walk.{same_fold, none_fold, forgets_fold}
-use Rattle.bw_log.proofs.Thinned.{thin_fold, thin_sets, thin_back}
-use Rattle.bw_log.proofs.Links.{LastIn, InFrames, frames_last, links_in, frame_link}
+use Rattle.bw_log.specs.Walking.{first_back, bodies, PlacedAt, IsWalk}
+use Rattle.bw_log.proofs.Walk.{same_fold, none_after, forgets_after}
+use Rattle.bw_log.proofs.Links.{bad_link-append, neither, frame_link}
+use Rattle.bw_log.proofs.Placing.{IsEarlier, is_earlier, LastOf, HasLast, last_of, bodies_more, bodies_all}
 
 -- ---- frames and their blocks
 
@@ -60,158 +61,130 @@ same_before {A} (a ∷ xs) (b ∷ ys) x y xs' ys' same len =
     let others = same_before xs ys x y xs' ys' tails (omega arith) in
     (ap (λ (c : A). c ∷ xs) heads ∙ ap (λ (l : List A). b ∷ l) others.0, others.1, others.2)
 
--- ---- the newest frame with a block of the page
+-- ---- one block
 
-pub walk_inside : {p : ℕ} {all : List Frame} {at : ℕ} {newer : List Frame} → IsWalk p all at newer → at < length all
-walk_inside {p} {all} {at} {newer} w =
-    let index = w.index in
-    omega (arith, ap (λ (l : List Frame). length l) w.split, length-append w.before (w.frame ∷ w.beyond))
+pub content_one : (p : ℕ) (bs : List Block) (b : Block) → content p (bs ++ b ∷ []) ≡ after p (content p bs) b
+content_one p bs b = fold-append (after p) None bs (b ∷ [])
 
-pub walk_frame : {p : ℕ} {all : List Frame} {at : ℕ} {newer : List Frame} {frame : Frame} (w : IsWalk p all at newer) → StandsAt all at frame → w.frame ≡ frame
-walk_frame {p} {all} {at} {newer} {frame} w s =
-    (same_before w.before s.before w.frame frame w.beyond s.beyond (sym w.split ∙ s.split) (w.index ∙ sym s.index)).1
+-- what is read once the walk's block is read too
+pub reads_one : {p : ℕ} {all : List (Place × Block)} {at : Place} {newer : List Block} (w : IsWalk p all at newer)
+    → content p (bodies all) ≡ fold (after p) (content p (bodies w.stands.before)) (w.block ∷ reverse newer)
+reads_one {p} {all} {at} {newer} w =
+    w.reads ∙ ap (λ (o : Option Leaf). fold (after p) o (reverse newer)) (content_one p (bodies w.stands.before) w.block)
 
--- the same of what is kept of that frame
-kept_is : {p : ℕ} {all : List Frame} {at : ℕ} {newer : List Frame} {kept : Frame} (w : IsWalk p all at newer) → ThinnedAt p all at kept
-    → thinned p w.frame ≡ kept
-kept_is {p} {all} {at} {newer} {kept} w t = ap (thinned p) (walk_frame w t.stands) ∙ t.is
+pub newest_last : (newer : List Block) (b : Block) → reverse (newer ++ b ∷ []) ≡ b ∷ reverse newer
+newest_last newer b = reverse-append newer (b ∷ [])
 
--- what was read, once one frame more is read
-pub read_more : (p : ℕ) (w : Option Leaf) (frame : Frame) (newer : List Frame)
-    → fold (after p) (fold (after p) w frame.blocks) (blocks_of (reverse newer)) ≡ fold (after p) w (blocks_of (reverse (newer ++ thinned p frame ∷ [])))
-read_more p w frame newer =
-    ap (λ (o : Option Leaf). fold (after p) o (blocks_of (reverse newer))) (sym (thin_fold p w frame.blocks))
-    ∙ sym (fold-append (after p) w (thinned p frame).blocks (blocks_of (reverse newer)))
-    ∙ ap (λ (fs : List Frame). fold (after p) w (blocks_of fs)) (sym (reverse-append newer (thinned p frame ∷ [])))
+-- a block that sets the page ends the walk
+pub walk_ends : {p : ℕ} {all : List (Place × Block)} {at : Place} {newer : List Block} (w : IsWalk p all at newer) → sets p w.block ≡ true
+    → content p (bodies all) ≡ fold (after p) None (reverse (newer ++ w.block ∷ []))
+walk_ends {p} {all} {at} {newer} w set =
+    reads_one w
+    ∙ ap (λ (o : Option Leaf). fold (after p) o (reverse newer)) (forgets_after p (content p (bodies w.stands.before)) None w.block set)
+    ∙ ap (fold (after p) None) (sym (newest_last newer w.block))
 
-pub reads_more : {p : ℕ} {all : List Frame} {at : ℕ} {newer : List Frame} (w : IsWalk p all at newer)
-    → content p (blocks_of all) ≡ fold (after p) (fold (after p) (content p (blocks_of w.before)) w.frame.blocks) (blocks_of (reverse newer))
-reads_more {p} {all} {at} {newer} w = w.reads ∙ ap (λ (o : Option Leaf). fold (after p) o (blocks_of (reverse newer))) (content_push p w.before w.frame)
+-- blocks up to the last that touches the page are what all are
+older_same : (p : ℕ) (xs : List (Place × Block)) (place : Place) (l : LastOf (touches p) xs place)
+    → content p (bodies xs) ≡ content p (bodies l.stands.before ++ l.block ∷ [])
+older_same p xs place l =
+    let before = bodies l.stands.before in
+    let beyond = bodies l.stands.beyond in
+    ap (λ (ys : List (Place × Block)). content p (bodies ys)) l.stands.split
+    ∙ ap (content p) (bodies_more l.stands.before ((place, l.block) ∷ l.stands.beyond) ∙ sym (append_assoc before (l.block ∷ []) beyond))
+    ∙ fold-append (after p) None (before ++ l.block ∷ []) beyond
+    ∙ same_fold p (content p (before ++ l.block ∷ [])) beyond l.none
 
-ends_at_own : {p : ℕ} {all : List Frame} {at : ℕ} {newer : List Frame} (w : IsWalk p all at newer) → list_any (sets p) w.frame.blocks ≡ true
-    → content p (blocks_of all) ≡ fold (after p) None (blocks_of (reverse (newer ++ thinned p w.frame ∷ [])))
-ends_at_own {p} {all} {at} {newer} w set =
-    reads_more w
-    ∙ ap (λ (o : Option Leaf). fold (after p) o (blocks_of (reverse newer))) (forgets_fold p (content p (blocks_of w.before)) None w.frame.blocks set)
-    ∙ read_more p None w.frame newer
-
--- a frame that sets the page ends the walk
-pub walk_ends : {p : ℕ} {all : List Frame} {at : ℕ} {newer : List Frame} {kept : Frame} → IsWalk p all at newer → ThinnedAt p all at kept
-    → list_any (sets p) kept.blocks ≡ true
-    → content p (blocks_of all) ≡ fold (after p) None (blocks_of (reverse (newer ++ kept ∷ [])))
-walk_ends {p} {all} {at} {newer} {kept} w t set =
-    let P : Frame → Type 0 = λ f. list_any (sets p) f.blocks ≡ true → content p (blocks_of all) ≡ fold (after p) None (blocks_of (reverse (newer ++ f ∷ []))) in
-    let own : P (thinned p w.frame) = λ is. ends_at_own w (sym (thin_sets p w.frame.blocks) ∙ is) in
-    subst P (kept_is w t) own set
-
--- where a frame's link leads
-pub record WalksOn (p : ℕ) (all : List Frame) (at : ℕ) (newer : List Frame) (kept : Frame) (result : Option Place) : Type 0 where
+-- where a block's link leads
+pub record WalksOn (p : ℕ) (all : List (Place × Block)) (at : Place) (newer : List Block) (block : Block) (result : Option Place) : Type 0 where
   pub back : Place
   pub is : result ≡ Some back
-  pub from_first : first_number all ≤ back.frame
-  pub older : back.frame - first_number all < at
-  pub walk : IsWalk p all (back.frame - first_number all) (newer ++ kept ∷ [])
+  pub earlier : IsEarlier back at
+  pub walk : IsWalk p all back (newer ++ block ∷ [])
 
-goes_on_to : {p : ℕ} {all : List Frame} {at : ℕ} {newer : List Frame} (w : IsWalk p all at newer) (back : Place)
-    → first_back p w.frame.blocks ≡ Some back → (place : Place)
-    → place.frame ≡ back.frame → LastIn (touches p) (first_number all) w.before place → list_any (sets p) w.frame.blocks ≡ false
-    → WalksOn p all at newer (thinned p w.frame) (first_back p w.frame.blocks)
-goes_on_to {p} {all} {at} {newer} w back is place same last unset =
-    let first = first_number all in
-    let number = last.number in
-    let index = w.index in
-    let parts : w.before ≡ (last.before ++ last.frame ∷ []) ++ last.beyond = last.split ∙ sym (push_then last.before last.frame last.beyond) in
-    let older : content p (blocks_of w.before) ≡ content p (blocks_of (last.before ++ last.frame ∷ [])) =
-    ap (λ (fs : List Frame). content p (blocks_of fs)) parts ∙ content_same p (last.before ++ last.frame ∷ []) last.beyond last.none in
-    let whole : fold (after p) (content p (blocks_of w.before)) w.frame.blocks ≡ Some w.leaf = sym (content_push p w.before w.frame) ∙ w.set in
-    let there = some_leaf (content p (blocks_of w.before))
-    (λ none. none_some (fold (after p) (content p (blocks_of w.before)) w.frame.blocks) w.leaf
-    (ap (λ (o : Option Leaf). fold (after p) o w.frame.blocks) none ∙ none_fold p w.frame.blocks unset) whole) in
-    record {
-      back = back;
-      is = is;
-      from_first = omega arith;
-      older = omega (arith, ap (λ (l : List Frame). length l) last.split, length-append last.before (last.frame ∷ last.beyond));
+same_place : (a b : Place) → a.frame ≡ b.frame → a.index ≡ b.index → a ≡ b
+same_place a b frames indices =
+    ap (λ (n : ℕ). let x : Place = record { frame = n; index = a.index } in x) frames
+    ∙ ap (λ (i : ℕ). let x : Place = record { frame = b.frame; index = i } in x) indices
+
+goes_on_to : (frames : List Frame) {p : ℕ} {at : Place} {newer : List Block} (w : IsWalk p (all_placed frames) at newer) (result : Option Place) (back place : Place)
+    → result ≡ Some back → place ≡ back → LastOf (touches p) w.stands.before place → AreFrom (first_number frames) frames → sets p w.block ≡ false
+    → WalksOn p (all_placed frames) at newer w.block result
+goes_on_to frames {p} {at} {newer} w result back place is same l from unset =
+    let s = w.stands in
+    let older = older_same p s.before place l in
+    let whole : after p (content p (bodies s.before)) w.block ≡ Some w.leaf = sym (content_one p (bodies s.before) w.block) ∙ w.set in
+    let there = some_leaf (content p (bodies s.before))
+    (λ none. none_some (after p (content p (bodies s.before)) w.block) w.leaf
+    (ap (λ (o : Option Leaf). after p o w.block) none ∙ none_after p w.block unset) whole) in
+    let on : WalksOn p (all_placed frames) at newer w.block (Some place) = record {
+      back = place;
+      is = refl;
+      earlier = is_earlier (first_number frames) frames s.before l.stands.before place l.block l.stands.beyond at w.block s.beyond from s.split l.stands.split;
       walk = record {
-        before = last.before;
-        frame = last.frame;
-        beyond = last.beyond ++ w.frame ∷ w.beyond;
-        split = w.split ∙ ap (λ (l : List Frame). l ++ w.frame ∷ w.beyond) last.split
-            ∙ append_assoc last.before (last.frame ∷ last.beyond) (w.frame ∷ w.beyond);
-        index = omega arith;
-        touched = last.passes;
+        block = l.block;
+        stands = record {
+          before = l.stands.before;
+          beyond = l.stands.beyond ++ (at, w.block) ∷ s.beyond;
+          split = s.split ∙ ap (λ (xs : List (Place × Block)). xs ++ (at, w.block) ∷ s.beyond) l.stands.split
+              ∙ append_assoc l.stands.before ((place, l.block) ∷ l.stands.beyond) ((at, w.block) ∷ s.beyond);
+        };
+        touched = l.passes;
         leaf = there.0;
         set = sym older ∙ there.1;
-        reads = reads_more w ∙ read_more p (content p (blocks_of w.before)) w.frame newer
-            ∙ ap (λ (o : Option Leaf). fold (after p) o (blocks_of (reverse (newer ++ thinned p w.frame ∷ [])))) older;
+        reads = reads_one w
+            ∙ ap (λ (o : Option Leaf). fold (after p) o (w.block ∷ reverse newer)) older
+            ∙ ap (fold (after p) (content p (bodies l.stands.before ++ l.block ∷ []))) (sym (newest_last newer w.block));
       };
-    }
+    } in
+    subst (WalksOn p (all_placed frames) at newer w.block) (ap (λ (x : Place). Some x) same ∙ sym is) on
 
-goes_on_by : {p : ℕ} {all : List Frame} {at : ℕ} {newer : List Frame} (w : IsWalk p all at newer) → AreLinked all → list_any (sets p) w.frame.blocks ≡ false
-    → InFrames (touches p) (first_number all) None w.before (last_place (touches p) (all_placed w.before))
-    → WalksOn p all at newer (thinned p w.frame) (first_back p w.frame.blocks)
-goes_on_by {p} {all} {at} {newer} w linked unset (inl nowhere) =
-    let none : content p (blocks_of (w.before ++ w.frame ∷ [])) ≡ None =
-    content_push p w.before w.frame ∙ ap (λ (o : Option Leaf). fold (after p) o w.frame.blocks) (same_fold p None (blocks_of w.before) nowhere.0)
-    ∙ none_fold p w.frame.blocks unset in
-    absurd (none_some (content p (blocks_of (w.before ++ w.frame ∷ []))) w.leaf none w.set)
-goes_on_by {p} {all} {at} {newer} w linked unset (inr found) =
-    let first = first_number all in
-    let links : bad_link first [] (all_placed (w.before ++ w.frame ∷ w.beyond)) ≡ None =
-    ap (λ (l : List Frame). bad_link first [] (all_placed l)) (sym w.split) ∙ linked in
-    let link = frame_link p first w.frame.number 0 (all_placed w.before) w.frame.blocks (links_in first w.before w.frame w.beyond links) w.touched unset in
-    let back = subst (λ (o : Option Place). is_back first o link.0 ≡ true) found.1 link.2 in
-    let both = and_parts (found.0.frame == link.0.frame) (found.0.index == link.0.index) back in
-    goes_on_to w link.0 link.1 found.0 (eqb-true found.0.frame link.0.frame both.0) found.2 unset
+goes_on_by : (frames : List Frame) {p : ℕ} {at : Place} {newer : List Block} (w : IsWalk p (all_placed frames) at newer) (result : Option Place) (back : Place)
+    → result ≡ Some back → is_back (first_number frames) (last_place (touches p) w.stands.before) back ≡ true
+    → AreFrom (first_number frames) frames → sets p w.block ≡ false
+    → HasLast (touches p) None w.stands.before (last_place (touches p) w.stands.before) → WalksOn p (all_placed frames) at newer w.block result
+goes_on_by frames {p} {at} {newer} w result back is lawful from unset (inl nowhere) =
+    let none : content p (bodies w.stands.before ++ w.block ∷ []) ≡ None =
+    content_one p (bodies w.stands.before) w.block ∙ ap (λ (o : Option Leaf). after p o w.block) (same_fold p None (bodies w.stands.before) nowhere.0)
+    ∙ none_after p w.block unset in
+    absurd (none_some (content p (bodies w.stands.before ++ w.block ∷ [])) w.leaf none w.set)
+goes_on_by frames {p} {at} {newer} w result back is lawful from unset (inr found) =
+    let same = subst (λ (o : Option Place). is_back (first_number frames) o back ≡ true) found.1 lawful in
+    let both = and_parts (found.0.frame == back.frame) (found.0.index == back.index) same in
+    goes_on_to frames w result back found.0 is
+    (same_place found.0 back (eqb-true found.0.frame back.frame both.0) (eqb-true found.0.index back.index both.1)) found.2 from unset
 
-goes_on_own : {p : ℕ} {all : List Frame} {at : ℕ} {newer : List Frame} (w : IsWalk p all at newer) → AreFrom (first_number all) all → AreLinked all
-    → list_any (sets p) w.frame.blocks ≡ false
-    → WalksOn p all at newer (thinned p w.frame) (first_back p w.frame.blocks)
-goes_on_own {p} {all} {at} {newer} w from linked unset =
-    let first = first_number all in
-    let before : AreFrom first w.before = from_front first w.before (w.frame ∷ w.beyond) (subst (AreFrom first) w.split from) in
-    goes_on_by w linked unset (frames_last (touches p) first None w.before before)
-
--- a frame that does not set the page links back to the frame with the block before
-pub walk_on : {p : ℕ} {all : List Frame} {at : ℕ} {newer : List Frame} {kept : Frame} → IsWalk p all at newer → ThinnedAt p all at kept
-    → AreFrom (first_number all) all → AreLinked all
-    → list_any (sets p) kept.blocks ≡ false → WalksOn p all at newer kept (first_back p kept.blocks)
-walk_on {p} {all} {at} {newer} {kept} w t from linked unset =
-    let P : Frame → Type 0 = λ f. list_any (sets p) f.blocks ≡ false → WalksOn p all at newer f (first_back p f.blocks) in
-    let own : P (thinned p w.frame) =
-    λ is. subst (λ (o : Option Place). WalksOn p all at newer (thinned p w.frame) o) (sym (thin_back p w.frame.blocks))
-    (goes_on_own w from linked (sym (thin_sets p w.frame.blocks) ∙ is)) in
-    subst P (kept_is w t) own unset
+-- a block that does not set the page links back to the block before it
+pub walk_on : (frames : List Frame) {p : ℕ} {at : Place} {newer : List Block} (w : IsWalk p (all_placed frames) at newer)
+    → AreFrom (first_number frames) frames → AreLinked frames → sets p w.block ≡ false
+    → WalksOn p (all_placed frames) at newer w.block (first_back p (w.block ∷ []))
+walk_on frames {p} {at} {newer} w from linked unset =
+    let s = w.stands in
+    let first = first_number frames in
+    let x : Place × Block = (at, w.block) in
+    let two = neither (bad_link first [] s.before) (bad_link first s.before (x ∷ s.beyond))
+    (sym (bad_link-append first [] s.before (x ∷ s.beyond)) ∙ ap (bad_link first []) (sym s.split) ∙ linked) in
+    let one = neither (bad_link first s.before (x ∷ [])) (bad_link first (s.before ++ x ∷ []) s.beyond)
+    (sym (bad_link-append first s.before (x ∷ []) s.beyond) ∙ two.1) in
+    let link = frame_link p first at.frame at.index s.before (w.block ∷ []) one.0
+    (ap (λ (t : Bool). t || false) w.touched) (ap (λ (t : Bool). t || false) unset) in
+    goes_on_by frames w (first_back p (w.block ∷ [])) link.0 link.1 link.2 from unset (last_of (touches p) None s.before)
 
 -- ---- where a walk starts
 
-starts_by : (p : ℕ) (all : List Frame) (leaf : Leaf) (result : Option Place) → content p (blocks_of all) ≡ Some leaf
-    → InFrames (touches p) (first_number all) None all result
-    → (place : Place) × (result ≡ Some place) × (first_number all ≤ place.frame) × IsWalk p all (place.frame - first_number all) []
-starts_by p all leaf result set (inl nowhere) = absurd (none_some (content p (blocks_of all)) leaf (same_fold p None (blocks_of all) nowhere.0) set)
-starts_by p all leaf result set (inr found) =
-    let last = found.2 in
-    let number = last.number in
-    let parts : all ≡ (last.before ++ last.frame ∷ []) ++ last.beyond = last.split ∙ sym (push_then last.before last.frame last.beyond) in
-    let same : content p (blocks_of all) ≡ content p (blocks_of (last.before ++ last.frame ∷ [])) =
-    ap (λ (fs : List Frame). content p (blocks_of fs)) parts ∙ content_same p (last.before ++ last.frame ∷ []) last.beyond last.none in (
+starts_by : (p : ℕ) (frames : List Frame) (leaf : Leaf) (result : Option Place) → content p (bodies (all_placed frames)) ≡ Some leaf
+    → HasLast (touches p) None (all_placed frames) result → (place : Place) × (result ≡ Some place) × IsWalk p (all_placed frames) place []
+starts_by p frames leaf result set (inl nowhere) =
+    absurd (none_some (content p (bodies (all_placed frames))) leaf (same_fold p None (bodies (all_placed frames)) nowhere.0) set)
+starts_by p frames leaf result set (inr found) =
+    let l = found.2 in
+    let older = older_same p (all_placed frames) found.0 l in (
       found.0,
       found.1,
-      omega arith,
-      record {
-        before = last.before;
-        frame = last.frame;
-        beyond = last.beyond;
-        split = last.split;
-        index = omega arith;
-        touched = last.passes;
-        leaf = leaf;
-        set = sym same ∙ set;
-        reads = same;
-      },
+      record { block = l.block; stands = l.stands; touched = l.passes; leaf = leaf; set = sym older ∙ set; reads = older },
     )
 
 -- at the last block that touches the page
-pub walk_starts : (p : ℕ) (all : List Frame) (leaf : Leaf) → AreFrom (first_number all) all → content p (blocks_of all) ≡ Some leaf
-    → (place : Place) × (place_of p all ≡ Some place) × (first_number all ≤ place.frame) × IsWalk p all (place.frame - first_number all) []
-walk_starts p all leaf from set = starts_by p all leaf (place_of p all) set (frames_last (touches p) (first_number all) None all from)
+pub walk_starts : (p : ℕ) (frames : List Frame) (leaf : Leaf) → content p (blocks_of frames) ≡ Some leaf
+    → (place : Place) × (place_of p frames ≡ Some place) × IsWalk p (all_placed frames) place []
+walk_starts p frames leaf set =
+    starts_by p frames leaf (place_of p frames) (ap (content p) (bodies_all frames) ∙ set) (last_of (touches p) None (all_placed frames))

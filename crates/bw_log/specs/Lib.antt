@@ -1,5 +1,6 @@
 -- What callers see, in the order in which to read it.
 pub mod Places
+pub mod Starts
 pub mod Segments
 pub mod Contents
 pub mod Appends
@@ -11,6 +12,8 @@ pub mod Adopting
 pub mod Views
 pub mod Laws
 -- What private functions say.
+pub mod Starting
 pub mod Walking
+pub mod BlockBytes
 pub mod PageTable
 pub mod Appending

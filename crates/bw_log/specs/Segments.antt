@@ -9,6 +9,7 @@ use Rattle.bw_codec.specs.declared.block.Frame.{Frame}
 use Rattle.bw_codec.specs.declared.block.Header.{Header}
 use Rattle.bw_codec.specs.declared.block.FrameRead.TheVariants.{Whole, Tail}
 use Rattle.bw_codec.specs.declared.block.HeaderRead.TheVariants as heading
+use Rattle.bw_log.specs.Starts.{starts_of}
 use Rattle.bw_log.specs.declared.places.FrameAt.{FrameAt}
 
 -- ---- the whole frames at the front of bytes, and what follows them
@@ -90,7 +91,8 @@ IsCleanLast m f number (b ∷ d ∷ bs) = IsCleanLast m f (number + 1) (d ∷ bs
 -- ---- frames and where they stand
 
 abbrev pub entry_of : ℕ → ℕ → ℕ → Frame → FrameAt
-entry_of v segment at f = record { number = f.number; segment = segment; at = at; len = length (frame_bytes_in v f) }
+entry_of v segment at f =
+    record { number = f.number; segment = segment; at = at; len = length (frame_bytes_in v f); starts = starts_of v f }
 
 -- the frames of one segment of a format, from an offset on
 abbrev pub entries_from : ℕ → ℕ → ℕ → List Frame → List (FrameAt × Frame)

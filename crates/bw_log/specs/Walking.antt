@@ -1,14 +1,14 @@
--- Walking back over frames.
+-- Walking back over the blocks of a page.
 
-use Rattle.std.specs.Prelude.{ℕ, ◌≡◌, ◌==◌, true, if◌then◌else◌, Option, Some, None, List, [], ◌∷◌, ◌++◌, length, reverse}
-use Rattle.std.specs.List.{fold, filter, list_any}
+use Rattle.std.specs.Prelude.{ℕ, ◌≡◌, ◌==◌, true, if◌then◌else◌, Option, Some, None, List, [], ◌∷◌, ◌++◌, length, map, reverse}
+use Rattle.std.specs.List.{fold}
 use Rattle.bw_codec.specs.Touch.{touches}
 use Rattle.bw_codec.specs.declared.leaf.Leaf.{Leaf}
 use Rattle.bw_codec.specs.declared.block.Place.{Place}
 use Rattle.bw_codec.specs.declared.block.Block.{Block}
 use Rattle.bw_codec.specs.declared.block.Block.TheVariants.{Delta, Base, Split}
 use Rattle.bw_codec.specs.declared.block.Frame.{Frame}
-use Rattle.bw_page.specs.Standing.{after, content, blocks_of}
+use Rattle.bw_page.specs.Standing.{after, content}
 
 -- where the first block that touches a page links back to
 abbrev pub first_back : ℕ → List Block → Option Place
@@ -25,24 +25,25 @@ pub record StandsAt (frames : List Frame) (i : ℕ) (frame : Frame) : Type 0 whe
   pub split : frames ≡ before ++ frame ∷ beyond
   pub index : length before ≡ i
 
--- a frame without the blocks that do not touch a page
-abbrev pub thinned : ℕ → Frame → Frame
-thinned p f = record { number = f.number; blocks = filter (touches p) f.blocks }
+-- the blocks without their places
+abbrev pub bodies : List (Place × Block) → List Block
+bodies xs = map (λ x. x.1) xs
 
--- such a frame, of the one at an index of a list
-pub record ThinnedAt (p : ℕ) (frames : List Frame) (i : ℕ) (kept : Frame) : Type 0 where
-  pub frame : Frame
-  pub stands : StandsAt frames i frame
-  pub is : thinned p frame ≡ kept
+-- a block of a list and its place
+pub record PlacedAt (all : List (Place × Block)) (place : Place) (block : Block) : Type 0 where
+  pub before : List (Place × Block)
+  pub beyond : List (Place × Block)
+  pub split : all ≡ before ++ (place, block) ∷ beyond
 
--- a walk back over frames: of these what touches the page was read, the newest first, and this one is next
-pub record IsWalk (p : ℕ) (all : List Frame) (at : ℕ) (newer : List Frame) : Type 0 where
-  pub before : List Frame
-  pub frame : Frame
-  pub beyond : List Frame
-  pub split : all ≡ before ++ frame ∷ beyond
-  pub index : length before ≡ at
-  pub touched : list_any (touches p) frame.blocks ≡ true
+-- some block stands at this place
+abbrev pub IsPlace : List (Place × Block) → Place → Type 0
+IsPlace all place = (block : Block) × PlacedAt all place block
+
+-- a walk back over the blocks of a page: these were read, the newest first, and the one at this place is next
+pub record IsWalk (p : ℕ) (all : List (Place × Block)) (at : Place) (newer : List Block) : Type 0 where
+  pub block : Block
+  pub stands : PlacedAt all at block
+  pub touched : touches p block ≡ true
   pub leaf : Leaf
-  pub set : content p (blocks_of (before ++ frame ∷ [])) ≡ Some leaf
-  pub reads : content p (blocks_of all) ≡ fold (after p) (content p (blocks_of (before ++ frame ∷ []))) (blocks_of (reverse newer))
+  pub set : content p (bodies stands.before ++ block ∷ []) ≡ Some leaf
+  pub reads : content p (bodies all) ≡ fold (after p) (content p (bodies stands.before ++ block ∷ [])) (reverse newer)

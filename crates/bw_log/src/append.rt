@@ -14,6 +14,7 @@ use crate::fault::LogFault;
 use crate::log::Log;
 use crate::place_changes::{grow, note_all, top};
 use crate::places::FrameAt;
+use crate::starts::Starts;
 use bw_buffer::Buffer;
 use bw_codec::header_cells;
 use bw_device::{append_to, lease_of, len_of};
@@ -166,6 +167,7 @@ impl Log {
                     segment: self.number + last as u64,
                     at,
                     len: bytes.len() as u32,
+                    starts: Starts::of_appended(*self.frames.allocator(), buffer),
                 });
                 grow(&mut self.pages, top(buffer));
                 note_all(&mut self.pages, buffer);

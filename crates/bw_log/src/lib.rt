@@ -21,19 +21,21 @@
 
 mod adopt;
 mod append;
+mod blocks;
 mod current;
 mod fault;
 mod laws;
 mod log;
 mod oldest;
-mod page_blocks;
 mod pages;
 mod place_changes;
 mod places;
 mod spans;
+mod starts;
 mod values;
 
 pub use fault::LogFault;
 pub use laws::locality;
 pub use log::Log;
 pub use places::{FrameAt, PageAt, Tables};
+pub use starts::Starts;

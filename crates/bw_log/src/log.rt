@@ -2,6 +2,7 @@
 
 ghost use Rattle.std.specs.Prelude.{◌≡◌, ◌+◌, ◌-◌, ◌<◌, ◌≤◌, ◌==◌, ◌↔◌, ◌⊎◌, ◌∷◌, ◌++◌, [], length, map, Some, None, false, slice_get, if◌then◌else◌, IsTrue, IfOk, IfErr, OnOk, IfSome, MatchOption, MatchResult, IsErrAnd, vec_len};
 ghost use Rattle.std.specs.Vec.{vec_capacity};
+ghost use Rattle.std.specs.Option.{option_map};
 ghost use Rattle.bw_codec.specs.Reading.{version_in};
 ghost use Rattle.bw_log.specs.Segments.{version_at};
 ghost use Rattle.bw_log.specs.Contents.{IsSpare, counted, some_place};
@@ -264,10 +265,11 @@ impl Log {
     }
 
     /// Where the counted frame of this index stands, from 0, the oldest; none behind the last.
-    pub fn line(&self, i: usize) -> Option<FrameAt>
-        ensures { result ≡ slice_get (seen_by holding self.now).frames i }
+    pub fn line(&self, i: usize) -> Option<&FrameAt>
+        ensures { option_map (λ line. line.now) result
+            ≡ slice_get (seen_by holding self.now).frames i }
     {
-        self.frames.as_slice().get(i).copied()
+        self.frames.as_slice().get(i)
     }
 
     // The table's line of a page.

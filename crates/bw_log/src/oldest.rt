@@ -71,7 +71,7 @@ impl Log {
         if count == 0 {
             return 0;
         }
-        let line = lines[count - 1];
+        let line = &lines[count - 1];
         if line.segment == segment {
             line.number
         } else {

@@ -1,27 +1,25 @@
-//! Reading back: segments as they are, frames by their lines, and pages by the links from block to
-//! block.
+//! Reading back: segments as they are, and pages by the links from block to block.
 //!
 //! The blocks of a page lie scattered over the log. Each Delta and Split tells where the block
-//! before it stands, so a page is read from its last block back to the one that sets it, frame by
-//! frame, and the blocks read are then applied forwards. By the law of locality that is what a
-//! reading of the whole log gives.
+//! before it stands, so a page is read from its last block back to the one that sets it, and the
+//! blocks read are then applied forwards. By the law of locality that is what a reading of the
+//! whole log gives.
 
-ghost use Rattle.std.specs.Prelude.{◌≡◌, ◌≢◌, ◌+◌, ◌-◌, ◌<◌, ◌≤◌, ◌↔◌, ◌∷◌, ◌++◌, [], Some, None, true, false, length, map, take, drop, reverse, slice_get, IfOk, OnOk, OnErr, IfSome, MatchOption};
-ghost use Rattle.std.specs.List.{fold, list_any};
-ghost use Rattle.bw_codec.specs.Touch.{sets, touches};
-ghost use Rattle.bw_codec.specs.declared.block.Frame.{Frame};
+ghost use Rattle.std.specs.Prelude.{◌≡◌, ◌≢◌, ◌↔◌, ◌∷◌, ◌++◌, [], Some, None, Err, true, false, reverse, IfOk, OnErr, MatchOption};
+ghost use Rattle.std.specs.List.{fold};
+ghost use Rattle.bw_codec.specs.Touch.{sets};
 ghost use Rattle.bw_page.specs.Standing.{after, content, blocks_of};
-ghost use Rattle.bw_log.specs.Contents.{counted, image, IsImage};
-ghost use Rattle.bw_log.specs.Reads.{IsPage, IsKept, IsNumbered, IsLineIn, HoldsPage, ReadStops, segment_at};
-ghost use Rattle.bw_log.specs.Walking.{first_back, ThinnedAt, IsWalk};
+ghost use Rattle.bw_log.specs.Places.{all_placed};
+ghost use Rattle.bw_log.specs.Contents.{counted};
+ghost use Rattle.bw_log.specs.Reads.{IsPage, IsKept, IsNumbered, HoldsPage, ReadStops, segment_at};
+ghost use Rattle.bw_log.specs.Walking.{first_back, IsWalk};
 
 use crate::fault::LogFault;
 use crate::log::Log;
-use crate::page_blocks::frame_of_page;
-use bw_codec::{Block, CodecFault, Frame, Leaf, Place};
-use bw_device::{failures_of, lease_of, len_of, read_from};
+use bw_codec::{Block, Leaf, Place};
+use bw_device::len_of;
 use bw_page::Draft;
-use std::alloc::{AllocError, Global};
+use std::alloc::AllocError;
 
 // Whether a block sets a page.
 fn sets_page(page: u32, block: &Block) -> bool
@@ -34,23 +32,8 @@ fn sets_page(page: u32, block: &Block) -> bool
     }
 }
 
-// Whether a block touches a page.
-fn touches_page(page: u32, block: &Block) -> bool
-    ensures { result ≡ touches page block.now }
-{
-    match block {
-        Block::Delta { page: of, .. } => *of == page,
-        Block::Base(leaf) => leaf.page == page,
-        Block::Split {
-            page: of,
-            upper,
-            ..
-        } => *of == page || upper.page == page,
-    }
-}
-
-// Where a block links back to, if it changes this page.
-fn back_of(page: u32, block: &Block) -> Option<Place>
+/// Where a block links back to, if it changes this page.
+pub(crate) fn back_of(page: u32, block: &Block) -> Option<Place>
     ensures { result ≡ first_back page (block.now ∷ []) }
 {
     match block {
@@ -60,39 +43,14 @@ fn back_of(page: u32, block: &Block) -> Option<Place>
     }
 }
 
-// Whether one of the blocks sets a page.
-fn set_page(page: u32, blocks: &[Block]) -> bool
-    ensures { result ≡ list_any (sets page) blocks.now }
+// What a page is after these blocks, of which the first is the newest.
+fn replay(blocks: Vec<Block>, page: u32) -> Result<Option<Leaf>, AllocError>
+    ensures { IfOk result (λ leaf. leaf ≡ fold (after page) None (reverse blocks.items)) }
 {
-    for block in blocks {
-        if sets_page(page, block) {
-            return true;
-        }
-    }
-    false
-}
-
-//// Where the first of the blocks that touches a page links back to.
-pub(crate) fn link_back(page: u32, blocks: &[Block]) -> Option<Place>
-    ensures { result ≡ first_back page blocks.now }
-{
-    for block in blocks {
-        if touches_page(page, block) {
-            return back_of(page, block);
-        }
-    }
-    None
-}
-
-// What a page is after these frames, of which the first is the newest.
-fn replay(frames: Vec<Frame>, page: u32) -> Result<Option<Leaf>, AllocError>
-    ensures { IfOk result
-        (λ leaf. leaf ≡ fold (after page) None (blocks_of (reverse frames.items))) }
-{
-    let mut frames = frames;
+    let mut blocks = blocks;
     let mut draft = None;
-    while let Some(frame) = frames.pop() {
-        draft = Draft::after_all(page, draft, frame.blocks.into_vec())?;
+    while let Some(block) = blocks.pop() {
+        draft = Draft::after(page, draft, block)?;
     }
     match draft {
         Some(draft) => Ok(Some(draft.into_leaf()?)),
@@ -103,103 +61,37 @@ fn replay(frames: Vec<Frame>, page: u32) -> Result<Option<Leaf>, AllocError>
 impl Log {
     ghost use Rattle.bw_log.specs.Views.{seen_by, IsSound};
 
-    // Appends bytes of the live segment at an index. A refusal leaves the `Vec` as it was.
-    fn read_onto(
-        &mut self,
-        at: usize,
-        from: u64,
-        len: u32,
-        out: &mut Vec<u8>,
-    ) -> Result<(), LogFault>
-        requires inside { at < length self.old.live.items }
-        requires within { IfSome (slice_get (map holding self.old.live.items) at)
-            (λ h. from + len ≤ length h.bytes) }
-        ensures bytes { OnOk result
-            (IfSome (slice_get (map holding self.old.live.items) at)
-            (λ h. out.new.items ≡ out.old.items ++ take len (drop from h.bytes))) }
-        ensures unchanged { OnErr result (out.new.items ≡ out.old.items) }
-        ensures stops { ReadStops (λ i. i ≡ at)
-            (seen_by holding self.old) result (seen_by holding self.new) }
-        ensures paged { result ≢ Err LogFault.NoPage }
-    {
-        if failures_of(&self.live, at) == u64::MAX {
-            return Err(LogFault::Spent);
-        }
-        let had = out.len();
-        out.resize(had + len as usize, 0u8)?;
-        match read_from(&mut self.live, at, from, &mut out[had..]) {
-            Ok(()) => Ok(()),
-            Err(_) => {
-                out.truncate(had);
-                let lease = lease_of(&self.live, at);
-                Err(LogFault::Device { lease })
-            }
-        }
-    }
-
-    /// Reads a counted frame by its line, without the blocks that do not touch a page.
-    pub(crate) fn read_frame_at(&mut self, i: usize, page: u32) -> Result<Frame, LogFault>
+    // The blocks of a page, from the newest back to the one that sets it last.
+    fn walk(&mut self, page: u32, start: Place) -> Result<Vec<Block>, LogFault>
         requires sound { IsSound holding self.old }
-        requires inside { i < length self.old.frames.items }
-        ensures found { IfOk result (ThinnedAt page (counted (seen_by holding self.old)) i) }
-        ensures stops { ReadStops (λ j. IsLineIn (seen_by holding self.old) i j)
-            (seen_by holding self.old) result (seen_by holding self.new) }
-        ensures paged { result ≢ Err LogFault.NoPage }
-    {
-        let line = self.frames[i];
-        let version = self.version_at(line.segment);
-        let m = self.m;
-        let at = (line.segment - self.number) as usize;
-        let mut bytes = Vec::new(*self.frames.allocator());
-        self.read_onto(at, line.at, line.len, &mut bytes)?;
-        match frame_of_page(
-            *self.frames.allocator(),
-            &bytes,
-            version,
-            line.number,
-            m,
-            page,
-        ) {
-            Ok(frame) => Ok(frame),
-            Err(CodecFault::NoMemory) => Err(LogFault::NoMemory),
-            Err(CodecFault::BadBytes) => unreachable!(),
-        }
-    }
-
-    // The frames of a page, from the newest back to the one that sets it last, each without the
-    // blocks that do not touch the page.
-    fn walk(&mut self, page: u32, start: usize) -> Result<Vec<Frame>, LogFault>
-        requires sound { IsSound holding self.old }
-        requires starts { IsWalk page (counted (seen_by holding self.old)) start [] }
-        ensures walked { IfOk result (λ frames.
+        requires starts { IsWalk page (all_placed (counted (seen_by holding self.old))) start [] }
+        ensures walked { IfOk result (λ blocks.
             content page (blocks_of (counted (seen_by holding self.old)))
-            ≡ fold (after page) None (blocks_of (reverse frames.items))) }
+            ≡ fold (after page) None (reverse blocks.items)) }
         ensures stops { ReadStops (HoldsPage (seen_by holding self.old) page)
             (seen_by holding self.old) result (seen_by holding self.new) }
         ensures paged { result ≢ Err LogFault.NoPage }
     {
-        let first = self.frames[0].number;
-        let mut frames = Vec::new(*self.frames.allocator());
-        let mut at = start;
+        let mut blocks = Vec::new(*self.frames.allocator());
+        let mut place = start;
         'back: loop {
-            let frame = self.read_frame_at(at, page)?;
-            let ends = set_page(page, frame.blocks.as_slice());
-            let link = link_back(page, frame.blocks.as_slice());
-            frames.push(frame)?;
+            let block = self.block_at(place)?;
+            let ends = sets_page(page, &block);
+            let link = back_of(page, &block);
+            blocks.push(block)?;
             if ends {
-                return Ok(frames);
+                return Ok(blocks);
             }
             match link {
-                Some(place) => at = (place.frame - first) as usize,
+                Some(back) => place = back,
                 None => unreachable!(),
             }
         }
     }
 
     /// A page as the counted frames leave it, by the links back from its last block. It reads the
-    /// frames with a block of the page, from the newest to the one that sets it last, steps over
-    /// all blocks that do not touch the page, and holds in memory together those that do, and the
-    /// bytes of one frame. A page that is not there is `NoPage`; `Device` names the segment that
+    /// blocks of the page, from the newest to the one that sets it last, and holds them in memory
+    /// together. Of a frame of which no block was read before it reads all bytes, once. A page that is not there is `NoPage`; `Device` names the segment that
     /// failed and does not make the log `Failed`; `Spent` comes where no more failure of a segment
     /// that has to be read could be counted.
     pub fn read_page(&mut self, page: u32) -> Result<Leaf, LogFault>
@@ -217,10 +109,8 @@ impl Log {
         let Some(entry) = self.page_at(page) else {
             return Err(LogFault::NoPage);
         };
-        let first = self.frames[0].number;
-        let at = (entry.place.frame - first) as usize;
-        let frames = self.walk(page, at)?;
-        match replay(frames, page) {
+        let blocks = self.walk(page, entry.place)?;
+        match replay(blocks, page) {
             Ok(Some(leaf)) => Ok(leaf),
             Ok(None) => unreachable!(),
             Err(_) => Err(LogFault::NoMemory),

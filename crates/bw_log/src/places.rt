@@ -3,10 +3,11 @@
 ghost use Rattle.std.specs.Prelude.{◌≡◌};
 ghost use Rattle.bw_log.specs.PageTable.{changed_line, set_line};
 
+use crate::starts::Starts;
 use bw_codec::Place;
 
-/// Where a frame stands.
-#[derive(Debug, Clone, Copy, PartialEq, Eq)]
+/// Where a frame stands, and its blocks in it.
+#[derive(Drop)]
 pub struct FrameAt {
     /// The frame's number.
     pub number: u64,
@@ -16,6 +17,8 @@ pub struct FrameAt {
     pub at: u64,
     /// How long it is, in bytes.
     pub len: u32,
+    /// Where its blocks begin, in bytes from its beginning.
+    pub starts: Starts,
 }
 
 /// The last blocks of a page. A place of frame 0 is none.

@@ -3,49 +3,55 @@
 ghost use Rattle.std.specs.Prelude.{◌≡◌, ◌≢◌, ◌↔◌, [], Err, IfOk};
 ghost use Rattle.bw_page.specs.Standing.{content, blocks_of};
 ghost use Rattle.bw_page.specs.Words.{value_on};
+ghost use Rattle.bw_log.specs.Places.{all_placed};
 ghost use Rattle.bw_log.specs.Contents.{counted};
 ghost use Rattle.bw_log.specs.Reads.{IsPage, IsKept, HoldsPage, ReadStops};
 ghost use Rattle.bw_log.specs.Walking.{IsWalk};
 
 use crate::fault::LogFault;
 use crate::log::Log;
-use crate::pages::link_back;
-use bw_codec::{Key, Value};
+use crate::pages::back_of;
+use bw_codec::{Key, Place, Value};
 use bw_page::{Word, word_in_blocks};
 
 impl Log {
     ghost use Rattle.bw_log.specs.Views.{seen_by, IsSound};
 
-    // Reads frames of a page from this one back to the first that says something of the key.
-    fn value_back(&mut self, page: u32, key: &Key, start: usize) -> Result<Option<Value>, LogFault>
+    // Reads blocks of a page from this one back to the first that says something of the key.
+    fn value_back(
+        &mut self,
+        page: u32,
+        key: &Key,
+        start: Place,
+    ) -> Result<Option<Value>, LogFault>
         requires sound { IsSound holding self.old }
-        requires starts { IsWalk page (counted (seen_by holding self.old)) start [] }
+        requires starts { IsWalk page (all_placed (counted (seen_by holding self.old))) start [] }
         ensures value { IfOk result (λ value. value ≡ value_on key.now
             (content page (blocks_of (counted (seen_by holding self.old))))) }
         ensures stops { ReadStops (HoldsPage (seen_by holding self.old) page)
             (seen_by holding self.old) result (seen_by holding self.new) }
         ensures paged { result ≢ Err LogFault.NoPage }
     {
-        let first = self.frames[0].number;
-        let mut at = start;
+        let mut place = start;
         'back: loop {
-            let frame = self.read_frame_at(at, page)?;
-            match word_in_blocks(page, key, frame.blocks.as_slice()) {
+            let block = self.block_at(place)?;
+            let link = back_of(page, &block);
+            match word_in_blocks(page, key, &[block]) {
                 Word::Silent => {}
                 Word::Gone => return Ok(None),
                 Word::Holds(value) => return Ok(Some(value)),
             }
-            match link_back(page, frame.blocks.as_slice()) {
-                Some(place) => at = (place.frame - first) as usize,
+            match link {
+                Some(back) => place = back,
                 None => unreachable!(),
             }
         }
     }
 
-    /// The value of a key on a page, as the counted frames leave it: it reads the frames with a
-    /// block of the page from the newest back to the first with a record of the key, a block that
-    /// sets the page, or one that cuts the key off, and holds one of them in memory. So a key that
-    /// changed lately costs one frame, however many touch the page. Whether the key belongs to the
+    /// The value of a key on a page, as the counted frames leave it: it reads the blocks of
+    /// the page from the newest back to the first with a record of the key, one that sets the page,
+    /// or one that cuts the key off, and holds one of them in memory. So a key that changed lately
+    /// costs few blocks, however many touch the page. Whether the key belongs to the
     /// page is not asked. Refused as `read_page` is.
     pub fn read_value(&mut self, page: u32, key: &Key) -> Result<Option<Value>, LogFault>
         requires { IsSound holding self.old }
@@ -62,8 +68,6 @@ impl Log {
         let Some(entry) = self.page_at(page) else {
             return Err(LogFault::NoPage);
         };
-        let first = self.frames[0].number;
-        let at = (entry.place.frame - first) as usize;
-        self.value_back(page, key, at)
+        self.value_back(page, key, entry.place)
     }
 }

@@ -26,7 +26,7 @@ returns-then-line-segment g c =
     } in
     let inside = c.requires.inside in
     let some : 0 < n = omega arith in
-    own_told _ c.as_slice-lines.result.now c.args.segment n (record { number = 0; segment = 0; at = 0; len = 0 }) c.as_slice-lines.ensures.value
+    own_told _ c.as_slice-lines.result.now c.args.segment n c.index-lines-count.result c.index-lines-count.is c.as_slice-lines.ensures.value
     c.requires.sound c.requires.from (simp length-map inside) found some c.if-line-segment.true
 
 pub returns-else-line-segment : goal.returns-else-line-segment
@@ -39,5 +39,5 @@ returns-else-line-segment g c =
     } in
     let inside = c.requires.inside in
     let some : 0 < n = omega arith in
-    other_told _ c.as_slice-lines.result.now c.args.segment n (record { number = 0; segment = 0; at = 0; len = 0 }) c.as_slice-lines.ensures.value
+    other_told _ c.as_slice-lines.result.now c.args.segment n c.index-lines-count.result c.index-lines-count.is c.as_slice-lines.ensures.value
     c.requires.sound c.requires.from (simp length-map inside) found some c.if-line-segment.false

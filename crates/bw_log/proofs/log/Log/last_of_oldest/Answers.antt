@@ -24,5 +24,5 @@ returns g c =
           parted (λ a r f' h. search rules);
     } in
     let some : 0 < n = omega arith in
-    some_told _ _ s.live.items c.as_slice-lines.result.now n (record { number = 0; segment = 0; at = 0; len = 0 }) refl c.requires.some c.requires.sound
+    some_told _ _ s.live.items c.as_slice-lines.result.now n c.index-lines-count.result refl c.requires.some c.requires.sound
     c.as_slice-lines.ensures.value found some

@@ -9,7 +9,7 @@ returns-in-Ok g c =
     let grown = rw c.top.ensures at c.grow.ensures in
     let next = next_told c.frame-in-Ok.result c.checked_add-self.result c.checked_add-self.ensures in
     let number = c.frame-in-Ok.ensures.value in
-    let line = rw (c.frame.ensures.value) at c.push_reserved.ensures.items in
+    let line = rw (c.frame.ensures.value, c.of_appended.ensures) at c.push_reserved.ensures.items in
     record {
       outcome = put_done _ _ _ c.bytes-bytes.result.now (length c.as_slice.result.now - 1) c.len_of-at.result c.checked_add-self.result
           c.push_reserved.new.self.items c.grow.new.pages.items c.note_all.new.pages.items

@@ -1,27 +1,14 @@
-use Rattle.std.proofs.Common.{refl, arith}
+use Rattle.std.proofs.Common.{refl}
 use Rattle.bw_log.proofs.Asked.{page_there}
 use Rattle.bw_log.proofs.Valued.{sound_by, kept_by}
-use Rattle.bw_log.proofs.Walked.{page_starts, some_frames, first_is, no_line, page_answer}
+use Rattle.bw_log.proofs.Walked.{page_starts, no_line, page_answer}
 use Rattle.bw_log.proofs.log.Log.read_value.Goals as goal
 
 pub returns-in_default-clause-no_page : goal.returns-in_default-clause-no_page
 returns-in_default-clause-no_page g c = (λ _. no_line c.args.page c.args.self.now.pages.items c.in_default.ensures, λ _. refl)
 
-pub index-requires : goal.index-requires
-index-requires g c =
-    let start = page_starts _ c.args.page c.in-Some.entry c.requires c.in-Some.ensures in
-    omega (arith, some_frames c.requires start.walk, c.args.self.now.frames.ok.0)
-
-pub overflow_sub-at : goal.overflow_sub-at
-overflow_sub-at g c =
-    let start = page_starts _ c.args.page c.in-Some.entry c.requires c.in-Some.ensures in
-    let from_first = start.from_first in
-    omega (arith, first_is _ c.index.result.now c.requires (some_frames c.requires start.walk) c.index.ensures)
-
 pub value_back-requires-clause-starts : goal.value_back-requires-clause-starts
-value_back-requires-clause-starts g c =
-    let start = page_starts _ c.args.page c.in-Some.entry c.requires c.in-Some.ensures in
-    rw (first_is _ c.index.result.now c.requires (some_frames c.requires start.walk) c.index.ensures) start.walk
+value_back-requires-clause-starts g c = page_starts _ c.args.page c.in-Some.entry c.requires c.in-Some.ensures
 
 pub returns-clause-sound : goal.returns-clause-sound
 returns-clause-sound g c = sound_by _ _ _ c.value_back.result c.requires c.value_back.ensures.stops
