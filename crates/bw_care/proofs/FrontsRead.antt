@@ -16,6 +16,7 @@ use Rattle.bw_codec.specs.declared.block.FrameRead.TheVariants.{Whole, Tail}
 use Rattle.bw_codec.specs.declared.fault.CodecFault.{CodecFault}
 use Rattle.bw_codec.specs.declared.fault.CodecFault.TheVariants.{NoMemory, BadBytes}
 use Rattle.bw_codec.proofs.FrontFormat.{is_front, front_is}
+use Rattle.bw_log.specs.Starts.{starts_of}
 use Rattle.bw_log.specs.Segments.{frames_at, entry_of, entries_from}
 use Rattle.bw_log.specs.declared.places.FrameAt.{FrameAt}
 use Rattle.bw_log.proofs.Reread.{length-frame_in}
@@ -123,7 +124,7 @@ parts_more v bytes at frames frame used rest parts here size =
 
 pub read_more : (k : Header) (bytes : List ℕ) (at : ℕ) (frames : List Frame) (lines : List FrameAt) (frame : Frame) (used : ℕ) → IsReadTo k bytes at frames lines
     → front_at k.version k.m k.f (drop at bytes) ≡ Some (Whole frame used) → IsFront k.version k.m k.f (drop at bytes) (Whole frame used)
-    → IsReadTo k bytes (at + used) (frames ++ frame ∷ []) (lines ++ record { number = frame.number; segment = 0; at = at; len = used } ∷ [])
+    → IsReadTo k bytes (at + used) (frames ++ frame ∷ []) (lines ++ record { number = frame.number; segment = 0; at = at; len = used; starts = starts_of k.version frame } ∷ [])
 read_more k bytes at frames lines frame used r front there =
     let fits = fits_there k at bytes frame used r.within there in
     let first : FrameAt × Frame → FrameAt = λ e. e.0 in
@@ -137,9 +138,9 @@ read_more k bytes at frames lines frame used r front there =
       read = r.read ∙ ap (λ (n : ℕ). behind frames (frames_at n k.version k.m k.f (drop at bytes))) (sym fuel) ∙ step
           ∙ ap (λ (b : List ℕ). behind (frames ++ frame ∷ []) (frames_at (length bytes - length (frames ++ frame ∷ [])) k.version k.m k.f b)) (drop-drop used at bytes);
       stands = (let s = r.stands in let t = flat_more k.version frames frame in omega (arith, there.3));
-      lines = ap (λ (l : List FrameAt). l ++ record { number = frame.number; segment = 0; at = at; len = used } ∷ []) r.lines
+      lines = ap (λ (l : List FrameAt). l ++ record { number = frame.number; segment = 0; at = at; len = used; starts = starts_of k.version frame } ∷ []) r.lines
           ∙ ap (λ (l : FrameAt). map first (entries_from k.version 0 24 frames) ++ l ∷ [])
-          (λ i. record { number = frame.number; segment = 0; at = r.stands i; len = there.3 i })
+          (λ i. record { number = frame.number; segment = 0; at = r.stands i; len = there.3 i; starts = starts_of k.version frame })
           ∙ sym (map-append first (entries_from k.version 0 24 frames) ((entry_of k.version 0 (24 + length (flat_map (frame_bytes_in k.version) frames)) frame, frame) ∷ []))
           ∙ ap (map first) (sym (entries_more k.version 0 24 frames frame));
       laws = all-push (IsFrameIn k.version k.m k.f) frames frame r.laws there.0;

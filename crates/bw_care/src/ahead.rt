@@ -136,9 +136,9 @@ fn note(pages: &[u32], spots: &mut [Spot], page: u32, spot: Spot)
 }
 
 // Notes the Bases of one frame that are the last blocks of their pages.
-fn note_frame(log: &Log, line: FrameAt, bytes: &[u8], pages: &[u32], spots: &mut [Spot])
+fn note_frame(log: &Log, line: &FrameAt, bytes: &[u8], pages: &[u32], spots: &mut [Spot])
     requires sound { IsSound log.now holding }
-    requires line { IsLineOf (seen log.now holding) bytes.now line }
+    requires line { IsLineOf (seen log.now holding) bytes.now line.now }
     requires many { length spots.old ≡ length pages.now }
     requires spots { AreSpots (seen log.now holding) bytes.now spots.old pages.now }
     ensures { AreSpots (seen log.now holding) bytes.now spots.new pages.now }

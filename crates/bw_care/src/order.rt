@@ -211,16 +211,19 @@ pub struct Gathered {
 }
 
 // The lines of the segment at a position.
-fn add_lines(lines: &mut Vec<FrameAt>, more: &[FrameAt], segment: u64) -> Result<(), AllocError>
-    ensures { OnOk result (lines.new.items ≡ lines.old.items ++ map (moved_to segment) more.now) }
+fn add_lines(
+    lines: &mut Vec<FrameAt>,
+    more: Vec<FrameAt>,
+    segment: u64,
+) -> Result<(), AllocError>
+    ensures { OnOk result (lines.new.items ≡ lines.old.items ++ map (moved_to segment) more.items) }
 {
-    let mut at = 0;
-    'more: while at < more.len() {
-        lines.push(FrameAt {
-            segment,
-            ..more[at]
-        })?;
-        at += 1;
+    let mut more = more;
+    more.reverse();
+    'more: while let Some(line) = more.pop() {
+        let mut line = line;
+        line.segment = segment;
+        lines.push(line)?;
     }
     Ok(())
 }
@@ -244,7 +247,7 @@ pub fn gather(alloc: Global, live: Vec<Found>) -> Result<Gathered, AllocError>
             header,
             behind,
         } = found;
-        add_lines(&mut lines, &behind.lines, segment)?;
+        add_lines(&mut lines, behind.into_lines(), segment)?;
         boxes.push(index)?;
         versions.push(header.version)?;
         segment += 1;

@@ -8,7 +8,7 @@ ghost use Rattle.bw_care.specs.Scanned.{IsScan};
 ghost use Rattle.bw_care.specs.Behind.{IsBehind};
 
 use bw_codec::{CodecFault, FrameRead, Header, HeaderRead, read_frame, read_header};
-use bw_log::FrameAt;
+use bw_log::{FrameAt, Starts};
 use std::alloc::{AllocError, AllocFailed, Global};
 
 /// Why bytes cannot be read.
@@ -53,6 +53,16 @@ impl Drop for Behind {
     }
 }
 
+impl Behind {
+    /// Where the whole frames stand.
+    pub(crate) fn into_lines(self) -> Vec<FrameAt>
+        ensures { result ≡ self.lines }
+    {
+        let Behind { lines, tail: _ } = self;
+        lines
+    }
+}
+
 /// What stands at the front of bytes behind a header of this version and with these limits.
 pub(crate) fn front(
     alloc: Global,
@@ -89,6 +99,7 @@ pub fn read_behind(alloc: Global, bytes: &[u8], header: Header) -> Result<Behind
                     segment: 0,
                     at: at as u64,
                     len: used as u32,
+                    starts: Starts::of_found(alloc, header.version, &frame),
                 })?;
                 at += used;
             }

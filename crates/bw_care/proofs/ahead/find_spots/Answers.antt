@@ -19,6 +19,6 @@ pub note_frame-requires-clause-line : goal.note_frame-requires-clause-line
 note_frame-requires-clause-line g c =
     let log = seen c.args.log.now (λ b. (goal.Segment-dyn g b).holding b.1) in
     let first = first_is log (slice_get log.live 0) c.in-Some.segment c.in-Some.field-0-1 c.in-Some.field-0-2 c.in-Some.ensures in
-    line_of log c.loop-i.i c.in-Some-line.line c.args.bytes.now c.requires.sound c.in-Some-line.ensures (c.if-line-segment.false ∙ first)
+    line_of log c.loop-i.i c.in-Some-line.line.now c.args.bytes.now c.requires.sound c.in-Some-line.ensures (c.if-line-segment.false ∙ first)
     (oldest_version log _ c.requires.sound c.requires.some c.live_version.ensures
     (c.in-Some-live_version.is ∙ ap (λ (v : ℕ). Some v) c.if-version-ne-LATEST.false)) c.requires.oldest

@@ -8,7 +8,7 @@ pub loop-at-init : goal.loop-at-init
 loop-at-init g c = record {
   many = c.requires.many;
   spots = c.requires.spots;
-  walk = noting_starts _ c.args.bytes.now c.args.line (c.args.line.at + c.args.line.len) (c.args.line.at + 20) c.requires.line refl refl;
+  walk = noting_starts _ c.args.bytes.now c.args.line.now (c.args.line.now.at + c.args.line.now.len) (c.args.line.now.at + 20) c.requires.line refl refl;
 }
 
 pub overflow_add-at-in-loop-at : goal.overflow_add-at-in-loop-at
@@ -34,7 +34,7 @@ loop-at-preserved g c =
             many = c.if-is_last_base.auto.spots ∙ c.loop-at.invariant.many;
             spots = rw w.spots-is (note_tells _ c.args.bytes.now c.loop-at.spots w.note.new.spots c.args.pages.now c.in-Some.outline.page _ w.note.ensures
                 c.loop-at.invariant.spots
-                (spot_tells s (record { frame = c.args.line.number; index = c.loop-at.index }) c.requires.sound refl told.0 told.1));
+                (spot_tells s (record { frame = c.args.line.now.number; index = c.loop-at.index }) c.requires.sound refl told.0 told.1));
             walk = noted_on s;
           })
       | else-is_last_base w ↦ record {

@@ -20,7 +20,7 @@ overflow_cast-used c =
 pub frames-preserved : goal.frames-preserved
 frames-preserved c = (
   c.frames.invariant.0 ++ c.in-Ok-Whole.frame ∷ [],
-  rw c.in_ok-push-in-Ok-Whole.ensures.items
+  rw (c.in_ok-push-in-Ok-Whole.ensures.items, c.of_found.ensures)
       (read_more c.args.header c.args.bytes.now c.frames.at c.frames.invariant.0 c.frames.lines.items c.in-Ok-Whole.frame c.in-Ok-Whole.used
       c.frames.invariant.1
       (front_from c.args.header c.args.bytes.now c.frames.at c.in-Ok-Whole.field-0 _ c.in-Ok-Whole.ensures.gives c.in-Ok-Whole.field-0-is)
