@@ -136,3 +136,14 @@ pub all-given : (past ahead sent : List First) (rpast rahead rsent : List Rest) 
     → past ++ ahead ≡ sent → rpast ++ rahead ≡ rsent → joined (grouped sent rsent) ≡ joined (grouped past rpast) ++ joined (grouped ahead rahead)
 all-given past ahead sent rpast rahead rsent whole e f =
     ap joined (sym (ap₂ grouped e f) ∙ grouped-more past ahead rpast rahead whole) ∙ joined-append (grouped past rpast) (grouped ahead rahead)
+
+-- ---- the first group known, by what is shown of it
+
+pub some-shown : (g : List Record) (gs : List (List Record)) → IsPrefix (g ∷ []) gs → 0 < length gs
+some-shown g gs p = subst (λ (l : List (List Record)). 0 < length l) p.1 (omega arith)
+
+pub group-shown : (g h : List Record) (gs rest : List (List Record)) → IsPrefix (g ∷ []) gs → gs ≡ h ∷ rest → g ≡ h
+group-shown g h gs rest p e = let both : g ∷ p.0 ≡ h ∷ rest = p.1 ∙ e in cc
+
+pub alone-shown : (f : First) (x : Record) (fs : List First) (rs : List Rest) → IsPrefix (f ∷ []) fs → f ≡ Alone x → IsPrefix ((x ∷ []) ∷ []) (grouped fs rs)
+alone-shown f x fs rs p is = first-alone x fs rs (subst (λ (g : First). IsPrefix (g ∷ []) fs) is p)

@@ -23,7 +23,6 @@ use crate::store::Store;
 use crate::tails::{note, reserve_for};
 use bw_buffer::Buffer;
 use bw_codec::{Block, Place, Record};
-use bw_ring::Group;
 
 impl Store {
     ghost use Rattle.bw_store.specs.Views.{kept_by, noted_of, IsSound};
@@ -73,7 +72,7 @@ impl Store {
         note(&mut self.tails, page, &item, blocks.len() > 1);
         file(&mut self.making, &mut self.newest, page, blocks);
         hint_one(&mut self.hints, page);
-        self.intake.enter(lane, Group::one(item));
+        self.intake.enter_alone(lane, item);
         Ok(())
     }
 }

@@ -90,6 +90,16 @@ impl Intake {
         self.lanes[lane].peek_known()
     }
 
+    /// A copy of the record that a lane gives next, where the lane knows of a group and it has one
+    /// record. Its ring is not looked at.
+    pub(crate) fn alone(&self, lane: usize) -> Option<Record>
+        requires { lane < length self.now.lanes.items }
+        ensures { IfSome result (λ r. IsNext self.now.lanes.items lane (r ∷ [])) }
+    {
+        let _ = self.lanes.as_slice().len();
+        Some(self.lanes[lane].alone()?.copy())
+    }
+
     /// The kept entries from one index of the whole history up to another.
     pub(crate) fn between(&self, from: usize, to: usize) -> &[Entry]
         requires kept { self.now.history.gone ≤ from }
@@ -133,6 +143,31 @@ impl Intake {
         let records = group.len() as u64;
         push_all(history, lane as u16, group.into_items());
         count_more(counts, lane, records, history.len());
+    }
+
+    /// Takes the group that the lane gives next, where it is this record alone, and enters it: no
+    /// room is made for four records on the way.
+    pub(crate) fn enter_alone(&mut self, lane: usize, item: Record)
+        requires inside { lane < length self.old.lanes.items }
+        requires next { IsNext self.old.lanes.items lane (item ∷ []) }
+        requires room { HasRoom 1 self.old.history }
+        ensures gone { self.new.history.gone ≡ self.old.history.gone }
+        ensures count { length self.new.lanes.items ≡ length self.old.lanes.items }
+        ensures grows { self.new.history.items
+            ≡ self.old.history.items ++ entered lane (marked (item ∷ [])) }
+        ensures rings { map ring_of_lane self.new.lanes.items
+            ≡ map ring_of_lane self.old.lanes.items }
+        ensures given { map given self.new.lanes.items ≡ map given self.old.lanes.items }
+        ensures known { TookKnown lane self.old.lanes.items self.new.lanes.items }
+    {
+        let Intake {
+            lanes,
+            history,
+            counts,
+        } = self;
+        pass_at(lanes, lane, &item);
+        push_one(history, lane as u16, false, item);
+        count_more(counts, lane, 1, history.len());
     }
 }
 
@@ -220,6 +255,20 @@ fn take_at(lanes: &mut Vec<Lane>, at: usize, item: &Group)
 {
     let _ = lanes.as_slice().len();
     let _ = take_one(&mut lanes[at], item);
+}
+
+fn pass_at(lanes: &mut Vec<Lane>, at: usize, item: &Record)
+    requires inside { at < length lanes.old.items }
+    requires next { IsNext lanes.old.items at (item.now ∷ []) }
+    ensures rings { map ring_of_lane lanes.new.items ≡ map ring_of_lane lanes.old.items }
+    ensures len { vec_len lanes.new ≡ vec_len lanes.old }
+    ensures count { length lanes.new.items ≡ length lanes.old.items }
+    ensures took { TookAt at (item.now ∷ []) (map taken lanes.old.items) (map taken lanes.new.items) }
+    ensures given { map given lanes.new.items ≡ map given lanes.old.items }
+    ensures known { TookKnown at lanes.old.items lanes.new.items }
+{
+    let _ = lanes.as_slice().len();
+    lanes[at].pass_alone(item);
 }
 
 fn take_one(lane: &mut Lane, item: &Group) -> Group

@@ -36,6 +36,10 @@ impl Store {
             result (kept_by self.new holding) }
         ensures noted { noted_of self.new ≡ noted_of self.old }
     {
+        if let Some(item) = self.intake.alone(lane) {
+            self.take_item(lane, item)?;
+            return Ok(Some(1));
+        }
         let Some(group) = self.look(lane) else {
             return Ok(None);
         };
@@ -59,6 +63,9 @@ impl Store {
             (kept_by self.old holding) result (kept_by self.new holding) }
         ensures noted { noted_of self.new ≡ noted_of self.old }
     {
+        if let Some(item) = self.intake.alone(lane) {
+            return self.take_item(lane, item);
+        }
         let group = self.intake.first(lane);
         self.take_group(lane, group)
     }

@@ -1,4 +1,4 @@
-use Rattle.std.proofs.Common.{◌≡◌, ◌∙◌, ◌+◌, ◌++◌, ℕ, Err, refl, List, true, length, map, ap, subst, sym, arith}
+use Rattle.std.proofs.Common.{◌≡◌, [], ◌∷◌, ◌∙◌, ◌+◌, ◌++◌, ℕ, Err, refl, List, true, length, map, ap, subst, sym, arith}
 use Rattle.std.specs.Prelude.{nat_lt}
 use Rattle.bw_codec.specs.declared.block.Block.{Block}
 use Rattle.bw_codec.specs.declared.leaf.Leaf.{Leaf}
@@ -58,9 +58,9 @@ invariant_of-self-2 g c =
     ap (λ (b : Filling). b.blocks) c.file.ensures.making ∙ ap (added was.making.blocks) c.requires.blocks in
     let leaves = ap (λ (x : Shown). x.leaves) c.in_ok-apply_on.ensures.ok in
     record {
-      whole = whole_entered was.cuts.items was.intake.history.items c.enter.new.self.history.items c.args.lane c.one.result
+      whole = whole_entered was.cuts.items was.intake.history.items c.enter_alone.new.self.history.items c.args.lane (c.args.item ∷ [])
           c.requires.sound.ordered was.whole
-          (c.enter.ensures.grows ∙ ap (λ (es : List Entry). es ++ entries_of c.args.lane (marked c.one.result)) c.reserve.ensures.history);
+          (c.enter_alone.ensures.grows ∙ ap (λ (es : List Entry). es ++ entries_of c.args.lane (marked (c.args.item ∷ []))) c.reserve.ensures.history);
       tailed = c.note.ensures.value
           ∙ ap (tails_after c.args.page c.args.item (nat_lt 1 (length c.args.blocks.now))) (c.reserve_for.ensures.same ∙ was.tailed)
           ∙ ap (λ (p : ℕ). tails_after p c.args.item (nat_lt 1 (length c.args.blocks.now)) (tails_for (length f.leaves) was.making.blocks)) at
@@ -74,7 +74,7 @@ invariant_of-self-2 g c =
           (subst (λ (ps : List ℕ). is_among q ps ≡ true) c.apply_on.ensures.evicted evicted) c.requires.here
           (c.count.ensures.beyond (length f.leaves + 1) (omega arith)) (was.logged q (subst (λ (ps : List ℕ). is_among q ps ≡ true) c.apply_on.ensures.evicted evicted));
       began = was.began;
-      forgotten = (let entered = c.enter.ensures.gone in let reserved = c.reserve.ensures.gone in let known = was.forgotten in omega arith);
+      forgotten = (let entered = c.enter_alone.ensures.gone in let reserved = c.reserve.ensures.gone in let known = was.forgotten in omega arith);
     }
 
 pub file-requires-clause-lawful : goal.file-requires-clause-lawful
@@ -98,10 +98,10 @@ returns-clause-sound g c =
     let e = enters_at c.args.page c.requires.sound c.requires.next c.key.ensures.lawful c.requires.page c.requires.back c.requires.blocks c.requires.fits in
     let not : IsSpent c.args.self.now.leaves c.args.item → ⊥ = λ p. let x = c.in_ok-apply_on.ensures.spent p in cc in
     subst kept.IsSound
-    (sym (entered (alone c.args.item) e not c.args.lane c.args.page c.enter.new.self.history.items (filed_of c.apply_on.new.self) c.file.new.newest.items c.file.new.making c.requires.page
-    _ (c.enter.ensures.grows ∙ ap (λ (g : List Record). c.reserve.new.self.history.items ++ entries_of c.args.lane (marked g)) c.one.ensures) c.reserve.ensures.history (ap filed_of c.in_ok-apply_on.ensures.ok)
+    (sym (entered (alone c.args.item) e not c.args.lane c.args.page c.enter_alone.new.self.history.items (filed_of c.apply_on.new.self) c.file.new.newest.items c.file.new.making c.requires.page
+    _ c.enter_alone.ensures.grows c.reserve.ensures.history (ap filed_of c.in_ok-apply_on.ensures.ok)
     _ c.file.ensures.newest c.reserve-2.ensures.items c.file.ensures.making
-    _ _ c.enter.ensures.rings (ap (λ v. map ring_of_lane v.items) c.reserve.ensures.lanes)))
+    _ _ c.enter_alone.ensures.rings (ap (λ v. map ring_of_lane v.items) c.reserve.ensures.lanes)))
     (entered_sound (alone c.args.item) e not c.args.lane (lane_inside _ _ c.requires.inside))
 
 pub returns-in_err-apply_on-clause-refused : goal.returns-in_err-apply_on-clause-refused
