@@ -2,7 +2,7 @@
 
 use Rattle.std.proofs.Common.{◌≡◌, ℕ, IfSome, zero, suc, ◌+◌, ◌-◌, ◌<◌, ◌≤◌, Option, Some, None, Result, Ok, Err, List, [], ◌∷◌, ◌++◌, length, take, drop, get_or, slice_get, refl, sym, ap, subst, ◌∙◌}
 use Rattle.std.proofs.Common.{append_assoc, append-nil, arith, length-append}
-use Rattle.std.specs.List.{AllByRecursion, flat_map}
+use Rattle.std.specs.List.{AllByRecursion}
 use Rattle.std.proofs.lemmas.List.{drop_at, take_at, take_all, drop-drop, drop-take, length-drop}
 use Rattle.std.proofs.lemmas.Grind.{flat_map-append}
 use Rattle.std.proofs.lemmas.Option.{slice_get-get_or, get_or_from_slice_get}
@@ -14,7 +14,6 @@ use Rattle.bw_device.specs.Holding.{Holding}
 use Rattle.bw_log.specs.Starts.{starts_from, starts_of, end_of, IsSpan}
 use Rattle.bw_log.specs.Segments.{version_at}
 use Rattle.bw_log.specs.Contents.{Contents, counted, IsSound}
-use Rattle.bw_log.specs.Walking.{StandsAt}
 use Rattle.bw_log.specs.BlockBytes.{IsSpelled, IsSpelledAt, BlockAt, IsSpot}
 use Rattle.bw_log.specs.declared.blocks.Spot.{Spot}
 use Rattle.bw_log.specs.declared.places.FrameAt.{FrameAt}
@@ -96,8 +95,8 @@ pub spans : (v : ℕ) (frame : Frame) (front : List Block) (b : Block) (back : L
 spans v frame front b back starts len index span split many same size is =
     let whole : starts ≡ starts_from v 20 (front ++ b ∷ back) = same ∙ ap (starts_from v 20) split in
     let from : span.0 ≡ 20 + length (body_bytes_in v front) = some_same span.0 (20 + length (body_bytes_in v front)) (
-        sym is.from ∙ ap (λ (l : List ℕ). slice_get l index) whole ∙ ap (slice_get (starts_from v 20 (front ++ b ∷ back))) (sym many)
-        ∙ starts_here v 20 front b back) in
+    sym is.from ∙ ap (λ (l : List ℕ). slice_get l index) whole ∙ ap (slice_get (starts_from v 20 (front ++ b ∷ back))) (sym many)
+    ∙ starts_here v 20 front b back) in
     let total : len ≡ 20 + length (body_bytes_in v (front ++ b ∷ back)) =
     size ∙ len_frame v frame ∙ ap (λ (bs : List Block). 20 + length (body_bytes_in v bs)) split in
     let to : span.1 ≡ 20 + (length (body_bytes_in v front) + length (block_bytes_in v b)) =

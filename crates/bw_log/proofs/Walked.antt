@@ -13,7 +13,7 @@ use Rattle.bw_page.specs.Leaves.{leaf_at}
 use Rattle.bw_page.specs.Standing.{after, content, blocks_of}
 use Rattle.bw_log.specs.Places.{all_placed, first_number}
 use Rattle.bw_log.specs.Contents.{Contents, image, counted, entry_place, place_in, IsSound, IsStanding}
-use Rattle.bw_log.specs.Walking.{first_back, bodies, PlacedAt, IsPlace, IsWalk}
+use Rattle.bw_log.specs.Walking.{first_back, PlacedAt, IsPlace, IsWalk}
 use Rattle.bw_log.specs.Reads.{IsLineIn, HoldsPage}
 use Rattle.bw_log.specs.BlockBytes.{BlockAt}
 use Rattle.bw_log.specs.declared.fault.LogFault.{LogFault}

@@ -1,6 +1,6 @@
 -- The steps of a walk back over the blocks of a page: where it starts, goes on and ends.
 
-use Rattle.std.proofs.Common.{inl, inr, ◌≡◌, ℕ, ◌+◌, ◌<◌, ◌==◌, ◌||◌, true, false, Bool, Option, Some, None, List, [], ◌∷◌, ◌++◌, length, reverse, refl, sym, ap}
+use Rattle.std.proofs.Common.{inl, inr, ◌≡◌, ℕ, ◌+◌, ◌==◌, ◌||◌, true, false, Bool, Option, Some, None, List, [], ◌∷◌, ◌++◌, length, reverse, refl, sym, ap}
 use Rattle.std.proofs.Common.{subst, ◌∙◌, append_assoc, append-nil, arith}
 use Rattle.std.specs.List.{fold, list_any}
 use Rattle.std.proofs.lemmas.List.{reverse-append}
@@ -14,7 +14,7 @@ use Rattle.bw_codec.specs.declared.block.Frame.{Frame}
 use Rattle.bw_page.specs.Standing.{after, content, blocks_of}
 use Rattle.bw_log.specs.Places.{all_placed, last_place, is_back, bad_link, first_number, AreLinked, place_of}
 use Rattle.bw_log.specs.Segments.{AreFrom}
-use Rattle.bw_log.specs.Walking.{first_back, bodies, PlacedAt, IsWalk}
+use Rattle.bw_log.specs.Walking.{first_back, bodies, IsWalk}
 use Rattle.bw_log.proofs.Walk.{same_fold, none_after, forgets_after}
 use Rattle.bw_log.proofs.Links.{bad_link-append, neither, frame_link}
 use Rattle.bw_log.proofs.Placing.{IsEarlier, is_earlier, LastOf, HasLast, last_of, bodies_more, bodies_all}

@@ -1,6 +1,6 @@
 -- Where the blocks of a frame begin in it, and what a block alone is.
 
-use Rattle.std.specs.Prelude.{ℕ, ◌+◌, ◌≡◌, Option, Some, None, List, [], ◌∷◌, ◌++◌, length, slice_get}
+use Rattle.std.specs.Prelude.{ℕ, ◌+◌, ◌≡◌, Option, Some, None, List, [], ◌∷◌, length, slice_get}
 use Rattle.bw_codec.specs.Grammar.{block_bytes_in}
 use Rattle.bw_codec.specs.declared.block.Block.{Block}
 use Rattle.bw_codec.specs.declared.block.Frame.{Frame}

@@ -122,11 +122,7 @@ fn behind(bytes: &[u8], len: usize) -> Result<&[u8], CodecFault>
 }
 
 /// Where the blocks of the frame begin that the bytes spell in a format.
-pub(crate) fn starts_in(
-    alloc: Global,
-    version: u16,
-    bytes: &[u8],
-) -> Result<Vec<u32>, CodecFault>
+pub(crate) fn starts_in(alloc: Global, version: u16, bytes: &[u8]) -> Result<Vec<u32>, CodecFault>
     requires { length bytes.now < 2 ^ 32 }
     ensures { (m f : ℕ) (frame : Frame) → m < 2 ^ 16 → IsFrameIn version m f frame
         → bytes.now ≡ frame_bytes_in version frame

@@ -18,12 +18,7 @@ impl Log {
     ghost use Rattle.bw_log.specs.Views.{seen_by, IsSound};
 
     // Reads blocks of a page from this one back to the first that says something of the key.
-    fn value_back(
-        &mut self,
-        page: u32,
-        key: &Key,
-        start: Place,
-    ) -> Result<Option<Value>, LogFault>
+    fn value_back(&mut self, page: u32, key: &Key, start: Place) -> Result<Option<Value>, LogFault>
         requires sound { IsSound holding self.old }
         requires starts { IsWalk page (all_placed (counted (seen_by holding self.old))) start [] }
         ensures value { IfOk result (λ value. value ≡ value_on key.now

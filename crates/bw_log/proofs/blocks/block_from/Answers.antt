@@ -1,6 +1,3 @@
-use Rattle.std.proofs.Common.{◌-◌, ◌≤◌, length, drop, take, sym, subst, arith}
-use Rattle.std.proofs.lemmas.List.{take_all, length-drop}
-use Rattle.bw_log.specs.BlockBytes.{IsSpelled, SpellsOne}
 use Rattle.bw_log.proofs.BlocksRead.{rest_all}
 use Rattle.bw_log.proofs.blocks.block_from.Goals as goal
 

@@ -1,4 +1,4 @@
-use Rattle.std.proofs.Common.{◌∙◌, ◌≡◌, ◌<◌, ◌≤◌, ◌+◌, ◌^◌, ap, sym, subst, length, rules, arith}
+use Rattle.std.proofs.Common.{ap, sym, length, arith}
 use Rattle.std.proofs.lemmas.List.{length-map}
 use Rattle.bw_log.proofs.BlocksRead.{spotted_own, spot_inside, alone_at, line_is, sum_within, stops_in_spot}
 use Rattle.bw_log.proofs.Walked.{first_is, some_frames, numbered_by}

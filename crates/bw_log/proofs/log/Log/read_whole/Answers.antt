@@ -1,4 +1,4 @@
-use Rattle.std.proofs.Common.{◌∙◌, ◌≡◌, ◌<◌, ◌≤◌, ◌^◌, ap, sym, length, get_or, slice_get, rules, arith}
+use Rattle.std.proofs.Common.{◌∙◌, ◌<◌, ◌^◌, ap, sym, length, get_or, rules, arith}
 use Rattle.std.proofs.lemmas.List.{length-map}
 use Rattle.bw_log.specs.Starts.{starts_of}
 use Rattle.bw_log.proofs.Looked.{not_bad, gave}
@@ -64,9 +64,11 @@ block_from-requires-clause-spelled g c =
     let own = spot_bytes s c.new-bytes.result.items c.read_onto.new.out.items c.new-bytes.ensures.items c.in_ok-read_onto.ensures.bytes in
     let read = c.deref.ensures.value ∙ spot_spelled s _ own in
     let most = c.requires.sound.holds.limits.1 in
-    let known = gave _ c.in-Ok.known.items (c.in-Ok.ensures c.args.self.now.m s.boxed.limit s.boxed.frame (omega arith) (spot_lawful s) read) in
-    (c.requires.there.0, (first_at (c.in-Some.start, c.in-Some.field-0-1) c.deref-2.result.now c.deref-3.result.now s c.requires.there.1
-    (c.deref-2.ensures.value ∙ known) c.in-Some.ensures (c.deref-3.ensures.value ∙ own)).1)
+    let known = gave _ c.in-Ok.known.items (c.in-Ok.ensures c.args.self.now.m s.boxed.limit s.boxed.frame (omega arith) (spot_lawful s) read) in (
+      c.requires.there.0,
+      (first_at (c.in-Some.start, c.in-Some.field-0-1) c.deref-2.result.now c.deref-3.result.now s c.requires.there.1
+          (c.deref-2.ensures.value ∙ known) c.in-Some.ensures (c.deref-3.ensures.value ∙ own)).1,
+    )
 
 pub returns-clause-found : goal.returns-clause-found
 returns-clause-found g c block x =

@@ -1,4 +1,3 @@
-use Rattle.std.proofs.Common.{[], ◌∷◌}
 use Rattle.bw_ring.proofs.Rings.{alone-shown}
 use Rattle.bw_ring.proofs.lane.Lane.alone.Goals as goal
 
