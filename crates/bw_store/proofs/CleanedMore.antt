@@ -27,9 +27,9 @@ use Rattle.bw_store.specs.Edges.{IsBegun}
 use Rattle.bw_store.proofs.Edging.{begun_dropped, begun_stays, moved_row, refused_row, row_then}
 use Rattle.bw_store.specs.declared.fault.StoreFault.{StoreFault}
 use Rattle.bw_store.specs.declared.fault.StoreFault.TheVariants as store
-use Rattle.bw_store.specs.Faults.{FlushLeaves}
+use Rattle.bw_store.specs.Faults.{fault_of, FlushLeaves}
 use Rattle.bw_store.specs.Following.{Continues, Follows}
-use Rattle.bw_store.proofs.FollowMore.{continue_then}
+use Rattle.bw_store.proofs.FollowMore.{continue_then, grows_on}
 use Rattle.bw_care.proofs.BoxesGrown.{same_roster}
 use Rattle.bw_codec.specs.Grammar.{frame_bytes, header_bytes}
 use Rattle.bw_device.specs.Holding.{Holding, appended}
@@ -39,7 +39,7 @@ use Rattle.bw_store.specs.History.{upto}
 use Rattle.bw_store.specs.Growing.{frames_upto}
 use Rattle.bw_store.specs.Kept.{Kept, IsSound}
 use Rattle.bw_store.specs.Settled.{IsSettled}
-use Rattle.bw_store.specs.Cleaning.{end_by, with_moved, fault_of_clean, MoveLeaves, CleanLeaves, HasBoxesBut, HasFloorBut}
+use Rattle.bw_store.specs.Cleaning.{end_by, with_moved, fault_of_clean, GivesUp, HasMoved, HasStopped, MoveLeaves, CleanLeaves, HasBoxesBut, HasFloorBut}
 use Rattle.bw_store.specs.Emptied.{Emptied}
 use Rattle.bw_store.proofs.FramesBehind.{end_is, first_ahead, none_above, placed_page, pages_counted}
 use Rattle.bw_store.proofs.MovedMore.{Adds, Moves, high, next_then, moved_sound, kept_shares, last_cut, all_cuts}
@@ -66,6 +66,10 @@ pub record Cleans (s : Kept) (most : ℕ) (new : logs.Contents) : Type 0 where
   pub begun : IsBegun s.edge new
   pub left : new.is_failed ≡ true → Stand s.filed.m (frames_of (logs.image new).bytes) s.filed.leaves
 
+-- what the counted frames stood for they stand for still
+abbrev pub StandsOn : Kept → logs.Contents → Type 0
+StandsOn s new = (leaves : List Leaf) → Stand s.log.m (logs.counted s.log) leaves → Stand s.log.m (logs.counted new) leaves
+
 -- from a log that counts these frames too
 adds_of : (s : Kept) (written : List Frame) (ps : List ℕ) (now : logs.Contents) → Begins s → logs.IsSound now → logs.counted now ≡ logs.counted s.log ++ written
     → care.AreBases s.log (blocks_of written) ps → Adds s written
@@ -83,6 +87,10 @@ few_pages all ps rest frames most top is few =
     let len = ap (λ (l : List ℕ). length l) is in
     let parts = length-append ps rest in
     omega arith
+
+moved_few : (old new : logs.Contents) (last : ℕ) (all : List ℕ) (frames most : ℕ) (moved : care.MovedBehind last old new all [] frames) → length all ≤ most
+    → length moved.written ≤ most
+moved_few old new last all frames most moved top = (let many = moved.count in let few = moved.few in omega arith)
 
 pub few_upto : (s : Kept) (last : ℕ) → length (pages_upto last s.log) ≤ length s.log.pages
 few_upto s last = few_old last (logs.counted s.log) 1 (length s.log.pages)
@@ -110,7 +118,7 @@ still_counts old new log.Spent r = same_log old new r
 still_counts old new log.NoPage r = absurd r
 
 stands_as : (s : Kept) (new : logs.Contents) → Begins s
-    → ((leaves : List Leaf) → Stand s.log.m (logs.counted s.log) leaves → Stand s.log.m (logs.counted new) leaves)
+    → StandsOn s new
     → Stand s.filed.m (logs.counted new) s.filed.leaves
 stands_as s new b stands =
     let h = b.sound in
@@ -147,7 +155,7 @@ refused_left m old new log.NoPage leaves works r stand failed = absurd r
 -- some pages were written again, then a step was refused
 pub refused_cleans : (s : Kept) (last : ℕ) (all : List ℕ) (fault : LogFault) (most : ℕ) (new : logs.Contents) → Begins s → logs.IsSound new
     → length all ≤ most → care.StoppedBehind last s.log all fault new
-    → ((leaves : List Leaf) → Stand s.log.m (logs.counted s.log) leaves → Stand s.log.m (logs.counted new) leaves) → Cleans s most new
+    → StandsOn s new → Cleans s most new
 refused_cleans s last all fault most new b sound top x stands =
     let still = still_counts x.then_log new fault x.refused in
     let counts = still.counts ∙ x.moved.counts in
@@ -179,15 +187,13 @@ pub record GaveUp (k gone : ℕ) (then_log new : logs.Contents) : Type 0 where
 
 pub given_cleans : (s : Kept) (last : ℕ) (all : List ℕ) (frames k gone most : ℕ) (then_log new : logs.Contents) → Begins s → logs.IsSound new
     → length all ≤ most → care.MovedBehind last s.log then_log all [] frames → GaveUp k gone then_log new
-    → ((leaves : List Leaf) → Stand s.log.m (logs.counted s.log) leaves → Stand s.log.m (logs.counted new) leaves) → Cleans s most new
+    → StandsOn s new → Cleans s most new
 given_cleans s last all frames k gone most then_log new b sound top moved x stands =
     let adds = adds_of s moved.written all then_log b x.sound moved.counts moved.holds in
-    let many = moved.count in
-    let few = moved.few in
     record {
       written = moved.written;
       adds = adds;
-      few = omega arith;
+      few = moved_few s.log then_log last all frames most moved top;
       sound = sound;
       m = ap (λ (c : logs.Contents). c.m) x.is ∙ moved.m;
       f = ap (λ (c : logs.Contents). c.f) x.is ∙ moved.f;
@@ -204,14 +210,14 @@ given_cleans s last all frames k gone most then_log new b sound top moved x stan
 
 pub given_told : (s : Kept) (last : ℕ) (all : List ℕ) (frames k gone most : ℕ) (then_log new : logs.Contents) (b : Begins s) (sound : logs.IsSound new)
     (top : length all ≤ most) (moved : care.MovedBehind last s.log then_log all [] frames) (x : GaveUp k gone then_log new)
-    (stands : (leaves : List Leaf) → Stand s.log.m (logs.counted s.log) leaves → Stand s.log.m (logs.counted new) leaves)
+    (stands : StandsOn s new)
     → length (given_cleans s last all frames k gone most then_log new b sound top moved x stands).written ≡ frames
 unfolding given_cleans
 given_told s last all frames k gone most then_log new b sound top moved x stands = moved.count
 
 pub refused_counts : (s : Kept) (last : ℕ) (all : List ℕ) (fault : LogFault) (most : ℕ) (new : logs.Contents) (b : Begins s) (sound : logs.IsSound new)
     (top : length all ≤ most) (x : care.StoppedBehind last s.log all fault new)
-    (stands : (leaves : List Leaf) → Stand s.log.m (logs.counted s.log) leaves → Stand s.log.m (logs.counted new) leaves)
+    (stands : StandsOn s new)
     → logs.counted new ≡ logs.counted s.log ++ (refused_cleans s last all fault most new b sound top x stands).written
 unfolding refused_cleans
 refused_counts s last all fault most new b sound top x stands = (still_counts x.then_log new fault x.refused).counts ∙ x.moved.counts
@@ -219,15 +225,13 @@ refused_counts s last all fault most new b sound top x stands = (still_counts x.
 -- all pages were written again, and no segment was given up
 pub moved_cleans : (s : Kept) (last : ℕ) (all : List ℕ) (frames most : ℕ) (new : logs.Contents) → Begins s → logs.IsSound new
     → length all ≤ most → care.MovedBehind last s.log new all [] frames
-    → ((leaves : List Leaf) → Stand s.log.m (logs.counted s.log) leaves → Stand s.log.m (logs.counted new) leaves) → Cleans s most new
+    → StandsOn s new → Cleans s most new
 moved_cleans s last all frames most new b sound top moved stands =
     let adds = adds_of s moved.written all new b sound moved.counts moved.holds in
-    let many = moved.count in
-    let few = moved.few in
     record {
       written = moved.written;
       adds = adds;
-      few = omega arith;
+      few = moved_few s.log new last all frames most moved top;
       sound = sound;
       m = moved.m;
       f = moved.f;
@@ -241,7 +245,7 @@ moved_cleans s last all frames most new b sound top moved stands =
 
 pub moved_counts : (s : Kept) (last : ℕ) (all : List ℕ) (frames most : ℕ) (new : logs.Contents) (b : Begins s) (sound : logs.IsSound new)
     (top : length all ≤ most) (moved : care.MovedBehind last s.log new all [] frames)
-    (stands : (leaves : List Leaf) → Stand s.log.m (logs.counted s.log) leaves → Stand s.log.m (logs.counted new) leaves)
+    (stands : StandsOn s new)
     → (logs.counted new ≡ logs.counted s.log ++ (moved_cleans s last all frames most new b sound top moved stands).written)
     × (length (moved_cleans s last all frames most new b sound top moved stands).written ≡ frames)
 unfolding moved_cleans
@@ -258,13 +262,13 @@ gave_up_oldest s cleaned new x = record {
 }
 
 pub cleaned_cleans : (s : Kept) (cleaned : Cleaned) (new : logs.Contents) → Begins s → logs.IsSound new → care.IsCleaned s.log cleaned new
-    → ((leaves : List Leaf) → Stand s.log.m (logs.counted s.log) leaves → Stand s.log.m (logs.counted new) leaves) → Cleans s (length s.log.pages) new
+    → StandsOn s new → Cleans s (length s.log.pages) new
 cleaned_cleans s cleaned new b sound x stands =
     given_cleans s (oldest_last s.log s.log.live) (old_pages s.log) cleaned.frames 1 (oldest_count s.log.live) (length s.log.pages) x.then_log new b sound
     (few_upto s (oldest_last s.log s.log.live)) x.moved (gave_up_oldest s cleaned new x) stands
 
 pub cleaned_told : (s : Kept) (cleaned : Cleaned) (new : logs.Contents) (b : Begins s) (sound : logs.IsSound new) (x : care.IsCleaned s.log cleaned new)
-    (stands : (leaves : List Leaf) → Stand s.log.m (logs.counted s.log) leaves → Stand s.log.m (logs.counted new) leaves)
+    (stands : StandsOn s new)
     → length (cleaned_cleans s cleaned new b sound x stands).written ≡ cleaned.frames
 unfolding cleaned_cleans
 cleaned_told s cleaned new b sound x stands =
@@ -284,12 +288,12 @@ stopped_of s (Log log.Spent) new b two r = (log.Spent, r.2)
 stopped_of s (Log log.NoPage) new b two r = absurd r
 
 pub stopped_cleans : (s : Kept) (fault : LogFault) (new : logs.Contents) → Begins s → logs.IsSound new → care.Stopped s.log fault new
-    → ((leaves : List Leaf) → Stand s.log.m (logs.counted s.log) leaves → Stand s.log.m (logs.counted new) leaves) → Cleans s (length s.log.pages) new
+    → StandsOn s new → Cleans s (length s.log.pages) new
 stopped_cleans s fault new b sound x stands =
     refused_cleans s (oldest_last s.log s.log.live) (old_pages s.log) fault (length s.log.pages) new b sound (few_upto s (oldest_last s.log s.log.live)) x stands
 
 pub stopped_counts : (s : Kept) (fault : LogFault) (new : logs.Contents) (b : Begins s) (sound : logs.IsSound new) (x : care.Stopped s.log fault new)
-    (stands : (leaves : List Leaf) → Stand s.log.m (logs.counted s.log) leaves → Stand s.log.m (logs.counted new) leaves)
+    (stands : StandsOn s new)
     → logs.counted new ≡ logs.counted s.log ++ (stopped_cleans s fault new b sound x stands).written
 unfolding stopped_cleans
 stopped_counts s fault new b sound x stands =
@@ -297,7 +301,7 @@ stopped_counts s fault new b sound x stands =
 
 pub cleans_of : (s : Kept) (new : logs.Contents) (r : Result Cleaned CleanFault) → Begins s → 2 ≤ length s.log.live → logs.IsSound new
     → IfOk r (λ cleaned. care.IsCleaned s.log cleaned new) → IfErr r (λ cause. care.Refuses cause s.log new)
-    → ((leaves : List Leaf) → Stand s.log.m (logs.counted s.log) leaves → Stand s.log.m (logs.counted new) leaves) → Cleans s (length s.log.pages) new
+    → StandsOn s new → Cleans s (length s.log.pages) new
 cleans_of s new (Ok cleaned) b two sound ok err stands = cleaned_cleans s cleaned new b sound ok stands
 cleans_of s new (Err cause) b two sound ok err stands =
     (let x = stopped_of s cause new b two err in stopped_cleans s x.0 new b sound x.1 stands)
@@ -433,30 +437,49 @@ module _ (s : Kept) (most : ℕ) (new : logs.Contents) (x : Cleans s most new) (
     numbered = numbered_of new.next making.frame number;
   }
 
--- a store that noted them, where segments were given up: the floor is what is durable
-pub moved_done : (s t : Kept) (new : logs.Contents) (frames told : ℕ) (newest : List Place) (making : Filling)
-    → t ≡ with_moved s frames s.floor newest making new → frames ≡ told
-    → record t { floor = t.durable } ≡ with_moved s told (s.durable + told) newest making new
-moved_done s t new frames told newest making is same =
-    ap (λ (k : Kept). record k { floor = k.durable }) is ∙ ap (λ (n : ℕ). with_moved s n (s.durable + n) newest making new) same
+-- ---- a store that noted them
 
--- the same, as the store has its log
-pub moved_told : (s t : Kept) (new : logs.Contents) (frames told : ℕ) (newest : List Place) (making : Filling)
-    → t ≡ with_moved s frames s.floor newest making new → frames ≡ told
-    → record t { floor = t.durable } ≡ with_moved s told (s.durable + told) newest making t.log
-moved_told s t new frames told newest making is same =
-    moved_done s t new frames told newest making is same
-    ∙ ap (with_moved s told (s.durable + told) newest making) (sym (ap (λ (k : Kept). k.log) is))
+moved_done : (s t : Kept) (new : logs.Contents) (frames told : ℕ) → t ≡ with_moved s frames s.floor t.newest t.making new → frames ≡ told
+    → record t { floor = t.durable } ≡ with_moved s told (s.durable + told) t.newest t.making new
+moved_done s t new frames told is same =
+    ap (λ (k : Kept). record k { floor = k.durable }) is ∙ ap (λ (n : ℕ). with_moved s n (s.durable + n) t.newest t.making new) same
 
-pub moved_as : (s t : Kept) (new : logs.Contents) (frames told : ℕ) (newest : List Place) (making : Filling)
-    → t ≡ with_moved s frames s.floor newest making new → frames ≡ told → t ≡ with_moved s told s.floor newest making t.log
-moved_as s t new frames told newest making is same =
-    is ∙ ap (λ (n : ℕ). with_moved s n s.floor newest making new) same
-    ∙ ap (with_moved s told s.floor newest making) (sym (ap (λ (k : Kept). k.log) is))
+-- where segments were given up the floor is what is durable
+pub done_sound : (s t : Kept) {most : ℕ} {new : logs.Contents} {frames : ℕ} (b : Begins s)
+    → Notes s most new frames (s.cuts ++ replicate frames (length s.entries)) t.newest t.making
+    → t ≡ with_moved s frames s.floor t.newest t.making new → IsSound (record t { floor = t.durable })
+done_sound s t {most} {new} {frames} b x is =
+    subst IsSound (sym (moved_done s t new frames frames is refl))
+    (cleaned_sound s most b new frames (s.cuts ++ replicate frames (length s.entries)) t.newest t.making x)
 
-pub moved_kept : (s t : Kept) (new : logs.Contents) (frames : ℕ) (newest : List Place) (making : Filling)
-    → t ≡ with_moved s frames s.floor newest making new → t ≡ with_moved s frames s.floor newest making t.log
-moved_kept s t new frames newest making is = is ∙ ap (with_moved s frames s.floor newest making) (sym (ap (λ (k : Kept). k.log) is))
+pub has_given : (holds : logs.Contents → Type 0) (s t : Kept) {new : logs.Contents} {frames told : ℕ}
+    → t ≡ with_moved s frames s.floor t.newest t.making new → frames ≡ told → t.making.blocks ≡ [] → holds new
+    → HasMoved s told (s.durable + told) holds (record t { floor = t.durable })
+has_given holds s t {new} {frames} {told} is same empty held =
+    (let log : t.log ≡ new = ap (λ (k : Kept). k.log) is in
+    record {
+      is = moved_done s t new frames told is same ∙ ap (with_moved s told (s.durable + told) t.newest t.making) (sym log);
+      empty = empty;
+      log = subst holds (sym log) held;
+    })
+
+-- where none was given up it stays
+pub has_moved : (holds : logs.Contents → Type 0) (s t : Kept) {new : logs.Contents} {frames told : ℕ}
+    → t ≡ with_moved s frames s.floor t.newest t.making new → frames ≡ told → t.making.blocks ≡ [] → holds new → HasMoved s told s.floor holds t
+has_moved holds s t {new} {frames} {told} is same empty held =
+    (let log : t.log ≡ new = ap (λ (k : Kept). k.log) is in
+    record {
+      is = is ∙ ap (λ (n : ℕ). with_moved s n s.floor t.newest t.making new) same
+          ∙ ap (with_moved s told s.floor t.newest t.making) (sym log);
+      empty = empty;
+      log = subst holds (sym log) held;
+    })
+
+pub has_stopped : (holds : logs.Contents → Type 0) (s t : Kept) {new : logs.Contents} (frames : ℕ)
+    → t ≡ with_moved s frames s.floor t.newest t.making new → t.making.blocks ≡ [] → holds new → HasStopped s holds t
+has_stopped holds s t frames is empty held =
+    (let x = has_moved holds s t {told = frames} is refl empty held in
+    record { frames = frames; is = x.is; empty = x.empty; log = x.log })
 
 -- ---- a flush before it
 
@@ -487,26 +510,17 @@ live_stay old new (Some n) left =
 
 pub moved_follows : (s : Kept) (frames floor : ℕ) (newest : List Place) (making : Filling) (log : logs.Contents) (new : Kept) → s.floor ≤ floor
     → new ≡ with_moved s frames floor newest making log → Continues s new
-moved_follows s frames floor newest making log new low is = record {
-  rings = ap (λ (k : Kept). k.rings) is;
-  start = ap (λ (k : Kept). k.start) is;
-  before = ap (λ (k : Kept). k.before) is;
-  edge = ap (λ (k : Kept). k.edge) is;
-  entries_more = [];
-  history = ap (λ (k : Kept). k.entries) is ∙ sym (append-nil s.entries);
-  cuts_more = replicate frames (length s.entries);
-  cuts = ap (λ (k : Kept). k.cuts) is;
-  appended = (let e = ap (λ (k : Kept). k.durable) is in omega arith);
-  floor = (let e = ap (λ (k : Kept). k.floor) is in omega arith);
-  book = ap (λ (k : Kept). k.versions.book) is;
-  batches_more = [];
-  published = ap (λ (k : Kept). k.versions.published) is ∙ sym (append-nil s.versions.published);
-}
+moved_follows s frames floor newest making log new low is =
+    subst (Continues s) (sym is) (grows_on s floor s.entries (s.cuts ++ replicate frames (length s.entries)) (s.durable + frames) s.filed newest making log s.versions
+    [] (replicate frames (length s.entries)) [] low (sym (append-nil s.entries)) refl (omega arith) refl (sym (append-nil s.versions.published)))
 
-pub move_follows : (s new : Kept) (r : Result Cleaned StoreFault) → s.floor ≤ s.durable → MoveLeaves s r new → Continues s new
-move_follows s new (Ok cleaned) low left =
-    moved_follows s cleaned.frames (s.durable + cleaned.frames) new.newest new.making new.log new (omega arith) left.is
-move_follows s new (Err fault) low left = moved_follows s left.2.frames s.floor new.newest new.making new.log new (omega arith) left.2.is
+pub gives_follows : {A : Type 0} (frames : A → ℕ) (done : logs.Contents → A → logs.Contents → Type 0)
+    (refuses : CleanFault → logs.Contents → logs.Contents → Type 0) (s new : Kept) (r : Result A StoreFault)
+    → s.floor ≤ s.durable → GivesUp frames done refuses s r new → Continues s new
+gives_follows frames done refuses s new (Ok x) low left =
+    moved_follows s (frames x) (s.durable + frames x) new.newest new.making new.log new (omega arith) left.is
+gives_follows frames done refuses s new (Err fault) low left =
+    moved_follows s left.2.frames s.floor new.newest new.making new.log new (omega arith) left.2.is
 
 refused_roster : (old new : logs.Contents) (fault : LogFault) → care.Refused fault old new → logs.roster new ≡ logs.roster old
 refused_roster old new log.NoMemory r = ap logs.roster r
@@ -544,24 +558,33 @@ pub continues_via : (old flushed begun new : Kept) → Follows old flushed → b
 continues_via old flushed begun new first same rest =
     continue_then old flushed new first.continues (subst (λ (s : Kept). Continues s new) same rest)
 
--- the floor is what is durable once a segment is given up
-pub move_floor : (old s new : Kept) (r : Result Cleaned StoreFault) → s.floor ≡ old.floor → MoveLeaves s r new → HasFloorBut old r new
-move_floor old s new (Ok cleaned) same left = ap (λ (k : Kept). k.floor) left.is ∙ sym (ap (λ (k : Kept). k.durable) left.is)
-move_floor old s new (Err fault) same left = ap (λ (k : Kept). k.floor) left.2.is ∙ same
+-- the floor is what is durable once segments are given up
+pub gives_floor : {A : Type 0} (frames : A → ℕ) (done : logs.Contents → A → logs.Contents → Type 0)
+    (refuses : CleanFault → logs.Contents → logs.Contents → Type 0) (old s new : Kept) (r : Result A StoreFault)
+    → s.floor ≡ old.floor → GivesUp frames done refuses s r new → HasFloorBut old r new
+gives_floor frames done refuses old s new (Ok x) same left = ap (λ (k : Kept). k.floor) left.is ∙ sym (ap (λ (k : Kept). k.durable) left.is)
+gives_floor frames done refuses old s new (Err fault) same left = ap (λ (k : Kept). k.floor) left.2.is ∙ same
 
 pub reserve_leaves : (old s new : Kept) → 2 ≤ length old.log.live → Emptied true old s → new ≡ s → CleanLeaves old (Err store.NoMemory) new
 reserve_leaves old s new two may same = inr (two, inr (s, may, inl (refl, same)))
 
-nothing_by : (s new : Kept) (cause : CleanFault) → 2 ≤ length s.log.live → store.NothingOld ≡ fault_of_clean cause → care.Refuses cause s.log new.log → ⊥
-nothing_by s new NothingOld two e r = (let few = r.1 in omega arith)
-nothing_by s new (Log log.NoMemory) two e r = cc
-nothing_by s new (Log log.BadConfig) two e r = cc
-nothing_by s new (Log log.NoSegment) two e r = cc
-nothing_by s new (Log (log.Device lease)) two e r = cc
-nothing_by s new (Log log.Failed) two e r = cc
-nothing_by s new (Log log.Spent) two e r = cc
-nothing_by s new (Log log.NoPage) two e r = cc
+log_never : (cause : LogFault) → store.NothingOld ≡ fault_of cause → ⊥
+log_never log.NoMemory e = cc
+log_never log.BadConfig e = cc
+log_never log.NoSegment e = cc
+log_never (log.Device lease) e = cc
+log_never log.Failed e = cc
+log_never log.Spent e = cc
+log_never log.NoPage e = cc
 
-pub not_nothing : (s new : Kept) (r : Result Cleaned StoreFault) → 2 ≤ length s.log.live → MoveLeaves s r new → r ≡ Err store.NothingOld → ⊥
-not_nothing s new (Ok cleaned) two left e = cc
-not_nothing s new (Err fault) two left e = (let same : fault ≡ store.NothingOld = cc in nothing_by s new left.0 two (sym same ∙ left.1) left.2.log)
+-- it is not refused so where there is something to give up
+pub not_nothing : {A : Type 0} (frames : A → ℕ) (done : logs.Contents → A → logs.Contents → Type 0)
+    (refuses : CleanFault → logs.Contents → logs.Contents → Type 0) (s new : Kept) (r : Result A StoreFault)
+    → (refuses NothingOld s.log new.log → ⊥) → GivesUp frames done refuses s r new → r ≡ Err store.NothingOld → ⊥
+not_nothing frames done refuses s new (Ok x) never left e = cc
+not_nothing frames done refuses s new (Err fault) never left e =
+    (let same : fault ≡ store.NothingOld = cc in by_cause left.0 (sym same ∙ left.1) left.2.log)
+  where
+    by_cause : (cause : CleanFault) → store.NothingOld ≡ fault_of_clean cause → refuses cause s.log new.log → ⊥
+    by_cause NothingOld is refused = never refused
+    by_cause (Log log_fault) is refused = log_never log_fault is

@@ -11,6 +11,7 @@ use Rattle.std.proofs.lemmas.List.Concat.{flat_map-append}
 use Rattle.bw_codec.specs.declared.leaf.Leaf.{Leaf}
 use Rattle.bw_codec.specs.Grammar.{IsBase}
 use Rattle.bw_page.specs.Leaves.{Bytes, Pairs, order, home, union, AreLeaves, AreNumbered, AtHome, empty_leaf, leaf_at}
+use Rattle.bw_page.specs.Shown.{Shown}
 use Rattle.bw_page.proofs.Order.{Below, order-total, apart, upto-refl, not_both}
 use Rattle.bw_page.proofs.Sorted.{all-map, Rises, ascends_rises}
 
@@ -120,6 +121,16 @@ few_pairs m (l ∷ ls) (suc i) le b =
     let rest = few_pairs m ls i le b.1 in
     let here = b.0.count in
     let both = length-append l.pairs (pairs_of (take i ls)) in
+    omega arith
+
+-- what was read of a page is what these leaves have there
+pub pairs_more : (was now : Shown) (before pairs more : ℕ) → now ≡ was → before < length was.leaves → pairs ≡ total was.leaves before
+    → more ≡ length (get_or now.leaves (before + 1 - 1) empty_leaf).pairs → pairs + more ≡ total was.leaves (before + 1)
+pairs_more was now before pairs more same lt so_far is =
+    let here = is ∙ ap (λ (f : Shown). length (get_or f.leaves (before + 1 - 1) empty_leaf).pairs) same in
+    let at : before + 1 - 1 ≡ before = omega arith in
+    let there = ap (λ k. length (get_or was.leaves k empty_leaf).pairs) at in
+    let step = total_more was.leaves before lt in
     omega arith
 
 pub total_few : (m : ℕ) (leaves : List Leaf) (i : ℕ) → m ≤ 32 → AreLeaves m leaves → total leaves i ≤ i * 32

@@ -44,6 +44,7 @@ use Rattle.bw_store.specs.Reading.{leaves_now, ReadLeaves, with_log}
 use Rattle.bw_store.specs.Share.{ops_at}
 use Rattle.bw_store.specs.Tails.{Tailed, tail_of, tail_for, makes, is_made, tails_for, tails_after}
 use Rattle.bw_page.specs.Words.{told_by, records_word, value_on}
+use Rattle.bw_page.specs.declared.words.Word.{Word}
 use Rattle.bw_page.proofs.Wording.{records_tell}
 use Rattle.bw_log.proofs.Valued.{page_rises}
 use Rattle.bw_log.proofs.Walked.{page_set}
@@ -104,6 +105,13 @@ module _ (s : Kept) (h : IsSound s) (p : ℕ) (from : 1 ≤ p) (within : p ≤ l
       let tells = records_tell k (ops_at p s.making.blocks) below.0 (page_rises s.log p below.0 h.log below.1) in
       ap (value_on k) (evicted_page below.0 below.1) ∙ tells.value
       ∙ ap (λ (w : Option Leaf). told_by (records_word k (ops_at p s.making.blocks)) (value_on k w)) (sym below.1)
+
+  -- the same by what its tail says
+  pub told_value : (k : Bytes) (tail : List Record) (word : Word) → tail ≡ ops_at p s.making.blocks → word ≡ records_word k tail
+      → told_by word (value_on k (content p (blocks_of (logs.counted s.log)))) ≡ value_on k (leaf_at p s.filed.leaves)
+  told_value k tail word is said =
+      ap (λ (w : Word). told_by w (value_on k (content p (blocks_of (logs.counted s.log))))) (said ∙ ap (records_word k) is)
+      ∙ sym (evicted_value k)
 
 -- ---- where a page is
 
@@ -231,6 +239,13 @@ read_refused A reads old new (log.Device lease) stops there = stops
 read_refused A reads old new log.Failed stops there = absurd stops
 read_refused A reads old new log.Spent stops there = (ap (with_log old) stops.0, stops.1)
 read_refused A reads old new log.NoPage stops there = absurd (there refl)
+
+-- a page that is evicted is the log's
+pub evicted_refused : (s : Kept) → IsSound s → (p : ℕ) → 1 ≤ p → p ≤ length s.filed.leaves → is_made p s.making.blocks ≡ false
+    → (A : Type 0) (reads : ℕ → Type 0) (new : logs.Contents) (fault : LogFault) → StopsAt reads s.log fault new
+    → (fault ≡ log.NoPage → IsPage s.log p → ⊥) → ReadLeaves {A = A} reads s (Err (fault_of fault)) (with_log s new)
+evicted_refused s h p from within apart A reads new fault stops none =
+    read_refused A reads s new fault stops (λ e. none e (on_log s h p from within apart))
 
 -- ---- the pages that the frame in the making touches
 

@@ -5,14 +5,16 @@ use Rattle.std.proofs.Common.{◌∙◌, subst}
 use Rattle.std.proofs.Common.{append_assoc, append-nil, arith, length-append}
 use Rattle.std.specs.Prelude.{nat_le}
 use Rattle.std.proofs.lemmas.Bool.{leb-true, leb-false}
+use Rattle.bw_codec.specs.declared.block.Place.{Place}
 use Rattle.bw_buffer.specs.Filling.{Filling}
 use Rattle.bw_log.specs.Contents.{roster}
 use Rattle.bw_log.specs.Contents as logs
 use Rattle.bw_log.specs.Appends.{IsSameLog}
 use Rattle.bw_versions.specs.Batches.{BatchData}
+use Rattle.bw_versions.specs.Versioned.{Versioned}
 use Rattle.bw_versions.specs.declared.entry.Entry.{Entry}
 use Rattle.bw_store.specs.declared.fault.StoreFault.{StoreFault}
-use Rattle.bw_store.specs.Kept.{Kept, with_frame, with_stop}
+use Rattle.bw_store.specs.Kept.{Filed, Kept, with_frame, with_stop}
 use Rattle.bw_store.specs.Taken.{taken, taken_all}
 use Rattle.bw_codec.specs.declared.record.Record.{Record}
 use Rattle.bw_ring.specs.declared.lane.Lane.{Lane}
@@ -26,6 +28,47 @@ use Rattle.bw_ring.specs.Marks.{Marked, marked}
 use Rattle.bw_store.specs.Fitting.{back_for}
 use Rattle.bw_store.specs.History.{entered, ends_in}
 use Rattle.bw_store.proofs.Grouped.{ends_more, ends_one, length_marked}
+
+-- what no call takes back, where these entries, cuts and batches are added
+pub grows_on : (s : Kept) (floor : ℕ) (entries : List Entry) (cuts : List ℕ) (durable : ℕ) (filed : Filed) (newest : List Place) (making : Filling)
+    (log : logs.Contents) (versions : Versioned) (entries_more : List Entry) (cuts_more : List ℕ) (batches_more : List BatchData)
+    → s.floor ≤ floor → entries ≡ s.entries ++ entries_more → cuts ≡ s.cuts ++ cuts_more → s.durable ≤ durable
+    → versions.book ≡ s.versions.book → versions.published ≡ s.versions.published ++ batches_more
+    → Continues s (record s {
+      floor = floor;
+      entries = entries;
+      cuts = cuts;
+      durable = durable;
+      filed = filed;
+      newest = newest;
+      making = making;
+      log = log;
+      versions = versions;
+    })
+grows_on s floor entries cuts durable filed newest making log versions entries_more cuts_more batches_more low history cut risen book published = record {
+  rings = refl;
+  start = refl;
+  before = refl;
+  edge = refl;
+  entries_more = entries_more;
+  history = history;
+  cuts_more = cuts_more;
+  cuts = cut;
+  appended = risen;
+  floor = low;
+  book = book;
+  batches_more = batches_more;
+  published = published;
+}
+
+-- no record more and no cut: the log may have changed, and what readers see may have grown
+pub stays_on : (s : Kept) (log : logs.Contents) (versions : Versioned) (more : List BatchData) → versions.book ≡ s.versions.book
+    → versions.published ≡ s.versions.published ++ more → Follows s (record s { log = log; versions = versions })
+stays_on s log versions more book grows = record {
+  continues = grows_on s s.floor s.entries s.cuts s.durable s.filed s.newest s.making log versions [] [] more
+      (omega arith) (sym (append-nil s.entries)) (sym (append-nil s.cuts)) (omega arith) book grows;
+  floor = refl;
+}
 
 pub follows_as : (old new : Kept) → new ≡ old → Turned 0 old new
 follows_as old new e = record {
@@ -96,21 +139,8 @@ cut_turned : (old : Kept) (durable : ℕ) (making : Filling) (log : logs.Content
     → Turned 0 old (record old { cuts = old.cuts ++ length old.entries ∷ []; durable = durable; making = making; log = log })
 cut_turned old durable making log risen same = record {
   follows = record {
-    continues = record {
-      rings = refl;
-      start = refl;
-      before = refl;
-      edge = refl;
-      floor = omega arith;
-      entries_more = [];
-      history = sym (append-nil old.entries);
-      cuts_more = length old.entries ∷ [];
-      cuts = refl;
-      appended = risen;
-      book = refl;
-      batches_more = [];
-      published = sym (append-nil old.versions.published);
-    };
+    continues = grows_on old old.floor old.entries (old.cuts ++ length old.entries ∷ []) durable old.filed old.newest making log old.versions
+        [] (length old.entries ∷ []) [] (omega arith) (sym (append-nil old.entries)) refl risen refl (sym (append-nil old.versions.published));
     floor = refl;
   };
   boxes = record { same = same.leases };
@@ -140,21 +170,9 @@ all_turned s lane (m ∷ ms) =
     let now = taken s lane m (back_for s m.item) in
     let step : Turned 1 s now = record {
       follows = record {
-        continues = record {
-          rings = refl;
-          start = refl;
-          before = refl;
-          edge = refl;
-          floor = omega arith;
-          entries_more = record { writer = lane; more = m.more; item = m.item } ∷ [];
-          history = refl;
-          cuts_more = [];
-          cuts = sym (append-nil s.cuts);
-          appended = omega arith;
-          book = refl;
-          batches_more = [];
-          published = sym (append-nil s.versions.published);
-        };
+        continues = grows_on s s.floor now.entries s.cuts s.durable now.filed now.newest now.making s.log s.versions
+            (record { writer = lane; more = m.more; item = m.item } ∷ []) [] []
+            (omega arith) refl (sym (append-nil s.cuts)) (omega arith) refl (sym (append-nil s.versions.published));
         floor = refl;
       };
       boxes = record { same = refl };
@@ -177,29 +195,16 @@ follows_took lane old new t =
 pub follows_read : (old new : Kept) → HasRead old new → Turned 0 old new
 follows_read old new r =
     (let step : Turned 0 old (with_log old new.log) = record {
-      follows = record {
-        continues = record {
-          rings = refl;
-          start = refl;
-          before = refl;
-          edge = refl;
-          floor = omega arith;
-          entries_more = [];
-          history = sym (append-nil old.entries);
-          cuts_more = [];
-          cuts = sym (append-nil old.cuts);
-          appended = omega arith;
-          book = refl;
-          batches_more = [];
-          published = sym (append-nil old.versions.published);
-        };
-        floor = refl;
-      };
+      follows = stays_on old new.log old.versions [] refl (sym (append-nil old.versions.published));
       boxes = record { same = r.kept.leases };
       grew = omega arith;
       quiet = refl;
     } in
     follows_then old (with_log old new.log) new step (follows_as (with_log old new.log) new r.is))
+
+-- a read behind steps that left all as it was
+pub read_follows : (s t new : Kept) → t ≡ s → HasRead t new → Follows s new
+read_follows s t new same read = (follows_read s new (subst (λ (k : Kept). HasRead k new) same read)).follows
 
 -- a flush, whatever its answer
 pub follows_left : (old new : Kept) (r : Result (Option ℕ) StoreFault) → FlushLeaves old r new → Turned 0 old new

@@ -213,6 +213,14 @@ ends_at {X} {Y} {R} f g (a ∷ xs) (b ∷ ys) (suc i) x y e lt is_x is_y =
 pub as_many : {X Y R : Type 0} (f : X → R) (g : Y → R) (xs : List X) (ys : List Y) → map f xs ≡ map g ys → length xs ≡ length ys
 as_many f g xs ys e = sym (length-map xs f) ∙ ap length e ∙ length-map ys g
 
+-- ends that belong together are as many, also after a look
+pub as_long : (lanes now : List Lane) (feeds : List Feed) → map ring_of_feed feeds ≡ map ring_of_lane lanes → length now ≡ length lanes
+    → (length now ≡ length lanes) × (length (map given now) ≡ length now) × (length feeds ≡ length lanes)
+as_long lanes now feeds ends same = (same, length-map now given, as_many ring_of_feed ring_of_lane feeds lanes ends)
+
+pub inside_too : {X Y R : Type 0} (f : X → R) (g : Y → R) (xs : List X) (ys : List Y) (i : ℕ) → map f xs ≡ map g ys → i < length ys → i < length xs
+inside_too f g xs ys i e lt = (let many = as_many f g xs ys e in omega arith)
+
 pub look_given : (ls : List Lane) (fs : List Feed) (i : ℕ) (l : Lane) (f : Feed) → i < length fs → f ≡ get_or fs i f → given l ≡ accepted f
     → map given (set ls i l) ≡ set (map given ls) i (get_or (map accepted fs) i [])
 look_given ls fs i l f lt is e =

@@ -21,6 +21,7 @@ use Rattle.bw_store.specs.Reading.{with_log}
 use Rattle.bw_store.specs.declared.edge.Edge.{Edge}
 use Rattle.bw_store.specs.Edges.{IsBegun}
 use Rattle.bw_store.proofs.Edging.{begun_on}
+use Rattle.bw_store.proofs.FollowMore.{stays_on}
 
 -- a log that counts the same frames
 pub record CountsAs (old new : logs.Contents) : Type 0 where
@@ -95,50 +96,21 @@ log_sound s new h c = record {
 }
 
 pub log_follows : (s : Kept) (new : logs.Contents) → Follows s (with_log s new)
-log_follows s new = record {
-  continues = record {
-    rings = refl;
-    start = refl;
-    before = refl;
-    edge = refl;
-    entries_more = [];
-    history = sym (append-nil s.entries);
-    cuts_more = [];
-    cuts = sym (append-nil s.cuts);
-    appended = omega arith;
-    floor = omega arith;
-    book = refl;
-    batches_more = [];
-    published = sym (append-nil s.versions.published);
-  };
-  floor = refl;
-}
+log_follows s new = stays_on s new s.versions [] refl (sym (append-nil s.versions.published))
+
+-- a log that differs from such a one in nothing
+counts_via : (old then_log new : logs.Contents) → logs.IsSound new → new ≡ then_log → (logs.IsSound then_log → CountsAs old then_log) → CountsAs old new
+counts_via old then_log new sound is counts = subst (CountsAs old) (sym is) (counts (subst logs.IsSound is sound))
 
 -- a log whose current segment was closed
 pub rolled_counts : (old new : logs.Contents) → logs.IsSound new → new ≡ record old { is_open = false } → CountsAs old new
-rolled_counts old new sound is = record {
-  sound = sound;
-  m = ap (λ (c : logs.Contents). c.m) is;
-  f = ap (λ (c : logs.Contents). c.f) is;
-  next = ap (λ (c : logs.Contents). c.next) is;
-  failed = ap (λ (c : logs.Contents). c.is_failed) is;
-  frames = ap (λ (c : logs.Contents). logs.counted c) is;
-  bytes = ap (λ (c : logs.Contents). (logs.image c).bytes) is;
-  begun = λ edge was. subst (IsBegun edge) (sym is) was;
-}
+rolled_counts old new sound is = counts_via old (record old { is_open = false }) new sound is
+    (λ x. record { sound = x; m = refl; f = refl; next = refl; failed = refl; frames = refl; bytes = refl; begun = λ edge was. was })
 
 -- a log with one more spare
 pub added_counts : (old new : logs.Contents) (box : Holding) → logs.IsSound new → new ≡ record old { spares = old.spares ++ box ∷ [] } → CountsAs old new
-added_counts old new box sound is = record {
-  sound = sound;
-  m = ap (λ (c : logs.Contents). c.m) is;
-  f = ap (λ (c : logs.Contents). c.f) is;
-  next = ap (λ (c : logs.Contents). c.next) is;
-  failed = ap (λ (c : logs.Contents). c.is_failed) is;
-  frames = ap (λ (c : logs.Contents). logs.counted c) is;
-  bytes = ap (λ (c : logs.Contents). (logs.image c).bytes) is;
-  begun = λ edge was. subst (IsBegun edge) (sym is) was;
-}
+added_counts old new box sound is = counts_via old (record old { spares = old.spares ++ box ∷ [] }) new sound is
+    (λ x. record { sound = x; m = refl; f = refl; next = refl; failed = refl; frames = refl; bytes = refl; begun = λ edge was. was })
 
 -- the store tells a bad box where the log does, and nowhere else
 pub only_bad : (fault : LogFault) → fault_of fault ≡ BadConfig → fault ≡ log.BadConfig

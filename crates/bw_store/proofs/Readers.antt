@@ -100,9 +100,9 @@ batches_are s new h same =
     ap (λ (ls : List Leaf). record s { start = ls; versions = new }) (ap (λ (l : Shown). l.leaves) (same.0 ∙ h.start))
     ∙ ap (λ (v : Versioned). record s { versions = v }) (same_readers s.versions new same)
 
-batched_sound : (s : Kept) (published entered : List BatchData) → IsSound s → IsPrefix (entries_of entered) (upto s.cuts s.entries s.durable)
-    → EndAtCuts s entered → IsSound (with_batches s published entered)
-batched_sound s published entered h begins ends = record {
+-- what readers have may change, if it stays a beginning of what is durable
+shown_sound : (s : Kept) (versions : Versioned) → IsSound s → AreVersions (record s { versions = versions }) → IsSound (record s { versions = versions })
+shown_sound s versions h shown = record {
   log = h.log;
   pairs = h.pairs;
   limit = h.limit;
@@ -121,37 +121,20 @@ batched_sound s published entered h begins ends = record {
   stands = h.stands;
   shares = h.shares;
   tells = h.tells;
-  shown = record { start = h.shown.start; begins = begins; ends = ends };
+  shown = record { start = shown.start; begins = shown.begins; ends = shown.ends };
   edged = h.edged;
   begun = h.begun;
   left = h.left;
 }
 
+batched_sound : (s : Kept) (published entered : List BatchData) → IsSound s → IsPrefix (entries_of entered) (upto s.cuts s.entries s.durable)
+    → EndAtCuts s entered → IsSound (with_batches s published entered)
+batched_sound s published entered h begins ends =
+    shown_sound s (record s.versions { published = published; entered = entered }) h (record { start = h.shown.start; begins = begins; ends = ends })
+
 placed_sound : (s : Kept) (places : ℕ) → IsSound s → IsSound (with_places s places)
-placed_sound s places h = record {
-  log = h.log;
-  pairs = h.pairs;
-  limit = h.limit;
-  leaves = h.leaves;
-  mapped = h.mapped;
-  ops = h.ops;
-  writers = h.writers;
-  grown = h.grown;
-  next = h.next;
-  last = h.last;
-  number = h.number;
-  sealed = h.sealed;
-  ordered = h.ordered;
-  beyond = h.beyond;
-  floor = h.floor;
-  stands = h.stands;
-  shares = h.shares;
-  tells = h.tells;
-  shown = record { start = h.shown.start; begins = h.shown.begins; ends = h.shown.ends };
-  edged = h.edged;
-  begun = h.begun;
-  left = h.left;
-}
+placed_sound s places h =
+    shown_sound s (record s.versions { places = places }) h (record { start = h.shown.start; begins = h.shown.begins; ends = h.shown.ends })
 
 -- a reader more has one place less
 pub places_are : (s : Kept) (new : Versioned) → AreVersions s → new ≡ record s.versions { places = new.places }

@@ -22,10 +22,9 @@ use Rattle.bw_store.specs.Emptied.{Emptied}
 use Rattle.bw_store.specs.Faults.{fault_of, FlushLeaves}
 use Rattle.bw_store.specs.Following.{Follows, HasBoxes}
 use Rattle.bw_store.specs.Kept.{Kept, IsSound}
-use Rattle.bw_store.specs.Rewriting.{are_pages, RewriteMoves, RewriteLeaves, RewriteShows}
+use Rattle.bw_store.specs.Rewriting.{are_pages, RewriteMoves, RewriteLeaves}
 use Rattle.bw_store.specs.Settled.{IsSettled}
-use Rattle.bw_store.specs.Showing.{Shows, Hides}
-use Rattle.bw_store.proofs.CleanedMore.{Begins, Cleans, moved_cleans, moved_follows, refused_cleans, stopped_roster}
+use Rattle.bw_store.proofs.CleanedMore.{Begins, Cleans, StandsOn, moved_cleans, moved_follows, refused_cleans, stopped_roster}
 use Rattle.bw_store.proofs.FramesBehind.{pages_counted}
 
 -- ---- the pages are there
@@ -63,7 +62,7 @@ held_of s ps cause new b (inr stopped) = stopped.1
 
 pub rewrites_of : (s : Kept) (ps : List ℕ) (new : logs.Contents) (r : Result ℕ LogFault) → Begins s → logs.IsSound new
     → IfOk r (λ frames. care.MovedBehind 0 s.log new ps [] frames) → IfErr r (λ cause. rewrites.RefusesRewrite cause s.log ps new)
-    → ((leaves : List Leaf) → Stand s.log.m (logs.counted s.log) leaves → Stand s.log.m (logs.counted new) leaves) → Cleans s (length ps) new
+    → StandsOn s new → Cleans s (length ps) new
 rewrites_of s ps new (Ok frames) b sound ok err stands = moved_cleans s 0 ps frames (length ps) new b sound (omega arith) ok stands
 rewrites_of s ps new (Err cause) b sound ok err stands =
     refused_cleans s 0 ps cause (length ps) new b sound (omega arith) (held_of s ps cause new b err) stands
@@ -113,13 +112,3 @@ pub never_no_page : (s new : Kept) (ps : List ℕ) (r : Result ℕ StoreFault) �
 never_no_page s new ps (Ok frames) left e = cc
 never_no_page s new ps (Err fault) left e =
     (let same : fault ≡ store.NoPage = cc in never_by s new ps left.0 (sym same ∙ left.1) left.2.log)
-
--- ---- and a publication behind it
-
-pub rewrite_shows : (old middle new : Kept) (ps : List ℕ) (frames : ℕ) → RewriteLeaves old ps (Ok frames) middle → Shows middle new
-    → RewriteShows old ps (Ok frames) new
-rewrite_shows old middle new ps frames left x = (middle, left, x)
-
-pub rewrite_hides : (old middle new : Kept) (ps : List ℕ) (frames : ℕ) → RewriteLeaves old ps (Ok frames) middle → Hides middle new
-    → RewriteShows old ps (Err store.NoMemory) new
-rewrite_hides old middle new ps frames left x = inr (refl, (middle, (frames, left), x))

@@ -5,60 +5,27 @@ use Rattle.bw_log.specs.Contents.{roster}
 use Rattle.bw_versions.specs.Batches.{BatchData}
 use Rattle.bw_versions.specs.Versioned.{Versioned}
 use Rattle.bw_store.specs.Kept.{Kept, IsSound, start_of, with_batches}
-use Rattle.bw_care.specs.declared.cleaner.Cleaned.{Cleaned}
 use Rattle.bw_versions.specs.Posted.{posted_of}
 use Rattle.bw_store.specs.declared.fault.StoreFault.{StoreFault}
 use Rattle.bw_store.specs.declared.fault.StoreFault.TheVariants.{NoMemory}
 use Rattle.bw_store.specs.Settled.{IsSettled, IsAllCut}
 use Rattle.bw_store.specs.Faults.{FlushAnswers, FlushLeaves, flush_refusal}
-use Rattle.bw_store.specs.Cleaning.{CleanLeaves, HasBoxesBut, HasFloorBut}
+use Rattle.bw_store.specs.Cleaning.{HasBoxesBut, HasFloorBut}
 use Rattle.bw_store.specs.Following.{Continues, Follows, TookSome}
-use Rattle.bw_store.specs.Showing.{CleanShows, FlushShows, HasFloorAfter, Hides, Settles, SettleRefuses, Shows, with_places}
+use Rattle.bw_store.specs.Showing.{FlushShows, HasFloorAfter, Hides, Settles, SettleRefuses, Shows, with_places}
 use Rattle.bw_ring.specs.declared.lane.Lane.{Lane}
-use Rattle.bw_store.proofs.FollowMore.{continue_then, follow_then}
+use Rattle.bw_store.proofs.FollowMore.{continue_then, follow_then, stays_on}
 use Rattle.bw_store.proofs.SettledMore.{settled_by}
 use Rattle.bw_store.proofs.Readers.{places_are, with_versions}
 
 batched_follows : (s : Kept) (published entered more : List BatchData) → published ≡ s.versions.published ++ more
     → Follows s (with_batches s published entered)
-batched_follows s published entered more grows = record {
-  continues = record {
-    rings = refl;
-    start = refl;
-    before = refl;
-    edge = refl;
-    entries_more = [];
-    history = sym (append-nil s.entries);
-    cuts_more = [];
-    cuts = sym (append-nil s.cuts);
-    appended = omega arith;
-    floor = omega arith;
-    book = refl;
-    batches_more = more;
-    published = grows;
-  };
-  floor = refl;
-}
+batched_follows s published entered more grows =
+    stays_on s s.log (record s.versions { published = published; entered = entered }) more refl grows
 
 placed_follows : (s : Kept) (places : ℕ) → Follows s (with_places s places)
-placed_follows s places = record {
-  continues = record {
-    rings = refl;
-    start = refl;
-    before = refl;
-    edge = refl;
-    entries_more = [];
-    history = sym (append-nil s.entries);
-    cuts_more = [];
-    cuts = sym (append-nil s.cuts);
-    appended = omega arith;
-    floor = omega arith;
-    book = refl;
-    batches_more = [];
-    published = sym (append-nil s.versions.published);
-  };
-  floor = refl;
-}
+placed_follows s places =
+    stays_on s s.log (record s.versions { places = places }) [] refl (sym (append-nil s.versions.published))
 
 pub reader_follows : (s : Kept) (new : Versioned) → IsSound s → new ≡ record s.versions { places = new.places } → Follows s (with_versions s new)
 reader_follows s new h same = subst (Follows s) (sym (places_are s new h.shown same)) (placed_follows s new.places)
@@ -143,13 +110,6 @@ shows_all middle new all x =
     ∙ ap (λ c. Some (record { start = start_of middle; entries = take c middle.entries })) all.1
     ∙ ap (λ es. Some (record { start = start_of middle; entries = es })) (take_all (length middle.entries) middle.entries (omega arith))
     ∙ sym (ap (λ (s : Kept). Some (record { start = start_of s; entries = s.entries })) x.is)
-
-pub clean_shows : (old middle new : Kept) (cleaned : Cleaned) → CleanLeaves old (Ok cleaned) middle → Shows middle new → CleanShows old (Ok cleaned) new
-clean_shows old middle new cleaned left x = (middle, left, x)
-
-pub clean_hides : (old middle new : Kept) (cleaned : Cleaned) → CleanLeaves old (Ok cleaned) middle → Hides middle new
-    → CleanShows old (Err NoMemory) new
-clean_hides old middle new cleaned left x = inr (refl, (middle, (cleaned, left), x))
 
 pub settle_done : (middle flushed new : Kept) (o : Option ℕ) → IsSound flushed → FlushAnswers (flush_refusal middle) (Ok o) → FlushLeaves middle (Ok o) flushed
     → Shows flushed new → IsSettled new

@@ -1,10 +1,8 @@
 -- What the answer of an upgrade says of the store.
 
-use Rattle.std.proofs.Common.{inl, inr, ◌≡◌, ℕ, ◌+◌, ◌≤◌, true, Option, Some, None, Result, Ok, Err, List, ◌++◌}
+use Rattle.std.proofs.Common.{inl, inr, ◌≡◌, ℕ, ◌≤◌, true, Option, Some, None, Result, Ok, Err, ◌++◌}
 use Rattle.std.proofs.Common.{length, drop, refl, sym, ap, ◌∙◌, arith}
 use Rattle.std.specs.Prelude.{IfOk, IfErr}
-use Rattle.bw_codec.specs.declared.leaf.Leaf.{Leaf}
-use Rattle.bw_page.specs.Standing.{Stand}
 use Rattle.bw_log.specs.Contents as logs
 use Rattle.bw_log.specs.declared.fault.LogFault.{LogFault}
 use Rattle.bw_log.specs.declared.fault.LogFault.TheVariants as log
@@ -17,14 +15,12 @@ use Rattle.bw_care.specs.declared.fault.CleanFault.{CleanFault}
 use Rattle.bw_care.specs.declared.fault.CleanFault.TheVariants.{NothingOld, Log}
 use Rattle.bw_store.specs.declared.fault.StoreFault.{StoreFault}
 use Rattle.bw_store.specs.declared.fault.StoreFault.TheVariants as store
-use Rattle.bw_store.specs.Cleaning.{fault_of_clean, HasBoxesBut, HasFloorBut}
+use Rattle.bw_store.specs.Cleaning.{HasBoxesBut}
 use Rattle.bw_store.specs.Emptied.{Emptied}
 use Rattle.bw_store.specs.Faults.{FlushLeaves}
-use Rattle.bw_store.specs.Following.{Continues}
 use Rattle.bw_store.specs.Kept.{Kept}
-use Rattle.bw_store.specs.Upgrading.{UpgradeMoves, UpgradeLeaves, UpgradeShows}
-use Rattle.bw_store.specs.Showing.{Shows, Hides}
-use Rattle.bw_store.proofs.CleanedMore.{Begins, Cleans, GaveUp, few_upto, given_cleans, given_told, moved_follows, refused_cleans, refused_counts, stopped_roster}
+use Rattle.bw_store.specs.Upgrading.{UpgradeMoves, UpgradeLeaves}
+use Rattle.bw_store.proofs.CleanedMore.{Begins, Cleans, GaveUp, StandsOn, few_upto, given_cleans, given_told, refused_cleans, refused_counts, stopped_roster}
 
 -- ---- the log behind it
 
@@ -38,14 +34,14 @@ gave_up_old s upgraded new b x = record {
 }
 
 pub upgraded_cleans : (s : Kept) (upgraded : Upgraded) (new : logs.Contents) → Begins s → logs.IsSound new → upgrades.IsUpgraded s.log upgraded new
-    → ((leaves : List Leaf) → Stand s.log.m (logs.counted s.log) leaves → Stand s.log.m (logs.counted new) leaves) → Cleans s (length s.log.pages) new
+    → StandsOn s new → Cleans s (length s.log.pages) new
 upgraded_cleans s upgraded new b sound x stands =
     given_cleans s (last_of_old s.log) (pages_of_old s.log) upgraded.frames (old_segments s.log) (count_in (old_segments s.log) x.then_log.live) (length s.log.pages)
     x.then_log new b sound (few_upto s (last_of_old s.log)) x.moved (gave_up_old s upgraded new b x) stands
 
 pub upgraded_told : (s : Kept) (upgraded : Upgraded) (new : logs.Contents) (b : Begins s) (sound : logs.IsSound new)
     (x : upgrades.IsUpgraded s.log upgraded new)
-    (stands : (leaves : List Leaf) → Stand s.log.m (logs.counted s.log) leaves → Stand s.log.m (logs.counted new) leaves)
+    (stands : StandsOn s new)
     → length (upgraded_cleans s upgraded new b sound x stands).written ≡ upgraded.frames
 unfolding upgraded_cleans
 upgraded_told s upgraded new b sound x stands =
@@ -68,12 +64,12 @@ halted_of s (Log log.Spent) new b some r = (log.Spent, r.stopped)
 halted_of s (Log log.NoPage) new b some r = absurd r
 
 pub halted_cleans : (s : Kept) (fault : LogFault) (new : logs.Contents) → Begins s → logs.IsSound new → Halted s fault new
-    → ((leaves : List Leaf) → Stand s.log.m (logs.counted s.log) leaves → Stand s.log.m (logs.counted new) leaves) → Cleans s (length s.log.pages) new
+    → StandsOn s new → Cleans s (length s.log.pages) new
 halted_cleans s fault new b sound x stands =
     refused_cleans s (last_of_old s.log) (pages_of_old s.log) fault (length s.log.pages) new b sound (few_upto s (last_of_old s.log)) x stands
 
 pub halted_counts : (s : Kept) (fault : LogFault) (new : logs.Contents) (b : Begins s) (sound : logs.IsSound new) (x : Halted s fault new)
-    (stands : (leaves : List Leaf) → Stand s.log.m (logs.counted s.log) leaves → Stand s.log.m (logs.counted new) leaves)
+    (stands : StandsOn s new)
     → logs.counted new ≡ logs.counted s.log ++ (halted_cleans s fault new b sound x stands).written
 unfolding halted_cleans
 halted_counts s fault new b sound x stands =
@@ -81,17 +77,12 @@ halted_counts s fault new b sound x stands =
 
 pub upgrades_of : (s : Kept) (new : logs.Contents) (r : Result Upgraded CleanFault) → Begins s → 1 ≤ old_segments s.log → logs.IsSound new
     → IfOk r (λ upgraded. upgrades.IsUpgraded s.log upgraded new) → IfErr r (λ cause. upgrades.RefusesUpgrade cause s.log new)
-    → ((leaves : List Leaf) → Stand s.log.m (logs.counted s.log) leaves → Stand s.log.m (logs.counted new) leaves) → Cleans s (length s.log.pages) new
+    → StandsOn s new → Cleans s (length s.log.pages) new
 upgrades_of s new (Ok upgraded) b some sound ok err stands = upgraded_cleans s upgraded new b sound ok stands
 upgrades_of s new (Err cause) b some sound ok err stands =
     (let x = halted_of s cause new b some err in halted_cleans s x.0 new b sound x.1 stands)
 
 -- ---- what no upgrade takes back
-
-pub upgrade_follows : (s new : Kept) (r : Result Upgraded StoreFault) → s.floor ≤ s.durable → UpgradeMoves s r new → Continues s new
-upgrade_follows s new (Ok upgraded) low left =
-    moved_follows s upgraded.frames (s.durable + upgraded.frames) new.newest new.making new.log new (omega arith) left.is
-upgrade_follows s new (Err fault) low left = moved_follows s left.2.frames s.floor new.newest new.making new.log new (omega arith) left.2.is
 
 cause_roster : (old new : logs.Contents) (cause : CleanFault) → upgrades.RefusesUpgrade cause old new → logs.roster new ≡ logs.roster old
 cause_roster old new NothingOld r = ap logs.roster r.0
@@ -116,28 +107,8 @@ pub upgrade_leaves : (old s new : Kept) (r : Result Upgraded StoreFault) → 1 �
 upgrade_leaves old s new (Ok upgraded) some may left = (some, (s, may, left))
 upgrade_leaves old s new (Err fault) some may left = inr (some, inr (s, may, inr left))
 
-pub upgrade_floor : (old s new : Kept) (r : Result Upgraded StoreFault) → s.floor ≡ old.floor → UpgradeMoves s r new → HasFloorBut old r new
-upgrade_floor old s new (Ok upgraded) same left = ap (λ (k : Kept). k.floor) left.is ∙ sym (ap (λ (k : Kept). k.durable) left.is)
-upgrade_floor old s new (Err fault) same left = ap (λ (k : Kept). k.floor) left.2.is ∙ same
-
 pub reserve_halts : (old s new : Kept) → 1 ≤ old_segments old.log → Emptied true old s → new ≡ s → UpgradeLeaves old (Err store.NoMemory) new
 reserve_halts old s new some may same = inr (some, inr (s, may, inl (refl, same)))
-
-nothing_by : (s new : Kept) (cause : CleanFault) → 1 ≤ old_segments s.log → store.NothingOld ≡ fault_of_clean cause
-    → upgrades.RefusesUpgrade cause s.log new.log → ⊥
-nothing_by s new NothingOld some e r = (let none = r.1 in omega arith)
-nothing_by s new (Log log.NoMemory) some e r = cc
-nothing_by s new (Log log.BadConfig) some e r = cc
-nothing_by s new (Log log.NoSegment) some e r = cc
-nothing_by s new (Log (log.Device lease)) some e r = cc
-nothing_by s new (Log log.Failed) some e r = cc
-nothing_by s new (Log log.Spent) some e r = cc
-nothing_by s new (Log log.NoPage) some e r = cc
-
-pub never_nothing_old : (s new : Kept) (r : Result Upgraded StoreFault) → 1 ≤ old_segments s.log → UpgradeMoves s r new → r ≡ Err store.NothingOld → ⊥
-never_nothing_old s new (Ok upgraded) some left e = cc
-never_nothing_old s new (Err fault) some left e =
-    (let same : fault ≡ store.NothingOld = cc in nothing_by s new left.0 some (sym same ∙ left.1) left.2.log)
 
 -- ---- a flush before it leaves the segments of version 1
 
@@ -151,13 +122,3 @@ old_stay old new (Some n) a b left =
     let one = old_are old.log a in
     let two = old_are new.log b in
     omega arith
-
--- ---- and a publication behind it
-
-pub upgrade_shows : (old middle new : Kept) (upgraded : Upgraded) → UpgradeLeaves old (Ok upgraded) middle → Shows middle new
-    → UpgradeShows old (Ok upgraded) new
-upgrade_shows old middle new upgraded left x = (middle, left, x)
-
-pub upgrade_hides : (old middle new : Kept) (upgraded : Upgraded) → UpgradeLeaves old (Ok upgraded) middle → Hides middle new
-    → UpgradeShows old (Err store.NoMemory) new
-upgrade_hides old middle new upgraded left x = inr (refl, (middle, (upgraded, left), x))

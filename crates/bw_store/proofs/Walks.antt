@@ -1,13 +1,13 @@
 -- A walk from page to page finds the first pair of the map at or above a key.
 
-use Rattle.std.proofs.Common.{◌≡◌, ℕ, ◌≤◌, ◌<◌, true, false, if◌then◌else◌, Option, Some, None, Err, [], length, sym, ap, ◌∙◌, subst}
+use Rattle.std.proofs.Common.{◌≡◌, ℕ, ◌≤◌, ◌<◌, true, false, if◌then◌else◌, Option, Some, None, Err, [], length, sym, ap, ◌∙◌, subst, arith}
 use Rattle.std.specs.Prelude.{is_some}
 use Rattle.bw_codec.specs.declared.leaf.Leaf.{Leaf}
 use Rattle.bw_log.specs.Reads.{HoldsPage}
-use Rattle.bw_page.specs.Ahead.{IsFirst, IsFirstPair, HasNoPair, HasCome, pair_above, HasNoLowAbove, IsNextLow, IsStretch, HasGone, pairs_above, with_some}
+use Rattle.bw_page.specs.Ahead.{IsFirst, IsFirstPair, HasNoPair, HasCome, pair_above, HasNoLowAbove, IsNextLow, IsStretch, HasGone, ahead, pairs_above, with_some}
 use Rattle.bw_page.specs.Leaves.{Bytes, Pairs, Map, home, leaf_at, plain, union}
 use Rattle.bw_page.specs.Shown.{Shown, is_evicted_page, leaf_here}
-use Rattle.bw_page.proofs.Ahead.{come_first, come_found, come_further, come_last}
+use Rattle.bw_page.proofs.Ahead.{ahead_less, come_first, come_found, come_further, come_last}
 use Rattle.bw_page.proofs.PageByPage.{home_there}
 use Rattle.bw_page.proofs.Stretch.{gone_first, gone_more, gone_last, gone_full}
 use Rattle.bw_store.specs.declared.fault.StoreFault.{StoreFault}
@@ -19,6 +19,13 @@ use Rattle.bw_store.specs.Reading.{HasRead, ReadLeaves, WalkLeaves}
 -- the map of the history
 abbrev pub map_of : Kept → Map
 map_of s = plain s.start (records s.entries)
+
+-- fewer pages lie ahead of the next low
+pub fewer_ahead : (from low : Bytes) (was now : Shown) → now ≡ was → IsNextLow now.leaves from low → ahead low now.leaves < ahead from was.leaves
+fewer_ahead from low was now same next =
+    (let less = ahead_less from low now.leaves next.above next.its in
+    let as_many = ap (λ (f : Shown). ahead from f.leaves) same in
+    omega arith)
 
 -- a leaf in memory is that of its page
 pub here_at : (f : Shown) (p : ℕ) (leaf : Leaf) → leaf_here p f ≡ Some leaf → leaf_at p f.leaves ≡ Some leaf

@@ -1,6 +1,6 @@
 -- What a cleaning leaves.
 
-use Rattle.std.specs.Prelude.{ℕ, ◌+◌, ◌^◌, ◌<◌, ◌≤◌, ◌≡◌, ◌⊎◌, true, Option, None, Some, Result, Ok, Err, [], ◌++◌, length, replicate, drop}
+use Rattle.std.specs.Prelude.{ℕ, ◌+◌, ◌^◌, ◌<◌, ◌≤◌, ◌≡◌, Option, None, Some, Result, Ok, Err, [], ◌++◌, length, replicate, drop}
 use Rattle.bw_codec.specs.declared.block.Place.{Place}
 use Rattle.std.specs.Prelude.{List}
 use Rattle.bw_buffer.specs.Filling.{Filling}
@@ -10,10 +10,10 @@ use Rattle.bw_care.specs.declared.cleaner.Cleaned.{Cleaned}
 use Rattle.bw_care.specs.declared.fault.CleanFault.{CleanFault}
 use Rattle.bw_care.specs.declared.fault.CleanFault.TheVariants as clean
 use Rattle.bw_store.specs.declared.fault.StoreFault.{StoreFault}
-use Rattle.bw_store.specs.declared.fault.StoreFault.TheVariants.{NoMemory, NothingOld}
+use Rattle.bw_store.specs.declared.fault.StoreFault.TheVariants.{NothingOld}
 use Rattle.bw_store.specs.Kept.{Kept}
-use Rattle.bw_store.specs.Faults.{fault_of, FlushAnswers, FlushLeaves, refusal_by}
-use Rattle.bw_store.specs.Emptied.{Emptied}
+use Rattle.bw_store.specs.Faults.{fault_of}
+use Rattle.bw_store.specs.Emptied.{Behind, WhereSome}
 
 abbrev pub fault_of_clean : CleanFault → StoreFault
 fault_of_clean clean.NothingOld = NothingOld
@@ -35,37 +35,33 @@ with_moved s frames floor newest making log = record s {
   log = log;
 }
 
--- the oldest segment was given up, in a store where nothing waited: from here on the floor is what is durable
-pub record IsCleaned (old : Kept) (cleaned : Cleaned) (new : Kept) : Type 0 where
-  pub is : new ≡ with_moved old cleaned.frames (old.durable + cleaned.frames) new.newest new.making new.log
+-- so many frames were added in a store where nothing waited, the floor is this, and of the log this holds
+pub record HasMoved (old : Kept) (frames floor : ℕ) (holds : logs.Contents → Type 0) (new : Kept) : Type 0 where
+  pub is : new ≡ with_moved old frames floor new.newest new.making new.log
   pub empty : new.making.blocks ≡ []
-  pub log : care.IsCleaned old.log cleaned new.log
+  pub log : holds new.log
 
--- some frames of the cleaner's were added, then a step was refused: no segment was given up
-pub record IsStopped (old : Kept) (cause : CleanFault) (new : Kept) : Type 0 where
+-- some frames were added, then a step was refused: no segment was given up
+pub record HasStopped (old : Kept) (holds : logs.Contents → Type 0) (new : Kept) : Type 0 where
   pub frames : ℕ
   pub is : new ≡ with_moved old frames old.floor new.newest new.making new.log
   pub empty : new.making.blocks ≡ []
-  pub log : care.Refuses cause old.log new.log
+  pub log : holds new.log
+
+-- segments are given up in a store where nothing waits: from here on the floor is what is durable
+abbrev pub GivesUp : {A : Type 0} → (A → ℕ) → (logs.Contents → A → logs.Contents → Type 0)
+    → (CleanFault → logs.Contents → logs.Contents → Type 0) → Kept → Result A StoreFault → Kept → Type 0
+GivesUp frames done refuses old (Ok x) new = HasMoved old (frames x) (old.durable + frames x) (done old.log x) new
+GivesUp frames done refuses old (Err fault) new =
+    (cause : CleanFault) × (fault ≡ fault_of_clean cause) × HasStopped old (refuses cause old.log) new
 
 -- the cleaner, in a store where nothing waits
 abbrev pub MoveLeaves : Kept → Result Cleaned StoreFault → Kept → Type 0
-MoveLeaves old (Ok cleaned) new = IsCleaned old cleaned new
-MoveLeaves old (Err fault) new = (cause : CleanFault) × (fault ≡ fault_of_clean cause) × IsStopped old cause new
-
--- why a cleaning was refused: its flush was, which may take the last spare, or memory was wanting after it, or the cleaner was
-abbrev pub RefusesClean : Kept → StoreFault → Kept → Type 0
-RefusesClean old fault new =
-    (FlushAnswers (refusal_by true old) (Err fault) × FlushLeaves old (Err fault) new)
-    ⊎ ((middle : Kept) × Emptied true old middle
-    × (((fault ≡ NoMemory) × (new ≡ middle)) ⊎ ((cause : CleanFault) × (fault ≡ fault_of_clean cause) × IsStopped middle cause new)))
+MoveLeaves old result new = GivesUp (λ (c : Cleaned). c.frames) care.IsCleaned care.Refuses old result new
 
 -- a cleaning of a store: the number of live segments is looked at first
 abbrev pub CleanLeaves : Kept → Result Cleaned StoreFault → Kept → Type 0
-CleanLeaves old (Ok cleaned) new =
-    (2 ≤ length old.log.live) × ((middle : Kept) × Emptied true old middle × IsCleaned middle cleaned new)
-CleanLeaves old (Err fault) new =
-    ((length old.log.live < 2) × (fault ≡ NothingOld) × (new ≡ old)) ⊎ ((2 ≤ length old.log.live) × RefusesClean old fault new)
+CleanLeaves old result new = WhereSome (2 ≤ length old.log.live) (length old.log.live < 2) NothingOld (Behind MoveLeaves) old result new
 
 -- the row of all boxes lacks its first so many on Ok, and is the same else
 abbrev pub HasBoxesBut : {A : Type 0} → ℕ → Kept → Result A StoreFault → Kept → Type 0

@@ -5,19 +5,17 @@ use Rattle.bw_device.specs.Holding.{Holding}
 use Rattle.bw_care.specs.Upgrading.{old_segments}
 use Rattle.bw_care.specs.declared.cleaner.Cleaned.{Cleaned}
 use Rattle.bw_care.specs.declared.upgrader.Upgraded.{Upgraded}
-use Rattle.bw_care.specs.declared.fault.CleanFault.{CleanFault}
 use Rattle.bw_store.specs.declared.counters.Counters.{Counters}
 use Rattle.bw_store.specs.declared.counters.Looks.{Looks}
 use Rattle.bw_store.specs.declared.counters.Tally.{Tally}
 use Rattle.bw_store.specs.declared.fault.StoreFault.{StoreFault}
-use Rattle.bw_store.specs.declared.fault.StoreFault.TheVariants.{NoMemory}
-use Rattle.bw_store.specs.Cleaning.{IsCleaned, IsStopped}
+use Rattle.bw_store.specs.Cleaning.{MoveLeaves}
 use Rattle.bw_store.specs.Emptied.{Emptied}
 use Rattle.bw_store.specs.Faults.{FlushLeaves}
 use Rattle.bw_store.specs.Kept.{Kept}
 use Rattle.bw_store.specs.Noted.{Noted}
-use Rattle.bw_store.specs.Showing.{Shows, Hides}
-use Rattle.bw_store.specs.Upgrading.{IsUpgraded, IsHalted}
+use Rattle.bw_store.specs.Showing.{ThenShows}
+use Rattle.bw_store.specs.Upgrading.{UpgradeMoves}
 
 -- a count with so many more: it stays where it is at the greatest number
 abbrev pub up : ℕ → ℕ → ℕ
@@ -87,37 +85,30 @@ abbrev pub IsUnmoved : Kept → StoreFault → Kept → Type 0
 IsUnmoved old fault new =
     (new ≡ old) ⊎ (FlushLeaves old (Err fault) new ⊎ ((middle : Kept) × Emptied true old middle × (new ≡ middle)))
 
--- a cleaning without its publication counts what the cleaner did behind its flush, and nothing else
-abbrev pub CountsClean : Kept → Tally → Result Cleaned StoreFault → Kept → Tally → Type 0
-CountsClean old t (Ok cleaned) new u =
-    (middle : Kept) × Emptied true old middle × IsCleaned middle cleaned new × (u ≡ counted_gone 1 t middle true new)
-CountsClean old t (Err fault) new u =
+-- a call that gives segments up, without its publication: it counts what its step did behind the flush, and nothing else
+abbrev pub CountsStep : {A : Type 0} → (Kept → ℕ) → (Kept → Result A StoreFault → Kept → Type 0)
+    → Kept → Tally → Result A StoreFault → Kept → Tally → Type 0
+CountsStep gone leaves old t (Ok x) new u =
+    (middle : Kept) × Emptied true old middle × leaves middle (Ok x) new × (u ≡ counted_gone (gone middle) t middle true new)
+CountsStep gone leaves old t (Err fault) new u =
     (IsUnmoved old fault new × (u ≡ t))
-    ⊎ ((middle : Kept) × Emptied true old middle × ((cause : CleanFault) × IsStopped middle cause new)
-    × (u ≡ counted_gone 1 t middle false new))
+    ⊎ ((middle : Kept) × Emptied true old middle × leaves middle (Err fault) new × (u ≡ counted_gone (gone middle) t middle false new))
+
+-- a cleaning without its publication
+abbrev pub CountsClean : Kept → Tally → Result Cleaned StoreFault → Kept → Tally → Type 0
+CountsClean old t result new u = CountsStep (λ _. 1) MoveLeaves old t result new u
 
 -- the same with the publication, which counts nothing of this
 abbrev pub CountsCleaning : Kept → Tally → Result Cleaned StoreFault → Kept → Tally → Type 0
-CountsCleaning old t (Ok cleaned) new u = (middle : Kept) × CountsClean old t (Ok cleaned) middle u × Shows middle new
-CountsCleaning old t (Err fault) new u =
-    CountsClean old t (Err fault) new u
-    ⊎ ((fault ≡ NoMemory) × ((middle : Kept) × ((cleaned : Cleaned) × CountsClean old t (Ok cleaned) middle u) × Hides middle new))
+CountsCleaning old t result new u = ThenShows (λ r middle. CountsClean old t r middle u) result new
 
 -- an upgrade without its publication
 abbrev pub CountsUpgraded : Kept → Tally → Result Upgraded StoreFault → Kept → Tally → Type 0
-CountsUpgraded old t (Ok upgraded) new u =
-    (middle : Kept) × Emptied true old middle × IsUpgraded middle upgraded new × (u ≡ counted_gone (old_segments middle.log) t middle true new)
-CountsUpgraded old t (Err fault) new u =
-    (IsUnmoved old fault new × (u ≡ t))
-    ⊎ ((middle : Kept) × Emptied true old middle × ((cause : CleanFault) × IsHalted middle cause new)
-    × (u ≡ counted_gone (old_segments middle.log) t middle false new))
+CountsUpgraded old t result new u = CountsStep (λ s. old_segments s.log) UpgradeMoves old t result new u
 
 -- and with it
 abbrev pub CountsUpgrade : Kept → Tally → Result Upgraded StoreFault → Kept → Tally → Type 0
-CountsUpgrade old t (Ok upgraded) new u = (middle : Kept) × CountsUpgraded old t (Ok upgraded) middle u × Shows middle new
-CountsUpgrade old t (Err fault) new u =
-    CountsUpgraded old t (Err fault) new u
-    ⊎ ((fault ≡ NoMemory) × ((middle : Kept) × ((upgraded : Upgraded) × CountsUpgraded old t (Ok upgraded) middle u) × Hides middle new))
+CountsUpgrade old t result new u = ThenShows (λ r middle. CountsUpgraded old t r middle u) result new
 
 -- ---- what is told
 

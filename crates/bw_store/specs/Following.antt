@@ -1,10 +1,12 @@
 -- What no call takes back.
 
-use Rattle.std.specs.Prelude.{ℕ, zero, suc, ◌+◌, ◌*◌, ◌≡◌, ◌≤◌, true, List, ◌++◌, length, drop}
+use Rattle.std.specs.Prelude.{ℕ, zero, suc, ◌+◌, ◌*◌, ◌≡◌, ◌≤◌, true, List, ◌++◌, length, drop, Result, MatchResult}
 use Rattle.bw_log.specs.Contents.{roster}
 use Rattle.bw_versions.specs.Batches.{BatchData}
 use Rattle.bw_versions.specs.declared.entry.Entry.{Entry}
 use Rattle.bw_store.specs.declared.fault.StoreFault.{StoreFault}
+use Rattle.bw_store.specs.declared.turn.Count.{Count}
+use Rattle.bw_store.specs.declared.turn.TurnFault.{TurnFault}
 use Rattle.bw_store.specs.History.{ends_in}
 use Rattle.bw_store.specs.Kept.{Kept}
 use Rattle.bw_ring.specs.declared.lane.Lane.{Lane}
@@ -79,3 +81,9 @@ TookSome old new = (n : ℕ) × TookInTurn n old new
 
 abbrev pub RefusedAt : Kept → List Lane → StoreFault → Kept → Type 0
 RefusedAt old lanes cause new = (n : ℕ) × RefusedAfter n old lanes cause new
+
+-- a round goes on behind what was taken before: it tells all that was taken since the first, or why no more was
+abbrev pub TurnsOn : Count → Kept → Result Count TurnFault → List Lane → Kept → Type 0
+TurnsOn taken old result lanes new =
+    (first : Kept) → TookGroups taken.groups taken.records first old → MatchResult result
+    (λ count. TookGroups count.groups count.records first new) (λ fault. RefusedAfter fault.taken first lanes fault.cause new)

@@ -46,15 +46,8 @@ ReadLeaves reads old (Err NothingOld) new = ⊥
 
 -- the same of a page, which there may not be
 abbrev pub PageLeaves : (ℕ → Type 0) → Kept → Result Leaf StoreFault → Kept → Type 0
-PageLeaves reads old (Ok leaf) new = new ≡ old
-PageLeaves reads old (Err NoMemory) new = new ≡ old
-PageLeaves reads old (Err BadConfig) new = ⊥
-PageLeaves reads old (Err NoSegment) new = ⊥
-PageLeaves reads old (Err (Device lease)) new = FailedRead reads lease old.log new.log
-PageLeaves reads old (Err Failed) new = ⊥
-PageLeaves reads old (Err Spent) new = (new ≡ old) × IsWornOut reads old.log.live
 PageLeaves reads old (Err NoPage) new = new ≡ old
-PageLeaves reads old (Err NothingOld) new = ⊥
+PageLeaves reads old result new = ReadLeaves reads old result new
 
 -- a page had to be read, and the segment of this lease failed
 pub record CouldNotRead (lease : ℕ) (old new : Kept) : Type 0 where

@@ -10,12 +10,12 @@ use Rattle.bw_versions.specs.Versioned.{Versioned}
 use Rattle.bw_device.specs.Holding.{Holding}
 use Rattle.bw_store.specs.declared.edge.Edge.{Edge}
 use Rattle.bw_store.specs.declared.fault.StoreFault.{StoreFault}
-use Rattle.bw_store.specs.Kept.{Kept, filed_of}
-use Rattle.bw_store.specs.Opened.{AreEnds, IsUnmade}
+use Rattle.bw_store.specs.Kept.{Kept}
+use Rattle.bw_store.specs.Opened.{AreEnds, IsUnmade, no_edge, started}
 
 -- a segment's number and its length
 abbrev pub edge_at : ℕ → Option Holding → Edge
-edge_at segment None = record { segment = 0; length = 0 }
+edge_at segment None = no_edge
 edge_at segment (Some h) = record { segment = segment; length = length h.bytes }
 
 -- the newest live segment, and its length
@@ -24,21 +24,8 @@ edge_of c = edge_at (c.number + (length c.live - 1)) (slice_get c.live (length c
 
 -- a store that starts with what was recovered, up to this frame, and has no history
 abbrev pub reopened : List Ring → ℕ → Shown → List Place → Filling → Contents → Versioned → Kept
-reopened rings last filed newest making log versions = record {
-  rings = rings;
-  start = versions.start.leaves;
-  before = last;
-  floor = 0;
-  edge = edge_of log;
-  entries = [];
-  cuts = [];
-  durable = 0;
-  filed = filed_of filed;
-  newest = newest;
-  making = making;
-  log = log;
-  versions = versions;
-}
+reopened rings last filed newest making log versions =
+    record (started rings [] filed newest making log versions) { before = last; edge = edge_of log }
 
 -- why a store was not opened again
 abbrev pub IsReopenFault : ℕ → ℕ → ℕ → StoreFault → Type 0

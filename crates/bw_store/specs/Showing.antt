@@ -62,12 +62,15 @@ abbrev pub Settles : Kept → Kept → Type 0
 Settles old new =
     (middle : Kept) × TookSome old middle × ((flushed : Kept) × Emptied false middle flushed × Shows flushed new)
 
+-- a call, and then a publication; where that finds no memory the call is done
+abbrev pub ThenShows : {A : Type 0} → (Result A StoreFault → Kept → Type 0) → Result A StoreFault → Kept → Type 0
+ThenShows leaves (Ok x) new = (middle : Kept) × leaves (Ok x) middle × Shows middle new
+ThenShows {A} leaves (Err fault) new =
+    leaves (Err fault) new ⊎ ((fault ≡ NoMemory) × ((middle : Kept) × ((x : A) × leaves (Ok x) middle) × Hides middle new))
+
 -- a cleaning, and then a publication
 abbrev pub CleanShows : Kept → Result Cleaned StoreFault → Kept → Type 0
-CleanShows old (Ok cleaned) new = (middle : Kept) × CleanLeaves old (Ok cleaned) middle × Shows middle new
-CleanShows old (Err fault) new =
-    CleanLeaves old (Err fault) new
-    ⊎ ((fault ≡ NoMemory) × ((middle : Kept) × ((cleaned : Cleaned) × CleanLeaves old (Ok cleaned) middle) × Hides middle new))
+CleanShows old result new = ThenShows (CleanLeaves old) result new
 
 -- the row of all boxes lacks its first so many on Ok, and also where nothing but the publication was refused; it is the same else
 abbrev pub HasBoxesAfter : {A : Type 0} → ℕ → Kept → Result A StoreFault → Kept → Type 0

@@ -33,15 +33,22 @@ use std::sync::Wait;
 /// How many boxes a log has at most.
 const MAX_BOXES: usize = 4096;
 
-// What an opened store has beside its log.
+// What a store that begins has beside its log and its leaves.
 #[derive(Drop)]
-struct Parts {
-    feeds: Vec<Feed>,
-    intake: Intake,
-    leaves: Leaves,
-    newest: Vec<Place>,
-    tails: Vec<Option<Tail>>,
-    making: Buffer,
+pub(crate) struct Ends {
+    pub(crate) feeds: Vec<Feed>,
+    pub(crate) intake: Intake,
+    pub(crate) newest: Vec<Place>,
+    pub(crate) tails: Vec<Option<Tail>>,
+    pub(crate) making: Buffer,
+}
+
+// Where a store begins: behind so many frames, with this edge and so many live bytes.
+#[derive(Clone, Copy)]
+pub(crate) struct Origin {
+    pub(crate) before: u64,
+    pub(crate) edge: Edge,
+    pub(crate) bytes: u64,
 }
 
 fn are_taken(config: &Config, segments: &[Box<dyn Segment>]) -> bool
@@ -115,18 +122,18 @@ fn no_counts(alloc: Global, lanes: usize) -> Result<Vec<u64>, AllocError>
     Ok(counts)
 }
 
-fn parts_of(alloc: Global, config: &Config) -> Result<Parts, StoreFault>
+fn parts_of(alloc: Global, config: &Config) -> Result<(Leaves, Ends), StoreFault>
     requires { IsConfig config.now }
     ensures feeds { IfOk result (λ p.
-        map ring_of_lane p.intake.lanes.items ≡ map ring_of_feed p.feeds.items) }
-    ensures unused { IfOk result (λ p. AreFresh config.now p.feeds.items) }
-    ensures history { IfOk result (λ p. p.intake.history.items ≡ []) }
-    ensures gone { IfOk result (λ p. p.intake.history.gone ≡ 0) }
+        map ring_of_lane p.1.intake.lanes.items ≡ map ring_of_feed p.1.feeds.items) }
+    ensures unused { IfOk result (λ p. AreFresh config.now p.1.feeds.items) }
+    ensures history { IfOk result (λ p. p.1.intake.history.items ≡ []) }
+    ensures gone { IfOk result (λ p. p.1.intake.history.gone ≡ 0) }
     ensures leaves { IfOk result (λ p.
-        p.leaves ≡ one_empty config.now.m) }
-    ensures newest { IfOk result (λ p. p.newest.items ≡ first_place ∷ []) }
-    ensures tails { IfOk result (λ p. map tail_of p.tails.items ≡ None ∷ []) }
-    ensures making { IfOk result (λ p. p.making ≡ first_making config.now.f) }
+        p.0 ≡ one_empty config.now.m) }
+    ensures newest { IfOk result (λ p. p.1.newest.items ≡ first_place ∷ []) }
+    ensures tails { IfOk result (λ p. map tail_of p.1.tails.items ≡ None ∷ []) }
+    ensures making { IfOk result (λ p. p.1.making ≡ first_making config.now.f) }
     ensures memory { IfErr result (λ fault. fault ≡ StoreFault.NoMemory) }
 {
     let (feeds, intake) = intake_of(alloc, config)?;
@@ -136,14 +143,14 @@ fn parts_of(alloc: Global, config: &Config) -> Result<Parts, StoreFault>
     let mut tails = Vec::with_capacity(alloc, 1)?;
     tails.push_reserved(None);
     let making = first_frame(alloc, config.f)?;
-    Ok(Parts {
+    let ends = Ends {
         feeds,
         intake,
-        leaves,
         newest,
         tails,
         making,
-    })
+    };
+    Ok((leaves, ends))
 }
 
 // What readers of an opened store see: nothing yet, and one empty page from the first publication.
@@ -196,7 +203,7 @@ impl Store {
             let cause = StoreFault::BadConfig;
             return Err(OpenFault { segments, cause });
         }
-        let parts = match parts_of(alloc, config) {
+        let (leaves, ends) = match parts_of(alloc, config) {
             Ok(parts) => parts,
             Err(cause) => return Err(OpenFault { segments, cause }),
         };
@@ -204,8 +211,16 @@ impl Store {
             let cause = StoreFault::NoMemory;
             return Err(OpenFault { segments, cause });
         };
+        let origin = Origin {
+            before: 0,
+            edge: Edge {
+                segment: 0,
+                length: 0,
+            },
+            bytes: 0,
+        };
         match Log::new(alloc, segments, config.m, config.f) {
-            Ok(log) => Ok(Store::of(alloc, parts, log, versions)),
+            Ok(log) => Ok(Store::begun(alloc, ends, leaves, log, versions, origin)),
             Err((segments, fault)) => {
                 versions.shut(rt);
                 let cause = StoreFault::from(fault);
@@ -214,37 +229,40 @@ impl Store {
         }
     }
 
-    // A store of these parts over a log of spares alone.
-    fn of(alloc: Global, parts: Parts, log: Log, versions: Versions) -> (Store, Vec<Feed>)
-        requires tails { map tail_of parts.tails.items
-            ≡ tails_for (length parts.leaves.leaves) parts.making.blocks }
-        requires here { parts.leaves.evicted ≡ [] }
-        requires gone { parts.intake.history.gone ≡ 0 }
-        requires start { versions.start ≡ parts.leaves }
+    // A store of these ends over a log: its history begins here.
+    pub(crate) fn begun(
+        alloc: Global,
+        ends: Ends,
+        leaves: Leaves,
+        log: Log,
+        versions: Versions,
+        origin: Origin,
+    ) -> (Store, Vec<Feed>)
+        requires tails { map tail_of ends.tails.items
+            ≡ tails_for (length leaves.leaves) ends.making.blocks }
+        requires here { leaves.evicted ≡ [] }
+        requires gone { ends.intake.history.gone ≡ 0 }
+        requires start { versions.start ≡ leaves }
         ensures store { kept_by result.0 holding
-            ≡ started (map ring_of_lane parts.intake.lanes.items) parts.intake.history.items
-            parts.leaves parts.newest.items parts.making
-            (seen_by (λ b. holding (b.vtable, b.value)) log) versions }
-        ensures feeds { result.1 ≡ parts.feeds }
-        ensures noted { noted_of result.0 ≡ noted_from (length parts.leaves.leaves) 0 }
+            ≡ record (started (map ring_of_lane ends.intake.lanes.items) ends.intake.history.items
+            leaves ends.newest.items ends.making (seen_by (λ b. holding (b.vtable, b.value)) log)
+            versions) { before = origin.before; edge = origin.edge } }
+        ensures feeds { result.1 ≡ ends.feeds }
+        ensures noted { noted_of result.0 ≡ noted_from (length leaves.leaves) origin.bytes }
     {
-        let Parts {
+        let Ends {
             feeds,
             intake,
-            leaves,
             newest,
             tails,
             making,
-        } = parts;
-        let tally = Tally::from(leaves.count(), 0);
+        } = ends;
+        let tally = Tally::from(leaves.count(), origin.bytes);
         let store = Store {
             intake,
-            before: 0,
+            before: origin.before,
             floor: 0,
-            edge: Edge {
-                segment: 0,
-                length: 0,
-            },
+            edge: origin.edge,
             cuts: Vec::new(alloc),
             durable: 0,
             leaves,

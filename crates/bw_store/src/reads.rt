@@ -9,9 +9,11 @@ ghost use Rattle.bw_page.specs.Words.{value_on};
 ghost use Rattle.bw_versions.specs.Entries.{records};
 ghost use Rattle.bw_store.specs.Following.{Follows, HasBoxes};
 ghost use Rattle.bw_store.specs.Reading.{leaves_now, HasRead, ReadLeaves, PageLeaves};
+ghost use Rattle.bw_store.specs.Share.{ops_at};
 
 use crate::fault::StoreFault;
 use crate::store::Store;
+use crate::tails::Tail;
 use bw_codec::{Key, Leaf, Value};
 use bw_page::Word;
 
@@ -102,11 +104,7 @@ impl Store {
             Err(fault) => return Err(StoreFault::from(fault)),
         };
         self.looks.read_one();
-        let _ = self.tails.as_slice().len();
-        match &self.tails[page as usize - 1] {
-            Some(tail) => Ok(tail.content(&below)?),
-            None => unreachable!(),
-        }
+        Ok(self.tail(page).content(&below)?)
     }
 
     /// The value of a key on a page that is evicted: what the newest record of the frame in the
@@ -128,12 +126,7 @@ impl Store {
             (kept_by self.old holding) result (kept_by self.new holding) }
         ensures noted { noted_of self.new ≡ noted_of self.old }
     {
-        let _ = self.tails.as_slice().len();
-        let word = match &self.tails[page as usize - 1] {
-            Some(tail) => tail.word(key),
-            None => unreachable!(),
-        };
-        match word {
+        match self.tail(page).word(key) {
             Word::Silent => {}
             Word::Gone => return Ok(None),
             Word::Holds(value) => return Ok(Some(value)),
@@ -144,6 +137,19 @@ impl Store {
                 Ok(value)
             }
             Err(fault) => Err(StoreFault::from(fault)),
+        }
+    }
+
+    // What the frame in the making has of a page that is evicted: such a page has a tail.
+    fn tail(&self, page: u32) -> &Tail
+        requires inside { (1 ≤ page) × (page ≤ length self.now.leaves.leaves) }
+        requires evicted { is_evicted_page page self.now.leaves ≡ true }
+        ensures { result.now.records ≡ ops_at page self.now.making.blocks }
+    {
+        let _ = self.tails.as_slice().len();
+        match &self.tails[page as usize - 1] {
+            Some(tail) => tail,
+            None => unreachable!(),
         }
     }
 

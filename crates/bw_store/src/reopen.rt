@@ -12,14 +12,13 @@ ghost use Rattle.bw_store.specs.Showing.{AreUnseen};
 ghost use Rattle.bw_store.specs.Reopened.{edge_of as newest_edge, reopened, IsReopenFault};
 
 use crate::config::Config;
-use crate::counters::{Looks, Tally, live_bytes};
+use crate::counters::live_bytes;
 use crate::edge::Edge;
 use crate::fault::StoreFault;
-use crate::intake::Intake;
-use crate::open::intake_of;
+use crate::open::{Ends, Origin, intake_of};
 use crate::renew::renew;
 use crate::store::Store;
-use crate::tails::{Tail, tails_on};
+use crate::tails::tails_on;
 use bw_buffer::Buffer;
 use bw_care::Recovered;
 use bw_codec::Place;
@@ -35,16 +34,6 @@ use std::sync::Wait;
 pub struct ReopenFault {
     pub recovered: Recovered,
     pub cause: StoreFault,
-}
-
-// What a store that is opened again has beside its log and its leaves.
-#[derive(Drop)]
-struct Ends {
-    feeds: Vec<Feed>,
-    intake: Intake,
-    newest: Vec<Place>,
-    tails: Vec<Option<Tail>>,
-    making: Buffer,
 }
 
 // So many places, which are noted later.
@@ -222,13 +211,6 @@ impl Store {
         ensures noted { noted_of result.0 ≡ noted_from (length recovered.leaves.leaves)
             (up 0 (bytes_of (seen recovered.log holding).live)) }
     {
-        let Ends {
-            feeds,
-            intake,
-            newest,
-            tails,
-            making,
-        } = ends;
         let Recovered {
             log,
             leaves,
@@ -236,24 +218,11 @@ impl Store {
             ..
         } = recovered;
         let edge = edge_of(&log);
-        let tally = Tally::from(leaves.count(), live_bytes(&log));
-        let store = Store {
-            intake,
+        let origin = Origin {
             before: last,
-            floor: 0,
             edge,
-            cuts: Vec::new(alloc),
-            durable: 0,
-            leaves,
-            newest,
-            tails,
-            making,
-            log,
-            versions,
-            hints: Vec::new(alloc),
-            tally,
-            looks: Looks::new(),
+            bytes: live_bytes(&log),
         };
-        (store, feeds)
+        Store::begun(alloc, ends, leaves, log, versions, origin)
     }
 }

@@ -1,9 +1,8 @@
 //! Turns: rounds over the lanes.
 
 ghost use Rattle.std.specs.Prelude.{◌≡◌, ◌≤◌, ◌<◌, ◌+◌, ◌*◌, length, IfOk, IfErr, MatchResult};
-ghost use Rattle.bw_store.specs.Following.{Turned, TookInTurn, TookGroups, RefusedAfter, groups_since};
+ghost use Rattle.bw_store.specs.Following.{Turned, TookInTurn, RefusedAfter, TurnsOn, groups_since};
 ghost use Rattle.bw_store.specs.Lanes.{Dries, AreDry};
-ghost use Rattle.bw_store.specs.Kept.{Kept};
 
 use crate::fault::StoreFault;
 use crate::store::Store;
@@ -81,12 +80,8 @@ impl Store {
         requires within { taken.groups ≤ limit }
         requires few { taken.records ≤ 4 * taken.groups }
         ensures sound { IsSound self.new holding }
-        ensures turned { (first : Kept)
-            → TookGroups taken.groups taken.records first (kept_by self.old holding)
-            → MatchResult result
-            (λ n. TookGroups n.groups n.records first (kept_by self.new holding))
-            (λ fault. RefusedAfter fault.taken first self.new.intake.lanes.items fault.cause
-            (kept_by self.new holding)) }
+        ensures turned { TurnsOn taken (kept_by self.old holding) result
+            self.new.intake.lanes.items (kept_by self.new holding) }
         ensures within { IfOk result (λ n. (taken.groups ≤ n.groups) × (n.groups ≤ limit)) }
         ensures few { IfOk result (λ n. n.records ≤ 4 * n.groups) }
         ensures dry { IfOk result (λ n. n.groups ≡ taken.groups → taken.groups < limit
@@ -112,12 +107,8 @@ impl Store {
         requires few { taken.records ≤ 4 * taken.groups }
         ensures sound { IsSound self.new holding }
         ensures count { length self.new.intake.lanes.items ≡ length self.old.intake.lanes.items }
-        ensures turned { (first : Kept)
-            → TookGroups taken.groups taken.records first (kept_by self.old holding)
-            → MatchResult result
-            (λ n. TookGroups n.groups n.records first (kept_by self.new holding))
-            (λ fault. RefusedAfter fault.taken first self.new.intake.lanes.items fault.cause
-            (kept_by self.new holding)) }
+        ensures turned { TurnsOn taken (kept_by self.old holding) result
+            self.new.intake.lanes.items (kept_by self.new holding) }
         ensures within { IfOk result (λ n.
             (taken.groups ≤ n.groups) × (n.groups ≤ taken.groups + 1)) }
         ensures few { IfOk result (λ n. n.records ≤ 4 * n.groups) }

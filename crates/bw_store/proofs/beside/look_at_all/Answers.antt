@@ -1,7 +1,6 @@
 use Rattle.std.proofs.Common.{refl, ap, ◌∙◌, arith, ◌+◌, [], length, map, take, set, get_or}
-use Rattle.std.proofs.lemmas.List.{length-map}
-use Rattle.bw_ring.specs.Ends.{accepted, given, ring_of_feed, ring_of_lane}
-use Rattle.bw_store.proofs.Laned.{as_many, shorter, whole_more, whole_end}
+use Rattle.bw_ring.specs.Ends.{accepted, given}
+use Rattle.bw_store.proofs.Laned.{as_long, shorter, whole_more, whole_end}
 use Rattle.bw_store.proofs.beside.look_at_all.Goals as goal
 
 pub rings-init : goal.rings-init
@@ -11,9 +10,7 @@ pub rings-preserved : goal.rings-preserved
 rings-preserved c =
     let i = c.rings.invariant in
     let e = c.look_at.ensures in
-    let many = as_many ring_of_feed ring_of_lane c.args.feeds.now.items c.args.lanes.now.items c.requires in
-    let count = i.count in
-    let size = length-map c.rings.lanes.items given in
+    let long = as_long _ c.rings.lanes.items c.args.feeds.now.items c.requires i.count in
     let inside = c.rings-test.true in
     let shown = ap length c.as_slice-count.ensures.value in
     record {
@@ -32,9 +29,7 @@ rings-preserved c =
 pub returns-clause-whole : goal.returns-clause-whole
 returns-clause-whole c =
     let i = c.rings.invariant in
-    let many = as_many ring_of_feed ring_of_lane c.args.feeds.now.items c.args.lanes.now.items c.requires in
-    let count = i.count in
-    let size = length-map c.rings.lanes.items given in
+    let long = as_long _ c.rings.lanes.items c.args.feeds.now.items c.requires i.count in
     let end = c.rings-test.false in
     let shown = ap length c.as_slice-count.ensures.value in
     whole_end (map given c.rings.lanes.items) (map accepted c.args.feeds.now.items) c.rings.at

@@ -1,5 +1,5 @@
-use Rattle.std.proofs.Common.{refl}
+use Rattle.std.proofs.Common.{sym}
 use Rattle.bw_store.proofs.store.Store.again.Goals as goal
 
 pub returns-clause-store : goal.returns-clause-store
-returns-clause-store g c = rw (c.edge_of-edge.ensures, c.new.ensures.items) refl
+returns-clause-store g c = rw (sym c.edge_of-edge.ensures) c.begun.ensures.store

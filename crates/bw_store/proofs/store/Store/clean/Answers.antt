@@ -1,9 +1,10 @@
-use Rattle.std.proofs.Common.{inl, ap, ◌∙◌}
+use Rattle.std.proofs.Common.{inl, inr, ap, refl, ◌∙◌}
 use Rattle.std.proofs.lemmas.Result.{err_from_is_err_and}
+use Rattle.bw_store.specs.Cleaning.{MoveLeaves}
 use Rattle.bw_store.specs.Noted.{Noted}
 use Rattle.bw_store.specs.Views.{kept_by}
-use Rattle.bw_store.proofs.CountsMore.{cleaning_hides, cleaning_shows}
-use Rattle.bw_store.proofs.Showing.{clean_hides, clean_shows, hides_continues, hides_floor, shows_continues, shows_floor, shows_roster}
+use Rattle.bw_store.proofs.CountsMore.{hidden_counts, shown_counts}
+use Rattle.bw_store.proofs.Showing.{hides_continues, hides_floor, shows_continues, shows_floor, shows_roster}
 use Rattle.bw_store.proofs.store.Store.clean.Goals as goal
 
 pub returns-in_err-cleaned-clause-leaves : goal.returns-in_err-cleaned-clause-leaves
@@ -14,13 +15,13 @@ returns-in_err-cleaned-clause-leaves g c =
 pub returns-in_err-publish-clause-leaves : goal.returns-in_err-publish-clause-leaves
 returns-in_err-publish-clause-leaves g c =
     let p = err_from_is_err_and c.from_residual-in_err-publish.result c.from_residual-in_err-publish.ensures.1 in
-    rw (p.1, p.2) (clean_hides _ _ _ _ c.in_ok-cleaned.ensures.leaves c.in_err-publish.ensures.leaves)
+    rw (p.1, p.2) (inr (refl, (_, (_, c.in_ok-cleaned.ensures.leaves), c.in_err-publish.ensures.leaves)))
 
 pub returns-in_err-publish-clause-follows : goal.returns-in_err-publish-clause-follows
 returns-in_err-publish-clause-follows g c = hides_continues _ _ _ c.in_ok-cleaned.ensures.follows c.in_err-publish.ensures.leaves
 
 pub returns-clause-leaves : goal.returns-clause-leaves
-returns-clause-leaves g c = clean_shows _ _ _ _ c.in_ok-cleaned.ensures.leaves c.in_ok-publish.ensures.leaves
+returns-clause-leaves g c = (_, c.in_ok-cleaned.ensures.leaves, c.in_ok-publish.ensures.leaves)
 
 pub returns-clause-follows : goal.returns-clause-follows
 returns-clause-follows g c = shows_continues _ _ _ c.in_ok-cleaned.ensures.follows c.in_ok-publish.ensures.leaves
@@ -44,8 +45,8 @@ returns-in_err-cleaned-clause-counts g c =
 pub returns-in_err-publish-clause-counts : goal.returns-in_err-publish-clause-counts
 returns-in_err-publish-clause-counts g c =
     let p = err_from_is_err_and c.from_residual-in_err-publish.result c.from_residual-in_err-publish.ensures.1 in
-    rw (p.1, p.2) (cleaning_hides _ _ _ _ _ _ _ c.in_ok-cleaned.ensures.counts (ap (λ (n : Noted). n.tally) c.publish.ensures.noted) c.in_err-publish.ensures.leaves)
+    rw (p.1, p.2) (hidden_counts (λ _. 1) MoveLeaves _ _ _ _ _ _ _ c.in_ok-cleaned.ensures.counts (ap (λ (n : Noted). n.tally) c.publish.ensures.noted) c.in_err-publish.ensures.leaves)
 
 pub returns-clause-counts : goal.returns-clause-counts
 returns-clause-counts g c =
-    cleaning_shows _ _ _ _ _ _ _ c.in_ok-cleaned.ensures.counts (ap (λ (n : Noted). n.tally) c.publish.ensures.noted) c.in_ok-publish.ensures.leaves
+    shown_counts (λ _. 1) MoveLeaves _ _ _ _ _ _ _ c.in_ok-cleaned.ensures.counts (ap (λ (n : Noted). n.tally) c.publish.ensures.noted) c.in_ok-publish.ensures.leaves

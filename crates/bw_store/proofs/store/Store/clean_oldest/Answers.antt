@@ -11,11 +11,14 @@ use Rattle.bw_store.specs.Kept.{Kept}
 use Rattle.bw_store.specs.Emptied.{Emptied}
 use Rattle.bw_store.specs.Noted.{Noted}
 use Rattle.bw_store.specs.Views.{kept_by}
-use Rattle.bw_store.proofs.CountsMore.{clean_counts}
+use Rattle.bw_care.specs.declared.cleaner.Cleaned.{Cleaned}
+use Rattle.bw_care.specs.Moving.{IsCleaned, Refuses}
+use Rattle.bw_store.specs.Cleaning.{MoveLeaves}
+use Rattle.bw_store.proofs.CountsMore.{step_counts}
 use Rattle.bw_store.proofs.FollowMore.{follows_as, follows_left}
 use Rattle.bw_store.proofs.Refusing.{never_nothing}
 use Rattle.bw_store.proofs.SettledMore.{settled_by}
-use Rattle.bw_store.proofs.CleanedMore.{live_stay, move_floor, move_follows, move_boxes, clean_leaves, reserve_leaves, continues_via, not_nothing}
+use Rattle.bw_store.proofs.CleanedMore.{live_stay, gives_floor, gives_follows, move_boxes, clean_leaves, reserve_leaves, continues_via, not_nothing}
 use Rattle.bw_store.proofs.store.Store.clean_oldest.Goals as goal
 
 pub returns-then-live-lt2-clause-follows : goal.returns-then-live-lt2-clause-follows
@@ -36,7 +39,7 @@ returns-in_err-reserve_cuts-clause-floor g c =
 
 pub returns-clause-floor : goal.returns-clause-floor
 returns-clause-floor g c =
-    move_floor (kept_by c.args.self.now (λ z. (goal.Segment-dyn g z).holding z.1)) _ _ _
+    gives_floor (λ (x : Cleaned). x.frames) IsCleaned Refuses (kept_by c.args.self.now (λ z. (goal.Segment-dyn g z).holding z.1)) _ _ _
     (ap (λ (s : Kept). s.floor) c.reserve_cuts.ensures.same ∙ (follows_left _ _ _ c.flush_making.ensures.leaves).follows.floor)
     c.move_pages.ensures.leaves
 
@@ -80,7 +83,7 @@ returns-clause-follows g c =
     let durable = ap (λ (s : Kept). s.durable) c.reserve_cuts.ensures.same in
     let low = c.flush_making.ensures.sound.floor in
     continues_via _ _ _ _ (follows_left _ _ _ c.flush_making.ensures.leaves).follows c.reserve_cuts.ensures.same
-    (move_follows _ _ _ (omega arith) c.move_pages.ensures.leaves)
+    (gives_follows (λ (x : Cleaned). x.frames) IsCleaned Refuses _ _ _ (omega arith) c.move_pages.ensures.leaves)
 
 pub returns-clause-boxes : goal.returns-clause-boxes
 returns-clause-boxes g c =
@@ -101,7 +104,7 @@ returns-clause-nothing_old g c =
     let live = c.live.ensures in
     let many = c.if-live-lt2.false in
     let same = ap (λ (s : Kept). length s.log.live) c.reserve_cuts.ensures.same in
-    (λ e. absurd (not_nothing _ _ _ (omega arith) c.move_pages.ensures.leaves e), λ few. absurd (omega arith))
+    (λ e. absurd (not_nothing (λ (x : Cleaned). x.frames) IsCleaned Refuses _ _ _ (λ r. (let few = r.1 in omega arith)) c.move_pages.ensures.leaves e), λ few. absurd (omega arith))
 
 pub returns-clause-counts : goal.returns-clause-counts
 returns-clause-counts g c =
@@ -110,7 +113,7 @@ returns-clause-counts g c =
     let begun : Emptied true (kept_by c.args.self.now (λ z. (goal.Segment-dyn g z).holding z.1))
     (kept_by c.reserve_cuts.new.self (λ z. (goal.Segment-dyn g z).holding z.1)) = rw c.reserve_cuts.ensures.same empty in
     let tally = ap (λ (n : Noted). n.tally) (c.reserve_cuts.ensures.stays ∙ c.flush_making.ensures.noted) in
-    clean_counts _ _ _ c.move_pages.result _ _ begun c.move_pages.ensures.leaves
+    step_counts (λ _. 1) MoveLeaves _ _ _ c.move_pages.result _ _ begun c.move_pages.ensures.leaves
     (c.move_pages.ensures.counts
     ∙ ap (λ (t : Tally). counted_gone 1 t (kept_by c.reserve_cuts.new.self (λ z. (goal.Segment-dyn g z).holding z.1)) (is_ok c.move_pages.result)
     (kept_by c.move_pages.new.self (λ z. (goal.Segment-dyn g z).holding z.1))) tally)

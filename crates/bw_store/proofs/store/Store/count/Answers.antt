@@ -1,52 +1,35 @@
-use Rattle.std.proofs.Common.{◌≡◌, ◌+◌, ◌-◌, get_or, length, refl, sym, ap, ◌∙◌, subst, arith}
+use Rattle.std.proofs.Common.{◌+◌, refl, sym, ap, ◌∙◌, arith}
 use Rattle.std.specs.FinMap as finite
-use Rattle.bw_page.specs.Leaves.{Map, empty_leaf}
-use Rattle.bw_page.specs.Shown.{Shown}
-use Rattle.bw_store.specs.Kept.{Kept}
-use Rattle.bw_store.specs.Reading.{HasRead}
-use Rattle.bw_store.specs.Views.{kept_by}
-use Rattle.bw_store.proofs.Counted.{counted, total_all, total_few, total_more, total_none}
-use Rattle.bw_store.proofs.FollowMore.{follows_as, follows_read}
+use Rattle.bw_page.specs.Leaves.{Map}
+use Rattle.bw_store.proofs.Counted.{counted, pairs_more, total_all, total_few, total_none}
+use Rattle.bw_store.proofs.FollowMore.{follows_as, read_follows}
 use Rattle.bw_store.proofs.store.Store.count.Goals as goal
 
 pub pages-init : goal.pages-init
 pages-init g c = record { sound = c.requires; same = refl; pages = refl; so_far = sym (total_none c.args.self.now.leaves.leaves); noted = refl }
 
 pub returns-in_err-pairs-clause-follows : goal.returns-in_err-pairs-clause-follows
-returns-in_err-pairs-clause-follows g c =
-    (follows_read _ _ (subst (λ (s : Kept). HasRead s (kept_by c.pairs_on.new.self (λ z. (goal.Segment-dyn g z).holding z.1))) c.pages.invariant.same
-    c.pairs_on.ensures.read)).follows
+returns-in_err-pairs-clause-follows g c = read_follows _ _ _ c.pages.invariant.same c.pairs_on.ensures.read
 
 pub overflow_add-pairs : goal.overflow_add-pairs
 overflow_add-pairs g c =
     let leaves = c.args.self.now.leaves.leaves in
     let within = c.pages-test.true in
     let count = c.count-pages.ensures.value in
-    let so_far = c.pages.invariant.so_far in
-    let here = c.in_ok-pairs.ensures.value
-    ∙ ap (λ (f : Shown). length (get_or f.leaves (c.pages.before + 1 - 1) empty_leaf).pairs) c.pages.invariant.pages in
-    let at : c.pages.before + 1 - 1 ≡ c.pages.before = omega arith in
-    let same = ap (λ k. length (get_or leaves k empty_leaf).pairs) at in
-    let more = total_more leaves c.pages.before (omega arith) in
+    let more = pairs_more c.args.self.now.leaves _ c.pages.before _ _ c.pages.invariant.pages (omega arith) c.pages.invariant.so_far c.in_ok-pairs.ensures.value in
     let few = total_few c.args.self.now.leaves.m leaves (c.pages.before + 1) c.count-pages.ensures.limit.1 c.count-pages.ensures.lawful in
     omega arith
 
 pub pages-preserved : goal.pages-preserved
 pages-preserved g c =
-    let leaves = c.args.self.now.leaves.leaves in
     let within = c.pages-test.true in
     let count = c.count-pages.ensures.value in
-    let so_far = c.pages.invariant.so_far in
-    let here = c.in_ok-pairs.ensures.value
-    ∙ ap (λ (f : Shown). length (get_or f.leaves (c.pages.before + 1 - 1) empty_leaf).pairs) c.pages.invariant.pages in
-    let at : c.pages.before + 1 - 1 ≡ c.pages.before = omega arith in
-    let same = ap (λ k. length (get_or leaves k empty_leaf).pairs) at in
-    let more = total_more leaves c.pages.before (omega arith) in
+    let more = pairs_more c.args.self.now.leaves _ c.pages.before _ _ c.pages.invariant.pages (omega arith) c.pages.invariant.so_far c.in_ok-pairs.ensures.value in
     record {
       sound = c.pairs_on.ensures.sound;
       same = c.in_ok-pairs.ensures.leaves ∙ c.pages.invariant.same;
       pages = c.pairs_on.ensures.pages ∙ c.pages.invariant.pages;
-      so_far = omega arith;
+      so_far = more;
       noted = c.pairs_on.ensures.noted ∙ c.pages.invariant.noted;
     }
 

@@ -1,13 +1,10 @@
 use Rattle.std.proofs.Common.{◌∙◌, refl, sym, ap, subst, arith}
-use Rattle.bw_page.specs.Ahead.{HasCome, HasNoLowAbove, IsNextLow, pair_above, ahead}
+use Rattle.bw_page.specs.Ahead.{HasCome, HasNoLowAbove, IsNextLow, pair_above}
 use Rattle.bw_page.specs.Leaves.{Bytes, home}
 use Rattle.bw_page.specs.Shown.{Shown}
-use Rattle.bw_page.proofs.Ahead.{ahead_less}
-use Rattle.bw_store.specs.Kept.{Kept}
-use Rattle.bw_store.specs.Reading.{HasRead}
 use Rattle.bw_store.specs.Views.{kept_by}
-use Rattle.bw_store.proofs.FollowMore.{follows_read}
-use Rattle.bw_store.proofs.Walks.{map_of, walk_first, walk_some, walk_further, walk_last, no_pair}
+use Rattle.bw_store.proofs.FollowMore.{read_follows}
+use Rattle.bw_store.proofs.Walks.{map_of, fewer_ahead, walk_first, walk_some, walk_further, walk_last, no_pair}
 use Rattle.bw_store.proofs.store.Store.next_at.Goals as goal
 
 pub pages-init : goal.pages-init
@@ -22,9 +19,7 @@ pages-init g c =
     }
 
 pub returns-in_err-found-clause-follows : goal.returns-in_err-found-clause-follows
-returns-in_err-found-clause-follows g c =
-    (follows_read _ _ (subst (λ (s : Kept). HasRead s (kept_by c.pair_from.new.self (λ z. (goal.Segment-dyn g z).holding z.1))) c.pages.invariant.same
-    c.pair_from.ensures.read)).follows
+returns-in_err-found-clause-follows g c = read_follows _ _ _ c.pages.invariant.same c.pair_from.ensures.read
 
 pub returns-then-is_some-clause-value : goal.returns-then-is_some-clause-value
 returns-then-is_some-clause-value g c =
@@ -34,16 +29,11 @@ returns-then-is_some-clause-value g c =
     (sym c.is_some.ensures ∙ c.if-is_some.true)
 
 pub returns-then-is_some-clause-follows : goal.returns-then-is_some-clause-follows
-returns-then-is_some-clause-follows g c =
-    (follows_read _ _ (subst (λ (s : Kept). HasRead s (kept_by c.pair_from.new.self (λ z. (goal.Segment-dyn g z).holding z.1))) c.pages.invariant.same
-    c.pair_from.ensures.read)).follows
+returns-then-is_some-clause-follows g c = read_follows _ _ _ c.pages.invariant.same c.pair_from.ensures.read
 
 pub pages-smaller : goal.pages-smaller
 pages-smaller g c =
-    let next = c.in-Some.ensures.some in
-    let less = ahead_less c.pages.from c.in-Some.low c.pair_from.new.self.leaves.leaves next.above next.its in
-    let same = ap (λ (f : Shown). ahead c.pages.from f.leaves) c.pair_from.ensures.pages in
-    omega (arith, less, same)
+    omega (arith, fewer_ahead c.pages.from c.in-Some.low _ _ c.pair_from.ensures.pages c.in-Some.ensures.some)
 
 pub pages-preserved : goal.pages-preserved
 pages-preserved g c =
@@ -68,6 +58,4 @@ returns-in-None-clause-value g c =
     walk_last s c.requires c.args.key.now c.pages.from c.pages.invariant.come none last
 
 pub returns-in-None-clause-follows : goal.returns-in-None-clause-follows
-returns-in-None-clause-follows g c =
-    (follows_read _ _ (subst (λ (s : Kept). HasRead s (kept_by c.pair_from.new.self (λ z. (goal.Segment-dyn g z).holding z.1))) c.pages.invariant.same
-    c.pair_from.ensures.read)).follows
+returns-in-None-clause-follows g c = read_follows _ _ _ c.pages.invariant.same c.pair_from.ensures.read

@@ -1,6 +1,5 @@
-use Rattle.std.proofs.Common.{inl, ◌∙◌}
+use Rattle.std.proofs.Common.{inl, inr, refl, ◌∙◌}
 use Rattle.std.proofs.lemmas.Result.{err_from_is_err_and}
-use Rattle.bw_store.proofs.RewrittenMore.{rewrite_hides, rewrite_shows}
 use Rattle.bw_store.proofs.Showing.{hides_follows, hides_roster, shows_follows, shows_roster}
 use Rattle.bw_store.proofs.store.Store.rewrite.Goals as goal
 
@@ -12,7 +11,7 @@ returns-in_err-frames-clause-leaves g c =
 pub returns-in_err-publish-clause-leaves : goal.returns-in_err-publish-clause-leaves
 returns-in_err-publish-clause-leaves g c =
     let p = err_from_is_err_and c.from_residual-in_err-publish.result c.from_residual-in_err-publish.ensures.1 in
-    rw (p.1, p.2) (rewrite_hides _ _ _ _ _ c.in_ok-frames.ensures.leaves c.in_err-publish.ensures.leaves)
+    rw (p.1, p.2) (inr (refl, (_, (_, c.in_ok-frames.ensures.leaves), c.in_err-publish.ensures.leaves)))
 
 pub returns-in_err-publish-clause-follows : goal.returns-in_err-publish-clause-follows
 returns-in_err-publish-clause-follows g c = hides_follows _ _ _ c.in_ok-frames.ensures.follows c.in_err-publish.ensures.leaves
@@ -21,7 +20,7 @@ pub returns-in_err-publish-clause-boxes : goal.returns-in_err-publish-clause-box
 returns-in_err-publish-clause-boxes g c = record { same = hides_roster _ _ c.in_err-publish.ensures.leaves ∙ c.in_ok-frames.ensures.boxes.same }
 
 pub returns-clause-leaves : goal.returns-clause-leaves
-returns-clause-leaves g c = rewrite_shows _ _ _ _ _ c.in_ok-frames.ensures.leaves c.in_ok-publish.ensures.leaves
+returns-clause-leaves g c = (_, c.in_ok-frames.ensures.leaves, c.in_ok-publish.ensures.leaves)
 
 pub returns-clause-follows : goal.returns-clause-follows
 returns-clause-follows g c = shows_follows _ _ _ c.in_ok-frames.ensures.follows c.in_ok-publish.ensures.leaves

@@ -1,13 +1,10 @@
 use Rattle.std.proofs.Common.{◌∙◌, refl, sym, ap, subst, arith}
-use Rattle.bw_page.specs.Ahead.{IsStretch, HasGone, HasNoLowAbove, IsNextLow, pairs_above, with_some, ahead}
+use Rattle.bw_page.specs.Ahead.{IsStretch, HasGone, HasNoLowAbove, IsNextLow, pairs_above, with_some}
 use Rattle.bw_page.specs.Leaves.{Bytes, Pairs, home}
 use Rattle.bw_page.specs.Shown.{Shown}
-use Rattle.bw_page.proofs.Ahead.{ahead_less}
-use Rattle.bw_store.specs.Kept.{Kept}
-use Rattle.bw_store.specs.Reading.{HasRead}
 use Rattle.bw_store.specs.Views.{kept_by}
-use Rattle.bw_store.proofs.FollowMore.{follows_as, follows_read}
-use Rattle.bw_store.proofs.Walks.{map_of, stretch_first, stretch_more, stretch_last, stretch_full}
+use Rattle.bw_store.proofs.FollowMore.{follows_as, read_follows}
+use Rattle.bw_store.proofs.Walks.{map_of, fewer_ahead, stretch_first, stretch_more, stretch_last, stretch_full}
 use Rattle.bw_store.proofs.store.Store.scan.Goals as goal
 
 pub pages-init : goal.pages-init
@@ -23,16 +20,11 @@ pages-init g c =
     }
 
 pub returns-in_err-add_pairs-clause-follows : goal.returns-in_err-add_pairs-clause-follows
-returns-in_err-add_pairs-clause-follows g c =
-    (follows_read _ _ (subst (λ (s : Kept). HasRead s (kept_by c.add_pairs.new.self (λ z. (goal.Segment-dyn g z).holding z.1))) c.pages.invariant.same
-    c.add_pairs.ensures.read)).follows
+returns-in_err-add_pairs-clause-follows g c = read_follows _ _ _ c.pages.invariant.same c.add_pairs.ensures.read
 
 pub pages-smaller : goal.pages-smaller
 pages-smaller g c =
-    let next = c.in-Some.ensures.some in
-    let less = ahead_less c.pages.from c.in-Some.low c.add_pairs.new.self.leaves.leaves next.above next.its in
-    let same = ap (λ (f : Shown). ahead c.pages.from f.leaves) c.add_pairs.ensures.pages in
-    omega (arith, less, same)
+    omega (arith, fewer_ahead c.pages.from c.in-Some.low _ _ c.add_pairs.ensures.pages c.in-Some.ensures.some)
 
 pub pages-preserved : goal.pages-preserved
 pages-preserved g c =
@@ -61,9 +53,7 @@ returns-in-None-clause-value g c =
     (omega (arith, c.pages-test.true, c.len.ensures)) last)
 
 pub returns-in-None-clause-follows : goal.returns-in-None-clause-follows
-returns-in-None-clause-follows g c =
-    (follows_read _ _ (subst (λ (s : Kept). HasRead s (kept_by c.add_pairs.new.self (λ z. (goal.Segment-dyn g z).holding z.1))) c.pages.invariant.same
-    c.add_pairs.ensures.read)).follows
+returns-in-None-clause-follows g c = read_follows _ _ _ c.pages.invariant.same c.add_pairs.ensures.read
 
 pub returns-clause-value : goal.returns-clause-value
 returns-clause-value g c =

@@ -1,11 +1,11 @@
-use Rattle.std.proofs.Common.{inl, ◌∙◌, ap}
+use Rattle.std.proofs.Common.{inl, inr, refl, ◌∙◌, ap}
 use Rattle.std.proofs.lemmas.Result.{err_from_is_err_and}
 use Rattle.bw_care.specs.Upgrading.{old_segments}
 use Rattle.bw_store.specs.Kept.{Kept}
 use Rattle.bw_store.specs.Noted.{Noted}
 use Rattle.bw_store.specs.Views.{kept_by}
-use Rattle.bw_store.proofs.CountsMore.{upgrade_hidden, upgrade_shown}
-use Rattle.bw_store.proofs.UpgradedMore.{upgrade_hides, upgrade_shows}
+use Rattle.bw_store.specs.Upgrading.{UpgradeMoves}
+use Rattle.bw_store.proofs.CountsMore.{hidden_counts, shown_counts}
 use Rattle.bw_store.proofs.Showing.{hides_continues, hides_floor, shows_continues, shows_floor, shows_roster}
 use Rattle.bw_store.proofs.store.Store.upgrade.Goals as goal
 
@@ -17,13 +17,13 @@ returns-in_err-upgraded-clause-leaves g c =
 pub returns-in_err-publish-clause-leaves : goal.returns-in_err-publish-clause-leaves
 returns-in_err-publish-clause-leaves g c =
     let p = err_from_is_err_and c.from_residual-in_err-publish.result c.from_residual-in_err-publish.ensures.1 in
-    rw (p.1, p.2) (upgrade_hides _ _ _ _ c.in_ok-upgraded.ensures.leaves c.in_err-publish.ensures.leaves)
+    rw (p.1, p.2) (inr (refl, (_, (_, c.in_ok-upgraded.ensures.leaves), c.in_err-publish.ensures.leaves)))
 
 pub returns-in_err-publish-clause-follows : goal.returns-in_err-publish-clause-follows
 returns-in_err-publish-clause-follows g c = hides_continues _ _ _ c.in_ok-upgraded.ensures.follows c.in_err-publish.ensures.leaves
 
 pub returns-clause-leaves : goal.returns-clause-leaves
-returns-clause-leaves g c = upgrade_shows _ _ _ _ c.in_ok-upgraded.ensures.leaves c.in_ok-publish.ensures.leaves
+returns-clause-leaves g c = (_, c.in_ok-upgraded.ensures.leaves, c.in_ok-publish.ensures.leaves)
 
 pub returns-clause-follows : goal.returns-clause-follows
 returns-clause-follows g c = shows_continues _ _ _ c.in_ok-upgraded.ensures.follows c.in_ok-publish.ensures.leaves
@@ -50,8 +50,8 @@ returns-in_err-upgraded-clause-counts g c =
 pub returns-in_err-publish-clause-counts : goal.returns-in_err-publish-clause-counts
 returns-in_err-publish-clause-counts g c =
     let p = err_from_is_err_and c.from_residual-in_err-publish.result c.from_residual-in_err-publish.ensures.1 in
-    rw (p.1, p.2) (upgrade_hidden _ _ _ _ _ _ _ c.in_ok-upgraded.ensures.counts (ap (λ (n : Noted). n.tally) c.publish.ensures.noted) c.in_err-publish.ensures.leaves)
+    rw (p.1, p.2) (hidden_counts (λ (s : Kept). old_segments s.log) UpgradeMoves _ _ _ _ _ _ _ c.in_ok-upgraded.ensures.counts (ap (λ (n : Noted). n.tally) c.publish.ensures.noted) c.in_err-publish.ensures.leaves)
 
 pub returns-clause-counts : goal.returns-clause-counts
 returns-clause-counts g c =
-    upgrade_shown _ _ _ _ _ _ _ c.in_ok-upgraded.ensures.counts (ap (λ (n : Noted). n.tally) c.publish.ensures.noted) c.in_ok-publish.ensures.leaves
+    shown_counts (λ (s : Kept). old_segments s.log) UpgradeMoves _ _ _ _ _ _ _ c.in_ok-upgraded.ensures.counts (ap (λ (n : Noted). n.tally) c.publish.ensures.noted) c.in_ok-publish.ensures.leaves

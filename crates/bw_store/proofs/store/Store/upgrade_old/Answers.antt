@@ -11,12 +11,15 @@ use Rattle.bw_store.specs.Kept.{Kept}
 use Rattle.bw_store.specs.Emptied.{Emptied}
 use Rattle.bw_store.specs.Noted.{Noted}
 use Rattle.bw_store.specs.Views.{kept_by}
-use Rattle.bw_store.proofs.CountsMore.{upgrade_counts}
+use Rattle.bw_care.specs.declared.upgrader.Upgraded.{Upgraded}
+use Rattle.bw_care.specs.Upgrading.{IsUpgraded, RefusesUpgrade}
+use Rattle.bw_store.specs.Upgrading.{UpgradeMoves}
+use Rattle.bw_store.proofs.CountsMore.{step_counts}
 use Rattle.bw_store.proofs.FollowMore.{follows_as, follows_left}
 use Rattle.bw_store.proofs.Refusing.{never_nothing}
 use Rattle.bw_store.proofs.SettledMore.{settled_by}
-use Rattle.bw_store.proofs.CleanedMore.{continues_via}
-use Rattle.bw_store.proofs.UpgradedMore.{old_stay, upgrade_floor, upgrade_follows, upgrade_boxes, upgrade_leaves, reserve_halts, never_nothing_old}
+use Rattle.bw_store.proofs.CleanedMore.{continues_via, gives_floor, gives_follows, not_nothing}
+use Rattle.bw_store.proofs.UpgradedMore.{old_stay, upgrade_boxes, upgrade_leaves, reserve_halts}
 use Rattle.bw_care.specs.Upgrading.{old_segments}
 use Rattle.bw_store.proofs.store.Store.upgrade_old.Goals as goal
 
@@ -38,7 +41,7 @@ returns-in_err-reserve_cuts-clause-floor g c =
 
 pub returns-clause-floor : goal.returns-clause-floor
 returns-clause-floor g c =
-    upgrade_floor (kept_by c.args.self.now (λ z. (goal.Segment-dyn g z).holding z.1)) _ _ _
+    gives_floor (λ (x : Upgraded). x.frames) IsUpgraded RefusesUpgrade (kept_by c.args.self.now (λ z. (goal.Segment-dyn g z).holding z.1)) _ _ _
     (ap (λ (s : Kept). s.floor) c.reserve_cuts.ensures.same ∙ (follows_left _ _ _ c.flush_making.ensures.leaves).follows.floor)
     c.upgrade_counted.ensures.leaves
 
@@ -82,7 +85,7 @@ returns-clause-follows g c =
     let durable = ap (λ (s : Kept). s.durable) c.reserve_cuts.ensures.same in
     let low = c.flush_making.ensures.sound.floor in
     continues_via _ _ _ _ (follows_left _ _ _ c.flush_making.ensures.leaves).follows c.reserve_cuts.ensures.same
-    (upgrade_follows _ _ _ (omega arith) c.upgrade_counted.ensures.leaves)
+    (gives_follows (λ (x : Upgraded). x.frames) IsUpgraded RefusesUpgrade _ _ _ (omega arith) c.upgrade_counted.ensures.leaves)
 
 pub returns-clause-boxes : goal.returns-clause-boxes
 returns-clause-boxes g c =
@@ -108,7 +111,7 @@ returns-clause-nothing_old g c =
     let live = c.old_segments.ensures in
     let many = c.if-old_segments-eq0.false in
     let same = ap (λ (s : Kept). old_segments s.log) c.reserve_cuts.ensures.same in
-    (λ e. absurd (never_nothing_old _ _ _ (omega arith) c.upgrade_counted.ensures.leaves e), λ few. absurd (omega arith))
+    (λ e. absurd (not_nothing (λ (x : Upgraded). x.frames) IsUpgraded RefusesUpgrade _ _ _ (λ r. (let none = r.1 in omega arith)) c.upgrade_counted.ensures.leaves e), λ few. absurd (omega arith))
 
 pub returns-clause-counts : goal.returns-clause-counts
 returns-clause-counts g c =
@@ -117,7 +120,7 @@ returns-clause-counts g c =
     let begun : Emptied true (kept_by c.args.self.now (λ z. (goal.Segment-dyn g z).holding z.1))
     (kept_by c.reserve_cuts.new.self (λ z. (goal.Segment-dyn g z).holding z.1)) = rw c.reserve_cuts.ensures.same empty in
     let tally = ap (λ (n : Noted). n.tally) (c.reserve_cuts.ensures.stays ∙ c.flush_making.ensures.noted) in
-    upgrade_counts _ _ _ c.upgrade_counted.result _ _ begun c.upgrade_counted.ensures.leaves
+    step_counts (λ (s : Kept). old_segments s.log) UpgradeMoves _ _ _ c.upgrade_counted.result _ _ begun c.upgrade_counted.ensures.leaves
     (c.upgrade_counted.ensures.counts
     ∙ ap (λ (t : Tally). counted_gone (old_segments (kept_by c.reserve_cuts.new.self (λ z. (goal.Segment-dyn g z).holding z.1)).log) t
     (kept_by c.reserve_cuts.new.self (λ z. (goal.Segment-dyn g z).holding z.1)) (is_ok c.upgrade_counted.result)

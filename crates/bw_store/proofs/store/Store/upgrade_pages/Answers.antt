@@ -1,123 +1,68 @@
-use Rattle.std.proofs.Common.{◌≡◌, ◌∙◌, refl, sym, ap, subst}
+use Rattle.std.proofs.Common.{◌∙◌, sym, ap, subst}
 use Rattle.bw_care.specs.Upgrading.{old_segments}
-use Rattle.bw_care.specs.Upgrading as upgrades
-use Rattle.bw_store.specs.Kept.{Kept}
+use Rattle.bw_care.specs.Upgrading as care
 use Rattle.bw_store.specs.Kept as kept
 use Rattle.bw_store.specs.Views.{kept_by}
-use Rattle.bw_store.proofs.CleanedMore.{Begins}
+use Rattle.bw_store.proofs.CleanedMore.{Begins, done_sound, has_given, few_newest, has_stopped, note_some, note_after, note_few, note_room, notes_of, refused_sound, there}
 use Rattle.bw_store.proofs.UpgradedMore.{upgrades_of, upgraded_cleans, upgraded_told, halted_of, halted_cleans, halted_counts}
-use Rattle.bw_store.proofs.CleanedMore.{there, few_newest, note_some, note_after, note_few, note_room, note_frames, notes_of, cleaned_sound, refused_sound, moved_done, moved_kept, moved_told}
 use Rattle.bw_store.proofs.store.Store.upgrade_pages.Goals as goal
-
-pub note_moved-requires-clause-some : goal.note_moved-requires-clause-some
-note_moved-requires-clause-some g c =
-    let s = kept_by c.args.self.now (λ z. (goal.Segment-dyn g z).holding z.1) in
-    let r = c.requires in
-    let b : Begins s = record { sound = r.sound; done = r.settled; empty = r.empty; works = r.works } in
-    let e = c.upgrade-result.ensures in
-    let x = upgrades_of s _ c.upgrade-result.result b r.some e.sound e.upgraded e.refused e.stands in
-    note_some s _ _ x c.next_frame-first.result r.sound c.next_frame-first.ensures
-
-pub note_moved-requires-clause-after : goal.note_moved-requires-clause-after
-note_moved-requires-clause-after g c =
-    let s = kept_by c.args.self.now (λ z. (goal.Segment-dyn g z).holding z.1) in
-    let r = c.requires in
-    let b : Begins s = record { sound = r.sound; done = r.settled; empty = r.empty; works = r.works } in
-    let e = c.upgrade-result.ensures in
-    let x = upgrades_of s _ c.upgrade-result.result b r.some e.sound e.upgraded e.refused e.stands in
-    note_after s _ _ x c.next_frame-first.result r.sound c.next_frame-first.ensures
-
-pub note_moved-requires-clause-few : goal.note_moved-requires-clause-few
-note_moved-requires-clause-few g c =
-    let s = kept_by c.args.self.now (λ z. (goal.Segment-dyn g z).holding z.1) in
-    let r = c.requires in
-    let b : Begins s = record { sound = r.sound; done = r.settled; empty = r.empty; works = r.works } in
-    let e = c.upgrade-result.ensures in
-    let x = upgrades_of s _ c.upgrade-result.result b r.some e.sound e.upgraded e.refused e.stands in
-    note_few s _ _ x c.next_frame-first.result r.sound c.next_frame-first.ensures
-
-pub note_moved-requires-clause-room : goal.note_moved-requires-clause-room
-note_moved-requires-clause-room g c =
-    let s = kept_by c.args.self.now (λ z. (goal.Segment-dyn g z).holding z.1) in
-    let r = c.requires in
-    let b : Begins s = record { sound = r.sound; done = r.settled; empty = r.empty; works = r.works } in
-    let e = c.upgrade-result.ensures in
-    let x = upgrades_of s _ c.upgrade-result.result b r.some e.sound e.upgraded e.refused e.stands in
-    note_room s _ _ x c.next_frame-first.result r.sound c.next_frame-first.ensures _ _ r.room
-
-pub note_moved-requires-clause-unsealed : goal.note_moved-requires-clause-unsealed
-note_moved-requires-clause-unsealed g c = c.requires.sound.sealed ∙ c.requires.works
-
-pub note_moved-requires-clause-count : goal.note_moved-requires-clause-count
-note_moved-requires-clause-count g c = few_newest (kept_by c.args.self.now (λ z. (goal.Segment-dyn g z).holding z.1)) c.requires.sound c.requires.settled
-
-pub note_moved-requires-clause-there : goal.note_moved-requires-clause-there
-note_moved-requires-clause-there g c =
-    let s = kept_by c.args.self.now (λ z. (goal.Segment-dyn g z).holding z.1) in
-    let r = c.requires in
-    let b : Begins s = record { sound = r.sound; done = r.settled; empty = r.empty; works = r.works } in
-    let e = c.upgrade-result.ensures in
-    let x = upgrades_of s _ c.upgrade-result.result b r.some e.sound e.upgraded e.refused e.stands in
-    λ p from to. there s _ x p from to r.sound
-
-pub returns-in-Ok-clause-sound : goal.returns-in-Ok-clause-sound
-returns-in-Ok-clause-sound g c =
-    let s = kept_by c.args.self.now (λ z. (goal.Segment-dyn g z).holding z.1) in
-    let r = c.requires in
-    let b : Begins s = record { sound = r.sound; done = r.settled; empty = r.empty; works = r.works } in
-    let e = c.upgrade-result.ensures in
-    let n = c.note_moved.ensures in
-    let x = upgraded_cleans s c.in-Ok.upgraded _ b e.sound c.in-Ok.ensures.upgraded e.stands in
-    subst kept.IsSound (sym (moved_done s _ _ c.note_moved.result c.note_moved.result _ _ n.noted refl))
-    (cleaned_sound s _ b _ c.note_moved.result _ _ _
-    (notes_of s _ _ x c.next_frame-first.result r.sound c.next_frame-first.ensures c.note_moved.result _ _ n.frames n.count n.each n.limit n.empty n.sealed n.number))
-
-pub returns-in-Ok-clause-leaves : goal.returns-in-Ok-clause-leaves
-returns-in-Ok-clause-leaves g c =
-    let s = kept_by c.args.self.now (λ z. (goal.Segment-dyn g z).holding z.1) in
-    let r = c.requires in
-    let b : Begins s = record { sound = r.sound; done = r.settled; empty = r.empty; works = r.works } in
-    let e = c.upgrade-result.ensures in
-    let n = c.note_moved.ensures in
-    let x = upgraded_cleans s c.in-Ok.upgraded _ b e.sound c.in-Ok.ensures.upgraded e.stands in
-    let same : c.note_moved.result ≡ c.in-Ok.upgraded.frames =
-    note_frames s _ _ x c.next_frame-first.result r.sound c.next_frame-first.ensures c.note_moved.result n.frames ∙ upgraded_told s c.in-Ok.upgraded _ b e.sound c.in-Ok.ensures.upgraded e.stands in
-    record {
-      is = moved_told s _ _ c.note_moved.result c.in-Ok.upgraded.frames _ _ n.noted same;
-      empty = n.empty;
-      log = subst (upgrades.IsUpgraded s.log c.in-Ok.upgraded) (sym (ap (λ (k : kept.Kept). k.log) n.noted)) c.in-Ok.ensures.upgraded;
-    }
-
-pub returns-in-Err-clause-sound : goal.returns-in-Err-clause-sound
-returns-in-Err-clause-sound g c =
-    let s = kept_by c.args.self.now (λ z. (goal.Segment-dyn g z).holding z.1) in
-    let r = c.requires in
-    let b : Begins s = record { sound = r.sound; done = r.settled; empty = r.empty; works = r.works } in
-    let e = c.upgrade-result.ensures in
-    let n = c.note_moved.ensures in
-    let stop = halted_of s c.in-Err.fault _ b r.some c.in-Err.ensures.refused in
-    let x = halted_cleans s stop.0 _ b e.sound stop.1 e.stands in
-    subst kept.IsSound (sym n.noted)
-    (refused_sound s _ b _ c.note_moved.result _ _ _
-    (notes_of s _ _ x c.next_frame-first.result r.sound c.next_frame-first.ensures c.note_moved.result _ _ n.frames n.count n.each n.limit n.empty n.sealed n.number)
-    (halted_counts s stop.0 _ b e.sound stop.1 e.stands))
 
 pub upgrade-result-requires-clause-some : goal.upgrade-result-requires-clause-some
 upgrade-result-requires-clause-some g c = c.requires.settled.stands.some
 
-pub returns-in-Ok-clause-none_left : goal.returns-in-Ok-clause-none_left
-returns-in-Ok-clause-none_left g c = ap (λ (k : Kept). old_segments k.log) c.note_moved.ensures.noted ∙ c.in-Ok.ensures.none_left
-
-pub returns-in-Err-clause-leaves : goal.returns-in-Err-clause-leaves
-returns-in-Err-clause-leaves g c =
+pub note_moved-requires : goal.note_moved-requires
+note_moved-requires g c =
     let s = kept_by c.args.self.now (λ z. (goal.Segment-dyn g z).holding z.1) in
-    let n = c.note_moved.ensures in (
-      c.in-Err.fault,
-      c.from.ensures,
-      record {
-        frames = c.note_moved.result;
-        is = moved_kept s _ _ c.note_moved.result _ _ n.noted;
-        empty = n.empty;
-        log = subst (upgrades.RefusesUpgrade c.in-Err.fault s.log) (sym (ap (λ (k : kept.Kept). k.log) n.noted)) c.in-Err.ensures.refused;
-      },
-    )
+    let r = c.requires in
+    let b : Begins s = record { sound = r.sound; done = r.settled; empty = r.empty; works = r.works } in
+    let e = c.upgrade-result.ensures in
+    let x = upgrades_of s _ c.upgrade-result.result b r.some e.sound e.upgraded e.refused e.stands in
+    let first = c.next_frame-first in
+    record {
+      sound = e.sound;
+      some = note_some s _ _ x first.result r.sound first.ensures;
+      after = note_after s _ _ x first.result r.sound first.ensures;
+      few = note_few s _ _ x first.result r.sound first.ensures;
+      room = note_room s _ _ x first.result r.sound first.ensures _ _ r.room;
+      empty = r.empty;
+      unsealed = r.sound.sealed ∙ r.works;
+      count = few_newest s r.sound r.settled;
+      there = λ p from to. there s _ x p from to r.sound;
+    }
+
+pub returns-in-Ok : goal.returns-in-Ok
+returns-in-Ok g c =
+    let s = kept_by c.args.self.now (λ z. (goal.Segment-dyn g z).holding z.1) in
+    let b : Begins s = record { sound = c.requires.sound; done = c.requires.settled; empty = c.requires.empty; works = c.requires.works } in
+    let n = c.note_moved.ensures in
+    let x = upgraded_cleans s c.in-Ok.upgraded _ b c.upgrade-result.ensures.sound c.in-Ok.ensures.upgraded c.upgrade-result.ensures.stands in
+    let notes = notes_of s _ _ x c.next_frame-first.result c.requires.sound c.next_frame-first.ensures
+    c.note_moved.result _ _ n.frames n.count n.each n.limit n.empty n.sealed n.number in
+    let told = notes.frames_are ∙ upgraded_told s c.in-Ok.upgraded _ b c.upgrade-result.ensures.sound c.in-Ok.ensures.upgraded c.upgrade-result.ensures.stands in
+    record {
+      sound = done_sound s _ b notes n.noted;
+      leaves = has_given (care.IsUpgraded s.log c.in-Ok.upgraded) s _ n.noted told n.empty c.in-Ok.ensures.upgraded;
+      none_left = ap (λ (k : kept.Kept). old_segments k.log) n.noted ∙ c.in-Ok.ensures.none_left;
+      noted = n.stays;
+    }
+
+pub returns-in-Err : goal.returns-in-Err
+returns-in-Err g c =
+    let s = kept_by c.args.self.now (λ z. (goal.Segment-dyn g z).holding z.1) in
+    let b : Begins s = record { sound = c.requires.sound; done = c.requires.settled; empty = c.requires.empty; works = c.requires.works } in
+    let n = c.note_moved.ensures in
+    let stop = halted_of s c.in-Err.fault _ b c.requires.some c.in-Err.ensures.refused in
+    let x = halted_cleans s stop.0 _ b c.upgrade-result.ensures.sound stop.1 c.upgrade-result.ensures.stands in
+    let notes = notes_of s _ _ x c.next_frame-first.result c.requires.sound c.next_frame-first.ensures
+    c.note_moved.result _ _ n.frames n.count n.each n.limit n.empty n.sealed n.number in
+    record {
+      sound = subst kept.IsSound (sym n.noted)
+          (refused_sound s _ b _ c.note_moved.result _ _ _ notes (halted_counts s stop.0 _ b c.upgrade-result.ensures.sound stop.1 c.upgrade-result.ensures.stands));
+      leaves = (
+        c.in-Err.fault,
+        c.from.ensures,
+        has_stopped (care.RefusesUpgrade c.in-Err.fault s.log) s _ c.note_moved.result n.noted n.empty c.in-Err.ensures.refused,
+      );
+      none_left = tt;
+      noted = n.stays;
+    }
