@@ -1,13 +1,16 @@
 -- The frames of the tests may be appended one after the other.
 
-use Rattle.std.proofs.Common.{◌≡◌, ℕ, ◌≤◌, ◌==◌, lit≤, lit<, Some, false, true, List, [], ◌∷◌, ◌++◌, refl, sym, ap, subst, ◌∙◌, arith}
+use Rattle.std.proofs.Common.{◌≡◌, ℕ, ◌^◌, ◌<◌, ◌≤◌, ◌==◌, lit≤, lit<, Some, false, true, IsTrue, List, [], ◌∷◌, ◌++◌, length, refl, sym, ap, subst, ◌∙◌, arith}
 use Rattle.std.proofs.lemmas.Bool.{ne_eqb}
 use Rattle.std.specs.List.{AllByRecursion}
-use Rattle.bw_codec.specs.Bytes.{number_bytes}
-use Rattle.bw_codec.specs.Grammar.{IsBlock, IsFrame}
+use Rattle.bw_codec.specs.Bytes.{number_bytes, ascends}
+use Rattle.bw_codec.specs.Grammar.{IsPair, IsPlace, IsBlock, IsFrame}
+use Rattle.bw_codec.specs.Touch.{touches}
 use Rattle.bw_codec.specs.declared.leaf.Leaf.{Leaf}
+use Rattle.bw_codec.specs.declared.block.Block.TheVariants.{Base}
 use Rattle.bw_codec.specs.declared.block.Frame.{Frame}
-use Rattle.bw_page.specs.Leaves.{leaf_at}
+use Rattle.bw_codec.specs.declared.block.Place.{Place}
+use Rattle.bw_page.specs.Leaves.{home, leaf_at, Pairs}
 use Rattle.bw_page.specs.Standing.{content, blocks_of, Stand}
 use Rattle.bw_log.specs.Places.{AreLinked}
 use Rattle.bw_log.specs.Segments.{next_of}
@@ -16,44 +19,48 @@ use Rattle.bw_device.specs.Holding.{Holding}
 use Rattle.bw_buffer.specs.Filling.{Filling, frame_of}
 use Rattle.bw_log.specs.Limits.{fresh}
 use Rattle.bw_log.specs.Appends.{MayFollow, Appended, IsSameLog}
-use Rattle.log_tests.specs.OnePage.{Counts}
-use Rattle.log_tests.specs.Examples.{first_blocks, first_example, second_blocks, split_frame_2, first_leaf}
+use Rattle.log_tests.specs.OnePage.{leaf_with, put_of, put_after, first_with, frame_of_one, Counts}
+use Rattle.log_tests.specs.Examples.{first_blocks, first_example, first_leaf}
 
-pub first_lawful : (m : ℕ) → 1 ≤ m → AllByRecursion (IsBlock m) first_blocks
-first_lawful m some = (
-  record { page = (lit≤ tt, lit< tt); low = lit≤ tt; count = omega arith; pairs = tt; ascends = refl },
-  (
-    record {
-      changes = (lit≤ tt, lit< tt);
-      links = record { frame = (lit≤ tt, lit< tt); index = lit< tt };
-      count = (lit≤ tt, lit< tt);
-      each = (((lit≤ tt, lit≤ tt), lit≤ tt), tt);
-    },
-    tt,
-  ),
-)
+-- ---- lawful blocks and frames of page 1
 
-pub second_lawful : (m : ℕ) → AllByRecursion (IsBlock m) second_blocks
-second_lawful m = (
-  record {
-    changes = (lit≤ tt, lit< tt);
-    links = record { frame = (lit≤ tt, lit< tt); index = lit< tt };
-    count = (lit≤ tt, lit< tt);
-    each = (((lit≤ tt, lit≤ tt), lit≤ tt), tt);
-  },
-  tt,
-)
+-- a key of one byte and a value of one byte
+pub short : (key value : ℕ) → IsPair (key ∷ [], value ∷ [])
+short key value = ((lit≤ tt, lit≤ tt), lit≤ tt)
 
-pub first_frame_lawful : IsFrame 4 65536 first_example
+pub page_lawful : (m : ℕ) (pairs : Pairs) → length pairs ≤ m → AllByRecursion IsPair pairs → IsTrue (ascends pairs) → IsBlock m (Base (leaf_with pairs))
+page_lawful m pairs few each in_order = record { page = (lit≤ tt, lit< tt); low = lit≤ tt; count = few; pairs = each; ascends = in_order }
+
+pub empty_lawful : (m : ℕ) → IsBlock m (Base (leaf_with []))
+empty_lawful m = page_lawful m [] (omega arith) tt refl
+
+pub put_lawful : (m : ℕ) (back : Place) (key value : ℕ) → IsPlace back → IsBlock m (put_after back key value)
+put_lawful m back key value place = record { changes = (lit≤ tt, lit< tt); links = place; count = (lit≤ tt, lit< tt); each = (short key value, tt) }
+
+-- a frame of one put
+pub put_frame_lawful : (n : ℕ) (back : Place) (key value : ℕ) → 1 ≤ n → n < 2 ^ 64 → IsPlace back
+    → IsFrame 4 65536 (frame_of_one n (put_after back key value))
 unfolding number_bytes
-first_frame_lawful = record {
-  head = record { numbered = (lit≤ tt, lit< tt); fits = (lit≤ tt, lit≤ tt); some = (lit≤ tt, lit< tt) };
-  blocks = first_lawful 4 (lit≤ tt);
+put_frame_lawful n back key value from to place = record {
+  head = record { numbered = (from, to); fits = (lit≤ tt, lit≤ tt); some = (lit≤ tt, lit< tt) };
+  blocks = (put_lawful 4 back key value place, tt);
 }
 
-pub second_frame_lawful : IsFrame 4 65536 split_frame_2
+-- the first frame, with one put
+pub first_of_lawful : (key value : ℕ) → IsFrame 4 65536 (record { number = 1; blocks = first_with (put_of key value ∷ []) })
 unfolding number_bytes
-second_frame_lawful = record { head = record { numbered = (lit≤ tt, lit< tt); fits = (lit≤ tt, lit≤ tt); some = (lit≤ tt, lit< tt) }; blocks = second_lawful 4 }
+first_of_lawful key value = record {
+  head = record { numbered = (lit≤ tt, lit< tt); fits = (lit≤ tt, lit≤ tt); some = (lit≤ tt, lit< tt) };
+  blocks = (
+    empty_lawful 4,
+    (put_lawful 4 (record { frame = 1; index = 0 }) key value (record { frame = (lit≤ tt, lit< tt); index = lit< tt }), tt),
+  );
+}
+
+pub first_frame_lawful : IsFrame 4 65536 first_example
+first_frame_lawful = first_of_lawful 107 118
+
+-- ---- frames that stand for page 1 alone
 
 pub only_one : (p : ℕ) → 1 ≤ p → p ≤ 1 → p ≡ 1
 only_one p from to = omega arith
@@ -61,19 +68,34 @@ only_one p from to = omega arith
 pub not_one : (p : ℕ) → 2 ≤ p → (1 == p) ≡ false
 not_one p from = ne_eqb 1 p (λ e. absurd (omega arith))
 
+all_at_home : (leaf : Leaf) (pairs : Pairs) → AllByRecursion (λ p. (home p.0 (leaf ∷ [])).page ≡ leaf.page) pairs
+all_at_home leaf [] = tt
+all_at_home leaf (p ∷ pairs) = (refl, all_at_home leaf pairs)
+
+-- the blocks say this of page 1, and nothing of another page
+pub page_stands : (frames : List Frame) (pairs : Pairs) → 1 ≤ length frames → IsBlock 4 (Base (leaf_with pairs))
+    → content 1 (blocks_of frames) ≡ Some (leaf_with pairs)
+    → ((p : ℕ) → 2 ≤ p → AllByRecursion (λ b. touches p b ≡ false) (blocks_of frames)) → Stand 4 frames (leaf_with pairs ∷ [])
+page_stands frames pairs some lawful is other =
+    let page = leaf_with pairs in
+    record {
+      some = some;
+      lawful = record { pages = (refl, tt); first = refl; lows = ((λ _. refl, tt), tt); each = (lawful, tt); homes = (all_at_home page pairs, tt) };
+      each = λ p from to. subst (λ n. content n (blocks_of frames) ≡ leaf_at n (page ∷ [])) (sym (only_one p from to)) is;
+      all = other;
+    }
+
+-- the first frame, with one put
+pub first_of_stands : (key value : ℕ) → Stand 4 (record { number = 1; blocks = first_with (put_of key value ∷ []) } ∷ [])
+    (leaf_with ((key ∷ [], value ∷ []) ∷ []) ∷ [])
+first_of_stands key value =
+    page_stands (record { number = 1; blocks = first_with (put_of key value ∷ []) } ∷ []) ((key ∷ [], value ∷ []) ∷ []) (lit≤ tt)
+    (page_lawful 4 ((key ∷ [], value ∷ []) ∷ []) (lit≤ tt) (short key value, tt) refl) refl (λ p h. (not_one p h, (not_one p h, tt)))
+
 pub first_stands : Stand 4 (first_example ∷ []) (first_leaf ∷ [])
-first_stands = record {
-  some = omega arith;
-  lawful = record {
-    pages = (refl, tt);
-    first = refl;
-    lows = ((λ _. refl, tt), tt);
-    each = (record { page = (lit≤ tt, lit< tt); low = lit≤ tt; count = lit≤ tt; pairs = (((lit≤ tt, lit≤ tt), lit≤ tt), tt); ascends = refl }, tt);
-    homes = ((refl, tt), tt);
-  };
-  each = λ p l h. subst (λ n. content n (blocks_of (first_example ∷ [])) ≡ leaf_at n (first_leaf ∷ [])) (sym (only_one p l h)) refl;
-  all = λ p h. (not_one p h, (not_one p h, tt));
-}
+first_stands = first_of_stands 107 118
+
+-- ---- frames that may follow
 
 -- a frame may follow where it may follow these frames
 pub follows_of : (c : Contents) (all : List Frame) (x : Frame) (leaves : List Leaf) → IsSound c → counted c ≡ all → c.m ≡ 4 → c.f ≡ 65536

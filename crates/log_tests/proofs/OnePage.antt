@@ -18,7 +18,6 @@ use Rattle.bw_page.specs.Standing.{after, content, blocks_of, Stand}
 use Rattle.bw_page.proofs.Law.{applied-lawful, applied-whole}
 use Rattle.bw_buffer.specs.Filling.{Filling, frame_of}
 use Rattle.bw_buffer.proofs.Holding.{few_blocks}
-use Rattle.bw_codec.specs.Bytes.{number_bytes}
 use Rattle.bw_log.specs.Places.{all_placed, place_of, base_of, fault_of, bad_link, first_number, AreLinked}
 use Rattle.bw_log.specs.Contents.{Contents, Image, counted, IsSound}
 use Rattle.bw_log.specs.Appends.{MayFollow, AfterAppend}
@@ -33,7 +32,7 @@ use Rattle.bw_log.proofs.Reread.{length-frame}
 use Rattle.bw_log.proofs.Torn.{some_is}
 use Rattle.bw_log.proofs.Walks.{blocks_more, content_push}
 use Rattle.log_tests.specs.OnePage.{leaf_with, put_of, first_with, put_after, frame_of_one, Counts, HoldsOne, Opens}
-use Rattle.log_tests.proofs.Exampled.{only_one, not_one, follows_of}
+use Rattle.log_tests.proofs.Exampled.{only_one, not_one, first_of_lawful, first_of_stands, follows_of}
 
 -- ---- one block more, behind frames that stand for one page
 
@@ -241,58 +240,26 @@ first_page key value = leaf_with ((key ∷ [], value ∷ []) ∷ [])
 abbrev first_blocks_of : ℕ → ℕ → List Block
 first_blocks_of key value = first_with (put_of key value ∷ [])
 
-first_of_lawful : (key value : ℕ) → IsFrame 4 65536 (record { number = 1; blocks = first_blocks_of key value })
-unfolding number_bytes
-first_of_lawful key value = record {
-  head = record { numbered = (lit≤ tt, lit< tt); fits = (lit≤ tt, lit≤ tt); some = (lit≤ tt, lit< tt) };
-  blocks = (
-    record { page = (lit≤ tt, lit< tt); low = lit≤ tt; count = lit≤ tt; pairs = tt; ascends = refl },
-    (
-      record {
-        changes = (lit≤ tt, lit< tt);
-        links = record { frame = (lit≤ tt, lit< tt); index = lit< tt };
-        count = (lit≤ tt, lit< tt);
-        each = (((lit≤ tt, lit≤ tt), lit≤ tt), tt);
-      },
-      tt,
-    ),
-  );
-}
+-- a first frame opens a log of its page
+pub opens_with : (blocks : List Block) (pairs : Pairs) → IsFrame 4 65536 (record { number = 1; blocks = blocks })
+    → AreLinked (record { number = 1; blocks = blocks } ∷ []) → Stand 4 (record { number = 1; blocks = blocks } ∷ []) (leaf_with pairs ∷ [])
+    → Opens (filled 1 blocks) (leaf_with pairs)
+opens_with blocks pairs lawful linked stands =
+    record { sealed = refl; limit = refl; number = refl; lawful = lawful; linked = linked; is = refl; stands = stands }
 
-first_of_stands : (key value : ℕ) → Stand 4 (record { number = 1; blocks = first_blocks_of key value } ∷ []) (first_page key value ∷ [])
-first_of_stands key value = record {
-  some = lit≤ tt;
-  lawful = record {
-    pages = (refl, tt);
-    first = refl;
-    lows = ((λ _. refl, tt), tt);
-    each = (record { page = (lit≤ tt, lit< tt); low = lit≤ tt; count = lit≤ tt; pairs = (((lit≤ tt, lit≤ tt), lit≤ tt), tt); ascends = refl }, tt);
-    homes = ((refl, tt), tt);
-  };
-  each = λ p from to.
-      subst (λ n. content n (blocks_of (record { number = 1; blocks = first_blocks_of key value } ∷ [])) ≡ leaf_at n (first_page key value ∷ []))
-      (sym (only_one p from to)) refl;
-  all = λ p from. (not_one p from, (not_one p from, tt));
-}
+-- as it is made: of these records, and of the empty page with the last of them
+pub opens_made : (b : Filling) (ops all : List Record) (leaf empty page : Leaf) (r last : Record) → ops ≡ all → b ≡ filled 1 (first_with ops)
+    → r ≡ last → empty ≡ leaf_with [] → leaf ≡ changed r empty → changed last (leaf_with []) ≡ page → Opens (filled 1 (first_with all)) page → Opens b leaf
+opens_made b ops all leaf empty page r last ops_is is r_is none made last_is opens =
+    let frame_is = is ∙ ap (λ (o : List Record). filled 1 (first_with o)) ops_is in
+    let page_is : leaf ≡ page = made ∙ ap (λ (l : Leaf). changed r l) none ∙ ap (λ (k : Record). changed k (leaf_with [])) r_is ∙ last_is in
+    subst (λ (f : Filling). Opens f leaf) (sym frame_is) (subst (Opens (filled 1 (first_with all))) (sym page_is) opens)
 
-first_opens : (key value : ℕ) → Opens (filled 1 (first_blocks_of key value)) (first_page key value)
-first_opens key value = record {
-  sealed = refl;
-  limit = refl;
-  number = refl;
-  lawful = first_of_lawful key value;
-  linked = refl;
-  is = refl;
-  stands = first_of_stands key value;
-}
-
--- as they are made
 pub opens_as : (b : Filling) (ops : List Record) (key value : ℕ) (leaf empty : Leaf) (r : Record) → ops ≡ put_of key value ∷ []
     → b ≡ filled 1 (first_with ops) → r ≡ put_of key value → empty ≡ leaf_with [] → leaf ≡ changed r empty → Opens b leaf
-opens_as b ops key value leaf empty r ops_is is r_is none page =
-    let frame_is = is ∙ ap (λ (o : List Record). filled 1 (first_with o)) ops_is in
-    let page_is : leaf ≡ first_page key value = page ∙ ap (λ (l : Leaf). changed r l) none ∙ ap (λ (k : Record). changed k (leaf_with [])) r_is in
-    subst (λ (f : Filling). Opens f leaf) (sym frame_is) (subst (Opens (filled 1 (first_blocks_of key value))) (sym page_is) (first_opens key value))
+opens_as b ops key value leaf empty r ops_is is r_is none made =
+    opens_made b ops (put_of key value ∷ []) leaf empty (first_page key value) r (put_of key value) ops_is is r_is none made refl
+    (opens_with (first_blocks_of key value) ((key ∷ [], value ∷ []) ∷ []) (first_of_lawful key value) refl (first_of_stands key value))
 
 -- such a frame may follow where none is counted
 pub opens_follows : (c : Contents) (b : Filling) (leaf : Leaf) → Counts c [] → Opens b leaf → MayFollow c (frame_of b)

@@ -1,65 +1,43 @@
 -- The frames of the vector of a page that is split in two may be appended one after the other.
 
-use Rattle.std.proofs.Common.{◌≡◌, ℕ, suc, zero, ◌+◌, ◌≤◌, ◌==◌, ◌||◌, lit≤, lit<, Ok, false, List, [], ◌∷◌, ◌++◌, refl, sym, ap, subst, ◌∙◌, arith}
+use Rattle.std.proofs.Common.{◌≡◌, ℕ, suc, zero, ◌+◌, ◌^◌, ◌<◌, ◌≤◌, ◌==◌, ◌||◌, lit≤, lit<, Ok, false, List, [], ◌∷◌, ◌++◌, refl, sym, ap, subst, ◌∙◌, arith}
 use Rattle.std.proofs.lemmas.Bool.{ne_eqb}
 use Rattle.bw_codec.specs.Bytes.{number_bytes}
-use Rattle.bw_codec.specs.Grammar.{IsFrame}
+use Rattle.bw_codec.specs.Grammar.{IsPlace, IsBlock, IsFrame}
 use Rattle.bw_codec.specs.declared.leaf.Leaf.{Leaf}
+use Rattle.bw_codec.specs.declared.block.Block.TheVariants.{Base}
 use Rattle.bw_codec.specs.declared.block.Frame.{Frame}
-use Rattle.bw_page.specs.Leaves.{leaf_at}
+use Rattle.bw_page.specs.Leaves.{leaf_at, Pairs}
 use Rattle.bw_page.specs.Standing.{content, blocks_of, Stand}
 use Rattle.bw_log.specs.Contents.{Contents}
 use Rattle.bw_log.specs.Appends.{MayFollow, AfterAppend}
-use Rattle.log_tests.specs.Examples.{split_frame_2, split_frame_1, split_frame_3, split_frame_4, split_frame_5, split_blocks, split_frames, leaf_with, split_upper}
-use Rattle.log_tests.specs.OnePage.{Counts}
-use Rattle.log_tests.proofs.Exampled.{only_one, not_one, follows_of, more_counts, second_frame_lawful}
+use Rattle.log_tests.specs.Examples.{split_frame_2, split_frame_1, split_frame_3, split_frame_4, split_frame_5, split_blocks, split_frames, split_upper}
+use Rattle.log_tests.specs.OnePage.{Counts, leaf_with}
+use Rattle.log_tests.proofs.Exampled.{not_one, short, page_lawful, put_lawful, put_frame_lawful, first_of_lawful, first_of_stands, page_stands, follows_of, more_counts}
+
+-- a place in a frame that was appended
+place : (frame index : ℕ) → 1 ≤ frame → frame < 2 ^ 64 → index < 2 ^ 32 → IsPlace (record { frame = frame; index = index })
+place frame index from to below = record { frame = (from, to); index = below }
 
 opening_lawful : IsFrame 4 65536 split_frame_1
-unfolding number_bytes
-opening_lawful = record {
-  head = record { numbered = (lit≤ tt, lit< tt); fits = (lit≤ tt, lit≤ tt); some = (lit≤ tt, lit< tt) };
-  blocks = (
-    record { page = (lit≤ tt, lit< tt); low = lit≤ tt; count = lit≤ tt; pairs = tt; ascends = refl },
-    (
-      record {
-        changes = (lit≤ tt, lit< tt);
-        links = record { frame = (lit≤ tt, lit< tt); index = lit< tt };
-        count = (lit≤ tt, lit< tt);
-        each = (((lit≤ tt, lit≤ tt), lit≤ tt), tt);
-      },
-      tt,
-    ),
-  );
-}
+opening_lawful = first_of_lawful 97 49
+
+second_lawful : IsFrame 4 65536 split_frame_2
+second_lawful = put_frame_lawful 2 (record { frame = 1; index = 1 }) 98 50 (lit≤ tt) (lit< tt) (place 1 1 (lit≤ tt) (lit< tt) (lit< tt))
 
 third_lawful : IsFrame 4 65536 split_frame_3
-unfolding number_bytes
-third_lawful = record {
-  head = record { numbered = (lit≤ tt, lit< tt); fits = (lit≤ tt, lit≤ tt); some = (lit≤ tt, lit< tt) };
-  blocks = (
-    record {
-      changes = (lit≤ tt, lit< tt);
-      links = record { frame = (lit≤ tt, lit< tt); index = lit< tt };
-      count = (lit≤ tt, lit< tt);
-      each = (((lit≤ tt, lit≤ tt), lit≤ tt), tt);
-    },
-    tt,
-  );
-}
+third_lawful = put_frame_lawful 3 (record { frame = 2; index = 0 }) 99 51 (lit≤ tt) (lit< tt) (place 2 0 (lit≤ tt) (lit< tt) (lit< tt))
 
 fourth_lawful : IsFrame 4 65536 split_frame_4
-unfolding number_bytes
-fourth_lawful = record {
-  head = record { numbered = (lit≤ tt, lit< tt); fits = (lit≤ tt, lit≤ tt); some = (lit≤ tt, lit< tt) };
-  blocks = (
-    record {
-      changes = (lit≤ tt, lit< tt);
-      links = record { frame = (lit≤ tt, lit< tt); index = lit< tt };
-      count = (lit≤ tt, lit< tt);
-      each = (((lit≤ tt, lit≤ tt), lit≤ tt), tt);
-    },
-    tt,
-  );
+fourth_lawful = put_frame_lawful 4 (record { frame = 3; index = 0 }) 100 52 (lit≤ tt) (lit< tt) (place 3 0 (lit≤ tt) (lit< tt) (lit< tt))
+
+upper_lawful : IsBlock 4 (Base split_upper)
+upper_lawful = record {
+  page = (lit≤ tt, lit< tt);
+  low = lit≤ tt;
+  count = lit≤ tt;
+  pairs = (short 99 51, (short 100 52, (short 101 53, tt)));
+  ascends = refl;
 }
 
 fifth_lawful : IsFrame 4 65536 split_frame_5
@@ -67,23 +45,12 @@ unfolding number_bytes
 fifth_lawful = record {
   head = record { numbered = (lit≤ tt, lit< tt); fits = (lit≤ tt, lit≤ tt); some = (lit≤ tt, lit< tt) };
   blocks = (
-    record {
-      changes = (lit≤ tt, lit< tt);
-      links = record { frame = (lit≤ tt, lit< tt); index = lit< tt };
-      count = (lit≤ tt, lit< tt);
-      each = (((lit≤ tt, lit≤ tt), lit≤ tt), tt);
-    },
+    put_lawful 4 (record { frame = 4; index = 0 }) 101 53 (place 4 0 (lit≤ tt) (lit< tt) (lit< tt)),
     (
       record {
         cuts = (lit≤ tt, lit< tt);
-        links = record { frame = (lit≤ tt, lit< tt); index = lit< tt };
-        makes = record {
-          page = (lit≤ tt, lit< tt);
-          low = lit≤ tt;
-          count = lit≤ tt;
-          pairs = (((lit≤ tt, lit≤ tt), lit≤ tt), (((lit≤ tt, lit≤ tt), lit≤ tt), (((lit≤ tt, lit≤ tt), lit≤ tt), tt)));
-          ascends = refl;
-        };
+        links = place 5 0 (lit≤ tt) (lit< tt) (lit< tt);
+        makes = upper_lawful;
         low = refl;
         count = lit≤ tt;
         new = (lit≤ tt, λ e. absurd (omega arith));
@@ -108,103 +75,44 @@ four_frames = split_frame_1 ∷ split_frame_2 ∷ split_frame_3 ∷ split_frame_
 abbrev five_frames : List Frame
 five_frames = split_frame_1 ∷ split_frame_2 ∷ split_frame_3 ∷ split_frame_4 ∷ split_frame_5 ∷ []
 
-abbrev one_leaf : Leaf
-one_leaf = leaf_with ((97 ∷ [], 49 ∷ []) ∷ [])
+abbrev one_pair : Pairs
+one_pair = (97 ∷ [], 49 ∷ []) ∷ []
 
-abbrev two_leaf : Leaf
-two_leaf = leaf_with ((97 ∷ [], 49 ∷ []) ∷ (98 ∷ [], 50 ∷ []) ∷ [])
+abbrev two_pairs : Pairs
+two_pairs = (97 ∷ [], 49 ∷ []) ∷ (98 ∷ [], 50 ∷ []) ∷ []
 
-abbrev three_leaf : Leaf
-three_leaf = leaf_with ((97 ∷ [], 49 ∷ []) ∷ (98 ∷ [], 50 ∷ []) ∷ (99 ∷ [], 51 ∷ []) ∷ [])
+abbrev three_pairs : Pairs
+three_pairs = (97 ∷ [], 49 ∷ []) ∷ (98 ∷ [], 50 ∷ []) ∷ (99 ∷ [], 51 ∷ []) ∷ []
 
-abbrev four_leaf : Leaf
-four_leaf = leaf_with ((97 ∷ [], 49 ∷ []) ∷ (98 ∷ [], 50 ∷ []) ∷ (99 ∷ [], 51 ∷ []) ∷ (100 ∷ [], 52 ∷ []) ∷ [])
+abbrev four_pairs : Pairs
+four_pairs = (97 ∷ [], 49 ∷ []) ∷ (98 ∷ [], 50 ∷ []) ∷ (99 ∷ [], 51 ∷ []) ∷ (100 ∷ [], 52 ∷ []) ∷ []
 
-one_stands : Stand 4 one_frame (one_leaf ∷ [])
-one_stands = record {
-  some = omega arith;
-  lawful = record {
-    pages = (refl, tt);
-    first = refl;
-    lows = ((λ _. refl, tt), tt);
-    each = (record { page = (lit≤ tt, lit< tt); low = lit≤ tt; count = lit≤ tt; pairs = (((lit≤ tt, lit≤ tt), lit≤ tt), tt); ascends = refl }, tt);
-    homes = ((refl, tt), tt);
-  };
-  each = λ p l h. subst (λ n. content n (blocks_of one_frame) ≡ leaf_at n (one_leaf ∷ [])) (sym (only_one p l h)) refl;
-  all = λ p h. (not_one p h, (not_one p h, tt));
-}
+two_lawful : IsBlock 4 (Base (leaf_with two_pairs))
+two_lawful = page_lawful 4 two_pairs (lit≤ tt) (short 97 49, (short 98 50, tt)) refl
 
-two_stand : Stand 4 two_frames (two_leaf ∷ [])
-two_stand = record {
-  some = omega arith;
-  lawful = record {
-    pages = (refl, tt);
-    first = refl;
-    lows = ((λ _. refl, tt), tt);
-    each = (
-      record {
-        page = (lit≤ tt, lit< tt);
-        low = lit≤ tt;
-        count = lit≤ tt;
-        pairs = (((lit≤ tt, lit≤ tt), lit≤ tt), (((lit≤ tt, lit≤ tt), lit≤ tt), tt));
-        ascends = refl;
-      },
-      tt,
-    );
-    homes = ((refl, (refl, tt)), tt);
-  };
-  each = λ p l h. subst (λ n. content n (blocks_of two_frames) ≡ leaf_at n (two_leaf ∷ [])) (sym (only_one p l h)) refl;
-  all = λ p h. (not_one p h, (not_one p h, (not_one p h, tt)));
-}
+three_lawful : IsBlock 4 (Base (leaf_with three_pairs))
+three_lawful = page_lawful 4 three_pairs (lit≤ tt) (short 97 49, (short 98 50, (short 99 51, tt))) refl
 
-three_stand : Stand 4 three_frames (three_leaf ∷ [])
-three_stand = record {
-  some = omega arith;
-  lawful = record {
-    pages = (refl, tt);
-    first = refl;
-    lows = ((λ _. refl, tt), tt);
-    each = (
-      record {
-        page = (lit≤ tt, lit< tt);
-        low = lit≤ tt;
-        count = lit≤ tt;
-        pairs = (((lit≤ tt, lit≤ tt), lit≤ tt), (((lit≤ tt, lit≤ tt), lit≤ tt), (((lit≤ tt, lit≤ tt), lit≤ tt), tt)));
-        ascends = refl;
-      },
-      tt,
-    );
-    homes = ((refl, (refl, (refl, tt))), tt);
-  };
-  each = λ p l h. subst (λ n. content n (blocks_of three_frames) ≡ leaf_at n (three_leaf ∷ [])) (sym (only_one p l h)) refl;
-  all = λ p h. (not_one p h, (not_one p h, (not_one p h, (not_one p h, tt))));
-}
+four_lawful : IsBlock 4 (Base (leaf_with four_pairs))
+four_lawful = page_lawful 4 four_pairs (lit≤ tt) (short 97 49, (short 98 50, (short 99 51, (short 100 52, tt)))) refl
 
-four_stand : Stand 4 four_frames (four_leaf ∷ [])
-four_stand = record {
-  some = omega arith;
-  lawful = record {
-    pages = (refl, tt);
-    first = refl;
-    lows = ((λ _. refl, tt), tt);
-    each = (
-      record {
-        page = (lit≤ tt, lit< tt);
-        low = lit≤ tt;
-        count = lit≤ tt;
-        pairs = (((lit≤ tt, lit≤ tt), lit≤ tt), (((lit≤ tt, lit≤ tt), lit≤ tt), (((lit≤ tt, lit≤ tt), lit≤ tt), (((lit≤ tt, lit≤ tt), lit≤ tt), tt))));
-        ascends = refl;
-      },
-      tt,
-    );
-    homes = ((refl, (refl, (refl, (refl, tt)))), tt);
-  };
-  each = λ p l h. subst (λ n. content n (blocks_of four_frames) ≡ leaf_at n (four_leaf ∷ [])) (sym (only_one p l h)) refl;
-  all = λ p h. (not_one p h, (not_one p h, (not_one p h, (not_one p h, (not_one p h, tt)))));
-}
+one_stands : Stand 4 one_frame (leaf_with one_pair ∷ [])
+one_stands = first_of_stands 97 49
+
+two_stand : Stand 4 two_frames (leaf_with two_pairs ∷ [])
+two_stand = page_stands two_frames two_pairs (lit≤ tt) two_lawful refl (λ p h. (not_one p h, (not_one p h, (not_one p h, tt))))
+
+three_stand : Stand 4 three_frames (leaf_with three_pairs ∷ [])
+three_stand =
+    page_stands three_frames three_pairs (lit≤ tt) three_lawful refl (λ p h. (not_one p h, (not_one p h, (not_one p h, (not_one p h, tt)))))
+
+four_stand : Stand 4 four_frames (leaf_with four_pairs ∷ [])
+four_stand =
+    page_stands four_frames four_pairs (lit≤ tt) four_lawful refl
+    (λ p h. (not_one p h, (not_one p h, (not_one p h, (not_one p h, (not_one p h, tt))))))
 
 abbrev two_leaves : List Leaf
-two_leaves = two_leaf ∷ split_upper ∷ []
+two_leaves = leaf_with two_pairs ∷ split_upper ∷ []
 
 two_pages : (p : ℕ) → 1 ≤ p → p ≤ 2 → content p (blocks_of five_frames) ≡ leaf_at p two_leaves
 two_pages zero l h = absurd (omega arith)
@@ -225,25 +133,7 @@ five_stand = record {
     pages = (refl, (refl, tt));
     first = refl;
     lows = ((λ _. refl, (λ e. cc, tt)), ((λ e. cc, (λ _. refl, tt)), tt));
-    each = (
-      record {
-        page = (lit≤ tt, lit< tt);
-        low = lit≤ tt;
-        count = lit≤ tt;
-        pairs = (((lit≤ tt, lit≤ tt), lit≤ tt), (((lit≤ tt, lit≤ tt), lit≤ tt), tt));
-        ascends = refl;
-      },
-      (
-        record {
-          page = (lit≤ tt, lit< tt);
-          low = lit≤ tt;
-          count = lit≤ tt;
-          pairs = (((lit≤ tt, lit≤ tt), lit≤ tt), (((lit≤ tt, lit≤ tt), lit≤ tt), (((lit≤ tt, lit≤ tt), lit≤ tt), tt)));
-          ascends = refl;
-        },
-        tt,
-      ),
-    );
+    each = (two_lawful, (upper_lawful, tt));
     homes = ((refl, (refl, tt)), ((refl, (refl, (refl, tt))), tt));
   };
   each = two_pages;
@@ -255,19 +145,19 @@ follows_as c x y is follows = subst (λ (f : Frame). MayFollow c f) (sym is) fol
 
 opening_on : (c : Contents) (x : Frame) → x ≡ split_frame_1 → Counts c [] → MayFollow c x
 opening_on c x is k = follows_as c x split_frame_1 is
-    (follows_of c [] split_frame_1 (one_leaf ∷ []) k.sound k.frames k.m k.f refl opening_lawful refl one_stands)
+    (follows_of c [] split_frame_1 (leaf_with one_pair ∷ []) k.sound k.frames k.m k.f refl opening_lawful refl one_stands)
 
 then_second : (c : Contents) (x : Frame) → x ≡ split_frame_2 → Counts c one_frame → MayFollow c x
 then_second c x is k = follows_as c x split_frame_2 is
-    (follows_of c one_frame split_frame_2 (two_leaf ∷ []) k.sound k.frames k.m k.f refl second_frame_lawful refl two_stand)
+    (follows_of c one_frame split_frame_2 (leaf_with two_pairs ∷ []) k.sound k.frames k.m k.f refl second_lawful refl two_stand)
 
 then_third : (c : Contents) (x : Frame) → x ≡ split_frame_3 → Counts c two_frames → MayFollow c x
 then_third c x is k = follows_as c x split_frame_3 is
-    (follows_of c two_frames split_frame_3 (three_leaf ∷ []) k.sound k.frames k.m k.f refl third_lawful refl three_stand)
+    (follows_of c two_frames split_frame_3 (leaf_with three_pairs ∷ []) k.sound k.frames k.m k.f refl third_lawful refl three_stand)
 
 then_fourth : (c : Contents) (x : Frame) → x ≡ split_frame_4 → Counts c three_frames → MayFollow c x
 then_fourth c x is k = follows_as c x split_frame_4 is
-    (follows_of c three_frames split_frame_4 (four_leaf ∷ []) k.sound k.frames k.m k.f refl fourth_lawful refl four_stand)
+    (follows_of c three_frames split_frame_4 (leaf_with four_pairs ∷ []) k.sound k.frames k.m k.f refl fourth_lawful refl four_stand)
 
 then_fifth : (c : Contents) (x : Frame) → x ≡ split_frame_5 → Counts c four_frames → MayFollow c x
 then_fifth c x is k = follows_as c x split_frame_5 is

@@ -41,14 +41,14 @@ first_links : (bad_link 1 [] (all_placed (first_example ∷ [])) ≡ None) × (n
 first_links = (refl, refl)
 
 -- the segments 2 and 3 of a log that gave up segment 1: frame 2 links back to frame 1, and the cleaner's frame 4 sets page 1
-abbrev second_segment : List ℕ
-second_segment =
+abbrev pub older_segment : List ℕ
+older_segment =
     66 ∷ 87 ∷ 76 ∷ 79 ∷ 71 ∷ 83 ∷ 71 ∷ 50 ∷ 2 ∷ 0 ∷ 0 ∷ 0 ∷ 0 ∷ 0 ∷ 0 ∷ 0 ∷ 4 ∷ 0 ∷ 0 ∷ 0 ∷ 0 ∷ 0 ∷ 1 ∷ 0 ∷ 70 ∷ 82 ∷ 77 ∷ 50 ∷ 2 ∷ 0 ∷ 0 ∷ 0 ∷ 0 ∷
     0 ∷ 0 ∷ 0 ∷ 25 ∷ 0 ∷ 0 ∷ 0 ∷ 1 ∷ 0 ∷ 0 ∷ 0 ∷ 1 ∷ 1 ∷ 0 ∷ 0 ∷ 0 ∷ 1 ∷ 0 ∷ 0 ∷ 0 ∷ 0 ∷ 0 ∷ 0 ∷ 0 ∷ 1 ∷ 0 ∷ 0 ∷ 0 ∷ 1 ∷ 0 ∷ 1 ∷ 1 ∷ 106 ∷ 1 ∷ 0 ∷
     50 ∷ []
 
-abbrev third_segment : List ℕ
-third_segment =
+abbrev pub newer_segment : List ℕ
+newer_segment =
     66 ∷ 87 ∷ 76 ∷ 79 ∷ 71 ∷ 83 ∷ 71 ∷ 50 ∷ 3 ∷ 0 ∷ 0 ∷ 0 ∷ 0 ∷ 0 ∷ 0 ∷ 0 ∷ 4 ∷ 0 ∷ 0 ∷ 0 ∷ 0 ∷ 0 ∷ 1 ∷ 0 ∷ 70 ∷ 82 ∷ 77 ∷ 50 ∷ 3 ∷ 0 ∷ 0 ∷ 0 ∷ 0 ∷
     0 ∷ 0 ∷ 0 ∷ 25 ∷ 0 ∷ 0 ∷ 0 ∷ 1 ∷ 0 ∷ 0 ∷ 0 ∷ 1 ∷ 1 ∷ 0 ∷ 0 ∷ 0 ∷ 2 ∷ 0 ∷ 0 ∷ 0 ∷ 0 ∷ 0 ∷ 0 ∷ 0 ∷ 0 ∷ 0 ∷ 0 ∷ 0 ∷ 1 ∷ 0 ∷ 1 ∷ 1 ∷ 107 ∷ 1 ∷ 0 ∷
     51 ∷ 70 ∷ 82 ∷ 77 ∷ 50 ∷ 4 ∷ 0 ∷ 0 ∷ 0 ∷ 0 ∷ 0 ∷ 0 ∷ 0 ∷ 18 ∷ 0 ∷ 0 ∷ 0 ∷ 1 ∷ 0 ∷ 0 ∷ 0 ∷ 2 ∷ 1 ∷ 0 ∷ 0 ∷ 0 ∷ 0 ∷ 2 ∷ 0 ∷ 1 ∷ 106 ∷ 1 ∷ 0 ∷ 50 ∷
@@ -63,7 +63,7 @@ cleaned = record {
   is_open = true;
   is_failed = false;
   next = Some 5;
-  bytes = second_segment ∷ third_segment ∷ [];
+  bytes = older_segment ∷ newer_segment ∷ [];
   frames = [];
   pages = [];
 }
@@ -122,5 +122,5 @@ abbrev box : List ℕ → ℕ → Holding
 box bytes lease = record { bytes = bytes; room = 65560; lease = lease; failed = 0 }
 
 -- live segments first, then spares
-its_roster : roster (record (fresh 4 65536 (box [] 3 ∷ [])) { live = box second_segment 1 ∷ box third_segment 2 ∷ [] }) ≡ 1 ∷ 2 ∷ 3 ∷ []
+its_roster : roster (record (fresh 4 65536 (box [] 3 ∷ [])) { live = box older_segment 1 ∷ box newer_segment 2 ∷ [] }) ≡ 1 ∷ 2 ∷ 3 ∷ []
 its_roster = refl

@@ -14,15 +14,9 @@ use Rattle.bw_care.specs.Lawful.{is_at_fault, first_such, contents}
 use Rattle.bw_care.specs.Recovery.{Finding, recovery, page_fault, page_fault_by}
 use Rattle.bw_care.specs.declared.fault.RecoverCause.{RecoverCause}
 use Rattle.bw_care.specs.declared.fault.RecoverCause.TheVariants.{BadConfig, Empty, BadBytes, Gap, Mixed, BadLink, Unlawful}
+use Rattle.log_tests.proofs.Vectors.{first_segment, older_segment, newer_segment}
 
--- ---- the worked segments
-
--- one frame: the empty page 1, and a record that puts k=v
-abbrev first : List ℕ
-first =
-    66 ∷ 87 ∷ 76 ∷ 79 ∷ 71 ∷ 83 ∷ 71 ∷ 50 ∷ 1 ∷ 0 ∷ 0 ∷ 0 ∷ 0 ∷ 0 ∷ 0 ∷ 0 ∷ 4 ∷ 0 ∷ 0 ∷ 0 ∷ 0 ∷ 0 ∷ 1 ∷ 0 ∷ 70 ∷ 82 ∷ 77 ∷ 50 ∷ 1 ∷ 0 ∷ 0 ∷ 0 ∷ 0 ∷
-    0 ∷ 0 ∷ 0 ∷ 33 ∷ 0 ∷ 0 ∷ 0 ∷ 2 ∷ 0 ∷ 0 ∷ 0 ∷ 2 ∷ 1 ∷ 0 ∷ 0 ∷ 0 ∷ 0 ∷ 0 ∷ 0 ∷ 1 ∷ 1 ∷ 0 ∷ 0 ∷ 0 ∷ 1 ∷ 0 ∷ 0 ∷ 0 ∷ 0 ∷ 0 ∷ 0 ∷ 0 ∷ 0 ∷ 0 ∷ 0 ∷ 0 ∷
-    1 ∷ 0 ∷ 1 ∷ 1 ∷ 107 ∷ 1 ∷ 0 ∷ 118 ∷ []
+-- ---- two more worked segments
 
 -- five frames, the last with a Delta and its Split
 abbrev second : List ℕ
@@ -36,21 +30,6 @@ second =
     100 ∷ 1 ∷ 0 ∷ 52 ∷ 70 ∷ 82 ∷ 77 ∷ 50 ∷ 5 ∷ 0 ∷ 0 ∷ 0 ∷ 0 ∷ 0 ∷ 0 ∷ 0 ∷ 65 ∷ 0 ∷ 0 ∷ 0 ∷ 2 ∷ 0 ∷ 0 ∷ 0 ∷ 1 ∷ 1 ∷ 0 ∷ 0 ∷ 0 ∷ 4 ∷ 0 ∷ 0 ∷ 0 ∷ 0 ∷
     0 ∷ 0 ∷ 0 ∷ 0 ∷ 0 ∷ 0 ∷ 0 ∷ 1 ∷ 0 ∷ 1 ∷ 1 ∷ 101 ∷ 1 ∷ 0 ∷ 53 ∷ 3 ∷ 1 ∷ 0 ∷ 0 ∷ 0 ∷ 5 ∷ 0 ∷ 0 ∷ 0 ∷ 0 ∷ 0 ∷ 0 ∷ 0 ∷ 0 ∷ 0 ∷ 0 ∷ 0 ∷ 1 ∷ 99 ∷ 2 ∷
     0 ∷ 0 ∷ 0 ∷ 3 ∷ 0 ∷ 1 ∷ 99 ∷ 1 ∷ 0 ∷ 51 ∷ 1 ∷ 100 ∷ 1 ∷ 0 ∷ 52 ∷ 1 ∷ 101 ∷ 1 ∷ 0 ∷ 53 ∷ []
-
--- the older of the two segments that a cleaning left: its frame links to a lost segment
-abbrev third_older : List ℕ
-third_older =
-    66 ∷ 87 ∷ 76 ∷ 79 ∷ 71 ∷ 83 ∷ 71 ∷ 50 ∷ 2 ∷ 0 ∷ 0 ∷ 0 ∷ 0 ∷ 0 ∷ 0 ∷ 0 ∷ 4 ∷ 0 ∷ 0 ∷ 0 ∷ 0 ∷ 0 ∷ 1 ∷ 0 ∷ 70 ∷ 82 ∷ 77 ∷ 50 ∷ 2 ∷ 0 ∷ 0 ∷ 0 ∷ 0 ∷
-    0 ∷ 0 ∷ 0 ∷ 25 ∷ 0 ∷ 0 ∷ 0 ∷ 1 ∷ 0 ∷ 0 ∷ 0 ∷ 1 ∷ 1 ∷ 0 ∷ 0 ∷ 0 ∷ 1 ∷ 0 ∷ 0 ∷ 0 ∷ 0 ∷ 0 ∷ 0 ∷ 0 ∷ 1 ∷ 0 ∷ 0 ∷ 0 ∷ 1 ∷ 0 ∷ 1 ∷ 1 ∷ 106 ∷ 1 ∷ 0 ∷
-    50 ∷ []
-
--- the newer one: a frame of its own, and the cleaner's
-abbrev third_newer : List ℕ
-third_newer =
-    66 ∷ 87 ∷ 76 ∷ 79 ∷ 71 ∷ 83 ∷ 71 ∷ 50 ∷ 3 ∷ 0 ∷ 0 ∷ 0 ∷ 0 ∷ 0 ∷ 0 ∷ 0 ∷ 4 ∷ 0 ∷ 0 ∷ 0 ∷ 0 ∷ 0 ∷ 1 ∷ 0 ∷ 70 ∷ 82 ∷ 77 ∷ 50 ∷ 3 ∷ 0 ∷ 0 ∷ 0 ∷ 0 ∷
-    0 ∷ 0 ∷ 0 ∷ 25 ∷ 0 ∷ 0 ∷ 0 ∷ 1 ∷ 0 ∷ 0 ∷ 0 ∷ 1 ∷ 1 ∷ 0 ∷ 0 ∷ 0 ∷ 2 ∷ 0 ∷ 0 ∷ 0 ∷ 0 ∷ 0 ∷ 0 ∷ 0 ∷ 0 ∷ 0 ∷ 0 ∷ 0 ∷ 1 ∷ 0 ∷ 1 ∷ 1 ∷ 107 ∷ 1 ∷ 0 ∷
-    51 ∷ 70 ∷ 82 ∷ 77 ∷ 50 ∷ 4 ∷ 0 ∷ 0 ∷ 0 ∷ 0 ∷ 0 ∷ 0 ∷ 0 ∷ 18 ∷ 0 ∷ 0 ∷ 0 ∷ 1 ∷ 0 ∷ 0 ∷ 0 ∷ 2 ∷ 1 ∷ 0 ∷ 0 ∷ 0 ∷ 0 ∷ 2 ∷ 0 ∷ 1 ∷ 106 ∷ 1 ∷ 0 ∷ 50 ∷
-    1 ∷ 107 ∷ 1 ∷ 0 ∷ 51 ∷ []
 
 -- one frame of the greatest number, with the empty page 1
 abbrev greatest : List ℕ
@@ -97,10 +76,10 @@ pub vectors_whole : AreTold ((
   found (page_one ((97 ∷ [], 49 ∷ []) ∷ (98 ∷ [], 50 ∷ []) ∷ []) ∷ page_two ∷ []) 1 5 0 0,
 ) ∷
     (box greatest ∷ [], found (page_one [] ∷ []) 18446744073709551615 18446744073709551615 0 0) ∷
-    (box third_older ∷ box third_newer ∷ [], found (page_one ((106 ∷ [], 50 ∷ []) ∷ (107 ∷ [], 51 ∷ []) ∷ []) ∷ []) 2 4 0 0) ∷
-    (box third_newer ∷ box third_older ∷ [], found (page_one ((106 ∷ [], 50 ∷ []) ∷ (107 ∷ [], 51 ∷ []) ∷ []) ∷ []) 2 4 0 0) ∷
-    (box first ∷ box third_older ∷ [], found (page_one ((106 ∷ [], 50 ∷ []) ∷ (107 ∷ [], 118 ∷ []) ∷ []) ∷ []) 1 2 0 0) ∷
-    (box [] ∷ box first ∷ box (take 3 first) ∷ [], found (page_one ((107 ∷ [], 118 ∷ []) ∷ []) ∷ []) 1 1 0 1) ∷
+    (box older_segment ∷ box newer_segment ∷ [], found (page_one ((106 ∷ [], 50 ∷ []) ∷ (107 ∷ [], 51 ∷ []) ∷ []) ∷ []) 2 4 0 0) ∷
+    (box newer_segment ∷ box older_segment ∷ [], found (page_one ((106 ∷ [], 50 ∷ []) ∷ (107 ∷ [], 51 ∷ []) ∷ []) ∷ []) 2 4 0 0) ∷
+    (box first_segment ∷ box older_segment ∷ [], found (page_one ((106 ∷ [], 50 ∷ []) ∷ (107 ∷ [], 118 ∷ []) ∷ []) ∷ []) 1 2 0 0) ∷
+    (box [] ∷ box first_segment ∷ box (take 3 first_segment) ∷ [], found (page_one ((107 ∷ [], 118 ∷ []) ∷ []) ∷ []) 1 1 0 1) ∷
     [])
 unfolding segment_frames frames_at heading_of front_at text_at value_at op_at pair_at many_at place_at page_at pairs_at delta_at base_at upper_at split_at block_at
     head_at number_bytes rest_of first_such contents
@@ -110,10 +89,10 @@ vectors_whole = (refl, (refl, (refl, (refl, (refl, (refl, tt))))))
 pub vectors_cut : AreTold (
     (box (take 296 second) ∷ [], found (page_one ((97 ∷ [], 49 ∷ []) ∷ (98 ∷ [], 50 ∷ []) ∷ (99 ∷ [], 51 ∷ []) ∷ (100 ∷ [], 52 ∷ []) ∷ []) ∷ []) 1 4 84 0) ∷
     (box (take 76 second) ∷ [], Err Empty) ∷
-    (box (take 24 first) ∷ [], Err Empty) ∷
-    (box (take 23 first) ∷ [], Err Empty) ∷
-    (box (first ++ 88 ∷ []) ∷ [], Err (BadBytes 0 77)) ∷
-    (box (first ++ 70 ∷ []) ∷ [], found (page_one ((107 ∷ [], 118 ∷ []) ∷ []) ∷ []) 1 1 1 0) ∷
+    (box (take 24 first_segment) ∷ [], Err Empty) ∷
+    (box (take 23 first_segment) ∷ [], Err Empty) ∷
+    (box (first_segment ++ 88 ∷ []) ∷ [], Err (BadBytes 0 77)) ∷
+    (box (first_segment ++ 70 ∷ []) ∷ [], found (page_one ((107 ∷ [], 118 ∷ []) ∷ []) ∷ []) 1 1 1 0) ∷
     ([], Err Empty) ∷
     [])
 unfolding segment_frames frames_at heading_of front_at text_at value_at op_at pair_at many_at place_at page_at pairs_at delta_at base_at upper_at split_at block_at
@@ -122,11 +101,11 @@ vectors_cut = (refl, (refl, (refl, (refl, (refl, (refl, (refl, tt)))))))
 
 -- bytes that cannot be read
 pub bytes_changed : AreTold (
-    (box (with 27 (51 ∷ []) first) ∷ [], Err (BadBytes 0 24)) ∷
-    (box (with 16 (3 ∷ []) first) ∷ [], Err (BadBytes 0 0)) ∷
-    (box first ∷ box (with 27 (51 ∷ []) third_older) ∷ [], Err (BadBytes 1 24)) ∷
-    (box (with 36 (255 ∷ 255 ∷ 255 ∷ 255 ∷ []) first) ∷ [], Err (BadBytes 0 24)) ∷
-    (box (with 40 (255 ∷ 255 ∷ 255 ∷ 255 ∷ []) first) ∷ [], Err (BadBytes 0 24)) ∷
+    (box (with 27 (51 ∷ []) first_segment) ∷ [], Err (BadBytes 0 24)) ∷
+    (box (with 16 (3 ∷ []) first_segment) ∷ [], Err (BadBytes 0 0)) ∷
+    (box first_segment ∷ box (with 27 (51 ∷ []) older_segment) ∷ [], Err (BadBytes 1 24)) ∷
+    (box (with 36 (255 ∷ 255 ∷ 255 ∷ 255 ∷ []) first_segment) ∷ [], Err (BadBytes 0 24)) ∷
+    (box (with 40 (255 ∷ 255 ∷ 255 ∷ 255 ∷ []) first_segment) ∷ [], Err (BadBytes 0 24)) ∷
     [])
 unfolding segment_frames frames_at heading_of front_at text_at value_at op_at pair_at many_at place_at page_at pairs_at delta_at base_at upper_at split_at block_at
     head_at number_bytes rest_of first_such contents
@@ -134,10 +113,10 @@ bytes_changed = (refl, (refl, (refl, (refl, (refl, tt)))))
 
 -- numbers with a gap, other limits, and rooms
 pub gaps_and_limits : AreTold (
-    (box third_older ∷ box third_older ∷ [], Err Gap) ∷
-    (box first ∷ box third_newer ∷ [], Err Gap) ∷
-    (box first ∷ box (with 16 (5 ∷ []) third_older) ∷ [], Err Mixed) ∷
-    (box first ∷ roomed 65559 ∷ [], Err BadConfig) ∷
+    (box older_segment ∷ box older_segment ∷ [], Err Gap) ∷
+    (box first_segment ∷ box newer_segment ∷ [], Err Gap) ∷
+    (box first_segment ∷ box (with 16 (5 ∷ []) older_segment) ∷ [], Err Mixed) ∷
+    (box first_segment ∷ roomed 65559 ∷ [], Err BadConfig) ∷
     [])
 unfolding segment_frames frames_at heading_of front_at text_at value_at op_at pair_at many_at place_at page_at pairs_at delta_at base_at upper_at split_at block_at
     head_at number_bytes rest_of first_such contents
@@ -145,10 +124,10 @@ gaps_and_limits = (refl, (refl, (refl, (refl, tt))))
 
 -- wrong links, and pages at fault
 pub links_and_pages : AreTold (
-    (box third_older ∷ [], Err (Unlawful 1)) ∷
-    (box third_older ∷ box (take 106 third_newer) ∷ [], Err (Unlawful 1)) ∷
-    (box first ∷ box (with 57 (0 ∷ []) third_older) ∷ [], Err (BadLink 1)) ∷
-    (box (with 53 (3 ∷ []) first) ∷ [], Err (BadLink 3)) ∷
+    (box older_segment ∷ [], Err (Unlawful 1)) ∷
+    (box older_segment ∷ box (take 106 newer_segment) ∷ [], Err (Unlawful 1)) ∷
+    (box first_segment ∷ box (with 57 (0 ∷ []) older_segment) ∷ [], Err (BadLink 1)) ∷
+    (box (with 53 (3 ∷ []) first_segment) ∷ [], Err (BadLink 3)) ∷
     (box (with 45 (2 ∷ []) greatest) ∷ [], Err (Unlawful 1)) ∷
     [])
 unfolding segment_frames frames_at heading_of front_at text_at value_at op_at pair_at many_at place_at page_at pairs_at delta_at base_at upper_at split_at block_at
@@ -158,12 +137,12 @@ links_and_pages = (refl, (refl, (refl, (refl, (refl, tt)))))
 -- two faults, of which the earlier one is told: rooms, bytes, limits, gaps, no frame and small spares, in this order
 pub two_faults : AreTold (
     (box (7 ∷ []) ∷ roomed 1073741825 ∷ [], Err BadConfig) ∷
-    (box first ∷ box (with 16 (5 ∷ []) (take 24 third_older) ++ 88 ∷ []) ∷ [], Err (BadBytes 1 24)) ∷
-    (box first ∷ box (with 16 (5 ∷ []) third_newer) ∷ [], Err Mixed) ∷
-    (box (take 24 first) ∷ box (take 24 third_newer) ∷ [], Err Gap) ∷
-    (roomed 65559 ∷ box first ∷ box third_newer ∷ [], Err Gap) ∷
-    (box (take 24 first) ∷ roomed 65559 ∷ [], Err Empty) ∷
-    (box (with 53 (3 ∷ []) first) ∷ roomed 65559 ∷ [], Err BadConfig) ∷
+    (box first_segment ∷ box (with 16 (5 ∷ []) (take 24 older_segment) ++ 88 ∷ []) ∷ [], Err (BadBytes 1 24)) ∷
+    (box first_segment ∷ box (with 16 (5 ∷ []) newer_segment) ∷ [], Err Mixed) ∷
+    (box (take 24 first_segment) ∷ box (take 24 newer_segment) ∷ [], Err Gap) ∷
+    (roomed 65559 ∷ box first_segment ∷ box newer_segment ∷ [], Err Gap) ∷
+    (box (take 24 first_segment) ∷ roomed 65559 ∷ [], Err Empty) ∷
+    (box (with 53 (3 ∷ []) first_segment) ∷ roomed 65559 ∷ [], Err BadConfig) ∷
     [])
 unfolding segment_frames frames_at heading_of front_at text_at value_at op_at pair_at many_at place_at page_at pairs_at delta_at base_at upper_at split_at block_at
     head_at number_bytes rest_of first_such contents

@@ -5,38 +5,39 @@ use Rattle.bw_codec.specs.declared.record.Record.{Record}
 use Rattle.bw_codec.specs.declared.record.Record.TheVariants.{Put}
 use Rattle.bw_codec.specs.declared.leaf.Leaf.{Leaf}
 use Rattle.bw_codec.specs.declared.block.Block.{Block}
-use Rattle.bw_codec.specs.declared.block.Block.TheVariants.{Delta, Base, Split}
+use Rattle.bw_codec.specs.declared.block.Block.TheVariants.{Base, Split}
 use Rattle.bw_codec.specs.declared.block.Frame.{Frame}
+use Rattle.log_tests.specs.OnePage.{leaf_with, put_of, put_after, first_with, frame_of_one}
+
+-- page 1 was given this value, after the block at a place
+abbrev pub put_block : ℕ → ℕ → ℕ → ℕ → Block
+put_block frame index key value = put_after (record { frame = frame; index = index }) key value
 
 -- an empty page 1, and k=v
 abbrev pub first_blocks : List Block
-first_blocks = Base (record { page = 1; low = []; pairs = [] }) ∷ Delta 1 (record { frame = 1; index = 0 }) (Put (107 ∷ []) (118 ∷ []) ∷ []) ∷ []
+first_blocks = first_with (put_of 107 118 ∷ [])
 
 abbrev pub first_example : Frame
 first_example = record { number = 1; blocks = first_blocks }
 
 -- b=2, after the second block of frame 1
 abbrev pub second_blocks : List Block
-second_blocks = Delta 1 (record { frame = 1; index = 1 }) (Put (98 ∷ []) (50 ∷ []) ∷ []) ∷ []
+second_blocks = put_block 1 1 98 50 ∷ []
 
 abbrev pub split_frame_2 : Frame
 split_frame_2 = record { number = 2; blocks = second_blocks }
 
 -- page 1 after it
 abbrev pub first_leaf : Leaf
-first_leaf = record { page = 1; low = []; pairs = (107 ∷ [], 118 ∷ []) ∷ [] }
+first_leaf = leaf_with ((107 ∷ [], 118 ∷ []) ∷ [])
 
 -- ---- the vector of a page that is split in two
-
--- page 1 was given this value, after the block at a place
-abbrev pub put_block : ℕ → ℕ → ℕ → ℕ → Block
-put_block frame index key value = Delta 1 (record { frame = frame; index = index }) (Put (key ∷ []) (value ∷ []) ∷ [])
 
 abbrev pub split_upper : Leaf
 split_upper = record { page = 2; low = 99 ∷ []; pairs = (99 ∷ [], 51 ∷ []) ∷ (100 ∷ [], 52 ∷ []) ∷ (101 ∷ [], 53 ∷ []) ∷ [] }
 
 abbrev pub opening_blocks : List Block
-opening_blocks = Base (record { page = 1; low = []; pairs = [] }) ∷ put_block 1 0 97 49 ∷ []
+opening_blocks = first_with (put_of 97 49 ∷ [])
 
 abbrev pub third_blocks : List Block
 third_blocks = put_block 2 0 99 51 ∷ []
@@ -78,33 +79,17 @@ split_frames n =
     else if n == 5 then split_frame_1 ∷ split_frame_2 ∷ split_frame_3 ∷ split_frame_4 ∷ []
     else split_frame_1 ∷ split_frame_2 ∷ split_frame_3 ∷ split_frame_4 ∷ split_frame_5 ∷ []
 
--- page 1 with these pairs
-abbrev pub leaf_with : List (List ℕ × List ℕ) → Leaf
-leaf_with pairs = record { page = 1; low = []; pairs = pairs }
-
 -- ---- the vector of a page whose older places were given up
 
-abbrev pub after_first_blocks : List Block
-after_first_blocks = put_block 1 1 106 50 ∷ []
-
-abbrev pub after_second_blocks : List Block
-after_second_blocks = put_block 2 0 107 51 ∷ []
-
--- page 1 as the cleaner writes it again
-abbrev pub rewritten_leaf : Leaf
-rewritten_leaf = leaf_with ((106 ∷ [], 50 ∷ []) ∷ (107 ∷ [], 51 ∷ []) ∷ [])
-
-abbrev pub rewritten_blocks : List Block
-rewritten_blocks = Base rewritten_leaf ∷ []
-
 abbrev pub after_first_example : Frame
-after_first_example = record { number = 2; blocks = after_first_blocks }
+after_first_example = frame_of_one 2 (put_block 1 1 106 50)
 
 abbrev pub after_second_example : Frame
-after_second_example = record { number = 3; blocks = after_second_blocks }
+after_second_example = frame_of_one 3 (put_block 2 0 107 51)
 
+-- page 1 as the cleaner writes it again
 abbrev pub rewritten_example : Frame
-rewritten_example = record { number = 4; blocks = rewritten_blocks }
+rewritten_example = frame_of_one 4 (Base (leaf_with ((106 ∷ [], 50 ∷ []) ∷ (107 ∷ [], 51 ∷ []) ∷ [])))
 
 -- ---- a frame of 65,536 bytes: 8 of an empty page 1, and a Delta of 126 puts of 517 bytes and one of 347
 
@@ -115,10 +100,7 @@ abbrev pub last_put : Record
 last_put = Put (107 ∷ []) (replicate 342 119)
 
 abbrev pub filling_blocks : List Block
-filling_blocks =
-    Base (record { page = 1; low = []; pairs = [] })
-    ∷ Delta 1 (record { frame = 1; index = 0 }) (replicate 126 long_put ++ last_put ∷ [])
-    ∷ []
+filling_blocks = first_with (replicate 126 long_put ++ last_put ∷ [])
 
 abbrev pub filling_example : Frame
 filling_example = record { number = 1; blocks = filling_blocks }

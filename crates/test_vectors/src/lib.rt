@@ -1,6 +1,13 @@
 //! The worked segments, as hex, in format 2 and in format 1: each is drawn in docs/FORMAT.md, or is
-//! one of those in the other format. The crates of tests read them from here.
+//! one of those in the other format. The crates of tests read them from here, and tell bytes and
+//! pages as texts.
 #![tactic(auto)]
+
+mod parts;
+mod texts;
+
+pub use parts::{blocks_in, leaf_of};
+pub use texts::{behind, behind_leaf, is_at_end, shows, spells};
 
 /// One frame: the empty page 1, and a record that puts k=v.
 pub const FIRST: &str =
@@ -27,6 +34,11 @@ pub const THIRD_NEWER: &str =
     "42574c4f475347320300000000000000040000000000010046524d3203000000000000001900000001000000\
     0101000000020000000000000000000000010001016b01003346524d32040000000000000012000000010000\
     000201000000000200016a010032016b010033";
+
+/// That one before the cleaning: its own frame alone.
+pub const THIRD_LAST: &str =
+    "42574c4f475347320300000000000000040000000000010046524d3203000000000000001900000001000000\
+    0101000000020000000000000000000000010001016b010033";
 
 /// One frame for five records and a Split behind them, and for a sixth: a Delta of five records, the
 /// Split, and a Delta of one.
@@ -73,6 +85,11 @@ pub const UPGRADED_THIRD: &str =
     "42574c4f475347320400000000000000040000000000010046524d3205000000000000001200000001000000\
     0201000000000200016a010032016b010033";
 
+/// And what it leaves of the third before its cleaning.
+pub const UPGRADED_LAST: &str =
+    "42574c4f475347320400000000000000040000000000010046524d3204000000000000001200000001000000\
+    0201000000000200016a010032016b010033";
+
 // ---- the same in format 1
 
 pub const OLD_FIRST: &str =
@@ -96,6 +113,10 @@ pub const OLD_THIRD_NEWER: &str =
     "42574c4f475347310300000000000000040000000040000046524d3103000000000000001800000001000000\
     0101000000020000000000000000000000010001016b013346524d3104000000000000001000000001000000\
     0201000000000200016a0132016b0133";
+
+pub const OLD_THIRD_LAST: &str =
+    "42574c4f475347310300000000000000040000000040000046524d3103000000000000001800000001000000\
+    0101000000020000000000000000000000010001016b0133";
 
 pub const OLD_JOINED: &str =
     "42574c4f475347310100000000000000040000000040000046524d3101000000000000007200000004000000\

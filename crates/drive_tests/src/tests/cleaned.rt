@@ -3,8 +3,8 @@
 use super::reading::reads;
 use super::scripts::Part;
 use super::steps::Step::Drives;
-use super::steps::{Pace, Run};
-use super::walking::{Table, walked};
+use super::steps::{MANY, Pace, Run};
+use super::walking::{PLAIN, Table, walked};
 use bw_care::recover;
 use bw_device::Segment;
 use bw_drive::OpenGate;
@@ -16,18 +16,15 @@ use std::thread::Threads;
 const PART: Part = Part(0, 8000, 100);
 
 /// The oldest segment is given up where three are live.
-const PACE: Pace = Pace(64, 4, 3, 1_000_000_000);
+const PACE: Pace = Pace(64, 4, 3, MANY);
 
 const BOXES: u32 = 64;
 
 const TABLE: &Table = &Table {
     name: "cleaned",
-    writers: 2,
-    places: 8,
     boxes: BOXES,
-    capacity: 65_560,
-    fuse: None,
     steps: &[Drives(Run(PART, PACE, Ok((8000, 8000))))],
+    ..PLAIN
 };
 
 // Whether each key is in the pages recovered from these boxes.

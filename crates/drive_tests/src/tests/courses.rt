@@ -3,15 +3,9 @@
 use super::all_went;
 use super::scripts::Part;
 use super::steps::Step::{Begins, Boxes, Drives, Durable, Learns, Reads, Settles};
-use super::steps::{Pace, Run};
-use super::walking::{Table, walked};
-use bw_drive::OpenGate;
+use super::steps::{MANY, Pace, Run};
+use super::walking::{PLAIN, Table, wrong_table};
 use bw_store::StoreFault;
-use std::sync::Wait;
-use std::thread::Threads;
-
-/// So many tries that none is the last.
-const MANY: u64 = 1_000_000_000;
 
 /// Each number has a key of its own.
 const KEYS: u32 = 10_000;
@@ -19,11 +13,7 @@ const KEYS: u32 = 10_000;
 /// All is accepted, and a second run over the same feeds goes on.
 const TWICE: &Table = &Table {
     name: "twice",
-    writers: 2,
-    places: 8,
     boxes: 8,
-    capacity: 65_560,
-    fuse: None,
     steps: &[
         Drives(Run(Part(0, 300, KEYS), Pace(64, 4, 0, MANY), Ok((300, 300)))),
         Reads(2, 300, KEYS),
@@ -32,59 +22,48 @@ const TWICE: &Table = &Table {
         Learns(2, 500, KEYS),
         Boxes(8, 8),
     ],
+    ..PLAIN
 };
 
 /// As many writers as there may be.
 const SIXTY_FOUR: &Table = &Table {
     name: "sixty-four",
     writers: 64,
-    places: 8,
     boxes: 16,
-    capacity: 65_560,
-    fuse: None,
     steps: &[
         Drives(Run(Part(0, 100, KEYS), Pace(64, 4, 0, MANY), Ok((100, 100)))),
         Reads(64, 100, KEYS),
     ],
+    ..PLAIN
 };
 
 /// A ring of one place each.
 const ONE_PLACE: &Table = &Table {
     name: "one place",
-    writers: 2,
     places: 1,
     boxes: 8,
-    capacity: 65_560,
-    fuse: None,
     steps: &[
         Drives(Run(Part(0, 300, KEYS), Pace(64, 4, 0, MANY), Ok((300, 300)))),
         Reads(2, 300, KEYS),
     ],
+    ..PLAIN
 };
 
 /// With no try nothing is put, with one no more than a ring holds and the one turn takes.
 const FEW_TRIES: &Table = &Table {
     name: "few tries",
-    writers: 2,
-    places: 8,
-    boxes: 4,
-    capacity: 65_560,
-    fuse: None,
     steps: &[
         Drives(Run(Part(0, 1000, KEYS), Pace(64, 4, 0, 0), Ok((0, 0)))),
         Drives(Run(Part(0, 0, KEYS), Pace(64, 4, 0, MANY), Ok((0, 0)))),
         Drives(Run(Part(0, 1000, KEYS), Pace(1, 1, 0, 1), Ok((8, 9)))),
         Boxes(4, 1),
     ],
+    ..PLAIN
 };
 
 /// The header of the first segment is not written. Later runs are refused too.
 const FIRST_APPEND: &Table = &Table {
     name: "first append",
-    writers: 2,
-    places: 8,
-    boxes: 4,
-    capacity: 65_560,
     fuse: Some(0),
     steps: &[
         Drives(Run(
@@ -104,15 +83,12 @@ const FIRST_APPEND: &Table = &Table {
         Begins(KEYS, 64),
         Boxes(4, 0),
     ],
+    ..PLAIN
 };
 
 /// A header and four frames, of one turn each, and then a frame fails.
 const FIFTH_FRAME: &Table = &Table {
     name: "fifth frame",
-    writers: 2,
-    places: 8,
-    boxes: 4,
-    capacity: 65_560,
     fuse: Some(5),
     steps: &[
         Drives(Run(
@@ -126,16 +102,12 @@ const FIFTH_FRAME: &Table = &Table {
         Settles(Err(StoreFault::Failed)),
         Durable(4, 4),
     ],
+    ..PLAIN
 };
 
 /// The only segment that is live cannot be given up.
 const NOTHING_OLD: &Table = &Table {
     name: "nothing old",
-    writers: 2,
-    places: 8,
-    boxes: 4,
-    capacity: 65_560,
-    fuse: None,
     steps: &[
         Drives(Run(
             Part(0, 1000, KEYS),
@@ -150,16 +122,13 @@ const NOTHING_OLD: &Table = &Table {
         // A writer has put no more than its ring holds, and what the one turn took.
         Begins(KEYS, 80),
     ],
+    ..PLAIN
 };
 
 /// The last spare is kept for a cleaning.
 const NO_SPARE: &Table = &Table {
     name: "no spare",
-    writers: 2,
-    places: 8,
     boxes: 1,
-    capacity: 65_560,
-    fuse: None,
     steps: &[
         Drives(Run(
             Part(0, 1000, KEYS),
@@ -177,20 +146,8 @@ const NO_SPARE: &Table = &Table {
         Begins(KEYS, 80),
         Boxes(1, 0),
     ],
+    ..PLAIN
 };
-
-// The first table that does not go as told, and its step.
-fn wrong_table<R: AllocGlobal + Threads + Wait>(
-    rt: &R,
-    tables: &[&Table],
-) -> Option<(&'static str, usize)> {
-    for table in tables {
-        if let Err(step) = walked(rt, *table, &OpenGate) {
-            return Some((table.name, step));
-        }
-    }
-    None
-}
 
 const ENDED: &[&Table] = &[TWICE, SIXTY_FOUR, ONE_PLACE, FEW_TRIES];
 

@@ -3,15 +3,9 @@
 use super::all_went;
 use super::scripts::Part;
 use super::steps::Step::{Begins, Boxes, DrivesGroups, Durable, Learns, Reads, Settles, Whole};
-use super::steps::{Pace, Run};
-use super::walking::{Table, walked};
-use bw_drive::OpenGate;
+use super::steps::{MANY, Pace, Run};
+use super::walking::{PLAIN, Table, wrong_table};
 use bw_store::StoreFault;
-use std::sync::Wait;
-use std::thread::Threads;
-
-/// So many tries that none is the last.
-const MANY: u64 = 1_000_000_000;
 
 /// Each number has a key of its own.
 const KEYS: u32 = 10_000;
@@ -20,10 +14,7 @@ const KEYS: u32 = 10_000;
 const TWICE: &Table = &Table {
     name: "groups twice",
     writers: 3,
-    places: 8,
     boxes: 8,
-    capacity: 65_560,
-    fuse: None,
     steps: &[
         DrivesGroups(Run(Part(0, 300, KEYS), Pace(64, 4, 0, MANY), Ok((300, 300)))),
         Whole,
@@ -34,46 +25,37 @@ const TWICE: &Table = &Table {
         Learns(3, 500, KEYS),
         Boxes(8, 8),
     ],
+    ..PLAIN
 };
 
 /// A ring of one place each holds a group of four too.
 const ONE_PLACE: &Table = &Table {
     name: "groups at one place",
-    writers: 2,
     places: 1,
     boxes: 8,
-    capacity: 65_560,
-    fuse: None,
     steps: &[
         DrivesGroups(Run(Part(0, 300, KEYS), Pace(64, 4, 0, MANY), Ok((300, 300)))),
         Whole,
         Reads(2, 300, KEYS),
     ],
+    ..PLAIN
 };
 
 /// With one try a writer puts no more groups than its ring holds and the one turn takes. The first
 /// eight have twenty records, and the next one has one.
 const FEW_TRIES: &Table = &Table {
     name: "few tries of groups",
-    writers: 2,
-    places: 8,
-    boxes: 4,
-    capacity: 65_560,
-    fuse: None,
     steps: &[
         DrivesGroups(Run(Part(0, 1000, KEYS), Pace(1, 1, 0, 1), Ok((20, 21)))),
         Whole,
         Boxes(4, 1),
     ],
+    ..PLAIN
 };
 
 /// A frame fails. What was taken before is whole groups, at most sixteen of four records a turn.
 const FIFTH_FRAME: &Table = &Table {
     name: "fifth frame of groups",
-    writers: 2,
-    places: 8,
-    boxes: 4,
-    capacity: 65_560,
     fuse: Some(5),
     steps: &[
         DrivesGroups(Run(
@@ -87,19 +69,12 @@ const FIFTH_FRAME: &Table = &Table {
         Settles(Err(StoreFault::Failed)),
         Whole,
     ],
+    ..PLAIN
 };
 
-// The first table that does not go as told, and its step.
-fn wrong_table<R: AllocGlobal + Threads + Wait>(rt: &R) -> Option<(&'static str, usize)> {
-    for table in [TWICE, ONE_PLACE, FEW_TRIES, FIFTH_FRAME] {
-        if let Err(step) = walked(rt, table, &OpenGate) {
-            return Some((table.name, step));
-        }
-    }
-    None
-}
+const TABLES: &[&Table] = &[TWICE, ONE_PLACE, FEW_TRIES, FIFTH_FRAME];
 
 #[test]
 fn groups_go_as_told(rt: HostRuntime) {
-    all_went(&rt, wrong_table(&rt));
+    all_went(&rt, wrong_table(&rt, TABLES));
 }

@@ -3,60 +3,51 @@
 use super::all_went;
 use super::scripts::Part;
 use super::steps::Step::{Drives, DrivesGroups, Reads, Splits, Whole};
-use super::steps::{Pace, Run};
-use super::walking::{Table, walked};
+use super::steps::{MANY, Pace, Run};
+use super::walking::{PLAIN, Table, walked};
 use bw_drive::{Gate, MeetGate};
 use std::alloc::Global;
 use std::sync::Wait;
 use std::sync::atomic::{AtomicBool, AtomicU64, Ordering};
 use std::thread::Threads;
 
-const PACE: Pace = Pace(64, 4, 3, 1_000_000_000);
+const PACE: Pace = Pace(64, 4, 3, MANY);
 
 /// Two writers of 1,000 records each.
 const THOUSAND: &Table = &Table {
     name: "a thousand",
-    writers: 2,
-    places: 8,
     boxes: 32,
-    capacity: 65_560,
-    fuse: None,
     steps: &[
         Drives(Run(Part(0, 1000, 10_000), PACE, Ok((1000, 1000)))),
         Reads(2, 1000, 10_000),
         Splits,
     ],
+    ..PLAIN
 };
 
 /// Two writers of 300 records each.
 const HUNDREDS: &Table = &Table {
     name: "hundreds",
-    writers: 2,
-    places: 8,
     boxes: 32,
-    capacity: 65_560,
-    fuse: None,
     steps: &[
         Drives(Run(Part(0, 300, 10_000), PACE, Ok((300, 300)))),
         Reads(2, 300, 10_000),
         Splits,
     ],
+    ..PLAIN
 };
 
 /// The same in 120 groups.
 const GROUPS: &Table = &Table {
     name: "groups",
-    writers: 2,
-    places: 8,
     boxes: 32,
-    capacity: 65_560,
-    fuse: None,
     steps: &[
         DrivesGroups(Run(Part(0, 300, 10_000), PACE, Ok((300, 300)))),
         Whole,
         Reads(2, 300, 10_000),
         Splits,
     ],
+    ..PLAIN
 };
 
 // Whether two writers find one another before their first record.
@@ -112,9 +103,8 @@ const GIVEN_UP: &Table = &Table {
     writers: 1,
     places: 1,
     boxes: 8,
-    capacity: 65_560,
-    fuse: None,
     steps: &[Drives(Run(Part(0, 3, 10_000), Pace(1, 1, 0, 1), Ok((1, 2))))],
+    ..PLAIN
 };
 
 // What a gate is told in the runs of a table, before groups and behind them; none where a step does not go as told.

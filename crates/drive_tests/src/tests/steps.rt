@@ -22,6 +22,9 @@ pub(super) struct Pace(
     pub(super) u64,
 );
 
+/// So many tries that none is the last.
+pub(super) const MANY: u64 = 1_000_000_000;
+
 /// A run, and how it ends: of each writer's records so many are accepted, at least and at most, or
 /// it has this cause.
 #[derive(Clone, Copy)]

@@ -7,7 +7,7 @@ ghost use Rattle.bw_store.specs.Views.{kept_by, IsSound};
 use super::boxes::boxes;
 use super::steps::{Step, goes};
 use bw_device::Segment;
-use bw_drive::Gate;
+use bw_drive::{Gate, OpenGate};
 use bw_ring::Feed;
 use bw_store::{Config, Store};
 use std::sync::Wait;
@@ -25,6 +25,17 @@ pub(super) struct Table {
     pub(super) fuse: Option<u64>,
     pub(super) steps: &'static [Step],
 }
+
+/// Two writers with rings of eight places, and four boxes that do not fail.
+pub(super) const PLAIN: Table = Table {
+    name: "plain",
+    writers: 2,
+    places: 8,
+    boxes: 4,
+    capacity: 65_560,
+    fuse: None,
+    steps: &[],
+};
 
 /// The first step that did not go as told.
 fn wrong_step<R: AllocGlobal + Threads + Wait, G: Gate>(
@@ -84,4 +95,17 @@ pub(super) fn walked<R: AllocGlobal + Threads + Wait, G: Gate>(
         Some(step) => Err(step),
         None => Ok(left),
     }
+}
+
+/// The first table that does not go as told where all pass the gate, and its step.
+pub(super) fn wrong_table<R: AllocGlobal + Threads + Wait>(
+    rt: &R,
+    tables: &[&Table],
+) -> Option<(&'static str, usize)> {
+    for table in tables {
+        if let Err(step) = walked(rt, *table, &OpenGate) {
+            return Some((table.name, step));
+        }
+    }
+    None
 }

@@ -6,4 +6,5 @@ mod changed;
 mod cleaned;
 mod many;
 mod recovered;
+mod steps;
 mod upgraded;

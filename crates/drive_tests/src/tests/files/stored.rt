@@ -19,6 +19,7 @@ use bw_log::Log;
 use bw_ring::Feed;
 use bw_store::{Config, Store, StoreFault};
 use std::sync::Wait;
+use test_vectors::{THIRD_LOST, THIRD_OLDER};
 
 const KV: &[(&str, &str)] = &[("k", "v")];
 
@@ -183,15 +184,7 @@ fn what_was_flushed_is_there_after_a_stop(rt: HostRuntime) {
     all_went(&rt, wrong);
 }
 
-/// Two segments: k=1 on the empty page 1, then j=2.
-const OLDER: &str =
-    "42574c4f475347320100000000000000040000000000010046524d3201000000000000002100000002000000\
-    02010000000000000101000000010000000000000000000000010001016b010031";
-
-const NEWER: &str =
-    "42574c4f475347320200000000000000040000000000010046524d3202000000000000001900000001000000\
-    0101000000010000000000000001000000010001016a010032";
-
+/// The pages of two segments: k=1 on the empty page 1, then j=2.
 const JK: &[(&str, &str)] = &[("j", "2"), ("k", "1")];
 
 /// What the cleaning of the older one tells.
@@ -219,8 +212,8 @@ pub(super) fn is_given_up(
 /// A cleaning and a stop, before the file is emptied.
 const GIVEN: &[Row] = &[
     Row(Make, Done, ""),
-    Row(Bytes("segment-0000.bw", OLDER, 77), Done, ""),
-    Row(Bytes("segment-0001.bw", NEWER, 69), Done, ""),
+    Row(Bytes("segment-0000.bw", THIRD_LOST, 77), Done, ""),
+    Row(Bytes("segment-0001.bw", THIRD_OLDER, 69), Done, ""),
     Row(Cleans(false), Done, ""),
     Row(Tells(3, Found(1, 3, 0, 2, 1, 0, JK)), Done, ""),
 ];
@@ -228,8 +221,8 @@ const GIVEN: &[Row] = &[
 /// The same behind it.
 const EMPTIED: &[Row] = &[
     Row(Make, Done, ""),
-    Row(Bytes("segment-0000.bw", OLDER, 77), Done, ""),
-    Row(Bytes("segment-0001.bw", NEWER, 69), Done, ""),
+    Row(Bytes("segment-0000.bw", THIRD_LOST, 77), Done, ""),
+    Row(Bytes("segment-0001.bw", THIRD_OLDER, 69), Done, ""),
     Row(Cleans(true), Done, ""),
     Row(Tells(3, Found(2, 3, 0, 1, 2, 0, JK)), Done, ""),
 ];

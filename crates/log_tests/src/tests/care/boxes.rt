@@ -9,6 +9,7 @@ use bw_device::Segment;
 use bw_log::Log;
 use bw_page::Leaves;
 use std::alloc::Global;
+use test_vectors::{behind, behind_leaf, is_at_end};
 
 /// More room than any box of a vector needs.
 pub(super) const AMPLE: u64 = 65_560;
@@ -89,27 +90,10 @@ pub(super) fn boxes_with(alloc: Global, fuse: Fuse, all: &[Kept]) -> Option<Yard
     Some(full)
 }
 
-// What is left of a text behind a part of it; none where it does not begin so.
-fn behind<'a>(text: Option<&'a [u8]>, part: &[u8]) -> Option<&'a [u8]> {
-    text?.strip_prefix(part)
-}
-
-// The same behind one page: its number, its low key, and each pair after a space.
+// What is left of a text behind one page: its number, its low key, and each pair after a space.
 fn behind_page<'a>(text: Option<&'a [u8]>, leaf: &Leaf) -> Option<&'a [u8]> {
-    let mut rest = behind(text, &[b'0' + (leaf.page % 10) as u8, b' ']);
-    rest = behind(behind(rest, leaf.low.as_slice()), b":");
-    for pair in leaf.pairs.as_slice() {
-        rest = behind(behind(rest, b" "), pair.key());
-        rest = behind(behind(rest, b"="), pair.value());
-    }
-    behind(rest, b";")
-}
-
-fn is_at_end(text: Option<&[u8]>) -> bool {
-    match text {
-        Some(rest) => rest.is_empty(),
-        None => false,
-    }
+    let number = [b'0' + (leaf.page % 10) as u8, b' '];
+    behind(behind_leaf(behind(text, &number), leaf), b";")
 }
 
 /// Whether one page is shown so.

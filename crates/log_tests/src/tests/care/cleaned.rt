@@ -1,82 +1,13 @@
 //! Cleanings of logs that were recovered from worked segments.
 
-ghost use Rattle.bw_log.specs.Views.{IsSound as IsSoundBeside};
-ghost use Rattle.log_tests.specs.Views.{IsSound};
-
-use super::super::{Fuse, NEVER, Table, Yard, all_went, first_wrong, taken_out};
-use super::boxes::{AMPLE, Kept, Piece, are_bytes, boxes_with, is_added, is_page};
-use bw_care::{CleanFault, Cleaned, clean, recover};
-use bw_device::Segment;
-use bw_log::{Log, LogFault};
-use std::alloc::Global;
-use test_vectors::{BEHIND_SECOND, SECOND, THIRD_LOST, THIRD_NEWER, THIRD_OLDER};
-
-/// One call on a log, with what it has to answer.
-#[derive(Drop)]
-enum Step {
-    /// A cleaning: the segment given up, its lease, how many pages, in how many frames.
-    Cleans(u64, u32, usize, u64),
-    Refused(CleanFault),
-    /// The leases of a desk that come back.
-    Back(u32),
-    /// A page as `shown`.
-    Page(u32, &'static str),
-    /// The bytes of a live segment.
-    Bytes(u64, &'static str),
-    /// How many segments are live, how many spares stand, and the next frame's number.
-    Stands(u32, u32, u64),
-    /// A segment more.
-    Add,
-}
-
+use super::super::{all_went, first_wrong};
+use super::boxes::{AMPLE, Kept, Piece};
+use super::steps::Step::{Add, Back, Bytes, Cleans, NotCleaned, Page, Stands};
+use super::steps::{Course, Step, walked};
 use Piece::{Cut, Whole};
-use Step::{Add, Back, Bytes, Cleans, Page, Refused, Stands};
-
-/// Whether a cleaning answers as told.
-pub(super) fn cleans(alloc: Global, log: &mut Log, told: Result<Cleaned, CleanFault>) -> bool
-    requires { IsSound log.old holding }
-    ensures { IsSound log.new holding }
-{
-    clean(alloc, log) == told
-}
-
-fn goes(yard: &mut Yard, log: &mut Log, step: &Step) -> bool
-    requires { IsSoundBeside holding log.old }
-    ensures { IsSoundBeside holding log.new }
-{
-    let alloc = yard.alloc;
-    match step {
-        Cleans(segment, lease, pages, frames) => {
-            let told = Cleaned {
-                segment: *segment,
-                lease: *lease,
-                pages: *pages,
-                frames: *frames,
-            };
-            cleans(alloc, log, Ok(told))
-        }
-        Refused(fault) => cleans(alloc, log, Err(*fault)),
-        Back(count) => yard.desk.collect() == *count,
-        Page(page, text) => is_page(log, *page, text),
-        Bytes(segment, hex) => are_bytes(alloc, log, *segment, *hex),
-        Stands(live, spares, next) => {
-            log.live() == *live && log.spares() == *spares && log.next_frame() == Some(*next)
-        }
-        Add => is_added(log, yard),
-    }
-}
-
-// The first step that did not go as told.
-fn wrong_step(yard: &mut Yard, log: &mut Log, steps: &[Step]) -> Option<usize>
-    requires { IsSoundBeside holding log.old }
-{
-    for (i, step) in steps.iter().enumerate() {
-        if !goes(yard, log, step) {
-            return Some(i);
-        }
-    }
-    None
-}
+use bw_care::CleanFault;
+use bw_log::LogFault;
+use test_vectors::{BEHIND_SECOND, SECOND, THIRD_LOST, THIRD_NEWER, THIRD_OLDER};
 
 /// The bytes that a cleaning leaves, then one with nothing old, then none.
 const TWICE: &[Step] = &[
@@ -88,7 +19,7 @@ const TWICE: &[Step] = &[
     Stands(2, 1, 5),
     Cleans(2, 1, 0, 0),
     Back(1),
-    Refused(CleanFault::NothingOld),
+    NotCleaned(CleanFault::NothingOld),
 ];
 
 /// Two pages of one oldest segment stand in one frame.
@@ -97,12 +28,12 @@ const TWO_PAGES: &[Step] = &[
     Stands(1, 1, 8),
     Page(1, "1 : a=1 b=2 bz=6;"),
     Page(2, "2 c: c=3 d=4 e=5;"),
-    Refused(CleanFault::NothingOld),
+    NotCleaned(CleanFault::NothingOld),
 ];
 
 /// No spare is left; with a segment more the same call cleans.
 const NO_SPARE: &[Step] = &[
-    Refused(CleanFault::Log(LogFault::NoSegment)),
+    NotCleaned(CleanFault::Log(LogFault::NoSegment)),
     Page(1, "1 : j=2 k=3;"),
     Stands(3, 0, 4),
     Add,
@@ -113,11 +44,11 @@ const NO_SPARE: &[Step] = &[
 
 /// The cleaner's append fails: no box is dropped, the page is as before, and the log is Failed.
 const FAILED: &[Step] = &[
-    Refused(CleanFault::Log(LogFault::Device { lease: 2 })),
+    NotCleaned(CleanFault::Log(LogFault::Device { lease: 2 })),
     Back(0),
     Page(1, "1 : j=2 k=3;"),
     Stands(3, 1, 4),
-    Refused(CleanFault::Log(LogFault::Failed)),
+    NotCleaned(CleanFault::Log(LogFault::Failed)),
 ];
 
 /// The third vector before its cleaning, and a spare.
@@ -142,35 +73,10 @@ const SECOND_AND_MORE: &[Kept] = &[
     (Cut(SECOND, 0), AMPLE, false),
 ];
 
-// The first step that did not go as told over what is recovered from segments and spares, of which
-// one fails so, with one more box in the yard.
-fn walked(alloc: Global, kept: &[Kept], fuse: Fuse, steps: &[Step]) -> Option<usize> {
-    let Some(mut yard) = boxes_with(alloc, fuse, kept) else {
-        return Some(0);
-    };
-    let Some(boxes) = taken_out(&mut yard, AMPLE) else {
-        return Some(0);
-    };
-    match recover(alloc, boxes) {
-        Ok(mut found) => wrong_step(&mut yard, &mut found.log, steps),
-        Err(_) => Some(0),
-    }
-}
-
-/// Segments and spares, and how what is recovered from them goes.
-#[derive(Drop)]
-struct Cleaning(&'static [Kept], &'static [Step]);
-
-impl Table for Cleaning {
-    fn wrong_row(&self, alloc: Global) -> Option<usize> {
-        walked(alloc, self.0, NEVER, self.1)
-    }
-}
-
-const TABLES: &[Cleaning] = &[
-    Cleaning(THIRD, TWICE),
-    Cleaning(FULL, NO_SPARE),
-    Cleaning(SECOND_AND_MORE, TWO_PAGES),
+const TABLES: &[Course] = &[
+    Course(THIRD, TWICE),
+    Course(FULL, NO_SPARE),
+    Course(SECOND_AND_MORE, TWO_PAGES),
 ];
 
 #[test]

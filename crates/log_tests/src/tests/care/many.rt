@@ -1,7 +1,7 @@
 //! A cleaning whose pages need more frames than one.
 
 use super::super::{NEVER, Yard, add_box, empty_yard};
-use super::cleaned::cleans;
+use super::steps::cleans;
 use bw_care::{Cleaned, recover};
 use bw_codec::limits::{LATEST, MIN_FRAME};
 use bw_codec::{Header, encode_frame_head, encode_header};

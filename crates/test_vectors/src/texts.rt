@@ -1,0 +1,53 @@
+//! Bytes told as hex, and pages as text.
+
+use bw_codec::Leaf;
+
+fn digit(n: u8) -> u8 {
+    match n {
+        0..=9 => n + b'0',
+        10..=15 => n + (b'a' - 10),
+        _ => 0,
+    }
+}
+
+/// Whether these are the bytes that the hex digits spell.
+pub fn spells(bytes: &[u8], hex: &[u8]) -> bool {
+    if hex.len() / 2 != bytes.len() {
+        return false;
+    }
+    for (at, byte) in bytes.iter().enumerate() {
+        let (high, low) = (hex.get(2 * at), hex.get(2 * at + 1));
+        if high.copied() != Some(digit(*byte / 16)) || low.copied() != Some(digit(*byte % 16)) {
+            return false;
+        }
+    }
+    true
+}
+
+/// What is left of a text behind a part of it; none where it does not begin so.
+pub fn behind<'a>(text: Option<&'a [u8]>, part: &[u8]) -> Option<&'a [u8]> {
+    text?.strip_prefix(part)
+}
+
+/// The same behind a page: its low key, a colon, and each pair after a space.
+pub fn behind_leaf<'a>(text: Option<&'a [u8]>, leaf: &Leaf) -> Option<&'a [u8]> {
+    let mut rest = behind(behind(text, leaf.low.as_slice()), b":");
+    for pair in leaf.pairs.as_slice() {
+        rest = behind(behind(rest, b" "), pair.key());
+        rest = behind(behind(rest, b"="), pair.value());
+    }
+    rest
+}
+
+/// Whether nothing is left of a text, which began as it was to.
+pub fn is_at_end(text: Option<&[u8]>) -> bool {
+    match text {
+        Some(rest) => rest.is_empty(),
+        None => false,
+    }
+}
+
+/// Whether a text is this page, without its number.
+pub fn shows(leaf: &Leaf, text: &[u8]) -> bool {
+    is_at_end(behind_leaf(Some(text), leaf))
+}
