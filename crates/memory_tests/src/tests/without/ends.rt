@@ -33,19 +33,31 @@ fn one_ring(alloc: Global) -> Result<(Feed, Lane), LanesError>
     }
 }
 
-/// Puts two records, and takes both by each call that does so.
+/// Passes over a record that the lane lends.
+fn passes(lane: &mut Lane) -> bool {
+    let Some(lent) = lane.alone() else {
+        return false;
+    };
+    let item = lent.copy();
+    lane.pass_alone(&item);
+    !lane.is_known()
+}
+
+/// Puts three records, and takes them by each call that does so.
 fn go_through(feed: &mut Feed, lane: &mut Lane, one: Record, other: Record) -> bool
     requires { IsFeedOf feed.old lane.old }
 {
+    let third = other.copy();
     let are_put = feed.room() == 4 && feed.put(one).is_ok() && feed.put(other).is_ok();
-    let waits = lane.rest_beside(feed) == 2;
+    let is_full = feed.put(third).is_err();
+    let waits = lane.rest_beside(feed) == 3;
     let is_taken = lane.peek().is_some() && lane.take().is_some();
     if !lane.is_known() {
         return false;
     }
     let is_known = lane.peek_known().len() == 1;
-    let last = lane.take_known();
-    are_put && waits && is_taken && is_known && last.as_slice().len() == 1
+    let is_last = lane.take_known().as_slice().len() == 1 && passes(lane);
+    are_put && !is_full && waits && is_taken && is_known && is_last
 }
 
 pub(super) fn rings(alloc: Global) -> Option<bool> {
