@@ -146,37 +146,32 @@ module _ (rows : List Row) (base bs : List Block) (p0 : ℕ) (back here x : Plac
       | false ↦ λ e. (let h = leb-false _ _ e in absurd (other (omega arith)))
     ] refl
 
+    -- what is told of a page by its newest row, where the newest of all rows is this cut
+    by_cut : {A : Type 0} (tell : Option Row → A) (split was : A) → tell (Some cut_row) ≡ split → ((p0 == p) ≡ false → p ≤ n → tell (row_in rows p) ≡ was)
+        → tell (row_in (rows ++ cut_row ∷ []) p) ≡ (if (p0 == p) || (upper.page == p) then split else was)
+    by_cut tell split was is stays =
+        ap tell (rows_last rows cut_row p)
+        ∙ elim ((p0 == p) || (upper.page == p)) as (λ b. ((p0 == p) || (upper.page == p)) ≡ b
+        → tell (if b then Some cut_row else row_in rows p) ≡ (if b then split else was)) [
+          | true ↦ λ e. is
+          | false ↦ λ e. (
+              let other : upper.page ≢ p = eqb-false upper.page p (neither (p0 == p) (upper.page == p) e) in
+              stays (neither_first (p0 == p) (upper.page == p) e) (not_last other))
+        ] refl
+
     records_cut : (p ≤ n → records_in rows base p ≡ open_records p bs)
         → records_in (rows ++ cut_row ∷ []) base p ≡ open_records p (joined bs (Delta p0 back (r ∷ [])) ++ Split p0 here upper ∷ [])
     records_cut was =
-        ap (λ (o : Option Row). records_by o (open_records p base)) (rows_last rows cut_row p)
-        ∙ elim ((p0 == p) || (upper.page == p)) as (λ b. ((p0 == p) || (upper.page == p)) ≡ b
-        → records_by (if b then Some cut_row else row_in rows p) (open_records p base)
-        ≡ (if b then None else open_records p (joined bs (Delta p0 back (r ∷ []))))) [
-          | true ↦ λ e. refl
-          | false ↦ λ e. (
-              let not : (p0 == p) ≡ false = neither_first (p0 == p) (upper.page == p) e in
-              let other : upper.page ≢ p = eqb-false upper.page p (neither (p0 == p) (upper.page == p) e) in
-              was (not_last other)
-              ∙ sym (records_delta p p0 back r bs ∙ ap (λ (b : Bool). if b then Some count else open_records p bs) not))
-        ] refl
+        by_cut (λ (o : Option Row). records_by o (open_records p base)) None (open_records p (joined bs (Delta p0 back (r ∷ [])))) refl
+        (λ not within. was within ∙ sym (records_delta p p0 back r bs ∙ ap (λ (b : Bool). if b then Some count else open_records p bs) not))
         ∙ sym (records_split p p0 here upper (joined bs (Delta p0 back (r ∷ []))))
 
     opens_cut : (p ≤ n → open_in rows base p ≡ joins p bs)
         → open_in (rows ++ cut_row ∷ []) base p ≡ joins p (joined bs (Delta p0 back (r ∷ [])) ++ Split p0 here upper ∷ [])
     opens_cut was =
-        ap (λ (o : Option Row). open_by o (joins p base)) (rows_last rows cut_row p)
-        ∙ elim ((p0 == p) || (upper.page == p)) as (λ b. ((p0 == p) || (upper.page == p)) ≡ b
-        → open_by (if b then Some cut_row else row_in rows p) (joins p base)
-        ≡ (if b then None else joins p (joined bs (Delta p0 back (r ∷ []))))) [
-          | true ↦ λ e. refl
-          | false ↦ λ e. (
-              let not : (p0 == p) ≡ false = neither_first (p0 == p) (upper.page == p) e in
-              let other : upper.page ≢ p = eqb-false upper.page p (neither (p0 == p) (upper.page == p) e) in
-              was (not_last other)
-              ∙ sym (joins_delta p p0 back r bs
-              ∙ ap (λ (b : Bool). if b then (if takes 1 (Some count) then Some (unwrap_or (joins p0 bs) (length bs)) else None) else joins p bs) not))
-        ] refl
+        by_cut (λ (o : Option Row). open_by o (joins p base)) None (joins p (joined bs (Delta p0 back (r ∷ [])))) refl
+        (λ not within. was within ∙ sym (joins_delta p p0 back r bs
+        ∙ ap (λ (b : Bool). if b then (if takes 1 (Some count) then Some (unwrap_or (joins p0 bs) (length bs)) else None) else joins p bs) not))
         ∙ sym (joins_split p p0 here upper (joined bs (Delta p0 back (r ∷ []))))
 
 -- ---- all of it

@@ -28,8 +28,8 @@ use Rattle.bw_store.proofs.Edging.{begun_dropped, begun_stays, moved_row, refuse
 use Rattle.bw_store.specs.declared.fault.StoreFault.{StoreFault}
 use Rattle.bw_store.specs.declared.fault.StoreFault.TheVariants as store
 use Rattle.bw_store.specs.Faults.{fault_of, FlushLeaves}
-use Rattle.bw_store.specs.Following.{Continues, Follows}
-use Rattle.bw_store.proofs.FollowMore.{continue_then, grows_on}
+use Rattle.bw_store.specs.Following.{Continues}
+use Rattle.bw_store.proofs.FollowMore.{grows_on}
 use Rattle.bw_care.proofs.BoxesGrown.{same_roster}
 use Rattle.bw_codec.specs.Grammar.{frame_bytes, header_bytes}
 use Rattle.bw_device.specs.Holding.{Holding, appended}
@@ -39,8 +39,8 @@ use Rattle.bw_store.specs.History.{upto}
 use Rattle.bw_store.specs.Growing.{frames_upto}
 use Rattle.bw_store.specs.Kept.{Kept, IsSound}
 use Rattle.bw_store.specs.Settled.{IsSettled}
-use Rattle.bw_store.specs.Cleaning.{end_by, with_moved, fault_of_clean, GivesUp, HasMoved, HasStopped, MoveLeaves, CleanLeaves, HasBoxesBut, HasFloorBut}
-use Rattle.bw_store.specs.Emptied.{Emptied}
+use Rattle.bw_store.specs.Cleaning.{end_by, with_moved, fault_of_clean, GivesUp, HasMoved, HasStopped, MoveLeaves, HasBoxesBut, HasFloorBut}
+use Rattle.bw_store.specs.Emptied.{Behind, Emptied, WhereSome}
 use Rattle.bw_store.proofs.FramesBehind.{end_is, first_ahead, none_above, placed_page, pages_counted}
 use Rattle.bw_store.proofs.MovedMore.{Adds, Moves, high, next_then, moved_sound, kept_shares, last_cut, all_cuts}
 
@@ -550,13 +550,10 @@ move_boxes old s new (Ok cleaned) same left = left.log.leases ∙ ap (drop 1) sa
 move_boxes old s new (Err fault) same left = cause_roster s.log new.log left.0 left.2.log ∙ same
 
 -- the whole call
-pub clean_leaves : (old s new : Kept) (r : Result Cleaned StoreFault) → 2 ≤ length old.log.live → Emptied true old s → MoveLeaves s r new → CleanLeaves old r new
-clean_leaves old s new (Ok cleaned) two may left = (two, (s, may, left))
-clean_leaves old s new (Err fault) two may left = inr (two, inr (s, may, inr left))
-
-pub continues_via : (old flushed begun new : Kept) → Follows old flushed → begun ≡ flushed → Continues begun new → Continues old new
-continues_via old flushed begun new first same rest =
-    continue_then old flushed new first.continues (subst (λ (s : Kept). Continues s new) same rest)
+pub goes_on : {A : Type 0} (some none : Type 0) (refusal : StoreFault) (leaves : Kept → Result A StoreFault → Kept → Type 0) (old s new : Kept)
+    (r : Result A StoreFault) → some → Emptied true old s → leaves s r new → WhereSome some none refusal (Behind leaves) old r new
+goes_on some none refusal leaves old s new (Ok x) is may left = (is, (s, may, left))
+goes_on some none refusal leaves old s new (Err fault) is may left = inr (is, inr (s, may, left))
 
 -- the floor is what is durable once segments are given up
 pub gives_floor : {A : Type 0} (frames : A → ℕ) (done : logs.Contents → A → logs.Contents → Type 0)
@@ -564,9 +561,6 @@ pub gives_floor : {A : Type 0} (frames : A → ℕ) (done : logs.Contents → A 
     → s.floor ≡ old.floor → GivesUp frames done refuses s r new → HasFloorBut old r new
 gives_floor frames done refuses old s new (Ok x) same left = ap (λ (k : Kept). k.floor) left.is ∙ sym (ap (λ (k : Kept). k.durable) left.is)
 gives_floor frames done refuses old s new (Err fault) same left = ap (λ (k : Kept). k.floor) left.2.is ∙ same
-
-pub reserve_leaves : (old s new : Kept) → 2 ≤ length old.log.live → Emptied true old s → new ≡ s → CleanLeaves old (Err store.NoMemory) new
-reserve_leaves old s new two may same = inr (two, inr (s, may, inl (refl, same)))
 
 log_never : (cause : LogFault) → store.NothingOld ≡ fault_of cause → ⊥
 log_never log.NoMemory e = cc

@@ -11,6 +11,7 @@ use Rattle.bw_log.specs.declared.fault.LogFault.TheVariants as logs
 use Rattle.bw_store.specs.declared.fault.StoreFault.{StoreFault}
 use Rattle.bw_store.specs.declared.fault.StoreFault.TheVariants.{NoMemory, BadConfig, NoSegment, Device, Failed, Spent, NoPage, NothingOld}
 use Rattle.bw_store.specs.Kept.{Kept}
+use Rattle.bw_store.specs.Emptied.{IsUnready}
 use Rattle.bw_store.specs.Faults.{FlushAnswers, FlushLeaves, IsRefused, flush_refusal, refusal_by, fault_of}
 use Rattle.bw_codec.specs.declared.record.Record.{Record}
 use Rattle.bw_store.specs.Fitting.{Fits}
@@ -166,6 +167,12 @@ never_nothing takes_last s a = is_cause takes_last s NothingOld (λ x. x) a
 -- nor that there is no such page
 pub never_page : (takes_last : Bool) (s : Kept) → FlushAnswers (refusal_by takes_last s) (Err NoPage) → ⊥
 never_page takes_last s a = is_cause takes_last s NoPage (λ x. x) a
+
+-- nor does what goes before a step
+pub never_unready : (old new : Kept) (fault : StoreFault) → IsUnready old fault new → fault ≡ NothingOld → ⊥
+never_unready old new fault (inl flush) is =
+    never_nothing true old (subst (λ (x : StoreFault). FlushAnswers (refusal_by true old) (Err x)) is flush.0)
+never_unready old new fault (inr memory) is = (let wanting = memory.2 in cc)
 
 -- a flush that was refused for another cause than Failed was not of a failed store
 other_cause : (failed : Bool) (rest : Option StoreFault) (fault : StoreFault) → (fault ≡ Failed → ⊥)

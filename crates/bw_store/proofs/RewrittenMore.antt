@@ -18,11 +18,10 @@ use Rattle.bw_care.proofs.BoxesGrown.{same_roster}
 use Rattle.bw_versions.specs.Entries.{records}
 use Rattle.bw_store.specs.declared.fault.StoreFault.{StoreFault}
 use Rattle.bw_store.specs.declared.fault.StoreFault.TheVariants as store
-use Rattle.bw_store.specs.Emptied.{Emptied}
 use Rattle.bw_store.specs.Faults.{fault_of, FlushLeaves}
 use Rattle.bw_store.specs.Following.{Follows, HasBoxes}
 use Rattle.bw_store.specs.Kept.{Kept, IsSound}
-use Rattle.bw_store.specs.Rewriting.{are_pages, RewriteMoves, RewriteLeaves}
+use Rattle.bw_store.specs.Rewriting.{are_pages, RewriteMoves}
 use Rattle.bw_store.specs.Settled.{IsSettled}
 use Rattle.bw_store.proofs.CleanedMore.{Begins, Cleans, StandsOn, moved_cleans, moved_follows, refused_cleans, stopped_roster}
 use Rattle.bw_store.proofs.FramesBehind.{pages_counted}
@@ -87,16 +86,7 @@ rewrite_stays s new ps (Err fault) left =
     roster_by (inl failed) = ap logs.roster failed.1
     roster_by (inr stopped) = stopped_roster 0 ps s.log new.log left.0 stopped.1
 
--- ---- the whole call
-
-pub rewrite_leaves : (old s new : Kept) (ps : List ℕ) (r : Result ℕ StoreFault) → are_pages (length old.filed.leaves) ps ≡ true → Emptied true old s
-    → RewriteMoves s ps r new → RewriteLeaves old ps r new
-rewrite_leaves old s new ps (Ok frames) are may left = (are, (s, may, left))
-rewrite_leaves old s new ps (Err fault) are may left = inr (are, inr (s, may, inr left))
-
-pub reserve_held : (old s new : Kept) (ps : List ℕ) → are_pages (length old.filed.leaves) ps ≡ true → Emptied true old s → new ≡ s
-    → RewriteLeaves old ps (Err store.NoMemory) new
-reserve_held old s new ps are may same = inr (are, inr (s, may, inl (refl, same)))
+-- ---- no refusal of its own
 
 never_by : (s new : Kept) (ps : List ℕ) (cause : LogFault) → store.NoPage ≡ fault_of cause → rewrites.RefusesRewrite cause s.log ps new.log → ⊥
 never_by s new ps log.NoPage e (inl failed) = (let is = failed.0 in cc)

@@ -1,7 +1,7 @@
 -- What the answer of an upgrade says of the store.
 
-use Rattle.std.proofs.Common.{inl, inr, ◌≡◌, ℕ, ◌≤◌, true, Option, Some, None, Result, Ok, Err, ◌++◌}
-use Rattle.std.proofs.Common.{length, drop, refl, sym, ap, ◌∙◌, arith}
+use Rattle.std.proofs.Common.{◌≡◌, ℕ, ◌≤◌, Option, Some, None, Result, Ok, Err, ◌++◌}
+use Rattle.std.proofs.Common.{length, drop, ap, ◌∙◌, arith}
 use Rattle.std.specs.Prelude.{IfOk, IfErr}
 use Rattle.bw_log.specs.Contents as logs
 use Rattle.bw_log.specs.declared.fault.LogFault.{LogFault}
@@ -14,12 +14,10 @@ use Rattle.bw_care.specs.declared.upgrader.Upgraded.{Upgraded}
 use Rattle.bw_care.specs.declared.fault.CleanFault.{CleanFault}
 use Rattle.bw_care.specs.declared.fault.CleanFault.TheVariants.{NothingOld, Log}
 use Rattle.bw_store.specs.declared.fault.StoreFault.{StoreFault}
-use Rattle.bw_store.specs.declared.fault.StoreFault.TheVariants as store
 use Rattle.bw_store.specs.Cleaning.{HasBoxesBut}
-use Rattle.bw_store.specs.Emptied.{Emptied}
 use Rattle.bw_store.specs.Faults.{FlushLeaves}
 use Rattle.bw_store.specs.Kept.{Kept}
-use Rattle.bw_store.specs.Upgrading.{UpgradeMoves, UpgradeLeaves}
+use Rattle.bw_store.specs.Upgrading.{UpgradeMoves}
 use Rattle.bw_store.proofs.CleanedMore.{Begins, Cleans, GaveUp, StandsOn, few_upto, given_cleans, given_told, refused_cleans, refused_counts, stopped_roster}
 
 -- ---- the log behind it
@@ -100,15 +98,6 @@ pub upgrade_boxes : (k : ℕ) (old s new : Kept) (r : Result Upgraded StoreFault
 upgrade_boxes k old s new (Ok upgraded) as_many same left =
     left.log.leases ∙ ap (λ (n : ℕ). drop n (logs.roster s.log)) as_many ∙ ap (drop k) same
 upgrade_boxes k old s new (Err fault) as_many same left = cause_roster s.log new.log left.0 left.2.log ∙ same
-
--- the whole call
-pub upgrade_leaves : (old s new : Kept) (r : Result Upgraded StoreFault) → 1 ≤ old_segments old.log → Emptied true old s → UpgradeMoves s r new
-    → UpgradeLeaves old r new
-upgrade_leaves old s new (Ok upgraded) some may left = (some, (s, may, left))
-upgrade_leaves old s new (Err fault) some may left = inr (some, inr (s, may, inr left))
-
-pub reserve_halts : (old s new : Kept) → 1 ≤ old_segments old.log → Emptied true old s → new ≡ s → UpgradeLeaves old (Err store.NoMemory) new
-reserve_halts old s new some may same = inr (some, inr (s, may, inl (refl, same)))
 
 -- ---- a flush before it leaves the segments of version 1
 

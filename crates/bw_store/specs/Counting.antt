@@ -10,8 +10,7 @@ use Rattle.bw_store.specs.declared.counters.Looks.{Looks}
 use Rattle.bw_store.specs.declared.counters.Tally.{Tally}
 use Rattle.bw_store.specs.declared.fault.StoreFault.{StoreFault}
 use Rattle.bw_store.specs.Cleaning.{MoveLeaves}
-use Rattle.bw_store.specs.Emptied.{Emptied}
-use Rattle.bw_store.specs.Faults.{FlushLeaves}
+use Rattle.bw_store.specs.Emptied.{Emptied, IsUnready}
 use Rattle.bw_store.specs.Kept.{Kept}
 use Rattle.bw_store.specs.Noted.{Noted}
 use Rattle.bw_store.specs.Showing.{ThenShows}
@@ -80,18 +79,13 @@ counted_gone count t old done new =
     counted_by t done (new.durable - old.durable) (up 0 (bytes_of old.log.live)) (up 0 (bytes_of new.log.live))
     (up 0 (bytes_of (take count old.log.live))) count
 
--- nothing was moved: it was refused before that
-abbrev pub IsUnmoved : Kept → StoreFault → Kept → Type 0
-IsUnmoved old fault new =
-    (new ≡ old) ⊎ (FlushLeaves old (Err fault) new ⊎ ((middle : Kept) × Emptied true old middle × (new ≡ middle)))
-
 -- a call that gives segments up, without its publication: it counts what its step did behind the flush, and nothing else
 abbrev pub CountsStep : {A : Type 0} → (Kept → ℕ) → (Kept → Result A StoreFault → Kept → Type 0)
     → Kept → Tally → Result A StoreFault → Kept → Tally → Type 0
 CountsStep gone leaves old t (Ok x) new u =
     (middle : Kept) × Emptied true old middle × leaves middle (Ok x) new × (u ≡ counted_gone (gone middle) t middle true new)
 CountsStep gone leaves old t (Err fault) new u =
-    (IsUnmoved old fault new × (u ≡ t))
+    (((new ≡ old) ⊎ IsUnready old fault new) × (u ≡ t))
     ⊎ ((middle : Kept) × Emptied true old middle × leaves middle (Err fault) new × (u ≡ counted_gone (gone middle) t middle false new))
 
 -- a cleaning without its publication

@@ -12,12 +12,16 @@ pub record Emptied (takes_last : Bool) (old middle : Kept) : Type 0 where
   pub answers : FlushAnswers (refusal_by takes_last old) (Ok number)
   pub leaves : FlushLeaves old (Ok number) middle
 
--- a step behind a flush that may take the last spare: the flush was refused, or memory was wanting after it, or the step was taken
+-- a flush that may take the last spare was refused, or memory was wanting after it
+abbrev pub IsUnready : Kept → StoreFault → Kept → Type 0
+IsUnready old fault new =
+    (FlushAnswers (refusal_by true old) (Err fault) × FlushLeaves old (Err fault) new)
+    ⊎ ((middle : Kept) × Emptied true old middle × (fault ≡ NoMemory) × (new ≡ middle))
+
+-- a step behind such a flush
 abbrev pub Behind : {A : Type 0} → (Kept → Result A StoreFault → Kept → Type 0) → Kept → Result A StoreFault → Kept → Type 0
 Behind leaves old (Ok x) new = (middle : Kept) × Emptied true old middle × leaves middle (Ok x) new
-Behind leaves old (Err fault) new =
-    (FlushAnswers (refusal_by true old) (Err fault) × FlushLeaves old (Err fault) new)
-    ⊎ ((middle : Kept) × Emptied true old middle × (((fault ≡ NoMemory) × (new ≡ middle)) ⊎ leaves middle (Err fault) new))
+Behind leaves old (Err fault) new = IsUnready old fault new ⊎ ((middle : Kept) × Emptied true old middle × leaves middle (Err fault) new)
 
 -- a call that looks first: it goes on where this holds, and is refused so at once where that holds
 abbrev pub WhereSome : {A : Type 0} → Type 0 → Type 0 → StoreFault → (Kept → Result A StoreFault → Kept → Type 0)

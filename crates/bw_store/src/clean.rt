@@ -1,10 +1,11 @@
 //! The oldest segment is given up, and no page changes.
 
-ghost use Rattle.std.specs.Prelude.{◌≡◌, ◌≤◌, ◌<◌, ◌+◌, ◌↔◌, [], false, length, vec_len, is_ok, IsErrOf};
+ghost use Rattle.std.specs.Prelude.{◌≡◌, ◌≤◌, ◌<◌, ◌+◌, ◌↔◌, [], true, false, length, vec_len, is_ok, IfErr, IsErrOf, OnOk};
 ghost use Rattle.std.specs.Vec.{vec_capacity};
 ghost use Rattle.bw_store.specs.Cleaning.{MoveLeaves, CleanLeaves, HasBoxesBut, HasFloorBut};
 ghost use Rattle.bw_store.specs.Counting.{counted_gone, CountsClean, CountsCleaning};
-ghost use Rattle.bw_store.specs.Following.{Continues};
+ghost use Rattle.bw_store.specs.Emptied.{Emptied, IsUnready};
+ghost use Rattle.bw_store.specs.Following.{Continues, Follows, HasBoxes};
 ghost use Rattle.bw_store.specs.Kept.{EachCutStands};
 ghost use Rattle.bw_store.specs.Settled.{IsSettled};
 ghost use Rattle.bw_store.specs.Showing.{CleanShows, HasBoxesAfter, HasFloorAfter};
@@ -75,11 +76,32 @@ impl Store {
         if self.log.live() < 2 {
             return Err(StoreFault::NothingOld);
         }
+        self.make_ready()?;
+        self.move_pages()
+    }
+
+    // What waits is flushed, and there is room for a cut for each page: a step that writes pages
+    // again adds no more frames than that.
+    pub(crate) fn make_ready(&mut self) -> Result<(), StoreFault>
+        requires sound { IsSound self.old holding }
+        ensures sound { IsSound self.new holding }
+        ensures emptied { OnOk result
+            (Emptied true (kept_by self.old holding) (kept_by self.new holding)) }
+        ensures settled { OnOk result (IsSettled (kept_by self.new holding)) }
+        ensures empty { OnOk result (self.new.making.blocks ≡ []) }
+        ensures works { OnOk result ((kept_by self.new holding).log.is_failed ≡ false) }
+        ensures room { OnOk result (vec_len self.new.cuts
+            + length (kept_by self.new holding).log.pages ≤ vec_capacity self.new.cuts) }
+        ensures refused { IfErr result (λ fault. IsUnready (kept_by self.old holding) fault
+            (kept_by self.new holding)) }
+        ensures follows { Follows (kept_by self.old holding) (kept_by self.new holding) }
+        ensures boxes { HasBoxes (kept_by self.old holding) (kept_by self.new holding) }
+        ensures noted { noted_of self.new ≡ noted_of self.old }
+    {
         self.flush_making(true)?;
-        // There are no more frames than pages.
         let pages = self.log.pages() as usize;
         self.reserve_cuts(pages)?;
-        self.move_pages()
+        Ok(())
     }
 
     // The cleaner, where nothing waits, and what is counted of it.

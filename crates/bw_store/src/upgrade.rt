@@ -84,10 +84,7 @@ impl Store {
         if self.old_segments() == 0 {
             return Err(StoreFault::NothingOld);
         }
-        self.flush_making(true)?;
-        // There are no more frames than pages.
-        let pages = self.log.pages() as usize;
-        self.reserve_cuts(pages)?;
+        self.make_ready()?;
         self.upgrade_counted()
     }
 

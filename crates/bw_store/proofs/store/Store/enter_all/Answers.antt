@@ -32,34 +32,20 @@ returns-in_err-apply_all_of-clause-refused g c =
     (λ e. spent_as c.args.self.now.leaves c.args.group
     (rw (sym c.as_slice.ensures.value) (c.in_err-apply_all_of.ensures.only_spent (ap (λ (x : ApplyError). Err x) e)))))
 
-pub note_all-requires-clause-inside : goal.note_all-requires-clause-inside
-note_all-requires-clause-inside g c =
-    let s = kept_by c.args.self.now (λ z. (goal.Segment-dyn g z).holding z.1) in
-    rows_inside s c.args.group c.args.draft.now c.requires.sound c.requires.lawful c.requires.draft _ _
-    (as_many _ _ c.args.self.now.making.blocks (c.reserve_all.ensures.same ∙ c.args.self.now.tailed)) c.as_slice-rows.ensures.value
-
-pub note_all-requires-clause-many : goal.note_all-requires-clause-many
-note_all-requires-clause-many g c =
-    let s = kept_by c.args.self.now (λ z. (goal.Segment-dyn g z).holding z.1) in
-    rows_many s c.args.group c.args.draft.now c.requires.sound c.requires.lawful c.requires.draft _ c.as_slice-rows.ensures.value
-    ∙ ap length (sym c.as_slice-2.ensures.value)
-
-pub note_all-requires-clause-room : goal.note_all-requires-clause-room
-note_all-requires-clause-room g c =
+pub note_all-requires : goal.note_all-requires
+note_all-requires g c =
     let s = kept_by c.args.self.now (λ z. (goal.Segment-dyn g z).holding z.1) in
     let many = rows_many s c.args.group c.args.draft.now c.requires.sound c.requires.lawful c.requires.draft _ c.as_slice-rows.ensures.value in
     let few = c.as_slice.ensures.few in
     let most = few.1 in
     let room = c.in_ok-reserve_all.ensures.room in
-    omega arith
-
-pub note_all-requires-clause-links : goal.note_all-requires-clause-links
-note_all-requires-clause-links g c =
-    let s = kept_by c.args.self.now (λ z. (goal.Segment-dyn g z).holding z.1) in
-    let many = rows_many s c.args.group c.args.draft.now c.requires.sound c.requires.lawful c.requires.draft _ c.as_slice-rows.ensures.value in
-    let few = c.as_slice.ensures.few in
-    let most = few.1 in
-    fewer_rooms _ _ _ (omega arith) c.in_ok-reserve_all.ensures.links
+    record {
+      inside = rows_inside s c.args.group c.args.draft.now c.requires.sound c.requires.lawful c.requires.draft _ _
+          (as_many _ _ c.args.self.now.making.blocks (c.reserve_all.ensures.same ∙ c.args.self.now.tailed)) c.as_slice-rows.ensures.value;
+      many = many ∙ ap length (sym c.as_slice-2.ensures.value);
+      room = omega arith;
+      links = fewer_rooms _ _ _ (omega arith) c.in_ok-reserve_all.ensures.links;
+    }
 
 pub file_all-requires-clause-some : goal.file_all-requires-clause-some
 file_all-requires-clause-some g c =

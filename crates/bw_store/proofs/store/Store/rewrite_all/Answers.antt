@@ -1,4 +1,4 @@
-use Rattle.std.proofs.Common.{◌≡◌, ℕ, true, Err, length, refl, subst, ap, sym, ◌∙◌}
+use Rattle.std.proofs.Common.{◌≡◌, ℕ, true, inl, inr, Err, length, refl, subst, ap, sym, ◌∙◌}
 use Rattle.std.specs.List.{AllByRecursion as All}
 use Rattle.std.proofs.lemmas.Bool.{true≢false}
 use Rattle.std.proofs.lemmas.Result.{err_from_is_err_and}
@@ -10,12 +10,13 @@ use Rattle.bw_log.specs.Reads.{IsPage}
 use Rattle.bw_store.specs.Following.{Follows}
 use Rattle.bw_store.specs.Kept.{Kept}
 use Rattle.bw_store.specs.Emptied.{Emptied}
-use Rattle.bw_store.specs.Rewriting.{are_pages}
+use Rattle.bw_store.specs.Rewriting.{are_pages, RewriteMoves}
 use Rattle.bw_store.specs.Views.{kept_by}
+use Rattle.bw_store.proofs.CleanedMore.{goes_on}
 use Rattle.bw_store.proofs.FollowMore.{follow_then, follows_as, follows_left}
 use Rattle.bw_store.proofs.Refusing.{never_page}
 use Rattle.bw_store.proofs.SettledMore.{settled_by}
-use Rattle.bw_store.proofs.RewrittenMore.{all_there, same_count, rewrite_stays, rewrite_leaves, reserve_held, never_no_page}
+use Rattle.bw_store.proofs.RewrittenMore.{all_there, same_count, rewrite_stays, never_no_page}
 use Rattle.bw_store.proofs.store.Store.rewrite_all.Goals as goal
 
 pub returns-then-not-are_pages-clause-follows : goal.returns-then-not-are_pages-clause-follows
@@ -63,7 +64,7 @@ returns-clause-leaves g c =
     let empty : Emptied true old (kept_by c.flush_making.new.self (λ z. (goal.Segment-dyn g z).holding z.1)) =
     record { number = _; answers = c.in_ok-flush_making.ensures.answers; leaves = c.in_ok-flush_making.ensures.leaves } in
     let begun : Emptied true old (kept_by c.reserve_cuts.new.self (λ z. (goal.Segment-dyn g z).holding z.1)) = rw c.reserve_cuts.ensures.same empty in
-    rewrite_leaves _ _ _ c.args.pages.now c.rewrite_pages.result are begun c.rewrite_pages.ensures.leaves
+    goes_on _ _ _ (λ s r t. RewriteMoves s c.args.pages.now r t) _ _ _ c.rewrite_pages.result are begun c.rewrite_pages.ensures.leaves
 
 pub returns-in_err-reserve_cuts-clause-leaves : goal.returns-in_err-reserve_cuts-clause-leaves
 returns-in_err-reserve_cuts-clause-leaves g c =
@@ -73,7 +74,7 @@ returns-in_err-reserve_cuts-clause-leaves g c =
     ap (λ (n : ℕ). are_pages n c.args.pages.now) (sym c.count.ensures.value) ∙ sym c.are_pages.ensures ∙ c.if-not-are_pages.false in
     let empty : Emptied true old (kept_by c.flush_making.new.self (λ z. (goal.Segment-dyn g z).holding z.1)) =
     record { number = _; answers = c.in_ok-flush_making.ensures.answers; leaves = c.in_ok-flush_making.ensures.leaves } in
-    rw (p.1, p.2) (reserve_held _ _ _ c.args.pages.now are empty c.reserve_cuts.ensures.same)
+    rw (p.1, p.2) (inr (are, inl (inr (_, empty, refl, c.reserve_cuts.ensures.same))))
 
 pub returns-in_err-flush_making-clause-no_page : goal.returns-in_err-flush_making-clause-no_page
 returns-in_err-flush_making-clause-no_page g c =

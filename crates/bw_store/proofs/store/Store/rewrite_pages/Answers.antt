@@ -1,4 +1,4 @@
-use Rattle.std.proofs.Common.{◌≡◌, ◌≤◌, ◌∙◌, [], length, arith, sym, subst}
+use Rattle.std.proofs.Common.{◌≤◌, ◌∙◌, [], length, arith, sym, subst}
 use Rattle.bw_log.specs.Contents as logs
 use Rattle.bw_care.specs.Moving as care
 use Rattle.bw_care.specs.Rewriting as rewrites
