@@ -12,7 +12,7 @@ HERE = os.path.dirname(os.path.abspath(__file__))
 CRATES = os.path.join(HERE, "..", "crates")
 PAGE = os.path.join(HERE, "..", "docs", "TESTING.md")
 # Crates that are no library of the store: programs, tests, and what tests stand on.
-OTHERS = {"bwlog", "bw_bench", "test_marks"}
+OTHERS = {"bwlog", "bw_bench", "test_marks", "test_vectors"}
 
 
 def text(path):
