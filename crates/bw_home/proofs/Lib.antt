@@ -1,1 +1,1 @@
-mod Readings
+pub mod Readings

@@ -4,9 +4,11 @@ use Rattle.std.proofs.Common.{◌≡◌, sym, ◌⊎◌, inl, inr, subst}
 use mathlib.Core.Path.{fun_ext}
 use Rattle.std.specs.declared.dyn_box.DynBox.{DynBox}
 use Rattle.std.specs.declared.alloc.Global.{Global}
+use Rattle.std.specs.declared.vec.Vec.{Vec}
 use Rattle.bw_device.specs.Holding.{Holding}
-use Rattle.bw_home.specs.declared.home.Home.{Home}
-use Rattle.bw_home.specs.Ready.{IsReadyBeside}
+use Rattle.bw_ring.specs.declared.feed.Feed.{Feed}
+use Rattle.bw_store.specs.declared.store.Store.{Store}
+use Rattle.bw_home.specs.Ready.{AreReadyBeside}
 
 -- the kind of a box, where boxes of two kinds are made
 abbrev pub Kind : Type 0
@@ -42,10 +44,11 @@ module _ {H : Kind → Type 0} where
       ] b.value
       )
 
-  pub ready_by_kind : {s : Home Kind H} {m : First H} {n : Second H} {w : DynBox Kind Global H → Holding}
-      → Says m n w → IsReadyBeside s w → IsReadyBeside s (by_kind m n)
-  ready_by_kind {s = s} {m = m} {n = n} {w = w} says ready = subst (IsReadyBeside s) (alike m n w says) ready
+  -- so a store and its feeds are ready by the one reading where they are by the other
+  pub ready_by_kind : {s : Store Kind H} {ends : Vec Feed Global} {m : First H} {n : Second H} {w : DynBox Kind Global H → Holding}
+      → Says m n w → AreReadyBeside s ends w → AreReadyBeside s ends (by_kind m n)
+  ready_by_kind {s = s} {ends = ends} {m = m} {n = n} {w = w} says ready = subst (AreReadyBeside s ends) (alike m n w says) ready
 
-  pub ready_from_kind : {s : Home Kind H} {m : First H} {n : Second H} {w : DynBox Kind Global H → Holding}
-      → Says m n w → IsReadyBeside s (by_kind m n) → IsReadyBeside s w
-  ready_from_kind {s = s} {m = m} {n = n} {w = w} says ready = subst (IsReadyBeside s) (sym (alike m n w says)) ready
+  pub ready_from_kind : {s : Store Kind H} {ends : Vec Feed Global} {m : First H} {n : Second H} {w : DynBox Kind Global H → Holding}
+      → Says m n w → AreReadyBeside s ends (by_kind m n) → AreReadyBeside s ends w
+  ready_from_kind {s = s} {ends = ends} {m = m} {n = n} {w = w} says ready = subst (AreReadyBeside s ends) (sym (alike m n w says)) ready

@@ -3,17 +3,23 @@
 use Rattle.std.specs.Prelude.{◌≡◌, map}
 use Rattle.std.specs.declared.dyn_box.DynBox.{DynBox}
 use Rattle.std.specs.declared.alloc.Global.{Global}
+use Rattle.std.specs.declared.vec.Vec.{Vec}
 use Rattle.bw_device.specs.Holding.{Holding}
 use Rattle.bw_ring.specs.Ends.{ring_of_feed}
+use Rattle.bw_ring.specs.declared.feed.Feed.{Feed}
 use Rattle.bw_store.specs.Kept.{Kept, IsSound}
 use Rattle.bw_store.specs.Views.{kept_beside}
+use Rattle.bw_store.specs.declared.store.Store.{Store}
 use Rattle.bw_home.specs.declared.home.Home.{Home}
 
 module _ {I : Type 0} {H : I → Type 0} where
-  -- the store is sound, and the feeds are those of its lanes, in order
-  pub record IsReadyBeside (h : Home I H) (v : DynBox I Global H → Holding) : Type 0 where
-    pub sound : IsSound (kept_beside h.store v)
-    pub feeds : map ring_of_feed h.feeds.items ≡ (kept_beside h.store v).rings
+  -- a store is sound, and the feeds are those of its lanes, in order
+  pub record AreReadyBeside (s : Store I H) (ends : Vec Feed Global) (v : DynBox I Global H → Holding) : Type 0 where
+    pub sound : IsSound (kept_beside s v)
+    pub feeds : map ring_of_feed ends.items ≡ (kept_beside s v).rings
+
+  abbrev pub IsReadyBeside : Home I H → (DynBox I Global H → Holding) → Type 0
+  IsReadyBeside h v = AreReadyBeside h.store h.feeds v
 
   abbrev pub IsReady : Home I H → ((i : I) × H i → Holding) → Type 0
   IsReady h v = IsReadyBeside h (λ b. v (b.vtable, b.value))

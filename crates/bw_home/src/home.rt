@@ -143,23 +143,10 @@ impl Home {
                 cause: None,
             });
         }
-        match put_at(&mut self.feeds, 0, item) {
-            Ok(()) => Ok(()),
-            Err(Full(item)) => self.put_behind(item),
-        }
-    }
-
-    // Takes all that waits, and then puts a record into the queue of the first writer.
-    fn put_behind(&mut self, item: Record) -> Result<(), NotPut>
-        requires ready { IsReady self.old holding }
-        requires writer { 0 < length self.old.feeds.items }
-        ensures ready { IsReady self.new holding }
-        ensures added { OnOk result (Added 0 item self.old.feeds.items self.new.feeds.items) }
-        ensures back { IfErr result (λ not_put. not_put.record ≡ item) }
-        ensures unchanged { OnErr result
-            (map accepted self.new.feeds.items ≡ map accepted self.old.feeds.items) }
-        ensures follows { Follows (kept_in self.old holding) (kept_in self.new holding) }
-    {
+        let item = match put_at(&mut self.feeds, 0, item) {
+            Ok(()) => return Ok(()),
+            Err(Full(item)) => item,
+        };
         if let Err(TurnFault { cause, .. }) = self.store.turn(u32::MAX) {
             return Err(NotPut {
                 record: item,
