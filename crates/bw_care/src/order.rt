@@ -211,11 +211,7 @@ pub struct Gathered {
 }
 
 // The lines of the segment at a position.
-fn add_lines(
-    lines: &mut Vec<FrameAt>,
-    more: Vec<FrameAt>,
-    segment: u64,
-) -> Result<(), AllocError>
+fn add_lines(lines: &mut Vec<FrameAt>, more: Vec<FrameAt>, segment: u64) -> Result<(), AllocError>
     ensures { OnOk result (lines.new.items ≡ lines.old.items ++ map (moved_to segment) more.items) }
 {
     let mut more = more;
