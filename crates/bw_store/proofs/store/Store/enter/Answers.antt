@@ -20,7 +20,6 @@ use Rattle.bw_ring.specs.Marks.{marked}
 use Rattle.bw_store.specs.History.{entered as entries_of}
 use Rattle.bw_store.proofs.Grouped.{whole_entered}
 use Rattle.std.proofs.lemmas.Result.{err_from_is_err_and}
-use Rattle.bw_codec.specs.declared.record.Record.{Record}
 use Rattle.bw_page.specs.declared.fault.ApplyError.{ApplyError}
 use Rattle.bw_store.specs.Taken.{alone}
 use Rattle.bw_store.proofs.Planned.{one_wanting_of}

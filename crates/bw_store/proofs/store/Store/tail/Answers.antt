@@ -1,4 +1,4 @@
-use Rattle.std.proofs.Common.{◌-◌, ap, length, arith}
+use Rattle.std.proofs.Common.{ap, length, arith}
 use Rattle.bw_store.proofs.TailLists.{as_many, tail_stays, not_gone, records_are}
 use Rattle.bw_store.proofs.store.Store.tail.Goals as goal
 
