@@ -92,7 +92,8 @@ small_is_sound lease = record {
 
 -- the log that is adopted from the box and its tables
 pub small_is : (live spares : List Holding) (t : Tables) (lease : ℕ) → live ≡ record { bytes = first_segment; room = 77; lease = lease; failed = 0 } ∷ []
-    → spares ≡ [] → t.m ≡ 4 → t.f ≡ 65536 → t.number ≡ 1 → t.versions.items ≡ 2 ∷ [] → t.is_open ≡ true → t.frames.items ≡ record { number = 1; segment = 0; at = 24; len = 53 } ∷ []
+    → spares ≡ [] → t.m ≡ 4 → t.f ≡ 65536 → t.number ≡ 1 → t.versions.items ≡ 2 ∷ [] → t.is_open ≡ true
+    → t.frames.items ≡ record { number = 1; segment = 0; at = 24; len = 53; starts = 20 ∷ 28 ∷ [] } ∷ []
     → t.pages.items ≡ small_pages → adopted live spares t ≡ small lease
 unfolding number_bytes
 small_is live spares t lease boxes none m f number versions takes frames pages = rw (boxes, none, m, f, number, versions, takes, frames, pages) refl

@@ -73,8 +73,8 @@ unfolding segment_frames frames_at heading_of front_at text_at value_at op_at pa
     head_at number_bytes
 cleaned_frames = refl
 
-cleaned_at : counted_at cleaned ≡ record { number = 2; segment = 2; at = 24; len = 45 } ∷ record { number = 3; segment = 3; at = 24; len = 45 } ∷ record
-    { number = 4; segment = 3; at = 69; len = 38 } ∷ []
+cleaned_at : counted_at cleaned ≡ record { number = 2; segment = 2; at = 24; len = 45; starts = 20 ∷ [] }
+    ∷ record { number = 3; segment = 3; at = 24; len = 45; starts = 20 ∷ [] } ∷ record { number = 4; segment = 3; at = 69; len = 38; starts = 20 ∷ [] } ∷ []
 unfolding segment_frames frames_at heading_of front_at text_at value_at op_at pair_at many_at place_at page_at pairs_at delta_at base_at upper_at split_at block_at
     head_at number_bytes
 cleaned_at = refl
