@@ -2,11 +2,11 @@
 //!
 //! A segment is a place that bytes are appended to and read from, and `Segment` is all that a log
 //! knows of one: what it holds, how much it can hold, the number of its lease, and how many of its
-//! calls failed. A failed append may leave any beginning of its piece, which is also what a stop in
-//! the middle of it leaves, so whoever is proved against the trait is proved against both.
-//! A `Desk` gives out numbers, so that no two segments have one at the same time. A number comes
-//! back by one atomic store when its lease is dropped, in whatever thread, and is free from the
-//! next `collect` on.
+//! calls failed. A failed append may leave any beginning of its piece, which is also what a crash
+//! in the middle of it leaves, so whoever is proved against the trait is proved against both. A
+//! `Desk` gives out numbers, so that no two segments have one at the same time. A number comes back
+//! by one atomic store when its lease is dropped, in whatever thread, and is free from the next
+//! `collect` on.
 #![tactic(auto)]
 
 mod boxes;

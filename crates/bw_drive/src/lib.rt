@@ -5,6 +5,10 @@
 //! turns, flushes and cleans until they have ended. Writers and store meet in the rings alone. The
 //! flags by which the writers are told to stop, and tell that they have ended, are in no proof:
 //! what holds, holds whenever anybody looks at them.
+//!
+//! That is enough, since a ring keeps what was put into it whatever its other end does, and the
+//! store settles once all writers have ended. So a flag that is seen late costs a round more, and
+//! nothing else.
 #![tactic(auto)]
 
 mod driven;

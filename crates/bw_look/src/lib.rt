@@ -2,6 +2,11 @@
 //!
 //! All of it reads bytes alone, and changes none. Whether segments are those of a log is not judged
 //! here but by recovery, which the program asks first where an answer hangs on it.
+//!
+//! A listing goes as far as the first fault, and tells it. Numbers and pictures go by one survey of
+//! where each frame and block stands. A block is needed where a read of its page would come to it:
+//! from the page's last setting block on. What a cleaning would win hangs on that alone, so it is
+//! shown beside the bytes.
 #![tactic(auto)]
 
 mod counts;

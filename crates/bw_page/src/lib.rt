@@ -6,6 +6,17 @@
 //! two, and the upper part becomes a new page behind all others. `specs/Leaves.antt` has the rule,
 //! and the law that all pairs of all pages are one plain map. `specs/Standing.antt` has what blocks
 //! of the log say of a page, and `specs/Links.antt` what a chain in memory says of it.
+//!
+//! A search finds the right page, since lows ascend and the first is the empty key: the pages'
+//! ranges part all keys, each pair stands on the page that its key is directed at, and a cut gives
+//! the upper part its own first key as low. So a guess at a page costs nothing but a look: a key
+//! among the page's pairs is at home there.
+//!
+//! A batch is applied whole or not at all. What takes each record back is kept until the last is
+//! applied, and taking back takes no memory.
+//!
+//! A page may be evicted from memory. What it holds is then known to the proof alone, by a
+//! snapshot, which has no bytes; whoever brings it back has to have read exactly that.
 #![tactic(auto)]
 
 mod chain;
