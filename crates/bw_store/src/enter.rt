@@ -64,6 +64,7 @@ impl Store {
     {
         let _ = item.key();
         let _ = self.leaves.count();
+        let entry = self.intake.packed_alone(lane, &item)?;
         self.intake.reserve()?;
         self.newest.reserve(1)?;
         self.hints.reserve(1)?;
@@ -72,7 +73,7 @@ impl Store {
         note(&mut self.tails, page, &item, blocks.len() > 1);
         file(&mut self.making, &mut self.newest, page, blocks);
         hint_one(&mut self.hints, page);
-        self.intake.enter_alone(lane, item);
+        self.intake.enter_alone(lane, &item, entry);
         Ok(())
     }
 }

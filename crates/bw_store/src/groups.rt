@@ -184,6 +184,7 @@ impl Store {
     {
         let rows = draft.rows.as_slice();
         let _ = self.leaves.count();
+        let entries = self.intake.packed(lane, &group)?;
         self.intake.reserve()?;
         self.newest.reserve(group.len())?;
         self.hints.reserve(rows.len())?;
@@ -197,7 +198,7 @@ impl Store {
             draft.blocks.as_slice(),
         );
         hint_all(&mut self.hints, rows);
-        self.intake.enter(lane, group);
+        self.intake.enter(lane, &group, entries);
         Ok(())
     }
 }

@@ -7,15 +7,16 @@ ghost use Rattle.std.specs.Prelude.{◌≡◌, ◌≤◌, ◌+◌, ◌-◌, ◌+
 ghost use Rattle.std.specs.Vec.{vec_capacity};
 ghost use Rattle.bw_store.specs.Remembered.{HasRoom};
 
-use bw_versions::Entry;
+use bw_versions::PackedEntry;
 use std::alloc::{AllocError, Global};
 use std::marker::Model;
 use std::snapshot::Snapshot;
 
-/// All entries that were taken. Those that were forgotten come first.
+/// All entries that were taken. Those that were forgotten come first. Each that is kept has no more
+/// memory than its record's bytes take, and 32 bytes.
 pub struct History {
-    past: Vec<Snapshot<Entry>>,
-    kept: Vec<Entry>,
+    past: Vec<Snapshot<PackedEntry>>,
+    kept: Vec<PackedEntry>,
 }
 
 impl Drop for History {
@@ -63,14 +64,14 @@ impl History {
     }
 
     /// The entries that are kept.
-    pub(crate) fn kept(&self) -> &[Entry]
+    pub(crate) fn kept(&self) -> &[PackedEntry]
         ensures { result.now ≡ drop self.now.gone self.now.items }
     {
         self.kept.as_slice()
     }
 
     /// The kept entries from one index of the whole history up to another.
-    pub(crate) fn between(&self, from: usize, to: usize) -> &[Entry]
+    pub(crate) fn between(&self, from: usize, to: usize) -> &[PackedEntry]
         requires kept { self.now.gone ≤ from }
         requires order { from ≤ to }
         requires within { to ≤ length self.now.items }
@@ -92,7 +93,7 @@ impl History {
     }
 
     /// Adds an entry.
-    pub(crate) fn push(&mut self, entry: Entry)
+    pub(crate) fn push(&mut self, entry: PackedEntry)
         requires { HasRoom 1 self.old }
         ensures items { self.new.items ≡ self.old.items ++ entry ∷ [] }
         ensures gone { self.new.gone ≡ self.old.gone }
@@ -100,6 +101,15 @@ impl History {
         ensures later { self.new.later + 1 ≡ self.old.later }
     {
         self.kept.push_reserved(entry);
+    }
+
+    /// Adds the entries of one group.
+    pub(crate) fn push_all(&mut self, entries: Vec<PackedEntry>)
+        requires { HasRoom (length entries.items) self.old }
+        ensures items { self.new.items ≡ self.old.items ++ entries.items }
+        ensures gone { self.new.gone ≡ self.old.gone }
+    {
+        append(&mut self.kept, entries);
     }
 
     /// Lets go of the entries up to this index of the whole history, from memory alone.
@@ -116,8 +126,19 @@ impl History {
     }
 }
 
+// Appends entries, for which there is room. No memory is taken.
+fn append(kept: &mut Vec<PackedEntry>, entries: Vec<PackedEntry>)
+    requires { vec_len kept.old + length entries.items ≤ vec_capacity kept.old }
+    ensures items { kept.new.items ≡ kept.old.items ++ entries.items }
+    ensures len { vec_len kept.new ≡ vec_len kept.old + length entries.items }
+{
+    for entry in entries {
+        kept.push_reserved(entry);
+    }
+}
+
 // Notes what the entries were.
-fn note_all(past: &mut Vec<Snapshot<Entry>>, entries: &[Entry])
+fn note_all(past: &mut Vec<Snapshot<PackedEntry>>, entries: &[PackedEntry])
     requires { vec_len past.old + length entries.now ≤ vec_capacity past.old }
     ensures items { map (λ s. s.value) past.new.items
         ≡ map (λ s. s.value) past.old.items ++ entries.now }

@@ -1,9 +1,8 @@
 //! Lanes and the history: what is taken from a lane stands in the history at once.
 
-ghost use Rattle.std.specs.Prelude.{true, ◌≡◌, ◌≤◌, ◌<◌, ◌↔◌, ◌+◌, ◌-◌, ◌∷◌, ◌++◌, [], take, drop, length, map, vec_len, IsTrue, IfSome, IfNone, slice_get, slice_set, slice_index_or, OnOk};
+ghost use Rattle.std.specs.Prelude.{true, false, ◌≡◌, ◌≤◌, ◌<◌, ◌↔◌, ◌+◌, ◌-◌, ◌∷◌, ◌++◌, [], take, drop, length, map, vec_len, IsTrue, IfSome, IfNone, IfOk, slice_get, slice_set, slice_index_or, OnOk};
 ghost use mathlib.Core.List.{IsPrefix};
 ghost use Rattle.bw_ring.specs.Ends.{accepted, taken, known, given, ring_of_feed, ring_of_lane};
-ghost use Rattle.bw_ring.specs.Items.{listed};
 ghost use Rattle.bw_ring.specs.Marks.{marked};
 ghost use Rattle.bw_store.specs.History.{streams, counts_of, entered, is_grouped};
 ghost use Rattle.bw_store.specs.Lanes.{IsNext, IsWaiting, Dries, TookAt, TookKnown};
@@ -12,9 +11,9 @@ ghost use Rattle.bw_store.specs.Remembered.{HasRoom};
 use crate::beside::look_at_all;
 use crate::history::History;
 use bw_codec::Record;
-use bw_ring::{Feed, Group, Items, Lane};
-use bw_versions::Entry;
-use std::alloc::AllocError;
+use bw_ring::{Feed, Group, Lane};
+use bw_versions::PackedEntry;
+use std::alloc::{AllocError, Global};
 
 /// The lanes, and what was taken from them in order.
 pub struct Intake {
@@ -101,7 +100,7 @@ impl Intake {
     }
 
     /// The kept entries from one index of the whole history up to another.
-    pub(crate) fn between(&self, from: usize, to: usize) -> &[Entry]
+    pub(crate) fn between(&self, from: usize, to: usize) -> &[PackedEntry]
         requires kept { self.now.history.gone ≤ from }
         requires order { from ≤ to }
         requires within { to ≤ length self.now.history.items }
@@ -120,15 +119,34 @@ impl Intake {
         self.history.reserve()
     }
 
-    /// Takes the group that the lane gives next, and enters its records.
-    pub(crate) fn enter(&mut self, lane: usize, group: Group)
+    /// The entries of a group of a lane, as the history keeps them.
+    pub(crate) fn packed(&self, lane: usize, group: &Group) -> Result<Vec<PackedEntry>, AllocError>
+        requires { lane < length self.now.lanes.items }
+        ensures { IfOk result (λ v. v.items ≡ entered lane (marked group.now)) }
+    {
+        let _ = self.lanes.len();
+        pack(*self.counts.allocator(), lane as u16, group.as_slice())
+    }
+
+    /// The entry of a record of a lane that is a group of its own.
+    pub(crate) fn packed_alone(&self, lane: usize, item: &Record) -> Result<PackedEntry, AllocError>
+        requires { lane < length self.now.lanes.items }
+        ensures { IfOk result (λ e. e ≡ record { writer = lane; more = false; item = item.now }) }
+    {
+        let _ = self.lanes.len();
+        PackedEntry::of(*self.counts.allocator(), lane as u16, false, item)
+    }
+
+    /// Takes the group that the lane gives next, and enters its entries.
+    pub(crate) fn enter(&mut self, lane: usize, group: &Group, entries: Vec<PackedEntry>)
         requires inside { lane < length self.old.lanes.items }
-        requires next { IsNext self.old.lanes.items lane group }
+        requires next { IsNext self.old.lanes.items lane group.now }
+        requires entries { entries.items ≡ entered lane (marked group.now) }
         requires room { HasRoom 4 self.old.history }
         ensures gone { self.new.history.gone ≡ self.old.history.gone }
         ensures count { length self.new.lanes.items ≡ length self.old.lanes.items }
         ensures grows { self.new.history.items
-            ≡ self.old.history.items ++ entered lane (marked group) }
+            ≡ self.old.history.items ++ entered lane (marked group.now) }
         ensures rings { map ring_of_lane self.new.lanes.items
             ≡ map ring_of_lane self.old.lanes.items }
         ensures given { map given self.new.lanes.items ≡ map given self.old.lanes.items }
@@ -139,22 +157,23 @@ impl Intake {
             history,
             counts,
         } = self;
-        take_at(lanes, lane, &group);
+        take_at(lanes, lane, group);
         let records = group.len() as u64;
-        push_all(history, lane as u16, group.into_items());
+        history.push_all(entries);
         count_more(counts, lane, records, history.len());
     }
 
     /// Takes the group that the lane gives next, where it is this record alone, and enters it: no
     /// room is made for four records on the way.
-    pub(crate) fn enter_alone(&mut self, lane: usize, item: Record)
+    pub(crate) fn enter_alone(&mut self, lane: usize, item: &Record, entry: PackedEntry)
         requires inside { lane < length self.old.lanes.items }
-        requires next { IsNext self.old.lanes.items lane (item ∷ []) }
+        requires next { IsNext self.old.lanes.items lane (item.now ∷ []) }
+        requires entry { entry ≡ record { writer = lane; more = false; item = item.now } }
         requires room { HasRoom 1 self.old.history }
         ensures gone { self.new.history.gone ≡ self.old.history.gone }
         ensures count { length self.new.lanes.items ≡ length self.old.lanes.items }
         ensures grows { self.new.history.items
-            ≡ self.old.history.items ++ entered lane (marked (item ∷ [])) }
+            ≡ self.old.history.items ++ entered lane (marked (item.now ∷ [])) }
         ensures rings { map ring_of_lane self.new.lanes.items
             ≡ map ring_of_lane self.old.lanes.items }
         ensures given { map given self.new.lanes.items ≡ map given self.old.lanes.items }
@@ -165,47 +184,47 @@ impl Intake {
             history,
             counts,
         } = self;
-        pass_at(lanes, lane, &item);
-        push_one(history, lane as u16, false, item);
+        pass_at(lanes, lane, item);
+        history.push(entry);
         count_more(counts, lane, 1, history.len());
     }
 }
 
-fn push_one(history: &mut History, writer: u16, more: bool, item: Record)
-    requires { HasRoom 1 history.old }
-    ensures gone { history.new.gone ≡ history.old.gone }
-    ensures room { history.new.room + 1 ≡ history.old.room }
-    ensures later { history.new.later + 1 ≡ history.old.later }
-    ensures items { history.new.items
-        ≡ history.old.items ++ record { writer = writer; more = more; item = item } ∷ [] }
+// The entries of a group, as the history keeps them.
+fn pack(alloc: Global, writer: u16, items: &[Record]) -> Result<Vec<PackedEntry>, AllocError>
+    requires { (1 ≤ length items.now) × (length items.now ≤ 4) }
+    ensures { IfOk result (λ v. v.items ≡ entered writer (marked items.now)) }
 {
-    history.push(Entry { writer, more, item });
+    let mut all = Vec::with_capacity(alloc, items.len())?;
+    match items {
+        [a] => add(&mut all, writer, false, a)?,
+        [a, b] => {
+            add(&mut all, writer, true, a)?;
+            add(&mut all, writer, false, b)?;
+        }
+        [a, b, c] => {
+            add(&mut all, writer, true, a)?;
+            add(&mut all, writer, true, b)?;
+            add(&mut all, writer, false, c)?;
+        }
+        [a, b, c, d] => {
+            add(&mut all, writer, true, a)?;
+            add(&mut all, writer, true, b)?;
+            add(&mut all, writer, true, c)?;
+            add(&mut all, writer, false, d)?;
+        }
+        _ => unreachable!(),
+    }
+    Ok(all)
 }
 
-// Enters the records of one group.
-fn push_all(history: &mut History, writer: u16, items: Items)
-    requires { HasRoom (length (listed items)) history.old }
-    ensures gone { history.new.gone ≡ history.old.gone }
-    ensures items { history.new.items ≡ history.old.items ++ entered writer (marked (listed items)) }
+fn add(all: &mut Vec<PackedEntry>, writer: u16, more: bool, item: &Record) -> Result<(), AllocError>
+    ensures { OnOk result (all.new.items
+        ≡ all.old.items ++ record { writer = writer; more = more; item = item.now } ∷ []) }
 {
-    match items {
-        Items::One([a]) => push_one(history, writer, false, a),
-        Items::Two([a, b]) => {
-            push_one(history, writer, true, a);
-            push_one(history, writer, false, b);
-        }
-        Items::Three([a, b, c]) => {
-            push_one(history, writer, true, a);
-            push_one(history, writer, true, b);
-            push_one(history, writer, false, c);
-        }
-        Items::Four([a, b, c, d]) => {
-            push_one(history, writer, true, a);
-            push_one(history, writer, true, b);
-            push_one(history, writer, true, c);
-            push_one(history, writer, false, d);
-        }
-    }
+    let entry = PackedEntry::of(*all.allocator(), writer, more, item)?;
+    all.push(entry)?;
+    Ok(())
 }
 
 // So many records more of one lane; of all lanes there are no more than `most`.

@@ -49,7 +49,7 @@ mod upgrade;
 mod walk;
 
 pub use bw_care::{Cleaned, Upgraded};
-pub use bw_versions::{Entry, News, NoReader, ReadFault, Reader};
+pub use bw_versions::{Entry, News, NoReader, PackedEntry, ReadFault, Reader};
 pub use config::Config;
 pub use counters::Counters;
 pub use edge::Edge;

@@ -6,7 +6,7 @@ ghost use Rattle.bw_log.specs.Segments.{following};
 ghost use Rattle.bw_store.specs.History.{are_whole, is_grouped, streams};
 
 use crate::store::Store;
-use bw_versions::Entry;
+use bw_versions::PackedEntry;
 
 impl Store {
     ghost use Rattle.bw_store.specs.Views.{forgotten_of, kept_by, IsSound};
@@ -14,7 +14,7 @@ impl Store {
     /// What was taken and is kept in memory, in the order in which it was taken: all of it, but for
     /// what was forgotten. Each writer's records in the whole history are those that its lane gave,
     /// in order.
-    pub fn history(&self) -> &[Entry]
+    pub fn history(&self) -> &[PackedEntry]
         ensures value { result.now
             ≡ drop (forgotten_of self.now) (kept_by self.now holding).entries }
         ensures takes { streams 0 (length self.now.intake.lanes.items)

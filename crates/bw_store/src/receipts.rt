@@ -4,7 +4,7 @@ ghost use Rattle.std.specs.Prelude.{◌≡◌, ◌≤◌, length};
 ghost use Rattle.bw_store.specs.History.{of_writer, upto};
 
 use crate::store::Store;
-use bw_versions::Entry;
+use bw_versions::PackedEntry;
 
 impl Store {
     ghost use Rattle.bw_store.specs.Views.{kept_by, IsSound};
@@ -31,14 +31,14 @@ impl Store {
 }
 
 // How many of the entries are of this writer; of all there are no more than `most`.
-fn count_of(entries: &[Entry], writer: u16, most: u64) -> u64
+fn count_of(entries: &[PackedEntry], writer: u16, most: u64) -> u64
     requires { length entries.now ≤ most }
     ensures { result ≡ length (of_writer writer entries.now) }
 {
     let _ = most;
     let mut count = 0;
     for entry in entries {
-        if entry.writer == writer {
+        if entry.writer() == writer {
             count += 1;
         }
     }

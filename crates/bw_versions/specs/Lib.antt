@@ -16,6 +16,7 @@ pub mod Keeping
 pub mod BookRule
 -- how values stand in memory
 
+pub mod Packed
 pub mod Posting
 pub mod Sending
 pub mod Holds

@@ -1,7 +1,5 @@
 //! What was taken, and from whom.
 
-ghost use Rattle.std.specs.Prelude.{◌≡◌};
-
 use bw_codec::Record;
 use bw_page::HasRecord;
 
@@ -12,19 +10,6 @@ pub struct Entry {
     pub writer: u16,
     pub more: bool,
     pub item: Record,
-}
-
-impl Entry {
-    /// The same entry. No memory is taken.
-    pub fn copy(&self) -> Entry
-        ensures { result ≡ self.now }
-    {
-        Entry {
-            writer: self.writer,
-            more: self.more,
-            item: self.item.copy(),
-        }
-    }
 }
 
 impl HasRecord for Entry {

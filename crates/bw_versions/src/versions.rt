@@ -8,6 +8,7 @@ ghost use Rattle.bw_versions.specs.Versioned.{EntersWhole, IsUpTo, history_of};
 
 use crate::batch::Batch;
 use crate::entry::Entry;
+use crate::packed::PackedEntry;
 use crate::publisher::{Publisher, Unpublished};
 use crate::reader::{News, ReadFault, Reader};
 use bw_page::{Leaves, Start};
@@ -102,7 +103,7 @@ impl Versions {
         &mut self,
         rt: &R,
         end: usize,
-        fresh: &[Entry],
+        fresh: &[PackedEntry],
     ) -> Result<(), AllocError>
         requires { length (entries_of self.old.entered) + length fresh.now ≡ end }
         ensures begins { IsPrefix (entries_of self.new.entered) (history_of self.old fresh.now) }
@@ -130,7 +131,7 @@ impl Versions {
         &mut self,
         rt: &R,
         end: usize,
-        fresh: &[Entry],
+        fresh: &[PackedEntry],
         pages: &[u32],
     ) -> Result<(), AllocError>
         requires { length (entries_of self.old.entered) + length fresh.now ≡ end }
@@ -212,13 +213,13 @@ impl Versions {
     }
 }
 
-// The same entries.
-fn copies(alloc: Global, entries: &[Entry]) -> Result<Vec<Entry>, AllocError>
+// The same entries, in fixed room.
+fn copies(alloc: Global, entries: &[PackedEntry]) -> Result<Vec<Entry>, AllocError>
     ensures { IfOk result (λ v. v.items ≡ entries.now) }
 {
     let mut all = Vec::with_capacity(alloc, entries.len())?;
     for entry in entries {
-        all.push(entry.copy())?;
+        all.push(entry.entry())?;
     }
     Ok(all)
 }

@@ -1,7 +1,7 @@
-use Rattle.std.proofs.Common.{◌≡◌, ◌+◌, true, false, ◌∙◌, arith}
+use Rattle.std.proofs.Common.{◌≡◌, ◌+◌, true, false, sym, ◌∙◌, arith}
 use Rattle.std.proofs.lemmas.Bool.{eq-eqb, ne_eqb}
 use Rattle.bw_store.proofs.Laned.{count_few, count_next}
-use Rattle.bw_store.proofs.receipts.count_of.Goals.{then-entry-writer, else-entry-writer}
+use Rattle.bw_store.proofs.receipts.count_of.Goals.{then-writer, else-writer}
 use Rattle.bw_store.proofs.receipts.count_of.Goals as goal
 
 pub overflow_add-count : goal.overflow_add-count
@@ -14,13 +14,13 @@ overflow_add-count c =
 
 pub loop-entry-preserved : goal.loop-entry-preserved
 loop-entry-preserved c = record {
-  so_far = elim c.if-entry-writer.branch [
-    | then-entry-writer w ↦ w.count-is
+  so_far = elim c.if-writer.branch [
+    | then-writer w ↦ w.count-is
         ∙ count_next c.args.writer c.args.entries.now c.loop-entry.entry-index c.loop-entry.count c.entry-item.result true c.loop-entry-test.true c.entry-item.is
-        (eq-eqb _ _ w.if-entry-writer.true) c.loop-entry.invariant.so_far
-    | else-entry-writer w ↦ w.count-is
+        (eq-eqb _ _ (sym c.writer.ensures ∙ w.if-writer.true)) c.loop-entry.invariant.so_far
+    | else-writer w ↦ w.count-is
         ∙ (let none : c.loop-entry.count ≡ c.loop-entry.count + 0 = omega arith in none)
         ∙ count_next c.args.writer c.args.entries.now c.loop-entry.entry-index c.loop-entry.count c.entry-item.result false c.loop-entry-test.true c.entry-item.is
-        (ne_eqb _ _ w.if-entry-writer.false) c.loop-entry.invariant.so_far
+        (ne_eqb _ _ (λ e. w.if-writer.false (c.writer.ensures ∙ e))) c.loop-entry.invariant.so_far
   ];
 }

@@ -1,0 +1,97 @@
+//! An entry in no more room than it takes.
+
+ghost use Rattle.std.specs.Prelude.{◌≡◌, IfOk};
+
+use crate::entry::Entry;
+use bw_codec::{Pair, Record, Value};
+use std::alloc::{AllocError, Global};
+use std::marker::Model;
+
+/// An entry as a history keeps it: the bytes of its record are one run of memory, where a `Record`
+/// has room for the longest key and the longest value.
+pub struct PackedEntry {
+    writer: u16,
+    more: bool,
+    /// Whether the record is a put. Else the pair's value is empty.
+    puts: bool,
+    pair: Pair,
+}
+
+impl Drop for PackedEntry {
+    fn drop(self) {
+        let PackedEntry {
+            writer: _,
+            more: _,
+            puts: _,
+            pair: _,
+        } = self;
+    }
+}
+
+impl Model for PackedEntry {
+    ghost use Rattle.bw_versions.specs.declared.entry.Entry.{Entry};
+
+    ghost Value = { Entry };
+
+    ghost use Rattle.bw_versions.specs.Packed.{unpacked};
+
+    ghost view = { unpacked };
+}
+
+impl PackedEntry {
+    /// The entry of this record. It takes memory, whose refusal is the only error.
+    pub fn of(
+        alloc: Global,
+        writer: u16,
+        more: bool,
+        item: &Record,
+    ) -> Result<PackedEntry, AllocError>
+        ensures { IfOk result (λ e.
+            e ≡ record { writer = writer; more = more; item = item.now }) }
+    {
+        match item {
+            Record::Put(key, value) => Ok(PackedEntry {
+                writer,
+                more,
+                puts: true,
+                pair: Pair::of(alloc, key, value)?,
+            }),
+            Record::Del(key) => Ok(PackedEntry {
+                writer,
+                more,
+                puts: false,
+                pair: Pair::of(alloc, key, &nothing())?,
+            }),
+        }
+    }
+
+    /// The writer.
+    pub fn writer(&self) -> u16
+        ensures { result ≡ self.now.writer }
+    {
+        self.writer
+    }
+
+    /// The entry in fixed room. No memory is taken.
+    pub fn entry(&self) -> Entry
+        ensures { result ≡ self.now }
+    {
+        Entry {
+            writer: self.writer,
+            more: self.more,
+            item: if self.puts {
+                Record::Put(self.pair.to_key(), self.pair.to_value())
+            } else {
+                Record::Del(self.pair.to_key())
+            },
+        }
+    }
+}
+
+// The value of no bytes.
+fn nothing() -> Value {
+    match Value::new(&[]) {
+        Ok(value) => value,
+        Err(_) => unreachable!(),
+    }
+}
