@@ -2,7 +2,8 @@
 
 ghost use Rattle.std.specs.Prelude.{◌≡◌, ◌<◌, length, map};
 ghost use Rattle.bw_ring.specs.Ends.{ring_of_feed};
-ghost use Rattle.bw_store.specs.Views.{kept_by, IsSound};
+ghost use Rattle.bw_store.specs.Views.{IsSound};
+ghost use Rattle.bw_bench.specs.Lent.{Keeps};
 
 use crate::asking::{evict_all, get_all, read_all, read_back, reader_of};
 use crate::batches::{Cost, bytes_of, put_script};
@@ -10,9 +11,8 @@ use crate::bench::Bench;
 use crate::beside::{Seen, end_if, start_if};
 use crate::shape::{Span, WHOLE};
 use crate::stop::Stop;
-use crate::subject::Course;
+use crate::subject::Subject;
 use crate::watch::resident;
-use bw_codec::Record;
 use bw_ring::Feed;
 use bw_store::Store;
 use std::sync::Wait;
@@ -39,73 +39,10 @@ fn tell_growth(bench: &Bench, store: &Store, span: Span, before: u64, had: u64)
     bench.tell_each("  in memory, beside the log", span.count(), grown, "bytes");
 }
 
-/// Puts, takes and flushes the script of a span, a reader beside it or not.
-fn put_beside<R: Threads + Wait>(
-    rt: &R,
-    bench: &Bench,
-    store: &mut Store,
-    feed: &mut Feed,
-    course: Course,
-    span: Span,
-    script: &[Record],
-) -> Option<(Cost, Option<Seen>)>
-    requires { IsSound store.old holding }
-    ensures sound { IsSound store.new holding }
-    ensures rings { (kept_by store.new holding).rings ≡ (kept_by store.old holding).rings }
-    ensures feed { ring_of_feed feed.new ≡ ring_of_feed feed.old }
-{
-    let looker = start_if(rt, bench, store, span.to, course.is_read)?;
-    let cost = put_script(rt, bench, store, feed, script, course.is_late, span.name);
-    let seen = end_if(rt, looker, cost.is_some());
-    Some((cost?, seen))
-}
-
-/// The same of some puts.
-fn put_all<R: Threads + Wait>(
-    rt: &R,
-    bench: &Bench,
-    store: &mut Store,
-    feed: &mut Feed,
-    course: Course,
-    span: Span,
-) -> Option<(Cost, Option<Seen>)>
-    requires { IsSound store.old holding }
-    ensures sound { IsSound store.new holding }
-    ensures rings { (kept_by store.new holding).rings ≡ (kept_by store.old holding).rings }
-    ensures feed { ring_of_feed feed.new ≡ ring_of_feed feed.old }
-{
-    let script = bench.options.shape().script(bench.alloc, span, WHOLE)?;
-    put_beside(rt, bench, store, feed, course, span, &script)
-}
-
-/// The same, told; then all keys are read back.
-fn put_span<R: Threads + Wait>(
-    rt: &R,
-    bench: &Bench,
-    store: &mut Store,
-    feed: &mut Feed,
-    course: Course,
-    span: Span,
-) -> Option<()>
-    requires { IsSound store.old holding }
-    ensures sound { IsSound store.new holding }
-    ensures rings { (kept_by store.new holding).rings ≡ (kept_by store.old holding).rings }
-    ensures feed { ring_of_feed feed.new ≡ ring_of_feed feed.old }
-{
-    let (before, had) = (resident(bench), bytes_of(store));
-    let (cost, seen) = put_all(rt, bench, store, feed, course, span)?;
-    tell_cost(bench, span, cost);
-    bench.tell_seen(seen)?;
-    tell_growth(bench, store, span, before, had);
-    let keys = u64::from(bench.options.keys);
-    read_back(bench, store, span.name, keys, span.to)
-}
-
 /// Gets of the store, and of a reader.
 fn gets(bench: &Bench, store: &mut Store) -> Option<()>
     requires { IsSound store.old holding }
-    ensures sound { IsSound store.new holding }
-    ensures rings { (kept_by store.new holding).rings ≡ (kept_by store.old holding).rings }
+    ensures { Keeps store.old store.new holding }
 {
     let count = u64::from(bench.options.operations);
     get_all(bench, store, "get", count)?;
@@ -116,8 +53,7 @@ fn gets(bench: &Bench, store: &mut Store) -> Option<()>
 /// Pages leave memory, and some values are asked for.
 fn gets_evicted(bench: &Bench, store: &mut Store) -> Option<()>
     requires { IsSound store.old holding }
-    ensures sound { IsSound store.new holding }
-    ensures rings { (kept_by store.new holding).rings ≡ (kept_by store.old holding).rings }
+    ensures { Keeps store.old store.new holding }
 {
     let start = bench.now();
     let pages = evict_all(bench, store)?;
@@ -129,61 +65,72 @@ fn gets_evicted(bench: &Bench, store: &mut Store) -> Option<()>
     read_back(bench, store, "evicted", count, puts)
 }
 
-/// New keys, then old ones; and where there is nothing beside and readers see all, gets.
-fn put_and_get<R: Threads + Wait>(
-    rt: &R,
-    bench: &Bench,
-    store: &mut Store,
-    feed: &mut Feed,
-    course: Course,
-) -> Option<()>
-    requires { IsSound store.old holding }
-    ensures sound { IsSound store.new holding }
-    ensures rings { (kept_by store.new holding).rings ≡ (kept_by store.old holding).rings }
-    ensures feed { ring_of_feed feed.new ≡ ring_of_feed feed.old }
-{
-    let (load, update) = bench.options.spans();
-    put_span(rt, bench, store, feed, course, load)?;
-    put_span(rt, bench, store, feed, course, update)?;
-    if course.is_read || course.is_late {
-        return Some(());
+impl<R: Threads + Wait> Subject<'_, R> {
+    /// Puts, takes and flushes the records of a span, a reader beside it or not.
+    fn put(&self, store: &mut Store, feed: &mut Feed, span: Span) -> Option<(Cost, Option<Seen>)>
+        requires { IsSound store.old holding }
+        ensures store { Keeps store.old store.new holding }
+        ensures feed { ring_of_feed feed.new ≡ ring_of_feed feed.old }
+    {
+        let Subject { rt, bench, course } = *self;
+        let script = bench.options.shape().script(bench.alloc, span, WHOLE)?;
+        let looker = start_if(rt, bench, store, span.to, course.is_read)?;
+        let cost = put_script(rt, bench, store, feed, &script, course.is_late, span.name);
+        let seen = end_if(rt, looker, cost.is_some());
+        Some((cost?, seen))
     }
-    gets(bench, store)?;
-    gets_evicted(bench, store)
-}
 
-// The same by the first of the feeds, of which there is one.
-fn by_first<R: Threads + Wait>(
-    rt: &R,
-    bench: &Bench,
-    store: &mut Store,
-    feeds: &mut Vec<Feed>,
-    course: Course,
-) -> Option<()>
-    requires sound { IsSound store.old holding }
-    requires some { 0 < length feeds.old.items }
-    ensures sound { IsSound store.new holding }
-    ensures rings { (kept_by store.new holding).rings ≡ (kept_by store.old holding).rings }
-    ensures feeds { map ring_of_feed feeds.new.items ≡ map ring_of_feed feeds.old.items }
-{
-    put_and_get(rt, bench, store, &mut feeds[0], course)
-}
-
-/// The same by the first of the feeds.
-pub fn alone<R: Threads + Wait>(
-    rt: &R,
-    bench: &Bench,
-    store: &mut Store,
-    feeds: &mut Vec<Feed>,
-    course: Course,
-) -> Option<()>
-    requires { IsSound store.old holding }
-    ensures sound { IsSound store.new holding }
-    ensures rings { (kept_by store.new holding).rings ≡ (kept_by store.old holding).rings }
-    ensures feeds { map ring_of_feed feeds.new.items ≡ map ring_of_feed feeds.old.items }
-{
-    if feeds.is_empty() {
-        return bench.stop(Stop::Refused, "a store without a writer");
+    /// The same, told; then all keys are read back.
+    fn put_span(&self, store: &mut Store, feed: &mut Feed, span: Span) -> Option<()>
+        requires { IsSound store.old holding }
+        ensures store { Keeps store.old store.new holding }
+        ensures feed { ring_of_feed feed.new ≡ ring_of_feed feed.old }
+    {
+        let bench = self.bench;
+        let (before, had) = (resident(bench), bytes_of(store));
+        let (cost, seen) = self.put(store, feed, span)?;
+        tell_cost(bench, span, cost);
+        bench.tell_seen(seen)?;
+        tell_growth(bench, store, span, before, had);
+        let keys = u64::from(bench.options.keys);
+        read_back(bench, store, span.name, keys, span.to)
     }
-    by_first(rt, bench, store, feeds, course)
+
+    /// New keys, then old ones; and where there is nothing beside and readers see all, gets.
+    fn put_and_get(&self, store: &mut Store, feed: &mut Feed) -> Option<()>
+        requires { IsSound store.old holding }
+        ensures store { Keeps store.old store.new holding }
+        ensures feed { ring_of_feed feed.new ≡ ring_of_feed feed.old }
+    {
+        let (load, update) = self.bench.options.spans();
+        self.put_span(store, feed, load)?;
+        self.put_span(store, feed, update)?;
+        if self.course.is_read || self.course.is_late {
+            return Some(());
+        }
+        gets(self.bench, store)?;
+        gets_evicted(self.bench, store)
+    }
+
+    // The same by the first of the feeds, of which there is one.
+    fn by_first(&self, store: &mut Store, feeds: &mut Vec<Feed>) -> Option<()>
+        requires sound { IsSound store.old holding }
+        requires some { 0 < length feeds.old.items }
+        ensures store { Keeps store.old store.new holding }
+        ensures feeds { map ring_of_feed feeds.new.items ≡ map ring_of_feed feeds.old.items }
+    {
+        self.put_and_get(store, &mut feeds[0])
+    }
+
+    /// The same by the first of the feeds.
+    pub fn alone(&self, store: &mut Store, feeds: &mut Vec<Feed>) -> Option<()>
+        requires { IsSound store.old holding }
+        ensures store { Keeps store.old store.new holding }
+        ensures feeds { map ring_of_feed feeds.new.items ≡ map ring_of_feed feeds.old.items }
+    {
+        if feeds.is_empty() {
+            return self.bench.stop(Stop::Refused, "a store without a writer");
+        }
+        self.by_first(store, feeds)
+    }
 }

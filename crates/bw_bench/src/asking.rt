@@ -1,7 +1,7 @@
 //! Values are asked for, and pages leave memory.
 
-ghost use Rattle.std.specs.Prelude.{◌≡◌};
-ghost use Rattle.bw_store.specs.Views.{kept_by, IsSound};
+ghost use Rattle.bw_store.specs.Views.{IsSound};
+ghost use Rattle.bw_bench.specs.Lent.{Keeps};
 
 use crate::bench::Bench;
 use crate::stop::Stop;
@@ -12,8 +12,7 @@ use bw_store::{ReadFault, Reader, Store};
 /// The value of a put's key.
 fn found(bench: &Bench, store: &mut Store, put: u64) -> Option<Option<Value>>
     requires { IsSound store.old holding }
-    ensures sound { IsSound store.new holding }
-    ensures rings { (kept_by store.new holding).rings ≡ (kept_by store.old holding).rings }
+    ensures { Keeps store.old store.new holding }
 {
     match store.get(&bench.options.shape().key(put)?) {
         Ok(value) => Some(value),
@@ -24,8 +23,7 @@ fn found(bench: &Bench, store: &mut Store, put: u64) -> Option<Option<Value>>
 /// A reader of the store.
 pub fn reader_of(bench: &Bench, store: &mut Store) -> Option<Reader>
     requires { IsSound store.old holding }
-    ensures sound { IsSound store.new holding }
-    ensures rings { (kept_by store.new holding).rings ≡ (kept_by store.old holding).rings }
+    ensures { Keeps store.old store.new holding }
 {
     match store.reader() {
         Ok(reader) => Some(reader),
@@ -43,8 +41,7 @@ pub fn read_back(
     puts: u64,
 ) -> Option<()>
     requires { IsSound store.old holding }
-    ensures sound { IsSound store.new holding }
-    ensures rings { (kept_by store.new holding).rings ≡ (kept_by store.old holding).rings }
+    ensures { Keeps store.old store.new holding }
 {
     let shape = bench.options.shape();
     let mut wrong = 0u64;
@@ -61,8 +58,7 @@ pub fn read_back(
 /// The store gives a value for the keys of so many puts.
 pub fn get_all(bench: &Bench, store: &mut Store, name: &'static str, puts: u64) -> Option<()>
     requires { IsSound store.old holding }
-    ensures sound { IsSound store.new holding }
-    ensures rings { (kept_by store.new holding).rings ≡ (kept_by store.old holding).rings }
+    ensures { Keeps store.old store.new holding }
 {
     let mut meter = Meter::start(bench, name, puts);
     'gets: for put in 0..puts {
@@ -94,8 +90,7 @@ pub fn read_all(bench: &Bench, reader: &mut Reader, puts: u64) -> Option<()> {
 /// All pages leave memory: how many there are.
 pub fn evict_all(bench: &Bench, store: &mut Store) -> Option<u64>
     requires { IsSound store.old holding }
-    ensures sound { IsSound store.new holding }
-    ensures rings { (kept_by store.new holding).rings ≡ (kept_by store.old holding).rings }
+    ensures { Keeps store.old store.new holding }
 {
     'pages: for page in 1..u32::MAX {
         match store.evict(page) {

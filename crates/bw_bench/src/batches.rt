@@ -2,7 +2,8 @@
 
 ghost use Rattle.std.specs.Prelude.{◌≡◌};
 ghost use Rattle.bw_ring.specs.Ends.{ring_of_feed};
-ghost use Rattle.bw_store.specs.Views.{kept_by, IsSound};
+ghost use Rattle.bw_store.specs.Views.{IsSound};
+ghost use Rattle.bw_bench.specs.Lent.{Keeps};
 
 use crate::bench::Bench;
 use crate::stop::Stop;
@@ -58,8 +59,7 @@ fn put_all(bench: &Bench, feed: &mut Feed, batch: &[Record]) -> Option<()>
 /// Takes so many records, each in a group of its own.
 fn take_all(bench: &Bench, store: &mut Store, many: usize) -> Option<()>
     requires { IsSound store.old holding }
-    ensures sound { IsSound store.new holding }
-    ensures rings { (kept_by store.new holding).rings ≡ (kept_by store.old holding).rings }
+    ensures { Keeps store.old store.new holding }
 {
     let many = u32::try_from(many).unwrap_or(u32::MAX);
     match store.turn(many) {
@@ -72,8 +72,7 @@ fn take_all(bench: &Bench, store: &mut Store, many: usize) -> Option<()>
 /// Flushes if told.
 fn flush_if<R: Wait>(rt: &R, bench: &Bench, store: &mut Store, is_due: bool) -> Option<()>
     requires { IsSound store.old holding }
-    ensures sound { IsSound store.new holding }
-    ensures rings { (kept_by store.new holding).rings ≡ (kept_by store.old holding).rings }
+    ensures { Keeps store.old store.new holding }
 {
     if !is_due {
         return Some(());
@@ -95,8 +94,7 @@ fn one_batch<R: Wait>(
     cost: Cost,
 ) -> Option<Cost>
     requires { IsSound store.old holding }
-    ensures sound { IsSound store.new holding }
-    ensures rings { (kept_by store.new holding).rings ≡ (kept_by store.old holding).rings }
+    ensures store { Keeps store.old store.new holding }
     ensures feed { ring_of_feed feed.new ≡ ring_of_feed feed.old }
 {
     let start = bench.now();
@@ -119,8 +117,7 @@ pub fn put_script<R: Wait>(
     name: &'static str,
 ) -> Option<Cost>
     requires { IsSound store.old holding }
-    ensures sound { IsSound store.new holding }
-    ensures rings { (kept_by store.new holding).rings ≡ (kept_by store.old holding).rings }
+    ensures store { Keeps store.old store.new holding }
     ensures feed { ring_of_feed feed.new ≡ ring_of_feed feed.old }
 {
     let size = usize::from(bench.options.batch).max(1);

@@ -1,7 +1,7 @@
 //! A reader in a thread of its own, which looks up while records are put.
 
-ghost use Rattle.std.specs.Prelude.{◌≡◌};
-ghost use Rattle.bw_store.specs.Views.{kept_by, IsSound};
+ghost use Rattle.bw_store.specs.Views.{IsSound};
+ghost use Rattle.bw_bench.specs.Lent.{Keeps};
 
 use crate::asking::reader_of;
 use crate::bench::Bench;
@@ -83,8 +83,7 @@ pub fn start_if<R: Threads>(
     is_read: bool,
 ) -> Option<Option<JoinHandle<Seen>>>
     requires { IsSound store.old holding }
-    ensures sound { IsSound store.new holding }
-    ensures rings { (kept_by store.new holding).rings ≡ (kept_by store.old holding).rings }
+    ensures { Keeps store.old store.new holding }
 {
     if !is_read {
         return Some(None);

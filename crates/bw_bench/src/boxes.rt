@@ -1,15 +1,11 @@
 //! A store over segments, in memory or not.
 
-ghost use Rattle.std.specs.Prelude.{◌≡◌, map};
-ghost use Rattle.bw_ring.specs.Ends.{ring_of_feed};
-ghost use Rattle.bw_store.specs.Views.{kept_by, IsSound};
+ghost use Rattle.bw_bench.specs.Lent.{AreReady};
 
-use crate::alone::alone;
 use crate::bench::Bench;
-use crate::driven::driven;
 use crate::options::Options;
 use crate::reopened::reopened;
-use crate::subject::Course;
+use crate::subject::{Course, Subject};
 use bw_codec::limits::MIN_FRAME;
 use bw_device::{Desk, MemSegment, Segment};
 use bw_ring::Feed;
@@ -51,23 +47,17 @@ fn config_of(options: Options, course: Course) -> Config {
     }
 }
 
-/// Runs the course.
-pub fn go<R: Threads + Wait>(
-    rt: &R,
-    bench: &Bench,
-    course: Course,
-    store: &mut Store,
-    feeds: &mut Vec<Feed>,
-) -> Option<()>
-    requires sound { IsSound store.old holding }
-    requires feeds { map ring_of_feed feeds.old.items ≡ (kept_by store.old holding).rings }
-    ensures sound { IsSound store.new holding }
-    ensures feeds { map ring_of_feed feeds.new.items ≡ (kept_by store.new holding).rings }
-{
-    if course.threads == 0 {
-        alone(rt, bench, store, feeds, course)
-    } else {
-        driven(rt, bench, store, feeds, course.is_read)
+impl<R: Threads + Wait> Subject<'_, R> {
+    /// Runs the course.
+    pub fn go(&self, store: &mut Store, feeds: &mut Vec<Feed>) -> Option<()>
+        requires { AreReady store.old feeds.old holding }
+        ensures { AreReady store.new feeds.new holding }
+    {
+        if self.course.threads == 0 {
+            self.alone(store, feeds)
+        } else {
+            self.driven(store, feeds)
+        }
     }
 }
 
@@ -83,7 +73,8 @@ fn over<R: Threads + Wait>(
         Ok(opened) => opened,
         Err(fault) => return bench.refused(fault.cause),
     };
-    let went = go(rt, bench, course, &mut store, &mut feeds);
+    let subject = Subject { rt, bench, course };
+    let went = subject.go(&mut store, &mut feeds);
     let (live, _spares) = store.shut(rt);
     went?;
     Some(live)

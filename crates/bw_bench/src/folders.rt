@@ -1,10 +1,10 @@
 //! Segments in files: appends with their sync, and a store in a folder, opened again.
 
 use crate::bench::Bench;
-use crate::boxes::{CAPACITY, READERS, count_of, go, writers_of};
+use crate::boxes::{CAPACITY, READERS, count_of, writers_of};
 use crate::reopened::tell_opened;
 use crate::stop::Stop;
-use crate::subject::Course;
+use crate::subject::{Course, Subject};
 use bw_codec::limits::{MAX_PAIRS, MIN_FRAME};
 use bw_device::{Desk, Segment};
 use bw_file::{FileSegment, Folder};
@@ -121,13 +121,9 @@ impl<R: Threads + System> InHome<R> for Over<'_> {
     type Answer = Option<()>;
 
     fn run(self, rt: &R, home: &mut Home) -> Option<()> {
-        go(
-            rt,
-            self.bench,
-            self.course,
-            &mut home.store,
-            &mut home.feeds,
-        )
+        let Over { bench, course } = self;
+        let subject = Subject { rt, bench, course };
+        subject.go(&mut home.store, &mut home.feeds)
     }
 }
 

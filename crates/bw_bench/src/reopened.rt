@@ -1,7 +1,7 @@
 //! A store goes on from the boxes of another.
 
-ghost use Rattle.std.specs.Prelude.{◌≡◌};
-ghost use Rattle.bw_store.specs.Views.{kept_by, IsSound};
+ghost use Rattle.bw_store.specs.Views.{IsSound};
+ghost use Rattle.bw_bench.specs.Lent.{Keeps};
 
 use crate::asking::read_back;
 use crate::batches::bytes_of;
@@ -15,8 +15,7 @@ use std::sync::Wait;
 /// Tells what it took to open the store from the start on, and reads all keys back.
 pub fn tell_opened(bench: &Bench, store: &mut Store, opened: u64) -> Option<()>
     requires { IsSound store.old holding }
-    ensures sound { IsSound store.new holding }
-    ensures rings { (kept_by store.new holding).rings ≡ (kept_by store.old holding).rings }
+    ensures { Keeps store.old store.new holding }
 {
     let (keys, puts) = (u64::from(bench.options.keys), bench.options.puts());
     bench.tell("open, records", puts, opened);

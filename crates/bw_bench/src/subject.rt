@@ -24,6 +24,13 @@ pub struct Course {
     pub is_read: bool,
 }
 
+/// A course over a store, by a handle `R`.
+pub struct Subject<'b, R> {
+    pub rt: &'b R,
+    pub bench: &'b Bench,
+    pub course: Course,
+}
+
 const ALONE: Course = Course {
     threads: 0,
     is_late: false,

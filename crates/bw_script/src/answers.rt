@@ -10,7 +10,7 @@ use crate::system::System;
 use bw_codec::{Key, Leaf, Value};
 use bw_home::{Made, Site};
 use bw_look::{Printer, write_page};
-use bw_store::{Cleaned, Entry};
+use bw_store::{Cleaned, PackedEntry};
 use std::io::Write;
 
 /// What a command comes to.
@@ -85,10 +85,10 @@ fn write_answer<O: Write>(out: &mut Printer<'_, O>, answer: &Answer) {
     }
 }
 
-fn write_history<O: Write>(out: &mut Printer<'_, O>, entries: &[Entry]) {
+fn write_history<O: Write>(out: &mut Printer<'_, O>, entries: &[PackedEntry]) {
     out.line("history ", entries.len());
     for entry in entries {
-        write_entry(out, entry);
+        write_entry(out, &entry.entry());
     }
 }
 

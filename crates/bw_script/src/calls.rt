@@ -16,7 +16,7 @@ use bw_codec::Key;
 use bw_device::Segment;
 use bw_home::Site;
 use bw_ring::{Feed, Group};
-use bw_store::{Config, Store, StoreFault};
+use bw_store::{Cleaned, Config, Store, StoreFault};
 use std::alloc::Global;
 
 /// How many places for readers a store is opened with.
@@ -133,10 +133,7 @@ impl Session {
         ensures { IsReady self.new holding }
     {
         let _ = self.take(u32::MAX)?;
-        match self.store.flush(rt) {
-            Ok(frame) => Ok(Answer::Frame(frame)),
-            Err(fault) => Err(Miss::from(fault)),
-        }
+        Ok(Answer::Frame(self.store.flush(rt)?))
     }
 
     /// The length of the history, once all that was accepted is taken and appended.
@@ -144,10 +141,7 @@ impl Session {
         requires { IsReady self.old holding }
         ensures { IsReady self.new holding }
     {
-        match self.store.settle(rt, &mut self.feeds) {
-            Ok(length) => Ok(Answer::Settled(length)),
-            Err(fault) => Err(Miss::from(fault)),
-        }
+        Ok(Answer::Settled(self.store.settle(rt, &mut self.feeds)?))
     }
 
     /// A page, as the history leaves it.
@@ -155,10 +149,7 @@ impl Session {
         requires { IsReady self.old holding }
         ensures { IsReady self.new holding }
     {
-        match self.store.page(page) {
-            Ok(leaf) => Ok(Answer::Page(leaf)),
-            Err(fault) => Err(Miss::from(fault)),
-        }
+        Ok(Answer::Page(self.store.page(page)?))
     }
 
     /// A key's value, as the history leaves it.
@@ -166,10 +157,7 @@ impl Session {
         requires { IsReady self.old holding }
         ensures { IsReady self.new holding }
     {
-        match self.store.get(key) {
-            Ok(value) => Ok(Answer::Value(value)),
-            Err(fault) => Err(Miss::from(fault)),
-        }
+        Ok(Answer::Value(self.store.get(key)?))
     }
 
     /// Whether the page left memory; it stays where it is evicted, or where no frame has all of it.
@@ -177,10 +165,7 @@ impl Session {
         requires { IsReady self.old holding }
         ensures { IsReady self.new holding }
     {
-        match self.store.evict(page) {
-            Ok(evicted) => Ok(Answer::Evicted(evicted)),
-            Err(fault) => Err(Miss::from(fault)),
-        }
+        Ok(Answer::Evicted(self.store.evict(page)?))
     }
 
     /// In how many frames a page was written again, whole.
@@ -188,10 +173,7 @@ impl Session {
         requires { IsReady self.old holding }
         ensures { IsReady self.new holding }
     {
-        match self.store.rewrite(rt, &[page]) {
-            Ok(frames) => Ok(Answer::Rewritten(frames)),
-            Err(fault) => Err(Miss::from(fault)),
-        }
+        Ok(Answer::Rewritten(self.store.rewrite(rt, &[page])?))
     }
 
     /// From how many frames a page is read, once it left memory.
@@ -205,14 +187,11 @@ impl Session {
     }
 
     /// What was given up with the oldest segment.
-    fn clean<R: System>(&mut self, rt: &R) -> Result<Answer, Miss>
+    pub fn clean<R: System>(&mut self, rt: &R) -> Result<Cleaned, Miss>
         requires { IsReady self.old holding }
         ensures { IsReady self.new holding }
     {
-        match self.store.clean(rt) {
-            Ok(cleaned) => Ok(Answer::Cleaned(cleaned)),
-            Err(fault) => Err(Miss::from(fault)),
-        }
+        Ok(self.store.clean(rt)?)
     }
 
     /// The current segment takes no more frames.
@@ -252,10 +231,7 @@ impl Session {
         requires { IsReady self.old holding }
         ensures { IsReady self.new holding }
     {
-        match self.store.next_at(key) {
-            Ok(pair) => Ok(Answer::Pair(pair)),
-            Err(fault) => Err(Miss::from(fault)),
-        }
+        Ok(Answer::Pair(self.store.next_at(key)?))
     }
 
     /// The number of the last frame that was appended, 0 before the first.
@@ -286,8 +262,8 @@ impl Session {
                 return Ok(self.forgotten(answer));
             }
             Request::Clean => {
-                let answer = self.clean(rt)?;
-                return Ok(self.forgotten(answer));
+                let cleaned = self.clean(rt)?;
+                return Ok(self.forgotten(Answer::Cleaned(cleaned)));
             }
             Request::Durable => return Ok(Answer::Durable(self.durable())),
             Request::Stats => return Ok(Answer::Stats),
@@ -343,7 +319,7 @@ impl Session {
             Command::Evict(page) => self.evict(page),
             Command::Rewrite(page) => self.rewrite(rt, page),
             Command::Walk(page) => self.walk(page),
-            Command::Clean => self.clean(rt),
+            Command::Clean => Ok(Answer::Cleaned(self.clean(rt)?)),
             Command::Roll => self.roll(),
             Command::Add => self.spare(rt, capacity),
             Command::History => Ok(Answer::History),

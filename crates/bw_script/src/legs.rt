@@ -76,28 +76,29 @@ pub fn put_behind(
 }
 
 impl Legs {
-    /// No script, where so many are to come. A leg is a run of all that is left, unless the options
-    /// ask that room comes back.
-    pub fn new(alloc: Global, options: &Options<'_>, scripts: usize) -> Result<Legs, AllocError> {
+    /// These scripts. A leg is a run of all that is left, unless the options ask that room comes
+    /// back.
+    pub fn new(
+        alloc: Global,
+        options: &Options<'_>,
+        scripts: Vec<Vec<Group>>,
+    ) -> Result<Legs, AllocError> {
+        let accepted = no_counts(alloc, scripts.len())?;
+        let mut rest = scripts;
+        for script in &mut rest {
+            script.reverse();
+        }
         Ok(Legs {
-            rest: Vec::new(alloc),
+            rest,
             most: if options.reuse {
                 most_in(options)
             } else {
                 u64::MAX
             },
             is_new: true,
-            accepted: no_counts(alloc, scripts)?,
+            accepted,
             entries: 0,
         })
-    }
-
-    /// These scripts. No memory is taken.
-    pub fn begin(&mut self, scripts: Vec<Vec<Group>>) {
-        self.rest = scripts;
-        for script in &mut self.rest {
-            script.reverse();
-        }
     }
 
     // Whether all groups were put, or given up, once there was a leg.
@@ -246,7 +247,7 @@ impl Session {
         requires { IsReady self.old holding }
         ensures { IsReady self.new holding }
     {
-        let lease = self.give_up(rt)?;
+        let lease = self.clean(rt)?.lease;
         self.forget_by(pace);
         self.site.empty(rt, lease)?;
         Ok(self.site.spare(rt, capacity)?)
@@ -259,17 +260,6 @@ impl Session {
     {
         if pace.forgets {
             let _ = self.store.forget();
-        }
-    }
-
-    // Gives up the oldest segment, and answers its lease.
-    fn give_up<R: Host>(&mut self, rt: &R) -> Result<u32, Miss>
-        requires { IsReady self.old holding }
-        ensures { IsReady self.new holding }
-    {
-        match self.store.clean(rt) {
-            Ok(cleaned) => Ok(cleaned.lease),
-            Err(fault) => Err(Miss::from(fault)),
         }
     }
 

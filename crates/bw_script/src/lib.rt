@@ -10,6 +10,7 @@
 #![tactic(auto)]
 
 mod answers;
+mod begun;
 mod calls;
 mod leases;
 mod legs;
@@ -31,6 +32,7 @@ mod stop;
 mod system;
 mod threads;
 mod upgrade;
+mod work;
 
 pub use lines::Lines;
 pub use program::run;

@@ -19,6 +19,17 @@ use bw_look::{
 use std::alloc::{AllocError, Global};
 use std::io::{ErrorKind, Read, Write};
 
+/// How segments are shown.
+#[derive(Clone, Copy)]
+pub enum View {
+    /// Frame by frame and block by block.
+    Print,
+    /// By how much they have of each kind.
+    Stats,
+    /// As a picture.
+    Picture,
+}
+
 // ---- the segments
 
 /// The segments of a folder, by their leases.
@@ -184,18 +195,9 @@ fn write_images<O: Write>(
 }
 
 /// Prints each header, frame and block, up to the first fault.
-pub fn print_segments<R: System, I: Read, O: Write>(
-    rt: &R,
-    dir: Option<&str>,
-    input: &mut I,
-    output: &mut O,
-) -> Result<Met, Stop> {
-    let images = match images(rt, dir, input) {
-        Ok(images) => images,
-        Err((number, miss)) => return missed(output, number, miss),
-    };
+fn print_images<O: Write>(alloc: Global, images: &[Image], output: &mut O) -> Result<Met, Stop> {
     let mut out = Printer::new(output);
-    let fault = write_images(rt.alloc(), &mut out, images.as_slice());
+    let fault = write_images(alloc, &mut out, images);
     out.end()?;
     match fault? {
         Some((segment, at)) => refuse(
@@ -210,21 +212,12 @@ pub fn print_segments<R: System, I: Read, O: Write>(
 }
 
 /// Counts what segments hold of each kind, once recovery has found them to be those of a log.
-pub fn count_segments<R: System, I: Read, O: Write>(
-    rt: &R,
-    dir: Option<&str>,
-    input: &mut I,
-    output: &mut O,
-) -> Result<Met, Stop> {
-    let images = match images(rt, dir, input) {
-        Ok(images) => images,
-        Err((number, miss)) => return missed(output, number, miss),
-    };
-    let judged = match judge(rt.alloc(), images.as_slice()) {
+fn count_images<O: Write>(alloc: Global, images: &[Image], output: &mut O) -> Result<Met, Stop> {
+    let judged = match judge(alloc, images) {
         Ok(judged) => judged,
         Err(miss) => return missed(output, 0, miss),
     };
-    let survey = Survey::of(rt.alloc(), images.as_slice())?;
+    let survey = Survey::of(alloc, images)?;
     let mut out = Printer::new(output);
     write_counts(&mut out, &survey, judged.counts, judged.lengths.as_slice());
     out.end()?;
@@ -232,8 +225,21 @@ pub fn count_segments<R: System, I: Read, O: Write>(
 }
 
 /// Draws segments, once recovery has found them to be those of a log.
-pub fn draw_segments<R: System, I: Read, O: Write>(
+fn draw_images<O: Write>(alloc: Global, images: &[Image], output: &mut O) -> Result<Met, Stop> {
+    if let Err(miss) = judge(alloc, images) {
+        return missed(output, 0, miss);
+    }
+    let survey = Survey::of(alloc, images)?;
+    let mut out = Printer::new(output);
+    write_picture(&mut out, &survey);
+    out.end()?;
+    Ok(Met::NOTHING)
+}
+
+/// Shows segments in this view.
+pub fn look<R: System, I: Read, O: Write>(
     rt: &R,
+    view: View,
     dir: Option<&str>,
     input: &mut I,
     output: &mut O,
@@ -242,14 +248,11 @@ pub fn draw_segments<R: System, I: Read, O: Write>(
         Ok(images) => images,
         Err((number, miss)) => return missed(output, number, miss),
     };
-    if let Err(miss) = judge(rt.alloc(), images.as_slice()) {
-        return missed(output, 0, miss);
+    match view {
+        View::Print => print_images(rt.alloc(), images.as_slice(), output),
+        View::Stats => count_images(rt.alloc(), images.as_slice(), output),
+        View::Picture => draw_images(rt.alloc(), images.as_slice(), output),
     }
-    let survey = Survey::of(rt.alloc(), images.as_slice())?;
-    let mut out = Printer::new(output);
-    write_picture(&mut out, &survey);
-    out.end()?;
-    Ok(Met::NOTHING)
 }
 
 /// The segments as they were when this frame was the last.

@@ -1,5 +1,6 @@
 //! The command line, read by `clap`. Nothing else of the program stands here.
 
+use crate::looks::View;
 use crate::replay::Manner;
 use bw_codec::limits::{HEADER_LEN, MAX_FRAME, MAX_PAIRS, MIN_FRAME, MIN_PAIRS};
 use clap::error::ErrorKind;
@@ -15,12 +16,8 @@ pub enum Mode<'a> {
     Threads(Options<'a>, Pace),
     /// Recovery says what segments hold: those of a folder, or lines in hex.
     Scan(Option<&'a str>),
-    /// The same segments, frame by frame and block by block.
-    Print(Option<&'a str>),
-    /// How much they have of each kind.
-    Stats(Option<&'a str>),
-    /// They as a picture.
-    Picture(Option<&'a str>),
+    /// The same segments are shown in this view.
+    Look(View, Option<&'a str>),
     /// A folder as of an earlier frame, in another folder.
     Restore(Copying<'a>),
     /// Segments of format 1 are written again in format 2: those of a folder, or lines in hex.
@@ -43,8 +40,7 @@ impl<'a> Mode<'a> {
     pub fn dir(&self) -> Option<&'a str> {
         match self {
             Mode::Lines(options, _) | Mode::Threads(options, _) => options.dir,
-            Mode::Scan(dir) | Mode::Print(dir) | Mode::Stats(dir) => *dir,
-            Mode::Picture(dir) | Mode::Upgrade(dir) => *dir,
+            Mode::Scan(dir) | Mode::Look(_, dir) | Mode::Upgrade(dir) => *dir,
             Mode::Restore(copying) => Some(copying.to),
         }
     }
@@ -455,13 +451,13 @@ fn copying_of<'a>(found: &ArgMatches<'a>) -> Copying<'a> {
 /// The mode that looks at segments, with what its words say.
 fn look_in<'a>(matches: &ArgMatches<'a>) -> Mode<'a> {
     if let Some(found) = matches.subcommand_matches("print") {
-        return Mode::Print(dir_of(found));
+        return Mode::Look(View::Print, dir_of(found));
     }
     if let Some(found) = matches.subcommand_matches("stats") {
-        return Mode::Stats(dir_of(found));
+        return Mode::Look(View::Stats, dir_of(found));
     }
     if let Some(found) = matches.subcommand_matches("picture") {
-        return Mode::Picture(dir_of(found));
+        return Mode::Look(View::Picture, dir_of(found));
     }
     match matches.subcommand_matches("scan") {
         Some(found) => Mode::Scan(dir_of(found)),

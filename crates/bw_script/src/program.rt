@@ -1,7 +1,7 @@
 //! The program over any reader and writers: the command line, what it asks for, and the exit
 //! status.
 
-use crate::looks::{count_segments, draw_segments, print_segments, restore};
+use crate::looks::{look, restore};
 use crate::options::{Mode, is_memory, mode_of};
 use crate::print::print;
 use crate::refusal::Refusal;
@@ -27,9 +27,7 @@ fn start<R: Host, I: Read, O: Write>(
         Mode::Threads(options, pace) => threads(rt, options, *pace, input, output),
         Mode::Scan(None) => scan(rt, input, output),
         Mode::Scan(Some(path)) => scan_folder(rt, *path, output),
-        Mode::Print(dir) => print_segments(rt, *dir, input, output),
-        Mode::Stats(dir) => count_segments(rt, *dir, input, output),
-        Mode::Picture(dir) => draw_segments(rt, *dir, input, output),
+        Mode::Look(view, dir) => look(rt, *view, *dir, input, output),
         Mode::Restore(copying) => restore(rt, copying, output),
         Mode::Upgrade(None) => upgrade(rt, input, output),
         Mode::Upgrade(Some(path)) => upgrade_folder(rt, *path, output),
@@ -106,23 +104,6 @@ fn status_of<O: Write, E: Write>(
     }
 }
 
-/// Runs the program up to the last flush of its outputs.
-fn status_in<R: Host, I: Read, O: Write, E: Write>(
-    rt: &R,
-    words: &[&str],
-    input: &mut I,
-    output: &mut O,
-    errors: &mut E,
-) -> u8 {
-    match mode_of(rt.alloc(), words) {
-        Ok(mode) => {
-            let end = start(rt, &mode, input, output);
-            status_of(end, mode.dir().unwrap_or(""), output, errors)
-        }
-        Err(error) => status_of(Err(usage(&error, errors)), "", output, errors),
-    }
-}
-
 /// Runs the program on the words after its name, and answers its exit status: 0; 2 where the words
 /// are no command line; 3 at a fault of the script; 4 where something was refused or a writer gave
 /// up; 5 at once where a growth was refused; 6 where a read or a write failed. The outputs are
@@ -134,7 +115,13 @@ pub fn run<R: Host, I: Read, O: Write, E: Write>(
     output: &mut O,
     errors: &mut E,
 ) -> u8 {
-    let status = status_in(rt, words, input, output, errors);
+    let status = match mode_of(rt.alloc(), words) {
+        Ok(mode) => {
+            let end = start(rt, &mode, input, output);
+            status_of(end, mode.dir().unwrap_or(""), output, errors)
+        }
+        Err(error) => status_of(Err(usage(&error, errors)), "", output, errors),
+    };
     let is_printed = output.flush().is_ok();
     let is_told = errors.flush().is_ok();
     if is_printed && is_told { status } else { 6 }

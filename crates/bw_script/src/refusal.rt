@@ -3,7 +3,6 @@
 use bw_care::RecoverCause;
 use bw_device::{NotMade, NotTaken};
 use bw_store::StoreFault;
-use std::alloc::{AllocError, AllocFailed};
 use std::error::Error;
 use std::fmt::{self, Display, Formatter};
 
@@ -79,18 +78,6 @@ impl Display for Refusal {
 }
 
 impl Error for Refusal {}
-
-impl From<AllocError> for Refusal {
-    fn from(_error: AllocError) -> Refusal {
-        Refusal::NoMemory
-    }
-}
-
-impl<T: Drop> From<AllocFailed<T>> for Refusal {
-    fn from(_error: AllocFailed<T>) -> Refusal {
-        Refusal::NoMemory
-    }
-}
 
 impl From<NotMade> for Refusal {
     fn from(error: NotMade) -> Refusal {

@@ -5,6 +5,7 @@ ghost use Rattle.std.specs.Prelude.{◌≡◌, vec_len};
 ghost use Rattle.bw_script.specs.Session.{IsReady};
 
 use crate::leases::LEASES;
+use crate::miss::Miss;
 use crate::options::Pace;
 use crate::refusal::Refusal;
 use crate::session::Session;
@@ -101,7 +102,7 @@ impl Session {
 
     // The pairs of a page go behind those of the pages before it; `false` where there is none of
     // that number.
-    fn append_page(&mut self, page: u32, pairs: &mut Vec<(Key, Value)>) -> Result<bool, Refusal>
+    fn append_page(&mut self, page: u32, pairs: &mut Vec<(Key, Value)>) -> Result<bool, Miss>
         requires { IsReady self.old holding }
         ensures { IsReady self.new holding }
     {
@@ -111,12 +112,12 @@ impl Session {
                 Ok(true)
             }
             Err(StoreFault::NoPage) => Ok(false),
-            Err(fault) => Err(Refusal::from(fault)),
+            Err(fault) => Err(Miss::from(fault)),
         }
     }
 
     /// The pairs of all pages, page by page.
-    pub fn pairs(&mut self, alloc: Global) -> Result<Vec<(Key, Value)>, Refusal>
+    pub fn pairs(&mut self, alloc: Global) -> Result<Vec<(Key, Value)>, Miss>
         requires { IsReady self.old holding }
         ensures { IsReady self.new holding }
     {

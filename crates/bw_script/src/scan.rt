@@ -118,7 +118,7 @@ fn tell<O: Write>(
     }
 }
 
-/// Prints what recovery says of segments. Their boxes are made here alone, as in `replay`.
+/// Prints what recovery says of segments. Their boxes are made here alone, as in `attempt`.
 fn tell_all<O: Write>(
     alloc: Global,
     segments: Vec<MemSegment>,

@@ -1,27 +1,26 @@
 //! `bwlog threads`: the scripts of several writers, each by a thread of its own, over one store.
 
-ghost use Rattle.std.specs.Prelude.{◌≡◌, vec_len, IfOk, IsNone};
+ghost use Rattle.std.specs.Prelude.{◌≡◌, vec_len, IfOk};
 ghost use Rattle.bw_script.specs.Session.{IsReady};
 
+use crate::begun::Told;
 use crate::legs::{Legs, empty_scripts, lengths_of, put_behind};
 use crate::lines::{Lines, READS};
 use crate::miss::Miss;
 use crate::options::{Options, Pace};
 use crate::printed::write_pairs;
 use crate::refusal::Refusal;
-use crate::replay::{ATTEMPTS, NotBegun, Told, add_again, begin, opened};
 use crate::script::{LONGEST, parse_group};
 use crate::session::Session;
-use crate::stop::{Met, Stop, missed, no_input, refuse};
+use crate::stop::{Met, Stop, missed, no_input};
 use crate::system::Host;
+use crate::work::{Work, do_work};
 use bw_codec::{Key, Value};
-use bw_device::Segment;
 use bw_home::Made;
 use bw_look::Printer;
 use bw_ring::Group;
 use std::alloc::{AllocError, Global};
 use std::io::{Read, Write};
-use std::mem;
 
 // Reads a line and does what it asks for; `false` where there was none.
 fn read_group<I: Read>(
@@ -119,88 +118,55 @@ fn tell_run<R: Host, O: Write>(
     }
     let mut pairs = match session.pairs(rt.alloc()) {
         Ok(pairs) => pairs,
-        Err(refusal) => return refuse(output, refusal),
+        Err(miss) => return missed(output, 0, miss),
     };
     pairs.sort()?;
     print_run(output, legs, lengths, pairs.as_slice())
 }
 
-/// Runs legs up to where the room of a segment comes back, which is handed out; `None` at the end of
-/// all scripts, or where something ended the run, which is told.
-fn next_made<R: Host>(
-    rt: &R,
-    session: &mut Session,
-    options: &Options<'_>,
+/// The scripts of all writers, over a store.
+#[derive(Drop)]
+struct Writers<'a> {
+    options: &'a Options<'a>,
     pace: Pace,
-    legs: &mut Legs,
-    end: &mut Result<(), Miss>,
-) -> Option<Made>
-    requires { IsReady session.old holding }
-    ensures { IsReady session.new holding }
-{
-    match session.next_made(rt, options, pace, legs) {
-        Ok(made) => made,
-        Err(miss) => {
-            *end = Err(miss);
-            None
-        }
-    }
+    legs: Legs,
+    /// How many records each script has.
+    lengths: Vec<u64>,
+    /// What ended the run before its end.
+    end: Result<(), Miss>,
 }
 
-/// Makes a store, or goes on from the one in a folder, and runs all writers over it; `None` where it
-/// has to begin anew there, and else the scripts are taken out. Boxes are made here alone, as in
-/// `replay`.
-fn run_scripts<R: Host, O: Write>(
-    rt: &R,
-    options: &Options<'_>,
-    pace: Pace,
-    scripts: &mut Vec<Vec<Group>>,
-    output: &mut O,
-) -> Result<Option<Met>, Stop>
-    requires { vec_len scripts.old ≡ options.now.writers }
-    ensures { IfOk result (λ end. IsNone end → scripts.new ≡ scripts.old) }
-{
-    let (mut site, count) = match opened(rt, options) {
-        Ok(opened) => opened,
-        Err(miss) => return Ok(Some(missed(output, 0, miss)?)),
-    };
-    let mut boxes: Vec<Box<dyn Segment>> = Vec::new(rt.alloc());
-    let mut are_new = true;
-    for _ in 0..count {
-        let made = match site.segment(rt, u64::from(options.capacity)) {
+impl<R: Host, O: Write> Work<R, O> for Writers<'_> {
+    fn told(&self) -> Told {
+        Told::Lines
+    }
+
+    fn begun(&mut self, _session: &Session, _output: &mut O) {}
+
+    // Runs legs up to where the room of a segment comes back.
+    fn next_spare(&mut self, rt: &R, session: &mut Session, _output: &mut O) -> Option<Made> {
+        match session.next_made(rt, self.options, self.pace, &mut self.legs) {
             Ok(made) => made,
-            Err(fault) => return Ok(Some(missed(output, 0, Miss::from(fault))?)),
-        };
-        are_new &= made.is_empty();
-        let segment: Box<dyn Segment> = match made {
-            Made::Memory(segment) => segment,
-            Made::File(segment) => segment,
-        };
-        boxes.push(segment)?;
+            Err(miss) => {
+                self.end = Err(miss);
+                None
+            }
+        }
     }
-    let lengths = lengths_of(rt.alloc(), scripts.as_slice())?;
-    let mut legs = Legs::new(rt.alloc(), options, scripts.len())?;
-    let mut session = match begin(rt, options, boxes, are_new, site, Told::Lines, output) {
-        Ok(session) => session,
-        Err(NotBegun::Miss(miss)) => return Ok(Some(missed(output, 0, miss)?)),
-        Err(NotBegun::Beginning(_)) => return Ok(None),
-    };
-    // The store is shut whatever ends the run.
-    legs.begin(mem::replace(scripts, Vec::new(rt.alloc())));
-    let mut end = Ok(());
-    'spares: for _ in 0..u64::MAX {
-        let Some(made) = next_made(rt, &mut session, options, pace, &mut legs, &mut end) else {
-            break;
-        };
-        let spare: Box<dyn Segment> = match made {
-            Made::Memory(segment) => segment,
-            Made::File(segment) => segment,
-        };
-        add_again(&mut session, spare);
+
+    // One that cannot be added in place of a segment that was given up is none.
+    fn added(&mut self, _lease: u32, _added: Result<(), Refusal>, _output: &mut O) {}
+
+    fn end(&mut self, rt: &R, session: &mut Session, output: &mut O) -> Result<Met, Stop> {
+        tell_run(
+            rt,
+            session,
+            self.end,
+            &self.legs,
+            self.lengths.as_slice(),
+            output,
+        )
     }
-    let met = tell_run(rt, &mut session, end, &legs, lengths.as_slice(), output);
-    session.shut(rt);
-    Ok(Some(met?))
 }
 
 /// Reads the writers' scripts, makes a store, or goes on from the one in a folder, and runs all
@@ -212,12 +178,16 @@ pub fn threads<R: Host, I: Read, O: Write>(
     input: &mut I,
     output: &mut O,
 ) -> Result<Met, Stop> {
-    let mut scripts = read_scripts(rt.alloc(), input, options.writers)?;
-    'attempts: for _ in 0..ATTEMPTS {
-        if let Some(met) = run_scripts(rt, options, pace, &mut scripts, output)? {
-            // No line of a script could make room, so no more is said of a full log.
-            return Ok(Met { full: false, ..met });
-        }
-    }
-    refuse(output, Refusal::Empty)
+    let scripts = read_scripts(rt.alloc(), input, options.writers)?;
+    let lengths = lengths_of(rt.alloc(), scripts.as_slice())?;
+    let mut writers = Writers {
+        options,
+        pace,
+        legs: Legs::new(rt.alloc(), options, scripts)?,
+        lengths,
+        end: Ok(()),
+    };
+    let met = do_work(rt, options, &mut writers, output)?;
+    // No line of a script could make room, so no more is said of a full log.
+    Ok(Met { full: false, ..met })
 }

@@ -125,22 +125,12 @@ fn print_all<O: Write>(
 }
 
 /// Upgrades a store, and prints all of it.
-fn upgrade_store<R: System, O: Write>(
-    rt: &R,
-    store: &mut Store,
-    output: &mut O,
-) -> Result<Met, Stop>
+fn upgrade_store<R: System, O: Write>(rt: &R, store: &mut Store, output: &mut O) -> Result<(), Miss>
     requires { IsSound store.old holding }
     ensures { IsSound store.new holding }
 {
-    let upgraded = match store.upgrade(rt) {
-        Ok(upgraded) => upgraded,
-        Err(fault) => return missed(output, 0, Miss::from(fault)),
-    };
-    match print_all(rt.alloc(), store, &upgraded, output) {
-        Ok(()) => Ok(Met::NOTHING),
-        Err(miss) => missed(output, 0, miss),
-    }
+    let upgraded = store.upgrade(rt)?;
+    print_all(rt.alloc(), store, &upgraded, output)
 }
 
 /// The same of boxes.
@@ -158,10 +148,13 @@ fn upgrade_boxes<R: System, O: Write>(
     // The store is shut whatever ends the run.
     let end = upgrade_store(rt, &mut store, output);
     let _ = store.shut(rt);
-    end
+    match end {
+        Ok(()) => Ok(Met::NOTHING),
+        Err(miss) => missed(output, 0, miss),
+    }
 }
 
-/// The same of segments. Their boxes are made here alone, as in `replay`.
+/// The same of segments. Their boxes are made here alone, as in `attempt`.
 fn upgrade_all<R: System, O: Write>(
     rt: &R,
     segments: Vec<MemSegment>,

@@ -11,7 +11,7 @@ mod stores;
 mod versions;
 mod without;
 
-use bw_codec::{Key, Leaf, Record, Value};
+use bw_codec::{Key, Record, Value};
 use std::alloc::Global;
 use std::process::Abort;
 use std::sync::Wait;
@@ -49,6 +49,21 @@ fn then(first: Try, second: Option<Try>) -> Option<Try> {
     } else {
         None
     }
+}
+
+/// A call of which all is made anew each time.
+trait Ask {
+    /// Makes what it needs, and asks.
+    fn asks<R: AllocGlobal + Wait>(&self, rt: &R) -> Option<Try>;
+}
+
+/// A call is asked, and once more where it was refused.
+fn asked_again<R: AllocGlobal + Wait, A: Ask>(rt: &R, call: &A) -> Option<Try> {
+    let first = call.asks(rt)?;
+    if first == Try::Refused {
+        return then(first, call.asks(rt));
+    }
+    Some(first)
 }
 
 /// What a row asks.
@@ -113,22 +128,4 @@ fn is(bytes: &[u8], told: &[u8]) -> bool {
 
 fn put(key: &[u8], value: &[u8]) -> Option<Record> {
     Some(Record::Put(Key::new(key).ok()?, Value::new(value).ok()?))
-}
-
-/// What is left of a text behind a part of it; none where it does not begin so.
-fn behind<'a>(text: Option<&'a [u8]>, part: &[u8]) -> Option<&'a [u8]> {
-    text?.strip_prefix(part)
-}
-
-/// Whether a text is the low key, a colon, and each pair after a space.
-fn shows(leaf: &Leaf, text: &[u8]) -> bool {
-    let mut rest = behind(behind(Some(text), leaf.low.as_slice()), b":");
-    for pair in leaf.pairs.as_slice() {
-        rest = behind(behind(rest, b" "), pair.key());
-        rest = behind(behind(rest, b"="), pair.value());
-    }
-    match rest {
-        Some(rest) => rest.is_empty(),
-        None => false,
-    }
 }

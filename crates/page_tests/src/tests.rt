@@ -13,6 +13,7 @@ use bw_codec::{Key, Leaf, Record, Value};
 use bw_page::Leaves;
 use std::alloc::Global;
 use std::process::Abort;
+use test_vectors::shows;
 
 /// All steps went as told; a failure tells the first that did not.
 fn went(rt: &impl Abort, wrong: Option<usize>) {
@@ -84,24 +85,6 @@ fn records(alloc: Global, changes: &[(&str, Option<&str>)]) -> Option<Vec<Record
         records.push(record?).ok()?;
     }
     Some(records)
-}
-
-/// What is left of a text behind a part of it; none where it does not begin so.
-fn behind<'a>(text: Option<&'a [u8]>, part: &[u8]) -> Option<&'a [u8]> {
-    text?.strip_prefix(part)
-}
-
-/// Whether a text is the low key, a colon, and each pair after a space.
-fn shows(leaf: &Leaf, text: &[u8]) -> bool {
-    let mut rest = behind(behind(Some(text), leaf.low.as_slice()), b":");
-    for pair in leaf.pairs.as_slice() {
-        rest = behind(behind(rest, b" "), pair.key());
-        rest = behind(behind(rest, b"="), pair.value());
-    }
-    match rest {
-        Some(rest) => rest.is_empty(),
-        None => false,
-    }
 }
 
 /// Whether a page is shown so; no text where there is none, or it is not in memory.

@@ -4,7 +4,7 @@ ghost use Rattle.std.specs.Prelude.{◌≡◌, vec_len, IfOk};
 
 use bw_codec::{Key, Record, Value};
 use bw_ring::Group;
-use bw_store::Entry;
+use bw_store::PackedEntry;
 use std::alloc::{AllocError, Global};
 
 /// A part of each writer's records: from which number on, how many, and how many keys they have in
@@ -84,9 +84,10 @@ pub(super) fn scripts(
 }
 
 /// How many entries each writer has, where they are its first records in order.
-pub(super) fn begun(entries: &[Entry], keys: u32) -> Option<[u32; 64]> {
+pub(super) fn begun(entries: &[PackedEntry], keys: u32) -> Option<[u32; 64]> {
     let mut next: [u32; 64] = [0; 64];
-    for entry in entries {
+    for packed in entries {
+        let entry = packed.entry();
         let writer = usize::from(entry.writer);
         let number = next.get_mut(writer)?;
         if entry.item != numbered(writer, *number, keys) {
@@ -99,10 +100,11 @@ pub(super) fn begun(entries: &[Entry], keys: u32) -> Option<[u32; 64]> {
 
 /// Whether the entries are whole groups of scripts of mixed sizes: an entry has `more` just where the
 /// next of its writer's records stands in the same group, and then that one is the next entry.
-pub(super) fn are_whole(entries: &[Entry]) -> bool {
+pub(super) fn are_whole(entries: &[PackedEntry]) -> bool {
     let mut next: [u32; 64] = [0; 64];
     let mut behind: Option<u16> = None;
-    for entry in entries {
+    for packed in entries {
+        let entry = packed.entry();
         let Some(number) = next.get_mut(usize::from(entry.writer)) else {
             return false;
         };

@@ -55,6 +55,16 @@ pub(super) fn supplied(
     Some(Supply { boxes, desk })
 }
 
+/// What is recovered from boxes.
+pub(super) fn found_in(alloc: Global, boxes: Vec<Box<dyn Segment>>) -> Option<Recovered>
+    ensures { IfSome result (λ r. IsRecovered holding r) }
+{
+    match recover(alloc, boxes) {
+        Ok(found) => Some(found),
+        Err(_) => None,
+    }
+}
+
 // A mark of boxes: their leases and lengths, in order.
 fn row_of(boxes: &[Box<dyn Segment>]) -> u64 {
     let mut row: u64 = 1;
@@ -81,10 +91,7 @@ pub(super) fn recovered(alloc: Global, boxes: Vec<Box<dyn Segment>>) -> Option<(
             if fault.cause != RecoverCause::NoMemory || !refused || !is_back {
                 return None;
             }
-            match recover(alloc, fault.boxes) {
-                Ok(found) => Some((Try::Refused, found)),
-                Err(_) => None,
-            }
+            Some((Try::Refused, found_in(alloc, fault.boxes)?))
         }
     }
 }

@@ -1,61 +1,24 @@
 //! Recovery, the cleaner, and a log that is read, over worked segments.
 
-ghost use Rattle.std.specs.Prelude.{IfSome};
-ghost use Rattle.bw_care.specs.Found.{IsRecovered};
 ghost use Rattle.bw_care.specs.Views.{IsSound};
 ghost use Rattle.bw_log.specs.Views.{IsSound as IsSoundBeside};
 
-use super::boxes::{Supply, recovered, supplied};
-use super::stores::telling::spells;
-use super::{Row, Try, all_went, shows, then, tried, wrong_row};
-use bw_care::{CleanFault, Cleaned, Recovered, Upgraded, clean, recover, upgrade};
+use super::boxes::{Supply, found_in, recovered, supplied};
+use super::{Row, Try, all_went, then, tried, wrong_row};
+use bw_care::{CleanFault, Cleaned, Upgraded, clean, upgrade};
 use bw_device::Segment;
 use bw_log::{Log, LogFault};
 use std::alloc::Global;
 use std::sync::Wait;
 use std::thread::Threads;
 use test_marks::{begin, end};
+use test_vectors::{
+    OLD_THIRD_LAST, OLD_THIRD_LOST, OLD_THIRD_OLDER, THIRD_LAST, THIRD_LOST, THIRD_NEWER,
+    THIRD_OLDER, UPGRADED_LAST, shows, spells,
+};
 
-/// The oldest segment: the empty page 1, and k=1.
-const LOST: &str =
-    "42574c4f475347320100000000000000040000000000010046524d3201000000000000002100000002000000\
-    02010000000000000101000000010000000000000000000000010001016b010031";
-
-/// The one behind it: j=2.
-const OLDER: &str =
-    "42574c4f475347320200000000000000040000000000010046524d3202000000000000001900000001000000\
-    0101000000010000000000000001000000010001016a010032";
-
-/// The newest: k=3.
-const NEWER: &str =
-    "42574c4f475347320300000000000000040000000000010046524d3203000000000000001900000001000000\
-    0101000000020000000000000000000000010001016b010033";
-
-/// The same behind a cleaning: the page is written once more.
-const CLEANED: &str =
-    "42574c4f475347320300000000000000040000000000010046524d3203000000000000001900000001000000\
-    0101000000020000000000000000000000010001016b01003346524d32040000000000000012000000010000\
-    000201000000000200016a010032016b010033";
-
-/// The three of them in format 1.
-const OLD_LOST: &str =
-    "42574c4f475347310100000000000000040000000040000046524d3101000000000000002000000002000000\
-    02010000000000000101000000010000000000000000000000010001016b0131";
-
-const OLD_OLDER: &str =
-    "42574c4f475347310200000000000000040000000040000046524d3102000000000000001800000001000000\
-    0101000000010000000000000001000000010001016a0132";
-
-const OLD_NEWER: &str =
-    "42574c4f475347310300000000000000040000000040000046524d3103000000000000001800000001000000\
-    0101000000020000000000000000000000010001016b0133";
-
-/// What an upgrade writes: the page in a segment of its own.
-const UPGRADED: &str =
-    "42574c4f475347320400000000000000040000000000010046524d3204000000000000001200000001000000\
-    0201000000000200016a010032016b010033";
-
-/// One call over these three segments and a spare, or one of boxes alone.
+/// One call over the three segments of the third vector before its cleaning and a spare, or one of
+/// boxes alone.
 #[derive(Drop)]
 enum Call {
     /// Recovery alone: the page is right.
@@ -119,12 +82,12 @@ fn cleans(alloc: Global, log: &mut Log) -> Option<Try>
     let now = picture(log);
     match answer {
         Ok(cleaned) => {
-            let holds = holds(alloc, log, 3, CLEANED);
+            let holds = holds(alloc, log, 3, THIRD_NEWER);
             let is_so = cleaned == TOLD && now == (2, Some((3, 2, 107)), 1);
             tried(true, refused, is_so & holds)
         }
         Err(fault) => {
-            let holds = holds(alloc, log, 3, NEWER);
+            let holds = holds(alloc, log, 3, THIRD_LAST);
             let is_left = now == (3, Some((3, 2, 69)), 1);
             tried(false, refused, is_left & holds & is_memory(fault))
         }
@@ -152,7 +115,7 @@ fn upgrades(alloc: Global, log: &mut Log) -> Option<Try>
     let now = picture(log);
     match answer {
         Ok(upgraded) => {
-            let holds = holds(alloc, log, 4, UPGRADED);
+            let holds = holds(alloc, log, 4, UPGRADED_LAST);
             let is_so = upgraded == ALL_THREE && now == (1, Some((4, 3, 62)), 0);
             tried(true, refused, is_so & holds)
         }
@@ -186,7 +149,11 @@ fn dumps(alloc: Global, log: &mut Log) -> Option<Try>
     let answer = log.dump(2, &mut bytes);
     let refused = end(alloc);
     match answer {
-        Ok(found) => tried(true, refused, found && spells(&bytes, OLDER.as_bytes())),
+        Ok(found) => tried(
+            true,
+            refused,
+            found && spells(&bytes, THIRD_OLDER.as_bytes()),
+        ),
         Err(fault) => tried(
             false,
             refused,
@@ -256,7 +223,7 @@ fn with_one_more(alloc: Global) -> Option<Try> {
         desk: _desk,
     } = supplied(alloc, 1, &[], None)?;
     let one = boxes.pop()?;
-    let mut found = log_of(alloc, worked(alloc)?)?;
+    let mut found = found_in(alloc, worked(alloc)?)?;
     is_added(alloc, &mut found.log, one)
 }
 
@@ -288,7 +255,12 @@ fn asks(alloc: Global, log: &mut Log, call: &Call) -> Option<Try>
 
 /// What a scan of the three segments in another order finds.
 fn scanned(alloc: Global) -> Option<Try> {
-    let supply = supplied(alloc, 5, &[NEWER, "", LOST, OLDER, "42574c"], None)?;
+    let supply = supplied(
+        alloc,
+        5,
+        &[THIRD_LAST, "", THIRD_LOST, THIRD_OLDER, "42574c"],
+        None,
+    )?;
     let Supply { boxes, desk: _desk } = supply;
     let (first, found) = recovered(alloc, boxes)?;
     let is_told = (found.first, found.last, found.tail, found.dropped) == (1, 3, 0, 1);
@@ -298,25 +270,20 @@ fn scanned(alloc: Global) -> Option<Try> {
     }
 }
 
-/// What is recovered from boxes, with memory.
-fn log_of(alloc: Global, boxes: Vec<Box<dyn Segment>>) -> Option<Recovered>
-    ensures { IfSome result (λ r. IsRecovered holding r) }
-{
-    match recover(alloc, boxes) {
-        Ok(found) => Some(found),
-        Err(_) => None,
-    }
-}
-
 /// The three segments and a spare.
 fn worked(alloc: Global) -> Option<Vec<Box<dyn Segment>>> {
-    let Supply { boxes, desk: _desk } = supplied(alloc, 4, &[LOST, OLDER, NEWER, ""], None)?;
+    let Supply { boxes, desk: _desk } = supplied(
+        alloc,
+        4,
+        &[THIRD_LOST, THIRD_OLDER, THIRD_LAST, ""],
+        None,
+    )?;
     Some(boxes)
 }
 
 /// The same in format 1.
 fn old(alloc: Global) -> Option<Vec<Box<dyn Segment>>> {
-    let texts = [OLD_LOST, OLD_OLDER, OLD_NEWER, ""];
+    let texts = [OLD_THIRD_LOST, OLD_THIRD_OLDER, OLD_THIRD_LAST, ""];
     let Supply { boxes, desk: _desk } = supplied(alloc, 4, &texts, None)?;
     Some(boxes)
 }
@@ -361,11 +328,11 @@ impl Row for Call {
             Call::New => is_made(alloc),
             Call::Add => with_one_more(alloc),
             Call::Upgrade => {
-                let mut found = log_of(alloc, old(alloc)?)?;
+                let mut found = found_in(alloc, old(alloc)?)?;
                 asks(alloc, &mut found.log, self)
             }
             _ => {
-                let mut found = log_of(alloc, worked(alloc)?)?;
+                let mut found = found_in(alloc, worked(alloc)?)?;
                 asks(alloc, &mut found.log, self)
             }
         }

@@ -4,7 +4,7 @@ ghost use Rattle.std.specs.Prelude.{◌≤◌, length, IfSome};
 ghost use Rattle.std.specs.List.{AllByRecursion};
 ghost use Rattle.bw_codec.specs.Grammar.{IsBlock};
 
-use super::{Row, Try, all_went, is, shows, then, tried, wrong_row};
+use super::{Ask, Row, Try, all_went, asked_again, is, then, tried, wrong_row};
 use bw_buffer::Buffer;
 use bw_codec::limits::{LATEST, MIN_FRAME};
 use bw_codec::{
@@ -16,6 +16,7 @@ use std::alloc::Global;
 use std::sync::Wait;
 use std::thread::Threads;
 use test_marks::{begin, begin_without, end};
+use test_vectors::shows;
 
 /// The header of the first segment with pages of four pairs and frames of 65,536 bytes.
 const HEADER: &[u8] = b"BWLOGSG2\x01\0\0\0\0\0\0\0\x04\0\0\0\0\0\x01\0";
@@ -267,15 +268,18 @@ fn makes_buffer(alloc: Global) -> Option<Try> {
 }
 
 /// A call that changes nothing.
-fn asks(alloc: Global, call: &Call) -> Option<Try> {
-    match call {
-        Call::ReadBlock(bytes) => reads_block(alloc, *bytes),
-        Call::ReadFrame => reads_frame(alloc),
-        Call::CopyLow => copies_low(alloc),
-        Call::CopyPairs => copies_pairs(alloc, false),
-        Call::CopyPairsOf => copies_pairs(alloc, true),
-        Call::CopyLeaf => copies_leaf(alloc),
-        _ => makes_buffer(alloc),
+impl Ask for Call {
+    fn asks<R: AllocGlobal + Wait>(&self, rt: &R) -> Option<Try> {
+        let alloc = rt.alloc();
+        match self {
+            Call::ReadBlock(bytes) => reads_block(alloc, *bytes),
+            Call::ReadFrame => reads_frame(alloc),
+            Call::CopyLow => copies_low(alloc),
+            Call::CopyPairs => copies_pairs(alloc, false),
+            Call::CopyPairsOf => copies_pairs(alloc, true),
+            Call::CopyLeaf => copies_leaf(alloc),
+            _ => makes_buffer(alloc),
+        }
     }
 }
 
@@ -287,13 +291,7 @@ impl Row for Call {
             Call::EncodeHead => is_written(alloc, true),
             Call::EncodeBlock(bytes) => is_encoded(alloc, *bytes),
             Call::Insert => is_inserted(alloc),
-            _ => {
-                let first = asks(alloc, self)?;
-                if first == Try::Refused {
-                    return then(first, asks(alloc, self));
-                }
-                Some(first)
-            }
+            _ => asked_again(rt, self),
         }
     }
 

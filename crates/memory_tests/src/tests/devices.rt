@@ -1,6 +1,6 @@
 //! Desks, segments in memory, and rings.
 
-use super::{Row, Try, all_went, is, put, then, tried, wrong_row};
+use super::{Ask, Row, Try, all_went, asked_again, is, put, then, tried, wrong_row};
 use bw_device::{Desk, Lease, MemSegment, NotMade, NotTaken, Refused, Segment};
 use bw_ring::{Feed, Group, Lane, LanesError, lanes};
 use std::alloc::Global;
@@ -149,10 +149,13 @@ fn makes_lanes(alloc: Global) -> Option<Try> {
     }
 }
 
-fn asks(alloc: Global, call: &Call) -> Option<Try> {
-    match call {
-        Call::Lanes => makes_lanes(alloc),
-        _ => makes_desk(alloc),
+impl Ask for Call {
+    fn asks<R: AllocGlobal + Wait>(&self, rt: &R) -> Option<Try> {
+        let alloc = rt.alloc();
+        match self {
+            Call::Lanes => makes_lanes(alloc),
+            _ => makes_desk(alloc),
+        }
     }
 }
 
@@ -162,13 +165,7 @@ impl Row for Call {
         match self {
             Call::Take => is_taken(alloc),
             Call::Segment(bytes) => is_made(alloc, *bytes),
-            _ => {
-                let first = asks(alloc, self)?;
-                if first == Try::Refused {
-                    return then(first, asks(alloc, self));
-                }
-                Some(first)
-            }
+            _ => asked_again(rt, self),
         }
     }
 

@@ -9,7 +9,7 @@ use super::{Row, Try, all_went, tried, wrong_row};
 use bw_codec::{Key, Record, Value};
 use bw_drive::{MeetGate, OpenGate, Plan, drive};
 use bw_ring::{Feed, Group};
-use bw_store::{Config, Entry, Store, StoreFault};
+use bw_store::{Config, PackedEntry, Store, StoreFault};
 use std::alloc::{AllocError, Global};
 use std::sync::Wait;
 use std::thread::Threads;
@@ -83,10 +83,11 @@ fn scripts(alloc: Global) -> Result<Vec<Vec<Group>>, AllocError>
 }
 
 /// Whether each writer's entries are the first groups of its script, each whole and by itself.
-fn are_begun(entries: &[Entry]) -> bool {
+fn are_begun(entries: &[PackedEntry]) -> bool {
     let mut next: [u8; 2] = [0; 2];
     let mut behind: Option<u16> = None;
-    for entry in entries {
+    for packed in entries {
+        let entry = packed.entry();
         let Some(number) = next.get_mut(usize::from(entry.writer)) else {
             return false;
         };

@@ -1,9 +1,10 @@
 //! Leaves and chains.
 
-ghost use Rattle.std.specs.Prelude.{◌≡◌, ◌∷◌, [], IfOk, IfSome};
+ghost use Rattle.std.specs.Prelude.{◌≡◌, [], IfOk, IfSome};
 
-use super::{Row, Try, all_went, put, shows, then, tried, wrong_row};
-use bw_codec::{Block, Key, Leaf, Low, Ops, Pair, Pairs, Place, Record, Value};
+use super::versions::entries;
+use super::{Ask, Row, Try, all_went, asked_again, put, then, tried, wrong_row};
+use bw_codec::{Block, Leaf, Ops, Place, Record};
 use bw_page::{
     Applied, ApplyError, Chain, Draft, Leaves, Start, change, change_all, cut_in_two, empty_page,
     read_block, read_blocks,
@@ -13,6 +14,7 @@ use std::alloc::{AllocError, Global};
 use std::sync::Wait;
 use std::thread::Threads;
 use test_marks::{begin, end};
+use test_vectors::{leaf_of, shows};
 
 /// One call that may be refused.
 #[derive(Drop)]
@@ -82,30 +84,6 @@ enum Link {
 }
 
 const BACK: Place = Place { frame: 1, index: 0 };
-
-/// A leaf of one pair. A key or a value of another length is refused as well.
-fn leaf_of(
-    alloc: Global,
-    page: u32,
-    low: &[u8],
-    key: &[u8],
-    value: &[u8],
-) -> Result<Leaf, AllocError>
-    ensures { IfOk result (λ l.
-        l ≡ record { page = page; low = low.now; pairs = (key.now, value.now) ∷ [] }) }
-{
-    let (Ok(key), Ok(value)) = (Key::new(key), Value::new(value)) else {
-        return Err(AllocError);
-    };
-    let from = Vec::from_slice(alloc, low)?;
-    let mut pairs = Vec::new(alloc);
-    pairs.push(Pair::of(alloc, &key, &value)?)?;
-    Ok(Leaf {
-        page,
-        low: Low::of(from),
-        pairs: Pairs::of(pairs),
-    })
-}
 
 /// Page 1 with `a`, and page 2 from `c` on with `d`: leaves are made of them in a window, where
 /// that is asked.
@@ -185,21 +163,6 @@ fn lettered(alloc: Global, letters: &[u8]) -> Option<Vec<Record>> {
         records.push(put(&[*letter], b"")?).ok()?;
     }
     Some(records)
-}
-
-fn entries(alloc: Global, letters: &[u8]) -> Option<Vec<Entry>> {
-    let mut entries = Vec::new(alloc);
-    for letter in letters {
-        let item = put(&[*letter], b"")?;
-        entries
-            .push(Entry {
-                writer: 0,
-                more: false,
-                item,
-            })
-            .ok()?;
-    }
-    Some(entries)
 }
 
 /// A full page.
@@ -546,16 +509,18 @@ fn is_linked(alloc: Global, link: Link) -> Option<Try> {
     Some(first)
 }
 
-/// A call whose object is made anew.
-fn asks(alloc: Global, call: &Call) -> Option<Try> {
-    match call {
-        Call::OneEmpty => makes_leaves(alloc, true),
-        Call::Of => makes_leaves(alloc, false),
-        Call::CopyLeaves => copies_leaves(alloc),
-        Call::CopyStart => copies_start(alloc),
-        Call::ChangeAll(count) => all_change(alloc, *count),
-        Call::Read(how, count) => reads(alloc, *how, *count),
-        _ => cuts(alloc),
+impl Ask for Call {
+    fn asks<R: AllocGlobal + Wait>(&self, rt: &R) -> Option<Try> {
+        let alloc = rt.alloc();
+        match self {
+            Call::OneEmpty => makes_leaves(alloc, true),
+            Call::Of => makes_leaves(alloc, false),
+            Call::CopyLeaves => copies_leaves(alloc),
+            Call::CopyStart => copies_start(alloc),
+            Call::ChangeAll(count) => all_change(alloc, *count),
+            Call::Read(how, count) => reads(alloc, *how, *count),
+            _ => cuts(alloc),
+        }
     }
 }
 
@@ -567,13 +532,7 @@ impl Row for Call {
             Call::Look(way) => is_looked_at(alloc, *way),
             Call::Change => is_changed(alloc),
             Call::Chain(link) => is_linked(alloc, *link),
-            _ => {
-                let first = asks(alloc, self)?;
-                if first == Try::Refused {
-                    return then(first, asks(alloc, self));
-                }
-                Some(first)
-            }
+            _ => asked_again(rt, self),
         }
     }
 

@@ -7,13 +7,13 @@ ghost use Rattle.bw_store.specs.Views.{kept_beside, kept_by, IsSound, IsSoundBes
 
 mod picture;
 mod steps;
-pub(super) mod telling;
+mod telling;
 
 use self::picture::is_out;
 use self::steps::Step::{
-    Bytes, Clean, CleanFails, Count, Counted, Cuts, Evict, Flush, FlushFails, Forget, Get, Group,
-    History, Live, NewSees, News, Next, Out, Page, PageFails, Put, Roll, Sees, Settle, Stands,
-    Turn,
+    Bytes, Clean, CleanFails, Count, Counted, Cuts, Evict, Flush, FlushFails, Forget, Frame, Get,
+    Group, History, Live, NewSees, News, Next, Out, Page, PageFails, Put, Roll, Sees, Settle,
+    Stands, Turn,
 };
 use self::steps::{Beside, Step, goes};
 use super::boxes::{Supply, recovered, supplied};
@@ -26,6 +26,7 @@ use std::alloc::Global;
 use std::sync::Wait;
 use std::thread::Threads;
 use test_marks::{begin, begin_without, end};
+use test_vectors::{SECOND, THIRD_NEWER, THIRD_OLDER};
 
 /// A run: what its first box does, its steps, and those of the store that is opened again over what
 /// it left.
@@ -174,26 +175,13 @@ fn numbers(recovered: &Recovered) -> (u64, u64, u64) {
     (recovered.first, recovered.last, recovered.tail)
 }
 
-// A life of a store that was opened again, with a reader of its own: how it went.
-fn ends<R: Wait>(
-    rt: &R,
-    alloc: Global,
-    store: Store,
-    feeds: Vec<Feed>,
-    desk: Desk,
-    steps: &[Step],
-) -> Option<Try>
-    requires sound { IsSound store holding }
-    requires feeds { map ring_of_feed feeds.items ≡ (kept_by store holding).rings }
-{
-    let (mut store, mut feeds) = (store, feeds);
-    let Ok(reader) = store.reader() else {
-        let _ = store.shut(rt);
-        return None;
-    };
-    let mut beside = Beside { reader, desk };
-    let went = walk(rt, alloc, &mut store, &mut feeds, &mut beside, steps);
-    let _ = store.shut(rt);
+// How a life went.
+fn went_in(left: Option<Left>) -> Option<Try> {
+    let Left {
+        went,
+        boxes: _boxes,
+        desk: _desk,
+    } = left?;
     went
 }
 
@@ -221,7 +209,7 @@ fn reopens<R: Wait>(
         Ok((store, feeds)) => {
             both(
                 first_of(refused),
-                ends(rt, alloc, store, feeds, desk, steps),
+                went_in(lives(rt, alloc, store, feeds, desk, steps)),
             )
         }
         Err(fault) => {
@@ -235,7 +223,7 @@ fn reopens<R: Wait>(
                 Ok((store, feeds)) => {
                     both(
                         Some(Try::Refused),
-                        ends(rt, alloc, store, feeds, desk, steps),
+                        went_in(lives(rt, alloc, store, feeds, desk, steps)),
                     )
                 }
                 Err(_) => None,
@@ -288,22 +276,12 @@ impl Row for Run {
 
 /// Five puts, each flushed; the last one cuts page 1 in two.
 const FIVE: &[Step] = &[
-    Put(b"a", b"1"),
-    Turn(1),
-    Flush(Some(1)),
-    Put(b"b", b"2"),
-    Turn(1),
-    Flush(Some(2)),
+    Frame(b"a", b"1", 1),
+    Frame(b"b", b"2", 2),
     Sees(b"b", b"2"),
-    Put(b"c", b"3"),
-    Turn(1),
-    Flush(Some(3)),
-    Put(b"d", b"4"),
-    Turn(1),
-    Flush(Some(4)),
-    Put(b"e", b"5"),
-    Turn(1),
-    Flush(Some(5)),
+    Frame(b"c", b"3", 3),
+    Frame(b"d", b"4", 4),
+    Frame(b"e", b"5", 5),
     Page(1, b": a=1 b=2"),
     Page(2, b"c: c=3 d=4 e=5"),
     PageFails(3, StoreFault::NoPage),
@@ -317,29 +295,13 @@ const FIVE: &[Step] = &[
     News(b"e", b"5"),
 ];
 
-/// The segment of the five puts: the second dump of `docs/FORMAT.md`.
-const SECOND: &str =
-    "42574c4f475347320100000000000000040000000000010046524d320100000000000000210000000200000002010000\
-    000000000101000000010000000000000000000000010001016101003146524d32020000000000000019000000010000\
-    000101000000010000000000000001000000010001016201003246524d32030000000000000019000000010000000101\
-    000000020000000000000000000000010001016301003346524d32040000000000000019000000010000000101000000\
-    030000000000000000000000010001016401003446524d32050000000000000041000000020000000101000000040000\
-    000000000000000000010001016501003503010000000500000000000000000000000163020000000300016301003301\
-    640100340165010035";
-
 /// Three segments, of which the first is given up: its page is written again.
 const CLEANED: &[Step] = &[
-    Put(b"k", b"1"),
-    Turn(1),
-    Flush(Some(1)),
+    Frame(b"k", b"1", 1),
     Roll,
-    Put(b"j", b"2"),
-    Turn(1),
-    Flush(Some(2)),
+    Frame(b"j", b"2", 2),
     Roll,
-    Put(b"k", b"3"),
-    Turn(1),
-    Flush(Some(3)),
+    Frame(b"k", b"3", 3),
     Out(&[0, 1, 2, 3]),
     Clean(1, 0, 1, 1),
     Page(1, b": j=2 k=3"),
@@ -350,33 +312,17 @@ const CLEANED: &[Step] = &[
     Stands(2, 1),
     Out(&[1, 2, 3]),
     Sees(b"k", b"3"),
-    Bytes(2, OLDER),
-    Bytes(3, NEWER),
+    Bytes(2, THIRD_OLDER),
+    Bytes(3, THIRD_NEWER),
 ];
-
-/// The two segments behind it: the third dump of `docs/FORMAT.md`.
-const OLDER: &str =
-    "42574c4f475347320200000000000000040000000000010046524d320200000000000000190000000100000001010000\
-    00010000000000000001000000010001016a010032";
-
-const NEWER: &str =
-    "42574c4f475347320300000000000000040000000000010046524d320300000000000000190000000100000001010000\
-    00020000000000000000000000010001016b01003346524d320400000000000000120000000100000002010000000002\
-    00016a010032016b010033";
 
 /// And cleaned once more, and a third time.
 const CLEANED_TWICE: &[Step] = &[
-    Put(b"k", b"1"),
-    Turn(1),
-    Flush(Some(1)),
+    Frame(b"k", b"1", 1),
     Roll,
-    Put(b"j", b"2"),
-    Turn(1),
-    Flush(Some(2)),
+    Frame(b"j", b"2", 2),
     Roll,
-    Put(b"k", b"3"),
-    Turn(1),
-    Flush(Some(3)),
+    Frame(b"k", b"3", 3),
     Clean(1, 0, 1, 1),
     Clean(2, 1, 0, 0),
     Out(&[2, 3]),
@@ -428,13 +374,9 @@ const EVICTED: &[Step] = &[
 
 /// What waits is flushed by the cleaning itself; two records wait in the ring for a settling.
 const CLEANS_WHAT_WAITS: &[Step] = &[
-    Put(b"k", b"1"),
-    Turn(1),
-    Flush(Some(1)),
+    Frame(b"k", b"1", 1),
     Roll,
-    Put(b"j", b"2"),
-    Turn(1),
-    Flush(Some(2)),
+    Frame(b"j", b"2", 2),
     Put(b"i", b"3"),
     Turn(1),
     Clean(1, 0, 1, 1),

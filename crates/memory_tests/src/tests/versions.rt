@@ -4,18 +4,23 @@ ghost use Rattle.std.specs.Prelude.{◌≡◌, ◌≤◌, [], IfOk, IfSome};
 ghost use mathlib.Core.List.{IsPrefix};
 ghost use Rattle.bw_versions.specs.Batches.{entries_of};
 
-use super::{Row, Try, all_went, put, shows, then, tried, wrong_row};
+use super::{Ask, Row, Try, all_went, asked_again, put, then, tried, wrong_row};
 use bw_codec::Key;
 use bw_page::Leaves;
-use bw_versions::{Batch, Board, Entry, Publisher, ReadFault, Reader, Unpublished, Versions};
+use bw_versions::{
+    Batch, Board, Entry, PackedEntry, Publisher, ReadFault, Reader, Unpublished, Versions,
+};
 use std::alloc::{AllocError, Global};
 use std::sync::Wait;
 use std::thread::Threads;
 use test_marks::{begin, begin_without, end};
+use test_vectors::shows;
 
 /// One call that may be refused.
 #[derive(Drop)]
 enum Call {
+    /// A group's first record, as a history keeps it.
+    Pack,
     NewBoard,
     /// Five entries on a board, which cut its page.
     OnBoard,
@@ -41,7 +46,7 @@ fn start(alloc: Global) -> Result<Leaves, AllocError>
 }
 
 /// One writer's puts of these letters, without values.
-fn entries(alloc: Global, letters: &[u8]) -> Option<Vec<Entry>> {
+pub(super) fn entries(alloc: Global, letters: &[u8]) -> Option<Vec<Entry>> {
     let mut entries = Vec::new(alloc);
     for letter in letters {
         let item = put(&[*letter], b"")?;
@@ -61,6 +66,21 @@ fn has_page(board: &Board, text: &[u8], count: u32) -> bool {
     match board.leaves().page(1) {
         Some(leaf) => shows(leaf, text) && board.leaves().count() == count,
         None => false,
+    }
+}
+
+fn packs(alloc: Global) -> Option<Try> {
+    let told = Entry {
+        writer: 3,
+        more: true,
+        item: put(b"k", b"v")?,
+    };
+    begin(alloc);
+    let made = PackedEntry::of(alloc, 3, true, &told.item);
+    let refused = end(alloc);
+    match made {
+        Ok(packed) => tried(true, refused, packed.entry() == told),
+        Err(_) => tried(false, refused, true),
     }
 }
 
@@ -178,15 +198,19 @@ fn is_published<R: Wait>(rt: &R, alloc: Global, publisher: &mut Publisher) -> Op
     }
 }
 
-/// A reader of a publisher, which sees nothing yet.
-fn makes_reader(alloc: Global, publisher: &mut Publisher) -> Option<Try> {
-    begin(alloc);
-    let made = publisher.reader();
-    let refused = end(alloc);
+/// How it went that a reader was made, which sees nothing yet.
+fn is_new(made: Result<Reader, ReadFault>, refused: bool) -> Option<Try> {
     match made {
         Ok(mut reader) => tried(true, refused, sees(&mut reader, b"c") == Some(false)),
         Err(fault) => tried(false, refused, fault == ReadFault::NoMemory),
     }
+}
+
+/// One try of a reader of a publisher.
+fn makes_reader(alloc: Global, publisher: &mut Publisher) -> Option<Try> {
+    begin(alloc);
+    let made = publisher.reader();
+    is_new(made, end(alloc))
 }
 
 /// A place is not used up by a reader that was refused: there is one alone.
@@ -239,7 +263,7 @@ fn opens<R: AllocGlobal + Wait>(rt: &R, versions: bool) -> Option<Try> {
 /// Versions of one empty page, and a history of which they publish a beginning.
 struct Stand {
     versions: Versions,
-    history: Vec<Entry>,
+    history: Vec<PackedEntry>,
 }
 
 /// One try of the whole history: where it is refused, the reader sees nothing yet.
@@ -320,11 +344,7 @@ fn is_up_to<R: Wait>(rt: &R, alloc: Global, stand: &mut Stand) -> Option<Try>
 fn makes_one(alloc: Global, stand: &mut Stand) -> Option<Try> {
     begin(alloc);
     let made = stand.versions.reader();
-    let refused = end(alloc);
-    match made {
-        Ok(mut reader) => tried(true, refused, sees(&mut reader, b"c") == Some(false)),
-        Err(fault) => tried(false, refused, fault == ReadFault::NoMemory),
-    }
+    is_new(made, end(alloc))
 }
 
 fn is_one_made(alloc: Global, stand: &mut Stand) -> Option<Try> {
@@ -335,11 +355,21 @@ fn is_one_made(alloc: Global, stand: &mut Stand) -> Option<Try> {
     Some(first)
 }
 
+// The same puts as a history keeps them.
+fn packed(alloc: Global, letters: &[u8]) -> Option<Vec<PackedEntry>> {
+    let mut history = Vec::new(alloc);
+    for entry in entries(alloc, letters)?.as_slice() {
+        let kept = PackedEntry::of(alloc, entry.writer, entry.more, &entry.item).ok()?;
+        history.push(kept).ok()?;
+    }
+    Some(history)
+}
+
 fn stand_of<R: AllocGlobal + Wait>(rt: &R) -> Option<Stand>
     ensures { IfSome result (λ stand. stand.versions.entered ≡ []) }
 {
     let alloc = rt.alloc();
-    let history = entries(alloc, b"abc")?;
+    let history = packed(alloc, b"abc")?;
     let start = start(alloc).ok()?;
     Some(Stand {
         versions: Versions::open(rt, alloc, 1, start).ok()?,
@@ -362,12 +392,15 @@ fn with_versions<R: AllocGlobal + Wait>(rt: &R, call: &Call) -> Option<Try> {
     if end(rt.alloc()) { None } else { went }
 }
 
-/// A call that makes something.
-fn makes<R: AllocGlobal + Wait>(rt: &R, call: &Call) -> Option<Try> {
-    match call {
-        Call::NewBoard => makes_board(rt.alloc()),
-        Call::OpenPublisher => opens(rt, false),
-        _ => opens(rt, true),
+impl Ask for Call {
+    // A call that makes something.
+    fn asks<R: AllocGlobal + Wait>(&self, rt: &R) -> Option<Try> {
+        match self {
+            Call::Pack => packs(rt.alloc()),
+            Call::NewBoard => makes_board(rt.alloc()),
+            Call::OpenPublisher => opens(rt, false),
+            _ => opens(rt, true),
+        }
     }
 }
 
@@ -377,13 +410,7 @@ impl Row for Call {
             Call::OnBoard => is_on_board(rt.alloc()),
             Call::Publish | Call::CatchUp | Call::ReaderOfPublisher => with_publisher(rt, self),
             Call::PublishUpTo | Call::Page | Call::ReaderOfVersions => with_versions(rt, self),
-            _ => {
-                let first = makes(rt, self)?;
-                if first == Try::Refused {
-                    return then(first, makes(rt, self));
-                }
-                Some(first)
-            }
+            _ => asked_again(rt, self),
         }
     }
 
@@ -394,6 +421,7 @@ impl Row for Call {
 }
 
 const CALLS: &[Call] = &[
+    Call::Pack,
     Call::NewBoard,
     Call::OnBoard,
     Call::OpenPublisher,

@@ -1,35 +1,12 @@
 //! A page that leaves memory and comes back.
 
-ghost use Rattle.std.specs.Prelude.{◌≡◌, ◌∷◌, [], IfOk};
+ghost use Rattle.std.specs.Prelude.{◌≡◌, [], IfOk};
 
 use super::{all_went, is_shown, leads, put};
-use bw_codec::{Key, Leaf, Low, Pair, Pairs, Value};
+use bw_codec::Key;
 use bw_page::{Applied, Leaves};
 use std::alloc::{AllocError, Global};
-
-/// A leaf of one pair. A key or a value of another length is refused as well.
-pub(super) fn leaf_of(
-    alloc: Global,
-    page: u32,
-    low: &[u8],
-    key: &[u8],
-    value: &[u8],
-) -> Result<Leaf, AllocError>
-    ensures { IfOk result (λ l.
-        l ≡ record { page = page; low = low.now; pairs = (key.now, value.now) ∷ [] }) }
-{
-    let (Ok(key), Ok(value)) = (Key::new(key), Value::new(value)) else {
-        return Err(AllocError);
-    };
-    let from = Vec::from_slice(alloc, low)?;
-    let mut pairs = Vec::new(alloc);
-    pairs.push(Pair::of(alloc, &key, &value)?)?;
-    Ok(Leaf {
-        page,
-        low: Low::of(from),
-        pairs: Pairs::of(pairs),
-    })
-}
+use test_vectors::leaf_of;
 
 /// Page 1 with `a`, and page 2 from `c` on with `d`.
 pub(super) fn two_pages(alloc: Global) -> Result<Leaves, AllocError>

@@ -3,11 +3,11 @@
 ghost use Rattle.std.specs.Prelude.{IsTrue};
 ghost use Rattle.bw_codec.specs.Bytes.{ascends};
 
-use super::evicted::leaf_of;
 use super::{Row, del, is_shown, put, records, went, wrong_row};
 use bw_codec::{Key, Leaf, Record};
 use bw_page::{Cut, change, change_all, count_after, cut_in_two, empty_page, keep_below, value_in};
 use std::alloc::Global;
+use test_vectors::leaf_of;
 
 /// One call on a leaf, with what it has to answer.
 #[derive(Drop)]

@@ -1,10 +1,10 @@
 //! One page, read forwards over blocks.
 
-use super::evicted::leaf_of;
 use super::{Row, del, is_shown, put, records, went, wrong_row};
 use bw_codec::{Block, Ops, Place};
 use bw_page::{empty_page, read_blocks};
 use std::alloc::Global;
+use test_vectors::leaf_of;
 
 const BACK: Place = Place { frame: 1, index: 0 };
 

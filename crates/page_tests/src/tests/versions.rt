@@ -15,7 +15,7 @@ mod walking;
 use super::{is_shown, put};
 use bw_codec::{Key, Record, Value};
 use bw_page::Leaves;
-use bw_versions::{Entry, Reader, Versions};
+use bw_versions::{Entry, PackedEntry, Reader, Versions};
 use std::alloc::{AllocError, Global};
 use std::sync::Wait;
 use std::thread::Threads;
@@ -46,7 +46,7 @@ fn entries(alloc: Global, pairs: &[(&str, &str)]) -> Option<Vec<Entry>> {
 /// Versions of one empty page, and a history of which they publish a beginning.
 struct Stand {
     versions: Versions,
-    history: Vec<Entry>,
+    history: Vec<PackedEntry>,
 }
 
 /// Nothing is published, and so many readers may be made.
@@ -68,16 +68,12 @@ fn enter(stand: &mut Stand, writer: u16, record: Option<Record>) -> bool
     ensures begins { IsPrefix (entries_of stand.new.versions.entered) stand.new.history.items }
     ensures same { stand.new.versions ≡ stand.old.versions }
 {
-    match record {
-        Some(item) => stand
-            .history
-            .push(Entry {
-                writer,
-                more: false,
-                item,
-            })
-            .is_ok(),
-        None => false,
+    let Some(item) = record else {
+        return false;
+    };
+    match PackedEntry::of(*stand.history.allocator(), writer, false, &item) {
+        Ok(entry) => stand.history.push(entry).is_ok(),
+        Err(_) => false,
     }
 }
 

@@ -5,30 +5,9 @@ ghost use Rattle.bw_store.specs.Views.{kept_by, IsSound};
 ghost use Rattle.bw_store.specs.Following.{Follows};
 
 use bw_codec::{Key, Leaf, Record};
-use bw_store::{Entry, Store, StoreFault};
+use bw_store::{PackedEntry, Store, StoreFault};
 use std::alloc::Global;
-
-fn digit(n: u8) -> u8 {
-    match n {
-        0..=9 => n + b'0',
-        10..=15 => n + (b'a' - 10),
-        _ => 0,
-    }
-}
-
-// Whether these are the bytes that the hex digits spell.
-fn spells(bytes: &[u8], hex: &[u8]) -> bool {
-    if hex.len() / 2 != bytes.len() {
-        return false;
-    }
-    for (at, byte) in bytes.iter().enumerate() {
-        let (high, low) = (hex.get(2 * at), hex.get(2 * at + 1));
-        if high.copied() != Some(digit(*byte / 16)) || low.copied() != Some(digit(*byte % 16)) {
-            return false;
-        }
-    }
-    true
-}
+use test_vectors::{behind, behind_leaf, is_at_end, spells};
 
 /// Whether these are the bytes of a live segment.
 pub(super) fn are_bytes(alloc: Global, store: &mut Store, segment: u64, hex: &str) -> bool
@@ -40,21 +19,9 @@ pub(super) fn are_bytes(alloc: Global, store: &mut Store, segment: u64, hex: &st
     store.dump(segment, &mut bytes) == Ok(true) && spells(&bytes, hex.as_bytes())
 }
 
-// What is left of a text behind a part of it; none where it does not begin so.
-fn behind<'a>(text: Option<&'a [u8]>, part: &[u8]) -> Option<&'a [u8]> {
-    text?.strip_prefix(part)
-}
-
-fn is_at_end(text: Option<&[u8]>) -> bool {
-    match text {
-        Some(rest) => rest.is_empty(),
-        None => false,
-    }
-}
-
-fn behind_entry<'a>(text: Option<&'a [u8]>, entry: &Entry) -> Option<&'a [u8]> {
-    let mut rest = behind(text, &[b'0' + (entry.writer % 10) as u8]);
-    match &entry.item {
+fn behind_entry<'a>(text: Option<&'a [u8]>, entry: &PackedEntry) -> Option<&'a [u8]> {
+    let mut rest = behind(text, &[b'0' + (entry.writer() % 10) as u8]);
+    match &entry.entry().item {
         Record::Put(key, value) => {
             rest = behind(behind(rest, b" put "), key.as_slice());
             rest = behind(behind(rest, b" "), value.as_slice());
@@ -65,7 +32,7 @@ fn behind_entry<'a>(text: Option<&'a [u8]>, entry: &Entry) -> Option<&'a [u8]> {
 }
 
 /// Whether the history is so: each entry as its writer, `put` or `del`, key and value.
-pub(super) fn is_history(entries: &[Entry], text: &str) -> bool {
+pub(super) fn is_history(entries: &[PackedEntry], text: &str) -> bool {
     let mut rest = Some(text.as_bytes());
     for entry in entries {
         rest = behind_entry(rest, entry);
@@ -74,16 +41,8 @@ pub(super) fn is_history(entries: &[Entry], text: &str) -> bool {
 }
 
 fn is_leaf(leaf: &Leaf, text: &str) -> bool {
-    let mut rest = behind(
-        Some(text.as_bytes()),
-        &[b'0' + (leaf.page % 10) as u8, b' '],
-    );
-    rest = behind(behind(rest, leaf.low.as_slice()), b":");
-    for pair in leaf.pairs.as_slice() {
-        rest = behind(behind(rest, b" "), pair.key());
-        rest = behind(behind(rest, b"="), pair.value());
-    }
-    is_at_end(rest)
+    let number = [b'0' + (leaf.page % 10) as u8, b' '];
+    is_at_end(behind_leaf(behind(Some(text.as_bytes()), &number), leaf))
 }
 
 /// Whether a page is so: its number, low key and pairs; with no text, whether there is none.

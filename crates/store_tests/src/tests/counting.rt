@@ -24,6 +24,20 @@ const NONE: Counters = Counters {
     cleanings: 0,
 };
 
+/// Three segments of a record each, of which the first was cleaned.
+const CLEANED: Counters = Counters {
+    records: 3,
+    frames: 4,
+    bytes: 253,
+    cleaner_frames: 1,
+    cleaner_bytes: 38,
+    splits: 0,
+    evictions: 1,
+    reads: 1,
+    publications: 3,
+    cleanings: 1,
+};
+
 /// A header has 24 bytes, a frame 20 around its blocks, an empty Base 8 and each of its pairs 5
 /// here, and a Delta of one put 25. The cleaner writes a Base of two pairs.
 const THREE_SEGMENTS: &[Step] = &[
@@ -67,33 +81,14 @@ const THREE_SEGMENTS: &[Step] = &[
     Pays(false),
     Page(1, "1 : j=2 k=3"),
     Clean(1, 0, 1, 1),
-    Counts(Counters {
-        records: 3,
-        frames: 4,
-        bytes: 253,
-        cleaner_frames: 1,
-        cleaner_bytes: 38,
-        splits: 0,
-        evictions: 1,
-        reads: 1,
-        publications: 3,
-        cleanings: 1,
-    }),
+    Counts(CLEANED),
     Needed(0, Some(0)),
     Needed(1, Some(18)),
     Clean(2, 1, 0, 0),
     Uncleaned(StoreFault::NothingOld),
     Counts(Counters {
-        records: 3,
-        frames: 4,
-        bytes: 253,
-        cleaner_frames: 1,
-        cleaner_bytes: 38,
-        splits: 0,
-        evictions: 1,
-        reads: 1,
-        publications: 3,
         cleanings: 2,
+        ..CLEANED
     }),
 ];
 

@@ -44,7 +44,7 @@ const AGAIN: &[Step] = &[
 ];
 
 /// Three segments of a frame each.
-const THREE: &[Step] = &[
+pub(super) const THREE: &[Step] = &[
     Frame(b"k", b"1", 1),
     Roll,
     Frame(b"j", b"2", 2),

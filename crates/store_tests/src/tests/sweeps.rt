@@ -6,8 +6,9 @@ ghost use Rattle.bw_ring.specs.Ends.{ring_of_feed};
 ghost use Rattle.bw_store.specs.Views.{kept_beside, IsSoundBeside};
 
 use super::boxes::{LEAST, Row, Supply, dying, supplied};
+use super::cutting::THREE;
 use super::opening::{Held, config_of, opened, shut};
-use super::steps::Step::{Clean, Evict, Frame, Get, Page, Put, Roll, Turn};
+use super::steps::Step::{Clean, Evict, Frame, Get, Page, Put, Turn};
 use super::steps::{Step, goes};
 use super::telling::{all_went, holds};
 use super::walking::{lives_on, wrong_step};
@@ -23,28 +24,13 @@ const FIVE: &[Step] = &[
     Frame(b"e", b"5", 5),
 ];
 
-/// Three segments of a frame each.
-const THREE: &[Step] = &[
-    Frame(b"k", b"1", 1),
-    Roll,
-    Frame(b"j", b"2", 2),
-    Roll,
-    Frame(b"k", b"3", 3),
-];
-
-/// Two of them are given up.
+/// Two of three segments are given up.
 const CLEANED: &[Step] = &[Clean(1, 0, 1, 1), Clean(2, 1, 0, 0), Page(1, "1 : j=2 k=3")];
 
 /// An append: the lease of its box, how many calls of that box come before it, its length, and how
 /// many frames are whole where it failed, with less than all its bytes kept or with all of them.
 #[derive(Drop)]
-struct Append {
-    lease: u32,
-    calls: u64,
-    length: u64,
-    torn: usize,
-    whole: usize,
-}
+struct Append(u32, u64, u64, usize, usize);
 
 /// A script in two parts, its appends, and for each frame what a store shows that goes on behind it.
 #[derive(Drop)]
@@ -60,48 +46,12 @@ const COURSES: &[Course] = &[
         steps: FIVE,
         then: &[],
         appends: &[
-            Append {
-                lease: 0,
-                calls: 0,
-                length: 24,
-                torn: 0,
-                whole: 0,
-            },
-            Append {
-                lease: 0,
-                calls: 1,
-                length: 53,
-                torn: 0,
-                whole: 1,
-            },
-            Append {
-                lease: 0,
-                calls: 2,
-                length: 45,
-                torn: 1,
-                whole: 2,
-            },
-            Append {
-                lease: 0,
-                calls: 3,
-                length: 45,
-                torn: 2,
-                whole: 3,
-            },
-            Append {
-                lease: 0,
-                calls: 4,
-                length: 45,
-                torn: 3,
-                whole: 4,
-            },
-            Append {
-                lease: 0,
-                calls: 5,
-                length: 85,
-                torn: 4,
-                whole: 5,
-            },
+            Append(0, 0, 24, 0, 0),
+            Append(0, 1, 53, 0, 1),
+            Append(0, 2, 45, 1, 2),
+            Append(0, 3, 45, 2, 3),
+            Append(0, 4, 45, 3, 4),
+            Append(0, 5, 85, 4, 5),
         ],
         shown: &[
             &[Page(1, "1 : a=1"), Frame(b"z", b"9", 2)],
@@ -123,56 +73,14 @@ const COURSES: &[Course] = &[
         steps: THREE,
         then: CLEANED,
         appends: &[
-            Append {
-                lease: 0,
-                calls: 0,
-                length: 24,
-                torn: 0,
-                whole: 0,
-            },
-            Append {
-                lease: 0,
-                calls: 1,
-                length: 53,
-                torn: 0,
-                whole: 1,
-            },
-            Append {
-                lease: 1,
-                calls: 0,
-                length: 24,
-                torn: 1,
-                whole: 1,
-            },
-            Append {
-                lease: 1,
-                calls: 1,
-                length: 45,
-                torn: 1,
-                whole: 2,
-            },
-            Append {
-                lease: 2,
-                calls: 0,
-                length: 24,
-                torn: 2,
-                whole: 2,
-            },
-            Append {
-                lease: 2,
-                calls: 1,
-                length: 45,
-                torn: 2,
-                whole: 3,
-            },
+            Append(0, 0, 24, 0, 0),
+            Append(0, 1, 53, 0, 1),
+            Append(1, 0, 24, 1, 1),
+            Append(1, 1, 45, 1, 2),
+            Append(2, 0, 24, 2, 2),
+            Append(2, 1, 45, 2, 3),
             // The cleaner has read the box once by then.
-            Append {
-                lease: 2,
-                calls: 3,
-                length: 38,
-                torn: 3,
-                whole: 4,
-            },
+            Append(2, 3, 38, 3, 4),
         ],
         shown: &[
             &[Page(1, "1 : k=1"), Frame(b"z", b"9", 2)],
@@ -218,10 +126,11 @@ fn finds_nothing<R: AllocGlobal>(rt: &R, supply: Supply) -> bool {
 // Whether a store whose append failed, with so many bytes kept, is found again with the frames that
 // are whole, and goes on.
 fn is_found<R: AllocGlobal + Wait>(rt: &R, course: &Course, append: &Append, keep: u64) -> bool {
+    let Append(lease, calls, length, torn, whole) = append;
     let row = Row {
-        boxes: append.lease,
-        fuse: Some((append.calls, keep)),
-        behind: 5u32.saturating_sub(append.lease),
+        boxes: *lease,
+        fuse: Some((*calls, keep)),
+        behind: 5u32.saturating_sub(*lease),
         more: 0,
         capacity: LEAST,
     };
@@ -231,11 +140,7 @@ fn is_found<R: AllocGlobal + Wait>(rt: &R, course: &Course, append: &Append, kee
     if !stops(rt, &mut supply, course) {
         return false;
     }
-    let frames = if keep == append.length {
-        append.whole
-    } else {
-        append.torn
-    };
+    let frames = if keep == *length { *whole } else { *torn };
     if frames == 0 {
         return finds_nothing(rt, supply);
     }
@@ -247,7 +152,8 @@ fn is_found<R: AllocGlobal + Wait>(rt: &R, course: &Course, append: &Append, kee
 
 // Whether a box that failed for good in this append fails in recovery too, and all boxes come back.
 fn is_dead<R: AllocGlobal + Wait>(rt: &R, course: &Course, append: &Append, keep: u64) -> bool {
-    let Some(mut supply) = dying(rt.alloc(), append.lease, (append.calls, keep)) else {
+    let Append(lease, calls, _, torn, _) = append;
+    let Some(mut supply) = dying(rt.alloc(), *lease, (*calls, keep)) else {
         return false;
     };
     if !stops(rt, &mut supply, course) {
@@ -255,16 +161,14 @@ fn is_dead<R: AllocGlobal + Wait>(rt: &R, course: &Course, append: &Append, keep
     }
     let Supply { boxes, more: _ } = supply;
     // Where the box kept nothing it is a spare, and is not read.
-    let is_spare = append.calls == 0 && keep == 0;
+    let is_spare = *calls == 0 && keep == 0;
     match recover(rt.alloc(), boxes) {
-        Ok(_recovered) => is_spare && append.torn > 0,
+        Ok(_recovered) => is_spare && *torn > 0,
         Err(fault) => {
-            let told = if is_spare && append.torn == 0 {
+            let told = if is_spare && *torn == 0 {
                 RecoverCause::Empty
             } else {
-                RecoverCause::Device {
-                    lease: append.lease,
-                }
+                RecoverCause::Device { lease: *lease }
             };
             (fault.cause == told) & (fault.boxes.len() == 6)
         }
@@ -274,7 +178,7 @@ fn is_dead<R: AllocGlobal + Wait>(rt: &R, course: &Course, append: &Append, keep
 // The first of a course's appends that went otherwise with some number of bytes kept.
 fn wrong_append<R: AllocGlobal + Wait>(rt: &R, course: &Course) -> Option<usize> {
     for (i, append) in course.appends.iter().enumerate() {
-        for keep in 0..=append.length {
+        for keep in 0..=append.2 {
             if !is_found(rt, course, append, keep) || !is_dead(rt, course, append, keep) {
                 return Some(i);
             }

@@ -10,7 +10,7 @@ use super::opening::{Held, config_of, opened, shut};
 use super::putting::numbered;
 use super::telling::holds;
 use bw_ring::Feed;
-use bw_store::{Entry, Store};
+use bw_store::{PackedEntry, Store};
 use std::snapshot::Snapshot;
 use std::sync::Wait;
 use std::thread;
@@ -157,9 +157,10 @@ fn letter_of(writer: u16) -> u8 {
 }
 
 // Whether each writer's entries are its script.
-fn are_scripts(entries: &[Entry]) -> bool {
+fn are_scripts(entries: &[PackedEntry]) -> bool {
     let mut next: [u32; 4] = [0; 4];
-    for entry in entries {
+    for packed in entries {
+        let entry = packed.entry();
         let Some(number) = next.get_mut(usize::from(entry.writer)) else {
             return false;
         };

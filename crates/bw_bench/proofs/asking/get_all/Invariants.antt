@@ -1,10 +1,5 @@
-use Rattle.std.specs.Prelude.{◌≡◌}
-use Rattle.bw_store.specs.Views.{kept_by, IsSound}
+use Rattle.bw_bench.specs.Lent.{Keeps}
 use Rattle.bw_bench.proofs.asking.get_all.Given as goal
 
 abbrev pub invariant-gets : goal.invariant-gets
-invariant-gets g l = record {
-  sound : IsSound l.store (λ z. (goal.Segment-dyn g z).holding z.1);
-  rings : (kept_by l.store (λ z. (goal.Segment-dyn g z).holding z.1)).rings
-      ≡ (kept_by l.initial.store (λ z. (goal.Segment-dyn g z).holding z.1)).rings;
-}
+invariant-gets g l = Keeps l.initial.store l.store (λ z. (goal.Segment-dyn g z).holding z.1)

@@ -4,11 +4,12 @@ ghost use Rattle.std.specs.Prelude.{◌≡◌, ◌<◌, length, map};
 ghost use Rattle.bw_ring.specs.Ends.{ring_of_feed};
 ghost use Rattle.bw_store.specs.Views.{kept_by, IsSound};
 
-use super::super::{Try, put, shows};
+use super::super::{Try, put};
+use super::both;
 use super::picture::{
     Picture, is_cleaned, is_flushed, is_out, is_seen, is_taken, is_unchanged, shown,
 };
-use super::telling::{is_history, spells};
+use super::telling::is_history;
 use bw_codec::Key;
 use bw_device::Desk;
 use bw_ring::{Feed, Group as Records};
@@ -16,12 +17,15 @@ use bw_store::{Cleaned, Reader, Store, StoreFault};
 use std::alloc::Global;
 use std::sync::Wait;
 use test_marks::{begin, begin_without, end};
+use test_vectors::{shows, spells};
 
 /// A key and its value.
 pub(super) type Pair = (&'static [u8], &'static [u8]);
 
 #[derive(Drop)]
 pub(super) enum Step {
+    /// A put, taken and flushed: its key, its value, and the frame.
+    Frame(&'static [u8], &'static [u8], u64),
     Put(&'static [u8], &'static [u8]),
     /// Puts of these keys and values, as one.
     Group(&'static [Pair]),
@@ -70,9 +74,9 @@ pub(super) enum Step {
 }
 
 use Step::{
-    Bytes, Clean, CleanFails, Count, Counted, Cuts, Evict, Flush, FlushFails, Forget, Get, Group,
-    History, Live, NewSees, News, Next, Out, Page, PageFails, Put, Roll, Sees, Settle, Stands,
-    Turn,
+    Bytes, Clean, CleanFails, Count, Counted, Cuts, Evict, Flush, FlushFails, Forget, Frame, Get,
+    Group, History, Live, NewSees, News, Next, Out, Page, PageFails, Put, Roll, Sees, Settle,
+    Stands, Turn,
 };
 
 /// What stands beside a store: the first reader, and the desk of its leases.
@@ -362,8 +366,8 @@ fn ends<R: Wait>(
     }
 }
 
-/// How the step went; none where that is otherwise than told.
-pub(super) fn goes<R: Wait>(
+// How one call went; none where that is otherwise than told.
+fn one_goes<R: Wait>(
     rt: &R,
     alloc: Global,
     store: &mut Store,
@@ -406,4 +410,27 @@ pub(super) fn goes<R: Wait>(
         }
         _ => None,
     }
+}
+
+/// How the step went; none where that is otherwise than told.
+pub(super) fn goes<R: Wait>(
+    rt: &R,
+    alloc: Global,
+    store: &mut Store,
+    feeds: &mut Vec<Feed>,
+    beside: &mut Beside,
+    step: &Step,
+) -> Option<Try>
+    requires sound { IsSound store.old holding }
+    requires feeds { map ring_of_feed feeds.old.items ≡ (kept_by store.old holding).rings }
+    ensures sound { IsSound store.new holding }
+    ensures feeds { map ring_of_feed feeds.new.items ≡ (kept_by store.new holding).rings }
+{
+    let Frame(key, value, frame) = step else {
+        return one_goes(rt, alloc, store, feeds, beside, step);
+    };
+    let put = one_goes(rt, alloc, store, feeds, beside, &Put(*key, *value));
+    let taken = one_goes(rt, alloc, store, feeds, beside, &Turn(1));
+    let flushed = one_goes(rt, alloc, store, feeds, beside, &Flush(Some(*frame)));
+    both(both(put, taken), flushed)
 }

@@ -1,14 +1,13 @@
 //! Of `bw_ring`, `bw_device`, `bw_log`, `bw_versions` and `bw_drive`.
 
-ghost use Rattle.std.specs.Prelude.{◌≡◌, IfOk, IfSome};
+ghost use Rattle.std.specs.Prelude.{◌≡◌, IfOk};
 ghost use Rattle.bw_ring.specs.Ends.{IsFeedOf, ring_of_feed};
-ghost use Rattle.bw_care.specs.Found.{IsRecovered};
 ghost use Rattle.bw_care.specs.Views.{IsSound};
 
-use super::super::boxes::{Supply, supplied};
+use super::super::boxes::{Supply, found_in, supplied};
 use super::super::put;
 use super::asked;
-use bw_care::{Recovered, recover};
+use bw_care::Recovered;
 use bw_codec::{Key, Place, Record};
 use bw_device::{
     DeadSegment, Desk, FuseSegment, MemSegment, Segment, append_to, are_spares, capacity_of,
@@ -18,9 +17,10 @@ use bw_drive::{Gate, MeetGate, OpenGate};
 use bw_log::Log;
 use bw_page::Leaves;
 use bw_ring::{Feed, FullGroup, Group, Items, Lane, LanesError, lanes};
-use bw_versions::{Board, Entry};
+use bw_versions::{Board, Entry, PackedEntry};
 use std::alloc::Global;
 use test_marks::begin_without;
+use test_vectors::{THIRD_LOST, THIRD_OLDER};
 
 /// The two ends of one ring.
 fn one_ring(alloc: Global) -> Result<(Feed, Lane), LanesError>
@@ -181,22 +181,7 @@ pub(super) fn boxes(alloc: Global) -> Option<bool> {
 }
 
 /// The empty page 1 and k=1; and behind it j=2.
-const SEGMENTS: &[&str] = &[
-    "42574c4f475347320100000000000000040000000000010046524d3201000000000000002100000002000000\
-    02010000000000000101000000010000000000000000000000010001016b010031",
-    "42574c4f475347320200000000000000040000000000010046524d3202000000000000001900000001000000\
-    0101000000010000000000000001000000010001016a010032",
-];
-
-/// What is recovered from boxes.
-fn log_of(alloc: Global, boxes: Vec<Box<dyn Segment>>) -> Option<Recovered>
-    ensures { IfSome result (λ r. IsRecovered holding r) }
-{
-    match recover(alloc, boxes) {
-        Ok(found) => Some(found),
-        Err(_) => None,
-    }
-}
+const SEGMENTS: &[&str] = &[THIRD_LOST, THIRD_OLDER];
 
 /// Two segments and a spare.
 fn worked(alloc: Global) -> Option<Vec<Box<dyn Segment>>> {
@@ -235,7 +220,7 @@ fn is_closed(log: &mut Log) -> bool
 }
 
 pub(super) fn logs(alloc: Global) -> Option<bool> {
-    let mut found = log_of(alloc, worked(alloc)?)?;
+    let mut found = found_in(alloc, worked(alloc)?)?;
     begin_without(alloc);
     let is_so = is_closed(&mut found.log);
     asked(alloc, is_so)
@@ -250,7 +235,7 @@ pub(super) fn log_is_adopted(alloc: Global) -> Option<bool> {
         last: _last,
         tail: _tail,
         dropped: _dropped,
-    } = log_of(alloc, worked(alloc)?)?;
+    } = found_in(alloc, worked(alloc)?)?;
     begin_without(alloc);
     let (live, spares) = log.into_segments();
     asked(alloc, live.len() == 2 && spares.len() == 1)
@@ -271,8 +256,9 @@ pub(super) fn entries(alloc: Global) -> Option<bool> {
         more: true,
         item: put(b"k", b"v")?,
     };
+    let packed = PackedEntry::of(alloc, 3, true, &entry.item).ok()?;
     begin_without(alloc);
-    let is_so = entry.copy() == entry;
+    let is_so = packed.entry() == entry && packed.writer() == 3;
     asked(alloc, is_so)
 }
 

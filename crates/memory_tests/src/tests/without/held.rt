@@ -5,16 +5,15 @@ ghost use Rattle.std.specs.List.{AllByRecursion};
 ghost use Rattle.bw_codec.specs.Bytes.{ascends};
 ghost use Rattle.bw_codec.specs.Grammar.{IsBlock};
 
-use super::super::{is, put, shows};
+use super::super::{is, put};
 use super::{asked, spared};
 use bw_buffer::{Buffer, Mark};
-use bw_codec::limits::{LATEST, MIN_FRAME};
-use bw_codec::{
-    Block, Blocks, FrameRead, Header, Key, Leaf, Place, Record, Value, encode_block, read_frame,
-};
+use bw_codec::limits::MIN_FRAME;
+use bw_codec::{Block, Blocks, Key, Leaf, Place, Record, Value, encode_block};
 use bw_page::{Chain, Draft, Leaves, change, count_after, empty_page, keep_below, value_in};
 use std::alloc::Global;
 use test_marks::begin_without;
+use test_vectors::{blocks_in, shows};
 
 const BACK: Place = Place { frame: 1, index: 0 };
 
@@ -145,22 +144,6 @@ pub(super) fn reserved_chains(alloc: Global) -> Option<bool> {
 /// A frame of the empty page 1.
 const FRAME: &[u8] = b"FRM2\x01\0\0\0\0\0\0\0\x08\0\0\0\x01\0\0\0\x02\x01\0\0\0\0\0\0";
 
-fn blocks_of(alloc: Global) -> Option<Blocks>
-    ensures some { IfSome result (λ blocks. 1 ≤ length blocks) }
-    ensures lawful { IfSome result (λ blocks. AllByRecursion (IsBlock 32) blocks) }
-{
-    let header = Header {
-        version: LATEST,
-        number: 1,
-        m: 32,
-        f: MIN_FRAME,
-    };
-    match read_frame(alloc, FRAME, &header).ok()? {
-        FrameRead::Whole(frame, _) => Some(frame.blocks),
-        FrameRead::Tail => None,
-    }
-}
-
 /// Whether a buffer is the frame of one block of 8 bytes, sealed.
 fn is_frame(buffer: &Buffer, mark: Mark) -> bool {
     let is_one = buffer.count() == 1 && buffer.room() == 65_508 && buffer.is_sealed();
@@ -181,7 +164,7 @@ fn fills(buffer: &mut Buffer, blocks: &Blocks) -> bool
 }
 
 pub(super) fn buffers(alloc: Global) -> Option<bool> {
-    let blocks = blocks_of(alloc)?;
+    let blocks = blocks_in(alloc, FRAME)?;
     let [first, ..] = blocks.as_slice() else {
         return None;
     };
@@ -196,7 +179,7 @@ pub(super) fn buffers(alloc: Global) -> Option<bool> {
 
 /// A Base is copied as its bytes.
 fn is_copied(alloc: Global, buffer: &mut Buffer) -> Option<bool> {
-    let blocks = blocks_of(alloc)?;
+    let blocks = blocks_in(alloc, FRAME)?;
     let [first, ..] = blocks.as_slice() else {
         return None;
     };

@@ -7,9 +7,10 @@ ghost use Rattle.bw_codec.specs.Grammar.{IsBlock};
 use super::hex::{bytes_of, framed};
 use crate::tests::{self, all_went, went, wrong_row, wrong_table};
 use bw_buffer::{Buffer, Mark, PutError};
-use bw_codec::limits::{LATEST, MAX_FRAME, MIN_FRAME};
-use bw_codec::{Block, Blocks, FrameRead, Header, Place, encode_block, read_frame};
+use bw_codec::limits::MIN_FRAME;
+use bw_codec::{Block, Blocks, Place, encode_block};
 use std::alloc::Global;
+use test_vectors::blocks_in;
 
 /// An empty page 1.
 pub(super) const EMPTY: &str = "46524d32 0100000000000000 08000000 01000000 \
@@ -64,24 +65,7 @@ pub(super) enum Step {
     Joins(u32, Option<(u64, u32)>),
 }
 
-/// The blocks of the frame at the front of bytes, which a buffer takes.
-pub(super) fn blocks_in(alloc: Global, bytes: &[u8]) -> Option<Blocks>
-    ensures some { IfSome result (λ blocks. 1 ≤ length blocks) }
-    ensures lawful { IfSome result (λ blocks. AllByRecursion (IsBlock 32) blocks) }
-{
-    let header = Header {
-        version: LATEST,
-        number: 1,
-        m: 32,
-        f: MAX_FRAME,
-    };
-    match read_frame(alloc, bytes, &header).ok()? {
-        FrameRead::Whole(frame, _) => Some(frame.blocks),
-        FrameRead::Tail => None,
-    }
-}
-
-/// The same of bytes as digits.
+/// The blocks of the frame that digits spell, which a buffer takes.
 pub(super) fn blocks_of(alloc: Global, hex: &str) -> Option<Blocks>
     ensures some { IfSome result (λ blocks. 1 ≤ length blocks) }
     ensures lawful { IfSome result (λ blocks. AllByRecursion (IsBlock 32) blocks) }

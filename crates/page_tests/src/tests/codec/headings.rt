@@ -1,9 +1,10 @@
 // What a segment begins with.
 
-use super::hex::{FIRST, NEW_FIRST, changed};
+use super::hex::changed;
 use crate::tests::{Row, went, wrong_row};
 use bw_codec::{Header, HeaderRead, read_header};
 use std::alloc::Global;
+use test_vectors::{FIRST, OLD_FIRST};
 
 /// The byte at this index of a segment becomes this, and so many bytes are left.
 type Heading = (&'static str, usize, u8, usize, HeaderRead);
@@ -31,48 +32,48 @@ const NEW_HEADER: Header = Header {
 };
 
 const HEADINGS: &[Heading] = &[
-    (FIRST, 0, 0x42, 76, HeaderRead::Whole(HEADER)),
-    (FIRST, 0, 0x42, 24, HeaderRead::Whole(HEADER)),
-    (FIRST, 0, 0x42, 23, HeaderRead::Part),
-    (FIRST, 0, 0x42, 1, HeaderRead::Part),
-    (FIRST, 0, 0x42, 0, HeaderRead::Bad),
-    (FIRST, 0, 0x43, 76, HeaderRead::Bad),
-    (FIRST, 0, 0x43, 1, HeaderRead::Bad),
+    (OLD_FIRST, 0, 0x42, 76, HeaderRead::Whole(HEADER)),
+    (OLD_FIRST, 0, 0x42, 24, HeaderRead::Whole(HEADER)),
+    (OLD_FIRST, 0, 0x42, 23, HeaderRead::Part),
+    (OLD_FIRST, 0, 0x42, 1, HeaderRead::Part),
+    (OLD_FIRST, 0, 0x42, 0, HeaderRead::Bad),
+    (OLD_FIRST, 0, 0x43, 76, HeaderRead::Bad),
+    (OLD_FIRST, 0, 0x43, 1, HeaderRead::Bad),
     // Segment 0, pages of 3 and of 33 pairs, a zero that is none, frames of too few and too many bytes.
-    (FIRST, 8, 0x00, 76, HeaderRead::Bad),
-    (FIRST, 16, 0x03, 76, HeaderRead::Bad),
-    (FIRST, 16, 0x21, 76, HeaderRead::Bad),
-    (FIRST, 18, 0x01, 76, HeaderRead::Bad),
-    (FIRST, 21, 0x3f, 76, HeaderRead::Bad),
-    (FIRST, 22, 0x01, 76, HeaderRead::Bad),
+    (OLD_FIRST, 8, 0x00, 76, HeaderRead::Bad),
+    (OLD_FIRST, 16, 0x03, 76, HeaderRead::Bad),
+    (OLD_FIRST, 16, 0x21, 76, HeaderRead::Bad),
+    (OLD_FIRST, 18, 0x01, 76, HeaderRead::Bad),
+    (OLD_FIRST, 21, 0x3f, 76, HeaderRead::Bad),
+    (OLD_FIRST, 22, 0x01, 76, HeaderRead::Bad),
     // What follows the word is not looked at before all of it is there.
-    (FIRST, 8, 0x00, 23, HeaderRead::Part),
+    (OLD_FIRST, 8, 0x00, 23, HeaderRead::Part),
     // The text of the other format, whose frames are longer, and one of none.
-    (FIRST, 7, 0x32, 76, HeaderRead::Bad),
-    (FIRST, 7, 0x32, 23, HeaderRead::Part),
-    (FIRST, 7, 0x33, 8, HeaderRead::Bad),
+    (OLD_FIRST, 7, 0x32, 76, HeaderRead::Bad),
+    (OLD_FIRST, 7, 0x32, 23, HeaderRead::Part),
+    (OLD_FIRST, 7, 0x33, 8, HeaderRead::Bad),
 ];
 
 const NEW_HEADINGS: &[Heading] = &[
-    (NEW_FIRST, 0, 0x42, 77, HeaderRead::Whole(NEW_HEADER)),
-    (NEW_FIRST, 0, 0x42, 24, HeaderRead::Whole(NEW_HEADER)),
-    (NEW_FIRST, 0, 0x42, 23, HeaderRead::Part),
-    (NEW_FIRST, 0, 0x42, 1, HeaderRead::Part),
-    (NEW_FIRST, 0, 0x42, 0, HeaderRead::Bad),
-    (NEW_FIRST, 0, 0x43, 77, HeaderRead::Bad),
-    (NEW_FIRST, 0, 0x43, 1, HeaderRead::Bad),
+    (FIRST, 0, 0x42, 77, HeaderRead::Whole(NEW_HEADER)),
+    (FIRST, 0, 0x42, 24, HeaderRead::Whole(NEW_HEADER)),
+    (FIRST, 0, 0x42, 23, HeaderRead::Part),
+    (FIRST, 0, 0x42, 1, HeaderRead::Part),
+    (FIRST, 0, 0x42, 0, HeaderRead::Bad),
+    (FIRST, 0, 0x43, 77, HeaderRead::Bad),
+    (FIRST, 0, 0x43, 1, HeaderRead::Bad),
     // Segment 0, pages of 3 and of 33 pairs, a zero that is none, frames of too few and too many bytes.
-    (NEW_FIRST, 8, 0x00, 77, HeaderRead::Bad),
-    (NEW_FIRST, 16, 0x03, 77, HeaderRead::Bad),
-    (NEW_FIRST, 16, 0x21, 77, HeaderRead::Bad),
-    (NEW_FIRST, 18, 0x01, 77, HeaderRead::Bad),
-    (NEW_FIRST, 22, 0x00, 77, HeaderRead::Bad),
-    (NEW_FIRST, 22, 0x05, 77, HeaderRead::Bad),
+    (FIRST, 8, 0x00, 77, HeaderRead::Bad),
+    (FIRST, 16, 0x03, 77, HeaderRead::Bad),
+    (FIRST, 16, 0x21, 77, HeaderRead::Bad),
+    (FIRST, 18, 0x01, 77, HeaderRead::Bad),
+    (FIRST, 22, 0x00, 77, HeaderRead::Bad),
+    (FIRST, 22, 0x05, 77, HeaderRead::Bad),
     // What follows the word is not looked at before all of it is there.
-    (NEW_FIRST, 8, 0x00, 23, HeaderRead::Part),
+    (FIRST, 8, 0x00, 23, HeaderRead::Part),
     // The text of the other format: this limit of frames is lawful in both.
     (
-        NEW_FIRST,
+        FIRST,
         7,
         0x31,
         77,
@@ -83,7 +84,7 @@ const NEW_HEADINGS: &[Heading] = &[
     ),
     // The greatest limit.
     (
-        NEW_FIRST,
+        FIRST,
         22,
         0x04,
         77,

@@ -1,13 +1,12 @@
 // Records that join the last Delta of their page in a buffer, to the byte.
 
-use super::buffers::{
-    EMPTY, PUT_A, PUT_B, PUT_C, PUT_D, Step, blocks_in, blocks_of, spelled, walked,
-};
+use super::buffers::{EMPTY, PUT_A, PUT_B, PUT_C, PUT_D, Step, blocks_of, spelled, walked};
 use super::hex::{bytes_of, framed};
 use crate::tests::{self, all_went, went, wrong_row, wrong_table};
 use bw_buffer::{Buffer, Mark, PutError};
 use bw_codec::limits::{MAX_FRAME, MIN_FRAME};
 use std::alloc::Global;
+use test_vectors::blocks_in;
 
 /// An empty page 1 and two puts of it.
 const TWO_PUTS: &str = "46524d32 0100000000000000 27000000 02000000 \

@@ -1,9 +1,10 @@
 // Frames that are whole, that were cut, or that are bad.
 
-use super::hex::{FIRST, NEW_FIRST, bytes_of, changed};
+use super::hex::{bytes_of, changed};
 use crate::tests::{Row, went, wrong_row};
 use bw_codec::{CodecFault, FrameRead, Header, read_frame};
 use std::alloc::Global;
+use test_vectors::{FIRST, OLD_FIRST};
 
 /// What reading finds.
 #[derive(Clone, Copy, PartialEq, Eq)]
@@ -39,7 +40,7 @@ type Change = (u16, usize, u8, usize, Found);
 impl Row for Change {
     /// Whether this stands at the front then.
     fn goes(&self, alloc: Global) -> Option<bool> {
-        let first = if self.0 == 1 { FIRST } else { NEW_FIRST };
+        let first = if self.0 == 1 { OLD_FIRST } else { FIRST };
         let segment = changed(alloc, first, self.1.checked_add(24)?, self.2)?;
         let frame = segment.as_slice().get(24..)?.get(..self.3)?;
         Some(found_in(alloc, self.0, 4, frame)? == self.4)

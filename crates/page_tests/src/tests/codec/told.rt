@@ -1,14 +1,16 @@
 // What the worked bytes tell, block by block.
 
-use super::hex::{
-    FIRST, NEW_FIRST, NEW_NEWER, NEW_OLDER, NEW_SECOND, NEWER, OLDER, SECOND, bytes_of,
-};
+use super::hex::bytes_of;
 use crate::tests::{self, went, wrong_row};
 use bw_codec::{
     Block, Frame, FrameRead, Header, HeaderRead, Outline, Pair, Place, Record, read_frame,
     read_header,
 };
 use std::alloc::Global;
+use test_vectors::{
+    FIRST, OLD_FIRST, OLD_SECOND, OLD_THIRD_NEWER, OLD_THIRD_OLDER, SECOND, THIRD_NEWER,
+    THIRD_OLDER,
+};
 
 /// The kinds of blocks; a Delta here has one put.
 #[derive(Clone, Copy, PartialEq, Eq)]
@@ -119,6 +121,18 @@ type Row = (
 );
 
 const BLOCKS: &[Row] = &[
+    (OLD_FIRST, (1, 0), Kind::Base, (0, 0), "", ""),
+    (OLD_FIRST, (1, 1), Kind::Put, (1, 0), "k", "v"),
+    (OLD_SECOND, (1, 0), Kind::Base, (0, 0), "", ""),
+    (OLD_SECOND, (1, 1), Kind::Put, (1, 0), "a", "1"),
+    (OLD_SECOND, (2, 0), Kind::Put, (1, 1), "b", "2"),
+    (OLD_SECOND, (3, 0), Kind::Put, (2, 0), "c", "3"),
+    (OLD_SECOND, (4, 0), Kind::Put, (3, 0), "d", "4"),
+    (OLD_SECOND, (5, 0), Kind::Put, (4, 0), "e", "5"),
+    (OLD_SECOND, (5, 1), Kind::Split, (5, 0), "cde", "345"),
+    (OLD_THIRD_OLDER, (2, 0), Kind::Put, (1, 1), "j", "2"),
+    (OLD_THIRD_NEWER, (3, 0), Kind::Put, (2, 0), "k", "3"),
+    (OLD_THIRD_NEWER, (4, 0), Kind::Base, (0, 0), "jk", "23"),
     (FIRST, (1, 0), Kind::Base, (0, 0), "", ""),
     (FIRST, (1, 1), Kind::Put, (1, 0), "k", "v"),
     (SECOND, (1, 0), Kind::Base, (0, 0), "", ""),
@@ -128,21 +142,9 @@ const BLOCKS: &[Row] = &[
     (SECOND, (4, 0), Kind::Put, (3, 0), "d", "4"),
     (SECOND, (5, 0), Kind::Put, (4, 0), "e", "5"),
     (SECOND, (5, 1), Kind::Split, (5, 0), "cde", "345"),
-    (OLDER, (2, 0), Kind::Put, (1, 1), "j", "2"),
-    (NEWER, (3, 0), Kind::Put, (2, 0), "k", "3"),
-    (NEWER, (4, 0), Kind::Base, (0, 0), "jk", "23"),
-    (NEW_FIRST, (1, 0), Kind::Base, (0, 0), "", ""),
-    (NEW_FIRST, (1, 1), Kind::Put, (1, 0), "k", "v"),
-    (NEW_SECOND, (1, 0), Kind::Base, (0, 0), "", ""),
-    (NEW_SECOND, (1, 1), Kind::Put, (1, 0), "a", "1"),
-    (NEW_SECOND, (2, 0), Kind::Put, (1, 1), "b", "2"),
-    (NEW_SECOND, (3, 0), Kind::Put, (2, 0), "c", "3"),
-    (NEW_SECOND, (4, 0), Kind::Put, (3, 0), "d", "4"),
-    (NEW_SECOND, (5, 0), Kind::Put, (4, 0), "e", "5"),
-    (NEW_SECOND, (5, 1), Kind::Split, (5, 0), "cde", "345"),
-    (NEW_OLDER, (2, 0), Kind::Put, (1, 1), "j", "2"),
-    (NEW_NEWER, (3, 0), Kind::Put, (2, 0), "k", "3"),
-    (NEW_NEWER, (4, 0), Kind::Base, (0, 0), "jk", "23"),
+    (THIRD_OLDER, (2, 0), Kind::Put, (1, 1), "j", "2"),
+    (THIRD_NEWER, (3, 0), Kind::Put, (2, 0), "k", "3"),
+    (THIRD_NEWER, (4, 0), Kind::Base, (0, 0), "jk", "23"),
 ];
 
 /// Whether the block of a row says what the row tells, in a frame of this format with this body, if

@@ -3,11 +3,8 @@
 ghost use Rattle.std.specs.List.{AllByRecursion};
 ghost use Rattle.bw_codec.specs.Grammar.{IsBlock};
 
-use super::hex::{
-    FIRST, LAST, NEW_FIRST, NEW_LAST, NEW_NEWER, NEW_OLDER, NEW_SECOND, NEWER, OLDER, SECOND,
-    bytes_of,
-};
-use crate::tests::{Row, behind, went, wrong_row};
+use super::hex::bytes_of;
+use crate::tests::{Row, went, wrong_row};
 use bw_codec::limits::{HEADER_LEN, LATEST, MIN_FRAME};
 use bw_codec::{
     Block, Frame, FrameRead, Header, HeaderRead, block_length, encode_block, encode_frame_head,
@@ -15,6 +12,10 @@ use bw_codec::{
 };
 use bw_page::empty_page;
 use std::alloc::Global;
+use test_vectors::{
+    FIRST, GREATEST, OLD_FIRST, OLD_GREATEST, OLD_SECOND, OLD_THIRD_NEWER, OLD_THIRD_OLDER, SECOND,
+    THIRD_NEWER, THIRD_OLDER, behind,
+};
 
 /// How many bytes blocks have in format 2.
 fn body_length(blocks: &[Block]) -> Option<u32>
@@ -92,16 +93,16 @@ impl Row for Written {
 
 /// What is read of either format is written in format 2.
 const SEGMENTS: &[Written] = &[
-    (NEW_FIRST, NEW_FIRST),
-    (NEW_SECOND, NEW_SECOND),
-    (NEW_OLDER, NEW_OLDER),
-    (NEW_NEWER, NEW_NEWER),
-    (NEW_LAST, NEW_LAST),
-    (FIRST, NEW_FIRST),
-    (SECOND, NEW_SECOND),
-    (OLDER, NEW_OLDER),
-    (NEWER, NEW_NEWER),
-    (LAST, NEW_LAST),
+    (FIRST, FIRST),
+    (SECOND, SECOND),
+    (THIRD_OLDER, THIRD_OLDER),
+    (THIRD_NEWER, THIRD_NEWER),
+    (GREATEST, GREATEST),
+    (OLD_FIRST, FIRST),
+    (OLD_SECOND, SECOND),
+    (OLD_THIRD_OLDER, THIRD_OLDER),
+    (OLD_THIRD_NEWER, THIRD_NEWER),
+    (OLD_GREATEST, GREATEST),
 ];
 
 #[test]
@@ -126,7 +127,7 @@ fn are_written(alloc: Global, bytes: &[u8]) -> Option<bool> {
 }
 
 fn parts_are_written(alloc: Global) -> Option<bool> {
-    let bytes = bytes_of(alloc, NEW_FIRST)?;
+    let bytes = bytes_of(alloc, FIRST)?;
     are_written(alloc, &bytes)
 }
 

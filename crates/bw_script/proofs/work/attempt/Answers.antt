@@ -1,7 +1,7 @@
 use Rattle.std.proofs.Common.{refl}
-use Rattle.bw_script.proofs.Readings.{ready_by_kind, ready_from_kind}
-use Rattle.bw_script.proofs.replay.replay_lines.Goals as goal
-use Rattle.bw_script.proofs.replay.replay_lines.Goals.{else-spares-test, then-spares-test+in_default}
+use Rattle.bw_home.proofs.Readings.{ready_by_kind, ready_from_kind}
+use Rattle.bw_script.proofs.work.attempt.Goals as goal
+use Rattle.bw_script.proofs.work.attempt.Goals.{else-spares-test, then-spares-test+in_default}
 
 pub spares-init : goal.spares-init
 spares-init g c = ready_by_kind (record { first = λ _ _ _. refl; second = λ _ _ _. refl }) c.in-Ok-begin.ensures.ready
@@ -11,10 +11,10 @@ next_spare-requires g c = ready_from_kind (record { first = λ _ _ _. refl; seco
 
 -- whichever segment is added
 pub spares-preserved : goal.spares-preserved
-spares-preserved g c = ready_by_kind (record { first = λ _ _ _. refl; second = λ _ _ _. refl }) c.add_spare.ensures
+spares-preserved g c = ready_by_kind (record { first = λ _ _ _. refl; second = λ _ _ _. refl }) c.add_spare-added.ensures
 
-pub shut-requires : goal.shut-requires
-shut-requires g c =
+pub end-met-requires : goal.end-met-requires
+end-met-requires g c =
     elim c.spares-test.branch [
       | else-spares-test w ↦ rw w.session-is (ready_from_kind (record { first = λ _ _ _. refl; second = λ _ _ _. refl }) c.spares.invariant)
       | then-spares-test+in_default w ↦
