@@ -10,3 +10,4 @@ pub mod Joining
 pub mod Sealing
 pub mod Passes
 pub mod Several
+pub mod Closing

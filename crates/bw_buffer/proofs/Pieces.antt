@@ -130,7 +130,7 @@ rows_count i [] ps (b ∷ bs) h = absurd h
 rows_count i (r ∷ rs) ps [] h = absurd h
 rows_count i (r ∷ rs) ps (b ∷ bs) h = ap suc (rows_count (suc i) rs ps bs h.1)
 
-row_mark : (row : Row) (bytes : List ℕ) (b : Block) → IsRow row bytes b → row.mark ≡ mark_of b
+pub row_mark : (row : Row) (bytes : List ℕ) (b : Block) → IsRow row bytes b → row.mark ≡ mark_of b
 row_mark row bytes (Delta page back ops) h = h.0
 row_mark row bytes (Base leaf) h = h.0
 row_mark row bytes (Split page back upper) h = h.0

@@ -54,8 +54,9 @@ pub record Holds (a : Inside) (blocks : List Block) : Type 0 where
   pub pieces_room : a.limit ≤ 3 * vec_capacity a.pieces + 2
   pub arena_few : length a.arena.items + 20 ≤ a.size
   pub arena_room : a.limit ≤ vec_capacity a.arena
-  pub deltas_few : 8 * hash_map_len a.deltas + 20 ≤ a.size
-  pub deltas_room : a.limit ≤ 8 * (hash_map_len a.deltas + spare a.deltas) + 7
+  -- the map keeps pages of earlier frames too: when a frame begins, at most one for each 64 bytes of the limit
+  pub deltas_few : 64 * hash_map_len a.deltas + 160 ≤ 8 * a.size + a.limit
+  pub deltas_room : 9 * a.limit ≤ 64 * (hash_map_len a.deltas + spare a.deltas) + 119
   pub spots_room : a.limit ≤ 8 * vec_capacity a.spots + 7
   pub bytes_room : a.limit ≤ vec_capacity a.bytes
 

@@ -1,11 +1,12 @@
 -- How blocks stand in a buffer before their bytes stand in order.
 
-use Rattle.std.specs.Prelude.{ℕ, suc, ◌+◌, ◌≡◌, ◌<◌, ◌==◌, if◌then◌else◌, List, [], ◌∷◌, ◌++◌, length, take, drop}
-use Rattle.std.specs.List.{flat_map}
+use Rattle.std.specs.Prelude.{ℕ, suc, ◌+◌, ◌≡◌, ◌<◌, ◌==◌, false, if◌then◌else◌, List, [], ◌∷◌, ◌++◌, length, take, drop}
+use Rattle.std.specs.List.{AllByRecursion, flat_map}
 use Rattle.bw_codec.specs.Grammar.{op_bytes, block_bytes, delta_front}
 use Rattle.bw_codec.specs.declared.block.Place.{Place}
 use Rattle.bw_codec.specs.declared.block.Block.{Block}
 use Rattle.bw_codec.specs.declared.block.Block.TheVariants.{Delta, Base, Split}
+use Rattle.bw_buffer.specs.Marks.{is_closed_by}
 use Rattle.bw_buffer.specs.declared.mark.Mark.{Mark}
 use Rattle.bw_buffer.specs.declared.mark.Mark.TheVariants.{Changes, Sets, Splits}
 use Rattle.bw_buffer.specs.declared.rows.Row.{Row}
@@ -72,3 +73,7 @@ IsFewBy (Splits page upper) ops = Unit {0}
 abbrev pub AreMeasured : ℕ → List Row → Parts → Type 0
 AreMeasured i [] ps = Unit {0}
 AreMeasured i (r ∷ rs) ps = (r.len ≡ length (bytes_at i ps)) × IsFewBy r.mark r.ops × AreMeasured (suc i) rs ps
+
+-- no block of these rows touches a page
+abbrev pub IsUntouched : ℕ → List Row → Type 0
+IsUntouched p rows = AllByRecursion (λ r. is_closed_by p r.mark ≡ false) rows

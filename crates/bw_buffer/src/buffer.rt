@@ -1,6 +1,6 @@
 //! The buffer itself.
 
-ghost use Rattle.std.specs.Prelude.{ℕ, nat_eq, is_some, Some, None, if◌then◌else◌, ◌≡◌, ◌≤◌, ◌<◌, ◌+◌, ◌∷◌, ◌++◌, ◌↔◌, ◌⊎◌, [], true, false, length, slice_get, IsTrue, IfOk, OnOk, OnErr, IfSome, IsErrOf};
+ghost use Rattle.std.specs.Prelude.{ℕ, nat_eq, is_some, Some, None, if◌then◌else◌, ◌≡◌, ◌≤◌, ◌<◌, ◌+◌, ◌/◌, ◌∷◌, ◌++◌, ◌↔◌, ◌⊎◌, [], true, false, length, slice_get, IsTrue, IfOk, OnOk, OnErr, IfSome, IsErrOf};
 ghost use Rattle.std.specs.List.{AllByRecursion};
 ghost use Rattle.std.specs.Option.{option_map};
 ghost use Rattle.bw_codec.specs.Grammar.{block_bytes, frame_bytes, IsBlock};
@@ -13,6 +13,7 @@ ghost use Rattle.bw_buffer.specs.Filling.{frame_of, size_of, with_all, place_at,
 ghost use Rattle.bw_buffer.specs.Joining.{joins, joins_of, open_records, takes, added, index_for, is_delta};
 ghost use Rattle.bw_buffer.specs.Counting.{grown, records_with};
 ghost use Rattle.bw_buffer.specs.Marks.{mark_of, is_closed_by};
+ghost use Rattle.bw_buffer.specs.Rows.{IsUntouched};
 
 use crate::fault::PutError;
 use crate::index::{Index, forget, forget_all, look, note};
@@ -39,7 +40,8 @@ pub struct Buffer {
     pieces: Vec<Piece>,
     /// The bytes of all pieces, in the order in which they came.
     arena: Vec<u8>,
-    /// Of each page whose last block is a Delta, the index of that block.
+    /// Of each page whose last block is a Delta, the index of that block. It keeps pages of earlier
+    /// frames too, closed.
     deltas: Index,
     /// Where the next piece of each block goes, while the frame is laid out.
     spots: Vec<u32>,
@@ -90,7 +92,7 @@ impl Buffer {
         let rows = Vec::with_capacity(alloc, blocks)?;
         let pieces = Vec::with_capacity(alloc, (limit / MIN_PIECE) as usize)?;
         let arena = Vec::with_capacity(alloc, limit as usize)?;
-        let deltas = Index::with_capacity(alloc, blocks)?;
+        let deltas = Index::with_capacity(alloc, blocks + most_kept(limit))?;
         let spots = Vec::with_capacity(alloc, blocks)?;
         let bytes = Vec::with_capacity(alloc, limit as usize)?;
         Ok(Buffer {
@@ -108,20 +110,26 @@ impl Buffer {
     }
 
     /// The same buffer for another frame, from 1: empty, and not sealed. No memory is taken, so that a
-    /// buffer whose frame was appended serves the next one.
+    /// buffer whose frame was appended serves the next one. Time is linear in the blocks of the frame
+    /// that ends, whatever the limit; spread over the frames, so are the rare times when the map that
+    /// finds the Deltas is cleared.
     pub fn restart(&mut self, frame: u64)
         requires numbered { 1 ≤ frame }
         requires done { (self.old.is_sealed ≡ true) ⊎ (self.old.blocks ≡ []) }
         ensures { self.new
             ≡ record { frame = frame; limit = self.old.limit; blocks = []; is_sealed = false } }
     {
+        close_all(
+            &mut self.deltas,
+            self.rows.as_slice(),
+            most_kept(self.limit),
+        );
         self.frame = frame;
         self.size = HEAD_LEN as u32;
         self.is_sealed = false;
         self.rows.clear();
         self.pieces.clear();
         self.arena.clear();
-        forget_all(&mut self.deltas);
     }
 
     /// Adds all the blocks, one or more that are lawful for 32 pairs a page, or none, and answers the
@@ -575,5 +583,36 @@ fn close(index: &mut Index, mark: Mark)
             forget(index, page);
             forget(index, upper);
         }
+    }
+}
+
+// How many pages of earlier frames the map may keep when a frame begins.
+//
+// There is room for them beside all pages that the frame can have. One for each 64 bytes of the limit
+// costs no larger table than none does, where the limit is a power of two.
+fn most_kept(limit: u32) -> usize
+    ensures { result ≡ limit / 64 }
+{
+    (limit / 64) as usize
+}
+
+// No page has an open Delta from now on; these are the rows of the frame that ends.
+//
+// Their pages are looked up, since a clear costs what the whole map costs, however little the frame
+// has. It is cleared where it keeps too many pages for the next frame, so once for as many new pages
+// as it may keep; and where the rows are so many that their look-ups cost more.
+fn close_all(index: &mut Index, rows: &[Row], most: usize)
+    requires told { (q : ℕ) → IsUntouched q rows.now → index_at index.old q ≡ None }
+    ensures none { (q : ℕ) → index_at index.new q ≡ None }
+    ensures few { hash_map_len index.new ≤ most }
+    ensures room { hash_map_len index.old + spare index.old
+        ≤ hash_map_len index.new + spare index.new }
+{
+    if index.len() > most || rows.len() > most / 8 {
+        forget_all(index);
+        return;
+    }
+    for row in rows {
+        close(index, row.mark);
     }
 }

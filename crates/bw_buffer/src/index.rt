@@ -1,7 +1,8 @@
 //! Of each page whose last block is a Delta, the index of that block.
 //!
 //! A page that is closed keeps its place in the map without an index: so an entry once made is never
-//! given back before the map is cleared, and the room for all that may come is known.
+//! given back before the map is cleared, and the room for all that may come is known. The end of a
+//! frame closes its pages too: the map is cleared only where it keeps too many for the next frame.
 
 ghost use Rattle.std.specs.Prelude.{ℕ, ◌≡◌, ◌≤◌, ◌<◌, ◌+◌, ◌==◌, nat_eq, is_some, true, false, Some, None, [], if◌then◌else◌};
 ghost use Rattle.std.specs.HashMap.{get, spare, hash_map_len};
@@ -67,7 +68,8 @@ pub(crate) fn forget(index: &mut Index, page: u32)
     let _ = set(index, page, None);
 }
 
-/// No page has an index from now on. The map's room stays.
+/// No page has an index from now on, and none is kept. The map's room stays. Time is linear in that
+/// room, however few pages are kept.
 pub(crate) fn forget_all(index: &mut Index)
     ensures none { index.new.entries ≡ [] }
     ensures room { hash_map_len index.old + spare index.old ≤ spare index.new }

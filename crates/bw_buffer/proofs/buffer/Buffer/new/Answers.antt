@@ -27,13 +27,14 @@ empty c = begun (fields c) record {
   arena = c.in_ok-arena.ensures.items;
   size = refl;
   unsealed = refl;
-  deltas = c.in_ok-deltas.ensures.empty;
+  told = λ p. (rw c.in_ok-deltas.ensures.empty refl);
   numbered = c.requires.numbered;
   limited = c.requires.limit;
   rows_room = omega (arith, c.in_ok-rows.ensures.exact);
   pieces_room = omega (arith, c.in_ok-pieces.ensures.exact);
   arena_room = omega (arith, c.in_ok-arena.ensures.exact);
-  deltas_room = (let s = c.in_ok-deltas.ensures.spare in omega arith);
+  deltas_few = (let n = c.in_ok-deltas.ensures.len in omega arith);
+  deltas_room = (let s = c.in_ok-deltas.ensures.spare in let m = c.most_kept.ensures in omega arith);
   spots_room = omega (arith, c.in_ok-spots.ensures.exact);
   bytes_room = omega (arith, c.in_ok-bytes.ensures.exact);
 }
