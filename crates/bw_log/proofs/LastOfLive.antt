@@ -193,22 +193,6 @@ around c segment sound from inside =
           (three_parts c.number c.next os s.item.bytes (map bytes s.beyond)));
     }
 
-last_of_live : (c : Contents) (i segment n : ℕ) → segment - c.number ≡ i → i < length c.live
-    → MatchOption (slice_get c.live (segment - c.number)) (n ≡ 0) (λ h. n ≡ last_number c h)
-    → MatchOption (slice_get c.live i) (Some n ≡ None) (λ h. Some n ≡ Some (last_number c h))
-last_of_live c i segment n at inside told =
-    some_by (slice_get c.live i) (last_at c.live i inside) (subst (λ (k : ℕ). MatchOption (slice_get c.live k) (n ≡ 0) (λ h. n ≡ last_number c h)) at told)
-  where
-    last_at : (hs : List Holding) (k : ℕ) → k < length hs → (slice_get hs k ≡ None → ⊥)
-    last_at [] k lt none = absurd (omega arith)
-    last_at (h ∷ hs) zero lt none = absurd cc
-    last_at (h ∷ hs) (suc k) lt none = last_at hs k (omega arith) none
-
-    some_by : (o : Option Holding) → (o ≡ None → ⊥) → MatchOption o (n ≡ 0) (λ h. n ≡ last_number c h)
-        → MatchOption o (Some n ≡ None) (λ h. Some n ≡ Some (last_number c h))
-    some_by None some t = absurd (some refl)
-    some_by (Some h) some t = ap (λ (k : ℕ). Some k) t
-
 -- a search among the lines of a log for the end of those up to one of its live segments
 pub record Search (c : Contents) (lines : List FrameAt) (segment n : ℕ) : Type 0 where
   pub same : lines ≡ c.frames
@@ -265,10 +249,3 @@ other_told line s is some other =
       | inl x ↦ absurd (other (ap (λ (l : FrameAt). l.segment) is ∙ x.0))
       | inr x ↦ told_by 0 s (sym x.1)
     ]
-
--- the same of boxes
-pub last_of_boxes : {X : Type 0} (v : X → Holding) (c : Contents) (xs : List X) (i segment n : ℕ) → c.live ≡ map v xs → segment - c.number ≡ i
-    → i < length xs → MatchOption (slice_get c.live (segment - c.number)) (n ≡ 0) (λ h. n ≡ last_number c h)
-    → MatchOption (slice_get c.live i) (Some n ≡ None) (λ h. Some n ≡ Some (last_number c h))
-last_of_boxes v c xs i segment n live at inside told =
-    last_of_live c i segment n at (omega (arith, ap (λ (l : List Holding). length l) live, length-map xs v)) told

@@ -35,10 +35,8 @@ impl Log {
             (result ≡ None)
             (λ h. result ≡ Some (last_number (seen_by holding self.now) h)) }
     {
-        if i as usize >= self.live.len() {
-            return None;
-        }
-        Some(self.last_in(self.number + u64::from(i)))
+        let number = self.number_at(i)?;
+        Some(self.last_in(number))
     }
 
     // The number of the last counted frame in the live segment of this number, or 0.
