@@ -16,6 +16,10 @@ use Rattle.bw_log.specs.Segments.{version_at}
 use Rattle.bw_log.specs.Contents.{Contents, counted, IsSound}
 use Rattle.bw_log.specs.BlockBytes.{IsSpelled, IsSpelledAt, BlockAt, IsSpot}
 use Rattle.bw_log.specs.declared.blocks.Spot.{Spot}
+use Rattle.bw_codec.specs.declared.block.Place.{Place}
+use Rattle.bw_log.specs.Places.{all_placed}
+use Rattle.bw_log.specs.Walking.{PlacedAt}
+use Rattle.bw_log.proofs.Walked.{numbered_at}
 use Rattle.bw_log.specs.declared.places.FrameAt.{FrameAt}
 use Rattle.bw_log.proofs.Entries.{all_between}
 use Rattle.bw_log.specs.Reads.{IsLineIn, ReadStops}
@@ -308,3 +312,20 @@ stops_in_spot s (Ok x) new stops = stops
 stops_in_spot {A} {c} {i} {spot} s (Err fault) new stops =
     stops_as (λ j. j ≡ spot.at) (λ j. IsLineIn c i j) c new fault
     (λ j at. record { line = s.line; told = s.told; inside = s.at ∙ ap (λ (n : ℕ). c.number + n) (sym at) }) stops
+
+-- ---- a block by its place
+
+-- the spot of its frame
+pub placed_spot : {c : Contents} {place : Place} {b : Block} {spot : Spot} (first : FrameAt) → IsSound c → PlacedAt (all_placed (counted c)) place b
+    → first ≡ get_or c.frames 0 first → (s : IsSpot c (place.frame - first.number) spot) → Spotted c (place.frame - first.number) spot s.line
+placed_spot first sound x is s = spotted_own sound (numbered_at first sound x is).inside s
+
+-- the block alone, by the span that its frame's line has for it
+pub placed_alone : {c : Contents} {place : Place} {b : Block} {spot : Spot} (first line : FrameAt) (span : ℕ × ℕ) → IsSound c
+    → PlacedAt (all_placed (counted c)) place b → first ≡ get_or c.frames 0 first → IsSpot c (place.frame - first.number) spot
+    → line ≡ get_or c.frames (place.frame - first.number) line → IsSpan line.starts spot.len place.index span
+    → (span.0 ≤ span.1) × (spot.from + span.1 ≤ spot.from + spot.len)
+    × IsSpelledAt spot.version c.m c.live spot.at (spot.from + span.0) (span.1 - span.0) b
+placed_alone first line span sound x is s own spans =
+    let n = numbered_at first sound x is in
+    alone_at span line.starts (placed_spot first sound x is s) n.stands (ap (λ (l : FrameAt). l.starts) (line_is n.inside s line own)) spans

@@ -531,15 +531,17 @@ room_made old now d x care len sound follows same size none is =
 pub takes_there : {X : Type 0} (v : X → Holding) (xs : List X) (old d : Contents) (x : Frame) (care : Bool) → Starts old x care
     → d ≡ roomy old (length (frame_bytes x)) → d.live ≡ map v xs
     → IfSome (slice_get (map v xs) (length xs - 1)) (λ h. length h.bytes + length (frame_bytes x) ≤ h.room)
-    × IfSome (slice_get (map v xs) (length xs - 1)) (λ h. h.failed < 2 ^ 64 - 1) × (d.number + length xs ≤ 2 ^ 64)
+    × IfSome (slice_get (map v xs) (length xs - 1)) (λ h. h.failed < 2 ^ 64 - 1) × (d.number + length xs ≤ 2 ^ 64) × (0 < length xs)
 takes_there v xs old d x care st is live =
     let t = subst (λ (c : Contents). Takes c (length (frame_bytes x))) (sym is) (takes_roomy old x care st) in
     let size : length d.live ≡ length xs = ap (λ (l : List Holding). length l) live ∙ length-map xs v in
     let at : slice_get d.live (length d.live - 1) ≡ slice_get (map v xs) (length xs - 1) =
     ap (λ (l : List Holding). slice_get l (length d.live - 1)) live ∙ ap (λ (n : ℕ). slice_get (map v xs) (n - 1)) size in
-    let number = t.number in (
+    let number = t.number in
+    let some = t.some in (
       subst (λ (o : Option Holding). IfSome o (λ h. length h.bytes + length (frame_bytes x) ≤ h.room)) at t.fits,
       subst (λ (o : Option Holding). IfSome o (λ h. h.failed < 2 ^ 64 - 1)) at t.countable,
+      omega arith,
       omega arith,
     )
 
