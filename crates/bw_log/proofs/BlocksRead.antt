@@ -1,6 +1,6 @@
 -- The bytes of one block among those of its frame and of its segment.
 
-use Rattle.std.proofs.Common.{◌≡◌, ℕ, IfSome, zero, suc, ◌+◌, ◌-◌, ◌<◌, ◌≤◌, Option, Some, None, Result, Ok, Err, List, [], ◌∷◌, ◌++◌, length, take, drop, get_or, slice_get, refl, sym, ap, subst, ◌∙◌}
+use Rattle.std.proofs.Common.{◌≡◌, ℕ, IfSome, zero, suc, ◌+◌, ◌-◌, ◌^◌, ◌<◌, ◌≤◌, Option, Some, None, Result, Ok, Err, List, [], ◌∷◌, ◌++◌, length, take, drop, get_or, slice_get, refl, sym, ap, subst, ◌∙◌}
 use Rattle.std.proofs.Common.{append_assoc, append-nil, arith, length-append}
 use Rattle.std.specs.List.{AllByRecursion}
 use Rattle.std.proofs.lemmas.List.{drop_at, take_at, take_all, drop-drop, drop-take, length-drop}
@@ -25,6 +25,7 @@ use Rattle.bw_log.proofs.Entries.{all_between}
 use Rattle.bw_log.specs.Reads.{IsLineIn, ReadStops}
 use Rattle.bw_log.specs.declared.fault.LogFault.{LogFault}
 use Rattle.bw_log.proofs.Fetched.{BoxedLine, boxed_line, stops_as}
+use Rattle.bw_log.proofs.Looked.{gave}
 use Rattle.bw_log.proofs.Walks.{same_before}
 
 -- ---- where a block begins and ends
@@ -312,6 +313,37 @@ stops_in_spot s (Ok x) new stops = stops
 stops_in_spot {A} {c} {i} {spot} s (Err fault) new stops =
     stops_as (λ j. j ≡ spot.at) (λ j. IsLineIn c i j) c new fault
     (λ j at. record { line = s.line; told = s.told; inside = s.at ∙ ap (λ (n : ℕ). c.number + n) (sym at) }) stops
+
+-- ---- a frame read whole and looked through
+
+-- what a law gives of all that bytes may spell, it gives of the spot's frame
+pub spot_law : {c : Contents} {i : ℕ} {spot : Spot} {line : FrameAt} (Q : Frame → Type 0) (s : Spotted c i spot line) (bytes : List ℕ) → IsSound c
+    → bytes ≡ frame_bytes_in (version_at c.old_to line.segment) s.boxed.frame
+    → ((m f : ℕ) (frame : Frame) → m < 2 ^ 16 → IsFrameIn spot.version m f frame → bytes ≡ frame_bytes_in spot.version frame → Q frame)
+    → Q s.boxed.frame
+spot_law {c} Q s bytes sound read law =
+    let most = sound.holds.limits.1 in
+    law c.m s.boxed.limit s.boxed.frame (omega arith) (spot_lawful s) (spot_spelled s bytes read)
+
+-- these are the frame's bytes, and where its blocks begin
+pub record LookedThrough (c : Contents) (i : ℕ) (spot : Spot) (line : FrameAt) (bytes known : List ℕ) : Type 0 where
+  pub spotted : Spotted c i spot line
+  pub read : bytes ≡ frame_bytes_in (version_at c.old_to line.segment) spotted.boxed.frame
+  pub told : known ≡ starts_of spot.version spotted.boxed.frame
+
+pub looked_through : {c : Contents} {i : ℕ} {spot : Spot} (none bytes slice known : List ℕ) → IsSound c → i < length c.frames → (s : IsSpot c i spot) → none ≡ []
+    → IfSome (slice_get c.live spot.at) (λ h. bytes ≡ none ++ take spot.len (drop spot.from h.bytes)) → slice ≡ bytes
+    → ((m f : ℕ) (frame : Frame) → m < 2 ^ 16 → IsFrameIn spot.version m f frame → slice ≡ frame_bytes_in spot.version frame
+    → Some (starts_of spot.version frame) ≡ Some known)
+    → LookedThrough c i spot s.line bytes known
+looked_through {c} {i} {spot} none bytes slice known sound inside s empty got same law =
+    let own = spotted_own sound inside s in
+    let read = spot_bytes own none bytes empty got in
+    record {
+      spotted = own;
+      read = read;
+      told = gave _ known (spot_law (λ (frame : Frame). Some (starts_of spot.version frame) ≡ Some known) own slice sound (same ∙ read) law);
+    }
 
 -- ---- a block by its place
 

@@ -27,7 +27,7 @@ pub all_mapped : {Y : Type 0} (P Q : Y → Type 0) (xs : List Y) → ((y : Y) �
 all_mapped P Q [] f a = tt
 all_mapped P Q (x ∷ xs) f a = (f x a.0, all_mapped P Q xs f a.1)
 
-all_kept_by : {Y : Type 0} (P : Y → Type 0) (x : Y) (ys : List Y) (t : Bool) → P x → AllByRecursion P ys → AllByRecursion P (if t then x ∷ ys else ys)
+pub all_kept_by : {Y : Type 0} (P : Y → Type 0) (x : Y) (ys : List Y) (t : Bool) → P x → AllByRecursion P ys → AllByRecursion P (if t then x ∷ ys else ys)
 all_kept_by P x ys true one all = (one, all)
 all_kept_by P x ys false one all = all
 

@@ -16,7 +16,7 @@ use Rattle.bw_codec.specs.declared.block.Frame.{Frame}
 use Rattle.bw_buffer.specs.Marks.{mark_of}
 use Rattle.bw_buffer.specs.declared.mark.Mark.{Mark}
 use Rattle.bw_buffer.specs.declared.mark.Mark.TheVariants.{Changes, Sets, Splits}
-use Rattle.bw_log.specs.Places.{placed, all_placed, later, last_place, one_more, walked}
+use Rattle.bw_log.specs.Places.{placed, all_placed, later, one_more, walked}
 use Rattle.bw_log.specs.Contents.{some_place, entry_place, place_in, entry_walk, walk_in, IsTable}
 use Rattle.bw_log.specs.PageTable.{changed_line, set_line, with_place, with_base, noted, noted_all, IsInTable, HasLines, HaveLines, top_of, top_page, no_place, empty_line}
 use Rattle.bw_log.specs.declared.places.PageAt.{PageAt}

@@ -55,18 +55,18 @@ pub numbered_by : {c : Contents} {place : Place} {b : Block} (first : ℕ) → f
     → PlacedAt (all_placed (counted c)) place b → Numbered c first place b
 numbered_by {c} {place} {b} first is sound s =
     let i = in_counted sound s in
-    let number = i.number in
+    let number = i.at.number in
     let own : Numbered c (first_number (counted c)) place b = record {
       from_first = omega arith;
       inside = omega (
         arith,
         listed_length (image c) sound.holds,
-        ap (λ (l : List Frame). length l) i.split,
-        length-append i.older (i.frame ∷ i.newer),
+        ap (λ (l : List Frame). length l) i.at.split,
+        length-append i.at.older (i.at.frame ∷ i.at.newer),
       );
       stands = record {
-        frame = i.frame;
-        stands = record { before = i.older; beyond = i.newer; split = i.split; index = omega arith };
+        frame = i.at.frame;
+        stands = record { before = i.at.older; beyond = i.at.newer; split = i.at.split; index = omega arith };
         front = i.front;
         back = i.back;
         split = i.blocks;
