@@ -14,6 +14,7 @@ use Rattle.bw_page.specs.Leaves.{Bytes, order}
 use Rattle.bw_page.proofs.Order.{greater_is_below, below-upto, upto_empty, must_not, not_both}
 use Rattle.bw_care.specs.Lawful.{is_same, has_low_before, is_astray, is_bad_leaf}
 use Rattle.bw_care.specs.Paging.{IsNext, is_past, IsLows, taken_before}
+use Rattle.bw_log.proofs.Entries.{all_mapped}
 
 -- ---- the order
 
@@ -47,10 +48,6 @@ least_is next got key some first = (some, key, key_above next key, λ k above he
 none_any : {X : Type 0} (test : X → Bool) (xs : List X) → AllByRecursion (λ x. test x ≡ false) xs → list_any test xs ≡ false
 none_any test [] all = refl
 none_any test (x ∷ xs) all = ap (λ (t : Bool). t || list_any test xs) all.0 ∙ none_any test xs all.1
-
-all_by : {X : Type 0} (P Q : X → Type 0) (xs : List X) → ((x : X) → P x → Q x) → AllByRecursion P xs → AllByRecursion Q xs
-all_by P Q [] f all = tt
-all_by P Q (x ∷ xs) f all = (f x all.0, all_by P Q xs f all.1)
 
 all_two : {X : Type 0} (P Q R : X → Type 0) (xs : List X) → ((x : X) → P x → Q x → R x) → AllByRecursion P xs → AllByRecursion Q xs → AllByRecursion R xs
 all_two P Q R [] f ps qs = tt
@@ -112,7 +109,7 @@ pub past_is : (set : List Leaf) (got : Bytes → Option ℕ) (low key : Bytes) (
     → list_any (λ l. is_below low l.low && not (is_below key l.low)) set ≡ is_past next key
 past_is set got low key None i n =
     none_any (λ l. is_below low l.low && not (is_below key l.low)) set
-    (all_by (λ (l : Leaf). is_below low l.low ≡ false) (λ (l : Leaf). (is_below low l.low && not (is_below key l.low)) ≡ false) set
+    (all_mapped (λ (l : Leaf). is_below low l.low ≡ false) (λ (l : Leaf). (is_below low l.low && not (is_below key l.low)) ≡ false) set
     (λ l over. ap (λ (t : Bool). t && not (is_below key l.low)) over) (none_over set got low i n))
 past_is set got low key (Some next) i n = past_by set got low next key (is_below key next) i n refl
 
@@ -128,7 +125,7 @@ before_by : (set : List Leaf) (got : Bytes → Option ℕ) (leaf : Leaf) (o : Op
     → has_low_before set leaf ≡ taken_before o leaf.page
 before_by set got leaf None i key is =
     none_any (λ (l : Leaf). nat_lt l.page leaf.page && is_same l.low leaf.low) set
-    (all_by (λ (l : Leaf). IsKey l.low → IsSome (got l.low)) (λ (l : Leaf). (nat_lt l.page leaf.page && is_same l.low leaf.low) ≡ false) set
+    (all_mapped (λ (l : Leaf). IsKey l.low → IsSome (got l.low)) (λ (l : Leaf). (nat_lt l.page leaf.page && is_same l.low leaf.low) ≡ false) set
     (λ l listed. and_not (nat_lt l.page leaf.page) (is_same l.low leaf.low) (λ less same. (let eq = (bytes_decides l.low leaf.low).0 same in
     let some = listed (subst IsKey (sym eq) key) in let nothing : IsSome {T = ℕ} None =
     subst (λ (o : Option ℕ). IsSome o) (ap got eq ∙ is) some in cc))) i.listed)
@@ -141,7 +138,7 @@ before_by set got leaf (Some first) i key is = first_by (nat_lt first leaf.page)
       ((bytes_decides there.0.low leaf.low).1 there.1)) ∙ sym e
   first_by false e =
       none_any (λ (l : Leaf). nat_lt l.page leaf.page && is_same l.low leaf.low) set
-      (all_by (λ (l : Leaf). IsKey l.low → (page : ℕ) → got l.low ≡ Some page → page ≤ l.page)
+      (all_mapped (λ (l : Leaf). IsKey l.low → (page : ℕ) → got l.low ≡ Some page → page ≤ l.page)
       (λ (l : Leaf). (nat_lt l.page leaf.page && is_same l.low leaf.low) ≡ false) set
       (λ l least. and_not (nat_lt l.page leaf.page) (is_same l.low leaf.low) (λ less same. (let eq = (bytes_decides l.low leaf.low).0 same in
       let lower = ltb-true l.page leaf.page less in
@@ -156,7 +153,7 @@ before_is set got leaf i key = before_by set got leaf (got leaf.low) i key refl
 pub none_before : (set : List Leaf) (got : Bytes → Option ℕ) (leaf : Leaf) → IsLows set got → leaf.page ≡ 1 → has_low_before set leaf ≡ false
 none_before set got leaf i one =
     none_any (λ (l : Leaf). nat_lt l.page leaf.page && is_same l.low leaf.low) set
-    (all_by (λ (l : Leaf). 1 ≤ l.page) (λ (l : Leaf). (nat_lt l.page leaf.page && is_same l.low leaf.low) ≡ false) set
+    (all_mapped (λ (l : Leaf). 1 ≤ l.page) (λ (l : Leaf). (nat_lt l.page leaf.page && is_same l.low leaf.low) ≡ false) set
     (λ l from. and_not (nat_lt l.page leaf.page) (is_same l.low leaf.low) (λ less same. (let lower = ltb-true l.page leaf.page less in omega arith))) i.from)
 
 -- ---- a page

@@ -1,7 +1,7 @@
 -- What stands is found again: no page is at fault, and the pages are those leaves.
 
 use Rattle.std.proofs.Common.{inl, inr, ◌≡◌, ℕ, zero, suc, ◌+◌, ◌<◌, ◌≤◌, ◌==◌, ◌&&◌, ◌||◌, not, nat_lt, Bool, true, false, if◌then◌else◌}
-use Rattle.std.proofs.Common.{Option, Some, None, List, [], ◌∷◌, ◌++◌, length, slice_get, IsTrue, refl, sym, ap, ◌∙◌, subst, arith}
+use Rattle.std.proofs.Common.{Option, Some, None, List, [], ◌∷◌, length, slice_get, IsTrue, refl, sym, ap, ◌∙◌, subst, arith}
 use Rattle.std.specs.List.{flat_map, list_any, AllByRecursion}
 use Rattle.std.proofs.lemmas.Bool.{eqb-true, eq-eqb, ltb-true, le-ltb, true≢false, cases_lt}
 use lib.Pointwise.{bytes_decides}
@@ -20,6 +20,7 @@ use Rattle.bw_log.proofs.Walk.{same_fold}
 use Rattle.bw_care.specs.Lawful.{as_list, page_set, set_by, leaves_set, is_same, has_low_before, is_astray, has_wrong_low, is_bad_leaf, is_bad_page}
 use Rattle.bw_care.specs.Lawful.{is_at_fault, first_such}
 use Rattle.bw_care.proofs.PagesAtFault.{NoneAtFault}
+use Rattle.bw_log.proofs.Entries.{all_append}
 
 -- ---- tests that fail
 
@@ -80,19 +81,15 @@ as_all : (blocks : List Block) (P : Leaf → Type 0) (p : ℕ) (o : Option Leaf)
 as_all blocks P p None is each = tt
 as_all blocks P p (Some l) is each = (each l is, tt)
 
-all_join : {X : Type 0} (P : X → Type 0) (xs ys : List X) → AllByRecursion P xs → AllByRecursion P ys → AllByRecursion P (xs ++ ys)
-all_join P [] ys a b = b
-all_join P (x ∷ xs) ys a b = (a.0, all_join P xs ys a.1 b)
-
 pub set_all_by : (m : ℕ) (blocks : List Block) (P : Leaf → Type 0) → ((p : ℕ) (l : Leaf) → 1 ≤ p → content p blocks ≡ Some l → P l) → (bs : List Block)
     → AllByRecursion (IsBlock m) bs → AllByRecursion P (flat_map (λ b. set_by blocks (page_set b)) bs)
 set_all_by m blocks P each [] laws = tt
 set_all_by m blocks P each (Delta page back ops ∷ bs) laws = set_all_by m blocks P each bs laws.1
 set_all_by m blocks P each (Base l ∷ bs) laws =
-    all_join P (as_list (content l.page blocks)) (flat_map (λ b. set_by blocks (page_set b)) bs)
+    all_append P (as_list (content l.page blocks)) (flat_map (λ b. set_by blocks (page_set b)) bs)
     (as_all blocks P l.page (content l.page blocks) refl (λ x is. each l.page x laws.0.page.0 is)) (set_all_by m blocks P each bs laws.1)
 set_all_by m blocks P each (Split page back l ∷ bs) laws =
-    all_join P (as_list (content l.page blocks)) (flat_map (λ b. set_by blocks (page_set b)) bs)
+    all_append P (as_list (content l.page blocks)) (flat_map (λ b. set_by blocks (page_set b)) bs)
     (as_all blocks P l.page (content l.page blocks) refl (λ x is. each l.page x laws.0.makes.page.0 is)) (set_all_by m blocks P each bs laws.1)
 
 -- what holds of each leaf holds of each page that is set
