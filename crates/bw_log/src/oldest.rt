@@ -1,9 +1,7 @@
 //! The oldest segments: what the cleaner asks of them, and gives up.
 
-ghost use Rattle.std.specs.Prelude.{◌≡◌, ◌+◌, ◌-◌, ◌<◌, ◌≤◌, List, Some, None, false, length, drop, slice_get, MatchOption};
-ghost use Rattle.bw_codec.specs.declared.leaf.Leaf.{Leaf};
-ghost use Rattle.bw_page.specs.Standing.{Stand};
-ghost use Rattle.bw_log.specs.Contents.{counted};
+ghost use Rattle.std.specs.Prelude.{◌≡◌, ◌+◌, ◌-◌, ◌<◌, ◌≤◌, Some, None, false, length, drop, slice_get, MatchOption};
+ghost use Rattle.bw_log.specs.Contents.{counted, KeepsLeaves};
 ghost use Rattle.bw_log.specs.Oldest.{NoBaseBefore, oldest_count, last_number};
 
 use crate::log::Log;
@@ -80,9 +78,7 @@ impl Log {
         ensures counted { counted (seen_by holding self.new)
             ≡ drop (oldest_count (seen_by holding self.old).live)
             (counted (seen_by holding self.old)) }
-        ensures stands { (leaves : List Leaf)
-            → Stand (seen_by holding self.old).m (counted (seen_by holding self.old)) leaves
-            → Stand (seen_by holding self.old).m (counted (seen_by holding self.new)) leaves }
+        ensures stands { KeepsLeaves (seen_by holding self.old) (seen_by holding self.new) }
     {
         let number = self.number;
         drop(self.live.remove(0));

@@ -56,28 +56,21 @@ returns-in-Err-move_all-clause-stands g c =
     c.in-Ok.ensures c.last_among.ensures c.old_segments-segments.ensures c.in-Err-move_all.ensures.refused in
     λ leaves stand. stopped_stands (last_of_old log) log _ (pages_of_old log) c.in-Err-move_all.fault stopped leaves stand
 
-pub give_up-requires-clause-works : goal.give_up-requires-clause-works
-give_up-requires-clause-works g c =
-    let log = seen c.args.log.now (λ b. (goal.Segment-dyn g b).holding b.1) in
-    (c.in-Ok-move_all.ensures.moved (last_of_old log) (old_behind log c.requires.sound)).works
-
-pub give_up-requires-clause-more : goal.give_up-requires-clause-more
-give_up-requires-clause-more g c =
+pub give_up-requires : goal.give_up-requires
+give_up-requires g c =
     let log = seen c.args.log.now (λ b. (goal.Segment-dyn g b).holding b.1) in
     let now = seen c.move_all.new.log (λ b. (goal.Segment-dyn g b).holding b.1) in
+    let works = sym c.if-is_failed.ensures in
     let moved = moved_old log now c.requires.sound c.as_slice.ensures.value c.in-Ok.ensures c.last_among.ensures c.old_segments-segments.ensures
     c.in-Ok-move_all.ensures.moved in
-    (let more = more_left log now c.in-Ok-move_all.frames c.requires.sound (sym c.if-is_failed.ensures) c.requires.some moved in
-    omega (arith, more, c.old_segments-segments.ensures))
-
-pub give_up-requires-clause-bases : goal.give_up-requires-clause-bases
-give_up-requires-clause-bases g c =
-    let log = seen c.args.log.now (λ b. (goal.Segment-dyn g b).holding b.1) in
-    let now = seen c.move_all.new.log (λ b. (goal.Segment-dyn g b).holding b.1) in
-    let moved = moved_old log now c.requires.sound c.as_slice.ensures.value c.in-Ok.ensures c.last_among.ensures c.old_segments-segments.ensures
-    c.in-Ok-move_all.ensures.moved in
-    λ i page less there. are_behind log now c.in-Ok-move_all.frames c.requires.sound c.in-Ok-move_all.ensures.sound (sym c.if-is_failed.ensures) moved i page
-    (omega (arith, less, c.old_segments-segments.ensures)) there
+    let more = more_left log now c.in-Ok-move_all.frames c.requires.sound works c.requires.some moved in
+    record {
+      sound = c.in-Ok-move_all.ensures.sound;
+      works = (c.in-Ok-move_all.ensures.moved (last_of_old log) (old_behind log c.requires.sound)).works;
+      more = omega (arith, more, c.old_segments-segments.ensures);
+      bases = λ i page less there. are_behind log now c.in-Ok-move_all.frames c.requires.sound c.in-Ok-move_all.ensures.sound works moved i page
+          (omega (arith, less, c.old_segments-segments.ensures)) there;
+    }
 
 pub returns-clause-upgraded : goal.returns-clause-upgraded
 returns-clause-upgraded g c =
