@@ -1,6 +1,6 @@
 -- The boxes of a log behind a cut of its newest segment, and behind an append that failed.
 
-use Rattle.std.proofs.Common.{inl, inr, ◌≡◌, ◌⊎◌, ℕ, zero, suc, ◌+◌, ◌<◌, ◌≤◌, ◌==◌, nat_lt, Bool, true, false, if◌then◌else◌, Some, Err, List, [], ◌∷◌, ◌++◌}
+use Rattle.std.proofs.Common.{inl, inr, ◌≡◌, ◌⊎◌, ℕ, zero, suc, ◌+◌, ◌<◌, ◌≤◌, ◌==◌, nat_lt, Bool, true, false, if◌then◌else◌, Err, List, [], ◌∷◌, ◌++◌}
 use Rattle.std.proofs.Common.{length, map, take, drop, refl, sym, ap, ◌∙◌, subst, arith, append_assoc, append-nil, length-append, take_all, take-append-drop}
 use Rattle.std.specs.Prelude.{IfSome}
 use Rattle.std.specs.List.{flat_map, AllByRecursion}
@@ -23,7 +23,7 @@ use Rattle.bw_log.specs.Contents.{Contents, Image, limits_of, IsBounded, IsRoomy
 use Rattle.bw_log.specs.Places.{all_placed, bad_link, first_number, AreLinked}
 use Rattle.bw_log.specs.Segments.{Limits, version_at, header_with, segment_frames, frames_of, next_of, AreFrom, AreLive, IsLive}
 use Rattle.bw_log.specs.Segments as log
-use Rattle.bw_log.proofs.Adding.{frames_last, live_last, next_is}
+use Rattle.bw_log.proofs.Adding.{frames_last, live_last, numbered_more}
 use Rattle.bw_log.proofs.Cut.{live_cut}
 use Rattle.bw_log.proofs.GivenUp.{placed_more}
 use Rattle.bw_log.proofs.Links.{bad_link-append, neither}
@@ -32,6 +32,7 @@ use Rattle.bw_care.specs.Laws.{AreSorted, IsFound, IsLoose, OwnCutsFound, OwnSto
 use Rattle.bw_care.specs.Recovery.{frames_in, last_number, recovery}
 use Rattle.bw_care.specs.declared.fault.RecoverCause.TheVariants.{Empty}
 use Rattle.bw_care.proofs.OwnFound.{all_bounded, empty_boxes, frames_sorted, sorted_boxes, spares_loose}
+use Rattle.bw_log.proofs.Entries.{all_append}
 
 -- boxes that are segments and boxes without one, with these frames
 pub record SortsOut (z : Limits) (hs : List Holding) (frames : List Frame) : Type 0 where
@@ -214,10 +215,6 @@ cut_long n [] = refl
 cut_long n (h ∷ []) = refl
 cut_long n (h ∷ k ∷ hs) = ap suc (cut_long n (k ∷ hs))
 
-all_joined : {X : Type 0} (P : X → Type 0) (xs ys : List X) → AllByRecursion P xs → AllByRecursion P ys → AllByRecursion P (xs ++ ys)
-all_joined P [] ys a b = b
-all_joined P (x ∷ xs) ys a b = (a.0, all_joined P xs ys a.1 b)
-
 cut_sorts : (c : Contents) (n : ℕ) (sound : IsSound c) → c.is_failed ≡ false → (n ≡ 0 → IfSome (last_of c.live) (IsRoomy c.f))
     → SortsOut (limits_of (image c) sound.holds.live.0) (cut_newest n c.live ++ c.spares) (frames_held (cut_newest n c.live))
 cut_sorts c n sound works roomy =
@@ -234,7 +231,7 @@ cut_sorts c n sound works roomy =
       sorted = record {
         segments = x.segments;
         least = sound.holds.limits.2;
-        others = all_joined (IsLoose c.f) x.loose c.spares x.others (spares_loose c.f c.spares (sound.empty works));
+        others = all_append (IsLoose c.f) x.loose c.spares x.others (spares_loose c.f c.spares (sound.empty works));
         few = omega (arith, few, long, cut_long n c.live, length-append x.live x.loose, length-append x.loose c.spares);
         bounds = subst (AllByRecursion IsBounded) is
             (all_bounded c.f (cut_newest n c.live) c.spares (cut_bounded n c.live sound.bounds) sound.rooms);
@@ -276,38 +273,33 @@ cut_boxes c n sound works roomy =
 
 -- ---- an append failed
 
-from_push : (n : ℕ) (fs : List Frame) (x : Frame) → AreFrom n fs → x.number ≡ n + length fs → AreFrom n (fs ++ x ∷ [])
-from_push n [] x from e = (e ∙ omega arith, tt)
-from_push n (f ∷ fs) x from e = (from.0, from_push (n + 1) fs x from.1 (omega arith))
-
-numbered_push : (fs : List Frame) (x : Frame) → AreFrom (first_number fs) fs → next_of fs ≡ Some x.number → AreFrom (first_number (fs ++ x ∷ [])) (fs ++ x ∷ [])
-numbered_push [] x from next = (refl, tt)
-numbered_push (f ∷ fs) x from next = from_push f.number (f ∷ fs) x from (next_is f.number f fs x.number from next)
-
 pub left_numbered : (i : Image) (fs : List Frame) → IsImage i → IsLeft i → fs ≡ frames_of i.bytes → AreFrom (first_number fs) fs × AreLinked fs
 left_numbered i fs h (inl same) is =
     (subst (λ (gs : List Frame). AreFrom (first_number gs) gs) (sym (is ∙ same)) h.numbered, subst AreLinked (sym (is ∙ same)) h.linked)
 left_numbered i fs h (inr more) is = (
   subst (λ (gs : List Frame). AreFrom (first_number gs) gs) (sym (is ∙ more.1))
-      (numbered_push (counted_in i) more.0 h.numbered (sym h.follows ∙ more.2.number)),
+      (numbered_more (counted_in i) more.0 h.numbered (sym h.follows ∙ more.2.number)),
   subst AreLinked (sym (is ∙ more.1)) more.2.links,
 )
+
+-- the live segments are those that stay, and the other boxes have none
+loose_sorts : (c : Contents) (ss : List Holding) (h : IsImage (image c)) → AllByRecursion (IsLoose c.f) ss → length c.live + length ss ≤ 4096
+    → AllByRecursion IsBounded (c.live ++ ss) → SortsOut (limits_of (image c) h.live.0) (c.live ++ ss) (frames_held c.live)
+loose_sorts c ss h others few bounds = record {
+  number = c.number;
+  live = c.live;
+  loose = ss;
+  is = refl;
+  sorted = record { segments = h.live.1; least = h.limits.2; others = others; few = few; bounds = bounds };
+  holds = refl;
+}
 
 -- the spares, the first of which may have a beginning of the next header, maybe all of it
 torn_sorts : (c : Contents) (ss : List Holding) (h : IsImage (image c)) → c.spares ≡ ss → AreTorn (c.number + length c.live) c.m c.f ss
     → AllByRecursion (IsRoomy c.f) ss → length c.live + length ss ≤ 4096 → AllByRecursion IsBounded (c.live ++ ss)
     → SortsOut (limits_of (image c) h.live.0) (c.live ++ ss) (frames_held c.live)
-torn_sorts c [] h is torn roomy few bounds =
-    record { number = c.number; live = c.live; loose = []; is = refl; sorted = record { segments = h.live.1; least = h.limits.2; others = tt; few = few; bounds = bounds }; holds = refl }
-torn_sorts c (s ∷ ss) h is (inl bare, empty) roomy few bounds =
-    record {
-      number = c.number;
-      live = c.live;
-      loose = s ∷ ss;
-      is = refl;
-      sorted = record { segments = h.live.1; least = h.limits.2; others = (inl (bare, roomy.0.0), spares_loose c.f ss empty); few = few; bounds = bounds };
-      holds = refl;
-    }
+torn_sorts c [] h is torn roomy few bounds = loose_sorts c [] h tt few bounds
+torn_sorts c (s ∷ ss) h is (inl bare, empty) roomy few bounds = loose_sorts c (s ∷ ss) h (inl (bare, roomy.0.0), spares_loose c.f ss empty) few bounds
 torn_sorts c (s ∷ ss) h is (inr (small, kept, begins), empty) roomy few bounds =
     let z = limits_of (image c) h.live.0 in
     let head = header_with (c.number + length c.live) c.m c.f in
@@ -317,25 +309,11 @@ torn_sorts c (s ∷ ss) h is (inr (small, kept, begins), empty) roomy few bounds
         | inl some ↦ (
             let part : heading_of s.bytes ≡ heading.Part =
             ap heading_of begins ∙ part_of head (header_bytes head) [] kept (inr refl) (sym (append-nil (header_bytes head))) some short in
-            record {
-              number = c.number;
-              live = c.live;
-              loose = s ∷ ss;
-              is = refl;
-              sorted = record { segments = h.live.1; least = h.limits.2; others = (inr part, spares_loose c.f ss empty); few = few; bounds = bounds };
-              holds = refl;
-            })
+            loose_sorts c (s ∷ ss) h (inr part, spares_loose c.f ss empty) few bounds)
         | inr none ↦ (
             let zero_kept : kept ≡ 0 = omega arith in
             let bare : s.bytes ≡ [] = begins ∙ ap (λ (k : ℕ). take k (header_bytes head)) zero_kept in
-            record {
-              number = c.number;
-              live = c.live;
-              loose = s ∷ ss;
-              is = refl;
-              sorted = record { segments = h.live.1; least = h.limits.2; others = (inl (bare, roomy.0.0), spares_loose c.f ss empty); few = few; bounds = bounds };
-              holds = refl;
-            })
+            loose_sorts c (s ∷ ss) h (inl (bare, roomy.0.0), spares_loose c.f ss empty) few bounds)
       ]
       | inr all_kept ↦ (
           let whole : s.bytes ≡ header_bytes head = begins ∙ take_all kept (header_bytes head) (omega (arith, size)) in

@@ -1,7 +1,7 @@
 -- What recovery finds stands: and what stands, recovery finds.
 
 use Rattle.std.proofs.Common.{◌≡◌, ℕ, zero, suc, ◌+◌, ◌^◌, ◌<◌, ◌≤◌, ◌==◌, ◌||◌, Bool, true, false, max}
-use Rattle.std.proofs.Common.{List, [], ◌∷◌, ◌++◌, length, slice_get, refl, sym, ap, ◌∙◌, subst, arith, length-append}
+use Rattle.std.proofs.Common.{List, [], ◌∷◌, length, slice_get, refl, sym, ap, ◌∙◌, subst, arith, length-append}
 use Rattle.std.specs.List.{AllByRecursion}
 use Rattle.std.proofs.lemmas.Bool.{eqb-true}
 use Rattle.bw_codec.specs.Grammar.{IsBlock}
@@ -16,6 +16,7 @@ use Rattle.bw_page.proofs.Order.{must_not}
 use Rattle.bw_log.specs.PageTable.{top_of, top_page}
 use Rattle.bw_care.specs.Lawful.{HasLawful, contents}
 use Rattle.bw_care.proofs.PagesAtFault.{NoneAtFault, all_set, contents_at, contents_length, leaves_lawful}
+use Rattle.bw_log.proofs.Entries.{all_append}
 
 -- ---- pages that are touched
 
@@ -53,13 +54,9 @@ top_some m (b ∷ bs) laws some = let one = block_page m b laws.0 in omega arith
 
 -- ---- frames
 
-all_join : {X : Type 0} (P : X → Type 0) (xs ys : List X) → AllByRecursion P xs → AllByRecursion P ys → AllByRecursion P (xs ++ ys)
-all_join P [] ys a b = b
-all_join P (x ∷ xs) ys a b = (a.0, all_join P xs ys a.1 b)
-
 pub blocks_lawful : (m : ℕ) (fs : List Frame) → AllByRecursion (HasLawful m) fs → AllByRecursion (IsBlock m) (blocks_of fs)
 blocks_lawful m [] laws = tt
-blocks_lawful m (x ∷ xs) laws = all_join (IsBlock m) x.blocks (blocks_of xs) laws.0.2 (blocks_lawful m xs laws.1)
+blocks_lawful m (x ∷ xs) laws = all_append (IsBlock m) x.blocks (blocks_of xs) laws.0.2 (blocks_lawful m xs laws.1)
 
 pub blocks_some : (m : ℕ) (fs : List Frame) → AllByRecursion (HasLawful m) fs → 1 ≤ length fs → 1 ≤ length (blocks_of fs)
 blocks_some m [] laws some = absurd (omega arith)

@@ -1,6 +1,6 @@
 -- Frames in order, as a log has them.
 
-use Rattle.std.proofs.Common.{inl, inr, ◌≡◌, ◌⊎◌, ℕ, ◌+◌, ◌==◌, true, Option, Some, None, List, [], ◌∷◌, ◌++◌, map, refl, sym, ap}
+use Rattle.std.proofs.Common.{inl, inr, ◌≡◌, ◌⊎◌, ℕ, ◌+◌, ◌==◌, true, Option, Some, None, List, [], ◌∷◌, map, refl, sym, ap}
 use Rattle.std.proofs.Common.{◌∙◌, subst}
 use Rattle.std.specs.List.{fold, AllByRecursion}
 use Rattle.std.proofs.lemmas.Bool.{and_parts, eqb-true}
@@ -22,7 +22,7 @@ use Rattle.bw_care.specs.declared.scan.Scan.TheVariants.{Live}
 use Rattle.bw_care.proofs.NumberOrder.{frames_here, all_numbers}
 use Rattle.bw_care.specs.declared.order.Found.{Found}
 use Rattle.bw_care.proofs.LiveRow.{IsLike}
-use Rattle.bw_care.proofs.RoomsParted.{all_by}
+use Rattle.bw_log.proofs.Entries.{all_append, all_mapped}
 
 abbrev number : Frame → ℕ
 number f = f.number
@@ -59,17 +59,13 @@ next_same k boxes hs rs all = lines_next (Some 1) (lines_found k rs) ∙ ap (nex
 
 -- ---- lawful
 
-all_join : {X : Type 0} (P : X → Type 0) (xs ys : List X) → AllByRecursion P xs → AllByRecursion P ys → AllByRecursion P (xs ++ ys)
-all_join P [] ys a b = b
-all_join P (x ∷ xs) ys a b = (a.0, all_join P xs ys a.1 b)
-
 -- a block that is lawful in a format may be written
 block_lawful : (v m : ℕ) (b : Block) → (v ≡ 1) ⊎ (v ≡ 2) → IsBlockIn v m b → IsBlock m b
 block_lawful v m b (inl old) law = old_may_be_written m b (subst (λ (k : ℕ). IsBlockIn k m b) old law)
 block_lawful v m b (inr new) law = subst (λ (k : ℕ). IsBlockIn k m b) new law
 
 pub frame_lawful : (v m f : ℕ) (x : Frame) → (v ≡ 1) ⊎ (v ≡ 2) → IsFrameIn v m f x → HasLawful m x
-frame_lawful v m f x version law = (law.head.numbered.0, law.head.some.0, all_by (IsBlockIn v m) (IsBlock m) x.blocks (λ b one. block_lawful v m b version one) law.blocks)
+frame_lawful v m f x version law = (law.head.numbered.0, law.head.some.0, all_mapped (IsBlockIn v m) (IsBlock m) x.blocks (λ b one. block_lawful v m b version one) law.blocks)
 
 here_lawful : (l : Limits) (h : Holding) (r : Found) → IsLike l r → IsScan h.bytes (Live r.header r.behind)
     → AllByRecursion (HasLawful l.m) (segment_frames h.bytes)
@@ -77,7 +73,7 @@ here_lawful l h r like is =
     let k = r.header in
     subst (AllByRecursion (HasLawful l.m)) (sym (frames_here h r is))
     (subst (λ (m : ℕ). AllByRecursion (HasLawful m) (frames_behind k h.bytes)) (ap (λ (x : Header). x.m) like)
-    (all_by (IsFrameIn k.version k.m k.f) (HasLawful k.m) (frames_behind k h.bytes)
+    (all_mapped (IsFrameIn k.version k.m k.f) (HasLawful k.m) (frames_behind k h.bytes)
     (λ x one. frame_lawful k.version k.m k.f x is.3.0.version one) is.2.laws))
 
 pub all_lawful : (l : Limits) (boxes hs : List Holding) (rs : List Found) → AreFound boxes hs rs → AllByRecursion (IsLike l) rs
@@ -86,5 +82,5 @@ all_lawful l boxes [] [] all like = tt
 all_lawful l boxes [] (r ∷ rs) all like = absurd all
 all_lawful l boxes (h ∷ hs) [] all like = absurd all
 all_lawful l boxes (h ∷ hs) (r ∷ rs) all like =
-    all_join (HasLawful l.m) (segment_frames h.bytes) (frames_of (map (λ x. x.bytes) hs)) (here_lawful l h r like.0 all.0)
+    all_append (HasLawful l.m) (segment_frames h.bytes) (frames_of (map (λ x. x.bytes) hs)) (here_lawful l h r like.0 all.0)
     (all_lawful l boxes hs rs all.1 like.1)

@@ -21,6 +21,7 @@ use Rattle.bw_log.specs.Segments.{frames_at, entry_of, entries_from}
 use Rattle.bw_log.specs.declared.places.FrameAt.{FrameAt}
 use Rattle.bw_log.proofs.Reread.{length-frame_in}
 use Rattle.bw_care.specs.Scanning.{rest_of, fault_by}
+use Rattle.bw_log.proofs.Adding.{entries_more}
 
 -- ---- what `read_frame` answers is what reading gives
 
@@ -82,15 +83,6 @@ read_none k bytes long = record {
   laws = tt;
   parts = refl;
 }
-
-entries_more : (v segment at : ℕ) (fs : List Frame) (x : Frame)
-    → entries_from v segment at (fs ++ x ∷ []) ≡ entries_from v segment at fs ++ (entry_of v segment (at + length (flat_map (frame_bytes_in v) fs)) x, x) ∷ []
-entries_more v segment at [] x = ap (λ (n : ℕ). (entry_of v segment n x, x) ∷ []) (omega arith)
-entries_more v segment at (f ∷ fs) x =
-    ap (λ (r : List (FrameAt × Frame)). (entry_of v segment at f, f) ∷ r)
-    (entries_more v segment (at + length (frame_bytes_in v f)) fs x
-    ∙ ap (λ (n : ℕ). entries_from v segment (at + length (frame_bytes_in v f)) fs ++ (entry_of v segment n x, x) ∷ [])
-    (omega (arith, length-append (frame_bytes_in v f) (flat_map (frame_bytes_in v) fs))))
 
 flat_more : (v : ℕ) (fs : List Frame) (x : Frame) → length (flat_map (frame_bytes_in v) (fs ++ x ∷ [])) ≡ length (flat_map (frame_bytes_in v) fs) + length (frame_bytes_in v x)
 flat_more v [] x = omega (arith, length-append (frame_bytes_in v x) [])

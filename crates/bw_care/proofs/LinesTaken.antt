@@ -18,6 +18,7 @@ use Rattle.bw_log.proofs.Walk.{same_after, sets_touches}
 use Rattle.bw_care.specs.declared.page_lines.Line.{Line}
 use Rattle.bw_care.specs.Reading.{place_in, at_in, leaf_in, line_after, line_of}
 use Rattle.bw_care.proofs.LinksRead.{place_is}
+use Rattle.bw_log.proofs.Entries.{all_append}
 
 -- ---- the leaf
 
@@ -68,13 +69,9 @@ placed_from : (n i : ℕ) (bs : List Block) → 1 ≤ n → AllByRecursion (λ x
 placed_from n i [] from = tt
 placed_from n i (b ∷ bs) from = (from, placed_from n (i + 1) bs from)
 
-all_join : {X : Type 0} (P : X → Type 0) (xs ys : List X) → AllByRecursion P xs → AllByRecursion P ys → AllByRecursion P (xs ++ ys)
-all_join P [] ys a b = b
-all_join P (x ∷ xs) ys a b = (a.0, all_join P xs ys a.1 b)
-
 pub all_from : (fs : List Frame) → AllByRecursion (λ f. 1 ≤ f.number) fs → AllByRecursion (λ x. 1 ≤ x.0.frame) (all_placed fs)
 all_from [] from = tt
-all_from (f ∷ fs) from = all_join (λ x. 1 ≤ x.0.frame) (placed f.number 0 f.blocks) (all_placed fs) (placed_from f.number 0 f.blocks from.0)
+all_from (f ∷ fs) from = all_append (λ x. 1 ≤ x.0.frame) (placed f.number 0 f.blocks) (all_placed fs) (placed_from f.number 0 f.blocks from.0)
     (all_from fs from.1)
 
 pub base_is : (p : ℕ) (fs : List Frame) → AllByRecursion (λ f. 1 ≤ f.number) fs → some_place ((at_in (line_of p None (all_placed fs))).base) ≡ base_of p fs

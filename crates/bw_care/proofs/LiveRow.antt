@@ -24,7 +24,8 @@ use Rattle.bw_care.specs.declared.scan.Scan.TheVariants.{Bare, Part, Live}
 use Rattle.bw_care.specs.declared.order.Found.{Found}
 use Rattle.bw_care.proofs.HeadersRead.{live_is}
 use Rattle.bw_care.proofs.NumberOrder.{frames_here}
-use Rattle.bw_care.proofs.RoomsParted.{all_by, fold_all}
+use Rattle.bw_log.proofs.Entries.{all_mapped}
+use Rattle.bw_care.proofs.RoomsParted.{fold_all}
 use Rattle.bw_care.proofs.SortedOut.{header_is}
 use Rattle.bw_log.proofs.Reread.{header_new}
 
@@ -82,7 +83,7 @@ abbrev pub AllAgree : List Found → Type 0
 AllAgree rs = AllByRecursion (λ r. AllByRecursion (NoClash r) rs) rs
 
 agree_rest : (q : Found) (rs : List Found) → AllAgree (q ∷ rs) → AllAgree rs
-agree_rest q rs all = all_by (λ r. AllByRecursion (NoClash r) (q ∷ rs)) (λ r. AllByRecursion (NoClash r) rs) rs (λ r apart. apart.1) all.1
+agree_rest q rs all = all_mapped (λ r. AllByRecursion (NoClash r) (q ∷ rs)) (λ r. AllByRecursion (NoClash r) rs) rs (λ r apart. apart.1) all.1
 
 abbrev header_at : Found → Header
 header_at r = r.header
@@ -99,7 +100,7 @@ none_mapped test g (x ∷ xs) e = let two = or_parts (test (g x)) (list_any test
 
 agree : (rs : List Found) → are_mixed (map header_at rs) ≡ false → AllAgree rs
 agree rs e =
-    all_by (λ r. list_any (clash r.header) (map header_at rs) ≡ false) (λ r. AllByRecursion (NoClash r) rs) rs
+    all_mapped (λ r. list_any (clash r.header) (map header_at rs) ≡ false) (λ r. AllByRecursion (NoClash r) rs) rs
     (λ r off. none_mapped (clash r.header) header_at rs off)
     (none_mapped (λ (a : Header). list_any (clash a) (map header_at rs)) header_at rs e)
 
@@ -109,7 +110,7 @@ lives_agree ss e = agree (lives ss) (ap are_mixed (lives_headers 0 ss) ∙ e)
 sorted_agree : (ss : List Scan) → AllAgree (lives ss) → AllAgree (sorted ss)
 sorted_agree ss all =
     fold_all number_found (λ r. AllByRecursion (NoClash r) (sorted ss)) [] (lives ss) tt
-    (all_by (λ r. AllByRecursion (NoClash r) (lives ss)) (λ r. AllByRecursion (NoClash r) (sorted ss)) (lives ss)
+    (all_mapped (λ r. AllByRecursion (NoClash r) (lives ss)) (λ r. AllByRecursion (NoClash r) (sorted ss)) (lives ss)
     (λ r one. fold_all number_found (NoClash r) [] (lives ss) tt one) all)
 
 -- ---- limits
@@ -135,14 +136,14 @@ IsLawful r = IsHeader r.header
 pairs_alike : (rs : List Found) → AllAgree rs → AllByRecursion (HasPairs (pairs_of (map header_at rs))) rs
 pairs_alike [] all = tt
 pairs_alike (q ∷ rs) all =
-    (refl, all_by (λ r. AllByRecursion (NoClash r) (q ∷ rs)) (HasPairs q.header.m) rs (λ r apart. same_pairs r.header q.header apart.0) all.1)
+    (refl, all_mapped (λ r. AllByRecursion (NoClash r) (q ∷ rs)) (HasPairs q.header.m) rs (λ r apart. same_pairs r.header q.header apart.0) all.1)
 
 limits_step : (v : ℕ) (q : Found) (rs : List Found) (t : Bool) → (q.header.version == v) ≡ t → AllAgree (q ∷ rs)
     → AllByRecursion (HasLimit v (first_limit v (map header_at rs))) rs
     → AllByRecursion (HasLimit v (if t then q.header.f else first_limit v (map header_at rs))) (q ∷ rs)
 limits_step v q rs true is all more = (
   λ e. refl,
-  all_by (λ r. AllByRecursion (NoClash r) (q ∷ rs)) (HasLimit v q.header.f) rs
+  all_mapped (λ r. AllByRecursion (NoClash r) (q ∷ rs)) (HasLimit v q.header.f) rs
       (λ r apart e. same_limit r.header q.header v apart.0 e (eqb-true q.header.version v is)) all.1,
 )
 limits_step v q rs false is all more = (λ e. absurd (true≢false (sym (eq-eqb q.header.version v e) ∙ is)), more)

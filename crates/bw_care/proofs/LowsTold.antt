@@ -6,7 +6,7 @@ use Rattle.std.specs.List.{list_any, AllByRecursion}
 use Rattle.std.specs.Ordering.{is_lt, is_gt}
 use Rattle.std.specs.declared.cmp.Ordering.{Ordering}
 use Rattle.std.specs.declared.cmp.Ordering.TheVariants.{Less, Equal, Greater}
-use Rattle.std.proofs.lemmas.Bool.{eqb-true, ltb-true, ltb-false}
+use Rattle.std.proofs.lemmas.Bool.{and_from, eqb-true, ltb-true, ltb-false}
 use lib.Pointwise.{bytes_decides}
 use Rattle.bw_codec.specs.Bytes.{is_below, IsKey}
 use Rattle.bw_codec.specs.declared.leaf.Leaf.{Leaf}
@@ -14,6 +14,8 @@ use Rattle.bw_page.specs.Leaves.{Bytes, order}
 use Rattle.bw_page.proofs.Order.{greater_is_below, below-upto, upto_empty, must_not, not_both}
 use Rattle.bw_care.specs.Lawful.{is_same, has_low_before, is_astray, is_bad_leaf}
 use Rattle.bw_care.specs.Paging.{IsNext, is_past, IsLows, taken_before}
+use Rattle.bw_log.proofs.Entries.{all_mapped}
+use Rattle.bw_care.proofs.Tests.{and_not, not_true}
 
 -- ---- the order
 
@@ -48,10 +50,6 @@ none_any : {X : Type 0} (test : X → Bool) (xs : List X) → AllByRecursion (λ
 none_any test [] all = refl
 none_any test (x ∷ xs) all = ap (λ (t : Bool). t || list_any test xs) all.0 ∙ none_any test xs all.1
 
-all_by : {X : Type 0} (P Q : X → Type 0) (xs : List X) → ((x : X) → P x → Q x) → AllByRecursion P xs → AllByRecursion Q xs
-all_by P Q [] f all = tt
-all_by P Q (x ∷ xs) f all = (f x all.0, all_by P Q xs f all.1)
-
 all_two : {X : Type 0} (P Q R : X → Type 0) (xs : List X) → ((x : X) → P x → Q x → R x) → AllByRecursion P xs → AllByRecursion Q xs → AllByRecursion R xs
 all_two P Q R [] f ps qs = tt
 all_two P Q R (x ∷ xs) f ps qs = (f x ps.0 qs.0, all_two P Q R xs f ps.1 qs.1)
@@ -59,20 +57,6 @@ all_two P Q R (x ∷ xs) f ps qs = (f x ps.0 qs.0, all_two P Q R xs f ps.1 qs.1)
 same_any : {X : Type 0} (test other : X → Bool) (xs : List X) → ((x : X) → test x ≡ other x) → list_any test xs ≡ list_any other xs
 same_any test other [] same = refl
 same_any test other (x ∷ xs) same = ap (λ (t : Bool). t || list_any test xs) (same x) ∙ ap (λ (t : Bool). other x || t) (same_any test other xs same)
-
-and_not : (a b : Bool) → (a ≡ true → b ≡ true → ⊥) → (a && b) ≡ false
-and_not false b never = refl
-and_not true false never = refl
-and_not true true never = absurd (never refl refl)
-
-and_true : (a b : Bool) → a ≡ true → b ≡ true → (a && b) ≡ true
-and_true true true x y = refl
-and_true false b x y = absurd cc
-and_true true false x y = absurd cc
-
-not_false : (b : Bool) → not b ≡ true → b ≡ false
-not_false true e = absurd cc
-not_false false e = refl
 
 -- a low above another one, and no longer than a key, is a key
 above_key : (low k : Bytes) → is_below low k ≡ true → length k ≤ 128 → IsKey k
@@ -100,19 +84,19 @@ past_by set got low next key true i n e =
     (λ (l : Leaf). (is_below low l.low && not (is_below key l.low)) ≡ false) set
     (λ l short listed. and_not (is_below low l.low) (not (is_below key l.low)) (λ over past.
     not_both (is_below key l.low) (below-upto key next l.low e (n.3 l.low over (listed (above_key low l.low over short))))
-    (not_false (is_below key l.low) past))) i.short i.listed)
+    (not_true (is_below key l.low) past))) i.short i.listed)
 past_by set got low next key false i n e =
     let held = some_of (got next) n.0 in
     let there = i.taken next held.0 n.1 held.1 in
     there.3 (λ l. is_below low l.low && not (is_below key l.low))
-    (and_true (is_below low there.0.low) (not (is_below key there.0.low)) (ap (is_below low) there.1 ∙ n.2) (ap not (ap (is_below key) there.1 ∙ e)))
+    (and_from (is_below low there.0.low) (not (is_below key there.0.low)) (ap (is_below low) there.1 ∙ n.2) (ap not (ap (is_below key) there.1 ∙ e)))
 
 -- a key is not below a greater low where it is not below the next
 pub past_is : (set : List Leaf) (got : Bytes → Option ℕ) (low key : Bytes) (next : Option Bytes) → IsLows set got → IsNext low got next
     → list_any (λ l. is_below low l.low && not (is_below key l.low)) set ≡ is_past next key
 past_is set got low key None i n =
     none_any (λ l. is_below low l.low && not (is_below key l.low)) set
-    (all_by (λ (l : Leaf). is_below low l.low ≡ false) (λ (l : Leaf). (is_below low l.low && not (is_below key l.low)) ≡ false) set
+    (all_mapped (λ (l : Leaf). is_below low l.low ≡ false) (λ (l : Leaf). (is_below low l.low && not (is_below key l.low)) ≡ false) set
     (λ l over. ap (λ (t : Bool). t && not (is_below key l.low)) over) (none_over set got low i n))
 past_is set got low key (Some next) i n = past_by set got low next key (is_below key next) i n refl
 
@@ -128,7 +112,7 @@ before_by : (set : List Leaf) (got : Bytes → Option ℕ) (leaf : Leaf) (o : Op
     → has_low_before set leaf ≡ taken_before o leaf.page
 before_by set got leaf None i key is =
     none_any (λ (l : Leaf). nat_lt l.page leaf.page && is_same l.low leaf.low) set
-    (all_by (λ (l : Leaf). IsKey l.low → IsSome (got l.low)) (λ (l : Leaf). (nat_lt l.page leaf.page && is_same l.low leaf.low) ≡ false) set
+    (all_mapped (λ (l : Leaf). IsKey l.low → IsSome (got l.low)) (λ (l : Leaf). (nat_lt l.page leaf.page && is_same l.low leaf.low) ≡ false) set
     (λ l listed. and_not (nat_lt l.page leaf.page) (is_same l.low leaf.low) (λ less same. (let eq = (bytes_decides l.low leaf.low).0 same in
     let some = listed (subst IsKey (sym eq) key) in let nothing : IsSome {T = ℕ} None =
     subst (λ (o : Option ℕ). IsSome o) (ap got eq ∙ is) some in cc))) i.listed)
@@ -137,11 +121,11 @@ before_by set got leaf (Some first) i key is = first_by (nat_lt first leaf.page)
   first_by true e =
       let there = i.taken leaf.low first key is in
       there.3 (λ (l : Leaf). nat_lt l.page leaf.page && is_same l.low leaf.low)
-      (and_true (nat_lt there.0.page leaf.page) (is_same there.0.low leaf.low) (ap (λ (k : ℕ). nat_lt k leaf.page) there.2 ∙ e)
+      (and_from (nat_lt there.0.page leaf.page) (is_same there.0.low leaf.low) (ap (λ (k : ℕ). nat_lt k leaf.page) there.2 ∙ e)
       ((bytes_decides there.0.low leaf.low).1 there.1)) ∙ sym e
   first_by false e =
       none_any (λ (l : Leaf). nat_lt l.page leaf.page && is_same l.low leaf.low) set
-      (all_by (λ (l : Leaf). IsKey l.low → (page : ℕ) → got l.low ≡ Some page → page ≤ l.page)
+      (all_mapped (λ (l : Leaf). IsKey l.low → (page : ℕ) → got l.low ≡ Some page → page ≤ l.page)
       (λ (l : Leaf). (nat_lt l.page leaf.page && is_same l.low leaf.low) ≡ false) set
       (λ l least. and_not (nat_lt l.page leaf.page) (is_same l.low leaf.low) (λ less same. (let eq = (bytes_decides l.low leaf.low).0 same in
       let lower = ltb-true l.page leaf.page less in
@@ -156,7 +140,7 @@ before_is set got leaf i key = before_by set got leaf (got leaf.low) i key refl
 pub none_before : (set : List Leaf) (got : Bytes → Option ℕ) (leaf : Leaf) → IsLows set got → leaf.page ≡ 1 → has_low_before set leaf ≡ false
 none_before set got leaf i one =
     none_any (λ (l : Leaf). nat_lt l.page leaf.page && is_same l.low leaf.low) set
-    (all_by (λ (l : Leaf). 1 ≤ l.page) (λ (l : Leaf). (nat_lt l.page leaf.page && is_same l.low leaf.low) ≡ false) set
+    (all_mapped (λ (l : Leaf). 1 ≤ l.page) (λ (l : Leaf). (nat_lt l.page leaf.page && is_same l.low leaf.low) ≡ false) set
     (λ l from. and_not (nat_lt l.page leaf.page) (is_same l.low leaf.low) (λ less same. (let lower = ltb-true l.page leaf.page less in omega arith))) i.from)
 
 -- ---- a page

@@ -25,7 +25,7 @@ use Rattle.bw_care.specs.declared.fault.RecoverCause.{RecoverCause}
 use Rattle.bw_care.specs.declared.fault.RecoverCause.TheVariants.{BadConfig, Empty, Gap, Mixed}
 use Rattle.bw_care.proofs.FoundStand.{blocks_lawful}
 use Rattle.bw_care.proofs.FrameRow.{frame_lawful}
-use Rattle.bw_care.proofs.RoomsParted.{all_by}
+use Rattle.bw_log.proofs.Entries.{all_mapped}
 use Rattle.bw_care.proofs.OwnPages.{top_is, contents_are}
 use Rattle.bw_care.proofs.OwnSegments.{heads, headers_live, heads_unmixed, heads_limit, segments_are, live_are, spares_are, spares_roomy, parts_are, no_parts, bytes_right}
 use Rattle.bw_care.proofs.OwnSegments.{segments_follow, frames_follow}
@@ -146,7 +146,7 @@ module _ (z : Limits) (n : ℕ) (live loose : List Holding) (x : AreSorted z n l
         subst (λ (hs : List Header). limit_of hs ≤ z.f) (sym headers) (heads_limit z n (length live) x.least) in
         ap (list_any (λ (h : Holding). nat_lt h.room (24 + limit_in both))) (spares_are z n live loose x.segments)
         ∙ none_small (24 + limit_in both) (spares_in loose)
-        (all_by (λ (h : Holding). 24 + z.f ≤ h.room) (λ (h : Holding). 24 + limit_in both ≤ h.room) (spares_in loose)
+        (all_mapped (λ (h : Holding). 24 + z.f ≤ h.room) (λ (h : Holding). 24 + limit_in both ≤ h.room) (spares_in loose)
         (λ h wide. omega (arith, within, wide)) (spares_roomy z.f loose x.others))
 
     right : page_fault z.m (blocks_of (frames_held live)) ≡ None

@@ -1,8 +1,8 @@
 -- Rooms and numbers of boxes that were parted.
 
-use Rattle.std.proofs.Common.{◌≡◌, ℕ, suc, ◌+◌, ◌≤◌, nat_lt, Bool, true, false, if◌then◌else◌, List, [], ◌∷◌, ◌++◌, length, refl, sym, ap, ◌∙◌}
+use Rattle.std.proofs.Common.{◌≡◌, ℕ, suc, ◌+◌, ◌≤◌, nat_lt, Bool, true, false, if◌then◌else◌, List, [], ◌∷◌, length, refl, sym, ap, ◌∙◌}
 use Rattle.std.proofs.Common.{subst, arith}
-use Rattle.std.specs.List.{fold, filter, list_any, AllByRecursion}
+use Rattle.std.specs.List.{fold, list_any, AllByRecursion}
 use Rattle.std.proofs.lemmas.Bool.{or_parts, ltb-false}
 use Rattle.bw_device.specs.Holding.{Holding}
 use Rattle.bw_codec.specs.declared.leaf.Leaf.{Leaf}
@@ -12,27 +12,12 @@ use Rattle.bw_care.proofs.ScannedLog.{IsScanned, scanned_image}
 use Rattle.bw_log.specs.Contents.{image, IsSound, IsBounded, IsRoomy, IsSpare}
 use Rattle.bw_care.specs.Scanning.{has_header, is_bare}
 use Rattle.bw_care.specs.Recovery.{placed_by, segments_in, live_in, spares_in, too_large, is_small, limit_in}
+use Rattle.bw_log.proofs.Entries.{all_mapped, all_filtered}
 use Rattle.bw_care.proofs.SortedOut.{not_bare, number_at}
 
 any_none : {X : Type 0} (test : X → Bool) (xs : List X) → list_any test xs ≡ false → AllByRecursion (λ x. test x ≡ false) xs
 any_none test [] e = tt
 any_none test (x ∷ xs) e = let two = or_parts (test x) (list_any test xs) e in (two.0, any_none test xs two.1)
-
-pub all_by : {X : Type 0} (P Q : X → Type 0) (xs : List X) → ((x : X) → P x → Q x) → AllByRecursion P xs → AllByRecursion Q xs
-all_by P Q [] f all = tt
-all_by P Q (x ∷ xs) f all = (f x all.0, all_by P Q xs f all.1)
-
-all_join : {X : Type 0} (P : X → Type 0) (xs ys : List X) → AllByRecursion P xs → AllByRecursion P ys → AllByRecursion P (xs ++ ys)
-all_join P [] ys a b = b
-all_join P (x ∷ xs) ys a b = (a.0, all_join P xs ys a.1 b)
-
-kept_by : {X : Type 0} (P : X → Type 0) (x : X) (xs : List X) (t : Bool) → P x → AllByRecursion P xs → AllByRecursion P (if t then x ∷ xs else xs)
-kept_by P x xs true one all = (one, all)
-kept_by P x xs false one all = all
-
-pub filter_all : {X : Type 0} (P : X → Type 0) (test : X → Bool) (xs : List X) → AllByRecursion P xs → AllByRecursion P (filter test xs)
-filter_all P test [] all = tt
-filter_all P test (x ∷ xs) all = kept_by P x (filter test xs) (test x) all.0 (filter_all P test xs all.1)
 
 placed_test : {X : Type 0} (number : X → ℕ) (P : X → Type 0) (x y : X) (ys : List X) (t : Bool) → P x → P y → AllByRecursion P ys
     → AllByRecursion P (placed_by number x ys) → AllByRecursion P (if t then x ∷ y ∷ ys else y ∷ placed_by number x ys)
@@ -49,7 +34,7 @@ fold_all number P acc [] sofar all = sofar
 fold_all number P acc (x ∷ xs) sofar all = fold_all number P (placed_by number x acc) xs (placed_all number P x acc all.0 sofar) all.1
 
 pub live_all : (P : Holding → Type 0) (hs : List Holding) → AllByRecursion P hs → AllByRecursion P (live_in hs)
-live_all P hs all = fold_all number_at P [] (segments_in hs) tt (filter_all P (λ h. has_header h.bytes) hs all)
+live_all P hs all = fold_all number_at P [] (segments_in hs) tt (all_filtered P (λ h. has_header h.bytes) hs all)
 
 -- ---- how many
 
@@ -93,7 +78,7 @@ few_live hs = (let both = few_boxes hs in omega arith)
 
 pub all_bounded : (hs : List Holding) → too_large hs ≡ false → AllByRecursion IsBounded hs
 all_bounded hs e =
-    all_by (λ (h : Holding). nat_lt 1073741824 h.room ≡ false) IsBounded hs (λ h off. ltb-false 1073741824 h.room off)
+    all_mapped (λ (h : Holding). nat_lt 1073741824 h.room ≡ false) IsBounded hs (λ h off. ltb-false 1073741824 h.room off)
     (any_none (λ (h : Holding). nat_lt 1073741824 h.room) hs (or_parts (nat_lt 4096 (length hs)) (list_any (λ h. nat_lt 1073741824 h.room) hs) e).1)
 
 pub count_sized : (hs : List Holding) → too_large hs ≡ false → length hs ≤ 4096
@@ -111,7 +96,7 @@ spares_roomy hs large small =
     all_two (λ (h : Holding). nat_lt h.room (24 + limit_in hs) ≡ false) IsBounded (IsRoomy (limit_in hs)) (spares_in hs)
     (λ h off sized. (ltb-false h.room (24 + limit_in hs) off, sized))
     (any_none (λ (h : Holding). nat_lt h.room (24 + limit_in hs)) (spares_in hs) small)
-    (filter_all IsBounded (λ h. is_bare h.bytes) hs (all_bounded hs large))
+    (all_filtered IsBounded (λ h. is_bare h.bytes) hs (all_bounded hs large))
 
 bare_empty : (bytes : List ℕ) → is_bare bytes ≡ true → bytes ≡ []
 bare_empty [] e = refl

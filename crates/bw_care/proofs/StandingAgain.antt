@@ -1,9 +1,9 @@
 -- What stands is found again: no page is at fault, and the pages are those leaves.
 
 use Rattle.std.proofs.Common.{inl, inr, ◌≡◌, ℕ, zero, suc, ◌+◌, ◌<◌, ◌≤◌, ◌==◌, ◌&&◌, ◌||◌, not, nat_lt, Bool, true, false, if◌then◌else◌}
-use Rattle.std.proofs.Common.{Option, Some, None, List, [], ◌∷◌, ◌++◌, length, slice_get, IsTrue, refl, sym, ap, ◌∙◌, subst, arith}
+use Rattle.std.proofs.Common.{Option, Some, None, List, [], ◌∷◌, length, slice_get, IsTrue, refl, sym, ap, ◌∙◌, subst, arith}
 use Rattle.std.specs.List.{flat_map, list_any, AllByRecursion}
-use Rattle.std.proofs.lemmas.Bool.{eqb-true, eq-eqb, ltb-true, le-ltb, true≢false, cases_lt}
+use Rattle.std.proofs.lemmas.Bool.{or_from, eqb-true, eq-eqb, ltb-true, le-ltb, true≢false, cases_lt}
 use lib.Pointwise.{bytes_decides}
 use Rattle.bw_codec.specs.Bytes.{is_below}
 use Rattle.bw_codec.specs.Grammar.{IsBase, IsBlock}
@@ -20,6 +20,8 @@ use Rattle.bw_log.proofs.Walk.{same_fold}
 use Rattle.bw_care.specs.Lawful.{as_list, page_set, set_by, leaves_set, is_same, has_low_before, is_astray, has_wrong_low, is_bad_leaf, is_bad_page}
 use Rattle.bw_care.specs.Lawful.{is_at_fault, first_such}
 use Rattle.bw_care.proofs.PagesAtFault.{NoneAtFault}
+use Rattle.bw_log.proofs.Entries.{all_append}
+use Rattle.bw_care.proofs.Tests.{and_not, not_true}
 
 -- ---- tests that fail
 
@@ -80,19 +82,15 @@ as_all : (blocks : List Block) (P : Leaf → Type 0) (p : ℕ) (o : Option Leaf)
 as_all blocks P p None is each = tt
 as_all blocks P p (Some l) is each = (each l is, tt)
 
-all_join : {X : Type 0} (P : X → Type 0) (xs ys : List X) → AllByRecursion P xs → AllByRecursion P ys → AllByRecursion P (xs ++ ys)
-all_join P [] ys a b = b
-all_join P (x ∷ xs) ys a b = (a.0, all_join P xs ys a.1 b)
-
 pub set_all_by : (m : ℕ) (blocks : List Block) (P : Leaf → Type 0) → ((p : ℕ) (l : Leaf) → 1 ≤ p → content p blocks ≡ Some l → P l) → (bs : List Block)
     → AllByRecursion (IsBlock m) bs → AllByRecursion P (flat_map (λ b. set_by blocks (page_set b)) bs)
 set_all_by m blocks P each [] laws = tt
 set_all_by m blocks P each (Delta page back ops ∷ bs) laws = set_all_by m blocks P each bs laws.1
 set_all_by m blocks P each (Base l ∷ bs) laws =
-    all_join P (as_list (content l.page blocks)) (flat_map (λ b. set_by blocks (page_set b)) bs)
+    all_append P (as_list (content l.page blocks)) (flat_map (λ b. set_by blocks (page_set b)) bs)
     (as_all blocks P l.page (content l.page blocks) refl (λ x is. each l.page x laws.0.page.0 is)) (set_all_by m blocks P each bs laws.1)
 set_all_by m blocks P each (Split page back l ∷ bs) laws =
-    all_join P (as_list (content l.page blocks)) (flat_map (λ b. set_by blocks (page_set b)) bs)
+    all_append P (as_list (content l.page blocks)) (flat_map (λ b. set_by blocks (page_set b)) bs)
     (as_all blocks P l.page (content l.page blocks) refl (λ x is. each l.page x laws.0.makes.page.0 is)) (set_all_by m blocks P each bs laws.1)
 
 -- what holds of each leaf holds of each page that is set
@@ -102,20 +100,6 @@ set_all m blocks leaves P s laws all =
     set_all_by m blocks P (λ p l from is. (let of = set_of m blocks leaves p l s from is in all_there P leaves of.at l of.is all)) blocks laws
 
 -- ---- no page is at fault
-
-and_not : (a b : Bool) → (a ≡ true → b ≡ true → ⊥) → (a && b) ≡ false
-and_not false b never = refl
-and_not true false never = refl
-and_not true true never = absurd (never refl refl)
-
-or_none : (a b : Bool) → a ≡ false → b ≡ false → (a || b) ≡ false
-or_none false false x y = refl
-or_none true b x y = absurd cc
-or_none false true x y = absurd cc
-
-not_true : (b : Bool) → not b ≡ true → b ≡ false
-not_true true e = absurd cc
-not_true false e = refl
 
 low_by : (t : Bool) (low : Bytes) → (t ≡ true → low ≡ []) → (t ≡ false → low ≡ [] → ⊥) → (if t then not (is_same low []) else is_same low []) ≡ false
 low_by true low one other = ap not ((bytes_decides low []).1 (one refl))
@@ -162,16 +146,16 @@ good_there m blocks leaves i l s laws is =
     let near : list_any (λ (p : Bytes × Bytes). is_astray (leaves_set blocks) l p.0) l.pairs ≡ false =
     none_any (λ (p : Bytes × Bytes). is_astray (leaves_set blocks) l p.0) l.pairs
     (all_of (λ (p : Bytes × Bytes). LiesBetween leaves l p.0) (λ (p : Bytes × Bytes). is_astray (leaves_set blocks) l p.0 ≡ false) l.pairs
-    (λ p lies. or_none (is_below p.0 l.low) (list_any (λ k. is_below l.low k.low && not (is_below p.0 k.low)) (leaves_set blocks)) lies.0
+    (λ p lies. or_from (is_below p.0 l.low) (list_any (λ k. is_below l.low k.low && not (is_below p.0 k.low)) (leaves_set blocks)) lies.0
     (none_any (λ (k : Leaf). is_below l.low k.low && not (is_below p.0 k.low)) (leaves_set blocks)
     (set_all m blocks leaves (λ k. is_below l.low k.low && not (is_below p.0 k.low) ≡ false) s laws
     (all_of (λ (k : Leaf). IsTrue (is_below l.low k.low) → IsTrue (is_below p.0 k.low))
     (λ (k : Leaf). is_below l.low k.low && not (is_below p.0 k.low) ≡ false) leaves
     (λ k over. and_not (is_below l.low k.low) (not (is_below p.0 k.low)) (λ more under. true≢false (sym (over more) ∙ not_true (is_below p.0 k.low) under)))
     lies.1)))) between) in
-    or_none (has_wrong_low l || has_low_before (leaves_set blocks) l || nat_lt m (length l.pairs)) (list_any (λ p. is_astray (leaves_set blocks) l p.0) l.pairs)
-    (or_none (has_wrong_low l || has_low_before (leaves_set blocks) l) (nat_lt m (length l.pairs))
-    (or_none (has_wrong_low l) (has_low_before (leaves_set blocks) l) low before) few) near
+    or_from (has_wrong_low l || has_low_before (leaves_set blocks) l || nat_lt m (length l.pairs)) (list_any (λ p. is_astray (leaves_set blocks) l p.0) l.pairs)
+    (or_from (has_wrong_low l || has_low_before (leaves_set blocks) l) (nat_lt m (length l.pairs))
+    (or_from (has_wrong_low l) (has_low_before (leaves_set blocks) l) low before) few) near
 
 good_page : (m : ℕ) (blocks : List Block) (leaves : List Leaf) (p : ℕ) → Stands m blocks leaves → AllByRecursion (IsBlock m) blocks → 1 ≤ p → p ≤ length leaves
     → is_at_fault m blocks p ≡ false

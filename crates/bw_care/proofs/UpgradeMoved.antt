@@ -349,6 +349,21 @@ pub pages_are : (c : Contents) (slice items : List ℕ) (last count : ℕ) → s
 pages_are c slice items last count a b d e =
     a ∙ b ∙ ap (λ (n : ℕ). pages_upto n c) (d ∙ ap (λ (k : ℕ). last_among c (take k c.live)) e)
 
+-- what was moved, or where it stopped, told of them
+pub moved_old : {slice items : List ℕ} {last count frames : ℕ} (c now : Contents) → IsSound c → slice ≡ items → items ≡ pages_upto last c
+    → last ≡ last_among c (take count c.live) → count ≡ old_segments c
+    → ((k : ℕ) → IsNextBehind k c → MovedBehind k c now slice [] frames) → MovedBehind (last_of_old c) c now (pages_of_old c) [] frames
+moved_old {slice} {items} {last} {count} {frames} c now sound a b d e moved =
+    subst (λ (ps : List ℕ). MovedBehind (last_of_old c) c now ps [] frames) (pages_are c slice items last count a b d e)
+    (moved (last_of_old c) (old_behind c sound))
+
+pub stopped_old : {slice items : List ℕ} {last count : ℕ} {fault : LogFault} (c now : Contents) → IsSound c → slice ≡ items → items ≡ pages_upto last c
+    → last ≡ last_among c (take count c.live) → count ≡ old_segments c
+    → ((k : ℕ) → IsNextBehind k c → StoppedBehind k c slice fault now) → StoppedBehind (last_of_old c) c (pages_of_old c) fault now
+stopped_old {slice} {items} {last} {count} {fault} c now sound a b d e stopped =
+    subst (λ (ps : List ℕ). StoppedBehind (last_of_old c) c ps fault now) (pages_are c slice items last count a b d e)
+    (stopped (last_of_old c) (old_behind c sound))
+
 pub never_failed : (last : ℕ) (old new : Contents) (pages : List ℕ) (fault : LogFault) → StoppedBehind last old pages fault new → fault ≡ Failed → ⊥
 never_failed last old new pages fault s is = subst (λ (f : LogFault). Refused f s.then_log new) is s.refused
 

@@ -1,10 +1,8 @@
 //! Cleaning: the pages that were last set in the oldest segment are written again, and its box is
 //! dropped.
 
-ghost use Rattle.std.specs.Prelude.{◌≡◌, ◌<◌, ◌≤◌, ◌↔◌, Some, None, Err, List, true, false, length, IfOk, IfErr, IsErrOf};
-ghost use Rattle.bw_codec.specs.declared.leaf.Leaf.{Leaf};
-ghost use Rattle.bw_page.specs.Standing.{Stand};
-ghost use Rattle.bw_log.specs.Contents.{counted};
+ghost use Rattle.std.specs.Prelude.{◌≡◌, ◌<◌, ◌≤◌, ◌↔◌, Some, None, Err, true, false, length, IfOk, IfErr, IsErrOf};
+ghost use Rattle.bw_log.specs.Contents.{KeepsLeaves};
 ghost use Rattle.bw_care.specs.Moving.{IsCleaned, Refuses};
 ghost use Rattle.bw_care.specs.Views.{seen, IsSound};
 
@@ -65,9 +63,7 @@ pub fn clean(alloc: Global, log: &mut Log) -> Result<Cleaned, CleanFault>
         Refuses fault (seen log.old holding) (seen log.new holding)) }
 
     // Whatever is answered, the counted frames stand for the leaves for which they stood.
-    ensures stands { (leaves : List Leaf)
-        → Stand (seen log.old holding).m (counted (seen log.old holding)) leaves
-        → Stand (seen log.old holding).m (counted (seen log.new holding)) leaves }
+    ensures stands { KeepsLeaves (seen log.old holding) (seen log.new holding) }
 {
     if log.live() < 2 {
         return Err(CleanFault::NothingOld);

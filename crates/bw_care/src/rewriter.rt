@@ -1,10 +1,8 @@
 //! Pages are written again, and no segment is given up.
 
-ghost use Rattle.std.specs.Prelude.{◌≡◌, ◌↔◌, List, [], true, IfOk, IfErr, IsErrOf};
+ghost use Rattle.std.specs.Prelude.{◌≡◌, ◌↔◌, [], true, IfOk, IfErr, IsErrOf};
 ghost use Rattle.std.specs.List.{AllByRecursion};
-ghost use Rattle.bw_codec.specs.declared.leaf.Leaf.{Leaf};
-ghost use Rattle.bw_page.specs.Standing.{Stand};
-ghost use Rattle.bw_log.specs.Contents.{counted};
+ghost use Rattle.bw_log.specs.Contents.{KeepsLeaves};
 ghost use Rattle.bw_log.specs.Reads.{IsPage};
 ghost use Rattle.bw_care.specs.Moving.{MovedBehind};
 ghost use Rattle.bw_care.specs.Rewriting.{RefusesRewrite};
@@ -39,9 +37,7 @@ pub fn rewrite(alloc: Global, log: &mut Log, pages: &[u32]) -> Result<u64, LogFa
         RefusesRewrite fault (seen log.old holding) pages.now (seen log.new holding)) }
 
     // Whatever is answered, the counted frames stand for the leaves for which they stood.
-    ensures stands { (leaves : List Leaf)
-        → Stand (seen log.old holding).m (counted (seen log.old holding)) leaves
-        → Stand (seen log.old holding).m (counted (seen log.new holding)) leaves }
+    ensures stands { KeepsLeaves (seen log.old holding) (seen log.new holding) }
 {
     if log.is_failed() {
         return Err(LogFault::Failed);

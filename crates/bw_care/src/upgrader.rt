@@ -1,10 +1,8 @@
 //! An upgrade: the pages that were last set in segments of version 1 are written again, and all of
 //! these segments are given up.
 
-ghost use Rattle.std.specs.Prelude.{◌≡◌, ◌<◌, ◌≤◌, ◌↔◌, ℕ, Some, None, Err, List, true, false, length, take, slice_get, IfOk, IfErr, IfSome, IsErrOf};
-ghost use Rattle.bw_codec.specs.declared.leaf.Leaf.{Leaf};
-ghost use Rattle.bw_page.specs.Standing.{Stand};
-ghost use Rattle.bw_log.specs.Contents.{counted};
+ghost use Rattle.std.specs.Prelude.{◌≡◌, ◌<◌, ◌≤◌, ◌↔◌, ℕ, Some, None, Err, true, false, length, take, slice_get, IfOk, IfErr, IfSome, IsErrOf};
+ghost use Rattle.bw_log.specs.Contents.{counted, KeepsLeaves};
 ghost use Rattle.bw_log.specs.Oldest.{IsAfter, last_number};
 ghost use Rattle.bw_log.specs.Places.{base_of};
 ghost use Rattle.bw_log.specs.Reads.{IsPage};
@@ -76,9 +74,7 @@ fn give_up(log: &mut Log, count: u32)
         (base_of page (counted (seen log.old holding)))) }
     ensures sound { IsSound log.new holding }
     ensures given_up { GivenUp count (seen log.old holding) (seen log.new holding) }
-    ensures stands { (leaves : List Leaf)
-        → Stand (seen log.old holding).m (counted (seen log.old holding)) leaves
-        → Stand (seen log.old holding).m (counted (seen log.new holding)) leaves }
+    ensures stands { KeepsLeaves (seen log.old holding) (seen log.new holding) }
 {
     let mut given = 0;
     while given < count {
@@ -122,9 +118,7 @@ pub fn upgrade(alloc: Global, log: &mut Log) -> Result<Upgraded, CleanFault>
         RefusesUpgrade fault (seen log.old holding) (seen log.new holding)) }
 
     // Whatever is answered, the counted frames stand for the leaves for which they stood.
-    ensures stands { (leaves : List Leaf)
-        → Stand (seen log.old holding).m (counted (seen log.old holding)) leaves
-        → Stand (seen log.old holding).m (counted (seen log.new holding)) leaves }
+    ensures stands { KeepsLeaves (seen log.old holding) (seen log.new holding) }
 {
     let segments = old_segments(log);
     if segments == 0 {

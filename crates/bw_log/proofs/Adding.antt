@@ -61,11 +61,11 @@ pub before_next : (fs : List Frame) (k : ℕ) → AreFrom (first_number fs) fs �
 before_next [] k from next = tt
 before_next (f ∷ fs) k from next = let e = next_is f.number f fs k from next in all_below f.number k (f ∷ fs) from (omega arith)
 
-from_more : (n : ℕ) (fs : List Frame) (x : Frame) → AreFrom n fs → x.number ≡ n + length fs → AreFrom n (fs ++ x ∷ [])
+pub from_more : (n : ℕ) (fs : List Frame) (x : Frame) → AreFrom n fs → x.number ≡ n + length fs → AreFrom n (fs ++ x ∷ [])
 from_more n [] x from e = (e ∙ omega arith, tt)
 from_more n (f ∷ fs) x from e = (from.0, from_more (n + 1) fs x from.1 (omega arith))
 
-numbered_more : (fs : List Frame) (x : Frame) → AreFrom (first_number fs) fs → next_of fs ≡ Some x.number → AreFrom (first_number (fs ++ x ∷ [])) (fs ++ x ∷ [])
+pub numbered_more : (fs : List Frame) (x : Frame) → AreFrom (first_number fs) fs → next_of fs ≡ Some x.number → AreFrom (first_number (fs ++ x ∷ [])) (fs ++ x ∷ [])
 numbered_more [] x from next = (refl, tt)
 numbered_more (f ∷ fs) x from next = from_more f.number (f ∷ fs) x from (next_is f.number f fs x.number from next)
 

@@ -28,24 +28,6 @@ lease_told {X} v xs ys i lease same inside told =
     let P : Option Holding → Type 0 = λ o. IfSome o (λ h. lease ≡ h.lease) → MatchOption o (Some lease ≡ None) (λ h. Some lease ≡ Some h.lease) in
     subst P (sym there.1) (λ e. ap (λ n. Some n) e) (all same)
 
-abbrev Told : Type 0
-Told = ℕ × ℕ × ℕ
-
-pub segment_told : {X : Type 0} (v : X → Holding) (xs ys zs : List X) (i number k lease len : ℕ) → ys ≡ xs → zs ≡ xs → i < length xs → k ≡ i
-    → IfSome (slice_get (map v ys) i) (λ h. lease ≡ h.lease) → IfSome (slice_get (map v zs) i) (λ h. len ≡ length h.bytes)
-    → MatchOption (slice_get (map v xs) i) (◌≡◌ {A = Option Told} (Some (number + k, lease, len)) None)
-    (λ h. ◌≡◌ {A = Option Told} (Some (number + k, lease, len)) (Some (number + i, h.lease, length h.bytes)))
-segment_told {X} v xs ys zs i number k lease len ys_same zs_same inside at lease_is len_is =
-    let there = found v xs i inside in
-    let leases : IfSome (slice_get (map v xs) i) (λ h. lease ≡ h.lease) =
-    subst (λ (l : List X). IfSome (slice_get (map v l) i) (λ h. lease ≡ h.lease)) ys_same lease_is in
-    let lens : IfSome (slice_get (map v xs) i) (λ h. len ≡ length h.bytes) =
-    subst (λ (l : List X). IfSome (slice_get (map v l) i) (λ h. len ≡ length h.bytes)) zs_same len_is in
-    let P : Option Holding → Type 0 = λ o. IfSome o (λ h. lease ≡ h.lease) → IfSome o (λ h. len ≡ length h.bytes)
-    → MatchOption o (◌≡◌ {A = Option Told} (Some (number + k, lease, len)) None)
-    (λ h. ◌≡◌ {A = Option Told} (Some (number + k, lease, len)) (Some (number + i, h.lease, length h.bytes))) in
-    subst P (sym there.1) (λ e1 e2. rw (at, e1, e2) refl) leases lens
-
 -- each live segment has a number below the limit
 pub live_number : (l : Limits) (number : ℕ) (live : List (List ℕ)) (i : ℕ) → AreLive l number live → i < length live → number + i < 2 ^ 64
 live_number l number [] i are inside = absurd (omega arith)

@@ -1,6 +1,6 @@
 -- The bytes of one block among those of its frame and of its segment.
 
-use Rattle.std.proofs.Common.{◌≡◌, ℕ, IfSome, zero, suc, ◌+◌, ◌-◌, ◌<◌, ◌≤◌, Option, Some, None, Result, Ok, Err, List, [], ◌∷◌, ◌++◌, length, take, drop, get_or, slice_get, refl, sym, ap, subst, ◌∙◌}
+use Rattle.std.proofs.Common.{◌≡◌, ℕ, IfSome, zero, suc, ◌+◌, ◌-◌, ◌^◌, ◌<◌, ◌≤◌, Option, Some, None, Result, Ok, Err, List, [], ◌∷◌, ◌++◌, length, take, drop, get_or, slice_get, refl, sym, ap, subst, ◌∙◌}
 use Rattle.std.proofs.Common.{append_assoc, append-nil, arith, length-append}
 use Rattle.std.specs.List.{AllByRecursion}
 use Rattle.std.proofs.lemmas.List.{drop_at, take_at, take_all, drop-drop, drop-take, length-drop}
@@ -16,11 +16,16 @@ use Rattle.bw_log.specs.Segments.{version_at}
 use Rattle.bw_log.specs.Contents.{Contents, counted, IsSound}
 use Rattle.bw_log.specs.BlockBytes.{IsSpelled, IsSpelledAt, BlockAt, IsSpot}
 use Rattle.bw_log.specs.declared.blocks.Spot.{Spot}
+use Rattle.bw_codec.specs.declared.block.Place.{Place}
+use Rattle.bw_log.specs.Places.{all_placed}
+use Rattle.bw_log.specs.Walking.{PlacedAt}
+use Rattle.bw_log.proofs.Walked.{numbered_at}
 use Rattle.bw_log.specs.declared.places.FrameAt.{FrameAt}
 use Rattle.bw_log.proofs.Entries.{all_between}
 use Rattle.bw_log.specs.Reads.{IsLineIn, ReadStops}
 use Rattle.bw_log.specs.declared.fault.LogFault.{LogFault}
 use Rattle.bw_log.proofs.Fetched.{BoxedLine, boxed_line, stops_as}
+use Rattle.bw_log.proofs.Looked.{gave}
 use Rattle.bw_log.proofs.Walks.{same_before}
 
 -- ---- where a block begins and ends
@@ -308,3 +313,51 @@ stops_in_spot s (Ok x) new stops = stops
 stops_in_spot {A} {c} {i} {spot} s (Err fault) new stops =
     stops_as (λ j. j ≡ spot.at) (λ j. IsLineIn c i j) c new fault
     (λ j at. record { line = s.line; told = s.told; inside = s.at ∙ ap (λ (n : ℕ). c.number + n) (sym at) }) stops
+
+-- ---- a frame read whole and looked through
+
+-- what a law gives of all that bytes may spell, it gives of the spot's frame
+pub spot_law : {c : Contents} {i : ℕ} {spot : Spot} {line : FrameAt} (Q : Frame → Type 0) (s : Spotted c i spot line) (bytes : List ℕ) → IsSound c
+    → bytes ≡ frame_bytes_in (version_at c.old_to line.segment) s.boxed.frame
+    → ((m f : ℕ) (frame : Frame) → m < 2 ^ 16 → IsFrameIn spot.version m f frame → bytes ≡ frame_bytes_in spot.version frame → Q frame)
+    → Q s.boxed.frame
+spot_law {c} Q s bytes sound read law =
+    let most = sound.holds.limits.1 in
+    law c.m s.boxed.limit s.boxed.frame (omega arith) (spot_lawful s) (spot_spelled s bytes read)
+
+-- these are the frame's bytes, and where its blocks begin
+pub record LookedThrough (c : Contents) (i : ℕ) (spot : Spot) (line : FrameAt) (bytes known : List ℕ) : Type 0 where
+  pub spotted : Spotted c i spot line
+  pub read : bytes ≡ frame_bytes_in (version_at c.old_to line.segment) spotted.boxed.frame
+  pub told : known ≡ starts_of spot.version spotted.boxed.frame
+
+pub looked_through : {c : Contents} {i : ℕ} {spot : Spot} (none bytes slice known : List ℕ) → IsSound c → i < length c.frames → (s : IsSpot c i spot) → none ≡ []
+    → IfSome (slice_get c.live spot.at) (λ h. bytes ≡ none ++ take spot.len (drop spot.from h.bytes)) → slice ≡ bytes
+    → ((m f : ℕ) (frame : Frame) → m < 2 ^ 16 → IsFrameIn spot.version m f frame → slice ≡ frame_bytes_in spot.version frame
+    → Some (starts_of spot.version frame) ≡ Some known)
+    → LookedThrough c i spot s.line bytes known
+looked_through {c} {i} {spot} none bytes slice known sound inside s empty got same law =
+    let own = spotted_own sound inside s in
+    let read = spot_bytes own none bytes empty got in
+    record {
+      spotted = own;
+      read = read;
+      told = gave _ known (spot_law (λ (frame : Frame). Some (starts_of spot.version frame) ≡ Some known) own slice sound (same ∙ read) law);
+    }
+
+-- ---- a block by its place
+
+-- the spot of its frame
+pub placed_spot : {c : Contents} {place : Place} {b : Block} {spot : Spot} (first : FrameAt) → IsSound c → PlacedAt (all_placed (counted c)) place b
+    → first ≡ get_or c.frames 0 first → (s : IsSpot c (place.frame - first.number) spot) → Spotted c (place.frame - first.number) spot s.line
+placed_spot first sound x is s = spotted_own sound (numbered_at first sound x is).inside s
+
+-- the block alone, by the span that its frame's line has for it
+pub placed_alone : {c : Contents} {place : Place} {b : Block} {spot : Spot} (first line : FrameAt) (span : ℕ × ℕ) → IsSound c
+    → PlacedAt (all_placed (counted c)) place b → first ≡ get_or c.frames 0 first → IsSpot c (place.frame - first.number) spot
+    → line ≡ get_or c.frames (place.frame - first.number) line → IsSpan line.starts spot.len place.index span
+    → (span.0 ≤ span.1) × (spot.from + span.1 ≤ spot.from + spot.len)
+    × IsSpelledAt spot.version c.m c.live spot.at (spot.from + span.0) (span.1 - span.0) b
+placed_alone first line span sound x is s own spans =
+    let n = numbered_at first sound x is in
+    alone_at span line.starts (placed_spot first sound x is s) n.stands (ap (λ (l : FrameAt). l.starts) (line_is n.inside s line own)) spans

@@ -10,7 +10,7 @@ use Rattle.bw_codec.specs.declared.block.Frame.{Frame}
 use Rattle.bw_codec.specs.declared.block.Header.{Header}
 use Rattle.bw_log.specs.Starts.{starts_of}
 use Rattle.bw_log.specs.Segments.{Limits, header_in, version_at, limit_at, segment_frames, frames_of, entries_from, entries, AreLive, IsLive, is_before_next}
-use Rattle.bw_log.specs.Contents.{Image, limits_of, IsImage, counted_in}
+use Rattle.bw_log.specs.Contents.{Contents, Image, image, limits_of, IsImage, IsSound, counted, counted_in}
 use Rattle.bw_log.specs.Walking.{StandsAt}
 use Rattle.bw_log.specs.declared.places.FrameAt.{FrameAt}
 use Rattle.bw_codec.proofs.Heading.{length-header}
@@ -27,7 +27,7 @@ pub all_mapped : {Y : Type 0} (P Q : Y → Type 0) (xs : List Y) → ((y : Y) �
 all_mapped P Q [] f a = tt
 all_mapped P Q (x ∷ xs) f a = (f x a.0, all_mapped P Q xs f a.1)
 
-all_kept_by : {Y : Type 0} (P : Y → Type 0) (x : Y) (ys : List Y) (t : Bool) → P x → AllByRecursion P ys → AllByRecursion P (if t then x ∷ ys else ys)
+pub all_kept_by : {Y : Type 0} (P : Y → Type 0) (x : Y) (ys : List Y) (t : Bool) → P x → AllByRecursion P ys → AllByRecursion P (if t then x ∷ ys else ys)
 all_kept_by P x ys true one all = (one, all)
 all_kept_by P x ys false one all = all
 
@@ -195,3 +195,20 @@ listed_length i holds =
     let es = counted_entries i in
     ap (λ (l : List FrameAt). length l) holds.listed ∙ length-map es (λ (e : FrameAt × Frame). e.0) ∙ sym (length-map es (λ (e : FrameAt × Frame). e.1))
     ∙ ap (λ (l : List Frame). length l) (sym (counted_is i))
+
+-- ---- each counted frame
+
+-- what each lawful frame has, whatever its format, each frame of live segments has
+each_live : (P : Frame → Type 0) → ((v m f : ℕ) (x : Frame) → IsFrameIn v m f x → P x) → (l : Limits) (number : ℕ) (bytes : List (List ℕ))
+    → AreLive l number bytes → AllByRecursion P (frames_of bytes)
+each_live P lawful l number [] live = tt
+each_live P lawful l number (b ∷ bs) live =
+    let v = version_at l.old_to number in
+    all_append P (segment_frames b) (frames_of bs)
+    (all_mapped (IsFrameIn v l.m (limit_at l number)) P (segment_frames b) (lawful v l.m (limit_at l number)) live.0.whole.each)
+    (each_live P lawful l (number + 1) bs live.1)
+
+pub each_counted : (P : Frame → Type 0) → ((v m f : ℕ) (x : Frame) → IsFrameIn v m f x → P x) → (c : Contents) → IsSound c → AllByRecursion P (counted c)
+each_counted P lawful c sound =
+    all_filtered P (λ f. is_before_next c.next f.number) (frames_of (image c).bytes)
+    (each_live P lawful (limits_of (image c) sound.holds.live.0) c.number (image c).bytes sound.holds.live.1)

@@ -135,10 +135,10 @@ place_within_by : (test : Block → Bool) (n : ℕ) (fs : List Frame) (result : 
 place_within_by test n fs result place (inl nowhere) is = absurd cc
 place_within_by test n fs result place (inr found) is =
     let same : found.0 ≡ place = cc in
-    let last = found.2 in
-    let number : place.frame ≡ n + length last.before = ap (λ (x : Place). x.frame) (sym same) ∙ last.number in
-    let len = ap (λ (l : List Frame). length l) last.split in
-    (omega arith, omega (arith, len, length-append last.before (last.frame ∷ last.beyond)))
+    let at = found.2.at in
+    let number : place.frame ≡ n + length at.older = ap (λ (x : Place). x.frame) (sym same) ∙ at.number in
+    let len = ap (λ (l : List Frame). length l) at.split in
+    (omega arith, omega (arith, len, length-append at.older (at.frame ∷ at.newer)))
 
 pub place_within : (test : Block → Bool) (n : ℕ) (fs : List Frame) (place : Place) → AreFrom n fs → last_place test (all_placed fs) ≡ Some place
     → (n ≤ place.frame) × (place.frame < n + length fs)
@@ -157,14 +157,14 @@ some_placed_by : (test : Block → Bool) (n : ℕ) (fs : List Frame) (result : O
     → list_any test (blocks_of fs) ≡ false → ⊥
 some_placed_by test n fs result place (inl nowhere) is none = cc
 some_placed_by test n fs result place (inr found) is none =
-    let last = found.2 in
-    let all : list_any test (blocks_of last.before ++ (last.frame.blocks ++ blocks_of last.beyond)) ≡ false =
-    ap (list_any test) (sym (ap blocks_of last.split ∙ blocks_more last.before (last.frame ∷ last.beyond))) ∙ none in
-    let behind = or_parts (list_any test (blocks_of last.before)) (list_any test (last.frame.blocks ++ blocks_of last.beyond))
-    (sym (list_any-append test (blocks_of last.before) (last.frame.blocks ++ blocks_of last.beyond)) ∙ all) in
-    let here = or_parts (list_any test last.frame.blocks) (list_any test (blocks_of last.beyond))
-    (sym (list_any-append test last.frame.blocks (blocks_of last.beyond)) ∙ behind.1) in
-    true≢false (sym last.passes ∙ here.0)
+    let at = found.2.at in
+    let all : list_any test (blocks_of at.older ++ (at.frame.blocks ++ blocks_of at.newer)) ≡ false =
+    ap (list_any test) (sym (ap blocks_of at.split ∙ blocks_more at.older (at.frame ∷ at.newer))) ∙ none in
+    let behind = or_parts (list_any test (blocks_of at.older)) (list_any test (at.frame.blocks ++ blocks_of at.newer))
+    (sym (list_any-append test (blocks_of at.older) (at.frame.blocks ++ blocks_of at.newer)) ∙ all) in
+    let here = or_parts (list_any test at.frame.blocks) (list_any test (blocks_of at.newer))
+    (sym (list_any-append test at.frame.blocks (blocks_of at.newer)) ∙ behind.1) in
+    true≢false (sym found.2.passes ∙ here.0)
 
 -- ---- links of what is left
 

@@ -1,9 +1,12 @@
 -- The last frame of a live segment, by a search among the lines.
 
-use Rattle.std.proofs.Common.{inl, inr, ◌≡◌, ◌≢◌, ℕ, zero, suc, ◌+◌, ◌-◌, ◌<◌, ◌≤◌, Bool, true, false, nat_le, List, [], ◌∷◌, ◌++◌, length, map, get_or}
-use Rattle.std.proofs.Common.{slice_get, Option, Some, None, MatchOption, ◌⊎◌, refl, sym, ap, subst, ◌∙◌, append_assoc, arith, length-append}
+use Rattle.std.proofs.Common.{inl, inr, ◌≡◌, ◌≢◌, ℕ, ◌+◌, ◌-◌, ◌<◌, ◌≤◌, Bool, true, false, nat_le, List, [], ◌∷◌, ◌++◌, length, map, get_or}
+use Rattle.std.proofs.Common.{slice_get, Option, Some, MatchOption, ◌⊎◌, refl, sym, ap, subst, ◌∙◌, append_assoc, arith, length-append}
 use Rattle.std.specs.List.{fold, filter, AllByRecursion}
+use Rattle.std.specs.Borrow.{Bor}
+use Rattle.std.specs.Fn.{Called, ComputesKey, Mut}
 use Rattle.std.specs.List.Sorted.{IsPartitionedBy, IsPartitionPoint}
+use Rattle.std.proofs.lemmas.List.Sorted.{IsPartitionPoint-from_clause}
 use Rattle.std.proofs.lemmas.Bool.{le-leb, lt-leb}
 use Rattle.std.proofs.lemmas.List.{map-append, length-map, get_or-append-add}
 use Rattle.std.proofs.lemmas.List.Elements.{filter-append}
@@ -17,7 +20,7 @@ use Rattle.bw_log.specs.Oldest.{last_number}
 use Rattle.bw_log.specs.declared.places.FrameAt.{FrameAt}
 use Rattle.bw_log.proofs.Entries.{frames_in, all_append, all_filtered, all_mapped, filter_mapped, SplitAt, split_at}
 use Rattle.bw_log.proofs.GivenUp.{all_map}
-use Rattle.bw_log.proofs.LastNumber.{no_line, at_front, own_last, numbers_in, parted, point_is, same_last}
+use Rattle.bw_log.proofs.LastNumber.{Found, no_line, at_front, own_last, numbers_in, parted, point_is, same_last}
 
 -- ---- the lines before a segment, those in it, and the others
 
@@ -98,26 +101,25 @@ three_parts number next os b bs =
 
 -- ---- what the search finds
 
-pub record Found (segment : ℕ) (lines : List FrameAt) (n : ℕ) : Type 0 where
-  pub inside : n ≤ length lines
-  pub point : IsPartitionedBy (λ (e : FrameAt). nat_le e.segment segment) lines
-      → IsPartitionPoint (λ (e : FrameAt). nat_le e.segment segment ≡ true) (λ (e : FrameAt). nat_le e.segment segment ≡ false) lines n
+-- whether a line stands in a segment up to this one
+abbrev upto : ℕ → FrameAt → Bool
+upto segment e = nat_le e.segment segment
 
-count_is : {segment : ℕ} {lines : List FrameAt} {last n : ℕ} (t : ThreeParts segment lines last) → Found segment lines n → (d : FrameAt)
+count_is : {segment : ℕ} {lines : List FrameAt} {last n : ℕ} (t : ThreeParts segment lines last) → Found (upto segment) lines n → (d : FrameAt)
     → n ≡ length (t.before ++ t.own)
 count_is {segment} {lines} {last} {n} t found d =
-    let p : FrameAt → Bool = λ e. nat_le e.segment segment in
+    let p : FrameAt → Bool = upto segment in
     let front : AllByRecursion (λ (e : FrameAt). p e ≡ true) (t.before ++ t.own) =
     all_append (λ (e : FrameAt). p e ≡ true) t.before t.own
     (all_mapped (λ (e : FrameAt). e.segment < segment) (λ (e : FrameAt). p e ≡ true) t.before (λ e lt. le-leb e.segment segment (omega arith)) t.below)
     (all_mapped (λ (e : FrameAt). e.segment ≡ segment) (λ (e : FrameAt). p e ≡ true) t.own (λ e is. le-leb e.segment segment (omega arith)) t.here) in
     let back : AllByRecursion (λ (e : FrameAt). p e ≡ false) t.others =
     all_mapped (λ (e : FrameAt). segment < e.segment) (λ (e : FrameAt). p e ≡ false) t.others (λ e lt. lt-leb e.segment segment lt) t.above in
-    let f : Found segment ((t.before ++ t.own) ++ t.others) n = subst (λ (l : List FrameAt). Found segment l n) t.split found in
+    let f : Found p ((t.before ++ t.own) ++ t.others) n = subst (λ (l : List FrameAt). Found p l n) t.split found in
     point_is p (t.before ++ t.own) t.others n d front back f.inside (f.point (parted p (t.before ++ t.own) t.others front back))
 
 -- no line up to the segment's
-pub none_last : {segment : ℕ} {lines : List FrameAt} {last n : ℕ} (t : ThreeParts segment lines last) → Found segment lines n → FrameAt → n ≡ 0 → last ≡ 0
+pub none_last : {segment : ℕ} {lines : List FrameAt} {last n : ℕ} (t : ThreeParts segment lines last) → Found (upto segment) lines n → FrameAt → n ≡ 0 → last ≡ 0
 none_last {segment} {lines} {last} {n} t found d none = t.tells ∙ empty t.own (let c = count_is t found d in omega (arith, length-append t.before t.own))
   where
     empty : (own : List FrameAt) → length own ≡ 0 → fold (λ was (e : FrameAt). e.number) 0 own ≡ 0
@@ -145,7 +147,7 @@ last_by segment before (x ∷ xs) others n d below here count some =
       own_last own others (length own) d refl (omega arith) ∙ ap (λ (e : FrameAt). e.number) (sym is),
     )
 
-pub last_told : {segment : ℕ} {lines : List FrameAt} {last n : ℕ} (t : ThreeParts segment lines last) → Found segment lines n → (d : FrameAt) → 0 < n
+pub last_told : {segment : ℕ} {lines : List FrameAt} {last n : ℕ} (t : ThreeParts segment lines last) → Found (upto segment) lines n → (d : FrameAt) → 0 < n
     → (((get_or lines (n - 1) d).segment ≡ segment) × (last ≡ (get_or lines (n - 1) d).number)) ⊎ (((get_or lines (n - 1) d).segment ≢ segment) × (last ≡ 0))
 last_told {segment} {lines} {last} {n} t found d some =
     elim (last_by segment t.before t.own t.others n d t.below t.here (count_is t found d) some) [
@@ -191,59 +193,59 @@ around c segment sound from inside =
           (three_parts c.number c.next os s.item.bytes (map bytes s.beyond)));
     }
 
-pub told_at : (c : Contents) (segment n : ℕ) → (a : Around c segment) → n ≡ last_number c a.box
-    → MatchOption (slice_get c.live (segment - c.number)) (n ≡ 0) (λ h. n ≡ last_number c h)
-told_at c segment n a is = subst (λ (o : Option Holding). MatchOption o (n ≡ 0) (λ h. n ≡ last_number c h)) (sym a.there) is
+-- a search among the lines of a log for the end of those up to one of its live segments
+pub record Search (c : Contents) (lines : List FrameAt) (segment n : ℕ) : Type 0 where
+  pub same : lines ≡ c.frames
+  pub sound : IsSound c
+  pub from : c.number ≤ segment
+  pub inside : segment - c.number < length c.live
+  pub found : Found (upto segment) lines n
 
-last_of_live : (c : Contents) (i segment n : ℕ) → segment - c.number ≡ i → i < length c.live
-    → MatchOption (slice_get c.live (segment - c.number)) (n ≡ 0) (λ h. n ≡ last_number c h)
-    → MatchOption (slice_get c.live i) (Some n ≡ None) (λ h. Some n ≡ Some (last_number c h))
-last_of_live c i segment n at inside told =
-    some_by (slice_get c.live i) (last_at c.live i inside) (subst (λ (k : ℕ). MatchOption (slice_get c.live k) (n ≡ 0) (λ h. n ≡ last_number c h)) at told)
-  where
-    last_at : (hs : List Holding) (k : ℕ) → k < length hs → (slice_get hs k ≡ None → ⊥)
-    last_at [] k lt none = absurd (omega arith)
-    last_at (h ∷ hs) zero lt none = absurd cc
-    last_at (h ∷ hs) (suc k) lt none = last_at hs k (omega arith) none
+-- as the code searches
+pub searched : {X F : Type 0} {g : Mut F (Bor FrameAt × Unit {0}) Bool} {f : F} (v : X → Holding) (c : Contents) (xs : List X) (lines : List FrameAt) (segment n : ℕ)
+    → c.live ≡ map v xs → lines ≡ c.frames → IsSound c → c.number ≤ segment → segment - c.number < length xs → n ≤ length lines
+    → ((q : FrameAt → Bool) → ComputesKey g q f → IsPartitionedBy q lines → IsPartitionPoint (λ e. q e ≡ true) (λ e. q e ≡ false) lines n)
+    → ((a : Bor FrameAt × Unit {0}) (r : Bool) (f' : F) → Called g f a r f' → (r ≡ nat_le a.0.now.segment segment) × (f' ≡ f))
+    → Search c lines segment n
+searched v c xs lines segment n live same sound from inside few clause calls = record {
+  same = same;
+  sound = sound;
+  from = from;
+  inside = omega (arith, ap (λ (l : List Holding). length l) live, length-map xs v);
+  found = record { inside = few; point = λ parted. IsPartitionPoint-from_clause (upto segment) lines n clause parted calls };
+}
 
-    some_by : (o : Option Holding) → (o ≡ None → ⊥) → MatchOption o (n ≡ 0) (λ h. n ≡ last_number c h)
-        → MatchOption o (Some n ≡ None) (λ h. Some n ≡ Some (last_number c h))
-    some_by None some t = absurd (some refl)
-    some_by (Some h) some t = ap (λ (k : ℕ). Some k) t
+-- the lines around that segment
+pub search_parts : {c : Contents} {lines : List FrameAt} {segment n : ℕ} → Search c lines segment n
+    → (h : Holding) × (slice_get c.live (segment - c.number) ≡ Some h) × ThreeParts segment lines (last_number c h)
+search_parts {c} {lines} {segment} {n} s =
+    let a : Around c segment = around c segment s.sound s.from s.inside in
+    (a.box, a.there, subst (λ (l : List FrameAt). ThreeParts segment l (last_number c a.box)) (sym s.same) a.parts)
 
--- as the code finds it
-pub none_told : (c : Contents) (lines : List FrameAt) (segment n : ℕ) → lines ≡ c.frames → IsSound c → c.number ≤ segment → segment - c.number < length c.live
-    → Found segment lines n → n ≡ 0 → MatchOption (slice_get c.live (segment - c.number)) (◌≡◌ {A = ℕ} 0 0) (λ h. 0 ≡ last_number c h)
-none_told c lines segment n same sound from inside found none =
-    let a : Around c segment = around c segment sound from inside in
-    let f : Found segment c.frames n = subst (λ (l : List FrameAt). Found segment l n) same found in
-    told_at c segment 0 a (sym (none_last a.parts f no_line none))
+told_by : {c : Contents} {lines : List FrameAt} {segment n : ℕ} (last : ℕ) (s : Search c lines segment n) → last ≡ last_number c (search_parts s).0
+    → MatchOption (slice_get c.live (segment - c.number)) (last ≡ 0) (λ h. last ≡ last_number c h)
+told_by {c} {lines} {segment} {n} last s is =
+    subst (λ (o : Option Holding). MatchOption o (last ≡ 0) (λ h. last ≡ last_number c h)) (sym (search_parts s).1) is
 
-pub own_told : (c : Contents) (lines : List FrameAt) (segment n : ℕ) (line : FrameAt) → line ≡ get_or lines (n - 1) line → lines ≡ c.frames → IsSound c
-    → c.number ≤ segment → segment - c.number < length c.live → Found segment lines n → 0 < n → line.segment ≡ segment
+pub none_told : {c : Contents} {lines : List FrameAt} {segment n : ℕ} → Search c lines segment n → n ≡ 0
+    → MatchOption (slice_get c.live (segment - c.number)) (◌≡◌ {A = ℕ} 0 0) (λ h. 0 ≡ last_number c h)
+none_told s none = told_by 0 s (sym (none_last (search_parts s).2 s.found no_line none))
+
+-- the number of the line before the end, where it stands in the segment, and else 0
+pub own_told : {c : Contents} {lines : List FrameAt} {segment n : ℕ} (line : FrameAt) → Search c lines segment n → line ≡ get_or lines (n - 1) line → 0 < n
+    → line.segment ≡ segment
     → MatchOption (slice_get c.live (segment - c.number)) (line.number ≡ 0) (λ h. line.number ≡ last_number c h)
-own_told c lines segment n line is same sound from inside found some own =
-    let a : Around c segment = around c segment sound from inside in
-    let t : ThreeParts segment lines (last_number c a.box) = subst (λ (l : List FrameAt). ThreeParts segment l (last_number c a.box)) (sym same) a.parts in
-    elim (last_told t found line some) [
-      | inl x ↦ told_at c segment line.number a (ap (λ (l : FrameAt). l.number) is ∙ sym x.1)
+own_told line s is some own =
+    elim (last_told (search_parts s).2 s.found line some) [
+      | inl x ↦ told_by line.number s (ap (λ (l : FrameAt). l.number) is ∙ sym x.1)
       | inr x ↦ absurd (x.0 (ap (λ (l : FrameAt). l.segment) (sym is) ∙ own))
     ]
 
-pub other_told : (c : Contents) (lines : List FrameAt) (segment n : ℕ) (line : FrameAt) → line ≡ get_or lines (n - 1) line → lines ≡ c.frames → IsSound c
-    → c.number ≤ segment → segment - c.number < length c.live → Found segment lines n → 0 < n → line.segment ≢ segment
+pub other_told : {c : Contents} {lines : List FrameAt} {segment n : ℕ} (line : FrameAt) → Search c lines segment n → line ≡ get_or lines (n - 1) line → 0 < n
+    → line.segment ≢ segment
     → MatchOption (slice_get c.live (segment - c.number)) (◌≡◌ {A = ℕ} 0 0) (λ h. 0 ≡ last_number c h)
-other_told c lines segment n line is same sound from inside found some other =
-    let a : Around c segment = around c segment sound from inside in
-    let t : ThreeParts segment lines (last_number c a.box) = subst (λ (l : List FrameAt). ThreeParts segment l (last_number c a.box)) (sym same) a.parts in
-    elim (last_told t found line some) [
+other_told line s is some other =
+    elim (last_told (search_parts s).2 s.found line some) [
       | inl x ↦ absurd (other (ap (λ (l : FrameAt). l.segment) is ∙ x.0))
-      | inr x ↦ told_at c segment 0 a (sym x.1)
+      | inr x ↦ told_by 0 s (sym x.1)
     ]
-
--- the same of boxes
-pub last_of_boxes : {X : Type 0} (v : X → Holding) (c : Contents) (xs : List X) (i segment n : ℕ) → c.live ≡ map v xs → segment - c.number ≡ i
-    → i < length xs → MatchOption (slice_get c.live (segment - c.number)) (n ≡ 0) (λ h. n ≡ last_number c h)
-    → MatchOption (slice_get c.live i) (Some n ≡ None) (λ h. Some n ≡ Some (last_number c h))
-last_of_boxes v c xs i segment n live at inside told =
-    last_of_live c i segment n at (omega (arith, ap (λ (l : List Holding). length l) live, length-map xs v)) told

@@ -1,7 +1,7 @@
 -- Frames: the last of them that a test passes, and one step back along a page's links.
 
-use Rattle.std.proofs.Common.{◌≡◌, ℕ, ◌+◌, ◌==◌, ◌||◌, ◌⊎◌, inl, inr, Bool, true, false, Option, Some, None, List, [], ◌∷◌, ◌++◌, length, if◌then◌else◌, refl}
-use Rattle.std.proofs.Common.{sym, ap, subst, ◌∙◌, append_assoc, append-nil, arith}
+use Rattle.std.proofs.Common.{◌≡◌, ℕ, ◌+◌, ◌==◌, ◌||◌, ◌⊎◌, inl, inr, Bool, true, false, Option, Some, None, List, [], ◌∷◌, ◌++◌, if◌then◌else◌, refl}
+use Rattle.std.proofs.Common.{sym, ap, subst, ◌∙◌, append_assoc, append-nil}
 use Rattle.std.specs.List.{fold, list_any}
 use Rattle.std.proofs.lemmas.Bool.{or_parts, or_from, or_left, or_right, eqb-true}
 use Rattle.std.proofs.lemmas.List.Folds.{list_any-append}
@@ -15,6 +15,7 @@ use Rattle.bw_page.specs.Standing.{blocks_of}
 use Rattle.bw_log.specs.Places.{placed, all_placed, later, last_place, is_back, fault_at, fault_of, or_else, bad_link}
 use Rattle.bw_log.specs.Segments.{AreFrom}
 use Rattle.bw_log.specs.Walking.{first_back}
+use Rattle.bw_log.proofs.Placing.{FrameOf, first_frame, later_frame}
 
 -- ---- the last block of one frame that a test passes
 
@@ -42,13 +43,9 @@ in_blocks test number i acc (b ∷ bs) =
 
 -- the last frame with a block that passes, and its number
 pub record LastIn (test : Block → Bool) (n : ℕ) (fs : List Frame) (place : Place) : Type 0 where
-  pub before : List Frame
-  pub frame : Frame
-  pub beyond : List Frame
-  pub split : fs ≡ before ++ frame ∷ beyond
-  pub number : place.frame ≡ n + length before
-  pub passes : list_any test frame.blocks ≡ true
-  pub none : list_any test (blocks_of beyond) ≡ false
+  pub at : FrameOf n fs place
+  pub passes : list_any test at.frame.blocks ≡ true
+  pub none : list_any test (blocks_of at.newer) ≡ false
 
 abbrev pub InFrames : (Block → Bool) → ℕ → Option Place → List Frame → Option Place → Type 0
 InFrames test n acc fs result =
@@ -62,35 +59,11 @@ in_frames_by : (test : Block → Bool) (n : ℕ) (acc middle : Option Place) (f 
     → InBlocks test f.number acc f.blocks middle → InFrames test (n + 1) middle fs result → InFrames test n acc (f ∷ fs) result
 in_frames_by test n acc middle f fs result is first (inr found) =
     let last = found.2 in
-    inr (
-      found.0,
-      found.1,
-      record {
-        before = f ∷ last.before;
-        frame = last.frame;
-        beyond = last.beyond;
-        split = ap (λ (x : List Frame). f ∷ x) last.split;
-        number = last.number ∙ (omega arith);
-        passes = last.passes;
-        none = last.none;
-      },
-    )
+    inr (found.0, found.1, record { at = later_frame n f fs found.0 last.at; passes = last.passes; none = last.none })
 in_frames_by test n acc middle f fs result is (inl nowhere) (inl later) =
     inl (any_of_two test f fs ∙ or_from (list_any test f.blocks) (list_any test (blocks_of fs)) nowhere.0 later.0, later.1 ∙ nowhere.1)
 in_frames_by test n acc middle f fs result is (inr here) (inl later) =
-    inr (
-      here.0,
-      later.1 ∙ here.1,
-      record {
-        before = [];
-        frame = f;
-        beyond = fs;
-        split = refl;
-        number = here.2 ∙ is ∙ (omega arith);
-        passes = here.3;
-        none = later.0;
-      },
-    )
+    inr (here.0, later.1 ∙ here.1, record { at = first_frame n f fs here.0 (here.2 ∙ is); passes = here.3; none = later.0 })
 
 pub frames_last : (test : Block → Bool) (n : ℕ) (acc : Option Place) (fs : List Frame) → AreFrom n fs
     → InFrames test n acc fs (fold (later test) acc (all_placed fs))

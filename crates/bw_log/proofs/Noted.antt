@@ -16,7 +16,7 @@ use Rattle.bw_codec.specs.declared.block.Frame.{Frame}
 use Rattle.bw_buffer.specs.Marks.{mark_of}
 use Rattle.bw_buffer.specs.declared.mark.Mark.{Mark}
 use Rattle.bw_buffer.specs.declared.mark.Mark.TheVariants.{Changes, Sets, Splits}
-use Rattle.bw_log.specs.Places.{placed, all_placed, later, last_place, one_more, walked}
+use Rattle.bw_log.specs.Places.{placed, all_placed, later, one_more, walked}
 use Rattle.bw_log.specs.Contents.{some_place, entry_place, place_in, entry_walk, walk_in, IsTable}
 use Rattle.bw_log.specs.PageTable.{changed_line, set_line, with_place, with_base, noted, noted_all, IsInTable, HasLines, HaveLines, top_of, top_page, no_place, empty_line}
 use Rattle.bw_log.specs.declared.places.PageAt.{PageAt}
@@ -160,32 +160,18 @@ walk_noted (Split page back upper) q pages p lines from =
 lines_stay : (bs : List Block) (m n : ℕ) → m ≡ n → HaveLines bs n → HaveLines bs m
 lines_stay bs m n e lines = subst (HaveLines bs) (sym e) lines
 
-places_noted : (number i : ℕ) (bs : List Block) (pages : List PageAt) (p : ℕ) → HaveLines bs (length pages) → 1 ≤ p → 1 ≤ number
-    → place_in (λ e. e.place) (noted_all number i bs pages) p ≡ fold (later (touches p)) (place_in (λ e. e.place) pages p) (placed number i bs)
-places_noted number i [] pages p lines from some = refl
-places_noted number i (b ∷ bs) pages p lines from some =
+-- what a table says changes by one step a block
+noted_on : {A : Type 0} (says : List PageAt → A) (step : A → Place × Block → A) (number : ℕ)
+    → ((b : Block) (i : ℕ) (pages : List PageAt) → HasLines (mark_of b) (length pages)
+    → says (noted (mark_of b) (record { frame = number; index = i }) pages) ≡ step (says pages) (record { frame = number; index = i }, b))
+    → (i : ℕ) (bs : List Block) (pages : List PageAt) → HaveLines bs (length pages)
+    → says (noted_all number i bs pages) ≡ fold step (says pages) (placed number i bs)
+noted_on says step number one i [] pages lines = refl
+noted_on {A} says step number one i (b ∷ bs) pages lines =
     let q : Place = record { frame = number; index = i } in
-    places_noted number (i + 1) bs (noted (mark_of b) q pages) p
-    (lines_stay bs (length (noted (mark_of b) q pages)) (length pages) (length-noted (mark_of b) q pages) lines.1) from some
-    ∙ ap (λ (o : Option Place). fold (later (touches p)) o (placed number (i + 1) bs)) (place_noted b q pages p lines.0 from some)
-
-bases_noted : (number i : ℕ) (bs : List Block) (pages : List PageAt) (p : ℕ) → HaveLines bs (length pages) → 1 ≤ p → 1 ≤ number
-    → place_in (λ e. e.base) (noted_all number i bs pages) p ≡ fold (later (sets p)) (place_in (λ e. e.base) pages p) (placed number i bs)
-bases_noted number i [] pages p lines from some = refl
-bases_noted number i (b ∷ bs) pages p lines from some =
-    let q : Place = record { frame = number; index = i } in
-    bases_noted number (i + 1) bs (noted (mark_of b) q pages) p
-    (lines_stay bs (length (noted (mark_of b) q pages)) (length pages) (length-noted (mark_of b) q pages) lines.1) from some
-    ∙ ap (λ (o : Option Place). fold (later (sets p)) o (placed number (i + 1) bs)) (base_noted b q pages p lines.0 from some)
-
-walks_noted : (number i : ℕ) (bs : List Block) (pages : List PageAt) (p : ℕ) → HaveLines bs (length pages) → 1 ≤ p
-    → walk_in (noted_all number i bs pages) p ≡ fold (walked p) (walk_in pages p) (placed number i bs)
-walks_noted number i [] pages p lines from = refl
-walks_noted number i (b ∷ bs) pages p lines from =
-    let q : Place = record { frame = number; index = i } in
-    walks_noted number (i + 1) bs (noted (mark_of b) q pages) p
-    (lines_stay bs (length (noted (mark_of b) q pages)) (length pages) (length-noted (mark_of b) q pages) lines.1) from
-    ∙ ap (λ (w : ℕ × ℕ). fold (walked p) w (placed number (i + 1) bs)) (walk_noted b q pages p lines.0 from)
+    noted_on says step number one (i + 1) bs (noted (mark_of b) q pages)
+    (lines_stay bs (length (noted (mark_of b) q pages)) (length pages) (length-noted (mark_of b) q pages) lines.1)
+    ∙ ap (λ (a : A). fold step a (placed number (i + 1) bs)) (one b i pages lines.0)
 
 pub length-noted_all : (number i : ℕ) (bs : List Block) (pages : List PageAt) → length (noted_all number i bs pages) ≡ length pages
 length-noted_all number i [] pages = refl
@@ -201,22 +187,27 @@ placed_more : (frames : List Frame) (x : Frame) → all_placed (frames ++ x ∷ 
 placed_more frames x = flat_map-append (λ (f : Frame). placed f.number 0 f.blocks) frames (x ∷ [])
     ∙ ap (λ (l : List (Place × Block)). all_placed frames ++ l) (append-nil (placed x.number 0 x.blocks))
 
+-- what a table says by the blocks of all frames, after a frame more
+told_more : {A : Type 0} (says : List PageAt → A) (step : A → Place × Block → A) (none : A) (pages : List PageAt) (all : List Frame) (x : Frame)
+    → ((b : Block) (i : ℕ) (l : List PageAt) → HasLines (mark_of b) (length l)
+    → says (noted (mark_of b) (record { frame = x.number; index = i }) l) ≡ step (says l) (record { frame = x.number; index = i }, b))
+    → HaveLines x.blocks (length pages) → says pages ≡ fold step none (all_placed all)
+    → says (noted_all x.number 0 x.blocks pages) ≡ fold step none (all_placed (all ++ x ∷ []))
+told_more {A} says step none pages all x one lines told =
+    noted_on says step x.number one 0 x.blocks pages lines
+    ∙ ap (λ (a : A). fold step a (placed x.number 0 x.blocks)) told
+    ∙ sym (ap (fold step none) (placed_more all x) ∙ fold-append step none (all_placed all) (placed x.number 0 x.blocks))
+
 -- the table after a frame more
 pub table_more : (pages : List PageAt) (all : List Frame) (x : Frame) → IsTable pages all → 1 ≤ x.number → HaveLines x.blocks (length pages)
     → IsTable (noted_all x.number 0 x.blocks pages) (all ++ x ∷ [])
 table_more pages all x table some lines = record {
-  places = λ p from.
-      places_noted x.number 0 x.blocks pages p lines from some
-      ∙ ap (λ (o : Option Place). fold (later (touches p)) o (placed x.number 0 x.blocks)) (table.places p from)
-      ∙ sym (ap (last_place (touches p)) (placed_more all x) ∙ fold-append (later (touches p)) None (all_placed all) (placed x.number 0 x.blocks));
-  bases = λ p from.
-      bases_noted x.number 0 x.blocks pages p lines from some
-      ∙ ap (λ (o : Option Place). fold (later (sets p)) o (placed x.number 0 x.blocks)) (table.bases p from)
-      ∙ sym (ap (last_place (sets p)) (placed_more all x) ∙ fold-append (later (sets p)) None (all_placed all) (placed x.number 0 x.blocks));
-  walks = λ p from.
-      walks_noted x.number 0 x.blocks pages p lines from
-      ∙ ap (λ (w : ℕ × ℕ). fold (walked p) w (placed x.number 0 x.blocks)) (table.walks p from)
-      ∙ sym (ap (fold (walked p) (0, 0)) (placed_more all x) ∙ fold-append (walked p) (0, 0) (all_placed all) (placed x.number 0 x.blocks));
+  places = λ p from. told_more (λ l. place_in (λ e. e.place) l p) (later (touches p)) None pages all x
+      (λ b i l has. place_noted b (record { frame = x.number; index = i }) l p has from some) lines (table.places p from);
+  bases = λ p from. told_more (λ l. place_in (λ e. e.base) l p) (later (sets p)) None pages all x
+      (λ b i l has. base_noted b (record { frame = x.number; index = i }) l p has from some) lines (table.bases p from);
+  walks = λ p from. told_more (λ l. walk_in l p) (walked p) (0, 0) pages all x
+      (λ b i l has. walk_noted b (record { frame = x.number; index = i }) l p has from) lines (table.walks p from);
 }
 
 -- ---- lines that say nothing

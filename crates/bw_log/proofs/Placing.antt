@@ -77,15 +77,31 @@ in_blocks n i (x ∷ xs) (y ∷ before) place b beyond e =
 
 -- ---- a block of frames numbered one after the other
 
-pub record InFrames (n : ℕ) (fs : List Frame) (place : Place) (b : Block) : Type 0 where
+-- the frame of a place
+pub record FrameOf (n : ℕ) (fs : List Frame) (place : Place) : Type 0 where
   pub older : List Frame
-  pub newer : List Frame
   pub frame : Frame
+  pub newer : List Frame
   pub split : fs ≡ older ++ frame ∷ newer
   pub number : place.frame ≡ n + length older
+
+abbrev pub first_frame : (n : ℕ) (f : Frame) (fs : List Frame) (place : Place) → place.frame ≡ n → FrameOf n (f ∷ fs) place
+first_frame n f fs place is = record { older = []; frame = f; newer = fs; split = refl; number = is ∙ (omega arith) }
+
+abbrev pub later_frame : (n : ℕ) (f : Frame) (fs : List Frame) (place : Place) → FrameOf (n + 1) fs place → FrameOf n (f ∷ fs) place
+later_frame n f fs place r = record {
+  older = f ∷ r.older;
+  frame = r.frame;
+  newer = r.newer;
+  split = ap (λ (l : List Frame). f ∷ l) r.split;
+  number = r.number ∙ (omega arith);
+}
+
+pub record InFrames (n : ℕ) (fs : List Frame) (place : Place) (b : Block) : Type 0 where
+  pub at : FrameOf n fs place
   pub front : List Block
   pub back : List Block
-  pub blocks : frame.blocks ≡ front ++ b ∷ back
+  pub blocks : at.frame.blocks ≡ front ++ b ∷ back
   pub index : place.index ≡ length front
 
 in_frames_by : (n : ℕ) (f : Frame) (fs : List Frame) (before : List (Place × Block)) (place : Place) (b : Block) (beyond : List (Place × Block))
@@ -94,30 +110,10 @@ in_frames_by : (n : ℕ) (f : Frame) (fs : List Frame) (before : List (Place × 
     → InFrames n (f ∷ fs) place b
 in_frames_by n f fs before place b beyond first others (inl one) =
     let r = in_blocks f.number 0 f.blocks before place b one.0 one.1 in
-    record {
-      older = [];
-      newer = fs;
-      frame = f;
-      split = refl;
-      number = r.frame ∙ first ∙ (omega arith);
-      front = r.front;
-      back = r.back;
-      blocks = r.split;
-      index = r.index ∙ (omega arith);
-    }
+    record { at = first_frame n f fs place (r.frame ∙ first); front = r.front; back = r.back; blocks = r.split; index = r.index ∙ (omega arith) }
 in_frames_by n f fs before place b beyond first others (inr other) =
     let r = others other.0 other.2 in
-    record {
-      older = f ∷ r.older;
-      newer = r.newer;
-      frame = r.frame;
-      split = ap (λ (l : List Frame). f ∷ l) r.split;
-      number = r.number ∙ (omega arith);
-      front = r.front;
-      back = r.back;
-      blocks = r.blocks;
-      index = r.index;
-    }
+    record { at = later_frame n f fs place r.at; front = r.front; back = r.back; blocks = r.blocks; index = r.index }
 
 pub in_frames : (n : ℕ) (fs : List Frame) (before : List (Place × Block)) (place : Place) (b : Block) (beyond : List (Place × Block))
     → AreFrom n fs → all_placed fs ≡ before ++ (place, b) ∷ beyond → InFrames n fs place b
@@ -151,7 +147,7 @@ earlier_by n f fs front b1 y c b2 x b beyond first are there others (inl one) =
     let sooner = in_blocks f.number 0 f.blocks b1 y c one.0 one.1 in
     let later = in_frames (n + 1) fs front x b beyond are there in
     let sf = sooner.frame in
-    let ln = later.number in
+    let ln = later.at.number in
     inl (omega arith)
 earlier_by n f fs front b1 y c b2 x b beyond first are there others (inr other) = others other.0 other.2
 

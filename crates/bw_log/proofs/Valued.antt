@@ -1,10 +1,10 @@
 -- The newest word of a key on a page decides, so a walk back may end there.
 
-use Rattle.std.proofs.Common.{◌≡◌, ℕ, ◌+◌, ◌||◌, Bool, true, false, Option, Some, None, Result, Ok, Err, List, [], ◌∷◌, ◌++◌, reverse}
-use Rattle.std.proofs.Common.{refl, sym, ap, subst, ◌∙◌, if◌then◌else◌}
-use Rattle.std.specs.List.{AllByRecursion as All, fold, filter, list_any}
+use Rattle.std.proofs.Common.{◌≡◌, ℕ, ◌||◌, true, false, Option, Some, None, Result, Ok, Err, List, [], ◌∷◌, ◌++◌, reverse}
+use Rattle.std.proofs.Common.{refl, sym, ap, subst, ◌∙◌}
+use Rattle.std.specs.List.{AllByRecursion as All, fold, list_any}
 use Rattle.std.proofs.lemmas.Bool.{or_parts}
-use Rattle.bw_codec.specs.Grammar.{IsBlockIn, IsFrameIn}
+use Rattle.bw_codec.specs.Grammar.{IsBlockIn}
 use Rattle.bw_codec.specs.Touch.{sets}
 use Rattle.bw_codec.specs.declared.leaf.Leaf.{Leaf}
 use Rattle.bw_codec.specs.declared.block.Place.{Place}
@@ -19,11 +19,11 @@ use Rattle.bw_page.specs.declared.words.Word.TheVariants.{Silent}
 use Rattle.bw_page.proofs.Sorted.{Rises}
 use Rattle.bw_page.proofs.Wording.{RisesIf, rises_all, blocks_tell, words_append, silent_unset, said_over}
 use Rattle.bw_log.specs.Places.{all_placed}
-use Rattle.bw_log.specs.Contents.{Contents, image, counted, limits_of, IsSound}
-use Rattle.bw_log.specs.Segments.{Limits, version_at, limit_at, frames_of, segment_frames, is_before_next, AreLive}
+use Rattle.bw_log.specs.Contents.{Contents, counted, IsSound}
 use Rattle.bw_log.specs.Walking.{first_back, bodies, PlacedAt, IsWalk}
 use Rattle.bw_log.specs.Reads.{IsKept, ReadStops}
 use Rattle.bw_log.specs.declared.fault.LogFault.{LogFault}
+use Rattle.bw_log.proofs.Entries.{all_append, each_counted}
 use Rattle.bw_log.proofs.Fetched.{kept_after, kept_same, sound_after}
 use Rattle.bw_log.proofs.Placing.{bodies_all, bodies_more}
 use Rattle.bw_log.proofs.Walk.{none_after, forgets_fold}
@@ -31,17 +31,6 @@ use Rattle.bw_log.proofs.Walks.{content_one, reads_one, newest_last}
 use Rattle.bw_log.proofs.Walked.{Reads, Step, read_is, step_is, some_link}
 
 -- ---- the pairs of counted frames ascend
-
-all_join : {X : Type 0} (P : X → Type 0) (xs ys : List X) → All P xs → All P ys → All P (xs ++ ys)
-all_join P [] ys a b = b
-all_join P (x ∷ xs) ys a b = (a.0, all_join P xs ys a.1 b)
-
-all_kept : {X : Type 0} (P : X → Type 0) (test : X → Bool) (xs : List X) → All P xs → All P (filter test xs)
-all_kept P test [] h = tt
-all_kept P test (x ∷ xs) h = elim (test x) as (λ b. All P (if b then x ∷ filter test xs else filter test xs)) [
-  | true ↦ (h.0, all_kept P test xs h.1)
-  | false ↦ all_kept P test xs h.1
-]
 
 all_split : {X : Type 0} (P : X → Type 0) (xs : List X) (y : X) (ys : List X) → All P (xs ++ y ∷ ys) → All P xs × P y
 all_split P [] y ys h = (tt, h.0)
@@ -59,25 +48,12 @@ blocks_ordered : (v m : ℕ) (bs : List Block) → All (IsBlockIn v m) bs → Al
 blocks_ordered v m [] h = tt
 blocks_ordered v m (b ∷ bs) h = (block_ordered v m b h.0, blocks_ordered v m bs h.1)
 
-frames_ordered : (v m f : ℕ) (fs : List Frame) → All (IsFrameIn v m f) fs → All IsOrdered fs
-frames_ordered v m f [] h = tt
-frames_ordered v m f (x ∷ xs) h = (blocks_ordered v m x.blocks h.0.blocks, frames_ordered v m f xs h.1)
-
-live_ordered : (l : Limits) (number : ℕ) (bytes : List (List ℕ)) → AreLive l number bytes → All IsOrdered (frames_of bytes)
-live_ordered l number [] live = tt
-live_ordered l number (b ∷ bs) live =
-    all_join IsOrdered (segment_frames b) (frames_of bs)
-    (frames_ordered (version_at l.old_to number) l.m (limit_at l number) (segment_frames b) live.0.whole.each)
-    (live_ordered l (number + 1) bs live.1)
-
 counted_ordered : (c : Contents) → IsSound c → All IsOrdered (counted c)
-counted_ordered c sound =
-    all_kept IsOrdered (λ f. is_before_next c.next f.number) (frames_of (image c).bytes)
-    (live_ordered (limits_of (image c) sound.holds.live.0) c.number (image c).bytes sound.holds.live.1)
+counted_ordered c sound = each_counted IsOrdered (λ v m f x law. blocks_ordered v m x.blocks law.blocks) c sound
 
 of_frames : (fs : List Frame) → All IsOrdered fs → All HasOrder (blocks_of fs)
 of_frames [] h = tt
-of_frames (f ∷ fs) h = all_join HasOrder f.blocks (blocks_of fs) h.0 (of_frames fs h.1)
+of_frames (f ∷ fs) h = all_append HasOrder f.blocks (blocks_of fs) h.0 (of_frames fs h.1)
 
 -- ---- a walk that looks for a key
 

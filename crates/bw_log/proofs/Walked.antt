@@ -1,6 +1,6 @@
 -- A walk and the table of places, on a log.
 
-use Rattle.std.proofs.Common.{inl, inr, ◌≡◌, ℕ, zero, suc, ◌+◌, ◌*◌, ◌-◌, ◌<◌, ◌≤◌, ◌==◌, Bool, true, false, if◌then◌else◌, Option, Some, None, Result, Err, List, []}
+use Rattle.std.proofs.Common.{inl, inr, ◌≡◌, ℕ, zero, suc, ◌+◌, ◌*◌, ◌-◌, ◌<◌, ◌≤◌, ◌==◌, Bool, true, false, if◌then◌else◌, Option, Some, None, Result, Ok, Err, IsErrAnd, List, []}
 use Rattle.std.proofs.Common.{◌∷◌, ◌++◌, length, get_or, slice_get, reverse, refl, sym, ap, subst, ◌∙◌, arith, length-append}
 use Rattle.std.specs.List.{fold, list_any}
 use Rattle.std.proofs.lemmas.Bool.{eqb-true, or_left, or_right}
@@ -14,14 +14,14 @@ use Rattle.bw_page.specs.Standing.{after, content, blocks_of}
 use Rattle.bw_log.specs.Places.{all_placed, first_number}
 use Rattle.bw_log.specs.Contents.{Contents, image, counted, entry_place, place_in, IsSound, IsStanding}
 use Rattle.bw_log.specs.Walking.{first_back, PlacedAt, IsPlace, IsWalk}
-use Rattle.bw_log.specs.Reads.{IsLineIn, HoldsPage}
+use Rattle.bw_log.specs.Reads.{IsLineIn, HoldsPage, StopsAt, ReadStops}
 use Rattle.bw_log.specs.BlockBytes.{BlockAt}
 use Rattle.bw_log.specs.declared.fault.LogFault.{LogFault}
 use Rattle.bw_log.specs.declared.fault.LogFault.TheVariants.{NoPage}
 use Rattle.bw_log.specs.declared.places.FrameAt.{FrameAt}
 use Rattle.bw_log.specs.declared.places.PageAt.{PageAt}
 use Rattle.bw_log.proofs.Entries.{listed_length}
-use Rattle.bw_log.proofs.Fetched.{boxed_line}
+use Rattle.bw_log.proofs.Fetched.{boxed_line, stops_since}
 use Rattle.bw_log.proofs.Placing.{InFrames, in_frames, IsEarlier, bodies_all}
 use Rattle.bw_log.proofs.Walks.{WalksOn, walk_on, walk_ends, walk_starts}
 use Rattle.bw_log.proofs.Asked.{page_there}
@@ -55,18 +55,18 @@ pub numbered_by : {c : Contents} {place : Place} {b : Block} (first : ℕ) → f
     → PlacedAt (all_placed (counted c)) place b → Numbered c first place b
 numbered_by {c} {place} {b} first is sound s =
     let i = in_counted sound s in
-    let number = i.number in
+    let number = i.at.number in
     let own : Numbered c (first_number (counted c)) place b = record {
       from_first = omega arith;
       inside = omega (
         arith,
         listed_length (image c) sound.holds,
-        ap (λ (l : List Frame). length l) i.split,
-        length-append i.older (i.frame ∷ i.newer),
+        ap (λ (l : List Frame). length l) i.at.split,
+        length-append i.at.older (i.at.frame ∷ i.at.newer),
       );
       stands = record {
-        frame = i.frame;
-        stands = record { before = i.older; beyond = i.newer; split = i.split; index = omega arith };
+        frame = i.at.frame;
+        stands = record { before = i.at.older; beyond = i.at.newer; split = i.at.split; index = omega arith };
         front = i.front;
         back = i.back;
         split = i.blocks;
@@ -80,6 +80,11 @@ some_frames {c} {place} sound s =
     let n = numbered_by (first_number (counted c)) refl sound s.1 in
     let inside = n.inside in
     omega arith
+
+-- the same by the first line
+pub numbered_at : {c : Contents} {place : Place} {b : Block} (first : FrameAt) → IsSound c → PlacedAt (all_placed (counted c)) place b
+    → first ≡ get_or c.frames 0 first → Numbered c first.number place b
+numbered_at {c} {place} {b} first sound s is = numbered_by first.number (first_is c first sound (some_frames sound (b, s)) is) sound s
 
 pub walk_place : {p : ℕ} {all : List (Place × Block)} {at : Place} {newer : List Block} → IsWalk p all at newer → IsPlace all at
 walk_place w = (w.block, w.stands)
@@ -211,6 +216,14 @@ on_page c now p at same sound walk j inside =
       touched = ap (list_any (touches p)) x.split ∙ any_there (touches p) x.front walk.block x.back walk.touched;
       inside = subst (λ (d : Contents). IsLineIn d (at.frame - first_number (counted d)) j) same inside;
     }
+
+-- what a refused read of a block of the page leaves
+pub stops_on_page : {A : Type 0} {c now : Contents} {p : ℕ} {at : Place} {newer : List Block} (new : Contents) (result : Result A LogFault) (fault : LogFault)
+    → IsErrAnd result (λ y. y ≡ fault) → now ≡ c → IsSound c → IsWalk p (all_placed (counted c)) at newer
+    → StopsAt (λ j. IsLineIn now (at.frame - first_number (counted now)) j) now fault new → ReadStops (HoldsPage c p) c result new
+stops_on_page new (Ok x) fault is same sound walk stops = absurd is
+stops_on_page {A} {c} {now} {p} {at} {newer} new (Err y) fault is same sound walk stops =
+    subst (λ (z : LogFault). StopsAt (HoldsPage c p) c z new) (sym is) (stops_since _ _ c now new fault same (on_page c now p at same sound walk) stops)
 
 -- places in their order, as numbers
 abbrev pub rank : Place → ℕ

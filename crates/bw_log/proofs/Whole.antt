@@ -230,141 +230,113 @@ roomy_here c len w = rw w refl
 roomy_begun : (c : Contents) (len : ℕ) → wants_segment c len ≡ true → roomy c len ≡ begun c
 roomy_begun c len w = rw w refl
 
-keeps_appended : (piece : List ℕ) (h : Holding) → (appended h piece).lease ≡ h.lease
-keeps_appended piece h = refl
+-- ---- the log with room for the frame
 
-keeps_room : (piece : List ℕ) (h : Holding) → (appended h piece).room ≡ h.room
-keeps_room piece h = refl
+-- what it is to the log before it
+pub record Roomed (c : Contents) (x : Frame) (d : Contents) : Type 0 where
+  pub older : List Holding
+  pub newest : Holding
+  pub puts : Puts d x older newest
+  pub is : d ≡ roomy c (length (frame_bytes x))
+  pub same : IsSameLog c d
+  pub counts : counted d ≡ counted c
+  pub rises : (lease : ℕ) (new : List Holding) → Rose lease (boxes d) new → Rose lease (boxes c) new
 
-ended_put : (c d : Contents) (x : Frame) (older : List Holding) (h : Holding) → Puts d x older h → d.m ≡ c.m → d.f ≡ c.f → d.number ≡ c.number → d.old_to ≡ c.old_to
-    → roster d ≡ roster c → rooms_of d ≡ rooms_of c → Ended c x (with_frame d x)
-ended_put c d x older h p m f number old_to leases rooms = record {
-  sound = put_sound d x older h p;
-  same = record {
-    m = m;
-    f = f;
-    number = number;
-    old_to = old_to;
-    leases = both_fields (λ (h : Holding). h.lease) d.live d.spares (with_last (λ (k : Holding). appended k (frame_bytes x)) d.live) d.spares
-        (field_last (λ (h : Holding). h.lease) (λ (k : Holding). appended k (frame_bytes x)) (keeps_appended (frame_bytes x)) d.live) refl ∙ leases;
-    rooms = both_fields (λ (h : Holding). h.room) d.live d.spares (with_last (λ (k : Holding). appended k (frame_bytes x)) d.live) d.spares
-        (field_last (λ (h : Holding). h.room) (λ (k : Holding). appended k (frame_bytes x)) (keeps_room (frame_bytes x)) d.live) refl ∙ rooms;
-  };
-}
-
-pub ok_here : (c : Contents) (x : Frame) (care : Bool) (new : Contents) → Starts c x care → wants_segment c (length (frame_bytes x)) ≡ false
-    → FramePut c x new → EndedOk c x new
-ok_here c x care new st w put =
+roomed_here : (c : Contents) (x : Frame) (care : Bool) → Starts c x care → wants_segment c (length (frame_bytes x)) ≡ false → Roomed c x c
+roomed_here c x care st w =
     let p = puts_here c x care st w in
-    let room = sym (roomy_here c (length (frame_bytes x)) w) in
-    let there : EndedOk c x (with_frame c x) = record {
-      ended = ended_put c c x p.0 p.1 p.2 refl refl refl refl refl refl;
-      appended = record {
-        takes = p.2.takes;
-        works = p.2.works;
-        next = refl;
-        live = ap (λ (d : Contents). with_last (λ (k : Holding). appended k (frame_bytes x)) d.live) room;
-        spares = ap (λ (d : Contents). d.spares) room;
-        frames = put_counts c x p.0 p.1 p.2;
-      };
-    } in
-    subst (EndedOk c x) (sym put.is) there
-
-pub ok_begun : (c : Contents) (x : Frame) (care : Bool) (new : Contents) → Starts c x care → wants_segment c (length (frame_bytes x)) ≡ true
-    → FramePut (begun c) x new → EndedOk c x new
-ok_begun c x care new st w put =
-    let b = begins c x care st w in
-    let d = begun c in
-    let is = begun_is c b.0 b.1 b.2 in
-    let p = puts_begun c x b.0 b.1 b.2 st.follows in
-    let room = sym (roomy_begun c (length (frame_bytes x)) w) in
-    let there : EndedOk c x (with_frame d x) = record {
-      ended = ended_put c d x c.live (appended b.0 (header_bytes (header_of c))) p (ap (λ (e : Contents). e.m) is) (ap (λ (e : Contents). e.f) is)
-          (ap (λ (e : Contents). e.number) is) (ap (λ (e : Contents). e.old_to) is) (begun_leases c b.0 b.1 b.2) (begun_rooms c b.0 b.1 b.2);
-      appended = record {
-        takes = p.takes;
-        works = p.works;
-        next = refl;
-        live = ap (λ (e : Contents). with_last (λ (k : Holding). appended k (frame_bytes x)) e.live) room;
-        spares = ap (λ (e : Contents). e.spares) room;
-        frames = put_counts d x c.live (appended b.0 (header_bytes (header_of c))) p ∙ ap (λ (l : List Frame). l ++ x ∷ []) (begun_counts c b.0 b.1 b.2);
-      };
-    } in
-    subst (EndedOk c x) (sym put.is) there
-
-pub torn_here : (lease : ℕ) (c : Contents) (x : Frame) (care : Bool) (new : Contents) → Starts c x care → wants_segment c (length (frame_bytes x)) ≡ false
-    → FrameTorn lease c x new → EndedBadly lease c x new
-torn_here lease c x care new st w t =
-    let p = puts_here c x care st w in
-    let sound = torn_sound c x t.kept p.0 p.1 p.2 in
-    let room = sym (roomy_here c (length (frame_bytes x)) w) in
     record {
-      ended = record {
-        sound = subst IsSound (sym t.is) sound.0;
-        same = subst (IsSameLog c) (sym t.is) (record {
-          m = refl;
-          f = refl;
-          number = refl;
-          old_to = refl;
-          leases = both_fields (λ (h : Holding). h.lease) c.live c.spares
-              (with_last (torn t.kept (frame_bytes x)) c.live) c.spares
-              (field_last (λ (h : Holding). h.lease) (torn t.kept (frame_bytes x)) (λ k. refl) c.live) refl;
-          rooms = both_fields (λ (h : Holding). h.room) c.live c.spares
-              (with_last (torn t.kept (frame_bytes x)) c.live) c.spares
-              (field_last (λ (h : Holding). h.room) (torn t.kept (frame_bytes x)) (λ k. refl) c.live) refl;
-        });
-      };
-      rose = t.rose;
-      stopped = record {
-        kept = t.kept;
-        where_it_stands = inr (
-          ap (λ (e : Contents). e.live) t.is
-              ∙ ap (λ (d : Contents). with_last (torn t.kept (frame_bytes x)) d.live) room,
-          ap (λ (e : Contents). e.spares) t.is
-              ∙ ap (λ (d : Contents). d.spares) room,
-        );
-        frames = ap counted t.is ∙ sound.1;
-        left = subst (LeftBehind c x) (sym t.is) sound.2;
-        failed = ap (λ (e : Contents). e.is_failed) t.is;
-      };
+      older = p.0;
+      newest = p.1;
+      puts = p.2;
+      is = sym (roomy_here c (length (frame_bytes x)) w);
+      same = record { m = refl; f = refl; number = refl; old_to = refl; leases = refl; rooms = refl };
+      counts = refl;
+      rises = λ lease new rose. rose;
     }
 
-pub torn_begun : (lease : ℕ) (c : Contents) (x : Frame) (care : Bool) (new : Contents) → Starts c x care → wants_segment c (length (frame_bytes x)) ≡ true
-    → FrameTorn lease (begun c) x new → EndedBadly lease c x new
-torn_begun lease c x care new st w t =
+roomed_begun : (c : Contents) (x : Frame) (care : Bool) → Starts c x care → wants_segment c (length (frame_bytes x)) ≡ true → Roomed c x (begun c)
+roomed_begun c x care st w =
     let b = begins c x care st w in
-    let d = begun c in
     let is = begun_is c b.0 b.1 b.2 in
-    let p = puts_begun c x b.0 b.1 b.2 st.follows in
-    let sound = torn_sound d x t.kept c.live (appended b.0 (header_bytes (header_of c))) p in
-    let room = sym (roomy_begun c (length (frame_bytes x)) w) in
+    record {
+      older = c.live;
+      newest = appended b.0 (header_bytes (header_of c));
+      puts = puts_begun c x b.0 b.1 b.2 st.follows;
+      is = sym (roomy_begun c (length (frame_bytes x)) w);
+      same = record {
+        m = ap (λ (e : Contents). e.m) is;
+        f = ap (λ (e : Contents). e.f) is;
+        number = ap (λ (e : Contents). e.number) is;
+        old_to = ap (λ (e : Contents). e.old_to) is;
+        leases = begun_leases c b.0 b.1 b.2;
+        rooms = begun_rooms c b.0 b.1 b.2;
+      };
+      counts = begun_counts c b.0 b.1 b.2;
+      rises = λ lease new rose. rose_begun c b.0 b.1 lease new b.2 rose;
+    }
+
+roomed : (c : Contents) (x : Frame) (care : Bool) → Starts c x care → Roomed c x (roomy c (length (frame_bytes x)))
+roomed c x care st =
+    elim (cases_Bool (wants_segment c (length (frame_bytes x)))) [
+      | inl w ↦ subst (Roomed c x) (sym (roomy_begun c (length (frame_bytes x)) w)) (roomed_begun c x care st w)
+      | inr w ↦ subst (Roomed c x) (sym (roomy_here c (length (frame_bytes x)) w)) (roomed_here c x care st w)
+    ]
+
+-- the last live box changed, and kept its lease and its room
+last_changed : (c d new : Contents) (change : Holding → Holding) → ((h : Holding) → (change h).lease ≡ h.lease) → ((h : Holding) → (change h).room ≡ h.room)
+    → IsSameLog c d → new.m ≡ d.m → new.f ≡ d.f → new.number ≡ d.number → new.old_to ≡ d.old_to → boxes new ≡ with_last change d.live ++ d.spares
+    → IsSameLog c new
+last_changed c d new change lease room same m f number old_to all = record {
+  m = m ∙ same.m;
+  f = f ∙ same.f;
+  number = number ∙ same.number;
+  old_to = old_to ∙ same.old_to;
+  leases = ap (map (λ (h : Holding). h.lease)) all ∙ stays (λ (h : Holding). h.lease) lease ∙ same.leases;
+  rooms = ap (map (λ (h : Holding). h.room)) all ∙ stays (λ (h : Holding). h.room) room ∙ same.rooms;
+}
+  where
+    stays : (g : Holding → ℕ) → ((h : Holding) → g (change h) ≡ g h) → map g (with_last change d.live ++ d.spares) ≡ map g (d.live ++ d.spares)
+    stays g keeps = both_fields g d.live d.spares (with_last change d.live) d.spares (field_last g change keeps d.live) refl
+
+put_ok : (c d : Contents) (x : Frame) (new : Contents) → Roomed c x d → FramePut d x new → EndedOk c x new
+put_ok c d x new r put =
+    let there : EndedOk c x (with_frame d x) = record {
+      ended = record {
+        sound = put_sound d x r.older r.newest r.puts;
+        same = last_changed c d (with_frame d x) (λ k. appended k (frame_bytes x)) (λ k. refl) (λ k. refl) r.same refl refl refl refl refl;
+      };
+      appended = record {
+        takes = r.puts.takes;
+        works = r.puts.works;
+        next = refl;
+        live = ap (λ (e : Contents). with_last (λ (k : Holding). appended k (frame_bytes x)) e.live) r.is;
+        spares = ap (λ (e : Contents). e.spares) r.is;
+        frames = put_counts d x r.older r.newest r.puts ∙ ap (λ (l : List Frame). l ++ x ∷ []) r.counts;
+      };
+    } in
+    subst (EndedOk c x) (sym put.is) there
+
+put_torn : (lease : ℕ) (c d : Contents) (x : Frame) (new : Contents) → Roomed c x d → FrameTorn lease d x new → EndedBadly lease c x new
+put_torn lease c d x new r t =
+    let sound = torn_sound d x t.kept r.older r.newest r.puts in
     record {
       ended = record {
         sound = subst IsSound (sym t.is) sound.0;
-        same = subst (IsSameLog c) (sym t.is) (record {
-          m = ap (λ (e : Contents). e.m) is;
-          f = ap (λ (e : Contents). e.f) is;
-          number = ap (λ (e : Contents). e.number) is;
-          old_to = ap (λ (e : Contents). e.old_to) is;
-          leases = both_fields (λ (h : Holding). h.lease) d.live d.spares (with_last (torn t.kept (frame_bytes x)) d.live) d.spares
-              (field_last (λ (h : Holding). h.lease) (torn t.kept (frame_bytes x)) (λ k. refl) d.live) refl ∙ begun_leases c b.0 b.1 b.2;
-          rooms = both_fields (λ (h : Holding). h.room) d.live d.spares (with_last (torn t.kept (frame_bytes x)) d.live) d.spares
-              (field_last (λ (h : Holding). h.room) (torn t.kept (frame_bytes x)) (λ k. refl) d.live) refl ∙ begun_rooms c b.0 b.1 b.2;
-        });
+        same = subst (IsSameLog c) (sym t.is)
+            (last_changed c d (torn_contents d x t.kept) (torn t.kept (frame_bytes x)) (λ k. refl) (λ k. refl) r.same refl refl refl refl refl);
       };
-      rose = rose_begun c b.0 b.1 lease (boxes new) b.2 t.rose;
+      rose = r.rises lease (boxes new) t.rose;
       stopped = record {
         kept = t.kept;
         where_it_stands = inr (
-          ap (λ (e : Contents). e.live) t.is
-              ∙ ap (λ (e : Contents). with_last (torn t.kept (frame_bytes x)) e.live) room,
-          ap (λ (e : Contents). e.spares) t.is
-              ∙ ap (λ (e : Contents). e.spares) room,
+          ap (λ (e : Contents). e.live) t.is ∙ ap (λ (e : Contents). with_last (torn t.kept (frame_bytes x)) e.live) r.is,
+          ap (λ (e : Contents). e.spares) t.is ∙ ap (λ (e : Contents). e.spares) r.is,
         );
-        frames = ap counted t.is ∙ sound.1 ∙ begun_counts c b.0 b.1 b.2;
+        frames = ap counted t.is ∙ sound.1 ∙ r.counts;
         left = subst (LeftBehind c x) (sym t.is) (subst
             (λ (fs : List Frame). (frames_of (image (torn_contents d x t.kept)).bytes ≡ fs)
-            ⊎ (frames_of (image (torn_contents d x t.kept)).bytes ≡ fs ++ x ∷ [])) (begun_counts c b.0 b.1 b.2) sound.2);
+            ⊎ (frames_of (image (torn_contents d x t.kept)).bytes ≡ fs ++ x ∷ [])) r.counts sound.2);
         failed = ap (λ (e : Contents). e.is_failed) t.is;
       };
     }
@@ -403,22 +375,6 @@ torn_spare lease c x care new st w t =
 
 live_limit : (l : Limits) (number : ℕ) (bytes : List (List ℕ)) → AreLive l number bytes → 0 < length bytes → number + length bytes ≤ 2 ^ 64
 live_limit l number bytes live some = let last = live_number l number bytes (length bytes - 1) live (omega arith) in omega arith
-
-pub puts_roomy : (c : Contents) (x : Frame) (care : Bool) → Starts c x care
-    → (older : List Holding) × (h : Holding) × Puts (roomy c (length (frame_bytes x))) x older h
-puts_roomy c x care st =
-    elim (cases_Bool (wants_segment c (length (frame_bytes x)))) [
-      | inl w ↦ (
-          let b = begins c x care st w in (
-            c.live,
-            appended b.0 (header_bytes (header_of c)),
-            subst (λ (d : Contents). Puts d x c.live (appended b.0 (header_bytes (header_of c)))) (sym (roomy_begun c (length (frame_bytes x)) w))
-                (puts_begun c x b.0 b.1 b.2 st.follows),
-          ))
-      | inr w ↦ (
-          let p = puts_here c x care st w in
-          (p.0, p.1, subst (λ (d : Contents). Puts d x p.0 p.1) (sym (roomy_here c (length (frame_bytes x)) w)) p.2))
-    ]
 
 -- the last box has room for the frame, and could count a failure
 pub record Takes (d : Contents) (len : ℕ) : Type 0 where
@@ -500,21 +456,6 @@ unrefused : (c : Contents) (x : Frame) (care : Bool) (r : Result (Unit {0}) LogF
     → Answers (refusal c (length (frame_bytes x)) care) r
 unrefused c x care r st told = subst (λ (o : Option LogFault). Answers o r) (sym st.none) told
 
-put_ok : (c : Contents) (x : Frame) (care : Bool) (new : Contents) → Starts c x care → FramePut (roomy c (length (frame_bytes x))) x new → EndedOk c x new
-put_ok c x care new st put =
-    elim (cases_Bool (wants_segment c (length (frame_bytes x)))) [
-      | inl w ↦ ok_begun c x care new st w (subst (λ (d : Contents). FramePut d x new) (roomy_begun c (length (frame_bytes x)) w) put)
-      | inr w ↦ ok_here c x care new st w (subst (λ (d : Contents). FramePut d x new) (roomy_here c (length (frame_bytes x)) w) put)
-    ]
-
-put_torn : (lease : ℕ) (c : Contents) (x : Frame) (care : Bool) (new : Contents) → Starts c x care → FrameTorn lease (roomy c (length (frame_bytes x))) x new
-    → EndedBadly lease c x new
-put_torn lease c x care new st torn =
-    elim (cases_Bool (wants_segment c (length (frame_bytes x)))) [
-      | inl w ↦ torn_begun lease c x care new st w (subst (λ (d : Contents). FrameTorn lease d x new) (roomy_begun c (length (frame_bytes x)) w) torn)
-      | inr w ↦ torn_here lease c x care new st w (subst (λ (d : Contents). FrameTorn lease d x new) (roomy_here c (length (frame_bytes x)) w) torn)
-    ]
-
 bad_ends : (lease : ℕ) (c : Contents) (x : Frame) (care : Bool) (new : Contents) → Starts c x care → EndedBadly lease c x new
     → AfterAppend c x care (Err (Device lease)) new
 bad_ends lease c x care new st e = record {
@@ -529,13 +470,13 @@ pub put_ends : (c d : Contents) (x : Frame) (care : Bool) (new : Contents) (r : 
     → d ≡ roomy c (length (frame_bytes x))
     → MatchResult r (λ _. FramePut d x new) (λ fault. OfDevice fault (λ lease. FrameTorn lease d x new)) → AfterAppend c x care r new
 put_ends c d x care new (Ok u) st same end =
-    let e = put_ok c x care new st (subst (λ (k : Contents). FramePut k x new) same end) in
+    let e = put_ok c d x new (subst (Roomed c x) (sym same) (roomed c x care st)) end in
     record { sound = e.ended.sound; added = e.appended; log = e.ended.same; answers = unrefused c x care (Ok u) st tt; device = tt }
 put_ends c d x care new (Err NoMemory) st same end = absurd end
 put_ends c d x care new (Err BadConfig) st same end = absurd end
 put_ends c d x care new (Err NoSegment) st same end = absurd end
 put_ends c d x care new (Err (Device lease)) st same end =
-    bad_ends lease c x care new st (put_torn lease c x care new st (subst (λ (k : Contents). FrameTorn lease k x new) same end))
+    bad_ends lease c x care new st (put_torn lease c d x new (subst (Roomed c x) (sym same) (roomed c x care st)) end)
 put_ends c d x care new (Err Failed) st same end = absurd end
 put_ends c d x care new (Err Spent) st same end = absurd end
 put_ends c d x care new (Err NoPage) st same end = absurd end
@@ -590,22 +531,24 @@ room_made old now d x care len sound follows same size none is =
 pub takes_there : {X : Type 0} (v : X → Holding) (xs : List X) (old d : Contents) (x : Frame) (care : Bool) → Starts old x care
     → d ≡ roomy old (length (frame_bytes x)) → d.live ≡ map v xs
     → IfSome (slice_get (map v xs) (length xs - 1)) (λ h. length h.bytes + length (frame_bytes x) ≤ h.room)
-    × IfSome (slice_get (map v xs) (length xs - 1)) (λ h. h.failed < 2 ^ 64 - 1) × (d.number + length xs ≤ 2 ^ 64)
+    × IfSome (slice_get (map v xs) (length xs - 1)) (λ h. h.failed < 2 ^ 64 - 1) × (d.number + length xs ≤ 2 ^ 64) × (0 < length xs)
 takes_there v xs old d x care st is live =
     let t = subst (λ (c : Contents). Takes c (length (frame_bytes x))) (sym is) (takes_roomy old x care st) in
     let size : length d.live ≡ length xs = ap (λ (l : List Holding). length l) live ∙ length-map xs v in
     let at : slice_get d.live (length d.live - 1) ≡ slice_get (map v xs) (length xs - 1) =
     ap (λ (l : List Holding). slice_get l (length d.live - 1)) live ∙ ap (λ (n : ℕ). slice_get (map v xs) (n - 1)) size in
-    let number = t.number in (
+    let number = t.number in
+    let some = t.some in (
       subst (λ (o : Option Holding). IfSome o (λ h. length h.bytes + length (frame_bytes x) ≤ h.room)) at t.fits,
       subst (λ (o : Option Holding). IfSome o (λ h. h.failed < 2 ^ 64 - 1)) at t.countable,
+      omega arith,
       omega arith,
     )
 
 pub tables_there : (old d : Contents) (x : Frame) (care : Bool) → Starts old x care → d ≡ roomy old (length (frame_bytes x)) → Tables d.pages x
 tables_there old d x care st is =
-    let p = puts_roomy old x care st in
-    subst (λ (c : Contents). Tables c.pages x) (sym is) (tables_of (roomy old (length (frame_bytes x))) x p.0 p.1 p.2)
+    let r = roomed old x care st in
+    subst (λ (c : Contents). Tables c.pages x) (sym is) (tables_of (roomy old (length (frame_bytes x))) x r.older r.newest r.puts)
 
 pub begin_ends_at : (old now : Contents) (x : Frame) (care : Bool) (new : Contents) (fault : LogFault) (len : ℕ) → Starts old x care → now ≡ old
     → len ≡ length (frame_bytes x) → OfDevice fault (λ lease. (wants_segment now len ≡ true) × SpareTorn lease now new) → AfterAppend old x care (Err fault) new

@@ -121,6 +121,10 @@ abbrev pub IsStanding : ℕ → List Frame → ℕ → Type 0
 IsStanding m frames pages =
     ((frames ≡ []) × (pages ≡ 0)) ⊎ ((leaves : List Leaf) × Stand m frames leaves × (length leaves ≡ pages))
 
+-- the counted frames stand for the leaves for which they stood
+abbrev pub KeepsLeaves : Contents → Contents → Type 0
+KeepsLeaves old new = (leaves : List Leaf) → Stand old.m (counted old) leaves → Stand old.m (counted new) leaves
+
 -- no more room than a box may have
 abbrev pub IsBounded : Holding → Type 0
 IsBounded h = h.room ≤ MAX_CAPACITY

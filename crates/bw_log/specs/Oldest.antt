@@ -1,7 +1,6 @@
 -- The oldest segment: which frames it has, and when it may be given up.
 
-use Rattle.std.specs.Prelude.{ℕ, ◌<◌, ◌≡◌, Option, Some, None, List, [], ◌∷◌, length}
-use Rattle.std.specs.Prelude.{slice_get, MatchOption}
+use Rattle.std.specs.Prelude.{ℕ, ◌<◌, Option, Some, None, List, [], ◌∷◌, length}
 use Rattle.std.specs.List.{fold, filter}
 use Rattle.bw_codec.specs.declared.block.Place.{Place}
 use Rattle.bw_device.specs.Holding.{Holding}
@@ -14,10 +13,6 @@ use Rattle.bw_log.specs.Reads.{IsPage}
 abbrev pub last_number : Contents → Holding → ℕ
 last_number c h =
     fold (λ was f. f.number) 0 (filter (λ f. is_before_next c.next f.number) (segment_frames h.bytes))
-
--- this is the number of the oldest segment's last counted frame
-abbrev pub Tells : Contents → List Holding → ℕ → Type 0
-Tells c live last = MatchOption (slice_get live 0) (last ≡ 0) (λ h. last ≡ last_number c h)
 
 -- a place, if there is one, stands in a later frame
 abbrev pub IsAfter : ℕ → Option Place → Type 0

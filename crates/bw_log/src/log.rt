@@ -22,6 +22,7 @@ use std::alloc::Global;
 const MAX_BOXES: usize = 4096;
 
 /// Segments in order, and where pages stand in them.
+#[derive(Drop)]
 pub struct Log {
     /// The live segments, in the order of their numbers.
     pub(crate) live: Vec<Box<dyn Segment>>,
@@ -43,24 +44,6 @@ pub struct Log {
     pub(crate) frames: Vec<FrameAt>,
     /// Where the pages stand, from page 1 on.
     pub(crate) pages: Vec<PageAt>,
-}
-
-impl Drop for Log {
-    fn drop(self) {
-        let Log {
-            live: _,
-            spares: _,
-            m: _,
-            f: _,
-            number: _,
-            old_to: _,
-            is_open: _,
-            is_failed: _,
-            next: _,
-            frames: _,
-            pages: _,
-        } = self;
-    }
 }
 
 fn are_limits(m: u16, f: u32) -> bool
@@ -165,19 +148,7 @@ impl Log {
         ensures live { map holding result.0.items ≡ (seen_by holding self).live }
         ensures spares { map holding result.1.items ≡ (seen_by holding self).spares }
     {
-        let Log {
-            live,
-            spares,
-            m: _,
-            f: _,
-            number: _,
-            old_to: _,
-            is_open: _,
-            is_failed: _,
-            next: _,
-            frames: _,
-            pages: _,
-        } = self;
+        let Log { live, spares, .. } = self;
         (live, spares)
     }
 
@@ -298,6 +269,19 @@ impl Log {
         self.spares.len() as u32
     }
 
+    // The number of the i-th live segment, from 0.
+    pub(crate) fn number_at(&self, i: u32) -> Option<u64>
+        requires { IsSound holding self.now }
+        ensures { MatchOption result
+            (length self.now.live.items ≤ i)
+            (λ number. (i < length self.now.live.items) × (number ≡ self.now.number + i)) }
+    {
+        if i as usize >= self.live.len() {
+            return None;
+        }
+        Some(self.number + u64::from(i))
+    }
+
     /// The number, the lease and the length in bytes of the i-th live segment, from 0.
     pub fn live_segment(&self, i: u32) -> Option<(u64, u32, u64)>
         requires { IsSound holding self.now }
@@ -305,13 +289,10 @@ impl Log {
             (result ≡ None)
             (λ h. result ≡ Some ((seen_by holding self.now).number + i, h.lease, length h.bytes)) }
     {
-        let at = i as usize;
-        if at >= self.live.len() {
-            return None;
-        }
-        let lease = lease_of(&self.live, at);
-        let len = len_of(&self.live, at);
-        Some((self.number + u64::from(i), lease, len))
+        let number = self.number_at(i)?;
+        let lease = lease_of(&self.live, i as usize);
+        let len = len_of(&self.live, i as usize);
+        Some((number, lease, len))
     }
 
     /// The version of the i-th live segment, from 0: 1, or 2 for what is written now.
@@ -321,10 +302,8 @@ impl Log {
             (result ≡ None)
             (λ h. result ≡ Some (version_in h.bytes)) }
     {
-        if i as usize >= self.live.len() {
-            return None;
-        }
-        Some(self.version_at(self.number + u64::from(i)))
+        let number = self.number_at(i)?;
+        Some(self.version_at(number))
     }
 
     // The version of a live segment of this number.

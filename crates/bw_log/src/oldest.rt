@@ -1,10 +1,8 @@
 //! The oldest segments: what the cleaner asks of them, and gives up.
 
-ghost use Rattle.std.specs.Prelude.{◌≡◌, ◌+◌, ◌-◌, ◌<◌, ◌≤◌, List, Some, None, false, length, drop, slice_get, MatchOption};
-ghost use Rattle.bw_codec.specs.declared.leaf.Leaf.{Leaf};
-ghost use Rattle.bw_page.specs.Standing.{Stand};
-ghost use Rattle.bw_log.specs.Contents.{counted};
-ghost use Rattle.bw_log.specs.Oldest.{NoBaseBefore, Tells, oldest_count, last_number};
+ghost use Rattle.std.specs.Prelude.{◌≡◌, ◌+◌, ◌-◌, ◌<◌, ◌≤◌, Some, None, false, length, drop, slice_get, MatchOption};
+ghost use Rattle.bw_log.specs.Contents.{counted, KeepsLeaves};
+ghost use Rattle.bw_log.specs.Oldest.{NoBaseBefore, oldest_count, last_number};
 
 use crate::log::Log;
 
@@ -21,25 +19,10 @@ impl Log {
             (λ h. result
             ≡ Some ((seen_by holding self.now).number, last_number (seen_by holding self.now) h)) }
     {
-        if self.live.is_empty() {
-            return None;
+        match self.live_last(0) {
+            Some(last) => Some((self.number, last)),
+            None => None,
         }
-        Some((self.number, self.last_of_oldest()))
-    }
-
-    // The number of the oldest segment's last counted frame, or 0.
-    fn last_of_oldest(&self) -> u64
-        requires sound { IsSound holding self.now }
-        requires some { 0 < length self.now.live.items }
-        ensures { Tells (seen_by holding self.now) (seen_by holding self.now).live result }
-    {
-        let number = self.number;
-        let lines = self.frames.as_slice();
-        let count = lines.partition_point(|line| line.segment == number);
-        if count == 0 {
-            return 0;
-        }
-        lines[count - 1].number
     }
 
     /// The number of the last counted frame in the i-th live segment, from 0, or 0 where it has none.
@@ -50,10 +33,8 @@ impl Log {
             (result ≡ None)
             (λ h. result ≡ Some (last_number (seen_by holding self.now) h)) }
     {
-        if i as usize >= self.live.len() {
-            return None;
-        }
-        Some(self.last_in(self.number + u64::from(i)))
+        let number = self.number_at(i)?;
+        Some(self.last_in(number))
     }
 
     // The number of the last counted frame in the live segment of this number, or 0.
@@ -97,9 +78,7 @@ impl Log {
         ensures counted { counted (seen_by holding self.new)
             ≡ drop (oldest_count (seen_by holding self.old).live)
             (counted (seen_by holding self.old)) }
-        ensures stands { (leaves : List Leaf)
-            → Stand (seen_by holding self.old).m (counted (seen_by holding self.old)) leaves
-            → Stand (seen_by holding self.old).m (counted (seen_by holding self.new)) leaves }
+        ensures stands { KeepsLeaves (seen_by holding self.old) (seen_by holding self.new) }
     {
         let number = self.number;
         drop(self.live.remove(0));

@@ -23,8 +23,7 @@ returns-in_err-count-clause-reason g c =
 pub append_care-requires-clause-follows : goal.append_care-requires-clause-follows
 append_care-requires-clause-follows g c =
     let filled = c.in_ok-count.ensures.filled in
-    let s = sends_of _ c.in_ok-buffer.buffer c.fill.new.buffer c.seal.new.self c.args.pages.now c.in_ok-count.count c.in-Some.number c.limit.result
-    c.in_ok-buffer.ensures c.limit.ensures filled.2 filled.3 c.seal.ensures in
+    let s = sends_of _ _ _ _ _ _ _ _ c.in_ok-buffer.ensures c.limit.ensures filled.2 filled.3 c.seal.ensures in
     follows_sent _ _ c.seal.new.self c.args.pages.now c.in_ok-count.count c.in-Some.number c.requires.sound c.in_ok-count.ensures.stops c.requires.pages
     c.requires.some s filled.0 filled.1 (sym c.in-Some.ensures) c.bytes.ensures.fits
 
@@ -32,8 +31,7 @@ pub returns-in_err-append_care-clause-refused : goal.returns-in_err-append_care-
 returns-in_err-append_care-clause-refused g c =
     let p = err_from_is_err_and c.from_residual-in_err-append_care.result c.from_residual-in_err-append_care.ensures.1 in
     let filled = c.in_ok-count.ensures.filled in
-    let s = sends_of _ c.in_ok-buffer.buffer c.fill.new.buffer c.seal.new.self c.args.pages.now c.in_ok-count.count c.in-Some.number c.limit.result
-    c.in_ok-buffer.ensures c.limit.ensures filled.2 filled.3 c.seal.ensures in
+    let s = sends_of _ _ _ _ _ _ _ _ c.in_ok-buffer.ensures c.limit.ensures filled.2 filled.3 c.seal.ensures in
     rw (p.1, p.2) (append_refused _ _ (frame_of c.seal.new.self) _ _ c.in_err-append_care.field-0.0 s.holds c.in_ok-count.ensures.stops c.requires.works
     (short_enough s c.bytes.ensures.fits) c.in_err-append_care.ensures.leaves.answers c.in_err-append_care.ensures.leaves.device
     c.in_err-append_care.ensures.leaves.log)
@@ -42,8 +40,7 @@ pub returns-in_err-append_care-clause-reason : goal.returns-in_err-append_care-c
 returns-in_err-append_care-clause-reason g c =
     let p = err_from_is_err_and c.from_residual-in_err-append_care.result c.from_residual-in_err-append_care.ensures.1 in
     let filled = c.in_ok-count.ensures.filled in
-    let s = sends_of _ c.in_ok-buffer.buffer c.fill.new.buffer c.seal.new.self c.args.pages.now c.in_ok-count.count c.in-Some.number c.limit.result
-    c.in_ok-buffer.ensures c.limit.ensures filled.2 filled.3 c.seal.ensures in
+    let s = sends_of _ _ _ _ _ _ _ _ c.in_ok-buffer.ensures c.limit.ensures filled.2 filled.3 c.seal.ensures in
     rw (p.1, p.2) (append_reason _ _ c.args.pages.now (frame_of c.seal.new.self) c.in_err-append_care.field-0.0
     (next_sent _ c.fill.new.buffer c.seal.new.self c.args.pages.now c.in_ok-count.count c.in-Some.number s filled.0 filled.1 c.seal.ensures filled.4)
     c.in_ok-count.ensures.stops c.requires.works (short_enough s c.bytes.ensures.fits) c.in_err-append_care.ensures.leaves.answers)
@@ -54,8 +51,7 @@ returns-clause-some g c = (c.in_ok-count.ensures.filled.0, c.in_ok-count.ensures
 pub returns-clause-moved : goal.returns-clause-moved
 returns-clause-moved g c = λ last behind.
     let filled = c.in_ok-count.ensures.filled in
-    let s = sends_of _ c.in_ok-buffer.buffer c.fill.new.buffer c.seal.new.self c.args.pages.now c.in_ok-count.count c.in-Some.number c.limit.result
-    c.in_ok-buffer.ensures c.limit.ensures filled.2 filled.3 c.seal.ensures in
+    let s = sends_of _ _ _ _ _ _ _ _ c.in_ok-buffer.ensures c.limit.ensures filled.2 filled.3 c.seal.ensures in
     moved_sent last _ _ _ c.seal.new.self c.args.pages.now c.in_ok-count.count c.in-Some.number _ behind
     c.in_ok-append_care.ensures.leaves.answers filled.0 filled.1 c.requires.sound
     c.in_ok-append_care.ensures.leaves.sound c.in_ok-count.ensures.stops c.requires.pages c.requires.some s (sym c.in-Some.ensures)

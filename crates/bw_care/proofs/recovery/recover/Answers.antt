@@ -8,27 +8,21 @@ use Rattle.bw_care.proofs.recovery.recover.Goals as goal
 
 pub boxes_of-live-requires-clause-room : goal.boxes_of-live-requires-clause-room
 boxes_of-live-requires-clause-room g c =
-    let m = moved _ _ (λ n. (goal.Segment-dyn g (n.segment.vtable, n.segment.value)).holding n.segment.value) c.args.boxes.items c.prepare.new.boxes.items
-    c.deref.result.now c.in-Ok.places.0.items c.part-parts.result.live.items c.in-Ok.places.2.items c.part-parts.result.spares.items c.in-Ok-prepare.plan
-    (λ n. refl) c.in-Ok-prepare.ensures.same c.deref.ensures.value c.in-Ok.ensures.numbered.0 c.in-Ok.ensures.spares.0 c.part-parts.ensures
-    c.in-Ok-prepare.ensures.plan in
+    let m = moved _ _ (λ n. (goal.Segment-dyn g (n.segment.vtable, n.segment.value)).holding n.segment.value) _ _ _ _ _ _ _ _ (λ n. refl)
+    c.in-Ok-prepare.ensures.same c.deref.ensures.value c.in-Ok.ensures.numbered.0 c.in-Ok.ensures.spares.0 c.part-parts.ensures c.in-Ok-prepare.ensures.plan in
     few_moved _ _ c.args.boxes.items c.part-parts.result.live.items c.in-Ok-prepare.plan _ m.0 c.in-Ok-prepare.ensures.plan
     (let room = c.in-Ok.ensures.live.1 in omega (arith, c.len.ensures))
 
 pub adopt-log-requires : goal.adopt-log-requires
 adopt-log-requires g c =
-    let m = moved _ _ (λ n. (goal.Segment-dyn g (n.segment.vtable, n.segment.value)).holding n.segment.value) c.args.boxes.items c.prepare.new.boxes.items
-    c.deref.result.now c.in-Ok.places.0.items c.part-parts.result.live.items c.in-Ok.places.2.items c.part-parts.result.spares.items c.in-Ok-prepare.plan
-    (λ n. refl) c.in-Ok-prepare.ensures.same c.deref.ensures.value c.in-Ok.ensures.numbered.0 c.in-Ok.ensures.spares.0 c.part-parts.ensures
-    c.in-Ok-prepare.ensures.plan in
+    let m = moved _ _ (λ n. (goal.Segment-dyn g (n.segment.vtable, n.segment.value)).holding n.segment.value) _ _ _ _ _ _ _ _ (λ n. refl)
+    c.in-Ok-prepare.ensures.same c.deref.ensures.value c.in-Ok.ensures.numbered.0 c.in-Ok.ensures.spares.0 c.part-parts.ensures c.in-Ok-prepare.ensures.plan in
     subst IsSound (sym (adopted_moved _ _ _ _ c.in-Ok-prepare.plan.tables (c.boxes_of-live.ensures ∙ m.0) m.1)) c.in-Ok-prepare.ensures.plan.sound
 
 pub returns-in-Ok-prepare-clause-recovered : goal.returns-in-Ok-prepare-clause-recovered
 returns-in-Ok-prepare-clause-recovered g c =
-    let m = moved _ _ (λ n. (goal.Segment-dyn g (n.segment.vtable, n.segment.value)).holding n.segment.value) c.args.boxes.items c.prepare.new.boxes.items
-    c.deref.result.now c.in-Ok.places.0.items c.part-parts.result.live.items c.in-Ok.places.2.items c.part-parts.result.spares.items c.in-Ok-prepare.plan
-    (λ n. refl) c.in-Ok-prepare.ensures.same c.deref.ensures.value c.in-Ok.ensures.numbered.0 c.in-Ok.ensures.spares.0 c.part-parts.ensures
-    c.in-Ok-prepare.ensures.plan in
+    let m = moved _ _ (λ n. (goal.Segment-dyn g (n.segment.vtable, n.segment.value)).holding n.segment.value) _ _ _ _ _ _ _ _ (λ n. refl)
+    c.in-Ok-prepare.ensures.same c.deref.ensures.value c.in-Ok.ensures.numbered.0 c.in-Ok.ensures.spares.0 c.part-parts.ensures c.in-Ok-prepare.ensures.plan in
     let same = c.adopt-log.ensures.made ∙ adopted_moved _ _ _ _ c.in-Ok-prepare.plan.tables (c.boxes_of-live.ensures ∙ m.0) m.1 in
     let plan = c.in-Ok-prepare.ensures.plan in
     record {
@@ -41,10 +35,8 @@ returns-in-Ok-prepare-clause-recovered g c =
 
 pub returns-in-Ok-prepare-clause-live : goal.returns-in-Ok-prepare-clause-live
 returns-in-Ok-prepare-clause-live g c =
-    let m = moved _ _ (λ n. (goal.Segment-dyn g (n.segment.vtable, n.segment.value)).holding n.segment.value) c.args.boxes.items c.prepare.new.boxes.items
-    c.deref.result.now c.in-Ok.places.0.items c.part-parts.result.live.items c.in-Ok.places.2.items c.part-parts.result.spares.items c.in-Ok-prepare.plan
-    (λ n. refl) c.in-Ok-prepare.ensures.same c.deref.ensures.value c.in-Ok.ensures.numbered.0 c.in-Ok.ensures.spares.0 c.part-parts.ensures
-    c.in-Ok-prepare.ensures.plan in
+    let m = moved _ _ (λ n. (goal.Segment-dyn g (n.segment.vtable, n.segment.value)).holding n.segment.value) _ _ _ _ _ _ _ _ (λ n. refl)
+    c.in-Ok-prepare.ensures.same c.deref.ensures.value c.in-Ok.ensures.numbered.0 c.in-Ok.ensures.spares.0 c.part-parts.ensures c.in-Ok-prepare.ensures.plan in
     ap (λ (k : Contents). k.live) c.adopt-log.ensures.made ∙ (c.boxes_of-live.ensures ∙ m.0)
 
 pub returns-in-Ok-prepare-clause-open : goal.returns-in-Ok-prepare-clause-open

@@ -7,23 +7,16 @@ use Rattle.bw_care.proofs.rewriter.rewrite.Goals as goal
 pub returns-then-is_failed-clause-refused : goal.returns-then-is_failed-clause-refused
 returns-then-is_failed-clause-refused g c = inl (refl, refl, sym c.if-is_failed.ensures)
 
-pub returns-clause-failed : goal.returns-clause-failed
-returns-clause-failed g c =
+pub returns : goal.returns
+returns g c =
     let log = seen c.args.log.now (λ b. (goal.Segment-dyn g b).holding b.1) in
-    failed_none log _ _ c.move_all.result (sym c.if-is_failed.ensures) (c.move_all.ensures.refused 0 (none_behind log c.requires.sound))
-
-pub returns-clause-rewritten : goal.returns-clause-rewritten
-returns-clause-rewritten g c =
-    let log = seen c.args.log.now (λ b. (goal.Segment-dyn g b).holding b.1) in
-    c.move_all.ensures.moved 0 (none_behind log c.requires.sound)
-
-pub returns-clause-refused : goal.returns-clause-refused
-returns-clause-refused g c =
-    let log = seen c.args.log.now (λ b. (goal.Segment-dyn g b).holding b.1) in
-    refused_by log _ _ c.move_all.result (sym c.if-is_failed.ensures) (c.move_all.ensures.refused 0 (none_behind log c.requires.sound))
-
-pub returns-clause-stands : goal.returns-clause-stands
-returns-clause-stands g c =
-    let log = seen c.args.log.now (λ b. (goal.Segment-dyn g b).holding b.1) in
-    λ leaves stand. stands_by log _ _ c.move_all.result leaves (c.move_all.ensures.moved 0 (none_behind log c.requires.sound))
-    (c.move_all.ensures.refused 0 (none_behind log c.requires.sound)) stand
+    let works = sym c.if-is_failed.ensures in
+    let moved = c.move_all.ensures.moved 0 (none_behind log c.requires.sound) in
+    let refused = c.move_all.ensures.refused 0 (none_behind log c.requires.sound) in
+    record {
+      sound = c.move_all.ensures.sound;
+      failed = failed_none log _ _ c.move_all.result works refused;
+      rewritten = moved;
+      refused = refused_by log _ _ c.move_all.result works refused;
+      stands = λ leaves stand. stands_by log _ _ c.move_all.result leaves moved refused stand;
+    }

@@ -1,4 +1,4 @@
-use Rattle.std.proofs.Common.{◌≤◌, ◌+◌, ◌/◌, ap, refl, length, vec_len, arith}
+use Rattle.std.proofs.Common.{◌≤◌, ◌+◌, ◌/◌, ap, refl, length, vec_len, arith, rules}
 use Rattle.std.specs.Vec.{vec_capacity}
 use Rattle.std.proofs.lemmas.Result.{err_from_is_err_and}
 use Rattle.bw_log.proofs.Whole.{starts_of, beginnable_of, room_made, takes_there, tables_there, begin_ends_at, put_ends, refused_ends}
@@ -23,42 +23,28 @@ returns-in_err-make_room-clause-leaves g c =
     let st = starts_of _ _ _ _ _ c.requires.sound c.requires.follows c.in_ok-ready.ensures.same size c.in_ok-ready.ensures.ready.granted in
     rw (p.1, p.2) (begin_ends_at _ _ _ _ _ _ _ st c.in_ok-ready.ensures.same size c.in_err-make_room.ensures.outcome)
 
-pub put-requires-clause-fits : goal.put-requires-clause-fits
-put-requires-clause-fits g c =
-    let m = room_made _ _ _ _ _ _ c.requires.sound c.requires.follows c.in_ok-ready.ensures.same (ap length c.bytes.ensures.value)
-    c.in_ok-ready.ensures.ready.granted c.in_ok-make_room.ensures.outcome in
-    (takes_there _ c.make_room.new.self.live.items _ _ _ _ m.0 m.1 refl).0
-
-pub put-requires-clause-countable : goal.put-requires-clause-countable
-put-requires-clause-countable g c =
-    let m = room_made _ _ _ _ _ _ c.requires.sound c.requires.follows c.in_ok-ready.ensures.same (ap length c.bytes.ensures.value)
-    c.in_ok-ready.ensures.ready.granted c.in_ok-make_room.ensures.outcome in
-    (takes_there _ c.make_room.new.self.live.items _ _ _ _ m.0 m.1 refl).1
-
-pub put-requires-clause-number : goal.put-requires-clause-number
-put-requires-clause-number g c =
-    let m = room_made _ _ _ _ _ _ c.requires.sound c.requires.follows c.in_ok-ready.ensures.same (ap length c.bytes.ensures.value)
-    c.in_ok-ready.ensures.ready.granted c.in_ok-make_room.ensures.outcome in
-    (takes_there _ c.make_room.new.self.live.items _ _ _ _ m.0 m.1 refl).2
-
-pub put-requires-clause-pages : goal.put-requires-clause-pages
-put-requires-clause-pages g c =
+pub put-requires : goal.put-requires
+put-requires g c =
     let size = ap length c.bytes.ensures.value in
-    let m = room_made _ _ _ _ _ _ c.requires.sound c.requires.follows c.in_ok-ready.ensures.same (ap length c.bytes.ensures.value)
-    c.in_ok-ready.ensures.ready.granted c.in_ok-make_room.ensures.outcome in
+    let m = room_made _ _ _ _ _ _ c.requires.sound c.requires.follows c.in_ok-ready.ensures.same size c.in_ok-ready.ensures.ready.granted
+    c.in_ok-make_room.ensures.outcome in
+    let takes = takes_there _ c.make_room.new.self.live.items _ _ _ _ m.0 m.1 refl in
     let tables = tables_there _ _ _ _ m.0 m.1 in
     let few = tables.few in
     let ready = c.in_ok-ready.ensures.ready.pages in
     let there : vec_len c.make_room.new.self.pages + length c.bytes.result.now / 8 ≤ vec_capacity c.make_room.new.self.pages =
     rw c.in_ok-make_room.ensures.pages ready in
-    omega (arith, size, there, few)
-
-pub put-requires-clause-lines : goal.put-requires-clause-lines
-put-requires-clause-lines g c =
-    let m = room_made _ _ _ _ _ _ c.requires.sound c.requires.follows c.in_ok-ready.ensures.same (ap length c.bytes.ensures.value)
-    c.in_ok-ready.ensures.ready.granted c.in_ok-make_room.ensures.outcome in
-    let tables = tables_there _ _ _ _ m.0 m.1 in
-    tables.lines
+    record {
+      sealed = search rules;
+      some = takes.3;
+      fits = takes.0;
+      countable = takes.1;
+      number = takes.2;
+      short = search rules;
+      frames = search rules;
+      pages = omega (arith, size, there, few);
+      lines = tables.lines;
+    }
 
 pub returns-clause-leaves : goal.returns-clause-leaves
 returns-clause-leaves g c =

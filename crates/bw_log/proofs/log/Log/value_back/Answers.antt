@@ -1,9 +1,7 @@
 use Rattle.std.proofs.Common.{◌∙◌, refl, rules}
-use Rattle.std.proofs.lemmas.Result.{err_from_is_err_and}
 use Rattle.bw_page.specs.declared.words.Word.TheVariants.{Gone, Holds}
-use Rattle.bw_log.proofs.Fetched.{stops_since}
 use Rattle.bw_log.proofs.Valued.{looks_first, read_ordered, found_value, found_on, found_further, never_ends}
-use Rattle.bw_log.proofs.Walked.{place_now, rank_less, on_page}
+use Rattle.bw_log.proofs.Walked.{place_now, rank_less, stops_on_page}
 use Rattle.bw_log.proofs.log.Log.value_back.Goals as goal
 
 pub back-init : goal.back-init
@@ -43,6 +41,5 @@ unreachable-requires g c =
 
 pub returns-in_err-block-clause-stops : goal.returns-in_err-block-clause-stops
 returns-in_err-block-clause-stops g c =
-    let p = err_from_is_err_and c.from_residual.result c.from_residual.ensures.1 in
-    rw (p.1, p.2) (stops_since _ _ _ _ _ c.in_err-block.field-0.0 c.back.invariant.same
-    (on_page _ _ c.args.page c.back.place c.back.invariant.same c.requires.sound c.back.invariant.looks.walk) c.in_err-block.ensures.stops)
+    stops_on_page _ c.from_residual.result c.in_err-block.field-0.0 c.from_residual.ensures.1 c.back.invariant.same c.requires.sound c.back.invariant.looks.walk
+    c.in_err-block.ensures.stops

@@ -1,7 +1,5 @@
 use Rattle.std.proofs.Common.{◌∙◌, rules}
-use Rattle.std.proofs.lemmas.Result.{err_from_is_err_and}
-use Rattle.bw_log.proofs.Fetched.{stops_since}
-use Rattle.bw_log.proofs.Walked.{place_now, step_is, some_link, end_is, rank_less, on_page}
+use Rattle.bw_log.proofs.Walked.{place_now, step_is, some_link, end_is, rank_less, stops_on_page}
 use Rattle.bw_log.proofs.log.Log.walk.Goals as goal
 
 pub block_at-requires-clause-there : goal.block_at-requires-clause-there
@@ -30,6 +28,5 @@ unreachable-requires g c =
 
 pub returns-in_err-block-clause-stops : goal.returns-in_err-block-clause-stops
 returns-in_err-block-clause-stops g c =
-    let p = err_from_is_err_and c.from_residual.result c.from_residual.ensures.1 in
-    rw (p.1, p.2) (stops_since _ _ _ _ _ c.in_err-block.field-0.0 c.back.invariant.same
-    (on_page _ _ c.args.page c.back.place c.back.invariant.same c.requires.sound c.back.invariant.walk) c.in_err-block.ensures.stops)
+    stops_on_page _ c.from_residual.result c.in_err-block.field-0.0 c.from_residual.ensures.1 c.back.invariant.same c.requires.sound c.back.invariant.walk
+    c.in_err-block.ensures.stops
