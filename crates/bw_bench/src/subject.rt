@@ -25,6 +25,7 @@ pub struct Course {
 }
 
 /// A course over a store, by a handle `R`.
+#[derive(Drop)]
 pub struct Subject<'b, R> {
     pub rt: &'b R,
     pub bench: &'b Bench,
