@@ -12,8 +12,8 @@ use std::alloc::{AllocError, Global};
 use std::marker::Model;
 use std::snapshot::Snapshot;
 
-/// All entries that were taken. Those that were forgotten come first. Each that is kept has no more
-/// memory than its record's bytes take, and 32 bytes.
+/// All entries that were taken. Those that were forgotten come first. Each that is kept has its
+/// record's bytes in one run of memory, and 32 bytes here.
 pub struct History {
     past: Vec<Snapshot<PackedEntry>>,
     kept: Vec<PackedEntry>,

@@ -12,8 +12,8 @@ impl Store {
     ghost use Rattle.bw_store.specs.Views.{forgotten_of, kept_by, IsSound};
 
     /// What was taken and is kept in memory, in the order in which it was taken: all of it, but for
-    /// what was forgotten. Each writer's records in the whole history are those that its lane gave,
-    /// in order.
+    /// what was forgotten. Each entry is packed: `PackedEntry::entry` brings it to fixed room. Each
+    /// writer's records in the whole history are those that its lane gave, in order.
     pub fn history(&self) -> &[PackedEntry]
         ensures value { result.now
             ≡ drop (forgotten_of self.now) (kept_by self.now holding).entries }
