@@ -20,13 +20,14 @@ use Rattle.bw_codec.specs.declared.block.Block.TheVariants.{Delta, Base, Split}
 use Rattle.bw_codec.proofs.Lengths.{length-delta}
 use Rattle.bw_buffer.specs.Joining.{open_after, open_from, last_delta, joins_of, with_ops, ops_added, joined_by, joined}
 use Rattle.bw_buffer.specs.Rows.{Parts, parts, pieces_length, bytes_at, AreRows, IsRow}
-use Rattle.bw_buffer.specs.Laid.{blocks_of, parts_of, Holds, IsLaid}
+use Rattle.bw_buffer.specs.Filling.{Filling, size_of}
+use Rattle.bw_buffer.specs.Laid.{blocks_of, parts_of, filling_of, Holds, IsLaid}
 use Rattle.bw_buffer.specs.declared.buffer.Buffer.TheInside.{Inside}
 use Rattle.bw_buffer.specs.declared.rows.Row.{Row}
 use Rattle.bw_buffer.specs.declared.rows.Piece.{Piece}
 use Rattle.bw_buffer.proofs.Joined.{StandsOpen, JoinsOne, joins_one, joins_parts}
 use Rattle.bw_buffer.proofs.Pieces.{parts_more, length_more, rows_more, rows_longer, longer, none_at, rows_count}
-use Rattle.bw_buffer.proofs.Holding.{some_bytes, few_blocks}
+use Rattle.bw_buffer.proofs.Holding.{size_is, some_bytes, few_blocks}
 
 all-append : {X : Type 0} (P : X → Type 0) (xs ys : List X) → All P xs → All P ys → All P (xs ++ ys)
 all-append P [] ys a b = b
@@ -90,6 +91,24 @@ row_short row bytes (Delta page back ops) h = (let e = ap (λ (l : List ℕ). le
 row_short row bytes (Base leaf) h = (let e = ap (λ (l : List ℕ). length l) h.2 in omega arith)
 row_short row bytes (Split page back upper) h = (let e = ap (λ (l : List ℕ). length l) h.2 in omega arith)
 
+-- ---- what stays as it is
+
+pub record Stays (a b : Inside) : Type 0 where
+  pub frame : b.frame ≡ a.frame
+  pub limit : b.limit ≡ a.limit
+  pub sealed : b.is_sealed ≡ a.is_sealed
+  pub spots_room : vec_capacity a.spots ≤ vec_capacity b.spots
+  pub bytes_room : vec_capacity a.bytes ≤ vec_capacity b.bytes
+
+pub stays : (a b : Inside) → b ≡ record a { size = b.size; rows = b.rows; pieces = b.pieces; arena = b.arena; deltas = b.deltas } → Stays a b
+stays a b same = record {
+  frame = ap (λ (x : Inside). x.frame) same;
+  limit = ap (λ (x : Inside). x.limit) same;
+  sealed = ap (λ (x : Inside). x.is_sealed) same;
+  spots_room = (let e = ap (λ (x : Inside). vec_capacity x.spots) same in omega arith);
+  bytes_room = (let e = ap (λ (x : Inside). vec_capacity x.bytes) same in omega arith);
+}
+
 -- ---- a row more
 
 pub record Pushed (a b : Inside) (block : Block) (xs : List ℕ) (row : Row) (q : Piece) : Type 0 where
@@ -97,9 +116,7 @@ pub record Pushed (a b : Inside) (block : Block) (xs : List ℕ) (row : Row) (q 
   pub unsealed : a.is_sealed ≡ false
   pub lawful : IsBlock 32 block
   pub fits : a.size + length (block_bytes block) ≤ a.limit
-  pub frame : b.frame ≡ a.frame
-  pub limit : b.limit ≡ a.limit
-  pub sealed : b.is_sealed ≡ a.is_sealed
+  pub stays : Stays a b
   pub size : b.size ≡ a.size + length (block_bytes block)
   pub rows : b.rows.items ≡ a.rows.items ++ row ∷ []
   pub pieces : b.pieces.items ≡ a.pieces.items ++ q ∷ []
@@ -112,8 +129,6 @@ pub record Pushed (a b : Inside) (block : Block) (xs : List ℕ) (row : Row) (q 
   pub arena_room : vec_capacity a.arena ≤ vec_capacity b.arena
   pub deltas_few : hash_map_len b.deltas ≤ hash_map_len a.deltas + 1
   pub deltas_room : hash_map_len a.deltas + spare a.deltas ≤ hash_map_len b.deltas + spare b.deltas
-  pub spots_room : vec_capacity a.spots ≤ vec_capacity b.spots
-  pub bytes_room : vec_capacity a.bytes ≤ vec_capacity b.bytes
 
 pub pushed : (a b : Inside) (block : Block) (xs : List ℕ) (row : Row) (q : Piece) → Pushed a b block xs row q → Holds b (blocks_of a ++ block ∷ [])
 pushed a b block xs row q x =
@@ -133,7 +148,7 @@ pushed a b block xs row q x =
     let longer_rows : length b.rows.items ≡ length a.rows.items + 1 = ap (λ (l : List Row). length l) x.rows ∙ length-append a.rows.items (row ∷ []) in
     let longer_pieces : length b.pieces.items ≡ length a.pieces.items + 1 = ap (λ (l : List Piece). length l) x.pieces ∙ length-append a.pieces.items (q ∷ []) in
     let longer_arena : length b.arena.items ≡ length a.arena.items + length xs = ap (λ (l : List ℕ). length l) x.arena ∙ length-append a.arena.items xs in
-    let limit = x.limit in
+    let limit = x.stays.limit in
     let size = x.size in
     let fits = x.fits in
     record {
@@ -147,10 +162,10 @@ pushed a b block xs row q x =
       size = (let s = h.size in omega arith);
       lawful = all-append (IsBlock 32) bs (block ∷ []) h.lawful (x.lawful, tt);
       told = λ p. x.told p ∙ ap (λ (n : ℕ). open_after p n block (index_at a.deltas p)) count ∙ ap (open_after p (length bs) block) (h.told p) ∙ sym (last_push p bs block);
-      numbered = (let n = h.numbered in let e = x.frame in omega arith);
+      numbered = (let n = h.numbered in let e = x.stays.frame in omega arith);
       fits = omega arith;
       limited = (let l = h.limited in (omega arith, omega arith));
-      sealed = λ e. (let u = x.unsealed in let v = x.sealed in absurd cc);
+      sealed = λ e. (let u = x.unsealed in let v = x.stays.sealed in absurd cc);
       rows_room = (let r = h.rows_room in let c = x.rows_room in omega arith);
       pieces_few = (let f = h.pieces_few in omega arith);
       pieces_room = (let r = h.pieces_room in let c = x.pieces_room in omega arith);
@@ -158,8 +173,8 @@ pushed a b block xs row q x =
       arena_room = (let r = h.arena_room in let c = x.arena_room in omega arith);
       deltas_few = (let f = h.deltas_few in let c = x.deltas_few in omega arith);
       deltas_room = (let r = h.deltas_room in let c = x.deltas_room in omega arith);
-      spots_room = (let r = h.spots_room in let c = x.spots_room in omega arith);
-      bytes_room = (let r = h.bytes_room in let c = x.bytes_room in omega arith);
+      spots_room = (let r = h.spots_room in let c = x.stays.spots_room in omega arith);
+      bytes_room = (let r = h.bytes_room in let c = x.stays.bytes_room in omega arith);
     }
 
 -- ---- a row longer
@@ -171,9 +186,7 @@ pub record Lengthened (a b : Inside) (page at : ℕ) (ops : List Record) (xs : L
   pub lawful : All IsOp ops
   pub joins : joins_of (length ops) page (blocks_of a) ≡ Some at
   pub fits : a.size + length xs ≤ a.limit
-  pub frame : b.frame ≡ a.frame
-  pub limit : b.limit ≡ a.limit
-  pub sealed : b.is_sealed ≡ a.is_sealed
+  pub stays : Stays a b
   pub size : b.size ≡ a.size + length xs
   pub stands : slice_get a.rows.items at ≡ Some row
   pub rows : b.rows.items ≡ set a.rows.items at (longer row (length ops) (length xs))
@@ -185,8 +198,6 @@ pub record Lengthened (a b : Inside) (page at : ℕ) (ops : List Record) (xs : L
   pub rows_room : vec_capacity b.rows ≡ vec_capacity a.rows
   pub pieces_room : vec_capacity b.pieces ≡ vec_capacity a.pieces
   pub arena_room : vec_capacity a.arena ≤ vec_capacity b.arena
-  pub spots_room : vec_capacity a.spots ≤ vec_capacity b.spots
-  pub bytes_room : vec_capacity a.bytes ≤ vec_capacity b.bytes
 
 get_within : {X : Type 0} (xs : List X) (i : ℕ) (x : X) → slice_get xs i ≡ Some x → i < length xs
 get_within [] i x e = absurd cc
@@ -240,7 +251,7 @@ lengthened a b page at back ops xs row q x =
     let same_rows : length b.rows.items ≡ length a.rows.items = ap (λ (l : List Row). length l) x.rows ∙ length-set a.rows.items at (longer row (length ops) (length xs)) in
     let longer_pieces : length b.pieces.items ≡ length a.pieces.items + 1 = ap (λ (l : List Piece). length l) x.pieces ∙ length-append a.pieces.items (q ∷ []) in
     let longer_arena : length b.arena.items ≡ length a.arena.items + length xs = ap (λ (l : List ℕ). length l) x.arena ∙ length-append a.arena.items xs in
-    let limit = x.limit in
+    let limit = x.stays.limit in
     let size = x.size in
     let fits = x.fits in
     let parts_lawful = all-more (IsBlock 32) s.before (Delta page s.back s.was) s.behind [] (subst (All (IsBlock 32)) s.split h.lawful) in
@@ -266,10 +277,10 @@ lengthened a b page at back ops xs row q x =
           }) parts_lawful.2;
       told = λ p. ap (λ (d : _). index_at d p) x.deltas ∙ h.told p ∙ sym (last_ops p at ops bs)
           ∙ ap (last_delta p) (ap (ops_added at ops) s.split ∙ Rattle.bw_buffer.proofs.Joined.added_there s.before (Delta page s.back s.was) s.behind at ops s.index);
-      numbered = (let n = h.numbered in let e = x.frame in omega arith);
+      numbered = (let n = h.numbered in let e = x.stays.frame in omega arith);
       fits = omega arith;
       limited = (let l = h.limited in (omega arith, omega arith));
-      sealed = λ e. (let u = x.unsealed in let v = x.sealed in absurd cc);
+      sealed = λ e. (let u = x.unsealed in let v = x.stays.sealed in absurd cc);
       rows_room = (let r = h.rows_room in let c = x.rows_room in omega arith);
       pieces_few = (let f = h.pieces_few in omega arith);
       pieces_room = (let r = h.pieces_room in let c = x.pieces_room in omega arith);
@@ -277,8 +288,8 @@ lengthened a b page at back ops xs row q x =
       arena_room = (let r = h.arena_room in let c = x.arena_room in omega arith);
       deltas_few = (let f = h.deltas_few in let d = ap (λ (d : _). hash_map_len d) x.deltas in omega arith);
       deltas_room = (let r = h.deltas_room in let d = ap (λ (d : _). spare d) x.deltas in let e = ap (λ (d : _). hash_map_len d) x.deltas in omega arith);
-      spots_room = (let r = h.spots_room in let c = x.spots_room in omega arith);
-      bytes_room = (let r = h.bytes_room in let c = x.bytes_room in omega arith);
+      spots_room = (let r = h.spots_room in let c = x.stays.spots_room in omega arith);
+      bytes_room = (let r = h.bytes_room in let c = x.stays.bytes_room in omega arith);
     })
 
 -- ---- room for what fits
@@ -286,6 +297,14 @@ lengthened a b page at back ops xs row q x =
 pub room_rows : (a : Inside) (more : ℕ) → IsLaid a → 8 ≤ more → a.size + more ≤ a.limit → length a.rows.items < vec_capacity a.rows
 room_rows a more h some fits =
     (let n = rows_count 0 a.rows.items (parts_of a) (blocks_of a) h.rows in let f = few_blocks (blocks_of a) in let s = h.size in let r = h.rows_room in omega arith)
+
+-- the same, of the buffer as it is seen
+pub room_rows_of : (a : Inside) (f : Filling) → filling_of a ≡ f → (more : ℕ) → IsLaid a → 8 ≤ more → size_of f + more ≤ f.limit
+    → length a.rows.items < vec_capacity a.rows
+room_rows_of a f view more h some fits =
+    let size = size_is a f h view in
+    let limit = ap (λ (x : Filling). x.limit) view in
+    room_rows a more h some (omega arith)
 
 pub room_pieces : (a : Inside) (more : ℕ) → IsLaid a → 3 ≤ more → a.size + more ≤ a.limit → length a.pieces.items < vec_capacity a.pieces
 room_pieces a more h some fits = (let f = h.pieces_few in let r = h.pieces_room in omega arith)

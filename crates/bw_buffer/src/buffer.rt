@@ -26,6 +26,7 @@ use std::alloc::{AllocError, Global};
 use std::marker::Model;
 
 /// A frame in the making.
+#[derive(Drop)]
 pub struct Buffer {
     /// The frame's number, from 1.
     frame: u64,
@@ -47,23 +48,6 @@ pub struct Buffer {
     spots: Vec<u32>,
     /// The frame's bytes, once it is sealed.
     bytes: Vec<u8>,
-}
-
-impl Drop for Buffer {
-    fn drop(self) {
-        let Buffer {
-            frame: _,
-            limit: _,
-            size: _,
-            is_sealed: _,
-            rows: _,
-            pieces: _,
-            arena: _,
-            deltas: _,
-            spots: _,
-            bytes: _,
-        } = self;
-    }
 }
 
 impl Model for Buffer {

@@ -51,17 +51,12 @@ pub(crate) struct Spot {
 }
 
 /// What was read ahead for a list of pages.
+#[derive(Drop)]
 pub(crate) struct Ahead {
     /// The bytes of the oldest segment, and behind them the Bases that were spelled; or none.
     pub(crate) bytes: Vec<u8>,
     /// For each page the spot where its Base stands in them; no spots where nothing was read.
     pub(crate) spots: Vec<Spot>,
-}
-
-impl Drop for Ahead {
-    fn drop(self) {
-        let Ahead { bytes: _, spots: _ } = self;
-    }
 }
 
 impl Ahead {

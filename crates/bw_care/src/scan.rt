@@ -40,17 +40,12 @@ impl<T: Drop> From<AllocFailed<T>> for ScanFault {
 }
 
 /// What stands behind a header.
+#[derive(Drop)]
 pub struct Behind {
     /// Where the whole frames stand, each in segment 0.
     pub lines: Vec<FrameAt>,
     /// How many bytes follow the last of them.
     pub tail: usize,
-}
-
-impl Drop for Behind {
-    fn drop(self) {
-        let Behind { lines: _, tail: _ } = self;
-    }
 }
 
 impl Behind {

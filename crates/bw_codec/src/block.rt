@@ -72,14 +72,9 @@ impl Block {
 }
 
 /// Blocks, in the order in which they apply.
+#[derive(Drop)]
 pub struct Blocks {
     items: Vec<Block>,
-}
-
-impl Drop for Blocks {
-    fn drop(self) {
-        let Blocks { items: _ } = self;
-    }
 }
 
 impl Model for Blocks {

@@ -11,14 +11,9 @@ use std::marker::Model;
 use std::mem;
 
 /// The low key of a page: 0 to 128 bytes, empty for page 1 alone. No key of the page is below it.
+#[derive(Drop)]
 pub struct Low {
     bytes: Vec<u8>,
-}
-
-impl Drop for Low {
-    fn drop(self) {
-        let Low { bytes: _ } = self;
-    }
 }
 
 impl Model for Low {
@@ -67,15 +62,10 @@ impl Low {
 /// Beside them stands a row with the first eight bytes of each key as a number, which a search reads
 /// in place of most keys. It takes memory of its own, and where that is refused there is none: then
 /// a search is slower, and nothing else changes.
+#[derive(Drop)]
 pub struct Pairs {
     items: Vec<Pair>,
     row: Vec<u64>,
-}
-
-impl Drop for Pairs {
-    fn drop(self) {
-        let Pairs { items: _, row: _ } = self;
-    }
 }
 
 impl Model for Pairs {
@@ -221,21 +211,12 @@ impl Pairs {
 }
 
 /// A page: its number from 1, its low key, and its pairs.
+#[derive(Drop)]
 pub struct Leaf {
     /// From 1.
     pub page: u32,
     pub low: Low,
     pub pairs: Pairs,
-}
-
-impl Drop for Leaf {
-    fn drop(self) {
-        let Leaf {
-            page: _,
-            low: _,
-            pairs: _,
-        } = self;
-    }
 }
 
 impl Leaf {

@@ -42,4 +42,5 @@ pub use key::{Key, LengthError, Value, is_before};
 pub use leaf::{Leaf, Low, Pairs};
 pub use outline::Outline;
 pub use pair::Pair;
+pub use parts::ascend;
 pub use record::{Ops, Record};

@@ -7,15 +7,10 @@ use std::alloc::{AllocError, Global};
 use std::marker::Model;
 
 /// A key and its value, as pages hold them: their bytes in one run of memory.
+#[derive(Drop)]
 pub struct Pair {
     /// The key's length, the key's bytes, and the value's.
     bytes: Vec<u8>,
-}
-
-impl Drop for Pair {
-    fn drop(self) {
-        let Pair { bytes: _ } = self;
-    }
 }
 
 impl Model for Pair {

@@ -231,8 +231,8 @@ pub(crate) fn some_ops(
     Ok((Ops::of(items), rest))
 }
 
-/// Whether each key is below the next.
-pub(crate) fn ascend(pairs: &[Pair]) -> bool
+/// Whether each key is below the next. No memory is taken.
+pub fn ascend(pairs: &[Pair]) -> bool
     ensures { result ≡ ascends pairs.now }
 {
     let mut last: Option<&[u8]> = None;

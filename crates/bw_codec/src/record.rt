@@ -62,14 +62,9 @@ impl Drop for Items {
 }
 
 /// Records, in the order in which they apply. One alone takes no memory.
+#[derive(Drop)]
 pub struct Ops {
     items: Items,
-}
-
-impl Drop for Ops {
-    fn drop(self) {
-        let Ops { items: _ } = self;
-    }
 }
 
 impl Model for Ops {

@@ -29,18 +29,10 @@ enum Source {
 }
 
 /// Where the blocks of a frame begin in it, once somebody asked.
+#[derive(Drop)]
 pub struct Starts {
     source: Source,
     known: Vec<u32>,
-}
-
-impl Drop for Starts {
-    fn drop(self) {
-        let Starts {
-            source: _,
-            known: _,
-        } = self;
-    }
 }
 
 impl Model for Starts {

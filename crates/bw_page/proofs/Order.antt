@@ -49,14 +49,10 @@ less Equal h = cc
 less Greater h = cc
 
 less_not_greater : (r : Ordering) → is_lt r ≡ true → is_gt r ≡ false
-less_not_greater Less h = refl
-less_not_greater Equal h = cc
-less_not_greater Greater h = cc
+less_not_greater r h = ap is_gt (less r h)
 
 less_not_equal : (r : Ordering) → is_lt r ≡ true → is_eq r ≡ false
-less_not_equal Less h = refl
-less_not_equal Equal h = cc
-less_not_equal Greater h = cc
+less_not_equal r h = ap is_eq (less r h)
 
 greater_not_equal : (r : Ordering) → is_gt r ≡ true → is_eq r ≡ false
 greater_not_equal Less h = cc

@@ -138,6 +138,18 @@ leaf_got a v e at s d h is =
     ∙ get_or-map (λ (x : Seated). x.leaf) a.seats.items at s d h
     ∙ ap (λ (x : Seated). x.leaf) (sym is)
 
+-- the same, where the index is one of a leaf
+pub leaf_in : (a : Inside) (v : Seating) → seats_view a ≡ v → (at : ℕ) (s : Seated) (d : Leaf) → at < length v.items
+    → s ≡ get_or a.seats.items at s → get_or v.items at d ≡ s.leaf
+leaf_in a v e at s d h = leaf_got a v e at s d (let long = count_is a v e in omega arith)
+
+-- whether the leaf of a seat is evicted
+pub evicted_there : (a : Inside) (v : Seating) → seats_view a ≡ v → (at : ℕ) (s : Seated) → at < length v.items
+    → s ≡ get_or a.seats.items at s → s.is_evicted ≡ is_among (at + 1) v.evicted
+evicted_there a v e at s h is =
+    let long = count_is a v e in
+    ap (λ (x : Seated). x.is_evicted) is ∙ sym (evicted_get a.seats.items at s (omega arith)) ∙ sym (evicted_is a v e at)
+
 -- the last seat, where the last page is here
 pub last_here : (a : Inside) (v : Seating) → seats_view a ≡ v → (ss : List Seated) (s : Seated) → a.seats.items ≡ ss ++ s ∷ []
     → is_among (length v.items) v.evicted ≡ false → s.is_evicted ≡ false

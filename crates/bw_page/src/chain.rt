@@ -39,17 +39,12 @@ impl Default for Link {
 }
 
 /// The links of a page over a whole page or over the log.
+#[derive(Drop)]
 pub struct Chain {
     /// Oldest first, so that the newest is a push. None stands in the chain itself: there is one a
     /// page, most have no link, and a link has some 220 bytes.
     links: SmallVec<Link, 0>,
     end: End,
-}
-
-impl Drop for Chain {
-    fn drop(self) {
-        let Chain { links: _, end: _ } = self;
-    }
 }
 
 impl Model for Chain {

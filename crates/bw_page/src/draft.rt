@@ -11,9 +11,9 @@ ghost use Rattle.bw_page.specs.Leaves.{changed, all_changed};
 ghost use Rattle.bw_page.specs.Standing.{after, kept_below};
 
 use crate::room::fitted;
-use crate::tree::{ascend, change_tree, cut_tree, row_of, tree_of};
+use crate::tree::{change_tree, cut_tree, row_of, tree_of};
 use crate::{changes, replay};
-use bw_codec::{Block, Key, Leaf, Pairs, Record, Value};
+use bw_codec::{Block, Key, Leaf, Pairs, Record, Value, ascend};
 use std::alloc::AllocError;
 use std::collections::BTreeMap;
 use std::marker::Model;
@@ -23,17 +23,12 @@ use std::marker::Model;
 const FEW: usize = 64;
 
 /// A page that is read forwards, however many pairs it has.
+#[derive(Drop)]
 pub struct Draft {
     /// The page; its pairs stand here where there is no tree.
     leaf: Leaf,
     /// All of its pairs, once they were too many for a row.
     tree: Option<BTreeMap<Key, Value>>,
-}
-
-impl Drop for Draft {
-    fn drop(self) {
-        let Draft { leaf: _, tree: _ } = self;
-    }
 }
 
 impl Model for Draft {

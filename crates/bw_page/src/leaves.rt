@@ -35,7 +35,17 @@ use bw_codec::{Key, Leaf, Record, Value};
 use std::alloc::{AllocError, Global};
 use std::marker::Model;
 
+/// What a record did to the pages.
+#[derive(Debug, Drop, PartialEq, Eq)]
+pub struct Applied {
+    /// The page at which it was directed.
+    pub page: u32,
+    /// The page that it made, if that one was cut in two.
+    pub made: Option<u32>,
+}
+
 /// The leaves of all pages, with at most `m` pairs each.
+#[derive(Drop)]
 pub struct Leaves {
     /// The most pairs that a page holds.
     m: u16,
@@ -43,16 +53,6 @@ pub struct Leaves {
     leaves: Seats,
     /// The page of each low key but the empty one, which is that of page 1.
     index: LowIndex,
-}
-
-impl Drop for Leaves {
-    fn drop(self) {
-        let Leaves {
-            m: _,
-            leaves: _,
-            index: _,
-        } = self;
-    }
 }
 
 impl Model for Leaves {
@@ -65,15 +65,6 @@ impl Model for Leaves {
     ghost view = { view_of };
 
     ghost invariant = { IsIndexed };
-}
-
-/// What a record did to the pages.
-#[derive(Debug, Drop, PartialEq, Eq)]
-pub struct Applied {
-    /// The page at which it was directed.
-    pub page: u32,
-    /// The page that it made, if that one was cut in two.
-    pub made: Option<u32>,
 }
 
 impl Leaves {

@@ -18,18 +18,13 @@ use std::ops::Bound;
 const SEVERAL: u32 = 0;
 
 /// Low keys with their pages.
+#[derive(Drop)]
 pub(crate) struct LowIndex {
     /// The page of each low.
     all: BTreeMap<Key, u32>,
     /// The page of the only low that has this head, or `SEVERAL`. A head without an entry is no
     /// low's.
     heads: BTreeMap<u64, u32>,
-}
-
-impl Drop for LowIndex {
-    fn drop(self) {
-        let LowIndex { all: _, heads: _ } = self;
-    }
 }
 
 impl Model for LowIndex {

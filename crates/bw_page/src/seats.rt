@@ -25,21 +25,12 @@ use std::mem;
 use std::snapshot::Snapshot;
 
 /// One leaf, in memory or evicted.
+#[derive(Drop)]
 pub(crate) struct Seat {
     leaf: Option<Leaf>,
     was: Snapshot<Leaf>,
     /// How many bytes its Base has, where it is evicted.
     len: u32,
-}
-
-impl Drop for Seat {
-    fn drop(self) {
-        let Seat {
-            leaf: _,
-            was: _,
-            len: _,
-        } = self;
-    }
 }
 
 impl Model for Seat {
@@ -160,14 +151,9 @@ impl Seat {
 }
 
 /// Leaves, each in memory or evicted.
+#[derive(Drop)]
 pub(crate) struct Seats {
     seats: Vec<Seat>,
-}
-
-impl Drop for Seats {
-    fn drop(self) {
-        let Seats { seats: _ } = self;
-    }
 }
 
 impl Model for Seats {

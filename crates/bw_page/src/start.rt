@@ -11,17 +11,12 @@ use std::alloc::AllocError;
 use std::marker::Model;
 
 /// The leaves of all pages, all of them in memory, with at most `m` pairs each.
+#[derive(Drop)]
 pub struct Start {
     /// The most pairs that a page holds.
     m: u16,
     /// Page n at index n - 1.
     leaves: Seats,
-}
-
-impl Drop for Start {
-    fn drop(self) {
-        let Start { m: _, leaves: _ } = self;
-    }
 }
 
 impl Model for Start {

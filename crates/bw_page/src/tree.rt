@@ -9,26 +9,6 @@ use bw_codec::{Key, Pair, Record, Value, is_before};
 use std::alloc::AllocError;
 use std::collections::BTreeMap;
 
-/// Whether the keys of pairs ascend.
-pub(crate) fn ascend(pairs: &[Pair]) -> bool
-    ensures { result ≡ ascends pairs.now }
-{
-    let mut last: Option<&[u8]> = None;
-    for pair in pairs {
-        let key = pair.key();
-        match last {
-            None => {}
-            Some(before) => {
-                if !is_before(before, key) {
-                    return false;
-                }
-            }
-        }
-        last = Some(key);
-    }
-    true
-}
-
 /// The same pairs in a tree. They are taken from the last one down, so each key is the least so far.
 pub(crate) fn tree_of(pairs: Vec<Pair>) -> Result<BTreeMap<Key, Value>, AllocError>
     requires { IsTrue (ascends pairs.items) }

@@ -8,6 +8,7 @@ use bw_page::{Leaves, Start};
 use std::marker::Model;
 
 /// Entries, and the start leaves where the batch is the first.
+#[derive(Drop)]
 pub struct Batch {
     /// All of them in memory.
     pub(crate) start: Option<Start>,
@@ -15,16 +16,6 @@ pub struct Batch {
     /// The pages at which the entries' records may be directed, each at the index of its entry.
     /// Nothing is known of them.
     pub(crate) pages: Vec<u32>,
-}
-
-impl Drop for Batch {
-    fn drop(self) {
-        let Batch {
-            start: _,
-            entries: _,
-            pages: _,
-        } = self;
-    }
 }
 
 impl Model for Batch {

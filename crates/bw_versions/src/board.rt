@@ -18,20 +18,11 @@ use std::snapshot::Snapshot;
 
 /// Published pages: the fold of the published entries, from the start leaves. Start and entries
 /// take no bytes: the proof alone knows them.
+#[derive(Drop)]
 pub struct Board {
     start: Snapshot<Leaves>,
     entries: Vec<Snapshot<Entry>>,
     leaves: Leaves,
-}
-
-impl Drop for Board {
-    fn drop(self) {
-        let Board {
-            start: _,
-            entries: _,
-            leaves: _,
-        } = self;
-    }
 }
 
 impl Model for Board {

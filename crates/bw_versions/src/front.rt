@@ -10,15 +10,10 @@ use logbook::{Offer, Seen, Start, Word};
 use std::marker::Model;
 
 /// A beginning of a book's batches: how many they are, and that the book had them.
+#[derive(Drop)]
 pub struct Front {
     count: u64,
     seen: Mark,
-}
-
-impl Drop for Front {
-    fn drop(self) {
-        let Front { count: _, seen: _ } = self;
-    }
 }
 
 impl Model for Front {

@@ -4,13 +4,8 @@ use crate::batch::Batch;
 use crate::front::Front;
 
 /// A batch, with the front that stands after it.
+#[derive(Drop)]
 pub struct Operation {
     pub batch: Batch,
     pub mark: Front,
-}
-
-impl Drop for Operation {
-    fn drop(self) {
-        let Operation { batch: _, mark: _ } = self;
-    }
 }

@@ -9,23 +9,13 @@ use std::marker::Model;
 
 /// An entry as a history keeps it: the bytes of its record are one run of memory, where a `Record`
 /// has room for the longest key and the longest value.
+#[derive(Drop)]
 pub struct PackedEntry {
     writer: u16,
     more: bool,
     /// Whether the record is a put. Else the pair's value is empty.
     puts: bool,
     pair: Pair,
-}
-
-impl Drop for PackedEntry {
-    fn drop(self) {
-        let PackedEntry {
-            writer: _,
-            more: _,
-            puts: _,
-            pair: _,
-        } = self;
-    }
 }
 
 impl Model for PackedEntry {

@@ -34,32 +34,6 @@ pub enum Unpublished {
     Back(Batch),
 }
 
-/// What a store publishes by. It is ended by `shut` alone.
-pub struct Publisher {
-    writer: VersionWriter,
-    head: Head,
-    /// The beginning of the book, for new readers.
-    origin: Front,
-    /// All that the book has.
-    front: Front,
-    /// What the writer could not take yet.
-    waiting: Option<Operation>,
-    /// How many readers may still be made.
-    places: usize,
-}
-
-impl Model for Publisher {
-    ghost use Rattle.bw_versions.specs.Publishing.{Publishing};
-
-    ghost Value = { Publishing };
-
-    ghost use Rattle.bw_versions.specs.Sending.{publishing, IsSent};
-
-    ghost view = { publishing };
-
-    ghost invariant = { IsSent };
-}
-
 // Gives the writer the operation that waits.
 fn hand_over(writer: &mut VersionWriter, waiting: &mut Option<Operation>) -> Result<(), AllocError>
     ensures desk { writer.new.desk ≡ writer.old.desk }
@@ -120,6 +94,32 @@ fn post(
         }
         Err(batch) => Err(batch),
     }
+}
+
+/// What a store publishes by. It is ended by `shut` alone.
+pub struct Publisher {
+    writer: VersionWriter,
+    head: Head,
+    /// The beginning of the book, for new readers.
+    origin: Front,
+    /// All that the book has.
+    front: Front,
+    /// What the writer could not take yet.
+    waiting: Option<Operation>,
+    /// How many readers may still be made.
+    places: usize,
+}
+
+impl Model for Publisher {
+    ghost use Rattle.bw_versions.specs.Publishing.{Publishing};
+
+    ghost Value = { Publishing };
+
+    ghost use Rattle.bw_versions.specs.Sending.{publishing, IsSent};
+
+    ghost view = { publishing };
+
+    ghost invariant = { IsSent };
 }
 
 impl Publisher {

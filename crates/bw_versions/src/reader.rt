@@ -52,20 +52,11 @@ impl News {
 }
 
 /// Reads what a store published, in any thread. A call waits for nobody.
+#[derive(Drop)]
 pub struct ReaderOf<L: Looker> {
     inner: L,
     seen: Front,
     learnt: Front,
-}
-
-impl<L: Looker> Drop for ReaderOf<L> {
-    fn drop(self) {
-        let ReaderOf {
-            inner: _,
-            seen: _,
-            learnt: _,
-        } = self;
-    }
 }
 
 /// A store's reader. Dropped, it frees no place.

@@ -12,18 +12,10 @@ use std::marker::Model;
 use std::snapshot::Snapshot;
 
 /// A board, beside the batches that it came from. The batches take no bytes.
+#[derive(Drop)]
 pub struct Posts {
     batches: Vec<Snapshot<Batch>>,
     board: Option<Board>,
-}
-
-impl Drop for Posts {
-    fn drop(self) {
-        let Posts {
-            batches: _,
-            board: _,
-        } = self;
-    }
 }
 
 impl Model for Posts {
@@ -40,15 +32,10 @@ impl Model for Posts {
 
 /// A value with a front beside it. It has a parameter because `search` finds only of a generic
 /// struct that threads may share a front beside a snapshot.
+#[derive(Drop)]
 pub struct Marked<P: Drop> {
     pub mark: Front,
     pub posts: P,
-}
-
-impl<P: Drop> Drop for Marked<P> {
-    fn drop(self) {
-        let Marked { mark: _, posts: _ } = self;
-    }
 }
 
 /// What readers are shown.

@@ -66,13 +66,8 @@ impl Question for Key {
 }
 
 /// The pair with the least key at or above this one.
+#[derive(Drop)]
 pub struct NextAt<'k>(pub &'k Key);
-
-impl<'k> Drop for NextAt<'k> {
-    fn drop(self) {
-        let NextAt(_) = self;
-    }
-}
 
 impl<'k> Question for NextAt<'k> {
     type Answer = Option<(Key, Value)>;

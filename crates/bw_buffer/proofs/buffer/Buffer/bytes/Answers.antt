@@ -1,7 +1,7 @@
 use Rattle.std.proofs.Common.{◌≡◌, ap, arith}
 use Rattle.bw_buffer.specs.Filling.{Filling}
 use Rattle.bw_buffer.proofs.Holding.{size_is, length_of_frame}
-use Rattle.bw_buffer.proofs.Framing.{lawful_frame}
+use Rattle.bw_buffer.proofs.Framing.{laid_frame}
 use Rattle.bw_buffer.proofs.buffer.Buffer.bytes.Goals as goal
 
 pub returns-clause-fits : goal.returns-clause-fits
@@ -13,9 +13,5 @@ returns-clause-fits c =
 
 pub returns-clause-frame : goal.returns-clause-frame
 returns-clause-frame c =
-    let b = c.args.self.now in
-    let size = size_is c.self.inside b c.self.invariant c.self.view_is in
-    let limit : c.self.inside.limit ≡ b.limit = ap (λ (f : Filling). f.limit) c.self.view_is in
-    let within = c.self.invariant.fits in
-    let limited = c.self.invariant.limited.1 in
-    lawful_frame b (omega (arith, c.frame.ensures.value, c.frame.ensures.numbered)) (omega (arith, c.frame.ensures.value)) (omega arith) (omega arith)
+    laid_frame c.self.inside c.args.self.now c.self.view_is c.self.invariant (omega (arith, c.frame.ensures.value, c.frame.ensures.numbered))
+    (omega (arith, c.frame.ensures.value))

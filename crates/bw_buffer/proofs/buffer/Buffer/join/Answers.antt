@@ -9,7 +9,7 @@ use Rattle.bw_buffer.specs.declared.rows.Row.{Row}
 use Rattle.bw_buffer.specs.declared.rows.Piece.{Piece}
 use Rattle.bw_buffer.specs.declared.buffer.Buffer.TheInside.{Inside}
 use Rattle.bw_buffer.proofs.Holding.{filled, seen, got}
-use Rattle.bw_buffer.proofs.Growing.{lengthened}
+use Rattle.bw_buffer.proofs.Growing.{lengthened, stays}
 use Rattle.bw_buffer.proofs.buffer.Buffer.join.Goals as goal
 use Rattle.bw_buffer.proofs.buffer.Buffer.join.Goals.{After-self-2-1}
 use Rattle.bw_buffer.proofs.Joining.{joins_room}
@@ -43,18 +43,12 @@ abbrev piece : After-self-2-1 → Piece
 piece c = record { block = c.args.at; len = c.ops_length-more.result }
 
 abbrev fields : After-self-2-1 → Inside
-fields c = record {
-  frame = c.self.inside.frame;
-  limit = c.self.inside.limit;
+fields c = record c.self.inside {
   size = c.self.inside.size + c.ops_length-more.result;
-  is_sealed = c.self.inside.is_sealed;
   rows = Rattle.std.specs.Vec.with_item c.self.inside.rows c.args.at
       record { mark = (row c).mark; back = (row c).back; ops = (row c).ops + length c.args.ops.now; len = (row c).len + c.ops_length-more.result };
   pieces = c.push_reserved.new.self;
   arena = c.write_ops.new.out;
-  deltas = c.self.inside.deltas;
-  spots = c.self.inside.spots;
-  bytes = c.self.inside.bytes;
 }
 
 now_holds : (c : After-self-2-1) → Holds (fields c) (joined (blocks_of c.self.inside) (Delta c.args.page c.args.back.now c.args.ops.now))
@@ -70,9 +64,7 @@ now_holds c =
       lawful = c.requires.lawful.each;
       joins = ap (λ (f : Filling). joins_of (length c.args.ops.now) c.args.page f.blocks) c.self.view_is ∙ c.requires.joins;
       fits = fits;
-      frame = refl;
-      limit = refl;
-      sealed = refl;
+      stays = stays a (fields c) refl;
       size = omega (arith, len);
       stands = got a.rows.items c.args.at (row c) (let x = r.row in omega arith) c.index-row.ensures;
       rows = ap (λ (n : ℕ). Rattle.std.specs.Prelude.slice_set a.rows.items c.args.at
@@ -85,8 +77,6 @@ now_holds c =
       rows_room = refl;
       pieces_room = c.push_reserved.ensures.capacity;
       arena_room = c.write_ops.ensures.capacity;
-      spots_room = omega arith;
-      bytes_room = omega arith;
     })
 
 pub invariant_of-self : goal.invariant_of-self

@@ -10,7 +10,7 @@ use Rattle.bw_buffer.specs.declared.rows.Row.{Row}
 use Rattle.bw_buffer.specs.declared.rows.Piece.{Piece}
 use Rattle.bw_buffer.specs.declared.buffer.Buffer.TheInside.{Inside}
 use Rattle.bw_buffer.proofs.Holding.{filled, seen, size_is, some_bytes}
-use Rattle.bw_buffer.proofs.Growing.{pushed, room_rows, few_rows_now}
+use Rattle.bw_buffer.proofs.Growing.{pushed, room_rows_of, few_rows_now, stays}
 use Rattle.bw_buffer.specs.declared.mark.Mark.TheVariants.{Sets}
 use Rattle.bw_buffer.proofs.Holding.{same_block}
 use Rattle.bw_buffer.proofs.buffer.Buffer.put_bytes.Goals as goal
@@ -23,17 +23,12 @@ abbrev piece : After-self-1 → Piece
 piece c = record { block = length c.as_slice.result.now; len = length c.args.bytes.now }
 
 abbrev fields : After-self-1 → Inside
-fields c = record {
-  frame = c.self.inside.frame;
-  limit = c.self.inside.limit;
+fields c = record c.self.inside {
   size = c.self.inside.size + length c.args.bytes.now;
-  is_sealed = c.self.inside.is_sealed;
   rows = c.push_reserved.new.self;
   pieces = c.push_reserved-2.new.self;
   arena = c.copy_in.new.bytes;
   deltas = c.forget.new.index;
-  spots = c.self.inside.spots;
-  bytes = c.self.inside.bytes;
 }
 
 now_holds : (c : After-self-1) (leaf : Leaf) → leaf.page ≡ c.args.page → IsBlock 32 (Base leaf) → c.args.bytes.now ≡ block_bytes (Base leaf)
@@ -50,9 +45,7 @@ now_holds c leaf page lawful spelled =
       unsealed = ap (λ (f : Filling). f.is_sealed) c.self.view_is ∙ c.requires.unsealed;
       lawful = lawful;
       fits = omega arith;
-      frame = refl;
-      limit = refl;
-      sealed = refl;
+      stays = stays a (fields c) refl;
       size = omega (arith, long);
       rows = c.push_reserved.ensures.items;
       pieces = c.push_reserved-2.ensures.items;
@@ -65,8 +58,6 @@ now_holds c leaf page lawful spelled =
       arena_room = c.copy_in.ensures.capacity;
       deltas_few = omega (arith, c.forget.ensures.len);
       deltas_room = omega (arith, c.forget.ensures.len, c.forget.ensures.room);
-      spots_room = omega arith;
-      bytes_room = omega arith;
     })
 
 pub invariant_of-self : goal.invariant_of-self
@@ -85,10 +76,6 @@ returns c leaf lawful spelled =
 pub push_reserved-requires : goal.push_reserved-requires
 push_reserved-requires c =
     let a = c.self.inside in
-    let size = size_is a c.args.self.now c.self.invariant c.self.view_is in
-    let limit = ap (λ (f : Filling). f.limit) c.self.view_is in
-    let fits = c.requires.fits in
-    let long = ap (λ (l : List ℕ). length l) c.requires.spells.3 in
     let some = some_bytes (Base c.requires.spells.0) in
-    let room = room_rows a (length c.args.bytes.now) c.self.invariant (omega arith) (omega arith) in
-    omega arith
+    let long = ap (λ (l : List ℕ). length l) c.requires.spells.3 in
+    room_rows_of a c.args.self.now c.self.view_is (length c.args.bytes.now) c.self.invariant (omega arith) c.requires.fits

@@ -14,7 +14,7 @@ use Rattle.bw_buffer.specs.declared.rows.Piece.{Piece}
 use Rattle.bw_buffer.specs.declared.buffer.Buffer.TheInside.{Inside}
 use Rattle.bw_buffer.proofs.Holding.{filled, seen, size_is, some_bytes}
 use Rattle.bw_buffer.proofs.Joined.{joins_none}
-use Rattle.bw_buffer.proofs.Growing.{pushed, room_rows, few_rows_now}
+use Rattle.bw_buffer.proofs.Growing.{pushed, room_rows_of, few_rows_now, stays}
 use Rattle.bw_buffer.proofs.buffer.Buffer.put_new.Goals as goal
 use Rattle.bw_buffer.proofs.buffer.Buffer.put_new.Goals.{After-self-1}
 
@@ -31,17 +31,12 @@ abbrev piece : After-self-1 → Piece
 piece c = record { block = length c.as_slice.result.now; len = c.ops_length-len.result }
 
 abbrev fields : After-self-1 → Inside
-fields c = record {
-  frame = c.self.inside.frame;
-  limit = c.self.inside.limit;
+fields c = record c.self.inside {
   size = c.self.inside.size + (19 + c.ops_length-len.result);
-  is_sealed = c.self.inside.is_sealed;
   rows = c.push_reserved.new.self;
   pieces = c.push_reserved-2.new.self;
   arena = c.write_ops.new.out;
   deltas = c.note.new.index;
-  spots = c.self.inside.spots;
-  bytes = c.self.inside.bytes;
 }
 
 now_holds : (c : After-self-1) → Holds (fields c) (blocks_of c.self.inside ++ delta c ∷ [])
@@ -57,9 +52,7 @@ now_holds c =
       unsealed = ap (λ (f : Filling). f.is_sealed) c.self.view_is ∙ c.requires.unsealed;
       lawful = c.requires.lawful;
       fits = omega arith;
-      frame = refl;
-      limit = refl;
-      sealed = refl;
+      stays = stays a (fields c) refl;
       size = omega (arith, long, c.ops_length-len.ensures.value);
       rows = c.push_reserved.ensures.items;
       pieces = c.push_reserved-2.ensures.items;
@@ -72,8 +65,6 @@ now_holds c =
       arena_room = c.write_ops.ensures.capacity;
       deltas_few = c.note.ensures.len;
       deltas_room = c.note.ensures.room;
-      spots_room = omega arith;
-      bytes_room = omega arith;
     })
 
 pub invariant_of-self : goal.invariant_of-self
@@ -88,10 +79,5 @@ returns c =
 
 pub push_reserved-requires : goal.push_reserved-requires
 push_reserved-requires c =
-    let a = c.self.inside in
-    let size = size_is a c.args.self.now c.self.invariant c.self.view_is in
-    let limit = ap (λ (f : Filling). f.limit) c.self.view_is in
-    let fits = c.requires.fits in
     let block = Delta c.args.page c.args.back.now c.args.ops.now in
-    let room = room_rows a (length (block_bytes block)) c.self.invariant (some_bytes block) (omega arith) in
-    omega arith
+    room_rows_of c.self.inside c.args.self.now c.self.view_is (length (block_bytes block)) c.self.invariant (some_bytes block) c.requires.fits

@@ -12,7 +12,7 @@ use Rattle.bw_buffer.specs.declared.rows.Row.{Row}
 use Rattle.bw_buffer.specs.declared.rows.Piece.{Piece}
 use Rattle.bw_buffer.specs.declared.buffer.Buffer.TheInside.{Inside}
 use Rattle.bw_buffer.proofs.Holding.{filled, seen, size_is, some_bytes}
-use Rattle.bw_buffer.proofs.Growing.{pushed, room_rows, few_rows_now}
+use Rattle.bw_buffer.proofs.Growing.{pushed, room_rows_of, few_rows_now, stays}
 use Rattle.bw_buffer.proofs.buffer.Buffer.put_whole.Goals as goal
 use Rattle.bw_buffer.proofs.buffer.Buffer.put_whole.Goals.{After-self-1}
 
@@ -23,17 +23,12 @@ abbrev piece : After-self-1 → Piece
 piece c = record { block = length c.as_slice.result.now; len = c.block_length-len.result }
 
 abbrev fields : After-self-1 → Inside
-fields c = record {
-  frame = c.self.inside.frame;
-  limit = c.self.inside.limit;
+fields c = record c.self.inside {
   size = c.self.inside.size + c.block_length-len.result;
-  is_sealed = c.self.inside.is_sealed;
   rows = c.push_reserved.new.self;
   pieces = c.push_reserved-2.new.self;
   arena = c.write_block.new.out;
   deltas = c.close.new.index;
-  spots = c.self.inside.spots;
-  bytes = c.self.inside.bytes;
 }
 
 whole_row_is : (b : Block) (r : Row) (n : ℕ) → is_delta b ≡ false → r ≡ record { mark = mark_of b; back = record { frame = 0; index = 0 }; ops = 0; len = n }
@@ -64,9 +59,7 @@ now_holds c =
       unsealed = ap (λ (f : Filling). f.is_sealed) c.self.view_is ∙ c.requires.unsealed;
       lawful = c.requires.lawful;
       fits = omega arith;
-      frame = refl;
-      limit = refl;
-      sealed = refl;
+      stays = stays a (fields c) refl;
       size = omega (arith, c.block_length-len.ensures.value);
       rows = c.push_reserved.ensures.items;
       pieces = c.push_reserved-2.ensures.items;
@@ -82,8 +75,6 @@ now_holds c =
       arena_room = c.write_block.ensures.capacity;
       deltas_few = omega (arith, c.close.ensures.len);
       deltas_room = omega (arith, c.close.ensures.len, c.close.ensures.room);
-      spots_room = omega arith;
-      bytes_room = omega arith;
     })
 
 pub invariant_of-self : goal.invariant_of-self
@@ -96,9 +87,4 @@ returns c =
 
 pub push_reserved-requires : goal.push_reserved-requires
 push_reserved-requires c =
-    let a = c.self.inside in
-    let size = size_is a c.args.self.now c.self.invariant c.self.view_is in
-    let limit = ap (λ (f : Filling). f.limit) c.self.view_is in
-    let fits = c.requires.fits in
-    let room = room_rows a (length (block_bytes c.args.block.now)) c.self.invariant (some_bytes c.args.block.now) (omega arith) in
-    omega arith
+    room_rows_of c.self.inside c.args.self.now c.self.view_is (length (block_bytes c.args.block.now)) c.self.invariant (some_bytes c.args.block.now) c.requires.fits

@@ -1,8 +1,6 @@
-use Rattle.std.proofs.Common.{◌+◌, ◌≡◌, ◌∙◌, ap, refl, sym, subst, length, arith}
-use Rattle.bw_codec.specs.Record.{key_of}
-use Rattle.bw_page.specs.Leaves.{home, empty_leaf}
+use Rattle.std.proofs.Common.{◌+◌, ◌≡◌, ◌∙◌, ap, refl, length, arith}
 use Rattle.bw_page.specs.Shown.{Shown}
-use Rattle.bw_page.proofs.Closed.{leaf_is, same_filed, same_gets, over_at, Follows, follows_cut}
+use Rattle.bw_page.proofs.Closed.{home_at, same_filed, same_gets, over_at, Follows, follows_cut}
 use Rattle.bw_page.proofs.leaves.Leaves.cut_page.Goals as goal
 
 pub cut_at-requires-clause-over : goal.cut_at-requires-clause-over
@@ -38,12 +36,8 @@ returns-clause-plain c = (cut c).plain
 
 pub returns-clause-was : goal.returns-clause-was
 returns-clause-was c =
-    let r = c.args.change.now in
-    let inside : c.args.at + 1 ≡ (home (key_of r) c.self.inside.leaves.items).page =
-    subst (λ (f : Shown). c.args.at + 1 ≡ (home (key_of r) f.leaves).page) (sym c.self.view_is) c.requires.aim.page in
-    let leaf : c.in_ok-leaf.leaf ≡ home (key_of r) c.args.self.now.leaves =
-    c.in_ok-leaf.ensures.was empty_leaf
-    ∙ leaf_is c.self.inside c.self.invariant r c.requires.aim.lawful c.args.at inside empty_leaf
-    ∙ ap (λ (f : Shown). home (key_of r) f.leaves) c.self.view_is in
+    let leaf =
+    home_at c.self.inside c.self.invariant c.args.self.now c.self.view_is c.args.change.now c.requires.aim.lawful c.args.at c.args.count
+    c.requires.aim.page c.requires.aim.pairs c.in_ok-leaf.leaf (c.in_ok-leaf.ensures.was c.in_ok-leaf.leaf) in
     let pages : c.len-before.result ≡ length c.args.self.now.leaves = c.len-before.ensures.value ∙ ap (λ (f : Shown). length f.leaves) c.self.view_is in
     λ i. record { leaf = leaf i; pages = pages i }

@@ -1,8 +1,10 @@
-use Rattle.std.proofs.Common.{◌≡◌, ◌∙◌, ap, sym, subst, true, false}
-use Rattle.std.specs.Prelude.{is_none, not}
+use Rattle.std.proofs.Common.{◌≡◌, ◌∙◌, Bool, IsTrue, ap, sym, subst, true, false}
+use Rattle.std.specs.Prelude.{is_none, is_some, not}
 use Rattle.std.specs.FinMap.Entries.{find}
 use Rattle.bw_codec.specs.Grammar.{IsBase}
+use Rattle.bw_codec.specs.Bytes.{ascends}
 use Rattle.bw_codec.specs.Record.{key_of}
+use Rattle.bw_codec.specs.declared.record.Record.{Record}
 use Rattle.bw_page.specs.Leaves.{order, home, AreLeaves}
 use Rattle.bw_page.specs.Seek.{back_of}
 use Rattle.bw_page.specs.Shown.{Shown}
@@ -10,6 +12,14 @@ use Rattle.bw_page.proofs.Homes.{home-all}
 use Rattle.bw_page.proofs.Closed.{home_at}
 use Rattle.bw_page.proofs.Valued.{some_unless_none}
 use Rattle.bw_page.proofs.leaves.Leaves.lost_page.Goals as goal
+
+-- a pair is kept for the way back, unless taking the record back removes it
+kept_unless : (f : Shown) (r : Record) (removes : Bool) → AreLeaves f.m f.leaves
+    → (IsTrue (ascends (home (key_of r) f.leaves).pairs) → removes ≡ is_none (back_of r (find order (key_of r) (home (key_of r) f.leaves).pairs)))
+    → (b : Bool) → removes ≡ b → not b ≡ is_some (back_of r (find order (key_of r) (home (key_of r) f.leaves).pairs))
+kept_unless f r removes lawful told b is =
+    let rises = (home-all (IsBase f.m) (key_of r) f.leaves lawful.first lawful.each).ascends in
+    sym (some_unless_none _ ∙ ap not (sym (told rises) ∙ is))
 
 pub returns-then-removes-clause-leaf : goal.returns-then-removes-clause-leaf
 returns-then-removes-clause-leaf c =
@@ -19,18 +29,10 @@ returns-then-removes-clause-leaf c =
 
 pub returns-then-removes-clause-kept : goal.returns-then-removes-clause-kept
 returns-then-removes-clause-kept c =
-    let r = c.args.change.now in
-    let lawful = subst (λ (f : Shown). AreLeaves f.m f.leaves) c.self.view_is c.self.invariant.lawful in
-    let rises = (home-all (IsBase c.args.self.now.m) (key_of r) c.args.self.now.leaves lawful.first lawful.each).ascends in
-    let none : is_none (back_of r (find order (key_of r) (home (key_of r) c.args.self.now.leaves).pairs)) ≡ true =
-    sym (c.removes.ensures (home (key_of r) c.args.self.now.leaves).pairs rises c.requires.sought) ∙ c.if-removes.true in
-    sym (some_unless_none _ ∙ ap not none)
+    kept_unless c.args.self.now c.args.change.now c.removes.result (subst (λ (f : Shown). AreLeaves f.m f.leaves) c.self.view_is c.self.invariant.lawful)
+    (λ rises. c.removes.ensures _ rises c.requires.sought) true c.if-removes.true
 
 pub returns-clause-kept : goal.returns-clause-kept
 returns-clause-kept c =
-    let r = c.args.change.now in
-    let lawful = subst (λ (f : Shown). AreLeaves f.m f.leaves) c.self.view_is c.self.invariant.lawful in
-    let rises = (home-all (IsBase c.args.self.now.m) (key_of r) c.args.self.now.leaves lawful.first lawful.each).ascends in
-    let none : is_none (back_of r (find order (key_of r) (home (key_of r) c.args.self.now.leaves).pairs)) ≡ false =
-    sym (c.removes.ensures (home (key_of r) c.args.self.now.leaves).pairs rises c.requires.sought) ∙ c.if-removes.false in
-    sym (some_unless_none _ ∙ ap not none)
+    kept_unless c.args.self.now c.args.change.now c.removes.result (subst (λ (f : Shown). AreLeaves f.m f.leaves) c.self.view_is c.self.invariant.lawful)
+    (λ rises. c.removes.ensures _ rises c.requires.sought) false c.if-removes.false

@@ -13,9 +13,7 @@ pages-init c =
 
 pub pages-smaller : goal.pages-smaller
 pages-smaller c =
-    let next = c.in-Some.ensures.some in
-    let less = ahead_less c.pages.from c.in-Some.low c.args.self.now.leaves next.above next.its in
-    omega (arith, less)
+    omega (arith, ahead_less c.pages.from c.in-Some.low c.args.self.now.leaves c.in-Some.ensures.some.above c.in-Some.ensures.some.its)
 
 pub pages-preserved : goal.pages-preserved
 pages-preserved c =

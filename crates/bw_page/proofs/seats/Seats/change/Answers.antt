@@ -8,29 +8,22 @@ use Rattle.bw_page.specs.Leaves.{changed}
 use Rattle.bw_page.specs.Seek.{seek_of, IsWithin}
 use Rattle.bw_page.specs.Seats.{Seated, Seating}
 use Rattle.bw_page.specs.Seating.{leaves_of}
-use Rattle.bw_page.proofs.Seating.{evicted-kept, evicted_get, count_is, evicted_is, leaf_got}
+use Rattle.bw_page.proofs.Seating.{evicted-kept, evicted_is, evicted_there, leaf_in}
 use Rattle.bw_page.proofs.seats.Seats.change.Goals as goal
 
 pub change-requires : goal.change-requires
 change-requires c =
-    let long = count_is c.self.inside c.args.self.now c.self.view_is in
-    let within = c.requires.within in
     let seat = c.index_mut.result.now in
-    let leaf : get_or c.args.self.now.items c.args.at seat.leaf ≡ seat.leaf =
-    leaf_got c.self.inside c.args.self.now c.self.view_is c.args.at seat seat.leaf (omega arith) c.index_mut.ensures.value in
+    let leaf = leaf_in c.self.inside c.args.self.now c.self.view_is c.args.at seat seat.leaf c.requires.within c.index_mut.ensures.value in
     record {
-      here = ap (λ (s : Seated). s.is_evicted) c.index_mut.ensures.value ∙ sym (evicted_get c.self.inside.seats.items c.args.at _ (omega arith))
-          ∙ sym (evicted_is c.self.inside c.args.self.now c.self.view_is c.args.at) ∙ c.requires.here;
+      here = evicted_there c.self.inside c.args.self.now c.self.view_is c.args.at seat c.requires.within c.index_mut.ensures.value ∙ c.requires.here;
       found = c.requires.found seat.leaf ∙ ap (λ (l : Leaf). seek_of (key_of c.args.item.now) l.pairs) leaf;
       within = subst (λ (l : Leaf). IsWithin (length l.pairs) c.args.found) leaf (c.requires.found_within seat.leaf);
     }
 
 pub returns-clause-ok : goal.returns-clause-ok
 returns-clause-ok c d =
-    let long = count_is c.self.inside c.args.self.now c.self.view_is in
-    let within = c.requires.within in
-    let old : get_or c.args.self.now.items c.args.at d ≡ c.index_mut.result.now.leaf =
-    leaf_got c.self.inside c.args.self.now c.self.view_is c.args.at c.index_mut.result.now d (omega arith) c.index_mut.ensures.value in
+    let old = leaf_in c.self.inside c.args.self.now c.self.view_is c.args.at c.index_mut.result.now d c.requires.within c.index_mut.ensures.value in
     on_ok_weaker _ (λ w. map-set (λ (s : Seated). s.leaf) c.self.inside.seats.items c.args.at c.change.new.self
     ∙ ap (λ (s : Seated). slice_set (leaves_of c.self.inside.seats.items) c.args.at s.leaf) w
     ∙ ap (λ (l : Leaf). slice_set (leaves_of c.self.inside.seats.items) c.args.at (changed c.args.item.now l)) (sym old)
