@@ -203,15 +203,18 @@ value_takes v bytes x rest fits read =
       others = bytes_after bytes (value_bytes v (take n.0.0 n.0.1)) (drop n.0.0 n.0.1) parts fits;
     })
 
+-- a value's length fits its width, and the value is there
+pub value_sizes : (v : ℕ) (x rest : List ℕ) → IsValue v x → (length x < 256 ^ value_width v) × (nat_lt (length (x ++ rest)) (length x) ≡ false)
+value_sizes v x rest law = ((let all = size_small v in omega arith), le-ltb (length (x ++ rest)) (length x) (omega (arith, length-append x rest)))
+
 value_again : (v : ℕ) (x rest : List ℕ) → IsValue v x → value_at v (value_bytes v x ++ rest) ≡ Some (x, rest)
 unfolding value_at
 value_again v x rest law =
-    let small : length x < 256 ^ value_width v = (let all = size_small v in omega arith) in
-    let long : nat_lt (length (x ++ rest)) (length x) ≡ false = le-ltb (length (x ++ rest)) (length x) (omega (arith, length-append x rest)) in
+    let sizes = value_sizes v x rest law in
     rw (
-      again_on (number_bytes (value_width v)) (λ n. n < 256 ^ value_width v) (number_at (value_width v)) (number_format (value_width v)) (length x) x rest small,
+      again_on (number_bytes (value_width v)) (λ n. n < 256 ^ value_width v) (number_at (value_width v)) (number_format (value_width v)) (length x) x rest sizes.0,
       le-ltb (value_limit v) (length x) law,
-      long,
+      sizes.1,
       take_at x rest (length x) refl,
       drop_at x rest (length x) refl,
     ) refl

@@ -24,7 +24,7 @@ use Rattle.bw_codec.specs.declared.block.Place.{Place}
 use Rattle.bw_codec.specs.declared.block.Block.{Block}
 use Rattle.bw_codec.specs.declared.block.Block.TheVariants.{Delta, Base, Split}
 use Rattle.bw_codec.specs.declared.outline.Outline.{Outline}
-use Rattle.bw_codec.proofs.Format.{found, again_on, number_format, number_reads, run_again, IsValue, size_small}
+use Rattle.bw_codec.proofs.Format.{found, again_on, number_format, number_reads, run_again, IsValue, value_sizes}
 use Rattle.bw_codec.proofs.FrontFormat.{length-number}
 use Rattle.bw_codec.proofs.BlockFormat.{page_format, place_format}
 
@@ -62,11 +62,10 @@ run_last x rest = rw (run_again x rest) refl
 value_last : (v : ℕ) (x rest : List ℕ) → IsValue v x → value_after v (value_bytes v x ++ rest) ≡ Some rest
 unfolding value_after
 value_last v x rest law =
-    let small : length x < 256 ^ value_width v = (let all = size_small v in omega arith) in
-    let long : nat_lt (length (x ++ rest)) (length x) ≡ false = le-ltb (length (x ++ rest)) (length x) (omega (arith, length-append x rest)) in
+    let sizes = value_sizes v x rest law in
     rw (
-      again_on (number_bytes (value_width v)) (λ n. n < 256 ^ value_width v) (number_at (value_width v)) (number_format (value_width v)) (length x) x rest small,
-      long,
+      again_on (number_bytes (value_width v)) (λ n. n < 256 ^ value_width v) (number_at (value_width v)) (number_format (value_width v)) (length x) x rest sizes.0,
+      sizes.1,
       drop_at x rest (length x) refl,
     ) refl
 
