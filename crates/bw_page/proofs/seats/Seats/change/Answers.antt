@@ -1,4 +1,4 @@
-use Rattle.std.proofs.Common.{◌≡◌, ◌∙◌, get_or, length, ap, sym, subst, arith}
+use Rattle.std.proofs.Common.{◌∙◌, get_or, length, ap, sym, subst}
 use Rattle.std.specs.Prelude.{slice_set}
 use Rattle.std.proofs.lemmas.List.{map-set}
 use Rattle.std.proofs.lemmas.Result.{on_ok_weaker}
