@@ -1,7 +1,7 @@
 -- What steps over a spelled block steps over all of it.
 
 use Rattle.std.proofs.Common.{◌≡◌, ℕ, suc, ◌+◌, ◌-◌, ◌^◌, ◌<◌, ◌==◌, ◌||◌, Bool, true, false, Option, Some, None, List, [], ◌∷◌, ◌++◌}
-use Rattle.std.proofs.Common.{length, ◌≤◌, nat_lt, drop, refl, sym, ap, subst, ◌∙◌, append_assoc, arith, length-append}
+use Rattle.std.proofs.Common.{length, ◌≤◌, drop, refl, sym, ap, subst, ◌∙◌, append_assoc, arith, length-append}
 use Rattle.std.proofs.lemmas.Bool.{le-ltb}
 use Rattle.std.proofs.lemmas.List.{drop_at}
 use Rattle.std.specs.List.{flat_map, AllByRecursion}

@@ -1,4 +1,4 @@
-use Rattle.std.proofs.Common.{◌≡◌, ap, arith}
+use Rattle.std.proofs.Common.{ap, arith}
 use Rattle.bw_buffer.specs.Filling.{Filling}
 use Rattle.bw_buffer.proofs.Holding.{size_is, length_of_frame}
 use Rattle.bw_buffer.proofs.Framing.{laid_frame}

@@ -78,4 +78,5 @@ push_reserved-requires c =
     let a = c.self.inside in
     let some = some_bytes (Base c.requires.spells.0) in
     let long = ap (λ (l : List ℕ). length l) c.requires.spells.3 in
-    room_rows_of a c.args.self.now c.self.view_is (length c.args.bytes.now) c.self.invariant (omega arith) c.requires.fits
+    let room = room_rows_of a c.args.self.now c.self.view_is (length c.args.bytes.now) c.self.invariant (omega arith) c.requires.fits in
+    omega arith

@@ -80,4 +80,5 @@ returns c =
 pub push_reserved-requires : goal.push_reserved-requires
 push_reserved-requires c =
     let block = Delta c.args.page c.args.back.now c.args.ops.now in
-    room_rows_of c.self.inside c.args.self.now c.self.view_is (length (block_bytes block)) c.self.invariant (some_bytes block) c.requires.fits
+    let room = room_rows_of c.self.inside c.args.self.now c.self.view_is (length (block_bytes block)) c.self.invariant (some_bytes block) c.requires.fits in
+    omega arith

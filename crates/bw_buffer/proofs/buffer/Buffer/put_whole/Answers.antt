@@ -87,4 +87,5 @@ returns c =
 
 pub push_reserved-requires : goal.push_reserved-requires
 push_reserved-requires c =
-    room_rows_of c.self.inside c.args.self.now c.self.view_is (length (block_bytes c.args.block.now)) c.self.invariant (some_bytes c.args.block.now) c.requires.fits
+    let room = room_rows_of c.self.inside c.args.self.now c.self.view_is (length (block_bytes c.args.block.now)) c.self.invariant (some_bytes c.args.block.now) c.requires.fits in
+    omega arith
