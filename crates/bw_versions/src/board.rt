@@ -20,9 +20,9 @@ use std::snapshot::Snapshot;
 /// take no bytes: the proof alone knows them.
 #[derive(Drop)]
 pub struct Board {
+    leaves: Leaves,
     start: Snapshot<Leaves>,
     entries: Vec<Snapshot<Entry>>,
-    leaves: Leaves,
 }
 
 impl Model for Board {
