@@ -8,7 +8,8 @@ use super::{asked, spared};
 use bw_codec::limits::LATEST;
 use bw_codec::{
     Block, Blocks, Head, Header, HeaderRead, Key, Low, Ops, Outline, Pair, Pairs, Place, Value,
-    block_length, frame_cells, header_cells, is_before, read_block, read_header, write_block,
+    ascend, block_length, frame_cells, header_cells, is_before, read_block, read_header,
+    write_block,
 };
 use std::alloc::Global;
 use test_marks::begin_without;
@@ -125,7 +126,7 @@ pub(super) fn pairs(alloc: Global) -> Option<bool> {
     let _ = pairs.set(2, last);
     pairs.remove(0);
     pairs.truncate(1);
-    let is_so = steps && pairs.as_slice().len() == 1;
+    let is_so = steps && ascend(pairs.as_slice()) && pairs.as_slice().len() == 1;
     let items = pairs.into_vec();
     asked(alloc, is_so && items.len() == 1)
 }
