@@ -3,6 +3,7 @@
 ghost use Rattle.bw_store.specs.Views.{IsSound, IsSoundBeside};
 
 use super::boxes::{plain, supplied};
+use super::cases::{Case, over};
 use super::opening::{Held, config_of, opened, shut};
 use super::putting::{is_put, record};
 use super::telling::holds;
@@ -179,8 +180,8 @@ fn flush_all<R: Wait>(rt: &R, opened: &mut Held) -> bool
     went
 }
 
-// Whether all the values were taken and flushed, and no read beside it was wrong.
-fn race<R: Threads + Wait>(rt: &R, opened: &mut Held) -> bool
+/// Whether all the values were taken and flushed, and no read beside it was wrong.
+pub(super) fn race<R: Threads + Wait>(rt: &R, opened: &mut Held) -> bool
     requires { IsSoundBeside opened.old.store holding }
     ensures { IsSoundBeside opened.new.store holding }
 {
@@ -194,20 +195,8 @@ fn race<R: Threads + Wait>(rt: &R, opened: &mut Held) -> bool
     child.join(rt) == 0 && flushed
 }
 
-// The same in a life of a store.
-fn is_raced<R: AllocGlobal + Threads + Wait>(rt: &R) -> bool {
-    let Some(mut supply) = supplied(rt.alloc(), &plain(8, 0)) else {
-        return false;
-    };
-    let Some(mut opened) = opened(rt, &config_of(1, 8, 3), &mut supply) else {
-        return false;
-    };
-    let went = race(rt, &mut opened);
-    let _ = shut(rt, opened, &mut supply);
-    went
-}
-
 #[test]
 fn no_value_goes_back_beside_the_flusher(rt: HostRuntime) {
-    holds(&rt, is_raced(&rt));
+    let went = over(&rt, &plain(8, 0), &config_of(1, 8, 3), &Case::Race);
+    holds(&rt, went == Some(true));
 }
