@@ -10,24 +10,38 @@ use bw_codec::{
 };
 use std::alloc::Global;
 
-/// A count of bytes, and whether a key and a value may have so many.
-type Length = (usize, bool, bool);
+/// What may have a count of bytes.
+enum May {
+    /// A key, and a value.
+    Both,
+    /// A value alone.
+    Value,
+    Neither,
+}
+
+/// A count of bytes, and what may have so many.
+type Length = (usize, May);
 
 impl Row for Length {
     fn goes(&self, _alloc: Global) -> Option<bool> {
         let all = [0x61; 513];
         let bytes = all.get(..self.0)?;
-        Some(Key::new(bytes).is_ok() == self.1 && Value::new(bytes).is_ok() == self.2)
+        let (key, value) = match self.1 {
+            May::Both => (true, true),
+            May::Value => (false, true),
+            May::Neither => (false, false),
+        };
+        Some(Key::new(bytes).is_ok() == key && Value::new(bytes).is_ok() == value)
     }
 }
 
 const LENGTHS: &[Length] = &[
-    (0, false, true),
-    (1, true, true),
-    (128, true, true),
-    (129, false, true),
-    (512, false, true),
-    (513, false, false),
+    (0, May::Value),
+    (1, May::Both),
+    (128, May::Both),
+    (129, May::Value),
+    (512, May::Value),
+    (513, May::Neither),
 ];
 
 #[test]
