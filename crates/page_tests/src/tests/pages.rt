@@ -3,7 +3,7 @@
 ghost use Rattle.std.specs.Prelude.{◌≤◌, ◌≡◌, []};
 
 use super::evicted::two_pages;
-use super::{Table, all_went, del, is_shown, leads, put, records, went, wrong_table};
+use super::{Table, del, is_shown, leads, put, records, tables_go, went};
 use bw_codec::{Key, Record};
 use bw_page::{Applied, Leaves};
 use std::alloc::Global;
@@ -303,7 +303,7 @@ const TABLES: &[OfLimit] = &[(4, FOUR), (4, SINGLE), (4, HINTED), (5, FIVE)];
 
 #[test]
 fn leaves_of_four_and_of_five_go_as_told(rt: HostRuntime) {
-    all_went(&rt, wrong_table(rt.alloc(), TABLES));
+    tables_go(&rt, TABLES);
 }
 
 /// How many pairs a page has at most, and how many both parts have of a page with one more.
@@ -329,7 +329,7 @@ const FILLS: &[Filled] = &[(4, 2, 3), (5, 3, 3), (32, 16, 17)];
 
 #[test]
 fn a_page_is_cut_where_it_has_one_pair_too_many(rt: HostRuntime) {
-    all_went(&rt, wrong_table(rt.alloc(), FILLS));
+    tables_go(&rt, FILLS);
 }
 
 const TAKEN: &[Step] = &[

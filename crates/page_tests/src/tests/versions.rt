@@ -119,7 +119,7 @@ fn does<R: Threads + Wait>(rt: &R, stand: &mut Stand, case: &Case) -> Option<usi
 {
     match case {
         Case::Steps(steps) => walking::walked(rt, stand, steps),
-        Case::Race => lone(threads::race(rt, stand)),
+        Case::Race => lone(threads::race(rt, stand) == Some(true)),
         Case::Learns => lone(learning::learns(rt, stand)),
         Case::Places => lone(places::made(stand) == Some(3)),
     }

@@ -7,12 +7,13 @@ use super::cases::{Case, over};
 use super::opening::{Held, config_of, opened, shut};
 use super::putting::{is_put, record};
 use super::telling::holds;
-use bw_codec::{Key, Value};
+use bw_codec::Key;
 use bw_ring::Feed;
 use bw_store::{NoReader, ReadFault, Reader, Store};
 use std::sync::Wait;
 use std::thread;
 use std::thread::Threads;
+use test_vectors::gone_back;
 
 /// How many times a reader in a thread reads beside the flushes.
 const READS: u32 = 10_000;
@@ -149,21 +150,7 @@ fn read_all(mut reader: Reader) -> u32 {
     let Ok(key) = Key::new(b"k") else {
         return READS;
     };
-    let mut last: Option<Value> = None;
-    let mut wrong = 0u32;
-    for _ in 0..READS {
-        match reader.get(&key) {
-            Ok(Some(value)) => {
-                if let Some(old) = &last {
-                    wrong = wrong.saturating_add(u32::from(value.as_slice() < old.as_slice()));
-                }
-                last = Some(value);
-            }
-            Ok(None) => wrong = wrong.saturating_add(u32::from(last.is_some())),
-            Err(_) => wrong = wrong.saturating_add(1),
-        }
-    }
-    wrong
+    gone_back(READS, || reader.get(&key))
 }
 
 // Whether all the values were taken and flushed.

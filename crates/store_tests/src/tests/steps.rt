@@ -243,7 +243,7 @@ fn changes<R: Wait>(rt: &R, store: &mut Store, step: &Step) -> bool
 {
     match *step {
         Turn(limit, taken) => takes(store, limit, Ok(taken)),
-        Stops(limit, taken, cause) => { takes(store, limit, Err(TurnFault { taken, cause })) }
+        Stops(limit, taken, cause) => takes(store, limit, Err(TurnFault { taken, cause })),
         Flush(frame) => store.flush(rt) == Ok(frame),
         Refused(fault) => store.flush(rt) == Err(fault),
         Clean(segment, lease, pages, frames) => {

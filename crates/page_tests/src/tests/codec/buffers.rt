@@ -5,7 +5,7 @@ ghost use Rattle.std.specs.List.{AllByRecursion};
 ghost use Rattle.bw_codec.specs.Grammar.{IsBlock};
 
 use super::hex::{bytes_of, framed};
-use crate::tests::{self, all_went, went, wrong_table};
+use crate::tests::{self, tables_go, went};
 use bw_buffer::{Buffer, Mark, PutError};
 use bw_codec::limits::MIN_FRAME;
 use bw_codec::{Block, Blocks, Place, encode_block};
@@ -349,7 +349,7 @@ const TABLES: &[&[Step]] = &[SEALED, COPIED, COPIED_TO_THE_END, FULL, WORKED];
 
 #[test]
 fn buffers_go_as_told(rt: HostRuntime) {
-    all_went(&rt, wrong_table(rt.alloc(), TABLES));
+    tables_go(&rt, TABLES);
 }
 
 /// Whether a new buffer of this number gives the bytes whose blocks it takes, and a second seal changes

@@ -2,7 +2,7 @@
 
 use super::is_text;
 use super::told::{Kind, are_pairs, is_one, says};
-use crate::tests::{Row, all_hold, put, records, went, wrong_row};
+use crate::tests::{Row, all_hold, put, records, rows_go};
 use bw_buffer::PutError;
 use bw_codec::{
     Block, Blocks, CodecFault, Head, Header, Key, Leaf, LengthError, Low, Ops, Pair, Pairs, Place,
@@ -46,7 +46,7 @@ const LENGTHS: &[Length] = &[
 
 #[test]
 fn keys_have_1_to_128_bytes_and_values_0_to_512(rt: HostRuntime) {
-    went(&rt, wrong_row(rt.alloc(), LENGTHS));
+    rows_go(&rt, LENGTHS);
 }
 
 /// A key and a value of these bytes.

@@ -1,7 +1,7 @@
 // What a segment begins with.
 
 use super::hex::changed;
-use crate::tests::{Row, went, wrong_row};
+use crate::tests::{Row, rows_go};
 use bw_codec::{Header, HeaderRead, read_header};
 use std::alloc::Global;
 use test_vectors::{FIRST, OLD_FIRST};
@@ -114,6 +114,6 @@ const HEADINGS: &[Heading] = &[
 
 #[test]
 fn a_header_cut_short_is_a_part_of_one(rt: HostRuntime) {
-    went(&rt, wrong_row(rt.alloc(), IN_BOTH));
-    went(&rt, wrong_row(rt.alloc(), HEADINGS));
+    rows_go(&rt, IN_BOTH);
+    rows_go(&rt, HEADINGS);
 }

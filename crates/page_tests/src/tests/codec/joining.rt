@@ -2,7 +2,7 @@
 
 use super::buffers::{EMPTY, PUT_A, PUT_B, PUT_C, PUT_D, Step, blocks_of, spelled, walked};
 use super::hex::{bytes_of, framed};
-use crate::tests::{self, all_went, went, wrong_row, wrong_table};
+use crate::tests::{self, rows_go, tables_go};
 use bw_buffer::{Buffer, Mark, PutError};
 use bw_codec::limits::{MAX_FRAME, MIN_FRAME};
 use std::alloc::Global;
@@ -211,7 +211,7 @@ const TABLES: &[&[Step]] = &[
 
 #[test]
 fn records_join_the_last_delta_of_their_page(rt: HostRuntime) {
-    all_went(&rt, wrong_table(rt.alloc(), TABLES));
+    tables_go(&rt, TABLES);
 }
 
 /// A sealed buffer that was walked so.
@@ -264,7 +264,7 @@ const REFUSED: &[Refused] = &[
 
 #[test]
 fn a_refused_put_leaves_the_frame(rt: HostRuntime) {
-    went(&rt, wrong_row(rt.alloc(), REFUSED));
+    rows_go(&rt, REFUSED);
 }
 
 /// The frame of one Delta of page 1 that deletes a so many times.

@@ -1,7 +1,7 @@
 // Frames that are whole, that were cut, or that are bad.
 
 use super::hex::{bytes_of, changed};
-use crate::tests::{Row, went, wrong_row};
+use crate::tests::{Row, rows_go};
 use bw_codec::{CodecFault, FrameRead, Header, read_frame};
 use std::alloc::Global;
 use test_vectors::{FIRST, OLD_FIRST};
@@ -140,8 +140,8 @@ const CHANGED: &[Change] = &[
 
 #[test]
 fn a_frame_cut_short_is_a_tail_and_a_changed_one_is_bad(rt: HostRuntime) {
-    went(&rt, wrong_row(rt.alloc(), IN_BOTH));
-    went(&rt, wrong_row(rt.alloc(), CHANGED));
+    rows_go(&rt, IN_BOTH);
+    rows_go(&rt, CHANGED);
 }
 
 // ---- heads
@@ -202,5 +202,5 @@ const HEADS: &[Digits] = &[
 
 #[test]
 fn a_body_of_the_greatest_length_is_bad(rt: HostRuntime) {
-    went(&rt, wrong_row(rt.alloc(), HEADS));
+    rows_go(&rt, HEADS);
 }

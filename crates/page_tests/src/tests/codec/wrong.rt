@@ -2,7 +2,7 @@
 
 use super::hex::{body_of, framed_in, spelled_body};
 use super::reading::{Found, found_in};
-use crate::tests::{self, all_went, went};
+use crate::tests::{self, rows_go, tables_go};
 use std::alloc::Global;
 
 /// A frame. In format 2, where it is whole, it has a byte more for each value.
@@ -230,11 +230,11 @@ const COUNTED: &[OfPairs] = &[(4, COUNTS), (32, COUNTS), (u16::MAX, COUNTS)];
 
 #[test]
 fn each_part_of_a_block_is_looked_at(rt: HostRuntime) {
-    all_went(&rt, tests::wrong_table(rt.alloc(), TABLES));
-    went(&rt, tests::wrong_row(rt.alloc(), LONGEST));
+    tables_go(&rt, TABLES);
+    rows_go(&rt, LONGEST);
 }
 
 #[test]
 fn a_count_is_no_reason_to_take_memory(rt: HostRuntime) {
-    all_went(&rt, tests::wrong_table(rt.alloc(), COUNTED));
+    tables_go(&rt, COUNTED);
 }
