@@ -31,14 +31,13 @@ trait Row {
     fn goes(&self, alloc: Global) -> Option<bool>;
 }
 
-/// The first row that does not go as told.
-fn wrong_row<R: Row>(alloc: Global, rows: &[R]) -> Option<usize> {
+/// All rows go as told; a failure tells the first that does not.
+fn rows_go<R: Abort + AllocGlobal, T: Row>(rt: &R, rows: &[T]) {
     for (i, row) in rows.iter().enumerate() {
-        if row.goes(alloc) != Some(true) {
-            return Some(i);
+        if row.goes(rt.alloc()) != Some(true) {
+            went(rt, Some(i));
         }
     }
-    None
 }
 
 /// A table of steps.
@@ -47,14 +46,13 @@ trait Table {
     fn wrong_step(&self, alloc: Global) -> Option<usize>;
 }
 
-/// The first table that does not go as told, and its step.
-fn wrong_table<T: Table>(alloc: Global, tables: &[T]) -> Option<(usize, usize)> {
+/// All tables go as told; a failure tells the first that does not, and its step.
+fn tables_go<R: Abort + AllocGlobal, T: Table>(rt: &R, tables: &[T]) {
     for (i, table) in tables.iter().enumerate() {
-        if let Some(step) = table.wrong_step(alloc) {
-            return Some((i, step));
+        if let Some(step) = table.wrong_step(rt.alloc()) {
+            all_went(rt, Some((i, step)));
         }
     }
-    None
 }
 
 /// All of these hold; a failure tells the first that does not.

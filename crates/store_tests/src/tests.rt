@@ -2,6 +2,7 @@
 
 mod asking;
 mod boxes;
+mod cases;
 mod cleaning;
 mod counting;
 mod cutting;

@@ -4,9 +4,11 @@
 #![tactic(auto)]
 
 mod parts;
+mod reads;
 mod texts;
 
 pub use parts::{blocks_in, leaf_of};
+pub use reads::gone_back;
 pub use texts::{behind, behind_leaf, is_at_end, shows, spells};
 
 /// One frame: the empty page 1, and a record that puts k=v.

@@ -1,6 +1,6 @@
 //! Calls on one chain.
 
-use super::{Table, all_went, is_shown, put, went, wrong_table};
+use super::{Table, is_shown, put, tables_go, went};
 use bw_codec::{Leaf, Place};
 use bw_page::{Chain, empty_page};
 use std::alloc::Global;
@@ -164,7 +164,7 @@ const TABLES: &[&[Step]] = &[EVICTION, CONSOLIDATION, RESERVED, RESTED];
 
 #[test]
 fn chains_go_as_told(rt: HostRuntime) {
-    all_went(&rt, wrong_table(rt.alloc(), TABLES));
+    tables_go(&rt, TABLES);
 }
 
 #[test]

@@ -3,7 +3,7 @@
 ghost use Rattle.std.specs.Prelude.{IsTrue};
 ghost use Rattle.bw_codec.specs.Bytes.{ascends};
 
-use super::{Row, del, is_shown, put, records, went, wrong_row};
+use super::{Row, del, is_shown, put, records, rows_go, went};
 use bw_codec::{Key, Leaf, Record};
 use bw_page::{Cut, change, change_all, count_after, cut_in_two, empty_page, keep_below, value_in};
 use std::alloc::Global;
@@ -109,7 +109,7 @@ const CUTS: &[ToCut] = &[
 
 #[test]
 fn a_leaf_is_cut_in_two(rt: HostRuntime) {
-    went(&rt, wrong_row(rt.alloc(), CUTS));
+    rows_go(&rt, CUTS);
 }
 
 /// The keys, the first key that goes, and what is kept.
@@ -132,7 +132,7 @@ const KEPT: &[ToKeep] = &[
 
 #[test]
 fn pairs_from_a_key_on_are_dropped(rt: HostRuntime) {
-    went(&rt, wrong_row(rt.alloc(), KEPT));
+    rows_go(&rt, KEPT);
 }
 
 /// Whether a key has this value in a leaf; no text where it has none.

@@ -3,7 +3,7 @@
 ghost use Rattle.std.specs.Prelude.{◌≤◌, ◌≡◌, []};
 
 use super::evicted::two_pages;
-use super::{Table, all_went, del, is_shown, leads, put, records, went, wrong_table};
+use super::{Table, del, is_shown, leads, put, records, tables_go, went};
 use bw_codec::{Key, Record};
 use bw_page::{Applied, Leaves};
 use std::alloc::Global;
@@ -15,6 +15,9 @@ pub(super) enum Step {
     Put(&'static str, &'static str, u32, u32),
     /// The same, where this page is looked at first.
     Hinted(u32, &'static str, &'static str, u32, u32),
+    /// Puts the first records of `TEN` one by one: the pages at which they are directed, and for each
+    /// the one that it makes, or 0.
+    Singly(&'static [u32], &'static [u32]),
     /// Deletes a key: the page at which it is directed.
     Del(&'static str, u32),
     /// Puts so many keys of two digits.
@@ -37,7 +40,7 @@ pub(super) enum Step {
     Copy,
 }
 
-use Step::{Batch, Copy, Count, Del, Fill, Find, Get, Hinted, HintedBatch, Page, Put};
+use Step::{Batch, Copy, Count, Del, Fill, Find, Get, Hinted, HintedBatch, Page, Put, Singly};
 
 fn applied(leaves: &mut Leaves, change: Option<Record>, page: u32, made: u32) -> bool
     requires { leaves.old.evicted ≡ [] }
@@ -74,6 +77,20 @@ fn filled(leaves: &mut Leaves, count: u16) -> bool
         }
     }
     true
+}
+
+fn singly(alloc: Global, leaves: &mut Leaves, pages: &[u32], made: &[u32]) -> Option<bool>
+    requires { leaves.old.evicted ≡ [] }
+    ensures { leaves.new.evicted ≡ [] }
+{
+    let all = records(alloc, TEN)?;
+    'records: for (i, page) in pages.iter().enumerate() {
+        let change = all.as_slice().get(i)?.copy();
+        if !applied(leaves, Some(change), *page, *made.get(i)?) {
+            return Some(false);
+        }
+    }
+    Some(true)
 }
 
 fn batch(alloc: Global, leaves: &mut Leaves) -> bool
@@ -139,6 +156,7 @@ fn goes(alloc: Global, leaves: &mut Leaves, step: &Step) -> bool
             let change = put(key.as_bytes(), value.as_bytes());
             hinted(leaves, *hint, change, *page, *made)
         }
+        Step::Singly(pages, made) => singly(alloc, leaves, *pages, *made) == Some(true),
         Step::Del(key, page) => applied(leaves, del(key.as_bytes()), *page, 0),
         Step::Fill(count) => filled(leaves, *count),
         Step::Count(count) => leaves.count() == *count,
@@ -209,16 +227,10 @@ const FOUR: &[Step] = &[
 ];
 
 const SINGLE: &[Step] = &[
-    Put("a", "1", 1, 0),
-    Put("b", "1", 1, 0),
-    Put("c", "1", 1, 0),
-    Put("d", "1", 1, 0),
-    Put("e", "1", 1, 2),
-    Put("f", "1", 2, 0),
-    Put("g", "1", 2, 3),
-    Put("aa", "1", 1, 0),
-    Put("ab", "1", 1, 0),
-    Put("ac", "1", 1, 4),
+    Singly(
+        &[1, 1, 1, 1, 1, 2, 2, 1, 1, 1],
+        &[0, 0, 0, 0, 2, 0, 3, 0, 0, 4],
+    ),
     Count(4),
     Page(1, ": a=1 aa=1"),
     Page(2, "c: c=1 d=1"),
@@ -251,12 +263,7 @@ const HINTED: &[Step] = &[
 ];
 
 const FIVE: &[Step] = &[
-    Put("a", "1", 1, 0),
-    Put("b", "1", 1, 0),
-    Put("c", "1", 1, 0),
-    Put("d", "1", 1, 0),
-    Put("e", "1", 1, 0),
-    Put("f", "1", 1, 2),
+    Singly(&[1, 1, 1, 1, 1, 1], &[0, 0, 0, 0, 0, 2]),
     Count(2),
     Page(1, ": a=1 b=1 c=1"),
     Page(2, "d: d=1 e=1 f=1"),
@@ -272,47 +279,23 @@ const FIVE: &[Step] = &[
     Page(2, "d: d=2 zz=3"),
 ];
 
-const FILLS_4: &[Step] = &[
-    Fill(4),
-    Count(1),
-    Put("z", "", 1, 2),
-    Count(2),
-    Step::Pairs(1, 2),
-    Step::Pairs(2, 3),
-];
-
-const FILLS_5: &[Step] = &[
-    Fill(5),
-    Count(1),
-    Put("z", "", 1, 2),
-    Count(2),
-    Step::Pairs(1, 3),
-    Step::Pairs(2, 3),
-];
-
-const FILLS_32: &[Step] = &[
-    Fill(32),
-    Count(1),
-    Put("z", "", 1, 2),
-    Count(2),
-    Step::Pairs(1, 16),
-    Step::Pairs(2, 17),
-];
-
 /// Steps over new leaves of at most so many pairs.
 type OfLimit = (u16, &'static [Step]);
 
+/// The same; the first step where the leaves were not made.
+fn wrong_of(alloc: Global, m: u16, steps: &[Step]) -> Option<usize> {
+    if m < 4 || m > 32 {
+        return Some(0);
+    }
+    match Leaves::one_empty(alloc, m) {
+        Ok(leaves) if leaves.limit() == m => walked(alloc, leaves, steps),
+        _ => Some(0),
+    }
+}
+
 impl Table for OfLimit {
-    /// The same; the first step where the leaves were not made.
     fn wrong_step(&self, alloc: Global) -> Option<usize> {
-        let (m, steps) = *self;
-        if m < 4 || m > 32 {
-            return Some(0);
-        }
-        match Leaves::one_empty(alloc, m) {
-            Ok(leaves) if leaves.limit() == m => walked(alloc, leaves, steps),
-            _ => Some(0),
-        }
+        wrong_of(alloc, self.0, self.1)
     }
 }
 
@@ -320,14 +303,33 @@ const TABLES: &[OfLimit] = &[(4, FOUR), (4, SINGLE), (4, HINTED), (5, FIVE)];
 
 #[test]
 fn leaves_of_four_and_of_five_go_as_told(rt: HostRuntime) {
-    all_went(&rt, wrong_table(rt.alloc(), TABLES));
+    tables_go(&rt, TABLES);
 }
 
-const FILLS: &[OfLimit] = &[(4, FILLS_4), (5, FILLS_5), (32, FILLS_32)];
+/// How many pairs a page has at most, and how many both parts have of a page with one more.
+type Filled = (u16, usize, usize);
+
+impl Table for Filled {
+    /// The first step that did not go as told where a page is filled, and cut.
+    fn wrong_step(&self, alloc: Global) -> Option<usize> {
+        let (m, lower, upper) = *self;
+        let steps = [
+            Fill(m),
+            Count(1),
+            Put("z", "", 1, 2),
+            Count(2),
+            Step::Pairs(1, lower),
+            Step::Pairs(2, upper),
+        ];
+        wrong_of(alloc, m, &steps)
+    }
+}
+
+const FILLS: &[Filled] = &[(4, 2, 3), (5, 3, 3), (32, 16, 17)];
 
 #[test]
 fn a_page_is_cut_where_it_has_one_pair_too_many(rt: HostRuntime) {
-    all_went(&rt, wrong_table(rt.alloc(), FILLS));
+    tables_go(&rt, FILLS);
 }
 
 const TAKEN: &[Step] = &[

@@ -1,6 +1,6 @@
 //! One page, read forwards over blocks.
 
-use super::{Row, del, is_shown, put, records, went, wrong_row};
+use super::{Row, del, is_shown, put, records, rows_go};
 use bw_codec::{Block, Ops, Place};
 use bw_page::{empty_page, read_blocks};
 use std::alloc::Global;
@@ -49,7 +49,7 @@ const PAGES: &[Page] = &[(1, ": a=1"), (2, "b: b=2"), (3, "")];
 
 #[test]
 fn blocks_are_read_page_by_page(rt: HostRuntime) {
-    went(&rt, wrong_row(rt.alloc(), PAGES));
+    rows_go(&rt, PAGES);
 }
 
 /// A Delta of page 1 that puts so many keys of one byte, from the greatest down, and then deletes
@@ -98,5 +98,5 @@ const GROWN: &[Grown] = &[
 
 #[test]
 fn a_page_may_grow_far_between_two_blocks(rt: HostRuntime) {
-    went(&rt, wrong_row(rt.alloc(), GROWN));
+    rows_go(&rt, GROWN);
 }

@@ -27,18 +27,20 @@ fn start(alloc: Global) -> Result<Leaves, AllocError>
     Leaves::one_empty(alloc, 4)
 }
 
+fn first_writers(item: Record) -> Entry {
+    Entry {
+        writer: 0,
+        more: false,
+        item,
+    }
+}
+
 /// One writer's puts.
 fn entries(alloc: Global, pairs: &[(&str, &str)]) -> Option<Vec<Entry>> {
     let mut entries = Vec::new(alloc);
     for (key, value) in pairs {
         let item = put(key.as_bytes(), value.as_bytes())?;
-        entries
-            .push(Entry {
-                writer: 0,
-                more: false,
-                item,
-            })
-            .ok()?;
+        entries.push(first_writers(item)).ok()?;
     }
     Some(entries)
 }
@@ -117,7 +119,7 @@ fn does<R: Threads + Wait>(rt: &R, stand: &mut Stand, case: &Case) -> Option<usi
 {
     match case {
         Case::Steps(steps) => walking::walked(rt, stand, steps),
-        Case::Race => lone(threads::race(rt, stand)),
+        Case::Race => lone(threads::race(rt, stand) == Some(true)),
         Case::Learns => lone(learning::learns(rt, stand)),
         Case::Places => lone(places::made(stand) == Some(3)),
     }

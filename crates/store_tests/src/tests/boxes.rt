@@ -121,6 +121,15 @@ pub(super) fn plain(boxes: u32, more: u32) -> Row {
     }
 }
 
+/// So many boxes of that capacity, then one that fails so, and so many behind it.
+pub(super) fn fused(boxes: u32, fuse: (u64, u64), behind: u32) -> Row {
+    Row {
+        fuse: Some(fuse),
+        behind,
+        ..plain(boxes, 0)
+    }
+}
+
 /// The boxes of a row, of one desk.
 pub(super) fn supplied(alloc: Global, row: &Row) -> Option<Supply> {
     let mut maker = maker_of(alloc, row.capacity)?;

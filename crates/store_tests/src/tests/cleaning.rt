@@ -1,28 +1,24 @@
 //! The oldest segment is given up: the tables.
 
+use super::putting::Op::Set;
+use super::putting::{AGAIN, TWO};
 use super::steps::Step;
 use super::steps::Step::{
-    Add, Bytes, Clean, Cuts, Flush, Frame, Get, History, Live, Page, Put, Refused, Roll, Settle,
-    Stands, Turn, Uncleaned,
+    Add, Bytes, Clean, Cuts, Flush, Frame, Get, History, Live, Lives, Page, Put, Refused, Roll,
+    Segments, Settle, Stands, Taken, Uncleaned,
 };
-use super::telling::all_went;
-use super::walking::{Stand, first_wrong};
+use super::walking::{Stand, Tables, all_go};
 use bw_store::StoreFault;
 use test_vectors::{THIRD_NEWER, THIRD_OLDER};
 
 /// A cleaning that writes a page again, then one with nothing to write, then none.
 const THREE_SEGMENTS: &[Step] = &[
-    Frame(b"k", b"1", 1),
-    Roll,
-    Frame(b"j", b"2", 2),
-    Roll,
-    Frame(b"k", b"3", 3),
+    Segments(1, AGAIN),
     Stands(3, 1),
     Clean(1, 0, 1, 1),
     Page(1, "1 : j=2 k=3"),
     Cuts(&[1, 2, 3, 3], 4),
-    Live(0, 2, 1, 69),
-    Live(1, 3, 2, 107),
+    Lives(&[(2, 1, 69), (3, 2, 107)]),
     Stands(2, 1),
     Bytes(2, THIRD_OLDER),
     Bytes(3, THIRD_NEWER),
@@ -40,8 +36,7 @@ const NOTHING_OLD: &[Step] = &[
     Uncleaned(StoreFault::NothingOld),
     Cuts(&[], 0),
     Frame(b"k", b"v", 1),
-    Put(0, b"j", b"w"),
-    Turn(9, 1),
+    Taken(b"j", b"w"),
     Uncleaned(StoreFault::NothingOld),
     Cuts(&[1], 1),
     Live(0, 1, 0, 77),
@@ -51,17 +46,13 @@ const NOTHING_OLD: &[Step] = &[
 
 /// Where one spare is left, a flush is refused; the flush of a cleaning takes it.
 const THREE_BOXES: &[Step] = &[
-    Frame(b"a", b"1", 1),
+    Segments(1, TWO),
     Roll,
-    Frame(b"b", b"2", 2),
-    Roll,
-    Put(0, b"c", b"3"),
-    Turn(9, 1),
+    Taken(b"c", b"3"),
     Refused(StoreFault::NoSegment),
     Stands(2, 1),
     Clean(1, 0, 1, 1),
-    Live(0, 2, 1, 69),
-    Live(1, 3, 2, 112),
+    Lives(&[(2, 1, 69), (3, 2, 112)]),
     Stands(2, 0),
     Cuts(&[1, 2, 3, 3], 4),
     Page(1, "1 : a=1 b=2 c=3"),
@@ -73,11 +64,19 @@ const THREE_BOXES: &[Step] = &[
     Page(1, "1 : a=1 b=2 c=3 d=4"),
 ];
 
+const TABLES: &[Tables] = &[
+    (Stand::Boxes(4, 8), &[THREE_SEGMENTS, NOTHING_OLD]),
+    (Stand::Boxes(3, 8), &[THREE_BOXES]),
+];
+
+#[test]
+fn the_oldest_segment_is_given_up(rt: HostRuntime) {
+    all_go(&rt, TABLES);
+}
+
 /// The cleaner's append fails: no box is dropped, and pages and values are as before.
 const FAILED: &[Step] = &[
-    Frame(b"k", b"1", 1),
-    Roll,
-    Frame(b"j", b"2", 2),
+    Segments(1, &[Set(b"k", b"1"), Set(b"j", b"2")]),
     Stands(2, 1),
     Uncleaned(StoreFault::Device { lease: 1 }),
     Stands(2, 1),
@@ -90,21 +89,10 @@ const FAILED: &[Step] = &[
     Page(1, "1 : j=2 k=1"),
 ];
 
-const TABLES: &[(Stand, &[Step])] = &[
-    (Stand::Boxes(4, 8), THREE_SEGMENTS),
-    (Stand::Boxes(4, 8), NOTHING_OLD),
-    (Stand::Boxes(3, 8), THREE_BOXES),
-];
-
-#[test]
-fn the_oldest_segment_is_given_up(rt: HostRuntime) {
-    all_went(&rt, first_wrong(&rt, TABLES));
-}
-
 /// A header, a frame and the read of a page pass; the cleaner's frame has 38 bytes.
-const FAILS: &[(Stand, &[Step])] = &[(Stand::Fuse(1, 3, (0, 38)), FAILED)];
+const FAILS: &[Tables] = &[(Stand::Fuse(1, (3, 3), (0, 38)), &[FAILED])];
 
 #[test]
 fn a_failed_append_of_the_cleaner_drops_no_box(rt: HostRuntime) {
-    all_went(&rt, first_wrong(&rt, FAILS));
+    all_go(&rt, FAILS);
 }

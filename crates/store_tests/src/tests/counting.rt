@@ -1,13 +1,14 @@
 //! What a store counts, how much of a segment is still needed, and when it pays to clean: the
 //! tables.
 
+use super::putting::FIVE;
+use super::putting::Op::Set;
 use super::steps::Step;
 use super::steps::Step::{
-    Clean, Counts, Evict, Flush, Forget, Frame, Needed, Page, Pays, Put, Roll, Same, Settle, Turn,
-    Uncleaned,
+    Clean, Counts, Each, Evict, Flush, Forget, Frame, Needed, Page, Pays, Put, Roll, Same,
+    Segments, Settle, Taken, Uncleaned,
 };
-use super::telling::all_went;
-use super::walking::{Stand, first_wrong};
+use super::walking::{Stand, Tables, all_go};
 use bw_store::{Counters, StoreFault};
 use test_vectors::FIRST;
 
@@ -44,8 +45,7 @@ const THREE_SEGMENTS: &[Step] = &[
     Counts(NONE),
     Needed(0, None),
     Pays(false),
-    Put(0, b"k", b"1"),
-    Turn(9, 1),
+    Taken(b"k", b"1"),
     Counts(Counters { records: 1, ..NONE }),
     Flush(Some(1)),
     Counts(Counters {
@@ -60,8 +60,7 @@ const THREE_SEGMENTS: &[Step] = &[
     Pays(false),
     Flush(None),
     Roll,
-    Put(0, b"j", b"2"),
-    Turn(9, 1),
+    Taken(b"j", b"2"),
     Needed(0, Some(18)),
     Flush(Some(2)),
     Needed(1, Some(0)),
@@ -95,11 +94,7 @@ const THREE_SEGMENTS: &[Step] = &[
 /// Five pairs are cut: a Delta of five puts has 49 bytes, and a Split with a low of one byte and
 /// three pairs 40. Both pages are needed.
 const CUT: &[Step] = &[
-    Put(0, b"a", b"1"),
-    Put(0, b"b", b"2"),
-    Put(0, b"c", b"3"),
-    Put(0, b"d", b"4"),
-    Put(0, b"e", b"5"),
+    Each(0, FIVE),
     Settle(5),
     Counts(Counters {
         records: 5,
@@ -143,28 +138,23 @@ const UPDATED: &[Step] = &[
 const OPENED_AGAIN: &[Step] = &[
     Counts(NONE),
     Needed(0, Some(13)),
-    Put(0, b"j", b"2"),
-    Turn(9, 1),
+    Taken(b"j", b"2"),
     Counts(Counters { records: 1, ..NONE }),
 ];
 
-const TABLES: &[(Stand, &[Step])] = &[
-    (Stand::Boxes(4, 8), THREE_SEGMENTS),
-    (Stand::Boxes(4, 8), CUT),
-    (Stand::Boxes(4, 8), UPDATED),
-    (Stand::Bytes(&[FIRST]), OPENED_AGAIN),
+const TABLES: &[Tables] = &[
+    (Stand::Boxes(4, 8), &[THREE_SEGMENTS, CUT, UPDATED]),
+    (Stand::Bytes(&[FIRST]), &[OPENED_AGAIN]),
 ];
 
 #[test]
 fn what_was_done_is_counted(rt: HostRuntime) {
-    all_went(&rt, first_wrong(&rt, TABLES));
+    all_go(&rt, TABLES);
 }
 
 /// A header, a frame and the read of a page pass; the cleaner's append fails.
 const FAILED: &[Step] = &[
-    Frame(b"k", b"1", 1),
-    Roll,
-    Frame(b"j", b"2", 2),
+    Segments(1, &[Set(b"k", b"1"), Set(b"j", b"2")]),
     Uncleaned(StoreFault::Device { lease: 1 }),
     Counts(Counters {
         records: 2,
@@ -175,9 +165,9 @@ const FAILED: &[Step] = &[
     }),
 ];
 
-const FAILS: &[(Stand, &[Step])] = &[(Stand::Fuse(1, 3, (0, 0)), FAILED)];
+const FAILS: &[Tables] = &[(Stand::Fuse(1, (3, 3), (0, 0)), &[FAILED])];
 
 #[test]
 fn a_frame_that_failed_is_not_counted(rt: HostRuntime) {
-    all_went(&rt, first_wrong(&rt, FAILS));
+    all_go(&rt, FAILS);
 }

@@ -4,25 +4,18 @@ ghost use Rattle.std.specs.Prelude.{IfSome};
 ghost use Rattle.bw_care.specs.Found.{IsRecovered};
 ghost use Rattle.bw_store.specs.Views.{IsSoundBeside};
 
-use super::boxes::{LEAST, Row, Supply, maker_of, plain, supplied};
+use super::boxes::{LEAST, Supply, fused, maker_of, plain, supplied};
 use super::opening::{Held, config_of, opened, reopened, shut};
+use super::putting::AGAIN;
 use super::steps::Step;
-use super::steps::Step::{Cuts, Flush, Frame, Live, Page, Put, Refused, Roll, Turn};
+use super::steps::Step::{Cuts, Flush, Frame, Lives, Page, Put, Refused, Segments, Turn};
 use super::telling::{holds, went};
+use super::turning::FAILED;
 use super::walking::{lives, wrong_step};
 use bw_care::{RecoverCause, Recovered, recover};
 use bw_store::StoreFault;
 use std::alloc::Global;
 use std::sync::Wait;
-
-/// The first append or the second fails, and the frame is not whole.
-const NOTHING: &[Step] = &[
-    Put(0, b"k", b"v"),
-    Turn(1, 1),
-    Refused(StoreFault::Device { lease: 0 }),
-    Refused(StoreFault::Failed),
-    Cuts(&[1], 0),
-];
 
 /// The third append fails.
 const SECOND: &[Step] = &[
@@ -33,41 +26,24 @@ const SECOND: &[Step] = &[
     Cuts(&[1, 2], 1),
 ];
 
-const AGAIN: &[Step] = &[
+const AFTER: &[Step] = &[
     Page(1, "1 : k=v"),
     Put(0, b"j", b"2"),
     Turn(8, 1),
     Flush(Some(2)),
-    Live(0, 1, 0, 107),
-    Live(1, 2, 1, 69),
+    Lives(&[(1, 0, 107), (2, 1, 69)]),
     Cuts(&[1], 1),
 ];
 
 /// Three segments of a frame each.
-pub(super) const THREE: &[Step] = &[
-    Frame(b"k", b"1", 1),
-    Roll,
-    Frame(b"j", b"2", 2),
-    Roll,
-    Frame(b"k", b"3", 3),
-];
-
-fn failing(fuse: (u64, u64)) -> Row {
-    Row {
-        boxes: 0,
-        fuse: Some(fuse),
-        behind: 3,
-        more: 0,
-        capacity: LEAST,
-    }
-}
+pub(super) const THREE: &[Step] = &[Segments(1, AGAIN)];
 
 // Whether nothing is found of a store whose first box fails so, and all boxes come back.
 fn finds_nothing<R: AllocGlobal + Wait>(rt: &R, fuse: (u64, u64)) -> bool {
-    let Some(mut supply) = supplied(rt.alloc(), &failing(fuse)) else {
+    let Some(mut supply) = supplied(rt.alloc(), &fused(0, fuse, 3)) else {
         return false;
     };
-    if lives(rt, &mut supply, 8, NOTHING).is_some() {
+    if lives(rt, &mut supply, 8, FAILED).is_some() {
         return false;
     }
     match recover(rt.alloc(), supply.boxes) {
@@ -77,7 +53,7 @@ fn finds_nothing<R: AllocGlobal + Wait>(rt: &R, fuse: (u64, u64)) -> bool {
 }
 
 fn goes_on<R: AllocGlobal + Wait>(rt: &R) -> Option<usize> {
-    let Some(mut supply) = supplied(rt.alloc(), &failing((2, 30))) else {
+    let Some(mut supply) = supplied(rt.alloc(), &fused(0, (2, 30), 3)) else {
         return Some(100);
     };
     let first = lives(rt, &mut supply, 8, SECOND);
@@ -91,7 +67,7 @@ fn goes_on<R: AllocGlobal + Wait>(rt: &R) -> Option<usize> {
     if (recovered.first, recovered.last, recovered.tail) != (1, 1, 30) {
         return Some(102);
     }
-    shows(rt, recovered, &mut supply, AGAIN)
+    shows(rt, recovered, &mut supply, AFTER)
 }
 
 // The first step that did not go as told over what was recovered; the boxes are put in a supply.

@@ -1,12 +1,12 @@
 //! Pages leave memory and are read from their segments: the tables.
 
+use super::putting::{FOUR, TWO};
 use super::steps::Step;
 use super::steps::Step::{
-    Clean, Del, Evict, Flush, Frame, Get, Page, Put, Roll, Settle, Stands, Stops, Turn, Unread,
-    Walk,
+    Clean, Del, Each, Evict, Flush, Frame, Get, Page, Pages, Put, Segments, Settle, Stands, Stops,
+    Taken, Turn, Unread, Walk,
 };
-use super::telling::all_went;
-use super::walking::{Stand, first_wrong};
+use super::walking::{Stand, Tables, all_go};
 use bw_store::StoreFault;
 use test_vectors::FIRST;
 
@@ -40,8 +40,7 @@ const TURNED_AGAIN: &[Step] = &[
 const UNFLUSHED: &[Step] = &[
     Frame(b"a", b"1", 1),
     Evict(1, Ok(true)),
-    Put(0, b"b", b"2"),
-    Turn(9, 1),
+    Taken(b"b", b"2"),
     Page(1, "1 : a=1 b=2"),
     Evict(1, Ok(true)),
     Page(1, "1 : a=1 b=2"),
@@ -61,15 +60,11 @@ const UNFLUSHED: &[Step] = &[
 
 /// A page that is evicted is cut; neither part leaves before the frame is appended.
 const CUT: &[Step] = &[
-    Put(0, b"a", b"1"),
-    Put(0, b"b", b"2"),
-    Put(0, b"c", b"3"),
-    Put(0, b"d", b"4"),
+    Each(0, FOUR),
     Turn(9, 4),
     Flush(Some(1)),
     Evict(1, Ok(true)),
-    Put(0, b"e", b"5"),
-    Turn(9, 1),
+    Taken(b"e", b"5"),
     Evict(1, Ok(false)),
     Evict(2, Ok(false)),
     Evict(3, Err(StoreFault::NoPage)),
@@ -81,8 +76,7 @@ const CUT: &[Step] = &[
     Walk(2, Some(1)),
     Evict(1, Ok(true)),
     Evict(2, Ok(true)),
-    Page(1, "1 : a=1 b=2"),
-    Page(2, "2 c: c=3 d=4 e=5"),
+    Pages(&["1 : a=1 b=2", "2 c: c=3 d=4 e=5"]),
     Get(b"e", b"5"),
     Page(3, ""),
     Page(0, ""),
@@ -90,16 +84,13 @@ const CUT: &[Step] = &[
 
 /// A page stays evicted while it is written again, and is then read from where it stands now.
 const CLEANED: &[Step] = &[
-    Frame(b"a", b"1", 1),
-    Roll,
-    Frame(b"b", b"2", 2),
+    Segments(1, TWO),
     Evict(1, Ok(true)),
     Clean(1, 0, 1, 1),
     Stands(1, 2),
     Evict(1, Ok(false)),
     Page(1, "1 : a=1 b=2"),
-    Put(0, b"c", b"3"),
-    Turn(9, 1),
+    Taken(b"c", b"3"),
     Evict(1, Ok(true)),
     Page(1, "1 : a=1 b=2 c=3"),
 ];
@@ -109,24 +100,20 @@ const OPENED_AGAIN: &[Step] = &[
     Walk(1, Some(1)),
     Evict(1, Ok(true)),
     Page(1, "1 : k=v"),
-    Put(0, b"j", b"2"),
-    Turn(9, 1),
+    Taken(b"j", b"2"),
     Evict(1, Ok(true)),
     Page(1, "1 : j=2 k=v"),
     Flush(Some(2)),
     Walk(1, Some(2)),
 ];
 
-const TABLES: &[(Stand, &[Step])] = &[
-    (Stand::Fuse(0, 2, (0, 0)), READ_AGAIN),
-    (Stand::Fuse(0, 2, (0, 0)), TURNED_AGAIN),
-    (Stand::Boxes(4, 8), UNFLUSHED),
-    (Stand::Boxes(4, 8), CUT),
-    (Stand::Boxes(4, 8), CLEANED),
-    (Stand::Bytes(&[FIRST]), OPENED_AGAIN),
+const TABLES: &[Tables] = &[
+    (Stand::Fuse(0, (2, 2), (0, 0)), &[READ_AGAIN, TURNED_AGAIN]),
+    (Stand::Boxes(4, 8), &[UNFLUSHED, CUT, CLEANED]),
+    (Stand::Bytes(&[FIRST]), &[OPENED_AGAIN]),
 ];
 
 #[test]
 fn pages_that_left_memory_are_read_from_their_segments(rt: HostRuntime) {
-    all_went(&rt, first_wrong(&rt, TABLES));
+    all_go(&rt, TABLES);
 }

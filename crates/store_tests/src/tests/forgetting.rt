@@ -6,8 +6,7 @@ use super::steps::Step::{
     Clean, Count, Cuts, Del, Evict, Flush, Forget, Frame, Get, Group, History, Page, Put, Puts,
     Reads, Receipt, Roll, Settle, Stands, Turn,
 };
-use super::telling::all_went;
-use super::walking::{Stand, first_wrong};
+use super::walking::{Stand, Tables, all_go};
 
 /// What was only taken stays in memory, and what was flushed leaves it once. Receipts count what
 /// was flushed, of each writer by itself.
@@ -104,14 +103,12 @@ const AWAY: &[Step] = &[
     Receipt(1, 750),
 ];
 
-const FORGOTTEN: &[(Stand, &[Step])] = &[
-    (Stand::Boxes(4, 8), BY_FLUSHES),
-    (Stand::Boxes(4, 8), GROUPS),
-    (Stand::Boxes(4, 8), CLEANED),
-    (Stand::Boxes(12, 1024), AWAY),
+const FORGOTTEN: &[Tables] = &[
+    (Stand::Boxes(4, 8), &[BY_FLUSHES, GROUPS, CLEANED]),
+    (Stand::Boxes(12, 1024), &[AWAY]),
 ];
 
 #[test]
 fn what_readers_have_leaves_memory_once(rt: HostRuntime) {
-    all_went(&rt, first_wrong(&rt, FORGOTTEN));
+    all_go(&rt, FORGOTTEN);
 }

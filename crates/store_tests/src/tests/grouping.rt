@@ -6,15 +6,15 @@ ghost use Rattle.bw_care.specs.Found.{IsRecovered};
 use super::boxes::{LEAST, Supply, maker_of, plain, supplied};
 use super::cutting::{dumped, shows};
 use super::opening::{config_of, opened, shut};
-use super::putting::Op;
 use super::putting::Op::{Set, Unset};
+use super::putting::{FOUR, NEXT};
 use super::steps::Step;
 use super::steps::Step::{
-    Cuts, Evict, Flush, Frame, Full, FullGroup, Get, Group, History, Live, Page, Put, Same, Settle,
-    Stops, Turn,
+    Cuts, Evict, Flush, Frame, Full, FullGroup, Get, Group, History, Live, Page, Pages, Put, Same,
+    Settle, Stops, Turn,
 };
-use super::telling::{all_went, went};
-use super::walking::{Stand, first_wrong, wrong_step};
+use super::telling::went;
+use super::walking::{Stand, Tables, all_go, wrong_step};
 use bw_care::{Recovered, recover};
 use bw_store::StoreFault;
 use std::alloc::Global;
@@ -89,55 +89,26 @@ const ROOM_FOR_BOTH: &[Step] = &[
     Live(1, 2, 1, 65_559),
 ];
 
-/// A page of four pairs.
-const FOUR: &[Op] = &[
-    Set(b"a", b"1"),
-    Set(b"b", b"2"),
-    Set(b"c", b"3"),
-    Set(b"d", b"4"),
-];
-
 /// A group cuts the page, and then the page that it made.
 const CUTS_TWICE: &[Step] = &[
     Group(0, FOUR),
     Turn(1, 4),
     Flush(Some(1)),
     Evict(1, Ok(true)),
-    Group(
-        0,
-        &[
-            Set(b"e", b"5"),
-            Set(b"f", b"6"),
-            Set(b"g", b"7"),
-            Set(b"h", b"8"),
-        ],
-    ),
+    Group(0, NEXT),
     Turn(1, 4),
-    Page(1, "1 : a=1 b=2"),
-    Page(2, "2 c: c=3 d=4"),
-    Page(3, "3 e: e=5 f=6 g=7 h=8"),
+    Pages(&["1 : a=1 b=2", "2 c: c=3 d=4", "3 e: e=5 f=6 g=7 h=8"]),
     Flush(Some(2)),
     Cuts(&[4, 8], 2),
     Evict(2, Ok(true)),
     Evict(3, Ok(true)),
-    Page(1, "1 : a=1 b=2"),
-    Page(2, "2 c: c=3 d=4"),
-    Page(3, "3 e: e=5 f=6 g=7 h=8"),
-    Page(4, ""),
+    Pages(&["1 : a=1 b=2", "2 c: c=3 d=4", "3 e: e=5 f=6 g=7 h=8", ""]),
 ];
 
 /// Four pages, all in memory, then all evicted: a group touches each of them.
 const FOUR_PAGES: &[Step] = &[
     Group(0, FOUR),
-    Group(
-        0,
-        &[
-            Set(b"e", b"5"),
-            Set(b"f", b"6"),
-            Set(b"g", b"7"),
-            Set(b"h", b"8"),
-        ],
-    ),
+    Group(0, NEXT),
     Group(0, &[Set(b"i", b"9"), Set(b"j", b"0")]),
     Group(
         0,
@@ -149,10 +120,12 @@ const FOUR_PAGES: &[Step] = &[
         ],
     ),
     Turn(9, 14),
-    Page(1, "1 : a=a b=2"),
-    Page(2, "2 c: c=c d=4"),
-    Page(3, "3 e: e=e f=6"),
-    Page(4, "4 g: g=g h=8 i=9 j=0"),
+    Pages(&[
+        "1 : a=a b=2",
+        "2 c: c=c d=4",
+        "3 e: e=e f=6",
+        "4 g: g=g h=8 i=9 j=0",
+    ]),
     Flush(Some(1)),
     Evict(1, Ok(true)),
     Evict(2, Ok(true)),
@@ -163,11 +136,13 @@ const FOUR_PAGES: &[Step] = &[
         &[Unset(b"b"), Set(b"d", b"x"), Unset(b"f"), Set(b"k", b"k")],
     ),
     Turn(1, 4),
-    Page(1, "1 : a=a"),
-    Page(2, "2 c: c=c d=x"),
-    Page(3, "3 e: e=e"),
-    Page(4, "4 g: g=g h=8"),
-    Page(5, "5 i: i=9 j=0 k=k"),
+    Pages(&[
+        "1 : a=a",
+        "2 c: c=c d=x",
+        "3 e: e=e",
+        "4 g: g=g h=8",
+        "5 i: i=9 j=0 k=k",
+    ]),
     Flush(Some(2)),
     Cuts(&[14, 18], 2),
     Page(5, "5 i: i=9 j=0 k=k"),
@@ -186,8 +161,7 @@ const UNREAD: &[Step] = &[
     Page(1, "1 : a=1 b=2"),
     History("0 put a 1;0 put b 2;0 put c 3;0 put d 4;0 put e 5;"),
     Turn(9, 2),
-    Page(1, "1 : a=9 b=2"),
-    Page(2, "2 c: c=3 d=9 e=5"),
+    Pages(&["1 : a=9 b=2", "2 c: c=3 d=9 e=5"]),
     Flush(Some(2)),
     Cuts(&[5, 7], 2),
 ];
@@ -209,21 +183,19 @@ const SAME_KEY: &[Step] = &[
     Page(1, "1 : a=2"),
 ];
 
-const TABLES: &[(Stand, &[Step])] = &[
-    (Stand::Boxes(4, 8), WRITERS),
-    (Stand::Boxes(4, 8), ROUNDS),
-    (Stand::Boxes(4, 1), ONE_PLACE),
-    (Stand::Boxes(4, 256), ROOM_FOR_ONE),
-    (Stand::Boxes(4, 256), ROOM_FOR_BOTH),
-    (Stand::Boxes(4, 8), CUTS_TWICE),
-    (Stand::Boxes(4, 8), FOUR_PAGES),
-    (Stand::Fuse(0, 2, (0, 0)), UNREAD),
-    (Stand::Boxes(4, 8), SAME_KEY),
+const TABLES: &[Tables] = &[
+    (
+        Stand::Boxes(4, 8),
+        &[WRITERS, ROUNDS, CUTS_TWICE, FOUR_PAGES, SAME_KEY],
+    ),
+    (Stand::Boxes(4, 1), &[ONE_PLACE]),
+    (Stand::Boxes(4, 256), &[ROOM_FOR_ONE, ROOM_FOR_BOTH]),
+    (Stand::Fuse(0, (2, 2), (0, 0)), &[UNREAD]),
 ];
 
 #[test]
 fn groups_go_as_told(rt: HostRuntime) {
-    all_went(&rt, first_wrong(&rt, TABLES));
+    all_go(&rt, TABLES);
 }
 
 /// A frame of a page of four, and one of a group that cuts it.
@@ -246,11 +218,7 @@ const WHOLE: usize = 205;
 const BEFORE: &[Step] = &[Page(1, "1 : a=1 b=2 c=3 d=4"), Page(2, "")];
 
 /// All of it.
-const BEHIND: &[Step] = &[
-    Page(1, "1 : a=1 b=2"),
-    Page(2, "2 c: c=3 d=4 e=5 f=6"),
-    Page(3, ""),
-];
+const BEHIND: &[Step] = &[Pages(&["1 : a=1 b=2", "2 c: c=3 d=4 e=5 f=6", ""])];
 
 // The segment of a store that went through these frames.
 fn segment<R: AllocGlobal + Wait>(rt: &R) -> Option<Vec<u8>> {

@@ -2,10 +2,12 @@
 
 ghost use Rattle.std.specs.Prelude.{◌≡◌, ◌<◌, length, map};
 ghost use Rattle.bw_ring.specs.Ends.{ring_of_feed};
-ghost use Rattle.bw_store.specs.Views.{kept_beside, IsSoundBeside};
+ghost use Rattle.bw_store.specs.Views.{IsSoundBeside};
+ghost use Rattle.store_tests.specs.Views.{AreItsFeeds};
 
-use super::boxes::{Row, supplied};
-use super::opening::{Held, config_of, opened, shut};
+use super::boxes::Row;
+use super::cases::{Case, over};
+use super::opening::{Held, config_of};
 use super::putting::{is_put, record};
 use super::steps::Step::{Puts, Reads, Roll, Settle};
 use super::telling::holds;
@@ -51,11 +53,9 @@ fn are_put(feeds: &mut Vec<Feed>, writer: usize) -> bool
 // Whether both writers' are taken and settled.
 fn are_settled<R: AllocGlobal + Wait>(rt: &R, held: &mut Held, count: u64) -> bool
     requires sound { IsSoundBeside held.old.store holding }
-    requires feeds { map ring_of_feed held.old.feeds.items
-        ≡ (kept_beside held.old.store holding).rings }
+    requires feeds { AreItsFeeds held.old.feeds.items held.old.store holding }
     ensures sound { IsSoundBeside held.new.store holding }
-    ensures feeds { map ring_of_feed held.new.feeds.items
-        ≡ (kept_beside held.new.store holding).rings }
+    ensures feeds { AreItsFeeds held.new.feeds.items held.new.store holding }
 {
     if held.feeds.len() != 2 || !are_put(&mut held.feeds, 0) || !are_put(&mut held.feeds, 1) {
         return false;
@@ -66,11 +66,9 @@ fn are_settled<R: AllocGlobal + Wait>(rt: &R, held: &mut Held, count: u64) -> bo
 // Whether the first segment gets so long, and a second one is begun.
 fn is_filled<R: AllocGlobal + Wait>(rt: &R, held: &mut Held) -> bool
     requires sound { IsSoundBeside held.old.store holding }
-    requires feeds { map ring_of_feed held.old.feeds.items
-        ≡ (kept_beside held.old.store holding).rings }
+    requires feeds { AreItsFeeds held.old.feeds.items held.old.store holding }
     ensures sound { IsSoundBeside held.new.store holding }
-    ensures feeds { map ring_of_feed held.new.feeds.items
-        ≡ (kept_beside held.new.store holding).rings }
+    ensures feeds { AreItsFeeds held.new.feeds.items held.new.store holding }
 {
     'rounds: for round in 0..ROUNDS {
         if !are_settled(rt, held, 8000 * (round + 1)) {
@@ -84,8 +82,7 @@ fn is_filled<R: AllocGlobal + Wait>(rt: &R, held: &mut Held) -> bool
 // Whether the first of the segments is long, and given up, and each key keeps its value.
 fn is_cleaned<R: AllocGlobal + Wait>(rt: &R, held: &mut Held) -> bool
     requires sound { IsSoundBeside held.old.store holding }
-    requires feeds { map ring_of_feed held.old.feeds.items
-        ≡ (kept_beside held.old.store holding).rings }
+    requires feeds { AreItsFeeds held.old.feeds.items held.old.store holding }
     ensures { IsSoundBeside held.new.store holding }
 {
     let is_long = match held.store.live_segment(0) {
@@ -100,10 +97,10 @@ fn is_cleaned<R: AllocGlobal + Wait>(rt: &R, held: &mut Held) -> bool
     }
 }
 
-fn goes<R: AllocGlobal + Wait>(rt: &R, held: &mut Held) -> bool
+/// Whether both go well.
+pub(super) fn goes<R: AllocGlobal + Wait>(rt: &R, held: &mut Held) -> bool
     requires sound { IsSoundBeside held.old.store holding }
-    requires feeds { map ring_of_feed held.old.feeds.items
-        ≡ (kept_beside held.old.store holding).rings }
+    requires feeds { AreItsFeeds held.old.feeds.items held.old.store holding }
     ensures { IsSoundBeside held.new.store holding }
 {
     if !is_filled(rt, held) {
@@ -112,15 +109,8 @@ fn goes<R: AllocGlobal + Wait>(rt: &R, held: &mut Held) -> bool
     is_cleaned(rt, held)
 }
 
-fn goes_well<R: AllocGlobal + Wait>(rt: &R) -> Option<bool> {
-    let mut supply = supplied(rt.alloc(), &LARGE)?;
-    let mut held = opened(rt, &config_of(2, 4096, 1), &mut supply)?;
-    let went = goes(rt, &mut held);
-    let _ = shut(rt, held, &mut supply);
-    Some(went)
-}
-
 #[test]
 fn a_segment_above_sixteen_mebibytes_is_cleaned(rt: HostRuntime) {
-    holds(&rt, goes_well(&rt) == Some(true));
+    let went = over(&rt, &LARGE, &config_of(2, 4096, 1), &Case::Long);
+    holds(&rt, went == Some(true));
 }

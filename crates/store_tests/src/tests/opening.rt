@@ -1,9 +1,9 @@
 //! Stores are opened; and what `open` refuses: the boxes come back.
 
-ghost use Rattle.std.specs.Prelude.{◌≡◌, map, IfSome};
+ghost use Rattle.std.specs.Prelude.{IfSome};
 ghost use Rattle.bw_care.specs.Found.{IsRecovered};
-ghost use Rattle.bw_ring.specs.Ends.{ring_of_feed};
-ghost use Rattle.bw_store.specs.Views.{kept_beside, IsSoundBeside};
+ghost use Rattle.bw_store.specs.Views.{IsSoundBeside};
+ghost use Rattle.store_tests.specs.Views.{AreItsFeeds};
 
 use super::boxes::{Supply, plain, supplied};
 use super::telling::went;
@@ -39,8 +39,7 @@ pub(super) fn opened<R: AllocGlobal + Wait>(
     supply: &mut Supply,
 ) -> Option<Held>
     ensures sound { IfSome result (λ o. IsSoundBeside o.store holding) }
-    ensures feeds { IfSome result (λ o.
-        map ring_of_feed o.feeds.items ≡ (kept_beside o.store holding).rings) }
+    ensures feeds { IfSome result (λ o. AreItsFeeds o.feeds.items o.store holding) }
 {
     let alloc = rt.alloc();
     let boxes = mem::replace(&mut supply.boxes, Vec::new(alloc));
@@ -60,8 +59,7 @@ pub(super) fn reopened<R: AllocGlobal + Wait>(
 ) -> Option<Held>
     requires { IsRecovered holding recovered }
     ensures sound { IfSome result (λ o. IsSoundBeside o.store holding) }
-    ensures feeds { IfSome result (λ o.
-        map ring_of_feed o.feeds.items ≡ (kept_beside o.store holding).rings) }
+    ensures feeds { IfSome result (λ o. AreItsFeeds o.feeds.items o.store holding) }
 {
     let more = mem::replace(&mut supply.more, Vec::new(rt.alloc()));
     match Store::reopen(rt, rt.alloc(), recovered, 2, places, 1) {

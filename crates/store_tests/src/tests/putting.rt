@@ -73,10 +73,43 @@ pub(super) enum Op {
     Unset(&'static [u8]),
 }
 
+use Op::{Set, Unset};
+
+/// Of two keys the first is set again.
+pub(super) const AGAIN: &[Op] = &[Set(b"k", b"1"), Set(b"j", b"2"), Set(b"k", b"3")];
+
+/// Two records of other keys.
+pub(super) const TWO: &[Op] = &[Set(b"a", b"1"), Set(b"b", b"2")];
+
+/// As many as a page holds.
+pub(super) const FOUR: &[Op] = &[
+    Set(b"a", b"1"),
+    Set(b"b", b"2"),
+    Set(b"c", b"3"),
+    Set(b"d", b"4"),
+];
+
+/// The next four.
+pub(super) const NEXT: &[Op] = &[
+    Set(b"e", b"5"),
+    Set(b"f", b"6"),
+    Set(b"g", b"7"),
+    Set(b"h", b"8"),
+];
+
+/// The last of these cuts the page.
+pub(super) const FIVE: &[Op] = &[
+    Set(b"a", b"1"),
+    Set(b"b", b"2"),
+    Set(b"c", b"3"),
+    Set(b"d", b"4"),
+    Set(b"e", b"5"),
+];
+
 fn record_of(op: &Op) -> Result<Record, LengthError> {
     match op {
-        Op::Set(key, value) => record(*key, Some(*value)),
-        Op::Unset(key) => record(*key, None),
+        Set(key, value) => record(*key, Some(*value)),
+        Unset(key) => record(*key, None),
     }
 }
 
@@ -106,6 +139,30 @@ pub(super) fn is_grouped(feeds: &mut Vec<Feed>, writer: usize, ops: &[Op], told:
     };
     let _ = feeds.as_slice().len();
     put_group(&mut feeds[writer], group) == told
+}
+
+/// Whether a writer's feed takes each of the records, by itself.
+pub(super) fn are_each_put(feeds: &mut Vec<Feed>, writer: usize, ops: &[Op]) -> bool
+    requires { writer < length feeds.old.items }
+    ensures { map ring_of_feed feeds.new.items ≡ map ring_of_feed feeds.old.items }
+{
+    let _ = feeds.as_slice().len();
+    put_each(&mut feeds[writer], ops)
+}
+
+fn put_each(feed: &mut Feed, ops: &[Op]) -> bool
+    ensures { ring_of_feed feed.new ≡ ring_of_feed feed.old }
+{
+    'records: for op in ops {
+        let is_put = match record_of(op) {
+            Ok(item) => feed.put(item).is_ok(),
+            Err(_) => false,
+        };
+        if !is_put {
+            return false;
+        }
+    }
+    true
 }
 
 /// Whether a writer's feed takes so many puts of a key, each with a value of so many bytes.

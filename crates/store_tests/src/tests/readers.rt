@@ -3,15 +3,17 @@
 ghost use Rattle.bw_store.specs.Views.{IsSound, IsSoundBeside};
 
 use super::boxes::{plain, supplied};
+use super::cases::{Case, over};
 use super::opening::{Held, config_of, opened, shut};
 use super::putting::{is_put, record};
 use super::telling::holds;
-use bw_codec::{Key, Value};
+use bw_codec::Key;
 use bw_ring::Feed;
 use bw_store::{NoReader, ReadFault, Reader, Store};
 use std::sync::Wait;
 use std::thread;
 use std::thread::Threads;
+use test_vectors::gone_back;
 
 /// How many times a reader in a thread reads beside the flushes.
 const READS: u32 = 10_000;
@@ -148,21 +150,7 @@ fn read_all(mut reader: Reader) -> u32 {
     let Ok(key) = Key::new(b"k") else {
         return READS;
     };
-    let mut last: Option<Value> = None;
-    let mut wrong = 0u32;
-    for _ in 0..READS {
-        match reader.get(&key) {
-            Ok(Some(value)) => {
-                if let Some(old) = &last {
-                    wrong = wrong.saturating_add(u32::from(value.as_slice() < old.as_slice()));
-                }
-                last = Some(value);
-            }
-            Ok(None) => wrong = wrong.saturating_add(u32::from(last.is_some())),
-            Err(_) => wrong = wrong.saturating_add(1),
-        }
-    }
-    wrong
+    gone_back(READS, || reader.get(&key))
 }
 
 // Whether all the values were taken and flushed.
@@ -179,8 +167,8 @@ fn flush_all<R: Wait>(rt: &R, opened: &mut Held) -> bool
     went
 }
 
-// Whether all the values were taken and flushed, and no read beside it was wrong.
-fn race<R: Threads + Wait>(rt: &R, opened: &mut Held) -> bool
+/// Whether all the values were taken and flushed, and no read beside it was wrong.
+pub(super) fn race<R: Threads + Wait>(rt: &R, opened: &mut Held) -> bool
     requires { IsSoundBeside opened.old.store holding }
     ensures { IsSoundBeside opened.new.store holding }
 {
@@ -194,20 +182,8 @@ fn race<R: Threads + Wait>(rt: &R, opened: &mut Held) -> bool
     child.join(rt) == 0 && flushed
 }
 
-// The same in a life of a store.
-fn is_raced<R: AllocGlobal + Threads + Wait>(rt: &R) -> bool {
-    let Some(mut supply) = supplied(rt.alloc(), &plain(8, 0)) else {
-        return false;
-    };
-    let Some(mut opened) = opened(rt, &config_of(1, 8, 3), &mut supply) else {
-        return false;
-    };
-    let went = race(rt, &mut opened);
-    let _ = shut(rt, opened, &mut supply);
-    went
-}
-
 #[test]
 fn no_value_goes_back_beside_the_flusher(rt: HostRuntime) {
-    holds(&rt, is_raced(&rt));
+    let went = over(&rt, &plain(8, 0), &config_of(1, 8, 3), &Case::Race);
+    holds(&rt, went == Some(true));
 }

@@ -4,8 +4,7 @@ use super::steps::Step;
 use super::steps::Step::{
     Bytes, Clean, Cuts, Flush, Get, History, Live, Page, Put, Refused, Roll, Settle, Stands,
 };
-use super::telling::all_went;
-use super::walking::{Stand, first_wrong};
+use super::walking::{Stand, Tables, all_go};
 use bw_store::StoreFault;
 use test_vectors::{FIRST, GREATEST, THIRD_NEWER, THIRD_OLDER};
 
@@ -41,13 +40,16 @@ const AFTER_THE_THIRD: &[Step] = &[
 /// After the greatest frame number there is no further one, even where nothing waits.
 const AFTER_THE_GREATEST: &[Step] = &[Page(1, "1 :"), Refused(StoreFault::Spent)];
 
-const TABLES: &[(Stand, &[Step])] = &[
-    (Stand::Bytes(&[FIRST]), AFTER_THE_FIRST),
-    (Stand::Bytes(&[THIRD_OLDER, THIRD_NEWER]), AFTER_THE_THIRD),
-    (Stand::Bytes(&[GREATEST]), AFTER_THE_GREATEST),
+const TABLES: &[Tables] = &[
+    (Stand::Bytes(&[FIRST]), &[AFTER_THE_FIRST]),
+    (
+        Stand::Bytes(&[THIRD_OLDER, THIRD_NEWER]),
+        &[AFTER_THE_THIRD],
+    ),
+    (Stand::Bytes(&[GREATEST]), &[AFTER_THE_GREATEST]),
 ];
 
 #[test]
 fn a_store_goes_on_from_worked_segments(rt: HostRuntime) {
-    all_went(&rt, first_wrong(&rt, TABLES));
+    all_go(&rt, TABLES);
 }

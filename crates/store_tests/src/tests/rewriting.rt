@@ -3,10 +3,9 @@
 use super::steps::Step;
 use super::steps::Step::{
     Add, Clean, Cuts, Del, Evict, Flush, Get, History, Live, Needed, Page, Put, Rewrite, Roll,
-    Settle, Turn, Unread, Walk,
+    Settle, Taken, Unread, Walk,
 };
-use super::telling::all_went;
-use super::walking::{Stand, first_wrong};
+use super::walking::{Stand, Tables, all_go};
 use bw_store::StoreFault;
 
 /// A frame has 20 bytes around its blocks, a Delta of one put 25, a Base of two pairs 18. What
@@ -20,8 +19,7 @@ const WRITTEN_AGAIN: &[Step] = &[
     Settle(2),
     Walk(1, Some(2)),
     Live(0, 1, 0, 122),
-    Put(0, b"k", b"3"),
-    Turn(9, 1),
+    Taken(b"k", b"3"),
     Walk(1, Some(2)),
     Rewrite(&[1], Ok(1)),
     Walk(1, Some(1)),
@@ -47,8 +45,7 @@ const WRITTEN_AGAIN: &[Step] = &[
 
 /// No page stands behind the last one, and none has the number 0: then nothing is flushed either.
 const NO_PAGE: &[Step] = &[
-    Put(0, b"k", b"1"),
-    Turn(9, 1),
+    Taken(b"k", b"1"),
     Rewrite(&[0], Err(StoreFault::NoPage)),
     Rewrite(&[2], Err(StoreFault::NoPage)),
     Rewrite(&[1, 2], Err(StoreFault::NoPage)),
@@ -73,15 +70,11 @@ const GIVEN_UP: &[Step] = &[
     Page(1, "1 : k=1"),
 ];
 
-const TABLES: &[(Stand, &[Step])] = &[
-    (Stand::Boxes(4, 8), WRITTEN_AGAIN),
-    (Stand::Boxes(4, 8), NO_PAGE),
-    (Stand::Boxes(4, 8), GIVEN_UP),
-];
+const TABLES: &[Tables] = &[(Stand::Boxes(4, 8), &[WRITTEN_AGAIN, NO_PAGE, GIVEN_UP])];
 
 #[test]
 fn pages_are_written_again(rt: HostRuntime) {
-    all_went(&rt, first_wrong(&rt, TABLES));
+    all_go(&rt, TABLES);
 }
 
 /// A header, a frame and the read of a page pass; the append fails, and the log with it.
@@ -116,12 +109,12 @@ const NEWEST_FIRST: &[Step] = &[
     Page(1, "1 : k=3"),
 ];
 
-const FAILS: &[(Stand, &[Step])] = &[
-    (Stand::Fuse(1, 3, (0, 0)), FAILED),
-    (Stand::Fuse(0, 2, (0, 0)), NEWEST_FIRST),
+const FAILS: &[Tables] = &[
+    (Stand::Fuse(1, (3, 3), (0, 0)), &[FAILED]),
+    (Stand::Fuse(0, (2, 2), (0, 0)), &[NEWEST_FIRST]),
 ];
 
 #[test]
 fn what_cannot_be_read_or_appended_is_told(rt: HostRuntime) {
-    all_went(&rt, first_wrong(&rt, FAILS));
+    all_go(&rt, FAILS);
 }

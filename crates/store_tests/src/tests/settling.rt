@@ -5,8 +5,7 @@ use super::steps::Step::{
     Add, Cuts, Del, Flush, Full, Get, History, Page, Put, Puts, Reads, Settle, Stands, Stops, Turn,
     Unsettled,
 };
-use super::telling::all_went;
-use super::walking::{Stand, first_wrong};
+use super::walking::{Stand, Tables, all_go};
 use bw_store::StoreFault;
 
 /// Rings of two places.
@@ -94,27 +93,24 @@ const FRAMES: &[Step] = &[
     Reads(750),
 ];
 
-const SETTLED: &[(Stand, &[Step])] = &[
-    (Stand::Boxes(4, 2), TWO_PLACES),
-    (Stand::Boxes(4, 8), ONE_KEY),
-    (Stand::Boxes(4, 8), WRITERS),
-    (Stand::Boxes(4, 8), EMPTY),
-    (Stand::Boxes(12, 1024), FRAMES),
+const SETTLED: &[Tables] = &[
+    (Stand::Boxes(4, 2), &[TWO_PLACES]),
+    (Stand::Boxes(4, 8), &[ONE_KEY, WRITERS, EMPTY]),
+    (Stand::Boxes(12, 1024), &[FRAMES]),
 ];
 
 #[test]
 fn all_that_was_accepted_is_settled(rt: HostRuntime) {
-    all_went(&rt, first_wrong(&rt, SETTLED));
+    all_go(&rt, SETTLED);
 }
 
 /// The append of the header fails, or that of the frame.
-const REFUSED: &[(Stand, &[Step])] = &[
-    (Stand::Boxes(1, 8), NO_SPARE),
-    (Stand::Fuse(0, 0, (10, 10)), FAILED),
-    (Stand::Fuse(0, 1, (10, 10)), FAILED),
+const REFUSED: &[Tables] = &[
+    (Stand::Boxes(1, 8), &[NO_SPARE]),
+    (Stand::Fuse(0, (0, 1), (10, 10)), &[FAILED]),
 ];
 
 #[test]
 fn a_refused_settle_keeps_what_it_took(rt: HostRuntime) {
-    all_went(&rt, first_wrong(&rt, REFUSED));
+    all_go(&rt, REFUSED);
 }

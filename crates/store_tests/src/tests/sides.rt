@@ -3,7 +3,7 @@
 ghost use Rattle.bw_store.specs.Views.{IsSoundBeside};
 
 use super::opening::Held;
-use super::readers::{is_taken, reads};
+use super::readers::is_taken;
 use bw_store::Reader;
 use std::sync::Wait;
 
@@ -16,14 +16,14 @@ pub(super) enum Side {
 
 #[derive(Clone, Copy)]
 pub(super) enum Step {
+    /// No store does anything.
+    Rest,
     /// A store takes this value of `k`.
     Takes(Side, &'static [u8]),
     Flushes(Side),
-    /// The readers of the left and the right store see these values of `k`; of no bytes, none.
-    See(&'static [u8], &'static [u8]),
 }
 
-use Step::{Flushes, See, Takes};
+use Step::{Flushes, Takes};
 
 /// A store and its reader.
 pub(super) struct Sided {
@@ -41,14 +41,6 @@ pub(super) fn goes<R: Wait>(rt: &R, sided: &mut Sided, side: Side, step: &Step) 
             is_taken(&mut sided.opened.store, &mut sided.opened.feeds, *value)
         }
         Flushes(of) if *of == side => sided.opened.store.flush(rt).is_ok(),
-        _ => true,
-    }
-}
-
-/// Whether the readers see as told.
-pub(super) fn see(left: &mut Reader, right: &mut Reader, step: &Step) -> bool {
-    match step {
-        See(one, other) => reads(left, *one) & reads(right, *other),
         _ => true,
     }
 }

@@ -3,8 +3,7 @@
 use super::boxes::worn;
 use super::steps::Step;
 use super::steps::Step::{Live, Page, Put, Refused, Roll, Stands, Turn};
-use super::telling::all_went;
-use super::walking::{Stand, first_wrong};
+use super::walking::{Stand, Tables, all_go};
 use bw_care::{RecoverCause, recover};
 use bw_store::StoreFault;
 use std::alloc::Global;
@@ -62,17 +61,17 @@ const ONE_WORN_SPARE: &[Step] = &[
     Stands(0, 1),
 ];
 
-const TABLES: &[(Stand, &[Step])] = &[
-    (Stand::Bytes(&[LAST_SEGMENT]), NO_SEGMENT_LEFT),
-    (Stand::Last(&[LAST_SEGMENT]), NO_SPARE_LEFT),
-    (Stand::Last(&[GREATEST]), NO_FRAME_LEFT),
-    (Stand::Worn(1), NO_FAILURE_LEFT),
-    (Stand::Worn(0), ONE_WORN_SPARE),
+const TABLES: &[Tables] = &[
+    (Stand::Bytes(&[LAST_SEGMENT]), &[NO_SEGMENT_LEFT]),
+    (Stand::Last(&[LAST_SEGMENT]), &[NO_SPARE_LEFT]),
+    (Stand::Last(&[GREATEST]), &[NO_FRAME_LEFT]),
+    (Stand::Worn(1), &[NO_FAILURE_LEFT]),
+    (Stand::Worn(0), &[ONE_WORN_SPARE]),
 ];
 
 #[test]
 fn a_flush_tells_a_counter_at_its_greatest_value(rt: HostRuntime) {
-    all_went(&rt, first_wrong(&rt, TABLES));
+    all_go(&rt, TABLES);
 }
 
 // Whether a recovery of these bytes in a box that is not asked is refused, and all three come back.

@@ -4,10 +4,11 @@ ghost use Rattle.std.specs.Prelude.{◌≡◌, ◌<◌, length, map};
 ghost use Rattle.bw_ring.specs.Ends.{ring_of_feed};
 ghost use Rattle.bw_store.specs.Views.{kept_by, kept_beside, IsSound, IsSoundBeside};
 ghost use Rattle.bw_store.specs.Following.{Follows};
+ghost use Rattle.store_tests.specs.Views.{AreItsFeeds};
 
 use super::asking::{are_bytes, has, is_history, is_page, is_unread};
 use super::opening::Held;
-use super::putting::{Op, are_put, are_same, is_grouped, is_put, record};
+use super::putting::{Op, are_each_put, are_put, are_same, is_grouped, is_put, record};
 use super::reading::reads;
 use bw_device::Segment;
 use bw_ring::Feed;
@@ -19,11 +20,19 @@ use std::sync::Wait;
 pub(super) enum Step {
     /// A record of the first writer, taken and appended: its key, its value, and the frame.
     Frame(&'static [u8], &'static [u8], u64),
+    /// These records of the first writer, each taken and appended: the first of the frames.
+    Frames(u64, &'static [Op]),
+    /// The same, with each frame in a segment of its own.
+    Segments(u64, &'static [Op]),
+    /// A record of the first writer, taken: its key and its value.
+    Taken(&'static [u8], &'static [u8]),
     /// A put of a writer.
     Put(usize, &'static [u8], &'static [u8]),
     Del(usize, &'static [u8]),
     /// A put that finds no place.
     Full(usize, &'static [u8], &'static [u8]),
+    /// These records of a writer, each put by itself.
+    Each(usize, &'static [Op]),
     /// So many puts of a writer, each of its number.
     Puts(usize, u32),
     /// So many puts of a key by a writer, each with a value of so many bytes.
@@ -52,6 +61,8 @@ pub(super) enum Step {
     Rewrite(&'static [u32], Result<u64, StoreFault>),
     /// A page; no text where there is none.
     Page(u32, &'static str),
+    /// So many pages, from page 1 on.
+    Pages(&'static [&'static str]),
     /// A page is not read.
     Unread(u32, StoreFault),
     /// A page leaves memory, or stays, or there is none.
@@ -62,6 +73,8 @@ pub(super) enum Step {
     Reads(u32),
     /// The number, lease and length of a live segment, from 0.
     Live(u32, u64, u32, u64),
+    /// The same of so many live segments, from the first on.
+    Lives(&'static [(u64, u32, u64)]),
     /// The bytes of a live segment, as hex.
     Bytes(u64, &'static str),
     History(&'static str),
@@ -88,9 +101,10 @@ pub(super) enum Step {
 }
 
 use Step::{
-    Add, Bytes, Clean, Count, Counts, Cuts, Del, Evict, Flush, Forget, Frame, Full, FullGroup, Get,
-    Group, History, Live, Needed, NotUpgraded, Page, Pays, Put, Puts, Reads, Receipt, Refused,
-    Rewrite, Roll, Same, Settle, Stands, Stops, Turn, Uncleaned, Unread, Unsettled, Upgrade, Walk,
+    Add, Bytes, Clean, Count, Counts, Cuts, Del, Each, Evict, Flush, Forget, Frame, Frames, Full,
+    FullGroup, Get, Group, History, Live, Lives, Needed, NotUpgraded, Page, Pages, Pays, Put, Puts,
+    Reads, Receipt, Refused, Rewrite, Roll, Same, Segments, Settle, Stands, Stops, Taken, Turn,
+    Uncleaned, Unread, Unsettled, Upgrade, Walk,
 };
 
 fn are_cuts(cuts: &[u64], told: &[u64]) -> bool {
@@ -150,6 +164,7 @@ fn puts(feeds: &mut Vec<Feed>, step: &Step) -> bool
             puts_one(feeds, *writer, *key, Some(*value), false)
         }
         Del(writer, key) if *writer < count => puts_one(feeds, *writer, *key, None, true),
+        Each(writer, ops) if *writer < count => are_each_put(feeds, *writer, *ops),
         Puts(writer, many) if *writer < count => are_put(feeds, *writer, *many),
         Same(writer, key, many, size) if *writer < count => {
             are_same(feeds, *writer, *key, *many, *size)
@@ -160,6 +175,34 @@ fn puts(feeds: &mut Vec<Feed>, step: &Step) -> bool
     }
 }
 
+// Whether the live segments, from the first on, have these numbers, leases and lengths.
+fn lives(store: &Store, told: &[(u64, u32, u64)]) -> bool
+    requires { IsSound store.now holding }
+{
+    for (i, live) in told.iter().enumerate() {
+        if store.live_segment(i as u32) != Some(*live) {
+            return false;
+        }
+    }
+    true
+}
+
+// Whether the pages from page 1 on are so.
+fn are_pages(store: &mut Store, texts: &[&'static str]) -> bool
+    requires { IsSound store.old holding }
+    ensures sound { IsSound store.new holding }
+    ensures rings { (kept_by store.new holding).rings ≡ (kept_by store.old holding).rings }
+{
+    let mut page: u32 = 0;
+    'pages: for text in texts {
+        page = page.saturating_add(1);
+        if !is_page(store, page, *text) {
+            return false;
+        }
+    }
+    true
+}
+
 // A step that only asks.
 fn answers(alloc: Global, store: &mut Store, step: &Step) -> bool
     requires { IsSound store.old holding }
@@ -168,6 +211,7 @@ fn answers(alloc: Global, store: &mut Store, step: &Step) -> bool
 {
     match step {
         Page(page, text) => is_page(store, *page, *text),
+        Pages(texts) => are_pages(store, *texts),
         Unread(page, fault) => is_unread(store, *page, *fault),
         Evict(page, told) => store.evict(*page) == *told,
         Get(key, value) => has(store, *key, *value),
@@ -175,6 +219,7 @@ fn answers(alloc: Global, store: &mut Store, step: &Step) -> bool
         Live(at, number, lease, length) => {
             store.live_segment(*at) == Some((*number, *lease, *length))
         }
+        Lives(told) => lives(store, *told),
         Bytes(segment, hex) => are_bytes(alloc, store, *segment, *hex),
         History(told) => is_history(store.history(), *told),
         Cuts(told, durable) => are_cuts(store.cuts(), *told) & (store.durable() == *durable),
@@ -196,37 +241,31 @@ fn changes<R: Wait>(rt: &R, store: &mut Store, step: &Step) -> bool
     ensures sound { IsSound store.new holding }
     ensures rings { (kept_by store.new holding).rings ≡ (kept_by store.old holding).rings }
 {
-    match step {
-        Turn(limit, taken) => takes(store, *limit, Ok(*taken)),
-        Stops(limit, taken, cause) => {
-            let told = TurnFault {
-                taken: *taken,
-                cause: *cause,
-            };
-            takes(store, *limit, Err(told))
-        }
-        Flush(frame) => store.flush(rt) == Ok(*frame),
-        Refused(fault) => store.flush(rt) == Err(*fault),
+    match *step {
+        Turn(limit, taken) => takes(store, limit, Ok(taken)),
+        Stops(limit, taken, cause) => takes(store, limit, Err(TurnFault { taken, cause })),
+        Flush(frame) => store.flush(rt) == Ok(frame),
+        Refused(fault) => store.flush(rt) == Err(fault),
         Clean(segment, lease, pages, frames) => {
-            let told = Cleaned {
-                segment: *segment,
-                lease: *lease,
-                pages: *pages,
-                frames: *frames,
-            };
-            store.clean(rt) == Ok(told)
+            store.clean(rt)
+                == Ok(Cleaned {
+                    segment,
+                    lease,
+                    pages,
+                    frames,
+                })
         }
-        Uncleaned(fault) => store.clean(rt) == Err(*fault),
+        Uncleaned(fault) => store.clean(rt) == Err(fault),
         Upgrade(segments, pages, frames) => {
-            let told = Upgraded {
-                segments: *segments,
-                pages: *pages,
-                frames: *frames,
-            };
-            store.upgrade(rt) == Ok(told)
+            store.upgrade(rt)
+                == Ok(Upgraded {
+                    segments,
+                    pages,
+                    frames,
+                })
         }
-        NotUpgraded(fault) => store.upgrade(rt) == Err(*fault),
-        Rewrite(pages, told) => store.rewrite(rt, *pages) == *told,
+        NotUpgraded(fault) => store.upgrade(rt) == Err(fault),
+        Rewrite(pages, told) => store.rewrite(rt, pages) == told,
         _ => {
             store.roll();
             true
@@ -234,40 +273,71 @@ fn changes<R: Wait>(rt: &R, store: &mut Store, step: &Step) -> bool
     }
 }
 
-// Whether a record is put by the first writer, taken, and appended as the frame that is told.
-fn frames<R: Wait>(rt: &R, opened: &mut Held, key: &[u8], value: &[u8], told: u64) -> bool
+// Whether a record is put by the first writer, and taken.
+fn is_taken(opened: &mut Held, key: &[u8], value: &[u8]) -> bool
     requires sound { IsSoundBeside opened.old.store holding }
-    requires feeds { map ring_of_feed opened.old.feeds.items
-        ≡ (kept_beside opened.old.store holding).rings }
+    requires feeds { AreItsFeeds opened.old.feeds.items opened.old.store holding }
     ensures sound { IsSoundBeside opened.new.store holding }
-    ensures feeds { map ring_of_feed opened.new.feeds.items
-        ≡ (kept_beside opened.new.store holding).rings }
+    ensures feeds { AreItsFeeds opened.new.feeds.items opened.new.store holding }
 {
     if opened.feeds.is_empty() {
         return false;
     }
     let is_put = puts_one(&mut opened.feeds, 0, key, Some(value), true);
-    let is_taken = takes(&mut opened.store, 9, Ok(1));
-    is_put & is_taken & (opened.store.flush(rt) == Ok(Some(told)))
+    is_put & takes(&mut opened.store, 9, Ok(1))
+}
+
+// Whether it is then appended as the frame that is told.
+fn is_appended<R: Wait>(rt: &R, opened: &mut Held, key: &[u8], value: &[u8], told: u64) -> bool
+    requires sound { IsSoundBeside opened.old.store holding }
+    requires feeds { AreItsFeeds opened.old.feeds.items opened.old.store holding }
+    ensures sound { IsSoundBeside opened.new.store holding }
+    ensures feeds { AreItsFeeds opened.new.feeds.items opened.new.store holding }
+{
+    let is_taken = is_taken(opened, key, value);
+    is_taken & (opened.store.flush(rt) == Ok(Some(told)))
+}
+
+// Whether each of these records is, from the frame that is told on; with each in a segment of its
+// own, or not.
+fn are_appended<R: Wait>(rt: &R, opened: &mut Held, ops: &[Op], told: u64, apart: bool) -> bool
+    requires sound { IsSoundBeside opened.old.store holding }
+    requires feeds { AreItsFeeds opened.old.feeds.items opened.old.store holding }
+    ensures sound { IsSoundBeside opened.new.store holding }
+    ensures feeds { AreItsFeeds opened.new.feeds.items opened.new.store holding }
+{
+    'records: for (i, op) in ops.iter().enumerate() {
+        let Op::Set(key, value) = op else {
+            return false;
+        };
+        if apart & (i > 0) {
+            opened.store.roll();
+        }
+        if !is_appended(rt, opened, *key, *value, told.saturating_add(i as u64)) {
+            return false;
+        }
+    }
+    true
 }
 
 /// Whether the step goes as told.
 pub(super) fn goes<R: Wait>(rt: &R, alloc: Global, opened: &mut Held, step: &Step) -> bool
     requires sound { IsSoundBeside opened.old.store holding }
-    requires feeds { map ring_of_feed opened.old.feeds.items
-        ≡ (kept_beside opened.old.store holding).rings }
+    requires feeds { AreItsFeeds opened.old.feeds.items opened.old.store holding }
     ensures sound { IsSoundBeside opened.new.store holding }
-    ensures feeds { map ring_of_feed opened.new.feeds.items
-        ≡ (kept_beside opened.new.store holding).rings }
+    ensures feeds { AreItsFeeds opened.new.feeds.items opened.new.store holding }
 {
     match step {
         Put(..) | Del(..) | Full(..) | Puts(..) => puts(&mut opened.feeds, step),
-        Same(..) | Group(..) | FullGroup(..) => puts(&mut opened.feeds, step),
+        Each(..) | Same(..) | Group(..) | FullGroup(..) => puts(&mut opened.feeds, step),
         Turn(..) | Stops(..) | Flush(..) | Refused(..) | Clean(..) | Uncleaned(..) | Roll => {
             changes(rt, &mut opened.store, step)
         }
         Upgrade(..) | NotUpgraded(..) | Rewrite(..) => changes(rt, &mut opened.store, step),
-        Frame(key, value, told) => frames(rt, opened, *key, *value, *told),
+        Taken(key, value) => is_taken(opened, *key, *value),
+        Frame(key, value, told) => is_appended(rt, opened, *key, *value, *told),
+        Frames(told, ops) => are_appended(rt, opened, *ops, *told, false),
+        Segments(told, ops) => are_appended(rt, opened, *ops, *told, true),
         Settle(count) => opened.store.settle(rt, &mut opened.feeds) == Ok(*count),
         Unsettled(fault) => opened.store.settle(rt, &mut opened.feeds) == Err(*fault),
         Add => is_added(&mut opened.store, &mut opened.more),

@@ -1,14 +1,14 @@
 //! Of two scripts each append fails in turn, and keeps each number of bytes that it may; and each read
 //! fails in turn.
 
-ghost use Rattle.std.specs.Prelude.{◌≡◌, map};
-ghost use Rattle.bw_ring.specs.Ends.{ring_of_feed};
-ghost use Rattle.bw_store.specs.Views.{kept_beside, IsSoundBeside};
+ghost use Rattle.bw_store.specs.Views.{IsSoundBeside};
+ghost use Rattle.store_tests.specs.Views.{AreItsFeeds};
 
-use super::boxes::{LEAST, Row, Supply, dying, supplied};
+use super::boxes::{Supply, dying, fused, supplied};
 use super::cutting::THREE;
 use super::opening::{Held, config_of, opened, shut};
-use super::steps::Step::{Clean, Evict, Frame, Get, Page, Put, Turn};
+use super::putting::FIVE;
+use super::steps::Step::{Clean, Evict, Frame, Frames, Get, Page, Put, Turn};
 use super::steps::{Step, goes};
 use super::telling::{all_went, holds};
 use super::walking::{lives_on, wrong_step};
@@ -16,13 +16,7 @@ use bw_care::{RecoverCause, recover};
 use std::sync::Wait;
 
 /// Five records, a frame each; the last one cuts its page.
-const FIVE: &[Step] = &[
-    Frame(b"a", b"1", 1),
-    Frame(b"b", b"2", 2),
-    Frame(b"c", b"3", 3),
-    Frame(b"d", b"4", 4),
-    Frame(b"e", b"5", 5),
-];
+const FIVE_FRAMES: &[Step] = &[Frames(1, FIVE)];
 
 /// Two of three segments are given up.
 const CLEANED: &[Step] = &[Clean(1, 0, 1, 1), Clean(2, 1, 0, 0), Page(1, "1 : j=2 k=3")];
@@ -32,27 +26,30 @@ const CLEANED: &[Step] = &[Clean(1, 0, 1, 1), Clean(2, 1, 0, 0), Page(1, "1 : j=
 #[derive(Drop)]
 struct Append(u32, u64, u64, usize, usize);
 
+/// Appends of a box, one after the other: its lease, how many of its calls come before the first, and
+/// how many frames are whole before it; then of each its length, and how many are whole behind it.
+#[derive(Drop)]
+struct Appends(u32, u64, usize, &'static [(u64, usize)]);
+
 /// A script in two parts, its appends, and for each frame what a store shows that goes on behind it.
 #[derive(Drop)]
 struct Course {
     steps: &'static [Step],
     then: &'static [Step],
-    appends: &'static [Append],
+    appends: &'static [Appends],
     shown: &'static [&'static [Step]],
 }
 
 const COURSES: &[Course] = &[
     Course {
-        steps: FIVE,
+        steps: FIVE_FRAMES,
         then: &[],
-        appends: &[
-            Append(0, 0, 24, 0, 0),
-            Append(0, 1, 53, 0, 1),
-            Append(0, 2, 45, 1, 2),
-            Append(0, 3, 45, 2, 3),
-            Append(0, 4, 45, 3, 4),
-            Append(0, 5, 85, 4, 5),
-        ],
+        appends: &[Appends(
+            0,
+            0,
+            0,
+            &[(24, 0), (53, 1), (45, 2), (45, 3), (45, 4), (85, 5)],
+        )],
         shown: &[
             &[Page(1, "1 : a=1"), Frame(b"z", b"9", 2)],
             &[Page(1, "1 : a=1 b=2"), Frame(b"z", b"9", 3)],
@@ -73,14 +70,11 @@ const COURSES: &[Course] = &[
         steps: THREE,
         then: CLEANED,
         appends: &[
-            Append(0, 0, 24, 0, 0),
-            Append(0, 1, 53, 0, 1),
-            Append(1, 0, 24, 1, 1),
-            Append(1, 1, 45, 1, 2),
-            Append(2, 0, 24, 2, 2),
-            Append(2, 1, 45, 2, 3),
+            Appends(0, 0, 0, &[(24, 0), (53, 1)]),
+            Appends(1, 0, 1, &[(24, 1), (45, 2)]),
+            Appends(2, 0, 2, &[(24, 2), (45, 3)]),
             // The cleaner has read the box once by then.
-            Append(2, 3, 38, 3, 4),
+            Appends(2, 3, 3, &[(38, 4)]),
         ],
         shown: &[
             &[Page(1, "1 : k=1"), Frame(b"z", b"9", 2)],
@@ -94,8 +88,7 @@ const COURSES: &[Course] = &[
 // Whether a step of the script goes otherwise.
 fn is_wrong<R: AllocGlobal + Wait>(rt: &R, held: &mut Held, course: &Course) -> bool
     requires sound { IsSoundBeside held.old.store holding }
-    requires feeds { map ring_of_feed held.old.feeds.items
-        ≡ (kept_beside held.old.store holding).rings }
+    requires feeds { AreItsFeeds held.old.feeds.items held.old.store holding }
     ensures { IsSoundBeside held.new.store holding }
 {
     if wrong_step(rt, held, course.steps).is_some() {
@@ -127,13 +120,7 @@ fn finds_nothing<R: AllocGlobal>(rt: &R, supply: Supply) -> bool {
 // are whole, and goes on.
 fn is_found<R: AllocGlobal + Wait>(rt: &R, course: &Course, append: &Append, keep: u64) -> bool {
     let Append(lease, calls, length, torn, whole) = append;
-    let row = Row {
-        boxes: *lease,
-        fuse: Some((*calls, keep)),
-        behind: 5u32.saturating_sub(*lease),
-        more: 0,
-        capacity: LEAST,
-    };
+    let row = fused(*lease, (*calls, keep), 5u32.saturating_sub(*lease));
     let Some(mut supply) = supplied(rt.alloc(), &row) else {
         return false;
     };
@@ -175,13 +162,28 @@ fn is_dead<R: AllocGlobal + Wait>(rt: &R, course: &Course, append: &Append, keep
     }
 }
 
-// The first of a course's appends that went otherwise with some number of bytes kept.
+// Whether an append goes as told with each number of bytes kept.
+fn goes_well<R: AllocGlobal + Wait>(rt: &R, course: &Course, append: &Append) -> bool {
+    for keep in 0..=append.2 {
+        if !is_found(rt, course, append, keep) || !is_dead(rt, course, append, keep) {
+            return false;
+        }
+    }
+    true
+}
+
+// The first of a course's appends that does not.
 fn wrong_append<R: AllocGlobal + Wait>(rt: &R, course: &Course) -> Option<usize> {
-    for (i, append) in course.appends.iter().enumerate() {
-        for keep in 0..=append.2 {
-            if !is_found(rt, course, append, keep) || !is_dead(rt, course, append, keep) {
-                return Some(i);
+    let mut count: usize = 0;
+    for Appends(lease, first, before, each) in course.appends {
+        let mut calls = *first;
+        let mut torn = *before;
+        for (length, whole) in *each {
+            if !goes_well(rt, course, &Append(*lease, calls, *length, torn, *whole)) {
+                return Some(count);
             }
+            (calls, torn) = (calls.saturating_add(1), *whole);
+            count = count.saturating_add(1);
         }
     }
     None
@@ -218,8 +220,7 @@ const AWAY: &[Step] = &[
 // How many steps went otherwise once, and then as told; none where one went so twice.
 fn retried<R: AllocGlobal + Wait>(rt: &R, held: &mut Held, steps: &[Step]) -> Option<usize>
     requires sound { IsSoundBeside held.old.store holding }
-    requires feeds { map ring_of_feed held.old.feeds.items
-        ≡ (kept_beside held.old.store holding).rings }
+    requires feeds { AreItsFeeds held.old.feeds.items held.old.store holding }
     ensures { IsSoundBeside held.new.store holding }
 {
     let mut again: usize = 0;
@@ -243,14 +244,7 @@ fn twice<R: AllocGlobal + Wait>(
     steps: &[Step],
     last: &[Step],
 ) -> Option<usize> {
-    let row = Row {
-        boxes: 0,
-        fuse: Some((calls, 0)),
-        behind: 5,
-        more: 0,
-        capacity: LEAST,
-    };
-    let mut supply = supplied(rt.alloc(), &row)?;
+    let mut supply = supplied(rt.alloc(), &fused(0, (calls, 0), 5))?;
     let mut held = opened(rt, &config_of(2, 8, 1), &mut supply)?;
     let went = wrong_step(rt, &mut held, steps).is_none();
     let again = retried(rt, &mut held, last);
@@ -279,6 +273,6 @@ fn fail_in_turn<R: AllocGlobal + Wait>(
 
 #[test]
 fn each_read_fails_in_turn(rt: HostRuntime) {
-    holds(&rt, fail_in_turn(&rt, 6, 4, FIVE, AWAY));
+    holds(&rt, fail_in_turn(&rt, 6, 4, FIVE_FRAMES, AWAY));
     holds(&rt, fail_in_turn(&rt, 2, 1, THREE, CLEANED));
 }

@@ -2,11 +2,13 @@
 
 ghost use Rattle.std.specs.Prelude.{◌≡◌, ◌++◌, ◌∷◌, [], map, IfSome};
 ghost use Rattle.bw_ring.specs.Ends.{ring_of_feed};
-ghost use Rattle.bw_store.specs.Views.{kept_by, kept_beside, IsSound, IsSoundBeside};
+ghost use Rattle.bw_store.specs.Views.{kept_by, IsSound, IsSoundBeside};
 ghost use Rattle.bw_store.specs.Following.{Follows};
+ghost use Rattle.store_tests.specs.Views.{AreItsFeeds};
 
-use super::boxes::{plain, supplied};
-use super::opening::{Held, config_of, opened, shut};
+use super::boxes::plain;
+use super::cases::{Case, over};
+use super::opening::{Held, config_of};
 use super::putting::numbered;
 use super::telling::holds;
 use bw_ring::Feed;
@@ -172,11 +174,10 @@ fn are_scripts(entries: &[PackedEntry]) -> bool {
     next == [RECORDS; 4]
 }
 
-// Whether all that four writers put meanwhile is settled, each writer's records in order.
-fn are_settled<R: Threads + Wait>(rt: &R, opened: &mut Held) -> bool
+/// Whether all that four writers put meanwhile is settled, each writer's records in order.
+pub(super) fn are_settled<R: Threads + Wait>(rt: &R, opened: &mut Held) -> bool
     requires sound { IsSoundBeside opened.old.store holding }
-    requires feeds { map ring_of_feed opened.old.feeds.items
-        ≡ (kept_beside opened.old.store holding).rings }
+    requires feeds { AreItsFeeds opened.old.feeds.items opened.old.store holding }
     ensures { IsSoundBeside opened.new.store holding }
 {
     let Some(later) = two_leave(rt, &mut opened.feeds, (b'd', b'c')) else {
@@ -195,19 +196,8 @@ fn are_settled<R: Threads + Wait>(rt: &R, opened: &mut Held) -> bool
     opened.store.settle(rt, &mut opened.feeds) == Ok(4000) && are_scripts(opened.store.history())
 }
 
-fn go_meanwhile<R: AllocGlobal + Threads + Wait>(rt: &R) -> bool {
-    let Some(mut supply) = supplied(rt.alloc(), &plain(40, 0)) else {
-        return false;
-    };
-    let Some(mut opened) = opened(rt, &config_of(4, 256, 1), &mut supply) else {
-        return false;
-    };
-    let settled = are_settled(rt, &mut opened);
-    let _ = shut(rt, opened, &mut supply);
-    settled
-}
-
 #[test]
 fn four_writers_in_threads_are_settled(rt: HostRuntime) {
-    holds(&rt, go_meanwhile(&rt));
+    let went = over(&rt, &plain(40, 0), &config_of(4, 256, 1), &Case::Writers);
+    holds(&rt, went == Some(true));
 }

@@ -1,12 +1,12 @@
 //! Turns and flushes: the tables.
 
+use super::putting::{FIVE, TWO};
 use super::steps::Step;
 use super::steps::Step::{
-    Add, Bytes, Cuts, Flush, Frame, Get, History, Live, Page, Put, Refused, Roll, Stands, Stops,
-    Turn, Unsettled,
+    Add, Bytes, Cuts, Each, Flush, Frame, Frames, Get, History, Live, Page, Pages, Put, Refused,
+    Roll, Stands, Stops, Turn, Unsettled,
 };
-use super::telling::all_went;
-use super::walking::{Stand, first_wrong};
+use super::walking::{Stand, Tables, all_go};
 use bw_store::StoreFault;
 use test_vectors::{FIRST, JOINED, SECOND, TWO_JOINED};
 
@@ -22,16 +22,10 @@ const ONE_FRAME: &[Step] = &[
 ];
 
 const FIVE_FRAMES: &[Step] = &[
-    Frame(b"a", b"1", 1),
-    Frame(b"b", b"2", 2),
-    Frame(b"c", b"3", 3),
-    Frame(b"d", b"4", 4),
-    Frame(b"e", b"5", 5),
+    Frames(1, FIVE),
     Bytes(1, SECOND),
     Cuts(&[1, 2, 3, 4, 5], 5),
-    Page(1, "1 : a=1 b=2"),
-    Page(2, "2 c: c=3 d=4 e=5"),
-    Page(3, ""),
+    Pages(&["1 : a=1 b=2", "2 c: c=3 d=4 e=5", ""]),
     Page(0, ""),
     Live(0, 1, 0, 297),
     Stands(1, 3),
@@ -39,16 +33,14 @@ const FIVE_FRAMES: &[Step] = &[
     Put(0, b"c", b"7"),
     Turn(9, 2),
     Flush(Some(6)),
-    Page(1, "1 : a=1 b=2 bz=6"),
-    Page(2, "2 c: c=7 d=4 e=5"),
+    Pages(&["1 : a=1 b=2 bz=6", "2 c: c=7 d=4 e=5"]),
     Get(b"c", b"7"),
     Get(b"x", b""),
 ];
 
 /// A record joins the Delta of its page in the frame in the making.
 const ONE_DELTA: &[Step] = &[
-    Put(0, b"a", b"1"),
-    Put(0, b"b", b"2"),
+    Each(0, TWO),
     Turn(9, 2),
     Flush(Some(1)),
     Bytes(1, TWO_JOINED),
@@ -57,34 +49,24 @@ const ONE_DELTA: &[Step] = &[
 ];
 
 /// A page is cut behind five records of one Delta.
-const FIVE: &[Step] = &[
-    Put(0, b"a", b"1"),
-    Put(0, b"b", b"2"),
-    Put(0, b"c", b"3"),
-    Put(0, b"d", b"4"),
-    Put(0, b"e", b"5"),
+const CUT: &[Step] = &[
+    Each(0, FIVE),
     Turn(9, 5),
     Flush(Some(1)),
     Live(0, 1, 0, 141),
     Stands(1, 3),
-    Page(1, "1 : a=1 b=2"),
-    Page(2, "2 c: c=3 d=4 e=5"),
+    Pages(&["1 : a=1 b=2", "2 c: c=3 d=4 e=5"]),
 ];
 
 /// And a record more of that page joins no Delta over the Split.
 const SIX: &[Step] = &[
-    Put(0, b"a", b"1"),
-    Put(0, b"b", b"2"),
-    Put(0, b"c", b"3"),
-    Put(0, b"d", b"4"),
-    Put(0, b"e", b"5"),
+    Each(0, FIVE),
     Put(0, b"bz", b"6"),
     Turn(9, 6),
     Flush(Some(1)),
     Bytes(1, JOINED),
     Live(0, 1, 0, 167),
-    Page(1, "1 : a=1 b=2 bz=6"),
-    Page(2, "2 c: c=3 d=4 e=5"),
+    Pages(&["1 : a=1 b=2 bz=6", "2 c: c=3 d=4 e=5"]),
 ];
 
 /// An empty store has its first page to append.
@@ -113,8 +95,7 @@ const WRITERS: &[Step] = &[
 const LIMITS: &[Step] = &[
     Turn(0, 0),
     Turn(3, 0),
-    Put(0, b"a", b"1"),
-    Put(0, b"b", b"2"),
+    Each(0, TWO),
     Put(0, b"c", b"3"),
     Turn(0, 0),
     Turn(1, 1),
@@ -148,7 +129,7 @@ const ROLLED: &[Step] = &[
 ];
 
 /// The append of the frame fails: the cut stays, nothing is durable, and no more is taken.
-const FAILED: &[Step] = &[
+pub(super) const FAILED: &[Step] = &[
     Put(0, b"k", b"v"),
     Turn(1, 1),
     Refused(StoreFault::Device { lease: 0 }),
@@ -164,31 +145,33 @@ const FAILED: &[Step] = &[
     Get(b"j", b""),
 ];
 
-const TABLES: &[(Stand, &[Step])] = &[
-    (Stand::Boxes(4, 8), ONE_FRAME),
-    (Stand::Boxes(4, 8), FIVE_FRAMES),
-    (Stand::Boxes(4, 8), ONE_DELTA),
-    (Stand::Boxes(4, 8), FIVE),
-    (Stand::Boxes(4, 8), SIX),
-    (Stand::Boxes(4, 8), EMPTY),
-    (Stand::Boxes(4, 8), WRITERS),
-    (Stand::Boxes(4, 8), LIMITS),
-    (Stand::Boxes(1, 8), NO_SPARE),
-    (Stand::Boxes(4, 8), ROLLED),
+const TABLES: &[Tables] = &[
+    (
+        Stand::Boxes(4, 8),
+        &[
+            ONE_FRAME,
+            FIVE_FRAMES,
+            ONE_DELTA,
+            CUT,
+            SIX,
+            EMPTY,
+            WRITERS,
+            LIMITS,
+            ROLLED,
+        ],
+    ),
+    (Stand::Boxes(1, 8), &[NO_SPARE]),
 ];
 
 #[test]
 fn turns_and_flushes_go_as_told(rt: HostRuntime) {
-    all_went(&rt, first_wrong(&rt, TABLES));
+    all_go(&rt, TABLES);
 }
 
 /// The append of a header fails, or that of a frame.
-const FAILS: &[(Stand, &[Step])] = &[
-    (Stand::Fuse(0, 0, (0, 54)), FAILED),
-    (Stand::Fuse(0, 1, (0, 54)), FAILED),
-];
+const FAILS: &[Tables] = &[(Stand::Fuse(0, (0, 1), (0, 54)), &[FAILED])];
 
 #[test]
 fn a_failed_append_of_a_header_or_a_frame_ends_the_store(rt: HostRuntime) {
-    all_went(&rt, first_wrong(&rt, FAILS));
+    all_go(&rt, FAILS);
 }

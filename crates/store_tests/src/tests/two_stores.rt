@@ -7,43 +7,41 @@ use super::boxes::{Supply, plain, supplied};
 use super::opening::{config_of, opened, shut};
 use super::readers::reads;
 use super::sides::Side::{Left, Right};
-use super::sides::Step::{Flushes, See, Takes};
-use super::sides::{Sided, Step, goes, see};
+use super::sides::Step::{Flushes, Rest, Takes};
+use super::sides::{Sided, Step, goes};
 use super::telling::went;
 use std::sync::Wait;
 
+/// A step, and the values of `k` that the readers of the left and the right store see behind it; of
+/// no bytes, none.
+type Seen = (Step, &'static [u8], &'static [u8]);
+
 /// What one store takes and flushes, its own reader sees and the other's does not.
-const STEPS: &[Step] = &[
-    See(b"", b""),
-    Takes(Left, b"1"),
-    Takes(Right, b"2"),
-    See(b"", b""),
-    Flushes(Left),
-    See(b"1", b""),
-    Flushes(Right),
-    See(b"1", b"2"),
-    Takes(Right, b"3"),
-    Takes(Left, b"4"),
-    See(b"1", b"2"),
-    Flushes(Right),
-    See(b"1", b"3"),
-    Flushes(Left),
-    See(b"4", b"3"),
-    Flushes(Right),
-    See(b"4", b"3"),
+const STEPS: &[Seen] = &[
+    (Rest, b"", b""),
+    (Takes(Left, b"1"), b"", b""),
+    (Takes(Right, b"2"), b"", b""),
+    (Flushes(Left), b"1", b""),
+    (Flushes(Right), b"1", b"2"),
+    (Takes(Right, b"3"), b"1", b"2"),
+    (Takes(Left, b"4"), b"1", b"2"),
+    (Flushes(Right), b"1", b"3"),
+    (Flushes(Left), b"4", b"3"),
+    (Flushes(Right), b"4", b"3"),
 ];
 
-// Whether a step goes as told at both stores.
-fn go_both<R: Wait>(rt: &R, left: &mut Sided, right: &mut Sided, step: &Step) -> bool
+// Whether a step goes as told at both stores, and both readers see as told behind it.
+fn go_both<R: Wait>(rt: &R, left: &mut Sided, right: &mut Sided, seen: &Seen) -> bool
     requires left { IsSoundBeside left.old.opened.store holding }
     requires right { IsSoundBeside right.old.opened.store holding }
     ensures left { IsSoundBeside left.new.opened.store holding }
     ensures right { IsSoundBeside right.new.opened.store holding }
 {
+    let (step, one, other) = seen;
     let is_left = goes(rt, left, Left, step);
     let is_right = goes(rt, right, Right, step);
-    let is_seen = see(&mut left.reader, &mut right.reader, step);
-    is_left & is_right & is_seen
+    let are_seen = reads(&mut left.reader, *one) & reads(&mut right.reader, *other);
+    is_left & is_right & are_seen
 }
 
 // The first step that did not go as told.
@@ -53,8 +51,8 @@ fn wrong_step<R: Wait>(rt: &R, left: &mut Sided, right: &mut Sided) -> Option<us
     ensures left { IsSoundBeside left.new.opened.store holding }
     ensures right { IsSoundBeside right.new.opened.store holding }
 {
-    'steps: for (at, step) in STEPS.iter().enumerate() {
-        if !go_both(rt, left, right, step) {
+    'steps: for (at, seen) in STEPS.iter().enumerate() {
+        if !go_both(rt, left, right, seen) {
             return Some(at);
         }
     }

@@ -3,11 +3,11 @@
 use super::boxes::{Supply, maker_of};
 use super::steps::Step;
 use super::steps::Step::{
-    Add, Bytes, Clean, Counts, Cuts, Flush, Get, History, Live, NotUpgraded, Page, Put, Refused,
-    Settle, Stands, Turn, Upgrade,
+    Add, Bytes, Clean, Counts, Cuts, Flush, Get, History, Live, Lives, NotUpgraded, Page, Pages,
+    Put, Refused, Settle, Stands, Taken, Turn, Upgrade,
 };
-use super::telling::{all_went, went};
-use super::walking::{Stand, first_wrong, lives_on};
+use super::telling::went;
+use super::walking::{Stand, Tables, all_go, lives_on};
 use bw_device::Segment;
 use bw_store::{Counters, StoreFault};
 use std::alloc::Global;
@@ -36,8 +36,7 @@ const ONE: &[Step] = &[
 
 /// What waits is flushed before, into a segment of format 2.
 const WAITING: &[Step] = &[
-    Put(0, b"j", b"2"),
-    Turn(9, 1),
+    Taken(b"j", b"2"),
     Upgrade(1, 1, 1),
     Live(0, 2, 1, 107),
     Stands(1, 1),
@@ -50,8 +49,7 @@ const WAITING: &[Step] = &[
 /// What is counted: the flush before is none of the upgrade's. A header has 24 bytes, a frame 20
 /// around its blocks, a Delta of one put 25, an empty Base 8 and each of its pairs 5 here.
 const COUNTED: &[Step] = &[
-    Put(0, b"i", b"1"),
-    Turn(9, 1),
+    Taken(b"i", b"1"),
     Upgrade(2, 1, 1),
     Live(0, 4, 2, 112),
     Counts(Counters {
@@ -82,8 +80,7 @@ const CLEANED_BEFORE: &[Step] = &[
 /// Two pages of one segment.
 const TWO_PAGES: &[Step] = &[
     Upgrade(1, 2, 1),
-    Page(1, "1 : a=1 b=2"),
-    Page(2, "2 c: c=3 d=4 e=5"),
+    Pages(&["1 : a=1 b=2", "2 c: c=3 d=4 e=5"]),
     Put(0, b"f", b"6"),
     Settle(1),
     Page(2, "2 c: c=3 d=4 e=5 f=6"),
@@ -121,8 +118,7 @@ const BEHIND_BOTH: &[Step] = &[NotUpgraded(StoreFault::NothingOld), Page(1, "1 :
 
 /// What waits is not flushed where nothing is old.
 const NOTHING_OLD: &[Step] = &[
-    Put(0, b"j", b"w"),
-    Turn(9, 1),
+    Taken(b"j", b"w"),
     NotUpgraded(StoreFault::NothingOld),
     Cuts(&[], 0),
     Live(0, 1, 0, 77),
@@ -132,8 +128,7 @@ const NOTHING_OLD: &[Step] = &[
 
 /// One spare is not enough for a flush, and enough for an upgrade.
 const LAST_SPARE: &[Step] = &[
-    Put(0, b"j", b"2"),
-    Turn(9, 1),
+    Taken(b"j", b"2"),
     Refused(StoreFault::NoSegment),
     Upgrade(1, 1, 1),
     Stands(1, 0),
@@ -141,32 +136,29 @@ const LAST_SPARE: &[Step] = &[
     Cuts(&[1, 1], 2),
 ];
 
-const TABLES: &[(Stand, &[Step])] = &[
-    (Stand::Bytes(&[OLD_FIRST]), ONE),
-    (Stand::Bytes(&[OLD_FIRST]), WAITING),
-    (Stand::Bytes(&[OLD_FIRST]), CLEANED_BEFORE),
-    (Stand::Bytes(&[OLD_SECOND]), TWO_PAGES),
+const TABLES: &[Tables] = &[
+    (Stand::Bytes(&[OLD_FIRST]), &[ONE, WAITING, CLEANED_BEFORE]),
+    (Stand::Bytes(&[OLD_SECOND]), &[TWO_PAGES]),
     (
         Stand::Bytes(&[OLD_THIRD_OLDER, OLD_THIRD_NEWER]),
-        TWO_SEGMENTS,
+        &[TWO_SEGMENTS, COUNTED],
     ),
-    (Stand::Bytes(&[OLD_THIRD_OLDER, OLD_THIRD_NEWER]), COUNTED),
     (
         Stand::Bytes(&[OLD_THIRD_OLDER, OLD_THIRD_NEWER, UPGRADED_THIRD]),
-        BEFORE_THE_FIRST,
+        &[BEFORE_THE_FIRST],
     ),
     (
         Stand::Bytes(&[OLD_THIRD_NEWER, UPGRADED_THIRD]),
-        BEHIND_THE_FIRST,
+        &[BEHIND_THE_FIRST],
     ),
-    (Stand::Bytes(&[UPGRADED_THIRD]), BEHIND_BOTH),
-    (Stand::Bytes(&[FIRST]), NOTHING_OLD),
-    (Stand::Last(&[OLD_FIRST]), LAST_SPARE),
+    (Stand::Bytes(&[UPGRADED_THIRD]), &[BEHIND_BOTH]),
+    (Stand::Bytes(&[FIRST]), &[NOTHING_OLD]),
+    (Stand::Last(&[OLD_FIRST]), &[LAST_SPARE]),
 ];
 
 #[test]
 fn old_segments_are_given_up(rt: HostRuntime) {
-    all_went(&rt, first_wrong(&rt, TABLES));
+    all_go(&rt, TABLES);
 }
 
 // ---- more pages than a segment has room for
@@ -259,15 +251,12 @@ const TWICE: &[Step] = &[
     Stands(2, 1),
     NotUpgraded(StoreFault::NoSegment),
     Stands(3, 0),
-    Live(0, 1, 0, 64_488),
-    Live(1, 2, 1, 64_552),
-    Live(2, 3, 2, 64_732),
+    Lives(&[(1, 0, 64_488), (2, 1, 64_552), (3, 2, 64_732)]),
     Cuts(&[0], 1),
     Add,
     Upgrade(2, 76, 1),
     Stands(2, 0),
-    Live(0, 3, 2, 64_732),
-    Live(1, 4, 3, 64_796),
+    Lives(&[(3, 2, 64_732), (4, 3, 64_796)]),
     Cuts(&[0, 0], 2),
     NotUpgraded(StoreFault::NothingOld),
 ];

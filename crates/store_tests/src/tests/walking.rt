@@ -1,17 +1,19 @@
 //! Tables are walked.
 
-ghost use Rattle.std.specs.Prelude.{◌≡◌, map, IfSome};
+ghost use Rattle.std.specs.Prelude.{IfSome};
 ghost use Rattle.bw_care.specs.Found.{IsRecovered};
-ghost use Rattle.bw_ring.specs.Ends.{ring_of_feed};
-ghost use Rattle.bw_store.specs.Views.{kept_beside, IsSoundBeside};
+ghost use Rattle.bw_store.specs.Views.{IsSoundBeside};
+ghost use Rattle.store_tests.specs.Views.{AreItsFeeds};
 
-use super::boxes::{LEAST, Row, Supply, maker_of, plain, supplied, worn};
+use super::boxes::{LEAST, Row, Supply, fused, maker_of, plain, supplied, worn};
 use super::opening::{Held, config_of, opened, reopened, shut};
 use super::steps::{Step, goes};
+use super::telling::all_went;
 use bw_care::{Recovered, recover};
 use bw_device::Segment;
 use std::alloc::Global;
 use std::mem;
+use std::process::Abort;
 use std::sync::Wait;
 
 // The first step that did not go as told.
@@ -21,11 +23,9 @@ pub(super) fn wrong_step<R: AllocGlobal + Wait>(
     steps: &[Step],
 ) -> Option<usize>
     requires sound { IsSoundBeside opened.old.store holding }
-    requires feeds { map ring_of_feed opened.old.feeds.items
-        ≡ (kept_beside opened.old.store holding).rings }
+    requires feeds { AreItsFeeds opened.old.feeds.items opened.old.store holding }
     ensures sound { IsSoundBeside opened.new.store holding }
-    ensures feeds { map ring_of_feed opened.new.feeds.items
-        ≡ (kept_beside opened.new.store holding).rings }
+    ensures feeds { AreItsFeeds opened.new.feeds.items opened.new.store holding }
 {
     for (i, step) in steps.iter().enumerate() {
         if !goes(rt, rt.alloc(), opened, step) {
@@ -105,25 +105,22 @@ fn within<R: AllocGlobal + Wait>(
     }
 }
 
-// Over so many boxes, then one that fails after so many calls and keeps, one time after the other,
-// each of these numbers of bytes (the least and the greatest), and a spare.
+// Over so many boxes, then one that fails, one time after the other, after each of these numbers of
+// calls and keeps each of these numbers of bytes (the least and the greatest), and a spare.
 fn over_fuses<R: AllocGlobal + Wait>(
     rt: &R,
     boxes: u32,
-    calls: u64,
+    calls: (u64, u64),
     keeps: (u64, u64),
     steps: &[Step],
 ) -> Option<usize> {
-    for keep in keeps.0..=keeps.1 {
-        let row = Row {
-            boxes,
-            fuse: Some((calls, keep)),
-            behind: 1,
-            more: 1,
-            capacity: LEAST,
-        };
-        if let Some(step) = within(rt, &row, 8, steps) {
-            return Some(step);
+    for first in calls.0..=calls.1 {
+        for keep in keeps.0..=keeps.1 {
+            let mut row = fused(boxes, (first, keep), 1);
+            row.more = 1;
+            if let Some(step) = within(rt, &row, 8, steps) {
+                return Some(step);
+            }
         }
     }
     None
@@ -169,10 +166,10 @@ fn over_worn<R: AllocGlobal + Wait>(rt: &R, behind: u32, steps: &[Step]) -> Opti
 pub(super) enum Stand {
     /// So many boxes, one more in reserve, and rings of so many places.
     Boxes(u32, usize),
-    /// So many boxes, then one that fails after so many calls and keeps, one time after the other,
-    /// each of these numbers of bytes of an append (the least and the greatest), a spare, and one
-    /// more in reserve.
-    Fuse(u32, u64, (u64, u64)),
+    /// So many boxes, then one that fails, one time after the other, after each of these numbers of
+    /// calls and keeps each of these numbers of bytes of an append (the least and the greatest), a
+    /// spare, and one more in reserve.
+    Fuse(u32, (u64, u64), (u64, u64)),
     /// A box for each of these texts in hex, in any order, and two spares: the store goes on from
     /// what is recovered.
     Bytes(&'static [&'static str]),
@@ -192,15 +189,24 @@ fn over<R: AllocGlobal + Wait>(rt: &R, stand: &Stand, steps: &[Step]) -> Option<
     }
 }
 
-/// The first table that went otherwise than told, and its step.
-pub(super) fn first_wrong<R: AllocGlobal + Wait>(
-    rt: &R,
-    tables: &[(Stand, &[Step])],
-) -> Option<(usize, usize)> {
-    for (i, (stand, steps)) in tables.iter().enumerate() {
-        if let Some(step) = over(rt, stand, *steps) {
-            return Some((i, step));
+/// Tables, and what the store of each of them stands over.
+pub(super) type Tables = (Stand, &'static [&'static [Step]]);
+
+// The first of the tables that went otherwise than told, and its step.
+fn first_wrong<R: AllocGlobal + Wait>(rt: &R, rows: &[Tables]) -> Option<(usize, usize)> {
+    let mut count: usize = 0;
+    for (stand, tables) in rows {
+        for steps in *tables {
+            if let Some(step) = over(rt, stand, *steps) {
+                return Some((count, step));
+            }
+            count = count.saturating_add(1);
         }
     }
     None
+}
+
+/// All tables go as told.
+pub(super) fn all_go<R: Abort + AllocGlobal + Wait>(rt: &R, rows: &[Tables]) {
+    all_went(rt, first_wrong(rt, rows));
 }

@@ -5,7 +5,7 @@ ghost use Rattle.std.specs.List.{AllByRecursion};
 ghost use Rattle.bw_codec.specs.Grammar.{IsBlock};
 
 use super::hex::{bytes_of, framed};
-use crate::tests::{self, all_went, went, wrong_row, wrong_table};
+use crate::tests::{self, tables_go, went};
 use bw_buffer::{Buffer, Mark, PutError};
 use bw_codec::limits::MIN_FRAME;
 use bw_codec::{Block, Blocks, Place, encode_block};
@@ -38,13 +38,18 @@ const SPLIT: &str = "46524d32 0500000000000000 41000000 02000000 \
 /// A head without blocks.
 const NONE: &str = "46524d32 0200000000000000 00000000 00000000";
 
+/// The place of the first block that is put, or the refusal.
+type Told = Result<(u64, u32), PutError>;
+
 /// One call, with what it has to answer.
 #[derive(Drop)]
 pub(super) enum Step {
     /// The blocks of a frame are put: the first one's place, or the refusal.
-    Put(&'static str, Result<(u64, u32), PutError>),
+    Put(&'static str, Told),
+    /// Those of several frames, one after the other, in frame 1: the index of the first of each.
+    Puts(&'static [(&'static str, u32)]),
     /// The first block of a frame, a Base, is copied as its bytes: its place, or the refusal.
-    Copy(&'static str, Result<(u64, u32), PutError>),
+    Copy(&'static str, Told),
     /// So many Deltas of one put, of a key and a value of so many bytes: of this page and of those
     /// behind it, one each.
     Spread(u8, u8, u16, u32),
@@ -75,7 +80,7 @@ pub(super) fn blocks_of(alloc: Global, hex: &str) -> Option<Blocks>
 }
 
 /// Whether a put was answered as told.
-fn is_told(answer: Result<Place, PutError>, told: Result<(u64, u32), PutError>) -> bool {
+fn is_told(answer: Result<Place, PutError>, told: Told) -> bool {
     match (answer, told) {
         (Ok(place), Ok((frame, index))) => place.frame == frame && place.index == index,
         (Err(error), Err(told)) => error == told,
@@ -83,12 +88,7 @@ fn is_told(answer: Result<Place, PutError>, told: Result<(u64, u32), PutError>) 
     }
 }
 
-fn puts(
-    alloc: Global,
-    buffer: &mut Buffer,
-    hex: &str,
-    told: Result<(u64, u32), PutError>,
-) -> Option<bool> {
+fn puts(alloc: Global, buffer: &mut Buffer, hex: &str, told: Told) -> Option<bool> {
     let blocks = blocks_of(alloc, hex)?;
     let before = (buffer.count(), buffer.room());
     let answer = buffer.put_all(blocks.as_slice());
@@ -96,12 +96,17 @@ fn puts(
     Some(is_told(answer, told) && stays)
 }
 
-fn copies(
-    alloc: Global,
-    buffer: &mut Buffer,
-    hex: &str,
-    told: Result<(u64, u32), PutError>,
-) -> Option<bool> {
+/// Whether those of each frame were put at this place in frame 1.
+fn puts_each(alloc: Global, buffer: &mut Buffer, frames: &[(&'static str, u32)]) -> Option<bool> {
+    for (hex, index) in frames {
+        if !puts(alloc, buffer, *hex, Ok((1, *index)))? {
+            return Some(false);
+        }
+    }
+    Some(true)
+}
+
+fn copies(alloc: Global, buffer: &mut Buffer, hex: &str, told: Told) -> Option<bool> {
     let blocks = blocks_of(alloc, hex)?;
     let [first, ..] = blocks.as_slice() else {
         return Some(false);
@@ -203,6 +208,7 @@ fn joins(buffer: &Buffer, page: u32, told: Option<(u64, u32)>) -> bool {
 fn goes(alloc: Global, buffer: &mut Buffer, step: &Step) -> Option<bool> {
     match step {
         Step::Put(hex, told) => puts(alloc, buffer, hex, *told),
+        Step::Puts(frames) => puts_each(alloc, buffer, *frames),
         Step::Copy(hex, told) => copies(alloc, buffer, hex, *told),
         Step::Spread(page, key, value, times) => {
             fills(alloc, buffer, (*page, 1), (*key, *value), *times)
@@ -343,38 +349,37 @@ const TABLES: &[&[Step]] = &[SEALED, COPIED, COPIED_TO_THE_END, FULL, WORKED];
 
 #[test]
 fn buffers_go_as_told(rt: HostRuntime) {
-    all_went(&rt, wrong_table(rt.alloc(), TABLES));
+    tables_go(&rt, TABLES);
 }
 
-/// A frame by its number.
-type Numbered = (u64, &'static str);
+/// Whether a new buffer of this number gives the bytes whose blocks it takes, and a second seal changes
+/// nothing.
+fn is_given(alloc: Global, number: u64, hex: &'static str) -> bool {
+    let steps = [
+        Step::Put(hex, Ok((number, 0))),
+        Step::Seal,
+        Step::Gives(hex),
+        Step::Seal,
+        Step::Gives(hex),
+    ];
+    wrong_step(alloc, number, &steps).is_none()
+}
 
-impl tests::Row for Numbered {
-    /// Whether a new buffer of this number gives the bytes whose blocks it takes, and a second seal
-    /// changes nothing.
-    fn goes(&self, alloc: Global) -> Option<bool> {
-        let (number, hex) = *self;
-        let steps = [
-            Step::Put(hex, Ok((number, 0))),
-            Step::Seal,
-            Step::Gives(hex),
-            Step::Seal,
-            Step::Gives(hex),
-        ];
-        Some(wrong_step(alloc, number, &steps).is_none())
+/// The first of these frames, from frame 1 on, that is not given.
+fn wrong_frame(alloc: Global, frames: &[&'static str]) -> Option<usize> {
+    for (i, hex) in frames.iter().enumerate() {
+        if !is_given(alloc, i as u64 + 1, *hex) {
+            return Some(i);
+        }
     }
+    None
 }
-
-const FRAMES: &[Numbered] = &[
-    (1, EMPTY),
-    (1, PUT_A),
-    (2, PUT_B),
-    (3, PUT_C),
-    (4, PUT_D),
-    (5, SPLIT),
-];
 
 #[test]
 fn frames_made_by_buffers_are_the_worked_bytes(rt: HostRuntime) {
-    went(&rt, wrong_row(rt.alloc(), FRAMES));
+    went(&rt, wrong_frame(rt.alloc(), &[EMPTY]));
+    went(
+        &rt,
+        wrong_frame(rt.alloc(), &[PUT_A, PUT_B, PUT_C, PUT_D, SPLIT]),
+    );
 }

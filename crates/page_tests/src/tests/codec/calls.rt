@@ -2,7 +2,7 @@
 
 use super::is_text;
 use super::told::{Kind, are_pairs, is_one, says};
-use crate::tests::{Row, all_hold, put, records, went, wrong_row};
+use crate::tests::{Row, all_hold, put, records, rows_go};
 use bw_buffer::PutError;
 use bw_codec::{
     Block, Blocks, CodecFault, Head, Header, Key, Leaf, LengthError, Low, Ops, Pair, Pairs, Place,
@@ -10,29 +10,43 @@ use bw_codec::{
 };
 use std::alloc::Global;
 
-/// A count of bytes, and whether a key and a value may have so many.
-type Length = (usize, bool, bool);
+/// What may have a count of bytes.
+enum May {
+    /// A key, and a value.
+    Both,
+    /// A value alone.
+    Value,
+    Neither,
+}
+
+/// A count of bytes, and what may have so many.
+type Length = (usize, May);
 
 impl Row for Length {
     fn goes(&self, _alloc: Global) -> Option<bool> {
         let all = [0x61; 513];
         let bytes = all.get(..self.0)?;
-        Some(Key::new(bytes).is_ok() == self.1 && Value::new(bytes).is_ok() == self.2)
+        let (key, value) = match self.1 {
+            May::Both => (true, true),
+            May::Value => (false, true),
+            May::Neither => (false, false),
+        };
+        Some(Key::new(bytes).is_ok() == key && Value::new(bytes).is_ok() == value)
     }
 }
 
 const LENGTHS: &[Length] = &[
-    (0, false, true),
-    (1, true, true),
-    (128, true, true),
-    (129, false, true),
-    (512, false, true),
-    (513, false, false),
+    (0, May::Value),
+    (1, May::Both),
+    (128, May::Both),
+    (129, May::Value),
+    (512, May::Value),
+    (513, May::Neither),
 ];
 
 #[test]
 fn keys_have_1_to_128_bytes_and_values_0_to_512(rt: HostRuntime) {
-    went(&rt, wrong_row(rt.alloc(), LENGTHS));
+    rows_go(&rt, LENGTHS);
 }
 
 /// A key and a value of these bytes.

@@ -4,7 +4,7 @@ ghost use Rattle.std.specs.Prelude.{◌≡◌, IfSome};
 ghost use Rattle.bw_ring.specs.Ends.{ring_of_feed, ring_of_lane, IsFeedOf};
 
 use super::rings::{group_of, holds, numbered, one_ring};
-use crate::tests::{Table, all_went, wrong_table};
+use crate::tests::{Table, tables_go};
 use bw_ring::{Feed, Full, FullGroup, Group, Lane};
 use std::alloc::Global;
 
@@ -244,5 +244,5 @@ const TABLES: &[OfPlaces] = &[
 
 #[test]
 fn ends_go_as_told(rt: HostRuntime) {
-    all_went(&rt, wrong_table(rt.alloc(), TABLES));
+    tables_go(&rt, TABLES);
 }

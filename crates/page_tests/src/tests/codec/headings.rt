@@ -1,7 +1,7 @@
 // What a segment begins with.
 
 use super::hex::changed;
-use crate::tests::{Row, went, wrong_row};
+use crate::tests::{Row, rows_go};
 use bw_codec::{Header, HeaderRead, read_header};
 use std::alloc::Global;
 use test_vectors::{FIRST, OLD_FIRST};
@@ -14,6 +14,36 @@ impl Row for Heading {
     fn goes(&self, alloc: Global) -> Option<bool> {
         let segment = changed(alloc, self.0, self.1, self.2)?;
         Some(read_header(segment.as_slice().get(..self.3)?) == self.4)
+    }
+}
+
+/// What the first segment of either format begins with then: its own header, a part of one, or none.
+#[derive(Clone, Copy)]
+enum Begun {
+    Whole,
+    Part,
+    Bad,
+}
+
+/// The byte at this index of either becomes this, and so many bytes are left; where it is not told, all.
+type InBoth = (usize, u8, Option<usize>, Begun);
+
+/// The heading of one of them, which has so many bytes and this header.
+fn heading_of(segment: &'static str, length: usize, header: Header, row: &InBoth) -> Heading {
+    let (at, to, left, begun) = *row;
+    let told = match begun {
+        Begun::Whole => HeaderRead::Whole(header),
+        Begun::Part => HeaderRead::Part,
+        Begun::Bad => HeaderRead::Bad,
+    };
+    (segment, at, to, left.unwrap_or(length), told)
+}
+
+impl Row for InBoth {
+    fn goes(&self, alloc: Global) -> Option<bool> {
+        let old = heading_of(OLD_FIRST, 76, HEADER, self);
+        let new = heading_of(FIRST, 77, NEW_HEADER, self);
+        Some(old.goes(alloc)? && new.goes(alloc)?)
     }
 }
 
@@ -31,46 +61,33 @@ const NEW_HEADER: Header = Header {
     f: 65_536,
 };
 
+const IN_BOTH: &[InBoth] = &[
+    (0, 0x42, None, Begun::Whole),
+    (0, 0x42, Some(24), Begun::Whole),
+    (0, 0x42, Some(23), Begun::Part),
+    (0, 0x42, Some(1), Begun::Part),
+    (0, 0x42, Some(0), Begun::Bad),
+    (0, 0x43, None, Begun::Bad),
+    (0, 0x43, Some(1), Begun::Bad),
+    // Segment 0, pages of 3 and of 33 pairs, a zero that is none.
+    (8, 0x00, None, Begun::Bad),
+    (16, 0x03, None, Begun::Bad),
+    (16, 0x21, None, Begun::Bad),
+    (18, 0x01, None, Begun::Bad),
+    // What follows the word is not looked at before all of it is there.
+    (8, 0x00, Some(23), Begun::Part),
+];
+
 const HEADINGS: &[Heading] = &[
-    (OLD_FIRST, 0, 0x42, 76, HeaderRead::Whole(HEADER)),
-    (OLD_FIRST, 0, 0x42, 24, HeaderRead::Whole(HEADER)),
-    (OLD_FIRST, 0, 0x42, 23, HeaderRead::Part),
-    (OLD_FIRST, 0, 0x42, 1, HeaderRead::Part),
-    (OLD_FIRST, 0, 0x42, 0, HeaderRead::Bad),
-    (OLD_FIRST, 0, 0x43, 76, HeaderRead::Bad),
-    (OLD_FIRST, 0, 0x43, 1, HeaderRead::Bad),
-    // Segment 0, pages of 3 and of 33 pairs, a zero that is none, frames of too few and too many bytes.
-    (OLD_FIRST, 8, 0x00, 76, HeaderRead::Bad),
-    (OLD_FIRST, 16, 0x03, 76, HeaderRead::Bad),
-    (OLD_FIRST, 16, 0x21, 76, HeaderRead::Bad),
-    (OLD_FIRST, 18, 0x01, 76, HeaderRead::Bad),
+    // Frames of too few and too many bytes.
     (OLD_FIRST, 21, 0x3f, 76, HeaderRead::Bad),
     (OLD_FIRST, 22, 0x01, 76, HeaderRead::Bad),
-    // What follows the word is not looked at before all of it is there.
-    (OLD_FIRST, 8, 0x00, 23, HeaderRead::Part),
+    (FIRST, 22, 0x00, 77, HeaderRead::Bad),
+    (FIRST, 22, 0x05, 77, HeaderRead::Bad),
     // The text of the other format, whose frames are longer, and one of none.
     (OLD_FIRST, 7, 0x32, 76, HeaderRead::Bad),
     (OLD_FIRST, 7, 0x32, 23, HeaderRead::Part),
     (OLD_FIRST, 7, 0x33, 8, HeaderRead::Bad),
-];
-
-const NEW_HEADINGS: &[Heading] = &[
-    (FIRST, 0, 0x42, 77, HeaderRead::Whole(NEW_HEADER)),
-    (FIRST, 0, 0x42, 24, HeaderRead::Whole(NEW_HEADER)),
-    (FIRST, 0, 0x42, 23, HeaderRead::Part),
-    (FIRST, 0, 0x42, 1, HeaderRead::Part),
-    (FIRST, 0, 0x42, 0, HeaderRead::Bad),
-    (FIRST, 0, 0x43, 77, HeaderRead::Bad),
-    (FIRST, 0, 0x43, 1, HeaderRead::Bad),
-    // Segment 0, pages of 3 and of 33 pairs, a zero that is none, frames of too few and too many bytes.
-    (FIRST, 8, 0x00, 77, HeaderRead::Bad),
-    (FIRST, 16, 0x03, 77, HeaderRead::Bad),
-    (FIRST, 16, 0x21, 77, HeaderRead::Bad),
-    (FIRST, 18, 0x01, 77, HeaderRead::Bad),
-    (FIRST, 22, 0x00, 77, HeaderRead::Bad),
-    (FIRST, 22, 0x05, 77, HeaderRead::Bad),
-    // What follows the word is not looked at before all of it is there.
-    (FIRST, 8, 0x00, 23, HeaderRead::Part),
     // The text of the other format: this limit of frames is lawful in both.
     (
         FIRST,
@@ -97,6 +114,6 @@ const NEW_HEADINGS: &[Heading] = &[
 
 #[test]
 fn a_header_cut_short_is_a_part_of_one(rt: HostRuntime) {
-    went(&rt, wrong_row(rt.alloc(), HEADINGS));
-    went(&rt, wrong_row(rt.alloc(), NEW_HEADINGS));
+    rows_go(&rt, IN_BOTH);
+    rows_go(&rt, HEADINGS);
 }

@@ -58,14 +58,26 @@ pub(crate) fn changed(alloc: Global, segment: &str, at: usize, to: u8) -> Option
     Some(bytes)
 }
 
-/// A body: what the digits in front spell, so many bytes `61`, and what the digits behind spell.
-pub(crate) fn body_of(alloc: Global, front: &str, many: u16, behind: &str) -> Option<Vec<u8>> {
+/// A body of this format: what the digits in front spell, a length in one byte or in two, so many bytes
+/// `61`, and what the digits behind spell.
+pub(crate) fn body_of(
+    alloc: Global,
+    version: u16,
+    ends: (&str, &str),
+    is_wide: bool,
+    many: u16,
+) -> Option<Vec<u8>> {
     let mut bytes = Vec::new(alloc);
-    spell(1, front, &mut bytes)?;
+    spell(version, ends.0, &mut bytes)?;
+    let [low, high] = many.to_le_bytes();
+    bytes.push(low).ok()?;
+    if is_wide {
+        bytes.push(high).ok()?;
+    }
     for _ in 0..many {
         bytes.push(b'a').ok()?;
     }
-    spell(1, behind, &mut bytes)?;
+    spell(version, ends.1, &mut bytes)?;
     Some(bytes)
 }
 

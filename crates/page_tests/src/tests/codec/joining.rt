@@ -2,7 +2,7 @@
 
 use super::buffers::{EMPTY, PUT_A, PUT_B, PUT_C, PUT_D, Step, blocks_of, spelled, walked};
 use super::hex::{bytes_of, framed};
-use crate::tests::{self, all_went, went, wrong_row, wrong_table};
+use crate::tests::{self, rows_go, tables_go};
 use bw_buffer::{Buffer, Mark, PutError};
 use bw_codec::limits::{MAX_FRAME, MIN_FRAME};
 use std::alloc::Global;
@@ -65,6 +65,9 @@ const APART: &str = "46524d32 0100000000000000 32000000 02000000 \
 const TOGETHER: &str = "46524d32 0100000000000000 1f000000 01000000 \
     01 01000000 0100000000000000 00000000 0200 01 01 61 0100 31 01 01 62 0100 32";
 
+/// The first four puts of page 1: the last three join the first.
+const FOUR_PUTS: &[(&str, u32)] = &[(PUT_A, 0), (PUT_B, 1), (PUT_C, 1), (PUT_D, 1)];
+
 /// A put joins the first one, behind an empty page.
 const JOINED: &[Step] = &[
     Step::Joins(1, None),
@@ -91,10 +94,7 @@ const JOINED: &[Step] = &[
 
 /// The page is cut behind five puts; a later put joins none of them, and is joined itself.
 const CUT_IN_ONE_FRAME: &[Step] = &[
-    Step::Put(PUT_A, Ok((1, 0))),
-    Step::Put(PUT_B, Ok((1, 1))),
-    Step::Put(PUT_C, Ok((1, 1))),
-    Step::Put(PUT_D, Ok((1, 1))),
+    Step::Puts(FOUR_PUTS),
     Step::Is(1, 2, 65465, false),
     Step::Put(FIFTH, Ok((1, 1))),
     Step::Is(1, 3, 65419, false),
@@ -105,23 +105,21 @@ const CUT_IN_ONE_FRAME: &[Step] = &[
     Step::Seal,
     Step::Gives(CUT),
     Step::Restart(1),
-    Step::Put(PUT_A, Ok((1, 0))),
-    Step::Put(PUT_B, Ok((1, 1))),
-    Step::Put(PUT_C, Ok((1, 1))),
-    Step::Put(PUT_D, Ok((1, 1))),
-    Step::Put(FIFTH, Ok((1, 1))),
-    Step::Put(LATER, Ok((1, 3))),
+    Step::Puts(FOUR_PUTS),
+    Step::Puts(&[(FIFTH, 1), (LATER, 3)]),
     Step::Joins(1, Some((1, 3))),
     Step::Is(1, 4, 65393, false),
     Step::Seal,
     Step::Gives(CUT_AND_CHANGED),
     Step::Restart(1),
-    Step::Put(PUT_A, Ok((1, 0))),
-    Step::Put(FIFTH, Ok((1, 1))),
-    Step::Put(SECOND_PAGE, Ok((1, 3))),
-    Step::Put(LATER, Ok((1, 4))),
-    Step::Put(SECOND_AGAIN, Ok((1, 3))),
-    Step::Put(PUT_B, Ok((1, 4))),
+    Step::Puts(&[
+        (PUT_A, 0),
+        (FIFTH, 1),
+        (SECOND_PAGE, 3),
+        (LATER, 4),
+        (SECOND_AGAIN, 3),
+        (PUT_B, 4),
+    ]),
     Step::Is(1, 5, 65374, false),
     Step::Seal,
     Step::Spells(6),
@@ -129,11 +127,9 @@ const CUT_IN_ONE_FRAME: &[Step] = &[
 
 /// No record joins over a Base of its page, which was given as a block or as its bytes.
 const SET_BETWEEN: &[Step] = &[
-    Step::Put(PUT_A, Ok((1, 0))),
-    Step::Put(EMPTY, Ok((1, 2))),
+    Step::Puts(&[(PUT_A, 0), (EMPTY, 2)]),
     Step::Joins(1, None),
-    Step::Put(PUT_B, Ok((1, 3))),
-    Step::Put(PUT_C, Ok((1, 3))),
+    Step::Puts(&[(PUT_B, 3), (PUT_C, 3)]),
     Step::Copy(EMPTY, Ok((1, 4))),
     Step::Joins(1, None),
     Step::Put(PUT_D, Ok((1, 5))),
@@ -144,11 +140,13 @@ const SET_BETWEEN: &[Step] = &[
 
 /// Records of two pages by turns: each joins the Delta of its page, in the order in which they came.
 const TURNS: &[Step] = &[
-    Step::Put(PUT_A, Ok((1, 0))),
-    Step::Put(SECOND_PAGE, Ok((1, 2))),
-    Step::Put(DELETE, Ok((1, 1))),
-    Step::Put(SECOND_AGAIN, Ok((1, 2))),
-    Step::Put(PUT_B, Ok((1, 1))),
+    Step::Puts(&[
+        (PUT_A, 0),
+        (SECOND_PAGE, 2),
+        (DELETE, 1),
+        (SECOND_AGAIN, 2),
+        (PUT_B, 1),
+    ]),
     Step::Is(1, 3, 65443, false),
     Step::Seal,
     Step::Gives(BY_TURNS),
@@ -213,7 +211,7 @@ const TABLES: &[&[Step]] = &[
 
 #[test]
 fn records_join_the_last_delta_of_their_page(rt: HostRuntime) {
-    all_went(&rt, wrong_table(rt.alloc(), TABLES));
+    tables_go(&rt, TABLES);
 }
 
 /// A sealed buffer that was walked so.
@@ -266,7 +264,7 @@ const REFUSED: &[Refused] = &[
 
 #[test]
 fn a_refused_put_leaves_the_frame(rt: HostRuntime) {
-    went(&rt, wrong_row(rt.alloc(), REFUSED));
+    rows_go(&rt, REFUSED);
 }
 
 /// The frame of one Delta of page 1 that deletes a so many times.

@@ -1,7 +1,7 @@
 // Frames that are whole, that were cut, or that are bad.
 
 use super::hex::{bytes_of, changed};
-use crate::tests::{Row, went, wrong_row};
+use crate::tests::{Row, rows_go};
 use bw_codec::{CodecFault, FrameRead, Header, read_frame};
 use std::alloc::Global;
 use test_vectors::{FIRST, OLD_FIRST};
@@ -47,52 +47,91 @@ impl Row for Change {
     }
 }
 
-const CHANGED: &[Change] = &[
-    (1, 0, 0x46, 52, Found::Whole(52)),
-    (1, 0, 0x46, 53, Found::Whole(52)),
-    (1, 52, 0x46, 53, Found::Whole(52)),
-    (1, 52, 0xff, 53, Found::Whole(52)),
-    (1, 0, 0x46, 51, Found::Tail),
-    (1, 0, 0x46, 20, Found::Tail),
-    (1, 0, 0x46, 19, Found::Tail),
-    (1, 0, 0x46, 4, Found::Tail),
-    (1, 0, 0x46, 0, Found::Tail),
-    (1, 12, 0x21, 52, Found::Tail),
-    (1, 12, 0x1f, 52, Found::Bad),
-    (1, 45, 0x00, 52, Found::Bad),
-    (1, 0, 0x47, 52, Found::Bad),
-    (1, 0, 0x47, 1, Found::Bad),
-    // Another word, frame 0, a body of 7 bytes, one beyond the limit, no block.
-    (1, 3, 0x32, 52, Found::Bad),
-    (1, 4, 0x00, 52, Found::Bad),
-    (1, 12, 0x07, 52, Found::Bad),
-    (1, 13, 0x40, 52, Found::Bad),
-    (1, 16, 0x00, 52, Found::Bad),
+/// How many bytes are left of a frame and the byte behind it.
+#[derive(Clone, Copy)]
+enum Left {
+    /// The frame, and that byte.
+    More,
+    /// The frame.
+    All,
+    /// The frame but its last byte.
+    Less,
+    /// So many.
+    Of(usize),
+}
+
+/// What stands at the front then.
+#[derive(Clone, Copy)]
+enum Kind {
+    /// The frame.
+    Whole,
+    Tail,
+    Bad,
+}
+
+/// The same of either format.
+type InBoth = (usize, u8, Left, Kind);
+
+/// The same of one, whose frame has so many bytes.
+fn change_of(version: u16, length: usize, row: &InBoth) -> Option<Change> {
+    let (at, to, left, kind) = *row;
+    let left = match left {
+        Left::More => length.checked_add(1)?,
+        Left::All => length,
+        Left::Less => length.checked_sub(1)?,
+        Left::Of(count) => count,
+    };
+    let found = match kind {
+        Kind::Whole => Found::Whole(length),
+        Kind::Tail => Found::Tail,
+        Kind::Bad => Found::Bad,
+    };
+    Some((version, at, to, left, found))
+}
+
+impl Row for InBoth {
+    fn goes(&self, alloc: Global) -> Option<bool> {
+        let old = change_of(1, 52, self)?;
+        let new = change_of(2, 53, self)?;
+        Some(old.goes(alloc)? && new.goes(alloc)?)
+    }
+}
+
+const IN_BOTH: &[InBoth] = &[
+    (0, 0x46, Left::All, Kind::Whole),
+    (0, 0x46, Left::More, Kind::Whole),
+    (0, 0x46, Left::Less, Kind::Tail),
+    (0, 0x46, Left::Of(20), Kind::Tail),
+    (0, 0x46, Left::Of(19), Kind::Tail),
+    (0, 0x46, Left::Of(4), Kind::Tail),
+    (0, 0x46, Left::Of(0), Kind::Tail),
+    (45, 0x00, Left::All, Kind::Bad),
+    (0, 0x47, Left::All, Kind::Bad),
+    (0, 0x47, Left::Of(1), Kind::Bad),
+    // Frame 0, a body of 7 bytes, no block.
+    (4, 0x00, Left::All, Kind::Bad),
+    (12, 0x07, Left::All, Kind::Bad),
+    (16, 0x00, Left::All, Kind::Bad),
 ];
 
-/// The same of format 2, whose frame has 53 bytes.
-const NEW_CHANGED: &[Change] = &[
-    (2, 0, 0x46, 53, Found::Whole(53)),
-    (2, 0, 0x46, 54, Found::Whole(53)),
+/// The frame of format 1 has 52 bytes, and that of format 2 has 53.
+const CHANGED: &[Change] = &[
+    // The byte behind the frame.
+    (1, 52, 0x46, 53, Found::Whole(52)),
+    (1, 52, 0xff, 53, Found::Whole(52)),
+    // A body of one byte more, and of one less; the word of the other format; a body beyond the limit.
+    (1, 12, 0x21, 52, Found::Tail),
+    (1, 12, 0x1f, 52, Found::Bad),
+    (1, 3, 0x32, 52, Found::Bad),
+    (1, 13, 0x40, 52, Found::Bad),
+    // The same.
     (2, 53, 0xff, 54, Found::Whole(53)),
-    (2, 0, 0x46, 52, Found::Tail),
-    (2, 0, 0x46, 20, Found::Tail),
-    (2, 0, 0x46, 19, Found::Tail),
-    (2, 0, 0x46, 4, Found::Tail),
-    (2, 0, 0x46, 0, Found::Tail),
     (2, 12, 0x22, 53, Found::Tail),
     (2, 12, 0x20, 53, Found::Bad),
-    (2, 45, 0x00, 53, Found::Bad),
-    (2, 0, 0x47, 53, Found::Bad),
-    (2, 0, 0x47, 1, Found::Bad),
-    // The word of the other format, frame 0, a body of 7 bytes, one beyond the limit, no block.
     (2, 3, 0x31, 53, Found::Bad),
     (2, 3, 0x31, 4, Found::Bad),
     (2, 3, 0x31, 3, Found::Tail),
-    (2, 4, 0x00, 53, Found::Bad),
-    (2, 12, 0x07, 53, Found::Bad),
     (2, 14, 0x01, 53, Found::Bad),
-    (2, 16, 0x00, 53, Found::Bad),
     // The length of the value: none, more than there is, by its first byte or its second.
     (2, 50, 0x00, 53, Found::Bad),
     (2, 50, 0x02, 53, Found::Bad),
@@ -101,8 +140,8 @@ const NEW_CHANGED: &[Change] = &[
 
 #[test]
 fn a_frame_cut_short_is_a_tail_and_a_changed_one_is_bad(rt: HostRuntime) {
-    went(&rt, wrong_row(rt.alloc(), CHANGED));
-    went(&rt, wrong_row(rt.alloc(), NEW_CHANGED));
+    rows_go(&rt, IN_BOTH);
+    rows_go(&rt, CHANGED);
 }
 
 // ---- heads
@@ -163,5 +202,5 @@ const HEADS: &[Digits] = &[
 
 #[test]
 fn a_body_of_the_greatest_length_is_bad(rt: HostRuntime) {
-    went(&rt, wrong_row(rt.alloc(), HEADS));
+    rows_go(&rt, HEADS);
 }

@@ -4,7 +4,7 @@ ghost use Rattle.std.specs.Prelude.{IfOk};
 ghost use Rattle.bw_ring.specs.Ends.{IsFeedOf};
 
 use super::is_text;
-use crate::tests::{Row, all_hold, went, wrong_row};
+use crate::tests::{Row, all_hold, rows_go};
 use bw_codec::{Key, Record};
 use bw_ring::{Feed, Full, FullGroup, Group, Lane, LanesError, MAX_GROUP, lanes};
 use std::alloc::Global;
@@ -78,7 +78,7 @@ const CONFIGS: &[Config] = &[
 
 #[test]
 fn the_ranges_are_exact(rt: HostRuntime) {
-    went(&rt, wrong_row(rt.alloc(), CONFIGS));
+    rows_go(&rt, CONFIGS);
 }
 
 /// Whether a group of all the numbers but the last takes no more, hands that one back, and is what it

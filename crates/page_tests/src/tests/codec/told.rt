@@ -1,7 +1,7 @@
 // What the worked bytes tell, block by block.
 
 use super::hex::bytes_of;
-use crate::tests::{self, went, wrong_row};
+use crate::tests::{self, rows_go};
 use bw_codec::{
     Block, Frame, FrameRead, Header, HeaderRead, Outline, Pair, Place, Record, read_frame,
     read_header,
@@ -191,5 +191,5 @@ impl tests::Row for Row {
 
 #[test]
 fn the_worked_bytes_hold_what_they_tell(rt: HostRuntime) {
-    went(&rt, wrong_row(rt.alloc(), BLOCKS));
+    rows_go(&rt, BLOCKS);
 }

@@ -4,7 +4,7 @@ ghost use Rattle.std.specs.List.{AllByRecursion};
 ghost use Rattle.bw_codec.specs.Grammar.{IsBlock};
 
 use super::hex::bytes_of;
-use crate::tests::{Row, went, wrong_row};
+use crate::tests::{Row, rows_go};
 use bw_codec::limits::{HEADER_LEN, LATEST, MIN_FRAME};
 use bw_codec::{
     Block, Frame, FrameRead, Header, HeaderRead, block_length, encode_block, encode_frame_head,
@@ -107,7 +107,7 @@ const SEGMENTS: &[Written] = &[
 
 #[test]
 fn the_worked_bytes_are_read_and_written_again(rt: HostRuntime) {
-    went(&rt, wrong_row(rt.alloc(), SEGMENTS));
+    rows_go(&rt, SEGMENTS);
 }
 
 /// Whether these bytes are an empty page 1, written without memory.

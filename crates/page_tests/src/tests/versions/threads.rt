@@ -6,11 +6,12 @@ ghost use Rattle.bw_versions.specs.Batches.{entries_of};
 
 use super::{Case, Stand, enter, over, publish, put};
 use crate::tests::went;
-use bw_codec::{Key, Value};
+use bw_codec::Key;
 use bw_versions::Reader;
 use std::sync::Wait;
 use std::thread;
 use std::thread::Threads;
+use test_vectors::gone_back;
 
 /// How many times the reader reads beside the publications.
 const READS: u32 = 10_000;
@@ -23,21 +24,7 @@ fn read_all(mut reader: Reader) -> u32 {
     let Ok(key) = Key::new(b"k") else {
         return READS;
     };
-    let mut last: Option<Value> = None;
-    let mut wrong = 0u32;
-    for _ in 0..READS {
-        match reader.get(&key) {
-            Ok(Some(value)) => {
-                if let Some(old) = &last {
-                    wrong = wrong.saturating_add(u32::from(value.as_slice() < old.as_slice()));
-                }
-                last = Some(value);
-            }
-            Ok(None) => wrong = wrong.saturating_add(u32::from(last.is_some())),
-            Err(_) => wrong = wrong.saturating_add(1),
-        }
-    }
-    wrong
+    gone_back(READS, || reader.get(&key))
 }
 
 // Publishes the values one by one; whether no publication was refused.
@@ -52,18 +39,15 @@ fn publish_all<R: Wait>(rt: &R, stand: &mut Stand) -> bool
     true
 }
 
-// Whether no publication was refused, and no read beside them was or went back.
-pub(super) fn race<R: Threads + Wait>(rt: &R, stand: &mut Stand) -> bool
+// Whether no publication was refused, and no read beside them was or went back; none where there was
+// no reader.
+pub(super) fn race<R: Threads + Wait>(rt: &R, stand: &mut Stand) -> Option<bool>
     requires { stand.old.versions.entered ≡ [] }
 {
-    let Ok(reader) = stand.versions.reader() else {
-        return false;
-    };
-    let Ok(child) = thread::spawn(rt, move || read_all(reader)) else {
-        return false;
-    };
+    let reader = stand.versions.reader().ok()?;
+    let child = thread::spawn(rt, move || read_all(reader)).ok()?;
     let published = publish_all(rt, stand);
-    child.join(rt) == 0 && published
+    Some(child.join(rt) == 0 && published)
 }
 
 #[test]
