@@ -2,7 +2,7 @@
 // box: so each call of the trait has a function of one box, and a function of a `Vec` over it.
 ghost use Rattle.std.specs.Prelude.{◌≡◌, ◌+◌, ◌<◌, ◌≤◌, ◌↔◌, length, take, drop, map, slice_get, IsTrue, OnOk, IfSome, MatchResult};
 ghost use Rattle.std.specs.List.{AllByRecursion};
-ghost use Rattle.bw_device.specs.Boxes.{ChangedAt, IsSpareOf};
+ghost use Rattle.bw_device.specs.Boxes.{ChangedAt, IsAfterAppend, IsAfterRead, IsSpareOf};
 ghost use Rattle.bw_device.specs.Holding.{appended, failed_once, IsTorn};
 
 use crate::memory::MAX_CAPACITY;
@@ -13,9 +13,7 @@ use crate::segments::{Fault, Segment};
 fn append_one(one: &mut Box<dyn Segment>, piece: &[u8]) -> Result<(), Fault>
     requires fits { length (holding one.old).bytes + length piece.now ≤ (holding one.old).room }
     requires countable { (holding one.old).failed < u64.MAX }
-    ensures { MatchResult result
-        (λ _. holding one.new ≡ appended (holding one.old) piece.now)
-        (λ _. IsTorn (holding one.old) piece.now (holding one.new)) }
+    ensures { IsAfterAppend result (holding one.old) piece.now (holding one.new) }
 {
     one.append(piece)
 }
@@ -25,9 +23,7 @@ fn read_one(one: &mut Box<dyn Segment>, at: u64, out: &mut [u8]) -> Result<(), F
     requires countable { (holding one.old).failed < u64.MAX }
     ensures bytes { OnOk result
         (out.new ≡ take (length out.old) (drop at (holding one.old).bytes)) }
-    ensures holding { MatchResult result
-        (λ _. holding one.new ≡ holding one.old)
-        (λ _. holding one.new ≡ failed_once (holding one.old)) }
+    ensures holding { IsAfterRead result (holding one.old) (holding one.new) }
 {
     one.read(at, out)
 }

@@ -6,6 +6,7 @@ use crate::segments::{Fault, Segment};
 
 /// A segment in memory that fails for good from some append or read on, and whose count of failures
 /// begins at any number, for tests of what stands on segments.
+#[derive(Drop)]
 pub struct DeadSegment {
     inner: MemSegment,
     /// How many appends and reads pass before all fail.
@@ -14,17 +15,6 @@ pub struct DeadSegment {
     keep: u64,
     /// How many calls have failed, with those that it began with.
     failures: u64,
-}
-
-impl Drop for DeadSegment {
-    fn drop(self) {
-        let DeadSegment {
-            inner: _,
-            passes: _,
-            keep: _,
-            failures: _,
-        } = self;
-    }
 }
 
 impl DeadSegment {
@@ -77,11 +67,7 @@ impl Segment for DeadSegment {
             return Ok(());
         }
         self.failures += 1;
-        if self.keep < piece.len() as u64 {
-            self.inner.add(&piece[..self.keep as usize]);
-        } else {
-            self.inner.add(piece);
-        }
+        self.inner.add_first(self.keep, piece);
         Err(Fault)
     }
 

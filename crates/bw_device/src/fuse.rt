@@ -5,22 +5,13 @@ use crate::memory::MemSegment;
 use crate::segments::{Fault, Segment};
 
 /// A segment in memory of which one append or read fails, for tests of what stands on segments.
+#[derive(Drop)]
 pub struct FuseSegment {
     inner: MemSegment,
     /// How many appends and reads pass before the one that fails; `None` once that one has failed.
     passes: Option<u64>,
     /// How many bytes of its piece an append keeps that fails.
     keep: u64,
-}
-
-impl Drop for FuseSegment {
-    fn drop(self) {
-        let FuseSegment {
-            inner: _,
-            passes: _,
-            keep: _,
-        } = self;
-    }
 }
 
 impl FuseSegment {
@@ -85,11 +76,7 @@ impl Segment for FuseSegment {
             self.inner.add(piece);
             return Ok(());
         }
-        if self.keep < piece.len() as u64 {
-            self.inner.add(&piece[..self.keep as usize]);
-        } else {
-            self.inner.add(piece);
-        }
+        self.inner.add_first(self.keep, piece);
         Err(Fault)
     }
 

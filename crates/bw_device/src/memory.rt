@@ -12,6 +12,7 @@ use std::alloc::Global;
 pub const MAX_CAPACITY: u64 = 1_073_741_824;
 
 /// A segment in memory, which never fails. When it is dropped, its lease comes back.
+#[derive(Drop)]
 pub struct MemSegment {
     lease: Lease,
     /// In bytes.
@@ -22,16 +23,6 @@ pub struct MemSegment {
     ghost in_range: { (1 ≤ capacity) × (capacity ≤ MAX_CAPACITY) },
     ghost within_capacity: { vec_len bytes ≤ capacity },
     ghost reserved: { capacity ≤ vec_capacity bytes },
-}
-
-impl Drop for MemSegment {
-    fn drop(self) {
-        let MemSegment {
-            lease: _,
-            capacity: _,
-            bytes: _,
-        } = self;
-    }
 }
 
 impl MemSegment {
@@ -90,6 +81,20 @@ impl MemSegment {
             // The room was reserved.
             Err(_) => unreachable!(),
         }
+    }
+
+    // Adds the first `keep` bytes of the piece, or all where it has no more: what a failing append
+    // leaves of it.
+    pub(crate) fn add_first(&mut self, keep: u64, piece: &[u8])
+        requires { length (memory_holding self.old).bytes + length piece.now ≤
+            (memory_holding self.old).room }
+        ensures { memory_holding self.new ≡
+            appended (memory_holding self.old) (take keep piece.now) }
+    {
+        if keep >= piece.len() as u64 {
+            return self.add(piece);
+        }
+        self.add(&piece[..keep as usize]);
     }
 
     // Fills the slice with the held bytes from `at` on.
