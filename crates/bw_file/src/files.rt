@@ -1,5 +1,5 @@
 // What is asked of an open file, and the bytes of one.
-ghost use Rattle.std.specs.Prelude.{◌≡◌, ◌≢◌, ◌≤◌, ◌↔◌, length, IfOk, IfErr, IsTrue};
+ghost use Rattle.std.specs.Prelude.{◌≡◌, ◌≢◌, ◌≤◌, ◌↔◌, length, IsOk, IfOk, IfErr};
 ghost use Rattle.bw_device.specs.Leases.{number_of};
 ghost use Rattle.bw_device.specs.Memory.{memory_holding};
 ghost use Rattle.bw_device.specs.declared.memory.TheConstants.{MAX_CAPACITY};
@@ -45,11 +45,20 @@ pub(crate) fn bytes_of<F: SegmentFile>(alloc: Global, file: &F) -> Result<Vec<u8
     Ok(bytes)
 }
 
-/// Whether a segment may have this capacity.
-pub(crate) fn is_capacity(capacity: u64) -> bool
-    ensures { IsTrue result ↔ ((1 ≤ capacity) × (capacity ≤ MAX_CAPACITY)) }
+/// The lease again, where a segment may have this capacity.
+pub(crate) fn with_capacity(lease: Lease, capacity: u64) -> Result<Lease, NotOpened>
+    ensures fits { IsOk result ↔ ((1 ≤ capacity) × (capacity ≤ MAX_CAPACITY)) }
+    ensures kept { IfOk result (λ l. l ≡ lease) }
+    ensures lease { IfErr result (λ e. e.lease ≡ lease) }
+    ensures cause { IfErr result (λ e. e.cause ≡ BadConfig) }
 {
-    capacity > 0 && capacity <= MAX_CAPACITY
+    if capacity > 0 && capacity <= MAX_CAPACITY {
+        return Ok(lease);
+    }
+    Err(NotOpened {
+        lease,
+        cause: FolderFault::BadConfig,
+    })
 }
 
 /// The copy in memory of these bytes.

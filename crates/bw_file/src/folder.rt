@@ -8,8 +8,8 @@ ghost use Rattle.bw_device.specs.declared.memory.TheConstants.{MAX_CAPACITY};
 ghost use Rattle.bw_file.specs.FileHolding.{file_holding, IsOpened};
 ghost use Rattle.bw_file.specs.declared.refusals.FolderFault.TheVariants.{BadConfig};
 
-use crate::files::{SegmentFile, bytes_of, copy_of, is_capacity};
-use crate::names::{leases_in, lock_path, refuse_unless_plain, segment_path};
+use crate::files::{SegmentFile, bytes_of, copy_of, with_capacity};
+use crate::names::{leases_in, lock_path, segment_path};
 use crate::refusals::{FolderFault, NotOpened};
 use crate::segment::{FileSegment, Shared};
 use bw_device::{Lease, MAX_CAPACITY, MemSegment};
@@ -26,22 +26,13 @@ const LAST: usize = 262_168;
 /// A folder with a file for each segment, named by its lease, which nobody else has open.
 ///
 /// It is open as long as it or one of its segments stands. A drop changes no file.
+#[derive(Drop)]
 pub struct Folder<F = File> {
     path: String,
     /// By which new names come to stand.
     itself: F,
     /// Shared with every segment of the folder.
     shared: Arc<Shared<F>>,
-}
-
-impl<F: Drop> Drop for Folder<F> {
-    fn drop(self) {
-        let Folder {
-            path: _,
-            itself: _,
-            shared: _,
-        } = self;
-    }
 }
 
 // An open file and its bytes, with what the folder shares.
@@ -90,9 +81,8 @@ impl<F: SegmentFile> Folder<F> {
         path: &str,
     ) -> Result<Folder<F>, FolderFault> {
         make_folder(rt, path)?;
-        let name = lock_path(rt.alloc(), path)?;
         // Where the path is no folder, as a pipe, this tells it, and that is not opened either.
-        refuse_unless_plain(rt, name.as_str())?;
+        let name = lock_path(rt, path)?;
         let itself = fs::open(rt, path)?;
         let lock = OpenOptions::new()
             .write(true)
@@ -125,8 +115,7 @@ impl<F: SegmentFile> Folder<F> {
     fn taken<R: AllocGlobal + Files<File = F>>(&self, rt: &R, lease: u32) -> Result<F, FolderFault>
         ensures cause { IfErr result (λ cause. cause ≢ BadConfig) }
     {
-        let name = segment_path(rt.alloc(), self.path.as_str(), lease)?;
-        refuse_unless_plain(rt, name.as_str())?;
+        let name = segment_path(rt, self.path.as_str(), lease)?;
         let file = OpenOptions::new()
             .read(true)
             .write(true)
@@ -170,12 +159,7 @@ impl<F: SegmentFile> Folder<F> {
             ((capacity ≡ 0) ⊎ (MAX_CAPACITY < capacity)) }
         ensures lease { IfErr result (λ e. e.lease ≡ lease) }
     {
-        if !is_capacity(capacity) {
-            return Err(NotOpened {
-                lease,
-                cause: FolderFault::BadConfig,
-            });
-        }
+        let lease = with_capacity(lease, capacity)?;
         let (file, bytes, shared) = match self.settled(rt, lease.number()) {
             Ok(settled) => settled,
             Err(cause) => return Err(NotOpened { lease, cause }),
@@ -215,12 +199,7 @@ impl<F: SegmentFile> Folder<F> {
             ((capacity ≡ 0) ⊎ (MAX_CAPACITY < capacity)) }
         ensures lease { IfErr result (λ e. e.lease ≡ lease) }
     {
-        if !is_capacity(capacity) {
-            return Err(NotOpened {
-                lease,
-                cause: FolderFault::BadConfig,
-            });
-        }
+        let lease = with_capacity(lease, capacity)?;
         let (file, shared) = match self.emptied(rt, lease.number()) {
             Ok(emptied) => emptied,
             Err(cause) => return Err(NotOpened { lease, cause }),
@@ -267,8 +246,7 @@ impl<F: SegmentFile> Folder<F> {
         rt: &R,
         lease: u32,
     ) -> Result<(), FolderFault> {
-        let name = segment_path(rt.alloc(), self.path.as_str(), lease)?;
-        refuse_unless_plain(rt, name.as_str())?;
+        let name = segment_path(rt, self.path.as_str(), lease)?;
         let file = OpenOptions::new().write(true).open(rt, name.as_str())?;
         file.lock_alone()?;
         cut_to_nothing(&file)?;

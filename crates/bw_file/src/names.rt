@@ -6,31 +6,41 @@ ghost use Rattle.bw_file.specs.declared.refusals.FolderFault.TheVariants.{BadCon
 
 use crate::refusals::FolderFault;
 use bw_device::MAX_LEASES;
-use std::alloc::{AllocError, Global};
 use std::fs;
 use std::io::ErrorKind;
 use std::rt::Files;
 
-/// The path of the file by which a folder is open once.
-pub(crate) fn lock_path(alloc: Global, folder: &str) -> Result<String, AllocError> {
-    format!(in alloc; "{folder}/lock")
-}
-
-/// The path of the file of a lease.
-pub(crate) fn segment_path(alloc: Global, folder: &str, lease: u32) -> Result<String, AllocError> {
-    format!(in alloc; "{folder}/segment-{lease:04}.bw")
-}
-
-/// Refuses what has the name of a file and is no plain file, before it is opened: a pipe would keep
-/// its opener waiting, and by a link a file outside the folder would be made or written.
-pub(crate) fn refuse_unless_plain<R: Files>(rt: &R, path: &str) -> Result<(), FolderFault>
+/// The path of the file by which a folder is open once, which is plain where it is there.
+pub(crate) fn lock_path<R: AllocGlobal + Files>(rt: &R, folder: &str) -> Result<String, FolderFault>
     ensures cause { IfErr result (λ cause. cause ≢ BadConfig) }
 {
-    match fs::symlink_metadata(rt, path) {
-        Ok(found) if found.is_file() => Ok(()),
+    plain(rt, format!(in rt.alloc(); "{folder}/lock")?)
+}
+
+/// The path of the file of a lease, which is plain where it is there.
+pub(crate) fn segment_path<R: AllocGlobal + Files>(
+    rt: &R,
+    folder: &str,
+    lease: u32,
+) -> Result<String, FolderFault>
+    ensures cause { IfErr result (λ cause. cause ≢ BadConfig) }
+{
+    plain(
+        rt,
+        format!(in rt.alloc(); "{folder}/segment-{lease:04}.bw")?,
+    )
+}
+
+// Refuses what has the name of a file and is no plain file, before it is opened: a pipe would keep
+// its opener waiting, and by a link a file outside the folder would be made or written.
+fn plain<R: Files>(rt: &R, path: String) -> Result<String, FolderFault>
+    ensures cause { IfErr result (λ cause. cause ≢ BadConfig) }
+{
+    match fs::symlink_metadata(rt, path.as_str()) {
+        Ok(found) if found.is_file() => Ok(path),
         Ok(_) => Err(FolderFault::NotPlain),
         // Whether it may be missing is for the opening to say.
-        Err(error) if error.kind() == ErrorKind::NotFound => Ok(()),
+        Err(error) if error.kind() == ErrorKind::NotFound => Ok(path),
         Err(error) => Err(FolderFault::from(error)),
     }
 }
@@ -85,7 +95,9 @@ pub(crate) fn leases_in<R: AllocGlobal + Files + Clone + Drop>(
     let mut leases = Vec::new(rt.alloc());
     for lease in 0..MAX_LEASES {
         if has_file[lease as usize] {
-            leases.push(lease)?;
+            let Ok(()) = leases.push(lease) else {
+                return Err(FolderFault::NoMemory);
+            };
         }
     }
     Ok(leases)

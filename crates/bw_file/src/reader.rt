@@ -8,8 +8,8 @@ ghost use Rattle.bw_device.specs.declared.memory.TheConstants.{MAX_CAPACITY};
 ghost use Rattle.bw_file.specs.FileHolding.{IsOpened};
 ghost use Rattle.bw_file.specs.declared.refusals.FolderFault.TheVariants.{BadConfig};
 
-use crate::files::{SegmentFile, bytes_of, copy_of, is_capacity};
-use crate::names::{leases_in, lock_path, refuse_unless_plain, segment_path};
+use crate::files::{SegmentFile, bytes_of, copy_of, with_capacity};
+use crate::names::{leases_in, lock_path, segment_path};
 use crate::refusals::{FolderFault, NotOpened};
 use bw_device::{Lease, MemSegment};
 use std::fs::{self, File};
@@ -30,8 +30,7 @@ fn reading_lock<R: AllocGlobal + Files<File = F>, F: SegmentFile>(
     rt: &R,
     path: &str,
 ) -> Result<Option<F>, FolderFault> {
-    let name = lock_path(rt.alloc(), path)?;
-    refuse_unless_plain(rt, name.as_str())?;
+    let name = lock_path(rt, path)?;
     match fs::open(rt, name.as_str()) {
         Ok(lock) => {
             lock.lock_to_read()?;
@@ -78,8 +77,7 @@ impl<F: SegmentFile> FolderReader<F> {
         ensures within { IfOk result (λ bytes. length bytes.items ≤ MAX_CAPACITY) }
         ensures cause { IfErr result (λ cause. cause ≢ BadConfig) }
     {
-        let name = segment_path(rt.alloc(), self.path.as_str(), lease)?;
-        refuse_unless_plain(rt, name.as_str())?;
+        let name = segment_path(rt, self.path.as_str(), lease)?;
         let file = fs::open(rt, name.as_str())?;
         bytes_of(rt.alloc(), &file)
     }
@@ -102,12 +100,7 @@ impl<F: SegmentFile> FolderReader<F> {
             ((capacity ≡ 0) ⊎ (MAX_CAPACITY < capacity)) }
         ensures lease { IfErr result (λ e. e.lease ≡ lease) }
     {
-        if !is_capacity(capacity) {
-            return Err(NotOpened {
-                lease,
-                cause: FolderFault::BadConfig,
-            });
-        }
+        let lease = with_capacity(lease, capacity)?;
         match self.bytes(rt, lease.number()) {
             Ok(bytes) => copy_of(rt.alloc(), lease, capacity, &bytes),
             Err(cause) => Err(NotOpened { lease, cause }),

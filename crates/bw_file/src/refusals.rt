@@ -3,7 +3,7 @@ ghost use Rattle.std.specs.Prelude.{◌≡◌, ◌≢◌};
 ghost use Rattle.bw_file.specs.declared.refusals.FolderFault.TheVariants.{NoMemory, BadConfig};
 
 use bw_device::Lease;
-use std::alloc::{AllocError, AllocFailed};
+use std::alloc::AllocError;
 use std::fmt::{self, Display, Formatter};
 use std::fs::TryLockError;
 use std::io::{self, ErrorKind};
@@ -47,14 +47,6 @@ impl From<AllocError> for FolderFault {
     ghost from_gives = { λ _ fault. fault ≡ NoMemory };
 
     fn from(_: AllocError) -> FolderFault {
-        FolderFault::NoMemory
-    }
-}
-
-impl<T: Drop> From<AllocFailed<T>> for FolderFault {
-    ghost from_gives = { λ _ fault. fault ≡ NoMemory };
-
-    fn from(_: AllocFailed<T>) -> FolderFault {
         FolderFault::NoMemory
     }
 }

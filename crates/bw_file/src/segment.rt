@@ -9,20 +9,12 @@ use std::sync::Arc;
 use std::sync::atomic::{AtomicBool, Ordering};
 
 /// What a folder and its segments share.
+#[derive(Drop)]
 pub(crate) struct Shared<F> {
     /// Held as long as the folder or a segment of it stands, so that nobody else opens it.
     lock: F,
     /// Whether an append failed, of any segment.
     has_failed: AtomicBool,
-}
-
-impl<F: Drop> Drop for Shared<F> {
-    fn drop(self) {
-        let Shared {
-            lock: _,
-            has_failed: _,
-        } = self;
-    }
 }
 
 impl<F> Shared<F> {
@@ -42,6 +34,7 @@ impl<F> Shared<F> {
 /// that folder fails too, until the folder is opened again and the files are read: no segment may go
 /// on from the copies where a file went on from the piece. A drop closes the file and leaves its
 /// bytes.
+#[derive(Drop)]
 pub struct FileSegment<F = File> {
     copy: MemSegment,
     file: F,
@@ -49,17 +42,6 @@ pub struct FileSegment<F = File> {
     shared: Arc<Shared<F>>,
     /// How many appends have failed.
     failed: u64,
-}
-
-impl<F: Drop> Drop for FileSegment<F> {
-    fn drop(self) {
-        let FileSegment {
-            copy: _,
-            file: _,
-            shared: _,
-            failed: _,
-        } = self;
-    }
 }
 
 impl<F: SegmentFile> FileSegment<F> {
