@@ -4,7 +4,6 @@ ghost use Rattle.bw_file.specs.declared.refusals.FolderFault.TheVariants.{NoMemo
 
 use bw_device::Lease;
 use std::alloc::AllocError;
-use std::fmt::{self, Display, Formatter};
 use std::fs::TryLockError;
 use std::io::{self, ErrorKind};
 use thiserror::Error;
@@ -14,33 +13,24 @@ use thiserror::Error;
 #[derive(Clone, Copy, Debug, Error)]
 pub enum FolderFault {
     /// There was no memory for it.
+    #[error("no memory")]
     NoMemory,
     /// A capacity is outside its limits, 1 and `MAX_CAPACITY`. It is looked at before any file.
+    #[error("a number is outside its limits")]
     BadConfig,
     /// A file is longer than `MAX_CAPACITY`. None of it was read.
+    #[error("a file is longer than a segment")]
     TooLong,
     /// What has the name of a file is no plain file: a folder, a pipe, a device, a link. It was not
     /// opened.
+    #[error("what has the name of a file is no plain file")]
     NotPlain,
     /// Another process has the folder or the file open, or a value of this one.
+    #[error("in use")]
     InUse,
     /// The system refused a call.
+    #[error("{0}")]
     System(io::Error),
-}
-
-// By hand, since a derived one writes in each variant, which is dear to prove.
-impl Display for FolderFault {
-    fn fmt<W: fmt::Write>(&self, f: &mut Formatter<W>) -> fmt::Result {
-        let text = match self {
-            FolderFault::NoMemory => "no memory",
-            FolderFault::BadConfig => "a number is outside its limits",
-            FolderFault::TooLong => "a file is longer than a segment",
-            FolderFault::NotPlain => "what has the name of a file is no plain file",
-            FolderFault::InUse => "in use",
-            FolderFault::System(error) => return write!(f, "{error}"),
-        };
-        f.write_str(text)
-    }
 }
 
 impl From<AllocError> for FolderFault {
