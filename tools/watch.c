@@ -107,62 +107,60 @@ int openat(int at, const char *path, int flags, ...)
     return opened(real(at, path, flags, mode), flags);
 }
 
+static ssize_t wrote(ssize_t written, int file, const void *bytes, uint64_t at)
+{
+    if (written > 0)
+        note('w', file, at, (uint64_t)written, bytes, (size_t)written);
+    return written;
+}
+
 ssize_t pwrite(int file, const void *bytes, size_t count, off_t at)
 {
     REAL(ssize_t, "pwrite", int, const void *, size_t, off_t);
-    ssize_t written = real(file, bytes, count, at);
-    if (written > 0)
-        note('w', file, (uint64_t)at, (uint64_t)written, bytes, (size_t)written);
-    return written;
+    return wrote(real(file, bytes, count, at), file, bytes, (uint64_t)at);
 }
 
 ssize_t pwrite64(int file, const void *bytes, size_t count, off64_t at)
 {
     REAL(ssize_t, "pwrite64", int, const void *, size_t, off64_t);
-    ssize_t written = real(file, bytes, count, at);
-    if (written > 0)
-        note('w', file, (uint64_t)at, (uint64_t)written, bytes, (size_t)written);
-    return written;
+    return wrote(real(file, bytes, count, at), file, bytes, (uint64_t)at);
+}
+
+static int cut(int answer, int file, uint64_t length)
+{
+    if (answer == 0)
+        note('t', file, 0, length, "", 0);
+    return answer;
 }
 
 int ftruncate(int file, off_t length)
 {
     REAL(int, "ftruncate", int, off_t);
-    int answer = real(file, length);
-    if (answer == 0)
-        note('t', file, 0, (uint64_t)length, "", 0);
-    return answer;
+    return cut(real(file, length), file, (uint64_t)length);
 }
 
 int ftruncate64(int file, off64_t length)
 {
     REAL(int, "ftruncate64", int, off64_t);
-    int answer = real(file, length);
-    if (answer == 0)
-        note('t', file, 0, (uint64_t)length, "", 0);
-    return answer;
+    return cut(real(file, length), file, (uint64_t)length);
 }
 
-static void synced(int file)
+static int synced(int answer, int file)
 {
     struct stat about;
-    note(fstat(file, &about) == 0 && S_ISDIR(about.st_mode) ? 'f' : 's', file, 0, 0, "", 0);
+    if (answer == 0)
+        note(fstat(file, &about) == 0 && S_ISDIR(about.st_mode) ? 'f' : 's', file, 0, 0, "", 0);
+    return answer;
 }
 
 int fsync(int file)
 {
     REAL(int, "fsync", int);
-    int answer = real(file);
-    if (answer == 0)
-        synced(file);
-    return answer;
+    return synced(real(file), file);
 }
 
 int fdatasync(int file)
 {
     REAL(int, "fdatasync", int);
-    int answer = real(file);
-    if (answer == 0)
-        synced(file);
-    return answer;
+    return synced(real(file), file);
 }

@@ -10,7 +10,6 @@ ghost use Rattle.bw_log.specs.Contents.{counted};
 ghost use Rattle.bw_ring.specs.Ends.{accepted, ring_of_feed};
 ghost use Rattle.bw_care.specs.Found.{IsRecovered};
 ghost use Rattle.bw_versions.specs.Entries.{records};
-ghost use Rattle.bw_home.specs.Putting.{Added};
 ghost use Rattle.bw_store.specs.Faults.{FlushAnswers, flush_refusal};
 ghost use Rattle.bw_store.specs.Following.{Continues, Follows, HasBoxes, RefusedAfter, TookInTurn, Turned, groups_since};
 ghost use Rattle.bw_store.specs.History.{streams};
@@ -19,6 +18,7 @@ ghost use Rattle.bw_store.specs.Lanes.{AreDry};
 ghost use Rattle.bw_store.specs.Reading.{HasRead};
 ghost use Rattle.bw_store.specs.Settled.{IsAllCut, IsSettled};
 ghost use Rattle.bw_store.specs.Showing.{CleanShows, FlushShows};
+ghost use Rattle.bw_home.specs.Putting.{Added};
 
 use crate::fault::{HomeFault, NotPut};
 use crate::options::Options;

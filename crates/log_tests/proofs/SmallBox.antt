@@ -14,25 +14,24 @@ use Rattle.bw_log.specs.Contents.{Contents, counted, place_in, entry_place, walk
 use Rattle.log_tests.specs.Examples.{first_example, first_leaf}
 use Rattle.bw_codec.specs.declared.leaf.Leaf.{Leaf}
 use Rattle.bw_log.specs.Adopting.{adopted}
+use Rattle.bw_log.specs.Limits.{fresh}
 use Rattle.bw_log.specs.declared.places.PageAt.{PageAt}
 use Rattle.bw_log.specs.declared.places.Tables.{Tables}
 use Rattle.log_tests.specs.OnePage.{HoldsOne}
 use Rattle.log_tests.proofs.Exampled.{first_frame_lawful, first_stands, not_one}
 use Rattle.log_tests.proofs.Vectors.{first_segment, first_is_read}
 
+abbrev pub small_pages : List PageAt
+small_pages = record { place = record { frame = 1; index = 1 }; base = record { frame = 1; index = 0 }; walk = 1 } ∷ []
+
+-- a log of that box alone, which has the first frame
 abbrev pub small : ℕ → Contents
-small lease = record {
+small lease = record (fresh 4 65536 []) {
   live = record { bytes = first_segment; room = 77; lease = lease; failed = 0 } ∷ [];
-  spares = [];
-  m = 4;
-  f = 65536;
-  number = 1;
-  old_to = 0;
   is_open = true;
-  is_failed = false;
   next = Some 2;
   frames = entry_of 2 1 24 first_example ∷ [];
-  pages = record { place = record { frame = 1; index = 1 }; base = record { frame = 1; index = 0 }; walk = 1 } ∷ [];
+  pages = small_pages;
 }
 
 first_whole : IsWhole first_segment (record { version = 2; number = 1; m = 4; f = 65536 }) (first_example ∷ []) []
@@ -46,9 +45,6 @@ first_whole = record {
 
 whole : IsWhole first_segment (record { version = 2; number = 1; m = 4; f = 65536 }) (segment_frames first_segment) []
 whole = subst (λ (fs : List Frame). IsWhole first_segment (record { version = 2; number = 1; m = 4; f = 65536 }) fs []) (sym first_is_read) first_whole
-
-abbrev pub small_pages : List PageAt
-small_pages = record { place = record { frame = 1; index = 1 }; base = record { frame = 1; index = 0 }; walk = 1 } ∷ []
 
 pages_are : (p : ℕ) → 1 ≤ p → (place_in (λ e. e.place) small_pages p ≡ place_of p (first_example ∷ []))
     × (place_in (λ e. e.base) small_pages p ≡ base_of p (first_example ∷ [])) × (walk_in small_pages p ≡ walk_to p (first_example ∷ []))

@@ -23,7 +23,7 @@ mod spares;
 mod splits;
 mod walking;
 
-/// All tables went as told; a failure tells the first that did not, and its row.
+/// None went otherwise than told; a failure tells which table did, and its row.
 fn all_went(rt: &impl Abort, wrong: Option<(usize, usize)>) {
     assert_eq!(rt; wrong, None);
 }
@@ -34,14 +34,13 @@ trait Table {
     fn wrong_row(&self, alloc: Global) -> Option<usize>;
 }
 
-/// The first table that does not go as told, and its row.
-fn first_wrong<T: Table>(alloc: Global, tables: &[T]) -> Option<(usize, usize)> {
+/// All tables go as told; a failure tells the first that does not, and its row.
+fn all_go<R: AllocGlobal + Abort, T: Table>(rt: &R, tables: &[T]) {
     for (i, table) in tables.iter().enumerate() {
-        if let Some(row) = table.wrong_row(alloc) {
-            return Some((i, row));
+        if let Some(row) = table.wrong_row(rt.alloc()) {
+            all_went(rt, Some((i, row)));
         }
     }
-    None
 }
 
 // A sealed buffer of these blocks.

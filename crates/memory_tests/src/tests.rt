@@ -11,12 +11,13 @@ mod stores;
 mod versions;
 mod without;
 
-use bw_codec::{Key, Record, Value};
+use bw_codec::{Key, Leaf, Record, Value};
 use std::alloc::Global;
 use std::process::Abort;
 use std::sync::Wait;
 use std::thread::Threads;
 use test_marks::{begin_without, end, refuse};
+use test_vectors::shows;
 
 /// No row takes so many allocations.
 const MOST: u32 = 100_000;
@@ -40,6 +41,11 @@ fn tried(went: bool, refused: bool, is_so: bool) -> Option<Try> {
         (false, true, true) => Some(Try::Refused),
         _ => None,
     }
+}
+
+/// How a change of a leaf went, which shows the one text behind it, and the other where it was refused.
+fn changed(leaf: &Leaf, went: bool, refused: bool, new: &[u8], old: &[u8]) -> Option<Try> {
+    tried(went, refused, shows(leaf, if went { new } else { old }))
 }
 
 /// A first try, where the second one went.
@@ -128,4 +134,13 @@ fn is(bytes: &[u8], told: &[u8]) -> bool {
 
 fn put(key: &[u8], value: &[u8]) -> Option<Record> {
     Some(Record::Put(Key::new(key).ok()?, Value::new(value).ok()?))
+}
+
+/// One letter a put, without values.
+fn lettered(alloc: Global, letters: &[u8]) -> Option<Vec<Record>> {
+    let mut records = Vec::new(alloc);
+    for letter in letters {
+        records.push(put(&[*letter], b"")?).ok()?;
+    }
+    Some(records)
 }

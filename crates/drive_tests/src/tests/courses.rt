@@ -5,21 +5,27 @@ use super::scripts::Part;
 use super::steps::Step::{Begins, Boxes, Drives, Durable, Learns, Reads, Settles};
 use super::steps::{MANY, Pace, Run};
 use super::walking::{PLAIN, Table, wrong_table};
-use bw_store::StoreFault;
+use bw_store::StoreFault::{Device, Failed, NoSegment, NothingOld};
 
 /// Each number has a key of its own.
-const KEYS: u32 = 10_000;
+pub(super) const KEYS: u32 = 10_000;
+
+/// More records of each writer than any run below takes.
+pub(super) const ALL: Part = Part(0, 1000, KEYS);
+
+/// None of them.
+const NONE: Part = Part(0, 0, KEYS);
 
 /// All is accepted, and a second run over the same feeds goes on.
-const TWICE: &Table = &Table {
+pub(super) const TWICE: Table = Table {
     name: "twice",
     boxes: 8,
     steps: &[
         Drives(Run(Part(0, 300, KEYS), Pace(64, 4, 0, MANY), Ok((300, 300)))),
-        Reads(2, 300, KEYS),
+        Reads(300, KEYS),
         Drives(Run(Part(300, 200, KEYS), Pace(1, 1, 0, MANY), Ok((200, 200)))),
-        Reads(2, 500, KEYS),
-        Learns(2, 500, KEYS),
+        Reads(500, KEYS),
+        Learns(500, KEYS),
         Boxes(8, 8),
     ],
     ..PLAIN
@@ -32,30 +38,25 @@ const SIXTY_FOUR: &Table = &Table {
     boxes: 16,
     steps: &[
         Drives(Run(Part(0, 100, KEYS), Pace(64, 4, 0, MANY), Ok((100, 100)))),
-        Reads(64, 100, KEYS),
+        Reads(100, KEYS),
     ],
     ..PLAIN
 };
 
-/// A ring of one place each.
+/// The same with a ring of one place each.
 const ONE_PLACE: &Table = &Table {
     name: "one place",
     places: 1,
-    boxes: 8,
-    steps: &[
-        Drives(Run(Part(0, 300, KEYS), Pace(64, 4, 0, MANY), Ok((300, 300)))),
-        Reads(2, 300, KEYS),
-    ],
-    ..PLAIN
+    ..TWICE
 };
 
 /// With no try nothing is put, with one no more than a ring holds and the one turn takes.
 const FEW_TRIES: &Table = &Table {
     name: "few tries",
     steps: &[
-        Drives(Run(Part(0, 1000, KEYS), Pace(64, 4, 0, 0), Ok((0, 0)))),
-        Drives(Run(Part(0, 0, KEYS), Pace(64, 4, 0, MANY), Ok((0, 0)))),
-        Drives(Run(Part(0, 1000, KEYS), Pace(1, 1, 0, 1), Ok((8, 9)))),
+        Drives(Run(ALL, Pace(64, 4, 0, 0), Ok((0, 0)))),
+        Drives(Run(NONE, Pace(64, 4, 0, MANY), Ok((0, 0)))),
+        Drives(Run(ALL, Pace(1, 1, 0, 1), Ok((8, 9)))),
         Boxes(4, 1),
     ],
     ..PLAIN
@@ -66,20 +67,12 @@ const FIRST_APPEND: &Table = &Table {
     name: "first append",
     fuse: Some(0),
     steps: &[
-        Drives(Run(
-            Part(0, 1000, KEYS),
-            Pace(64, 1, 0, MANY),
-            Err(StoreFault::Device { lease: 0 }),
-        )),
+        Drives(Run(ALL, Pace(64, 1, 0, MANY), Err(Device { lease: 0 }))),
         Begins(KEYS, 64),
         Durable(0, 0),
         Boxes(4, 0),
-        Drives(Run(
-            Part(0, 1000, KEYS),
-            Pace(64, 1, 0, MANY),
-            Err(StoreFault::Failed),
-        )),
-        Settles(Err(StoreFault::Failed)),
+        Drives(Run(ALL, Pace(64, 1, 0, MANY), Err(Failed))),
+        Settles(Err(Failed)),
         Begins(KEYS, 64),
         Boxes(4, 0),
     ],
@@ -91,15 +84,11 @@ const FIFTH_FRAME: &Table = &Table {
     name: "fifth frame",
     fuse: Some(5),
     steps: &[
-        Drives(Run(
-            Part(0, 1000, KEYS),
-            Pace(16, 1, 0, MANY),
-            Err(StoreFault::Device { lease: 0 }),
-        )),
+        Drives(Run(ALL, Pace(16, 1, 0, MANY), Err(Device { lease: 0 }))),
         Durable(4, 4),
         Begins(KEYS, 80),
         Boxes(4, 1),
-        Settles(Err(StoreFault::Failed)),
+        Settles(Err(Failed)),
         Durable(4, 4),
     ],
     ..PLAIN
@@ -109,11 +98,7 @@ const FIFTH_FRAME: &Table = &Table {
 const NOTHING_OLD: &Table = &Table {
     name: "nothing old",
     steps: &[
-        Drives(Run(
-            Part(0, 1000, KEYS),
-            Pace(64, 1, 1, MANY),
-            Err(StoreFault::NothingOld),
-        )),
+        Drives(Run(ALL, Pace(64, 1, 1, MANY), Err(NothingOld))),
         Durable(1, 1),
         Begins(KEYS, 64),
         Boxes(4, 1),
@@ -130,26 +115,18 @@ const NO_SPARE: &Table = &Table {
     name: "no spare",
     boxes: 1,
     steps: &[
-        Drives(Run(
-            Part(0, 1000, KEYS),
-            Pace(64, 1, 0, MANY),
-            Err(StoreFault::NoSegment),
-        )),
+        Drives(Run(ALL, Pace(64, 1, 0, MANY), Err(NoSegment))),
         Begins(KEYS, 64),
         Durable(0, 0),
-        Settles(Err(StoreFault::NoSegment)),
-        Drives(Run(
-            Part(0, 0, KEYS),
-            Pace(64, 1, 0, MANY),
-            Err(StoreFault::NoSegment),
-        )),
+        Settles(Err(NoSegment)),
+        Drives(Run(NONE, Pace(64, 1, 0, MANY), Err(NoSegment))),
         Begins(KEYS, 80),
         Boxes(1, 0),
     ],
     ..PLAIN
 };
 
-const ENDED: &[&Table] = &[TWICE, SIXTY_FOUR, ONE_PLACE, FEW_TRIES];
+const ENDED: &[&Table] = &[&TWICE, SIXTY_FOUR, ONE_PLACE, FEW_TRIES];
 
 const REFUSED: &[&Table] = &[FIRST_APPEND, FIFTH_FRAME, NOTHING_OLD, NO_SPARE];
 

@@ -1,8 +1,8 @@
 //! Writers run at once, and each group passes the gate.
 
 use super::all_went;
-use super::scripts::Part;
-use super::steps::Step::{Drives, DrivesGroups, Reads, Splits, Whole};
+use super::scripts::{Part, Sizes};
+use super::steps::Step::{Drives, Reads, Splits};
 use super::steps::{MANY, Pace, Run};
 use super::walking::{PLAIN, Table, walked};
 use bw_drive::{Gate, MeetGate};
@@ -13,25 +13,13 @@ use std::thread::Threads;
 
 const PACE: Pace = Pace(64, 4, 3, MANY);
 
-/// Two writers of 1,000 records each.
-const THOUSAND: &Table = &Table {
-    name: "a thousand",
-    boxes: 32,
-    steps: &[
-        Drives(Run(Part(0, 1000, 10_000), PACE, Ok((1000, 1000)))),
-        Reads(2, 1000, 10_000),
-        Splits,
-    ],
-    ..PLAIN
-};
-
 /// Two writers of 300 records each.
-const HUNDREDS: &Table = &Table {
+const HUNDREDS: Table = Table {
     name: "hundreds",
     boxes: 32,
     steps: &[
         Drives(Run(Part(0, 300, 10_000), PACE, Ok((300, 300)))),
-        Reads(2, 300, 10_000),
+        Reads(300, 10_000),
         Splits,
     ],
     ..PLAIN
@@ -40,14 +28,19 @@ const HUNDREDS: &Table = &Table {
 /// The same in 120 groups.
 const GROUPS: &Table = &Table {
     name: "groups",
-    boxes: 32,
+    sizes: Sizes::Mixed,
+    ..HUNDREDS
+};
+
+/// And of 1,000 records each.
+const THOUSAND: &Table = &Table {
+    name: "a thousand",
     steps: &[
-        DrivesGroups(Run(Part(0, 300, 10_000), PACE, Ok((300, 300)))),
-        Whole,
-        Reads(2, 300, 10_000),
+        Drives(Run(Part(0, 1000, 10_000), PACE, Ok((1000, 1000)))),
+        Reads(1000, 10_000),
         Splits,
     ],
-    ..PLAIN
+    ..HUNDREDS
 };
 
 // Whether two writers find one another before their first record.
@@ -108,7 +101,7 @@ const GIVEN_UP: &Table = &Table {
 };
 
 // What a gate is told in the runs of a table, before groups and behind them; none where a step does not go as told.
-fn gate_sums<R: AllocGlobal + Threads + Wait>(rt: &R, table: &'static Table) -> Option<(u64, u64)> {
+fn gate_sums<R: AllocGlobal + Threads + Wait>(rt: &R, table: &Table) -> Option<(u64, u64)> {
     let gate = Sums {
         before: AtomicU64::new(0),
         after: AtomicU64::new(0),
@@ -125,7 +118,7 @@ fn gate_sums<R: AllocGlobal + Threads + Wait>(rt: &R, table: &'static Table) -> 
 // The table of which the sums are others. A record that is given up passes the gate on both sides.
 fn wrong_sums<R: AllocGlobal + Threads + Wait>(rt: &R) -> Option<(&'static str, usize)> {
     // Twice 1 + 2 + .. + 300, and 300 times a million for writer 1.
-    if gate_sums(rt, HUNDREDS) != Some((300_090_300, 300_090_300)) {
+    if gate_sums(rt, &HUNDREDS) != Some((300_090_300, 300_090_300)) {
         return Some((HUNDREDS.name, 0));
     }
     // Twice 1 + 2 + .. + 120, and 120 times a million.
@@ -181,7 +174,7 @@ fn wrong_receipts<R: AllocGlobal + Threads + Wait>(rt: &R) -> Option<(&'static s
         second: AtomicU64::new(0),
         fell: AtomicBool::new(false),
     };
-    let went = walked(rt, HUNDREDS, &gate).is_ok() && !gate.fell.load(Ordering::SeqCst);
+    let went = walked(rt, &HUNDREDS, &gate).is_ok() && !gate.fell.load(Ordering::SeqCst);
     let told = (
         gate.first.load(Ordering::SeqCst),
         gate.second.load(Ordering::SeqCst),

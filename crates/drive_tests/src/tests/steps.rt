@@ -5,7 +5,7 @@ ghost use Rattle.bw_ring.specs.Ends.{ring_of_feed};
 ghost use Rattle.bw_store.specs.Views.{kept_by, IsSound};
 
 use super::reading::{is_split, learns, reads};
-use super::scripts::{Part, Sizes, are_whole, begun, scripts};
+use super::scripts::{Part, Sizes, begun, scripts};
 use bw_drive::{DriveFault, Driven, Gate, Plan, drive};
 use bw_ring::Feed;
 use bw_store::{Store, StoreFault};
@@ -36,12 +36,7 @@ pub(super) struct Run(
 
 #[derive(Drop)]
 pub(super) enum Step {
-    /// Each record alone.
     Drives(Run),
-    /// The records in groups of one to four.
-    DrivesGroups(Run),
-    /// The history is whole groups of such runs.
-    Whole,
     /// All is taken and flushed, or refused.
     Settles(Result<(), StoreFault>),
     /// The history is the first records of each writer, and has so many entries at most.
@@ -50,17 +45,17 @@ pub(super) enum Step {
     Durable(u64, u64),
     /// How many boxes there are, and how many of them are live at most.
     Boxes(u32, u32),
-    /// All pages together have the last value of each key of the first so many records of so many
+    /// All pages together have the last value of each key of the first so many records of all
     /// writers, and no more.
-    Reads(usize, u32, u32),
-    /// A new reader that learnt the last news sees the last of the first so many records of each of
-    /// so many writers.
-    Learns(usize, u32, u32),
+    Reads(u32, u32),
+    /// A new reader that learnt the last news sees the last of the first so many records of each
+    /// writer.
+    Learns(u32, u32),
     /// The first page has the first two records of writer 0, and no more.
     Splits,
 }
 
-use Step::{Begins, Boxes, Drives, DrivesGroups, Durable, Learns, Reads, Settles, Splits, Whole};
+use Step::{Begins, Boxes, Drives, Durable, Learns, Reads, Settles, Splits};
 
 // Whether of each writer so many records were accepted here, at least and at most, and all that its
 // feed accepted was taken.
@@ -146,8 +141,8 @@ fn settles<R: Wait>(
     }
 }
 
-// A step that only asks.
-fn answers(store: &mut Store, step: &Step) -> bool
+// A step that only asks, of a store of so many writers.
+fn answers(store: &mut Store, writers: usize, step: &Step) -> bool
     requires { IsSound store.old holding }
     ensures sound { IsSound store.new holding }
     ensures rings { (kept_by store.new holding).rings ≡ (kept_by store.old holding).rings }
@@ -163,9 +158,8 @@ fn answers(store: &mut Store, step: &Step) -> bool
             here <= *live && here.saturating_add(spares) == *all
         }
         Splits => is_split(store),
-        Whole => are_whole(store.history()),
-        Reads(writers, records, keys) => reads(store, *writers, *records, *keys),
-        Learns(writers, records, keys) => learns(store, *writers, *records, *keys),
+        Reads(records, keys) => reads(store, writers, *records, *keys),
+        Learns(records, keys) => learns(store, writers, *records, *keys),
         _ => false,
     }
 }
@@ -176,6 +170,7 @@ pub(super) fn goes<R: AllocGlobal + Threads + Wait, G: Gate>(
     store: &mut Store,
     feeds: Vec<Feed>,
     gate: &G,
+    sizes: Sizes,
     step: &Step,
 ) -> (Vec<Feed>, bool)
     requires sound { IsSound store.old holding }
@@ -184,15 +179,14 @@ pub(super) fn goes<R: AllocGlobal + Threads + Wait, G: Gate>(
     ensures feeds { map ring_of_feed result.0.items ≡ (kept_by store.new holding).rings }
 {
     match step {
-        Drives(run) => drives(rt, store, feeds, gate, run, Sizes::One),
-        DrivesGroups(run) => drives(rt, store, feeds, gate, run, Sizes::Mixed),
+        Drives(run) => drives(rt, store, feeds, gate, run, sizes),
         Settles(told) => {
             let mut feeds = feeds;
             let went = settles(rt, store, &mut feeds, *told);
             (feeds, went)
         }
         _ => {
-            let went = answers(store, step);
+            let went = answers(store, feeds.len(), step);
             (feeds, went)
         }
     }

@@ -5,6 +5,7 @@ ghost use Rattle.bw_ring.specs.Ends.{ring_of_feed};
 ghost use Rattle.bw_store.specs.Views.{kept_by, IsSound};
 
 use super::boxes::boxes;
+use super::scripts::{Sizes, are_whole};
 use super::steps::{Step, goes};
 use bw_device::Segment;
 use bw_drive::{Gate, OpenGate};
@@ -23,10 +24,13 @@ pub(super) struct Table {
     pub(super) capacity: u64,
     /// The first box fails after so many calls.
     pub(super) fuse: Option<u64>,
+    /// How the records of all runs stand in groups. Those of mixed sizes are whole in the history
+    /// behind each step.
+    pub(super) sizes: Sizes,
     pub(super) steps: &'static [Step],
 }
 
-/// Two writers with rings of eight places, and four boxes that do not fail.
+/// Two writers with rings of eight places, and four boxes that do not fail; each record alone.
 pub(super) const PLAIN: Table = Table {
     name: "plain",
     writers: 2,
@@ -34,6 +38,7 @@ pub(super) const PLAIN: Table = Table {
     boxes: 4,
     capacity: 65_560,
     fuse: None,
+    sizes: Sizes::One,
     steps: &[],
 };
 
@@ -42,7 +47,7 @@ fn wrong_step<R: AllocGlobal + Threads + Wait, G: Gate>(
     rt: &R,
     store: &mut Store,
     feeds: Vec<Feed>,
-    steps: &[Step],
+    table: &Table,
     gate: &G,
 ) -> Option<usize>
     requires sound { IsSound store.old holding }
@@ -50,10 +55,10 @@ fn wrong_step<R: AllocGlobal + Threads + Wait, G: Gate>(
     ensures { IsSound store.new holding }
 {
     let mut feeds = feeds;
-    for (i, step) in steps.iter().enumerate() {
-        let (back, went) = goes(rt, store, feeds, gate, step);
+    for (i, step) in table.steps.iter().enumerate() {
+        let (back, went) = goes(rt, store, feeds, gate, table.sizes, step);
         feeds = back;
-        if !went {
+        if !went || (table.sizes == Sizes::Mixed && !are_whole(store.history())) {
             return Some(i);
         }
     }
@@ -89,7 +94,7 @@ pub(super) fn walked<R: AllocGlobal + Threads + Wait, G: Gate>(
     let Ok((mut store, feeds)) = Store::open(rt, rt.alloc(), &config, boxes) else {
         return Err(0);
     };
-    let wrong = wrong_step(rt, &mut store, feeds, table.steps, gate);
+    let wrong = wrong_step(rt, &mut store, feeds, table, gate);
     let left = store.shut(rt);
     match wrong {
         Some(step) => Err(step),

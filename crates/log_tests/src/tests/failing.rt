@@ -7,7 +7,7 @@ ghost use Rattle.log_tests.specs.Views.{seen, IsSound};
 use super::care::boxes::is_page;
 use super::page::{begin, log_over, opening, put};
 use super::walking::begun;
-use super::{Table, all_went, first_wrong};
+use super::{Table, all_go};
 use bw_device::Segment;
 use bw_log::{Log, LogFault};
 use std::alloc::Global;
@@ -149,5 +149,5 @@ impl Table for Row {
 
 #[test]
 fn what_stands_behind_a_failed_append_is_as_told(rt: HostRuntime) {
-    all_went(&rt, first_wrong(rt.alloc(), ROWS));
+    all_go(&rt, ROWS);
 }

@@ -8,7 +8,7 @@ ghost use Rattle.log_tests.specs.OnePage.{Counts, HoldsOne, Opens};
 use super::care::boxes::{is_shown, is_spelled};
 use super::filled::full_opening;
 use super::page::{begin, give_up, log_over, opening, put, rewrite};
-use super::{Fuse, NEVER, Table, Yard, all_went, first_wrong};
+use super::{Fuse, NEVER, Table, Yard, all_go};
 use bw_buffer::Buffer;
 use bw_codec::{Leaf, Place};
 use bw_device::Segment;
@@ -349,5 +349,5 @@ const TABLES: &[Walk] = &[
 
 #[test]
 fn logs_of_one_page_go_as_told(rt: HostRuntime) {
-    all_went(&rt, first_wrong(rt.alloc(), TABLES));
+    all_go(&rt, TABLES);
 }

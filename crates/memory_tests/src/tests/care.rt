@@ -56,12 +56,26 @@ fn holds(alloc: Global, log: &mut Log, segment: u64, told: &str) -> bool
     }
 }
 
-fn is_memory(fault: CleanFault) -> bool {
-    fault == CleanFault::Log(LogFault::NoMemory)
+/// How a call went that answers so with memory, and left what it is told to leave either way.
+fn answered<T: PartialEq + Drop>(
+    answer: Result<T, CleanFault>,
+    told: T,
+    refused: bool,
+    is_left: bool,
+) -> Option<Try> {
+    match answer {
+        Ok(found) => tried(true, refused, is_left && found == told),
+        Err(fault) => {
+            let is_memory = fault == CleanFault::Log(LogFault::NoMemory);
+            tried(false, refused, is_left && is_memory)
+        }
+    }
 }
 
-/// How many segments are live, the bytes of the newest, and how many spares stand.
-fn picture(log: &Log) -> (u32, Option<(u64, u32, u64)>, u32)
+/// How many segments are live, the newest one, and how many spares stand.
+type Picture = (u32, Option<(u64, u32, u64)>, u32);
+
+fn picture(log: &Log) -> Picture
     requires { IsSound log.now holding }
 {
     (
@@ -79,19 +93,12 @@ fn cleans(alloc: Global, log: &mut Log) -> Option<Try>
     begin(alloc);
     let answer = clean(alloc, log);
     let refused = end(alloc);
-    let now = picture(log);
-    match answer {
-        Ok(cleaned) => {
-            let holds = holds(alloc, log, 3, THIRD_NEWER);
-            let is_so = cleaned == TOLD && now == (2, Some((3, 2, 107)), 1);
-            tried(true, refused, is_so & holds)
-        }
-        Err(fault) => {
-            let holds = holds(alloc, log, 3, THIRD_LAST);
-            let is_left = now == (3, Some((3, 2, 69)), 1);
-            tried(false, refused, is_left & holds & is_memory(fault))
-        }
-    }
+    let (now, bytes): (Picture, &str) = match answer {
+        Ok(_) => ((2, Some((3, 2, 107)), 1), THIRD_NEWER),
+        Err(_) => ((3, Some((3, 2, 69)), 1), THIRD_LAST),
+    };
+    let is_left = picture(log) == now && holds(alloc, log, 3, bytes);
+    answered(answer, TOLD, refused, is_left)
 }
 
 /// What an upgrade of the three segments tells.
@@ -112,18 +119,11 @@ fn upgrades(alloc: Global, log: &mut Log) -> Option<Try>
     begin(alloc);
     let answer = upgrade(alloc, log);
     let refused = end(alloc);
-    let now = picture(log);
-    match answer {
-        Ok(upgraded) => {
-            let holds = holds(alloc, log, 4, UPGRADED_LAST);
-            let is_so = upgraded == ALL_THREE && now == (1, Some((4, 3, 62)), 0);
-            tried(true, refused, is_so & holds)
-        }
-        Err(fault) => {
-            let is_left = now == (3, Some((3, 2, 68)), 1);
-            tried(false, refused, is_left & is_memory(fault))
-        }
-    }
+    let is_left = match answer {
+        Ok(_) => { picture(log) == (1, Some((4, 3, 62)), 0) && holds(alloc, log, 4, UPGRADED_LAST) }
+        Err(_) => picture(log) == (3, Some((3, 2, 68)), 1),
+    };
+    answered(answer, ALL_THREE, refused, is_left)
 }
 
 fn reads(alloc: Global, log: &mut Log) -> Option<Try>

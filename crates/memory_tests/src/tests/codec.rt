@@ -4,7 +4,7 @@ ghost use Rattle.std.specs.Prelude.{◌≤◌, length, IfSome};
 ghost use Rattle.std.specs.List.{AllByRecursion};
 ghost use Rattle.bw_codec.specs.Grammar.{IsBlock};
 
-use super::{Ask, Row, Try, all_went, asked_again, is, then, tried, wrong_row};
+use super::{Ask, Row, Try, all_went, asked_again, changed, is, then, tried, wrong_row};
 use bw_buffer::Buffer;
 use bw_codec::limits::{LATEST, MIN_FRAME};
 use bw_codec::{
@@ -235,13 +235,7 @@ fn inserts(alloc: Global, leaf: &mut Leaf) -> Option<Try> {
     }
     begin(alloc);
     let went = leaf.pairs.insert(1, &key, &value).is_ok();
-    let refused = end(alloc);
-    let is_left = if went {
-        shows(leaf, b"a: a=1 b=2 c=3")
-    } else {
-        shows(leaf, b"a: a=1 c=3")
-    };
-    tried(went, refused, is_left)
+    changed(leaf, went, end(alloc), b"a: a=1 b=2 c=3", b"a: a=1 c=3")
 }
 
 fn is_inserted(alloc: Global) -> Option<Try> {

@@ -1,6 +1,6 @@
 //! Writers in threads: a run that was refused is settled, and followed by another over the same feeds.
 
-ghost use Rattle.std.specs.Prelude.{◌≡◌, map, vec_len, IfOk};
+ghost use Rattle.std.specs.Prelude.{◌≡◌, map, vec_len, length, IfOk, IfSome};
 ghost use Rattle.bw_ring.specs.Ends.{ring_of_feed};
 ghost use Rattle.bw_store.specs.Views.{kept_by, IsSound};
 
@@ -103,6 +103,16 @@ fn are_begun(entries: &[PackedEntry]) -> bool {
     behind.is_none()
 }
 
+// A script for each of two feeds.
+fn scripts_for(alloc: Global, feeds: &[Feed]) -> Option<Vec<Vec<Group>>>
+    ensures { IfSome result (λ s. (vec_len s ≡ 2) × (length feeds.now ≡ 2)) }
+{
+    match scripts(alloc) {
+        Ok(scripts) if feeds.len() == 2 => Some(scripts),
+        _ => None,
+    }
+}
+
 // A run over the feeds: all records of the scripts are entered behind `old` ones.
 fn runs_again<R: Threads + Wait>(
     rt: &R,
@@ -115,12 +125,9 @@ fn runs_again<R: Threads + Wait>(
     requires feeds { map ring_of_feed feeds.items ≡ (kept_by store.old holding).rings }
     ensures { IsSound store.new holding }
 {
-    let Ok(scripts) = scripts(alloc) else {
+    let Some(scripts) = scripts_for(alloc, feeds.as_slice()) else {
         return false;
     };
-    if feeds.len() != 2 {
-        return false;
-    }
     match drive(rt, store, feeds, scripts, &OpenGate, PLAN, TRIES) {
         Ok(driven) => driven.entries == old.saturating_add(BOTH),
         Err(_) => false,
@@ -154,12 +161,7 @@ fn runs<R: Threads + Wait>(
     requires feeds { map ring_of_feed feeds.items ≡ (kept_by store.old holding).rings }
     ensures { IsSound store.new holding }
 {
-    let Ok(scripts) = scripts(alloc) else {
-        return None;
-    };
-    if feeds.len() != 2 {
-        return None;
-    }
+    let scripts = scripts_for(alloc, feeds.as_slice())?;
     begin(alloc);
     let answer = drive(rt, store, feeds, scripts, &OpenGate, PLAN, TRIES);
     let refused = end(alloc);

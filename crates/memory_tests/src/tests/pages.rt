@@ -3,7 +3,7 @@
 ghost use Rattle.std.specs.Prelude.{◌≡◌, [], IfOk, IfSome};
 
 use super::versions::entries;
-use super::{Ask, Row, Try, all_went, asked_again, put, then, tried, wrong_row};
+use super::{Ask, Row, Try, all_went, asked_again, changed, lettered, put, then, tried, wrong_row};
 use bw_codec::{Block, Leaf, Ops, Place, Record};
 use bw_page::{
     Applied, ApplyError, Chain, Draft, Leaves, Start, change, change_all, cut_in_two, empty_page,
@@ -156,15 +156,6 @@ fn copies_start(alloc: Global) -> Option<Try> {
     }
 }
 
-/// One letter a pair, without values.
-fn lettered(alloc: Global, letters: &[u8]) -> Option<Vec<Record>> {
-    let mut records = Vec::new(alloc);
-    for letter in letters {
-        records.push(put(&[*letter], b"")?).ok()?;
-    }
-    Some(records)
-}
-
 /// A full page.
 fn full(alloc: Global) -> Option<Leaves>
     ensures { IfSome result (λ l. l.evicted ≡ []) }
@@ -239,15 +230,6 @@ fn looks_at(alloc: Global, leaves: &mut Leaves, way: Way) -> Option<Try>
     }
 }
 
-fn is_looked_at(alloc: Global, way: Way) -> Option<Try> {
-    let mut leaves = full(alloc)?;
-    let first = looks_at(alloc, &mut leaves, way)?;
-    if first == Try::Refused {
-        return then(first, looks_at(alloc, &mut leaves, way));
-    }
-    Some(first)
-}
-
 /// One try: e is put beside a to d, or f and g behind it.
 fn applied(alloc: Global, leaves: &mut Leaves, way: Way) -> Option<Try>
     requires { leaves.old.evicted ≡ [] }
@@ -283,11 +265,22 @@ fn applied(alloc: Global, leaves: &mut Leaves, way: Way) -> Option<Try>
     }
 }
 
-fn is_applied(alloc: Global, way: Way) -> Option<Try> {
+/// One try of what a fifth pair does, or would do.
+fn tries(alloc: Global, leaves: &mut Leaves, way: Way) -> Option<Try>
+    requires { leaves.old.evicted ≡ [] }
+    ensures { leaves.new.evicted ≡ [] }
+{
+    match way {
+        Way::Steps | Way::Step | Way::Scan => looks_at(alloc, leaves, way),
+        _ => applied(alloc, leaves, way),
+    }
+}
+
+fn is_tried(alloc: Global, way: Way) -> Option<Try> {
     let mut leaves = full(alloc)?;
-    let first = applied(alloc, &mut leaves, way)?;
+    let first = tries(alloc, &mut leaves, way)?;
     if first == Try::Refused {
-        return then(first, applied(alloc, &mut leaves, way));
+        return then(first, tries(alloc, &mut leaves, way));
     }
     Some(first)
 }
@@ -297,13 +290,7 @@ fn changes(alloc: Global, leaf: &mut Leaf) -> Option<Try> {
     let record = put(b"b", b"2")?;
     begin(alloc);
     let went = change(leaf, &record).is_ok();
-    let refused = end(alloc);
-    let is_left = if went {
-        shows(leaf, b": a=1 b=2")
-    } else {
-        shows(leaf, b": a=1")
-    };
-    tried(went, refused, is_left)
+    changed(leaf, went, end(alloc), b": a=1 b=2", b": a=1")
 }
 
 fn is_changed(alloc: Global) -> Option<Try> {
@@ -528,8 +515,7 @@ impl Row for Call {
     fn goes<R: AllocGlobal + Threads + Wait>(&self, rt: &R) -> Option<Try> {
         let alloc = rt.alloc();
         match self {
-            Call::Apply(way) => is_applied(alloc, *way),
-            Call::Look(way) => is_looked_at(alloc, *way),
+            Call::Apply(way) | Call::Look(way) => is_tried(alloc, *way),
             Call::Change => is_changed(alloc),
             Call::Chain(link) => is_linked(alloc, *link),
             _ => asked_again(rt, self),

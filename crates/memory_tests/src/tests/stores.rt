@@ -35,9 +35,11 @@ struct Run {
     /// After how many calls the first box fails once, and how many bytes it then keeps.
     fuse: Option<(u64, u64)>,
     steps: &'static [Step],
-    /// The first and last frame that are recovered, and the steps that follow.
-    again: Option<(u64, u64, &'static [Step])>,
+    again: Option<Again>,
 }
+
+/// The first and last frame that are recovered, and the steps that follow.
+type Again = (u64, u64, &'static [Step]);
 
 const CONFIG: &Config = &Config {
     writers: 1,
@@ -233,19 +235,14 @@ fn reopens<R: Wait>(
 }
 
 // What is recovered of the boxes of a life, and the life that follows: how they went.
-fn goes_on<R: Wait>(
-    rt: &R,
-    alloc: Global,
-    left: Left,
-    frames: (u64, u64),
-    steps: &[Step],
-) -> Option<Try> {
+fn goes_on<R: Wait>(rt: &R, alloc: Global, left: Left, again: &Again) -> Option<Try> {
     let Left { went, boxes, desk } = left;
     let (first, found) = recovered(alloc, boxes)?;
-    if (found.first, found.last, found.tail) != (frames.0, frames.1, 0) {
+    let (first_frame, last_frame, steps) = again;
+    if numbers(&found) != (*first_frame, *last_frame, 0) {
         return None;
     }
-    let again = reopens(rt, alloc, found, desk, steps);
+    let again = reopens(rt, alloc, found, desk, *steps);
     both(both(went, Some(first)), again)
 }
 
@@ -255,7 +252,7 @@ impl Row for Run {
         let supply = supplied(alloc, 4, &[], self.fuse)?;
         let left = opens(rt, alloc, supply, self.steps)?;
         match &self.again {
-            Some((first, last, steps)) => goes_on(rt, alloc, left, (*first, *last), *steps),
+            Some(again) => goes_on(rt, alloc, left, again),
             None => {
                 let Left {
                     went,
@@ -295,7 +292,8 @@ const FIVE: &[Step] = &[
     News(b"e", b"5"),
 ];
 
-/// Three segments, of which the first is given up: its page is written again.
+/// Three segments, of which the first is given up: its page is written again. Then the second is,
+/// whose page stands in the third, and then none.
 const CLEANED: &[Step] = &[
     Frame(b"k", b"1", 1),
     Roll,
@@ -314,16 +312,6 @@ const CLEANED: &[Step] = &[
     Sees(b"k", b"3"),
     Bytes(2, THIRD_OLDER),
     Bytes(3, THIRD_NEWER),
-];
-
-/// And cleaned once more, and a third time.
-const CLEANED_TWICE: &[Step] = &[
-    Frame(b"k", b"1", 1),
-    Roll,
-    Frame(b"j", b"2", 2),
-    Roll,
-    Frame(b"k", b"3", 3),
-    Clean(1, 0, 1, 1),
     Clean(2, 1, 0, 0),
     Out(&[2, 3]),
     Live(0, 3, 2, 107),
@@ -427,11 +415,6 @@ const RUNS: &[Run] = &[
     Run {
         fuse: None,
         steps: CLEANED,
-        again: None,
-    },
-    Run {
-        fuse: None,
-        steps: CLEANED_TWICE,
         again: None,
     },
     Run {

@@ -4,7 +4,7 @@ ghost use Rattle.std.specs.Prelude.{◌≡◌, ◌≤◌, [], IfOk, IfSome};
 ghost use mathlib.Core.List.{IsPrefix};
 ghost use Rattle.bw_versions.specs.Batches.{entries_of};
 
-use super::{Ask, Row, Try, all_went, asked_again, put, then, tried, wrong_row};
+use super::{Ask, Row, Try, all_went, asked_again, lettered, put, then, tried, wrong_row};
 use bw_codec::Key;
 use bw_page::Leaves;
 use bw_versions::{
@@ -48,8 +48,7 @@ fn start(alloc: Global) -> Result<Leaves, AllocError>
 /// One writer's puts of these letters, without values.
 pub(super) fn entries(alloc: Global, letters: &[u8]) -> Option<Vec<Entry>> {
     let mut entries = Vec::new(alloc);
-    for letter in letters {
-        let item = put(&[*letter], b"")?;
+    for item in lettered(alloc, letters)? {
         entries
             .push(Entry {
                 writer: 0,
@@ -206,18 +205,35 @@ fn is_new(made: Result<Reader, ReadFault>, refused: bool) -> Option<Try> {
     }
 }
 
-/// One try of a reader of a publisher.
-fn makes_reader(alloc: Global, publisher: &mut Publisher) -> Option<Try> {
+/// What readers are made of.
+trait Source {
+    fn a_reader(&mut self) -> Result<Reader, ReadFault>;
+}
+
+impl Source for Publisher {
+    fn a_reader(&mut self) -> Result<Reader, ReadFault> {
+        self.reader()
+    }
+}
+
+impl Source for Versions {
+    fn a_reader(&mut self) -> Result<Reader, ReadFault> {
+        self.reader()
+    }
+}
+
+/// One try of a reader.
+fn makes_reader<S: Source>(alloc: Global, source: &mut S) -> Option<Try> {
     begin(alloc);
-    let made = publisher.reader();
+    let made = source.a_reader();
     is_new(made, end(alloc))
 }
 
 /// A place is not used up by a reader that was refused: there is one alone.
-fn is_reader_made(alloc: Global, publisher: &mut Publisher) -> Option<Try> {
-    let first = makes_reader(alloc, publisher)?;
+fn is_reader_made<S: Source>(alloc: Global, source: &mut S) -> Option<Try> {
+    let first = makes_reader(alloc, source)?;
     if first == Try::Refused {
-        return then(first, makes_reader(alloc, publisher));
+        return then(first, makes_reader(alloc, source));
     }
     Some(first)
 }
@@ -340,21 +356,6 @@ fn is_up_to<R: Wait>(rt: &R, alloc: Global, stand: &mut Stand) -> Option<Try>
     }
 }
 
-/// One try of a reader of versions.
-fn makes_one(alloc: Global, stand: &mut Stand) -> Option<Try> {
-    begin(alloc);
-    let made = stand.versions.reader();
-    is_new(made, end(alloc))
-}
-
-fn is_one_made(alloc: Global, stand: &mut Stand) -> Option<Try> {
-    let first = makes_one(alloc, stand)?;
-    if first == Try::Refused {
-        return then(first, makes_one(alloc, stand));
-    }
-    Some(first)
-}
-
 // The same puts as a history keeps them.
 fn packed(alloc: Global, letters: &[u8]) -> Option<Vec<PackedEntry>> {
     let mut history = Vec::new(alloc);
@@ -380,7 +381,7 @@ fn stand_of<R: AllocGlobal + Wait>(rt: &R) -> Option<Stand>
 fn with_versions<R: AllocGlobal + Wait>(rt: &R, call: &Call) -> Option<Try> {
     let mut stand = stand_of(rt)?;
     let went = match call {
-        Call::ReaderOfVersions => is_one_made(rt.alloc(), &mut stand),
+        Call::ReaderOfVersions => is_reader_made(rt.alloc(), &mut stand.versions),
         _ => is_up_to(rt, rt.alloc(), &mut stand),
     };
     let Stand {

@@ -22,51 +22,15 @@ fn spared(alloc: Global, is_so: bool) -> Option<bool> {
 
 #[test]
 fn bytes_take_no_memory(rt: HostRuntime) {
-    let alloc = rt.alloc();
-    let said = [
-        bytes::keys_and_values(alloc),
-        bytes::records(alloc),
-        bytes::heads(alloc),
-        bytes::lows(alloc),
-        bytes::pairs(alloc),
-        bytes::pairs_are_made(alloc),
-        bytes::blocks(alloc),
-        bytes::outlines(alloc),
-        bytes::a_block_is_written(alloc),
-    ];
-    all_hold(&rt, &said);
+    all_hold(&rt, &bytes::said(rt.alloc()));
 }
 
 #[test]
 fn pages_buffers_and_chains_take_no_memory(rt: HostRuntime) {
-    let alloc = rt.alloc();
-    let said = [
-        held::leaves(alloc),
-        held::a_page_goes_and_comes(alloc),
-        held::one_leaf(alloc),
-        held::pairs_are_dropped(alloc),
-        held::chains(alloc),
-        held::reserved_chains(alloc),
-        held::buffers(alloc),
-        held::bases(alloc),
-    ];
-    all_hold(&rt, &said);
+    all_hold(&rt, &held::said(rt.alloc()));
 }
 
 #[test]
 fn rings_segments_and_logs_take_no_memory(rt: HostRuntime) {
-    let alloc = rt.alloc();
-    let said = [
-        ends::rings(alloc),
-        ends::groups(alloc),
-        ends::leases(alloc),
-        ends::segments(alloc),
-        ends::boxes(alloc),
-        ends::logs(alloc),
-        ends::log_is_adopted(alloc),
-        ends::boards(alloc),
-        ends::entries(alloc),
-        ends::gates(alloc),
-    ];
-    all_hold(&rt, &said);
+    all_hold(&rt, &ends::said(rt.alloc()));
 }

@@ -133,24 +133,25 @@ pub(super) fn lease_of(alloc: Global, number: u32) -> Option<Lease> {
     desk.take().ok()
 }
 
-fn open(stand: &mut Stand) -> Told {
-    match Folder::open(&stand.rt, stand.rt.path) {
-        Ok(folder) => {
-            stand.folder = Some(folder);
+// Puts what was opened at its place.
+fn kept<T: Drop>(place: &mut Option<T>, opened: Result<T, FolderFault>) -> Told {
+    match opened {
+        Ok(value) => {
+            *place = Some(value);
             Told::Done
         }
         Err(cause) => fault(cause),
     }
 }
 
+fn open(stand: &mut Stand) -> Told {
+    let opened = Folder::open(&stand.rt, stand.rt.path);
+    kept(&mut stand.folder, opened)
+}
+
 fn look(stand: &mut Stand) -> Told {
-    match FolderReader::open(&stand.rt, stand.rt.path) {
-        Ok(reader) => {
-            stand.reader = Some(reader);
-            Told::Done
-        }
-        Err(cause) => fault(cause),
-    }
+    let opened = FolderReader::open(&stand.rt, stand.rt.path);
+    kept(&mut stand.reader, opened)
 }
 
 // Puts a segment that was opened at its place.
@@ -355,13 +356,18 @@ pub(super) fn goes(stand: &mut Stand, act: &Act) -> Told {
     }
 }
 
+/// Whether a row goes as told.
+pub(super) fn is_told(stand: &mut Stand, row: &Row) -> bool {
+    let Row(act, told, letters) = row;
+    let went = goes(stand, act);
+    let made = stand.rt.watch.take_letters();
+    went == *told && made == number_of(letters)
+}
+
 /// The first row that did not go as told.
 pub(super) fn wrong_row(stand: &mut Stand, rows: &[Row]) -> Option<usize> {
     for (i, row) in rows.iter().enumerate() {
-        let Row(act, told, letters) = row;
-        let went = goes(stand, act);
-        let made = stand.rt.watch.take_letters();
-        if went != *told || made != number_of(letters) {
+        if !is_told(stand, row) {
             return Some(i);
         }
     }

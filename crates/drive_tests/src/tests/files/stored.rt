@@ -6,10 +6,9 @@ ghost use Rattle.bw_store.specs.Views.{IsSound};
 
 use super::super::{all_went, clear};
 use super::recovered::Said::Found;
-use super::recovered::{Said, boxes_of};
-use super::steps::Act::{Bytes, Cleans, First, Make, Tells};
-use super::steps::Told::Done;
-use super::steps::{Row, Table, goes_outside, wrong_table};
+use super::recovered::{Said, Worked, boxes_of, wrong_worked};
+use super::steps::Act::{First, Tells};
+use super::steps::goes_outside;
 use super::watched::{Watched, WatchedFile};
 use bw_care::{Cleaned, clean};
 use bw_codec::{Key, Record, Value};
@@ -209,27 +208,16 @@ pub(super) fn is_given_up(
     given_up & (!empties || folder.empty(rt, 0).is_ok())
 }
 
-/// A cleaning and a stop, before the file is emptied.
-const GIVEN: &[Row] = &[
-    Row(Make, Done, ""),
-    Row(Bytes("segment-0000.bw", THIRD_LOST, 77), Done, ""),
-    Row(Bytes("segment-0001.bw", THIRD_OLDER, 69), Done, ""),
-    Row(Cleans(false), Done, ""),
-    Row(Tells(3, Found(1, 3, 0, 2, 1, 0, JK)), Done, ""),
-];
+/// Two segments, the first of which is given up.
+const TWO: &[(&str, usize)] = &[(THIRD_LOST, 77), (THIRD_OLDER, 69)];
 
-/// The same behind it.
-const EMPTIED: &[Row] = &[
-    Row(Make, Done, ""),
-    Row(Bytes("segment-0000.bw", THIRD_LOST, 77), Done, ""),
-    Row(Bytes("segment-0001.bw", THIRD_OLDER, 69), Done, ""),
-    Row(Cleans(true), Done, ""),
-    Row(Tells(3, Found(2, 3, 0, 1, 2, 0, JK)), Done, ""),
+/// A cleaning and a stop, before the file is emptied and behind it.
+const CLEANED: &[Worked] = &[
+    Worked("given", TWO, Some(false), 3, Found(1, 3, 0, 2, 1, 0, JK)),
+    Worked("emptied", TWO, Some(true), 3, Found(2, 3, 0, 1, 2, 0, JK)),
 ];
-
-const CLEANED: &[Table] = &[("given", GIVEN), ("emptied", EMPTIED)];
 
 #[test]
 fn a_segment_that_was_given_up_is_gone_once_its_file_is_empty(rt: HostRuntime) {
-    all_went(&rt, wrong_table(rt, CLEANED));
+    all_went(&rt, wrong_worked(rt, CLEANED));
 }

@@ -1,8 +1,8 @@
 //! Cleanings of logs that were recovered from worked segments.
 
-use super::super::{all_went, first_wrong};
+use super::super::{all_go, all_went};
 use super::boxes::{AMPLE, Kept, Piece};
-use super::steps::Step::{Add, Back, Bytes, Cleans, NotCleaned, Page, Stands};
+use super::steps::Step::{Add, Bytes, Cleans, NotCleaned, Page, Stands};
 use super::steps::{Course, Step, walked};
 use Piece::{Cut, Whole};
 use bw_care::CleanFault;
@@ -12,13 +12,11 @@ use test_vectors::{BEHIND_SECOND, SECOND, THIRD_LOST, THIRD_NEWER, THIRD_OLDER};
 /// The bytes that a cleaning leaves, then one with nothing old, then none.
 const TWICE: &[Step] = &[
     Cleans(1, 0, 1, 1),
-    Back(1),
     Bytes(2, THIRD_OLDER),
     Bytes(3, THIRD_NEWER),
     Page(1, "1 : j=2 k=3;"),
     Stands(2, 1, 5),
     Cleans(2, 1, 0, 0),
-    Back(1),
     NotCleaned(CleanFault::NothingOld),
 ];
 
@@ -38,14 +36,12 @@ const NO_SPARE: &[Step] = &[
     Stands(3, 0, 4),
     Add,
     Cleans(1, 0, 1, 1),
-    Back(1),
     Stands(3, 0, 5),
 ];
 
 /// The cleaner's append fails: no box is dropped, the page is as before, and the log is Failed.
 const FAILED: &[Step] = &[
     NotCleaned(CleanFault::Log(LogFault::Device { lease: 2 })),
-    Back(0),
     Page(1, "1 : j=2 k=3;"),
     Stands(3, 1, 4),
     NotCleaned(CleanFault::Log(LogFault::Failed)),
@@ -81,7 +77,7 @@ const TABLES: &[Course] = &[
 
 #[test]
 fn cleanings_go_as_told(rt: HostRuntime) {
-    all_went(&rt, first_wrong(rt.alloc(), TABLES));
+    all_go(&rt, TABLES);
 }
 
 #[test]

@@ -1,8 +1,8 @@
 //! A cleaning whose pages need more frames than one.
 
 use super::super::{NEVER, Yard, add_box, empty_yard};
-use super::steps::cleans;
-use bw_care::{Cleaned, recover};
+use super::steps::{cleaned, cleans};
+use bw_care::recover;
 use bw_codec::limits::{LATEST, MIN_FRAME};
 use bw_codec::{Header, encode_frame_head, encode_header};
 use bw_device::Segment;
@@ -86,12 +86,7 @@ fn are_there(alloc: Global, live: Vec<Box<dyn Segment>>) -> bool {
 
 // Whether the log that is recovered is cleaned, and all pages are there then.
 fn are_cleaned(alloc: Global) -> Option<bool> {
-    let told = Cleaned {
-        segment: 1,
-        lease: 0,
-        pages: 40,
-        frames: 2,
-    };
+    let told = cleaned(1, 0, 40, 2);
     match recover(alloc, segments(alloc)?.boxes) {
         Ok(found) => {
             let mut log = found.log;

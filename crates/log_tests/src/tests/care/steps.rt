@@ -14,14 +14,16 @@ use std::alloc::Global;
 /// One call on a log, with what it has to answer.
 #[derive(Drop)]
 pub(super) enum Step {
-    /// A cleaning: the segment given up, its lease, how many pages, in how many frames.
+    /// A cleaning: the segment given up, its lease, how many pages, in how many frames. The lease
+    /// comes back.
     Cleans(u64, u32, usize, u64),
+    /// No lease comes back.
     NotCleaned(CleanFault),
     /// An upgrade: how many segments were given up, how many pages were written, in how many frames.
+    /// As many leases come back.
     Upgrades(u32, usize, u64),
+    /// No lease comes back.
     NotUpgraded(CleanFault),
-    /// The leases of a desk that come back.
-    Back(u32),
     /// A page as `shown`.
     Page(u32, &'static str),
     /// The bytes of a live segment.
@@ -34,7 +36,17 @@ pub(super) enum Step {
     Add,
 }
 
-use Step::{Add, Back, Bytes, Cleans, NotCleaned, NotUpgraded, Page, Stands, Upgrades, Versions};
+use Step::{Add, Bytes, Cleans, NotCleaned, NotUpgraded, Page, Stands, Upgrades, Versions};
+
+/// What a cleaning tells.
+pub(super) fn cleaned(segment: u64, lease: u32, pages: usize, frames: u64) -> Cleaned {
+    Cleaned {
+        segment,
+        lease,
+        pages,
+        frames,
+    }
+}
 
 /// Whether a cleaning answers as told.
 pub(super) fn cleans(alloc: Global, log: &mut Log, told: Result<Cleaned, CleanFault>) -> bool
@@ -77,25 +89,19 @@ fn goes(yard: &mut Yard, log: &mut Log, step: &Step) -> bool
     let alloc = yard.alloc;
     match step {
         Cleans(segment, lease, pages, frames) => {
-            let told = Cleaned {
-                segment: *segment,
-                lease: *lease,
-                pages: *pages,
-                frames: *frames,
-            };
-            cleans(alloc, log, Ok(told))
+            let told = cleaned(*segment, *lease, *pages, *frames);
+            cleans(alloc, log, Ok(told)) && yard.desk.collect() == 1
         }
-        NotCleaned(fault) => cleans(alloc, log, Err(*fault)),
+        NotCleaned(fault) => cleans(alloc, log, Err(*fault)) && yard.desk.collect() == 0,
         Upgrades(segments, pages, frames) => {
             let told = Upgraded {
                 segments: *segments,
                 pages: *pages,
                 frames: *frames,
             };
-            upgrades(alloc, log, Ok(told))
+            upgrades(alloc, log, Ok(told)) && yard.desk.collect() == *segments
         }
-        NotUpgraded(fault) => upgrades(alloc, log, Err(*fault)),
-        Back(count) => yard.desk.collect() == *count,
+        NotUpgraded(fault) => upgrades(alloc, log, Err(*fault)) && yard.desk.collect() == 0,
         Page(page, text) => is_page(log, *page, text),
         Bytes(segment, hex) => are_bytes(alloc, log, *segment, *hex),
         Versions(told) => are_versions(log, *told),

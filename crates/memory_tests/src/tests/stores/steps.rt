@@ -164,6 +164,16 @@ fn fails(fault: Option<StoreFault>, told: StoreFault) -> Result<bool, StoreFault
     }
 }
 
+/// What a cleaning tells.
+fn cleaned(segment: u64, lease: u32, pages: usize, frames: u64) -> Cleaned {
+    Cleaned {
+        segment,
+        lease,
+        pages,
+        frames,
+    }
+}
+
 /// Whether a key has a value, by itself and as the first from it on.
 fn has(alloc: Global, store: &mut Store, key: &[u8], value: &[u8]) -> Result<bool, StoreFault>
     requires { IsSound store.old holding }
@@ -259,13 +269,7 @@ fn tries<R: Wait>(
         Count(told) => Ok(store.count()? == *told),
         NewSees(key, value) => new_sees(store, *key, *value),
         Clean(segment, lease, pages, frames) => {
-            let told = Cleaned {
-                segment: *segment,
-                lease: *lease,
-                pages: *pages,
-                frames: *frames,
-            };
-            Ok(store.clean(rt)? == told)
+            Ok(store.clean(rt)? == cleaned(*segment, *lease, *pages, *frames))
         }
         CleanFails(told) => fails(store.clean(rt).err(), *told),
         Bytes(segment, told) => dumps(alloc, store, *segment, *told),

@@ -30,7 +30,7 @@ fn is_pair() -> bool {
     }
 }
 
-pub(super) fn keys_and_values(alloc: Global) -> Option<bool> {
+fn keys_and_values(alloc: Global) -> Option<bool> {
     begin_without(alloc);
     let is_so = is_pair()
         && is_before(b"a", b"aa")
@@ -58,7 +58,7 @@ fn listed(alloc: Global) -> Option<bool> {
     asked(alloc, is_so)
 }
 
-pub(super) fn records(alloc: Global) -> Option<bool> {
+fn records(alloc: Global) -> Option<bool> {
     begin_without(alloc);
     let is_one = asked(alloc, is_record());
     if is_one == Some(true) {
@@ -87,7 +87,7 @@ fn are_heads() -> bool {
     is_header && head.is_lawful(53)
 }
 
-pub(super) fn heads(alloc: Global) -> Option<bool> {
+fn heads(alloc: Global) -> Option<bool> {
     begin_without(alloc);
     let is_so = are_heads()
         && is(&header_cells(1, 4, 65_536), HEADER)
@@ -95,7 +95,7 @@ pub(super) fn heads(alloc: Global) -> Option<bool> {
     asked(alloc, is_so)
 }
 
-pub(super) fn lows(alloc: Global) -> Option<bool> {
+fn lows(alloc: Global) -> Option<bool> {
     let bytes = Vec::from_slice(alloc, b"low").ok()?;
     begin_without(alloc);
     let low = Low::of(bytes);
@@ -114,7 +114,7 @@ fn three(alloc: Global) -> Option<Vec<Pair>> {
     Some(items)
 }
 
-pub(super) fn pairs(alloc: Global) -> Option<bool> {
+fn pairs(alloc: Global) -> Option<bool> {
     let mut pairs = Pairs::of(three(alloc)?);
     let (key, value) = pair()?;
     let last = Pair::of(alloc, &key, &value).ok()?;
@@ -132,7 +132,7 @@ pub(super) fn pairs(alloc: Global) -> Option<bool> {
 }
 
 /// Pairs stand without their row where there is no memory for it.
-pub(super) fn pairs_are_made(alloc: Global) -> Option<bool> {
+fn pairs_are_made(alloc: Global) -> Option<bool> {
     let items = three(alloc)?;
     begin_without(alloc);
     let pairs = Pairs::of(items);
@@ -156,7 +156,7 @@ fn is_delta(block: &Block) -> bool {
     !block.sets(1) && block.touches(1) && block.back(1) == Some(BACK) && !block.touches(2)
 }
 
-pub(super) fn blocks(alloc: Global) -> Option<bool> {
+fn blocks(alloc: Global) -> Option<bool> {
     let mut items = Vec::new(alloc);
     items.push(block_of(alloc, DELTA)?).ok()?;
     begin_without(alloc);
@@ -169,7 +169,7 @@ pub(super) fn blocks(alloc: Global) -> Option<bool> {
     asked(alloc, is_so && items.len() == 1)
 }
 
-pub(super) fn outlines(alloc: Global) -> Option<bool> {
+fn outlines(alloc: Global) -> Option<bool> {
     begin_without(alloc);
     let is_so = match Outline::read(LATEST, DELTA) {
         Some(outline) => outline.touches(1) && !outline.touches(2),
@@ -178,11 +178,26 @@ pub(super) fn outlines(alloc: Global) -> Option<bool> {
     asked(alloc, is_so)
 }
 
-pub(super) fn a_block_is_written(alloc: Global) -> Option<bool> {
+fn a_block_is_written(alloc: Global) -> Option<bool> {
     let block = block_of(alloc, DELTA)?;
     let mut out = Vec::with_capacity(alloc, block_length(&block)).ok()?;
     begin_without(alloc);
     let length = block_length(&block);
     write_block(&block, &mut out);
     asked(alloc, length == DELTA.len() && is(out.as_slice(), DELTA))
+}
+
+/// What each of these says.
+pub(super) fn said(alloc: Global) -> [Option<bool>; 9] {
+    [
+        keys_and_values(alloc),
+        records(alloc),
+        heads(alloc),
+        lows(alloc),
+        pairs(alloc),
+        pairs_are_made(alloc),
+        blocks(alloc),
+        outlines(alloc),
+        a_block_is_written(alloc),
+    ]
 }

@@ -60,14 +60,6 @@ fn go_through(feed: &mut Feed, lane: &mut Lane, one: Record, other: Record) -> b
     are_put && !is_full && waits && is_taken && is_known && is_last
 }
 
-pub(super) fn rings(alloc: Global) -> Option<bool> {
-    let (mut feed, mut lane) = one_ring(alloc).ok()?;
-    let (one, other) = (put(b"k", b"v")?, put(b"l", b"w")?);
-    begin_without(alloc);
-    let is_so = go_through(&mut feed, &mut lane, one, other);
-    asked(alloc, is_so)
-}
-
 /// Whether a full ring hands a group of two back.
 fn is_handed_back(feed: &mut Feed, group: Group) -> bool
     ensures { ring_of_feed feed.new ≡ ring_of_feed feed.old }
@@ -92,15 +84,20 @@ fn goes_whole(feed: &mut Feed, lane: &mut Lane, one: Record, other: Record) -> b
     is_put && lane.take().is_some_and(|group| group.len() == 2)
 }
 
-pub(super) fn groups(alloc: Global) -> Option<bool> {
+/// Two records through one ring, each alone or in groups.
+fn through_one_ring(alloc: Global, in_groups: bool) -> Option<bool> {
     let (mut feed, mut lane) = one_ring(alloc).ok()?;
     let (one, other) = (put(b"k", b"v")?, put(b"l", b"w")?);
     begin_without(alloc);
-    let is_so = goes_whole(&mut feed, &mut lane, one, other);
+    let is_so = if in_groups {
+        goes_whole(&mut feed, &mut lane, one, other)
+    } else {
+        go_through(&mut feed, &mut lane, one, other)
+    };
     asked(alloc, is_so)
 }
 
-pub(super) fn leases(alloc: Global) -> Option<bool> {
+fn leases(alloc: Global) -> Option<bool> {
     let mut desk = Desk::new(alloc, 2).ok()?;
     let lease = desk.take().ok()?;
     begin_without(alloc);
@@ -123,7 +120,7 @@ fn holds(one: &mut dyn Segment, lease: u32) -> bool {
 }
 
 /// A segment of each kind in memory.
-pub(super) fn segments(alloc: Global) -> Option<bool> {
+fn segments(alloc: Global) -> Option<bool> {
     let mut desk = Desk::new(alloc, 3).ok()?;
     let mut one = MemSegment::new(alloc, desk.take().ok()?, 8).ok()?;
     let other = MemSegment::new(alloc, desk.take().ok()?, 8).ok()?;
@@ -170,7 +167,7 @@ fn are_boxes(boxes: &mut Vec<Box<dyn Segment>>) -> bool {
     is_first && are_right
 }
 
-pub(super) fn boxes(alloc: Global) -> Option<bool> {
+fn boxes(alloc: Global) -> Option<bool> {
     let Supply {
         mut boxes,
         desk: _desk,
@@ -219,7 +216,7 @@ fn is_closed(log: &mut Log) -> bool
     is_so && log.live() == 2
 }
 
-pub(super) fn logs(alloc: Global) -> Option<bool> {
+fn logs(alloc: Global) -> Option<bool> {
     let mut found = found_in(alloc, worked(alloc)?)?;
     begin_without(alloc);
     let is_so = is_closed(&mut found.log);
@@ -227,7 +224,7 @@ pub(super) fn logs(alloc: Global) -> Option<bool> {
 }
 
 /// The boxes of a log come out of it.
-pub(super) fn log_is_adopted(alloc: Global) -> Option<bool> {
+fn log_is_adopted(alloc: Global) -> Option<bool> {
     let Recovered {
         log,
         leaves: _leaves,
@@ -241,7 +238,7 @@ pub(super) fn log_is_adopted(alloc: Global) -> Option<bool> {
     asked(alloc, live.len() == 2 && spares.len() == 1)
 }
 
-pub(super) fn boards(alloc: Global) -> Option<bool> {
+fn boards(alloc: Global) -> Option<bool> {
     let start = Leaves::one_empty(alloc, 4).ok()?;
     let board = Board::new(alloc, &start).ok()?;
     let key = Key::new(b"k").ok()?;
@@ -250,7 +247,7 @@ pub(super) fn boards(alloc: Global) -> Option<bool> {
     asked(alloc, is_so)
 }
 
-pub(super) fn entries(alloc: Global) -> Option<bool> {
+fn entries(alloc: Global) -> Option<bool> {
     let entry = Entry {
         writer: 3,
         more: true,
@@ -262,7 +259,7 @@ pub(super) fn entries(alloc: Global) -> Option<bool> {
     asked(alloc, is_so)
 }
 
-pub(super) fn gates(alloc: Global) -> Option<bool> {
+fn gates(alloc: Global) -> Option<bool> {
     let gate = MeetGate::new(alloc, 1, 9).ok()?;
     begin_without(alloc);
     OpenGate.before(0, 0);
@@ -272,4 +269,20 @@ pub(super) fn gates(alloc: Global) -> Option<bool> {
     OpenGate.durable(0, 1);
     gate.durable(0, 1);
     asked(alloc, gate.met())
+}
+
+/// What each of these says.
+pub(super) fn said(alloc: Global) -> [Option<bool>; 10] {
+    [
+        through_one_ring(alloc, false),
+        through_one_ring(alloc, true),
+        leases(alloc),
+        segments(alloc),
+        boxes(alloc),
+        logs(alloc),
+        log_is_adopted(alloc),
+        boards(alloc),
+        entries(alloc),
+        gates(alloc),
+    ]
 }

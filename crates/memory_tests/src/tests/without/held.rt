@@ -51,7 +51,7 @@ fn are_so(leaves: &Leaves, key: &Key) -> bool
     is_page && has && leaves.count() == 1 && leaves.limit() == 4 && leaves.is_here(1)
 }
 
-pub(super) fn leaves(alloc: Global) -> Option<bool> {
+fn leaves(alloc: Global) -> Option<bool> {
     let leaves = one_page(alloc)?;
     let key = Key::new(b"a").ok()?;
     begin_without(alloc);
@@ -59,7 +59,7 @@ pub(super) fn leaves(alloc: Global) -> Option<bool> {
     asked(alloc, is_so)
 }
 
-pub(super) fn a_page_goes_and_comes(alloc: Global) -> Option<bool> {
+fn a_page_goes_and_comes(alloc: Global) -> Option<bool> {
     let mut leaves = one_page(alloc)?;
     let kept = match leaves.page(1) {
         Some(leaf) if leaves.count() == 1 => leaf.copy(),
@@ -83,7 +83,7 @@ fn tells(leaf: &Leaf, key: &Key, text: &[u8]) -> bool
     }
 }
 
-pub(super) fn one_leaf(alloc: Global) -> Option<bool> {
+fn one_leaf(alloc: Global) -> Option<bool> {
     let mut leaves = Leaves::one_empty(alloc, 4).ok()?;
     leaves.apply_all(&[put(b"a", b"1")?]).ok()?;
     let (key, record) = (Key::new(b"a").ok()?, put(b"b", b"2")?);
@@ -95,7 +95,7 @@ pub(super) fn one_leaf(alloc: Global) -> Option<bool> {
 
 /// Pairs are dropped from a key on, in a leaf and in a draft: no row is asked for that is not
 /// there.
-pub(super) fn pairs_are_dropped(alloc: Global) -> Option<bool> {
+fn pairs_are_dropped(alloc: Global) -> Option<bool> {
     let (leaf, other) = (lettered(alloc, b"abc")?, lettered(alloc, b"abc")?);
     begin_without(alloc);
     let leaf = keep_below(leaf, b"b");
@@ -114,7 +114,7 @@ fn chain(alloc: Global) -> Option<Chain> {
     Some(chain)
 }
 
-pub(super) fn chains(alloc: Global) -> Option<bool> {
+fn chains(alloc: Global) -> Option<bool> {
     let mut chain = chain(alloc)?;
     let page = empty_page(alloc);
     begin_without(alloc);
@@ -132,7 +132,7 @@ fn grows(chain: &mut Chain, record: Record) -> bool {
 }
 
 /// What was reserved is not refused.
-pub(super) fn reserved_chains(alloc: Global) -> Option<bool> {
+fn reserved_chains(alloc: Global) -> Option<bool> {
     let mut chain = chain(alloc)?;
     chain.reserve(4).ok()?;
     let (one, other) = (put(b"b", b"2")?, put(b"c", b"3")?);
@@ -163,7 +163,7 @@ fn fills(buffer: &mut Buffer, blocks: &Blocks) -> bool
     has_room && buffer.put_all(blocks.as_slice()) == Ok(BACK)
 }
 
-pub(super) fn buffers(alloc: Global) -> Option<bool> {
+fn buffers(alloc: Global) -> Option<bool> {
     let blocks = blocks_in(alloc, FRAME)?;
     let [first, ..] = blocks.as_slice() else {
         return None;
@@ -193,7 +193,21 @@ fn is_copied(alloc: Global, buffer: &mut Buffer) -> Option<bool> {
     asked(alloc, answer == Ok(BACK))
 }
 
-pub(super) fn bases(alloc: Global) -> Option<bool> {
+fn bases(alloc: Global) -> Option<bool> {
     let mut buffer = Buffer::new(alloc, 1, MIN_FRAME).ok()?;
     is_copied(alloc, &mut buffer)
+}
+
+/// What each of these says.
+pub(super) fn said(alloc: Global) -> [Option<bool>; 8] {
+    [
+        leaves(alloc),
+        a_page_goes_and_comes(alloc),
+        one_leaf(alloc),
+        pairs_are_dropped(alloc),
+        chains(alloc),
+        reserved_chains(alloc),
+        buffers(alloc),
+        bases(alloc),
+    ]
 }
