@@ -3,7 +3,7 @@
 ghost use Rattle.bw_care.specs.Views.{IsSound};
 
 use super::super::{NEVER, Table, Yard, add_box, add_boxes, all_go, empty_yard};
-use super::boxes::{AMPLE, Kept, Piece, are_shown, boxes_of, boxes_with};
+use super::boxes::{AMPLE, Kept, Piece, add_piece, are_shown, boxes_of, boxes_with};
 use bw_care::{RecoverCause, recover};
 use bw_device::{Desk, Segment};
 use std::alloc::Global;
@@ -25,8 +25,8 @@ enum Told {
 enum Boxes {
     /// One of ample room for each piece.
     Ample(&'static [Piece]),
-    /// One for each of these.
-    Each(&'static [Kept]),
+    /// One of this room for a piece, and a spare of this room.
+    Beside(Piece, u64, u64),
     /// The older one of the third vector and the newer one, behind a recovery that the newer one's
     /// call of this number failed, which told so.
     Again(u64),
@@ -38,7 +38,7 @@ enum Boxes {
 #[derive(Drop)]
 struct Row(Boxes, Told);
 
-use Boxes::{Again, Ample, Each, Many};
+use Boxes::{Again, Ample, Beside, Many};
 use Piece::{Behind, Cut, Whole, With};
 use RecoverCause::{BadBytes, BadConfig, BadLink, Empty, Gap, Mixed, Unlawful};
 use Told::{Fault, Found};
@@ -315,31 +315,16 @@ const MIXED: &[Row] = &[
 /// to have room for that.
 const OLD_SPARES: &[Row] = &[
     Row(
-        Each(&[
-            (Whole(OLD_FIRST), 76, false),
-            (Cut(FIRST, 0), 65_560, false),
-        ]),
+        Beside(Whole(OLD_FIRST), 76, 65_560),
+        Found(1, 1, 0, 1, 1, 0, KV),
+    ),
+    Row(Beside(Whole(OLD_FIRST), 76, 65_559), Fault(BadConfig)),
+    Row(
+        Beside(With(FIRST, 22, &[0x02]), 77, 131_096),
         Found(1, 1, 0, 1, 1, 0, KV),
     ),
     Row(
-        Each(&[
-            (Whole(OLD_FIRST), 76, false),
-            (Cut(FIRST, 0), 65_559, false),
-        ]),
-        Fault(BadConfig),
-    ),
-    Row(
-        Each(&[
-            (With(FIRST, 22, &[0x02]), 77, false),
-            (Cut(FIRST, 0), 131_096, false),
-        ]),
-        Found(1, 1, 0, 1, 1, 0, KV),
-    ),
-    Row(
-        Each(&[
-            (With(FIRST, 22, &[0x02]), 77, false),
-            (Cut(FIRST, 0), 131_095, false),
-        ]),
+        Beside(With(FIRST, 22, &[0x02]), 77, 131_095),
         Fault(BadConfig),
     ),
 ];
@@ -367,22 +352,13 @@ fn is_found(found: &bw_care::Recovered, returned: u32, told: &Told) -> bool
 /// spare.
 const SPARES: &[Row] = &[
     Row(
-        Each(&[(Whole(FIRST), 77, false), (Cut(FIRST, 0), 65_560, false)]),
+        Beside(Whole(FIRST), 77, 65_560),
         Found(1, 1, 0, 1, 1, 0, KV),
     ),
+    Row(Beside(Whole(FIRST), 77, 65_559), Fault(BadConfig)),
+    Row(Beside(Cut(FIRST, 24), 24, 65_559), Fault(Empty)),
     Row(
-        Each(&[(Whole(FIRST), 77, false), (Cut(FIRST, 0), 65_559, false)]),
-        Fault(BadConfig),
-    ),
-    Row(
-        Each(&[(Cut(FIRST, 24), 24, false), (Cut(FIRST, 0), 65_559, false)]),
-        Fault(Empty),
-    ),
-    Row(
-        Each(&[
-            (With(FIRST, 53, &[0x03]), 77, false),
-            (Cut(FIRST, 0), 65_559, false),
-        ]),
+        Beside(With(FIRST, 53, &[0x03]), 77, 65_559),
         Fault(BadConfig),
     ),
 ];
@@ -424,10 +400,18 @@ fn too_many(alloc: Global) -> Option<Yard> {
     Some(full)
 }
 
+// A box for a piece, and a spare.
+fn beside(alloc: Global, piece: &Piece, room: u64, spare: u64) -> Option<Yard> {
+    let mut full = empty_yard(alloc, 8)?;
+    add_piece(&mut full, piece, room, NEVER)?;
+    add_box(&mut full, b"", spare, NEVER)?;
+    Some(full)
+}
+
 fn made(alloc: Global, boxes: &Boxes) -> Option<Yard> {
     match boxes {
         Ample(pieces) => boxes_of(alloc, *pieces),
-        Each(all) => boxes_with(alloc, NEVER, *all),
+        Beside(piece, room, spare) => beside(alloc, piece, *room, *spare),
         Again(calls) => failed(alloc, boxes_with(alloc, (*calls, 0), AGAIN)?),
         Many => too_many(alloc),
     }
