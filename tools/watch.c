@@ -70,6 +70,13 @@ static void note(char letter, int file, uint64_t at, uint64_t length, const void
     if (!real) \
         real = (kind (*)(__VA_ARGS__))dlsym(RTLD_NEXT, name)
 
+/* The mode that stands behind the flags where a file may be made. */
+#define MODE(mode, flags) \
+    va_list more; \
+    va_start(more, flags); \
+    mode_t mode = ((flags) & O_CREAT) ? (mode_t)va_arg(more, int) : 0; \
+    va_end(more)
+
 static int opened(int file, int flags)
 {
     if (file >= 0 && (flags & O_CREAT))
@@ -80,30 +87,21 @@ static int opened(int file, int flags)
 int open(const char *path, int flags, ...)
 {
     REAL(int, "open", const char *, int, ...);
-    va_list more;
-    va_start(more, flags);
-    mode_t mode = (flags & O_CREAT) ? (mode_t)va_arg(more, int) : 0;
-    va_end(more);
+    MODE(mode, flags);
     return opened(real(path, flags, mode), flags);
 }
 
 int open64(const char *path, int flags, ...)
 {
     REAL(int, "open64", const char *, int, ...);
-    va_list more;
-    va_start(more, flags);
-    mode_t mode = (flags & O_CREAT) ? (mode_t)va_arg(more, int) : 0;
-    va_end(more);
+    MODE(mode, flags);
     return opened(real(path, flags, mode), flags);
 }
 
 int openat(int at, const char *path, int flags, ...)
 {
     REAL(int, "openat", int, const char *, int, ...);
-    va_list more;
-    va_start(more, flags);
-    mode_t mode = (flags & O_CREAT) ? (mode_t)va_arg(more, int) : 0;
-    va_end(more);
+    MODE(mode, flags);
     return opened(real(at, path, flags, mode), flags);
 }
 

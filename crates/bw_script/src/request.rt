@@ -1,6 +1,6 @@
 //! One line of a program that drives a store: a request, or a fault.
 
-use crate::script::{Fault, group_of, key_of, number_of, ops_of, single, text_of};
+use crate::script::{Fault, alone, group_of, key_of, number_of, ops_of, single, text_of};
 use bw_codec::Key;
 use bw_ring::Group;
 
@@ -50,20 +50,16 @@ fn asked_of(name: &str, word: &str) -> Result<Request, Fault> {
 }
 
 /// The request of a name that takes no word.
-fn plain_of(name: &str, one: Option<&str>) -> Result<Request, Fault> {
-    let request = match name {
-        "pages" => Request::Pages,
-        "flush" => Request::Flush,
-        "settle" => Request::Settle,
-        "durable" => Request::Durable,
-        "stats" => Request::Stats,
-        "clean" => Request::Clean,
-        "quit" => Request::Quit,
-        _ => return Err(Fault::UnknownCommand),
-    };
-    match one {
-        None => Ok(request),
-        Some(_) => Err(Fault::WrongNumberOfWords),
+fn plain_of(name: &str) -> Option<Request> {
+    match name {
+        "pages" => Some(Request::Pages),
+        "flush" => Some(Request::Flush),
+        "settle" => Some(Request::Settle),
+        "durable" => Some(Request::Durable),
+        "stats" => Some(Request::Stats),
+        "clean" => Some(Request::Clean),
+        "quit" => Some(Request::Quit),
+        _ => None,
     }
 }
 
@@ -77,6 +73,6 @@ pub fn parse_request(line: &[u8]) -> Result<Request, Fault> {
         "get" | "next" | "page" | "evict" | "rewrite" | "walk" => {
             asked_of(name, single(words.next(), words.next())?)
         }
-        _ => plain_of(name, words.next()),
+        _ => alone(plain_of(name), words.next()),
     }
 }

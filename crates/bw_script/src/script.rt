@@ -249,23 +249,28 @@ fn asked_of(name: &str, word: &str) -> Result<Command, Fault> {
     }
 }
 
+/// What a name asks for that takes no word, where it is known.
+pub fn alone<T: Drop>(asked: Option<T>, one: Option<&str>) -> Result<T, Fault> {
+    match (asked, one) {
+        (None, _) => Err(Fault::UnknownCommand),
+        (Some(asked), None) => Ok(asked),
+        (Some(_), Some(_)) => Err(Fault::WrongNumberOfWords),
+    }
+}
+
 /// The command of a name that takes no word.
-fn plain_of(name: &str, one: Option<&str>) -> Result<Command, Fault> {
-    let command = match name {
-        "flush" => Command::Flush,
-        "settle" => Command::Settle,
-        "clean" => Command::Clean,
-        "roll" => Command::Roll,
-        "add" => Command::Add,
-        "history" => Command::History,
-        "cuts" => Command::Cuts,
-        "segments" => Command::Segments,
-        "leases" => Command::Leases,
-        _ => return Err(Fault::UnknownCommand),
-    };
-    match one {
-        None => Ok(command),
-        Some(_) => Err(Fault::WrongNumberOfWords),
+fn plain_of(name: &str) -> Option<Command> {
+    match name {
+        "flush" => Some(Command::Flush),
+        "settle" => Some(Command::Settle),
+        "clean" => Some(Command::Clean),
+        "roll" => Some(Command::Roll),
+        "add" => Some(Command::Add),
+        "history" => Some(Command::History),
+        "cuts" => Some(Command::Cuts),
+        "segments" => Some(Command::Segments),
+        "leases" => Some(Command::Leases),
+        _ => None,
     }
 }
 
@@ -278,7 +283,7 @@ fn command_of(text: &str, writers: u16) -> Result<Command, Fault> {
         "turn" | "page" | "evict" | "rewrite" | "walk" | "dump" | "get" => {
             asked_of(name, single(words.next(), words.next())?)
         }
-        _ => plain_of(name, words.next()),
+        _ => alone(plain_of(name), words.next()),
     }
 }
 

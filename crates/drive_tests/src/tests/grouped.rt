@@ -19,8 +19,8 @@ const THREE: &Table = &Table {
 /// A ring of one place each holds a group of four too.
 const ONE_PLACE: &Table = &Table {
     name: "groups at one place",
-    places: 1,
     sizes: Sizes::Mixed,
+    places: 1,
     ..TWICE
 };
 
@@ -39,8 +39,8 @@ const FEW_TRIES: &Table = &Table {
 /// A frame fails. What was taken before is whole groups, at most sixteen of four records a turn.
 const FIFTH_FRAME: &Table = &Table {
     name: "fifth frame of groups",
-    fuse: Some(5),
     sizes: Sizes::Mixed,
+    fuse: Some(5),
     steps: &[
         Drives(Run(ALL, Pace(16, 1, 0, MANY), Err(Device { lease: 0 }))),
         Durable(4, 4),

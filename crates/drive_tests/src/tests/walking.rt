@@ -19,14 +19,14 @@ use std::thread::Threads;
 pub(super) struct Table {
     pub(super) name: &'static str,
     pub(super) writers: usize,
+    /// How the records of all runs stand in groups. Those of mixed sizes are whole in the history
+    /// behind each step.
+    pub(super) sizes: Sizes,
     pub(super) places: usize,
     pub(super) boxes: u32,
     pub(super) capacity: u64,
     /// The first box fails after so many calls.
     pub(super) fuse: Option<u64>,
-    /// How the records of all runs stand in groups. Those of mixed sizes are whole in the history
-    /// behind each step.
-    pub(super) sizes: Sizes,
     pub(super) steps: &'static [Step],
 }
 
@@ -34,11 +34,11 @@ pub(super) struct Table {
 pub(super) const PLAIN: Table = Table {
     name: "plain",
     writers: 2,
+    sizes: Sizes::One,
     places: 8,
     boxes: 4,
     capacity: 65_560,
     fuse: None,
-    sizes: Sizes::One,
     steps: &[],
 };
 

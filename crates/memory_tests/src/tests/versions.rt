@@ -5,7 +5,7 @@ ghost use mathlib.Core.List.{IsPrefix};
 ghost use Rattle.bw_versions.specs.Batches.{entries_of};
 
 use super::{Ask, Row, Try, all_went, asked_again, lettered, put, then, tried, wrong_row};
-use bw_codec::Key;
+use bw_codec::{Key, Record};
 use bw_page::Leaves;
 use bw_versions::{
     Batch, Board, Entry, PackedEntry, Publisher, ReadFault, Reader, Unpublished, Versions,
@@ -45,17 +45,15 @@ fn start(alloc: Global) -> Result<Leaves, AllocError>
     Leaves::one_empty(alloc, 4)
 }
 
+fn entry(writer: u16, more: bool, item: Record) -> Entry {
+    Entry { writer, more, item }
+}
+
 /// One writer's puts of these letters, without values.
 pub(super) fn entries(alloc: Global, letters: &[u8]) -> Option<Vec<Entry>> {
     let mut entries = Vec::new(alloc);
     for item in lettered(alloc, letters)? {
-        entries
-            .push(Entry {
-                writer: 0,
-                more: false,
-                item,
-            })
-            .ok()?;
+        entries.push(entry(0, false, item)).ok()?;
     }
     Some(entries)
 }
@@ -69,11 +67,7 @@ fn has_page(board: &Board, text: &[u8], count: u32) -> bool {
 }
 
 fn packs(alloc: Global) -> Option<Try> {
-    let told = Entry {
-        writer: 3,
-        more: true,
-        item: put(b"k", b"v")?,
-    };
+    let told = entry(3, true, put(b"k", b"v")?);
     begin(alloc);
     let made = PackedEntry::of(alloc, 3, true, &told.item);
     let refused = end(alloc);

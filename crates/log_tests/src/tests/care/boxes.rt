@@ -62,8 +62,8 @@ pub(crate) fn is_spelled(alloc: Global, bytes: &[u8], hex: &str) -> bool {
     }
 }
 
-// One more box, for a piece.
-fn add_piece(yard: &mut Yard, piece: &Piece, room: u64, fuse: Fuse) -> Option<()> {
+/// One more box, for a piece.
+pub(super) fn add_piece(yard: &mut Yard, piece: &Piece, room: u64, fuse: Fuse) -> Option<()> {
     let bytes = bytes_of(yard.alloc, piece)?;
     add_box(yard, &bytes, room, fuse)
 }

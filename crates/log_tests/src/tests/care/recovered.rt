@@ -3,7 +3,7 @@
 ghost use Rattle.bw_care.specs.Views.{IsSound};
 
 use super::super::{NEVER, Table, Yard, add_box, add_boxes, all_go, empty_yard};
-use super::boxes::{AMPLE, Kept, Piece, are_shown, boxes_of, boxes_with};
+use super::boxes::{AMPLE, Kept, Piece, add_piece, are_shown, boxes_of, boxes_with};
 use bw_care::{RecoverCause, recover};
 use bw_device::{Desk, Segment};
 use std::alloc::Global;
@@ -13,7 +13,7 @@ use test_vectors::{
 };
 
 /// What is told of a list of boxes.
-#[derive(Drop)]
+#[derive(Clone, Copy)]
 enum Told {
     /// The first and the last frame, tail bytes, live segments, spares, boxes dropped, and the pages.
     Found(u64, u64, u64, u32, u32, u32, &'static str),
@@ -25,8 +25,8 @@ enum Told {
 enum Boxes {
     /// One of ample room for each piece.
     Ample(&'static [Piece]),
-    /// One for each of these.
-    Each(&'static [Kept]),
+    /// One of this room for a piece, and a spare of this room.
+    Beside(Piece, u64, u64),
     /// The older one of the third vector and the newer one, behind a recovery that the newer one's
     /// call of this number failed, which told so.
     Again(u64),
@@ -38,7 +38,7 @@ enum Boxes {
 #[derive(Drop)]
 struct Row(Boxes, Told);
 
-use Boxes::{Again, Ample, Each, Many};
+use Boxes::{Again, Ample, Beside, Many};
 use Piece::{Behind, Cut, Whole, With};
 use RecoverCause::{BadBytes, BadConfig, BadLink, Empty, Gap, Mixed, Unlawful};
 use Told::{Fault, Found};
@@ -49,284 +49,203 @@ const ABCD: &str = "1 : a=1 b=2 c=3 d=4;";
 
 const JK: &str = "1 : j=2 k=3;";
 
+// ---- either format
+
+/// A vector in format 2, and in format 1.
+type Text = (&'static str, &'static str);
+
+const ONE: Text = (FIRST, OLD_FIRST);
+
+const FIVE: Text = (SECOND, OLD_SECOND);
+
+const AT_ONCE: Text = (CUT_AT_ONCE, OLD_CUT_AT_ONCE);
+
+const JOIN: Text = (JOINED, OLD_JOINED);
+
+const GREAT: Text = (GREATEST, OLD_GREATEST);
+
+const OLDER: Text = (THIRD_OLDER, OLD_THIRD_OLDER);
+
+const NEWER: Text = (THIRD_NEWER, OLD_THIRD_NEWER);
+
+/// The last letter of a frame's mark in the format above.
+const ABOVE: (&[u8], &[u8]) = (&[0x33], &[0x32]);
+
+/// A piece in either format, with a number for each.
+#[derive(Drop)]
+enum Part {
+    All(Text),
+    /// So many of its bytes, from the first on.
+    To(Text, (usize, usize)),
+    /// With other bytes from an offset on.
+    At(Text, (usize, usize), &'static [u8]),
+    /// With the mark of a frame in the format above.
+    Marked(Text),
+    /// With more bytes behind.
+    And(Text, &'static [u8]),
+}
+
+/// Boxes of ample room in either format, and what is told of them, or of those in format 2 and of those
+/// in format 1.
+#[derive(Drop)]
+enum Twice {
+    Same(&'static [Part], Told),
+    Other(&'static [Part], (Told, Told)),
+}
+
+use Part::{All, And, At, Marked, To};
+use Twice::{Other, Same};
+
+const TWO_PAGES: &str = "1 : a=1 b=2;2 c: c=3 d=4 e=5;";
+
+const TWO_JOINED: &str = "1 : a=1 b=2 bz=6;2 c: c=3 d=4 e=5;";
+
+/// The first frame of the first box.
+const AT_FRAME: Told = Fault(BadBytes { segment: 0, at: 24 });
+
+const ALL_ONES: &[u8] = &[0xff, 0xff, 0xff, 0xff];
+
 /// Vectors whole, cut, exchanged, doubled, and with a stray byte behind.
-const WORKED: &[Row] = &[
-    Row(Ample(&[Whole(FIRST)]), Found(1, 1, 0, 1, 0, 0, KV)),
-    Row(
-        Ample(&[Whole(SECOND)]),
-        Found(1, 5, 0, 1, 0, 0, "1 : a=1 b=2;2 c: c=3 d=4 e=5;"),
+const WORKED: &[Twice] = &[
+    Same(&[All(ONE)], Found(1, 1, 0, 1, 0, 0, KV)),
+    Same(&[All(FIVE)], Found(1, 5, 0, 1, 0, 0, TWO_PAGES)),
+    Same(&[All(AT_ONCE)], Found(1, 1, 0, 1, 0, 0, TWO_PAGES)),
+    Same(&[All(JOIN)], Found(1, 1, 0, 1, 0, 0, TWO_JOINED)),
+    Other(
+        &[To(FIVE, (296, 288))],
+        (
+            Found(1, 4, 84, 1, 0, 0, ABCD),
+            Found(1, 4, 80, 1, 0, 0, ABCD),
+        ),
     ),
-    Row(
-        Ample(&[Whole(CUT_AT_ONCE)]),
-        Found(1, 1, 0, 1, 0, 0, "1 : a=1 b=2;2 c: c=3 d=4 e=5;"),
+    Same(&[To(FIVE, (76, 75))], Fault(Empty)),
+    Same(&[To(FIVE, (24, 24))], Fault(Empty)),
+    Same(&[To(FIVE, (23, 23))], Fault(Empty)),
+    Same(&[], Fault(Empty)),
+    Same(&[All(GREAT)], Found(u64::MAX, u64::MAX, 0, 1, 0, 0, "1 :;")),
+    Other(
+        &[And(ONE, &[0x58])],
+        (
+            Fault(BadBytes { segment: 0, at: 77 }),
+            Fault(BadBytes { segment: 0, at: 76 }),
+        ),
     ),
-    Row(
-        Ample(&[Whole(JOINED)]),
-        Found(1, 1, 0, 1, 0, 0, "1 : a=1 b=2 bz=6;2 c: c=3 d=4 e=5;"),
-    ),
-    Row(Ample(&[Cut(SECOND, 296)]), Found(1, 4, 84, 1, 0, 0, ABCD)),
-    Row(Ample(&[Cut(SECOND, 76)]), Fault(Empty)),
-    Row(Ample(&[Cut(SECOND, 24)]), Fault(Empty)),
-    Row(Ample(&[Cut(SECOND, 23)]), Fault(Empty)),
-    Row(Ample(&[]), Fault(Empty)),
-    Row(
-        Ample(&[Whole(GREATEST)]),
-        Found(u64::MAX, u64::MAX, 0, 1, 0, 0, "1 :;"),
-    ),
-    Row(
-        Ample(&[Behind(FIRST, &[0x58])]),
-        Fault(BadBytes { segment: 0, at: 77 }),
-    ),
-    Row(
-        Ample(&[Behind(FIRST, &[0x46])]),
-        Found(1, 1, 1, 1, 0, 0, KV),
-    ),
-    Row(
-        Ample(&[Whole(THIRD_OLDER), Whole(THIRD_NEWER)]),
-        Found(2, 4, 0, 2, 0, 0, JK),
-    ),
-    Row(
-        Ample(&[Whole(THIRD_NEWER), Whole(THIRD_OLDER)]),
-        Found(2, 4, 0, 2, 0, 0, JK),
-    ),
-    Row(Ample(&[Whole(THIRD_OLDER)]), Fault(Unlawful { page: 1 })),
-    Row(
-        Ample(&[Whole(THIRD_OLDER), Cut(THIRD_NEWER, 106)]),
+    Same(&[And(ONE, &[0x46])], Found(1, 1, 1, 1, 0, 0, KV)),
+    Same(&[All(OLDER), All(NEWER)], Found(2, 4, 0, 2, 0, 0, JK)),
+    Same(&[All(NEWER), All(OLDER)], Found(2, 4, 0, 2, 0, 0, JK)),
+    Same(&[All(OLDER)], Fault(Unlawful { page: 1 })),
+    Same(
+        &[All(OLDER), To(NEWER, (106, 103))],
         Fault(Unlawful { page: 1 }),
     ),
-    Row(Ample(&[Whole(THIRD_OLDER), Whole(THIRD_OLDER)]), Fault(Gap)),
-    Row(
-        Ample(&[Whole(FIRST), Whole(THIRD_OLDER)]),
+    Same(&[All(OLDER), All(OLDER)], Fault(Gap)),
+    Same(
+        &[All(ONE), All(OLDER)],
         Found(1, 2, 0, 2, 0, 0, "1 : j=2 k=v;"),
     ),
-    Row(
-        Ample(&[Cut(FIRST, 0), Whole(FIRST), Cut(FIRST, 3)]),
+    Same(
+        &[To(ONE, (0, 0)), All(ONE), To(ONE, (3, 3))],
         Found(1, 1, 0, 1, 1, 1, KV),
     ),
 ];
 
 /// Hostile boxes: each fault by changed bytes.
-const HOSTILE: &[Row] = &[
-    Row(
-        Ample(&[With(JOINED, 114, &[0x00])]),
-        Fault(BadLink { page: 1 }),
-    ),
-    Row(
-        Ample(&[With(JOINED, 154, &[0x01])]),
-        Fault(BadLink { page: 1 }),
-    ),
-    Row(
-        Ample(&[With(FIRST, 27, &[0x33])]),
-        Fault(BadBytes { segment: 0, at: 24 }),
-    ),
-    Row(
-        Ample(&[With(FIRST, 16, &[0x03])]),
+const HOSTILE: &[Twice] = &[
+    Same(&[At(JOIN, (114, 109), &[0x00])], Fault(BadLink { page: 1 })),
+    Same(&[At(JOIN, (154, 146), &[0x01])], Fault(BadLink { page: 1 })),
+    Same(&[Marked(ONE)], AT_FRAME),
+    Same(
+        &[At(ONE, (16, 16), &[0x03])],
         Fault(BadBytes { segment: 0, at: 0 }),
     ),
-    Row(
-        Ample(&[Whole(FIRST), With(THIRD_OLDER, 27, &[0x33])]),
+    Same(
+        &[All(ONE), Marked(OLDER)],
         Fault(BadBytes { segment: 1, at: 24 }),
     ),
-    Row(
-        Ample(&[With(FIRST, 36, &[0xff, 0xff, 0xff, 0xff])]),
-        Fault(BadBytes { segment: 0, at: 24 }),
-    ),
-    Row(
-        Ample(&[With(FIRST, 40, &[0xff, 0xff, 0xff, 0xff])]),
-        Fault(BadBytes { segment: 0, at: 24 }),
-    ),
-    Row(Ample(&[Whole(FIRST), Whole(THIRD_NEWER)]), Fault(Gap)),
-    Row(
-        Ample(&[Whole(FIRST), With(THIRD_OLDER, 16, &[0x05])]),
-        Fault(Mixed),
-    ),
-    Row(
-        Ample(&[Whole(FIRST), With(THIRD_OLDER, 57, &[0x00])]),
+    Same(&[At(ONE, (36, 36), ALL_ONES)], AT_FRAME),
+    Same(&[At(ONE, (40, 40), ALL_ONES)], AT_FRAME),
+    Same(&[All(ONE), All(NEWER)], Fault(Gap)),
+    Same(&[All(ONE), At(OLDER, (16, 16), &[0x05])], Fault(Mixed)),
+    Same(
+        &[All(ONE), At(OLDER, (57, 57), &[0x00])],
         Fault(BadLink { page: 1 }),
     ),
-    Row(
-        Ample(&[With(FIRST, 53, &[0x03])]),
-        Fault(BadLink { page: 3 }),
-    ),
-    Row(
-        Ample(&[With(GREATEST, 45, &[0x02])]),
-        Fault(Unlawful { page: 1 }),
-    ),
-    Row(
-        Ample(&[With(GREATEST, 45, &[0xff, 0xff, 0xff, 0xff])]),
+    Same(&[At(ONE, (53, 53), &[0x03])], Fault(BadLink { page: 3 })),
+    Same(&[At(GREAT, (45, 45), &[0x02])], Fault(Unlawful { page: 1 })),
+    Same(
+        &[At(GREAT, (45, 45), ALL_ONES)],
         Fault(Unlawful { page: 1 }),
     ),
 ];
 
 /// Lists with two faults, of which the earlier one is told: bytes before limits, limits before gaps,
 /// gaps before no frame, and a wrong link before a page at fault.
-const ORDERED: &[Row] = &[
-    Row(
-        Ample(&[
-            Whole(FIRST),
-            With(THIRD_OLDER, 16, &[0x05]),
-            With(FIRST, 27, &[0x33]),
-        ]),
+const ORDERED: &[Twice] = &[
+    Same(
+        &[All(ONE), At(OLDER, (16, 16), &[0x05]), Marked(ONE)],
         Fault(BadBytes { segment: 2, at: 24 }),
     ),
-    Row(
-        Ample(&[Whole(FIRST), With(THIRD_NEWER, 16, &[0x05])]),
-        Fault(Mixed),
-    ),
-    Row(Ample(&[Cut(FIRST, 24), Cut(THIRD_NEWER, 24)]), Fault(Gap)),
-    Row(
-        Ample(&[With(FIRST, 53, &[0x03]), Cut(THIRD_OLDER, 24)]),
+    Same(&[All(ONE), At(NEWER, (16, 16), &[0x05])], Fault(Mixed)),
+    Same(&[To(ONE, (24, 24)), To(NEWER, (24, 24))], Fault(Gap)),
+    Same(
+        &[At(ONE, (53, 53), &[0x03]), To(OLDER, (24, 24))],
         Fault(BadLink { page: 3 }),
     ),
 ];
 
-// ---- format 1
+/// Format 2, or format 1.
+#[derive(Clone, Copy)]
+enum Format {
+    Latest,
+    Old,
+}
 
-/// Vectors whole, cut, exchanged, doubled, and with a stray byte behind.
-const OLD_WORKED: &[Row] = &[
-    Row(Ample(&[Whole(OLD_FIRST)]), Found(1, 1, 0, 1, 0, 0, KV)),
-    Row(
-        Ample(&[Whole(OLD_SECOND)]),
-        Found(1, 5, 0, 1, 0, 0, "1 : a=1 b=2;2 c: c=3 d=4 e=5;"),
-    ),
-    Row(
-        Ample(&[Whole(OLD_CUT_AT_ONCE)]),
-        Found(1, 1, 0, 1, 0, 0, "1 : a=1 b=2;2 c: c=3 d=4 e=5;"),
-    ),
-    Row(
-        Ample(&[Whole(OLD_JOINED)]),
-        Found(1, 1, 0, 1, 0, 0, "1 : a=1 b=2 bz=6;2 c: c=3 d=4 e=5;"),
-    ),
-    Row(
-        Ample(&[Cut(OLD_SECOND, 288)]),
-        Found(1, 4, 80, 1, 0, 0, ABCD),
-    ),
-    Row(Ample(&[Cut(OLD_SECOND, 75)]), Fault(Empty)),
-    Row(Ample(&[Cut(OLD_SECOND, 24)]), Fault(Empty)),
-    Row(Ample(&[Cut(OLD_SECOND, 23)]), Fault(Empty)),
-    Row(Ample(&[]), Fault(Empty)),
-    Row(
-        Ample(&[Whole(OLD_GREATEST)]),
-        Found(u64::MAX, u64::MAX, 0, 1, 0, 0, "1 :;"),
-    ),
-    Row(
-        Ample(&[Behind(OLD_FIRST, &[0x58])]),
-        Fault(BadBytes { segment: 0, at: 76 }),
-    ),
-    Row(
-        Ample(&[Behind(OLD_FIRST, &[0x46])]),
-        Found(1, 1, 1, 1, 0, 0, KV),
-    ),
-    Row(
-        Ample(&[Whole(OLD_THIRD_OLDER), Whole(OLD_THIRD_NEWER)]),
-        Found(2, 4, 0, 2, 0, 0, JK),
-    ),
-    Row(
-        Ample(&[Whole(OLD_THIRD_NEWER), Whole(OLD_THIRD_OLDER)]),
-        Found(2, 4, 0, 2, 0, 0, JK),
-    ),
-    Row(
-        Ample(&[Whole(OLD_THIRD_OLDER)]),
-        Fault(Unlawful { page: 1 }),
-    ),
-    Row(
-        Ample(&[Whole(OLD_THIRD_OLDER), Cut(OLD_THIRD_NEWER, 103)]),
-        Fault(Unlawful { page: 1 }),
-    ),
-    Row(
-        Ample(&[Whole(OLD_THIRD_OLDER), Whole(OLD_THIRD_OLDER)]),
-        Fault(Gap),
-    ),
-    Row(
-        Ample(&[Whole(OLD_FIRST), Whole(OLD_THIRD_OLDER)]),
-        Found(1, 2, 0, 2, 0, 0, "1 : j=2 k=v;"),
-    ),
-    Row(
-        Ample(&[Cut(OLD_FIRST, 0), Whole(OLD_FIRST), Cut(OLD_FIRST, 3)]),
-        Found(1, 1, 0, 1, 1, 1, KV),
-    ),
-];
+// That of the two which is for this format.
+fn of<T: Copy>(format: Format, both: &(T, T)) -> T {
+    match format {
+        Format::Latest => both.0,
+        Format::Old => both.1,
+    }
+}
 
-/// Hostile boxes: each fault by changed bytes.
-const OLD_HOSTILE: &[Row] = &[
-    Row(
-        Ample(&[With(OLD_JOINED, 109, &[0x00])]),
-        Fault(BadLink { page: 1 }),
-    ),
-    Row(
-        Ample(&[With(OLD_JOINED, 146, &[0x01])]),
-        Fault(BadLink { page: 1 }),
-    ),
-    Row(
-        Ample(&[With(OLD_FIRST, 27, &[0x32])]),
-        Fault(BadBytes { segment: 0, at: 24 }),
-    ),
-    Row(
-        Ample(&[With(OLD_FIRST, 16, &[0x03])]),
-        Fault(BadBytes { segment: 0, at: 0 }),
-    ),
-    Row(
-        Ample(&[Whole(OLD_FIRST), With(OLD_THIRD_OLDER, 27, &[0x32])]),
-        Fault(BadBytes { segment: 1, at: 24 }),
-    ),
-    Row(
-        Ample(&[With(OLD_FIRST, 36, &[0xff, 0xff, 0xff, 0xff])]),
-        Fault(BadBytes { segment: 0, at: 24 }),
-    ),
-    Row(
-        Ample(&[With(OLD_FIRST, 40, &[0xff, 0xff, 0xff, 0xff])]),
-        Fault(BadBytes { segment: 0, at: 24 }),
-    ),
-    Row(
-        Ample(&[Whole(OLD_FIRST), Whole(OLD_THIRD_NEWER)]),
-        Fault(Gap),
-    ),
-    Row(
-        Ample(&[Whole(OLD_FIRST), With(OLD_THIRD_OLDER, 16, &[0x05])]),
-        Fault(Mixed),
-    ),
-    Row(
-        Ample(&[Whole(OLD_FIRST), With(OLD_THIRD_OLDER, 57, &[0x00])]),
-        Fault(BadLink { page: 1 }),
-    ),
-    Row(
-        Ample(&[With(OLD_FIRST, 53, &[0x03])]),
-        Fault(BadLink { page: 3 }),
-    ),
-    Row(
-        Ample(&[With(OLD_GREATEST, 45, &[0x02])]),
-        Fault(Unlawful { page: 1 }),
-    ),
-    Row(
-        Ample(&[With(OLD_GREATEST, 45, &[0xff, 0xff, 0xff, 0xff])]),
-        Fault(Unlawful { page: 1 }),
-    ),
-];
+fn piece_of(format: Format, part: &Part) -> Piece {
+    match part {
+        All(text) => Whole(of(format, text)),
+        To(text, len) => Cut(of(format, text), of(format, len)),
+        At(text, at, with) => With(of(format, text), of(format, at), *with),
+        Marked(text) => With(of(format, text), 27, of(format, &ABOVE)),
+        And(text, more) => Behind(of(format, text), *more),
+    }
+}
 
-/// Lists with two faults, of which the earlier one is told: bytes before limits, limits before gaps,
-/// gaps before no frame, and a wrong link before a page at fault.
-const OLD_ORDERED: &[Row] = &[
-    Row(
-        Ample(&[
-            Whole(OLD_FIRST),
-            With(OLD_THIRD_OLDER, 16, &[0x05]),
-            With(OLD_FIRST, 27, &[0x32]),
-        ]),
-        Fault(BadBytes { segment: 2, at: 24 }),
-    ),
-    Row(
-        Ample(&[Whole(OLD_FIRST), With(OLD_THIRD_NEWER, 16, &[0x05])]),
-        Fault(Mixed),
-    ),
-    Row(
-        Ample(&[Cut(OLD_FIRST, 24), Cut(OLD_THIRD_NEWER, 24)]),
-        Fault(Gap),
-    ),
-    Row(
-        Ample(&[With(OLD_FIRST, 53, &[0x03]), Cut(OLD_THIRD_OLDER, 24)]),
-        Fault(BadLink { page: 3 }),
-    ),
-];
+// Whether the boxes are told so in this format.
+fn is_told_in(alloc: Global, format: Format, row: &Twice) -> Option<bool> {
+    let (parts, told) = match row {
+        Same(parts, told) => (*parts, *told),
+        Other(parts, told) => (*parts, of(format, told)),
+    };
+    let mut pieces = Vec::new(alloc);
+    for part in parts {
+        pieces.push(piece_of(format, part)).ok()?;
+    }
+    is_told(alloc, boxes_of(alloc, pieces.as_slice())?, &told)
+}
+
+/// Rows in one format.
+#[derive(Drop)]
+struct InFormat(Format, &'static [Twice]);
+
+impl Table for InFormat {
+    fn wrong_row(&self, alloc: Global) -> Option<usize> {
+        let InFormat(format, rows) = self;
+        for (i, row) in rows.iter().enumerate() {
+            if is_told_in(alloc, *format, row) != Some(true) {
+                return Some(i);
+            }
+        }
+        None
+    }
+}
 
 // ---- both formats
 
@@ -396,31 +315,16 @@ const MIXED: &[Row] = &[
 /// to have room for that.
 const OLD_SPARES: &[Row] = &[
     Row(
-        Each(&[
-            (Whole(OLD_FIRST), 76, false),
-            (Cut(FIRST, 0), 65_560, false),
-        ]),
+        Beside(Whole(OLD_FIRST), 76, 65_560),
+        Found(1, 1, 0, 1, 1, 0, KV),
+    ),
+    Row(Beside(Whole(OLD_FIRST), 76, 65_559), Fault(BadConfig)),
+    Row(
+        Beside(With(FIRST, 22, &[0x02]), 77, 131_096),
         Found(1, 1, 0, 1, 1, 0, KV),
     ),
     Row(
-        Each(&[
-            (Whole(OLD_FIRST), 76, false),
-            (Cut(FIRST, 0), 65_559, false),
-        ]),
-        Fault(BadConfig),
-    ),
-    Row(
-        Each(&[
-            (With(FIRST, 22, &[0x02]), 77, false),
-            (Cut(FIRST, 0), 131_096, false),
-        ]),
-        Found(1, 1, 0, 1, 1, 0, KV),
-    ),
-    Row(
-        Each(&[
-            (With(FIRST, 22, &[0x02]), 77, false),
-            (Cut(FIRST, 0), 131_095, false),
-        ]),
+        Beside(With(FIRST, 22, &[0x02]), 77, 131_095),
         Fault(BadConfig),
     ),
 ];
@@ -448,22 +352,13 @@ fn is_found(found: &bw_care::Recovered, returned: u32, told: &Told) -> bool
 /// spare.
 const SPARES: &[Row] = &[
     Row(
-        Each(&[(Whole(FIRST), 77, false), (Cut(FIRST, 0), 65_560, false)]),
+        Beside(Whole(FIRST), 77, 65_560),
         Found(1, 1, 0, 1, 1, 0, KV),
     ),
+    Row(Beside(Whole(FIRST), 77, 65_559), Fault(BadConfig)),
+    Row(Beside(Cut(FIRST, 24), 24, 65_559), Fault(Empty)),
     Row(
-        Each(&[(Whole(FIRST), 77, false), (Cut(FIRST, 0), 65_559, false)]),
-        Fault(BadConfig),
-    ),
-    Row(
-        Each(&[(Cut(FIRST, 24), 24, false), (Cut(FIRST, 0), 65_559, false)]),
-        Fault(Empty),
-    ),
-    Row(
-        Each(&[
-            (With(FIRST, 53, &[0x03]), 77, false),
-            (Cut(FIRST, 0), 65_559, false),
-        ]),
+        Beside(With(FIRST, 53, &[0x03]), 77, 65_559),
         Fault(BadConfig),
     ),
 ];
@@ -505,22 +400,30 @@ fn too_many(alloc: Global) -> Option<Yard> {
     Some(full)
 }
 
+// A box for a piece, and a spare.
+fn beside(alloc: Global, piece: &Piece, room: u64, spare: u64) -> Option<Yard> {
+    let mut full = empty_yard(alloc, 8)?;
+    add_piece(&mut full, piece, room, NEVER)?;
+    add_box(&mut full, b"", spare, NEVER)?;
+    Some(full)
+}
+
 fn made(alloc: Global, boxes: &Boxes) -> Option<Yard> {
     match boxes {
         Ample(pieces) => boxes_of(alloc, *pieces),
-        Each(all) => boxes_with(alloc, NEVER, *all),
+        Beside(piece, room, spare) => beside(alloc, piece, *room, *spare),
         Again(calls) => failed(alloc, boxes_with(alloc, (*calls, 0), AGAIN)?),
         Many => too_many(alloc),
     }
 }
 
-// Whether the boxes are told so; a fault hands all of them back, in order.
-fn is_told(alloc: Global, boxes: &Boxes, told: &Told) -> Option<bool> {
+// Whether boxes are told so; a fault hands all of them back, in order.
+fn is_told(alloc: Global, full: Yard, told: &Told) -> Option<bool> {
     let Yard {
         mut desk,
         boxes,
         ..
-    } = made(alloc, boxes)?;
+    } = full;
     let count = boxes.len();
     match recover(alloc, boxes) {
         Ok(found) => {
@@ -537,10 +440,16 @@ fn is_told(alloc: Global, boxes: &Boxes, told: &Told) -> Option<bool> {
     }
 }
 
+// Whether the boxes of a row are told so.
+fn goes(alloc: Global, row: &Row) -> Option<bool> {
+    let Row(boxes, told) = row;
+    is_told(alloc, made(alloc, boxes)?, told)
+}
+
 impl Table for &'static [Row] {
     fn wrong_row(&self, alloc: Global) -> Option<usize> {
-        for (i, Row(boxes, told)) in self.iter().enumerate() {
-            if is_told(alloc, boxes, told) != Some(true) {
+        for (i, row) in self.iter().enumerate() {
+            if goes(alloc, row) != Some(true) {
                 return Some(i);
             }
         }
@@ -548,10 +457,16 @@ impl Table for &'static [Row] {
     }
 }
 
+/// The tables of either format, in this one.
+fn in_format(format: Format) -> [InFormat; 3] {
+    [
+        InFormat(format, WORKED),
+        InFormat(format, HOSTILE),
+        InFormat(format, ORDERED),
+    ]
+}
+
 const TABLES: &[&'static [Row]] = &[
-    WORKED,
-    HOSTILE,
-    ORDERED,
     // A small spare is refused behind no frame and before links.
     SPARES,
     FAILING,
@@ -561,18 +476,16 @@ const TABLES: &[&'static [Row]] = &[
 
 #[test]
 fn worked_boxes_are_told(rt: HostRuntime) {
+    all_go(&rt, &in_format(Format::Latest));
     all_go(&rt, TABLES);
 }
 
-/// The same of format 1.
-const OLD_TABLES: &[&'static [Row]] = &[OLD_WORKED, OLD_HOSTILE, OLD_ORDERED];
-
 #[test]
 fn worked_boxes_of_format_1_are_told(rt: HostRuntime) {
-    all_go(&rt, OLD_TABLES);
+    all_go(&rt, &in_format(Format::Old));
 }
 
-/// And of both.
+/// Boxes of both formats.
 const BOTH_TABLES: &[&'static [Row]] = &[MIXED, OLD_SPARES];
 
 #[test]
