@@ -19,27 +19,27 @@ use std::thread::Threads;
 pub(super) struct Table {
     pub(super) name: &'static str,
     pub(super) writers: usize,
-    /// How the records of all runs stand in groups. Those of mixed sizes are whole in the history
-    /// behind each step.
-    pub(super) sizes: Sizes,
     pub(super) places: usize,
     pub(super) boxes: u32,
     pub(super) capacity: u64,
     /// The first box fails after so many calls.
     pub(super) fuse: Option<u64>,
     pub(super) steps: &'static [Step],
+    /// How the records of all its runs stand in groups. Those of mixed sizes are whole in the history
+    /// behind each step.
+    pub(super) sizes: Sizes,
 }
 
 /// Two writers with rings of eight places, and four boxes that do not fail; each record alone.
 pub(super) const PLAIN: Table = Table {
     name: "plain",
     writers: 2,
-    sizes: Sizes::One,
     places: 8,
     boxes: 4,
     capacity: 65_560,
     fuse: None,
     steps: &[],
+    sizes: Sizes::One,
 };
 
 /// The first step that did not go as told.

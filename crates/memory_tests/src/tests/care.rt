@@ -73,9 +73,9 @@ fn answered<T: PartialEq + Drop>(
 }
 
 /// How many segments are live, the newest one, and how many spares stand.
-type Picture = (u32, Option<(u64, u32, u64)>, u32);
+type Standing = (u32, Option<(u64, u32, u64)>, u32);
 
-fn picture(log: &Log) -> Picture
+fn picture(log: &Log) -> Standing
     requires { IsSound log.now holding }
 {
     (
@@ -93,7 +93,7 @@ fn cleans(alloc: Global, log: &mut Log) -> Option<Try>
     begin(alloc);
     let answer = clean(alloc, log);
     let refused = end(alloc);
-    let (now, bytes): (Picture, &str) = match answer {
+    let (now, bytes): (Standing, &str) = match answer {
         Ok(_) => ((2, Some((3, 2, 107)), 1), THIRD_NEWER),
         Err(_) => ((3, Some((3, 2, 69)), 1), THIRD_LAST),
     };

@@ -285,18 +285,9 @@ const MIXED: &[Row] = &[
         Ample(&[With(OLD_FIRST, 7, &[0x32])]),
         Fault(BadBytes { segment: 0, at: 0 }),
     ),
-    Row(
-        Ample(&[With(FIRST, 7, &[0x31])]),
-        Fault(BadBytes { segment: 0, at: 24 }),
-    ),
-    Row(
-        Ample(&[With(FIRST, 27, &[0x31])]),
-        Fault(BadBytes { segment: 0, at: 24 }),
-    ),
-    Row(
-        Ample(&[With(OLD_FIRST, 27, &[0x32])]),
-        Fault(BadBytes { segment: 0, at: 24 }),
-    ),
+    Row(Ample(&[With(FIRST, 7, &[0x31])]), AT_FRAME),
+    Row(Ample(&[With(FIRST, 27, &[0x31])]), AT_FRAME),
+    Row(Ample(&[With(OLD_FIRST, 27, &[0x32])]), AT_FRAME),
     Row(
         Ample(&[Behind(FIRST, b"FRM1")]),
         Fault(BadBytes { segment: 0, at: 77 }),
