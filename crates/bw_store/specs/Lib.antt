@@ -32,4 +32,3 @@ pub mod Needed
 pub mod Drafting
 pub mod Remembering
 pub mod Filing
-pub mod Tailing
