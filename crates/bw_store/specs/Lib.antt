@@ -30,5 +30,7 @@ pub mod Counting
 pub mod Needed
 -- What private functions say.
 pub mod Drafting
+pub mod Entering
+pub mod Beside
 pub mod Remembering
 pub mod Filing
