@@ -35,6 +35,7 @@ pub mod Shares
 pub mod Fresh
 pub mod FollowMore
 pub mod Showing
+pub mod LaneByLane
 pub mod Logs
 pub mod Edging
 pub mod Stopping
