@@ -17,6 +17,7 @@ pub mod SettledMore
 pub mod EmptyBehind
 pub mod MovedMore
 pub mod CleanedMore
+pub mod Noting
 pub mod UpgradedMore
 pub mod RewrittenMore
 pub mod ReopenedMore

@@ -31,6 +31,7 @@ pub mod Needed
 -- What private functions say.
 pub mod Drafting
 pub mod Entering
+pub mod Moving
 pub mod Beside
 pub mod Remembering
 pub mod Filing
