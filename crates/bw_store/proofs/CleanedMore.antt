@@ -27,9 +27,10 @@ use Rattle.bw_store.specs.Edges.{IsBegun}
 use Rattle.bw_store.proofs.Edging.{begun_dropped, begun_stays, moved_row, refused_row, row_then}
 use Rattle.bw_store.specs.declared.fault.StoreFault.{StoreFault}
 use Rattle.bw_store.specs.declared.fault.StoreFault.TheVariants as store
-use Rattle.bw_store.specs.Faults.{fault_of, FlushLeaves}
+use Rattle.bw_store.specs.Faults.{FlushLeaves}
 use Rattle.bw_store.specs.Following.{Continues}
 use Rattle.bw_store.proofs.FollowMore.{grows_on}
+use Rattle.bw_store.proofs.Logs.{log_never}
 use Rattle.bw_care.proofs.BoxesGrown.{same_roster}
 use Rattle.bw_codec.specs.Grammar.{frame_bytes, header_bytes}
 use Rattle.bw_device.specs.Holding.{Holding, appended}
@@ -65,6 +66,10 @@ pub record Cleans (s : Kept) (most : ℕ) (new : logs.Contents) : Type 0 where
   pub counts : logs.counted new ≡ drop gone (logs.counted s.log ++ written)
   pub begun : IsBegun s.edge new
   pub left : new.is_failed ≡ true → Stand s.filed.m (frames_of (logs.image new).bytes) s.filed.leaves
+
+-- the same, and what holds of its frames
+abbrev pub Wrote : Kept → ℕ → logs.Contents → (List Frame → Type 0) → Type 0
+Wrote s most new holds = (x : Cleans s most new) × holds x.written
 
 -- what the counted frames stood for they stand for still
 abbrev pub StandsOn : Kept → logs.Contents → Type 0
@@ -153,30 +158,32 @@ refused_left m old new log.Spent leaves works r stand failed = absurd (still_wor
 refused_left m old new log.NoPage leaves works r stand failed = absurd r
 
 -- some pages were written again, then a step was refused
-pub refused_cleans : (s : Kept) (last : ℕ) (all : List ℕ) (fault : LogFault) (most : ℕ) (new : logs.Contents) → Begins s → logs.IsSound new
+pub refused_wrote : (s : Kept) (last : ℕ) (all : List ℕ) (fault : LogFault) (most : ℕ) (new : logs.Contents) → Begins s → logs.IsSound new
     → length all ≤ most → care.StoppedBehind last s.log all fault new
-    → StandsOn s new → Cleans s most new
-refused_cleans s last all fault most new b sound top x stands =
+    → StandsOn s new → Wrote s most new (λ fs. logs.counted new ≡ logs.counted s.log ++ fs)
+refused_wrote s last all fault most new b sound top x stands =
     let still = still_counts x.then_log new fault x.refused in
     let counts = still.counts ∙ x.moved.counts in
     let adds = adds_of s x.moved.written x.done new b sound counts x.moved.holds in
     let many = x.moved.count in
-    let few = x.moved.few in
-    record {
-      written = x.moved.written;
-      adds = adds;
-      few = (let all_few = few_pages all x.done x.rest x.frames most top x.pages few in omega arith);
-      sound = sound;
-      m = still.m ∙ x.moved.m;
-      f = still.f ∙ x.moved.f;
-      next = sound.holds.follows ∙ ap next_of counts ∙ next_then s x.moved.written adds;
-      stands = stands_as s new b stands;
-      gone = 0;
-      counts = counts;
-      begun = begun_stays s.edge s.log new b.sound.log.rooms
-          (row_then s.log x.then_log new (moved_row last s.log x.then_log x.done x.rest x.frames x.moved) (refused_row x.then_log new fault x.refused)) b.sound.begun;
-      left = refused_left s.filed.m x.then_log new fault s.filed.leaves x.moved.works x.refused (stands_as s new b stands);
-    }
+    let few = x.moved.few in (
+      record {
+        written = x.moved.written;
+        adds = adds;
+        few = (let all_few = few_pages all x.done x.rest x.frames most top x.pages few in omega arith);
+        sound = sound;
+        m = still.m ∙ x.moved.m;
+        f = still.f ∙ x.moved.f;
+        next = sound.holds.follows ∙ ap next_of counts ∙ next_then s x.moved.written adds;
+        stands = stands_as s new b stands;
+        gone = 0;
+        counts = counts;
+        begun = begun_stays s.edge s.log new b.sound.log.rooms
+            (row_then s.log x.then_log new (moved_row last s.log x.then_log x.done x.rest x.frames x.moved) (refused_row x.then_log new fault x.refused)) b.sound.begun;
+        left = refused_left s.filed.m x.then_log new fault s.filed.leaves x.moved.works x.refused (stands_as s new b stands);
+      },
+      counts,
+    )
 
 -- all pages were written again, and then the first so many segments were given up, whose frames are these first ones
 pub record GaveUp (k gone : ℕ) (then_log new : logs.Contents) : Type 0 where
@@ -185,71 +192,54 @@ pub record GaveUp (k gone : ℕ) (then_log new : logs.Contents) : Type 0 where
   pub is : new ≡ record then_log { live = drop k then_log.live; number = then_log.number + k; frames = new.frames }
   pub counts : logs.counted new ≡ drop gone (logs.counted then_log)
 
-pub given_cleans : (s : Kept) (last : ℕ) (all : List ℕ) (frames k gone most : ℕ) (then_log new : logs.Contents) → Begins s → logs.IsSound new
+pub given_wrote : (s : Kept) (last : ℕ) (all : List ℕ) (frames k gone most : ℕ) (then_log new : logs.Contents) → Begins s → logs.IsSound new
     → length all ≤ most → care.MovedBehind last s.log then_log all [] frames → GaveUp k gone then_log new
-    → StandsOn s new → Cleans s most new
-given_cleans s last all frames k gone most then_log new b sound top moved x stands =
-    let adds = adds_of s moved.written all then_log b x.sound moved.counts moved.holds in
-    record {
-      written = moved.written;
-      adds = adds;
-      few = moved_few s.log then_log last all frames most moved top;
-      sound = sound;
-      m = ap (λ (c : logs.Contents). c.m) x.is ∙ moved.m;
-      f = ap (λ (c : logs.Contents). c.f) x.is ∙ moved.f;
-      next = ap (λ (c : logs.Contents). c.next) x.is ∙ x.sound.holds.follows ∙ ap next_of moved.counts ∙ next_then s moved.written adds;
-      stands = stands_as s new b stands;
-      gone = gone;
-      counts = x.counts ∙ ap (drop gone) moved.counts;
-      begun = begun_dropped s.edge k then_log new x.less
-          (ap (λ (c : logs.Contents). c.live) x.is) (ap (λ (c : logs.Contents). c.number) x.is) (ap (λ (c : logs.Contents). c.f) x.is)
-          (begun_stays s.edge s.log then_log b.sound.log.rooms
-          (moved_row last s.log then_log all [] frames moved) b.sound.begun);
-      left = λ failed. (let fine = ap (λ (c : logs.Contents). c.is_failed) x.is in let works = moved.works in absurd cc);
-    }
-
-pub given_told : (s : Kept) (last : ℕ) (all : List ℕ) (frames k gone most : ℕ) (then_log new : logs.Contents) (b : Begins s) (sound : logs.IsSound new)
-    (top : length all ≤ most) (moved : care.MovedBehind last s.log then_log all [] frames) (x : GaveUp k gone then_log new)
-    (stands : StandsOn s new)
-    → length (given_cleans s last all frames k gone most then_log new b sound top moved x stands).written ≡ frames
-unfolding given_cleans
-given_told s last all frames k gone most then_log new b sound top moved x stands = moved.count
-
-pub refused_counts : (s : Kept) (last : ℕ) (all : List ℕ) (fault : LogFault) (most : ℕ) (new : logs.Contents) (b : Begins s) (sound : logs.IsSound new)
-    (top : length all ≤ most) (x : care.StoppedBehind last s.log all fault new)
-    (stands : StandsOn s new)
-    → logs.counted new ≡ logs.counted s.log ++ (refused_cleans s last all fault most new b sound top x stands).written
-unfolding refused_cleans
-refused_counts s last all fault most new b sound top x stands = (still_counts x.then_log new fault x.refused).counts ∙ x.moved.counts
+    → StandsOn s new → Wrote s most new (λ fs. length fs ≡ frames)
+given_wrote s last all frames k gone most then_log new b sound top moved x stands =
+    let adds = adds_of s moved.written all then_log b x.sound moved.counts moved.holds in (
+      record {
+        written = moved.written;
+        adds = adds;
+        few = moved_few s.log then_log last all frames most moved top;
+        sound = sound;
+        m = ap (λ (c : logs.Contents). c.m) x.is ∙ moved.m;
+        f = ap (λ (c : logs.Contents). c.f) x.is ∙ moved.f;
+        next = ap (λ (c : logs.Contents). c.next) x.is ∙ x.sound.holds.follows ∙ ap next_of moved.counts ∙ next_then s moved.written adds;
+        stands = stands_as s new b stands;
+        gone = gone;
+        counts = x.counts ∙ ap (drop gone) moved.counts;
+        begun = begun_dropped s.edge k then_log new x.less
+            (ap (λ (c : logs.Contents). c.live) x.is) (ap (λ (c : logs.Contents). c.number) x.is) (ap (λ (c : logs.Contents). c.f) x.is)
+            (begun_stays s.edge s.log then_log b.sound.log.rooms
+            (moved_row last s.log then_log all [] frames moved) b.sound.begun);
+        left = λ failed. (let fine = ap (λ (c : logs.Contents). c.is_failed) x.is in let works = moved.works in absurd cc);
+      },
+      moved.count,
+    )
 
 -- all pages were written again, and no segment was given up
-pub moved_cleans : (s : Kept) (last : ℕ) (all : List ℕ) (frames most : ℕ) (new : logs.Contents) → Begins s → logs.IsSound new
+pub moved_wrote : (s : Kept) (last : ℕ) (all : List ℕ) (frames most : ℕ) (new : logs.Contents) → Begins s → logs.IsSound new
     → length all ≤ most → care.MovedBehind last s.log new all [] frames
-    → StandsOn s new → Cleans s most new
-moved_cleans s last all frames most new b sound top moved stands =
-    let adds = adds_of s moved.written all new b sound moved.counts moved.holds in
-    record {
-      written = moved.written;
-      adds = adds;
-      few = moved_few s.log new last all frames most moved top;
-      sound = sound;
-      m = moved.m;
-      f = moved.f;
-      next = sound.holds.follows ∙ ap next_of moved.counts ∙ next_then s moved.written adds;
-      stands = stands_as s new b stands;
-      gone = 0;
-      counts = moved.counts;
-      begun = begun_stays s.edge s.log new b.sound.log.rooms (moved_row last s.log new all [] frames moved) b.sound.begun;
-      left = λ failed. (let works = moved.works in absurd cc);
-    }
-
-pub moved_counts : (s : Kept) (last : ℕ) (all : List ℕ) (frames most : ℕ) (new : logs.Contents) (b : Begins s) (sound : logs.IsSound new)
-    (top : length all ≤ most) (moved : care.MovedBehind last s.log new all [] frames)
-    (stands : StandsOn s new)
-    → (logs.counted new ≡ logs.counted s.log ++ (moved_cleans s last all frames most new b sound top moved stands).written)
-    × (length (moved_cleans s last all frames most new b sound top moved stands).written ≡ frames)
-unfolding moved_cleans
-moved_counts s last all frames most new b sound top moved stands = (moved.counts, moved.count)
+    → StandsOn s new → Wrote s most new (λ fs. (logs.counted new ≡ logs.counted s.log ++ fs) × (length fs ≡ frames))
+moved_wrote s last all frames most new b sound top moved stands =
+    let adds = adds_of s moved.written all new b sound moved.counts moved.holds in (
+      record {
+        written = moved.written;
+        adds = adds;
+        few = moved_few s.log new last all frames most moved top;
+        sound = sound;
+        m = moved.m;
+        f = moved.f;
+        next = sound.holds.follows ∙ ap next_of moved.counts ∙ next_then s moved.written adds;
+        stands = stands_as s new b stands;
+        gone = 0;
+        counts = moved.counts;
+        begun = begun_stays s.edge s.log new b.sound.log.rooms (moved_row last s.log new all [] frames moved) b.sound.begun;
+        left = λ failed. (let works = moved.works in absurd cc);
+      },
+      moved.counts,
+      moved.count,
+    )
 
 -- ---- the cleaner's own answers
 
@@ -261,22 +251,14 @@ gave_up_oldest s cleaned new x = record {
   counts = x.counts;
 }
 
-pub cleaned_cleans : (s : Kept) (cleaned : Cleaned) (new : logs.Contents) → Begins s → logs.IsSound new → care.IsCleaned s.log cleaned new
-    → StandsOn s new → Cleans s (length s.log.pages) new
-cleaned_cleans s cleaned new b sound x stands =
-    given_cleans s (oldest_last s.log s.log.live) (old_pages s.log) cleaned.frames 1 (oldest_count s.log.live) (length s.log.pages) x.then_log new b sound
-    (few_upto s (oldest_last s.log s.log.live)) x.moved (gave_up_oldest s cleaned new x) stands
-
-pub cleaned_told : (s : Kept) (cleaned : Cleaned) (new : logs.Contents) (b : Begins s) (sound : logs.IsSound new) (x : care.IsCleaned s.log cleaned new)
-    (stands : StandsOn s new)
-    → length (cleaned_cleans s cleaned new b sound x stands).written ≡ cleaned.frames
-unfolding cleaned_cleans
-cleaned_told s cleaned new b sound x stands =
-    given_told s (oldest_last s.log s.log.live) (old_pages s.log) cleaned.frames 1 (oldest_count s.log.live) (length s.log.pages) x.then_log new b sound
+pub cleaned_wrote : (s : Kept) (cleaned : Cleaned) (new : logs.Contents) → Begins s → logs.IsSound new → care.IsCleaned s.log cleaned new
+    → StandsOn s new → Wrote s (length s.log.pages) new (λ fs. length fs ≡ cleaned.frames)
+cleaned_wrote s cleaned new b sound x stands =
+    given_wrote s (oldest_last s.log s.log.live) (old_pages s.log) cleaned.frames 1 (oldest_count s.log.live) (length s.log.pages) x.then_log new b sound
     (few_upto s (oldest_last s.log s.log.live)) x.moved (gave_up_oldest s cleaned new x) stands
 
 -- a cleaning that is not refused at once
-pub stopped_of : (s : Kept) (cause : CleanFault) (new : logs.Contents) → Begins s → 2 ≤ length s.log.live → care.Refuses cause s.log new
+stopped_of : (s : Kept) (cause : CleanFault) (new : logs.Contents) → Begins s → 2 ≤ length s.log.live → care.Refuses cause s.log new
     → (fault : LogFault) × care.Stopped s.log fault new
 stopped_of s NothingOld new b two r = (let few = r.1 in absurd (omega arith))
 stopped_of s (Log log.NoMemory) new b two r = (log.NoMemory, r.2)
@@ -287,24 +269,17 @@ stopped_of s (Log log.Failed) new b two r = (let works = b.works in let failed =
 stopped_of s (Log log.Spent) new b two r = (log.Spent, r.2)
 stopped_of s (Log log.NoPage) new b two r = absurd r
 
-pub stopped_cleans : (s : Kept) (fault : LogFault) (new : logs.Contents) → Begins s → logs.IsSound new → care.Stopped s.log fault new
-    → StandsOn s new → Cleans s (length s.log.pages) new
-stopped_cleans s fault new b sound x stands =
-    refused_cleans s (oldest_last s.log s.log.live) (old_pages s.log) fault (length s.log.pages) new b sound (few_upto s (oldest_last s.log s.log.live)) x stands
-
-pub stopped_counts : (s : Kept) (fault : LogFault) (new : logs.Contents) (b : Begins s) (sound : logs.IsSound new) (x : care.Stopped s.log fault new)
-    (stands : StandsOn s new)
-    → logs.counted new ≡ logs.counted s.log ++ (stopped_cleans s fault new b sound x stands).written
-unfolding stopped_cleans
-stopped_counts s fault new b sound x stands =
-    refused_counts s (oldest_last s.log s.log.live) (old_pages s.log) fault (length s.log.pages) new b sound (few_upto s (oldest_last s.log s.log.live)) x stands
+pub stopped_wrote : (s : Kept) (cause : CleanFault) (new : logs.Contents) → Begins s → 2 ≤ length s.log.live → logs.IsSound new
+    → care.Refuses cause s.log new → StandsOn s new → Wrote s (length s.log.pages) new (λ fs. logs.counted new ≡ logs.counted s.log ++ fs)
+stopped_wrote s cause new b two sound r stands =
+    (let stop = stopped_of s cause new b two r in
+    refused_wrote s (oldest_last s.log s.log.live) (old_pages s.log) stop.0 (length s.log.pages) new b sound (few_upto s (oldest_last s.log s.log.live)) stop.1 stands)
 
 pub cleans_of : (s : Kept) (new : logs.Contents) (r : Result Cleaned CleanFault) → Begins s → 2 ≤ length s.log.live → logs.IsSound new
     → IfOk r (λ cleaned. care.IsCleaned s.log cleaned new) → IfErr r (λ cause. care.Refuses cause s.log new)
     → StandsOn s new → Cleans s (length s.log.pages) new
-cleans_of s new (Ok cleaned) b two sound ok err stands = cleaned_cleans s cleaned new b sound ok stands
-cleans_of s new (Err cause) b two sound ok err stands =
-    (let x = stopped_of s cause new b two err in stopped_cleans s x.0 new b sound x.1 stands)
+cleans_of s new (Ok cleaned) b two sound ok err stands = (cleaned_wrote s cleaned new b sound ok stands).0
+cleans_of s new (Err cause) b two sound ok err stands = (stopped_wrote s cause new b two sound err stands).0
 
 -- ---- what the store does next
 
@@ -561,15 +536,6 @@ pub gives_floor : {A : Type 0} (frames : A → ℕ) (done : logs.Contents → A 
     → s.floor ≡ old.floor → GivesUp frames done refuses s r new → HasFloorBut old r new
 gives_floor frames done refuses old s new (Ok x) same left = ap (λ (k : Kept). k.floor) left.is ∙ sym (ap (λ (k : Kept). k.durable) left.is)
 gives_floor frames done refuses old s new (Err fault) same left = ap (λ (k : Kept). k.floor) left.2.is ∙ same
-
-log_never : (cause : LogFault) → store.NothingOld ≡ fault_of cause → ⊥
-log_never log.NoMemory e = cc
-log_never log.BadConfig e = cc
-log_never log.NoSegment e = cc
-log_never (log.Device lease) e = cc
-log_never log.Failed e = cc
-log_never log.Spent e = cc
-log_never log.NoPage e = cc
 
 -- it is not refused so where there is something to give up
 pub not_nothing : {A : Type 0} (frames : A → ℕ) (done : logs.Contents → A → logs.Contents → Type 0)

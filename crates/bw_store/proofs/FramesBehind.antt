@@ -18,8 +18,8 @@ use Rattle.bw_page.proofs.OneStanding.{one}
 use Rattle.bw_log.specs.Contents as logs
 use Rattle.bw_store.specs.Cleaning.{end_by}
 use Rattle.bw_log.specs.Places.{placed, all_placed, later, place_of, first_number}
-use Rattle.bw_log.specs.Segments.{Limits, version_at, limit_at, frames_of, segment_frames, following, next_of, AreFrom, AreLive, is_before_next}
-use Rattle.bw_log.proofs.Entries.{all_append, all_filtered}
+use Rattle.bw_log.specs.Segments.{following, next_of, AreFrom}
+use Rattle.bw_log.proofs.Entries.{all_append, each_counted}
 use Rattle.bw_log.proofs.GivenUp.{none_placed}
 use Rattle.bw_log.proofs.Walk.{same_fold}
 
@@ -70,21 +70,11 @@ pub record IsNumbered (frame : Frame) : Type 0 where
   pub number : (1 ≤ frame.number) × (frame.number < 2 ^ 64)
   pub few : length frame.blocks < 2 ^ 32
 
-frames_lawful : (v m f : ℕ) (fs : List Frame) → All (IsFrameIn v m f) fs → All IsNumbered fs
-frames_lawful v m f [] all = tt
-frames_lawful v m f (x ∷ xs) all = (record { number = all.0.head.numbered; few = all.0.head.some.1 }, frames_lawful v m f xs all.1)
-
-live_lawful : (l : Limits) (number : ℕ) (bytes : List (List ℕ)) → AreLive l number bytes → All IsNumbered (frames_of bytes)
-live_lawful l number [] live = tt
-live_lawful l number (b ∷ bs) live =
-    all_append IsNumbered (segment_frames b) (frames_of bs)
-    (frames_lawful (version_at l.old_to number) l.m (limit_at l number) (segment_frames b) live.0.whole.each)
-    (live_lawful l (number + 1) bs live.1)
+frame_lawful : (v m f : ℕ) (x : Frame) → IsFrameIn v m f x → IsNumbered x
+frame_lawful v m f x lawful = record { number = lawful.head.numbered; few = lawful.head.some.1 }
 
 pub counted_lawful : (c : logs.Contents) → logs.IsSound c → All IsNumbered (logs.counted c)
-counted_lawful c sound =
-    all_filtered IsNumbered (λ x. is_before_next c.next x.number) (frames_of (logs.image c).bytes)
-    (live_lawful (logs.limits_of (logs.image c) sound.holds.live.0) c.number (logs.image c).bytes sound.holds.live.1)
+counted_lawful c sound = each_counted IsNumbered frame_lawful c sound
 
 last_below : (n : ℕ) (fs : List Frame) → All IsNumbered fs → AreFrom n fs → 1 ≤ length fs → n + length fs ≤ 2 ^ 64
 last_below n [] lawful are some = absurd (omega arith)

@@ -18,6 +18,7 @@ use Rattle.bw_ring.specs.Marks.{Marked, marked, joined}
 use Rattle.bw_ring.specs.Ends.{accepted, taken, known, given, ring_of_feed, ring_of_lane}
 use Rattle.bw_store.specs.Lanes.{known_at, IsNext, IsDry, Dries, AreDry, TookAt, TookKnown, StayDry}
 use Rattle.bw_store.specs.History.{of_writer, streams, counts_of, entered, is_grouped}
+use Rattle.bw_store.proofs.Grouped.{length_entered, length_marked}
 
 if_more : (b : Bool) (r : Marked) (xs ys : List Marked) (x : List Marked) → ys ≡ xs ++ x → (if b then r ∷ ys else ys) ≡ (if b then r ∷ xs else xs) ++ x
 if_more true r xs ys x e = ap (λ (l : List Marked). r ∷ l) e
@@ -268,11 +269,6 @@ writers_of lanes feeds es ends all =
 
 -- ---- how many records each writer has
 
-marked_count : (g : List Record) → length (marked g) ≡ length g
-marked_count [] = refl
-marked_count (r ∷ []) = refl
-marked_count (r ∷ s ∷ rs) = ap suc (marked_count (s ∷ rs))
-
 count_at : (xs : List (List Marked)) (i : ℕ) → get_or (map (λ (ms : List Marked). length ms) xs) i 0 ≡ length (get_or xs i [])
 count_at [] i = refl
 count_at (x ∷ xs) zero = refl
@@ -316,7 +312,7 @@ counts_more n i es after g lt more =
     let size : List Marked → ℕ = λ ms. length ms in
     let here = get_or (streams 0 n es) i [] in
     let count : length (here ++ marked g) ≡ get_or (counts_of n es) i 0 + length g =
-    length-append here (marked g) ∙ ap (λ k. length here + k) (marked_count g) ∙ ap (λ k. k + length g) (sym (count_at (streams 0 n es) i)) in
+    length-append here (marked g) ∙ ap (λ k. length here + k) (length_marked g) ∙ ap (λ k. k + length g) (sym (count_at (streams 0 n es) i)) in
     ap (counts_of n) more
     ∙ ap (map size) (streams_more 0 n i i es (marked g) (omega arith) lt)
     ∙ map_set size (streams 0 n es) i (here ++ marked g)
@@ -329,7 +325,7 @@ counts_within n i es after g lt more =
     let was = count_of_writer n i es lt in
     let few = writer_few i es in
     let all = ap length more ∙ length-append es (entered i (marked g)) in
-    let added : length (entered i (marked g)) ≡ length g = length-map (marked g) _ ∙ marked_count g in
+    let added = length_entered i g in
     omega arith
 
 zeros : (n : ℕ) → map (λ (ms : List Marked). length ms) (replicate n []) ≡ replicate n 0
@@ -385,16 +381,9 @@ drop_over (x ∷ xs) ys zero k e = absurd (omega arith)
 drop_over (x ∷ xs) ys (suc n) k e = drop_over xs ys n k (omega arith)
 
 -- what a writer has up to a cut, and what of it waits behind the cut
-pub durable_count : (w n : ℕ) (es : List Entry) (end waiting : ℕ) → w < n → waiting ≡ length (of_writer w (drop end es))
-    → get_or (counts_of n es) w 0 - waiting ≡ length (of_writer w (take end es))
-durable_count w n es end waiting lt is =
-    let all = count_of_writer n w es lt in
-    let parts = ap (of_writer w) (sym (take-append-drop end es)) ∙ of_writer_append w (take end es) (drop end es) in
-    let count = ap length parts ∙ length-append (of_writer w (take end es)) (of_writer w (drop end es)) in
-    omega arith
-
-pub waiting_few : (w n : ℕ) (es : List Entry) (end waiting : ℕ) → w < n → waiting ≡ length (of_writer w (drop end es)) → waiting ≤ get_or (counts_of n es) w 0
-waiting_few w n es end waiting lt is =
+pub durable_and_waiting : (w n : ℕ) (es : List Entry) (end waiting : ℕ) → w < n → waiting ≡ length (of_writer w (drop end es))
+    → get_or (counts_of n es) w 0 ≡ length (of_writer w (take end es)) + waiting
+durable_and_waiting w n es end waiting lt is =
     let all = count_of_writer n w es lt in
     let parts = ap (of_writer w) (sym (take-append-drop end es)) ∙ of_writer_append w (take end es) (drop end es) in
     let count = ap length parts ∙ length-append (of_writer w (take end es)) (of_writer w (drop end es)) in

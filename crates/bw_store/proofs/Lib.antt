@@ -17,6 +17,7 @@ pub mod SettledMore
 pub mod EmptyBehind
 pub mod MovedMore
 pub mod CleanedMore
+pub mod Noting
 pub mod UpgradedMore
 pub mod RewrittenMore
 pub mod ReopenedMore
@@ -35,6 +36,7 @@ pub mod Shares
 pub mod Fresh
 pub mod FollowMore
 pub mod Showing
+pub mod LaneByLane
 pub mod Logs
 pub mod Edging
 pub mod Stopping

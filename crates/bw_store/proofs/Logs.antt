@@ -12,7 +12,7 @@ use Rattle.bw_log.specs.declared.fault.LogFault.TheVariants as log
 use Rattle.bw_log.specs.Contents as logs
 use Rattle.bw_log.specs.Reads.{IsKept}
 use Rattle.bw_log.specs.Segments.{frames_of}
-use Rattle.bw_store.specs.declared.fault.StoreFault.TheVariants.{BadConfig}
+use Rattle.bw_store.specs.declared.fault.StoreFault.TheVariants.{BadConfig, NothingOld}
 use Rattle.bw_store.specs.Faults.{fault_of}
 use Rattle.bw_store.specs.Following.{Follows}
 use Rattle.bw_store.specs.Growing.{Grown, frames_upto}
@@ -112,12 +112,19 @@ pub added_counts : (old new : logs.Contents) (box : Holding) → logs.IsSound ne
 added_counts old new box sound is = counts_via old (record old { spares = old.spares ++ box ∷ [] }) new sound is
     (λ x. record { sound = x; m = refl; f = refl; next = refl; failed = refl; frames = refl; bytes = refl; begun = λ edge was. was })
 
--- the store tells a bad box where the log does, and nowhere else
+-- for a refusal of the log the store tells a bad box where the log does, and nowhere else; and never
+-- that nothing is old
+told_by_log : (fault : LogFault) → (fault_of fault ≡ BadConfig → fault ≡ log.BadConfig) × (NothingOld ≡ fault_of fault → ⊥)
+told_by_log log.NoMemory = (λ e. cc, λ e. cc)
+told_by_log log.BadConfig = (λ e. refl, λ e. cc)
+told_by_log log.NoSegment = (λ e. cc, λ e. cc)
+told_by_log (log.Device lease) = (λ e. cc, λ e. cc)
+told_by_log log.Failed = (λ e. cc, λ e. cc)
+told_by_log log.Spent = (λ e. cc, λ e. cc)
+told_by_log log.NoPage = (λ e. cc, λ e. cc)
+
 pub only_bad : (fault : LogFault) → fault_of fault ≡ BadConfig → fault ≡ log.BadConfig
-only_bad log.NoMemory e = cc
-only_bad log.BadConfig e = refl
-only_bad log.NoSegment e = cc
-only_bad (log.Device lease) e = cc
-only_bad log.Failed e = cc
-only_bad log.Spent e = cc
-only_bad log.NoPage e = cc
+only_bad fault = (told_by_log fault).0
+
+pub log_never : (fault : LogFault) → NothingOld ≡ fault_of fault → ⊥
+log_never fault = (told_by_log fault).1

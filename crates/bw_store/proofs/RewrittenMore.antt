@@ -23,7 +23,7 @@ use Rattle.bw_store.specs.Following.{Follows, HasBoxes}
 use Rattle.bw_store.specs.Kept.{Kept, IsSound}
 use Rattle.bw_store.specs.Rewriting.{are_pages, RewriteMoves}
 use Rattle.bw_store.specs.Settled.{IsSettled}
-use Rattle.bw_store.proofs.CleanedMore.{Begins, Cleans, StandsOn, moved_cleans, moved_follows, refused_cleans, stopped_roster}
+use Rattle.bw_store.proofs.CleanedMore.{Begins, Cleans, StandsOn, moved_follows, moved_wrote, refused_wrote, stopped_roster}
 use Rattle.bw_store.proofs.FramesBehind.{pages_counted}
 
 -- ---- the pages are there
@@ -62,9 +62,9 @@ held_of s ps cause new b (inr stopped) = stopped.1
 pub rewrites_of : (s : Kept) (ps : List ℕ) (new : logs.Contents) (r : Result ℕ LogFault) → Begins s → logs.IsSound new
     → IfOk r (λ frames. care.MovedBehind 0 s.log new ps [] frames) → IfErr r (λ cause. rewrites.RefusesRewrite cause s.log ps new)
     → StandsOn s new → Cleans s (length ps) new
-rewrites_of s ps new (Ok frames) b sound ok err stands = moved_cleans s 0 ps frames (length ps) new b sound (omega arith) ok stands
+rewrites_of s ps new (Ok frames) b sound ok err stands = (moved_wrote s 0 ps frames (length ps) new b sound (omega arith) ok stands).0
 rewrites_of s ps new (Err cause) b sound ok err stands =
-    refused_cleans s 0 ps cause (length ps) new b sound (omega arith) (held_of s ps cause new b err) stands
+    (refused_wrote s 0 ps cause (length ps) new b sound (omega arith) (held_of s ps cause new b err) stands).0
 
 -- ---- what no rewriting takes back
 

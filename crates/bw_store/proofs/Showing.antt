@@ -1,6 +1,6 @@
 -- What follows from a publication.
 
-use Rattle.std.proofs.Common.{◌≡◌, ℕ, false, inr, Option, Some, None, Ok, Err, List, [], ◌++◌, length, take, take_all, refl, sym, ap, ◌∙◌, subst, arith, append-nil}
+use Rattle.std.proofs.Common.{◌≡◌, ℕ, false, inr, Option, Some, None, Result, Ok, Err, List, [], ◌++◌, length, take, take_all, refl, sym, ap, ◌∙◌, subst, arith, append-nil}
 use Rattle.bw_log.specs.Contents.{roster}
 use Rattle.bw_versions.specs.Batches.{BatchData}
 use Rattle.bw_versions.specs.Versioned.{Versioned}
@@ -11,10 +11,10 @@ use Rattle.bw_store.specs.declared.fault.StoreFault.TheVariants.{NoMemory}
 use Rattle.bw_store.specs.Settled.{IsSettled, IsAllCut}
 use Rattle.bw_store.specs.Faults.{FlushAnswers, FlushLeaves, flush_refusal}
 use Rattle.bw_store.specs.Cleaning.{HasBoxesBut, HasFloorBut}
-use Rattle.bw_store.specs.Following.{Continues, Follows, TookSome}
+use Rattle.bw_store.specs.Following.{Continues, Follows, HasBoxes, TookSome}
 use Rattle.bw_store.specs.Showing.{FlushShows, HasFloorAfter, Hides, Settles, SettleRefuses, Shows, with_places}
 use Rattle.bw_ring.specs.declared.lane.Lane.{Lane}
-use Rattle.bw_store.proofs.FollowMore.{continue_then, follow_then, stays_on}
+use Rattle.bw_store.proofs.FollowMore.{continue_then, flushed_boxes, flushed_follows, follow_then, stays_on}
 use Rattle.bw_store.proofs.SettledMore.{settled_by}
 use Rattle.bw_store.proofs.Readers.{places_are, with_versions}
 
@@ -58,6 +58,12 @@ shows_roster middle new x = ap (λ (s : Kept). roster s.log) x.is
 pub hides_roster : (middle new : Kept) → Hides middle new → roster new.log ≡ roster middle.log
 hides_roster middle new x = ap (λ (s : Kept). roster s.log) x.is
 
+pub shows_boxes : (old middle new : Kept) → HasBoxes old middle → Shows middle new → HasBoxes old new
+shows_boxes old middle new first x = record { same = shows_roster middle new x ∙ first.same }
+
+pub hides_boxes : (old middle new : Kept) → HasBoxes old middle → Hides middle new → HasBoxes old new
+hides_boxes old middle new first x = record { same = hides_roster middle new x ∙ first.same }
+
 -- a publication leaves the floor and what is durable
 pub shows_floor : {A : Type 0} (k : ℕ) (old middle new : Kept) (given : A) → HasFloorBut old (Ok given) middle → Shows middle new
     → HasFloorAfter k old (Ok given) new
@@ -91,6 +97,20 @@ flush_hides old middle new o answers left x = inr (refl, (middle, record { numbe
 pub may_want : (o : Option StoreFault) (x : Option ℕ) → FlushAnswers o (Ok x) → FlushAnswers o (Err NoMemory)
 may_want None x a = tt
 may_want (Some fault) x a = absurd cc
+
+-- behind records that were taken, and a flush
+module _ (old middle flushed new : Kept) (r : Result (Option ℕ) StoreFault) (took : TookSome old middle) (left : FlushLeaves middle r flushed) where
+  pub flushed_shows : Shows flushed new → Follows old new × HasBoxes old new
+  flushed_shows x = (
+    shows_follows old flushed new (flushed_follows old middle flushed r took left) x,
+    shows_boxes old flushed new (flushed_boxes old middle flushed r took left) x,
+  )
+
+  pub flushed_hides : Hides flushed new → Follows old new × HasBoxes old new
+  flushed_hides x = (
+    hides_follows old flushed new (flushed_follows old middle flushed r took left) x,
+    hides_boxes old flushed new (flushed_boxes old middle flushed r took left) x,
+  )
 
 pub settle_hides : (old middle flushed new : Kept) (o : Option ℕ) → TookSome old middle → FlushAnswers (flush_refusal middle) (Ok o)
     → FlushLeaves middle (Ok o) flushed → Hides flushed new → (lanes : List Lane) → SettleRefuses old lanes NoMemory new

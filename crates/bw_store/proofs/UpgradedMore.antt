@@ -18,7 +18,7 @@ use Rattle.bw_store.specs.Cleaning.{HasBoxesBut}
 use Rattle.bw_store.specs.Faults.{FlushLeaves}
 use Rattle.bw_store.specs.Kept.{Kept}
 use Rattle.bw_store.specs.Upgrading.{UpgradeMoves}
-use Rattle.bw_store.proofs.CleanedMore.{Begins, Cleans, GaveUp, StandsOn, few_upto, given_cleans, given_told, refused_cleans, refused_counts, stopped_roster}
+use Rattle.bw_store.proofs.CleanedMore.{Begins, Cleans, GaveUp, StandsOn, Wrote, few_upto, given_wrote, refused_wrote, stopped_roster}
 
 -- ---- the log behind it
 
@@ -31,26 +31,17 @@ gave_up_old s upgraded new b x = record {
   counts = x.given_up.counts;
 }
 
-pub upgraded_cleans : (s : Kept) (upgraded : Upgraded) (new : logs.Contents) → Begins s → logs.IsSound new → upgrades.IsUpgraded s.log upgraded new
-    → StandsOn s new → Cleans s (length s.log.pages) new
-upgraded_cleans s upgraded new b sound x stands =
-    given_cleans s (last_of_old s.log) (pages_of_old s.log) upgraded.frames (old_segments s.log) (count_in (old_segments s.log) x.then_log.live) (length s.log.pages)
-    x.then_log new b sound (few_upto s (last_of_old s.log)) x.moved (gave_up_old s upgraded new b x) stands
-
-pub upgraded_told : (s : Kept) (upgraded : Upgraded) (new : logs.Contents) (b : Begins s) (sound : logs.IsSound new)
-    (x : upgrades.IsUpgraded s.log upgraded new)
-    (stands : StandsOn s new)
-    → length (upgraded_cleans s upgraded new b sound x stands).written ≡ upgraded.frames
-unfolding upgraded_cleans
-upgraded_told s upgraded new b sound x stands =
-    given_told s (last_of_old s.log) (pages_of_old s.log) upgraded.frames (old_segments s.log) (count_in (old_segments s.log) x.then_log.live) (length s.log.pages)
+pub upgraded_wrote : (s : Kept) (upgraded : Upgraded) (new : logs.Contents) → Begins s → logs.IsSound new → upgrades.IsUpgraded s.log upgraded new
+    → StandsOn s new → Wrote s (length s.log.pages) new (λ fs. length fs ≡ upgraded.frames)
+upgraded_wrote s upgraded new b sound x stands =
+    given_wrote s (last_of_old s.log) (pages_of_old s.log) upgraded.frames (old_segments s.log) (count_in (old_segments s.log) x.then_log.live) (length s.log.pages)
     x.then_log new b sound (few_upto s (last_of_old s.log)) x.moved (gave_up_old s upgraded new b x) stands
 
 -- an upgrade that is not refused at once
-abbrev pub Halted : Kept → LogFault → logs.Contents → Type 0
+abbrev Halted : Kept → LogFault → logs.Contents → Type 0
 Halted s fault new = care.StoppedBehind (last_of_old s.log) s.log (pages_of_old s.log) fault new
 
-pub halted_of : (s : Kept) (cause : CleanFault) (new : logs.Contents) → Begins s → 1 ≤ old_segments s.log → upgrades.RefusesUpgrade cause s.log new
+halted_of : (s : Kept) (cause : CleanFault) (new : logs.Contents) → Begins s → 1 ≤ old_segments s.log → upgrades.RefusesUpgrade cause s.log new
     → (fault : LogFault) × Halted s fault new
 halted_of s NothingOld new b some r = (let none = r.1 in absurd (omega arith))
 halted_of s (Log log.NoMemory) new b some r = (log.NoMemory, r.stopped)
@@ -61,24 +52,17 @@ halted_of s (Log log.Failed) new b some r = (let works = b.works in let failed =
 halted_of s (Log log.Spent) new b some r = (log.Spent, r.stopped)
 halted_of s (Log log.NoPage) new b some r = absurd r
 
-pub halted_cleans : (s : Kept) (fault : LogFault) (new : logs.Contents) → Begins s → logs.IsSound new → Halted s fault new
-    → StandsOn s new → Cleans s (length s.log.pages) new
-halted_cleans s fault new b sound x stands =
-    refused_cleans s (last_of_old s.log) (pages_of_old s.log) fault (length s.log.pages) new b sound (few_upto s (last_of_old s.log)) x stands
-
-pub halted_counts : (s : Kept) (fault : LogFault) (new : logs.Contents) (b : Begins s) (sound : logs.IsSound new) (x : Halted s fault new)
-    (stands : StandsOn s new)
-    → logs.counted new ≡ logs.counted s.log ++ (halted_cleans s fault new b sound x stands).written
-unfolding halted_cleans
-halted_counts s fault new b sound x stands =
-    refused_counts s (last_of_old s.log) (pages_of_old s.log) fault (length s.log.pages) new b sound (few_upto s (last_of_old s.log)) x stands
+pub halted_wrote : (s : Kept) (cause : CleanFault) (new : logs.Contents) → Begins s → 1 ≤ old_segments s.log → logs.IsSound new
+    → upgrades.RefusesUpgrade cause s.log new → StandsOn s new → Wrote s (length s.log.pages) new (λ fs. logs.counted new ≡ logs.counted s.log ++ fs)
+halted_wrote s cause new b some sound r stands =
+    (let halt = halted_of s cause new b some r in
+    refused_wrote s (last_of_old s.log) (pages_of_old s.log) halt.0 (length s.log.pages) new b sound (few_upto s (last_of_old s.log)) halt.1 stands)
 
 pub upgrades_of : (s : Kept) (new : logs.Contents) (r : Result Upgraded CleanFault) → Begins s → 1 ≤ old_segments s.log → logs.IsSound new
     → IfOk r (λ upgraded. upgrades.IsUpgraded s.log upgraded new) → IfErr r (λ cause. upgrades.RefusesUpgrade cause s.log new)
     → StandsOn s new → Cleans s (length s.log.pages) new
-upgrades_of s new (Ok upgraded) b some sound ok err stands = upgraded_cleans s upgraded new b sound ok stands
-upgrades_of s new (Err cause) b some sound ok err stands =
-    (let x = halted_of s cause new b some err in halted_cleans s x.0 new b sound x.1 stands)
+upgrades_of s new (Ok upgraded) b some sound ok err stands = (upgraded_wrote s upgraded new b sound ok stands).0
+upgrades_of s new (Err cause) b some sound ok err stands = (halted_wrote s cause new b some sound err stands).0
 
 -- ---- what no upgrade takes back
 

@@ -6,7 +6,7 @@ use Rattle.bw_versions.specs.Batches.{BatchData}
 use Rattle.bw_versions.specs.declared.entry.Entry.{Entry}
 use Rattle.bw_store.specs.declared.fault.StoreFault.{StoreFault}
 use Rattle.bw_store.specs.declared.turn.Count.{Count}
-use Rattle.bw_store.specs.declared.turn.TurnFault.{TurnFault}
+use Rattle.bw_store.specs.declared.fault.TurnFault.{TurnFault}
 use Rattle.bw_store.specs.History.{ends_in}
 use Rattle.bw_store.specs.Kept.{Kept}
 use Rattle.bw_ring.specs.declared.lane.Lane.{Lane}

@@ -30,6 +30,8 @@ pub mod Counting
 pub mod Needed
 -- What private functions say.
 pub mod Drafting
+pub mod Entering
+pub mod Moving
+pub mod Beside
 pub mod Remembering
 pub mod Filing
-pub mod Tailing

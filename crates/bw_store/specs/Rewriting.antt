@@ -1,6 +1,6 @@
 -- What is left where pages that the caller names were written again: no page changes, and no segment is given up.
 
-use Rattle.std.specs.Prelude.{ℕ, nat_le, ◌&&◌, ◌≡◌, Bool, true, false, Result, Ok, Err, List, [], length}
+use Rattle.std.specs.Prelude.{ℕ, nat_le, ◌&&◌, ◌≡◌, ◌↔◌, IsErrOf, Bool, true, false, Result, Ok, Err, List, [], length}
 use Rattle.std.specs.List.{list_all}
 use Rattle.bw_log.specs.Contents.{Contents}
 use Rattle.bw_log.specs.declared.fault.LogFault.{LogFault}
@@ -28,6 +28,10 @@ abbrev pub RewriteLeaves : Kept → List ℕ → Result ℕ StoreFault → Kept 
 RewriteLeaves old pages result new =
     WhereSome (are_pages (length old.filed.leaves) pages ≡ true) (are_pages (length old.filed.leaves) pages ≡ false) NoPage
     (Behind (λ s r t. RewriteMoves s pages r t)) old result new
+
+-- it was refused NoPage exactly where one of the numbers is no page's
+abbrev pub TellsNoPage : Kept → List ℕ → Result ℕ StoreFault → Type 0
+TellsNoPage s pages result = IsErrOf result NoPage ↔ (are_pages (length s.filed.leaves) pages ≡ false)
 
 -- and then a publication
 abbrev pub RewriteShows : Kept → List ℕ → Result ℕ StoreFault → Kept → Type 0

@@ -2,6 +2,7 @@
 
 ghost use Rattle.std.specs.Prelude.{◌≡◌, ◌<◌, [], length, map, vec_len, slice_set, slice_index_or};
 ghost use Rattle.bw_ring.specs.Ends.{accepted, taken, given, ring_of_feed, ring_of_lane, IsFeedOf};
+ghost use Rattle.bw_store.specs.Beside.{KeepsRings};
 
 use bw_ring::{Feed, Lane};
 
@@ -9,12 +10,8 @@ use bw_ring::{Feed, Lane};
 /// know of.
 pub(crate) fn look_at_all(lanes: &mut Vec<Lane>, feeds: &mut Vec<Feed>)
     requires { map ring_of_feed feeds.old.items ≡ map ring_of_lane lanes.old.items }
-    ensures count { length lanes.new.items ≡ length lanes.old.items }
+    ensures kept { KeepsRings lanes.old.items feeds.old.items lanes.new.items feeds.new.items }
     ensures len { vec_len lanes.new ≡ vec_len lanes.old }
-    ensures rings { map ring_of_lane lanes.new.items ≡ map ring_of_lane lanes.old.items }
-    ensures taken { map taken lanes.new.items ≡ map taken lanes.old.items }
-    ensures feeds { map ring_of_feed feeds.new.items ≡ map ring_of_feed feeds.old.items }
-    ensures accepted { map accepted feeds.new.items ≡ map accepted feeds.old.items }
     ensures whole { map given lanes.new.items ≡ map accepted feeds.old.items }
 {
     let count = lanes.as_slice().len();
@@ -27,12 +24,8 @@ pub(crate) fn look_at_all(lanes: &mut Vec<Lane>, feeds: &mut Vec<Feed>)
 fn look_at(lanes: &mut Vec<Lane>, feeds: &mut Vec<Feed>, at: usize)
     requires ends { map ring_of_feed feeds.old.items ≡ map ring_of_lane lanes.old.items }
     requires inside { at < length lanes.old.items }
-    ensures count { length lanes.new.items ≡ length lanes.old.items }
+    ensures kept { KeepsRings lanes.old.items feeds.old.items lanes.new.items feeds.new.items }
     ensures len { vec_len lanes.new ≡ vec_len lanes.old }
-    ensures rings { map ring_of_lane lanes.new.items ≡ map ring_of_lane lanes.old.items }
-    ensures taken { map taken lanes.new.items ≡ map taken lanes.old.items }
-    ensures feeds { map ring_of_feed feeds.new.items ≡ map ring_of_feed feeds.old.items }
-    ensures accepted { map accepted feeds.new.items ≡ map accepted feeds.old.items }
     ensures given { map given lanes.new.items
         ≡ slice_set (map given lanes.old.items) at
         (slice_index_or (map accepted feeds.old.items) at []) }

@@ -17,6 +17,7 @@ use bw_care::{Cleaned, clean};
 use std::sync::Wait;
 
 impl Store {
+    ghost use Rattle.bw_store.specs.Moving.{MayMove};
     ghost use Rattle.bw_store.specs.Views.{forgotten_of, kept_by, noted_of, IsSound};
 
     /// Gives up the oldest live segment: what waits is flushed, then each page that was last set in
@@ -106,18 +107,13 @@ impl Store {
 
     // The cleaner, where nothing waits, and what is counted of it.
     fn move_pages(&mut self) -> Result<Cleaned, StoreFault>
-        requires sound { IsSound self.old holding }
-        requires settled { IsSettled (kept_by self.old holding) }
-        requires empty { self.old.making.blocks ≡ [] }
-        requires works { (kept_by self.old holding).log.is_failed ≡ false }
+        requires ready { MayMove self.old holding }
         requires two { 2 ≤ length (kept_by self.old holding).log.live }
-        requires room { vec_len self.old.cuts + length (kept_by self.old holding).log.pages
-            ≤ vec_capacity self.old.cuts }
         ensures sound { IsSound self.new holding }
         ensures leaves { MoveLeaves (kept_by self.old holding) result (kept_by self.new holding) }
-        ensures gone { forgotten_of self.new ≡ forgotten_of self.old }
         ensures counts { self.new.tally ≡ counted_gone 1 self.old.tally (kept_by self.old holding)
             (is_ok result) (kept_by self.new holding) }
+        ensures gone { forgotten_of self.new ≡ forgotten_of self.old }
     {
         let durable = self.durable;
         let before = live_bytes(&self.log);
@@ -132,13 +128,8 @@ impl Store {
 
     // The cleaner, and what the store notes of its frames.
     fn move_all(&mut self) -> Result<Cleaned, StoreFault>
-        requires sound { IsSound self.old holding }
-        requires settled { IsSettled (kept_by self.old holding) }
-        requires empty { self.old.making.blocks ≡ [] }
-        requires works { (kept_by self.old holding).log.is_failed ≡ false }
+        requires ready { MayMove self.old holding }
         requires two { 2 ≤ length (kept_by self.old holding).log.live }
-        requires room { vec_len self.old.cuts + length (kept_by self.old holding).log.pages
-            ≤ vec_capacity self.old.cuts }
         ensures sound { IsSound self.new holding }
         ensures leaves { MoveLeaves (kept_by self.old holding) result (kept_by self.new holding) }
         ensures noted { noted_of self.new ≡ noted_of self.old }

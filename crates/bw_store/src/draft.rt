@@ -29,21 +29,12 @@ pub(crate) struct Row {
 }
 
 /// The blocks of the first records of a group, and what these records do.
+#[derive(Drop)]
 pub(crate) struct Draft {
     pub(crate) blocks: Vec<Block>,
     pub(crate) rows: Vec<Row>,
     /// How many blocks the frame in the making has with these.
     pub(crate) count: u32,
-}
-
-impl Drop for Draft {
-    fn drop(self) {
-        let Draft {
-            blocks: _,
-            rows: _,
-            count: _,
-        } = self;
-    }
 }
 
 impl Row {

@@ -1,20 +1,20 @@
 //! Records are entered in the history and in the frame in the making.
 
 ghost use Rattle.std.specs.Prelude.{◌≡◌, ◌≤◌, ◌<◌, ◌+◌, ◌-◌, ◌^◌, ◌∷◌, [], Some, false, length, map, vec_len, slice_get, OnOk, OnErr, IfOk, IfErr};
-ghost use Rattle.bw_codec.specs.Grammar.{IsBlock};
 ghost use Rattle.std.specs.List.{AllByRecursion, fold};
 ghost use Rattle.std.specs.Vec.{vec_capacity};
-ghost use Rattle.bw_buffer.specs.Filling.{frame_of, size_of, with_all};
-ghost use Rattle.bw_page.specs.Leaves.{directed_at};
+ghost use Rattle.bw_codec.specs.Grammar.{IsBlock};
 ghost use Rattle.bw_codec.specs.Record.{key_of};
+ghost use Rattle.bw_page.specs.Leaves.{directed_at};
 ghost use Rattle.bw_page.specs.Shown.{IsSpent, IsHere};
+ghost use Rattle.bw_ring.specs.Ends.{given};
+ghost use Rattle.bw_buffer.specs.Filling.{frame_of, size_of, with_all};
 ghost use Rattle.bw_store.specs.Adding.{blocks_for, here_for, last_for, noted};
 ghost use Rattle.bw_store.specs.Drafting.{AreIn, count_by, set_row};
 ghost use Rattle.bw_store.specs.Filing.{AreOne};
-ghost use Rattle.bw_ring.specs.Ends.{given};
 ghost use Rattle.bw_store.specs.Lanes.{IsNext, TookKnown};
-ghost use Rattle.bw_store.specs.Taking.{IsWanting};
 ghost use Rattle.bw_store.specs.Taken.{alone, taken};
+ghost use Rattle.bw_store.specs.Taking.{IsWanting};
 
 use crate::draft::Row;
 use crate::fault::StoreFault;

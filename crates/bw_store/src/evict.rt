@@ -1,7 +1,9 @@
-//! Pages leave memory.
+//! Pages leave memory, and what it takes to bring them back.
 
-ghost use Rattle.std.specs.Prelude.{ℕ, ◌≡◌, ◌==◌, ◌↔◌, ◌&&◌, not, true, None, if◌then◌else◌, IfOk, IfErr, IsErrOf, MatchResult};
+ghost use Rattle.std.specs.Prelude.{ℕ, ◌≡◌, ◌==◌, ◌↔◌, ◌&&◌, not, true, None, Some, if◌then◌else◌, IfOk, IfErr, IsErrOf, MatchOption, MatchResult};
 ghost use Rattle.bw_page.specs.Leaves.{leaf_at};
+ghost use Rattle.bw_log.specs.Contents.{counted};
+ghost use Rattle.bw_log.specs.Places.{walk_of};
 ghost use Rattle.bw_store.specs.Counting.{noted_left};
 ghost use Rattle.bw_store.specs.Reading.{leaves_now};
 ghost use Rattle.bw_store.specs.Tails.{is_made};
@@ -11,6 +13,24 @@ use crate::store::Store;
 
 impl Store {
     ghost use Rattle.bw_store.specs.Views.{kept_by, is_evicted, noted_of, IsSound};
+
+    /// From how many frames a page would be read, if it were evicted: those that were appended and
+    /// have a block of it, from the last that says all of it on. It is 0 where no frame has the page
+    /// yet, and `None` where there is no such page, evicted or not. `rewrite` makes it 1.
+    ///
+    /// No memory is taken, and it costs the same for each page. Whoever evicts pages asks this first,
+    /// and writes a page again whose walk is long, so that bringing it back stays cheap.
+    pub fn walk_of(&self, page: u32) -> Option<u64>
+        requires { IsSound self.now holding }
+        ensures { MatchOption (leaf_at page (leaves_now (kept_by self.now holding)))
+            (result ≡ None)
+            (λ _. result ≡ Some (walk_of page (counted (kept_by self.now holding).log))) }
+    {
+        if page == 0 || page > self.leaves.count() {
+            return None;
+        }
+        Some(self.log.walk_of(page))
+    }
 
     /// Drops a page from memory; answers whether it left. The page stays: it is then read from the
     /// log, and the records that no frame has yet are kept. It does not leave where it is evicted,

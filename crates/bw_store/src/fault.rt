@@ -51,6 +51,13 @@ impl Display for StoreFault {
     }
 }
 
+/// A turn was refused after it took so many records.
+#[derive(Debug, Clone, Copy, PartialEq, Eq)]
+pub struct TurnFault {
+    pub taken: u64,
+    pub cause: StoreFault,
+}
+
 /// Why no store was opened, with the boxes that were handed in.
 #[derive(Drop)]
 pub struct OpenFault {

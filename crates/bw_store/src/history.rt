@@ -5,7 +5,7 @@
 
 ghost use Rattle.std.specs.Prelude.{◌≡◌, ◌≤◌, ◌+◌, ◌-◌, ◌++◌, ◌∷◌, [], drop, take, length, map, vec_len, OnOk};
 ghost use Rattle.std.specs.Vec.{vec_capacity};
-ghost use Rattle.bw_store.specs.Remembered.{HasRoom};
+ghost use Rattle.bw_store.specs.Remembered.{HasRoom, Remembered};
 
 use bw_versions::PackedEntry;
 use std::alloc::{AllocError, Global};
@@ -14,23 +14,16 @@ use std::snapshot::Snapshot;
 
 /// All entries that were taken. Those that were forgotten come first. Each that is kept has its
 /// record's bytes in one run of memory, and 32 bytes here.
+#[derive(Drop)]
 pub struct History {
     past: Vec<Snapshot<PackedEntry>>,
     kept: Vec<PackedEntry>,
 }
 
-impl Drop for History {
-    fn drop(self) {
-        let History { past: _, kept: _ } = self;
-    }
-}
-
 impl Model for History {
-    ghost use Rattle.bw_store.specs.Remembered.{Remembered};
+    ghost use Rattle.bw_store.specs.Remembering.{remembered, MayLeave};
 
     ghost Value = { Remembered };
-
-    ghost use Rattle.bw_store.specs.Remembering.{remembered, MayLeave};
 
     ghost view = { remembered };
 

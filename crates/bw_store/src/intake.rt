@@ -1,6 +1,6 @@
 //! Lanes and the history: what is taken from a lane stands in the history at once.
 
-ghost use Rattle.std.specs.Prelude.{true, false, ◌≡◌, ◌≤◌, ◌<◌, ◌↔◌, ◌+◌, ◌-◌, ◌∷◌, ◌++◌, [], take, drop, length, map, vec_len, IsTrue, IfSome, IfNone, IfOk, slice_get, slice_set, slice_index_or, OnOk};
+ghost use Rattle.std.specs.Prelude.{true, false, ◌≡◌, ◌≤◌, ◌<◌, ◌↔◌, ◌+◌, ◌-◌, ◌∷◌, ◌++◌, [], take, drop, length, map, vec_len, IsTrue, IfSome, IfNone, IfOk, slice_set, slice_index_or, OnOk};
 ghost use mathlib.Core.List.{IsPrefix};
 ghost use Rattle.bw_ring.specs.Ends.{accepted, taken, known, given, ring_of_feed, ring_of_lane};
 ghost use Rattle.bw_ring.specs.Marks.{marked};
@@ -16,6 +16,7 @@ use bw_versions::PackedEntry;
 use std::alloc::{AllocError, Global};
 
 /// The lanes, and what was taken from them in order.
+#[derive(Drop)]
 pub struct Intake {
     pub(crate) lanes: Vec<Lane>,
     pub(crate) history: History,
@@ -28,17 +29,9 @@ pub struct Intake {
     ghost grouped: { is_grouped history.items ≡ true },
 }
 
-impl Drop for Intake {
-    fn drop(self) {
-        let Intake {
-            lanes: _,
-            history: _,
-            counts: _,
-        } = self;
-    }
-}
-
 impl Intake {
+    ghost use Rattle.bw_store.specs.Entering.{Enters};
+
     /// A copy of the group that a lane gives next. Nothing is taken.
     pub(crate) fn next(&mut self, lane: usize) -> Option<Group>
         requires { lane < length self.old.lanes.items }
@@ -143,14 +136,7 @@ impl Intake {
         requires next { IsNext self.old.lanes.items lane group.now }
         requires entries { entries.items ≡ entered lane (marked group.now) }
         requires room { HasRoom 4 self.old.history }
-        ensures gone { self.new.history.gone ≡ self.old.history.gone }
-        ensures count { length self.new.lanes.items ≡ length self.old.lanes.items }
-        ensures grows { self.new.history.items
-            ≡ self.old.history.items ++ entered lane (marked group.now) }
-        ensures rings { map ring_of_lane self.new.lanes.items
-            ≡ map ring_of_lane self.old.lanes.items }
-        ensures given { map given self.new.lanes.items ≡ map given self.old.lanes.items }
-        ensures known { TookKnown lane self.old.lanes.items self.new.lanes.items }
+        ensures { Enters lane group.now self.old self.new }
     {
         let Intake {
             lanes,
@@ -170,14 +156,7 @@ impl Intake {
         requires next { IsNext self.old.lanes.items lane (item.now ∷ []) }
         requires entry { entry ≡ record { writer = lane; more = false; item = item.now } }
         requires room { HasRoom 1 self.old.history }
-        ensures gone { self.new.history.gone ≡ self.old.history.gone }
-        ensures count { length self.new.lanes.items ≡ length self.old.lanes.items }
-        ensures grows { self.new.history.items
-            ≡ self.old.history.items ++ entered lane (marked (item.now ∷ [])) }
-        ensures rings { map ring_of_lane self.new.lanes.items
-            ≡ map ring_of_lane self.old.lanes.items }
-        ensures given { map given self.new.lanes.items ≡ map given self.old.lanes.items }
-        ensures known { TookKnown lane self.old.lanes.items self.new.lanes.items }
+        ensures { Enters lane (item.now ∷ []) self.old self.new }
     {
         let Intake {
             lanes,

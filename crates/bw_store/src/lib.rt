@@ -53,7 +53,6 @@ pub use bw_versions::{Entry, News, NoReader, PackedEntry, ReadFault, Reader};
 pub use config::Config;
 pub use counters::Counters;
 pub use edge::Edge;
-pub use fault::{OpenFault, StoreFault};
+pub use fault::{OpenFault, StoreFault, TurnFault};
 pub use reopen::ReopenFault;
 pub use store::Store;
-pub use turn::TurnFault;

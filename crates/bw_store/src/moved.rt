@@ -1,12 +1,9 @@
 //! What the store notes of frames that were not made of records: the pages that a cleaning or an
 //! upgrade wrote again.
 
-ghost use Rattle.std.specs.Prelude.{ℕ, ◌≡◌, ◌≤◌, ◌<◌, ◌+◌, ◌-◌, ◌^◌, ◌++◌, Some, None, [], false, length, replicate, vec_len, slice_get, IfSome, OnOk};
+ghost use Rattle.std.specs.Prelude.{◌≡◌, ◌≤◌, ◌+◌, ◌++◌, [], false, replicate, vec_len, IfSome, OnOk};
 ghost use Rattle.std.specs.Vec.{vec_capacity};
-ghost use Rattle.bw_log.specs.Contents.{counted};
-ghost use Rattle.bw_log.specs.Places.{place_of};
-ghost use Rattle.bw_care.specs.Views.{seen, IsSound as IsSoundLog};
-ghost use Rattle.bw_store.specs.Cleaning.{end_by, with_moved};
+ghost use Rattle.bw_store.specs.Cleaning.{end_by};
 
 use crate::renew::renew;
 use crate::store::Store;
@@ -14,7 +11,8 @@ use bw_buffer::Buffer;
 use std::alloc::AllocError;
 
 impl Store {
-    ghost use Rattle.bw_store.specs.Views.{kept_by, noted_of, IsSound};
+    ghost use Rattle.bw_store.specs.Moving.{HasNoted, MayNote};
+    ghost use Rattle.bw_store.specs.Views.{kept_by, noted_of};
 
     // Room for a cut for each of so many frames.
     pub(crate) fn reserve_cuts(&mut self, frames: usize) -> Result<(), AllocError>
@@ -29,30 +27,10 @@ impl Store {
     // durable. The last blocks of pages are asked of the log again, and the empty buffer gets the
     // next number. Answers how many frames they are.
     pub(crate) fn note_moved(&mut self, first: Option<u64>) -> u64
-        requires sound { IsSoundLog self.old.log holding }
-        requires some { 1 ≤ end_by first }
-        requires after { end_by first ≤ end_by (seen self.old.log holding).next }
-        requires few { self.old.durable + end_by (seen self.old.log holding).next
-            < 2 ^ 64 + end_by first }
-        requires room { vec_len self.old.cuts + end_by (seen self.old.log holding).next
-            ≤ vec_capacity self.old.cuts + end_by first }
-        requires empty { self.old.making.blocks ≡ [] }
-        requires unsealed { self.old.making.is_sealed ≡ false }
-        requires count { length self.old.newest.items < 2 ^ 32 }
-        requires there { (p : ℕ) → 1 ≤ p → p ≤ length self.old.newest.items
-            → place_of p (counted (seen self.old.log holding)) ≡ None → ⊥ }
-        ensures frames { result + end_by first ≡ end_by (seen self.old.log holding).next }
-        ensures noted { kept_by self.new holding
-            ≡ with_moved (kept_by self.old holding) result self.old.floor
-            self.new.newest.items self.new.making (kept_by self.old holding).log }
-        ensures count { length self.new.newest.items ≡ length self.old.newest.items }
-        ensures each { (p : ℕ) → 1 ≤ p → p ≤ length self.old.newest.items
-            → slice_get self.new.newest.items (p - 1)
-            ≡ place_of p (counted (seen self.old.log holding)) }
-        ensures limit { self.new.making.limit ≡ self.old.making.limit }
-        ensures empty { self.new.making.blocks ≡ [] }
-        ensures sealed { self.new.making.is_sealed ≡ (seen self.old.log holding).is_failed }
-        ensures number { IfSome (seen self.old.log holding).next (λ n. self.new.making.frame ≡ n) }
+        requires { MayNote (kept_by self.old holding) first (vec_len self.old.cuts)
+            (vec_capacity self.old.cuts) }
+        ensures noted { HasNoted (kept_by self.old holding) first result
+            (kept_by self.new holding) }
         ensures stays { noted_of self.new ≡ noted_of self.old }
     {
         let end = self.intake.history.len();

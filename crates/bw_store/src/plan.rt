@@ -1,8 +1,6 @@
 //! What one record adds to the frame in the making.
 
 ghost use Rattle.std.specs.Prelude.{◌≡◌, ◌≤◌, ◌<◌, ◌+◌, ◌-◌, ◌^◌, Some, length, slice_get, IfOk, IfErr, OnOk};
-ghost use Rattle.std.specs.List.{AllByRecursion};
-ghost use Rattle.bw_codec.specs.Grammar.{body_bytes, IsBlock};
 ghost use Rattle.bw_codec.specs.Record.{key_of};
 ghost use Rattle.bw_page.specs.Leaves.{changed, directed_at, HasPage};
 ghost use Rattle.bw_page.specs.Shown.{IsHere};
@@ -19,20 +17,11 @@ use bw_page::{Cut, Leaves, change, count_after, cut_in_two};
 use std::alloc::Global;
 
 /// A record's page, the block before on that page, and the record's blocks.
+#[derive(Drop)]
 pub(crate) struct Plan {
     pub(crate) page: u32,
     pub(crate) back: Place,
     pub(crate) blocks: Blocks,
-}
-
-impl Drop for Plan {
-    fn drop(self) {
-        let Plan {
-            page: _,
-            back: _,
-            blocks: _,
-        } = self;
-    }
 }
 
 /// The blocks of one record: its Delta, and a Split where its page is cut. They take no memory of

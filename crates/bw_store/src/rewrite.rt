@@ -1,16 +1,12 @@
 //! Pages that many frames touched are written again, so that reading them is short.
 
-ghost use Rattle.std.specs.Prelude.{◌≡◌, ◌≤◌, ◌+◌, ◌↔◌, [], None, Some, true, false, length, vec_len, IsErrOf, MatchOption};
+ghost use Rattle.std.specs.Prelude.{◌≡◌, ◌≤◌, ◌+◌, ◌↔◌, [], true, false, length, vec_len, IsErrOf};
 ghost use Rattle.std.specs.List.{AllByRecursion};
 ghost use Rattle.std.specs.Vec.{vec_capacity};
-ghost use Rattle.bw_log.specs.Contents.{counted};
-ghost use Rattle.bw_log.specs.Places.{walk_of};
 ghost use Rattle.bw_log.specs.Reads.{IsPage};
-ghost use Rattle.bw_page.specs.Leaves.{leaf_at};
 ghost use Rattle.bw_store.specs.Following.{Follows, HasBoxes};
 ghost use Rattle.bw_store.specs.Kept.{EachCutStands};
-ghost use Rattle.bw_store.specs.Reading.{leaves_now};
-ghost use Rattle.bw_store.specs.Rewriting.{are_pages, RewriteLeaves, RewriteMoves, RewriteShows};
+ghost use Rattle.bw_store.specs.Rewriting.{are_pages, RewriteLeaves, RewriteMoves, RewriteShows, TellsNoPage};
 ghost use Rattle.bw_store.specs.Settled.{IsSettled};
 
 use crate::fault::StoreFault;
@@ -20,24 +16,6 @@ use std::sync::Wait;
 
 impl Store {
     ghost use Rattle.bw_store.specs.Views.{kept_by, noted_of, IsSound};
-
-    /// From how many frames a page would be read, if it were evicted: those that were appended and
-    /// have a block of it, from the last that says all of it on. It is 0 where no frame has the page
-    /// yet, and `None` where there is no such page, evicted or not. `rewrite` makes it 1.
-    ///
-    /// No memory is taken, and it costs the same for each page. Whoever evicts pages asks this first,
-    /// and writes a page again whose walk is long, so that bringing it back stays cheap.
-    pub fn walk_of(&self, page: u32) -> Option<u64>
-        requires { IsSound self.now holding }
-        ensures { MatchOption (leaf_at page (leaves_now (kept_by self.now holding)))
-            (result ≡ None)
-            (λ _. result ≡ Some (walk_of page (counted (kept_by self.now holding).log))) }
-    {
-        if page == 0 || page > self.leaves.count() {
-            return None;
-        }
-        Some(self.log.walk_of(page))
-    }
 
     /// Writes each of these pages again, whole, and answers in how many frames: what waits is
     /// flushed, then a Base of each page is appended, in this order, as many to a frame as fit. No
@@ -84,8 +62,7 @@ impl Store {
         ensures leaves { RewriteLeaves (kept_by self.old holding) pages.now result
             (kept_by self.new holding) }
 
-        ensures no_page { IsErrOf result StoreFault.NoPage
-            ↔ (are_pages (length (kept_by self.old holding).filed.leaves) pages.now ≡ false) }
+        ensures no_page { TellsNoPage (kept_by self.old holding) pages.now result }
 
         ensures follows { Follows (kept_by self.old holding) (kept_by self.new holding) }
         ensures boxes { HasBoxes (kept_by self.old holding) (kept_by self.new holding) }

@@ -3,15 +3,15 @@
 ghost use Rattle.std.specs.Prelude.{◌≡◌, ◌≤◌, ◌<◌, ◌+◌, ◌-◌, ◌∷◌, [], Some, None, false, length, map, IfSome, IfNone, IfOk, IfErr, OnOk, OnErr, MatchResult};
 ghost use Rattle.std.specs.List.{AllByRecursion};
 ghost use Rattle.bw_codec.specs.Grammar.{body_bytes, IsBlock, IsOp};
-ghost use Rattle.bw_page.specs.Batch.{AreHere};
 ghost use Rattle.bw_codec.specs.Record.{key_of};
+ghost use Rattle.bw_page.specs.Batch.{AreHere};
 ghost use Rattle.bw_page.specs.Leaves.{directed_at, HasPages};
-ghost use Rattle.bw_store.specs.Fitting.{Fits};
 ghost use Rattle.bw_page.specs.Shown.{IsHere};
-ghost use Rattle.bw_buffer.specs.Filling.{size_of};
 ghost use Rattle.bw_ring.specs.Ends.{given};
-ghost use Rattle.bw_store.specs.Planning.{listed};
+ghost use Rattle.bw_buffer.specs.Filling.{size_of};
+ghost use Rattle.bw_store.specs.Fitting.{Fits};
 ghost use Rattle.bw_store.specs.Lanes.{IsNext, IsWaiting, Dries, TookKnown};
+ghost use Rattle.bw_store.specs.Planning.{listed};
 ghost use Rattle.bw_store.specs.Taking.{TakeLeaves, WaitingLeaves, GroupLeaves, IsPlan, IsStopped, IsUnplanned};
 
 use crate::fault::StoreFault;

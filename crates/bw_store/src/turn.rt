@@ -4,15 +4,8 @@ ghost use Rattle.std.specs.Prelude.{◌≡◌, ◌≤◌, ◌<◌, ◌+◌, ◌*
 ghost use Rattle.bw_store.specs.Following.{Turned, TookInTurn, RefusedAfter, TurnsOn, groups_since};
 ghost use Rattle.bw_store.specs.Lanes.{Dries, AreDry};
 
-use crate::fault::StoreFault;
+use crate::fault::TurnFault;
 use crate::store::Store;
-
-/// A turn was refused after it took so many records.
-#[derive(Debug, Clone, Copy, PartialEq, Eq)]
-pub struct TurnFault {
-    pub taken: u64,
-    pub cause: StoreFault,
-}
 
 /// How many groups were taken, and how many records these have.
 #[derive(Clone, Copy)]

@@ -1,13 +1,11 @@
 //! All segments of format 1 are given up, and no page changes.
 
-ghost use Rattle.std.specs.Prelude.{◌≡◌, ◌≤◌, ◌+◌, ◌↔◌, [], false, length, vec_len, is_ok, IsErrOf, IfOk};
-ghost use Rattle.std.specs.Vec.{vec_capacity};
+ghost use Rattle.std.specs.Prelude.{◌≡◌, ◌≤◌, ◌↔◌, is_ok, IsErrOf, IfOk};
 ghost use Rattle.bw_care.specs.Upgrading.{old_segments};
 ghost use Rattle.bw_store.specs.Cleaning.{HasBoxesBut, HasFloorBut};
 ghost use Rattle.bw_store.specs.Counting.{counted_gone, CountsUpgrade, CountsUpgraded};
 ghost use Rattle.bw_store.specs.Following.{Continues};
 ghost use Rattle.bw_store.specs.Kept.{EachCutStands};
-ghost use Rattle.bw_store.specs.Settled.{IsSettled};
 ghost use Rattle.bw_store.specs.Showing.{HasBoxesAfter, HasFloorAfter};
 ghost use Rattle.bw_store.specs.Upgrading.{UpgradeMoves, UpgradeLeaves, UpgradeShows};
 
@@ -18,6 +16,7 @@ use bw_care::{Upgraded, old_segments, upgrade};
 use std::sync::Wait;
 
 impl Store {
+    ghost use Rattle.bw_store.specs.Moving.{MayMove};
     ghost use Rattle.bw_store.specs.Views.{forgotten_of, kept_by, noted_of, IsSound};
 
     /// Gives up all live segments of format 1: what waits is flushed, then each page that was last
@@ -74,12 +73,12 @@ impl Store {
         ensures none_left { IfOk result (λ _. old_segments (kept_by self.new holding).log ≡ 0) }
 
         ensures floor { HasFloorBut (kept_by self.old holding) result (kept_by self.new holding) }
-        ensures follows { Continues (kept_by self.old holding) (kept_by self.new holding) }
-        ensures boxes { HasBoxesBut (old_segments (kept_by self.old holding).log)
-            (kept_by self.old holding) result (kept_by self.new holding) }
         ensures gone { forgotten_of self.new ≡ forgotten_of self.old }
         ensures counts { CountsUpgraded (kept_by self.old holding) self.old.tally result
             (kept_by self.new holding) self.new.tally }
+        ensures follows { Continues (kept_by self.old holding) (kept_by self.new holding) }
+        ensures boxes { HasBoxesBut (old_segments (kept_by self.old holding).log)
+            (kept_by self.old holding) result (kept_by self.new holding) }
     {
         if self.old_segments() == 0 {
             return Err(StoreFault::NothingOld);
@@ -98,20 +97,15 @@ impl Store {
 
     // The upgrade, where nothing waits, and what is counted of it.
     fn upgrade_counted(&mut self) -> Result<Upgraded, StoreFault>
-        requires sound { IsSound self.old holding }
-        requires settled { IsSettled (kept_by self.old holding) }
-        requires empty { self.old.making.blocks ≡ [] }
-        requires works { (kept_by self.old holding).log.is_failed ≡ false }
+        requires ready { MayMove self.old holding }
         requires some { 1 ≤ old_segments (kept_by self.old holding).log }
-        requires room { vec_len self.old.cuts + length (kept_by self.old holding).log.pages
-            ≤ vec_capacity self.old.cuts }
         ensures sound { IsSound self.new holding }
         ensures leaves { UpgradeMoves (kept_by self.old holding) result (kept_by self.new holding) }
-        ensures none_left { IfOk result (λ _. old_segments (kept_by self.new holding).log ≡ 0) }
-        ensures gone { forgotten_of self.new ≡ forgotten_of self.old }
         ensures counts { self.new.tally
             ≡ counted_gone (old_segments (kept_by self.old holding).log) self.old.tally
             (kept_by self.old holding) (is_ok result) (kept_by self.new holding) }
+        ensures none_left { IfOk result (λ _. old_segments (kept_by self.new holding).log ≡ 0) }
+        ensures gone { forgotten_of self.new ≡ forgotten_of self.old }
     {
         let durable = self.durable;
         let before = live_bytes(&self.log);
@@ -127,13 +121,8 @@ impl Store {
 
     // The upgrade, where nothing waits, and what the store notes of its frames.
     fn upgrade_pages(&mut self) -> Result<Upgraded, StoreFault>
-        requires sound { IsSound self.old holding }
-        requires settled { IsSettled (kept_by self.old holding) }
-        requires empty { self.old.making.blocks ≡ [] }
-        requires works { (kept_by self.old holding).log.is_failed ≡ false }
+        requires ready { MayMove self.old holding }
         requires some { 1 ≤ old_segments (kept_by self.old holding).log }
-        requires room { vec_len self.old.cuts + length (kept_by self.old holding).log.pages
-            ≤ vec_capacity self.old.cuts }
         ensures sound { IsSound self.new holding }
         ensures leaves { UpgradeMoves (kept_by self.old holding) result (kept_by self.new holding) }
         ensures none_left { IfOk result (λ _. old_segments (kept_by self.new holding).log ≡ 0) }

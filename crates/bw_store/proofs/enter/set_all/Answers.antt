@@ -9,16 +9,13 @@ rows-init c = record { rest = refl; inside = c.requires.inside; room = (let room
 pub rows-preserved : goal.rows-preserved
 rows-preserved c =
     let i = c.rows.invariant in
-    let room = i.room in
     let lt = c.rows-test.true in
-    let len = c.set_one.ensures.len in
-    let capacity = c.set_one.ensures.capacity in
     let is = got c.args.rows.now c.rows.at _ lt in
     record {
       rest = set_rest c.args.rows.now c.rows.at _ _ _ lt is c.set_one.ensures.items ∙ i.rest;
       inside = subst (λ n. AreIn n (drop (c.rows.at + 1) c.args.rows.now)) (sym c.set_one.ensures.count)
           (in_rest _ c.args.rows.now c.rows.at _ lt is i.inside);
-      room = omega arith;
+      room = omega (arith, i.room, lt, c.set_one.ensures.len, c.set_one.ensures.capacity);
     }
 
 pub set_one-requires-clause-inside : goal.set_one-requires-clause-inside

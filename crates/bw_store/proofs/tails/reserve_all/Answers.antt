@@ -9,13 +9,10 @@ rows-init c = record { same = refl; room = c.in_ok-reserve.ensures.ok; links = t
 pub rows-preserved : goal.rows-preserved
 rows-preserved c =
     let i = c.rows.invariant in
-    let room = i.room in
     let lt = c.rows-test.true in
-    let len = c.reserve_at.ensures.len in
-    let capacity = c.reserve_at.ensures.capacity in
     record {
       same = c.reserve_at.ensures.same ∙ i.same;
-      room = omega arith;
+      room = omega (arith, i.room, c.reserve_at.ensures.len, c.reserve_at.ensures.capacity);
       links = all_push (λ row. HasRoomsAt 4 c.reserve_at.new.tails.items (row.page - 1)) c.args.rows.now c.rows.at _ lt (got c.args.rows.now c.rows.at _ lt)
           (all_by (λ row. HasRoomsAt 4 c.rows.tails.items (row.page - 1)) (λ row. HasRoomsAt 4 c.reserve_at.new.tails.items (row.page - 1)) _
           (λ row h. c.reserve_at.ensures.kept 4 (row.page - 1) h) i.links) c.in_ok-reserve_at.ensures.link;

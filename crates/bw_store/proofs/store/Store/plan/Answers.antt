@@ -12,17 +12,15 @@ planned_for-requires-clause-within g c =
 
 pub returns-clause-lawful : goal.returns-clause-lawful
 returns-clause-lawful g c =
-    answer_lawful _ c.requires.sound c.args.item.now c.key.ensures.lawful c.in_ok-goes_on.ensures.next c.room.result c.room.ensures
-    c.args.page c.requires.page c.place_for-here.result c.place_for-here.ensures
-    c.planned_for.result c.planned_for.ensures.page (rw (sym c.deref.ensures.value) c.planned_for.ensures.back) c.planned_for.ensures.room
-    c.planned_for.ensures.blocks
+    let e = c.planned_for.ensures in
+    answer_lawful _ c.requires.sound c.args.item.now c.key.ensures.lawful c.in_ok-goes_on.ensures.next c.room.result c.room.ensures c.args.page c.requires.page
+    c.place_for-here.result c.place_for-here.ensures c.planned_for.result e.page (rw (sym c.deref.ensures.value) e.back) e.room e.blocks
 
 pub returns-clause-short : goal.returns-clause-short
 returns-clause-short g c =
-    answer_short _ c.requires.sound c.args.item.now c.key.ensures.lawful c.in_ok-goes_on.ensures.next c.room.result c.room.ensures
-    c.args.page c.requires.page c.place_for-here.result c.place_for-here.ensures
-    c.planned_for.result c.planned_for.ensures.page (rw (sym c.deref.ensures.value) c.planned_for.ensures.back) c.planned_for.ensures.room
-    c.planned_for.ensures.blocks
+    let e = c.planned_for.ensures in
+    answer_short _ c.requires.sound c.args.item.now c.key.ensures.lawful c.in_ok-goes_on.ensures.next c.room.result c.room.ensures c.args.page c.requires.page
+    c.place_for-here.result c.place_for-here.ensures c.planned_for.result e.page (rw (sym c.deref.ensures.value) e.back) e.room e.blocks
 
 pub returns-in_err-goes_on-clause-refused : goal.returns-in_err-goes_on-clause-refused
 returns-in_err-goes_on-clause-refused g c =

@@ -2,10 +2,10 @@ use Rattle.std.proofs.Common.{false, Err, ap, sym, inl, inr, ◌∙◌, map}
 use Rattle.std.proofs.lemmas.Result.{err_from_is_err_and}
 use Rattle.bw_ring.specs.Ends.{taken, ring_of_lane}
 use Rattle.bw_store.specs.Kept.{Kept}
-use Rattle.bw_store.proofs.FollowMore.{failed_at, failed_flushes, failed_never, refused_follows, flushed_follows, flushed_boxes}
+use Rattle.bw_store.proofs.FollowMore.{failed_at, failed_flushes, failed_never, refused_follows, flushed_follows}
 use Rattle.bw_store.proofs.Laned.{exact, writers_of}
 use Rattle.bw_store.proofs.SettledMore.{settled_by}
-use Rattle.bw_store.proofs.Showing.{hides_follows, hides_roster, settle_done, settle_hides, settle_shows, shows_all, shows_follows, shows_roster}
+use Rattle.bw_store.proofs.Showing.{flushed_hides, flushed_shows, settle_done, settle_hides, settle_shows, shows_all}
 use Rattle.bw_store.proofs.store.Store.settle.Goals as goal
 
 pub returns-in_err-take_known-clause-refused : goal.returns-in_err-take_known-clause-refused
@@ -36,29 +36,19 @@ returns-in_err-publish-clause-refused g c =
 
 pub returns-in_err-publish-clause-follows : goal.returns-in_err-publish-clause-follows
 returns-in_err-publish-clause-follows g c =
-    rw (sym c.look_beside.ensures.same)
-    (hides_follows _ _ _ (flushed_follows _ _ _ _ c.in_ok-take_known.ensures.took c.flush_making.ensures.leaves) c.in_err-publish.ensures.leaves)
+    rw (sym c.look_beside.ensures.same) (flushed_hides _ _ _ _ _ c.in_ok-take_known.ensures.took c.flush_making.ensures.leaves c.in_err-publish.ensures.leaves).0
 
 pub returns-in_err-publish-clause-boxes : goal.returns-in_err-publish-clause-boxes
 returns-in_err-publish-clause-boxes g c =
-    rw (sym c.look_beside.ensures.same)
-    (record {
-      same = hides_roster _ _ c.in_err-publish.ensures.leaves
-          ∙ (flushed_boxes _ _ _ _ c.in_ok-take_known.ensures.took c.flush_making.ensures.leaves).same;
-    })
+    rw (sym c.look_beside.ensures.same) (flushed_hides _ _ _ _ _ c.in_ok-take_known.ensures.took c.flush_making.ensures.leaves c.in_err-publish.ensures.leaves).1
 
 pub returns-clause-follows : goal.returns-clause-follows
 returns-clause-follows g c =
-    rw (sym c.look_beside.ensures.same)
-    (shows_follows _ _ _ (flushed_follows _ _ _ _ c.in_ok-take_known.ensures.took c.flush_making.ensures.leaves) c.in_ok-publish.ensures.leaves)
+    rw (sym c.look_beside.ensures.same) (flushed_shows _ _ _ _ _ c.in_ok-take_known.ensures.took c.flush_making.ensures.leaves c.in_ok-publish.ensures.leaves).0
 
 pub returns-clause-boxes : goal.returns-clause-boxes
 returns-clause-boxes g c =
-    rw (sym c.look_beside.ensures.same)
-    (record {
-      same = shows_roster _ _ c.in_ok-publish.ensures.leaves
-          ∙ (flushed_boxes _ _ _ _ c.in_ok-take_known.ensures.took c.flush_making.ensures.leaves).same;
-    })
+    rw (sym c.look_beside.ensures.same) (flushed_shows _ _ _ _ _ c.in_ok-take_known.ensures.took c.flush_making.ensures.leaves c.in_ok-publish.ensures.leaves).1
 
 pub returns-clause-exactly : goal.returns-clause-exactly
 returns-clause-exactly g c =

@@ -1,21 +1,18 @@
-use Rattle.std.proofs.Common.{refl, ◌∙◌}
-use Rattle.bw_store.proofs.FollowMore.{in_turn_as, any_then}
+use Rattle.bw_store.proofs.FollowMore.{any_then}
+use Rattle.bw_store.proofs.LaneByLane.{took_none, took_on}
 use Rattle.bw_store.proofs.Laned.{none_waits, took_dry, took_fewer}
 use Rattle.bw_store.proofs.store.Store.take_lane.Goals as goal
 
 pub records-init : goal.records-init
-records-init g c = record { sound = c.requires.sound; count = refl; given = refl; others = λ i e. e; took = (0, in_turn_as _ _ refl); noted = refl }
+records-init g c = record { taken = took_none _ _ c.requires.sound; others = λ i e. e }
 
 pub records-preserved : goal.records-preserved
 records-preserved g c =
     let i = c.records.invariant in
     record {
-      sound = c.take_waiting.ensures.sound;
-      count = c.take_waiting.ensures.count ∙ i.count;
-      given = c.in_ok-take_waiting.ensures.given ∙ i.given;
+      taken = took_on _ _ _ _ i.taken c.take_waiting.ensures.sound c.take_waiting.ensures.count c.in_ok-take_waiting.ensures.given
+          (any_then c.args.lane _ _ _ i.taken.took c.in_ok-take_waiting.ensures.leaves) c.take_waiting.ensures.noted;
       others = λ j e. took_dry c.args.lane _ _ c.in_ok-take_waiting.ensures.known j (i.others j e);
-      took = any_then c.args.lane _ _ _ i.took c.in_ok-take_waiting.ensures.leaves;
-      noted = c.take_waiting.ensures.noted ∙ i.noted;
     }
 
 pub records-smaller : goal.records-smaller

@@ -10,9 +10,7 @@ use Rattle.bw_store.proofs.Showing.{hides_continues, hides_floor, shows_continue
 use Rattle.bw_store.proofs.store.Store.upgrade.Goals as goal
 
 pub returns-in_err-upgraded-clause-leaves : goal.returns-in_err-upgraded-clause-leaves
-returns-in_err-upgraded-clause-leaves g c =
-    let p = err_from_is_err_and c.from_residual.result c.from_residual.ensures.1 in
-    rw (p.1, p.2) (inl c.in_err-upgraded.ensures.leaves)
+returns-in_err-upgraded-clause-leaves g c = (let p = err_from_is_err_and c.from_residual.result c.from_residual.ensures.1 in rw (p.1, p.2) (inl c.in_err-upgraded.ensures.leaves))
 
 pub returns-in_err-publish-clause-leaves : goal.returns-in_err-publish-clause-leaves
 returns-in_err-publish-clause-leaves g c =
@@ -43,9 +41,7 @@ pub returns-clause-none_left : goal.returns-clause-none_left
 returns-clause-none_left g c = ap (λ (s : Kept). old_segments s.log) c.in_ok-publish.ensures.leaves.is ∙ c.in_ok-upgraded.ensures.none_left
 
 pub returns-in_err-upgraded-clause-counts : goal.returns-in_err-upgraded-clause-counts
-returns-in_err-upgraded-clause-counts g c =
-    let p = err_from_is_err_and c.from_residual.result c.from_residual.ensures.1 in
-    rw (p.1, p.2) (inl c.in_err-upgraded.ensures.counts)
+returns-in_err-upgraded-clause-counts g c = (let p = err_from_is_err_and c.from_residual.result c.from_residual.ensures.1 in rw (p.1, p.2) (inl c.in_err-upgraded.ensures.counts))
 
 pub returns-in_err-publish-clause-counts : goal.returns-in_err-publish-clause-counts
 returns-in_err-publish-clause-counts g c =

@@ -1,68 +1,30 @@
-use Rattle.std.proofs.Common.{◌∙◌, sym, ap, subst}
+use Rattle.std.proofs.Common.{◌∙◌, ap}
 use Rattle.bw_care.specs.Upgrading.{old_segments}
 use Rattle.bw_care.specs.Upgrading as care
 use Rattle.bw_store.specs.Kept as kept
 use Rattle.bw_store.specs.Views.{kept_by}
-use Rattle.bw_store.proofs.CleanedMore.{Begins, done_sound, has_given, few_newest, has_stopped, note_some, note_after, note_few, note_room, notes_of, refused_sound, there}
-use Rattle.bw_store.proofs.UpgradedMore.{upgrades_of, upgraded_cleans, upgraded_told, halted_of, halted_cleans, halted_counts}
+use Rattle.bw_store.proofs.Noting.{begins, given_noted, may_note, stopped_noted}
+use Rattle.bw_store.proofs.UpgradedMore.{upgrades_of, upgraded_wrote, halted_wrote}
 use Rattle.bw_store.proofs.store.Store.upgrade_pages.Goals as goal
 
 pub upgrade-result-requires-clause-some : goal.upgrade-result-requires-clause-some
-upgrade-result-requires-clause-some g c = c.requires.settled.stands.some
+upgrade-result-requires-clause-some g c = c.requires.ready.settled.stands.some
 
 pub note_moved-requires : goal.note_moved-requires
-note_moved-requires g c =
-    let s = kept_by c.args.self.now (λ z. (goal.Segment-dyn g z).holding z.1) in
-    let r = c.requires in
-    let b : Begins s = record { sound = r.sound; done = r.settled; empty = r.empty; works = r.works } in
-    let e = c.upgrade-result.ensures in
-    let x = upgrades_of s _ c.upgrade-result.result b r.some e.sound e.upgraded e.refused e.stands in
-    let first = c.next_frame-first in
-    record {
-      sound = e.sound;
-      some = note_some s _ _ x first.result r.sound first.ensures;
-      after = note_after s _ _ x first.result r.sound first.ensures;
-      few = note_few s _ _ x first.result r.sound first.ensures;
-      room = note_room s _ _ x first.result r.sound first.ensures _ _ r.room;
-      empty = r.empty;
-      unsealed = r.sound.sealed ∙ r.works;
-      count = few_newest s r.sound r.settled;
-      there = λ p from to. there s _ x p from to r.sound;
-    }
+note_moved-requires g c = (let e = c.upgrade-result.ensures in may_note _ _ _ (begins c.requires.ready) _ c.next_frame-first.ensures (upgrades_of (kept_by c.args.self.now (λ z. (goal.Segment-dyn g z).holding z.1)) _ c.upgrade-result.result (begins c.requires.ready) c.requires.some e.sound e.upgraded e.refused e.stands) _ _ c.requires.ready.room)
 
 pub returns-in-Ok : goal.returns-in-Ok
 returns-in-Ok g c =
-    let s = kept_by c.args.self.now (λ z. (goal.Segment-dyn g z).holding z.1) in
-    let b : Begins s = record { sound = c.requires.sound; done = c.requires.settled; empty = c.requires.empty; works = c.requires.works } in
-    let n = c.note_moved.ensures in
-    let x = upgraded_cleans s c.in-Ok.upgraded _ b c.upgrade-result.ensures.sound c.in-Ok.ensures.upgraded c.upgrade-result.ensures.stands in
-    let notes = notes_of s _ _ x c.next_frame-first.result c.requires.sound c.next_frame-first.ensures
-    c.note_moved.result _ _ n.frames n.count n.each n.limit n.empty n.sealed n.number in
-    let told = notes.frames_are ∙ upgraded_told s c.in-Ok.upgraded _ b c.upgrade-result.ensures.sound c.in-Ok.ensures.upgraded c.upgrade-result.ensures.stands in
+    let done = given_noted _ _ _ (begins c.requires.ready) _ c.next_frame-first.ensures _ _ c.note_moved.ensures.noted _ (upgraded_wrote (kept_by c.args.self.now (λ z. (goal.Segment-dyn g z).holding z.1)) c.in-Ok.upgraded _ (begins c.requires.ready) c.upgrade-result.ensures.sound c.in-Ok.ensures.upgraded c.upgrade-result.ensures.stands) (care.IsUpgraded (kept_by c.args.self.now (λ z. (goal.Segment-dyn g z).holding z.1)).log c.in-Ok.upgraded) c.in-Ok.ensures.upgraded in
     record {
-      sound = done_sound s _ b notes n.noted;
-      leaves = has_given (care.IsUpgraded s.log c.in-Ok.upgraded) s _ n.noted told n.empty c.in-Ok.ensures.upgraded;
-      none_left = ap (λ (k : kept.Kept). old_segments k.log) n.noted ∙ c.in-Ok.ensures.none_left;
-      noted = n.stays;
+      sound = done.0;
+      leaves = done.1;
+      none_left = ap (λ (k : kept.Kept). old_segments k.log) c.note_moved.ensures.noted.noted ∙ c.in-Ok.ensures.none_left;
+      noted = c.note_moved.ensures.stays;
     }
 
 pub returns-in-Err : goal.returns-in-Err
 returns-in-Err g c =
-    let s = kept_by c.args.self.now (λ z. (goal.Segment-dyn g z).holding z.1) in
-    let b : Begins s = record { sound = c.requires.sound; done = c.requires.settled; empty = c.requires.empty; works = c.requires.works } in
-    let n = c.note_moved.ensures in
-    let stop = halted_of s c.in-Err.fault _ b c.requires.some c.in-Err.ensures.refused in
-    let x = halted_cleans s stop.0 _ b c.upgrade-result.ensures.sound stop.1 c.upgrade-result.ensures.stands in
-    let notes = notes_of s _ _ x c.next_frame-first.result c.requires.sound c.next_frame-first.ensures
-    c.note_moved.result _ _ n.frames n.count n.each n.limit n.empty n.sealed n.number in
-    record {
-      sound = subst kept.IsSound (sym n.noted)
-          (refused_sound s _ b _ c.note_moved.result _ _ _ notes (halted_counts s stop.0 _ b c.upgrade-result.ensures.sound stop.1 c.upgrade-result.ensures.stands));
-      leaves = (
-        c.in-Err.fault,
-        c.from.ensures,
-        has_stopped (care.RefusesUpgrade c.in-Err.fault s.log) s _ c.note_moved.result n.noted n.empty c.in-Err.ensures.refused,
-      );
-      none_left = tt;
-      noted = n.stays;
-    }
+    let wrote = halted_wrote (kept_by c.args.self.now (λ z. (goal.Segment-dyn g z).holding z.1)) c.in-Err.fault _ (begins c.requires.ready) c.requires.some c.upgrade-result.ensures.sound c.in-Err.ensures.refused c.upgrade-result.ensures.stands in
+    let stop = stopped_noted _ _ _ (begins c.requires.ready) _ c.next_frame-first.ensures _ _ c.note_moved.ensures.noted wrote (care.RefusesUpgrade c.in-Err.fault (kept_by c.args.self.now (λ z. (goal.Segment-dyn g z).holding z.1)).log) c.in-Err.ensures.refused in
+    record { sound = stop.0; leaves = (c.in-Err.fault, c.from.ensures, stop.1); none_left = tt; noted = c.note_moved.ensures.stays }
