@@ -35,3 +35,4 @@ pub mod Moving
 pub mod Beside
 pub mod Remembering
 pub mod Filing
+pub mod Tailing

@@ -5,7 +5,7 @@
 
 ghost use Rattle.std.specs.Prelude.{◌≡◌, ◌≤◌, ◌+◌, ◌-◌, ◌++◌, ◌∷◌, [], drop, take, length, map, vec_len, OnOk};
 ghost use Rattle.std.specs.Vec.{vec_capacity};
-ghost use Rattle.bw_store.specs.Remembered.{HasRoom, Remembered};
+ghost use Rattle.bw_store.specs.Remembered.{HasRoom};
 
 use bw_versions::PackedEntry;
 use std::alloc::{AllocError, Global};
@@ -21,9 +21,11 @@ pub struct History {
 }
 
 impl Model for History {
-    ghost use Rattle.bw_store.specs.Remembering.{remembered, MayLeave};
+    ghost use Rattle.bw_store.specs.Remembered.{Remembered};
 
     ghost Value = { Remembered };
+
+    ghost use Rattle.bw_store.specs.Remembering.{remembered, MayLeave};
 
     ghost view = { remembered };
 

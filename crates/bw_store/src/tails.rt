@@ -4,15 +4,14 @@
 //! has of it. So a chain over the log is kept for each page, here or evicted, until the frame is
 //! appended. A page that the frame makes or cuts has none: it stays until the log has it whole.
 
-ghost use Rattle.std.specs.Prelude.{ℕ, ◌≡◌, ◌≤◌, ◌<◌, ◌+◌, ◌-◌, ◌++◌, ◌∷◌, [], true, Some, None, length, map, vec_len, is_some, slice_set, IfOk, IfSome, OnOk};
+ghost use Rattle.std.specs.Prelude.{ℕ, ◌≡◌, ◌≤◌, ◌<◌, ◌+◌, ◌-◌, ◌++◌, ◌∷◌, [], true, Some, None, length, map, vec_len, slice_set, IfOk, IfSome, OnOk};
 ghost use Rattle.std.specs.List.{list_any, AllByRecursion};
 ghost use Rattle.std.specs.Vec.{vec_capacity};
 ghost use Rattle.bw_codec.specs.Touch.{touches};
 ghost use Rattle.bw_page.specs.Leaves.{all_changed};
-ghost use Rattle.bw_page.specs.Links.{log_end, records_of};
 ghost use Rattle.bw_page.specs.Words.{records_word};
 ghost use Rattle.bw_store.specs.Drafting.{AreIn, tails_all};
-ghost use Rattle.bw_store.specs.Tails.{tail_of, tails_for, tails_after, rest_by, with_one, HasRoomAt, HasRoomsAt, IsMarkWithin, Tailed};
+ghost use Rattle.bw_store.specs.Tails.{tail_of, tails_for, tails_after, rest_by, with_one, HasRoomAt, HasRoomsAt, IsMarkWithin};
 
 use crate::draft::Row;
 use bw_buffer::{Buffer, Mark};
@@ -28,12 +27,15 @@ pub(crate) struct Tail {
 }
 
 impl Model for Tail {
+    ghost use Rattle.bw_store.specs.Tails.{Tailed};
+
     ghost Value = { Tailed };
 
-    ghost view = { λ t. record { records = records_of t.chain.links; room = t.chain.room } };
+    ghost use Rattle.bw_store.specs.Tailing.{tail_view, IsTail};
 
-    // It stands over the log, not over a page in memory.
-    ghost invariant = { λ t. is_some (log_end t.chain.end) ≡ true };
+    ghost view = { tail_view };
+
+    ghost invariant = { IsTail };
 }
 
 impl Tail {
