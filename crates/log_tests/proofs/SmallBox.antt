@@ -1,6 +1,6 @@
 -- A log over one live box that has room for its bytes alone.
 
-use Rattle.std.proofs.Common.{◌≡◌, ℕ, ◌≤◌, ◌-◌, inl, true, false, inr, Some, None, List, [], ◌∷◌, slice_get}
+use Rattle.std.proofs.Common.{◌≡◌, ℕ, ◌≤◌, ◌-◌, inl, true, inr, Some, None, List, [], ◌∷◌, slice_get}
 use Rattle.std.proofs.Common.{refl, sym, ap, subst, ◌∙◌, lit≤, lit<, arith, zero, suc}
 use Rattle.std.proofs.lemmas.Option.{slice_get_past}
 use Rattle.bw_codec.specs.Bytes.{number_bytes}
