@@ -92,8 +92,15 @@ def size(file):
 
 
 def about(file):
-    first = text(path_of(file)).splitlines()[0]
-    return first[2:].strip() if first.startswith("--") else ""
+    """The first sentence of the comment at the head of a file."""
+    said = []
+    for line in text(path_of(file)).splitlines():
+        if not line.startswith("-- "):
+            break
+        said.append(line[3:].strip())
+        if said[-1].endswith("."):
+            break
+    return " ".join(said)
 
 
 def page_of():
