@@ -26,8 +26,9 @@ const CLEANED: &[Step] = &[Clean(1, 0, 1, 1), Clean(2, 1, 0, 0), Page(1, "1 : j=
 #[derive(Drop)]
 struct Append(u32, u64, u64, usize, usize);
 
-/// Appends of a box, one after the other: its lease, how many of its calls come before the first, and
-/// how many frames are whole before it; then of each its length, and how many are whole behind it.
+/// Appends of a box, one after the other: its lease, how many of its calls come before the first,
+/// and how many frames are whole before it; then of each its length, and how many are whole behind
+/// it.
 #[derive(Drop)]
 struct Appends(u32, u64, usize, &'static [(u64, usize)]);
 
