@@ -77,7 +77,9 @@ trait Row {
     /// Asks its call, and once more where it was refused. None where that went otherwise than told.
     fn goes<R: AllocGlobal + Threads + Wait>(&self, rt: &R) -> Option<Try>;
     /// Whether the call may go without memory that it asks for.
-    fn spares(&self) -> bool;
+    fn spares(&self) -> bool {
+        false
+    }
 }
 
 /// Whether the call of a row may go so.

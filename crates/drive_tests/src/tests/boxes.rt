@@ -33,10 +33,7 @@ pub(super) fn boxes(
     let mut boxes: Vec<Box<dyn Segment>> = Vec::new(alloc);
     let mut fuse = fuse;
     for i in 0..many {
-        let text = match texts.get(i) {
-            Some(text) => *text,
-            None => "",
-        };
+        let text = texts.get(i).copied().unwrap_or("");
         boxes
             .push(one(alloc, &mut desk, text, capacity, fuse)?)
             .ok()?;

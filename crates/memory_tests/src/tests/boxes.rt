@@ -45,10 +45,7 @@ pub(super) fn supplied(
     let mut boxes: Vec<Box<dyn Segment>> = Vec::new(alloc);
     let mut fuse = fuse;
     for i in 0..many {
-        let text = match texts.get(i) {
-            Some(text) => *text,
-            None => "",
-        };
+        let text = texts.get(i).copied().unwrap_or("");
         boxes.push(one(alloc, &mut desk, text, fuse)?).ok()?;
         fuse = None;
     }

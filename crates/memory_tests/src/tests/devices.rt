@@ -168,10 +168,6 @@ impl Row for Call {
             _ => asked_again(rt, self),
         }
     }
-
-    fn spares(&self) -> bool {
-        false
-    }
 }
 
 const CALLS: &[Call] = &[

@@ -33,9 +33,8 @@ const CONFIG: &Config = &Config {
 /// For each group.
 const TRIES: u64 = 1_000_000_000;
 
-/// How many records each of two writers puts, each with a key of its own: in groups of one, two and
-/// three.
-const RECORDS: u8 = 6;
+/// How many records each group of a writer has. Each record has a key of its own.
+const SIZES: &[u8] = &[1, 2, 3];
 
 /// How many both put.
 const BOTH: u64 = 12;
@@ -54,20 +53,21 @@ fn joins(number: u8) -> bool {
     matches!(number, 2 | 4 | 5)
 }
 
-// The record goes into the last group, or behind it.
-fn put_behind(script: &mut Vec<Group>, item: Record, is_joined: bool) -> Result<(), AllocError> {
-    if is_joined && let Some(last) = script.as_mut_slice().last_mut() {
-        let _ = last.push(item);
-        return Ok(());
+// The records of a writer from this number on, so many of them, as one group.
+fn group(writer: u16, first: u8, size: u8) -> Group {
+    let mut group = Group::one(numbered(writer, first));
+    for more in 1..size {
+        let _ = group.push(numbered(writer, first.saturating_add(more)));
     }
-    script.push(Group::one(item))?;
-    Ok(())
+    group
 }
 
 fn script(alloc: Global, writer: u16) -> Result<Vec<Group>, AllocError> {
     let mut script = Vec::new(alloc);
-    for number in 0..RECORDS {
-        put_behind(&mut script, numbered(writer, number), joins(number))?;
+    let mut next: u8 = 0;
+    for size in SIZES {
+        script.push(group(writer, next, *size))?;
+        next = next.saturating_add(*size);
     }
     Ok(script)
 }

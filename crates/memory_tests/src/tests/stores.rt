@@ -505,10 +505,6 @@ impl Row for Added {
         let one = more.pop()?;
         with_one_more(rt, alloc, boxes, one)
     }
-
-    fn spares(&self) -> bool {
-        false
-    }
 }
 
 #[test]

@@ -2,8 +2,8 @@
 
 ghost use Rattle.std.specs.Prelude.{◌≡◌, ◌<◌, length, map};
 ghost use Rattle.bw_ring.specs.Ends.{ring_of_feed};
-ghost use Rattle.bw_store.specs.Views.{kept_by, kept_beside, IsSound, IsSoundBeside};
 ghost use Rattle.bw_store.specs.Following.{Follows};
+ghost use Rattle.bw_store.specs.Views.{kept_by, kept_beside, IsSound, IsSoundBeside};
 ghost use Rattle.store_tests.specs.Views.{AreItsFeeds};
 
 use super::asking::{are_bytes, has, is_history, is_page, is_unread};
