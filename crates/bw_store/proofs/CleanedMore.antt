@@ -237,8 +237,7 @@ moved_wrote s last all frames most new b sound top moved stands =
         begun = begun_stays s.edge s.log new b.sound.log.rooms (moved_row last s.log new all [] frames moved) b.sound.begun;
         left = λ failed. (let works = moved.works in absurd cc);
       },
-      moved.counts,
-      moved.count,
+      (moved.counts, moved.count),
     )
 
 -- ---- the cleaner's own answers

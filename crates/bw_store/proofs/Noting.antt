@@ -34,19 +34,22 @@ module _ (s : Kept) (most : ℕ) (new : logs.Contents) (b : Begins s) (first : O
     -- where segments were given up
     pub given_noted : (told : ℕ) → Wrote s most new (λ fs. length fs ≡ told) → (holds : logs.Contents → Type 0) → holds new
         → IsSound (record now { floor = now.durable }) × HasMoved s told (s.durable + told) holds (record now { floor = now.durable })
+    unfolding notes
     given_noted told wrote holds held = (
       done_sound s now b (notes wrote.0) n.noted,
       has_given holds s now n.noted ((notes wrote.0).frames_are ∙ wrote.1) n.empty held,
     )
 
     none_given : (x : Cleans s most new) → logs.counted new ≡ logs.counted s.log ++ x.written → IsSound now
+    unfolding notes
     none_given x counts = subst IsSound (sym n.noted) (refused_sound s most b new frames _ now.newest now.making (notes x) counts)
 
     -- where none was
     pub moved_noted : (told : ℕ) → Wrote s most new (λ fs. (logs.counted new ≡ logs.counted s.log ++ fs) × (length fs ≡ told))
         → (holds : logs.Contents → Type 0) → holds new → IsSound now × HasMoved s told s.floor holds now
+    unfolding notes
     moved_noted told wrote holds held =
-        (none_given wrote.0 wrote.1, has_moved holds s now n.noted ((notes wrote.0).frames_are ∙ wrote.2) n.empty held)
+        (none_given wrote.0 wrote.1.0, has_moved holds s now n.noted ((notes wrote.0).frames_are ∙ wrote.1.1) n.empty held)
 
     -- where a step was refused
     pub stopped_noted : Wrote s most new (λ fs. logs.counted new ≡ logs.counted s.log ++ fs) → (holds : logs.Contents → Type 0) → holds new

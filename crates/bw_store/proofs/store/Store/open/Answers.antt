@@ -11,3 +11,8 @@ returns-in_default-clause-back g c = refl
 
 pub returns-in-Ok-new-clause-bad_config : goal.returns-in-Ok-new-clause-bad_config
 returns-in-Ok-new-clause-bad_config g c = taken_at c.args.config.now _ _ _ (c.are_taken.ensures.0 c.if-not-are_taken.false) c.deref.ensures.value
+
+pub returns-in-Err-new-clause-bad_config : goal.returns-in-Err-new-clause-bad_config
+returns-in-Err-new-clause-bad_config g c =
+    let taken = taken_at c.args.config.now _ _ _ (c.are_taken.ensures.0 c.if-not-are_taken.false) c.deref.ensures.value in
+    absurd (c.in-Err-new.ensures.bad_config.1 taken.1)
