@@ -9,7 +9,7 @@ use crate::refusal::Refusal;
 use crate::scan::{LEAST, LONGEST, bytes_of};
 use crate::stop::{Met, Stop, missed, no_input, refuse};
 use crate::system::System;
-use bw_care::{Recovered, recover};
+use bw_care::{RecoverCause, Recovered, recover};
 use bw_codec::Leaf;
 use bw_device::{Desk, MemSegment, Segment};
 use bw_file::{Folder, FolderFault, FolderReader};
@@ -202,10 +202,10 @@ fn print_images<O: Write>(alloc: Global, images: &[Image], output: &mut O) -> Re
     match fault? {
         Some((segment, at)) => refuse(
             output,
-            Refusal::BadBytes {
+            Refusal::Recovery(RecoverCause::BadBytes {
                 segment: u32::try_from(segment).unwrap_or(u32::MAX),
                 at: at as u64,
-            },
+            }),
         ),
         None => Ok(Met::NOTHING),
     }
@@ -288,7 +288,7 @@ fn write_all<R: System>(rt: &R, path: &str, images: &[Image]) -> Result<(), Fold
 fn restored(alloc: Global, images: Vec<Image>, frame: u64) -> Result<(Vec<Image>, Judged), Miss> {
     let now = judge(alloc, images.as_slice())?;
     if frame < now.first || frame > now.last {
-        return Err(Miss::Refused(Refusal::Empty));
+        return Err(Miss::Refused(Refusal::Recovery(RecoverCause::Empty)));
     }
     let survey = Survey::of(alloc, images.as_slice())?;
     let pages = pages_at(&survey, frame, now.counts.pages);
@@ -296,7 +296,7 @@ fn restored(alloc: Global, images: Vec<Image>, frame: u64) -> Result<(Vec<Image>
     let then = judge(alloc, cut.as_slice())?;
     if then.counts.pages < pages {
         let page = u32::try_from(then.counts.pages.saturating_add(1)).unwrap_or(u32::MAX);
-        return Err(Miss::Refused(Refusal::Unlawful { page }));
+        return Err(Miss::Refused(Refusal::Recovery(RecoverCause::Unlawful { page })));
     }
     Ok((cut, then))
 }

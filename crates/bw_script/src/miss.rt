@@ -46,21 +46,21 @@ impl From<NotWritten> for Miss {
 
 impl From<AllocError> for Miss {
     fn from(_error: AllocError) -> Miss {
-        Miss::Refused(Refusal::NoMemory)
+        Miss::Refused(Refusal::NO_MEMORY)
     }
 }
 
 impl<T: Drop> From<AllocFailed<T>> for Miss {
     fn from(_error: AllocFailed<T>) -> Miss {
-        Miss::Refused(Refusal::NoMemory)
+        Miss::Refused(Refusal::NO_MEMORY)
     }
 }
 
 impl From<FolderFault> for Miss {
     fn from(fault: FolderFault) -> Miss {
         match fault {
-            FolderFault::NoMemory => Miss::Refused(Refusal::NoMemory),
-            FolderFault::BadConfig => Miss::Refused(Refusal::BadConfig),
+            FolderFault::NoMemory => Miss::Refused(Refusal::NO_MEMORY),
+            FolderFault::BadConfig => Miss::Refused(Refusal::from(StoreFault::BadConfig)),
             other => Miss::Ended(Stop::Folder(other)),
         }
     }
@@ -69,7 +69,7 @@ impl From<FolderFault> for Miss {
 impl From<HomeFault> for Miss {
     fn from(fault: HomeFault) -> Miss {
         match fault {
-            HomeFault::NoMemory => Miss::Refused(Refusal::NoMemory),
+            HomeFault::NoMemory => Miss::Refused(Refusal::NO_MEMORY),
             HomeFault::Folder(fault) => Miss::from(fault),
             HomeFault::Made(fault) => Miss::Refused(Refusal::from(fault)),
             HomeFault::Lease(fault) => Miss::Refused(Refusal::from(fault)),

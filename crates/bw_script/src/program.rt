@@ -24,7 +24,7 @@ fn start<R: Host, I: Read, O: Write>(
 ) -> Result<Met, Stop> {
     match mode {
         Mode::Lines(options, manner) => replay(rt, options, *manner, input, output),
-        Mode::Threads(options, pace) => threads(rt, options, *pace, input, output),
+        Mode::Threads(options, pace) => threads(rt, options, input, output, *pace),
         Mode::Scan(None) => scan(rt, input, output),
         Mode::Scan(Some(path)) => scan_folder(rt, *path, output),
         Mode::Look(view, dir) => look(rt, *view, *dir, input, output),
@@ -89,7 +89,7 @@ fn status_of<O: Write, E: Write>(
         Ok(met) => { if met.refusal { 4 } else { 0 } }
         Err(Stop::Usage) => 2,
         Err(Stop::Output) => 6,
-        Err(Stop::NoMemory) => match print(output, "", Refusal::NoMemory) {
+        Err(Stop::NoMemory) => match print(output, "", Refusal::NO_MEMORY) {
             Ok(()) => 5,
             Err(_) => 6,
         },

@@ -9,59 +9,63 @@ use std::fmt::{self, Display, Formatter};
 /// A refused call. Its `Display` is the line that the program prints.
 #[derive(Debug, Clone, Copy)]
 pub enum Refusal {
-    /// A growth was refused in that call.
-    NoMemory,
-    /// A segment has to be begun, and too few spares stand.
-    NoSegment,
-    /// The segment of this lease failed in that call.
-    Device { lease: u32 },
-    /// An append failed before.
-    Failed,
-    /// A counter stands at its greatest value.
-    Spent,
-    /// There is no page of that number.
-    NoPage,
-    /// A limit lies outside its range, or a segment has too little room for it.
-    BadConfig,
-    /// Fewer than two segments are live; of an upgrade, no live segment has version 1.
-    NothingOld,
-    /// There is no whole frame.
-    Empty,
-    /// Bytes of the segment at this position in the list, from 0, that are neither a header, nor a
-    /// frame, nor a tail; they begin at this offset.
-    BadBytes { segment: u32, at: u64 },
-    /// The numbers of segments, or of frames, have a gap.
-    Gap,
-    /// Headers differ in their limits, or a new one stands before an old one.
-    Mixed,
-    /// A block of this page does not link back to the one before it.
-    BadLink { page: u32 },
-    /// This page is not lawful.
-    Unlawful { page: u32 },
+    /// A call on a store or on its log.
+    Store(StoreFault),
+    /// What the segments hold is no store; of bytes that cannot be read, the segment is its position
+    /// in the list, from 0.
+    Recovery(RecoverCause),
     /// All leases are out.
     NoLease,
 }
 
 impl Refusal {
+    /// A growth was refused in that call.
+    pub const NO_MEMORY: Refusal = Refusal::Store(StoreFault::NoMemory);
+
+    /// Whether a growth was refused.
+    pub(crate) fn is_no_memory(&self) -> bool {
+        matches!(
+            self,
+            Refusal::Store(StoreFault::NoMemory) | Refusal::Recovery(RecoverCause::NoMemory)
+        )
+    }
+
     /// Its number and name.
     fn name(&self) -> &'static str {
         match self {
-            Refusal::NoMemory => "E1 NoMemory",
-            Refusal::NoSegment => "E5 NoSegment",
-            Refusal::Device { .. } => "E6 Device",
-            Refusal::Failed => "E7 Failed",
-            Refusal::Spent => "E8 Spent",
-            Refusal::NoPage => "E9 NoPage",
-            Refusal::BadConfig => "E10 BadConfig",
-            Refusal::NothingOld => "E11 NothingOld",
-            Refusal::Empty => "E12 Empty",
-            Refusal::BadBytes { .. } => "E13 BadBytes",
-            Refusal::Gap => "E14 Gap",
-            Refusal::Mixed => "E15 Mixed",
-            Refusal::BadLink { .. } => "E16 BadLink",
-            Refusal::Unlawful { .. } => "E17 Unlawful",
+            Refusal::Store(fault) => name_of(*fault),
+            Refusal::Recovery(cause) => name_of_cause(*cause),
             Refusal::NoLease => "E20 NoLease",
         }
+    }
+}
+
+fn name_of(fault: StoreFault) -> &'static str {
+    match fault {
+        StoreFault::NoMemory => "E1 NoMemory",
+        StoreFault::NoSegment => "E5 NoSegment",
+        StoreFault::Device { .. } => "E6 Device",
+        StoreFault::Failed => "E7 Failed",
+        StoreFault::Spent => "E8 Spent",
+        StoreFault::NoPage => "E9 NoPage",
+        StoreFault::BadConfig => "E10 BadConfig",
+        StoreFault::NothingOld => "E11 NothingOld",
+    }
+}
+
+// What a recovery and a call on a store are both refused by has one number.
+fn name_of_cause(cause: RecoverCause) -> &'static str {
+    match cause {
+        RecoverCause::NoMemory => name_of(StoreFault::NoMemory),
+        RecoverCause::BadConfig => name_of(StoreFault::BadConfig),
+        RecoverCause::Device { lease } => name_of(StoreFault::Device { lease }),
+        RecoverCause::Spent => name_of(StoreFault::Spent),
+        RecoverCause::Empty => "E12 Empty",
+        RecoverCause::BadBytes { .. } => "E13 BadBytes",
+        RecoverCause::Gap => "E14 Gap",
+        RecoverCause::Mixed => "E15 Mixed",
+        RecoverCause::BadLink { .. } => "E16 BadLink",
+        RecoverCause::Unlawful { .. } => "E17 Unlawful",
     }
 }
 
@@ -69,9 +73,14 @@ impl Display for Refusal {
     fn fmt<W: fmt::Write>(&self, f: &mut Formatter<W>) -> fmt::Result {
         write!(f, "refused {}", self.name())?;
         match self {
-            Refusal::Device { lease } => write!(f, " lease {lease}"),
-            Refusal::BadBytes { segment, at } => write!(f, " segment {segment} at {at}"),
-            Refusal::BadLink { page } | Refusal::Unlawful { page } => write!(f, " page {page}"),
+            Refusal::Store(StoreFault::Device { lease })
+            | Refusal::Recovery(RecoverCause::Device { lease }) => write!(f, " lease {lease}"),
+            Refusal::Recovery(RecoverCause::BadBytes { segment, at }) => {
+                write!(f, " segment {segment} at {at}")
+            }
+            Refusal::Recovery(RecoverCause::BadLink { page } | RecoverCause::Unlawful { page }) => {
+                write!(f, " page {page}")
+            }
             _ => Ok(()),
         }
     }
@@ -82,8 +91,8 @@ impl Error for Refusal {}
 impl From<NotMade> for Refusal {
     fn from(error: NotMade) -> Refusal {
         match error {
-            NotMade::NoMemory => Refusal::NoMemory,
-            NotMade::BadConfig => Refusal::BadConfig,
+            NotMade::NoMemory => Refusal::NO_MEMORY,
+            NotMade::BadConfig => Refusal::Store(StoreFault::BadConfig),
         }
     }
 }
@@ -91,7 +100,7 @@ impl From<NotMade> for Refusal {
 impl From<NotTaken> for Refusal {
     fn from(error: NotTaken) -> Refusal {
         match error {
-            NotTaken::NoMemory => Refusal::NoMemory,
+            NotTaken::NoMemory => Refusal::NO_MEMORY,
             NotTaken::NoLease => Refusal::NoLease,
         }
     }
@@ -99,32 +108,12 @@ impl From<NotTaken> for Refusal {
 
 impl From<RecoverCause> for Refusal {
     fn from(cause: RecoverCause) -> Refusal {
-        match cause {
-            RecoverCause::NoMemory => Refusal::NoMemory,
-            RecoverCause::BadConfig => Refusal::BadConfig,
-            RecoverCause::Device { lease } => Refusal::Device { lease },
-            RecoverCause::Spent => Refusal::Spent,
-            RecoverCause::Empty => Refusal::Empty,
-            RecoverCause::BadBytes { segment, at } => Refusal::BadBytes { segment, at },
-            RecoverCause::Gap => Refusal::Gap,
-            RecoverCause::Mixed => Refusal::Mixed,
-            RecoverCause::BadLink { page } => Refusal::BadLink { page },
-            RecoverCause::Unlawful { page } => Refusal::Unlawful { page },
-        }
+        Refusal::Recovery(cause)
     }
 }
 
 impl From<StoreFault> for Refusal {
-    fn from(error: StoreFault) -> Refusal {
-        match error {
-            StoreFault::NoMemory => Refusal::NoMemory,
-            StoreFault::BadConfig => Refusal::BadConfig,
-            StoreFault::NoSegment => Refusal::NoSegment,
-            StoreFault::Device { lease } => Refusal::Device { lease },
-            StoreFault::Failed => Refusal::Failed,
-            StoreFault::Spent => Refusal::Spent,
-            StoreFault::NoPage => Refusal::NoPage,
-            StoreFault::NothingOld => Refusal::NothingOld,
-        }
+    fn from(fault: StoreFault) -> Refusal {
+        Refusal::Store(fault)
     }
 }

@@ -35,7 +35,7 @@ pub fn bytes_of(alloc: Global, line: &[u8]) -> Result<Vec<u8>, Miss> {
     }
     match hex::decode(alloc, line) {
         Ok(bytes) => Ok(bytes),
-        Err(FromHexError::OutOfMemory) => Err(Miss::Refused(Refusal::NoMemory)),
+        Err(FromHexError::OutOfMemory) => Err(Miss::Refused(Refusal::NO_MEMORY)),
         Err(_) => Err(Miss::Fault(Fault::BadWord)),
     }
 }
@@ -165,8 +165,8 @@ pub fn scan<R: System, I: Read, O: Write>(
     input: &mut I,
     output: &mut O,
 ) -> Result<Met, Stop> {
-    let mut lines = Lines::new(rt.alloc(), input, READS, LONGEST).map_err(no_input)?;
     let mut desk = desk_of(rt.alloc())?;
+    let mut lines = Lines::new(rt.alloc(), input, READS, LONGEST).map_err(no_input)?;
     match segments_of(rt.alloc(), &mut desk, &mut lines) {
         Ok(segments) => tell_all(rt.alloc(), segments, output),
         Err(miss) => missed(output, lines.number(), miss),

@@ -6,6 +6,7 @@ use crate::refusal::Refusal;
 use crate::script::Fault;
 use bw_file::FolderFault;
 use bw_look::NotWritten;
+use bw_store::StoreFault;
 use std::alloc::{AllocError, AllocFailed};
 use std::io::{self, ErrorKind, Write};
 
@@ -90,13 +91,13 @@ pub fn no_input(error: io::Error) -> Stop {
 /// Prints a refusal, and says what was met. What was asked of the program may go on behind it, but not
 /// behind a refused growth.
 pub fn refuse<O: Write>(output: &mut O, refusal: Refusal) -> Result<Met, Stop> {
-    if matches!(refusal, Refusal::NoMemory) {
+    if refusal.is_no_memory() {
         return Err(Stop::NoMemory);
     }
     print(output, "", refusal)?;
     Ok(Met {
         refusal: true,
-        full: matches!(refusal, Refusal::NoSegment),
+        full: matches!(refusal, Refusal::Store(StoreFault::NoSegment)),
     })
 }
 

@@ -174,9 +174,9 @@ impl<R: Host, O: Write> Work<R, O> for Writers<'_> {
 pub fn threads<R: Host, I: Read, O: Write>(
     rt: &R,
     options: &Options<'_>,
-    pace: Pace,
     input: &mut I,
     output: &mut O,
+    pace: Pace,
 ) -> Result<Met, Stop> {
     let scripts = read_scripts(rt.alloc(), input, options.writers)?;
     let lengths = lengths_of(rt.alloc(), scripts.as_slice())?;

@@ -11,6 +11,7 @@ use crate::refusal::Refusal;
 use crate::session::Session;
 use crate::stop::{Met, Stop, missed, refuse};
 use crate::system::System;
+use bw_care::RecoverCause;
 use bw_device::Segment;
 use bw_home::Made;
 use std::io::Write;
@@ -120,5 +121,5 @@ pub fn do_work<R: System, O: Write, W: Work<R, O>>(
             return Ok(met);
         }
     }
-    refuse(output, Refusal::Empty)
+    refuse(output, Refusal::Recovery(RecoverCause::Empty))
 }

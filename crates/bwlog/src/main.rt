@@ -39,7 +39,7 @@ fn main(rt: HostRuntime) -> ExitCode {
     match start(&rt, &rt) {
         Ok(status) => ExitCode::from(status),
         Err(error) if error.kind() == ErrorKind::OutOfMemory => {
-            let _ = rt.println(Refusal::NoMemory);
+            let _ = rt.println(Refusal::NO_MEMORY);
             ExitCode::from(5)
         }
         Err(_) => {
