@@ -179,10 +179,12 @@ fn puts(feeds: &mut Vec<Feed>, step: &Step) -> bool
 fn lives(store: &Store, told: &[(u64, u32, u64)]) -> bool
     requires { IsSound store.now holding }
 {
-    for (i, live) in told.iter().enumerate() {
-        if store.live_segment(i as u32) != Some(*live) {
+    let mut at: u32 = 0;
+    for live in told {
+        if store.live_segment(at) != Some(*live) {
             return false;
         }
+        at = at.saturating_add(1);
     }
     true
 }
@@ -298,6 +300,17 @@ fn is_appended<R: Wait>(rt: &R, opened: &mut Held, key: &[u8], value: &[u8], tol
     is_taken & (opened.store.flush(rt) == Ok(Some(told)))
 }
 
+// Lets no further frame into the current segment, if told.
+fn roll_if(store: &mut Store, is_told: bool)
+    requires { IsSound store.old holding }
+    ensures sound { IsSound store.new holding }
+    ensures rings { (kept_by store.new holding).rings ≡ (kept_by store.old holding).rings }
+{
+    if is_told {
+        store.roll();
+    }
+}
+
 // Whether each of these records is, from the frame that is told on; with each in a segment of its
 // own, or not.
 fn are_appended<R: Wait>(rt: &R, opened: &mut Held, ops: &[Op], told: u64, apart: bool) -> bool
@@ -310,9 +323,7 @@ fn are_appended<R: Wait>(rt: &R, opened: &mut Held, ops: &[Op], told: u64, apart
         let Op::Set(key, value) = op else {
             return false;
         };
-        if apart & (i > 0) {
-            opened.store.roll();
-        }
+        roll_if(&mut opened.store, apart & (i > 0));
         if !is_appended(rt, opened, *key, *value, told.saturating_add(i as u64)) {
             return false;
         }
