@@ -56,26 +56,12 @@ fn holds(alloc: Global, log: &mut Log, segment: u64, told: &str) -> bool
     }
 }
 
-/// How a call went that answers so with memory, and left what it is told to leave either way.
-fn answered<T: PartialEq + Drop>(
-    answer: Result<T, CleanFault>,
-    told: T,
-    refused: bool,
-    is_left: bool,
-) -> Option<Try> {
-    match answer {
-        Ok(found) => tried(true, refused, is_left && found == told),
-        Err(fault) => {
-            let is_memory = fault == CleanFault::Log(LogFault::NoMemory);
-            tried(false, refused, is_left && is_memory)
-        }
-    }
+fn is_memory(fault: CleanFault) -> bool {
+    fault == CleanFault::Log(LogFault::NoMemory)
 }
 
-/// How many segments are live, the newest one, and how many spares stand.
-type Standing = (u32, Option<(u64, u32, u64)>, u32);
-
-fn picture(log: &Log) -> Standing
+/// How many segments are live, the bytes of the newest, and how many spares stand.
+fn picture(log: &Log) -> (u32, Option<(u64, u32, u64)>, u32)
     requires { IsSound log.now holding }
 {
     (
@@ -93,12 +79,19 @@ fn cleans(alloc: Global, log: &mut Log) -> Option<Try>
     begin(alloc);
     let answer = clean(alloc, log);
     let refused = end(alloc);
-    let (now, bytes): (Standing, &str) = match answer {
-        Ok(_) => ((2, Some((3, 2, 107)), 1), THIRD_NEWER),
-        Err(_) => ((3, Some((3, 2, 69)), 1), THIRD_LAST),
-    };
-    let is_left = picture(log) == now && holds(alloc, log, 3, bytes);
-    answered(answer, TOLD, refused, is_left)
+    let now = picture(log);
+    match answer {
+        Ok(cleaned) => {
+            let holds = holds(alloc, log, 3, THIRD_NEWER);
+            let is_so = cleaned == TOLD && now == (2, Some((3, 2, 107)), 1);
+            tried(true, refused, is_so & holds)
+        }
+        Err(fault) => {
+            let holds = holds(alloc, log, 3, THIRD_LAST);
+            let is_left = now == (3, Some((3, 2, 69)), 1);
+            tried(false, refused, is_left & holds & is_memory(fault))
+        }
+    }
 }
 
 /// What an upgrade of the three segments tells.
@@ -119,11 +112,18 @@ fn upgrades(alloc: Global, log: &mut Log) -> Option<Try>
     begin(alloc);
     let answer = upgrade(alloc, log);
     let refused = end(alloc);
-    let is_left = match answer {
-        Ok(_) => { picture(log) == (1, Some((4, 3, 62)), 0) && holds(alloc, log, 4, UPGRADED_LAST) }
-        Err(_) => picture(log) == (3, Some((3, 2, 68)), 1),
-    };
-    answered(answer, ALL_THREE, refused, is_left)
+    let now = picture(log);
+    match answer {
+        Ok(upgraded) => {
+            let holds = holds(alloc, log, 4, UPGRADED_LAST);
+            let is_so = upgraded == ALL_THREE && now == (1, Some((4, 3, 62)), 0);
+            tried(true, refused, is_so & holds)
+        }
+        Err(fault) => {
+            let is_left = now == (3, Some((3, 2, 68)), 1);
+            tried(false, refused, is_left & is_memory(fault))
+        }
+    }
 }
 
 fn reads(alloc: Global, log: &mut Log) -> Option<Try>
