@@ -25,7 +25,7 @@ use Rattle.bw_codec.specs.declared.block.Place.{Place}
 use Rattle.bw_codec.specs.declared.block.Block.{Block}
 use Rattle.bw_codec.specs.declared.block.Block.TheVariants.{Delta, Split}
 use Rattle.bw_codec.proofs.Sizing.{largest_blocks}
-use Rattle.bw_page.specs.Leaves.{home, changed, directed_at, result_of, upper_of, leaf_at, HasPage, AreLeaves}
+use Rattle.bw_page.specs.Leaves.{home, changed, directed_at, upper_of, leaf_at, HasPage, AreLeaves}
 use Rattle.std.specs.List.{slice_get}
 use Rattle.bw_page.specs.declared.fault.ApplyError.{ApplyError}
 use Rattle.bw_page.specs.declared.fault.ApplyError.TheVariants as apply

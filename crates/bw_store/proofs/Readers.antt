@@ -163,6 +163,9 @@ publish_sound s new end entries h is all same begins whole =
     (batched_sound s new.published new.entered h (subst (IsPrefix (entries_of new.entered)) (upto_is s end entries is all) begins)
     (ends_pushed s s.versions.entered new.entered h.shown.ends (subst (EntersWhole s.versions.entered new.entered) (upto_is s end entries is all) whole)))
 
+no_ok : (x : AllocError) → IsOk {T = Unit {0}} (Err x) → ⊥
+no_ok x e = cc
+
 pub publish_leaves : (s : Kept) (new : Versioned) (r : Result (Unit {0}) AllocError) (end : ℕ) (entries : List Entry) → IsSound s
     → end ≡ cut s.cuts s.durable → entries ≡ s.entries
     → (new.start ≡ s.versions.start) × (new.book ≡ s.versions.book) × (new.places ≡ s.versions.places)
@@ -185,7 +188,7 @@ publish_leaves s new (Ok x) end entries h is all same posted grows err level idl
 }
 publish_leaves s new (Err x) end entries h is all same posted grows err level idle = record {
   is = batches_are s new h.shown same ∙ ap (λ (bs : List BatchData). with_batches s bs new.entered) err;
-  fresh = λ was. (idle (subst (IsUpTo s.versions) (sym (upto_is s end entries is all)) was)).1;
+  fresh = λ was. no_ok x (idle (subst (IsUpTo s.versions) (sym (upto_is s end entries is all)) was)).1;
 }
 
 -- a beginning of a beginning, and what follows it
