@@ -16,7 +16,7 @@ use Rattle.bw_buffer.specs.Filling.{Filling, frame_of}
 use Rattle.bw_log.specs.Places.{base_of}
 use Rattle.bw_log.specs.Contents.{Contents, boxes, counted, IsSound}
 use Rattle.bw_log.specs.Reads.{IsPage, StopsAt}
-use Rattle.bw_log.specs.Appends.{MayFollow, Appended, IsSameLog, Answers, OnDevice, Rose, refusal, wants_segment, spares_wanted, is_spent}
+use Rattle.bw_log.specs.Appends.{MayFollow, AfterAppend, IsSameLog, Answers, OnDevice, Rose, refusal, wants_segment, spares_wanted, is_spent}
 use Rattle.bw_log.specs.Appends as appends
 use Rattle.bw_log.specs.declared.fault.LogFault.{LogFault}
 use Rattle.bw_log.specs.declared.fault.LogFault.TheVariants.{NoMemory, BadConfig, NoSegment, Device, Failed, Spent, NoPage}
@@ -27,7 +27,7 @@ use Rattle.bw_care.specs.Ahead.{PageRead}
 use Rattle.bw_care.specs.Cleaning.{is_old, old_from, oldest_last, page_of}
 use Rattle.bw_care.specs.Moving.{AreBases, IsFull, IsNextBehind, IsReason, MovedBehind, NextFrame, Refused, StoppedBehind}
 use Rattle.bw_care.proofs.BasesLeave.{largest_base, may_follow, next_range, stand_more}
-use Rattle.bw_care.proofs.BoxesGrown.{keeps_newest, read_failed}
+use Rattle.bw_care.proofs.BoxesGrown.{read_failed}
 use Rattle.bw_care.proofs.OldPages.{oldest_below, old_step}
 use Rattle.bw_care.proofs.PagesMoved.{frame_lawful, moved_one, moved_none, moved_then, take_more, take_drop_all, drop_twice}
 
@@ -243,16 +243,13 @@ long_taken zero xs some inside = absurd (omega arith)
 long_taken (suc n) [] some inside = absurd (omega arith)
 long_taken (suc n) (x ∷ xs) some inside = omega arith
 
-pub moved_filled : (last : ℕ) (old now new : Contents) (x : Frame) (pages : List ℕ) (n : ℕ) (u : Unit {0}) → IsNextBehind last old
-    → Answers (refusal now (length (frame_bytes x)) true) (Ok u) → 0 < n → n ≤ length pages → IsSound old → IsSound new → now ≡ old
+pub moved_filled : (last : ℕ) (old now new : Contents) (x : Frame) (pages : List ℕ) (n : ℕ) → IsNextBehind last old
+    → 0 < n → n ≤ length pages → IsSound old → now ≡ old
     → AllByRecursion (IsPage old) pages → 0 < length pages → AreBases old x.blocks (take n pages)
-    → old.next ≡ Some x.number → Appended now x new → IsFull old x (drop n pages) → IsSameLog now new → MovedBehind last old new (take n pages) (drop n pages) 1
-moved_filled last old now new x pages n u behind answers more inside sound after same are some bs number added full log =
-    moved_one last old new x (take n pages) (drop n pages) behind
-    (keeps_newest old x new u (subst (λ (c : Contents). Appended c x new) same added)
-    (subst (λ (c : Contents). Answers (refusal c (length (frame_bytes x)) true) (Ok u)) same answers))
-    full (long_taken n pages more inside) sound after (some_page old pages are some) bs number
-    (subst (λ (c : Contents). Appended c x new) same added) (subst (λ (c : Contents). IsSameLog c new) same log)
+    → old.next ≡ Some x.number → AfterAppend now x true (Ok tt) new → IsFull old x (drop n pages) → MovedBehind last old new (take n pages) (drop n pages) 1
+moved_filled last old now new x pages n behind more inside sound same are some bs number after full =
+    moved_one last old new x (take n pages) (drop n pages) behind full (long_taken n pages more inside) sound (some_page old pages are some) bs number
+    (subst (λ (c : Contents). AfterAppend c x true (Ok tt) new) same after)
 
 -- ---- all frames
 
@@ -399,13 +396,13 @@ pub follows_sent : (old now : Contents) (x : Filling) (pages : List ℕ) (n firs
 follows_sent old now x pages n first sound same are some s more inside next fits =
     follows_filled old now (frame_of x) pages n sound same are some s.holds more inside (next ∙ ap (λ (k : ℕ). Some k) (sym s.number)) (short_enough s fits)
 
-pub moved_sent : (last : ℕ) (old now new : Contents) (x : Filling) (pages : List ℕ) (n first : ℕ) (u : Unit {0}) → IsNextBehind last old
-    → Answers (refusal now (length (frame_bytes (frame_of x))) true) (Ok u) → 0 < n → n ≤ length pages → IsSound old → IsSound new → now ≡ old
+pub moved_sent : (last : ℕ) (old now new : Contents) (x : Filling) (pages : List ℕ) (n first : ℕ) → IsNextBehind last old
+    → 0 < n → n ≤ length pages → IsSound old → now ≡ old
     → AllByRecursion (IsPage old) pages → 0 < length pages → Sends old pages n first x
-    → old.next ≡ Some first → Appended now (frame_of x) new → IsFull old (frame_of x) (drop n pages) → IsSameLog now new
+    → old.next ≡ Some first → AfterAppend now (frame_of x) true (Ok tt) new → IsFull old (frame_of x) (drop n pages)
     → MovedBehind last old new (take n pages) (drop n pages) 1
-moved_sent last old now new x pages n first u behind answers more inside sound after same are some s next added full log =
-    moved_filled last old now new (frame_of x) pages n u behind answers more inside sound after same are some s.holds (next ∙ ap (λ (k : ℕ). Some k) (sym s.number)) added full log
+moved_sent last old now new x pages n first behind more inside sound same are some s next after full =
+    moved_filled last old now new (frame_of x) pages n behind more inside sound same are some s.holds (next ∙ ap (λ (k : ℕ). Some k) (sym s.number)) after full
 
 -- the frame sent is the next one of these pages
 pub next_sent : (old : Contents) (filled sent : Filling) (pages : List ℕ) (n first : ℕ) → Sends old pages n first sent → 0 < n → n ≤ length pages

@@ -1,7 +1,7 @@
 -- A cleaning under way, and what stops it.
 
 use Rattle.std.specs.Prelude.{ℕ, ◌+◌, ◌<◌, ◌≤◌, ◌≡◌, ◌⊎◌, true, false, Some, None, List, [], ◌∷◌, ◌++◌, length, map, take, drop}
-use Rattle.std.specs.Prelude.{slice_get}
+use Rattle.std.specs.Prelude.{slice_get, Ok}
 use Rattle.std.specs.List.{AllByRecursion}
 use Rattle.bw_codec.specs.Grammar.{IsBlock, block_bytes, frame_bytes}
 use Rattle.bw_codec.specs.declared.leaf.Leaf.{Leaf}
@@ -14,7 +14,7 @@ use Rattle.bw_log.specs.Contents.{Contents, image, boxes, counted, roster, IsSou
 use Rattle.bw_log.specs.Reads.{IsWornOut}
 use Rattle.bw_log.specs.Oldest.{oldest_count}
 use Rattle.bw_log.specs.Appends as appends
-use Rattle.bw_log.specs.Appends.{refusal, Rose, IsSameLog}
+use Rattle.bw_log.specs.Appends.{refusal, AfterAppend, Rose, IsSameLog}
 use Rattle.bw_log.specs.declared.fault.LogFault.{LogFault}
 use Rattle.bw_log.specs.declared.fault.LogFault.TheVariants.{NoMemory, BadConfig, NoSegment, Device, Failed, Spent, NoPage}
 use Rattle.bw_care.specs.Cleaning.{IsRewritten, page_of, old_pages, oldest_last}
@@ -68,9 +68,16 @@ AreFull c (x ∷ xs) ps = IsFull c x (drop (length x.blocks) ps) × AreFull c xs
 abbrev pub IsNextBehind : ℕ → Contents → Type 0
 IsNextBehind last c = (n : ℕ) → c.next ≡ Some n → last < n
 
--- so many frames were added, all behind this one, which hold these pages and nothing else; the rest is still to come
+-- these frames were appended one after the other, each to the log as those before it left it: so a segment is begun
+-- only where the current one has no room for the frame that comes next
+abbrev pub AreAppended : Contents → List Frame → Contents → Type 0
+AreAppended old [] new = new ≡ old
+AreAppended old (x ∷ xs) new = (between : Contents) × AfterAppend old x true (Ok tt) between × AreAppended between xs new
+
+-- so many frames were appended, all behind this one, which hold these pages and nothing else; the rest is still to come
 pub record MovedBehind (last : ℕ) (old now : Contents) (pages rest : List ℕ) (frames : ℕ) : Type 0 where
   pub written : List Frame
+  pub appends : AreAppended old written now
   pub counts : counted now ≡ counted old ++ written
   pub count : length written ≡ frames
   pub few : frames ≤ length pages
