@@ -11,7 +11,7 @@ use Rattle.bw_codec.specs.declared.block.Frame.{Frame}
 use Rattle.bw_page.specs.Standing.{content, blocks_of}
 use Rattle.bw_device.specs.Holding.{Holding, appended}
 use Rattle.bw_log.specs.Contents.{Contents, image, boxes, counted, roster, IsSound}
-use Rattle.bw_log.specs.Reads.{IsWornOut}
+use Rattle.bw_log.specs.Reads.{IsWornOut, HoldsPage}
 use Rattle.bw_log.specs.Oldest.{oldest_count}
 use Rattle.bw_log.specs.Appends as appends
 use Rattle.bw_log.specs.Appends.{refusal, AfterAppend, Rose, IsSameLog}
@@ -116,8 +116,13 @@ pub record IsRefused (c : Contents) (pages : List ℕ) (fault : LogFault) : Type
   pub short : length (frame_bytes frame) ≤ c.f
   pub told : refusal c (length (frame_bytes frame)) true ≡ Some fault
 
+-- a counted frame that touches one of these pages stands in the live segment of this index
+abbrev pub HoldsSome : Contents → List ℕ → ℕ → Type 0
+HoldsSome c [] at = ⊥
+HoldsSome c (p ∷ ps) at = HoldsPage c p at ⊎ HoldsSome c ps at
+
 -- why a step is refused, memory and the device aside: the frame that comes next has no room or no
--- number, or the count of a segment that is read is at its greatest; and only where a page is left
+-- number, or one of the pages stands in a segment whose count is at its greatest; and only where a page is left
 abbrev pub IsReason : LogFault → Contents → List ℕ → Type 0
 IsReason NoMemory c pages = Unit {0}
 IsReason BadConfig c pages = ⊥
@@ -125,7 +130,7 @@ IsReason NoSegment c pages = IsRefused c pages NoSegment
 IsReason (Device lease) c pages = 0 < length pages
 IsReason Failed c pages = ⊥
 IsReason Spent c pages =
-    (0 < length pages) × ((c.next ≡ None) ⊎ (IsWornOut (λ _. Unit {0}) c.live ⊎ IsRefused c pages Spent))
+    (0 < length pages) × ((c.next ≡ None) ⊎ (IsWornOut (HoldsSome c pages) c.live ⊎ IsRefused c pages Spent))
 IsReason NoPage c pages = ⊥
 
 -- what a failed call left: nothing, or a beginning of a header or of a frame of Bases, maybe all of it

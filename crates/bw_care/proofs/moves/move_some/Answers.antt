@@ -12,7 +12,7 @@ new-requires-clause-numbered g c = (next_range _ c.in-Some.number c.requires.sou
 pub returns-in_err-count-clause-refused : goal.returns-in_err-count-clause-refused
 returns-in_err-count-clause-refused g c =
     let p = err_from_is_err_and c.from_residual-in_err-count.result c.from_residual-in_err-count.ensures.1 in
-    rw (p.1, p.2) (fill_refused _ _ c.in_err-count.field-0.0 c.in_err-count.ensures.stops (other_fault c.in_err-count.field-0.0 c.in_err-count.ensures.paged))
+    rw (p.1, p.2) (fill_refused _ _ _ c.in_err-count.field-0.0 c.in_err-count.ensures.stops (other_fault c.in_err-count.field-0.0 c.in_err-count.ensures.paged))
 
 pub returns-in_err-count-clause-reason : goal.returns-in_err-count-clause-reason
 returns-in_err-count-clause-reason g c =
