@@ -1,7 +1,7 @@
 //! Recovery by a scan: from any bytes to the leaves, or to the first fault.
 
 ghost use Rattle.std.specs.Prelude.{◌≡◌, Ok, IfOk, IfErr, map};
-ghost use Rattle.bw_care.specs.Recovery.{recovery, live_in, spares_in, ends_whole};
+ghost use Rattle.bw_care.specs.Recovery.{recovery, limit_in, live_in, spares_in, ends_whole};
 ghost use Rattle.bw_care.specs.Found.{finding_of, IsRecovered, Refuses};
 ghost use Rattle.bw_log.specs.Views.{seen_by};
 
@@ -63,6 +63,8 @@ pub fn recover(alloc: Global, boxes: Vec<Box<dyn Segment>>) -> Result<Recovered,
         (seen_by holding r.log).spares ≡ spares_in (map holding boxes.items)) }
     ensures open { IfOk result (λ r.
         (seen_by holding r.log).is_open ≡ ends_whole (live_in (map holding boxes.items))) }
+    ensures limit { IfOk result (λ r.
+        (seen_by holding r.log).f ≡ limit_in (map holding boxes.items)) }
 
     ensures refuses { IfErr result (λ e.
         Refuses (map holding boxes.items) e.cause (map holding e.boxes.items)) }
