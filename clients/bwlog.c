@@ -14,7 +14,7 @@
 #include <sys/wait.h>
 #include <unistd.h>
 
-/* The longest line is a pair of the longest key and value in hex, of 1,292 bytes. */
+/* The longest answer is a pair of the longest key and value in hex: 1,290 bytes and two ends. */
 enum { MAX_KEY = 128, MAX_VALUE = 512, MAX_LINE = 1400 };
 
 struct pair {

@@ -123,7 +123,8 @@ class Store:
         return self.child.wait()
 
     def _ask(self, line):
-        return self._burst([line])[0]
+        self._write(line.encode() + b"\n")
+        return self._heard(self._line())
 
     def _burst(self, lines):
         """The answers of many requests. They are read while the requests are written: neither pipe fills up for

@@ -132,8 +132,12 @@ impl Store {
         answers?.into_iter().map(heard).collect()
     }
 
-    fn ask(&mut self, line: String) -> Result<String> {
-        self.burst(&[line])?.pop().ok_or_else(|| Error::from(ErrorKind::UnexpectedEof))
+    fn ask(&mut self, mut line: String) -> Result<String> {
+        line.push('\n');
+        let input = self.input.as_mut().ok_or(ErrorKind::BrokenPipe)?;
+        // Where the child has ended, who reads the answer finds its end.
+        let _ = input.write_all(line.as_bytes());
+        self.line().and_then(heard)
     }
 
     pub fn put(&mut self, key: &[u8], value: &[u8]) -> Result<()> {
@@ -204,24 +208,24 @@ impl Store {
 
     /// Keeps what was put: the number of the last frame; `None` where nothing was new.
     pub fn flush(&mut self) -> Result<Option<u64>> {
-        let answer = self.ask("flush".into())?;
+        let answer = self.ask("flush".to_string())?;
         Ok(answer.strip_prefix("frame ").and_then(|number| number.parse().ok()))
     }
 
     /// Gives up the oldest segment, whose room is free again.
     pub fn clean(&mut self) -> Result<String> {
-        self.ask("clean".into())
+        self.ask("clean".to_string())
     }
 
     /// Adds a segment.
     pub fn add(&mut self) -> Result<String> {
-        self.ask("add".into())
+        self.ask("add".to_string())
     }
 
     /// Flushes, and ends the child; its exit status. A store that is dropped instead flushes nothing.
     pub fn close(mut self) -> Result<i32> {
         self.flush()?;
-        self.ask("quit".into())?;
+        self.ask("quit".to_string())?;
         self.abandon()
     }
 
