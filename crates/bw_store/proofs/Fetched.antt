@@ -51,6 +51,12 @@ fetch_refuses away group old new Spent works h = (works, inr h)
 fetch_refuses away group old new NoPage works h = absurd h
 fetch_refuses away group old new NothingOld works h = absurd h
 
+-- the same where the records were those of a slice
+pub fetch_refuses_as : (away : ℕ → Bool) (group records : List Record) (old new : Kept) (cause : StoreFault) → records ≡ group → Works old
+    → FetchLeaves away records old (Err cause) new → Refuses away group old cause new
+fetch_refuses_as away group records old new cause same works h =
+    fetch_refuses away group old new cause works (subst (λ (rs : List Record). FetchLeaves away rs old (Err cause) new) same h)
+
 -- all of the first ones are all
 pub all_taken : (P : Record → Type 0) (rs : List Record) (n : ℕ) → length rs ≤ n → All P (take n rs) → All P rs
 all_taken P [] n end h = tt
