@@ -92,6 +92,15 @@ one_unread A away group at item old new Spent one gone read h = (
 one_unread A away group at item old new NoPage one gone read h = absurd h
 one_unread A away group at item old new NothingOld one gone read h = absurd h
 
+-- the same where the page was found by the record's key
+pub key_unread : (A : Type 0) (away : ℕ → Bool) (group : List Record) (at : ℕ) (item : Record) (key : List ℕ) (old new : Kept) (cause : StoreFault)
+    → key ≡ key_of item → slice_get group at ≡ Some item → away (home key old.filed.leaves).page ≡ true → HasRead old new
+    → ReadLeaves {A = A} (HoldsPage old.log (home key old.filed.leaves).page) old (Err cause) new → FetchLeaves away group old (Err cause) new
+key_unread A away group at item key old new cause same one gone read h =
+    subst (λ (k : List ℕ). away (home k old.filed.leaves).page ≡ true
+    → ReadLeaves {A = A} (HoldsPage old.log (home k old.filed.leaves).page) old (Err cause) new → FetchLeaves away group old (Err cause) new)
+    (sym same) (λ gone h. one_unread A away group at item old new cause one gone read h) gone h
+
 -- the same behind pages that could be read
 pub later_unread : (A : Type 0) (away : ℕ → Bool) (group : List Record) (at : ℕ) (item : Record) (old middle new : Kept) (cause : StoreFault) → middle ≡ old
     → slice_get group at ≡ Some item → away (directed_at middle.filed.leaves item) ≡ true → HasRead middle new
