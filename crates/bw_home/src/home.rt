@@ -373,16 +373,19 @@ impl Home {
         self.store.next_frame().unwrap_or(0)
     }
 
-    /// Makes a further segment, a spare from the next leg on, where there are so many leases.
+    /// Makes a further segment, a spare from the next leg on, where one of so many first leases is
+    /// free. Else no file is made.
     pub(crate) fn make_spare<R: System>(&mut self, rt: &R, leases: u32) -> Result<(), HomeFault>
         requires { IsReady self.old holding }
         ensures ready { IsReady self.new holding }
         ensures feeds { self.new.feeds ≡ self.old.feeds }
     {
-        let made = self.site.spare(rt, self.capacity)?;
-        if made.lease() >= leases {
+        // Asked first: a spare is the file of the least lease that is free, and no file above the limit
+        // is to be made.
+        if !self.site.has_free(leases) {
             return Err(HomeFault::Lease(NotTaken::NoLease));
         }
+        let made = self.site.spare(rt, self.capacity)?;
         self.made.push(made)?;
         Ok(())
     }

@@ -12,6 +12,7 @@
 mod answers;
 mod begun;
 mod calls;
+mod heed;
 mod leases;
 mod legs;
 mod lines;

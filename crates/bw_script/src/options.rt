@@ -44,6 +44,22 @@ impl<'a> Mode<'a> {
             Mode::Restore(copying) => Some(copying.to),
         }
     }
+
+    /// The folder that is read.
+    pub fn source(&self) -> Option<&'a str> {
+        match self {
+            Mode::Restore(copying) => Some(copying.from),
+            mode => mode.dir(),
+        }
+    }
+
+    /// The options of a run over a folder.
+    pub fn in_folder(&self) -> Option<(&'a str, Options<'a>)> {
+        match self {
+            Mode::Lines(options, _) | Mode::Threads(options, _) => Some((options.dir?, *options)),
+            _ => None,
+        }
+    }
 }
 
 /// The options of `replay`, and of `serve` and `threads` likewise.
@@ -67,6 +83,10 @@ pub struct Options<'a> {
     pub reuse: bool,
     /// Up to how many segments a store that is served adds by itself, 2 to 64.
     pub most: u16,
+    /// Whether `m` was given, and is no default.
+    pub gives_m: bool,
+    /// The same of `f`.
+    pub gives_f: bool,
 }
 
 /// How the writers of `threads` put, and how the store is tended meanwhile.
@@ -95,6 +115,8 @@ const MOST: i64 = 16_777_216;
 enum Kind {
     /// A number from one to another, and what it is where none is given.
     Number(i64, i64, &'static str),
+    /// The same, where the help tells what it is then.
+    Open(i64, i64),
     Folder,
     /// A folder that has to be given.
     Needed,
@@ -126,14 +148,14 @@ const PLACES: Row = Row {
 
 const M: Row = Row {
     name: "m",
-    kind: Kind::Number(MIN_PAIRS as i64, MAX_PAIRS as i64, "4"),
-    help: "the most pairs that a page holds",
+    kind: Kind::Open(MIN_PAIRS as i64, MAX_PAIRS as i64),
+    help: "the most pairs that a page holds [default: 4, in a folder 32]",
 };
 
 const FRAME: Row = Row {
     name: "frame",
-    kind: Kind::Number(MIN_FRAME as i64, MAX_FRAME as i64, "65536"),
-    help: "the most bytes that a frame has",
+    kind: Kind::Open(MIN_FRAME as i64, MAX_FRAME as i64),
+    help: "the most bytes that a frame has [default: 65536]",
 };
 
 const SEGMENTS: Row = Row {
@@ -144,8 +166,8 @@ const SEGMENTS: Row = Row {
 
 const CAPACITY: Row = Row {
     name: "capacity",
-    kind: Kind::Number(LEAST, MOST, "262168"),
-    help: "how many bytes a segment has room for",
+    kind: Kind::Open(LEAST, MOST),
+    help: "how many bytes a segment has room for [default: 262168, in a folder 16777216]",
 };
 
 const MOST_SEGMENTS: Row = Row {
@@ -260,13 +282,13 @@ const SERVE: [Row; 7] = [
         ..PLACES
     },
     Row {
-        kind: Kind::Number(MIN_PAIRS as i64, MAX_PAIRS as i64, "32"),
+        help: "the most pairs that a page holds [default: 32]",
         ..M
     },
     FRAME,
     SEGMENTS,
     Row {
-        kind: Kind::Number(LEAST, MOST, "16777216"),
+        help: "how many bytes a segment has room for [default: 16777216]",
         ..CAPACITY
     },
     STORE_DIR,
@@ -376,17 +398,19 @@ fn range_of(least: i64, most: i64) -> &'static str {
     }
 }
 
-fn with_number<'a>(option: Arg<'a>, least: i64, most: i64, default: &'a str) -> Arg<'a> {
+fn with_range<'a>(option: Arg<'a>, least: i64, most: i64) -> Arg<'a> {
     option
         .value_name(range_of(least, most))
         .value_parser(clap::value_parser!(u32).range(least..=most))
-        .default_value(default)
 }
 
 fn option_of<'a>(alloc: Global, row: &Row) -> Arg<'a> {
     let option = Arg::new(alloc, row.name).long(row.name).help(row.help);
     match row.kind {
-        Kind::Number(least, most, default) => with_number(option, least, most, default),
+        Kind::Number(least, most, default) => with_range(option, least, most).default_value(
+            default,
+        ),
+        Kind::Open(least, most) => with_range(option, least, most),
         Kind::Folder => option.value_name("FOLDER"),
         Kind::Needed => option.value_name("FOLDER").required(true),
         Kind::Frame => option
@@ -431,18 +455,49 @@ fn folder_of<'a>(found: &ArgMatches<'a>, name: &str) -> Option<&'a str> {
     }
 }
 
+/// How large pages and segments are where nothing is said of them.
+#[derive(Clone, Copy)]
+struct Size {
+    m: u16,
+    capacity: u32,
+}
+
+/// In a folder, and for another program.
+const LARGE: Size = Size {
+    m: MAX_PAIRS,
+    capacity: 16_777_216,
+};
+
+/// For a script in memory, which somebody reads.
+const SMALL: Size = Size {
+    m: MIN_PAIRS,
+    capacity: 262_168,
+};
+
+/// The size of a script's pages and segments.
+fn size_of(found: &ArgMatches<'_>) -> Size {
+    match dir_of(found) {
+        Some(_) => LARGE,
+        None => SMALL,
+    }
+}
+
 /// What the words behind `replay`, `serve` or `threads` say; a program is one writer. Each option has a value, its default at least.
-fn found_of<'a>(found: &ArgMatches<'a>) -> Options<'a> {
+fn found_of<'a>(found: &ArgMatches<'a>, size: Size) -> Options<'a> {
+    let m: Option<u16> = found.get_one("m");
+    let f: Option<u32> = found.get_one("frame");
     Options {
         writers: found.get_one("writers").unwrap_or(1),
         places: found.get_one("places").unwrap_or(0),
-        m: found.get_one("m").unwrap_or(0),
-        f: found.get_one("frame").unwrap_or(0),
+        m: m.unwrap_or(size.m),
+        f: f.unwrap_or(MIN_FRAME),
         segments: found.get_one("segments").unwrap_or(0),
-        capacity: found.get_one("capacity").unwrap_or(0),
+        capacity: found.get_one("capacity").unwrap_or(size.capacity),
         dir: dir_of(found),
         reuse: found.get_flag("reuse"),
         most: found.get_one("most-segments").unwrap_or(0),
+        gives_m: m.is_some(),
+        gives_f: f.is_some(),
     }
 }
 
@@ -495,13 +550,13 @@ fn look_in<'a>(matches: &ArgMatches<'a>) -> Mode<'a> {
 /// The mode that was found, with what its words say.
 fn mode_in<'a>(matches: &ArgMatches<'a>) -> Mode<'a> {
     if let Some(found) = matches.subcommand_matches("replay") {
-        return Mode::Lines(found_of(found), manner_of(found));
+        return Mode::Lines(found_of(found, size_of(found)), manner_of(found));
     }
     if let Some(found) = matches.subcommand_matches("serve") {
-        return Mode::Lines(found_of(found), Manner::Requests);
+        return Mode::Lines(found_of(found, LARGE), Manner::Requests);
     }
     if let Some(found) = matches.subcommand_matches("threads") {
-        return Mode::Threads(found_of(found), pace_of(found));
+        return Mode::Threads(found_of(found, size_of(found)), pace_of(found));
     }
     if let Some(found) = matches.subcommand_matches("restore") {
         return Mode::Restore(copying_of(found));
