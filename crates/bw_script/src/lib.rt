@@ -31,6 +31,7 @@ mod script;
 mod session;
 mod stop;
 mod system;
+mod tended;
 mod threads;
 mod upgrade;
 mod work;

@@ -81,6 +81,8 @@ pub struct Options<'a> {
     pub dir: Option<&'a str>,
     /// Whether a segment that was given up comes back as the last spare.
     pub reuse: bool,
+    /// Up to how many segments a store that is served adds by itself, 2 to 64.
+    pub most: u16,
     /// Whether `m` was given, and is no default.
     pub gives_m: bool,
     /// The same of `f`.
@@ -166,6 +168,12 @@ const CAPACITY: Row = Row {
     name: "capacity",
     kind: Kind::Open(LEAST, MOST),
     help: "how many bytes a segment has room for [default: 262168, in a folder 16777216]",
+};
+
+const MOST_SEGMENTS: Row = Row {
+    name: "most-segments",
+    kind: Kind::Number(2, 64, "64"),
+    help: "up to how many segments are added where one spare is left and a cleaning does not pay",
 };
 
 const STORE_DIR: Row = Row {
@@ -268,7 +276,7 @@ const REPLAY: [Row; 9] = [
 ];
 
 /// The store of a program, which is one writer.
-const SERVE: [Row; 6] = [
+const SERVE: [Row; 7] = [
     Row {
         kind: Kind::Number(1, 4096, "1024"),
         ..PLACES
@@ -284,6 +292,7 @@ const SERVE: [Row; 6] = [
         ..CAPACITY
     },
     STORE_DIR,
+    MOST_SEGMENTS,
 ];
 
 const RESTORE: [Row; 3] = [FROM, TO, AS_OF];
@@ -374,8 +383,25 @@ const ABOUT: &str =
 /// The program's version, and that of the format of its segments.
 const VERSION: &str = "0.1.0, format 2";
 
+/// What stands for the value of an option of this range, which is the range itself.
+fn range_of(least: i64, most: i64) -> &'static str {
+    match (least, most) {
+        (0, 64) => "0..64",
+        (1, 64) => "1..64",
+        (2, 64) => "2..64",
+        (4, 32) => "4..32",
+        (1, 4096) => "1..4096",
+        (65_536, 262_144) => "65536..262144",
+        (65_560, 16_777_216) => "65560..16777216",
+        (1, 1_000_000_000) => "1..1000000000",
+        _ => "NUMBER",
+    }
+}
+
 fn with_range<'a>(option: Arg<'a>, least: i64, most: i64) -> Arg<'a> {
-    option.value_parser(clap::value_parser!(u32).range(least..=most))
+    option
+        .value_name(range_of(least, most))
+        .value_parser(clap::value_parser!(u32).range(least..=most))
 }
 
 fn option_of<'a>(alloc: Global, row: &Row) -> Arg<'a> {
@@ -408,6 +434,7 @@ fn command_of<'a>(alloc: Global) -> Result<Command<'a>, AllocError> {
     let mut command = Command::new(alloc, "bwlog")
         .about(ABOUT)
         .version(VERSION)
+        .bin_name("bwlog")?
         .no_binary_name(true)
         .subcommand_required(true);
     for form in &FORMS {
@@ -468,6 +495,7 @@ fn found_of<'a>(found: &ArgMatches<'a>, size: Size) -> Options<'a> {
         capacity: found.get_one("capacity").unwrap_or(size.capacity),
         dir: dir_of(found),
         reuse: found.get_flag("reuse"),
+        most: found.get_one("most-segments").unwrap_or(0),
         gives_m: m.is_some(),
         gives_f: f.is_some(),
     }

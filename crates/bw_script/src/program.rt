@@ -6,7 +6,7 @@ use crate::looks::{look, restore};
 use crate::options::{Mode, is_memory, mode_of};
 use crate::print::print;
 use crate::refusal::Refusal;
-use crate::replay::replay;
+use crate::replay::{Manner, replay};
 use crate::scan::{scan, scan_folder};
 use crate::stop::{Met, Stop};
 use crate::system::Host;
@@ -112,30 +112,57 @@ fn tell_stop<E: Write>(errors: &mut E, folders: Folders<'_>, stop: Stop) -> Resu
     Ok(())
 }
 
+/// What to do where the log had no room. A mode tells it whose lines can make some.
+fn advice_of(mode: &Mode<'_>) -> Option<&'static [u8]> {
+    match mode {
+        Mode::Lines(_, Manner::Requests) => None,
+        Mode::Lines(options, _) if options.reuse => Some(
+            b"the log is full: `clean` gives up its oldest segment, whose room is a spare again\n",
+        ),
+        Mode::Lines(..) => Some(
+            b"the log is full: `clean` gives up its oldest segment, and `add` adds a new one\n",
+        ),
+        _ => None,
+    }
+}
+
 /// Says what to do where the log had no room, behind what was printed.
-fn hint<O: Write, E: Write>(output: &mut O, errors: &mut E) -> Result<(), Stop> {
+fn hint<O: Write, E: Write>(output: &mut O, errors: &mut E, advice: &[u8]) -> Result<(), Stop> {
     if output.flush().is_err() {
         return Err(Stop::Output);
     }
     let mut out = Printer::new(errors);
-    out.text(b"the log is full: `clean` gives up its oldest segment, and `add` adds a new one\n");
+    out.text(advice);
     out.end()?;
     Ok(())
+}
+
+/// The exit status of a run that came to its end, where it says what to do in a full log.
+fn status_of_end<O: Write, E: Write>(
+    met: Met,
+    advice: Option<&[u8]>,
+    output: &mut O,
+    errors: &mut E,
+) -> u8 {
+    match advice {
+        Some(advice) if met.full => match hint(output, errors, advice) {
+            Ok(()) => 4,
+            Err(_) => 6,
+        },
+        _ => { if met.refusal { 4 } else { 0 } }
+    }
 }
 
 /// Prints what an end has to say, and gives its exit status.
 fn status_of<O: Write, E: Write>(
     end: Result<Met, Stop>,
     folders: Folders<'_>,
+    advice: Option<&[u8]>,
     output: &mut O,
     errors: &mut E,
 ) -> u8 {
     match end {
-        Ok(met) if met.full => match hint(output, errors) {
-            Ok(()) => 4,
-            Err(_) => 6,
-        },
-        Ok(met) => { if met.refusal { 4 } else { 0 } }
+        Ok(met) => status_of_end(met, advice, output, errors),
         Err(Stop::Usage) => 2,
         Err(Stop::Output) => 6,
         Err(Stop::NoMemory) => match print(output, "", Refusal::NO_MEMORY) {
@@ -167,14 +194,14 @@ pub fn run<R: Host, I: Read, O: Write, E: Write>(
     let status = match mode_of(rt.alloc(), words) {
         Ok(mode) => {
             let end = ended(rt, &mode, input, output, errors);
-            status_of(end, Folders::of(&mode), output, errors)
+            status_of(end, Folders::of(&mode), advice_of(&mode), output, errors)
         }
         Err(error) => {
             let none = Folders {
                 dir: "",
                 source: "",
             };
-            status_of(Err(usage(&error, errors)), none, output, errors)
+            status_of(Err(usage(&error, errors)), none, None, output, errors)
         }
     };
     let is_printed = output.flush().is_ok();

@@ -197,13 +197,13 @@ draft_none s group records o same is m fits =
     subst (λ (x : Option Draft). MatchOption x (Fits s records → ⊥) (IsDraft s records)) is m (subst (Fits s) (sym same) fits)
 
 -- a group that was planned and then entered, behind a frame that was appended, or not
-pub drafted_left : (lane : ℕ) (old drawn middle new : Kept) (group records : List Record) (o : Option Draft) (d : Draft) (r : Result (Unit {0}) StoreFault)
+pub drafted_left : (lane : ℕ) (away : ℕ → Bool) (old drawn middle new : Kept) (group records : List Record) (o : Option Draft) (d : Draft) (r : Result (Unit {0}) StoreFault)
     → (1 ≤ length group) × (length group ≤ 4) → Works old → MakesRoom group old drawn → Works drawn → middle ≡ drawn → records ≡ group → o ≡ Some d
     → MatchOption o (Fits drawn records → ⊥) (IsDraft drawn records) → OnOk r (new ≡ taken_all middle lane (marked group)) → OnErr r (new ≡ middle)
-    → IfErr r (IsWanting middle group) → GroupLeaves lane group old r new
-drafted_left lane old drawn middle new group records o d r few was may works same of is m ok un wants =
+    → IfErr r (IsWanting middle group) → GroupLeaves lane away group old r new
+drafted_left lane away old drawn middle new group records o d r few was may works same of is m ok un wants =
     let draft = draft_some drawn group records o d of is m in
-    entered_or_not lane old middle new group r few was (subst (MakesRoom group old) (sym same) may) (subst (λ (s : Kept). Fits s group) (sym same) draft.fits)
+    entered_or_not lane away old middle new group r few was (subst (MakesRoom group old) (sym same) may) (subst (λ (s : Kept). Fits s group) (sym same) draft.fits)
     (ap (λ (s : Kept). s.log.is_failed) same ∙ works) ok un wants
 
 pub unplanned_as : (s : Kept) (group records : List Record) (cause : StoreFault) → records ≡ group → IsUnplanned s records cause → IsUnplanned s group cause

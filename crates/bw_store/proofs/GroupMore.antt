@@ -252,7 +252,15 @@ spent_pages s f group pairs leaves x =
     let same = ap (λ (m : ℕ). length (pages m f.leaves (take x.0 group))) pairs in
     let pages_same = ap (λ (ls : List Leaf). length (pages s.filed.m ls (take x.0 group))) leaves in
     let over = x.3.1 in
-    record { before = x.0; inside = none_at group x.0 x.1 x.2; all = omega arith }
+    record {
+      before = x.0;
+      item = x.1;
+      one = x.2;
+      splits =
+          subst (λ (m : ℕ). m < length (result_of (pages m s.filed.leaves (take x.0 group)) x.1).pairs) pairs
+          (subst (λ (ls : List Leaf). f.m < length (result_of (pages f.m ls (take x.0 group)) x.1).pairs) leaves x.3.0);
+      all = omega arith;
+    }
 
 -- records are what they are
 pub as_records : (rs : List Record) → map (λ (r : Record). r) rs ≡ rs

@@ -106,5 +106,5 @@ returns-clause-sound g c =
 pub returns-in_err-apply_on-clause-refused : goal.returns-in_err-apply_on-clause-refused
 returns-in_err-apply_on-clause-refused g c =
     let p = err_from_is_err_and c.from_residual-in_err-apply_on.result c.from_residual-in_err-apply_on.ensures.1 in
-    rw (p.1, p.2) (one_wanting_of (kept_by c.args.self.now (λ z. (goal.Segment-dyn g z).holding z.1)) c.args.self.now.leaves c.args.item c.in_err-apply_on.field-0.0 refl
+    rw (p.1, p.2) (one_wanting_of (kept_by c.args.self.now (λ z. (goal.Segment-dyn g z).holding z.1)) c.args.self.now.leaves c.args.item c.in_err-apply_on.field-0.0 refl refl
     (λ e. c.in_err-apply_on.ensures.only_spent (ap (λ (x : ApplyError). Err x) e)))
