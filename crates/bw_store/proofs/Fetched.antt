@@ -1,6 +1,7 @@
 -- Pages of a group are brought back one by one, and none leaves.
 
-use Rattle.std.proofs.Common.{◌≡◌, ℕ, zero, suc, ◌+◌, ◌<◌, ◌≤◌, inl, inr, Bool, true, false, Some, Err, List, [], ◌∷◌, length, take, get_or, refl, sym, ap, ◌∙◌, subst, arith, if◌then◌else◌}
+use Rattle.std.proofs.Common.{◌≡◌, ℕ, zero, suc, ◌+◌, ◌<◌, ◌≤◌, inl, inr, Bool, true, false, Some, Err, List, [], ◌∷◌, length, take, get_or, refl}
+use Rattle.std.proofs.Common.{sym, ap, ◌∙◌, subst, arith, if◌then◌else◌}
 use Rattle.std.specs.Prelude.{◌==◌, slice_get}
 use Rattle.std.specs.List.{AllByRecursion as All}
 use Rattle.std.proofs.lemmas.List.{take_more}
@@ -24,13 +25,15 @@ pub still_here : (old new : Shown) (page : ℕ) (key : List ℕ) → new.leaves 
 still_here old new page key same step here =
     ap (λ ls. is_evicted_page (home key ls).page new) same
     ∙ step (home key old.leaves).page
-    ∙ elim ((home key old.leaves).page == page) as (λ b. (if b then false else is_evicted_page (home key old.leaves).page old) ≡ false) [ true ↦ refl | false ↦ here ]
+    ∙ elim ((home key old.leaves).page == page) as (λ b. (if b then false else is_evicted_page (home key old.leaves).page old) ≡ false)
+    [ true ↦ refl | false ↦ here ]
 
 pub same_here : (old new : Shown) (key : List ℕ) → new ≡ old → IsHere key old → IsHere key new
 same_here old new key e here = subst (IsHere key) (sym e) here
 
 -- one record more of the first ones
-pub all_more : (P : Record → Type 0) (rs : List Record) (i : ℕ) (d : Record) → i < length rs → d ≡ get_or rs i d → All P (take i rs) → P d → All P (take (i + 1) rs)
+pub all_more : (P : Record → Type 0) (rs : List Record) (i : ℕ) (d : Record) → i < length rs → d ≡ get_or rs i d → All P (take i rs) → P d
+    → All P (take (i + 1) rs)
 all_more P rs i d lt is h k =
     subst (All P) (sym (take_more rs i d lt))
     (all-append P (take i rs) (get_or rs i d ∷ []) h (subst P is k, tt))

@@ -16,4 +16,5 @@ pub returns-in_err-page-clause-leaves : goal.returns-in_err-page-clause-leaves
 returns-in_err-page-clause-leaves g c =
     let p = err_from_is_err_and c.from_residual-in_err-page.result c.from_residual-in_err-page.ensures.1 in
     rw (p.1, p.2) (fetch_refuses _ (c.args.item ∷ []) _ _ _ c.in_ok-goes_on.ensures.works
-    (key_unread ℕ _ (c.args.item ∷ []) 0 c.args.item _ _ _ _ c.key.ensures.value refl c.in_err-page.ensures.away c.fetch.ensures.read c.in_err-page.ensures.leaves))
+    (key_unread ℕ _ (c.args.item ∷ []) 0 c.args.item _ _ _ _ c.key.ensures.value refl c.in_err-page.ensures.away c.fetch.ensures.read
+    c.in_err-page.ensures.leaves))
