@@ -10,7 +10,7 @@ returns-in_err-turn-clause-runs g c = kept_all _ _ _ c.turn.ensures.follows c.tu
 pub returns-in_err-turn-clause-refused : goal.returns-in_err-turn-clause-refused
 returns-in_err-turn-clause-refused g c =
     let p = err_from_is_err_and c.from_residual.result c.from_residual.ensures.1 in
-    rw (p.1, p.2) (stops_now _ _ _ c.in_err-turn.field-0.0 (inl (_, c.in_err-turn.ensures.took)))
+    rw (p.1, p.2) (stops_now _ _ _ c.in_err-turn.field-0.0 (inl (_, _, c.in_err-turn.ensures.took)))
 
 pub returns-then-not-is_due-clause-runs : goal.returns-then-not-is_due-clause-runs
 returns-then-not-is_due-clause-runs g c = kept_all _ _ _ c.turn.ensures.follows c.turn.ensures.boxes
@@ -28,7 +28,7 @@ returns-clause-refused g c =
 pub returns-in_err-turn-clause-paced : goal.returns-in_err-turn-clause-paced
 returns-in_err-turn-clause-paced g c =
     let p = err_from_is_err_and c.from_residual.result c.from_residual.ensures.1 in
-    rw (p.1, p.2) (inl (_, c.in_err-turn.ensures.took))
+    rw (p.1, p.2) (inl (_, _, c.in_err-turn.ensures.took))
 
 pub returns-then-not-is_due-clause-paced : goal.returns-then-not-is_due-clause-paced
 returns-then-not-is_due-clause-paced g c =
