@@ -2,7 +2,7 @@
 # make run    proves bwlog and all below it, crates side by side, builds it, and runs the same script
 # make test   the gate: the pages against the tests and the sources, every proof, the wrong bodies, the tests, the programs (from nothing, but for what this machine has
 #             passed); then the program that it built over the cases of tests/program/cases, over drawn scripts beside a map, over 500 hostile cases, under the
-#             clients of clients/, and over a million updates of a thousand keys; and the tests of refused memory with each allocation refused in turn, and the program with each fifth, by a shim that cc makes
+#             clients of clients/, over a million updates of a thousand keys, and timed at several sizes; and the tests of refused memory with each allocation refused in turn, and the program with each fifth, by a shim that cc makes
 # make wrong  tries the wrong bodies outside the gate, in a copy of the repository
 # make memory proves the tests of refused memory, and runs them and the program that make run built with each allocation refused in turn
 # make bench  times the store at a million keys, each subject in a process of its own, and then over files (docs/MEASURED.md)
@@ -34,8 +34,10 @@ test:
 	python3 tests/program/cases.py
 	python3 tests/program/drawn.py
 	python3 tests/program/fuzz.py --cases 500
+	python3 tests/program/waits.py
 	python3 tests/program/clients.py
 	python3 tests/program/steady.py
+	python3 tests/program/growth.py
 	python3 tools/refuse.py --every 5
 
 wrong:

@@ -6,56 +6,69 @@
         for key, value in store.walk():
             ...
 
-Keys have 1 to 128 bytes, values up to 512. What was put and not flushed is lost where the child ends.
+Keys have 1 to 128 bytes, values up to 512. What was put and not flushed is lost where the child ends. A
+block that ends well flushes and closes its store; one that raises closes it and flushes nothing.
 """
 
 import subprocess
 import sys
-
-BURST = 512  # so many requests go out before their answers are read: fewer bytes than a pipe takes
+import threading
 
 
 class Refused(Exception):
     """The store refused a request: `refused E5 NoSegment`, say. docs/REFUSALS.md has what to do."""
 
 
+class Ended(Exception):
+    """The child has ended, with its own words: `folder FOLDER: in use`, say."""
+
+
 class Store:
     def __init__(self, program, folder, **options):
-        words = [word for name, value in options.items() for word in ("--" + name, str(value))]
+        words = [word for name, value in options.items() for word in ("--" + name.replace("_", "-"), str(value))]
         self.child = subprocess.Popen(
             [program, "serve", "--dir", folder, *words],
             stdin=subprocess.PIPE,
             stdout=subprocess.PIPE,
+            stderr=subprocess.PIPE,
             bufsize=1 << 16,
         )
-        self._answer()  # ready frame N
+        try:
+            self._heard(self._line())  # ready frame N
+        except BaseException:
+            self.abandon()
+            raise
 
     def __enter__(self):
         return self
 
     def __exit__(self, kind, value, trace):
-        self.close()
+        if kind is None:
+            self.close()
+        else:
+            self.abandon()
 
     def put(self, key, value):
         self._ask(put_line(key, value))
 
     def put_all(self, pairs):
-        """Puts many pairs, some hundred requests at a time."""
-        lines = [put_line(key, value) for key, value in pairs]
-        for at in range(0, len(lines), BURST):
-            burst = lines[at : at + BURST]
-            self.child.stdin.write("".join(line + "\n" for line in burst).encode())
-            self.child.stdin.flush()
-            for _ in burst:
-                self._answer()
+        """Puts many pairs in one burst. Where some are refused the others are put, and the first refusal is raised."""
+        self._burst([put_line(key, value) for key, value in pairs])
+
+    def put_group(self, changes):
+        """Puts one to four pairs as one; where the value is None, deletes the key."""
+        self._ask("group " + " ".join(change_line(key, value) for key, value in changes))
 
     def delete(self, key):
-        self._ask("del " + word_of(key))
+        self._ask(change_line(key, None))
 
     def get(self, key):
         """The value of a key; None where it has none."""
-        answer = self._ask("get " + word_of(key))
-        return None if answer == "none" else bytes_of(answer[len("value ") :])
+        return value_in(self._ask("get " + word_of(key)))
+
+    def get_all(self, keys):
+        """The values of many keys, in one burst."""
+        return [value_in(answer) for answer in self._burst(["get " + word_of(key) for key in keys])]
 
     def next(self, key):
         """The pair with the least key at or above this one; None where there is none."""
@@ -65,23 +78,28 @@ class Store:
         key, value = answer[len("pair ") :].split("=")
         return bytes_of(key), bytes_of(value)
 
-    def walk(self, key=b"\0"):
-        """All pairs from a key on, in the order of their keys."""
+    def walk(self, prefix=b""):
+        """All pairs whose key begins with this prefix, in the order of their keys."""
+        key = prefix or b"\0"
         while key is not None:
             pair = self.next(key)
-            if pair is None:
+            if pair is None or not pair[0].startswith(prefix):
                 return
             yield pair
             key = after(pair[0])
 
     def flush(self):
-        """Keeps what was put: the number of the frame that has it; None where nothing was new."""
+        """Keeps what was put: the number of the last frame; None where nothing was new."""
         answer = self._ask("flush")
         return None if answer == "no frame" else int(answer.split()[1])
 
     def clean(self):
         """Gives up the oldest segment, whose room is free again."""
         return self._ask("clean")
+
+    def add(self):
+        """Adds a segment."""
+        return self._ask("add")
 
     def stats(self):
         """The store's numbers by their names."""
@@ -92,19 +110,49 @@ class Store:
         """Flushes, and ends the child; its exit status."""
         self.flush()
         self._ask("quit")
-        self.child.stdin.close()
+        return self.abandon()
+
+    def abandon(self):
+        """Ends the child, and flushes nothing; its exit status."""
+        try:
+            self.child.stdin.close()
+        except BrokenPipeError:
+            pass
+        self.child.stdout.close()
+        self.child.stderr.close()
         return self.child.wait()
 
     def _ask(self, line):
-        self.child.stdin.write(line.encode() + b"\n")
-        self.child.stdin.flush()
-        return self._answer()
+        self._write(line.encode() + b"\n")
+        return self._heard(self._line())
 
-    def _answer(self):
+    def _burst(self, lines):
+        """The answers of many requests. They are read while the requests are written: neither pipe fills up for
+        good. All of them are read before the first refusal is raised."""
+        writer = threading.Thread(target=self._write, args=("".join(line + "\n" for line in lines).encode(),))
+        writer.start()
+        try:
+            answers = [self._line() for _ in lines]
+        finally:
+            writer.join()
+        return [self._heard(answer) for answer in answers]
+
+    def _write(self, requests):
+        try:
+            self.child.stdin.write(requests)
+            self.child.stdin.flush()
+        except BrokenPipeError:
+            pass  # who reads the answers finds their end
+
+    def _line(self):
         line = self.child.stdout.readline()
-        if not line:
-            raise EOFError("bwlog ended with status %s" % self.child.wait())
-        answer = line.decode().rstrip("\n")
+        if not line.endswith(b"\n"):
+            words = self.child.stderr.read().decode(errors="replace").strip()
+            raise Ended(words or "bwlog ended with status %s" % self.child.wait())
+        return line[:-1].decode()
+
+    @staticmethod
+    def _heard(answer):
         if answer.startswith(("refused", "fault")):
             raise Refused(answer)
         return answer
@@ -118,8 +166,16 @@ def put_line(key, value):
     return "put %s %s" % (word_of(key), word_of(value))
 
 
+def change_line(key, value):
+    return "del " + word_of(key) if value is None else put_line(key, value)
+
+
 def bytes_of(word):
     return bytes.fromhex(word[2:]) if word.startswith("0x") else word.encode()
+
+
+def value_in(answer):
+    return None if answer == "none" else bytes_of(answer[len("value ") :])
 
 
 def after(key):

@@ -4,17 +4,15 @@
 //! stop; as a module, `Store` is all that is needed. Keys have 1 to 128 bytes, values up to 512. What
 //! was put and not flushed is lost where the child ends.
 
-use std::io::{BufRead, BufReader, BufWriter, Error, ErrorKind, Result, Write};
+use std::io::{BufRead, BufReader, Error, ErrorKind, Read, Result, Write};
 use std::process::{Child, ChildStdin, ChildStdout, Command, Stdio};
-
-/// So many requests go out before their answers are read: fewer bytes than a pipe takes.
-const BURST: usize = 512;
+use std::thread;
 
 pub type Pair = (Vec<u8>, Vec<u8>);
 
 pub struct Store {
     child: Child,
-    input: Option<BufWriter<ChildStdin>>,
+    input: Option<ChildStdin>,
     output: BufReader<ChildStdout>,
 }
 
@@ -39,6 +37,30 @@ fn bytes_of(word: &str) -> Result<Vec<u8>> {
         .collect()
 }
 
+fn put_line(key: &[u8], value: &[u8]) -> String {
+    format!("put {} {}", word_of(key), word_of(value))
+}
+
+/// The line of a key's value, or of a deletion where there is none.
+fn change_line(key: &[u8], value: Option<&[u8]>) -> String {
+    match value {
+        Some(value) => put_line(key, value),
+        None => format!("del {}", word_of(key)),
+    }
+}
+
+fn value_in(answer: &str) -> Result<Option<Vec<u8>>> {
+    answer.strip_prefix("value ").map(bytes_of).transpose()
+}
+
+/// A refused request is an error.
+fn heard(answer: String) -> Result<String> {
+    if answer.starts_with("refused") || answer.starts_with("fault") {
+        return Err(Error::other(answer));
+    }
+    Ok(answer)
+}
+
 /// The least key above this one; `None` above the greatest.
 pub fn after(key: &[u8]) -> Option<Vec<u8>> {
     let mut next = key.to_vec();
@@ -60,72 +82,107 @@ impl Store {
             .args(["serve", "--dir", folder])
             .stdin(Stdio::piped())
             .stdout(Stdio::piped())
+            .stderr(Stdio::piped())
             .spawn()?;
-        let input = child.stdin.take().map(BufWriter::new);
+        let input = child.stdin.take();
         let output = child.stdout.take().ok_or(ErrorKind::BrokenPipe)?;
         let mut store = Store {
             child,
             input,
             output: BufReader::new(output),
         };
-        store.answer()?; // ready frame N
+        store.line().and_then(heard)?; // ready frame N
         Ok(store)
     }
 
-    fn send(&mut self, line: &str) -> Result<()> {
-        let input = self.input.as_mut().ok_or(ErrorKind::BrokenPipe)?;
-        writeln!(input, "{line}")
-    }
-
-    fn answer(&mut self) -> Result<String> {
-        if let Some(input) = &mut self.input {
-            input.flush()?;
-        }
+    /// The next answer. Where there is none, the child's own words say why.
+    fn line(&mut self) -> Result<String> {
         let mut line = String::new();
-        if self.output.read_line(&mut line)? == 0 {
-            return Err(Error::from(ErrorKind::UnexpectedEof));
+        self.output.read_line(&mut line)?;
+        if line.pop() == Some('\n') {
+            return Ok(line);
         }
-        let answer = line.trim_end().to_string();
-        if answer.starts_with("refused") || answer.starts_with("fault") {
-            return Err(Error::other(answer));
+        let mut words = String::new();
+        if let Some(errors) = &mut self.child.stderr {
+            errors.read_to_string(&mut words)?;
         }
-        Ok(answer)
+        let status = self.abandon()?;
+        if words.is_empty() {
+            words = format!("bwlog ended with status {status}");
+        }
+        Err(Error::new(ErrorKind::UnexpectedEof, words.trim_end()))
     }
 
-    fn ask(&mut self, line: &str) -> Result<String> {
-        self.send(line)?;
-        self.answer()
+    /// The answers of many requests. They are read while the requests are written: neither pipe
+    /// fills up for good. All of them are read before the first refusal is told.
+    fn burst(&mut self, lines: &[String]) -> Result<Vec<String>> {
+        let mut input = self.input.take().ok_or(ErrorKind::BrokenPipe)?;
+        let mut requests = lines.join("\n");
+        requests.push('\n');
+        let (input, answers) = thread::scope(|scope| {
+            let writer = scope.spawn(move || {
+                // Where the child has ended, who reads the answers finds their end.
+                let _ = input.write_all(requests.as_bytes());
+                input
+            });
+            let answers: Result<Vec<String>> = lines.iter().map(|_| self.line()).collect();
+            (writer.join().ok(), answers)
+        });
+        self.input = input;
+        answers?.into_iter().map(heard).collect()
+    }
+
+    fn ask(&mut self, mut line: String) -> Result<String> {
+        line.push('\n');
+        let input = self.input.as_mut().ok_or(ErrorKind::BrokenPipe)?;
+        // Where the child has ended, who reads the answer finds its end.
+        let _ = input.write_all(line.as_bytes());
+        self.line().and_then(heard)
     }
 
     pub fn put(&mut self, key: &[u8], value: &[u8]) -> Result<()> {
-        self.put_all(&[(key.to_vec(), value.to_vec())])
+        self.ask(put_line(key, value)).map(|_| ())
     }
 
-    /// Puts many pairs, some hundred requests at a time.
+    /// Puts many pairs in one burst. Where some are refused the others are put.
     pub fn put_all(&mut self, pairs: &[Pair]) -> Result<()> {
-        for burst in pairs.chunks(BURST) {
-            for (key, value) in burst {
-                self.send(&format!("put {} {}", word_of(key), word_of(value)))?;
-            }
-            for _ in burst {
-                self.answer()?;
-            }
+        let lines: Vec<String> = pairs.iter().map(|(key, value)| put_line(key, value)).collect();
+        if lines.is_empty() {
+            return Ok(());
         }
-        Ok(())
+        self.burst(&lines).map(|_| ())
+    }
+
+    /// Puts one to four pairs as one; where the value is `None`, deletes the key.
+    pub fn put_group(&mut self, changes: &[(&[u8], Option<&[u8]>)]) -> Result<()> {
+        let mut line = String::from("group");
+        for (key, value) in changes {
+            line.push(' ');
+            line.push_str(&change_line(key, *value));
+        }
+        self.ask(line).map(|_| ())
     }
 
     pub fn delete(&mut self, key: &[u8]) -> Result<()> {
-        self.ask(&format!("del {}", word_of(key))).map(|_| ())
+        self.ask(change_line(key, None)).map(|_| ())
     }
 
     pub fn get(&mut self, key: &[u8]) -> Result<Option<Vec<u8>>> {
-        let answer = self.ask(&format!("get {}", word_of(key)))?;
-        answer.strip_prefix("value ").map(bytes_of).transpose()
+        value_in(&self.ask(format!("get {}", word_of(key)))?)
+    }
+
+    /// The values of many keys, in one burst.
+    pub fn get_all(&mut self, keys: &[Vec<u8>]) -> Result<Vec<Option<Vec<u8>>>> {
+        let lines: Vec<String> = keys.iter().map(|key| format!("get {}", word_of(key))).collect();
+        if lines.is_empty() {
+            return Ok(Vec::new());
+        }
+        self.burst(&lines)?.iter().map(|answer| value_in(answer)).collect()
     }
 
     /// The pair with the least key at or above this one.
     pub fn next(&mut self, key: &[u8]) -> Result<Option<Pair>> {
-        let answer = self.ask(&format!("next {}", word_of(key)))?;
+        let answer = self.ask(format!("next {}", word_of(key)))?;
         let words = answer.strip_prefix("pair ").and_then(|pair| pair.split_once('='));
         let Some((key, value)) = words else {
             return Ok(None);
@@ -133,37 +190,55 @@ impl Store {
         Ok(Some((bytes_of(key)?, bytes_of(value)?)))
     }
 
-    /// Keeps what was put: the number of the frame that has it; `None` where nothing was new.
+    /// All pairs whose key begins with this prefix, in the order of their keys.
+    pub fn walk(&mut self, prefix: &[u8]) -> Result<Vec<Pair>> {
+        let mut found = Vec::new();
+        let mut from = Some(if prefix.is_empty() { vec![0] } else { prefix.to_vec() });
+        while let Some(key) = from {
+            match self.next(&key)? {
+                Some(pair) if pair.0.starts_with(prefix) => {
+                    from = after(&pair.0);
+                    found.push(pair);
+                }
+                _ => break,
+            }
+        }
+        Ok(found)
+    }
+
+    /// Keeps what was put: the number of the last frame; `None` where nothing was new.
     pub fn flush(&mut self) -> Result<Option<u64>> {
-        let answer = self.ask("flush")?;
+        let answer = self.ask("flush".to_string())?;
         Ok(answer.strip_prefix("frame ").and_then(|number| number.parse().ok()))
     }
 
     /// Gives up the oldest segment, whose room is free again.
     pub fn clean(&mut self) -> Result<String> {
-        self.ask("clean")
+        self.ask("clean".to_string())
     }
 
-    /// Flushes, and ends the child; its exit status.
+    /// Adds a segment.
+    pub fn add(&mut self) -> Result<String> {
+        self.ask("add".to_string())
+    }
+
+    /// Flushes, and ends the child; its exit status. A store that is dropped instead flushes nothing.
     pub fn close(mut self) -> Result<i32> {
         self.flush()?;
-        self.ask("quit")?;
+        self.ask("quit".to_string())?;
+        self.abandon()
+    }
+
+    fn abandon(&mut self) -> Result<i32> {
         drop(self.input.take());
         Ok(self.child.wait()?.code().unwrap_or(-1))
     }
 }
 
-fn walk(store: &mut Store) -> Result<Vec<Pair>> {
-    let mut found = Vec::new();
-    let mut from = Some(vec![0]);
-    while let Some(key) = from {
-        let Some(pair) = store.next(&key)? else {
-            break;
-        };
-        from = after(&pair.0);
-        found.push(pair);
+impl Drop for Store {
+    fn drop(&mut self) {
+        let _ = self.abandon();
     }
-    Ok(found)
 }
 
 #[allow(dead_code)]
@@ -185,7 +260,7 @@ fn main() -> Result<()> {
     assert_eq!(store.get(b"gone")?, None);
     pairs.push((vec![0, 0xff], Vec::new()));
     pairs.sort();
-    assert!(walk(&mut store)? == pairs);
+    assert!(store.walk(b"")? == pairs);
     assert!(store.put(b"", b"a key has a byte at least").is_err());
     assert_eq!(store.close()?, 0);
     println!("kept {count}");

@@ -1,9 +1,11 @@
 /* Notes what a program asks of the files below one folder, in the order in which it asks.
    WATCH names the folder and WATCH_LOG the file of notes. A note is a letter, then two numbers of eight bytes, then a name with its length in
    four bytes, then the bytes that are written: `o` a file is there, `w` bytes at an offset, `t` a length that is cut to, `s` the file is
-   synced, `f` the folder is. A call that failed is not noted. */
+   synced, `f` the folder is. A call that failed is not noted. WATCH_CUT says which cut of such a file fails, from 1 on, and with it each later
+   one: the system then tells a fault of the device. */
 #define _GNU_SOURCE
 #include <dlfcn.h>
+#include <errno.h>
 #include <fcntl.h>
 #include <limits.h>
 #include <pthread.h>
@@ -18,11 +20,14 @@
 static pthread_mutex_t one_by_one = PTHREAD_MUTEX_INITIALIZER;
 static char folder[PATH_MAX];
 static int notes = -1;
+static long cuts, fails_from;
 
 __attribute__((constructor)) static void begin(void)
 {
     const char *watched = getenv("WATCH");
     const char *log = getenv("WATCH_LOG");
+    const char *from = getenv("WATCH_CUT");
+    fails_from = from ? atol(from) : 0;
     if (watched && log && realpath(watched, folder))
         notes = open(log, O_WRONLY | O_CREAT | O_APPEND, 0600);
 }
@@ -124,6 +129,19 @@ ssize_t pwrite64(int file, const void *bytes, size_t count, off64_t at)
     return wrote(real(file, bytes, count, at), file, bytes, (uint64_t)at);
 }
 
+/* Whether this cut is to fail. */
+static int cut_fails(int file)
+{
+    char room[PATH_MAX];
+    if (!fails_from || !name_of(file, room))
+        return 0;
+    pthread_mutex_lock(&one_by_one);
+    int fails = ++cuts >= fails_from;
+    pthread_mutex_unlock(&one_by_one);
+    errno = EIO;
+    return fails;
+}
+
 static int cut(int answer, int file, uint64_t length)
 {
     if (answer == 0)
@@ -134,13 +152,13 @@ static int cut(int answer, int file, uint64_t length)
 int ftruncate(int file, off_t length)
 {
     REAL(int, "ftruncate", int, off_t);
-    return cut(real(file, length), file, (uint64_t)length);
+    return cut_fails(file) ? -1 : cut(real(file, length), file, (uint64_t)length);
 }
 
 int ftruncate64(int file, off64_t length)
 {
     REAL(int, "ftruncate64", int, off64_t);
-    return cut(real(file, length), file, (uint64_t)length);
+    return cut_fails(file) ? -1 : cut(real(file, length), file, (uint64_t)length);
 }
 
 static int synced(int answer, int file)

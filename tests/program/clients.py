@@ -1,5 +1,7 @@
 #!/usr/bin/env python3
-"""The clients of clients/, each over the built program: 100,000 records are put, kept over a stop, and walked in order.
+"""The clients of clients/, each over the built program: 100,000 records are put, kept over a stop, and walked in order. Then
+what clients/check.* asks of each: keys and values of the greatest length, in bursts that fill both pipes; refusals within a burst; groups,
+deletes and walks over a prefix; a folder in use; an end without a flush; and, of C, an answer that does not fit.
 
     clients.py [COUNT]
 
@@ -14,6 +16,9 @@ import time
 
 HERE = os.path.dirname(os.path.abspath(__file__))
 CLIENTS = os.path.join(HERE, "..", "..", "clients")
+CHECKS = os.path.join(HERE, "clients")
+# Where a sync takes no time, if there is such a place.
+FAST = "/dev/shm" if os.path.isdir("/dev/shm") else None
 PROGRAM = os.path.abspath(os.path.join(HERE, "..", "..", "crates", "bwlog", "out", "bwlog"))
 # How each client is built, and how it is run, where {} is its file and {out} what was built.
 BUILDS = {
@@ -21,28 +26,58 @@ BUILDS = {
     "bwlog.c": (["cc", "-O2", "-Wall", "-Werror", "-o", "{out}", "{}"], ["{out}"]),
     "bwlog.rs": (["rustc", "-O", "--edition", "2021", "-o", "{out}", "{}"], ["{out}"]),
 }
+# A program whose first answer is no line of the longest that a client reads.
+FAKE = """#!/bin/sh
+echo ready frame 0
+read line
+head -c 2000 /dev/zero | tr '\\0' x
+echo
+"""
 
 
-def run(name, folder, count):
-    """What a client printed that should not be, or nothing."""
-    build, words = BUILDS[name]
+def run(language, source, folder, more, wanted):
+    """What a program of this language printed that should not be, or nothing."""
+    build, words = BUILDS["bwlog." + language]
     names = {"out": os.path.join(folder, "client")}
-    source = os.path.join(CLIENTS, name)
     if build:
-        if not shutil.which(build[0]):
-            print("%s: left out, there is no %s" % (name, build[0]))
-            return ""
-        built = subprocess.run([word.format(source, **names) for word in build], capture_output=True, text=True)
+        built = subprocess.run([word.format(source, **names) for word in build], capture_output=True, text=True, check=False)
         if built.returncode != 0:
             return built.stderr
-    begun = time.time()
-    store = os.path.join(folder, "store")
-    ran = subprocess.run([word.format(source, **names) for word in words] + [PROGRAM, store, str(count)],
-                         capture_output=True, text=True, timeout=300)
-    if ran.returncode != 0 or ran.stdout != "kept %d\n" % count:
+    ran = subprocess.run([word.format(source, **names) for word in words] + [PROGRAM, os.path.join(folder, "store")] + more,
+                         capture_output=True, text=True, timeout=300, check=False)
+    if ran.returncode != 0 or ran.stdout != wanted:
         return "status %d\n%s%s" % (ran.returncode, ran.stdout, ran.stderr)
-    print("%s: %d records kept and walked in %.1f s" % (name, count, time.time() - begun))
     return ""
+
+
+def fake_in(folder):
+    """A program that stands in the folder."""
+    path = os.path.join(folder, "fake")
+    with open(path, "w", encoding="ascii") as file:
+        file.write(FAKE)
+    os.chmod(path, 0o755)
+    return path
+
+
+def asked(name, count):
+    """What of a client went otherwise than told, or nothing."""
+    language = name.split(".")[1]
+    build = BUILDS[name][0]
+    if build and not shutil.which(build[0]):
+        print("%s: left out, there is no %s" % (name, build[0]))
+        return ""
+    begun = time.time()
+    with tempfile.TemporaryDirectory(dir=FAST) as folder:
+        wrong = run(language, os.path.join(CLIENTS, name), folder, [str(count)], "kept %d\n" % count)
+    if wrong:
+        return wrong
+    took = time.time() - begun
+    with tempfile.TemporaryDirectory(dir=FAST) as folder:
+        more = [fake_in(folder)] if language == "c" else []
+        wrong = run(language, os.path.join(CHECKS, "check." + language), folder, more, "kept to\n")
+    if not wrong:
+        print("%s: %d records kept and walked in %.1f s" % (name, count, took))
+    return wrong
 
 
 def main():
@@ -52,8 +87,7 @@ def main():
         return 1
     failed = False
     for name in BUILDS:
-        with tempfile.TemporaryDirectory(dir="/dev/shm" if os.path.isdir("/dev/shm") else None) as folder:
-            wrong = run(name, folder, count)
+        wrong = asked(name, count)
         if wrong:
             print("%s: %s" % (name, wrong))
             failed = True

@@ -8,8 +8,13 @@ name of a new file before its folder is synced, a file's cut before its file is.
 synced, or the one in flight where all its bytes stand, and exactly the pairs that a map has which is told the records up to that frame's
 cut. It may find nothing only before the first frame. Some of the folders are gone on from, too.
 
-Scripts have flushes, rolls, cleanings, added segments and a second life over what the first one left. This is what the calls of
-the system allow, and not a disk: a device that loses what it synced, or keeps other bytes than a beginning, is not tried.
+Scripts have flushes, rolls, cleanings, added segments and a second life over what the first one left; half of them have `--reuse`. This
+is what the calls of the system allow, and not a disk: a device that loses what it synced, or keeps other bytes than a beginning, is not
+tried.
+
+The same is done of runs whose calls are told by a table (RUNS): an upgrade of a folder, `serve` with cleanings, `threads` with and without
+`--reuse`, each also with a cut of a file that fails, and then each later one; and of restores, whose folder has to be refused until all of it
+stands, and then holds the store as of its frame.
 """
 
 import os
@@ -21,13 +26,16 @@ import subprocess
 import sys
 import tempfile
 
+from hostile.reader import log_of
+from hostile.upgrades import a_page_a_segment
+
 HERE = os.path.dirname(os.path.abspath(__file__))
 PROGRAM = os.path.join(HERE, "..", "..", "crates", "bwlog", "out", "bwlog")
 SOURCE = os.path.join(HERE, "..", "..", "tools", "watch.c")
 FAST = "/dev/shm" if os.path.isdir("/dev/shm") else None
 FOLDERS = int(sys.argv[1]) if len(sys.argv) > 1 else 10000
 SEED = int(sys.argv[2]) if len(sys.argv) > 2 else 1
-OPTIONS = ["--places", "64", "--segments", "6", "--capacity", "65560"]
+OPTIONS = ["--places", "64", "--m", "4", "--segments", "6", "--capacity", "65560"]
 WORD, HEAD = b"FRM2", 24
 # What stands on standard error behind a run that met a full log.
 FULL = "the log is full: `clean` gives up its oldest segment, and `add` adds a new one\n"
@@ -95,7 +103,7 @@ class Life:
         if os.path.exists(log):
             os.remove(log)
         ran = subprocess.run(
-            [PROGRAM, "replay", "--dir", folder] + OPTIONS,
+            [PROGRAM, "replay", "--dir", folder] + OPTIONS + draw.choice(([], ["--reuse"])),
             input="\n".join(lines) + "\n",
             capture_output=True,
             text=True,
@@ -266,7 +274,7 @@ def end_again(shim, room):
         lines = "".join("put 0 k%d %s\nflush\n" % (i, "v" * 100) for i in range(records))
         for words in (lines, "get k1\n"):
             subprocess.run(
-                [PROGRAM, "replay", "--dir", folder, "--capacity", "1048576"],
+                [PROGRAM, "replay", "--dir", folder, "--m", "4", "--capacity", "1048576"],
                 input=words, capture_output=True, text=True, check=True,
                 env={"LD_PRELOAD": shim, "WATCH": folder, "WATCH_LOG": log} if words != lines else {},
             )
@@ -274,6 +282,181 @@ def end_again(shim, room):
         ask(length > 65560 and (length > most) == (records == 4000), "a file of", length, "bytes")
         again = [(at, many) for letter, at, many, name, _ in notes_of(log) if letter == "w" and name == "segment-0000.bw"]
         ask(again == [(max(0, length - most), min(length, most))], "at opening", again, "of", length, "bytes")
+
+
+# ---- runs by a table
+
+
+class Watched:
+    """A run of the program over a folder, under the shim: what it printed, and what it asked of the system."""
+
+    def __init__(self, shim, room, watched, words, text="", fails=None, statuses=(0,)):
+        log = os.path.join(room, "notes")
+        if os.path.exists(log):
+            os.remove(log)
+        more = {} if fails is None else {"WATCH_CUT": str(fails)}
+        ran = subprocess.run(
+            [PROGRAM, *words], input=text, capture_output=True, text=True, check=False,
+            env={"LD_PRELOAD": shim, "WATCH": watched, "WATCH_LOG": log, **more},
+        )
+        ask(ran.returncode in statuses, words, "ended with status", ran.returncode, ran.stdout[-300:], ran.stderr)
+        self.status, self.printed = ran.returncode, ran.stdout.splitlines()
+        self.notes = notes_of(log) if os.path.exists(log) else []
+
+
+def held_in(folder):
+    found = {}
+    for name in sorted(os.listdir(folder)):
+        with open(os.path.join(folder, name), "rb") as file:
+            found[name] = file.read()
+    return found
+
+
+def states(disk, notes, draw):
+    """The files that each write and cut may leave, one state of the folder after the other, and in the end those that stand for certain."""
+    for note in notes:
+        if note[0] in "wt":
+            for files, _ in disk.left(note, draw):
+                yield files
+        disk.ask(note)
+    yield disk.stands
+
+
+def pairs_of(image, files, allowed=("",)):
+    """The last frame of such a folder and its pairs; the refusal in place of them, where it is one that is allowed."""
+    write(image, files)
+    ran = subprocess.run([PROGRAM, "scan", "--dir", image], capture_output=True, text=True, check=False)
+    if ran.returncode == 4 and ran.stdout.strip() in allowed:
+        return ran.stdout.strip()
+    ask(ran.returncode == 0, "a folder that was left is refused:", ran.stdout, ran.stderr)
+    lines = ran.stdout.splitlines()
+    frame = int(lines[1].split(" ")[2])
+    return frame, dict(word.split("=") for line in lines[2:] for word in line.split(" ")[6:])
+
+
+class Maps:
+    """The maps behind each of so many records, in their order: a folder holds one of them, and never an older one than before."""
+
+    def __init__(self, records):
+        self.maps = [{}]
+        for key, value in records:
+            self.maps.append({**self.maps[-1], key: value})
+        self.least = 0
+
+    def ask(self, found):
+        if isinstance(found, str):
+            ask(self.least == 0, "refused, where frames stood:", found)
+            return
+        frame, pairs = found
+        at = next((it for it in range(self.least, len(self.maps)) if self.maps[it] == pairs), None)
+        ask(at is not None, "frame", frame, "has the pairs of no later record:", pairs)
+        self.last = at
+
+    def stands(self):
+        """What was found last stands from now on."""
+        self.least = self.last
+
+
+def drawn_records(draw, count, keys):
+    return [("k%02d" % draw.randrange(keys), "v%d%s" % (number, "x" * draw.choice((0, 90, 300)))) for number in range(count)]
+
+
+def threads_run(words):
+    """`threads`, by one writer whose records are known in their order."""
+
+    def of(draw, folder):
+        records = drawn_records(draw, 1500, 30)
+        lines = "".join("put 0 %s %s\n" % it for it in records)
+        options = ["--writers", "1", "--m", "4", "--capacity", "65560", "--flush-every", "1", "--limit", "16"]
+        return None, ["threads", "--dir", folder, *options, *words], lines, Maps(records)
+
+    return of
+
+
+def serve_run(draw, folder):
+    """`serve`, which cleans behind each few flushes."""
+    records, lines = drawn_records(draw, 900, 30), []
+    for at in range(0, len(records), 10):
+        lines += ["put %s %s" % it for it in records[at : at + 10]] + ["flush"]
+        if at % 100 == 90:
+            lines.append("clean")
+    return None, ["serve", "--dir", folder, "--m", "4", "--capacity", "65560"], "\n".join(lines) + "\n", Maps(records)
+
+
+def upgrade_run(_draw, folder):
+    """An upgrade of ten segments."""
+    segments = a_page_a_segment(10)
+    log = log_of(segments)
+    pairs = [(key.decode(), value.decode()) for _, held in log.pages.values() for key, value in held.items()]
+    maps = Maps(pairs)
+    maps.least = len(pairs)
+    return {"segment-%04d.bw" % lease: held for lease, held in enumerate(segments)}, ["upgrade", "--dir", folder], "", maps
+
+
+RUNS = [
+    ("upgrade", upgrade_run),
+    ("serve", serve_run),
+    ("threads", threads_run(["--segments", "16", "--clean-at", "2"])),
+    ("threads_reuse", threads_run(["--segments", "4", "--reuse"])),
+]
+
+
+def begun(folder, files):
+    shutil.rmtree(folder, ignore_errors=True)
+    write(folder, files or {})
+
+
+def by_table(shim, room, draw):
+    """How many folders of the runs of the table were looked at."""
+    folder, image, seen = os.path.join(room, "table"), os.path.join(room, "left"), 0
+    for name, run_of in RUNS:
+        files, words, text, maps = run_of(draw, folder)
+        try:
+            begun(folder, files)
+            # (a cleaning of one live segment is refused)
+            run = Watched(shim, room, folder, words, text, None, (0, 4))
+            cuts = sum(1 for note in run.notes if note[0] == "t")
+            ask(cuts > 2, "only", cuts, "files were cut")
+            for left in states(Disk(files or {}, 0), run.notes, draw):
+                maps.ask(pairs_of(image, left, ("refused E12 Empty",)))
+                seen += 1
+            maps.stands()
+            for fails in sorted({1, 2, cuts} | {draw.randrange(1, cuts + 1) for _ in range(3)}):
+                _, words, text, maps = run_of(draw, folder)
+                begun(folder, files)
+                run = Watched(shim, room, folder, words, text, fails, (0, 4, 6))
+                maps.ask(pairs_of(image, held_in(folder), ("refused E12 Empty",)))
+                for left in states(Disk(files or {}, 0), run.notes, draw) if fails == 2 else []:
+                    maps.ask(pairs_of(image, left, ("refused E12 Empty",)))
+                    seen += 1
+        except Wrong as wrong:
+            raise Wrong(name + ": " + str(wrong)) from None
+    return seen
+
+
+# ---- restores
+
+
+def restores(shim, room, draw):
+    """A restore shows nothing until all of it stands, whatever frame it is of."""
+    source, target, image, seen = os.path.join(room, "source"), os.path.join(room, "target"), os.path.join(room, "left"), 0
+    records = drawn_records(draw, 60, 20)
+    lines = []
+    for number, record in enumerate(records, 1):
+        lines += ["put 0 %s %s" % record, "flush"] + ["roll"] * (number % 12 == 0)
+    begun(source, None)
+    Watched(shim, room, source, ["replay", "--dir", source, "--m", "4", "--segments", "16", "--capacity", "65560"], "\n".join(lines) + "\n")
+    for frame in (5, 12, 13, 30, 60):
+        begun(target, None)
+        run = Watched(shim, room, target, ["restore", "--dir", source, "--to", target, "--frame", str(frame)])
+        wanted = frame, dict(records[:frame])
+        *parts, whole = states(Disk({}, 0), run.notes, draw)
+        for left in parts:
+            found = pairs_of(image, left, ("refused E12 Empty", "refused E13 BadBytes segment 0 at 0"))
+            ask(isinstance(found, str) or found == wanted, "a restore of frame", frame, "that was stopped shows", found)
+            seen += 1
+        ask(pairs_of(image, whole) == wanted, "a restore of frame", frame, "leaves what is not synced")
+    return seen
 
 
 def main():
@@ -284,6 +467,11 @@ def main():
         shim = os.path.join(room, "watch.so")
         subprocess.run(["cc", "-O2", "-shared", "-fPIC", "-o", shim, SOURCE], check=True)
         end_again(shim, room)
+        try:
+            beside = restores(shim, room, draw) + by_table(shim, room, draw)
+        except Wrong as wrong:
+            print("seed %d: %s" % (SEED, wrong))
+            return 1
         while seen < FOLDERS:
             try:
                 seen += two_lives(shim, room, draw, FOLDERS - seen)
@@ -291,7 +479,7 @@ def main():
                 print("seed %d, script %d: %s" % (SEED, runs, wrong))
                 return 1
             runs += 1
-    print("%d folders of %d scripts: each holds a flush, not older than the last whole sync" % (seen, runs))
+    print("%d folders of %d scripts and %d of the other runs: each holds a flush, not older than the last whole sync" % (seen, runs, beside))
     return 0
 
 

@@ -12,13 +12,23 @@ use crate::recovered::Recovered;
 use bw_device::Segment;
 use bw_log::Log;
 use std::alloc::Global;
+use std::fmt::{self, Debug, Formatter};
+use thiserror::Error;
 
 /// Why boxes could not be recovered, and all of them in the order in which they were handed in.
 /// Their bytes are as they were; where the cause is `Device`, that box counts one failure more.
-#[derive(Drop)]
+#[derive(Drop, Error)]
+#[error("{cause}")]
 pub struct RecoverFault {
     pub boxes: Vec<Box<dyn Segment>>,
     pub cause: RecoverCause,
+}
+
+// Boxes of other crates' kinds need not be told.
+impl Debug for RecoverFault {
+    fn fmt<W: fmt::Write>(&self, f: &mut Formatter<W>) -> fmt::Result {
+        write!(f, "RecoverFault({:?})", self.cause)
+    }
 }
 
 /// Reads all boxes, in any order, and makes of them the log that they hold, with the leaves for

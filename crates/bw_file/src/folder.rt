@@ -235,6 +235,34 @@ impl<F: SegmentFile> Folder<F> {
         Ok(())
     }
 
+    /// Writes these bytes as `write` does, but for the first one, in whose place a 0 stands: no segment
+    /// begins so. It is written at the end of what is handed out.
+    ///
+    /// So of several files a part is never taken for the whole: this one is written first, and its end
+    /// comes when all others stand.
+    pub fn write_held_back<R: AllocGlobal + Files<File = F>>(
+        &self,
+        rt: &R,
+        lease: u32,
+        bytes: &[u8],
+    ) -> Result<HeldBack<F>, FolderFault> {
+        if bytes.len() as u64 > MAX_CAPACITY {
+            return Err(FolderFault::TooLong);
+        }
+        let file = self.taken(rt, lease)?;
+        file.set_len(0)?;
+        let Some((first, rest)) = bytes.split_first() else {
+            return Ok(HeldBack { file, first: None });
+        };
+        file.write_all_at(&[0], 0)?;
+        file.write_all_at(rest, 1)?;
+        file.sync_all()?;
+        Ok(HeldBack {
+            file,
+            first: Some(*first),
+        })
+    }
+
     /// Empties the file of a lease whose segment was given up and dropped, and waits until that
     /// stands. `InUse` where a segment stands on it, `NotPlain` where it is no plain file.
     ///
@@ -250,6 +278,27 @@ impl<F: SegmentFile> Folder<F> {
         let file = OpenOptions::new().write(true).open(rt, name.as_str())?;
         file.lock_alone()?;
         cut_to_nothing(&file)?;
+        Ok(())
+    }
+}
+
+/// A file that was written but for its first byte.
+#[derive(Drop)]
+pub struct HeldBack<F = File> {
+    file: F,
+    /// None where the file has no bytes.
+    first: Option<u8>,
+}
+
+impl<F: SegmentFile> HeldBack<F> {
+    /// Writes the first byte, and waits until it stands. What the file holds behind a refusal is not
+    /// known of that byte alone.
+    pub fn end(self) -> Result<(), FolderFault> {
+        let HeldBack { file, first } = self;
+        if let Some(first) = first {
+            file.write_all_at(&[first], 0)?;
+            file.sync_all()?;
+        }
         Ok(())
     }
 }

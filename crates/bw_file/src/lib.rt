@@ -16,7 +16,7 @@ mod refusals;
 mod segment;
 
 pub use files::SegmentFile;
-pub use folder::Folder;
+pub use folder::{Folder, HeldBack};
 pub use reader::FolderReader;
 pub use refusals::{FolderFault, NotOpened};
 pub use segment::FileSegment;

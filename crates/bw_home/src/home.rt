@@ -61,7 +61,7 @@ fn put_at(feeds: &mut Vec<Feed>, writer: usize, item: Record) -> Result<(), Full
 }
 
 impl Home {
-    ghost use Rattle.bw_store.specs.Views.{kept_by, IsSound};
+    ghost use Rattle.bw_store.specs.Views.{away_in, kept_by, IsSound};
     ghost use Rattle.bw_home.specs.Ready.{kept_in, IsReady, IsReadyBeside};
 
     // A store, its feeds, and where its segments stand, of which new ones have this capacity.
@@ -179,8 +179,10 @@ impl Home {
         ensures took { IfOk result (λ n.
             TookInTurn n (kept_in self.old holding) (kept_in self.new holding)) }
         ensures refused { IfErr result (λ fault. RefusedAfter fault.taken
-            (kept_in self.old holding) self.new.store.intake.lanes.items fault.cause
-            (kept_in self.new holding)) }
+            (kept_in self.old holding) self.new.store.intake.lanes.items
+            (away_in self.new.store) fault.cause (kept_in self.new holding)) }
+        ensures tried { IfErr result (λ fault.
+            groups_since (kept_in self.old holding) (kept_in self.new holding) < limit) }
     {
         self.store.turn(limit)
     }
@@ -373,16 +375,19 @@ impl Home {
         self.store.next_frame().unwrap_or(0)
     }
 
-    /// Makes a further segment, a spare from the next leg on, where there are so many leases.
+    /// Makes a further segment, a spare from the next leg on, where one of so many first leases is
+    /// free. Else no file is made.
     pub(crate) fn make_spare<R: System>(&mut self, rt: &R, leases: u32) -> Result<(), HomeFault>
         requires { IsReady self.old holding }
         ensures ready { IsReady self.new holding }
         ensures feeds { self.new.feeds ≡ self.old.feeds }
     {
-        let made = self.site.spare(rt, self.capacity)?;
-        if made.lease() >= leases {
+        // Asked first: a spare is the file of the least lease that is free, and no file above the limit
+        // is to be made.
+        if !self.site.has_free(leases) {
             return Err(HomeFault::Lease(NotTaken::NoLease));
         }
+        let made = self.site.spare(rt, self.capacity)?;
         self.made.push(made)?;
         Ok(())
     }

@@ -131,6 +131,17 @@ impl Site {
         let _ = self.desk.collect();
     }
 
+    /// Whether one of so many first leases is free, once those that came back are.
+    pub(crate) fn has_free(&mut self, leases: u32) -> bool {
+        self.collect();
+        for lease in 0..leases {
+            if !self.desk.is_out(lease) {
+                return true;
+            }
+        }
+        false
+    }
+
     /// Whether a lease is out.
     pub fn is_out(&self, lease: u32) -> bool {
         self.desk.is_out(lease)

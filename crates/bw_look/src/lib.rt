@@ -12,6 +12,7 @@
 mod counts;
 mod frames;
 mod image;
+mod limits;
 mod listing;
 mod picture;
 mod printer;
@@ -21,6 +22,7 @@ mod words;
 
 pub use counts::{Counts, write_counts};
 pub use image::Image;
+pub use limits::{Limits, limits_in};
 pub use listing::write_image;
 pub use picture::write_picture;
 pub use printer::{NotWritten, Printer};

@@ -80,7 +80,7 @@ impl Session {
 
     /// Whether the group found a place in its writer's ring. It is a fault where there is no such
     /// writer.
-    fn put(&mut self, writer: u16, group: Group) -> Result<Answer, Miss>
+    pub fn put(&mut self, writer: u16, group: Group) -> Result<Answer, Miss>
         requires { IsReady self.old holding }
         ensures { IsReady self.new holding }
     {
@@ -106,8 +106,8 @@ impl Session {
         }
     }
 
-    // How many records a turn of so many groups took.
-    fn take(&mut self, limit: u32) -> Result<u64, Miss>
+    /// How many records a turn of so many groups took.
+    pub fn take(&mut self, limit: u32) -> Result<u64, Miss>
         requires { IsReady self.old holding }
         ensures { IsReady self.new holding }
     {
@@ -244,9 +244,9 @@ impl Session {
         }
     }
 
-    /// Does what a request asks for: one line will answer it. What was accepted is taken before
-    /// anything is read, so a program reads what it put. A spare for what was cleaned is not added
-    /// here.
+    /// Does what a request asks for that wants no spare: one line will answer it. What was accepted
+    /// is taken before anything is read, so a program reads what it put. A spare for what was
+    /// cleaned is not added here.
     pub fn answer<R: System>(&mut self, rt: &R, request: Request) -> Result<Answer, Miss>
         requires { IsReady self.old holding }
         ensures { IsReady self.new holding }

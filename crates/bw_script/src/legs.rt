@@ -9,18 +9,121 @@ use crate::options::{Options, Pace};
 use crate::runs::Run;
 use crate::session::Session;
 use crate::system::Host;
+use bw_codec::limits::HEADER_LEN;
+use bw_codec::{Leaf, Record};
 use bw_home::Made;
 use bw_ring::Group;
 use std::alloc::{AllocError, Global};
 use std::mem;
 
-/// More than the blocks of one record have with a frame of their own.
-const EACH: u64 = 16_384;
+/// More than the head of a frame and that of a Delta with one record cost beside the pair.
+const DELTA: u64 = 40;
 
-/// How many records a leg has at most, so that a segment holds all that it appends: four of them
-/// at least, which one group has.
-fn most_in(options: &Options<'_>) -> u64 {
-    (u64::from(options.capacity).saturating_sub(24) / EACH).max(4)
+/// What a Split costs beside its low key and its pairs.
+const SPLIT: u64 = 24;
+
+/// What stands before a leg.
+#[derive(Clone, Copy)]
+struct Held {
+    /// How many pages there are.
+    pages: u64,
+    /// How many bytes they have as Bases.
+    bytes: u64,
+}
+
+/// What a leg may append, so that a segment holds all of it, and what its groups may cost so far.
+///
+/// A record costs a Delta, and a Split where its page is cut. At the first cut of a page that stands
+/// before the leg its Split has no more than its pairs and those that came since. From then on it, and
+/// each page that the leg makes, is cut again behind two records or more of its own, and a Split has
+/// two pairs more than they are at most, its low key among them. No Split has more than 17 pairs.
+#[derive(Clone, Copy)]
+struct Room {
+    /// How many bytes there may be.
+    most: u64,
+    held: Held,
+    /// How many bytes a pair has at most.
+    longest: u64,
+    /// How many records the groups so far have.
+    records: u64,
+    /// How many bytes their own blocks have at most.
+    own: u64,
+}
+
+/// How many bytes a pair has.
+fn pair_length(key: usize, value: usize) -> u64 {
+    (key as u64).saturating_add(value as u64).saturating_add(3)
+}
+
+/// How many bytes a record has as a pair, or what it takes away.
+fn record_length(item: &Record) -> u64 {
+    match item {
+        Record::Put(key, value) => pair_length(key.as_slice().len(), value.as_slice().len()),
+        Record::Del(key) => pair_length(key.as_slice().len(), 0),
+    }
+}
+
+/// How many bytes the longest record of a group has.
+fn longest_of(group: &Group) -> u64 {
+    let mut longest: u64 = 0;
+    for item in group.as_slice() {
+        longest = longest.max(record_length(item));
+    }
+    longest
+}
+
+/// The same of all groups of a script.
+fn longest_among(groups: &[Group]) -> u64 {
+    let mut longest: u64 = 0;
+    for group in groups {
+        longest = longest.max(longest_of(group));
+    }
+    longest
+}
+
+/// The same of all scripts.
+fn longest_in(scripts: &[Vec<Group>]) -> u64 {
+    let mut longest: u64 = 0;
+    for script in scripts {
+        longest = longest.max(longest_among(script.as_slice()));
+    }
+    longest
+}
+
+impl Room {
+    /// How many bytes the first Splits of the pages have at most, by so many records.
+    fn first_splits(&self, records: u64) -> u64 {
+        let one = self.longest.saturating_mul(18).saturating_add(SPLIT);
+        let beside = self.longest.saturating_mul(2).saturating_add(SPLIT);
+        let all = self.held.pages.saturating_add(1).saturating_mul(beside);
+        records
+            .saturating_mul(one)
+            .min(self.held.bytes.saturating_add(all))
+    }
+
+    /// How many bytes all Splits of so many records have at most.
+    fn splits(&self, records: u64) -> u64 {
+        let each = self.longest.saturating_mul(2).saturating_add(SPLIT / 2);
+        self.first_splits(records)
+            .saturating_add(records.saturating_mul(each))
+    }
+
+    /// Whether a group fits too, which is then among them. The first one does.
+    fn take(&mut self, group: &Group) -> bool {
+        let mut own = self.own;
+        for item in group.as_slice() {
+            own = own
+                .saturating_add(record_length(item))
+                .saturating_add(DELTA);
+        }
+        let records = self.records.saturating_add(group.len() as u64);
+        if self.records > 0 && own.saturating_add(self.splits(records)) > self.most {
+            return false;
+        }
+        self.own = own;
+        self.records = records;
+        true
+    }
 }
 
 /// The scripts of a run, and what came of them so far.
@@ -28,8 +131,10 @@ fn most_in(options: &Options<'_>) -> u64 {
 pub struct Legs {
     /// What is left of each script, its last group first.
     rest: Vec<Vec<Group>>,
-    /// How many records a leg has at most.
-    most: u64,
+    /// How many bytes a leg appends at most, if there is a limit.
+    most: Option<u64>,
+    /// How many bytes the longest pair has, of the scripts and of the pages before the first leg.
+    longest: u64,
     /// Whether there was no leg yet.
     is_new: bool,
     /// How many records of each script were accepted.
@@ -84,6 +189,7 @@ impl Legs {
         scripts: Vec<Vec<Group>>,
     ) -> Result<Legs, AllocError> {
         let accepted = no_counts(alloc, scripts.len())?;
+        let longest = longest_in(scripts.as_slice());
         let mut rest = scripts;
         for script in &mut rest {
             script.reverse();
@@ -91,10 +197,11 @@ impl Legs {
         Ok(Legs {
             rest,
             most: if options.reuse {
-                most_in(options)
+                Some(u64::from(options.capacity).saturating_sub(HEADER_LEN as u64))
             } else {
-                u64::MAX
+                None
             },
+            longest,
             is_new: true,
             accepted,
             entries: 0,
@@ -106,13 +213,14 @@ impl Legs {
         !self.is_new && self.rest.iter().all(|script| script.is_empty())
     }
 
-    // The next group of a writer, unless it has more records than are left.
-    fn next_of(&mut self, writer: usize, left: u64) -> Option<Group> {
+    // The next group of a writer, where there is room for it.
+    fn next_of(&mut self, writer: usize, room: &mut Room) -> Option<Group> {
         let script = self.rest.get_mut(writer)?;
-        match script.as_slice().last() {
-            Some(group) if group.len() as u64 <= left => script.pop(),
-            _ => None,
-        }
+        let fits = match script.as_slice().last() {
+            Some(group) => room.take(group),
+            None => false,
+        };
+        if fits { script.pop() } else { None }
     }
 
     // All that is left of the script of a writer.
@@ -138,45 +246,62 @@ impl Legs {
         Ok(leg)
     }
 
-    // A round: a group of each writer goes into the leg, as long as there are few enough records.
-    // Answers how many more there may be.
-    fn round(&mut self, leg: &mut Vec<Vec<Group>>, left: u64) -> Result<u64, AllocError>
+    // A round: a group of each writer goes into the leg, where there is room for it. Answers whether
+    // one did.
+    fn round(&mut self, leg: &mut Vec<Vec<Group>>, room: &mut Room) -> Result<bool, AllocError>
         ensures { vec_len leg.new ≡ vec_len leg.old }
     {
-        let mut left = left;
+        let mut is_more = false;
         'writers: for writer in 0..leg.len() {
-            if let Some(group) = self.next_of(writer, left) {
-                left = left.saturating_sub(group.len() as u64);
+            if let Some(group) = self.next_of(writer, room) {
+                is_more = true;
                 put_behind(leg, writer, group)?;
             }
         }
-        Ok(left)
+        Ok(is_more)
     }
 
-    // A script of each of so many writers, which have as many records as a leg may.
-    fn part(&mut self, alloc: Global, writers: usize) -> Result<Vec<Vec<Group>>, AllocError>
+    // A script of each of so many writers, for which there is room.
+    fn part(
+        &mut self,
+        alloc: Global,
+        writers: usize,
+        room: Room,
+    ) -> Result<Vec<Vec<Group>>, AllocError>
         ensures { IfOk result (λ s. vec_len s ≡ writers) }
     {
         let mut leg = empty_scripts(alloc, writers)?;
-        let mut left = self.most;
+        let mut room = room;
         'rounds: for _ in 0..u64::MAX {
-            let less = self.round(&mut leg, left)?;
-            if less == left {
+            if !self.round(&mut leg, &mut room)? {
                 break;
             }
-            left = less;
         }
         Ok(leg)
     }
 
-    fn next(&mut self, alloc: Global, writers: usize) -> Result<Vec<Vec<Group>>, AllocError>
+    // The scripts of the next leg, over what stands before it.
+    fn next(
+        &mut self,
+        alloc: Global,
+        writers: usize,
+        held: Held,
+    ) -> Result<Vec<Vec<Group>>, AllocError>
         ensures { IfOk result (λ s. vec_len s ≡ writers) }
     {
         self.is_new = false;
-        if self.most == u64::MAX {
-            self.whole(alloc, writers)
-        } else {
-            self.part(alloc, writers)
+        match self.most {
+            None => self.whole(alloc, writers),
+            Some(most) => {
+                let room = Room {
+                    most,
+                    held,
+                    longest: self.longest,
+                    records: 0,
+                    own: 0,
+                };
+                self.part(alloc, writers, room)
+            }
         }
     }
 
@@ -218,15 +343,62 @@ pub fn lengths_of(alloc: Global, scripts: &[Vec<Group>]) -> Result<Vec<u64>, All
     Ok(lengths)
 }
 
+// The longest of these lengths and of those of the pairs of a page.
+fn longest_on(leaf: &Leaf, longest: u64) -> u64 {
+    let mut longest = longest;
+    for pair in leaf.pairs.as_slice() {
+        longest = longest.max(pair_length(pair.key().len(), pair.value().len()));
+    }
+    longest
+}
+
 impl Session {
     ghost use Rattle.bw_script.specs.Session.{IsReady};
+
+    // The longer of this length and of those of the pairs of a page.
+    fn longest_of(&mut self, page: u32, longest: u64) -> Result<u64, Miss>
+        requires { IsReady self.old holding }
+        ensures { IsReady self.new holding }
+    {
+        let leaf = self.store.page(page)?;
+        Ok(longest_on(&leaf, longest))
+    }
+
+    // The longer of this length and of those of all pairs.
+    fn longest(&mut self, longest: u64) -> Result<u64, Miss>
+        requires { IsReady self.old holding }
+        ensures { IsReady self.new holding }
+    {
+        let mut longest = longest;
+        'pages: for index in 0..self.store.pages() {
+            longest = self.longest_of(index.saturating_add(1), longest)?;
+        }
+        Ok(longest)
+    }
+
+    // What stands: each page was set last in one of the live segments.
+    fn held(&self) -> Held
+        requires { IsReady self.now holding }
+    {
+        let mut bytes: u64 = 0;
+        for i in 0..self.store.live() {
+            bytes = bytes.saturating_add(self.store.needed(i).unwrap_or(0));
+        }
+        Held {
+            pages: u64::from(self.store.pages()),
+            bytes,
+        }
+    }
 
     // Runs the next leg.
     fn go<R: Host>(&mut self, rt: &R, pace: Pace, legs: &mut Legs) -> Result<(), Miss>
         requires { IsReady self.old holding }
         ensures { IsReady self.new holding }
     {
-        let leg = legs.next(rt.alloc(), self.feeds.len())?;
+        if legs.is_new && legs.most.is_some() {
+            legs.longest = self.longest(legs.longest)?;
+        }
+        let leg = legs.next(rt.alloc(), self.feeds.len(), self.held())?;
         let lengths = lengths_of(rt.alloc(), leg.as_slice())?;
         let run = self.drive_tended(rt, leg, pace)??;
         legs.note(lengths.as_slice(), &run);

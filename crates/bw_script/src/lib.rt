@@ -12,6 +12,7 @@
 mod answers;
 mod begun;
 mod calls;
+mod heed;
 mod leases;
 mod legs;
 mod lines;
@@ -30,6 +31,7 @@ mod script;
 mod session;
 mod stop;
 mod system;
+mod tended;
 mod threads;
 mod upgrade;
 mod work;

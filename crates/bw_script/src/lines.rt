@@ -84,9 +84,14 @@ impl<R: Read + Drop> Lines<R> {
         Ok(count > 0)
     }
 
-    /// Whether the next line has to be asked of the reader.
-    pub fn is_drained(&self) -> bool {
-        self.input.buffer().is_empty()
+    /// Whether the next line stands here whole, so that nothing has to be asked of the reader.
+    pub fn holds_line(&self) -> bool {
+        let mut ends = self.input.buffer().iter().filter(|byte| **byte == b'\n');
+        if self.has_rest {
+            // The end of the last line, which is read over before.
+            let _ = ends.next();
+        }
+        ends.next().is_some()
     }
 
     /// The line that was read last, without its end.

@@ -1,7 +1,7 @@
 //! `bwlog print`, `stats`, `picture` and `restore`: what segments hold, for people. Each reads the
 //! segments of a folder, or lines in hex, and changes none of them.
 
-use crate::leases::{desk_of, taken};
+use crate::leases::{LEASES, desk_of, taken};
 use crate::lines::{Lines, READS};
 use crate::miss::Miss;
 use crate::options::Copying;
@@ -32,12 +32,15 @@ pub enum View {
 
 // ---- the segments
 
-/// The segments of a folder, by their leases.
+/// The segments of a folder, by their leases. One that no run could open is refused, as in `scan`.
 fn images_in<R: System>(rt: &R, path: &str) -> Result<Vec<Image>, Miss> {
     let reader = FolderReader::open(rt, path)?;
     let leases = reader.leases(rt)?;
     let mut images = Vec::new(rt.alloc());
     for lease in &leases {
+        if *lease >= LEASES {
+            return Err(Miss::Refused(Refusal::NoLease));
+        }
         images.push(Image {
             lease: Some(*lease),
             bytes: reader.bytes(rt, *lease)?,
@@ -57,11 +60,14 @@ fn next_image<I: Read>(alloc: Global, lines: &mut Lines<&mut I>) -> Result<Optio
     }))
 }
 
-/// A segment of each line.
+/// A segment of each line, up to one for which there is no lease.
 fn images_of<I: Read>(alloc: Global, lines: &mut Lines<&mut I>) -> Result<Vec<Image>, Miss> {
     let mut images = Vec::new(alloc);
     for _ in 0..u64::MAX {
         match next_image(alloc, lines)? {
+            Some(_) if images.len() >= LEASES as usize => {
+                return Err(Miss::Refused(Refusal::NoLease));
+            }
             Some(image) => images.push(image)?,
             None => break,
         }
@@ -93,8 +99,6 @@ struct Judged {
     counts: Counts,
     /// How many bytes the Base of each page would have, from page 1 on.
     lengths: Vec<u64>,
-    first: u64,
-    last: u64,
 }
 
 /// How many segments have no byte.
@@ -135,10 +139,10 @@ fn judged_of(alloc: Global, found: &Recovered, spares: u64) -> Result<Judged, Al
             tail: found.tail,
             pages: u64::from(found.leaves.count()),
             pairs,
+            first: found.first,
+            last: found.last,
         },
         lengths,
-        first: found.first,
-        last: found.last,
     })
 }
 
@@ -266,20 +270,46 @@ fn cut_at(alloc: Global, images: Vec<Image>, frame: u64) -> Result<Vec<Image>, A
     Ok(cut)
 }
 
-/// Writes the segments that have bytes into a folder that has none yet.
+/// Writes the segments that have bytes, but for the first one, into a folder.
+fn write_rest<R: System>(rt: &R, folder: &Folder, images: &[Image]) -> Result<(), FolderFault> {
+    let held = images.iter().filter(|image| !image.bytes.is_empty());
+    for image in held.skip(1) {
+        if let Some(lease) = image.lease {
+            folder.write(rt, lease, image.bytes.as_slice())?;
+        }
+    }
+    Ok(())
+}
+
+/// Writes the segments that have bytes into a folder that has none yet. Some of them may be a store
+/// as of an earlier frame, so the first one is no segment until all others stand: a stop in between
+/// leaves a folder that is refused.
 fn write_all<R: System>(rt: &R, path: &str, images: &[Image]) -> Result<(), FolderFault> {
     let folder = Folder::open(rt, path)?;
     if !folder.leases(rt)?.is_empty() {
         return Err(FolderFault::System(std::io::Error::from(ErrorKind::AlreadyExists)));
     }
-    for image in images {
-        if let Some(lease) = image.lease {
-            if !image.bytes.is_empty() {
-                folder.write(rt, lease, image.bytes.as_slice())?;
-            }
-        }
+    let first = images.iter().find(|image| !image.bytes.is_empty());
+    if let Some(
+        Image {
+            lease: Some(lease),
+            bytes,
+        },
+    ) = first
+    {
+        let begun = folder.write_held_back(rt, *lease, bytes.as_slice())?;
+        write_rest(rt, &folder, images)?;
+        begun.end()?;
     }
     Ok(())
+}
+
+/// A fault of the folder that is read is told with its name, and not with that of the other.
+fn of_source(miss: Miss) -> Miss {
+    match miss {
+        Miss::Ended(Stop::Folder(fault)) => Miss::Ended(Stop::Source(fault)),
+        miss => miss,
+    }
 }
 
 /// What a log was when a frame was its last: its segments, and what recovery says of them. Refused
@@ -287,8 +317,11 @@ fn write_all<R: System>(rt: &R, path: &str, images: &[Image]) -> Result<(), Fold
 /// segments with its blocks were given up since.
 fn restored(alloc: Global, images: Vec<Image>, frame: u64) -> Result<(Vec<Image>, Judged), Miss> {
     let now = judge(alloc, images.as_slice())?;
-    if frame < now.first || frame > now.last {
-        return Err(Miss::Refused(Refusal::Recovery(RecoverCause::Empty)));
+    if frame < now.counts.first || frame > now.counts.last {
+        return Err(Miss::Refused(Refusal::NoFrame {
+            first: now.counts.first,
+            last: now.counts.last,
+        }));
     }
     let survey = Survey::of(alloc, images.as_slice())?;
     let pages = pages_at(&survey, frame, now.counts.pages);
@@ -309,7 +342,7 @@ pub fn restore<R: System, O: Write>(
 ) -> Result<Met, Stop> {
     let found = match images_in(rt, copying.from) {
         Ok(images) => restored(rt.alloc(), images, copying.frame),
-        Err(miss) => Err(miss),
+        Err(miss) => Err(of_source(miss)),
     };
     let (cut, judged) = match found {
         Ok(restored) => restored,
@@ -317,7 +350,7 @@ pub fn restore<R: System, O: Write>(
     };
     write_all(rt, copying.to, cut.as_slice())?;
     let mut out = Printer::new(output);
-    out.named("restored frame ", judged.last);
+    out.named("restored frame ", judged.counts.last);
     out.named(" pages ", judged.counts.pages);
     out.line(" pairs ", judged.counts.pairs);
     out.end()?;

@@ -44,6 +44,22 @@ impl<'a> Mode<'a> {
             Mode::Restore(copying) => Some(copying.to),
         }
     }
+
+    /// The folder that is read.
+    pub fn source(&self) -> Option<&'a str> {
+        match self {
+            Mode::Restore(copying) => Some(copying.from),
+            mode => mode.dir(),
+        }
+    }
+
+    /// The options of a run over a folder.
+    pub fn in_folder(&self) -> Option<(&'a str, Options<'a>)> {
+        match self {
+            Mode::Lines(options, _) | Mode::Threads(options, _) => Some((options.dir?, *options)),
+            _ => None,
+        }
+    }
 }
 
 /// The options of `replay`, and of `serve` and `threads` likewise.
@@ -65,6 +81,12 @@ pub struct Options<'a> {
     pub dir: Option<&'a str>,
     /// Whether a segment that was given up comes back as the last spare.
     pub reuse: bool,
+    /// Up to how many segments a store that is served adds by itself, 2 to 64.
+    pub most: u16,
+    /// Whether `m` was given, and is no default.
+    pub gives_m: bool,
+    /// The same of `f`.
+    pub gives_f: bool,
 }
 
 /// How the writers of `threads` put, and how the store is tended meanwhile.
@@ -93,6 +115,8 @@ const MOST: i64 = 16_777_216;
 enum Kind {
     /// A number from one to another, and what it is where none is given.
     Number(i64, i64, &'static str),
+    /// The same, where the help tells what it is then.
+    Open(i64, i64),
     Folder,
     /// A folder that has to be given.
     Needed,
@@ -124,14 +148,14 @@ const PLACES: Row = Row {
 
 const M: Row = Row {
     name: "m",
-    kind: Kind::Number(MIN_PAIRS as i64, MAX_PAIRS as i64, "4"),
-    help: "the most pairs that a page holds",
+    kind: Kind::Open(MIN_PAIRS as i64, MAX_PAIRS as i64),
+    help: "the most pairs that a page holds [default: 4, in a folder 32]",
 };
 
 const FRAME: Row = Row {
     name: "frame",
-    kind: Kind::Number(MIN_FRAME as i64, MAX_FRAME as i64, "65536"),
-    help: "the most bytes that a frame has",
+    kind: Kind::Open(MIN_FRAME as i64, MAX_FRAME as i64),
+    help: "the most bytes that a frame has [default: 65536]",
 };
 
 const SEGMENTS: Row = Row {
@@ -142,8 +166,14 @@ const SEGMENTS: Row = Row {
 
 const CAPACITY: Row = Row {
     name: "capacity",
-    kind: Kind::Number(LEAST, MOST, "262168"),
-    help: "how many bytes a segment has room for",
+    kind: Kind::Open(LEAST, MOST),
+    help: "how many bytes a segment has room for [default: 262168, in a folder 16777216]",
+};
+
+const MOST_SEGMENTS: Row = Row {
+    name: "most-segments",
+    kind: Kind::Number(2, 64, "64"),
+    help: "up to how many segments are added where one spare is left and a cleaning does not pay",
 };
 
 const STORE_DIR: Row = Row {
@@ -246,22 +276,23 @@ const REPLAY: [Row; 9] = [
 ];
 
 /// The store of a program, which is one writer.
-const SERVE: [Row; 6] = [
+const SERVE: [Row; 7] = [
     Row {
         kind: Kind::Number(1, 4096, "1024"),
         ..PLACES
     },
     Row {
-        kind: Kind::Number(MIN_PAIRS as i64, MAX_PAIRS as i64, "32"),
+        help: "the most pairs that a page holds [default: 32]",
         ..M
     },
     FRAME,
     SEGMENTS,
     Row {
-        kind: Kind::Number(LEAST, MOST, "16777216"),
+        help: "how many bytes a segment has room for [default: 16777216]",
         ..CAPACITY
     },
     STORE_DIR,
+    MOST_SEGMENTS,
 ];
 
 const RESTORE: [Row; 3] = [FROM, TO, AS_OF];
@@ -352,16 +383,34 @@ const ABOUT: &str =
 /// The program's version, and that of the format of its segments.
 const VERSION: &str = "0.1.0, format 2";
 
-fn with_number<'a>(option: Arg<'a>, least: i64, most: i64, default: &'a str) -> Arg<'a> {
+/// What stands for the value of an option of this range, which is the range itself.
+fn range_of(least: i64, most: i64) -> &'static str {
+    match (least, most) {
+        (0, 64) => "0..64",
+        (1, 64) => "1..64",
+        (2, 64) => "2..64",
+        (4, 32) => "4..32",
+        (1, 4096) => "1..4096",
+        (65_536, 262_144) => "65536..262144",
+        (65_560, 16_777_216) => "65560..16777216",
+        (1, 1_000_000_000) => "1..1000000000",
+        _ => "NUMBER",
+    }
+}
+
+fn with_range<'a>(option: Arg<'a>, least: i64, most: i64) -> Arg<'a> {
     option
+        .value_name(range_of(least, most))
         .value_parser(clap::value_parser!(u32).range(least..=most))
-        .default_value(default)
 }
 
 fn option_of<'a>(alloc: Global, row: &Row) -> Arg<'a> {
     let option = Arg::new(alloc, row.name).long(row.name).help(row.help);
     match row.kind {
-        Kind::Number(least, most, default) => with_number(option, least, most, default),
+        Kind::Number(least, most, default) => with_range(option, least, most).default_value(
+            default,
+        ),
+        Kind::Open(least, most) => with_range(option, least, most),
         Kind::Folder => option.value_name("FOLDER"),
         Kind::Needed => option.value_name("FOLDER").required(true),
         Kind::Frame => option
@@ -385,6 +434,7 @@ fn command_of<'a>(alloc: Global) -> Result<Command<'a>, AllocError> {
     let mut command = Command::new(alloc, "bwlog")
         .about(ABOUT)
         .version(VERSION)
+        .bin_name("bwlog")?
         .no_binary_name(true)
         .subcommand_required(true);
     for form in &FORMS {
@@ -405,17 +455,49 @@ fn folder_of<'a>(found: &ArgMatches<'a>, name: &str) -> Option<&'a str> {
     }
 }
 
+/// How large pages and segments are where nothing is said of them.
+#[derive(Clone, Copy)]
+struct Size {
+    m: u16,
+    capacity: u32,
+}
+
+/// In a folder, and for another program.
+const LARGE: Size = Size {
+    m: MAX_PAIRS,
+    capacity: 16_777_216,
+};
+
+/// For a script in memory, which somebody reads.
+const SMALL: Size = Size {
+    m: MIN_PAIRS,
+    capacity: 262_168,
+};
+
+/// The size of a script's pages and segments.
+fn size_of(found: &ArgMatches<'_>) -> Size {
+    match dir_of(found) {
+        Some(_) => LARGE,
+        None => SMALL,
+    }
+}
+
 /// What the words behind `replay`, `serve` or `threads` say; a program is one writer. Each option has a value, its default at least.
-fn found_of<'a>(found: &ArgMatches<'a>) -> Options<'a> {
+fn found_of<'a>(found: &ArgMatches<'a>, size: Size) -> Options<'a> {
+    let m: Option<u16> = found.get_one("m");
+    let f: Option<u32> = found.get_one("frame");
     Options {
         writers: found.get_one("writers").unwrap_or(1),
         places: found.get_one("places").unwrap_or(0),
-        m: found.get_one("m").unwrap_or(0),
-        f: found.get_one("frame").unwrap_or(0),
+        m: m.unwrap_or(size.m),
+        f: f.unwrap_or(MIN_FRAME),
         segments: found.get_one("segments").unwrap_or(0),
-        capacity: found.get_one("capacity").unwrap_or(0),
+        capacity: found.get_one("capacity").unwrap_or(size.capacity),
         dir: dir_of(found),
         reuse: found.get_flag("reuse"),
+        most: found.get_one("most-segments").unwrap_or(0),
+        gives_m: m.is_some(),
+        gives_f: f.is_some(),
     }
 }
 
@@ -468,13 +550,13 @@ fn look_in<'a>(matches: &ArgMatches<'a>) -> Mode<'a> {
 /// The mode that was found, with what its words say.
 fn mode_in<'a>(matches: &ArgMatches<'a>) -> Mode<'a> {
     if let Some(found) = matches.subcommand_matches("replay") {
-        return Mode::Lines(found_of(found), manner_of(found));
+        return Mode::Lines(found_of(found, size_of(found)), manner_of(found));
     }
     if let Some(found) = matches.subcommand_matches("serve") {
-        return Mode::Lines(found_of(found), Manner::Requests);
+        return Mode::Lines(found_of(found, LARGE), Manner::Requests);
     }
     if let Some(found) = matches.subcommand_matches("threads") {
-        return Mode::Threads(found_of(found), pace_of(found));
+        return Mode::Threads(found_of(found, size_of(found)), pace_of(found));
     }
     if let Some(found) = matches.subcommand_matches("restore") {
         return Mode::Restore(copying_of(found));

@@ -1,11 +1,12 @@
 //! The program over any reader and writers: the command line, what it asks for, and the exit
 //! status.
 
+use crate::heed::{tell_above, tell_unheeded};
 use crate::looks::{look, restore};
 use crate::options::{Mode, is_memory, mode_of};
 use crate::print::print;
 use crate::refusal::Refusal;
-use crate::replay::replay;
+use crate::replay::{Manner, replay};
 use crate::scan::{scan, scan_folder};
 use crate::stop::{Met, Stop};
 use crate::system::Host;
@@ -15,13 +16,17 @@ use bw_look::Printer;
 use clap::Error;
 use std::io::{Read, Write};
 
-/// Does what the command line asks for.
-fn start<R: Host, I: Read, O: Write>(
+/// Does what the command line asks for. What the folder does not heed is told before.
+fn start<R: Host, I: Read, O: Write, E: Write>(
     rt: &R,
     mode: &Mode<'_>,
     input: &mut I,
     output: &mut O,
+    errors: &mut E,
 ) -> Result<Met, Stop> {
+    if let Some((dir, options)) = mode.in_folder() {
+        tell_unheeded(rt, dir, &options, errors)?;
+    }
     match mode {
         Mode::Lines(options, manner) => replay(rt, options, *manner, input, output),
         Mode::Threads(options, pace) => threads(rt, options, input, output, *pace),
@@ -32,6 +37,27 @@ fn start<R: Host, I: Read, O: Write>(
         Mode::Upgrade(None) => upgrade(rt, input, output),
         Mode::Upgrade(Some(path)) => upgrade_folder(rt, *path, output),
     }
+}
+
+/// The same; where a folder has more segments than there are leases, it is told which of them can go.
+fn ended<R: Host, I: Read, O: Write, E: Write>(
+    rt: &R,
+    mode: &Mode<'_>,
+    input: &mut I,
+    output: &mut O,
+    errors: &mut E,
+) -> Result<Met, Stop> {
+    let met = start(rt, mode, input, output, errors)?;
+    if met.above {
+        if let Some(dir) = mode.source() {
+            // What was printed stands before it, wherever the two streams end.
+            if output.flush().is_err() {
+                return Err(Stop::Output);
+            }
+            tell_above(rt, dir, errors)?;
+        }
+    }
+    Ok(met)
 }
 
 /// Prints why words are no command line.
@@ -45,8 +71,27 @@ fn usage<E: Write>(error: &Error, errors: &mut E) -> Stop {
     }
 }
 
+/// The folders of a run.
+#[derive(Clone, Copy)]
+struct Folders<'a> {
+    /// The one that is opened.
+    dir: &'a str,
+    /// The one that is read.
+    source: &'a str,
+}
+
+impl<'a> Folders<'a> {
+    /// Those of a mode. Where it has none, none is told.
+    fn of(mode: &Mode<'a>) -> Folders<'a> {
+        Folders {
+            dir: mode.dir().unwrap_or(""),
+            source: mode.source().unwrap_or(""),
+        }
+    }
+}
+
 /// Says why a run ended at a fault, without its input, or without its folder.
-fn tell_stop<E: Write>(errors: &mut E, dir: &str, stop: Stop) -> Result<(), Stop> {
+fn tell_stop<E: Write>(errors: &mut E, folders: Folders<'_>, stop: Stop) -> Result<(), Stop> {
     let mut out = Printer::new(errors);
     match stop {
         Stop::Fault(number, fault) => {
@@ -54,7 +99,11 @@ fn tell_stop<E: Write>(errors: &mut E, dir: &str, stop: Stop) -> Result<(), Stop
             out.line(": ", fault);
         }
         Stop::Folder(fault) => {
-            out.named("folder ", dir);
+            out.named("folder ", folders.dir);
+            out.line(": ", fault);
+        }
+        Stop::Source(fault) => {
+            out.named("folder ", folders.source);
             out.line(": ", fault);
         }
         _ => out.text(b"input failed\n"),
@@ -63,30 +112,57 @@ fn tell_stop<E: Write>(errors: &mut E, dir: &str, stop: Stop) -> Result<(), Stop
     Ok(())
 }
 
+/// What to do where the log had no room. A mode tells it whose lines can make some.
+fn advice_of(mode: &Mode<'_>) -> Option<&'static [u8]> {
+    match mode {
+        Mode::Lines(_, Manner::Requests) => None,
+        Mode::Lines(options, _) if options.reuse => Some(
+            b"the log is full: `clean` gives up its oldest segment, whose room is a spare again\n",
+        ),
+        Mode::Lines(..) => Some(
+            b"the log is full: `clean` gives up its oldest segment, and `add` adds a new one\n",
+        ),
+        _ => None,
+    }
+}
+
 /// Says what to do where the log had no room, behind what was printed.
-fn hint<O: Write, E: Write>(output: &mut O, errors: &mut E) -> Result<(), Stop> {
+fn hint<O: Write, E: Write>(output: &mut O, errors: &mut E, advice: &[u8]) -> Result<(), Stop> {
     if output.flush().is_err() {
         return Err(Stop::Output);
     }
     let mut out = Printer::new(errors);
-    out.text(b"the log is full: `clean` gives up its oldest segment, and `add` adds a new one\n");
+    out.text(advice);
     out.end()?;
     Ok(())
+}
+
+/// The exit status of a run that came to its end, where it says what to do in a full log.
+fn status_of_end<O: Write, E: Write>(
+    met: Met,
+    advice: Option<&[u8]>,
+    output: &mut O,
+    errors: &mut E,
+) -> u8 {
+    match advice {
+        Some(advice) if met.full => match hint(output, errors, advice) {
+            Ok(()) => 4,
+            Err(_) => 6,
+        },
+        _ => { if met.refusal { 4 } else { 0 } }
+    }
 }
 
 /// Prints what an end has to say, and gives its exit status.
 fn status_of<O: Write, E: Write>(
     end: Result<Met, Stop>,
-    dir: &str,
+    folders: Folders<'_>,
+    advice: Option<&[u8]>,
     output: &mut O,
     errors: &mut E,
 ) -> u8 {
     match end {
-        Ok(met) if met.full => match hint(output, errors) {
-            Ok(()) => 4,
-            Err(_) => 6,
-        },
-        Ok(met) => { if met.refusal { 4 } else { 0 } }
+        Ok(met) => status_of_end(met, advice, output, errors),
         Err(Stop::Usage) => 2,
         Err(Stop::Output) => 6,
         Err(Stop::NoMemory) => match print(output, "", Refusal::NO_MEMORY) {
@@ -95,7 +171,7 @@ fn status_of<O: Write, E: Write>(
         },
         Err(stop) => {
             // What earlier lines printed stands before it, wherever the two streams end.
-            let is_told = output.flush().is_ok() && tell_stop(errors, dir, stop).is_ok();
+            let is_told = output.flush().is_ok() && tell_stop(errors, folders, stop).is_ok();
             match stop {
                 Stop::Fault(..) if is_told => 3,
                 _ => 6,
@@ -117,10 +193,16 @@ pub fn run<R: Host, I: Read, O: Write, E: Write>(
 ) -> u8 {
     let status = match mode_of(rt.alloc(), words) {
         Ok(mode) => {
-            let end = start(rt, &mode, input, output);
-            status_of(end, mode.dir().unwrap_or(""), output, errors)
+            let end = ended(rt, &mode, input, output, errors);
+            status_of(end, Folders::of(&mode), advice_of(&mode), output, errors)
         }
-        Err(error) => status_of(Err(usage(&error, errors)), "", output, errors),
+        Err(error) => {
+            let none = Folders {
+                dir: "",
+                source: "",
+            };
+            status_of(Err(usage(&error, errors)), none, None, output, errors)
+        }
     };
     let is_printed = output.flush().is_ok();
     let is_told = errors.flush().is_ok();

@@ -15,6 +15,7 @@ use crate::script::{Command, Fault, LONGEST, parse};
 use crate::session::Session;
 use crate::stop::{Met, Stop, missed, no_input, refuse};
 use crate::system::System;
+use crate::tended::{Served, Tending};
 use crate::work::{Work, do_work};
 use bw_home::Made;
 use std::io::{Read, Write};
@@ -48,8 +49,11 @@ enum Done {
     End,
     /// It was answered.
     Answered,
-    /// It asks for a spare, which was made.
+    /// It asks for a spare, which was made, and is answered once that was added.
     Add(Made),
+    /// It is answered, or is asked again: a spare was made, and is to be added, of which no line
+    /// tells.
+    Room(Made),
 }
 
 /// What came of a line that has this answer.
@@ -58,6 +62,24 @@ fn done_of(answer: Answer) -> Done {
         Answer::Spare(made) => Done::Add(made),
         _ => Done::Answered,
     }
+}
+
+/// What comes of room that is made behind an answer. The line is answered already, so a spare that
+/// cannot be made is none: `stats` tells it.
+fn done_of_room(room: Result<Option<Made>, Miss>) -> Result<Done, Miss> {
+    match room {
+        Ok(Some(made)) => Ok(Done::Room(made)),
+        Err(Miss::Ended(stop)) => Err(Miss::Ended(stop)),
+        _ => Ok(Done::Answered),
+    }
+}
+
+/// Writes out what was printed.
+fn write_out<O: Write>(output: &mut O) -> Result<(), Stop> {
+    if output.flush().is_err() {
+        return Err(Stop::Output);
+    }
+    Ok(())
 }
 
 /// What comes of a script and of its next line: what was met, or what ends it.
@@ -94,16 +116,35 @@ struct Script<'a, I> {
     options: &'a Options<'a>,
     manner: Manner,
     lines: Lines<&'a mut I>,
+    /// How a store that is served is tended.
+    tending: Tending,
+    /// Whether the last line, a request, is asked again.
+    is_again: bool,
+    /// Whether the last line is answered once its spare was added.
+    adds: bool,
+    /// Whether the answer of the last line is a receipt.
+    is_receipt: bool,
     /// What was met so far, or what ends it.
     end: Result<Met, Stop>,
 }
 
 impl<I: Read> Script<'_, I> {
-    /// What the next line asks for as a request.
-    fn next_request(&mut self) -> Result<Asked, Miss> {
-        if !self.lines.read_line().map_err(no_input)? {
+    /// Reads the next line, and says whether there was one. Whoever writes the lines may wait for
+    /// an answer before the next one ends: so what was printed is written out before more of the
+    /// input is asked for.
+    fn read_line<O: Write>(&mut self, output: &mut O) -> Result<bool, Miss> {
+        if !self.lines.holds_line() {
+            write_out(output)?;
+        }
+        Ok(self.lines.read_line().map_err(no_input)?)
+    }
+
+    /// What the next line asks for as a request, or the last one again.
+    fn next_request<O: Write>(&mut self, output: &mut O) -> Result<Asked, Miss> {
+        if !self.is_again && !self.read_line(output)? {
             return Ok(Asked::Nothing);
         }
+        self.is_again = false;
         match parse_request(self.lines.line()) {
             Ok(request) => Ok(Asked::Request(request)),
             Err(fault) => Ok(Asked::NoRequest(fault)),
@@ -111,9 +152,9 @@ impl<I: Read> Script<'_, I> {
     }
 
     /// The next command. Lines that have none are skipped.
-    fn next_command(&mut self) -> Result<Asked, Miss> {
+    fn next_command<O: Write>(&mut self, output: &mut O) -> Result<Asked, Miss> {
         for _ in 0..u64::MAX {
-            if !self.lines.read_line().map_err(no_input)? {
+            if !self.read_line(output)? {
                 break;
             }
             match parse(self.lines.line(), self.options.writers) {
@@ -126,10 +167,10 @@ impl<I: Read> Script<'_, I> {
     }
 
     /// What the next line asks for in this manner.
-    fn next_asked(&mut self) -> Result<Asked, Miss> {
+    fn next_asked<O: Write>(&mut self, output: &mut O) -> Result<Asked, Miss> {
         match self.manner {
-            Manner::Script | Manner::Taking => self.next_command(),
-            Manner::Requests => self.next_request(),
+            Manner::Script | Manner::Taking => self.next_command(output),
+            Manner::Requests => self.next_request(output),
         }
     }
 
@@ -171,10 +212,10 @@ impl<I: Read> Script<'_, I> {
         Ok(done_of(answer))
     }
 
-    /// Does what a request asks for. What stands in place of a segment that was given up is only
-    /// made.
+    /// Does what a request asks for, and makes room behind it where one spare is left. A spare is
+    /// only made.
     fn do_request<R: System, O: Write>(
-        &self,
+        &mut self,
         rt: &R,
         session: &mut Session,
         request: Request,
@@ -183,17 +224,22 @@ impl<I: Read> Script<'_, I> {
         requires { IsReady session.old holding }
         ensures { IsReady session.new holding }
     {
-        let answer = session.answer(rt, request)?;
+        let answer = match session.serve(rt, request, &mut self.tending)? {
+            Served::Answer(Answer::Spare(made)) => return Ok(Done::Add(made)),
+            Served::Answer(answer) => answer,
+            Served::Room(made) => {
+                self.is_again = true;
+                return Ok(Done::Room(made));
+            }
+        };
         tell(rt, session, output, &answer)?;
-        if !matches!(answer, Answer::Cleaned(_)) {
-            return Ok(Done::Answered);
+        if self.is_receipt {
+            write_out(output)?;
         }
-        // The line is answered already, so a spare that cannot be made is none: `stats` tells it.
-        match session.spare(rt, u64::from(self.options.capacity)) {
-            Ok(Answer::Spare(made)) => Ok(Done::Add(made)),
-            Err(Miss::Ended(stop)) => Err(Miss::Ended(stop)),
-            _ => Ok(Done::Answered),
+        if matches!(answer, Answer::Cleaned(_)) {
+            return done_of_room(session.place(rt, &self.tending));
         }
+        done_of_room(session.look(rt, &mut self.tending))
     }
 
     /// Does what the next line asks for. What is no request is answered too.
@@ -206,17 +252,20 @@ impl<I: Read> Script<'_, I> {
         requires { IsReady session.old holding }
         ensures { IsReady session.new holding }
     {
-        // Whoever writes the lines may wait for an answer before the next one.
-        if self.lines.is_drained() && output.flush().is_err() {
-            return Err(Miss::from(Stop::Output));
-        }
-        match self.next_asked()? {
-            Asked::Command(command) => self.do_command(rt, session, command, output),
+        self.is_receipt = false;
+        match self.next_asked(output)? {
+            Asked::Command(command) => {
+                self.is_receipt = command.is_receipt();
+                self.do_command(rt, session, command, output)
+            }
             Asked::Request(Request::Quit) => {
                 print(output, "", "bye")?;
                 Ok(Done::End)
             }
-            Asked::Request(request) => self.do_request(rt, session, request, output),
+            Asked::Request(request) => {
+                self.is_receipt = request.is_receipt();
+                self.do_request(rt, session, request, output)
+            }
             Asked::NoRequest(fault) => {
                 print(output, "fault ", fault)?;
                 Ok(Done::Answered)
@@ -241,13 +290,30 @@ impl<I: Read> Script<'_, I> {
             }
             let answer = match self.do_next(rt, session, output) {
                 Ok(Done::End) => return None,
-                Ok(Done::Add(made)) => return Some(made),
+                Ok(Done::Add(made)) => return Some(self.handed_out(made, true)),
+                Ok(Done::Room(made)) => return Some(self.handed_out(made, false)),
                 Ok(Done::Answered) => Ok(Met::NOTHING),
                 Err(miss) => missed(output, self.lines.number(), miss),
             };
-            self.end = joined(self.end, answer);
+            self.note(answer, output);
         }
         None
+    }
+
+    /// The spare, of which the line tells once it was added, or does not.
+    fn handed_out(&mut self, made: Made, adds: bool) -> Made {
+        self.adds = adds;
+        made
+    }
+
+    /// Notes what came of a line. A receipt is written out at once.
+    fn note<O: Write>(&mut self, answer: Result<Met, Stop>, output: &mut O) {
+        self.end = joined(self.end, answer);
+        if self.is_receipt && self.end.is_ok() {
+            if let Err(stop) = write_out(output) {
+                self.end = Err(stop);
+            }
+        }
     }
 }
 
@@ -270,9 +336,16 @@ impl<R: System, I: Read, O: Write> Work<R, O> for Script<'_, I> {
     }
 
     fn added(&mut self, lease: u32, added: Result<(), Refusal>, output: &mut O) {
-        // A request has its answer before.
-        if self.manner != Manner::Requests {
-            self.end = joined(self.end, tell_added(lease, added, output));
+        if self.adds {
+            let answer = tell_added(lease, added, output);
+            self.note(answer, output);
+            return;
+        }
+        // A request that is asked again for this room would be so for ever.
+        if let (true, Err(refusal)) = (self.is_again, added) {
+            self.is_again = false;
+            let answer = refuse(output, refusal);
+            self.note(answer, output);
         }
     }
 
@@ -294,9 +367,11 @@ pub fn replay<R: System, I: Read, O: Write>(
         options,
         manner,
         lines: Lines::new(rt.alloc(), input, READS, LONGEST).map_err(no_input)?,
+        tending: Tending::new(options),
+        is_again: false,
+        adds: false,
+        is_receipt: false,
         end: Ok(Met::NOTHING),
     };
-    let met = do_work(rt, options, &mut script, output)?;
-    let full = met.full && manner != Manner::Requests;
-    Ok(Met { full, ..met })
+    do_work(rt, options, &mut script, output)
 }

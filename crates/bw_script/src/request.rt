@@ -33,8 +33,28 @@ pub enum Request {
     Stats,
     /// The oldest segment is given up, and a spare stands for it.
     Clean,
+    /// A spare is added.
+    Add,
     /// The run ends.
     Quit,
+}
+
+impl Request {
+    /// Whether its answer is a receipt, for which a program may wait before it tells others.
+    pub fn is_receipt(&self) -> bool {
+        matches!(
+            self,
+            Request::Flush | Request::Settle | Request::Clean | Request::Durable
+        )
+    }
+
+    /// Whether what was accepted before is taken first, so that a program reads what it put.
+    pub fn takes(&self) -> bool {
+        !matches!(
+            self,
+            Request::Durable | Request::Stats | Request::Clean | Request::Add | Request::Quit
+        )
+    }
 }
 
 /// The request of a name that takes one word.
@@ -58,6 +78,7 @@ fn plain_of(name: &str) -> Option<Request> {
         "durable" => Some(Request::Durable),
         "stats" => Some(Request::Stats),
         "clean" => Some(Request::Clean),
+        "add" => Some(Request::Add),
         "quit" => Some(Request::Quit),
         _ => None,
     }

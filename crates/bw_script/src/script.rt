@@ -68,6 +68,13 @@ pub enum Command {
     Dump(u32),
 }
 
+impl Command {
+    /// Whether its answer is a receipt, for which whoever writes the lines may wait.
+    pub fn is_receipt(&self) -> bool {
+        matches!(self, Command::Flush | Command::Settle | Command::Clean)
+    }
+}
+
 /// A number of decimal digits.
 pub fn number_of(word: &str) -> Result<u32, Fault> {
     if !word.bytes().all(|byte| byte.is_ascii_digit()) {

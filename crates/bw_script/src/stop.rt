@@ -25,6 +25,8 @@ pub enum Stop {
     Output,
     /// The folder of the segments could not be opened, read or written.
     Folder(FolderFault),
+    /// The same of the folder that is read, where another one is written.
+    Source(FolderFault),
 }
 
 impl From<AllocError> for Stop {
@@ -61,6 +63,8 @@ pub struct Met {
     pub refusal: bool,
     /// The log had no room.
     pub full: bool,
+    /// There are more segments than leases.
+    pub above: bool,
 }
 
 impl Met {
@@ -68,6 +72,7 @@ impl Met {
     pub const NOTHING: Met = Met {
         refusal: false,
         full: false,
+        above: false,
     };
 
     /// What both have met.
@@ -75,6 +80,7 @@ impl Met {
         Met {
             refusal: self.refusal | other.refusal,
             full: self.full | other.full,
+            above: self.above | other.above,
         }
     }
 }
@@ -98,6 +104,7 @@ pub fn refuse<O: Write>(output: &mut O, refusal: Refusal) -> Result<Met, Stop> {
     Ok(Met {
         refusal: true,
         full: matches!(refusal, Refusal::Store(StoreFault::NoSegment)),
+        above: matches!(refusal, Refusal::NoLease),
     })
 }
 

@@ -96,7 +96,7 @@ fn print_run<O: Write>(
     out.end()?;
     Ok(Met {
         refusal: gave_up,
-        full: false,
+        ..Met::NOTHING
     })
 }
 

@@ -2,6 +2,7 @@
 //! stays as it is, and the room of segments that are given up comes back.
 
 mod again;
+mod hindered;
 mod memory;
 mod refused;
 

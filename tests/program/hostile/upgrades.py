@@ -1,11 +1,12 @@
 """Logs of both formats that are upgraded: what is printed, what the folder holds then, and what a stop leaves."""
 
+import os
 import shutil
 
 from hostile.folders import laid, looked_at
 from hostile.program import Otherwise, held_in
-from hostile.reader import Base, box_of, is_part, log_of, pages_told, set_last, told
-from hostile.segments import aged_log, block_bytes, drawn_segments, frame_bytes, segment_bytes
+from hostile.reader import Base, Delta, Split, box_of, is_part, log_of, pages_told, set_last, told
+from hostile.segments import Parts, aged_log, block_bytes, drawn_segments, frame_bytes, linked, segment_bytes
 
 MOST = (1 << 64) - 1
 # The spares behind lines, and how many bytes the segment of a line has room for, or a new one.
@@ -67,8 +68,7 @@ def in_lines(program, segments):
     if standing is not None:
         wanted += "".join("dump %s\n" % it.hex() for it in standing) + "".join(it + "\n" for it in pages_told(log_of(segments).pages))
     answer = program.run(["upgrade"], "".join(it.hex() + "\n" for it in segments).encode())
-    is_full = first == "refused E5 NoSegment\n"
-    if answer[:2] != (4 if standing is None else 0, wanted.encode()) or (answer[2] != b"") != is_full:
+    if answer != (4 if standing is None else 0, wanted.encode(), b""):
         raise Otherwise("upgrade answers %r, and the reader %r" % (answer, wanted))
     return first.split(" ")[0 if standing is not None else 1]
 
@@ -133,3 +133,66 @@ def upgrades(program, runs, place, draw):
     found = in_a_folder(program, segments, place, draw)
     shutil.rmtree(place)
     return found
+
+
+def a_full_log_of_lines(program, _folder, _segments, _draw):
+    """Pages that the four spares behind lines have no room for are refused, and nothing is told of lines that could make room: there are none."""
+    keys, value, frames, made = [b"k%06d" % number for number in range(9000)], b"v" * 128, [], []
+    for page, at in enumerate(range(0, len(keys), 3), 1):
+        some = [(key, value) for key in keys[at : at + 3]]
+        made.append(Base(1, b"", some) if page == 1 else Delta(page - 1, (1, 0), some))
+        if page > 1:
+            made.append(Split(page - 1, (1, 0), some[0][0], page, some))
+    size = 0
+    for block in made:
+        length = len(block_bytes(block, 1))
+        if not frames or size + length > 65536:
+            frames.append([len(frames) + 1, []])
+            size = 20
+        frames[-1][1].append(block)
+        size += length
+    half = len(frames) // 3
+    parts = [Parts(number + 1, 4, 65536, frames[at : at + half], version=1) for number, at in enumerate(range(0, len(frames), half))]
+    linked(parts)
+    segments = [part.bytes() for part in parts]
+    if upgraded(segments, SPARES)[0] != "refused E5 NoSegment\n":
+        raise Otherwise("the reader answers %r" % (upgraded(segments, SPARES)[0],))
+    in_lines(program, segments)
+
+
+# What is told of an empty file for which no run has a lease.
+ABOVE = "folder %s: segment-0064.bw is empty, and no run opens more than 64 segments: remove it\n"
+
+
+def a_page_a_segment(count):
+    """So many segments of format 1: the first sets page 1, and each other one cuts the page that was made last, so each is the last to set one."""
+    keys = [b"k%02d" % number for number in range(count)]
+    parts = [Parts(1, 4, 65536, [[1, [Base(1, b"", []), Delta(1, (1, 0), [(keys[0], b"0")])]]], version=1)]
+    for page, key in enumerate(keys[1:], 1):
+        blocks = [Delta(page, (1, 0), [(key, b"%d" % page)]), Split(page, (1, 0), key, page + 1, [(key, b"%d" % page)])]
+        parts.append(Parts(page + 1, 4, 65536, [[page + 1, blocks]], version=1))
+    linked(parts)
+    return [part.bytes() for part in parts]
+
+
+def no_lease_is_left(program, folder, _segments, _draw):
+    """An upgrade for whose frame there is no lease makes no file. One that an earlier program made is told by its name, and hinders nobody
+    once it is gone."""
+    segments = a_page_a_segment(64)
+    laid(folder, segments)
+    before = held_in(folder)
+    answer = program.run(["upgrade", "--dir", folder])
+    if answer != (4, b"refused E20 NoLease\n", b"") or held_in(folder) != before:
+        raise Otherwise("an upgrade without a lease answers %r, and the folder has %s" % (answer, sorted(held_in(folder))))
+    above = os.path.join(folder, "segment-0064.bw")
+    with open(above, "wb"):
+        pass
+    modes = [["replay"], ["serve"], ["threads"], ["scan"], ["print"], ["stats"], ["picture"], ["upgrade"], ["restore", "--to", folder + "-to", "--frame", "9"]]
+    for words in modes:
+        answer = program.run([*words, "--dir", folder])
+        if answer != (4, b"refused E20 NoLease\n", (ABOVE % folder).encode()):
+            raise Otherwise("%s over a file without a lease answers %r" % (words, answer))
+    os.remove(above)
+    answer = program.run(["scan", "--dir", folder])
+    if answer != (0, told(segments).encode(), b""):
+        raise Otherwise("scan of 64 segments answers %r" % (answer,))

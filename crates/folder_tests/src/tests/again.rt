@@ -11,7 +11,7 @@ use bw_home::{Home, Legs, Options, System, with_store, with_store_in_legs};
 use std::fs;
 use std::test::Fail;
 
-const SMALL: Options = Options {
+pub(super) const SMALL: Options = Options {
     writers: 1,
     places: 8,
     readers: 1,
