@@ -41,18 +41,30 @@ impl Display for HomeFault {
 }
 
 impl From<AllocError> for HomeFault {
+    ghost use Rattle.bw_home.specs.Renewing.{IsOfSite};
+
+    ghost from_gives = { λ _ fault. IsOfSite fault };
+
     fn from(_error: AllocError) -> HomeFault {
         HomeFault::NoMemory
     }
 }
 
 impl<T: Drop> From<AllocFailed<T>> for HomeFault {
+    ghost use Rattle.bw_home.specs.Renewing.{IsOfSite};
+
+    ghost from_gives = { λ _ fault. IsOfSite fault };
+
     fn from(_error: AllocFailed<T>) -> HomeFault {
         HomeFault::NoMemory
     }
 }
 
 impl From<FolderFault> for HomeFault {
+    ghost use Rattle.bw_home.specs.Renewing.{IsOfSite};
+
+    ghost from_gives = { λ _ fault. IsOfSite fault };
+
     fn from(fault: FolderFault) -> HomeFault {
         match fault {
             FolderFault::NoMemory => HomeFault::NoMemory,
@@ -62,6 +74,10 @@ impl From<FolderFault> for HomeFault {
 }
 
 impl From<NotMade> for HomeFault {
+    ghost use Rattle.bw_home.specs.Renewing.{IsOfSite};
+
+    ghost from_gives = { λ _ fault. IsOfSite fault };
+
     fn from(fault: NotMade) -> HomeFault {
         match fault {
             NotMade::NoMemory => HomeFault::NoMemory,
@@ -71,6 +87,10 @@ impl From<NotMade> for HomeFault {
 }
 
 impl From<NotTaken> for HomeFault {
+    ghost use Rattle.bw_home.specs.Renewing.{IsOfSite};
+
+    ghost from_gives = { λ _ fault. IsOfSite fault };
+
     fn from(fault: NotTaken) -> HomeFault {
         match fault {
             NotTaken::NoMemory => HomeFault::NoMemory,
@@ -89,6 +109,11 @@ impl From<RecoverCause> for HomeFault {
 }
 
 impl From<StoreFault> for HomeFault {
+    ghost use Rattle.std.specs.Prelude.{◌≡◌};
+    ghost use Rattle.bw_home.specs.Renewing.{fault_of_store};
+
+    ghost from_gives = { λ cause fault. fault ≡ fault_of_store cause };
+
     fn from(fault: StoreFault) -> HomeFault {
         match fault {
             StoreFault::NoMemory => HomeFault::NoMemory,

@@ -1,24 +1,27 @@
 //! A store in a folder, with the feeds of its writers.
 
-ghost use Rattle.std.specs.Prelude.{◌≡◌, ◌<◌, ◌≤◌, Ok, length, map, IfOk, IfErr, OnOk, OnErr, MatchResult};
+ghost use Rattle.std.specs.Prelude.{◌≡◌, ◌<◌, ◌≤◌, ℕ, Some, Err, true, length, map, IfOk, IfErr, OnOk, OnErr, MatchResult};
 ghost use Rattle.std.specs.FinMap as finite;
 ghost use Rattle.std.specs.List.{AllByRecursion};
 ghost use Rattle.bw_page.specs.Ahead.{IsFirst, IsStretch};
 ghost use Rattle.bw_page.specs.Leaves.{pages, plain};
 ghost use Rattle.bw_page.specs.Standing.{Stand};
-ghost use Rattle.bw_log.specs.Contents.{counted};
+ghost use Rattle.bw_log.specs.Contents.{counted, image, limits_of};
+ghost use Rattle.bw_log.specs.Segments.{AreLive};
 ghost use Rattle.bw_ring.specs.Ends.{accepted, ring_of_feed};
 ghost use Rattle.bw_care.specs.Found.{IsRecovered};
 ghost use Rattle.bw_versions.specs.Entries.{records};
+ghost use Rattle.bw_versions.specs.Posted.{posted_of};
 ghost use Rattle.bw_store.specs.Faults.{FlushAnswers, flush_refusal};
 ghost use Rattle.bw_store.specs.Following.{Continues, Follows, HasBoxes, RefusedAfter, TookInTurn, Turned, groups_since};
 ghost use Rattle.bw_store.specs.History.{streams};
-ghost use Rattle.bw_store.specs.Kept.{EachCutStands, TellsShare};
+ghost use Rattle.bw_store.specs.Kept.{EachCutStands, TellsShare, start_of};
 ghost use Rattle.bw_store.specs.Lanes.{AreDry};
 ghost use Rattle.bw_store.specs.Reading.{HasRead};
 ghost use Rattle.bw_store.specs.Settled.{IsAllCut, IsSettled};
-ghost use Rattle.bw_store.specs.Showing.{CleanShows, FlushShows};
+ghost use Rattle.bw_store.specs.Showing.{FlushShows, SettleRefuses, Settles};
 ghost use Rattle.bw_home.specs.Putting.{Added};
+ghost use Rattle.bw_home.specs.Renewing.{HomeCleans, IsOfSite};
 
 use crate::fault::{HomeFault, NotPut};
 use crate::options::Options;
@@ -61,7 +64,7 @@ fn put_at(feeds: &mut Vec<Feed>, writer: usize, item: Record) -> Result<(), Full
 }
 
 impl Home {
-    ghost use Rattle.bw_store.specs.Views.{away_in, kept_by, IsSound};
+    ghost use Rattle.bw_store.specs.Views.{away_in, kept_by, noted_of, IsSound};
     ghost use Rattle.bw_home.specs.Ready.{kept_in, IsReady, IsReadyBeside};
 
     // A store, its feeds, and where its segments stand, of which new ones have this capacity.
@@ -208,21 +211,44 @@ impl Home {
     pub fn settle<R: Wait>(&mut self, rt: &R) -> Result<u64, StoreFault>
         requires { IsReady self.old holding }
         ensures ready { IsReady self.new holding }
+        ensures ends { map ring_of_feed self.new.feeds.items
+            ≡ map ring_of_feed self.old.feeds.items }
         ensures accepted { map accepted self.new.feeds.items
             ≡ map accepted self.old.feeds.items }
 
         ensures exactly { OnOk result
             (streams 0 (length self.new.feeds.items) (kept_in self.new holding).entries
             ≡ map accepted self.new.feeds.items) }
+        ensures writers { OnOk result
+            (AllByRecursion (λ e. e.writer < length self.new.feeds.items)
+            (kept_in self.new holding).entries) }
         ensures last_cut { OnOk result (IsAllCut (kept_in self.new holding)) }
         ensures shares { OnOk result
             (AllByRecursion (λ f. (kept_in self.new holding).before < f.number
             → TellsShare (kept_in self.new holding) f) (counted (kept_in self.new holding).log)) }
+        ensures whole { OnOk result ((old_f : ℕ)
+            × AreLive (limits_of (image (kept_in self.new holding).log) old_f)
+            (kept_in self.new holding).log.number
+            (image (kept_in self.new holding).log).bytes) }
         ensures pages { OnOk result
             (Stand (kept_in self.new holding).log.m (counted (kept_in self.new holding).log)
             (pages (kept_in self.new holding).log.m (kept_in self.new holding).start
             (records (kept_in self.new holding).entries))) }
         ensures answer { IfOk result (λ n. n ≡ length (kept_in self.new holding).entries) }
+
+        ensures refused { IfErr result (λ cause. SettleRefuses (kept_in self.old holding)
+            self.new.store.intake.lanes.items (away_in self.new.store) cause
+            (kept_in self.new holding)) }
+        ensures settles { OnOk result
+            (Settles (kept_in self.old holding) (kept_in self.new holding)) }
+        ensures failed { (kept_in self.old holding).log.is_failed ≡ true
+            → result ≡ Err StoreFault.Failed }
+        ensures published { OnOk result (posted_of (kept_in self.new holding).versions.published
+            ≡ Some (record {
+              start = start_of (kept_in self.new holding);
+              entries = (kept_in self.new holding).entries;
+            })) }
+        ensures noted { noted_of self.new.store ≡ noted_of self.old.store }
 
         ensures each_cut { EachCutStands (kept_in self.new holding) }
         ensures follows { Follows (kept_in self.old holding) (kept_in self.new holding) }
@@ -284,7 +310,8 @@ impl Home {
     /// Gives up the oldest segment, and empties its file. A new segment over a file without bytes
     /// stands in its place: a spare from the next leg on, or once the folder is opened again.
     ///
-    /// Refused `Store`, and `NoMemory`, as `Store::clean` is, which says what stands then.
+    /// Refused `Store`, and `NoMemory`, as `Store::clean` is, which says what stands then. What the
+    /// store says of its cleaning holds here, word for word.
     /// `Folder`, and `NoMemory` too, where the file was not emptied or the new segment not made:
     /// the old one is given up all the same. The next call does that first, and gives up no other
     /// before.
@@ -292,8 +319,8 @@ impl Home {
         requires { IsReady self.old holding }
         ensures ready { IsReady self.new holding }
         ensures feeds { self.new.feeds ≡ self.old.feeds }
-        ensures leaves { IfOk result (λ cleaned.
-            CleanShows (kept_in self.old holding) (Ok cleaned) (kept_in self.new holding)) }
+        ensures cleans { HomeCleans (kept_in self.old holding) (noted_of self.old.store) result
+            (kept_in self.new holding) (noted_of self.new.store) }
         ensures each_cut { EachCutStands (kept_in self.new holding) }
         ensures follows { Continues (kept_in self.old holding) (kept_in self.new holding) }
     {
@@ -311,6 +338,8 @@ impl Home {
         ensures ready { IsReady self.new holding }
         ensures feeds { self.new.feeds ≡ self.old.feeds }
         ensures same { kept_in self.new holding ≡ kept_in self.old holding }
+        ensures noted { noted_of self.new.store ≡ noted_of self.old.store }
+        ensures refused { IfErr result IsOfSite }
     {
         if let Some(lease) = self.given_up {
             self.site.empty(rt, lease)?;

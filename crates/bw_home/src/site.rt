@@ -1,5 +1,8 @@
 //! Where the segments of a store stand: in memory, or in the files of a folder.
 
+ghost use Rattle.std.specs.Prelude.{IfErr};
+ghost use Rattle.bw_home.specs.Renewing.{IsOfSite};
+
 use crate::fault::HomeFault;
 use crate::system::System;
 use bw_device::{Desk, Lease, MemSegment, Segment};
@@ -55,18 +58,24 @@ pub(crate) fn count_over(leases: &[u32], least: u32) -> u32 {
 }
 
 /// A lease of the desk, the least that is free.
-pub(crate) fn taken(desk: &mut Desk) -> Result<Lease, HomeFault> {
+pub(crate) fn taken(desk: &mut Desk) -> Result<Lease, HomeFault>
+    ensures { IfErr result IsOfSite }
+{
     Ok(desk.take()?)
 }
 
-fn in_memory(alloc: Global, lease: Lease, capacity: u64) -> Result<Made, HomeFault> {
+fn in_memory(alloc: Global, lease: Lease, capacity: u64) -> Result<Made, HomeFault>
+    ensures { IfErr result IsOfSite }
+{
     match MemSegment::new(alloc, lease, capacity) {
         Ok(segment) => Ok(Made::Memory(Box::new(alloc, segment)?)),
         Err(refused) => Err(HomeFault::from(refused.cause)),
     }
 }
 
-fn in_file(alloc: Global, opened: Result<FileSegment, NotOpened>) -> Result<Made, HomeFault> {
+fn in_file(alloc: Global, opened: Result<FileSegment, NotOpened>) -> Result<Made, HomeFault>
+    ensures { IfErr result IsOfSite }
+{
     match opened {
         Ok(segment) => Ok(Made::File(Box::new(alloc, segment)?)),
         Err(refused) => Err(HomeFault::from(refused.cause)),
@@ -117,7 +126,9 @@ impl Site {
 
     /// A new segment of the least lease that is free, once those that came back are, over a file of
     /// no bytes.
-    pub fn spare<R: System>(&mut self, rt: &R, capacity: u64) -> Result<Made, HomeFault> {
+    pub fn spare<R: System>(&mut self, rt: &R, capacity: u64) -> Result<Made, HomeFault>
+        ensures { IfErr result IsOfSite }
+    {
         self.collect();
         let lease = taken(&mut self.desk)?;
         match &self.place {

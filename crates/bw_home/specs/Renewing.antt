@@ -1,0 +1,52 @@
+-- What a cleaning of a home leaves: it renews what was given up before, cleans the store, and renews that segment too.
+
+use Rattle.std.specs.Prelude.{◌≡◌, ◌⊎◌, Result, Ok, Err}
+use Rattle.bw_care.specs.declared.cleaner.Cleaned.{Cleaned}
+use Rattle.bw_store.specs.Counting.{CountsCleaning}
+use Rattle.bw_store.specs.Kept.{Kept}
+use Rattle.bw_store.specs.Noted.{Noted}
+use Rattle.bw_store.specs.Showing.{CleanShows, HasBoxesAfter, HasFloorAfter}
+use Rattle.bw_store.specs.declared.fault.StoreFault.{StoreFault}
+use Rattle.bw_store.specs.declared.fault.StoreFault.TheVariants as store
+use Rattle.bw_home.specs.declared.fault.HomeFault.{HomeFault}
+use Rattle.bw_home.specs.declared.fault.HomeFault.TheVariants.{NoMemory, Folder, Made, Lease, Recovery, Store}
+
+-- ---- faults
+
+-- why the store was refused, as a home tells it
+abbrev pub fault_of_store : StoreFault → HomeFault
+fault_of_store store.NoMemory = NoMemory
+fault_of_store store.BadConfig = Store store.BadConfig
+fault_of_store store.NoSegment = Store store.NoSegment
+fault_of_store (store.Device lease) = Store (store.Device lease)
+fault_of_store store.Failed = Store store.Failed
+fault_of_store store.Spent = Store store.Spent
+fault_of_store store.NoPage = Store store.NoPage
+fault_of_store store.NothingOld = Store store.NothingOld
+
+-- a file was not emptied, or a segment not made in its place
+abbrev pub IsOfSite : HomeFault → Type 0
+IsOfSite NoMemory = Unit {0}
+IsOfSite (Folder fault) = Unit {0}
+IsOfSite (Made fault) = Unit {0}
+IsOfSite (Lease fault) = Unit {0}
+IsOfSite (Recovery cause) = ⊥
+IsOfSite (Store fault) = ⊥
+
+-- ---- a cleaning
+
+-- what a store says of its own cleaning, by its answer
+pub record StoreCleans (old : Kept) (was : Noted) (result : Result Cleaned StoreFault) (new : Kept) (now : Noted) : Type 0 where
+  pub leaves : CleanShows old result new
+  pub floor : HasFloorAfter 1 old result new
+  pub boxes : HasBoxesAfter 1 old result new
+  pub gone : now.gone ≡ was.gone
+  pub counts : CountsCleaning old was.tally result new now.tally
+
+-- a cleaning of a home; where it is refused, the store is as it was, or it was refused too, or it was cleaned
+abbrev pub HomeCleans : Kept → Noted → Result Cleaned HomeFault → Kept → Noted → Type 0
+HomeCleans old was (Ok cleaned) new now = StoreCleans old was (Ok cleaned) new now
+HomeCleans old was (Err fault) new now =
+    (IsOfSite fault × (new ≡ old) × (now ≡ was))
+    ⊎ (((cause : StoreFault) × (fault ≡ fault_of_store cause) × StoreCleans old was (Err cause) new now)
+    ⊎ (IsOfSite fault × ((cleaned : Cleaned) × StoreCleans old was (Ok cleaned) new now)))
