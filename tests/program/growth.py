@@ -9,7 +9,7 @@ other work on the machine is not counted. The ratio of the two has to be below t
 
   - where four times as much is done, below 8: a cost that is linear, but for a logarithm, makes 4 to 5, and a square makes 16;
   - where a request may not cost more in a greater store, of 100,000 keys in place of 10,000, below 4: caches alone make up to 2.5;
-  - where it may not cost more at a frame limit that is four times as great, below 2.
+  - where it may not cost more at a frame limit that is four times as great, below 1.4.
 
 A way that fails is timed once more, with more turns, before the whole ends with status 1. All ways take about a minute."""
 
@@ -22,7 +22,7 @@ from hostile.scans import many_pairs
 
 HERE = os.path.dirname(os.path.abspath(__file__))
 PROGRAM = os.path.join(HERE, "..", "..", "crates", "bwlog", "out", "bwlog")
-SQUARE, STORE, LIMIT = 8, 4, 2
+SQUARE, STORE, LIMIT = 8, 4, 1.4
 TURNS = 3
 BURST = 400
 
@@ -253,11 +253,11 @@ def main():
             continue
         small, great = ratio(program, make, sizes, TURNS)
         if great >= bound * small:
-            small, great = ratio(program, make, sizes, 3 * TURNS)
+            small, great = ratio(program, make, sizes, 2 * TURNS)
         is_wrong = great >= bound * small
         failed |= is_wrong
         print("%-20s %6d %8.1f ms, %6d %8.1f ms: %4.1f to 1%s" % (name, sizes[0], 1e3 * small, sizes[1], 1e3 * great, great / small,
-              ", and it has to be below %d" % bound if is_wrong else ""), flush=True)
+              ", and it has to be below %s" % bound if is_wrong else ""), flush=True)
     return 1 if failed else 0
 
 

@@ -35,7 +35,8 @@ fn tell_growth(bench: &Bench, store: &Store, span: Span, before: u64, had: u64)
 {
     let added = bytes_of(store).saturating_sub(had);
     bench.tell_each("  in the log", span.count(), added, "bytes");
-    let grown = resident(bench).saturating_sub(before);
+    // Segments of this run stand in memory: what they got is no part of what stands beside them.
+    let grown = resident(bench).saturating_sub(before).saturating_sub(added);
     bench.tell_each("  in memory, beside the log", span.count(), grown, "bytes");
 }
 

@@ -1,7 +1,8 @@
 -- What the functions hand on.
 
 use Rattle.std.proofs.Common.{inl, inr, ◌≡◌, ◌⊎◌, ℕ, zero, suc, ◌+◌, ◌-◌, ◌<◌, ◌≤◌, ◌&&◌, nat_lt, Bool, true, false, if◌then◌else◌, Option, Some, None}
-use Rattle.std.proofs.Common.{Result, Ok, Err, IfOk, IfErr, take_all, List, [], ◌∷◌, ◌++◌, length, map, take, drop, get_or, refl, sym, ap, subst, ◌∙◌, append_assoc}
+use Rattle.std.proofs.Common.{Result, Ok, Err, IfOk, IfErr, take_all, List, [], ◌∷◌, ◌++◌, length, map, take, drop, get_or, refl, sym, ap, subst, ◌∙◌}
+use Rattle.std.proofs.Common.{append_assoc}
 use Rattle.std.proofs.Common.{arith}
 use Rattle.std.specs.List.{AllByRecursion}
 use Rattle.std.proofs.lemmas.Bool.{cases_lt}
@@ -15,19 +16,21 @@ use Rattle.bw_page.specs.Standing.{content, blocks_of, Stand}
 use Rattle.bw_buffer.specs.Filling.{Filling, frame_of}
 use Rattle.bw_log.specs.Places.{base_of}
 use Rattle.bw_log.specs.Contents.{Contents, boxes, counted, IsSound}
-use Rattle.bw_log.specs.Reads.{IsPage, StopsAt}
-use Rattle.bw_log.specs.Appends.{MayFollow, Appended, IsSameLog, Answers, OnDevice, Rose, refusal, wants_segment, spares_wanted, is_spent}
+use Rattle.bw_log.specs.Reads.{HoldsPage, IsPage, StopsAt}
+use Rattle.bw_log.specs.Appends.{MayFollow, AfterAppend, IsSameLog, Answers, OnDevice, Rose, refusal, wants_segment, spares_wanted, is_spent}
 use Rattle.bw_log.specs.Appends as appends
 use Rattle.bw_log.specs.declared.fault.LogFault.{LogFault}
 use Rattle.bw_log.specs.declared.fault.LogFault.TheVariants.{NoMemory, BadConfig, NoSegment, Device, Failed, Spent, NoPage}
 use Rattle.bw_log.proofs.Entries.{all_mapped}
+use Rattle.bw_log.proofs.Fetched.{stops_since}
 use Rattle.bw_log.proofs.GivenUp.{all_behind}
 use Rattle.bw_log.proofs.Reread.{length-frame}
 use Rattle.bw_care.specs.Ahead.{PageRead}
 use Rattle.bw_care.specs.Cleaning.{is_old, old_from, oldest_last, page_of}
-use Rattle.bw_care.specs.Moving.{AreBases, IsFull, IsNextBehind, IsReason, MovedBehind, NextFrame, Refused, StoppedBehind}
+use Rattle.bw_care.specs.Moving.{AreBases, HoldsSome, IsFull, IsNextBehind, IsReason, MovedBehind, NextFrame, Refused, StoppedBehind}
 use Rattle.bw_care.proofs.BasesLeave.{largest_base, may_follow, next_range, stand_more}
-use Rattle.bw_care.proofs.BoxesGrown.{keeps_newest, read_failed}
+use Rattle.bw_care.proofs.BoxesGrown.{read_failed}
+use Rattle.bw_care.proofs.OldestHolds.{holds_at}
 use Rattle.bw_care.proofs.OldPages.{oldest_below, old_step}
 use Rattle.bw_care.proofs.PagesMoved.{frame_lawful, moved_one, moved_none, moved_then, take_more, take_drop_all, drop_twice}
 
@@ -96,17 +99,24 @@ not_first c blocks pages i limit leaf sound same bs is over =
 
 -- ---- refusals
 
-pub fill_refused : (old new : Contents) (fault : LogFault) → StopsAt (λ _. Unit {0}) old fault new → (fault ≡ NoPage → ⊥) → Refused fault old new
-fill_refused old new NoMemory stops other = stops
-fill_refused old new BadConfig stops other = stops
-fill_refused old new NoSegment stops other = absurd stops
-fill_refused old new (Device lease) stops other = read_failed (λ _. Unit {0}) lease old new stops
-fill_refused old new Failed stops other = stops
-fill_refused old new Spent stops other = stops.0
-fill_refused old new NoPage stops other = absurd (other refl)
+-- what a refused read of one of the pages leaves
+pub stops_for : (c now new : Contents) (pages : List ℕ) (i d : ℕ) (fault : LogFault) → now ≡ c → i < length pages
+    → StopsAt (HoldsPage now (get_or pages i d)) now fault new → StopsAt (HoldsSome c pages) c fault new
+stops_for c now new pages i d fault same inside stops =
+    stops_since (HoldsPage now (get_or pages i d)) (HoldsSome c pages) c now new fault same
+    (λ at holds. holds_at c pages i d at inside (subst (λ (k : Contents). HoldsPage k (get_or pages i d) at) same holds)) stops
+
+pub fill_refused : (reads : ℕ → Type 0) (old new : Contents) (fault : LogFault) → StopsAt reads old fault new → (fault ≡ NoPage → ⊥) → Refused fault old new
+fill_refused reads old new NoMemory stops other = stops
+fill_refused reads old new BadConfig stops other = stops
+fill_refused reads old new NoSegment stops other = absurd stops
+fill_refused reads old new (Device lease) stops other = read_failed reads lease old new stops
+fill_refused reads old new Failed stops other = stops
+fill_refused reads old new Spent stops other = stops.0
+fill_refused reads old new NoPage stops other = absurd (other refl)
 
 -- a read is refused only where a page is left
-pub fill_reason : (old new : Contents) (fault : LogFault) (pages : List ℕ) → StopsAt (λ _. Unit {0}) old fault new → (fault ≡ NoPage → ⊥)
+pub fill_reason : (old new : Contents) (fault : LogFault) (pages : List ℕ) → StopsAt (HoldsSome old pages) old fault new → (fault ≡ NoPage → ⊥)
     → 0 < length pages → IsReason fault old pages
 fill_reason old new NoMemory pages stops other some = tt
 fill_reason old new BadConfig pages stops other some = stops
@@ -243,16 +253,13 @@ long_taken zero xs some inside = absurd (omega arith)
 long_taken (suc n) [] some inside = absurd (omega arith)
 long_taken (suc n) (x ∷ xs) some inside = omega arith
 
-pub moved_filled : (last : ℕ) (old now new : Contents) (x : Frame) (pages : List ℕ) (n : ℕ) (u : Unit {0}) → IsNextBehind last old
-    → Answers (refusal now (length (frame_bytes x)) true) (Ok u) → 0 < n → n ≤ length pages → IsSound old → IsSound new → now ≡ old
+pub moved_filled : (last : ℕ) (old now new : Contents) (x : Frame) (pages : List ℕ) (n : ℕ) → IsNextBehind last old
+    → 0 < n → n ≤ length pages → IsSound old → now ≡ old
     → AllByRecursion (IsPage old) pages → 0 < length pages → AreBases old x.blocks (take n pages)
-    → old.next ≡ Some x.number → Appended now x new → IsFull old x (drop n pages) → IsSameLog now new → MovedBehind last old new (take n pages) (drop n pages) 1
-moved_filled last old now new x pages n u behind answers more inside sound after same are some bs number added full log =
-    moved_one last old new x (take n pages) (drop n pages) behind
-    (keeps_newest old x new u (subst (λ (c : Contents). Appended c x new) same added)
-    (subst (λ (c : Contents). Answers (refusal c (length (frame_bytes x)) true) (Ok u)) same answers))
-    full (long_taken n pages more inside) sound after (some_page old pages are some) bs number
-    (subst (λ (c : Contents). Appended c x new) same added) (subst (λ (c : Contents). IsSameLog c new) same log)
+    → old.next ≡ Some x.number → AfterAppend now x true (Ok tt) new → IsFull old x (drop n pages) → MovedBehind last old new (take n pages) (drop n pages) 1
+moved_filled last old now new x pages n behind more inside sound same are some bs number after full =
+    moved_one last old new x (take n pages) (drop n pages) behind full (long_taken n pages more inside) sound (some_page old pages are some) bs number
+    (subst (λ (c : Contents). AfterAppend c x true (Ok tt) new) same after)
 
 -- ---- all frames
 
@@ -344,14 +351,17 @@ stopped_first last old new pages fault behind works refused reason = record {
 
 -- ---- what stands
 
-moved_stands : (last : ℕ) (old now : Contents) (ps rs : List ℕ) (n : ℕ) (leaves : List Leaf) → MovedBehind last old now ps rs n → Stand old.m (counted old) leaves
+moved_stands : (last : ℕ) (old now : Contents) (ps rs : List ℕ) (n : ℕ) (leaves : List Leaf) → MovedBehind last old now ps rs n
+    → Stand old.m (counted old) leaves
     → Stand old.m (counted now) leaves
 moved_stands last old now ps rs n leaves moved stand =
     subst (λ (fs : List Frame). Stand old.m fs leaves) (sym moved.counts) (stand_more old.m (counted old) moved.written leaves stand moved.holds.bases)
 
-pub moved_stand : (last : ℕ) (old now : Contents) (ps rs : List ℕ) (n : ℕ) (leaves : List Leaf) → MovedBehind last old now ps rs n → Stand old.m (counted old) leaves
+pub moved_stand : (last : ℕ) (old now : Contents) (ps rs : List ℕ) (n : ℕ) (leaves : List Leaf) → MovedBehind last old now ps rs n
+    → Stand old.m (counted old) leaves
     → Stand now.m (counted now) leaves
-moved_stand last old now ps rs n leaves moved stand = subst (λ (m : ℕ). Stand m (counted now) leaves) (sym moved.m) (moved_stands last old now ps rs n leaves moved stand)
+moved_stand last old now ps rs n leaves moved stand = subst (λ (m : ℕ). Stand m (counted now) leaves) (sym moved.m)
+    (moved_stands last old now ps rs n leaves moved stand)
 
 same_counts : (old new : Contents) (fault : LogFault) → Refused fault old new → counted new ≡ counted old
 same_counts old new NoMemory refused = ap counted refused
@@ -362,13 +372,15 @@ same_counts old new Failed refused = absurd refused
 same_counts old new Spent refused = ap counted refused
 same_counts old new NoPage refused = absurd refused
 
-pub stopped_stands : (last : ℕ) (old new : Contents) (pages : List ℕ) (fault : LogFault) → StoppedBehind last old pages fault new → (leaves : List Leaf) → Stand old.m (counted old) leaves
+pub stopped_stands : (last : ℕ) (old new : Contents) (pages : List ℕ) (fault : LogFault) → StoppedBehind last old pages fault new
+    → (leaves : List Leaf) → Stand old.m (counted old) leaves
     → Stand old.m (counted new) leaves
 stopped_stands last old new pages fault s leaves stand =
     subst (λ (fs : List Frame). Stand old.m fs leaves) (sym (same_counts s.then_log new fault s.refused))
     (moved_stands last old s.then_log s.done s.rest s.frames leaves s.moved stand)
 
-pub same_m : (last : ℕ) (old now : Contents) (fs : List Frame) (ps rs : List ℕ) (n : ℕ) (leaves : List Leaf) → MovedBehind last old now ps rs n → Stand now.m fs leaves
+pub same_m : (last : ℕ) (old now : Contents) (fs : List Frame) (ps rs : List ℕ) (n : ℕ) (leaves : List Leaf) → MovedBehind last old now ps rs n
+    → Stand now.m fs leaves
     → Stand old.m fs leaves
 same_m last old now fs ps rs n leaves moved stand = subst (λ (m : ℕ). Stand m fs leaves) moved.m stand
 
@@ -399,13 +411,13 @@ pub follows_sent : (old now : Contents) (x : Filling) (pages : List ℕ) (n firs
 follows_sent old now x pages n first sound same are some s more inside next fits =
     follows_filled old now (frame_of x) pages n sound same are some s.holds more inside (next ∙ ap (λ (k : ℕ). Some k) (sym s.number)) (short_enough s fits)
 
-pub moved_sent : (last : ℕ) (old now new : Contents) (x : Filling) (pages : List ℕ) (n first : ℕ) (u : Unit {0}) → IsNextBehind last old
-    → Answers (refusal now (length (frame_bytes (frame_of x))) true) (Ok u) → 0 < n → n ≤ length pages → IsSound old → IsSound new → now ≡ old
+pub moved_sent : (last : ℕ) (old now new : Contents) (x : Filling) (pages : List ℕ) (n first : ℕ) → IsNextBehind last old
+    → 0 < n → n ≤ length pages → IsSound old → now ≡ old
     → AllByRecursion (IsPage old) pages → 0 < length pages → Sends old pages n first x
-    → old.next ≡ Some first → Appended now (frame_of x) new → IsFull old (frame_of x) (drop n pages) → IsSameLog now new
+    → old.next ≡ Some first → AfterAppend now (frame_of x) true (Ok tt) new → IsFull old (frame_of x) (drop n pages)
     → MovedBehind last old new (take n pages) (drop n pages) 1
-moved_sent last old now new x pages n first u behind answers more inside sound after same are some s next added full log =
-    moved_filled last old now new (frame_of x) pages n u behind answers more inside sound after same are some s.holds (next ∙ ap (λ (k : ℕ). Some k) (sym s.number)) added full log
+moved_sent last old now new x pages n first behind more inside sound same are some s next after full =
+    moved_filled last old now new (frame_of x) pages n behind more inside sound same are some s.holds (next ∙ ap (λ (k : ℕ). Some k) (sym s.number)) after full
 
 -- the frame sent is the next one of these pages
 pub next_sent : (old : Contents) (filled sent : Filling) (pages : List ℕ) (n first : ℕ) → Sends old pages n first sent → 0 < n → n ≤ length pages

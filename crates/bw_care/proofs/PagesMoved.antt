@@ -2,7 +2,7 @@
 
 use Rattle.std.proofs.Common.{inl, inr, ◌≡◌, ℕ, zero, suc, ◌+◌, ◌^◌, ◌<◌, ◌≤◌, nat_lt, Bool, true, false, if◌then◌else◌, Option, Some, None, MatchOption}
 use Rattle.std.proofs.Common.{List, [], ◌∷◌, ◌++◌, length, map, take, drop, slice_get, refl, sym, ap, subst, ◌∙◌, append_assoc, append-nil}
-use Rattle.std.proofs.Common.{length-append, arith}
+use Rattle.std.proofs.Common.{Ok, length-append, arith}
 use Rattle.std.specs.List.{AllByRecursion}
 use Rattle.std.proofs.lemmas.Bool.{cases_lt}
 use Rattle.std.proofs.lemmas.List.{map-append, length-map}
@@ -17,15 +17,15 @@ use Rattle.bw_log.specs.Segments.{AreFrom, next_of}
 use Rattle.bw_log.proofs.Adding.{next_is}
 use Rattle.bw_log.specs.Contents.{Contents, boxes, roster, counted, IsSound}
 use Rattle.bw_log.specs.Oldest.{IsAfter, IsBaseAfter, NoBaseBefore, last_number, oldest_count}
-use Rattle.bw_log.specs.Appends.{Appended, IsSameLog}
+use Rattle.bw_log.specs.Appends.{AfterAppend}
 use Rattle.bw_log.proofs.Entries.{all_append}
 use Rattle.bw_log.proofs.Reread.{length-frame}
 use Rattle.bw_log.proofs.Walks.{blocks_more}
 use Rattle.bw_log.proofs.LogLeft.{same_count}
 use Rattle.bw_care.specs.Cleaning.{IsRewritten, page_of, old_pages, oldest_last}
-use Rattle.bw_care.specs.Moving.{AreBases, IsFull, AreFull, IsNextBehind, Moved, MovedBehind, KeepsOlder, KeepsNewest, IsCleaned}
+use Rattle.bw_care.specs.Moving.{AreBases, IsFull, AreFull, IsNextBehind, AreAppended, Moved, MovedBehind, KeepsOlder, KeepsNewest, IsCleaned}
 use Rattle.bw_care.proofs.BasesLeave.{frames_leave, all_rewritten, one_frame, some_stand, stand_more, next_range}
-use Rattle.bw_care.proofs.BoxesGrown.{longer_same, longer_all, appended_longer, appended_older, older_same, older_all, same_roster}
+use Rattle.bw_care.proofs.BoxesGrown.{longer_same, longer_all, appended_longer, appended_older, keeps_newest, older_same, older_all, same_roster}
 use Rattle.bw_care.proofs.OldPages.{same_last, base_moved}
 use Rattle.bw_care.specs.declared.cleaner.Cleaned.{Cleaned}
 
@@ -100,14 +100,17 @@ following_next : (number last n : ℕ) (t : Bool) → last < number → (if t th
 following_next number last n true less is = (let e : number + 1 ≡ n = cc in omega arith)
 following_next number last n false less is = absurd cc
 
-pub moved_one : (last : ℕ) (old new : Contents) (x : Frame) (pages rest : List ℕ) → IsNextBehind last old → KeepsNewest old new 1 → IsFull old x rest
-    → 1 ≤ length pages → IsSound old → IsSound new → 1 ≤ length old.pages
-    → AreBases old x.blocks pages → old.next ≡ Some x.number → Appended old x new → IsSameLog old new
+pub moved_one : (last : ℕ) (old new : Contents) (x : Frame) (pages rest : List ℕ) → IsNextBehind last old → IsFull old x rest
+    → 1 ≤ length pages → IsSound old → 1 ≤ length old.pages
+    → AreBases old x.blocks pages → old.next ≡ Some x.number → AfterAppend old x true (Ok tt) new
     → MovedBehind last old new pages rest 1
-moved_one last old new x pages rest next newest full more a b some holds number added same =
+moved_one last old new x pages rest next full more a some holds number after =
     let behind = next x.number number in
+    let added = after.added in
+    let same = after.log in
     record {
       written = x ∷ [];
+      appends = (new, after, refl);
       counts = added.frames;
       count = refl;
       few = more;
@@ -117,9 +120,9 @@ moved_one last old new x pages rest next newest full more a b some holds number 
       next = λ n is. following_next x.number last n (nat_lt (x.number + 1) (2 ^ 64)) behind (sym added.next ∙ is);
       boxes_grew = appended_longer old x new added;
       older = appended_older old x new added;
-      newest = newest;
+      newest = keeps_newest old x new tt added after.answers;
       works = added.works;
-      table = same_pages old new x a b some holds.bases added.frames same.m;
+      table = same_pages old new x a after.sound some holds.bases added.frames same.m;
       m = same.m;
       f = same.f;
       number = same.number;
@@ -129,6 +132,7 @@ moved_one last old new x pages rest next newest full more a b some holds number 
 pub moved_none : (last : ℕ) (c : Contents) (rest : List ℕ) → IsNextBehind last c → c.is_failed ≡ false → MovedBehind last c c [] rest 0
 moved_none last c rest next works = record {
   written = [];
+  appends = refl;
   counts = sym (append-nil (counted c));
   count = refl;
   few = omega arith;
@@ -187,6 +191,11 @@ heads (h ∷ hs) (k ∷ ks) keeps two =
 
 -- ---- frames after frames
 
+-- frames appended after others were appended
+appended_then : (old now new : Contents) (xs ys : List Frame) → AreAppended old xs now → AreAppended now ys new → AreAppended old (xs ++ ys) new
+appended_then old now new [] ys a b = subst (λ (c : Contents). AreAppended c ys new) a b
+appended_then old now new (x ∷ xs) ys a b = (a.0, a.1, appended_then a.0 now new xs ys a.2 b)
+
 pub moved_then : (last : ℕ) (old now new : Contents) (ps qs rs : List ℕ) (n k : ℕ) → MovedBehind last old now ps (qs ++ rs) n
     → MovedBehind last now new qs rs k → MovedBehind last old new (ps ++ qs) rs (n + k)
 moved_then last old now new ps qs rs n k x y =
@@ -198,6 +207,7 @@ moved_then last old now new ps qs rs n k x y =
     let xf = x.few in let yf = y.few in
     record {
       written = xs ++ ys;
+      appends = appended_then old now new xs ys x.appends y.appends;
       counts = y.counts ∙ ap (λ (fs : List Frame). fs ++ ys) x.counts ∙ append_assoc (counted old) xs ys;
       count = omega (arith, length-append xs ys);
       few = omega (arith, length-append ps qs);
@@ -272,7 +282,8 @@ first_lease number (h ∷ hs) told segment lease len some answer is =
     let b : h.lease ≡ lease = ap (λ (t : ℕ × ℕ × ℕ). t.1) e in
     (omega arith, ap (λ (l : ℕ). l ∷ []) b)
 
-pub all_cleaned : (old now new : Contents) (cleaned : Cleaned) (told : Option (ℕ × ℕ × ℕ)) (len : ℕ) → IsSound old → IsSound now → 2 ≤ length old.live → old.is_failed ≡ false
+pub all_cleaned : (old now new : Contents) (cleaned : Cleaned) (told : Option (ℕ × ℕ × ℕ)) (len : ℕ) → IsSound old → IsSound now
+    → 2 ≤ length old.live → old.is_failed ≡ false
     → Moved old now (old_pages old) [] cleaned.frames
     → new ≡ record now { live = drop 1 now.live; number = now.number + 1; frames = new.frames } → counted new ≡ drop (oldest_count now.live) (counted now)
     → MatchOption (slice_get old.live 0) (told ≡ None) (λ h. told ≡ Some (old.number + 0, h.lease, length h.bytes))

@@ -196,6 +196,7 @@ planned_all hs s x r first last begins ends linked right =
       opened = o.clean ∙ sym (ends_are hs (live_in hs) (sorted x.scans) y.found);
       follows = scan.follows ∙ next_is (frames_in hs) y.some ∙ ap following (sym ends);
       limit = right.limit;
+      frame_limit = sym y.f;
       here = right.here;
       pages = sym right.count;
     }

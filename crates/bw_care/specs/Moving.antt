@@ -1,7 +1,7 @@
 -- A cleaning under way, and what stops it.
 
 use Rattle.std.specs.Prelude.{ℕ, ◌+◌, ◌<◌, ◌≤◌, ◌≡◌, ◌⊎◌, true, false, Some, None, List, [], ◌∷◌, ◌++◌, length, map, take, drop}
-use Rattle.std.specs.Prelude.{slice_get}
+use Rattle.std.specs.Prelude.{slice_get, Ok}
 use Rattle.std.specs.List.{AllByRecursion}
 use Rattle.bw_codec.specs.Grammar.{IsBlock, block_bytes, frame_bytes}
 use Rattle.bw_codec.specs.declared.leaf.Leaf.{Leaf}
@@ -11,10 +11,10 @@ use Rattle.bw_codec.specs.declared.block.Frame.{Frame}
 use Rattle.bw_page.specs.Standing.{content, blocks_of}
 use Rattle.bw_device.specs.Holding.{Holding, appended}
 use Rattle.bw_log.specs.Contents.{Contents, image, boxes, counted, roster, IsSound}
-use Rattle.bw_log.specs.Reads.{IsWornOut}
+use Rattle.bw_log.specs.Reads.{IsWornOut, HoldsPage}
 use Rattle.bw_log.specs.Oldest.{oldest_count}
 use Rattle.bw_log.specs.Appends as appends
-use Rattle.bw_log.specs.Appends.{refusal, Rose, IsSameLog}
+use Rattle.bw_log.specs.Appends.{refusal, AfterAppend, Rose, IsSameLog}
 use Rattle.bw_log.specs.declared.fault.LogFault.{LogFault}
 use Rattle.bw_log.specs.declared.fault.LogFault.TheVariants.{NoMemory, BadConfig, NoSegment, Device, Failed, Spent, NoPage}
 use Rattle.bw_care.specs.Cleaning.{IsRewritten, page_of, old_pages, oldest_last}
@@ -68,9 +68,16 @@ AreFull c (x ∷ xs) ps = IsFull c x (drop (length x.blocks) ps) × AreFull c xs
 abbrev pub IsNextBehind : ℕ → Contents → Type 0
 IsNextBehind last c = (n : ℕ) → c.next ≡ Some n → last < n
 
--- so many frames were added, all behind this one, which hold these pages and nothing else; the rest is still to come
+-- these frames were appended one after the other, each to the log as those before it left it: so a segment is begun
+-- only where the current one has no room for the frame that comes next
+abbrev pub AreAppended : Contents → List Frame → Contents → Type 0
+AreAppended old [] new = new ≡ old
+AreAppended old (x ∷ xs) new = (between : Contents) × AfterAppend old x true (Ok tt) between × AreAppended between xs new
+
+-- so many frames were appended, all behind this one, which hold these pages and nothing else; the rest is still to come
 pub record MovedBehind (last : ℕ) (old now : Contents) (pages rest : List ℕ) (frames : ℕ) : Type 0 where
   pub written : List Frame
+  pub appends : AreAppended old written now
   pub counts : counted now ≡ counted old ++ written
   pub count : length written ≡ frames
   pub few : frames ≤ length pages
@@ -109,8 +116,13 @@ pub record IsRefused (c : Contents) (pages : List ℕ) (fault : LogFault) : Type
   pub short : length (frame_bytes frame) ≤ c.f
   pub told : refusal c (length (frame_bytes frame)) true ≡ Some fault
 
+-- a counted frame that touches one of these pages stands in the live segment of this index
+abbrev pub HoldsSome : Contents → List ℕ → ℕ → Type 0
+HoldsSome c [] at = ⊥
+HoldsSome c (p ∷ ps) at = HoldsPage c p at ⊎ HoldsSome c ps at
+
 -- why a step is refused, memory and the device aside: the frame that comes next has no room or no
--- number, or the count of a segment that is read is at its greatest; and only where a page is left
+-- number, or one of the pages stands in a segment whose count is at its greatest; and only where a page is left
 abbrev pub IsReason : LogFault → Contents → List ℕ → Type 0
 IsReason NoMemory c pages = Unit {0}
 IsReason BadConfig c pages = ⊥
@@ -118,7 +130,7 @@ IsReason NoSegment c pages = IsRefused c pages NoSegment
 IsReason (Device lease) c pages = 0 < length pages
 IsReason Failed c pages = ⊥
 IsReason Spent c pages =
-    (0 < length pages) × ((c.next ≡ None) ⊎ (IsWornOut (λ _. Unit {0}) c.live ⊎ IsRefused c pages Spent))
+    (0 < length pages) × ((c.next ≡ None) ⊎ (IsWornOut (HoldsSome c pages) c.live ⊎ IsRefused c pages Spent))
 IsReason NoPage c pages = ⊥
 
 -- what a failed call left: nothing, or a beginning of a header or of a frame of Bases, maybe all of it

@@ -81,7 +81,7 @@ fn oldest_bytes(alloc: Global, log: &mut Log) -> Result<Option<Vec<u8>>, LogFaul
     ensures bytes { IfOk result (λ bytes.
         IfSome bytes (λ b. IsOldest (seen log.old holding) b.items)) }
     ensures sound { IsSound log.new holding }
-    ensures stops { ReadStops (λ _. Unit {0}) (seen log.old holding) result (seen log.new holding) }
+    ensures stops { ReadStops (λ at. at ≡ 0) (seen log.old holding) result (seen log.new holding) }
     ensures paged { result ≢ Err LogFault.NoPage }
 {
     let Some((segment, _, len)) = log.live_segment(0) else {
@@ -336,7 +336,7 @@ pub(crate) fn read_ahead(alloc: Global, log: &mut Log, pages: &[u32]) -> Result<
     ensures ahead { IfOk result (λ ahead.
         AreSpots (seen log.old holding) ahead.bytes.items ahead.spots.items pages.now) }
     ensures sound { IsSound log.new holding }
-    ensures stops { ReadStops (λ _. Unit {0}) (seen log.old holding) result (seen log.new holding) }
+    ensures stops { ReadStops (λ at. at ≡ 0) (seen log.old holding) result (seen log.new holding) }
     ensures paged { result ≢ Err LogFault.NoPage }
     ensures needed { OnErr result (0 < length pages.now) }
 {

@@ -3,10 +3,10 @@
 ghost use Rattle.std.specs.Prelude.{◌≡◌, ◌≢◌, ◌+◌, ◌^◌, ◌<◌, ◌≤◌, ℕ, [], take, drop, length, false, Err, IfOk, IfErr, IfSome};
 ghost use Rattle.std.specs.List.{AllByRecursion};
 ghost use Rattle.bw_buffer.specs.Filling.{frame_of};
-ghost use Rattle.bw_log.specs.Reads.{IsPage, ReadStops};
+ghost use Rattle.bw_log.specs.Reads.{HoldsPage, IsPage, ReadStops};
 ghost use Rattle.bw_care.specs.Ahead.{AreSpots, IsBaseOf, Puts};
 ghost use Rattle.bw_care.specs.Cleaning.{is_old, old_pages, oldest_last, pages_upto};
-ghost use Rattle.bw_care.specs.Moving.{AreBases, IsFull, IsNextBehind, IsReason, Moved, MovedBehind, Refused, Stopped, StoppedBehind};
+ghost use Rattle.bw_care.specs.Moving.{AreBases, HoldsSome, IsFull, IsNextBehind, IsReason, Moved, MovedBehind, Refused, Stopped, StoppedBehind};
 ghost use Rattle.bw_care.specs.Views.{seen, IsSound};
 
 use crate::ahead::{Ahead, read_ahead};
@@ -69,7 +69,8 @@ fn put_page(
     ensures sound { IsSound log.new holding }
     ensures put { IfOk result (λ fits.
         Puts (seen log.old holding) page buffer.old fits buffer.new) }
-    ensures stops { ReadStops (λ _. Unit {0}) (seen log.old holding) result (seen log.new holding) }
+    ensures stops { ReadStops (HoldsPage (seen log.old holding) page)
+        (seen log.old holding) result (seen log.new holding) }
     ensures paged { result ≢ Err LogFault.NoPage }
 {
     // A buffer that is not sealed refuses for want of room alone.
@@ -106,7 +107,8 @@ fn fill(
         × (buffer.new ≡ record buffer.old { blocks = buffer.new.blocks })
         × AreBases (seen log.old holding) buffer.new.blocks (take n pages.now)
         × IsFull (seen log.old holding) (frame_of buffer.new) (drop n pages.now)) }
-    ensures stops { ReadStops (λ _. Unit {0}) (seen log.old holding) result (seen log.new holding) }
+    ensures stops { ReadStops (HoldsSome (seen log.old holding) pages.now)
+        (seen log.old holding) result (seen log.new holding) }
     ensures paged { result ≢ Err LogFault.NoPage }
 {
     for at in 0..pages.len() {

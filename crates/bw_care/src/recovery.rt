@@ -1,7 +1,7 @@
 //! Recovery by a scan: from any bytes to the leaves, or to the first fault.
 
 ghost use Rattle.std.specs.Prelude.{◌≡◌, Ok, IfOk, IfErr, map};
-ghost use Rattle.bw_care.specs.Recovery.{recovery, live_in, spares_in, ends_whole};
+ghost use Rattle.bw_care.specs.Recovery.{recovery, limit_in, live_in, spares_in, ends_whole};
 ghost use Rattle.bw_care.specs.Found.{finding_of, IsRecovered, Refuses};
 ghost use Rattle.bw_log.specs.Views.{seen_by};
 
@@ -12,13 +12,23 @@ use crate::recovered::Recovered;
 use bw_device::Segment;
 use bw_log::Log;
 use std::alloc::Global;
+use std::fmt::{self, Debug, Formatter};
+use thiserror::Error;
 
 /// Why boxes could not be recovered, and all of them in the order in which they were handed in.
 /// Their bytes are as they were; where the cause is `Device`, that box counts one failure more.
-#[derive(Drop)]
+#[derive(Drop, Error)]
+#[error("{cause}")]
 pub struct RecoverFault {
     pub boxes: Vec<Box<dyn Segment>>,
     pub cause: RecoverCause,
+}
+
+// Boxes of other crates' kinds need not be told.
+impl Debug for RecoverFault {
+    fn fmt<W: fmt::Write>(&self, f: &mut Formatter<W>) -> fmt::Result {
+        write!(f, "RecoverFault({:?})", self.cause)
+    }
 }
 
 /// Reads all boxes, in any order, and makes of them the log that they hold, with the leaves for
@@ -53,6 +63,8 @@ pub fn recover(alloc: Global, boxes: Vec<Box<dyn Segment>>) -> Result<Recovered,
         (seen_by holding r.log).spares ≡ spares_in (map holding boxes.items)) }
     ensures open { IfOk result (λ r.
         (seen_by holding r.log).is_open ≡ ends_whole (live_in (map holding boxes.items))) }
+    ensures limit { IfOk result (λ r.
+        (seen_by holding r.log).f ≡ limit_in (map holding boxes.items)) }
 
     ensures refuses { IfErr result (λ e.
         Refuses (map holding boxes.items) e.cause (map holding e.boxes.items)) }

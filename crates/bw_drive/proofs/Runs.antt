@@ -1,6 +1,6 @@
 -- Calls one after the other, and the first refusal.
 
-use Rattle.std.proofs.Common.{ℕ, ◌≡◌, ◌≤◌, ◌+◌, ◌⊎◌, inl, inr, zero, suc, Result, Ok, Err, List, [], ◌∷◌, drop, refl, ap, ◌∙◌, arith}
+use Rattle.std.proofs.Common.{ℕ, ◌≡◌, ◌≤◌, ◌+◌, ◌⊎◌, inl, inr, zero, suc, Bool, Result, Ok, Err, List, [], ◌∷◌, drop, refl, ap, ◌∙◌, arith}
 use Rattle.std.proofs.lemmas.List.{drop-drop}
 use Rattle.bw_log.specs.Contents.{roster}
 use Rattle.bw_care.specs.declared.cleaner.Cleaned.{Cleaned}
@@ -103,5 +103,6 @@ pub runs_kept : (n : ℕ) (a b c : Kept) → Runs n a b → Follows b c → HasB
 runs_kept n a b c r f k = runs_then n a b c r (kept_all n b c f k)
 
 -- a run, and a settlement behind it that was refused
-pub stops_last : (n : ℕ) (lanes : List Lane) (a b c : Kept) (cause : StoreFault) → Runs n a b → SettleRefuses b lanes cause c → Stops n a cause c
-stops_last n lanes a b c cause r refused = inr (record { before = b; ran = r; refused = inr (inr (inr (lanes, refused))) })
+pub stops_last : (n : ℕ) (lanes : List Lane) (away : ℕ → Bool) (a b c : Kept) (cause : StoreFault) → Runs n a b → SettleRefuses b lanes away cause c
+    → Stops n a cause c
+stops_last n lanes away a b c cause r refused = inr (record { before = b; ran = r; refused = inr (inr (inr (lanes, away, refused))) })

@@ -61,7 +61,7 @@ FlushOrCleanStops clean_at old cause new =
 -- a turn was refused, or what is due behind it was
 abbrev pub TurnStops : Plan → Bool → Kept → StoreFault → Kept → Type 0
 TurnStops plan due old cause new =
-    ((lanes : List Lane) × RefusedAt old lanes cause new)
+    ((lanes : List Lane) × (away : ℕ → Bool) × RefusedAt old lanes away cause new)
     ⊎ ((due ≡ true) × ((turned : Kept) × TurnedOnce plan.limit old turned × FlushOrCleanStops plan.clean_at turned cause new))
 
 -- so many turns went, and the one behind them was refused

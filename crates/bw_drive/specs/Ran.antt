@@ -1,6 +1,6 @@
 -- What a run of turns, flushes and cleanings leaves of a store, and why it ends early.
 
-use Rattle.std.specs.Prelude.{ℕ, zero, suc, ◌≡◌, ◌≤◌, ◌⊎◌, Err, List, length, drop}
+use Rattle.std.specs.Prelude.{ℕ, zero, suc, ◌≡◌, ◌≤◌, ◌⊎◌, Bool, Err, List, length, drop}
 use Rattle.bw_log.specs.Contents.{roster}
 use Rattle.bw_store.specs.declared.fault.StoreFault.{StoreFault}
 use Rattle.bw_store.specs.declared.fault.StoreFault.TheVariants.{NoMemory}
@@ -55,8 +55,8 @@ CleanRefused clean_at old cause new = (1 ≤ clean_at) × (clean_at ≤ length o
 -- a turn was refused, a flush, a cleaning, or the last settle
 abbrev pub CallRefused : ℕ → Kept → StoreFault → Kept → Type 0
 CallRefused clean_at old cause new =
-    ((lanes : List Lane) × RefusedAt old lanes cause new)
-    ⊎ (FlushRefused old cause new ⊎ (CleanRefused clean_at old cause new ⊎ ((lanes : List Lane) × SettleRefuses old lanes cause new)))
+    ((lanes : List Lane) × (away : ℕ → Bool) × RefusedAt old lanes away cause new)
+    ⊎ (FlushRefused old cause new ⊎ (CleanRefused clean_at old cause new ⊎ ((lanes : List Lane) × (away : ℕ → Bool) × SettleRefuses old lanes away cause new)))
 
 -- a call was refused, and none came after it
 pub record StopsAfter (clean_at : ℕ) (old : Kept) (cause : StoreFault) (new : Kept) : Type 0 where

@@ -2,6 +2,8 @@
 
 use bw_ring::Feed;
 use bw_store::StoreFault;
+use std::fmt::{self, Debug, Formatter};
+use thiserror::Error;
 
 /// All writers have ended, and what was accepted is settled.
 #[derive(Drop)]
@@ -16,10 +18,17 @@ pub struct Driven {
 }
 
 /// Why a run of writers ended early, with the feeds.
-#[derive(Drop)]
+#[derive(Drop, Error)]
+#[error("{cause}")]
 pub struct DriveFault {
     /// Those that were handed in, in order, each with some first groups of its script.
     pub feeds: Vec<Feed>,
     /// The first refusal; `NoMemory` also where a thread could not be made.
     pub cause: StoreFault,
+}
+
+impl Debug for DriveFault {
+    fn fmt<W: fmt::Write>(&self, f: &mut Formatter<W>) -> fmt::Result {
+        write!(f, "DriveFault({:?})", self.cause)
+    }
 }

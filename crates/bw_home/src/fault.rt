@@ -4,7 +4,7 @@ use bw_care::RecoverCause;
 use bw_codec::Record;
 use bw_device::{NotMade, NotTaken};
 use bw_file::FolderFault;
-use bw_store::StoreFault;
+use bw_store::{StoreFault, TurnFault};
 use std::alloc::{AllocError, AllocFailed};
 use std::fmt::{self, Display, Formatter};
 use thiserror::Error;
@@ -94,6 +94,12 @@ impl From<StoreFault> for HomeFault {
             StoreFault::NoMemory => HomeFault::NoMemory,
             other => HomeFault::Store(other),
         }
+    }
+}
+
+impl From<TurnFault> for HomeFault {
+    fn from(fault: TurnFault) -> HomeFault {
+        HomeFault::from(fault.cause)
     }
 }
 

@@ -61,7 +61,7 @@ fn put_at(feeds: &mut Vec<Feed>, writer: usize, item: Record) -> Result<(), Full
 }
 
 impl Home {
-    ghost use Rattle.bw_store.specs.Views.{kept_by, IsSound};
+    ghost use Rattle.bw_store.specs.Views.{away_in, kept_by, IsSound};
     ghost use Rattle.bw_home.specs.Ready.{kept_in, IsReady, IsReadyBeside};
 
     // A store, its feeds, and where its segments stand, of which new ones have this capacity.
@@ -179,8 +179,10 @@ impl Home {
         ensures took { IfOk result (λ n.
             TookInTurn n (kept_in self.old holding) (kept_in self.new holding)) }
         ensures refused { IfErr result (λ fault. RefusedAfter fault.taken
-            (kept_in self.old holding) self.new.store.intake.lanes.items fault.cause
-            (kept_in self.new holding)) }
+            (kept_in self.old holding) self.new.store.intake.lanes.items
+            (away_in self.new.store) fault.cause (kept_in self.new holding)) }
+        ensures tried { IfErr result (λ fault.
+            groups_since (kept_in self.old holding) (kept_in self.new holding) < limit) }
     {
         self.store.turn(limit)
     }

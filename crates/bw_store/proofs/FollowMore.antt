@@ -1,6 +1,7 @@
 -- Each step follows, and so do several.
 
-use Rattle.std.proofs.Common.{◌≡◌, ℕ, zero, suc, ◌+◌, ◌≤◌, inl, inr, true, false, Result, Ok, Err, Option, Some, None, List, [], ◌∷◌, ◌++◌, length, drop, refl, sym, ap}
+use Rattle.std.proofs.Common.{◌≡◌, ℕ, zero, suc, ◌+◌, ◌≤◌, ◌<◌, inl, inr, Bool, true, false, Result, Ok, Err, Option, Some, None, List, [], ◌∷◌, ◌++◌}
+use Rattle.std.proofs.Common.{length, drop, refl, sym, ap}
 use Rattle.std.proofs.Common.{◌∙◌, subst}
 use Rattle.std.proofs.Common.{append_assoc, append-nil, arith, length-append}
 use Rattle.std.specs.Prelude.{nat_le}
@@ -161,7 +162,7 @@ follows_broken old new lease b =
 
 follows_may : (group : List Record) (old new : Kept) → MakesRoom group old new → Turned 0 old new
 follows_may group old new (inl e) = follows_as old new e
-follows_may group old new (inr f) = follows_flushed old new f.1.0 f.1.1
+follows_may group old new (inr f) = follows_flushed old new f.2.0 f.2.1
 
 -- records taken one after the other
 all_turned : (s : Kept) (lane : ℕ) (ms : List Marked) → Turned (length ms) s (taken_all s lane ms)
@@ -220,17 +221,17 @@ follows_left old new (Err NoPage) left = follows_as old new left
 follows_left old new (Err NothingOld) left = follows_as old new left
 
 -- a group that was refused, whatever the cause
-pub follows_refused : (group : List Record) (old new : Kept) (cause : StoreFault) → Refuses group old cause new → Turned 0 old new
-follows_refused group old new NoMemory r = follows_may group old new r.1
-follows_refused group old new BadConfig r = absurd r
-follows_refused group old new NoSegment r = follows_as old new r.0
-follows_refused group old new (Device lease) (works, inl broken) = follows_broken old new lease broken.1
-follows_refused group old new (Device lease) (works, inr unread) = follows_read old new unread.read
-follows_refused group old new Failed r = follows_as old new r.0
-follows_refused group old new Spent (works, inl spent) = follows_may group old new spent.0
-follows_refused group old new Spent (works, inr unread) = follows_as old new unread.0
-follows_refused group old new NoPage r = absurd r
-follows_refused group old new NothingOld r = absurd r
+pub follows_refused : (away : ℕ → Bool) (group : List Record) (old new : Kept) (cause : StoreFault) → Refuses away group old cause new → Turned 0 old new
+follows_refused away group old new NoMemory r = follows_may group old new r.1
+follows_refused away group old new BadConfig r = absurd r
+follows_refused away group old new NoSegment r = follows_as old new r.0
+follows_refused away group old new (Device lease) (works, inl broken) = follows_broken old new lease broken.2
+follows_refused away group old new (Device lease) (works, inr unread) = follows_read old new unread.read
+follows_refused away group old new Failed r = follows_as old new r.0
+follows_refused away group old new Spent (works, inl spent) = follows_may group old new spent.0
+follows_refused away group old new Spent (works, inr unread) = follows_as old new unread.0
+follows_refused away group old new NoPage r = absurd r
+follows_refused away group old new NothingOld r = absurd r
 
 -- ---- takes one after the other
 
@@ -304,7 +305,7 @@ all_works s lane (m ∷ ms) = all_works (taken s lane m (back_for s m.item)) lan
 
 may_entries : (group : List Record) (old new : Kept) → MakesRoom group old new → new.entries ≡ old.entries
 may_entries group old new (inl e) = ap (λ (s : Kept). s.entries) e
-may_entries group old new (inr f) = ap (λ (s : Kept). s.entries) f.1.1.is
+may_entries group old new (inr f) = ap (λ (s : Kept). s.entries) f.2.1.is
 
 one_group : (lane : ℕ) (old new : Kept) (t : Took lane old new) → groups_since old new ≡ 1
 one_group lane old new t =
@@ -336,9 +337,9 @@ took_more lane a b c x t = in_turn_then a b c x (in_turn_took lane b c t)
 pub took_none : {g n : ℕ} (a b c : Kept) → TookGroups g n a b → c ≡ b → TookGroups g n a c
 took_none {g} {n} a b c x e = subst (λ (s : Kept). TookGroups g n a s) (sym e) x
 
-pub took_fault : {n : ℕ} (lane : ℕ) (lanes : List Lane) (a b c : Kept) (fault : StoreFault) → TookInTurn n a b → RefusesNext lane lanes b fault c
-    → RefusedAfter n a lanes fault c
-took_fault lane lanes a b c fault x r = record { middle = b; took = x; lane = lane; refuses = r }
+pub took_fault : {n : ℕ} (lane : ℕ) (lanes : List Lane) (away : ℕ → Bool) (a b c : Kept) (fault : StoreFault) → TookInTurn n a b
+    → RefusesNext lane lanes away b fault c → RefusedAfter n a lanes away fault c
+took_fault lane lanes away a b c fault x r = record { middle = b; took = x; lane = lane; refuses = r }
 
 -- one group more, of so many records
 pub group_more : {g n : ℕ} (lane k : ℕ) (a b c : Kept) → TookGroups g n a b → (t : Took lane b c) × (length t.group ≡ k) → TookGroups (g + 1) (n + k) a c
@@ -351,31 +352,64 @@ group_more {g} {n} lane k a b c x t =
       omega arith,
     )
 
-pub group_more_by : {g n : ℕ} (lane k : ℕ) (lanes : List Lane) (a b c : Kept) (o : Option ℕ) → o ≡ Some k → TookGroups g n a b → TakeLeaves lane lanes b (Ok o) c
-    → TookGroups (g + 1) (n + k) a c
-group_more_by lane k lanes a b c o is x t = group_more lane k a b c x (subst (λ (p : Option ℕ). TakeLeaves lane lanes b (Ok p) c) is t)
+pub group_more_by : {g n : ℕ} (lane k : ℕ) (lanes : List Lane) (away : ℕ → Bool) (a b c : Kept) (o : Option ℕ) → o ≡ Some k → TookGroups g n a b
+    → TakeLeaves lane lanes away b (Ok o) c → TookGroups (g + 1) (n + k) a c
+group_more_by lane k lanes away a b c o is x t = group_more lane k a b c x (subst (λ (p : Option ℕ). TakeLeaves lane lanes away b (Ok p) c) is t)
 
-pub none_more_by : {g n : ℕ} (lane : ℕ) (lanes : List Lane) (a b c : Kept) (o : Option ℕ) → o ≡ None → TookGroups g n a b → TakeLeaves lane lanes b (Ok o) c
-    → TookGroups g n a c
-none_more_by lane lanes a b c o is x t = took_none a b c x (subst (λ (p : Option ℕ). TakeLeaves lane lanes b (Ok p) c) is t)
+pub none_more_by : {g n : ℕ} (lane : ℕ) (lanes : List Lane) (away : ℕ → Bool) (a b c : Kept) (o : Option ℕ) → o ≡ None → TookGroups g n a b
+    → TakeLeaves lane lanes away b (Ok o) c → TookGroups g n a c
+none_more_by lane lanes away a b c o is x t = took_none a b c x (subst (λ (p : Option ℕ). TakeLeaves lane lanes away b (Ok p) c) is t)
 
-pub group_fault : {g n : ℕ} (lane : ℕ) (lanes : List Lane) (a b c : Kept) (fault : StoreFault) → TookGroups g n a b → RefusesNext lane lanes b fault c
-    → RefusedAfter n a lanes fault c
-group_fault lane lanes a b c fault x r = took_fault lane lanes a b c fault x.0 r
+pub still_within : (n k limit : ℕ) → (n ≡ limit → ⊥) → n ≤ limit → k ≤ n + 1 → k ≤ limit
+still_within n k limit ne le more = (elim (nat_le (n + 1) limit) as (λ b. nat_le (n + 1) limit ≡ b → k ≤ limit) [
+  | true ↦ λ e. (let h = leb-true _ _ e in omega arith)
+  | false ↦ λ e. (let h = leb-false _ _ e in absurd (ne (omega arith)))
+] refl)
+
+nothing_came : (es : List Entry) → length es ≡ 0 → ends_in es ≡ 0
+nothing_came [] none = refl
+nothing_came (e ∷ es) none = absurd (omega arith)
+
+-- no group was taken by the call that refused one
+refused_since : (a b c : Kept) → Continues a b → Turned 0 b c → groups_since a c ≡ groups_since a b
+refused_since a b c f t =
+    let sum = since_then a b c f t.follows.continues in
+    let more = t.follows.continues.entries_more in
+    let grew = t.grew in
+    let all = ap length t.follows.continues.history ∙ length-append b.entries more in
+    let none : length more ≡ 0 = omega arith in
+    let last = came b c more t.follows.continues.history ∙ nothing_came more none in
+    omega arith
+
+pub group_fault : {g n : ℕ} (lane : ℕ) (lanes : List Lane) (away : ℕ → Bool) (a b c : Kept) (fault : StoreFault) → TookGroups g n a b
+    → RefusesNext lane lanes away b fault c → RefusedAfter n a lanes away fault c × (groups_since a c < g + 1)
+group_fault lane lanes away a b c fault x r =
+    let same = refused_since a b c x.0.turned.follows.continues (follows_refused away r.group b c fault r.refuses) in
+    let so_far = x.1 in
+    (took_fault lane lanes away a b c fault x.0 r, omega arith)
+
+-- a group more, and one that was refused, are within a limit that was not reached
+pub refused_within : {n : ℕ} (g limit : ℕ) (lanes : List Lane) (away : ℕ → Bool) (a c : Kept) (fault : StoreFault) → (g ≡ limit → ⊥) → g ≤ limit
+    → RefusedAfter n a lanes away fault c × (groups_since a c < g + 1) → RefusedAfter n a lanes away fault c × (groups_since a c < limit)
+refused_within g limit lanes away a c fault ne le r =
+    let most = still_within g (g + 1) limit ne le (omega arith) in
+    let low = r.1 in
+    (r.0, omega arith)
 
 -- none so far
 pub no_groups : (old new : Kept) → new ≡ old → TookGroups 0 0 old new
 no_groups old new e = (in_turn_as old new e, since_none old new (ap (λ (s : Kept). s.entries) e))
 
-pub refused_then : {n k : ℕ} (lanes : List Lane) (a b c : Kept) (cause : StoreFault) → TookInTurn n a b → RefusedAfter k b lanes cause c
-    → RefusedAfter (n + k) a lanes cause c
-refused_then lanes a b c cause x r =
+pub refused_then : {n k : ℕ} (lanes : List Lane) (away : ℕ → Bool) (a b c : Kept) (cause : StoreFault) → TookInTurn n a b → RefusedAfter k b lanes away cause c
+    → RefusedAfter (n + k) a lanes away cause c
+refused_then lanes away a b c cause x r =
     record { middle = r.middle; took = in_turn_then a b r.middle x r.took; lane = r.lane; refuses = r.refuses }
 
-pub refused_turned : {n : ℕ} (lanes : List Lane) (old new : Kept) (cause : StoreFault) → RefusedAfter n old lanes cause new → Turned n old new
-refused_turned {n} lanes old new cause r =
+pub refused_turned : {n : ℕ} (lanes : List Lane) (away : ℕ → Bool) (old new : Kept) (cause : StoreFault) → RefusedAfter n old lanes away cause new
+    → Turned n old new
+refused_turned {n} lanes away old new cause r =
     (let all : Turned (n + 0) old new =
-    follows_then old r.middle new r.took.turned (follows_refused r.refuses.group r.middle new cause r.refuses.refuses)
+    follows_then old r.middle new r.took.turned (follows_refused away r.refuses.group r.middle new cause r.refuses.refuses)
     in record { follows = all.follows; boxes = all.boxes; grew = (let g = all.grew in omega arith); quiet = all.quiet })
 
 pub any_then : (lane : ℕ) (a b c : Kept) → TookSome a b → Took lane b c → TookSome a c
@@ -384,18 +418,19 @@ any_then lane a b c x t = (x.0 + length t.group, took_more lane a b c x.1 t)
 pub some_then : (a b c : Kept) → TookSome a b → TookSome b c → TookSome a c
 some_then a b c x y = (x.0 + y.0, in_turn_then a b c x.1 y.1)
 
-pub some_refused : (lanes : List Lane) (a b c : Kept) (cause : StoreFault) → TookSome a b → RefusedAt b lanes cause c → RefusedAt a lanes cause c
-some_refused lanes a b c cause x r = (x.0 + r.0, refused_then lanes a b c cause x.1 r.1)
+pub some_refused : (lanes : List Lane) (away : ℕ → Bool) (a b c : Kept) (cause : StoreFault) → TookSome a b → RefusedAt b lanes away cause c
+    → RefusedAt a lanes away cause c
+some_refused lanes away a b c cause x r = (x.0 + r.0, refused_then lanes away a b c cause x.1 r.1)
 
-pub some_fault : (lane : ℕ) (lanes : List Lane) (a b c : Kept) (cause : StoreFault) → TookSome a b → RefusesNext lane lanes b cause c
-    → RefusedAt a lanes cause c
-some_fault lane lanes a b c cause x r = (x.0, took_fault lane lanes a b c cause x.1 r)
+pub some_fault : (lane : ℕ) (lanes : List Lane) (away : ℕ → Bool) (a b c : Kept) (cause : StoreFault) → TookSome a b → RefusesNext lane lanes away b cause c
+    → RefusedAt a lanes away cause c
+some_fault lane lanes away a b c cause x r = (x.0, took_fault lane lanes away a b c cause x.1 r)
 
-pub refused_follows : (lanes : List Lane) (old new : Kept) (cause : StoreFault) → RefusedAt old lanes cause new → Follows old new
-refused_follows lanes old new cause r = (refused_turned lanes old new cause r.1).follows
+pub refused_follows : (lanes : List Lane) (away : ℕ → Bool) (old new : Kept) (cause : StoreFault) → RefusedAt old lanes away cause new → Follows old new
+refused_follows lanes away old new cause r = (refused_turned lanes away old new cause r.1).follows
 
-pub refused_boxes : (lanes : List Lane) (old new : Kept) (cause : StoreFault) → RefusedAt old lanes cause new → HasBoxes old new
-refused_boxes lanes old new cause r = (refused_turned lanes old new cause r.1).boxes
+pub refused_boxes : (lanes : List Lane) (away : ℕ → Bool) (old new : Kept) (cause : StoreFault) → RefusedAt old lanes away cause new → HasBoxes old new
+refused_boxes lanes away old new cause r = (refused_turned lanes away old new cause r.1).boxes
 
 -- where an append failed before, no record is taken
 none_taken : (n : ℕ) (old new : Kept) → old.log.is_failed ≡ true → Takes n old new → (n ≡ 0) × (new ≡ old)
@@ -406,10 +441,11 @@ none_taken (suc n) old new failed x =
     let works = x.2.1.worked in absurd cc
 
 -- and the cause is Failed
-pub failed_at : (lanes : List Lane) (old new : Kept) (cause : StoreFault) → old.log.is_failed ≡ true → RefusedAt old lanes cause new → cause ≡ Failed
-failed_at lanes old new cause failed r =
+pub failed_at : (lanes : List Lane) (away : ℕ → Bool) (old new : Kept) (cause : StoreFault) → old.log.is_failed ≡ true → RefusedAt old lanes away cause new
+    → cause ≡ Failed
+failed_at lanes away old new cause failed r =
     let before = none_taken (groups_since old r.1.middle) old r.1.middle failed r.1.took.each in
-    failed_record r.1.refuses.group r.1.middle new cause (ap (λ (s : Kept). s.log.is_failed) before.1 ∙ failed) r.1.refuses.refuses
+    failed_record away r.1.refuses.group r.1.middle new cause (ap (λ (s : Kept). s.log.is_failed) before.1 ∙ failed) r.1.refuses.refuses
 
 -- also where nothing waits
 still_failed : (old middle : Kept) → old.log.is_failed ≡ true → TookSome old middle → middle.log.is_failed ≡ true
@@ -433,9 +469,3 @@ flushed_follows old middle new r x left = (flushed_turned old middle new r x lef
 
 pub flushed_boxes : (old middle new : Kept) (r : Result (Option ℕ) StoreFault) → TookSome old middle → FlushLeaves middle r new → HasBoxes old new
 flushed_boxes old middle new r x left = (flushed_turned old middle new r x left).1.boxes
-
-pub still_within : (n k limit : ℕ) → (n ≡ limit → ⊥) → n ≤ limit → k ≤ n + 1 → k ≤ limit
-still_within n k limit ne le more = (elim (nat_le (n + 1) limit) as (λ b. nat_le (n + 1) limit ≡ b → k ≤ limit) [
-  | true ↦ λ e. (let h = leb-true _ _ e in omega arith)
-  | false ↦ λ e. (let h = leb-false _ _ e in absurd (ne (omega arith)))
-] refl)

@@ -10,11 +10,11 @@ use Rattle.bw_store.specs.declared.fault.StoreFault.TheVariants.{NoMemory, BadCo
 use Rattle.bw_ring.specs.declared.lane.Lane.{Lane}
 use Rattle.bw_ring.specs.Marks.{marked}
 use Rattle.bw_store.specs.Lanes.{IsNext}
-use Rattle.bw_store.specs.Faults.{FlushLeaves, IsWantingAt, fault_of_apply}
+use Rattle.bw_store.specs.Faults.{FlushAnswers, FlushLeaves, IsWantingAt, fault_of_apply, flush_refusal}
 use Rattle.std.specs.Option.{unwrap_or}
 use Rattle.bw_store.specs.Fitting.{Fits, back_for, group_blocks, here_at}
 use Rattle.bw_store.specs.Taking.{MakesRoom, IsPlan, GroupLeaves, Took, WaitingLeaves, IsWanting, IsUnplanned, Works}
-use Rattle.bw_store.proofs.Refusing.{entered_not}
+use Rattle.bw_store.proofs.Refusing.{entered_not, none_of}
 use Rattle.bw_store.specs.Taken.{alone, taken, taken_all}
 use Rattle.std.specs.List.{AllByRecursion as All}
 use Rattle.bw_codec.specs.Grammar.{body_bytes, block_bytes, IsBlock, IsOp}
@@ -110,6 +110,17 @@ room_is m leaves item key page pages n leaf a k at there same count room over =
     let long : length (changed item leaf).pairs ≡ length (result_of leaves item).pairs = ap (λ (l : Leaf). length (changed item l).pairs) is in
     let bound = room (omega arith) in
     omega arith
+
+-- want of a number for the page that the record makes
+pub wanting_is : (m : ℕ) (leaves : List Leaf) (item : Record) (key : List ℕ) (page pages n : ℕ) (leaf : Leaf) (cause : StoreFault) → AreLeaves m leaves
+    → key ≡ key_of item → page ≡ (home key leaves).page → Some leaf ≡ leaf_at page leaves → n ≡ m → pages ≡ length leaves
+    → IsWantingAt n (length (changed item leaf).pairs) pages cause → IsWantingAt m (length (result_of leaves item).pairs) (length leaves) cause
+wanting_is m leaves item key page pages n leaf cause a k at there same count w =
+    let at_home : page ≡ directed_at leaves item = at ∙ ap (λ q. (home q leaves).page) k in
+    let is : leaf ≡ home (key_of item) leaves = some_same (there ∙ ap (λ p. leaf_at p leaves) at_home ∙ home_there m leaves (key_of item) a) in
+    let pairs : length (changed item leaf).pairs ≡ length (result_of leaves item).pairs = ap (λ (l : Leaf). length (changed item l).pairs) is in
+    subst (λ (x : ℕ). IsWantingAt m (length (result_of leaves item).pairs) x cause) count
+    (subst (λ (x : ℕ). IsWantingAt m x pages cause) pairs (subst (λ (x : ℕ). IsWantingAt x (length (changed item leaf).pairs) pages cause) same w))
 
 pub takes_by : (s : Kept) → IsSound s → (item : Record) (back : Place) → IsOp item → HasPage s.filed.m s.filed.leaves item → s.log.next ≡ Some s.making.frame
     → size_of s.making ≤ s.making.limit
@@ -231,17 +242,18 @@ fits_empty s blocks h empty few =
     omega arith
 
 -- what is known of a flush that answered Ok, for a group that did not fit
-pub flushed_or_not : (group : List Record) (old new : Kept) (o : Option ℕ) → (Fits old group → ⊥) → FlushLeaves old (Ok o) new → MakesRoom group old new
-flushed_or_not group old new None full f = inl f.0
-flushed_or_not group old new (Some n) full f = inr (full, (n, f))
+pub flushed_or_not : (group : List Record) (old new : Kept) (o : Option ℕ) → (Fits old group → ⊥) → FlushAnswers (flush_refusal old) (Ok o)
+    → FlushLeaves old (Ok o) new → MakesRoom group old new
+flushed_or_not group old new None full a f = inl f.0
+flushed_or_not group old new (Some n) full a f = inr (full, none_of (flush_refusal old) (Some n) a, (n, f))
 
 -- a group that was to be entered, behind a flush or not
-pub entered_or_not : (lane : ℕ) (old middle new : Kept) (group : List Record) (r : Result (Unit {0}) StoreFault) → (1 ≤ length group) × (length group ≤ 4)
-    → Works old → MakesRoom group old middle → Fits middle group → middle.log.is_failed ≡ false
-    → OnOk r (new ≡ taken_all middle lane (marked group)) → OnErr r (new ≡ middle) → IfErr r (IsWanting middle group) → GroupLeaves lane group old r new
-entered_or_not lane old middle new group (Ok x) few was may fits works is same w =
+pub entered_or_not : (lane : ℕ) (away : ℕ → Bool) (old middle new : Kept) (group : List Record) (r : Result (Unit {0}) StoreFault)
+    → (1 ≤ length group) × (length group ≤ 4) → Works old → MakesRoom group old middle → Fits middle group → middle.log.is_failed ≡ false
+    → OnOk r (new ≡ taken_all middle lane (marked group)) → OnErr r (new ≡ middle) → IfErr r (IsWanting middle group) → GroupLeaves lane away group old r new
+entered_or_not lane away old middle new group (Ok x) few was may fits works is same w =
     (record { group = group; few = few; worked = was; middle = middle; flushes = may; fits = fits; works = works; is = is }, refl)
-entered_or_not lane old middle new group (Err cause) few was may fits works is same w = entered_not group old middle new cause was may same w
+entered_or_not lane away old middle new group (Err cause) few was may fits works is same w = entered_not away group old middle new cause was may same w
 
 -- the same of a group of one, whose last block was known
 pub one_entered : (s new : Kept) (lane : ℕ) (item : Record) (plan : Plan) (r : Result (Unit {0}) StoreFault) → IsPlan s item plan
@@ -253,13 +265,14 @@ one_entered s new lane item plan (Ok x) p is =
     is ∙ ap (taken s lane (alone item)) (sym back)
 
 -- a page for which there is no number
-pub one_wanting : (s : Kept) (item : Record) (cause : StoreFault) → IsWantingAt (length s.filed.leaves) cause → IsWanting s (item ∷ []) cause
+pub one_wanting : (s : Kept) (item : Record) (cause : StoreFault)
+    → IsWantingAt s.filed.m (length (result_of s.filed.leaves item).pairs) (length s.filed.leaves) cause → IsWanting s (item ∷ []) cause
 one_wanting s item NoMemory w = tt
 one_wanting s item BadConfig w = absurd w
 one_wanting s item NoSegment w = absurd w
 one_wanting s item (Device lease) w = absurd w
 one_wanting s item Failed w = absurd w
-one_wanting s item Spent w = record { before = 0; inside = omega arith; all = w }
+one_wanting s item Spent w = record { before = 0; item = item; one = refl; splits = w.0; all = w.1 }
 one_wanting s item NoPage w = absurd w
 one_wanting s item NothingOld w = absurd w
 
@@ -274,17 +287,23 @@ wanting_unplanned s group NoPage works w = absurd w
 wanting_unplanned s group NothingOld works w = absurd w
 
 -- the same of what planning answers
-pub one_refused : (s : Kept) (item : Record) (o : Result Plan StoreFault) → Works s → IfErr o (IsWantingAt (length s.filed.leaves))
+pub one_refused : (s : Kept) (item : Record) (o : Result Plan StoreFault) → Works s
+    → IfErr o (IsWantingAt s.filed.m (length (result_of s.filed.leaves item).pairs) (length s.filed.leaves))
     → IfErr o (IsUnplanned s (item ∷ []))
 one_refused s item (Ok p) works w = tt
 one_refused s item (Err cause) works w = wanting_unplanned s (item ∷ []) cause works (one_wanting s item cause w)
 
 -- the same of what the pages tell
-pub one_wanting_of : (s : Kept) (f : Shown) (item : Record) (error : ApplyError) → length f.leaves ≡ length s.filed.leaves
+pub one_wanting_of : (s : Kept) (f : Shown) (item : Record) (error : ApplyError) → f.m ≡ s.filed.m → f.leaves ≡ s.filed.leaves
     → (error ≡ apply.Spent → IsSpent f item) → IsWanting s (item ∷ []) (fault_of_apply error)
-one_wanting_of s f item apply.NoMemory same spent = tt
-one_wanting_of s f item apply.Spent same spent =
-    (let over = (spent refl).1 in one_wanting s item Spent (omega arith))
+one_wanting_of s f item apply.NoMemory pairs leaves spent = tt
+one_wanting_of s f item apply.Spent pairs leaves spent =
+    let x = spent refl in
+    let over : length s.filed.leaves + 1 ≡ 2 ^ 32 = subst (λ (ls : List Leaf). length ls + 1 ≡ 2 ^ 32) leaves x.1 in
+    let more : s.filed.m < length (result_of s.filed.leaves item).pairs =
+    subst (λ (ls : List Leaf). s.filed.m < length (result_of ls item).pairs) leaves
+    (subst (λ (n : ℕ). n < length (result_of f.leaves item).pairs) pairs x.0) in
+    one_wanting s item Spent (more, omega arith)
 
 -- what a take of the next group of a lane tells of it
 pub take_some : (lane n : ℕ) (group : List Record) (a b c : Kept) → b ≡ a → (t : Took lane b c) × (t.group ≡ group) → n ≡ length group
@@ -292,10 +311,10 @@ pub take_some : (lane n : ℕ) (group : List Record) (a b c : Kept) → b ≡ a 
 take_some lane n group a b c same t count =
     subst (λ (s : Kept). (t : Took lane s c) × (length t.group ≡ n)) same (t.0, ap length t.1 ∙ sym count)
 
-pub waiting_left : (lane : ℕ) (lanes : List Lane) (group : List Record) (old new : Kept) (r : Result (Unit {0}) StoreFault) → GroupLeaves lane group old r new
-    → OnErr r (IsNext lanes lane group) → WaitingLeaves lane lanes old r new
-waiting_left lane lanes group old new (Ok x) left next = left.0
-waiting_left lane lanes group old new (Err fault) left next = record { group = group; waits = next; refuses = left }
+pub waiting_left : (lane : ℕ) (lanes : List Lane) (away : ℕ → Bool) (group : List Record) (old new : Kept) (r : Result (Unit {0}) StoreFault)
+    → GroupLeaves lane away group old r new → OnErr r (IsNext lanes lane group) → WaitingLeaves lane lanes away old r new
+waiting_left lane lanes away group old new (Ok x) left next = left.0
+waiting_left lane lanes away group old new (Err fault) left next = record { group = group; waits = next; refuses = left }
 
 pub on_err : {A : Type 0} {P Q : Type 0} (r : Result A StoreFault) → (P → Q) → OnErr r P → OnErr r Q
 on_err (Ok x) f h = tt

@@ -1,13 +1,15 @@
 -- What readers have is a beginning of what is durable, step by step.
 
-use Rattle.std.proofs.Common.{◌≡◌, ℕ, zero, suc, ◌+◌, ◌-◌, ◌≤◌, Some, Result, Ok, Err, OnOk, OnErr, MatchResult, List, [], ◌∷◌, ◌++◌, length, length-append, length-take, length-take-le, take, drop, refl, sym, ap, ◌∙◌, ◌⊎◌, inl, inr, append-nil, append_assoc, subst, arith}
+use Rattle.std.proofs.Common.{◌≡◌, ℕ, zero, suc, ◌+◌, ◌-◌, ◌≤◌, Some, Result, Ok, Err, IsOk, OnOk, OnErr, MatchResult, List, [], ◌∷◌, ◌++◌, length}
+use Rattle.std.proofs.Common.{length-append, length-take, length-take-le, take, drop, refl, sym, ap, ◌∙◌, ◌⊎◌, inl, inr, append-nil, append_assoc}
+use Rattle.std.proofs.Common.{subst, arith}
 use Rattle.std.specs.declared.alloc.AllocError.{AllocError}
 use mathlib.Core.List.{IsPrefix}
 use Rattle.bw_codec.specs.declared.leaf.Leaf.{Leaf}
 use Rattle.bw_page.specs.Shown.{Shown}
 use Rattle.bw_versions.specs.Batches.{BatchData, entries_of}
 use Rattle.bw_versions.specs.Posted.{posted_of}
-use Rattle.bw_versions.specs.Versioned.{EntersWhole, Versioned}
+use Rattle.bw_versions.specs.Versioned.{EntersWhole, IsUpTo, Versioned}
 use Rattle.bw_versions.specs.declared.entry.Entry.{Entry}
 use Rattle.bw_versions.proofs.Fronts.{prefix_trans}
 use Rattle.bw_store.specs.History.{cut, upto}
@@ -163,22 +165,32 @@ publish_sound s new end entries h is all same begins whole =
     (batched_sound s new.published new.entered h (subst (IsPrefix (entries_of new.entered)) (upto_is s end entries is all) begins)
     (ends_pushed s s.versions.entered new.entered h.shown.ends (subst (EntersWhole s.versions.entered new.entered) (upto_is s end entries is all) whole)))
 
+no_ok : (x : AllocError) → IsOk {T = Unit {0}} (Err x) → ⊥
+no_ok x e = cc
+
 pub publish_leaves : (s : Kept) (new : Versioned) (r : Result (Unit {0}) AllocError) (end : ℕ) (entries : List Entry) → IsSound s
     → end ≡ cut s.cuts s.durable → entries ≡ s.entries
     → (new.start ≡ s.versions.start) × (new.book ≡ s.versions.book) × (new.places ≡ s.versions.places)
     → OnOk r (posted_of new.published ≡ Some (record { start = s.versions.start; entries = take end entries }))
-    → OnOk r (IsPrefix s.versions.published new.published) → OnErr r (new.published ≡ s.versions.published)
+    → OnOk r (IsPrefix s.versions.published new.published) → OnErr r (new.published ≡ s.versions.published) → OnOk r (IsUpTo new (take end entries))
+    → (IsUpTo s.versions (take end entries) → (new ≡ s.versions) × IsOk r)
     → MatchResult r (λ _. Shows s (with_versions s new)) (λ _. Hides s (with_versions s new))
-publish_leaves s new (Ok x) end entries h is all same posted grows err = record {
+publish_leaves s new (Ok x) end entries h is all same posted grows err level idle = record {
   is = batches_are s new h.shown same;
   shown =
       posted ∙ ap (λ (es : List Entry). Some (record { start = s.versions.start; entries = es })) (upto_is s end entries is all)
       ∙ ap (λ (l : Shown). Some (record { start = l; entries = upto s.cuts s.entries s.durable })) h.shown.start;
   more = grows.0;
   grows = sym grows.1;
+  level = subst (IsUpTo new) (upto_is s end entries is all) level;
+  idle = λ was.
+      (let same_versions = (idle (subst (IsUpTo s.versions) (sym (upto_is s end entries is all)) was)).0 in
+      ap (λ (v : Versioned). with_versions s v) same_versions
+      ∙ ap (λ (ls : List Leaf). record s { start = ls }) (ap (λ (l : Shown). l.leaves) h.shown.start));
 }
-publish_leaves s new (Err x) end entries h is all same posted grows err = record {
+publish_leaves s new (Err x) end entries h is all same posted grows err level idle = record {
   is = batches_are s new h.shown same ∙ ap (λ (bs : List BatchData). with_batches s bs new.entered) err;
+  fresh = λ was. no_ok x (idle (subst (IsUpTo s.versions) (sym (upto_is s end entries is all)) was)).1;
 }
 
 -- a beginning of a beginning, and what follows it

@@ -33,17 +33,17 @@ worked takes_last old new (Some n) a left = ap (λ (s : Kept). s.log.is_failed) 
 -- ---- causes
 
 -- where a flush answered Ok, want of memory or of a page is told of the store before it
-pub entered_not : (group : List Record) (old middle new : Kept) (cause : StoreFault) → Works old → MakesRoom group old middle → new ≡ middle
-    → IsWanting middle group cause → Refuses group old cause new
-entered_not group old middle new NoMemory works may same w = (works, subst (MakesRoom group old) (sym same) may)
-entered_not group old middle new BadConfig works may same w = absurd w
-entered_not group old middle new NoSegment works may same w = absurd w
-entered_not group old middle new (Device lease) works may same w = absurd w
-entered_not group old middle new Failed works may same w = absurd w
-entered_not group old middle new Spent works may same w =
+pub entered_not : (away : ℕ → Bool) (group : List Record) (old middle new : Kept) (cause : StoreFault) → Works old → MakesRoom group old middle
+    → new ≡ middle → IsWanting middle group cause → Refuses away group old cause new
+entered_not away group old middle new NoMemory works may same w = (works, subst (MakesRoom group old) (sym same) may)
+entered_not away group old middle new BadConfig works may same w = absurd w
+entered_not away group old middle new NoSegment works may same w = absurd w
+entered_not away group old middle new (Device lease) works may same w = absurd w
+entered_not away group old middle new Failed works may same w = absurd w
+entered_not away group old middle new Spent works may same w =
     (works, inl (subst (λ (s : Kept). MakesRoom group old s × IsSpentFor group s) (sym same) (may, inl (inr w))))
-entered_not group old middle new NoPage works may same w = absurd w
-entered_not group old middle new NothingOld works may same w = absurd w
+entered_not away group old middle new NoPage works may same w = absurd w
+entered_not away group old middle new NothingOld works may same w = absurd w
 
 pub stopped_unplanned : (group : List Record) (s : Kept) (cause : StoreFault) → IsStopped s cause → IsUnplanned s group cause
 stopped_unplanned group s NoMemory w = absurd w
@@ -56,26 +56,26 @@ stopped_unplanned group s NoPage w = absurd w
 stopped_unplanned group s NothingOld w = absurd w
 
 -- nothing was appended, and nothing could be planned
-pub unplanned_now : (group : List Record) (s : Kept) (cause : StoreFault) → IsUnplanned s group cause → Refuses group s cause s
-unplanned_now group s NoMemory w = (w, inl refl)
-unplanned_now group s BadConfig w = absurd w
-unplanned_now group s NoSegment w = absurd w
-unplanned_now group s (Device lease) w = absurd w
-unplanned_now group s Failed w = (refl, w)
-unplanned_now group s Spent w = (w.0, inl (inl refl, inl w.1))
-unplanned_now group s NoPage w = absurd w
-unplanned_now group s NothingOld w = absurd w
+pub unplanned_now : (away : ℕ → Bool) (group : List Record) (s : Kept) (cause : StoreFault) → IsUnplanned s group cause → Refuses away group s cause s
+unplanned_now away group s NoMemory w = (w, inl refl)
+unplanned_now away group s BadConfig w = absurd w
+unplanned_now away group s NoSegment w = absurd w
+unplanned_now away group s (Device lease) w = absurd w
+unplanned_now away group s Failed w = (refl, w)
+unplanned_now away group s Spent w = (w.0, inl (inl refl, inl w.1))
+unplanned_now away group s NoPage w = absurd w
+unplanned_now away group s NothingOld w = absurd w
 
-pub unplanned_after : (group : List Record) (old new : Kept) (cause : StoreFault) → Works old → MakesRoom group old new → Works new → IsUnplanned new group cause
-    → Refuses group old cause new
-unplanned_after group old new NoMemory was may works w = (was, may)
-unplanned_after group old new BadConfig was may works w = absurd w
-unplanned_after group old new NoSegment was may works w = absurd w
-unplanned_after group old new (Device lease) was may works w = absurd w
-unplanned_after group old new Failed was may works w = absurd cc
-unplanned_after group old new Spent was may works w = (was, inl (may, inl w.1))
-unplanned_after group old new NoPage was may works w = absurd w
-unplanned_after group old new NothingOld was may works w = absurd w
+pub unplanned_after : (away : ℕ → Bool) (group : List Record) (old new : Kept) (cause : StoreFault) → Works old → MakesRoom group old new → Works new
+    → IsUnplanned new group cause → Refuses away group old cause new
+unplanned_after away group old new NoMemory was may works w = (was, may)
+unplanned_after away group old new BadConfig was may works w = absurd w
+unplanned_after away group old new NoSegment was may works w = absurd w
+unplanned_after away group old new (Device lease) was may works w = absurd w
+unplanned_after away group old new Failed was may works w = absurd cc
+unplanned_after away group old new Spent was may works w = (was, inl (may, inl w.1))
+unplanned_after away group old new NoPage was may works w = absurd w
+unplanned_after away group old new NothingOld was may works w = absurd w
 
 -- ---- a refusal of a flush is that of the record, or of the call, that asked for it
 
@@ -180,15 +180,32 @@ other_cause : (failed : Bool) (rest : Option StoreFault) (fault : StoreFault) �
 other_cause true rest fault other a = absurd (other cc)
 other_cause false rest fault other a = refl
 
+-- a flush that the device failed had no other cause
+none_at : (s : Kept) (lease : ℕ) → FlushAnswers (flush_refusal s) (Err (Device lease)) → flush_refusal s ≡ None
+none_at s lease a = by (flush_refusal s) (flush_cause false s) a
+  where
+    by : (o : Option StoreFault) → IsFlushCause s.log.is_failed o → FlushAnswers o (Err (Device lease)) → o ≡ None
+    by None is told = refl
+    by (Some cause) is told = absurd (subst (λ (o : Option StoreFault). IsFlushCause s.log.is_failed o) (same cause told) is)
+      where
+        same : (cause : StoreFault) → FlushAnswers (Some cause) (Err (Device lease)) → Some cause ≡ Some (Device lease)
+        same cause told = cc
+
+-- nor had one that answered Ok
+pub none_of : (o : Option StoreFault) (x : Option ℕ) → FlushAnswers o (Ok x) → o ≡ None
+none_of None x a = refl
+none_of (Some cause) x a = absurd cc
+
 -- a flush for a group that does not fit
-pub flush_refuses : (group : List Record) (old new : Kept) (cause : StoreFault) → (Fits old group → ⊥) → FlushAnswers (flush_refusal old) (Err cause)
-    → FlushLeaves old (Err cause) new → Refuses group old cause new
-flush_refuses group old new NoMemory full a left = (other_cause old.log.is_failed _ NoMemory (λ e. cc) a, inl left)
-flush_refuses group old new BadConfig full a left = absurd (is_cause false old BadConfig (λ x. x) a)
-flush_refuses group old new NoSegment full a left = (left, full, same_answer (flush_refusal old) NoSegment (λ x. x) a)
-flush_refuses group old new (Device lease) full a left = (other_cause old.log.is_failed _ (Device lease) (λ e. cc) a, inl (full, left))
-flush_refuses group old new Failed full a left = (left, is_cause false old Failed (λ x. x) a)
-flush_refuses group old new Spent full a left = (
+pub flush_refuses : (away : ℕ → Bool) (group : List Record) (old new : Kept) (cause : StoreFault) → (Fits old group → ⊥)
+    → FlushAnswers (flush_refusal old) (Err cause) → FlushLeaves old (Err cause) new → Refuses away group old cause new
+flush_refuses away group old new NoMemory full a left = (other_cause old.log.is_failed _ NoMemory (λ e. cc) a, inl left)
+flush_refuses away group old new BadConfig full a left = absurd (is_cause false old BadConfig (λ x. x) a)
+flush_refuses away group old new NoSegment full a left = (left, full, same_answer (flush_refusal old) NoSegment (λ x. x) a)
+flush_refuses away group old new (Device lease) full a left =
+    (other_cause old.log.is_failed _ (Device lease) (λ e. cc) a, inl (full, none_at old lease a, left))
+flush_refuses away group old new Failed full a left = (left, is_cause false old Failed (λ x. x) a)
+flush_refuses away group old new Spent full a left = (
   other_cause old.log.is_failed _ Spent (λ e. cc) a,
   inl (
     inl left,
@@ -196,8 +213,8 @@ flush_refuses group old new Spent full a left = (
         (full, same_answer (flush_refusal old) Spent (λ x. x) a)),
   ),
 )
-flush_refuses group old new NoPage full a left = absurd (is_cause false old NoPage (λ x. x) a)
-flush_refuses group old new NothingOld full a left = absurd (is_cause false old NothingOld (λ x. x) a)
+flush_refuses away group old new NoPage full a left = absurd (is_cause false old NoPage (λ x. x) a)
+flush_refuses away group old new NothingOld full a left = absurd (is_cause false old NothingOld (λ x. x) a)
 
 -- where an append failed before, a flush tells it, and so does a refused group
 pub failed_flush : (takes_last : Bool) (s : Kept) (r : Result (Option ℕ) StoreFault) → s.log.is_failed ≡ true → FlushAnswers (refusal_by takes_last s) r
@@ -209,10 +226,11 @@ failed_flush takes_last s r failed answers = by s.log.is_failed _ r failed answe
     by true rest r is answers = answers
     by false rest r is answers = absurd cc
 
-pub failed_record : (group : List Record) (old new : Kept) (cause : StoreFault) → old.log.is_failed ≡ true → Refuses group old cause new → cause ≡ Failed
-failed_record group old new NoMemory failed r = (let works = r.0 in absurd cc)
-failed_record group old new BadConfig failed r = absurd r
-failed_record group old new NoSegment failed r = absurd (failed_wants old failed r.2)
+pub failed_record : (away : ℕ → Bool) (group : List Record) (old new : Kept) (cause : StoreFault) → old.log.is_failed ≡ true → Refuses away group old cause new
+    → cause ≡ Failed
+failed_record away group old new NoMemory failed r = (let works = r.0 in absurd cc)
+failed_record away group old new BadConfig failed r = absurd r
+failed_record away group old new NoSegment failed r = absurd (failed_wants old failed r.2)
   where
     failed_wants : (s : Kept) → s.log.is_failed ≡ true → flush_refusal s ≡ Some NoSegment → ⊥
     failed_wants s failed told = by s.log.is_failed _ failed told
@@ -220,8 +238,8 @@ failed_record group old new NoSegment failed r = absurd (failed_wants old failed
         by : (failed : Bool) (rest : Option StoreFault) → failed ≡ true → (if failed then Some Failed else rest) ≡ Some NoSegment → ⊥
         by true rest is told = cc
         by false rest is told = cc
-failed_record group old new (Device lease) failed r = (let works = r.0 in absurd cc)
-failed_record group old new Failed failed r = refl
-failed_record group old new Spent failed r = (let works = r.0 in absurd cc)
-failed_record group old new NoPage failed r = absurd r
-failed_record group old new NothingOld failed r = absurd r
+failed_record away group old new (Device lease) failed r = (let works = r.0 in absurd cc)
+failed_record away group old new Failed failed r = refl
+failed_record away group old new Spent failed r = (let works = r.0 in absurd cc)
+failed_record away group old new NoPage failed r = absurd r
+failed_record away group old new NothingOld failed r = absurd r

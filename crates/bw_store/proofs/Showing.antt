@@ -1,6 +1,7 @@
 -- What follows from a publication.
 
-use Rattle.std.proofs.Common.{◌≡◌, ℕ, false, inr, Option, Some, None, Result, Ok, Err, List, [], ◌++◌, length, take, take_all, refl, sym, ap, ◌∙◌, subst, arith, append-nil}
+use Rattle.std.proofs.Common.{◌≡◌, ℕ, Bool, false, inr, Option, Some, None, Result, Ok, Err, List, [], ◌++◌, length, take, take_all, refl, sym, ap}
+use Rattle.std.proofs.Common.{◌∙◌, subst, arith, append-nil}
 use Rattle.bw_log.specs.Contents.{roster}
 use Rattle.bw_versions.specs.Batches.{BatchData}
 use Rattle.bw_versions.specs.Versioned.{Versioned}
@@ -113,8 +114,8 @@ module _ (old middle flushed new : Kept) (r : Result (Option ℕ) StoreFault) (t
   )
 
 pub settle_hides : (old middle flushed new : Kept) (o : Option ℕ) → TookSome old middle → FlushAnswers (flush_refusal middle) (Ok o)
-    → FlushLeaves middle (Ok o) flushed → Hides flushed new → (lanes : List Lane) → SettleRefuses old lanes NoMemory new
-settle_hides old middle flushed new o took answers left x lanes =
+    → FlushLeaves middle (Ok o) flushed → Hides flushed new → (lanes : List Lane) (away : ℕ → Bool) → SettleRefuses old lanes away NoMemory new
+settle_hides old middle flushed new o took answers left x lanes away =
     inr (inr (refl, (middle, took, (flushed, record { number = o; answers = answers; leaves = left }, x))))
 
 pub settle_shows : (old middle flushed new : Kept) (o : Option ℕ) → TookSome old middle → FlushAnswers (flush_refusal middle) (Ok o)

@@ -1,6 +1,6 @@
 -- A log's fault as the store tells it, and what each answer of a flush leaves.
 
-use Rattle.std.specs.Prelude.{ℕ, ◌≡◌, ◌⊎◌, ◌≤◌, ◌-◌, ◌^◌, Option, Some, None, Result, Ok, Err, Bool, false, [], length, is_none, if◌then◌else◌, ◌==◌}
+use Rattle.std.specs.Prelude.{ℕ, ◌≡◌, ◌⊎◌, ◌≤◌, ◌<◌, ◌-◌, ◌^◌, Option, Some, None, Result, Ok, Err, Bool, false, [], length, is_none, if◌then◌else◌, ◌==◌}
 use Rattle.bw_codec.specs.Grammar.{frame_bytes}
 use Rattle.bw_buffer.specs.Filling.{Filling, frame_of}
 use Rattle.bw_page.specs.declared.fault.ApplyError.{ApplyError}
@@ -27,16 +27,17 @@ abbrev pub fault_of_apply : ApplyError → StoreFault
 fault_of_apply apply.NoMemory = NoMemory
 fault_of_apply apply.Spent = Spent
 
--- want of memory, or of a number for one page more than there are
-abbrev pub IsWantingAt : ℕ → StoreFault → Type 0
-IsWantingAt pages NoMemory = Unit {0}
-IsWantingAt pages BadConfig = ⊥
-IsWantingAt pages NoSegment = ⊥
-IsWantingAt pages (Device lease) = ⊥
-IsWantingAt pages Failed = ⊥
-IsWantingAt pages Spent = 2 ^ 32 - 1 ≤ pages
-IsWantingAt pages NoPage = ⊥
-IsWantingAt pages NothingOld = ⊥
+-- want of memory, or of a number for one page more than there are, where a page has this many pairs,
+-- and more than the most
+abbrev pub IsWantingAt : ℕ → ℕ → ℕ → StoreFault → Type 0
+IsWantingAt most pairs pages NoMemory = Unit {0}
+IsWantingAt most pairs pages BadConfig = ⊥
+IsWantingAt most pairs pages NoSegment = ⊥
+IsWantingAt most pairs pages (Device lease) = ⊥
+IsWantingAt most pairs pages Failed = ⊥
+IsWantingAt most pairs pages Spent = (most < pairs) × (2 ^ 32 - 1 ≤ pages)
+IsWantingAt most pairs pages NoPage = ⊥
+IsWantingAt most pairs pages NothingOld = ⊥
 
 -- ---- a flush
 

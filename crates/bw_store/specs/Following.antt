@@ -1,6 +1,6 @@
 -- What no call takes back.
 
-use Rattle.std.specs.Prelude.{ℕ, zero, suc, ◌+◌, ◌*◌, ◌≡◌, ◌≤◌, true, List, ◌++◌, length, drop, Result, MatchResult}
+use Rattle.std.specs.Prelude.{ℕ, zero, suc, ◌+◌, ◌*◌, ◌≡◌, ◌≤◌, ◌<◌, Bool, true, List, ◌++◌, length, drop, Result, MatchResult}
 use Rattle.bw_log.specs.Contents.{roster}
 use Rattle.bw_versions.specs.Batches.{BatchData}
 use Rattle.bw_versions.specs.declared.entry.Entry.{Entry}
@@ -65,11 +65,11 @@ pub record TookInTurn (n : ℕ) (old new : Kept) : Type 0 where
 
 -- so many records were taken, group after group, and then a group was refused, which is still the
 -- first of its lane
-pub record RefusedAfter (n : ℕ) (old : Kept) (lanes : List Lane) (cause : StoreFault) (new : Kept) : Type 0 where
+pub record RefusedAfter (n : ℕ) (old : Kept) (lanes : List Lane) (away : ℕ → Bool) (cause : StoreFault) (new : Kept) : Type 0 where
   pub middle : Kept
   pub took : TookInTurn n old middle
   pub lane : ℕ
-  pub refuses : RefusesNext lane lanes middle cause new
+  pub refuses : RefusesNext lane lanes away middle cause new
 
 -- the same of so many groups
 abbrev pub TookGroups : ℕ → ℕ → Kept → Kept → Type 0
@@ -79,11 +79,13 @@ TookGroups groups n old new = TookInTurn n old new × (groups_since old new ≡ 
 abbrev pub TookSome : Kept → Kept → Type 0
 TookSome old new = (n : ℕ) × TookInTurn n old new
 
-abbrev pub RefusedAt : Kept → List Lane → StoreFault → Kept → Type 0
-RefusedAt old lanes cause new = (n : ℕ) × RefusedAfter n old lanes cause new
+abbrev pub RefusedAt : Kept → List Lane → (ℕ → Bool) → StoreFault → Kept → Type 0
+RefusedAt old lanes away cause new = (n : ℕ) × RefusedAfter n old lanes away cause new
 
--- a round goes on behind what was taken before: it tells all that was taken since the first, or why no more was
-abbrev pub TurnsOn : Count → Kept → Result Count TurnFault → List Lane → Kept → Type 0
-TurnsOn taken old result lanes new =
+-- a round goes on behind what was taken before: it tells all that was taken since the first, or why no
+-- more was, before so many groups were taken
+abbrev pub TurnsOn : ℕ → Count → Kept → Result Count TurnFault → List Lane → (ℕ → Bool) → Kept → Type 0
+TurnsOn limit taken old result lanes away new =
     (first : Kept) → TookGroups taken.groups taken.records first old → MatchResult result
-    (λ count. TookGroups count.groups count.records first new) (λ fault. RefusedAfter fault.taken first lanes fault.cause new)
+    (λ count. TookGroups count.groups count.records first new)
+    (λ fault. RefusedAfter fault.taken first lanes away fault.cause new × (groups_since first new < limit))

@@ -1,9 +1,9 @@
 -- What a publication leaves, and the calls that end with one.
 
-use Rattle.std.specs.Prelude.{ℕ, false, ◌≡◌, ◌⊎◌, ◌++◌, List, [], Option, Some, Result, Ok, Err, drop}
+use Rattle.std.specs.Prelude.{ℕ, Bool, false, ◌≡◌, ◌⊎◌, ◌++◌, List, [], Option, Some, Result, Ok, Err, drop}
 use Rattle.bw_versions.specs.Batches.{BatchData}
 use Rattle.bw_versions.specs.Posted.{posted_of}
-use Rattle.bw_versions.specs.Versioned.{Versioned}
+use Rattle.bw_versions.specs.Versioned.{IsUpTo, Versioned}
 use Rattle.bw_page.specs.Shown.{Shown}
 use Rattle.bw_log.specs.Contents.{roster}
 use Rattle.bw_care.specs.declared.cleaner.Cleaned.{Cleaned}
@@ -28,16 +28,24 @@ pub record AreUnseen (leaves : Shown) (readers : ℕ) (v : Versioned) : Type 0 w
 abbrev pub with_places : Kept → ℕ → Kept
 with_places s places = record s { versions = record s.versions { places = places } }
 
--- the start and the entries up to the durable cut are published, all at once
+-- readers have the start, and the entries up to the durable cut
+abbrev pub IsLevel : Kept → Type 0
+IsLevel s = IsUpTo s.versions (upto s.cuts s.entries s.durable)
+
+-- the start and the entries up to the durable cut are published, all at once; nothing is where readers
+-- have them already
 pub record Shows (old new : Kept) : Type 0 where
   pub is : new ≡ with_batches old new.versions.published new.versions.entered
   pub shown : posted_of new.versions.published ≡ Some (record { start = start_of old; entries = upto old.cuts old.entries old.durable })
   pub more : List BatchData
   pub grows : new.versions.published ≡ old.versions.published ++ more
+  pub level : IsLevel new
+  pub idle : IsLevel old → new ≡ old
 
--- a publication was refused: what is published stays
+-- a publication was refused, where there was something to publish: what is published stays
 pub record Hides (old new : Kept) : Type 0 where
   pub is : new ≡ with_batches old old.versions.published new.versions.entered
+  pub fresh : IsLevel old → ⊥
 
 -- a flush, and then a publication; where that finds no memory the frame is durable
 abbrev pub FlushShows : Kept → Result (Option ℕ) StoreFault → Kept → Type 0
@@ -51,9 +59,9 @@ FlushStops old fault new =
     (middle : Kept) × TookSome old middle × FlushAnswers (flush_refusal middle) (Err fault) × FlushLeaves middle (Err fault) new
 
 -- why a settlement was refused: a record was, or the flush behind all of them, or the publication
-abbrev pub SettleRefuses : Kept → List Lane → StoreFault → Kept → Type 0
-SettleRefuses old lanes fault new =
-    RefusedAt old lanes fault new
+abbrev pub SettleRefuses : Kept → List Lane → (ℕ → Bool) → StoreFault → Kept → Type 0
+SettleRefuses old lanes away fault new =
+    RefusedAt old lanes away fault new
     ⊎ (FlushStops old fault new
     ⊎ ((fault ≡ NoMemory) × ((middle : Kept) × TookSome old middle × ((flushed : Kept) × Emptied false middle flushed × Hides flushed new))))
 

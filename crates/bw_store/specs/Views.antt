@@ -37,6 +37,10 @@ module _ {I : Type 0} {H : I → Type 0} where
   abbrev pub is_evicted : ℕ → Store I H → Bool
   is_evicted page s = is_evicted_page page s.leaves
 
+  -- which pages are away
+  abbrev pub away_in : Store I H → ℕ → Bool
+  away_in s page = is_evicted_page page s.leaves
+
   -- how many entries of the history left memory, from the first on
   abbrev pub forgotten_of : Store I H → ℕ
   forgotten_of s = s.intake.history.gone

@@ -18,7 +18,6 @@ ghost use Rattle.bw_store.specs.Taking.{IsWanting};
 
 use crate::draft::Row;
 use crate::fault::StoreFault;
-use crate::hints::hint_one;
 use crate::store::Store;
 use crate::tails::{note, reserve_for};
 use bw_buffer::Buffer;
@@ -64,15 +63,13 @@ impl Store {
     {
         let _ = item.key();
         let _ = self.leaves.count();
-        let entry = self.intake.packed_alone(lane, &item)?;
+        let entry = self.intake.packed_alone(lane, &item, page)?;
         self.intake.reserve()?;
         self.newest.reserve(1)?;
-        self.hints.reserve(1)?;
         reserve_for(&mut self.tails, page)?;
         let _ = self.leaves.apply_on(page, &item)?;
         note(&mut self.tails, page, &item, blocks.len() > 1);
         file(&mut self.making, &mut self.newest, page, blocks);
-        hint_one(&mut self.hints, page);
         self.intake.enter_alone(lane, &item, entry);
         Ok(())
     }

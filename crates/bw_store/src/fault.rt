@@ -10,7 +10,7 @@ use bw_device::Segment;
 use bw_log::LogFault;
 use bw_page::ApplyError;
 use std::alloc::AllocError;
-use std::fmt::{self, Display, Formatter};
+use std::fmt::{self, Debug, Display, Formatter};
 use thiserror::Error;
 
 /// Why a call on a store was refused.
@@ -52,17 +52,34 @@ impl Display for StoreFault {
 }
 
 /// A turn was refused after it took so many records.
-#[derive(Debug, Clone, Copy, PartialEq, Eq)]
+#[derive(Debug, Clone, Copy, PartialEq, Eq, Error)]
+#[error("{cause}, after {taken} records were taken")]
 pub struct TurnFault {
     pub taken: u64,
     pub cause: StoreFault,
 }
 
 /// Why no store was opened, with the boxes that were handed in.
-#[derive(Drop)]
+#[derive(Drop, Error)]
+#[error("{cause}")]
 pub struct OpenFault {
     pub segments: Vec<Box<dyn Segment>>,
     pub cause: StoreFault,
+}
+
+// Boxes of other crates' kinds need not be told.
+impl Debug for OpenFault {
+    fn fmt<W: fmt::Write>(&self, f: &mut Formatter<W>) -> fmt::Result {
+        write!(f, "OpenFault({:?})", self.cause)
+    }
+}
+
+impl From<TurnFault> for StoreFault {
+    ghost from_gives = { λ e fault. fault ≡ e.cause };
+
+    fn from(error: TurnFault) -> StoreFault {
+        error.cause
+    }
 }
 
 impl From<AllocError> for StoreFault {

@@ -5,21 +5,21 @@ ghost use Rattle.std.specs.List.{AllByRecursion};
 ghost use Rattle.bw_codec.specs.Grammar.{IsOp};
 ghost use Rattle.bw_codec.specs.Record.{key_of};
 ghost use Rattle.bw_page.specs.Batch.{AreHere, steps_of};
-ghost use Rattle.bw_page.specs.Leaves.{HasPages};
+ghost use Rattle.bw_log.specs.Reads.{HoldsPage};
+ghost use Rattle.bw_page.specs.Leaves.{directed_at, HasPages};
 ghost use Rattle.bw_page.specs.Shown.{IsHere};
 ghost use Rattle.bw_ring.specs.Ends.{given};
 ghost use Rattle.bw_ring.specs.Marks.{marked};
 ghost use Rattle.bw_store.specs.Drafting.{IsAhead, IsDraft, Stands};
 ghost use Rattle.bw_store.specs.Fitting.{Fits};
 ghost use Rattle.bw_store.specs.Lanes.{IsNext, TookKnown};
-ghost use Rattle.bw_store.specs.Reading.{WalkLeaves};
+ghost use Rattle.bw_store.specs.Reading.{HasRead, ReadLeaves};
 ghost use Rattle.bw_store.specs.Taken.{taken_all};
-ghost use Rattle.bw_store.specs.Taking.{IsUnplanned, IsWanting};
+ghost use Rattle.bw_store.specs.Taking.{FetchLeaves, IsUnplanned, IsWanting};
 
 use crate::draft::Draft;
 use crate::enter::file_all;
 use crate::fault::StoreFault;
-use crate::hints::hint_all;
 use crate::store::Store;
 use crate::tails::{note_all, reserve_all};
 use bw_codec::{Leaf, Record};
@@ -28,7 +28,7 @@ use bw_ring::Group;
 use std::alloc::AllocError;
 
 impl Store {
-    ghost use Rattle.bw_store.specs.Views.{kept_by, noted_of, IsSound};
+    ghost use Rattle.bw_store.specs.Views.{away_in, kept_by, noted_of, IsSound};
 
     /// Brings back the pages of all records of a group, before it is planned. A page that one of
     /// them makes comes out of a page that is then in memory.
@@ -38,8 +38,8 @@ impl Store {
         ensures intake { self.new.intake ≡ self.old.intake }
         ensures here { OnOk result (AreHere self.new.leaves records.now) }
         ensures lawful { OnOk result (AllByRecursion IsOp records.now) }
-        ensures leaves { WalkLeaves (kept_by self.old holding) result
-            (kept_by self.new holding) }
+        ensures leaves { FetchLeaves (away_in self.new) records.now (kept_by self.old holding)
+            result (kept_by self.new holding) }
         ensures noted { noted_of self.new ≡ noted_of self.old }
     {
         'records: for at in 0..records.len() {
@@ -58,8 +58,12 @@ impl Store {
         ensures others { OnOk result ((key : List ℕ) → IsHere key self.old.leaves
             → IsHere key self.new.leaves) }
         ensures lawful { IsOp item.now }
-        ensures leaves { WalkLeaves (kept_by self.old holding) result
-            (kept_by self.new holding) }
+        ensures read { HasRead (kept_by self.old holding) (kept_by self.new holding) }
+        ensures away { OnErr result (away_in self.new
+            (directed_at (kept_by self.old holding).filed.leaves item.now) ≡ true) }
+        ensures leaves { ReadLeaves (HoldsPage (kept_by self.old holding).log
+            (directed_at (kept_by self.old holding).filed.leaves item.now))
+            (kept_by self.old holding) result (kept_by self.new holding) }
         ensures noted { noted_of self.new ≡ noted_of self.old }
     {
         let _ = self.fetch(item.key())?;
@@ -184,10 +188,9 @@ impl Store {
     {
         let rows = draft.rows.as_slice();
         let _ = self.leaves.count();
-        let entries = self.intake.packed(lane, &group)?;
+        let entries = self.intake.packed(lane, &group, rows)?;
         self.intake.reserve()?;
         self.newest.reserve(group.len())?;
-        self.hints.reserve(rows.len())?;
         reserve_all(&mut self.tails, rows)?;
         self.leaves.apply_all_of(group.as_slice())?;
         note_all(&mut self.tails, rows, group.as_slice());
@@ -197,7 +200,6 @@ impl Store {
             rows,
             draft.blocks.as_slice(),
         );
-        hint_all(&mut self.hints, rows);
         self.intake.enter(lane, &group, entries);
         Ok(())
     }

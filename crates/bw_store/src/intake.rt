@@ -9,6 +9,7 @@ ghost use Rattle.bw_store.specs.Lanes.{IsNext, IsWaiting, Dries, TookAt, TookKno
 ghost use Rattle.bw_store.specs.Remembered.{HasRoom};
 
 use crate::beside::look_at_all;
+use crate::draft::Row;
 use crate::history::History;
 use bw_codec::Record;
 use bw_ring::{Feed, Group, Lane};
@@ -112,22 +113,39 @@ impl Intake {
         self.history.reserve()
     }
 
-    /// The entries of a group of a lane, as the history keeps them.
-    pub(crate) fn packed(&self, lane: usize, group: &Group) -> Result<Vec<PackedEntry>, AllocError>
+    /// The entries of a group of a lane, as the history keeps them: on the pages of these rows, one a
+    /// record.
+    pub(crate) fn packed(
+        &self,
+        lane: usize,
+        group: &Group,
+        rows: &[Row],
+    ) -> Result<Vec<PackedEntry>, AllocError>
         requires { lane < length self.now.lanes.items }
         ensures { IfOk result (λ v. v.items ≡ entered lane (marked group.now)) }
     {
         let _ = self.lanes.len();
-        pack(*self.counts.allocator(), lane as u16, group.as_slice())
+        pack(
+            *self.counts.allocator(),
+            lane as u16,
+            group.as_slice(),
+            rows,
+        )
     }
 
-    /// The entry of a record of a lane that is a group of its own.
-    pub(crate) fn packed_alone(&self, lane: usize, item: &Record) -> Result<PackedEntry, AllocError>
+    /// The entry of a record of a lane that is a group of its own, on this page.
+    pub(crate) fn packed_alone(
+        &self,
+        lane: usize,
+        item: &Record,
+        page: u32,
+    ) -> Result<PackedEntry, AllocError>
         requires { lane < length self.now.lanes.items }
         ensures { IfOk result (λ e. e ≡ record { writer = lane; more = false; item = item.now }) }
     {
         let _ = self.lanes.len();
-        PackedEntry::of(*self.counts.allocator(), lane as u16, false, item)
+        let entry = PackedEntry::of(*self.counts.allocator(), lane as u16, false, item)?;
+        Ok(entry.on(page))
     }
 
     /// Takes the group that the lane gives next, and enters its entries.
@@ -169,40 +187,57 @@ impl Intake {
     }
 }
 
-// The entries of a group, as the history keeps them.
-fn pack(alloc: Global, writer: u16, items: &[Record]) -> Result<Vec<PackedEntry>, AllocError>
+// The entries of a group, as the history keeps them. Readers' copies look for each on the page of its
+// row, and search where it is not the right one, so nothing has to be known of these pages.
+fn pack(
+    alloc: Global,
+    writer: u16,
+    items: &[Record],
+    rows: &[Row],
+) -> Result<Vec<PackedEntry>, AllocError>
     requires { (1 ≤ length items.now) × (length items.now ≤ 4) }
     ensures { IfOk result (λ v. v.items ≡ entered writer (marked items.now)) }
 {
     let mut all = Vec::with_capacity(alloc, items.len())?;
     match items {
-        [a] => add(&mut all, writer, false, a)?,
+        [a] => add(&mut all, writer, false, a, rows)?,
         [a, b] => {
-            add(&mut all, writer, true, a)?;
-            add(&mut all, writer, false, b)?;
+            add(&mut all, writer, true, a, rows)?;
+            add(&mut all, writer, false, b, rows)?;
         }
         [a, b, c] => {
-            add(&mut all, writer, true, a)?;
-            add(&mut all, writer, true, b)?;
-            add(&mut all, writer, false, c)?;
+            add(&mut all, writer, true, a, rows)?;
+            add(&mut all, writer, true, b, rows)?;
+            add(&mut all, writer, false, c, rows)?;
         }
         [a, b, c, d] => {
-            add(&mut all, writer, true, a)?;
-            add(&mut all, writer, true, b)?;
-            add(&mut all, writer, true, c)?;
-            add(&mut all, writer, false, d)?;
+            add(&mut all, writer, true, a, rows)?;
+            add(&mut all, writer, true, b, rows)?;
+            add(&mut all, writer, true, c, rows)?;
+            add(&mut all, writer, false, d, rows)?;
         }
         _ => unreachable!(),
     }
     Ok(all)
 }
 
-fn add(all: &mut Vec<PackedEntry>, writer: u16, more: bool, item: &Record) -> Result<(), AllocError>
+// Adds the entry of one record, whose row has the index that the entry gets.
+fn add(
+    all: &mut Vec<PackedEntry>,
+    writer: u16,
+    more: bool,
+    item: &Record,
+    rows: &[Row],
+) -> Result<(), AllocError>
     ensures { OnOk result (all.new.items
         ≡ all.old.items ++ record { writer = writer; more = more; item = item.now } ∷ []) }
 {
     let entry = PackedEntry::of(*all.allocator(), writer, more, item)?;
-    all.push(entry)?;
+    let page = match rows.get(all.len()) {
+        Some(row) => row.page,
+        None => 0,
+    };
+    all.push(entry.on(page))?;
     Ok(())
 }
 

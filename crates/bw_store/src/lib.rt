@@ -25,7 +25,6 @@ mod fault;
 mod flush;
 mod forget;
 mod groups;
-mod hints;
 mod history;
 mod intake;
 mod moved;

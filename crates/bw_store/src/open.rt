@@ -271,7 +271,6 @@ impl Store {
             making,
             log,
             versions,
-            hints: Vec::new(alloc),
             tally,
             looks: Looks::new(),
         };

@@ -2,7 +2,7 @@
 
 ghost use Rattle.std.specs.Prelude.{◌≡◌, ◌≤◌, ◌<◌, ◌+◌, ◌-◌, ◌^◌, Some, length, slice_get, IfOk, IfErr, OnOk};
 ghost use Rattle.bw_codec.specs.Record.{key_of};
-ghost use Rattle.bw_page.specs.Leaves.{changed, directed_at, HasPage};
+ghost use Rattle.bw_page.specs.Leaves.{changed, directed_at, result_of, HasPage};
 ghost use Rattle.bw_page.specs.Shown.{IsHere};
 ghost use Rattle.bw_buffer.specs.Filling.{frame_of};
 ghost use Rattle.bw_store.specs.Adding.{upper_if, planned, here_for, blocks_for};
@@ -54,7 +54,8 @@ fn upper_of(
     requires { 1 ≤ m }
     ensures upper { IfOk result (λ o. o ≡ upper_if m (pages + 1) (changed item.now leaf.now)) }
     ensures room { OnOk result (m < length (changed item.now leaf.now).pairs → pages + 1 < 2 ^ 32) }
-    ensures refused { IfErr result (IsWantingAt pages) }
+    ensures refused { IfErr result
+        (IsWantingAt m (length (changed item.now leaf.now).pairs) pages) }
 {
     if count_after(leaf, item) <= usize::from(m) {
         return Ok(None);
@@ -112,7 +113,8 @@ pub(crate) fn planned_for(
     ensures room { OnOk result (HasPage leaves.now.m leaves.now.leaves item.now) }
     ensures blocks { IfOk result (λ p. listed p.blocks
         ≡ blocks_for leaves.now.m leaves.now.leaves p.back here item.now) }
-    ensures refused { IfErr result (IsWantingAt (length leaves.now.leaves)) }
+    ensures refused { IfErr result (IsWantingAt leaves.now.m
+        (length (result_of leaves.now.leaves item.now).pairs) (length leaves.now.leaves)) }
 {
     let _ = item.key();
     let back = newest[page as usize - 1];

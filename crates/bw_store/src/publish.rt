@@ -6,7 +6,6 @@ ghost use Rattle.bw_store.specs.History.{cut};
 ghost use Rattle.bw_store.specs.Following.{Follows, HasBoxes};
 ghost use Rattle.bw_store.specs.Showing.{Hides, Shows, with_places};
 
-use crate::hints::{first_hints, forget_hints};
 use crate::store::Store;
 use bw_versions::{News, ReadFault, Reader};
 use std::alloc::AllocError;
@@ -61,10 +60,7 @@ impl Store {
         let end = self.durable_end();
         let known = self.versions.entered();
         let fresh = self.intake.between(known, end);
-        let pages = first_hints(self.hints.as_slice(), fresh.len());
-        let went = self.versions.publish_hinted(rt, end, fresh, pages);
-        let entered = self.versions.entered().saturating_sub(known);
-        forget_hints(&mut self.hints, entered);
+        let went = self.versions.publish_up_to(rt, end, fresh);
         self.looks.show_upto(end as u64, went.is_ok());
         went
     }

@@ -1,6 +1,6 @@
 //! Pages and values, as the history leaves them, in memory or read from the log.
 
-ghost use Rattle.std.specs.Prelude.{ℕ, ◌≡◌, ◌≤◌, ◌↔◌, ◌⊎◌, true, false, Some, None, List, length, IfOk, IfErr, OnOk, IsErrOf};
+ghost use Rattle.std.specs.Prelude.{ℕ, ◌≡◌, ◌≤◌, ◌↔◌, ◌⊎◌, true, false, Some, None, List, length, IfOk, IfErr, OnErr, OnOk, IsErrOf};
 ghost use Rattle.std.specs.FinMap as finite;
 ghost use Rattle.bw_log.specs.Reads.{HoldsPage};
 ghost use Rattle.bw_page.specs.Leaves.{leaf_at, home, plain};
@@ -18,7 +18,7 @@ use bw_codec::{Key, Leaf, Value};
 use bw_page::Word;
 
 impl Store {
-    ghost use Rattle.bw_store.specs.Views.{kept_by, is_evicted, noted_of, IsSound};
+    ghost use Rattle.bw_store.specs.Views.{away_in, kept_by, is_evicted, noted_of, IsSound};
 
     /// A copy of a page as all records of the history leave it, flushed or not, in memory or
     /// evicted. A page that is evicted is read from the log, and stays evicted.
@@ -167,6 +167,8 @@ impl Store {
         ensures leaves { ReadLeaves (HoldsPage (kept_by self.old holding).log
             (home key.now (kept_by self.old holding).filed.leaves).page)
             (kept_by self.old holding) result (kept_by self.new holding) }
+        ensures away { OnErr result (away_in self.new
+            (home key.now (kept_by self.old holding).filed.leaves).page ≡ true) }
         ensures noted { noted_of self.new ≡ noted_of self.old }
     {
         let page = self.leaves.find(key);

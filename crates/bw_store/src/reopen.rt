@@ -27,13 +27,22 @@ use bw_page::{Leaves, Start};
 use bw_ring::Feed;
 use bw_versions::Versions;
 use std::alloc::{AllocError, Global};
+use std::fmt::{self, Debug, Formatter};
 use std::sync::Wait;
+use thiserror::Error;
 
 /// Why a store was not opened again, with what was recovered.
-#[derive(Drop)]
+#[derive(Drop, Error)]
+#[error("{cause}")]
 pub struct ReopenFault {
     pub recovered: Recovered,
     pub cause: StoreFault,
+}
+
+impl Debug for ReopenFault {
+    fn fmt<W: fmt::Write>(&self, f: &mut Formatter<W>) -> fmt::Result {
+        write!(f, "ReopenFault({:?})", self.cause)
+    }
 }
 
 // So many places, which are noted later.

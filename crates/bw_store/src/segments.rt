@@ -135,7 +135,6 @@ impl Store {
             making: _making,
             log,
             versions,
-            hints: _hints,
             tally: _,
             looks: _,
         } = self;

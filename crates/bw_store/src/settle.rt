@@ -22,7 +22,7 @@ use bw_ring::Feed;
 use std::sync::Wait;
 
 impl Store {
-    ghost use Rattle.bw_store.specs.Views.{kept_by, noted_of, IsSound};
+    ghost use Rattle.bw_store.specs.Views.{away_in, kept_by, noted_of, IsSound};
 
     /// Takes all that the feeds accepted, flushes, and answers the length of the history. The feeds
     /// are those that `open` or `reopen` gave, all of them, in order.
@@ -64,8 +64,8 @@ impl Store {
         ensures ends { map ring_of_feed feeds.new.items ≡ map ring_of_feed feeds.old.items }
         ensures accepted { map accepted feeds.new.items ≡ map accepted feeds.old.items }
         ensures refused { IfErr result (λ cause.
-            SettleRefuses (kept_by self.old holding) self.new.intake.lanes.items cause
-            (kept_by self.new holding)) }
+            SettleRefuses (kept_by self.old holding) self.new.intake.lanes.items
+            (away_in self.new) cause (kept_by self.new holding)) }
 
         // What was taken is flushed as `flush` does it, also where nothing waits: a log that failed
         // answers `Failed`, and one without a further number `Spent`.
@@ -111,8 +111,8 @@ impl Store {
             (map taken self.new.intake.lanes.items ≡ map given self.old.intake.lanes.items) }
         ensures took { MatchResult result
             (λ _. TookSome (kept_by self.old holding) (kept_by self.new holding))
-            (λ cause. RefusedAt (kept_by self.old holding) self.new.intake.lanes.items cause
-            (kept_by self.new holding)) }
+            (λ cause. RefusedAt (kept_by self.old holding) self.new.intake.lanes.items
+            (away_in self.new) cause (kept_by self.new holding)) }
         ensures noted { noted_of self.new ≡ noted_of self.old }
     {
         let lanes = self.intake.lanes.as_slice().len();
@@ -135,8 +135,8 @@ impl Store {
             (StayDry self.old.intake.lanes.items self.new.intake.lanes.items) }
         ensures took { MatchResult result
             (λ _. TookSome (kept_by self.old holding) (kept_by self.new holding))
-            (λ cause. RefusedAt (kept_by self.old holding) self.new.intake.lanes.items cause
-            (kept_by self.new holding)) }
+            (λ cause. RefusedAt (kept_by self.old holding) self.new.intake.lanes.items
+            (away_in self.new) cause (kept_by self.new holding)) }
         ensures noted { noted_of self.new ≡ noted_of self.old }
     {
         'records: while self.intake.waits(lane) {

@@ -39,9 +39,6 @@ pub struct Store {
     pub(crate) log: Log,
     /// What readers see: the leaves at `open` or `reopen`, and the durable entries since.
     pub(crate) versions: Versions,
-    /// The page of each entry that the readers' book does not have, where its record was directed.
-    /// Nothing is known of them.
-    pub(crate) hints: Vec<u32>,
     /// What is counted.
     pub(crate) tally: Tally,
     pub(crate) looks: Looks,

@@ -21,7 +21,7 @@ use bw_codec::Record;
 use bw_ring::{Group, Items};
 
 impl Store {
-    ghost use Rattle.bw_store.specs.Views.{kept_by, noted_of, IsSound};
+    ghost use Rattle.bw_store.specs.Views.{away_in, kept_by, noted_of, IsSound};
 
     /// Takes the next group of a lane, if there is one; answers how many records it has, 1 to 4.
     pub(crate) fn take_from(&mut self, lane: usize) -> Result<Option<u64>, StoreFault>
@@ -32,8 +32,8 @@ impl Store {
         ensures dry { IfOk result (λ took. IfNone took
             (Dries lane self.old.intake.lanes.items self.new.intake.lanes.items)) }
         ensures few { IfOk result (λ took. IfSome took (λ n. n ≤ 4)) }
-        ensures leaves { TakeLeaves lane self.new.intake.lanes.items (kept_by self.old holding)
-            result (kept_by self.new holding) }
+        ensures leaves { TakeLeaves lane self.new.intake.lanes.items (away_in self.new)
+            (kept_by self.old holding) result (kept_by self.new holding) }
         ensures noted { noted_of self.new ≡ noted_of self.old }
     {
         if let Some(item) = self.intake.alone(lane) {
@@ -59,7 +59,7 @@ impl Store {
             ≡ map given self.old.intake.lanes.items) }
         ensures known { OnOk result
             (TookKnown lane self.old.intake.lanes.items self.new.intake.lanes.items) }
-        ensures leaves { WaitingLeaves lane self.new.intake.lanes.items
+        ensures leaves { WaitingLeaves lane self.new.intake.lanes.items (away_in self.new)
             (kept_by self.old holding) result (kept_by self.new holding) }
         ensures noted { noted_of self.new ≡ noted_of self.old }
     {
@@ -83,8 +83,8 @@ impl Store {
             (TookKnown lane self.old.intake.lanes.items self.new.intake.lanes.items) }
         ensures stays { OnErr result
             (self.new.intake.lanes.items ≡ self.old.intake.lanes.items) }
-        ensures leaves { GroupLeaves lane group (kept_by self.old holding) result
-            (kept_by self.new holding) }
+        ensures leaves { GroupLeaves lane (away_in self.new) group
+            (kept_by self.old holding) result (kept_by self.new holding) }
         ensures noted { noted_of self.new ≡ noted_of self.old }
     {
         match alone(group) {
@@ -106,8 +106,8 @@ impl Store {
             (TookKnown lane self.old.intake.lanes.items self.new.intake.lanes.items) }
         ensures stays { OnErr result
             (self.new.intake.lanes.items ≡ self.old.intake.lanes.items) }
-        ensures leaves { GroupLeaves lane (item ∷ []) (kept_by self.old holding) result
-            (kept_by self.new holding) }
+        ensures leaves { GroupLeaves lane (away_in self.new) (item ∷ [])
+            (kept_by self.old holding) result (kept_by self.new holding) }
         ensures noted { noted_of self.new ≡ noted_of self.old }
     {
         self.goes_on()?;
@@ -130,8 +130,8 @@ impl Store {
             (TookKnown lane self.old.intake.lanes.items self.new.intake.lanes.items) }
         ensures stays { OnErr result
             (self.new.intake.lanes.items ≡ self.old.intake.lanes.items) }
-        ensures leaves { GroupLeaves lane (item ∷ []) (kept_by self.old holding) result
-            (kept_by self.new holding) }
+        ensures leaves { GroupLeaves lane (away_in self.new) (item ∷ [])
+            (kept_by self.old holding) result (kept_by self.new holding) }
         ensures noted { noted_of self.new ≡ noted_of self.old }
     {
         let plan = self.plan(page, &item)?;
@@ -156,8 +156,8 @@ impl Store {
             (TookKnown lane self.old.intake.lanes.items self.new.intake.lanes.items) }
         ensures stays { OnErr result
             (self.new.intake.lanes.items ≡ self.old.intake.lanes.items) }
-        ensures leaves { GroupLeaves lane group (kept_by self.old holding) result
-            (kept_by self.new holding) }
+        ensures leaves { GroupLeaves lane (away_in self.new) group
+            (kept_by self.old holding) result (kept_by self.new holding) }
         ensures noted { noted_of self.new ≡ noted_of self.old }
     {
         let _ = group.len();
@@ -188,8 +188,8 @@ impl Store {
             (TookKnown lane self.old.intake.lanes.items self.new.intake.lanes.items) }
         ensures stays { OnErr result
             (self.new.intake.lanes.items ≡ self.old.intake.lanes.items) }
-        ensures leaves { GroupLeaves lane group (kept_by self.old holding) result
-            (kept_by self.new holding) }
+        ensures leaves { GroupLeaves lane (away_in self.new) group
+            (kept_by self.old holding) result (kept_by self.new holding) }
         ensures noted { noted_of self.new ≡ noted_of self.old }
     {
         let _ = group.len();

@@ -15,7 +15,7 @@ pub(crate) struct Count {
 }
 
 impl Store {
-    ghost use Rattle.bw_store.specs.Views.{kept_by, noted_of, IsSound};
+    ghost use Rattle.bw_store.specs.Views.{away_in, kept_by, noted_of, IsSound};
 
     /// Takes groups in rounds over lanes 0, 1, .., one from each that has one, until `limit` of
     /// them are taken or a round took none; answers how many records these have. A group's blocks
@@ -45,12 +45,14 @@ impl Store {
 
         // One group after the other, and no frame before one that fits. `Failed` exactly where an
         // append failed before; every other cause with its reason. The refused group is still the
-        // first of its lane.
+        // first of its lane, and was tried within the limit.
         ensures took { IfOk result (λ n.
             TookInTurn n (kept_by self.old holding) (kept_by self.new holding)) }
         ensures refused { IfErr result (λ fault. RefusedAfter fault.taken
-            (kept_by self.old holding) self.new.intake.lanes.items fault.cause
+            (kept_by self.old holding) self.new.intake.lanes.items (away_in self.new) fault.cause
             (kept_by self.new holding)) }
+        ensures tried { IfErr result (λ fault.
+            groups_since (kept_by self.old holding) (kept_by self.new holding) < limit) }
         ensures noted { noted_of self.new ≡ noted_of self.old }
     {
         let mut taken = Count {
@@ -73,8 +75,8 @@ impl Store {
         requires within { taken.groups ≤ limit }
         requires few { taken.records ≤ 4 * taken.groups }
         ensures sound { IsSound self.new holding }
-        ensures turned { TurnsOn taken (kept_by self.old holding) result
-            self.new.intake.lanes.items (kept_by self.new holding) }
+        ensures turned { TurnsOn limit taken (kept_by self.old holding) result
+            self.new.intake.lanes.items (away_in self.new) (kept_by self.new holding) }
         ensures within { IfOk result (λ n. (taken.groups ≤ n.groups) × (n.groups ≤ limit)) }
         ensures few { IfOk result (λ n. n.records ≤ 4 * n.groups) }
         ensures dry { IfOk result (λ n. n.groups ≡ taken.groups → taken.groups < limit
@@ -100,8 +102,8 @@ impl Store {
         requires few { taken.records ≤ 4 * taken.groups }
         ensures sound { IsSound self.new holding }
         ensures count { length self.new.intake.lanes.items ≡ length self.old.intake.lanes.items }
-        ensures turned { TurnsOn taken (kept_by self.old holding) result
-            self.new.intake.lanes.items (kept_by self.new holding) }
+        ensures turned { TurnsOn (taken.groups + 1) taken (kept_by self.old holding) result
+            self.new.intake.lanes.items (away_in self.new) (kept_by self.new holding) }
         ensures within { IfOk result (λ n.
             (taken.groups ≤ n.groups) × (n.groups ≤ taken.groups + 1)) }
         ensures few { IfOk result (λ n. n.records ≤ 4 * n.groups) }

@@ -15,6 +15,9 @@ pub struct PackedEntry {
     more: bool,
     /// Whether the record is a put. Else the pair's value is empty.
     puts: bool,
+    /// The page at which the record may be directed: a guess of whoever took it, of which nothing
+    /// is known. It fits into room that the entry has anyway, and goes with it.
+    page: u32,
     pair: Pair,
 }
 
@@ -29,7 +32,8 @@ impl Model for PackedEntry {
 }
 
 impl PackedEntry {
-    /// The entry of this record. It takes memory, whose refusal is the only error.
+    /// The entry of this record, of which no page is guessed. It takes memory, whose refusal is the
+    /// only error.
     pub fn of(
         alloc: Global,
         writer: u16,
@@ -44,15 +48,43 @@ impl PackedEntry {
                 writer,
                 more,
                 puts: true,
+                page: 0,
                 pair: Pair::of(alloc, key, value)?,
             }),
             Record::Del(key) => Ok(PackedEntry {
                 writer,
                 more,
                 puts: false,
+                page: 0,
                 pair: Pair::of(alloc, key, &nothing())?,
             }),
         }
+    }
+
+    /// The same entry, with a guess of the page at which its record is directed: what looks there
+    /// first need not search where it is right. No memory is taken.
+    pub fn on(self, page: u32) -> PackedEntry
+        ensures { result ≡ self }
+    {
+        let PackedEntry {
+            writer,
+            more,
+            puts,
+            page: _,
+            pair,
+        } = self;
+        PackedEntry {
+            writer,
+            more,
+            puts,
+            page,
+            pair,
+        }
+    }
+
+    /// The page that was guessed, or 0.
+    pub fn page(&self) -> u32 {
+        self.page
     }
 
     /// The writer.

@@ -94,7 +94,8 @@ impl Versions {
 
     /// Publishes the history up to `end`, all of it at once. `fresh` are its entries that the book
     /// does not have: they are one batch, and the first also brings the start leaves. Where nothing
-    /// is new, nothing is done.
+    /// is new, nothing is done. Readers' copies look for a record on the page that was guessed for
+    /// its entry; where memory is wanting for these pages, they are not used.
     ///
     /// It may wait for readers. A refused growth is the only error: then what is published stays,
     /// and the next call brings it. A call costs what the new entries cost to apply, and no page
@@ -104,35 +105,6 @@ impl Versions {
         rt: &R,
         end: usize,
         fresh: &[PackedEntry],
-    ) -> Result<(), AllocError>
-        requires { length (entries_of self.old.entered) + length fresh.now ≡ end }
-        ensures begins { IsPrefix (entries_of self.new.entered) (history_of self.old fresh.now) }
-        ensures whole { EntersWhole self.old.entered self.new.entered
-            (history_of self.old fresh.now) }
-        ensures same { (self.new.start ≡ self.old.start) × (self.new.book ≡ self.old.book)
-            × (self.new.places ≡ self.old.places) }
-
-        ensures published { OnOk result (posted_of self.new.published
-            ≡ Some (record { start = self.old.start; entries = history_of self.old fresh.now })) }
-        ensures all { OnOk result (IsUpTo self.new (history_of self.old fresh.now)) }
-        ensures grows { OnOk result (IsPrefix self.old.published self.new.published) }
-
-        ensures idle { IsUpTo self.old (history_of self.old fresh.now)
-            → (self.new ≡ self.old) × IsOk result }
-        ensures unchanged { OnErr result (self.new.published ≡ self.old.published) }
-    {
-        self.publish_hinted(rt, end, fresh, &[])
-    }
-
-    /// The same, where the page at which an entry's record is directed may be the one at its index
-    /// among these, which is looked at first. There may be fewer pages than entries, or more; where
-    /// memory is wanting for them, they are not used.
-    pub fn publish_hinted<R: Wait>(
-        &mut self,
-        rt: &R,
-        end: usize,
-        fresh: &[PackedEntry],
-        pages: &[u32],
     ) -> Result<(), AllocError>
         requires { length (entries_of self.old.entered) + length fresh.now ≡ end }
         ensures begins { IsPrefix (entries_of self.new.entered) (history_of self.old fresh.now) }
@@ -161,7 +133,7 @@ impl Versions {
             return publisher.catch_up(rt);
         }
         let entries = copies(*alloc, fresh)?;
-        let batch = Batch::of(start.take(), entries, hints(*alloc, pages));
+        let batch = Batch::of(start.take(), entries, pages_of(*alloc, fresh));
         match publisher.publish(rt, batch) {
             Ok(()) => {
                 *count = end;
@@ -224,10 +196,15 @@ fn copies(alloc: Global, entries: &[PackedEntry]) -> Result<Vec<Entry>, AllocErr
     Ok(all)
 }
 
-// The same pages, or none where memory is wanting.
-fn hints(alloc: Global, pages: &[u32]) -> Vec<u32> {
-    match Vec::from_slice(alloc, pages) {
-        Ok(pages) => pages,
-        Err(_) => Vec::new(alloc),
+// The pages that were guessed for them, or none where memory is wanting.
+fn pages_of(alloc: Global, entries: &[PackedEntry]) -> Vec<u32> {
+    let Ok(mut pages) = Vec::with_capacity(alloc, entries.len()) else {
+        return Vec::new(alloc);
+    };
+    for entry in entries {
+        if pages.push(entry.page()).is_err() {
+            return pages;
+        }
     }
+    pages
 }

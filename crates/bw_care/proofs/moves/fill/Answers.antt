@@ -1,6 +1,7 @@
 use Rattle.std.proofs.Common.{◌∙◌, ap, arith}
 use Rattle.std.proofs.lemmas.Option.{IfSome_then}
-use Rattle.bw_care.proofs.CleaningSteps.{read_lawful, not_first, full_here}
+use Rattle.std.proofs.lemmas.Result.{err_from_is_err_and}
+use Rattle.bw_care.proofs.CleaningSteps.{read_lawful, not_first, full_here, stops_for}
 use Rattle.bw_care.proofs.ReadAhead.{spot_within, piece_here, no_room_for}
 use Rattle.bw_care.proofs.moves.fill.Goals as goal
 
@@ -29,3 +30,9 @@ returns-then-not-fits-clause-filled g c =
       rw none.same
           (full_here _ c.loop-at.buffer c.args.pages.now c.loop-at.at 0 c.loop-at.buffer.limit none.leaf c.loop-at-test.true none.read limit none.over),
     )
+
+pub returns-in_err-fits-clause-stops : goal.returns-in_err-fits-clause-stops
+returns-in_err-fits-clause-stops g c =
+    let p = err_from_is_err_and c.from_residual.result c.from_residual.ensures.1 in
+    rw (p.1, p.2) (stops_for _ _ _ c.args.pages.now c.loop-at.at 0 c.in_err-fits.field-0.0 c.loop-at.invariant.same c.loop-at-test.true
+    c.in_err-fits.ensures.stops)

@@ -3,7 +3,8 @@ use Rattle.std.proofs.lemmas.Result.{err_from_is_err_and}
 use Rattle.bw_buffer.specs.Filling.{frame_of}
 use Rattle.bw_care.specs.Views.{seen}
 use Rattle.bw_care.proofs.BasesLeave.{next_range}
-use Rattle.bw_care.proofs.CleaningSteps.{fill_refused, fill_reason, append_refused, append_reason, next_sent, sends_of, short_enough, follows_sent, moved_sent, other_fault, full_sent}
+use Rattle.bw_care.proofs.CleaningSteps.{fill_refused, fill_reason, append_refused, append_reason, next_sent, sends_of, short_enough, follows_sent}
+use Rattle.bw_care.proofs.CleaningSteps.{moved_sent, other_fault, full_sent}
 use Rattle.bw_care.proofs.moves.move_some.Goals as goal
 
 pub new-requires-clause-numbered : goal.new-requires-clause-numbered
@@ -12,7 +13,7 @@ new-requires-clause-numbered g c = (next_range _ c.in-Some.number c.requires.sou
 pub returns-in_err-count-clause-refused : goal.returns-in_err-count-clause-refused
 returns-in_err-count-clause-refused g c =
     let p = err_from_is_err_and c.from_residual-in_err-count.result c.from_residual-in_err-count.ensures.1 in
-    rw (p.1, p.2) (fill_refused _ _ c.in_err-count.field-0.0 c.in_err-count.ensures.stops (other_fault c.in_err-count.field-0.0 c.in_err-count.ensures.paged))
+    rw (p.1, p.2) (fill_refused _ _ _ c.in_err-count.field-0.0 c.in_err-count.ensures.stops (other_fault c.in_err-count.field-0.0 c.in_err-count.ensures.paged))
 
 pub returns-in_err-count-clause-reason : goal.returns-in_err-count-clause-reason
 returns-in_err-count-clause-reason g c =
@@ -52,9 +53,7 @@ pub returns-clause-moved : goal.returns-clause-moved
 returns-clause-moved g c = λ last behind.
     let filled = c.in_ok-count.ensures.filled in
     let s = sends_of _ _ _ _ _ _ _ _ c.in_ok-buffer.ensures c.limit.ensures filled.2 filled.3 c.seal.ensures in
-    moved_sent last _ _ _ c.seal.new.self c.args.pages.now c.in_ok-count.count c.in-Some.number _ behind
-    c.in_ok-append_care.ensures.leaves.answers filled.0 filled.1 c.requires.sound
-    c.in_ok-append_care.ensures.leaves.sound c.in_ok-count.ensures.stops c.requires.pages c.requires.some s (sym c.in-Some.ensures)
-    c.in_ok-append_care.ensures.leaves.added
+    moved_sent last _ _ _ c.seal.new.self c.args.pages.now c.in_ok-count.count c.in-Some.number behind
+    filled.0 filled.1 c.requires.sound c.in_ok-count.ensures.stops c.requires.pages c.requires.some s (sym c.in-Some.ensures)
+    c.in_ok-append_care.ensures.leaves
     (full_sent (seen c.args.log.now (λ b. (goal.Segment-dyn g b).holding b.1)) c.fill.new.buffer c.seal.new.self _ c.seal.ensures filled.4)
-    c.in_ok-append_care.ensures.leaves.log

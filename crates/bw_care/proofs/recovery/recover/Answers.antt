@@ -41,3 +41,6 @@ returns-in-Ok-prepare-clause-live g c =
 
 pub returns-in-Ok-prepare-clause-open : goal.returns-in-Ok-prepare-clause-open
 returns-in-Ok-prepare-clause-open g c = ap (λ (k : Contents). k.is_open) c.adopt-log.ensures.made ∙ c.in-Ok-prepare.ensures.plan.opened
+
+pub returns-in-Ok-prepare-clause-limit : goal.returns-in-Ok-prepare-clause-limit
+returns-in-Ok-prepare-clause-limit g c = ap (λ (k : Contents). k.f) c.adopt-log.ensures.made ∙ c.in-Ok-prepare.ensures.plan.frame_limit

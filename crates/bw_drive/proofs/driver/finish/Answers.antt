@@ -14,7 +14,7 @@ returns-in-Err-settle-clause-runs g c = λ first ran. runs_kept _ first _ _ ran 
 
 pub returns-in-Err-settle-clause-refused : goal.returns-in-Err-settle-clause-refused
 returns-in-Err-settle-clause-refused g c =
-    λ first ran before. stops_last _ _ first _ _ c.in-Err-settle.cause ran c.in-Err-settle.ensures.refused
+    λ first ran before. stops_last _ _ _ first _ _ c.in-Err-settle.cause ran c.in-Err-settle.ensures.refused
 
 pub returns-in-Ok-clause-settled : goal.returns-in-Ok-clause-settled
 returns-in-Ok-clause-settled g c =

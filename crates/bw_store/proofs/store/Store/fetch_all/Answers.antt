@@ -4,7 +4,7 @@ use Rattle.bw_codec.specs.Grammar.{IsOp}
 use Rattle.bw_codec.specs.Record.{key_of}
 use Rattle.bw_page.proofs.Together.{together}
 use Rattle.bw_page.specs.Shown.{IsHere}
-use Rattle.bw_store.proofs.Fetched.{all_here, all_more, all_taken, walk_later}
+use Rattle.bw_store.proofs.Fetched.{all_here, all_more, all_taken, at_index, later_unread}
 use Rattle.bw_store.proofs.store.Store.fetch_all.Goals as goal
 
 pub records-init : goal.records-init
@@ -26,7 +26,9 @@ records-preserved g c =
 pub returns-in_err-fetch_one-clause-leaves : goal.returns-in_err-fetch_one-clause-leaves
 returns-in_err-fetch_one-clause-leaves g c =
     let p = err_from_is_err_and c.from_residual.result c.from_residual.ensures.1 in
-    rw (p.1, p.2) (walk_later (Unit {0}) _ _ _ _ c.records.invariant.same c.in_err-fetch_one.ensures.leaves)
+    rw (p.1, p.2) (later_unread (Unit {0}) _ c.args.records.now c.records.at _ _ _ _ _ c.records.invariant.same
+    (at_index c.args.records.now c.records.at _ c.records-test.true c.index-records-at.is) c.in_err-fetch_one.ensures.away
+    c.fetch_one.ensures.read c.in_err-fetch_one.ensures.leaves)
 
 pub returns-clause-lawful : goal.returns-clause-lawful
 returns-clause-lawful g c = all_taken IsOp c.args.records.now c.records.at (let end = c.records-test.false in omega arith) c.records.invariant.ops

@@ -1,8 +1,8 @@
-use Rattle.std.proofs.Common.{◌≡◌, Some, OnOk, List, refl, subst, arith}
+use Rattle.std.proofs.Common.{◌≡◌, Some, IsOk, OnOk, List, refl, subst, arith}
 use mathlib.Core.List.{IsPrefix}
 use Rattle.bw_versions.specs.Batches.{entries_of}
 use Rattle.bw_versions.specs.Posted.{posted_of}
-use Rattle.bw_versions.specs.Versioned.{EntersWhole}
+use Rattle.bw_versions.specs.Versioned.{EntersWhole, IsUpTo}
 use Rattle.bw_versions.specs.declared.entry.Entry.{Entry}
 use Rattle.bw_store.specs.Views.{kept_by}
 use Rattle.bw_store.proofs.Readers.{end_within, enters_longer, known_within, fresh_is, fresh_count, publish_leaves, publish_sound}
@@ -10,7 +10,8 @@ use Rattle.bw_store.proofs.store.Store.publish.Goals as goal
 
 pub between-fresh-requires-clause-order : goal.between-fresh-requires-clause-order
 between-fresh-requires-clause-order g c =
-    let low = known_within (kept_by c.args.self.now (λ z. (goal.Segment-dyn g z).holding z.1)) c.durable_end-end.result c.requires.sound c.durable_end-end.ensures in
+    let low = known_within (kept_by c.args.self.now (λ z. (goal.Segment-dyn g z).holding z.1)) c.durable_end-end.result c.requires.sound
+    c.durable_end-end.ensures in
     let known = c.entered-known.ensures in
     omega arith
 
@@ -18,8 +19,8 @@ pub between-fresh-requires-clause-within : goal.between-fresh-requires-clause-wi
 between-fresh-requires-clause-within g c =
     end_within (kept_by c.args.self.now (λ z. (goal.Segment-dyn g z).holding z.1)) c.durable_end-end.result c.requires.sound c.durable_end-end.ensures
 
-pub publish_hinted-went-requires : goal.publish_hinted-went-requires
-publish_hinted-went-requires g c =
+pub publish_up_to-went-requires : goal.publish_up_to-went-requires
+publish_up_to-went-requires g c =
     fresh_count (kept_by c.args.self.now (λ z. (goal.Segment-dyn g z).holding z.1)) c.durable_end-end.result c.entered-known.result c.between-fresh.result.now
     c.requires.sound c.durable_end-end.ensures c.entered-known.ensures c.between-fresh.ensures
 
@@ -28,23 +29,26 @@ returns-clause-sound g c =
     let s = kept_by c.args.self.now (λ z. (goal.Segment-dyn g z).holding z.1) in
     let all = fresh_is s c.durable_end-end.result c.entered-known.result c.between-fresh.result.now c.requires.sound c.durable_end-end.ensures
     c.entered-known.ensures c.between-fresh.ensures in
-    publish_sound s c.publish_hinted-went.new.self c.durable_end-end.result s.entries c.requires.sound
-    c.durable_end-end.ensures refl c.publish_hinted-went.ensures.same
-    (subst (IsPrefix (entries_of c.publish_hinted-went.new.self.entered)) all c.publish_hinted-went.ensures.begins)
-    (subst (EntersWhole s.versions.entered c.publish_hinted-went.new.self.entered) all c.publish_hinted-went.ensures.whole)
+    publish_sound s c.publish_up_to-went.new.self c.durable_end-end.result s.entries c.requires.sound
+    c.durable_end-end.ensures refl c.publish_up_to-went.ensures.same
+    (subst (IsPrefix (entries_of c.publish_up_to-went.new.self.entered)) all c.publish_up_to-went.ensures.begins)
+    (subst (EntersWhole s.versions.entered c.publish_up_to-went.new.self.entered) all c.publish_up_to-went.ensures.whole)
 
 pub returns-clause-leaves : goal.returns-clause-leaves
 returns-clause-leaves g c =
     let s = kept_by c.args.self.now (λ z. (goal.Segment-dyn g z).holding z.1) in
     let all = fresh_is s c.durable_end-end.result c.entered-known.result c.between-fresh.result.now c.requires.sound c.durable_end-end.ensures
     c.entered-known.ensures c.between-fresh.ensures in
-    publish_leaves s c.publish_hinted-went.new.self c.publish_hinted-went.result c.durable_end-end.result
-    s.entries c.requires.sound c.durable_end-end.ensures refl c.publish_hinted-went.ensures.same
-    (subst (λ (es : List Entry). OnOk c.publish_hinted-went.result (posted_of c.publish_hinted-went.new.self.published
-    ≡ Some (record { start = s.versions.start; entries = es }))) all c.publish_hinted-went.ensures.published)
-    c.publish_hinted-went.ensures.grows c.publish_hinted-went.ensures.unchanged
+    publish_leaves s c.publish_up_to-went.new.self c.publish_up_to-went.result c.durable_end-end.result
+    s.entries c.requires.sound c.durable_end-end.ensures refl c.publish_up_to-went.ensures.same
+    (subst (λ (es : List Entry). OnOk c.publish_up_to-went.result (posted_of c.publish_up_to-went.new.self.published
+    ≡ Some (record { start = s.versions.start; entries = es }))) all c.publish_up_to-went.ensures.published)
+    c.publish_up_to-went.ensures.grows c.publish_up_to-went.ensures.unchanged
+    (subst (λ (es : List Entry). OnOk c.publish_up_to-went.result (IsUpTo c.publish_up_to-went.new.self es)) all c.publish_up_to-went.ensures.all)
+    (subst (λ (es : List Entry). IsUpTo s.versions es → (c.publish_up_to-went.new.self ≡ s.versions) × IsOk c.publish_up_to-went.result) all
+    c.publish_up_to-went.ensures.idle)
 
 pub invariant_of-self-clause-forgotten : goal.invariant_of-self-clause-forgotten
 invariant_of-self-clause-forgotten g c =
-    enters_longer c.args.self.now.versions.entered c.publish_hinted-went.new.self.entered _ c.args.self.now.intake.history.gone
-    c.publish_hinted-went.ensures.whole c.args.self.now.forgotten
+    enters_longer c.args.self.now.versions.entered c.publish_up_to-went.new.self.entered _ c.args.self.now.intake.history.gone
+    c.publish_up_to-went.ensures.whole c.args.self.now.forgotten

@@ -15,7 +15,7 @@ returns-in_err-take_known-clause-refused g c =
 
 pub returns-in_err-take_known-clause-follows : goal.returns-in_err-take_known-clause-follows
 returns-in_err-take_known-clause-follows g c =
-    rw (sym c.look_beside.ensures.same) (refused_follows _ _ _ _ c.in_err-take_known.ensures.took)
+    rw (sym c.look_beside.ensures.same) (refused_follows _ _ _ _ _ c.in_err-take_known.ensures.took)
 
 pub returns-in_err-flush_making-clause-refused : goal.returns-in_err-flush_making-clause-refused
 returns-in_err-flush_making-clause-refused g c =
@@ -32,15 +32,17 @@ returns-in_err-publish-clause-refused g c =
     let p = err_from_is_err_and c.from_residual-in_err-publish.result c.from_residual-in_err-publish.ensures.1 in
     rw (p.1, p.2, sym c.look_beside.ensures.same)
     (settle_hides _ _ _ _ _ c.in_ok-take_known.ensures.took c.in_ok-flush_making.ensures.answers c.in_ok-flush_making.ensures.leaves
-    c.in_err-publish.ensures.leaves _)
+    c.in_err-publish.ensures.leaves _ _)
 
 pub returns-in_err-publish-clause-follows : goal.returns-in_err-publish-clause-follows
 returns-in_err-publish-clause-follows g c =
-    rw (sym c.look_beside.ensures.same) (flushed_hides _ _ _ _ _ c.in_ok-take_known.ensures.took c.flush_making.ensures.leaves c.in_err-publish.ensures.leaves).0
+    rw (sym c.look_beside.ensures.same) (flushed_hides _ _ _ _ _ c.in_ok-take_known.ensures.took c.flush_making.ensures.leaves
+    c.in_err-publish.ensures.leaves).0
 
 pub returns-in_err-publish-clause-boxes : goal.returns-in_err-publish-clause-boxes
 returns-in_err-publish-clause-boxes g c =
-    rw (sym c.look_beside.ensures.same) (flushed_hides _ _ _ _ _ c.in_ok-take_known.ensures.took c.flush_making.ensures.leaves c.in_err-publish.ensures.leaves).1
+    rw (sym c.look_beside.ensures.same) (flushed_hides _ _ _ _ _ c.in_ok-take_known.ensures.took c.flush_making.ensures.leaves
+    c.in_err-publish.ensures.leaves).1
 
 pub returns-clause-follows : goal.returns-clause-follows
 returns-clause-follows g c =
@@ -89,7 +91,7 @@ pub returns-in_err-take_known-clause-failed : goal.returns-in_err-take_known-cla
 returns-in_err-take_known-clause-failed g c =
     let p = err_from_is_err_and c.from_residual.result c.from_residual.ensures.1 in
     let same = ap (λ (s : Kept). s.log.is_failed) c.look_beside.ensures.same in
-    rw (p.1, p.2) (λ failed. ap (λ f. Err f) (failed_at _ _ _ _ (same ∙ failed) c.in_err-take_known.ensures.took))
+    rw (p.1, p.2) (λ failed. ap (λ f. Err f) (failed_at _ _ _ _ _ (same ∙ failed) c.in_err-take_known.ensures.took))
 
 pub returns-in_err-flush_making-clause-failed : goal.returns-in_err-flush_making-clause-failed
 returns-in_err-flush_making-clause-failed g c =

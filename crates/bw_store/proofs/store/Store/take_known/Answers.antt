@@ -20,7 +20,7 @@ lanes-preserved g c =
 pub returns-in_err-take_lane-clause-took : goal.returns-in_err-take_lane-clause-took
 returns-in_err-take_lane-clause-took g c =
     let p = err_from_is_err_and c.from_residual.result c.from_residual.ensures.1 in
-    rw (p.1, p.2) (some_refused _ _ _ _ _ c.lanes.invariant.taken.took c.in_err-take_lane.ensures.took)
+    rw (p.1, p.2) (some_refused _ _ _ _ _ _ c.lanes.invariant.taken.took c.in_err-take_lane.ensures.took)
 
 pub returns-clause-taken : goal.returns-clause-taken
 returns-clause-taken g c =

@@ -2,13 +2,14 @@ use Rattle.std.proofs.Common.{inl, arith}
 use Rattle.std.proofs.lemmas.Result.{err_from_is_err_and}
 use Rattle.bw_store.specs.Views.{kept_by}
 use Rattle.bw_store.proofs.EnterMore.{drafted_left}
+use Rattle.bw_store.proofs.Fetched.{fetch_refuses_as}
 use Rattle.bw_store.proofs.Refusing.{stopped_unplanned, unplanned_now}
 use Rattle.bw_store.proofs.store.Store.take_many.Goals as goal
 
 pub returns-in_err-goes_on-clause-leaves : goal.returns-in_err-goes_on-clause-leaves
 returns-in_err-goes_on-clause-leaves g c =
     let p = err_from_is_err_and c.from_residual.result c.from_residual.ensures.1 in
-    rw (p.1, p.2) (unplanned_now c.args.group _ _ (stopped_unplanned c.args.group _ _ c.in_err-goes_on.ensures.refused))
+    rw (p.1, p.2) (unplanned_now _ c.args.group _ _ (stopped_unplanned c.args.group _ _ c.in_err-goes_on.ensures.refused))
 
 pub returns-in-Some-clause-leaves : goal.returns-in-Some-clause-leaves
 returns-in-Some-clause-leaves g c =
@@ -17,6 +18,11 @@ returns-in-Some-clause-leaves g c =
     let few = c.len.ensures.few in
     let least = few.0 in
     let most = few.1 in
-    drafted_left c.args.lane _ fetched _ _ c.args.group _ c.in_ok-draft.field-0 c.in-Some.draft _ (omega arith, omega arith) c.in_ok-goes_on.ensures.works
+    drafted_left c.args.lane _ _ fetched _ _ c.args.group _ c.in_ok-draft.field-0 c.in-Some.draft _ (omega arith, omega arith) c.in_ok-goes_on.ensures.works
     (inl c.in_ok-fetch_all.ensures.leaves) c.in_ok-draft.ensures.works c.draft.ensures.same c.as_slice-2.ensures.value c.in-Some.is c.in_ok-draft.ensures.draft
     c.enter_all.ensures.ok c.enter_all.ensures.unchanged c.enter_all.ensures.refused
+
+pub returns-in_err-fetch_all-clause-leaves : goal.returns-in_err-fetch_all-clause-leaves
+returns-in_err-fetch_all-clause-leaves g c =
+    let p = err_from_is_err_and c.from_residual-in_err-fetch_all.result c.from_residual-in_err-fetch_all.ensures.1 in
+    rw (p.1, p.2) (fetch_refuses_as _ c.args.group _ _ _ _ c.as_slice.ensures.value c.in_ok-goes_on.ensures.works c.in_err-fetch_all.ensures.leaves)

@@ -46,4 +46,14 @@ returns-clause-dry g c = λ below. (let same = c.rounds.invariant.turned.1 in le
 pub returns-in_err-more-clause-turned : goal.returns-in_err-more-clause-turned
 returns-in_err-more-clause-turned g c =
     let p = err_from_is_err_and c.from_residual.result c.from_residual.ensures.1 in
-    rw (p.1, p.2) (refused_turned _ _ _ _ (c.in_err-more.ensures.turned _ c.rounds.invariant.turned))
+    rw (p.1, p.2) (refused_turned _ _ _ _ _ (c.in_err-more.ensures.turned _ c.rounds.invariant.turned).0)
+
+pub returns-in_err-more-clause-refused : goal.returns-in_err-more-clause-refused
+returns-in_err-more-clause-refused g c =
+    let p = err_from_is_err_and c.from_residual.result c.from_residual.ensures.1 in
+    rw (p.1, p.2) (c.in_err-more.ensures.turned _ c.rounds.invariant.turned).0
+
+pub returns-in_err-more-clause-tried : goal.returns-in_err-more-clause-tried
+returns-in_err-more-clause-tried g c =
+    let p = err_from_is_err_and c.from_residual.result c.from_residual.ensures.1 in
+    rw p.1 (c.in_err-more.ensures.turned _ c.rounds.invariant.turned).1

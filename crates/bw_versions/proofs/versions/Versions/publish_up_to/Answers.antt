@@ -11,8 +11,8 @@ use Rattle.bw_versions.specs.Refusals.{WasKept}
 use Rattle.bw_versions.specs.Versioned.{Versioned}
 use Rattle.bw_versions.specs.Publishing.{Publishing}
 use Rattle.bw_versions.specs.Holds.{versioned, HasStart, IsHeld}
-use Rattle.bw_versions.proofs.versions.Versions.publish_hinted.Goals as goal
-use Rattle.bw_versions.proofs.versions.Versions.publish_hinted.Goals.{in-Ok, in-Err-Entered, in-Err-Back}
+use Rattle.bw_versions.proofs.versions.Versions.publish_up_to.Goals as goal
+use Rattle.bw_versions.proofs.versions.Versions.publish_up_to.Goals.{in-Ok, in-Err-Entered, in-Err-Back}
 
 pub returns-then-is_empty-clause-idle : goal.returns-then-is_empty-clause-idle
 returns-then-is_empty-clause-idle g c up =
