@@ -101,14 +101,19 @@ fn driven<R: AllocGlobal + Threads + Wait>(
     requires feeds { map ring_of_feed feeds.items ≡ (kept_by store.old holding).rings }
     ensures { IsSound store.new holding }
 {
-    let scripts = scripts(rt.alloc(), feeds.len(), Part(4, 1, KEYS), Sizes::One).ok()?;
+    let Ok(scripts) = scripts(rt.alloc(), feeds.len(), Part(4, 1, KEYS), Sizes::One) else {
+        return None;
+    };
     let plan = Plan {
         limit: 2,
         flush_every: 2,
         clean_at: 0,
         forgets: false,
     };
-    drive(rt, store, feeds, scripts, gate, plan, 1_000_000_000).ok()
+    match drive(rt, store, feeds, scripts, gate, plan, 1_000_000_000) {
+        Ok(driven) => Some(driven),
+        Err(_) => None,
+    }
 }
 
 // The same over a new store of two writers.
@@ -121,7 +126,9 @@ fn run<R: AllocGlobal + Threads + Wait>(rt: &R, alloc: Global, gate: &Notes) -> 
         m: 4,
         f: 65_536,
     };
-    let (mut store, mut feeds) = Store::open(rt, alloc, &config, boxes).ok()?;
+    let Ok((mut store, mut feeds)) = Store::open(rt, alloc, &config, boxes) else {
+        return None;
+    };
     let are_put = fill(&mut feeds);
     let driven = driven(rt, &mut store, feeds, gate);
     let _ = store.shut(rt);
