@@ -97,7 +97,8 @@ impl Session {
         requires { IsReady self.now holding }
     {
         match self.store.needed(0) {
-            Some(needed) if self.store.live() > 1 => needed < tending.capacity / 2 - LOST,
+            Some(needed) if self.store.live() > 1 => needed
+                < (tending.capacity / 2).saturating_sub(LOST),
             _ => false,
         }
     }
@@ -271,12 +272,13 @@ impl Session {
         requires { IsReady self.old holding }
         ensures { IsReady self.new holding }
     {
-        match &request {
-            Request::Put(group) if self.has_put(group) => {
+        if let Request::Put(group) = &request {
+            if self.has_put(group) {
                 return Ok(Served::Answer(Answer::Put(true)));
             }
-            Request::Add => return Ok(Served::Answer(self.spare(rt, tending.capacity)?)),
-            _ => {}
+        }
+        if matches!(request, Request::Add) {
+            return Ok(Served::Answer(self.spare(rt, tending.capacity)?));
         }
         if request.takes() {
             if let Some(made) = self.take_tended(rt, tending)? {

@@ -160,7 +160,13 @@ const FORGOTTEN_BEFORE: &Table = &Table {
 
 const ENDED: &[&Table] = &[&TWICE, SIXTY_FOUR, ONE_PLACE, FEW_TRIES, FORGOTTEN];
 
-const REFUSED: &[&Table] = &[FIRST_APPEND, FIFTH_FRAME, FORGOTTEN_BEFORE, NOTHING_OLD, NO_SPARE];
+const REFUSED: &[&Table] = &[
+    FIRST_APPEND,
+    FIFTH_FRAME,
+    FORGOTTEN_BEFORE,
+    NOTHING_OLD,
+    NO_SPARE,
+];
 
 #[test]
 fn runs_go_as_told(rt: HostRuntime) {

@@ -95,6 +95,14 @@ fn is_forgotten(store: &Store, kept: (u64, u64), gone: (u64, u64)) -> bool {
     kept.0 <= here && here <= kept.1 && gone.0 <= past && past <= gone.1
 }
 
+fn sum_of(counts: &[u64]) -> u64 {
+    let mut sum: u64 = 0;
+    for count in counts {
+        sum = sum.saturating_add(*count);
+    }
+    sum
+}
+
 // A run by a plan that forgets: the feeds, and whether it ended as told.
 fn forgets<R: AllocGlobal + Threads + Wait, G: Gate>(
     rt: &R,
@@ -122,7 +130,7 @@ fn forgets<R: AllocGlobal + Threads + Wait, G: Gate>(
     };
     match drive(rt, store, feeds, scripts, gate, plan, max_turns) {
         Ok(driven) => {
-            let all: u64 = driven.accepted.iter().sum();
+            let all = sum_of(driven.accepted.as_slice());
             let went = driven.entries == all && told == Ok((all, all));
             (driven.feeds, went)
         }
