@@ -34,6 +34,7 @@ test:
 	python3 tests/program/cases.py
 	python3 tests/program/drawn.py
 	python3 tests/program/fuzz.py --cases 500
+	python3 tests/program/waits.py
 	python3 tests/program/clients.py
 	python3 tests/program/steady.py
 	python3 tests/program/growth.py

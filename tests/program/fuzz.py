@@ -26,7 +26,7 @@ from hostile.program import FAST, Otherwise, Program, run_of
 from hostile.scans import a_page_of_many_pairs, scanned
 from hostile.scripts import in_lines, scripted, threaded
 from hostile.segments import Draw, drawn_segments
-from hostile.upgrades import no_lease_is_left, upgrades
+from hostile.upgrades import a_full_log_of_lines, no_lease_is_left, upgrades
 
 HERE = os.path.dirname(os.path.abspath(__file__))
 BUILT = os.path.join(HERE, "..", "..", "crates", "bwlog", "out", "bwlog")
@@ -96,7 +96,7 @@ def main():
         for found, wrong in pool.map(batch, *zip(*((program, given.seed, it, runs, folder) for it in batches))):
             counts += found
             failed += wrong
-    for hostile in [*ONCE, a_page_of_many_pairs, no_lease_is_left] if given.first == 0 else []:
+    for hostile in [*ONCE, a_page_of_many_pairs, no_lease_is_left, a_full_log_of_lines] if given.first == 0 else []:
         place = os.path.join(folder, hostile.__name__)
         os.mkdir(place)
         try:

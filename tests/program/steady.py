@@ -3,11 +3,12 @@
 
     steady.py [UPDATES [MODE ..]]
 
-A mode is serve, replay or threads; without one all three are run. In serve and in replay, which has --take and --reuse, a flush comes
-after each 1,000 updates, and a cleaning where one spare is left. threads has --reuse and --forget, and two writers of half of the keys
-each. The resident set of serve behind its last cleaning has to be at most a tenth above that behind the first cleaning after a million
-updates, or after half of them. At the end each key has the value that it was last given, also in a second run over the folder. A million
-updates take some ten seconds by serve."""
+A mode is serve, settle, replay or threads; without one all of them are run. In serve and in replay, which has --take and --reuse, a flush
+comes after each 1,000 updates, and in settle, which is serve, a settlement. Where one spare is left, serve cleans by itself, and replay is
+told to. threads has --reuse and --forget, and two writers of half of the keys each. The greatest resident set of serve behind its last
+flushes, a tenth of those after a million updates, or after half of them, has to be at most a tenth above that behind the first tenth of
+these. At the end each key has the value that it was last given, also in a second run over the folder. A million updates take some ten
+seconds by serve."""
 
 import os
 import subprocess
@@ -38,8 +39,9 @@ def resident(child):
 class Served:
     """A run of `serve` over a folder."""
 
-    words = ["serve"]
+    words = ["serve", "--most-segments", "4"]
     put = "put k%d %s"
+    keeps, kept = "flush", "frame "
     forgets = True
 
     def __init__(self, folder):
@@ -62,16 +64,21 @@ class Served:
         self.send(lines)
         return self.answers(len(lines))
 
-    def spares(self):
+    def cleaned(self):
+        """Serve cleans by itself: one spare is never all that is left, and there are as many segments as there were."""
         words = self.ask(["stats"])[0].split()
-        return int(words[words.index("spares") + 1])
-
-    def clean(self):
-        return self.ask(["clean"])[0]
+        live, spares = (int(words[words.index(name) + 1]) for name in ("segments", "spares"))
+        return "" if spares > 1 and live + spares == 4 else "%d spares" % spares
 
     def end(self):
         self.ask(["quit"])
         return self.child.wait(timeout=60)
+
+
+class Settled(Served):
+    """The same, where each flush is a settlement."""
+
+    keeps, kept = "settle", "settled "
 
 
 class Replayed(Served):
@@ -98,7 +105,10 @@ class Replayed(Served):
             if words[0] == "spares":
                 return int(words[1])
 
-    def clean(self):
+    def cleaned(self):
+        """What a cleaning comes to, where one spare is left."""
+        if self.spares() > 1:
+            return ""
         self.send(["clean"])
         cleaned, added = self.answers(2)
         return cleaned if added.startswith("added ") else added
@@ -132,17 +142,18 @@ def asked(folder, updates, of):
         wrong = [answer for answer in run.ask(lines) if answer != "ok"]
         if wrong:
             return "a put was answered " + wrong[0]
-        answer = run.ask(["flush"])[0]
-        if not answer.startswith("frame "):
+        answer = run.ask([of.keeps])[0]
+        if not answer.startswith(of.kept):
             return "a flush was answered " + answer
-        if run.spares() < 2:
-            answer = run.clean()
-            if not answer.startswith("cleaned "):
-                return "a cleaning was answered " + answer
-            if start + KEYS >= first:
-                looks.append(resident(run.child))
-    print("resident set: %s KiB behind the first cleaning after %d updates, %s KiB behind the last of %d" % (looks[:1], first, looks[-1:], updates))
-    if of.forgets and looks and looks[-1] * 10 > looks[0] * 11:
+        answer = run.cleaned()
+        if answer and not answer.startswith("cleaned "):
+            return "a cleaning was answered " + answer
+        if start + KEYS >= first:
+            looks.append(resident(run.child))
+    tenth = len(looks) // 10 + 1
+    before, after = max(looks[:tenth]), max(looks[-tenth:])
+    print("resident set: %d KiB behind the first flushes after %d updates, %d KiB behind the last of %d" % (before, first, after, updates))
+    if of.forgets and after * 10 > before * 11:
         return "memory is not flat"
     return ended(run, updates) or ended(of(folder), updates)
 
@@ -165,6 +176,7 @@ def threaded(folder, updates):
 
 MODES = {
     "serve": lambda folder, updates: asked(folder, updates, Served),
+    "settle": lambda folder, updates: asked(folder, updates, Settled),
     "replay": lambda folder, updates: asked(folder, updates, Replayed),
     "threads": threaded,
 }

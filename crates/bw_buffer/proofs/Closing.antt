@@ -1,6 +1,7 @@
 -- What no row touches has no open Delta, and what is left of the rows at each step.
 
-use Rattle.std.proofs.Common.{◌≡◌, ◌∙◌, ℕ, zero, suc, ◌+◌, ◌<◌, ◌≤◌, Bool, true, false, Option, Some, None, List, [], ◌∷◌, length, drop, get_or, refl, sym, ap, subst, arith, if◌then◌else◌}
+use Rattle.std.proofs.Common.{◌≡◌, ◌∙◌, ℕ, zero, suc, ◌+◌, ◌<◌, ◌≤◌, Bool, true, false, Option, Some, None, List, [], ◌∷◌, length, drop, get_or, refl}
+use Rattle.std.proofs.Common.{sym, ap, subst, arith, if◌then◌else◌}
 use Rattle.std.proofs.lemmas.List.{drop_all}
 use Rattle.bw_codec.specs.Touch.{touches}
 use Rattle.bw_codec.specs.declared.block.Block.{Block}
@@ -43,7 +44,8 @@ one_more p zero (r ∷ rs) d lt not u = (not, u)
 one_more p (suc i) (r ∷ rs) d lt not u = one_more p i rs d (omega arith) not u
 
 -- a page that the row closes has no index then, and one that it does not close has none if the rows behind do not touch it
-pub closed_so_far : (p i : ℕ) (rows : List Row) (d : Row) (was now : Option ℕ) → i < length rows → now ≡ (if is_closed_by p (get_or rows i d).mark then None else was)
+pub closed_so_far : (p i : ℕ) (rows : List Row) (d : Row) (was now : Option ℕ) → i < length rows
+    → now ≡ (if is_closed_by p (get_or rows i d).mark then None else was)
     → (IsUntouched p (drop i rows) → was ≡ None) → IsUntouched p (drop (i + 1) rows) → now ≡ None
 closed_so_far p i rows d was now lt e before u = by_test (is_closed_by p (get_or rows i d).mark) refl
   where

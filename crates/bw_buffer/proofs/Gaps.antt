@@ -1,6 +1,7 @@
 -- A frame laid out: fronts and gaps, and each piece behind those of its block that are written.
 
-use Rattle.std.proofs.Common.{◌≡◌, ℕ, zero, suc, ◌+◌, ◌-◌, ◌<◌, ◌≤◌, ◌≢◌, true, false, List, [], ◌∷◌, ◌++◌, length, set, take, drop, get_or, refl, sym, ap, ◌∙◌, subst, arith}
+use Rattle.std.proofs.Common.{◌≡◌, ℕ, zero, suc, ◌+◌, ◌-◌, ◌<◌, ◌≤◌, ◌≢◌, true, false, List, [], ◌∷◌, ◌++◌, length, set, take, drop, get_or, refl}
+use Rattle.std.proofs.Common.{sym, ap, ◌∙◌, subst, arith}
 use Rattle.std.proofs.Common.{append_assoc, append-nil, length-append}
 use Rattle.std.specs.Prelude.{◌==◌, nat_le}
 use Rattle.std.proofs.lemmas.Bool.{eqb-true, eqb-false, leb-true, leb-false}
@@ -51,7 +52,8 @@ ends_apart base i k [] ps xs lt = refl
 ends_apart base i k (r ∷ rs) ps xs lt =
     ap (λ (l : List ℕ). (base + length (front_of r) + length l) ∷ ends (base + length (front_of r) + r.len) (suc i) rs (ps ++ (k, xs) ∷ []))
     (bytes_apart i k ps xs (λ e. absurd (omega arith)))
-    ∙ ap (λ (l : List ℕ). (base + length (front_of r) + length (bytes_at i ps)) ∷ l) (ends_apart (base + length (front_of r) + r.len) (suc i) k rs ps xs (omega arith))
+    ∙ ap (λ (l : List ℕ). (base + length (front_of r) + length (bytes_at i ps)) ∷ l)
+    (ends_apart (base + length (front_of r) + r.len) (suc i) k rs ps xs (omega arith))
 
 drop_zeros : (n k : ℕ) → drop k (zeros n) ≡ zeros (n - k)
 drop_zeros n zero = ap zeros (omega arith)
@@ -166,7 +168,8 @@ put_piece pre base i k (r ∷ rs) ps whole xs at is low measured part short lt h
                 ∙ ap (λ (l : List ℕ). pre ++ ((front_of r ++ padded r.len l) ++ filled (suc i) rs (ps ++ (k, xs) ∷ []))) (sym same_bytes),
             ap (λ (n : ℕ). set (ends base i (r ∷ rs) ps) n (at + length xs)) next
                 ∙ ap (λ (l : List ℕ). (base + length (front_of r) + length ys) ∷ l) rest.1
-                ∙ ap (λ (l : List ℕ). (base + length (front_of r) + length l) ∷ ends (base + length (front_of r) + r.len) (suc i) rs (ps ++ (k, xs) ∷ [])) (sym same_bytes),
+                ∙ ap (λ (l : List ℕ). (base + length (front_of r) + length l) ∷ ends (base + length (front_of r) + r.len) (suc i) rs
+                (ps ++ (k, xs) ∷ [])) (sym same_bytes),
           ))
     ] refl
 

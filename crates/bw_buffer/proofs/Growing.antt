@@ -1,6 +1,7 @@
 -- One block more in a buffer's fields: in a row of its own, or joined.
 
-use Rattle.std.proofs.Common.{◌≡◌, ℕ, zero, suc, ◌+◌, ◌*◌, ◌<◌, ◌≤◌, ◌^◌, false, Option, Some, None, List, [], ◌∷◌, ◌++◌, length, set, refl, sym, ap, ◌∙◌, subst, arith}
+use Rattle.std.proofs.Common.{◌≡◌, ℕ, zero, suc, ◌+◌, ◌*◌, ◌<◌, ◌≤◌, ◌^◌, false, Option, Some, None, List, [], ◌∷◌, ◌++◌, length, set, refl, sym, ap}
+use Rattle.std.proofs.Common.{◌∙◌, subst, arith}
 use Rattle.std.proofs.Common.{append-nil, length-append, length-set, if◌then◌else◌, true}
 use Rattle.std.specs.Prelude.{◌==◌, unwrap_or}
 use Rattle.std.proofs.lemmas.Bool.{eqb-true}
@@ -138,15 +139,23 @@ pushed a b block xs row q x =
     let now : parts_of b ≡ parts_of a ++ (q.block, xs) ∷ [] =
     ap (λ (qs : List Piece). parts qs b.arena.items) x.pieces ∙ ap (λ (l : List ℕ). parts (a.pieces.items ++ q ∷ []) l) x.arena
     ∙ parts_more a.pieces.items a.arena.items q xs h.cut x.piece.1 in
-    let none : bytes_at q.block (parts_of a) ≡ [] = none_at q.block (length a.rows.items) a.pieces.items a.arena.items (let e = x.piece.0 in omega arith) h.within in
+    let none : bytes_at q.block (parts_of a) ≡ [] = none_at q.block (length a.rows.items) a.pieces.items a.arena.items
+    (let e = x.piece.0 in omega arith) h.within in
     let rows : AreRows 0 (a.rows.items ++ row ∷ []) (parts_of a ++ (q.block, xs) ∷ []) (bs ++ block ∷ []) =
     rows_more 0 a.rows.items (parts_of a) bs row block xs q.block (let e = x.piece.0 in omega arith) none x.row_is h.rows in
     let body : body_bytes (bs ++ block ∷ []) ≡ body_bytes bs ++ (block_bytes block ++ []) = flat_map-append block_bytes bs (block ∷ []) in
     let long : length (body_bytes (bs ++ block ∷ [])) ≡ length (body_bytes bs) + length (block_bytes block) =
-    omega (arith, ap (λ (l : List ℕ). length l) body, length-append (body_bytes bs) (block_bytes block ++ []), ap (λ (l : List ℕ). length l) (append-nil (block_bytes block))) in
+    omega (
+      arith,
+      ap (λ (l : List ℕ). length l) body,
+      length-append (body_bytes bs) (block_bytes block ++ []),
+      ap (λ (l : List ℕ). length l)
+          (append-nil (block_bytes block)),
+    ) in
     let some = some_bytes block in
     let longer_rows : length b.rows.items ≡ length a.rows.items + 1 = ap (λ (l : List Row). length l) x.rows ∙ length-append a.rows.items (row ∷ []) in
-    let longer_pieces : length b.pieces.items ≡ length a.pieces.items + 1 = ap (λ (l : List Piece). length l) x.pieces ∙ length-append a.pieces.items (q ∷ []) in
+    let longer_pieces : length b.pieces.items ≡ length a.pieces.items + 1 = ap (λ (l : List Piece). length l) x.pieces
+    ∙ length-append a.pieces.items (q ∷ []) in
     let longer_arena : length b.arena.items ≡ length a.arena.items + length xs = ap (λ (l : List ℕ). length l) x.arena ∙ length-append a.arena.items xs in
     let limit = x.stays.limit in
     let size = x.size in
@@ -161,7 +170,8 @@ pushed a b block xs row q x =
       cut = ap pieces_length x.pieces ∙ length_more a.pieces.items q ∙ (let e = x.piece.1 in let c = h.cut in omega arith);
       size = (let s = h.size in omega arith);
       lawful = all-append (IsBlock 32) bs (block ∷ []) h.lawful (x.lawful, tt);
-      told = λ p. x.told p ∙ ap (λ (n : ℕ). open_after p n block (index_at a.deltas p)) count ∙ ap (open_after p (length bs) block) (h.told p) ∙ sym (last_push p bs block);
+      told = λ p. x.told p ∙ ap (λ (n : ℕ). open_after p n block (index_at a.deltas p)) count ∙ ap (open_after p (length bs) block) (h.told p)
+          ∙ sym (last_push p bs block);
       numbered = (let n = h.numbered in let e = x.stays.frame in omega arith);
       fits = omega arith;
       limited = (let l = h.limited in (omega arith, omega arith));
@@ -248,8 +258,10 @@ lengthened a b page at back ops xs row q x =
       ap (λ (l : List ℕ). length l) x.spelled,
     ) in
     let three : 3 ≤ length xs = (let o = ops_some ops x.lawful in let e = ap (λ (l : List ℕ). length l) x.spelled in let n = x.some in omega arith) in
-    let same_rows : length b.rows.items ≡ length a.rows.items = ap (λ (l : List Row). length l) x.rows ∙ length-set a.rows.items at (longer row (length ops) (length xs)) in
-    let longer_pieces : length b.pieces.items ≡ length a.pieces.items + 1 = ap (λ (l : List Piece). length l) x.pieces ∙ length-append a.pieces.items (q ∷ []) in
+    let same_rows : length b.rows.items ≡ length a.rows.items = ap (λ (l : List Row). length l) x.rows
+    ∙ length-set a.rows.items at (longer row (length ops) (length xs)) in
+    let longer_pieces : length b.pieces.items ≡ length a.pieces.items + 1 = ap (λ (l : List Piece). length l) x.pieces
+    ∙ length-append a.pieces.items (q ∷ []) in
     let longer_arena : length b.arena.items ≡ length a.arena.items + length xs = ap (λ (l : List ℕ). length l) x.arena ∙ length-append a.arena.items xs in
     let limit = x.stays.limit in
     let size = x.size in
@@ -276,7 +288,8 @@ lengthened a b page at back ops xs row q x =
             each = all_ops;
           }) parts_lawful.2;
       told = λ p. ap (λ (d : _). index_at d p) x.deltas ∙ h.told p ∙ sym (last_ops p at ops bs)
-          ∙ ap (last_delta p) (ap (ops_added at ops) s.split ∙ Rattle.bw_buffer.proofs.Joined.added_there s.before (Delta page s.back s.was) s.behind at ops s.index);
+          ∙ ap (last_delta p) (ap (ops_added at ops) s.split
+          ∙ Rattle.bw_buffer.proofs.Joined.added_there s.before (Delta page s.back s.was) s.behind at ops s.index);
       numbered = (let n = h.numbered in let e = x.stays.frame in omega arith);
       fits = omega arith;
       limited = (let l = h.limited in (omega arith, omega arith));
@@ -296,7 +309,8 @@ lengthened a b page at back ops xs row q x =
 
 pub room_rows : (a : Inside) (more : ℕ) → IsLaid a → 8 ≤ more → a.size + more ≤ a.limit → length a.rows.items < vec_capacity a.rows
 room_rows a more h some fits =
-    (let n = rows_count 0 a.rows.items (parts_of a) (blocks_of a) h.rows in let f = few_blocks (blocks_of a) in let s = h.size in let r = h.rows_room in omega arith)
+    (let n = rows_count 0 a.rows.items (parts_of a) (blocks_of a) h.rows in let f = few_blocks (blocks_of a) in let s = h.size in let r = h.rows_room
+    in omega arith)
 
 -- the same, of the buffer as it is seen
 pub room_rows_of : (a : Inside) (f : Filling) → filling_of a ≡ f → (more : ℕ) → IsLaid a → 8 ≤ more → size_of f + more ≤ f.limit

@@ -1,6 +1,7 @@
 -- One more block, joined or behind the others: what it does to every question that is asked of blocks.
 
-use Rattle.std.proofs.Common.{◌≡◌, ℕ, zero, suc, ◌+◌, ◌≤◌, Bool, true, false, Option, Some, None, List, [], ◌∷◌, ◌++◌, length, refl, sym, ap, ◌∙◌, subst, arith, ◌⊎◌, inl, inr}
+use Rattle.std.proofs.Common.{◌≡◌, ℕ, zero, suc, ◌+◌, ◌≤◌, Bool, true, false, Option, Some, None, List, [], ◌∷◌, ◌++◌, length, refl, sym, ap, ◌∙◌}
+use Rattle.std.proofs.Common.{subst, arith, ◌⊎◌, inl, inr}
 use Rattle.std.proofs.Common.{append_assoc, append-nil, if◌then◌else◌}
 use Rattle.std.specs.Prelude.{◌==◌, ◌||◌}
 use Rattle.std.specs.List.{flat_map, fold, list_any}
@@ -11,7 +12,8 @@ use Rattle.bw_codec.specs.declared.record.Record.{Record}
 use Rattle.bw_codec.specs.declared.block.Place.{Place}
 use Rattle.bw_codec.specs.declared.block.Block.{Block}
 use Rattle.bw_codec.specs.declared.block.Block.TheVariants.{Delta, Base, Split}
-use Rattle.bw_buffer.specs.Joining.{open_after, open_from, last_delta, records_in, records_after, open_records, takes, joins_of, with_ops, ops_added, joined_by, joined, added}
+use Rattle.bw_buffer.specs.Joining.{open_after, open_from, last_delta, records_in, records_after, open_records, takes, joins_of, with_ops, ops_added}
+use Rattle.bw_buffer.specs.Joining.{joined_by, joined, added}
 
 or_none : (a : Bool) → a ≡ (a || false)
 or_none true = refl
@@ -151,7 +153,8 @@ pub record JoinsOne (p : ℕ) (back : Place) (ops : List Record) (i : ℕ) (bloc
   pub is : joined blocks (Delta p back ops) ≡ stands.before ++ Delta p stands.back (stands.was ++ ops) ∷ stands.behind
   pub few : length stands.was + length ops ≤ 65535
 
-pub joins_one : (p : ℕ) (back : Place) (ops : List Record) (i : ℕ) (blocks : List Block) → joins_of (length ops) p blocks ≡ Some i → JoinsOne p back ops i blocks
+pub joins_one : (p : ℕ) (back : Place) (ops : List Record) (i : ℕ) (blocks : List Block) → joins_of (length ops) p blocks ≡ Some i
+    → JoinsOne p back ops i blocks
 joins_one p back ops i blocks e =
     let parts = joins_parts (length ops) p i blocks e in
     let o = found p blocks i parts.0 in
@@ -237,7 +240,8 @@ flat_joinable {X} f law = record {
       ∙ sym (append_assoc a (f (Delta p back new)) (f c));
 }
 
-pub added_flat : {X : Type 0} (f : Block → List X) → JoinsIn f → (blocks more : List Block) → flat_map f (added blocks more) ≡ flat_map f blocks ++ flat_map f more
+pub added_flat : {X : Type 0} (f : Block → List X) → JoinsIn f → (blocks more : List Block)
+    → flat_map f (added blocks more) ≡ flat_map f blocks ++ flat_map f more
 added_flat {X} f law blocks more =
     sym (flat_as_fold f [] (added blocks more)) ∙ added_fold (λ (a : List X) b. a ++ f b) (flat_joinable f law) [] blocks more
     ∙ flat_as_fold f [] (blocks ++ more) ∙ flat_map-append f blocks more
@@ -253,7 +257,8 @@ pub added_any : (f : Block → Bool) → ((p : ℕ) (one back : Place) (old new 
 added_any f same blocks more =
     sym (any_as_fold f false (added blocks more))
     ∙ added_fold (λ a b. a || f b) (record {
-      more = λ a p one back old new. rw (same p one one (old ++ new) old, same p back one new old) (sym (or_assoc a _ _ ∙ ap (λ (t : Bool). a || t) (or_twice _)));
+      more = λ a p one back old new. rw (same p one one (old ++ new) old, same p back one new old)
+          (sym (or_assoc a _ _ ∙ ap (λ (t : Bool). a || t) (or_twice _)));
       past = λ a p back new c quiet. or_assoc a (f c) (f (Delta p back new)) ∙ ap (λ (t : Bool). a || t) (or_swap (f c) (f (Delta p back new)))
           ∙ sym (or_assoc a (f (Delta p back new)) (f c));
     }) false blocks more

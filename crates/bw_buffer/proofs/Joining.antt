@@ -1,6 +1,7 @@
 -- What fits where records join a block.
 
-use Rattle.std.proofs.Common.{◌≡◌, ◌∙◌, ℕ, zero, suc, ◌+◌, ◌^◌, ◌<◌, ◌≤◌, Bool, Option, Some, None, List, [], ◌∷◌, ◌++◌, length, get_or, refl, sym, ap, subst, arith, length-append}
+use Rattle.std.proofs.Common.{◌≡◌, ◌∙◌, ℕ, zero, suc, ◌+◌, ◌^◌, ◌<◌, ◌≤◌, Bool, Option, Some, None, List, [], ◌∷◌, ◌++◌, length, get_or, refl, sym}
+use Rattle.std.proofs.Common.{ap, subst, arith, length-append}
 use Rattle.std.specs.List.{AllByRecursion as All, flat_map}
 use Rattle.std.specs.Prelude.{is_some, nat_le, if◌then◌else◌}
 use Rattle.std.specs.Vec.{vec_len, vec_capacity}
@@ -41,7 +42,8 @@ row_at i (suc k) (r ∷ rs) ps [] behind b row at is h = absurd (omega arith)
 row_at i zero (r ∷ rs) ps (x ∷ xs) behind b row at is h = absurd (omega arith)
 row_at i (suc k) (r ∷ rs) ps (x ∷ xs) behind b row at is h = row_at (suc i) k rs ps xs behind b row (omega arith) is h.1
 
-pub joins_room : (a : Inside) (f : Filling) (page at : ℕ) (back : Place) (ops : List Record) → IsLaid a → filling_of a ≡ f → joins_of (length ops) page f.blocks ≡ Some at
+pub joins_room : (a : Inside) (f : Filling) (page at : ℕ) (back : Place) (ops : List Record) → IsLaid a → filling_of a ≡ f
+    → joins_of (length ops) page f.blocks ≡ Some at
     → size_of (with_all f (Delta page back ops ∷ [])) ≤ f.limit → IsBlock 32 (Delta page back ops) → Room a at ops
 joins_room a f page at back ops h view js fits lawful =
     let there : joins_of (length ops) page (blocks_of a) ≡ Some at = ap (λ (x : Filling). joins_of (length ops) page x.blocks) view ∙ js in
@@ -52,7 +54,8 @@ joins_room a f page at back ops h view js fits lawful =
     let three : 3 ≤ length (flat_map op_bytes ops) = (let o = ops_some ops lawful.each in let n = lawful.count.0 in omega arith) in
     let s : StandsOpen page at (blocks_of a) = found page (blocks_of a) at (joins_parts (length ops) page at (blocks_of a) there).0 in
     let count = rows_count 0 a.rows.items (parts_of a) (blocks_of a) h.rows in
-    let long : length (blocks_of a) ≡ length s.before + suc (length s.behind) = ap (λ (l : List Block). length l) s.split ∙ length-append s.before (Delta page s.back s.was ∷ s.behind) in
+    let long : length (blocks_of a) ≡ length s.before + suc (length s.behind) = ap (λ (l : List Block). length l) s.split
+    ∙ length-append s.before (Delta page s.back s.was ∷ s.behind) in
     let index = s.index in
     let top = h.limited.1 in
     let held = h.fits in
@@ -95,7 +98,8 @@ told_some a page at h e =
     let last : last_delta page (blocks_of a) ≡ Some at = sym (h.told page) ∙ sym e in
     let s : StandsOpen page at (blocks_of a) = found page (blocks_of a) at last in
     let count = rows_count 0 a.rows.items (parts_of a) (blocks_of a) h.rows in
-    let long : length (blocks_of a) ≡ length s.before + suc (length s.behind) = ap (λ (l : List Block). length l) s.split ∙ length-append s.before (Delta page s.back s.was ∷ s.behind) in
+    let long : length (blocks_of a) ≡ length s.before + suc (length s.behind) = ap (λ (l : List Block). length l) s.split
+    ∙ length-append s.before (Delta page s.back s.was ∷ s.behind) in
     let index = s.index in
     record {
       inside = omega arith;

@@ -1,6 +1,7 @@
 -- The two passes that lay out a frame.
 
-use Rattle.std.proofs.Common.{◌≡◌, ℕ, zero, suc, ◌+◌, ◌-◌, ◌<◌, ◌≤◌, Bool, List, [], ◌∷◌, ◌++◌, length, set, take, drop, get_or, refl, sym, ap, ◌∙◌, subst, arith}
+use Rattle.std.proofs.Common.{◌≡◌, ℕ, zero, suc, ◌+◌, ◌-◌, ◌<◌, ◌≤◌, Bool, List, [], ◌∷◌, ◌++◌, length, set, take, drop, get_or, refl, sym, ap, ◌∙◌}
+use Rattle.std.proofs.Common.{subst, arith}
 use Rattle.std.proofs.Common.{append_assoc, if◌then◌else◌, length-append, length-drop}
 use Rattle.std.specs.Prelude.{◌==◌}
 use Rattle.std.specs.List.{AllByRecursion as All}
@@ -96,7 +97,8 @@ part_there (p ∷ ps) bytes (suc j) q d lt is =
     ap (λ (l : List ℕ). (q.block, take q.len l)) (sym (drop_sum bytes p.len (pieces_length (take j ps))))
     ∙ part_there ps (drop p.len bytes) j q d (omega arith) is
 
-pub pieces_take : (qs : List Piece) (j : ℕ) (q : Piece) → j < length qs → q ≡ get_or qs j q → pieces_length (take (j + 1) qs) ≡ pieces_length (take j qs) + q.len
+pub pieces_take : (qs : List Piece) (j : ℕ) (q : Piece) → j < length qs → q ≡ get_or qs j q
+    → pieces_length (take (j + 1) qs) ≡ pieces_length (take j qs) + q.len
 pieces_take [] j q lt is = absurd (omega arith)
 pieces_take (p ∷ ps) zero q lt is = (let e = ap (λ (y : Piece). y.len) is in omega arith)
 pieces_take (p ∷ ps) (suc j) q lt is =
@@ -196,7 +198,8 @@ end_within base i (suc d) (r ∷ rs) ps whole xs m short lt =
 
 -- a piece has room in its block
 pub piece_short : (qs : List Piece) (bytes : List ℕ) (j : ℕ) (q : Piece) → j < length qs → q ≡ get_or qs j q
-    → length (bytes_at q.block (take j (parts qs bytes))) + length (take q.len (drop (pieces_length (take j qs)) bytes)) ≤ length (bytes_at q.block (parts qs bytes))
+    → length (bytes_at q.block (take j (parts qs bytes))) + length (take q.len (drop (pieces_length (take j qs)) bytes)) ≤ length
+    (bytes_at q.block (parts qs bytes))
 piece_short qs bytes j q lt is =
     let part : ℕ × List ℕ = (q.block, take q.len (drop (pieces_length (take j qs)) bytes)) in
     let within = taken_within (λ (x : ℕ × List ℕ). if x.0 == q.block then x.1 else []) (parts qs bytes) j part (let n = parts_count qs bytes in omega arith)
@@ -237,8 +240,10 @@ step_at head rows qs arena j q twenty measured within cut lt is =
     let zeroth : 0 + q.block ≡ q.block = omega arith in
     let first : q.block - 0 ≡ q.block = omega arith in
     let end : get_or (ends 20 0 rows done) q.block 0 + length xs ≤ 20 + total rows =
-    end_within 20 0 q.block rows done whole xs measured (subst (λ (n : ℕ). length (bytes_at n done) + length xs ≤ length (bytes_at n whole)) (sym zeroth) short) block in
-    let put = put_piece head 20 0 q.block rows done whole xs (get_or (ends 20 0 rows done) q.block 0) (sym twenty) (omega arith) measured part short (omega arith)
+    end_within 20 0 q.block rows done whole xs measured (subst (λ (n : ℕ). length (bytes_at n done) + length xs ≤ length (bytes_at n whole))
+    (sym zeroth) short) block in
+    let put = put_piece head 20 0 q.block rows done whole xs (get_or (ends 20 0 rows done) q.block 0) (sym twenty) (omega arith) measured part short
+    (omega arith)
     (ap (λ (n : ℕ). get_or (ends 20 0 rows done) n 0) (sym first)) in
     let next = parts_next qs arena j q lt is in
     let gone : pieces_length (take (j + 1) qs) ≡ from + q.len = pieces_take qs j q lt is in
@@ -261,11 +266,13 @@ pub piece_step : (head : List ℕ) (rows : List Row) (qs : List Piece) (arena : 
 piece_step head rows qs arena j q rest bytes spots twenty measured within cut lt is left told ended =
     subst (λ (l : List ℕ). Stepped head rows qs arena j q rest bytes l) (sym ended)
     (subst (λ (l : List ℕ). Stepped head rows qs arena j q rest l (ends 20 0 rows (take j (parts qs arena)))) (sym told)
-    (subst (λ (l : List ℕ). Stepped head rows qs arena j q l (head ++ filled 0 rows (take j (parts qs arena))) (ends 20 0 rows (take j (parts qs arena)))) (sym left)
+    (subst (λ (l : List ℕ). Stepped head rows qs arena j q l (head ++ filled 0 rows (take j (parts qs arena)))
+    (ends 20 0 rows (take j (parts qs arena)))) (sym left)
     (step_at head rows qs arena j q twenty measured within cut lt is)))
 
 -- all pieces are written once the last one is
 pub all_written : (rows : List Row) (qs : List Piece) (arena : List ℕ) (j : ℕ) → length qs ≤ j → AreMeasured 0 rows (parts qs arena)
     → filled 0 rows (take j (parts qs arena)) ≡ laid 0 rows (parts qs arena)
 all_written rows qs arena j end measured =
-    ap (λ (ps : Parts). filled 0 rows ps) (take_all j (parts qs arena) (let n = parts_count qs arena in omega arith)) ∙ filled_all 0 rows (parts qs arena) measured
+    ap (λ (ps : Parts). filled 0 rows ps) (take_all j (parts qs arena) (let n = parts_count qs arena in omega arith))
+    ∙ filled_all 0 rows (parts qs arena) measured

@@ -1,6 +1,7 @@
 -- One more piece of an arena, and one more row or a longer one.
 
-use Rattle.std.proofs.Common.{◌≡◌, ℕ, zero, suc, ◌+◌, ◌<◌, ◌≤◌, ◌≢◌, Bool, Some, List, [], ◌∷◌, ◌++◌, length, map, set, take, drop, refl, sym, ap, ◌∙◌, subst, arith, ◌⊎◌, inl, inr}
+use Rattle.std.proofs.Common.{◌≡◌, ℕ, zero, suc, ◌+◌, ◌<◌, ◌≤◌, ◌≢◌, Bool, Some, List, [], ◌∷◌, ◌++◌, length, map, set, take, drop, refl, sym, ap}
+use Rattle.std.proofs.Common.{◌∙◌, subst, arith, ◌⊎◌, inl, inr}
 use Rattle.std.proofs.Common.{append_assoc, append-nil, if◌then◌else◌, length-append}
 use Rattle.std.specs.Prelude.{◌==◌}
 use Rattle.std.specs.List.{AllByRecursion as All, flat_map}
@@ -77,7 +78,8 @@ pub rows_more : (i : ℕ) (rows : List Row) (ps : Parts) (bs : List Block) (row 
 rows_more i [] ps [] row block xs k at none is h =
     (let same : k ≡ i = omega arith in
     let all : bytes_at i (ps ++ (k, xs) ∷ []) ≡ xs =
-    ap (λ (n : ℕ). bytes_at i (ps ++ (n, xs) ∷ [])) same ∙ bytes_more i ps xs ∙ ap (λ (n : ℕ). bytes_at n ps ++ xs) (sym same) ∙ ap (λ (l : List ℕ). l ++ xs) none in
+    ap (λ (n : ℕ). bytes_at i (ps ++ (n, xs) ∷ [])) same ∙ bytes_more i ps xs ∙ ap (λ (n : ℕ). bytes_at n ps ++ xs) (sym same)
+    ∙ ap (λ (l : List ℕ). l ++ xs) none in
     (subst (λ (l : List ℕ). IsRow row l block) (sym all) is, tt))
 rows_more i [] ps (b ∷ bs) row block xs k at none is h = absurd h
 rows_more i (r ∷ rs) ps [] row block xs k at none is h = absurd h
@@ -100,8 +102,10 @@ row_longer row bytes xs page back was ops h is = (
   ap (λ (l : List ℕ). l ++ xs) h.4 ∙ ap (λ (l : List ℕ). flat_map op_bytes was ++ l) is ∙ sym (flat_map-append op_bytes was ops),
 )
 
-pub rows_longer : (i k : ℕ) (rows : List Row) (ps : Parts) (before behind : List Block) (page : ℕ) (back : Place) (was ops : List Record) (xs : List ℕ) (row : Row)
-    → length before ≡ k → xs ≡ flat_map op_bytes ops → Rattle.std.specs.List.slice_get rows k ≡ Some row → AreRows i rows ps (before ++ Delta page back was ∷ behind)
+pub rows_longer : (i k : ℕ) (rows : List Row) (ps : Parts) (before behind : List Block) (page : ℕ) (back : Place) (was ops : List Record)
+    (xs : List ℕ) (row : Row)
+    → length before ≡ k → xs ≡ flat_map op_bytes ops → Rattle.std.specs.List.slice_get rows k ≡ Some row
+    → AreRows i rows ps (before ++ Delta page back was ∷ behind)
     → AreRows i (set rows k (longer row (length ops) (length xs))) (ps ++ (i + k, xs) ∷ []) (before ++ Delta page back (was ++ ops) ∷ behind)
 rows_longer i k [] ps [] behind page back was ops xs row at is there h = absurd h
 rows_longer i k [] ps (b ∷ bs) behind page back was ops xs row at is there h = absurd h
@@ -118,7 +122,8 @@ rows_longer i zero (r ∷ rs) ps (b ∷ bs) behind page back was ops xs row at i
 rows_longer i (suc k) (r ∷ rs) ps (b ∷ bs) behind page back was ops xs row at is there h =
     (let same : i + suc k ≡ suc i + k = omega arith in (
       subst (λ (l : List ℕ). IsRow r l b) (sym (bytes_apart i (i + suc k) ps xs (λ e. absurd (omega arith)))) h.0,
-      subst (λ (n : ℕ). AreRows (suc i) (set rs k (longer row (length ops) (length xs))) (ps ++ (n, xs) ∷ []) (bs ++ Delta page back (was ++ ops) ∷ behind)) (sym same)
+      subst (λ (n : ℕ). AreRows (suc i) (set rs k (longer row (length ops) (length xs))) (ps ++ (n, xs) ∷ [])
+          (bs ++ Delta page back (was ++ ops) ∷ behind)) (sym same)
           (rows_longer (suc i) k rs ps bs behind page back was ops xs row (omega arith) is there h.1),
     ))
 
@@ -158,4 +163,5 @@ rows_spelled i [] ps [] h = refl
 rows_spelled i [] ps (b ∷ bs) h = absurd h
 rows_spelled i (r ∷ rs) ps [] h = absurd h
 rows_spelled i (r ∷ rs) ps (b ∷ bs) h =
-    ap (λ (l : List ℕ). l ++ laid (suc i) rs ps) (row_spelled r (bytes_at i ps) b h.0) ∙ ap (λ (l : List ℕ). block_bytes b ++ l) (rows_spelled (suc i) rs ps bs h.1)
+    ap (λ (l : List ℕ). l ++ laid (suc i) rs ps) (row_spelled r (bytes_at i ps) b h.0)
+    ∙ ap (λ (l : List ℕ). block_bytes b ++ l) (rows_spelled (suc i) rs ps bs h.1)

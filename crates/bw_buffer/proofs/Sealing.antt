@@ -17,7 +17,11 @@ use Rattle.bw_buffer.proofs.Pieces.{rows_spelled, rows_count}
 use Rattle.bw_buffer.proofs.Holding.{few_blocks}
 
 row_measured : (row : Row) (bytes : List ℕ) (b : Block) → IsBlock 32 b → IsRow row bytes b → (row.len ≡ length bytes) × IsFewBy row.mark row.ops
-row_measured row bytes (Delta page back ops) law h = (h.3, subst (λ (m : Mark). IsFewBy m row.ops) (sym h.0) (let c = law.count.1 in let e = h.2 in omega arith))
+row_measured row bytes (Delta page back ops) law h = (
+  h.3,
+  subst (λ (m : Mark). IsFewBy m row.ops) (sym h.0)
+      (let c = law.count.1 in let e = h.2 in omega arith),
+)
 row_measured row bytes (Base leaf) law h = (h.1, subst (λ (m : Mark). IsFewBy m row.ops) (sym h.0) tt)
 row_measured row bytes (Split page back upper) law h = (h.1, subst (λ (m : Mark). IsFewBy m row.ops) (sym h.0) tt)
 

@@ -1,6 +1,7 @@
 -- How long the body gets, and which block is joined behind others.
 
-use Rattle.std.proofs.Common.{◌≡◌, ℕ, suc, ◌+◌, ◌<◌, ◌≤◌, Bool, true, false, Option, Some, None, List, [], ◌∷◌, ◌++◌, length, take, get_or, refl, sym, ap, ◌∙◌, subst, arith}
+use Rattle.std.proofs.Common.{◌≡◌, ℕ, suc, ◌+◌, ◌<◌, ◌≤◌, Bool, true, false, Option, Some, None, List, [], ◌∷◌, ◌++◌, length, take, get_or, refl, sym}
+use Rattle.std.proofs.Common.{ap, ◌∙◌, subst, arith}
 use Rattle.std.proofs.Common.{append-nil, if◌then◌else◌, length-append}
 use Rattle.std.specs.Prelude.{◌==◌, nat_le, is_some, unwrap_or}
 use Rattle.std.proofs.lemmas.Grind.{fold-append, flat_map-append}
@@ -165,7 +166,8 @@ records_joined p bs (Base leaf) = records_push p bs (Base leaf)
 records_joined p bs (Split page back upper) = records_push p bs (Split page back upper)
 
 -- the next of a list of blocks
-pub added_next : (bs more : List Block) (i : ℕ) (b : Block) → i < length more → b ≡ get_or more i b → added bs (take (i + 1) more) ≡ joined (added bs (take i more)) b
+pub added_next : (bs more : List Block) (i : ℕ) (b : Block) → i < length more → b ≡ get_or more i b
+    → added bs (take (i + 1) more) ≡ joined (added bs (take i more)) b
 added_next bs more i b inside is =
     ap (added bs) (take_more more i b inside ∙ ap (λ (x : Block). take i more ++ x ∷ []) (sym is)) ∙ added_more bs (take i more) (b ∷ [])
 
@@ -178,5 +180,6 @@ records_step p bs others i b was inside is h =
     ∙ ap (λ (l : List Block). open_records p l) (sym (added_next bs others i b inside is))
 
 -- what one block adds
-pub more_for : (f : Filling) (others : List Block) (b : Block) → size_of (with_all f (others ++ b ∷ [])) ≡ 20 + length (body_bytes (joined (added f.blocks others) b))
+pub more_for : (f : Filling) (others : List Block) (b : Block)
+    → size_of (with_all f (others ++ b ∷ [])) ≡ 20 + length (body_bytes (joined (added f.blocks others) b))
 more_for f others b = ap (λ (l : List Block). 20 + length (body_bytes l)) (added_more f.blocks others (b ∷ []))

@@ -1,7 +1,8 @@
 -- What the functions hand on.
 
 use Rattle.std.proofs.Common.{inl, inr, ◌≡◌, ◌⊎◌, ℕ, zero, suc, ◌+◌, ◌-◌, ◌<◌, ◌≤◌, ◌&&◌, nat_lt, Bool, true, false, if◌then◌else◌, Option, Some, None}
-use Rattle.std.proofs.Common.{Result, Ok, Err, IfOk, IfErr, take_all, List, [], ◌∷◌, ◌++◌, length, map, take, drop, get_or, refl, sym, ap, subst, ◌∙◌, append_assoc}
+use Rattle.std.proofs.Common.{Result, Ok, Err, IfOk, IfErr, take_all, List, [], ◌∷◌, ◌++◌, length, map, take, drop, get_or, refl, sym, ap, subst, ◌∙◌}
+use Rattle.std.proofs.Common.{append_assoc}
 use Rattle.std.proofs.Common.{arith}
 use Rattle.std.specs.List.{AllByRecursion}
 use Rattle.std.proofs.lemmas.Bool.{cases_lt}
@@ -350,14 +351,17 @@ stopped_first last old new pages fault behind works refused reason = record {
 
 -- ---- what stands
 
-moved_stands : (last : ℕ) (old now : Contents) (ps rs : List ℕ) (n : ℕ) (leaves : List Leaf) → MovedBehind last old now ps rs n → Stand old.m (counted old) leaves
+moved_stands : (last : ℕ) (old now : Contents) (ps rs : List ℕ) (n : ℕ) (leaves : List Leaf) → MovedBehind last old now ps rs n
+    → Stand old.m (counted old) leaves
     → Stand old.m (counted now) leaves
 moved_stands last old now ps rs n leaves moved stand =
     subst (λ (fs : List Frame). Stand old.m fs leaves) (sym moved.counts) (stand_more old.m (counted old) moved.written leaves stand moved.holds.bases)
 
-pub moved_stand : (last : ℕ) (old now : Contents) (ps rs : List ℕ) (n : ℕ) (leaves : List Leaf) → MovedBehind last old now ps rs n → Stand old.m (counted old) leaves
+pub moved_stand : (last : ℕ) (old now : Contents) (ps rs : List ℕ) (n : ℕ) (leaves : List Leaf) → MovedBehind last old now ps rs n
+    → Stand old.m (counted old) leaves
     → Stand now.m (counted now) leaves
-moved_stand last old now ps rs n leaves moved stand = subst (λ (m : ℕ). Stand m (counted now) leaves) (sym moved.m) (moved_stands last old now ps rs n leaves moved stand)
+moved_stand last old now ps rs n leaves moved stand = subst (λ (m : ℕ). Stand m (counted now) leaves) (sym moved.m)
+    (moved_stands last old now ps rs n leaves moved stand)
 
 same_counts : (old new : Contents) (fault : LogFault) → Refused fault old new → counted new ≡ counted old
 same_counts old new NoMemory refused = ap counted refused
@@ -368,13 +372,15 @@ same_counts old new Failed refused = absurd refused
 same_counts old new Spent refused = ap counted refused
 same_counts old new NoPage refused = absurd refused
 
-pub stopped_stands : (last : ℕ) (old new : Contents) (pages : List ℕ) (fault : LogFault) → StoppedBehind last old pages fault new → (leaves : List Leaf) → Stand old.m (counted old) leaves
+pub stopped_stands : (last : ℕ) (old new : Contents) (pages : List ℕ) (fault : LogFault) → StoppedBehind last old pages fault new
+    → (leaves : List Leaf) → Stand old.m (counted old) leaves
     → Stand old.m (counted new) leaves
 stopped_stands last old new pages fault s leaves stand =
     subst (λ (fs : List Frame). Stand old.m fs leaves) (sym (same_counts s.then_log new fault s.refused))
     (moved_stands last old s.then_log s.done s.rest s.frames leaves s.moved stand)
 
-pub same_m : (last : ℕ) (old now : Contents) (fs : List Frame) (ps rs : List ℕ) (n : ℕ) (leaves : List Leaf) → MovedBehind last old now ps rs n → Stand now.m fs leaves
+pub same_m : (last : ℕ) (old now : Contents) (fs : List Frame) (ps rs : List ℕ) (n : ℕ) (leaves : List Leaf) → MovedBehind last old now ps rs n
+    → Stand now.m fs leaves
     → Stand old.m fs leaves
 same_m last old now fs ps rs n leaves moved stand = subst (λ (m : ℕ). Stand m fs leaves) moved.m stand
 

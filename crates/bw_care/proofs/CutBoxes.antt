@@ -258,7 +258,8 @@ held_taken n (h ∷ k ∷ hs) z number live =
 -- what is left of the counted frames
 pub cut_taken : (c : Contents) (n : ℕ) → IsSound c → c.is_failed ≡ false → (count : ℕ) × (frames_held (cut_newest n c.live) ≡ take count (counted c))
 cut_taken c n sound works =
-    (let x = held_taken n c.live (limits_of (image c) sound.holds.live.0) c.number sound.holds.live.1 in (x.0, x.1 ∙ ap (take x.0) (sym (sound.holds.every works))))
+    (let x = held_taken n c.live (limits_of (image c) sound.holds.live.0) c.number sound.holds.live.1
+    in (x.0, x.1 ∙ ap (take x.0) (sym (sound.holds.every works))))
 
 pub cut_boxes : OwnCutsFound
 cut_boxes c n sound works roomy =

@@ -1,6 +1,7 @@
 -- The walk over one frame's blocks: each Base that is its page's last block may be noted.
 
-use Rattle.std.proofs.Common.{◌≡◌, ℕ, None, MatchOption, map, ◌+◌, ◌-◌, ◌^◌, ◌<◌, ◌≤◌, Option, Some, IfSome, List, [], ◌∷◌, ◌++◌, length, take, drop, get_or, slice_get, refl, sym, ap, subst, ◌∙◌}
+use Rattle.std.proofs.Common.{◌≡◌, ℕ, None, MatchOption, map, ◌+◌, ◌-◌, ◌^◌, ◌<◌, ◌≤◌, Option, Some, IfSome, List, [], ◌∷◌, ◌++◌, length, take, drop}
+use Rattle.std.proofs.Common.{get_or, slice_get, refl, sym, ap, subst, ◌∙◌}
 use Rattle.std.proofs.Common.{append_assoc, length-append, length-drop, arith}
 use Rattle.std.specs.List.{AllByRecursion}
 use Rattle.std.proofs.lemmas.List.{drop-drop, take-append-drop, length-take-le, take_at, drop_at}
@@ -143,7 +144,8 @@ pub record Step {c : Contents} {bytes : List ℕ} {line : FrameAt} {end at count
 
 -- what is told of the blocks at the front of the bytes from here on
 abbrev Outlines : List ℕ → Outline → Type 0
-Outlines front o = (m : ℕ) (block : Block) (rest : List ℕ) → m < 2 ^ 16 → IsBlock m block → front ≡ block_bytes block ++ rest → Some o ≡ Some (outline_of latest block)
+Outlines front o = (m : ℕ) (block : Block) (rest : List ℕ) → m < 2 ^ 16 → IsBlock m block → front ≡ block_bytes block ++ rest
+    → Some o ≡ Some (outline_of latest block)
 
 outlined_so : (b : Block) (o : Outline) → Some o ≡ Some (outline_of latest b) → o ≡ outline_of latest b
 outlined_so b o is = cc

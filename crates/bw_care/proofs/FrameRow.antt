@@ -65,7 +65,12 @@ block_lawful v m b (inl old) law = old_may_be_written m b (subst (λ (k : ℕ). 
 block_lawful v m b (inr new) law = subst (λ (k : ℕ). IsBlockIn k m b) new law
 
 pub frame_lawful : (v m f : ℕ) (x : Frame) → (v ≡ 1) ⊎ (v ≡ 2) → IsFrameIn v m f x → HasLawful m x
-frame_lawful v m f x version law = (law.head.numbered.0, law.head.some.0, all_mapped (IsBlockIn v m) (IsBlock m) x.blocks (λ b one. block_lawful v m b version one) law.blocks)
+frame_lawful v m f x version law = (
+  law.head.numbered.0,
+  law.head.some.0,
+  all_mapped (IsBlockIn v m) (IsBlock m) x.blocks
+      (λ b one. block_lawful v m b version one) law.blocks,
+)
 
 here_lawful : (l : Limits) (h : Holding) (r : Found) → IsLike l r → IsScan h.bytes (Live r.header r.behind)
     → AllByRecursion (HasLawful l.m) (segment_frames h.bytes)

@@ -28,11 +28,13 @@ use Rattle.bw_log.proofs.Adding.{entries_more}
 abbrev pub Only : ℕ → ℕ → ℕ → List ℕ → Result FrameRead CodecFault → Type 0
 Only v m f bytes result = (read : FrameRead) → IsFront v m f bytes read → Gives (λ (x : FrameRead). x) result (Some read)
 
-nothing_by : (v m f : ℕ) (bytes : List ℕ) (o : Option FrameRead) → front_at v m f bytes ≡ o → m < 2 ^ 16 → IsBytes bytes → Only v m f bytes (Err BadBytes) → o ≡ None
+nothing_by : (v m f : ℕ) (bytes : List ℕ) (o : Option FrameRead) → front_at v m f bytes ≡ o → m < 2 ^ 16 → IsBytes bytes
+    → Only v m f bytes (Err BadBytes) → o ≡ None
 nothing_by v m f bytes None is small fits only = refl
 nothing_by v m f bytes (Some read) is small fits only = only read (front_is v m f bytes read small fits is)
 
-pub front_told : (v m f : ℕ) (bytes : List ℕ) (result : Result FrameRead CodecFault) → m < 2 ^ 16 → f < 2 ^ 32 → IsBytes bytes → IfOk result (IsFront v m f bytes)
+pub front_told : (v m f : ℕ) (bytes : List ℕ) (result : Result FrameRead CodecFault) → m < 2 ^ 16 → f < 2 ^ 32 → IsBytes bytes
+    → IfOk result (IsFront v m f bytes)
     → Only v m f bytes result
     → Gives (λ (x : FrameRead). x) result (front_at v m f bytes)
 front_told v m f bytes (Ok read) small limit fits found only = is_front v m f bytes read small limit found
@@ -84,7 +86,8 @@ read_none k bytes long = record {
   parts = refl;
 }
 
-flat_more : (v : ℕ) (fs : List Frame) (x : Frame) → length (flat_map (frame_bytes_in v) (fs ++ x ∷ [])) ≡ length (flat_map (frame_bytes_in v) fs) + length (frame_bytes_in v x)
+flat_more : (v : ℕ) (fs : List Frame) (x : Frame) → length (flat_map (frame_bytes_in v) (fs ++ x ∷ [])) ≡ length (flat_map (frame_bytes_in v) fs) +
+    length (frame_bytes_in v x)
 flat_more v [] x = omega (arith, length-append (frame_bytes_in v x) [])
 flat_more v (f ∷ fs) x = omega (
   arith,
@@ -94,7 +97,8 @@ flat_more v (f ∷ fs) x = omega (
 )
 
 -- a frame that is read fits the bytes and the limit
-pub fits_there : (k : Header) (at : ℕ) (bytes : List ℕ) (frame : Frame) (used : ℕ) → at ≤ length bytes → IsFront k.version k.m k.f (drop at bytes) (Whole frame used)
+pub fits_there : (k : Header) (at : ℕ) (bytes : List ℕ) (frame : Frame) (used : ℕ) → at ≤ length bytes
+    → IsFront k.version k.m k.f (drop at bytes) (Whole frame used)
     → (at + used ≤ length bytes) × (20 ≤ used) × (used ≤ k.f)
 fits_there k at bytes frame used within front =
     let size = ap (λ (b : List ℕ). length b) front.2 in
@@ -103,20 +107,24 @@ fits_there k at bytes frame used within front =
     (omega (arith, all, length-drop at bytes), omega (arith, front.3, length-frame_in k.version frame), omega (arith, front.3, length-frame_in k.version frame))
 
 parts_more : (v : ℕ) (bytes : List ℕ) (at : ℕ) (frames : List Frame) (frame : Frame) (used : ℕ) (rest : List ℕ)
-    → drop 24 bytes ≡ flat_map (frame_bytes_in v) frames ++ drop at bytes → drop at bytes ≡ frame_bytes_in v frame ++ rest → used ≡ length (frame_bytes_in v frame)
+    → drop 24 bytes ≡ flat_map (frame_bytes_in v) frames ++ drop at bytes → drop at bytes ≡ frame_bytes_in v frame ++ rest
+    → used ≡ length (frame_bytes_in v frame)
     → drop 24 bytes ≡ flat_map (frame_bytes_in v) (frames ++ frame ∷ []) ++ drop (at + used) bytes
 parts_more v bytes at frames frame used rest parts here size =
     let beyond : rest ≡ drop (at + used) bytes =
     sym (drop_at (frame_bytes_in v frame) rest used (sym size)) ∙ ap (λ (b : List ℕ). drop used b) (sym here) ∙ drop-drop used at bytes in
     let all : flat_map (frame_bytes_in v) (frames ++ frame ∷ []) ≡ flat_map (frame_bytes_in v) frames ++ frame_bytes_in v frame =
-    flat_map-append (frame_bytes_in v) frames (frame ∷ []) ∙ ap (λ (b : List ℕ). flat_map (frame_bytes_in v) frames ++ b) (append-nil (frame_bytes_in v frame)) in
+    flat_map-append (frame_bytes_in v) frames (frame ∷ []) ∙ ap (λ (b : List ℕ). flat_map (frame_bytes_in v) frames ++ b)
+    (append-nil (frame_bytes_in v frame)) in
     parts ∙ ap (λ (b : List ℕ). flat_map (frame_bytes_in v) frames ++ b) (here ∙ ap (λ (b : List ℕ). frame_bytes_in v frame ++ b) beyond)
     ∙ sym (append_assoc (flat_map (frame_bytes_in v) frames) (frame_bytes_in v frame) (drop (at + used) bytes))
     ∙ ap (λ (b : List ℕ). b ++ drop (at + used) bytes) (sym all)
 
-pub read_more : (k : Header) (bytes : List ℕ) (at : ℕ) (frames : List Frame) (lines : List FrameAt) (frame : Frame) (used : ℕ) → IsReadTo k bytes at frames lines
+pub read_more : (k : Header) (bytes : List ℕ) (at : ℕ) (frames : List Frame) (lines : List FrameAt) (frame : Frame) (used : ℕ)
+    → IsReadTo k bytes at frames lines
     → front_at k.version k.m k.f (drop at bytes) ≡ Some (Whole frame used) → IsFront k.version k.m k.f (drop at bytes) (Whole frame used)
-    → IsReadTo k bytes (at + used) (frames ++ frame ∷ []) (lines ++ record { number = frame.number; segment = 0; at = at; len = used; starts = starts_of k.version frame } ∷ [])
+    → IsReadTo k bytes (at + used) (frames ++ frame ∷ []) (lines ++ record
+    { number = frame.number; segment = 0; at = at; len = used; starts = starts_of k.version frame } ∷ [])
 read_more k bytes at frames lines frame used r front there =
     let fits = fits_there k at bytes frame used r.within there in
     let first : FrameAt × Frame → FrameAt = λ e. e.0 in
@@ -128,12 +136,15 @@ read_more k bytes at frames lines frame used r front there =
       within = fits.0;
       few = (let w = r.few in let u = fits.1 in omega (arith, length-append frames (frame ∷ [])));
       read = r.read ∙ ap (λ (n : ℕ). behind frames (frames_at n k.version k.m k.f (drop at bytes))) (sym fuel) ∙ step
-          ∙ ap (λ (b : List ℕ). behind (frames ++ frame ∷ []) (frames_at (length bytes - length (frames ++ frame ∷ [])) k.version k.m k.f b)) (drop-drop used at bytes);
+          ∙ ap (λ (b : List ℕ). behind (frames ++ frame ∷ []) (frames_at (length bytes - length (frames ++ frame ∷ [])) k.version k.m k.f b))
+          (drop-drop used at bytes);
       stands = (let s = r.stands in let t = flat_more k.version frames frame in omega (arith, there.3));
-      lines = ap (λ (l : List FrameAt). l ++ record { number = frame.number; segment = 0; at = at; len = used; starts = starts_of k.version frame } ∷ []) r.lines
+      lines = ap (λ (l : List FrameAt). l ++ record { number = frame.number; segment = 0; at = at; len = used; starts = starts_of k.version frame } ∷
+          []) r.lines
           ∙ ap (λ (l : FrameAt). map first (entries_from k.version 0 24 frames) ++ l ∷ [])
           (λ i. record { number = frame.number; segment = 0; at = r.stands i; len = there.3 i; starts = starts_of k.version frame })
-          ∙ sym (map-append first (entries_from k.version 0 24 frames) ((entry_of k.version 0 (24 + length (flat_map (frame_bytes_in k.version) frames)) frame, frame) ∷ []))
+          ∙ sym (map-append first (entries_from k.version 0 24 frames)
+          ((entry_of k.version 0 (24 + length (flat_map (frame_bytes_in k.version) frames)) frame, frame) ∷ []))
           ∙ ap (map first) (sym (entries_more k.version 0 24 frames frame));
       laws = all-push (IsFrameIn k.version k.m k.f) frames frame r.laws there.0;
       parts = parts_more k.version bytes at frames frame used there.1 r.parts there.2 there.3;
@@ -185,14 +196,17 @@ tail_len k bytes at frames e = sym (ap (λ (b : List ℕ). length b) e.rest ∙ 
 from_here : (bytes : List ℕ) (at : ℕ) → take (length bytes - at) (drop at bytes) ≡ drop at bytes
 from_here bytes at = take_all (length bytes - at) (drop at bytes) (omega (arith, length-drop at bytes))
 
-pub front_from : (k : Header) (bytes : List ℕ) (at : ℕ) (read again : FrameRead) → front_at k.version k.m k.f (take (length bytes - at) (drop at bytes)) ≡ Some read
+pub front_from : (k : Header) (bytes : List ℕ) (at : ℕ) (read again : FrameRead)
+    → front_at k.version k.m k.f (take (length bytes - at) (drop at bytes)) ≡ Some read
     → read ≡ again → front_at k.version k.m k.f (drop at bytes) ≡ Some again
 front_from k bytes at read again is same = ap (front_at k.version k.m k.f) (sym (from_here bytes at)) ∙ is ∙ ap (λ (r : FrameRead). Some r) same
 
-pub there_from : (k : Header) (bytes : List ℕ) (at : ℕ) (read again : FrameRead) → IsFront k.version k.m k.f (take (length bytes - at) (drop at bytes)) read → read ≡ again
+pub there_from : (k : Header) (bytes : List ℕ) (at : ℕ) (read again : FrameRead)
+    → IsFront k.version k.m k.f (take (length bytes - at) (drop at bytes)) read → read ≡ again
     → IsFront k.version k.m k.f (drop at bytes) again
 there_from k bytes at read again there same =
-    subst (λ (b : List ℕ). IsFront k.version k.m k.f b again) (from_here bytes at) (subst (IsFront k.version k.m k.f (take (length bytes - at) (drop at bytes))) same there)
+    subst (λ (b : List ℕ). IsFront k.version k.m k.f b again) (from_here bytes at)
+    (subst (IsFront k.version k.m k.f (take (length bytes - at) (drop at bytes))) same there)
 
 pub none_from : (k : Header) (bytes : List ℕ) (at : ℕ) (fault : CodecFault) → Says fault (front_at k.version k.m k.f (take (length bytes - at) (drop at bytes)))
     → fault ≡ BadBytes → front_at k.version k.m k.f (drop at bytes) ≡ None

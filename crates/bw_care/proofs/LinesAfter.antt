@@ -87,7 +87,8 @@ split_line p page place back upper old mid one new without with_it more =
 
 pub delta_told : {E : Type 0} (r : Result (Unit {0}) E) (place back : Place) (was_at at : PageAt) (page : ℕ) (ops records : List Record) (block : Block)
     (was leaf : Option Leaf) (old mid new : Lines) → block ≡ Delta page back ops
-    → was_at ≡ at_in (old page) → at ≡ changed_line place was_at → was ≡ leaf_in (old page) → Without page old mid → records ≡ ops → leaf ≡ option_map (all_changed records) was
+    → was_at ≡ at_in (old page) → at ≡ changed_line place was_at → was ≡ leaf_in (old page) → Without page old mid → records ≡ ops
+    → leaf ≡ option_map (all_changed records) was
     → ((p : ℕ) → OnOk r (new p ≡ (if nat_eq page p then Some (record { at = at; leaf = leaf }) else mid p)))
     → OnOk r ((p : ℕ) → new p ≡ line_after p (old p) (place, block))
 delta_told {E} r place back was_at at page ops records block was leaf old mid new is was_at_is at_is was_is without same leaf_is put =
@@ -111,7 +112,8 @@ base_told r place leaf block old new is put =
 
 pub split_told : {E : Type 0} (r : Result (Unit {0}) E) (place back : Place) (was_at at : PageAt) (page : ℕ) (upper : Leaf) (low : List ℕ) (block : Block)
     (was leaf : Option Leaf) (old mid one new : Lines) → block ≡ Split page back upper
-    → was_at ≡ at_in (old page) → at ≡ changed_line place was_at → was ≡ leaf_in (old page) → Without page old mid → low ≡ upper.low → leaf ≡ option_map (kept_below low) was
+    → was_at ≡ at_in (old page) → at ≡ changed_line place was_at → was ≡ leaf_in (old page) → Without page old mid → low ≡ upper.low
+    → leaf ≡ option_map (kept_below low) was
     → ((p : ℕ) → one p ≡ (if nat_eq page p then Some (record { at = at; leaf = leaf }) else mid p))
     → ((p : ℕ) → OnOk r (new p ≡ (if nat_eq upper.page p then Some (base_after place upper) else one p)))
     → OnOk r ((p : ℕ) → new p ≡ line_after p (old p) (place, block))

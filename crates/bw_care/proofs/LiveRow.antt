@@ -1,6 +1,7 @@
 -- Segments in order, as a log has them.
 
-use Rattle.std.proofs.Common.{◌≡◌, ℕ, suc, ◌+◌, ◌-◌, ◌<◌, ◌≤◌, ◌==◌, ◌&&◌, not, nat_lt, if◌then◌else◌, inl, inr, le-leb, Bool, true, false, Some, None, List, [], ◌∷◌, ◌++◌}
+use Rattle.std.proofs.Common.{◌≡◌, ℕ, suc, ◌+◌, ◌-◌, ◌<◌, ◌≤◌, ◌==◌, ◌&&◌, not, nat_lt, if◌then◌else◌, inl, inr, le-leb, Bool, true, false, Some}
+use Rattle.std.proofs.Common.{None, List, [], ◌∷◌, ◌++◌}
 use Rattle.std.proofs.Common.{length, map, refl, sym, ap, ◌∙◌, subst, arith}
 use Rattle.std.specs.List.{list_any, AllByRecursion}
 use Rattle.std.proofs.lemmas.Bool.{or_parts, and_parts, and_from, eqb-true, eq-eqb, lt-ltb, true≢false}
@@ -297,7 +298,8 @@ lines_are number k boxes [] (r ∷ rs) all = absurd all
 lines_are number k boxes (h ∷ hs) [] all = absurd all
 lines_are number k boxes (h ∷ hs) (r ∷ rs) all =
     let next : number + (k + 1) ≡ number + k + 1 = omega arith in
-    let here : in_segments number (map (moved_to k) r.behind.lines.items) ≡ map (λ e. e.0) (entries_from (version_in h.bytes) (number + k) 24 (segment_frames h.bytes)) =
+    let here : in_segments number (map (moved_to k) r.behind.lines.items) ≡ map (λ e. e.0)
+    (entries_from (version_in h.bytes) (number + k) 24 (segment_frames h.bytes)) =
     ap (λ (l : List FrameAt). in_segments number (map (moved_to k) l)) all.0.2.lines ∙ lines_from r.header.version number k 24 (frames_behind r.header h.bytes)
     ∙ ap (λ (v : ℕ). map (λ e. e.0) (entries_from v (number + k) 24 (frames_behind r.header h.bytes))) (version_found h r all.0)
     ∙ ap (λ (fs : List Frame). map (λ e. e.0) (entries_from (version_in h.bytes) (number + k) 24 fs)) (sym (frames_here h r all.0)) in
@@ -305,4 +307,5 @@ lines_are number k boxes (h ∷ hs) (r ∷ rs) all =
     ∙ ap (λ (l : List FrameAt). l ++ in_segments number (lines_found (k + 1) rs)) here
     ∙ ap (λ (l : List FrameAt). map (λ e. e.0) (entries_from (version_in h.bytes) (number + k) 24 (segment_frames h.bytes)) ++ l)
     (lines_are number (k + 1) boxes hs rs all.1 ∙ ap (λ (n : ℕ). map (λ e. e.0) (entries n (map (λ x. x.bytes) hs))) next)
-    ∙ sym (map-append (λ (e : FrameAt × Frame). e.0) (entries_from (version_in h.bytes) (number + k) 24 (segment_frames h.bytes)) (entries (number + k + 1) (map (λ x. x.bytes) hs)))
+    ∙ sym (map-append (λ (e : FrameAt × Frame). e.0) (entries_from (version_in h.bytes) (number + k) 24 (segment_frames h.bytes))
+    (entries (number + k + 1) (map (λ x. x.bytes) hs)))

@@ -16,9 +16,11 @@ use Rattle.bw_log.specs.PageTable.{top_page}
 use Rattle.bw_log.specs.Places.{first_number, or_else, AreLinked}
 use Rattle.bw_log.specs.Segments.{Limits, version_at, limit_at, segment_frames, frames_of, AreFrom, AreLive}
 use Rattle.bw_care.specs.Lawful.{HasLawful, is_at_fault, first_such, contents}
-use Rattle.bw_care.specs.Laws.{OwnBoxesFound, WholeBoxesFound, SortedBoxesFound, SortedBoxesEmpty, AreSorted, IsLoose, EndWhole, own_finding, sorted_finding, frames_held}
+use Rattle.bw_care.specs.Laws.{OwnBoxesFound, WholeBoxesFound, SortedBoxesFound, SortedBoxesEmpty, AreSorted, IsLoose, EndWhole, own_finding}
+use Rattle.bw_care.specs.Laws.{sorted_finding, frames_held}
 use Rattle.bw_care.specs.Recovery.{Finding, first_fault, fault_of_order, fault_of_frames, found_in, answer, when, too_large, bytes_fault, is_mixed, has_gap}
-use Rattle.bw_care.specs.Recovery.{is_none, is_small, link_fault, link_fault_by, page_fault, page_fault_by, recovery, follow_on, frames_in, headers_in, pairs_of, pairs_in, limit_of, limit_in, are_mixed}
+use Rattle.bw_care.specs.Recovery.{is_none, is_small, link_fault, link_fault_by, page_fault, page_fault_by, recovery, follow_on, frames_in}
+use Rattle.bw_care.specs.Recovery.{headers_in, pairs_of, pairs_in, limit_of, limit_in, are_mixed}
 use Rattle.bw_care.specs.Scanning.{rest_in}
 use Rattle.bw_care.specs.Recovery.{live_in, spares_in, parts_in, tails_of, last_number, number_in}
 use Rattle.bw_care.specs.declared.fault.RecoverCause.{RecoverCause}
@@ -27,7 +29,8 @@ use Rattle.bw_care.proofs.FoundStand.{blocks_lawful}
 use Rattle.bw_care.proofs.FrameRow.{frame_lawful}
 use Rattle.bw_log.proofs.Entries.{all_mapped}
 use Rattle.bw_care.proofs.OwnPages.{top_is, contents_are}
-use Rattle.bw_care.proofs.OwnSegments.{heads, headers_live, heads_unmixed, heads_limit, segments_are, live_are, spares_are, spares_roomy, parts_are, no_parts, bytes_right}
+use Rattle.bw_care.proofs.OwnSegments.{heads, headers_live, heads_unmixed, heads_limit, segments_are, live_are, spares_are, spares_roomy, parts_are}
+use Rattle.bw_care.proofs.OwnSegments.{no_parts, bytes_right}
 use Rattle.bw_care.proofs.OwnSegments.{segments_follow, frames_follow}
 use Rattle.bw_care.proofs.StandingAgain.{stands_again}
 
@@ -169,7 +172,8 @@ module _ (z : Limits) (n : ℕ) (live loose : List Holding) (x : AreSorted z n l
     found =
         ap (λ (fault : Option RecoverCause). answer fault (found_in both)) no_fault
         ∙ ap (λ (fs : List Frame). made fs (contents (blocks_of fs) 1 (top_page (blocks_of fs))) (tails_of (live_in both)) (length (parts_in both))) frames
-        ∙ ap (λ (ls : List Leaf). made (frames_held live) ls (tails_of (live_in both)) (length (parts_in both))) (contents_are z.m (frames_held live) leaves stand)
+        ∙ ap (λ (ls : List Leaf). made (frames_held live) ls (tails_of (live_in both)) (length (parts_in both)))
+        (contents_are z.m (frames_held live) leaves stand)
         ∙ ap (λ (l : List Holding). made (frames_held live) leaves (tails_of l) (length (parts_in both))) lives
         ∙ ap (λ (l : List Holding). made (frames_held live) leaves (tails_of live) (length l)) (parts_are z n live loose x.segments)
 

@@ -1,6 +1,7 @@
 -- The boxes of a log, sorted out: its live segments in their order, and its spares.
 
-use Rattle.std.proofs.Common.{inl, inr, ◌≡◌, ℕ, zero, suc, ◌+◌, ◌-◌, ◌^◌, ◌<◌, ◌≤◌, ◌==◌, ◌&&◌, ◌||◌, nat_lt, nat_le, Bool, true, false, if◌then◌else◌, Option, Some, None, List}
+use Rattle.std.proofs.Common.{inl, inr, ◌≡◌, ℕ, zero, suc, ◌+◌, ◌-◌, ◌^◌, ◌<◌, ◌≤◌, ◌==◌, ◌&&◌, ◌||◌, nat_lt, nat_le, Bool, true, false}
+use Rattle.std.proofs.Common.{if◌then◌else◌, Option, Some, None, List}
 use Rattle.std.proofs.Common.{[], ◌∷◌, ◌++◌, length, drop, map, refl, sym, ap, subst, ◌∙◌, arith, append_assoc, append-nil, length-append}
 use Rattle.std.specs.List.{fold, flat_map, list_any, AllByRecursion}
 use Rattle.std.proofs.lemmas.Bool.{eq-eqb, le-ltb, leb-true, leb-false}
@@ -20,7 +21,8 @@ use Rattle.bw_log.specs.Segments as log
 use Rattle.bw_log.proofs.Reread.{frames_read, frames_few}
 use Rattle.bw_care.specs.Behind.{EndsInTail}
 use Rattle.bw_care.specs.Scanning.{has_header, has_header_by, has_part, has_part_by, is_bare, rest_of, fault_by, fault_in}
-use Rattle.bw_care.specs.Recovery.{placed_by, in_order, number_in, segments_in, live_in, spares_in, parts_in, bytes_fault, bytes_fault_by, clash, are_mixed, limit_of, follow_on}
+use Rattle.bw_care.specs.Recovery.{placed_by, in_order, number_in, segments_in, live_in, spares_in, parts_in, bytes_fault, bytes_fault_by, clash}
+use Rattle.bw_care.specs.Recovery.{are_mixed, limit_of, follow_on}
 use Rattle.bw_care.specs.Laws.{IsLoose}
 use Rattle.bw_care.proofs.HeadersRead.{header_long, fault_part, fault_whole}
 use Rattle.bw_care.proofs.SortedOut.{header_is, bare_none, not_bare, part_not_bare, keeps, drops, number_at}
@@ -58,7 +60,8 @@ live_rest z n bytes live =
     let few : length fs ≤ length bytes =
     omega (arith, size, frames_few h.version fs, length-append (header_bytes h) rest, length-append (flat_map (frame_bytes_in h.version) fs) live.cut) in
     ap (λ (b : List ℕ). (frames_at (length bytes) h.version h.m h.f b).1) left
-    ∙ ap (λ (r : List Frame × List ℕ). r.1) (frames_read h.version (length bytes) h.m h.f fs live.cut (omega arith) (limit_small h live.whole.lawful) live.whole.each live.whole.tail few)
+    ∙ ap (λ (r : List Frame × List ℕ). r.1) (frames_read h.version (length bytes) h.m h.f fs live.cut (omega arith) (limit_small h live.whole.lawful)
+    live.whole.each live.whole.tail few)
 
 pub live_long : (z : Limits) (n : ℕ) (bytes : List ℕ) → IsLive z n bytes → 24 ≤ length bytes
 live_long z n bytes live =

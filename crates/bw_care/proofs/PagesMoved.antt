@@ -282,7 +282,8 @@ first_lease number (h ∷ hs) told segment lease len some answer is =
     let b : h.lease ≡ lease = ap (λ (t : ℕ × ℕ × ℕ). t.1) e in
     (omega arith, ap (λ (l : ℕ). l ∷ []) b)
 
-pub all_cleaned : (old now new : Contents) (cleaned : Cleaned) (told : Option (ℕ × ℕ × ℕ)) (len : ℕ) → IsSound old → IsSound now → 2 ≤ length old.live → old.is_failed ≡ false
+pub all_cleaned : (old now new : Contents) (cleaned : Cleaned) (told : Option (ℕ × ℕ × ℕ)) (len : ℕ) → IsSound old → IsSound now
+    → 2 ≤ length old.live → old.is_failed ≡ false
     → Moved old now (old_pages old) [] cleaned.frames
     → new ≡ record now { live = drop 1 now.live; number = now.number + 1; frames = new.frames } → counted new ≡ drop (oldest_count now.live) (counted now)
     → MatchOption (slice_get old.live 0) (told ≡ None) (λ h. told ≡ Some (old.number + 0, h.lease, length h.bytes))

@@ -133,7 +133,8 @@ found_leaves m frames es rise of none = leaves_are m 0 (blocks_of frames) (leave
 
 -- ---- the table
 
-place_by : (o : Option Paged) (q : Option Place) → place_in (option_map (λ e. e.1) o) ≡ q → ((l : Line) → option_map (λ e. e.1) o ≡ Some l → 1 ≤ l.at.place.frame)
+place_by : (o : Option Paged) (q : Option Place) → place_in (option_map (λ e. e.1) o) ≡ q
+    → ((l : Line) → option_map (λ e. e.1) o ≡ Some l → 1 ≤ l.at.place.frame)
     → entry_place (λ e. e.place) (option_map at_line o) ≡ q
 place_by None q is from = is
 place_by (Some e) q is from = (let off : (e.1.at.place.frame == 0)
@@ -155,12 +156,14 @@ map_get g (x ∷ xs) (suc i) = map_get g xs i
 place_step : (p : ℕ) (was : Option Line) (x : Place × Block) (t : Bool) → touches p x.1 ≡ t → 1 ≤ x.0.frame → ((l : Line) → was ≡ Some l → 1 ≤ l.at.place.frame)
     → (l : Line) → line_of p was (x ∷ []) ≡ Some l → 1 ≤ l.at.place.frame
 place_step p was x true e from all l is =
-    (let same : place_in (line_of p was (x ∷ [])) ≡ Some x.0 = rw e (ap (λ (q : Place). Some q) (at_place (sets p x.1) x.0 (at_in was))) in let both : Some l.at.place ≡ Some x.0 = sym (ap place_in is) ∙ same
+    (let same : place_in (line_of p was (x ∷ [])) ≡ Some x.0 = rw e (ap (λ (q : Place). Some q)
+    (at_place (sets p x.1) x.0 (at_in was))) in let both : Some l.at.place ≡ Some x.0 = sym (ap place_in is) ∙ same
     in let eq : l.at.place ≡ x.0 = cc in
     subst (λ (q : Place). 1 ≤ q.frame) (sym eq) from)
 place_step p was x false e from all l is = (let same : line_of p was (x ∷ []) ≡ was = rw e refl in all l (sym same ∙ is))
 
-place_after : (p : ℕ) (was : Option Line) (xs : List (Place × Block)) → AllByRecursion (λ x. 1 ≤ x.0.frame) xs → ((l : Line) → was ≡ Some l → 1 ≤ l.at.place.frame)
+place_after : (p : ℕ) (was : Option Line) (xs : List (Place × Block)) → AllByRecursion (λ x. 1 ≤ x.0.frame) xs
+    → ((l : Line) → was ≡ Some l → 1 ≤ l.at.place.frame)
     → (l : Line) → line_of p was xs ≡ Some l → 1 ≤ l.at.place.frame
 place_after p was [] from all l is = all l is
 place_after p was (x ∷ xs) from all l is = place_after p (line_of p was (x ∷ [])) xs from.1 (place_step p was x (touches p x.1) refl from.0 all) l is

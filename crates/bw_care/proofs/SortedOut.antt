@@ -37,7 +37,8 @@ whole_by false b c d e x h is = absurd cc
 
 pub header_is : (bytes : List ℕ) (h : Header) → heading_of bytes ≡ heading.Whole h → h ≡ header_in bytes
 unfolding heading_of
-header_is bytes h is = whole_by (agrees bytes (segment_word (version_in bytes))) (nat_lt (length bytes) 24) (nat_lt 0 (length bytes)) (little_number 2 (drop 18 bytes) == 0)
+header_is bytes h is = whole_by (agrees bytes (segment_word (version_in bytes))) (nat_lt (length bytes) 24) (nat_lt 0 (length bytes))
+    (little_number 2 (drop 18 bytes) == 0)
     (is_header (header_in bytes)) (header_in bytes) h is
 
 pub bare_none : has_header [] ≡ false

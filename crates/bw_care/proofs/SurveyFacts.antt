@@ -17,7 +17,8 @@ use Rattle.bw_log.specs.declared.places.FrameAt.{FrameAt}
 use Rattle.bw_care.specs.Scanning.{rest_of}
 use Rattle.bw_care.specs.Scanned.{IsScan, AreScans}
 use Rattle.bw_care.specs.Recovery.{recovery, answer, found_in, too_large, bytes_fault, fault_of_order, fault_of_frames, is_small, when}
-use Rattle.bw_care.specs.Recovery.{pairs_in, limit_in, pairs_of, limit_of, are_mixed, frames_in, live_in, is_none, link_fault, link_fault_by, page_fault, page_fault_by, last_number}
+use Rattle.bw_care.specs.Recovery.{pairs_in, limit_in, pairs_of, limit_of, are_mixed, frames_in, live_in, is_none, link_fault, link_fault_by}
+use Rattle.bw_care.specs.Recovery.{page_fault, page_fault_by, last_number}
 use Rattle.bw_care.specs.Passing.{PassStops}
 use Rattle.bw_care.specs.Found.{Refuses}
 use Rattle.bw_care.specs.Lawful.{HasLawful}

@@ -181,7 +181,8 @@ all_old_is_shut : (c : Contents) → IsSound c → c.is_failed ≡ false → len
 all_old_is_shut c sound works all = (let off = shut_by c c.is_open sound works refl all in off)
 
 pub few_old : (c : Contents) → old_segments c ≤ length c.live
-few_old c = (let few = old_within (map (λ (h : Holding). version_in h.bytes) c.live) in omega (arith, few, length-map c.live (λ (h : Holding). version_in h.bytes)))
+few_old c = (let few = old_within (map (λ (h : Holding). version_in h.bytes) c.live) in omega
+    (arith, few, length-map c.live (λ (h : Holding). version_in h.bytes)))
 
 -- ---- the first segments stay
 

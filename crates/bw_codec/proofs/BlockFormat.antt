@@ -7,9 +7,11 @@ use Rattle.std.specs.List.{flat_map, AllByRecursion}
 use lib.Pointwise.{bytes_decides}
 use Rattle.bw_codec.specs.Version.{key_limit}
 use Rattle.bw_codec.specs.Bytes.{number_bytes, text, value_bytes, ascends, IsBytes}
-use Rattle.bw_codec.specs.Grammar.{op_bytes_in, pair_bytes_in, place_bytes, pairs_bytes_in, ops_bytes_in, upper_bytes_in, block_bytes_in, IsPairIn, IsOpIn, IsPage, IsPlace, IsDeltaIn}
+use Rattle.bw_codec.specs.Grammar.{op_bytes_in, pair_bytes_in, place_bytes, pairs_bytes_in, ops_bytes_in, upper_bytes_in, block_bytes_in, IsPairIn}
+use Rattle.bw_codec.specs.Grammar.{IsOpIn, IsPage, IsPlace, IsDeltaIn}
 use Rattle.bw_codec.specs.Grammar.{IsBaseIn, IsSplitIn, IsBlockIn, first_key}
-use Rattle.bw_codec.specs.Reading.{Found, ◌>>=◌, number_at, text_at, value_at, put_at, del_at, op_at, pair_at, many_at, place_at, page_at, pairs_at, delta_at, base_at}
+use Rattle.bw_codec.specs.Reading.{Found, ◌>>=◌, number_at, text_at, value_at, put_at, del_at, op_at, pair_at, many_at, place_at, page_at, pairs_at}
+use Rattle.bw_codec.specs.Reading.{delta_at, base_at}
 use Rattle.bw_codec.specs.Reading.{upper_at, split_at, block_at, is_led}
 use Rattle.bw_codec.specs.declared.record.Record.{Record}
 use Rattle.bw_codec.specs.declared.record.Record.TheVariants.{Put, Del}
@@ -17,11 +19,13 @@ use Rattle.bw_codec.specs.declared.leaf.Leaf.{Leaf}
 use Rattle.bw_codec.specs.declared.block.Place.{Place}
 use Rattle.bw_codec.specs.declared.block.Block.{Block}
 use Rattle.bw_codec.specs.declared.block.Block.TheVariants.{Delta, Base, Split}
-use Rattle.bw_codec.proofs.Format.{Takes, IsFormat, IsRun, found, takes_as, bind_some, passed, held, then_parts, again_on, number_format, text_format, value_format}
+use Rattle.bw_codec.proofs.Format.{Takes, IsFormat, IsRun, found, takes_as, bind_some, passed, held, then_parts, again_on, number_format, text_format}
+use Rattle.bw_codec.proofs.Format.{value_format}
 
 -- ---- pairs and records
 
-pair_takes : (v : ℕ) → (bytes : List ℕ) (x : List ℕ × List ℕ) (rest : List ℕ) → IsBytes bytes → pair_at v bytes ≡ Some (x, rest) → Takes (pair_bytes_in v) (IsPairIn v) bytes x rest
+pair_takes : (v : ℕ) → (bytes : List ℕ) (x : List ℕ × List ℕ) (rest : List ℕ) → IsBytes bytes → pair_at v bytes ≡ Some (x, rest)
+    → Takes (pair_bytes_in v) (IsPairIn v) bytes x rest
 unfolding pair_at
 pair_takes v bytes x rest fits read =
     let k = bind_some (text_at 1 (key_limit v) bytes) (λ key. value_at v key.1 >>= λ value. Some ((key.0, value.0), value.1)) (x, rest) read in
@@ -38,12 +42,16 @@ pair_takes v bytes x rest fits read =
 pair_again : (v : ℕ) → (x : List ℕ × List ℕ) (rest : List ℕ) → IsPairIn v x → pair_at v (pair_bytes_in v x ++ rest) ≡ Some (x, rest)
 unfolding pair_at
 pair_again v x rest law =
-    rw (again_on text (IsRun 1 (key_limit v)) (text_at 1 (key_limit v)) (text_format 1 (key_limit v)) x.0 (value_bytes v x.1) rest law.0, (value_format v).again x.1 rest law.1) refl
+    rw (
+      again_on text (IsRun 1 (key_limit v)) (text_at 1 (key_limit v)) (text_format 1 (key_limit v)) x.0 (value_bytes v x.1) rest law.0,
+      (value_format v).again x.1 rest law.1,
+    ) refl
 
 pub pair_format : (v : ℕ) → IsFormat (pair_bytes_in v) (IsPairIn v) (pair_at v)
 pair_format v = record { takes = pair_takes v; again = pair_again v }
 
-put_takes : (v : ℕ) → (bytes : List ℕ) (x : Record) (rest : List ℕ) → IsBytes bytes → put_at v bytes ≡ Some (x, rest) → Takes (op_bytes_in v) (IsOpIn v) (1 ∷ bytes) x rest
+put_takes : (v : ℕ) → (bytes : List ℕ) (x : Record) (rest : List ℕ) → IsBytes bytes → put_at v bytes ≡ Some (x, rest)
+    → Takes (op_bytes_in v) (IsOpIn v) (1 ∷ bytes) x rest
 put_takes v bytes x rest fits read =
     let k = bind_some (text_at 1 (key_limit v) bytes) (λ key. value_at v key.1 >>= λ value. Some (Put key.0 value.0, value.1)) (x, rest) read in
     let key = (text_format 1 (key_limit v)).takes bytes k.0.0 k.0.1 fits k.1 in
@@ -53,7 +61,8 @@ put_takes v bytes x rest fits read =
     takes_as (op_bytes_in v) (IsOpIn v) (1 ∷ bytes) (Put k.0.0 w.0.0, w.0.1) (x, rest) (found w.2)
     (record { parts = parts; lawful = (key.lawful, value.lawful); others = value.others })
 
-del_takes : (v : ℕ) → (bytes : List ℕ) (x : Record) (rest : List ℕ) → IsBytes bytes → del_at v bytes ≡ Some (x, rest) → Takes (op_bytes_in v) (IsOpIn v) (2 ∷ bytes) x rest
+del_takes : (v : ℕ) → (bytes : List ℕ) (x : Record) (rest : List ℕ) → IsBytes bytes → del_at v bytes ≡ Some (x, rest)
+    → Takes (op_bytes_in v) (IsOpIn v) (2 ∷ bytes) x rest
 del_takes v bytes x rest fits read =
     let k = bind_some (text_at 1 (key_limit v) bytes) (λ key. Some (Del key.0, key.1)) (x, rest) read in
     let key = (text_format 1 (key_limit v)).takes bytes k.0.0 k.0.1 fits k.1 in
@@ -65,7 +74,8 @@ tagged : {X : Type 0} (spell : X → List ℕ) (Law : X → Type 0) (tag n : ℕ
     → Takes spell Law (n ∷ bytes) x rest → Takes spell Law (tag ∷ bytes) x rest
 tagged spell Law tag n bytes x rest is takes = subst (λ (t : ℕ). Takes spell Law (t ∷ bytes) x rest) (sym (eqb-true tag n is)) takes
 
-op_takes : (v : ℕ) → (bytes : List ℕ) (x : Record) (rest : List ℕ) → IsBytes bytes → op_at v bytes ≡ Some (x, rest) → Takes (op_bytes_in v) (IsOpIn v) bytes x rest
+op_takes : (v : ℕ) → (bytes : List ℕ) (x : Record) (rest : List ℕ) → IsBytes bytes → op_at v bytes ≡ Some (x, rest)
+    → Takes (op_bytes_in v) (IsOpIn v) bytes x rest
 unfolding op_at
 op_takes v [] x rest fits read = absurd cc
 op_takes v (tag ∷ bytes) x rest fits read =
@@ -290,7 +300,8 @@ unfolding base_at
 base_again v m leaf rest small law =
     rw (
       again_on (number_bytes 4) IsPage page_at page_format leaf.page (text leaf.low ++ pairs_bytes_in v leaf.pairs) rest law.page,
-      again_on text (IsRun 0 (key_limit v)) (text_at 0 (key_limit v)) (text_format 0 (key_limit v)) leaf.low (pairs_bytes_in v leaf.pairs) rest (omega arith, law.low),
+      again_on text (IsRun 0 (key_limit v)) (text_at 0 (key_limit v)) (text_format 0 (key_limit v)) leaf.low (pairs_bytes_in v leaf.pairs) rest
+          (omega arith, law.low),
       (pairs_format v m).again leaf.pairs rest (pairs_of_base v m leaf small law),
     ) refl
 
@@ -315,7 +326,8 @@ upper_takes : (v : ℕ) → (m : ℕ) (bytes : List ℕ) (x : Leaf) (rest : List
     → Takes (upper_bytes_in v) (IsUpper v m) bytes x rest
 unfolding upper_at
 upper_takes v m bytes x rest fits read =
-    let l = bind_some (text_at 0 (key_limit v) bytes) (λ low. number_at 4 low.1 >>= λ page. pairs_at v m page.1 >>= λ pairs. if nat_lt page.0 2 then None else if is_led
+    let l = bind_some (text_at 0 (key_limit v) bytes) (λ low. number_at 4 low.1 >>= λ page. pairs_at v m page.1 >>= λ pairs. if nat_lt page.0 2 then
+    None else if is_led
     low.0 pairs.0 then Some (record { page = page.0; low = low.0; pairs = pairs.0 }, pairs.1) else None) (x, rest) read in
     let low = (text_format 0 (key_limit v)).takes bytes l.0.0 l.0.1 fits l.1 in
     let g = bind_some (number_at 4 l.0.1) (λ page. pairs_at v m page.1 >>= λ pairs. if nat_lt page.0 2 then None else if is_led l.0.0 pairs.0 then Some
@@ -353,7 +365,8 @@ upper_again : (v : ℕ) → (m : ℕ) (leaf : Leaf) (rest : List ℕ) → m < 2 
 unfolding upper_at
 upper_again v m leaf rest small law =
     rw (
-      again_on text (IsRun 0 (key_limit v)) (text_at 0 (key_limit v)) (text_format 0 (key_limit v)) leaf.low (number_bytes 4 leaf.page ++ pairs_bytes_in v leaf.pairs) rest
+      again_on text (IsRun 0 (key_limit v)) (text_at 0 (key_limit v)) (text_format 0 (key_limit v)) leaf.low
+          (number_bytes 4 leaf.page ++ pairs_bytes_in v leaf.pairs) rest
           (omega arith, law.makes.low),
       again_on (number_bytes 4) (λ n. n < 256 ^ 4) (number_at 4) (number_format 4) leaf.page (pairs_bytes_in v leaf.pairs) rest law.makes.page.1,
       (pairs_format v m).again leaf.pairs rest (pairs_of_base v m leaf small law.makes),
@@ -407,7 +420,8 @@ unfolding block_at
 block_takes v m [] x rest fits read = absurd cc
 block_takes v m (tag ∷ bytes) x rest fits read =
     let behind : IsBytes bytes = λ i. fits (suc i) in
-    elim (tag == 1) as (λ t. (tag == 1) ≡ t → (if t then delta_at v bytes else if tag == 2 then base_at v m bytes else if tag == 3 then split_at v m bytes else None)
+    elim (tag == 1) as (λ t. (tag == 1) ≡ t → (if t then delta_at v bytes else if tag == 2 then base_at v m bytes else if tag == 3 then split_at v m
+    bytes else None)
     ≡ Some (x, rest) → Takes (block_bytes_in v) (IsBlockIn v m) (tag ∷ bytes) x rest) [
       | true ↦ λ one delta. tagged (block_bytes_in v) (IsBlockIn v m) tag 1 bytes x rest one (delta_takes v bytes x rest m behind delta)
       | false ↦ λ _ read2. elim (tag == 2) as (λ t. (tag == 2) ≡ t

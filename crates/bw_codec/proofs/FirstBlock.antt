@@ -19,7 +19,8 @@ block_there v m bytes block rest small fits read =
     (taken.lawful, rest, taken.parts)
 
 -- what stands there is read
-pub block_read : (v : ℕ) → (m : ℕ) (bytes : List ℕ) (block : Block) → m < 2 ^ 16 → (there : IsFirst v m bytes block) → block_at v m bytes ≡ Some (block, there.1)
+pub block_read : (v : ℕ) → (m : ℕ) (bytes : List ℕ) (block : Block) → m < 2 ^ 16 → (there : IsFirst v m bytes block)
+    → block_at v m bytes ≡ Some (block, there.1)
 block_read v m bytes block small there = ap (block_at v m) there.2 ∙ (block_format v m small).again block there.1 there.0
 
 pub only_block : (v : ℕ) → (m : ℕ) (bytes : List ℕ) (was : Block) (rest : List ℕ) → m < 2 ^ 16 → block_at v m bytes ≡ Some (was, rest)

@@ -1,6 +1,7 @@
 -- A format: what is read from the front of bytes was spelled there, and what is spelled is read again.
 
-use Rattle.std.proofs.Common.{◌≡◌, ℕ, zero, suc, ◌+◌, ◌*◌, ◌/◌, ◌%◌, ◌^◌, ◌<◌, ◌≤◌, ◌==◌, Bool, true, false, if◌then◌else◌, Option, Some, None, List, [], ◌∷◌, ◌++◌}
+use Rattle.std.proofs.Common.{◌≡◌, ℕ, zero, suc, ◌+◌, ◌*◌, ◌/◌, ◌%◌, ◌^◌, ◌<◌, ◌≤◌, ◌==◌, Bool, true, false, if◌then◌else◌, Option, Some, None, List}
+use Rattle.std.proofs.Common.{[], ◌∷◌, ◌++◌}
 use Rattle.std.proofs.Common.{length, take, drop, nat_lt, inl, inr, refl, sym, ap, subst, ◌∙◌, append_assoc, arith, length-append, length-take}
 use Rattle.std.proofs.lemmas.List.{take-append-drop, take_at, drop_at, get_or-append-add, get_or-take, get_or_past, length-take-le}
 use Rattle.std.proofs.lemmas.Bool.{ltb-false, le-ltb, cases_lt}
@@ -212,7 +213,8 @@ unfolding value_at
 value_again v x rest law =
     let sizes = value_sizes v x rest law in
     rw (
-      again_on (number_bytes (value_width v)) (λ n. n < 256 ^ value_width v) (number_at (value_width v)) (number_format (value_width v)) (length x) x rest sizes.0,
+      again_on (number_bytes (value_width v)) (λ n. n < 256 ^ value_width v) (number_at (value_width v)) (number_format (value_width v)) (length x) x
+          rest sizes.0,
       le-ltb (value_limit v) (length x) law,
       sizes.1,
       take_at x rest (length x) refl,

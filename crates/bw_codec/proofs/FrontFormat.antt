@@ -7,7 +7,8 @@ use Rattle.std.proofs.lemmas.List.{take_at, take-append-drop, nil_from_length, l
 use Rattle.std.proofs.Math.Seq.{take-append-add}
 use Rattle.byteorder.specs.Numbers.{length-bytes_low_first}
 use Rattle.bw_codec.specs.Bytes.{number_bytes, IsBytes}
-use Rattle.bw_codec.specs.Grammar.{block_bytes_in, body_bytes_in, frame_word, head_bytes_in, frame_bytes_in, agrees, is_head, IsHead, IsBlockIn, IsFrameIn, IsFront}
+use Rattle.bw_codec.specs.Grammar.{block_bytes_in, body_bytes_in, frame_word, head_bytes_in, frame_bytes_in, agrees, is_head, IsHead, IsBlockIn}
+use Rattle.bw_codec.specs.Grammar.{IsFrameIn, IsFront}
 use Rattle.std.specs.Prelude.{Result, Ok, Err, IfOk}
 use Rattle.bw_codec.specs.declared.fault.CodecFault.{CodecFault}
 use Rattle.bw_codec.specs.Reading.{◌>>=◌, Gives, number_at, many_at, block_at, head_at, front_at}
@@ -150,7 +151,8 @@ frame_there v m f bytes h rest blocks left small fits parts law long read none =
     let head : head_bytes_in v h.number (length (body_bytes_in v blocks)) (length blocks) ≡ spelled_head v h =
     ap (λ (n : ℕ). head_bytes_in v h.number n (length blocks)) size ∙ ap (λ (n : ℕ). head_bytes_in v h.number h.body n) count in
     let tail : rest ≡ body_bytes_in v blocks ++ drop h.body rest = sym (take-append-drop h.body rest) ∙ ap (λ (r : List ℕ). r ++ drop h.body rest) spelled in
-    let front : bytes ≡ head_bytes_in v h.number (length (body_bytes_in v blocks)) (length blocks) ++ rest = parts ∙ ap (λ (r : List ℕ). r ++ rest) (sym head) in
+    let front : bytes ≡ head_bytes_in v h.number (length (body_bytes_in v blocks)) (length blocks) ++ rest = parts
+    ∙ ap (λ (r : List ℕ). r ++ rest) (sym head) in
     let lawful : IsFrameIn v m f frame = record {
       head = record {
         numbered = law.numbered;
@@ -174,7 +176,8 @@ frame_there v m f bytes h rest blocks left small fits parts law long read none =
     )
 
 -- what is read at the front stands there
-pub front_is : (v : ℕ) → (m f : ℕ) (bytes : List ℕ) (read : FrameRead) → m < 2 ^ 16 → IsBytes bytes → front_at v m f bytes ≡ Some read → IsFront v m f bytes read
+pub front_is : (v : ℕ) → (m f : ℕ) (bytes : List ℕ) (read : FrameRead) → m < 2 ^ 16 → IsBytes bytes → front_at v m f bytes ≡ Some read
+    → IsFront v m f bytes read
 unfolding front_at
 front_is v m f bytes read small fits e =
     elim (nat_lt (length bytes) 20) as (λ t. nat_lt (length bytes) 20 ≡ t
@@ -205,7 +208,8 @@ front_is v m f bytes read small fits e =
           ] refl h.2)
     ] refl e
 
-tail_read : (v : ℕ) → (m f : ℕ) (h : Head) (rest : List ℕ) → f < 2 ^ 32 → LawfulHead f h → length rest < h.body → front_at v m f (spelled_head v h ++ rest) ≡ Some Tail
+tail_read : (v : ℕ) → (m f : ℕ) (h : Head) (rest : List ℕ) → f < 2 ^ 32 → LawfulHead f h → length rest < h.body
+    → front_at v m f (spelled_head v h ++ rest) ≡ Some Tail
 unfolding front_at
 tail_read v m f h rest limit law cut =
     let fits = law.fits in
@@ -232,7 +236,8 @@ frame_read v m f frame rest small limit law =
     let body : take h.body (body_bytes_in v frame.blocks ++ rest) ≡ body_bytes_in v frame.blocks ++ [] =
     take_at (body_bytes_in v frame.blocks) rest h.body refl ∙ sym (append-nil (body_bytes_in v frame.blocks)) in
     let blocks : many_at (block_at v m) h.blocks (take h.body (body_bytes_in v frame.blocks ++ rest)) ≡ Some (frame.blocks, []) =
-    ap (many_at (block_at v m) h.blocks) body ∙ many_again (block_bytes_in v) (IsBlockIn v m) (block_at v m) (block_format v m small) frame.blocks [] law.blocks in
+    ap (many_at (block_at v m) h.blocks) body ∙ many_again (block_bytes_in v) (IsBlockIn v m) (block_at v m) (block_format v m small) frame.blocks []
+    law.blocks in
     rw (long, head, there, blocks) refl
 
 short_read : (v : ℕ) → (m f : ℕ) (bytes : List ℕ) → length bytes < 20 → agrees bytes (frame_word v) ≡ true → front_at v m f bytes ≡ Some Tail
@@ -294,6 +299,7 @@ found_there v m f bytes (Ok read) small fits gives = front_is v m f bytes read s
 found_there v m f bytes (Err fault) small fits gives = tt
 
 pub only_there : (v : ℕ) → (m f : ℕ) (bytes : List ℕ) (result : Result FrameRead CodecFault) → m < 2 ^ 16 → f < 2 ^ 32
-    → Gives (λ (x : FrameRead). x) result (front_at v m f bytes) → (read : FrameRead) → IsFront v m f bytes read → Gives (λ (x : FrameRead). x) result (Some read)
+    → Gives (λ (x : FrameRead). x) result (front_at v m f bytes) → (read : FrameRead) → IsFront v m f bytes read
+    → Gives (λ (x : FrameRead). x) result (Some read)
 only_there v m f bytes result small limit gives read front =
     subst (λ (o : Option FrameRead). Gives (λ (x : FrameRead). x) result o) (is_front v m f bytes read small limit front) gives

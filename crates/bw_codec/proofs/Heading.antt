@@ -1,6 +1,7 @@
 -- What stands at the front of a segment: a header, a part of one, or neither.
 
-use Rattle.std.proofs.Common.{◌≡◌, ℕ, ◌+◌, ◌^◌, ◌<◌, ◌≤◌, ◌==◌, ◌&&◌, ◌||◌, ◌⊎◌, inl, inr, Bool, true, false, if◌then◌else◌, List, ◌++◌, length, drop, nat_lt, nat_le, refl, sym, ap}
+use Rattle.std.proofs.Common.{◌≡◌, ℕ, ◌+◌, ◌^◌, ◌<◌, ◌≤◌, ◌==◌, ◌&&◌, ◌||◌, ◌⊎◌, inl, inr, Bool, true, false, if◌then◌else◌, List, ◌++◌, length, drop}
+use Rattle.std.proofs.Common.{nat_lt, nat_le, refl, sym, ap}
 use Rattle.std.proofs.Common.{subst, ◌∙◌, append_assoc, arith, length-append, length-drop}
 use Rattle.std.proofs.lemmas.Bool.{ltb-false, ltb-true, le-ltb, lt-ltb, leb-true, le-leb, eqb-true, and_parts, and_from}
 use Rattle.std.proofs.lemmas.List.{drop_at, drop-drop, append_cancel_left}
@@ -92,7 +93,8 @@ number_at_offset n k j bytes at long fits =
     let next : drop n (drop k bytes) ≡ drop j bytes = drop-drop n k bytes ∙ ap (λ (i : ℕ). drop i bytes) at in
     (there.parts ∙ ap (λ (r : List ℕ). number_bytes n (little_number n (drop k bytes)) ++ r) next, there.lawful, subst IsBytes next there.others)
 
-header_there : (bytes : List ℕ) → IsBytes bytes → 24 ≤ length bytes → agrees bytes (segment_word (version_in bytes)) ≡ true → little_number 2 (drop 18 bytes) ≡ 0
+header_there : (bytes : List ℕ) → IsBytes bytes → 24 ≤ length bytes → agrees bytes (segment_word (version_in bytes)) ≡ true
+    → little_number 2 (drop 18 bytes) ≡ 0
     → is_header (header_in bytes) ≡ true
     → IsHeader (header_in bytes) × (bytes ≡ header_bytes (header_in bytes) ++ drop 24 bytes)
 header_there bytes fits long word zero is =
@@ -153,7 +155,8 @@ header_in_is h rest law =
     let d20 : drop 20 bytes ≡ r3 = behind_number 2 0 18 20 bytes r3 refl d18 in
     let number : little_number 8 (drop 8 bytes) ≡ h.number = ap (λ (r : List ℕ). little_number 8 r) d8 ∙ number_reads 8 h.number r1 law.number.1 in
     let m : little_number 2 (drop 16 bytes) ≡ h.m = ap (λ (r : List ℕ). little_number 2 r) d16 ∙ number_reads 2 h.m r2 (let b = law.m in omega arith) in
-    let f : little_number 4 (drop 20 bytes) ≡ h.f = ap (λ (r : List ℕ). little_number 4 r) d20 ∙ number_reads 4 h.f rest (let b = law.f.1 in let c = limited h.version in omega arith) in
+    let f : little_number 4 (drop 20 bytes) ≡ h.f = ap (λ (r : List ℕ). little_number 4 r) d20
+    ∙ number_reads 4 h.f rest (let b = law.f.1 in let c = limited h.version in omega arith) in
     let version : version_in bytes ≡ h.version =
     of_version h.version ((number_bytes 8 h.number ++ (number_bytes 2 h.m ++ (number_bytes 2 0 ++ number_bytes 4 h.f))) ++ rest) law.version in
     let none : little_number 2 (drop 18 bytes) ≡ 0 = ap (λ (r : List ℕ). little_number 2 r) d18 ∙ number_reads 2 0 r3 (omega arith) in
@@ -174,7 +177,8 @@ header_again h rest law =
     rw (word, long, is.1, lawful, is.0) refl
 
 -- numbers that are no lawful header
-pub no_header_there : (h : Header) (bytes : List ℕ) → agrees bytes (segment_word (version_in bytes)) ≡ true → 24 ≤ length bytes → little_number 2 (drop 18 bytes) ≡ 0
+pub no_header_there : (h : Header) (bytes : List ℕ) → agrees bytes (segment_word (version_in bytes)) ≡ true → 24 ≤ length bytes
+    → little_number 2 (drop 18 bytes) ≡ 0
     → h ≡ header_in bytes → is_header h ≡ false → heading.Bad ≡ heading_of bytes
 unfolding heading_of
 no_header_there h bytes word many zero is unlawful =
@@ -183,7 +187,8 @@ no_header_there h bytes word many zero is unlawful =
     rw (word, long, zero, bad) refl
 
 -- numbers that are a lawful header
-pub header_told : (h : Header) (bytes : List ℕ) → agrees bytes (segment_word (version_in bytes)) ≡ true → 24 ≤ length bytes → little_number 2 (drop 18 bytes) ≡ 0
+pub header_told : (h : Header) (bytes : List ℕ) → agrees bytes (segment_word (version_in bytes)) ≡ true → 24 ≤ length bytes
+    → little_number 2 (drop 18 bytes) ≡ 0
     → h ≡ header_in bytes → is_header h ≡ true → heading.Whole h ≡ heading_of bytes
 unfolding heading_of
 header_told h bytes word many zero is lawful =
@@ -237,7 +242,8 @@ heading_there bytes fits read e =
                       (λ t. is_header (header_in bytes) ≡ t → (if t then heading.Whole (header_in bytes) else heading.Bad) ≡ read → IsHeading bytes read) [
                         | false ↦ λ _ b. bad b
                         | true ↦ λ lawful whole. (
-                            let there = header_there bytes fits (ltb-false (length bytes) 24 long) word (eqb-true (little_number 2 (drop 18 bytes)) 0 none) lawful in
+                            let there = header_there bytes fits (ltb-false (length bytes) 24 long) word
+                            (eqb-true (little_number 2 (drop 18 bytes)) 0 none) lawful in
                             subst (IsHeading bytes) whole (there.0, drop 24 bytes, there.1))
                       ] refl e3
                 ] refl e2

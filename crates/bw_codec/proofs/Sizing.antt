@@ -14,7 +14,8 @@ use Rattle.bw_codec.specs.declared.block.Block.TheVariants.{Delta, Base, Split}
 use Rattle.bw_codec.proofs.Lengths.{length-value, length-delta, length-base, length-split}
 
 short_op : (op : Record) → IsOp op → length (op_bytes op) ≤ 644
-short_op (Put key value) h = let l = length-append (text key) (value_bytes latest value) in let w = length-value value in let a = h.0.1 in let b = h.1 in omega arith
+short_op (Put key value) h = let l = length-append (text key) (value_bytes latest value) in let w = length-value value in let a = h.0.1 in let b =
+    h.1 in omega arith
 short_op (Del key) h = let a = h.1 in omega arith
 
 short_pair : (p : List ℕ × List ℕ) → IsPair p → length (pair_bytes p) ≤ 643

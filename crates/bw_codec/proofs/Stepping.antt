@@ -8,7 +8,8 @@ use Rattle.std.specs.List.{flat_map, AllByRecursion}
 use Rattle.byteorder.specs.Endian.{little_number}
 use Rattle.bw_codec.specs.Version.{value_width}
 use Rattle.bw_codec.specs.Bytes.{number_bytes, text, value_bytes}
-use Rattle.bw_codec.specs.Grammar.{op_bytes_in, pair_bytes_in, place_bytes, pairs_bytes_in, ops_bytes_in, upper_bytes_in, block_bytes_in, IsPage, IsPlace, IsDeltaIn}
+use Rattle.bw_codec.specs.Grammar.{op_bytes_in, pair_bytes_in, place_bytes, pairs_bytes_in, ops_bytes_in, upper_bytes_in, block_bytes_in, IsPage}
+use Rattle.bw_codec.specs.Grammar.{IsPlace, IsDeltaIn}
 use Rattle.bw_codec.specs.Grammar.{IsPairIn, IsOpIn, IsBaseIn, IsSplitIn, IsBlockIn}
 use Rattle.bw_codec.specs.Reading.{◌>>=◌, Says, number_at, place_at, page_at}
 use Rattle.bw_codec.specs.declared.fault.CodecFault.{CodecFault}
@@ -64,7 +65,8 @@ unfolding value_after
 value_last v x rest law =
     let sizes = value_sizes v x rest law in
     rw (
-      again_on (number_bytes (value_width v)) (λ n. n < 256 ^ value_width v) (number_at (value_width v)) (number_format (value_width v)) (length x) x rest sizes.0,
+      again_on (number_bytes (value_width v)) (λ n. n < 256 ^ value_width v) (number_at (value_width v)) (number_format (value_width v)) (length x) x
+          rest sizes.0,
       sizes.1,
       drop_at x rest (length x) refl,
     ) refl
@@ -111,7 +113,8 @@ delta_over v page back ops rest law =
     let sixteen : length fixed ≡ 16 =
     omega (arith, length-append (number_bytes 4 page) (place_bytes back), length-append (number_bytes 8 back.frame) (number_bytes 4 back.index)) in
     let parts : bytes ≡ fixed ++ behind =
-    ap (λ (b : List ℕ). b ++ rest) (sym (append_assoc (number_bytes 4 page) (place_bytes back) (ops_bytes_in v ops))) ∙ append_assoc fixed (ops_bytes_in v ops) rest in
+    ap (λ (b : List ℕ). b ++ rest) (sym (append_assoc (number_bytes 4 page) (place_bytes back) (ops_bytes_in v ops)))
+    ∙ append_assoc fixed (ops_bytes_in v ops) rest in
     let long : 16 ≤ length bytes = omega (arith, ap (λ (b : List ℕ). length b) parts, length-append fixed behind) in
     let number : little_number 4 bytes ≡ page =
     ap (λ (b : List ℕ). little_number 4 b) (append_assoc (number_bytes 4 page) (place_bytes back ++ ops_bytes_in v ops) rest)
@@ -130,7 +133,8 @@ base_over v m leaf rest small law =
       counted_over (pair_bytes_in v) (IsPairIn v) (pair_after v) (pair_over v) leaf.pairs rest (omega arith) law.pairs,
     ) refl
 
-upper_over : (v : ℕ) → (m : ℕ) (leaf : Leaf) (rest : List ℕ) → m < 2 ^ 16 → IsBaseIn v m leaf → upper_after v (upper_bytes_in v leaf ++ rest) ≡ Some (leaf.page, rest)
+upper_over : (v : ℕ) → (m : ℕ) (leaf : Leaf) (rest : List ℕ) → m < 2 ^ 16 → IsBaseIn v m leaf
+    → upper_after v (upper_bytes_in v leaf ++ rest) ≡ Some (leaf.page, rest)
 unfolding upper_after
 upper_over v m leaf rest small law =
     let few = law.count in

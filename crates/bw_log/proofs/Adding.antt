@@ -14,7 +14,8 @@ use Rattle.bw_codec.specs.declared.block.Frame.{Frame}
 use Rattle.bw_codec.proofs.Format.{held, found}
 use Rattle.bw_page.specs.Standing.{Stand}
 use Rattle.bw_log.specs.Places.{first_number, AreLinked}
-use Rattle.bw_log.specs.Segments.{segment_frames, frames_of, Limits, header_with, header_in, IsLive, AreLive, IsClean, IsCleanLast, entry_of, entries_from, entries, following, next_of}
+use Rattle.bw_log.specs.Segments.{segment_frames, frames_of, Limits, header_with, header_in, IsLive, AreLive, IsClean, IsCleanLast, entry_of}
+use Rattle.bw_log.specs.Segments.{entries_from, entries, following, next_of}
 use Rattle.bw_log.specs.Segments.{is_before_next, AreFrom}
 use Rattle.bw_log.specs.Contents.{Image, limits_of, IsImage, IsTable, counted_in, counted_at}
 use Rattle.bw_log.specs.declared.places.FrameAt.{FrameAt}
@@ -65,7 +66,8 @@ pub from_more : (n : ℕ) (fs : List Frame) (x : Frame) → AreFrom n fs → x.n
 from_more n [] x from e = (e ∙ omega arith, tt)
 from_more n (f ∷ fs) x from e = (from.0, from_more (n + 1) fs x from.1 (omega arith))
 
-pub numbered_more : (fs : List Frame) (x : Frame) → AreFrom (first_number fs) fs → next_of fs ≡ Some x.number → AreFrom (first_number (fs ++ x ∷ [])) (fs ++ x ∷ [])
+pub numbered_more : (fs : List Frame) (x : Frame) → AreFrom (first_number fs) fs → next_of fs ≡ Some x.number
+    → AreFrom (first_number (fs ++ x ∷ [])) (fs ++ x ∷ [])
 numbered_more [] x from next = (refl, tt)
 numbered_more (f ∷ fs) x from next = from_more f.number (f ∷ fs) x from (next_is f.number f fs x.number from next)
 

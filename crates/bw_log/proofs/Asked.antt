@@ -35,7 +35,8 @@ live_number l number (b ∷ bs) zero are inside = let law = are.0.whole.lawful.n
 live_number l number (b ∷ bs) (suc i) are inside = let more = live_number l (number + 1) bs i are.1 (omega arith) in omega arith
 
 -- the same of boxes
-pub box_number : {X : Type 0} (v : X → Holding) (l : Limits) (number : ℕ) (xs : List X) (i : ℕ) → AreLive l number (map (λ h. h.bytes) (map v xs)) → i < length xs
+pub box_number : {X : Type 0} (v : X → Holding) (l : Limits) (number : ℕ) (xs : List X) (i : ℕ) → AreLive l number (map (λ h. h.bytes) (map v xs))
+    → i < length xs
     → number + i < 2 ^ 64
 box_number v l number xs i are inside =
     live_number l number (map (λ h. h.bytes) (map v xs)) i are (omega (arith, length-map (map v xs) (λ (h : Holding). h.bytes), length-map xs v))

@@ -1,6 +1,7 @@
 -- The bytes of one block among those of its frame and of its segment.
 
-use Rattle.std.proofs.Common.{◌≡◌, ℕ, IfSome, zero, suc, ◌+◌, ◌-◌, ◌^◌, ◌<◌, ◌≤◌, Option, Some, None, Result, Ok, Err, List, [], ◌∷◌, ◌++◌, length, take, drop, get_or, slice_get, refl, sym, ap, subst, ◌∙◌}
+use Rattle.std.proofs.Common.{◌≡◌, ℕ, IfSome, zero, suc, ◌+◌, ◌-◌, ◌^◌, ◌<◌, ◌≤◌, Option, Some, None, Result, Ok, Err, List, [], ◌∷◌, ◌++◌, length}
+use Rattle.std.proofs.Common.{take, drop, get_or, slice_get, refl, sym, ap, subst, ◌∙◌}
 use Rattle.std.proofs.Common.{append_assoc, append-nil, arith, length-append}
 use Rattle.std.specs.List.{AllByRecursion}
 use Rattle.std.proofs.lemmas.List.{drop_at, take_at, take_all, drop-drop, drop-take, length-drop}
@@ -242,7 +243,8 @@ pub spotted_own : {c : Contents} {i : ℕ} {spot : Spot} → IsSound c → i < l
 spotted_own {c} {i} {spot} sound inside s = spotted sound inside s s.line (sym (get_or_from_slice_get c.frames i s.line s.line s.told))
 
 -- a line that was read by its index is the spot's
-pub line_is : {c : Contents} {i : ℕ} {spot : Spot} → i < length c.frames → (s : IsSpot c i spot) → (line : FrameAt) → line ≡ get_or c.frames i line → line ≡ s.line
+pub line_is : {c : Contents} {i : ℕ} {spot : Spot} → i < length c.frames → (s : IsSpot c i spot) → (line : FrameAt) → line ≡ get_or c.frames i line
+    → line ≡ s.line
 line_is {c} {i} {spot} inside s line is =
     let e : Some line ≡ Some s.line = ap (λ (l : FrameAt). Some l) is ∙ sym (slice_get-get_or c.frames i line inside) ∙ s.told in
     cc
@@ -264,7 +266,8 @@ pub spot_bytes : {c : Contents} {i : ℕ} {spot : Spot} {line : FrameAt} (s : Sp
     → IfSome (slice_get c.live spot.at) (λ h. bytes ≡ none ++ take spot.len (drop spot.from h.bytes))
     → bytes ≡ frame_bytes_in (version_at c.old_to line.segment) s.boxed.frame
 spot_bytes {c} {i} {spot} {line} s none bytes empty read =
-    subst (λ (o : Option Holding). IfSome o (λ h. bytes ≡ none ++ take spot.len (drop spot.from h.bytes))) (ap (slice_get c.live) (sym s.at) ∙ s.boxed.there) read
+    subst (λ (o : Option Holding). IfSome o (λ h. bytes ≡ none ++ take spot.len (drop spot.from h.bytes)))
+    (ap (slice_get c.live) (sym s.at) ∙ s.boxed.there) read
     ∙ ap (λ (l : List ℕ). l ++ take spot.len (drop spot.from s.boxed.box.bytes)) empty
     ∙ ap (λ (n : ℕ). take n (drop spot.from s.boxed.box.bytes)) s.len
     ∙ ap (λ (n : ℕ). take line.len (drop n s.boxed.box.bytes)) s.from
@@ -331,7 +334,8 @@ pub record LookedThrough (c : Contents) (i : ℕ) (spot : Spot) (line : FrameAt)
   pub read : bytes ≡ frame_bytes_in (version_at c.old_to line.segment) spotted.boxed.frame
   pub told : known ≡ starts_of spot.version spotted.boxed.frame
 
-pub looked_through : {c : Contents} {i : ℕ} {spot : Spot} (none bytes slice known : List ℕ) → IsSound c → i < length c.frames → (s : IsSpot c i spot) → none ≡ []
+pub looked_through : {c : Contents} {i : ℕ} {spot : Spot} (none bytes slice known : List ℕ) → IsSound c → i < length c.frames → (s : IsSpot c i spot)
+    → none ≡ []
     → IfSome (slice_get c.live spot.at) (λ h. bytes ≡ none ++ take spot.len (drop spot.from h.bytes)) → slice ≡ bytes
     → ((m f : ℕ) (frame : Frame) → m < 2 ^ 16 → IsFrameIn spot.version m f frame → slice ≡ frame_bytes_in spot.version frame
     → Some (starts_of spot.version frame) ≡ Some known)

@@ -86,7 +86,17 @@ in_segment v m f segment bytes front (x ∷ xs) cut parts lawful =
     parts ∙ ap (λ (r : List ℕ). front ++ r) (append_assoc (frame_bytes_in v x) (flat_map (frame_bytes_in v) xs) cut) in
     let next : bytes ≡ (front ++ frame_bytes_in v x) ++ (flat_map (frame_bytes_in v) xs ++ cut) =
     here ∙ sym (append_assoc front (frame_bytes_in v x) (flat_map (frame_bytes_in v) xs ++ cut)) in (
-      record { names = refl; front = front; back = flat_map (frame_bytes_in v) xs ++ cut; parts = here; at = refl; len = refl; lawful = lawful.0; numbered = refl; begins = refl },
+      record {
+        names = refl;
+        front = front;
+        back = flat_map (frame_bytes_in v) xs ++ cut;
+        parts = here;
+        at = refl;
+        len = refl;
+        lawful = lawful.0;
+        numbered = refl;
+        begins = refl;
+      },
       subst (λ (n : ℕ). AllByRecursion (InSegment v m f segment bytes) (entries_from v segment n xs)) (length-append front (frame_bytes_in v x))
           (in_segment v m f segment bytes (front ++ frame_bytes_in v x) xs cut next lawful.1),
     )

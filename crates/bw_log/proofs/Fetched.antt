@@ -1,6 +1,7 @@
 -- What a read of one box leaves of the log.
 
-use Rattle.std.proofs.Common.{◌≡◌, ℕ, Bool, true, false, if◌then◌else◌, MatchOption, None, nat_le, le-leb, ◌+◌, ◌-◌, ◌<◌, ◌≤◌, List, [], ◌∷◌, ◌++◌, length, zero, suc, ◌^◌}
+use Rattle.std.proofs.Common.{◌≡◌, ℕ, Bool, true, false, if◌then◌else◌, MatchOption, None, nat_le, le-leb, ◌+◌, ◌-◌, ◌<◌, ◌≤◌, List, [], ◌∷◌, ◌++◌}
+use Rattle.std.proofs.Common.{length, zero, suc, ◌^◌}
 use Rattle.std.proofs.Common.{take, drop, length-append, map, get_or, set, slice_get, Option, Some, IfSome, refl, sym, ap, subst, ◌∙◌, arith}
 use Rattle.std.specs.List.{AllByRecursion}
 use Rattle.std.proofs.lemmas.List.{get_or-set_same, length-set, take_at, drop_at, take_all}
@@ -127,7 +128,8 @@ pub line_within : {c : Contents} {k : ℕ} {line : FrameAt} (l : BoxedLine c k l
 line_within {c} {k} {line} l = subst (λ (o : Option Holding). IfSome o (λ h. line.at + line.len ≤ length h.bytes)) (sym l.there) l.within
 
 pub line_bytes : {c : Contents} {k : ℕ} {line : FrameAt} (l : BoxedLine c k line) (none bytes : List ℕ) → none ≡ []
-    → IfSome (slice_get c.live (line.segment - c.number)) (λ h. bytes ≡ none ++ take line.len (drop line.at h.bytes)) → bytes ≡ frame_bytes_in (version_at c.old_to line.segment) l.frame
+    → IfSome (slice_get c.live (line.segment - c.number)) (λ h. bytes ≡ none ++ take line.len (drop line.at h.bytes))
+    → bytes ≡ frame_bytes_in (version_at c.old_to line.segment) l.frame
 line_bytes {c} {k} {line} l none bytes empty read =
     subst (λ (o : Option Holding). IfSome o (λ h. bytes ≡ none ++ take line.len (drop line.at h.bytes))) l.there read
     ∙ ap (λ (n : List ℕ). n ++ take line.len (drop line.at l.box.bytes)) empty

@@ -20,7 +20,8 @@ use Rattle.bw_codec.specs.declared.block.Block.TheVariants.{Delta, Base, Split}
 use Rattle.bw_codec.specs.declared.block.Frame.{Frame}
 use Rattle.bw_page.specs.Leaves.{BeginsEmpty}
 use Rattle.bw_page.specs.Standing.{after, content, blocks_of, Stand}
-use Rattle.bw_log.specs.Places.{placed, all_placed, later, last_place, is_back, fault_at, fault_of, or_else, bad_link, first_number, place_of, base_of, walked, walk_to}
+use Rattle.bw_log.specs.Places.{placed, all_placed, later, last_place, is_back, fault_at, fault_of, or_else, bad_link, first_number, place_of}
+use Rattle.bw_log.specs.Places.{base_of, walked, walk_to}
 use Rattle.bw_log.specs.Places.{AreLinked}
 use Rattle.bw_log.specs.Segments.{segment_frames, frames_of, entries_from, entries, AreLive, IsCleanLast, AreFrom, following, next_of, is_before_next}
 use Rattle.bw_log.specs.Contents.{Image, limits_of, counted_in, place_in, entry_place, walk_in, entry_walk, IsImage, IsStanding}
@@ -465,7 +466,8 @@ later_segments : (segment number : ℕ) (live : List (List ℕ)) → segment < n
     → AllByRecursion (λ e. not (e.0.segment == segment) ≡ true) (entries number live)
 later_segments segment number [] less = tt
 later_segments segment number (b ∷ bs) less =
-    all_append (λ (e : FrameAt × Frame). not (e.0.segment == segment) ≡ true) (entries_from (version_in b) number 24 (segment_frames b)) (entries (number + 1) bs)
+    all_append (λ (e : FrameAt × Frame). not (e.0.segment == segment) ≡ true) (entries_from (version_in b) number 24 (segment_frames b))
+    (entries (number + 1) bs)
     (later_from (version_in b) segment number 24 (segment_frames b) less) (later_segments segment (number + 1) bs (omega arith))
 
 -- the lines of the oldest segment go
@@ -486,7 +488,8 @@ lines_kept number next b bs =
     filter_all other (map line rest) (all_map line (λ (e : FrameAt). other e ≡ true) rest
     (all_filtered (λ (e : FrameAt × Frame). not (e.0.segment == number) ≡ true) test (entries (number + 1) bs)
     (later_segments number (number + 1) bs (omega arith)))) in
-    ap (λ (l : List (FrameAt × Frame)). filter other (map line l)) (filter-append test (entries_from (version_in b) number 24 (segment_frames b)) (entries (number + 1) bs))
+    ap (λ (l : List (FrameAt × Frame)). filter other (map line l))
+    (filter-append test (entries_from (version_in b) number 24 (segment_frames b)) (entries (number + 1) bs))
     ∙ ap (filter other) (map-append line own rest)
     ∙ filter-append other (map line own) (map line rest)
     ∙ ap (λ (l : List FrameAt). l ++ filter other (map line rest)) gone

@@ -32,7 +32,8 @@ named v segment at (f ∷ fs) = (refl, named v segment (at + length (frame_bytes
 entries_below : (number : ℕ) (bs : List (List ℕ)) → AllByRecursion (λ e. e.0.segment < number + length bs) (entries number bs)
 entries_below number [] = tt
 entries_below number (b ∷ bs) =
-    all_append (λ (e : FrameAt × Frame). e.0.segment < number + length (b ∷ bs)) (entries_from (version_in b) number 24 (segment_frames b)) (entries (number + 1) bs)
+    all_append (λ (e : FrameAt × Frame). e.0.segment < number + length (b ∷ bs)) (entries_from (version_in b) number 24 (segment_frames b))
+    (entries (number + 1) bs)
     (all_mapped (λ (e : FrameAt × Frame). e.0.segment ≡ number) (λ (e : FrameAt × Frame). e.0.segment < number + length (b ∷ bs))
     (entries_from (version_in b) number 24 (segment_frames b)) (λ e is. omega arith) (named (version_in b) number 24 (segment_frames b)))
     (all_mapped (λ (e : FrameAt × Frame). e.0.segment < number + 1 + length bs) (λ (e : FrameAt × Frame). e.0.segment < number + length (b ∷ bs))
@@ -119,7 +120,8 @@ count_is {segment} {lines} {last} {n} t found d =
     point_is p (t.before ++ t.own) t.others n d front back f.inside (f.point (parted p (t.before ++ t.own) t.others front back))
 
 -- no line up to the segment's
-pub none_last : {segment : ℕ} {lines : List FrameAt} {last n : ℕ} (t : ThreeParts segment lines last) → Found (upto segment) lines n → FrameAt → n ≡ 0 → last ≡ 0
+pub none_last : {segment : ℕ} {lines : List FrameAt} {last n : ℕ} (t : ThreeParts segment lines last) → Found (upto segment) lines n → FrameAt
+    → n ≡ 0 → last ≡ 0
 none_last {segment} {lines} {last} {n} t found d none = t.tells ∙ empty t.own (let c = count_is t found d in omega (arith, length-append t.before t.own))
   where
     empty : (own : List FrameAt) → length own ≡ 0 → fold (λ was (e : FrameAt). e.number) 0 own ≡ 0
@@ -128,7 +130,8 @@ none_last {segment} {lines} {last} {n} t found d none = t.tells ∙ empty t.own 
 
 last_by : (segment : ℕ) (before own others : List FrameAt) (n : ℕ) (d : FrameAt) → AllByRecursion (λ e. e.segment < segment) before
     → AllByRecursion (λ e. e.segment ≡ segment) own → n ≡ length (before ++ own) → 0 < n
-    → (((get_or ((before ++ own) ++ others) (n - 1) d).segment ≡ segment) × (fold (λ was e. e.number) 0 own ≡ (get_or ((before ++ own) ++ others) (n - 1) d).number))
+    → (((get_or ((before ++ own) ++ others) (n - 1) d).segment ≡ segment) ×
+    (fold (λ was e. e.number) 0 own ≡ (get_or ((before ++ own) ++ others) (n - 1) d).number))
     ⊎ (((get_or ((before ++ own) ++ others) (n - 1) d).segment ≢ segment) × (fold (λ was e. e.number) 0 own ≡ 0))
 last_by segment before [] others n d below here count some =
     let at : n - 1 < length (before ++ []) = omega arith in
@@ -170,7 +173,8 @@ pub record Around (c : Contents) (segment : ℕ) : Type 0 where
   pub parts : ThreeParts segment c.frames (last_number c box)
 
 at_split : (hs : List Holding) (i : ℕ) (s : SplitAt hs i) → slice_get hs i ≡ Some s.item
-at_split hs i s = ap (λ (l : List Holding). slice_get l i) s.split ∙ ap (slice_get (s.before ++ s.item ∷ s.beyond)) (sym s.index) ∙ get_at s.before s.item s.beyond
+at_split hs i s = ap (λ (l : List Holding). slice_get l i) s.split ∙ ap (slice_get (s.before ++ s.item ∷ s.beyond)) (sym s.index)
+    ∙ get_at s.before s.item s.beyond
   where
     get_at : (xs : List Holding) (y : Holding) (ys : List Holding) → slice_get (xs ++ y ∷ ys) (length xs) ≡ Some y
     get_at [] y ys = refl
@@ -202,7 +206,8 @@ pub record Search (c : Contents) (lines : List FrameAt) (segment n : ℕ) : Type
   pub found : Found (upto segment) lines n
 
 -- as the code searches
-pub searched : {X F : Type 0} {g : Mut F (Bor FrameAt × Unit {0}) Bool} {f : F} (v : X → Holding) (c : Contents) (xs : List X) (lines : List FrameAt) (segment n : ℕ)
+pub searched : {X F : Type 0} {g : Mut F (Bor FrameAt × Unit {0}) Bool} {f : F} (v : X → Holding) (c : Contents) (xs : List X) (lines : List FrameAt)
+    (segment n : ℕ)
     → c.live ≡ map v xs → lines ≡ c.frames → IsSound c → c.number ≤ segment → segment - c.number < length xs → n ≤ length lines
     → ((q : FrameAt → Bool) → ComputesKey g q f → IsPartitionedBy q lines → IsPartitionPoint (λ e. q e ≡ true) (λ e. q e ≡ false) lines n)
     → ((a : Bor FrameAt × Unit {0}) (r : Bool) (f' : F) → Called g f a r f' → (r ≡ nat_le a.0.now.segment segment) × (f' ≡ f))

@@ -81,7 +81,8 @@ next_by v m frame bytes rest starts [] some laws parts split = absurd (omega (ar
 next_by v m frame bytes rest starts (b ∷ bs) some laws parts split =
     record { block = b; others = bs; law = laws.0; laws = laws.1; parts = parts; split = split }
 
-pub next_block : {v m : ℕ} {frame : Frame} {bytes rest starts : List ℕ} → Passed v m frame bytes rest starts → 1 ≤ length rest → Next v m frame bytes rest starts
+pub next_block : {v m : ℕ} {frame : Frame} {bytes rest starts : List ℕ} → Passed v m frame bytes rest starts → 1 ≤ length rest
+    → Next v m frame bytes rest starts
 next_block {v} {m} {frame} {bytes} {rest} {starts} p some = next_by v m frame bytes rest starts p.left some p.laws p.parts p.split
 
 -- nothing is left

@@ -18,7 +18,8 @@ use Rattle.bw_buffer.specs.declared.mark.Mark.{Mark}
 use Rattle.bw_buffer.specs.declared.mark.Mark.TheVariants.{Changes, Sets, Splits}
 use Rattle.bw_log.specs.Places.{placed, all_placed, later, one_more, walked}
 use Rattle.bw_log.specs.Contents.{some_place, entry_place, place_in, entry_walk, walk_in, IsTable}
-use Rattle.bw_log.specs.PageTable.{changed_line, set_line, with_place, with_base, noted, noted_all, IsInTable, HasLines, HaveLines, top_of, top_page, no_place, empty_line}
+use Rattle.bw_log.specs.PageTable.{changed_line, set_line, with_place, with_base, noted, noted_all, IsInTable, HasLines, HaveLines, top_of, top_page}
+use Rattle.bw_log.specs.PageTable.{no_place, empty_line}
 use Rattle.bw_log.specs.declared.places.PageAt.{PageAt}
 
 -- ---- one line
@@ -74,7 +75,8 @@ place_with_base : (field : PageAt → Place) (pages : List PageAt) (k p : ℕ) (
     → 1 ≤ p → 1 ≤ q.frame
     → place_in field (with_base k q pages) p ≡ (if k == p then Some q else place_in field pages p)
 place_with_base field pages k p q same inside from some =
-    line_set field pages k p (set_line q) inside from ∙ ap (λ (o : Option Place). if k == p then o else place_in field pages p) (ap some_place same ∙ real_place q some)
+    line_set field pages k p (set_line q) inside from ∙ ap (λ (o : Option Place). if k == p then o else place_in field pages p)
+    (ap some_place same ∙ real_place q some)
 
 base_with_place : (pages : List PageAt) (k p : ℕ) (q : Place) → IsInTable k (length pages) → 1 ≤ p
     → place_in (λ e. e.base) (with_place k q pages) p ≡ place_in (λ e. e.base) pages p

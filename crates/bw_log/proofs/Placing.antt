@@ -139,7 +139,8 @@ two_in_one f b1 y c b2 x b rest e =
     let sc = sooner.count in
     inr (sooner.frame ∙ sym later.frame, omega (arith, length-append b1 ((y, c) ∷ b2)))
 
-earlier_by : (n : ℕ) (f : Frame) (fs : List Frame) (front : List (Place × Block)) (b1 : List (Place × Block)) (y : Place) (c : Block) (b2 : List (Place × Block))
+earlier_by : (n : ℕ) (f : Frame) (fs : List Frame) (front : List (Place × Block)) (b1 : List (Place × Block)) (y : Place) (c : Block)
+    (b2 : List (Place × Block))
     (x : Place) (b : Block) (beyond : List (Place × Block)) → f.number ≡ n → AreFrom (n + 1) fs → all_placed fs ≡ front ++ (x, b) ∷ beyond
     → ((l1 : List (Place × Block)) → front ≡ l1 ++ (y, c) ∷ b2 → IsEarlier y x)
     → InOne (placed f.number 0 f.blocks) b1 (y, c) ⊎ InOther (placed f.number 0 f.blocks) front b1 (y, c) b2 → IsEarlier y x

@@ -1,6 +1,7 @@
 -- What a segment's bytes spell is read again.
 
-use Rattle.std.proofs.Common.{◌≡◌, ℕ, zero, suc, ◌+◌, ◌^◌, ◌<◌, ◌≤◌, ◌==◌, ◌⊎◌, inl, inr, Bool, true, false, nat_le, if◌then◌else◌, Some, List, [], ◌∷◌, ◌++◌, length, take, drop, refl, sym, ap, subst, ◌∙◌}
+use Rattle.std.proofs.Common.{◌≡◌, ℕ, zero, suc, ◌+◌, ◌^◌, ◌<◌, ◌≤◌, ◌==◌, ◌⊎◌, inl, inr, Bool, true, false, nat_le, if◌then◌else◌, Some, List, []}
+use Rattle.std.proofs.Common.{◌∷◌, ◌++◌, length, take, drop, refl, sym, ap, subst, ◌∙◌}
 use Rattle.std.proofs.Common.{append_assoc, append-nil, arith, length-append}
 use Rattle.std.proofs.lemmas.List.{drop_at, take_all}
 use Rattle.std.proofs.lemmas.Bool.{cases_lt, lt-leb}
@@ -8,7 +9,8 @@ use Rattle.std.proofs.lemmas.Grind.{flat_map-append}
 use Rattle.std.specs.List.{flat_map, AllByRecursion}
 use Rattle.bw_codec.specs.Version.{latest, greatest_limit}
 use Rattle.bw_codec.specs.Bytes.{number_bytes}
-use Rattle.bw_codec.specs.Grammar.{segment_word, body_bytes, body_bytes_in, head_bytes_in, frame_bytes_in, frame_bytes, header_bytes, IsFrameIn, IsFrame, IsHeader, IsTailIn, IsWhole}
+use Rattle.bw_codec.specs.Grammar.{segment_word, body_bytes, body_bytes_in, head_bytes_in, frame_bytes_in, frame_bytes, header_bytes, IsFrameIn}
+use Rattle.bw_codec.specs.Grammar.{IsFrame, IsHeader, IsTailIn, IsWhole}
 use Rattle.bw_codec.specs.Reading.{front_at, heading_of, version_in}
 use Rattle.bw_codec.specs.declared.block.Frame.{Frame}
 use Rattle.bw_codec.specs.declared.block.Header.{Header}
@@ -38,7 +40,8 @@ frames_few v [] = omega arith
 frames_few v (x ∷ fs) = omega (arith, frames_few v fs, length-frame_in v x, length-append (frame_bytes_in v x) (flat_map (frame_bytes_in v) fs))
 
 -- frames spelled one after the other, and a tail, are read as they are
-pub frames_read : (v : ℕ) → (n m f : ℕ) (fs : List Frame) (cut : List ℕ) → m < 2 ^ 16 → f < 2 ^ 32 → AllByRecursion (IsFrameIn v m f) fs → IsTailIn v f cut → length fs ≤ n
+pub frames_read : (v : ℕ) → (n m f : ℕ) (fs : List Frame) (cut : List ℕ) → m < 2 ^ 16 → f < 2 ^ 32 → AllByRecursion (IsFrameIn v m f) fs
+    → IsTailIn v f cut → length fs ≤ n
     → frames_at n v m f (flat_map (frame_bytes_in v) fs ++ cut) ≡ (fs, cut)
 unfolding frames_at
 frames_read v zero m f [] cut small limit laws tail few = refl
@@ -46,7 +49,8 @@ frames_read v (suc n) m f [] cut small limit laws tail few = rw (is_front v m f 
 frames_read v zero m f (x ∷ fs) cut small limit laws tail few = absurd (omega arith)
 frames_read v (suc n) m f (x ∷ fs) cut small limit laws tail few =
     let rest = flat_map (frame_bytes_in v) fs ++ cut in
-    let parts : flat_map (frame_bytes_in v) (x ∷ fs) ++ cut ≡ frame_bytes_in v x ++ rest = append_assoc (frame_bytes_in v x) (flat_map (frame_bytes_in v) fs) cut in
+    let parts : flat_map (frame_bytes_in v) (x ∷ fs) ++ cut ≡ frame_bytes_in v x ++ rest = append_assoc (frame_bytes_in v x)
+    (flat_map (frame_bytes_in v) fs) cut in
     let front : front_at v m f (flat_map (frame_bytes_in v) (x ∷ fs) ++ cut) ≡ Some (Whole x (length (frame_bytes_in v x))) =
     is_front v m f (flat_map (frame_bytes_in v) (x ∷ fs) ++ cut) (Whole x (length (frame_bytes_in v x))) small limit (laws.0, rest, parts, refl) in
     let left : drop (length (frame_bytes_in v x)) (flat_map (frame_bytes_in v) (x ∷ fs) ++ cut) ≡ rest =
@@ -78,7 +82,14 @@ segment_read bytes h fs cut w =
     let head : heading_of bytes ≡ heading.Whole h = ap heading_of w.parts ∙ header_again h rest w.lawful in
     let left : drop 24 bytes ≡ rest = ap (λ (b : List ℕ). drop 24 b) w.parts ∙ drop_at (header_bytes h) rest 24 (length-header h) in
     let size = ap (λ (b : List ℕ). length b) w.parts in
-    let few : length fs ≤ length bytes = omega (arith, size, frames_few h.version fs, length-append (header_bytes h) rest, length-append (flat_map (frame_bytes_in h.version) fs) cut) in
+    let few : length fs ≤ length bytes = omega (
+      arith,
+      size,
+      frames_few h.version fs,
+      length-append (header_bytes h) rest,
+      length-append
+          (flat_map (frame_bytes_in h.version) fs) cut,
+    ) in
     let read = frames_read h.version (length bytes) h.m h.f fs cut (omega arith) small w.each w.tail few in
     rw (head, left, read, segment_frames) refl
 

@@ -106,7 +106,8 @@ same_place a b frames indices =
     ap (λ (n : ℕ). let x : Place = record { frame = n; index = a.index } in x) frames
     ∙ ap (λ (i : ℕ). let x : Place = record { frame = b.frame; index = i } in x) indices
 
-goes_on_to : (frames : List Frame) {p : ℕ} {at : Place} {newer : List Block} (w : IsWalk p (all_placed frames) at newer) (result : Option Place) (back place : Place)
+goes_on_to : (frames : List Frame) {p : ℕ} {at : Place} {newer : List Block} (w : IsWalk p (all_placed frames) at newer) (result : Option Place)
+    (back place : Place)
     → result ≡ Some back → place ≡ back → LastOf (touches p) w.stands.before place → AreFrom (first_number frames) frames → sets p w.block ≡ false
     → WalksOn p (all_placed frames) at newer w.block result
 goes_on_to frames {p} {at} {newer} w result back place is same l from unset =

@@ -14,6 +14,9 @@ pub struct Counts {
     pub pages: u64,
     /// The pairs on all pages.
     pub pairs: u64,
+    /// The number of the first frame, and of the last.
+    pub first: u64,
+    pub last: u64,
 }
 
 /// How many blocks of a kind there are, and how many bytes they have.
@@ -106,7 +109,9 @@ pub fn write_counts<O: Write>(
     out.line(" spares ", counts.spares);
     out.named("frames ", survey.frames().len());
     out.named(" bytes ", frame_bytes(survey));
-    out.line(" tail ", counts.tail);
+    out.named(" tail ", counts.tail);
+    out.named(" first ", counts.first);
+    out.line(" last ", counts.last);
     write_kind(out, survey, "bases ", Kind::Base);
     write_kind(out, survey, "deltas ", Kind::Delta);
     write_kind(out, survey, "splits ", Kind::Split);

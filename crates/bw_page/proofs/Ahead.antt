@@ -17,7 +17,8 @@ use Rattle.bw_page.specs.Lows.{lows_of}
 use Rattle.bw_page.specs.LowHeads.{IsLeastLow, HasNoHigher}
 use Rattle.bw_page.specs.Ahead.{HasNoPair, IsFirstPair, HasCome, pair_above, HasNoLowAbove, IsNextLow, ahead}
 use Rattle.bw_page.specs.Seek.{seek_of, passed, end_of}
-use Rattle.bw_page.proofs.Order.{Below, UpTo, not_both, must_be, must_not, upto-trans, upto-refl, upto-antisymm, upto_empty, below-upto, below-trans, below_upto, below_apart, above_apart, greater_is_below, tied}
+use Rattle.bw_page.proofs.Order.{Below, UpTo, not_both, must_be, must_not, upto-trans, upto-refl, upto-antisymm, upto_empty, below-upto, below-trans}
+use Rattle.bw_page.proofs.Order.{below_upto, below_apart, above_apart, greater_is_below, tied}
 use Rattle.bw_page.proofs.Sorted.{all-map, Rises, ascends_rises, find-none}
 use Rattle.bw_page.proofs.Homes.{home-all, home-low, home-max, same_home}
 use Rattle.bw_page.proofs.Indexed.{itself, some_either, lows_found}
@@ -33,7 +34,8 @@ end_passed (Err at) = one-add at
 pub pair_sought : (key : Bytes) (ps : Pairs) → slice_get ps (end_of (seek_of key ps)) ≡ pair_above key ps
 pair_sought key [] = refl
 pair_sought key (p ∷ ps) =
-    elim (order key p.0) as (λ o. order key p.0 ≡ o → slice_get (p ∷ ps) (end_of (by_order o (Err 0) (Ok 0) (passed 1 (seek_of key ps)))) ≡ pair_above key (p ∷ ps)) [
+    elim (order key p.0) as (λ o. order key p.0 ≡ o → slice_get (p ∷ ps) (end_of (by_order o (Err 0) (Ok 0) (passed 1 (seek_of key ps)))) ≡
+    pair_above key (p ∷ ps)) [
       | Less ↦ λ e. let not : is_below p.0 key ≡ false = sym (greater_is_below key p.0) ∙ ap is_gt e in rw not refl
       | Equal ↦ λ e. let not : is_below p.0 key ≡ false = sym (greater_is_below key p.0) ∙ ap is_gt e in rw not refl
       | Greater ↦ λ e. let is : is_below p.0 key ≡ true = sym (greater_is_below key p.0) ∙ ap is_gt e in
@@ -169,7 +171,8 @@ module _ (m : ℕ) (leaves : List Leaf) (a : AreLeaves m leaves) where
       elim (is_below q to) as (λ t. is_below q to ≡ t → finite.get (union leaves) q ≡ None) [
         | true ↦ λ t. come.none q u t
         | false ↦ λ t. found_at to q None
-            (same_leaf to q t (all-map (λ l. UpTo l.low to) (λ l. Below to l.low → Below q l.low) (λ l not is. not_both (is_below to l.low) is not) leaves last))
+            (same_leaf to q t (all-map (λ l. UpTo l.low to) (λ l. Below to l.low → Below q l.low) (λ l not is. not_both (is_below to l.low) is not)
+            leaves last))
             (above_none to (home to leaves).pairs e q t)
       ] refl
 
@@ -193,7 +196,8 @@ ahead_upto key low (l ∷ ls) b =
 pub ahead_less : (key low : Bytes) (ls : List Leaf) → Below key low → IsSome (find order low (lows_of ls)) → ahead low ls + 1 ≤ ahead key ls
 ahead_less key low [] b some = absurd (let no : IsSome {T = ℕ} None = some in cc)
 ahead_less key low (l ∷ ls) b some =
-    elim (eq_by_cmp order low l.low) as (λ t. eq_by_cmp order low l.low ≡ t → IsSome (cond t (Some l.page) (find order low (lows_of ls))) → ahead low (l ∷ ls) + 1 ≤ ahead key (l ∷ ls)) [
+    elim (eq_by_cmp order low l.low) as (λ t. eq_by_cmp order low l.low ≡ t → IsSome (cond t (Some l.page) (find order low (lows_of ls)))
+    → ahead low (l ∷ ls) + 1 ≤ ahead key (l ∷ ls)) [
       | true ↦ λ t s.
           let same : low ≡ l.low = tied low l.low t in
           let not : is_below low l.low ≡ false = subst (λ (x : Bytes). UpTo x low) same (upto-refl low) in
@@ -204,7 +208,8 @@ ahead_less key low (l ∷ ls) b some =
           let rest = ahead_less key low ls b s in
           elim (is_below low l.low) as (λ u. is_below low l.low ≡ u → (if u then 1 else 0) + ahead low ls + 1 ≤ ahead key (l ∷ ls)) [
             | true ↦ λ u. let is : is_below key l.low ≡ true = below-trans key low l.low b u in rw is (omega arith)
-            | false ↦ λ u. elim (is_below key l.low) as (λ v. 0 + ahead low ls + 1 ≤ (if v then 1 else 0) + ahead key ls) [ true ↦ omega arith | false ↦ omega arith ]
+            | false ↦ λ u. elim (is_below key l.low) as (λ v. 0 + ahead low ls + 1 ≤ (if v then 1 else 0) + ahead key ls)
+                [ true ↦ omega arith | false ↦ omega arith ]
           ] refl
     ] refl some
 
@@ -239,7 +244,8 @@ module _ (m : ℕ) (q : Bytes) (leaves : List Leaf) (a : AreLeaves m leaves) (go
   pub no_low_above : HasNoHigher got q → HasNoLowAbove leaves q
   no_low_above none =
       all-map (λ l. Below q l.low → IsSome (got l.low)) (λ l. UpTo l.low q)
-      (λ l some. must_not (is_below q l.low) (λ b. let no : IsSome {T = ℕ} None = subst (λ (o : Option ℕ). IsSome o) (none l.low b) (some b) in absurd (cc))) leaves got_each
+      (λ l some. must_not (is_below q l.low) (λ b. let no : IsSome {T = ℕ} None = subst (λ (o : Option ℕ). IsSome o) (none l.low b) (some b)
+      in absurd (cc))) leaves got_each
 
 is_less : (o : Ordering) → is_lt o ≡ true → o ≡ Less
 is_less Less h = refl
@@ -252,7 +258,8 @@ pub first_of_range : (lows : Bytes → Option ℕ) (key low : Bytes) (page : ℕ
     → ((q : Bytes) → (order key q ≡ Less) × Unit {0} → IsSome (lows q) → IfSome (slice_get r 0) (λ e. is_gt (order e.0 q) ≡ false)) → IsLeastLow lows key low
 first_of_range lows key low page r rest e first least =
     let its = subst (λ (x : List (Bytes × ℕ)). IfSome (slice_get x 0) (λ e. ((order key e.0 ≡ Less) × Unit {0}) × (lows e.0 ≡ Some e.1))) e first in
-    let each = subst (λ (x : List (Bytes × ℕ)). (q : Bytes) → (order key q ≡ Less) × Unit {0} → IsSome (lows q) → IfSome (slice_get x 0) (λ e. is_gt (order e.0 q) ≡ false)) e least in
+    let each = subst (λ (x : List (Bytes × ℕ)). (q : Bytes) → (order key q ≡ Less) × Unit {0} → IsSome (lows q)
+    → IfSome (slice_get x 0) (λ e. is_gt (order e.0 q) ≡ false)) e least in
     record {
       its = subst (λ (o : Option ℕ). IsSome o) (sym its.1) refl;
       above = ap is_lt its.0.0;

@@ -21,15 +21,17 @@ no_some (Some p) h = absurd (h refl)
 module _ (lows : Bytes → Option ℕ) (heads : ℕ → Option ℕ) (a : AreHeads lows heads) (key : Bytes) where
   -- a low that is not above the key has no greater head
   head_upto : (q : Bytes) → IsSome (lows q) → UpTo q key → head q ≤ head key
-  head_upto q some u = elim (nat_cmp (head key) (head q)) as (λ o. MatchOrdering o (head key < head q) (head key ≡ head q) (head q < head key) → head q ≤ head key) [
-    | Less ↦ λ less. not_both _ (below_by_head 8 key q (a.bytes q some) less) u
-    | Equal ↦ λ same. omega arith
-    | Greater ↦ λ more. omega arith
-  ] (ranked (head key) (head q) (nat_cmp (head key) (head q)) refl)
+  head_upto q some u = elim (nat_cmp (head key) (head q)) as
+      (λ o. MatchOrdering o (head key < head q) (head key ≡ head q) (head q < head key) → head q ≤ head key) [
+        | Less ↦ λ less. not_both _ (below_by_head 8 key q (a.bytes q some) less) u
+        | Equal ↦ λ same. omega arith
+        | Greater ↦ λ more. omega arith
+      ] (ranked (head key) (head q) (nat_cmp (head key) (head q)) refl)
 
   pub no_head_no_low : ((h : ℕ) → h ≤ head key → heads h ≡ None) → HasNoLow lows key
   no_head_no_low none q u =
-      no_some (lows q) (λ some. let no : IsSome {T = ℕ} None = subst (λ (o : Option ℕ). IsSome o) (none (head q) (head_upto q some u)) (a.known q some) in absurd (cc))
+      no_some (lows q) (λ some. let no : IsSome {T = ℕ} None = subst (λ (o : Option ℕ). IsSome o) (none (head q) (head_upto q some u))
+      (a.known q some) in absurd (cc))
 
   pub low_by_head : IsBytes key → (h page : ℕ) → heads h ≡ Some page → (page ≡ 0 → ⊥) → h < head key
       → ((g : ℕ) → g ≤ head key → IsSome (heads g) → g ≤ h) → IsGreatestLow lows key page
@@ -142,7 +144,8 @@ module _ (lows : Bytes → Option ℕ) (heads : ℕ → Option ℕ) (a : AreHead
   }
 
   -- a head that has an entry tells nothing any more
-  pub heads_marked : (next : ℕ → Option ℕ) (h : ℕ) (A B U : Type 0) (r : Result A B) → (U → (g : ℕ) → next g ≡ heads g) → OnOk r ((g : ℕ) → next g ≡ cond (is_eq (nat_cmp h g)) (Some 0) (heads g))
+  pub heads_marked : (next : ℕ → Option ℕ) (h : ℕ) (A B U : Type 0) (r : Result A B) → (U → (g : ℕ) → next g ≡ heads g)
+      → OnOk r ((g : ℕ) → next g ≡ cond (is_eq (nat_cmp h g)) (Some 0) (heads g))
       → OnErr r (heads h ≡ None) → OnErr r U → AreHeads lows next × ((p : ℕ) → next h ≡ Some p → p ≡ 0)
   heads_marked next h A B U (Ok x) same_by set none same =
       (heads_set next h 0 (λ no. absurd (no refl)) set, λ p is. let zero = own_head h h 0 (heads h) (next h) refl (set h) in let e : p ≡ 0 = cc (is, zero) in e)
@@ -192,6 +195,7 @@ module _ (lows : Bytes → Option ℕ) (heads : ℕ → Option ℕ) (a : AreHead
     head_is = refl;
     only = λ q some at. elim (low_set low q (Some page) (lows q) (next q) (e q)) [
       | inl same ↦ sym same.0
-      | inr same ↦ let no : IsSome {T = ℕ} None = subst (λ (o : Option ℕ). IsSome o) (ap heads at ∙ none) (a.known q (some_same _ _ (sym same) some)) in absurd (cc)
+      | inr same ↦ let no : IsSome {T = ℕ} None = subst (λ (o : Option ℕ). IsSome o) (ap heads at ∙ none) (a.known q (some_same _ _ (sym same) some))
+          in absurd (cc)
     ];
   }

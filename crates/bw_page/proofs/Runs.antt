@@ -79,7 +79,8 @@ grow m leaves (r ∷ rs) some room a ops =
     let one = one_more m leaves (key_of r) a (applied m leaves r) (stepped m leaves r some room.0 a ops.0) in
     let rest = grow m (applied m leaves r) rs some room.1 (applied-lawful m leaves r some room.0 a ops.0) ops.1 in omega arith
 
-pub ran_more : (start now next : Shown) (rs : List Record) (r : Record) (us : List Undo) (u : Undo) → Ran start rs now us → IsOp r → IsHere (key_of r) now → HasPage now.m now.leaves r
+pub ran_more : (start now next : Shown) (rs : List Record) (r : Record) (us : List Undo) (u : Undo) → Ran start rs now us → IsOp r
+    → IsHere (key_of r) now → HasPage now.m now.leaves r
     → next ≡ after_record now r → u ≡ undo_of now r
     → Ran start (rs ++ r ∷ []) next (us ++ u ∷ [])
 ran_more start now next rs r us u h op here room e d = record {

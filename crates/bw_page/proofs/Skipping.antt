@@ -1,6 +1,7 @@
 -- A search that begins behind pairs whose keys are below ends where one from the front does.
 
-use Rattle.std.proofs.Common.{◌≡◌, ℕ, zero, suc, ◌+◌, ◌≤◌, true, Result, Ok, Err, [], ◌∷◌, length, take, drop, refl, sym, ap, ◌∙◌, arith, zero-add, ◌-◌, take_all, length-drop}
+use Rattle.std.proofs.Common.{◌≡◌, ℕ, zero, suc, ◌+◌, ◌≤◌, true, Result, Ok, Err, [], ◌∷◌, length, take, drop, refl, sym, ap, ◌∙◌, arith, zero-add}
+use Rattle.std.proofs.Common.{◌-◌, take_all, length-drop}
 use Rattle.std.specs.Ordering.{is_gt}
 use Rattle.std.specs.FinMap.Entries.{by_order}
 use Rattle.std.specs.declared.cmp.Ordering.{Ordering}

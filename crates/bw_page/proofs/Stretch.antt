@@ -1,6 +1,7 @@
 -- A walk from page to page, in the order of their lows, gathers a stretch of the map's pairs.
 
-use Rattle.std.proofs.Common.{◌≡◌, ◌⊎◌, inl, inr, ℕ, zero, suc, ◌+◌, ◌-◌, ◌≤◌, ◌<◌, true, false, cond, if◌then◌else◌, Some, None, IsSome, Ok, Err, nat_le, List, [], ◌∷◌, ◌++◌, take, drop, length}
+use Rattle.std.proofs.Common.{◌≡◌, ◌⊎◌, inl, inr, ℕ, zero, suc, ◌+◌, ◌-◌, ◌≤◌, ◌<◌, true, false, cond, if◌then◌else◌, Some, None, IsSome, Ok, Err}
+use Rattle.std.proofs.Common.{nat_le, List, [], ◌∷◌, ◌++◌, take, drop, length}
 use Rattle.std.specs.Prelude.{min}
 use Rattle.std.proofs.lemmas.List.{length-drop, take_min}
 use Rattle.std.specs.FinMap.Entries.{by_order}
@@ -17,7 +18,8 @@ use Rattle.bw_page.specs.Leaves.{Bytes, Pairs, order, home, union, AtHome, AreLe
 use Rattle.bw_page.specs.Lows.{lows_of}
 use Rattle.bw_page.specs.Ahead.{Reaches, IsStretch, HasGone, HasNoLowAbove, IsNextLow, pairs_above, with_some}
 use Rattle.bw_page.specs.Seek.{seek_of, passed, end_of}
-use Rattle.bw_page.proofs.Order.{Below, UpTo, greater_is_below, not_both, must_be, upto-trans, upto-refl, below-upto, upto-below, below-trans, below_upto, below_apart, above_apart, tied}
+use Rattle.bw_page.proofs.Order.{Below, UpTo, greater_is_below, not_both, must_be, upto-trans, upto-refl, below-upto, upto-below, below-trans}
+use Rattle.bw_page.proofs.Order.{below_upto, below_apart, above_apart, tied}
 use Rattle.bw_page.proofs.Sorted.{all-map, all-take, Rises, ascends_rises, rises_ascends, rises-take, find-none}
 use Rattle.bw_page.proofs.Homes.{home-all, home-low, home-max, same_home}
 use Rattle.bw_page.proofs.Law.{get-union}
@@ -98,7 +100,8 @@ above_find q key (x ∷ xs) u =
 sought_rest : (key : Bytes) (ps : Pairs) → drop (end_of (seek_of key ps)) ps ≡ pairs_above key ps
 sought_rest key [] = refl
 sought_rest key (p ∷ ps) =
-    elim (order key p.0) as (λ o. order key p.0 ≡ o → drop (end_of (by_order o (Err 0) (Ok 0) (passed 1 (seek_of key ps)))) (p ∷ ps) ≡ pairs_above key (p ∷ ps)) [
+    elim (order key p.0) as (λ o. order key p.0 ≡ o → drop (end_of (by_order o (Err 0) (Ok 0) (passed 1 (seek_of key ps)))) (p ∷ ps) ≡ pairs_above
+    key (p ∷ ps)) [
       | Less ↦ λ e. let not : is_below p.0 key ≡ false = sym (greater_is_below key p.0) ∙ ap is_gt e in rw not refl
       | Equal ↦ λ e. let not : is_below p.0 key ≡ false = sym (greater_is_below key p.0) ∙ ap is_gt e in rw not refl
       | Greater ↦ λ e. let is : is_below p.0 key ≡ true = sym (greater_is_below key p.0) ∙ ap is_gt e in
@@ -149,7 +152,8 @@ module _ (m : ℕ) (leaves : List Leaf) (a : AreLeaves m leaves) (key to : Bytes
   more_rises : Rises (found ++ more)
   unfolding page more
   more_rises =
-      rises_join to found more (ascends_rises found gone.ascends) (rises-take (most - length found) (pairs_above to page) (above_rises to page rises)) gone.below more_upto
+      rises_join to found more (ascends_rises found gone.ascends)
+      (rises-take (most - length found) (pairs_above to page) (above_rises to page rises)) gone.below more_upto
 
   more_from : All (λ p. UpTo key p.0) (found ++ more)
   more_from = all_join (λ p. UpTo key p.0) found more gone.from
@@ -187,7 +191,8 @@ module _ (m : ℕ) (leaves : List Leaf) (a : AreLeaves m leaves) (key to : Bytes
       ] refl
 
   -- on to the page of the next low
-  pub gone_more : (low : Bytes) → length found < most → IsNextLow leaves to low → HasGone (union leaves) key low most (with_some most found (pairs_above to (home to leaves).pairs))
+  pub gone_more : (low : Bytes) → length found < most → IsNextLow leaves to low
+      → HasGone (union leaves) key low most (with_some most found (pairs_above to (home to leaves).pairs))
   unfolding page more
   gone_more low few next = record {
     few = more_few;
@@ -211,7 +216,8 @@ module _ (m : ℕ) (leaves : List Leaf) (a : AreLeaves m leaves) (key to : Bytes
   }
 
   -- the last page
-  pub gone_last : length found < most → HasNoLowAbove leaves to → IsStretch (union leaves) key most (with_some most found (pairs_above to (home to leaves).pairs))
+  pub gone_last : length found < most → HasNoLowAbove leaves to
+      → IsStretch (union leaves) key most (with_some most found (pairs_above to (home to leaves).pairs))
   unfolding page more
   gone_last few last = record {
     few = more_few;

@@ -27,19 +27,22 @@ length-more (x ∷ xs) ys = let ih : length (xs ++ ys) ≡ length xs + length ys
 
 -- ---- one group more
 
-pub more-alone : (fs new : List First) (rs : List Rest) (f : First) (x : Record) (g : List Record) → leading fs ≡ length rs → new ≡ fs ++ f ∷ [] → f ≡ Alone x → g ≡ x ∷ []
+pub more-alone : (fs new : List First) (rs : List Rest) (f : First) (x : Record) (g : List Record) → leading fs ≡ length rs → new ≡ fs ++ f ∷ []
+    → f ≡ Alone x → g ≡ x ∷ []
     → grouped new rs ≡ grouped fs rs ++ g ∷ []
 more-alone fs new rs f x g whole e is to =
     ap₂ grouped (e ∙ ap (λ (y : First). fs ++ y ∷ []) is) (sym (append-nil rs)) ∙ grouped-more fs (Alone x ∷ []) rs [] whole
     ∙ ap (λ (y : List Record). grouped fs rs ++ y ∷ []) (sym to)
 
-pub more-led : (fs new : List First) (rs left : List Rest) (f : First) (x : Record) (r : Rest) (g : List Record) → leading fs ≡ length rs → new ≡ fs ++ f ∷ [] → f ≡ Leads x
+pub more-led : (fs new : List First) (rs left : List Rest) (f : First) (x : Record) (r : Rest) (g : List Record) → leading fs ≡ length rs
+    → new ≡ fs ++ f ∷ [] → f ≡ Leads x
     → left ≡ rs ++ r ∷ [] → g ≡ x ∷ rest_of r → grouped new left ≡ grouped fs rs ++ g ∷ []
 more-led fs new rs left f x r g whole e is l to =
     ap₂ grouped (e ∙ ap (λ (y : First). fs ++ y ∷ []) is) l ∙ grouped-more fs (Leads x ∷ []) rs (r ∷ []) whole
     ∙ ap (λ (y : List Record). grouped fs rs ++ y ∷ []) (sym to)
 
-pub whole-alone : (fs new : List First) (rs : List Rest) (f : First) (x : Record) → leading fs ≡ length rs → new ≡ fs ++ f ∷ [] → f ≡ Alone x → leading new ≡ length rs
+pub whole-alone : (fs new : List First) (rs : List Rest) (f : First) (x : Record) → leading fs ≡ length rs → new ≡ fs ++ f ∷ [] → f ≡ Alone x
+    → leading new ≡ length rs
 whole-alone fs new rs f x whole e is =
     let n : leading (fs ++ Alone x ∷ []) ≡ leading fs + 0 = leading-more fs (Alone x ∷ []) in
     ap leading (e ∙ ap (λ (y : First). fs ++ y ∷ []) is) ∙ (omega arith)
@@ -92,7 +95,8 @@ some-first (f ∷ fs) rs lt = omega arith
 pub first-alone : (x : Record) (fs : List First) (rs : List Rest) → IsPrefix (Alone x ∷ []) fs → IsPrefix ((x ∷ []) ∷ []) (grouped fs rs)
 first-alone x fs rs p = (grouped p.0 rs, ap (λ (g : List First). grouped g rs) p.1)
 
-pub first-led : (x : Record) (r : Rest) (fs : List First) (rs : List Rest) → IsPrefix (Leads x ∷ []) fs → IsPrefix (r ∷ []) rs → IsPrefix ((x ∷ rest_of r) ∷ []) (grouped fs rs)
+pub first-led : (x : Record) (r : Rest) (fs : List First) (rs : List Rest) → IsPrefix (Leads x ∷ []) fs → IsPrefix (r ∷ []) rs
+    → IsPrefix ((x ∷ rest_of r) ∷ []) (grouped fs rs)
 first-led x r fs rs p q = (grouped p.0 q.0, ap₂ grouped p.1 q.1)
 
 pub some-alone : (x : Record) (fs : List First) (rs : List Rest) → IsPrefix (Alone x ∷ []) fs → 0 < length (grouped fs rs)

@@ -99,8 +99,6 @@ struct Judged {
     counts: Counts,
     /// How many bytes the Base of each page would have, from page 1 on.
     lengths: Vec<u64>,
-    first: u64,
-    last: u64,
 }
 
 /// How many segments have no byte.
@@ -141,10 +139,10 @@ fn judged_of(alloc: Global, found: &Recovered, spares: u64) -> Result<Judged, Al
             tail: found.tail,
             pages: u64::from(found.leaves.count()),
             pairs,
+            first: found.first,
+            last: found.last,
         },
         lengths,
-        first: found.first,
-        last: found.last,
     })
 }
 
@@ -319,8 +317,11 @@ fn of_source(miss: Miss) -> Miss {
 /// segments with its blocks were given up since.
 fn restored(alloc: Global, images: Vec<Image>, frame: u64) -> Result<(Vec<Image>, Judged), Miss> {
     let now = judge(alloc, images.as_slice())?;
-    if frame < now.first || frame > now.last {
-        return Err(Miss::Refused(Refusal::Recovery(RecoverCause::Empty)));
+    if frame < now.counts.first || frame > now.counts.last {
+        return Err(Miss::Refused(Refusal::NoFrame {
+            first: now.counts.first,
+            last: now.counts.last,
+        }));
     }
     let survey = Survey::of(alloc, images.as_slice())?;
     let pages = pages_at(&survey, frame, now.counts.pages);
@@ -349,7 +350,7 @@ pub fn restore<R: System, O: Write>(
     };
     write_all(rt, copying.to, cut.as_slice())?;
     let mut out = Printer::new(output);
-    out.named("restored frame ", judged.last);
+    out.named("restored frame ", judged.counts.last);
     out.named(" pages ", judged.counts.pages);
     out.line(" pairs ", judged.counts.pairs);
     out.end()?;

@@ -14,6 +14,8 @@ pub enum Refusal {
     /// What the segments hold is no store; of bytes that cannot be read, the segment is its position
     /// in the list, from 0.
     Recovery(RecoverCause),
+    /// A frame that was asked for is none of those that the log has.
+    NoFrame { first: u64, last: u64 },
     /// All leases are out.
     NoLease,
 }
@@ -35,6 +37,7 @@ impl Refusal {
         match self {
             Refusal::Store(fault) => name_of(*fault),
             Refusal::Recovery(cause) => name_of_cause(*cause),
+            Refusal::NoFrame { .. } => name_of_cause(RecoverCause::Empty),
             Refusal::NoLease => "E20 NoLease",
         }
     }
@@ -81,6 +84,7 @@ impl Display for Refusal {
             Refusal::Recovery(RecoverCause::BadLink { page } | RecoverCause::Unlawful { page }) => {
                 write!(f, " page {page}")
             }
+            Refusal::NoFrame { first, last } => write!(f, " frames {first} to {last}"),
             _ => Ok(()),
         }
     }

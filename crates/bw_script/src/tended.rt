@@ -97,7 +97,8 @@ impl Session {
         requires { IsReady self.now holding }
     {
         match self.store.needed(0) {
-            Some(needed) if self.store.live() > 1 => needed < tending.capacity / 2 - LOST,
+            Some(needed) if self.store.live() > 1 => needed
+                < (tending.capacity / 2).saturating_sub(LOST),
             _ => false,
         }
     }

@@ -213,7 +213,10 @@ module _ (m : ℕ) (d : Drawn) (r : Record) (one : 1 ≤ m) (lawful : AreLeaves 
       → Knows (rows ++ row_by p0 here last (grown (open_records p0 d.frame.blocks) 1) (if b then None else Some upper) ∷ []) base blocks (record {
         leaves = applied m d.leaves r;
         newest = if b then set d.newest (p0 - 1) here else set d.newest (p0 - 1) last ++ last ∷ [];
-        frame = record d.frame { blocks = added d.frame.blocks (if b then Delta p0 (back_in d r) (r ∷ []) ∷ [] else Delta p0 (back_in d r) (r ∷ []) ∷ Split p0 here upper ∷ []) };
+        frame = record d.frame {
+          blocks = added d.frame.blocks
+              (if b then Delta p0 (back_in d r) (r ∷ []) ∷ [] else Delta p0 (back_in d r) (r ∷ []) ∷ Split p0 here upper ∷ []);
+        };
       })) [
         | true ↦ λ long. record {
           places = λ p some top. places_set rows base d.newest p0 (grown (open_records p0 d.frame.blocks) 1) here from (omega arith) p some

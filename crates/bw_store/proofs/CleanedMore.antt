@@ -179,7 +179,8 @@ refused_wrote s last all fault most new b sound top x stands =
         gone = 0;
         counts = counts;
         begun = begun_stays s.edge s.log new b.sound.log.rooms
-            (row_then s.log x.then_log new (moved_row last s.log x.then_log x.done x.rest x.frames x.moved) (refused_row x.then_log new fault x.refused)) b.sound.begun;
+            (row_then s.log x.then_log new (moved_row last s.log x.then_log x.done x.rest x.frames x.moved)
+            (refused_row x.then_log new fault x.refused)) b.sound.begun;
         left = refused_left s.filed.m x.then_log new fault s.filed.leaves x.moved.works x.refused (stands_as s new b stands);
       },
       counts,
@@ -272,7 +273,8 @@ pub stopped_wrote : (s : Kept) (cause : CleanFault) (new : logs.Contents) → Be
     → care.Refuses cause s.log new → StandsOn s new → Wrote s (length s.log.pages) new (λ fs. logs.counted new ≡ logs.counted s.log ++ fs)
 stopped_wrote s cause new b two sound r stands =
     (let stop = stopped_of s cause new b two r in
-    refused_wrote s (oldest_last s.log s.log.live) (old_pages s.log) stop.0 (length s.log.pages) new b sound (few_upto s (oldest_last s.log s.log.live)) stop.1 stands)
+    refused_wrote s (oldest_last s.log s.log.live) (old_pages s.log) stop.0 (length s.log.pages) new b sound
+    (few_upto s (oldest_last s.log s.log.live)) stop.1 stands)
 
 pub cleans_of : (s : Kept) (new : logs.Contents) (r : Result Cleaned CleanFault) → Begins s → 2 ≤ length s.log.live → logs.IsSound new
     → IfOk r (λ cleaned. care.IsCleaned s.log cleaned new) → IfErr r (λ cause. care.Refuses cause s.log new)
@@ -295,7 +297,8 @@ pub frames_are : (s : Kept) (new : logs.Contents) {most : ℕ} (c : Cleans s mos
     → frames ≡ length c.written
 frames_are s new c frames h e = (let one = end_before s h in let two = end_after s new c in omega arith)
 
-pub there : (s : Kept) (new : logs.Contents) {most : ℕ} (c : Cleans s most new) (p : ℕ) → 1 ≤ p → p ≤ length s.newest → IsSound s → place_of p (logs.counted new) ≡ None → ⊥
+pub there : (s : Kept) (new : logs.Contents) {most : ℕ} (c : Cleans s most new) (p : ℕ) → 1 ≤ p → p ≤ length s.newest → IsSound s
+    → place_of p (logs.counted new) ≡ None → ⊥
 there s new c p from to h = (let count = h.grown.count in placed_page new s.filed.m s.filed.leaves p c.sound c.stands from (omega arith))
 
 pub few_newest : (s : Kept) → IsSound s → IsSettled s → length s.newest < 2 ^ 32
@@ -485,7 +488,8 @@ live_stay old new (Some n) left =
 pub moved_follows : (s : Kept) (frames floor : ℕ) (newest : List Place) (making : Filling) (log : logs.Contents) (new : Kept) → s.floor ≤ floor
     → new ≡ with_moved s frames floor newest making log → Continues s new
 moved_follows s frames floor newest making log new low is =
-    subst (Continues s) (sym is) (grows_on s floor s.entries (s.cuts ++ replicate frames (length s.entries)) (s.durable + frames) s.filed newest making log s.versions
+    subst (Continues s) (sym is) (grows_on s floor s.entries (s.cuts ++ replicate frames (length s.entries)) (s.durable + frames) s.filed newest
+    making log s.versions
     [] (replicate frames (length s.entries)) [] low (sym (append-nil s.entries)) refl (omega arith) refl (sym (append-nil s.versions.published)))
 
 pub gives_follows : {A : Type 0} (frames : A → ℕ) (done : logs.Contents → A → logs.Contents → Type 0)

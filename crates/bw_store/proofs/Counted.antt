@@ -1,6 +1,7 @@
 -- All pages have as many pairs as their map has keys.
 
-use Rattle.std.proofs.Common.{◌≡◌, ℕ, zero, suc, ◌+◌, ◌-◌, ◌*◌, ◌≤◌, ◌<◌, false, cond, Some, None, List, [], ◌∷◌, ◌++◌, length, take, take_all, get_or, length-append, append-nil, refl, sym, ap, ◌∙◌, subst, arith}
+use Rattle.std.proofs.Common.{◌≡◌, ℕ, zero, suc, ◌+◌, ◌-◌, ◌*◌, ◌≤◌, ◌<◌, false, cond, Some, None, List, [], ◌∷◌, ◌++◌, length, take, take_all}
+use Rattle.std.proofs.Common.{get_or, length-append, append-nil, refl, sym, ap, ◌∙◌, subst, arith}
 use Rattle.std.specs.Prelude.{is_some}
 use Rattle.std.specs.List.{slice_get, flat_map, AllByRecursion as All}
 use Rattle.std.specs.FinMap as finite

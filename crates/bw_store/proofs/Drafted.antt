@@ -26,7 +26,8 @@ use Rattle.bw_ring.specs.Marks.{Marked}
 use Rattle.bw_store.specs.declared.draft.Row.{Row}
 use Rattle.bw_store.specs.declared.draft.Draft.{Draft}
 use Rattle.bw_store.specs.Adding.{Drawn, back_in, blocks_in, count_after, drawn_by, here_for, last_for, nowhere, planned, result_of, upper_if}
-use Rattle.bw_store.specs.Drafting.{Added, IsAhead, Stands, behind, count_with, drawn_behind, open_in, place_by, place_in, place_with, records_in, row_by, row_for, row_in}
+use Rattle.bw_store.specs.Drafting.{Added, IsAhead, Stands, behind, count_with, drawn_behind, open_in, place_by, place_in, place_with, records_in}
+use Rattle.bw_store.specs.Drafting.{row_by, row_for, row_in}
 use Rattle.bw_store.specs.Fitting.{back_for, drawn_of, group_blocks}
 use Rattle.bw_store.specs.Kept.{Kept, IsSound}
 use Rattle.bw_store.specs.Taken.{alone, taken, taken_all}
@@ -109,7 +110,8 @@ module _ (s : Kept) (lane : ℕ) (done : List Record) where
     -- its blocks are lawful
     pub next_lawful : (r : Record) → IsOp r → HasPage s.filed.m d.leaves r → All (IsBlock 32) (blocks_in s.filed.m d r)
     next_lawful r op room =
-        let all = blocks_lawful now.filed.m (logs.counted now.log) (frame_of now.making) now.filed.leaves now.newest (back_for now r) r (takes_next r op room) in
+        let all = blocks_lawful now.filed.m (logs.counted now.log) (frame_of now.making) now.filed.leaves now.newest (back_for now r) r
+        (takes_next r op room) in
         let p = t.sound.pairs in
         let l = t.sound.log.holds.limits in
         let wide = blocks_wider now.filed.m 32 _ (omega arith) all in
@@ -168,7 +170,8 @@ module _ (s : Kept) (lane : ℕ) (done : List Record) where
           let p0 = directed_at d.leaves r in
           let range = page_is r in
           let back : unwrap_or (place_in old.rows.items s.newest page) nowhere ≡ back_in d r =
-          ap (λ (o : Option Place). unwrap_or o nowhere) (a.places page (omega arith) (omega arith)) ∙ ap (λ (p : ℕ). unwrap_or (slice_get d.newest (p - 1)) nowhere) at in
+          ap (λ (o : Option Place). unwrap_or o nowhere) (a.places page (omega arith) (omega arith))
+          ∙ ap (λ (p : ℕ). unwrap_or (slice_get d.newest (p - 1)) nowhere) at in
           let open_is : open_in old.rows.items s.making.blocks page ≡ joins p0 d.frame.blocks =
           a.opens page (omega arith) (omega arith) ∙ ap (λ (p : ℕ). joins p d.frame.blocks) at in
           let records_is : records_in old.rows.items s.making.blocks page ≡ open_records p0 d.frame.blocks =

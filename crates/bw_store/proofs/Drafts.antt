@@ -46,7 +46,8 @@ made_all s w [] = refl
 made_all s w (m ∷ ms) =
     made_all (taken s w m (back_for s m.item)) w ms
     ∙ ap (λ (bs : List Block). record s.making { blocks = bs })
-    (sym (fold-append joined s.making.blocks (blocks_in s.filed.m (drawn_of s) m.item) (blocks_all s.filed.m (drawn_by s.filed.m (drawn_of s) m.item) (items ms))))
+    (sym (fold-append joined s.making.blocks (blocks_in s.filed.m (drawn_of s) m.item)
+    (blocks_all s.filed.m (drawn_by s.filed.m (drawn_of s) m.item) (items ms))))
 
 pub leaves_all : (m : ℕ) (d : Drawn) (rs : List Record) → (fold (drawn_by m) d rs).leaves ≡ pages m d.leaves rs
 leaves_all m d [] = refl

@@ -1,6 +1,6 @@
 -- What entering a group asks of its growths, and the store behind it.
 
-use Rattle.std.proofs.Common.{◌≡◌, ℕ, ◌+◌, ◌<◌, ◌≤◌, true, false, Option, Some, None, Result, List, [], ◌∷◌, ◌++◌}
+use Rattle.std.proofs.Common.{◌≡◌, ℕ, ◌+◌, ◌<◌, ◌≤◌, Bool, true, false, Option, Some, None, Result, List, [], ◌∷◌, ◌++◌}
 use Rattle.std.proofs.Common.{length, refl, sym, ap, ◌∙◌, subst, arith, if◌then◌else◌, length-append}
 use Rattle.std.specs.Prelude.{nat_le, IfErr, OnOk, OnErr, MatchOption}
 use Rattle.std.specs.List.{AllByRecursion as All, fold}
@@ -36,7 +36,8 @@ use Rattle.bw_store.specs.declared.fault.StoreFault.{StoreFault}
 use Rattle.bw_store.specs.Taking.{GroupLeaves, IsUnplanned, IsWanting, MakesRoom, Works}
 use Rattle.bw_store.proofs.Planned.{entered_or_not}
 use Rattle.bw_store.proofs.Drafts.{items_marked, leaves_all, made_all}
-use Rattle.bw_store.proofs.GroupMore.{Lawful, rows_in, rows_set, rows_tails, rows_evicted, length_rows, rows_from, fresh_fits, spent_pages, taken_is, taken_all_sound}
+use Rattle.bw_store.proofs.GroupMore.{Lawful, rows_in, rows_set, rows_tails, rows_evicted, length_rows, rows_from, fresh_fits, spent_pages, taken_is}
+use Rattle.bw_store.proofs.GroupMore.{taken_all_sound}
 
 -- the records of a sound store are lawful where there is a number for each page that they make
 pub lawful_of : (s : Kept) (group : List Record) → IsSound s → HasPages s.filed.m s.filed.leaves group → All IsOp group
@@ -102,7 +103,8 @@ module _ (s : Kept) (group : List Record) (d : Draft) (h : IsSound s) (ops : All
   leaves_is leaves e = e ∙ sym (leaves_all s.filed.m (drawn_of s) group)
 
   -- the tails
-  pub tails_now : (told was : List (Option (List Record))) (rows : List Row) (records : List Record) (making : Filling) (blocks : List Block) (leaves : List Leaf)
+  pub tails_now : (told was : List (Option (List Record))) (rows : List Row) (records : List Record) (making : Filling) (blocks : List Block)
+      (leaves : List Leaf)
       → rows ≡ d.rows.items → records ≡ group → was ≡ tails_for (length s.filed.leaves) s.making.blocks → told ≡ tails_all rows records was
       → making ≡ with_all s.making blocks → blocks ≡ d.blocks.items → leaves ≡ pages s.filed.m s.filed.leaves group
       → told ≡ tails_for (length leaves) making.blocks
@@ -116,7 +118,8 @@ module _ (s : Kept) (group : List Record) (d : Draft) (h : IsSound s) (ops : All
       ∙ ap (tails_for (length leaves)) (sym (making_blocks making blocks made same))
 
   -- a page that is evicted is not made
-  pub evicted_now : (evicted : List ℕ) (q : ℕ) (making : Filling) (blocks : List Block) → AreHere (record { m = s.filed.m; leaves = s.filed.leaves; evicted = evicted }) group
+  pub evicted_now : (evicted : List ℕ) (q : ℕ) (making : Filling) (blocks : List Block)
+      → AreHere (record { m = s.filed.m; leaves = s.filed.leaves; evicted = evicted }) group
       → ((p : ℕ) → length s.filed.leaves < p → is_among p evicted ≡ false) → is_among q evicted ≡ true → is_made q s.making.blocks ≡ false
       → making ≡ with_all s.making blocks → blocks ≡ d.blocks.items → is_made q making.blocks ≡ false
   evicted_now evicted q making blocks here beyond there apart made same =
@@ -197,13 +200,15 @@ draft_none s group records o same is m fits =
     subst (λ (x : Option Draft). MatchOption x (Fits s records → ⊥) (IsDraft s records)) is m (subst (Fits s) (sym same) fits)
 
 -- a group that was planned and then entered, behind a frame that was appended, or not
-pub drafted_left : (lane : ℕ) (away : ℕ → Bool) (old drawn middle new : Kept) (group records : List Record) (o : Option Draft) (d : Draft) (r : Result (Unit {0}) StoreFault)
+pub drafted_left : (lane : ℕ) (away : ℕ → Bool) (old drawn middle new : Kept) (group records : List Record) (o : Option Draft) (d : Draft)
+    (r : Result (Unit {0}) StoreFault)
     → (1 ≤ length group) × (length group ≤ 4) → Works old → MakesRoom group old drawn → Works drawn → middle ≡ drawn → records ≡ group → o ≡ Some d
     → MatchOption o (Fits drawn records → ⊥) (IsDraft drawn records) → OnOk r (new ≡ taken_all middle lane (marked group)) → OnErr r (new ≡ middle)
     → IfErr r (IsWanting middle group) → GroupLeaves lane away group old r new
 drafted_left lane away old drawn middle new group records o d r few was may works same of is m ok un wants =
     let draft = draft_some drawn group records o d of is m in
-    entered_or_not lane away old middle new group r few was (subst (MakesRoom group old) (sym same) may) (subst (λ (s : Kept). Fits s group) (sym same) draft.fits)
+    entered_or_not lane away old middle new group r few was (subst (MakesRoom group old) (sym same) may)
+    (subst (λ (s : Kept). Fits s group) (sym same) draft.fits)
     (ap (λ (s : Kept). s.log.is_failed) same ∙ works) ok un wants
 
 pub unplanned_as : (s : Kept) (group records : List Record) (cause : StoreFault) → records ≡ group → IsUnplanned s records cause → IsUnplanned s group cause

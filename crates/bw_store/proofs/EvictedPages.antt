@@ -164,7 +164,8 @@ none_made tail blocks p none is e = sym (made_as tail blocks p e) ∙ ap not is 
 
 -- a page more is evicted
 pub evicted_more : (old new : Shown) (page : ℕ) (blocks : List Block)
-    → ((p : ℕ) → is_evicted_page p new ≡ (if p == page then true else is_evicted_page p old)) → ((p : ℕ) → is_evicted_page p old ≡ true → is_made p blocks ≡ false)
+    → ((p : ℕ) → is_evicted_page p new ≡ (if p == page then true else is_evicted_page p old))
+    → ((p : ℕ) → is_evicted_page p old ≡ true → is_made p blocks ≡ false)
     → is_made page blocks ≡ false → (p : ℕ) → is_evicted_page p new ≡ true → is_made p blocks ≡ false
 evicted_more old new page blocks step logged apart p evicted =
     elim (p == page) as (λ b. (p == page) ≡ b → (if b then true else is_evicted_page p old) ≡ true → is_made p blocks ≡ false) [
@@ -173,7 +174,8 @@ evicted_more old new page blocks step logged apart p evicted =
     ] refl (sym (step p) ∙ evicted)
 
 pub evicted_less : (old new : Shown) (page : ℕ) (blocks : List Block)
-    → ((p : ℕ) → is_evicted_page p new ≡ (if p == page then false else is_evicted_page p old)) → ((p : ℕ) → is_evicted_page p old ≡ true → is_made p blocks ≡ false)
+    → ((p : ℕ) → is_evicted_page p new ≡ (if p == page then false else is_evicted_page p old))
+    → ((p : ℕ) → is_evicted_page p old ≡ true → is_made p blocks ≡ false)
     → (p : ℕ) → is_evicted_page p new ≡ true → is_made p blocks ≡ false
 evicted_less old new page blocks step logged p evicted =
     elim (p == page) as (λ b. (if b then false else is_evicted_page p old) ≡ true → is_made p blocks ≡ false) [

@@ -1,6 +1,7 @@
 -- Pages of a group are brought back one by one, and none leaves.
 
-use Rattle.std.proofs.Common.{◌≡◌, ℕ, zero, suc, ◌+◌, ◌<◌, ◌≤◌, inl, inr, Bool, true, false, Some, Err, List, [], ◌∷◌, length, take, get_or, refl, sym, ap, ◌∙◌, subst, arith, if◌then◌else◌}
+use Rattle.std.proofs.Common.{◌≡◌, ℕ, zero, suc, ◌+◌, ◌<◌, ◌≤◌, inl, inr, Bool, true, false, Some, Err, List, [], ◌∷◌, length, take, get_or, refl}
+use Rattle.std.proofs.Common.{sym, ap, ◌∙◌, subst, arith, if◌then◌else◌}
 use Rattle.std.specs.Prelude.{◌==◌, slice_get}
 use Rattle.std.specs.List.{AllByRecursion as All}
 use Rattle.std.proofs.lemmas.List.{take_more}
@@ -24,13 +25,15 @@ pub still_here : (old new : Shown) (page : ℕ) (key : List ℕ) → new.leaves 
 still_here old new page key same step here =
     ap (λ ls. is_evicted_page (home key ls).page new) same
     ∙ step (home key old.leaves).page
-    ∙ elim ((home key old.leaves).page == page) as (λ b. (if b then false else is_evicted_page (home key old.leaves).page old) ≡ false) [ true ↦ refl | false ↦ here ]
+    ∙ elim ((home key old.leaves).page == page) as (λ b. (if b then false else is_evicted_page (home key old.leaves).page old) ≡ false)
+    [ true ↦ refl | false ↦ here ]
 
 pub same_here : (old new : Shown) (key : List ℕ) → new ≡ old → IsHere key old → IsHere key new
 same_here old new key e here = subst (IsHere key) (sym e) here
 
 -- one record more of the first ones
-pub all_more : (P : Record → Type 0) (rs : List Record) (i : ℕ) (d : Record) → i < length rs → d ≡ get_or rs i d → All P (take i rs) → P d → All P (take (i + 1) rs)
+pub all_more : (P : Record → Type 0) (rs : List Record) (i : ℕ) (d : Record) → i < length rs → d ≡ get_or rs i d → All P (take i rs) → P d
+    → All P (take (i + 1) rs)
 all_more P rs i d lt is h k =
     subst (All P) (sym (take_more rs i d lt))
     (all-append P (take i rs) (get_or rs i d ∷ []) h (subst P is k, tt))
@@ -50,6 +53,12 @@ fetch_refuses away group old new Failed works h = absurd h
 fetch_refuses away group old new Spent works h = (works, inr h)
 fetch_refuses away group old new NoPage works h = absurd h
 fetch_refuses away group old new NothingOld works h = absurd h
+
+-- the same where the records were those of a slice
+pub fetch_refuses_as : (away : ℕ → Bool) (group records : List Record) (old new : Kept) (cause : StoreFault) → records ≡ group → Works old
+    → FetchLeaves away records old (Err cause) new → Refuses away group old cause new
+fetch_refuses_as away group records old new cause same works h =
+    fetch_refuses away group old new cause works (subst (λ (rs : List Record). FetchLeaves away rs old (Err cause) new) same h)
 
 -- all of the first ones are all
 pub all_taken : (P : Record → Type 0) (rs : List Record) (n : ℕ) → length rs ≤ n → All P (take n rs) → All P rs
@@ -85,6 +94,15 @@ one_unread A away group at item old new Spent one gone read h = (
 )
 one_unread A away group at item old new NoPage one gone read h = absurd h
 one_unread A away group at item old new NothingOld one gone read h = absurd h
+
+-- the same where the page was found by the record's key
+pub key_unread : (A : Type 0) (away : ℕ → Bool) (group : List Record) (at : ℕ) (item : Record) (key : List ℕ) (old new : Kept) (cause : StoreFault)
+    → key ≡ key_of item → slice_get group at ≡ Some item → away (home key old.filed.leaves).page ≡ true → HasRead old new
+    → ReadLeaves {A = A} (HoldsPage old.log (home key old.filed.leaves).page) old (Err cause) new → FetchLeaves away group old (Err cause) new
+key_unread A away group at item key old new cause same one gone read h =
+    subst (λ (k : List ℕ). away (home k old.filed.leaves).page ≡ true
+    → ReadLeaves {A = A} (HoldsPage old.log (home k old.filed.leaves).page) old (Err cause) new → FetchLeaves away group old (Err cause) new)
+    (sym same) (λ gone h. one_unread A away group at item old new cause one gone read h) gone h
 
 -- the same behind pages that could be read
 pub later_unread : (A : Type 0) (away : ℕ → Bool) (group : List Record) (at : ℕ) (item : Record) (old middle new : Kept) (cause : StoreFault) → middle ≡ old

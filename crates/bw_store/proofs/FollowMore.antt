@@ -1,6 +1,7 @@
 -- Each step follows, and so do several.
 
-use Rattle.std.proofs.Common.{◌≡◌, ℕ, zero, suc, ◌+◌, ◌≤◌, ◌<◌, inl, inr, Bool, true, false, Result, Ok, Err, Option, Some, None, List, [], ◌∷◌, ◌++◌, length, drop, refl, sym, ap}
+use Rattle.std.proofs.Common.{◌≡◌, ℕ, zero, suc, ◌+◌, ◌≤◌, ◌<◌, inl, inr, Bool, true, false, Result, Ok, Err, Option, Some, None, List, [], ◌∷◌, ◌++◌}
+use Rattle.std.proofs.Common.{length, drop, refl, sym, ap}
 use Rattle.std.proofs.Common.{◌∙◌, subst}
 use Rattle.std.proofs.Common.{append_assoc, append-nil, arith, length-append}
 use Rattle.std.specs.Prelude.{nat_le}
@@ -404,7 +405,8 @@ pub refused_then : {n k : ℕ} (lanes : List Lane) (away : ℕ → Bool) (a b c 
 refused_then lanes away a b c cause x r =
     record { middle = r.middle; took = in_turn_then a b r.middle x r.took; lane = r.lane; refuses = r.refuses }
 
-pub refused_turned : {n : ℕ} (lanes : List Lane) (away : ℕ → Bool) (old new : Kept) (cause : StoreFault) → RefusedAfter n old lanes away cause new → Turned n old new
+pub refused_turned : {n : ℕ} (lanes : List Lane) (away : ℕ → Bool) (old new : Kept) (cause : StoreFault) → RefusedAfter n old lanes away cause new
+    → Turned n old new
 refused_turned {n} lanes away old new cause r =
     (let all : Turned (n + 0) old new =
     follows_then old r.middle new r.took.turned (follows_refused away r.refuses.group r.middle new cause r.refuses.refuses)

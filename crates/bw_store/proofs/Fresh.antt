@@ -75,7 +75,12 @@ opened_by rings m f spares versions unseen sound = record {
   beyond = inl refl;
   shares = tt;
   tells = inl (refl, refl, (refl, tells_none m (empty_leaf ∷ [])));
-  shown = record { start = refl; begins = unseen_begins versions [] unseen; ends = unseen_ends (opened rings m f spares (record versions { start = one_empty m })) versions.entered unseen };
+  shown = record {
+    start = refl;
+    begins = unseen_begins versions [] unseen;
+    ends = unseen_ends
+        (opened rings m f spares (record versions { start = one_empty m })) versions.entered unseen;
+  };
   edged = inl refl;
   begun = tt;
   left = λ failed. absurd cc;
@@ -108,7 +113,8 @@ pub taken_at : {X : Type 0} (config : Config) (view : X → Holding) (shown item
 taken_at {X} config view shown items taken same = subst (λ (xs : List X). AreTaken config (map view xs)) same taken
 
 -- a store of the parts that `open` makes is an opened one
-pub started_sound : {k : Kept} {readers : ℕ} (rings : List Ring) (entries : List Entry) (filed : Shown) (newest : List Place) (making : Filling) (log : logs.Contents)
+pub started_sound : {k : Kept} {readers : ℕ} (rings : List Ring) (entries : List Entry) (filed : Shown) (newest : List Place) (making : Filling)
+    (log : logs.Contents)
     (versions : Versioned) (m f : ℕ) (spares : List Holding)
     → k ≡ started rings entries filed newest making log versions → entries ≡ [] → filed ≡ one_empty m
     → newest ≡ first_place ∷ [] → making ≡ first_making f → log ≡ fresh m f spares → logs.IsSound log → AreUnseen (one_empty m) readers versions → IsSound k

@@ -53,9 +53,11 @@ row_made : (p : ℕ) (here last : Place) (k : ℕ) (o : Option Leaf) → is_some
 row_made p here last k None = refl
 row_made p here last k (Some u) = refl
 
-row_count : (p n : ℕ) (here last : Place) (k m page : ℕ) (leaf : Leaf) → count_by (row_by p here last k (upper_if m page leaf)).made n ≡ (if nat_le (length leaf.pairs) m then n else n + 1)
+row_count : (p n : ℕ) (here last : Place) (k m page : ℕ) (leaf : Leaf)
+    → count_by (row_by p here last k (upper_if m page leaf)).made n ≡ (if nat_le (length leaf.pairs) m then n else n + 1)
 row_count p n here last k m page leaf =
-    elim (nat_le (length leaf.pairs) m) as (λ b. count_by (row_by p here last k (if b then None else Some (upper_of m page leaf))).made n ≡ (if b then n else n + 1))
+    elim (nat_le (length leaf.pairs) m) as (λ b. count_by (row_by p here last k (if b then None else Some (upper_of m page leaf))).made n ≡
+    (if b then n else n + 1))
     [ true ↦ refl | false ↦ refl ]
 
 pub row_set : (m : ℕ) (d : Drawn) (r : Record) → set_row d.newest (row_for m d r) ≡ (drawn_by m d r).newest
@@ -97,8 +99,10 @@ rows_in m d [] l = tt
 rows_in m d (r ∷ rs) l =
     let p0 = directed_at d.leaves r in
     let range = home_within m (key_of r) d.leaves l.leaves in
-    let page = row_page p0 (here_for d.frame p0) (last_for d.frame p0) (grown (open_records p0 d.frame.blocks) 1) (upper_if m (length d.leaves + 1) (result_of d.leaves r)) in
-    let count = row_count p0 (length d.leaves) (here_for d.frame p0) (last_for d.frame p0) (grown (open_records p0 d.frame.blocks) 1) m (length d.leaves + 1) (result_of d.leaves r)
+    let page = row_page p0 (here_for d.frame p0) (last_for d.frame p0) (grown (open_records p0 d.frame.blocks) 1)
+    (upper_if m (length d.leaves + 1) (result_of d.leaves r)) in
+    let count = row_count p0 (length d.leaves) (here_for d.frame p0) (last_for d.frame p0) (grown (open_records p0 d.frame.blocks) 1) m
+    (length d.leaves + 1) (result_of d.leaves r)
     ∙ sym (length-applied m d.leaves r l.some l.leaves l.ops.0) in (
       (omega arith, omega arith),
       subst (λ (n : ℕ). AreIn n (rows_all m (drawn_by m d r) rs)) (sym count) (rows_in m (drawn_by m d r) rs (lawful_next m d r rs l)),
@@ -126,7 +130,8 @@ rows_tails m d (r ∷ rs) l =
     let row = row_for m d r in
     let page : row.page ≡ p0 = row_page p0 (here_for d.frame p0) (last_for d.frame p0) (grown (open_records p0 d.frame.blocks) 1) upper in
     let made : is_some row.made ≡ nat_lt 1 (length (blocks_in m d r)) =
-    row_made p0 (here_for d.frame p0) (last_for d.frame p0) (grown (open_records p0 d.frame.blocks) 1) upper ∙ cuts_are m d.leaves (back_in d r) (here_for d.frame p0) r in
+    row_made p0 (here_for d.frame p0) (last_for d.frame p0) (grown (open_records p0 d.frame.blocks) 1) upper
+    ∙ cuts_are m d.leaves (back_in d r) (here_for d.frame p0) r in
     let was = tails_for (length d.leaves) d.frame.blocks in
     let step : tails_after row.page r (is_some row.made) was ≡ tails_for (length (applied m d.leaves r)) (added d.frame.blocks (blocks_in m d r)) =
     ap (λ (p : ℕ). tails_after p r (is_some row.made) was) page
@@ -135,7 +140,8 @@ rows_tails m d (r ∷ rs) l =
     ∙ rows_tails m (drawn_by m d r) rs (lawful_next m d r rs l)
 
 -- a page that is evicted is not made by it
-pub rows_evicted : (m : ℕ) (d : Drawn) (rs : List Record) (evicted : List ℕ) (q : ℕ) → Lawful m d rs → AreHere (record { m = m; leaves = d.leaves; evicted = evicted }) rs
+pub rows_evicted : (m : ℕ) (d : Drawn) (rs : List Record) (evicted : List ℕ) (q : ℕ) → Lawful m d rs
+    → AreHere (record { m = m; leaves = d.leaves; evicted = evicted }) rs
     → ((p : ℕ) → length d.leaves < p → is_among p evicted ≡ false) → is_among q evicted ≡ true → is_made q d.frame.blocks ≡ false
     → is_made q (fold (drawn_by m) d rs).frame.blocks ≡ false
 rows_evicted m d [] evicted q l here beyond there apart = apart

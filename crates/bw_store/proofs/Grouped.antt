@@ -1,6 +1,7 @@
 -- A group is entered whole.
 
-use Rattle.std.proofs.Common.{◌≡◌, ℕ, zero, suc, ◌+◌, ◌≤◌, Bool, true, false, List, [], ◌∷◌, ◌++◌, length, take, replicate, refl, sym, ap, ◌∙◌, arith, append-nil, if◌then◌else◌, append_assoc}
+use Rattle.std.proofs.Common.{◌≡◌, ℕ, zero, suc, ◌+◌, ◌≤◌, Bool, true, false, List, [], ◌∷◌, ◌++◌, length, take, replicate, refl, sym, ap, ◌∙◌, arith}
+use Rattle.std.proofs.Common.{append-nil, if◌then◌else◌, append_assoc}
 use Rattle.std.specs.Prelude.{◌==◌, ◌&&◌, not}
 use Rattle.std.specs.List.{AllByRecursion as All}
 use Rattle.std.proofs.Math.Seq.{take-length}
@@ -43,7 +44,8 @@ entered_grouped before after w g was more = ap is_grouped more ∙ grouped_more 
 -- ---- cuts
 
 -- a cut where the history ends stands behind a whole group
-pub whole_cut : (cuts : List ℕ) (es : List Entry) (end : ℕ) → are_whole cuts es ≡ true → is_grouped es ≡ true → end ≡ length es → are_whole (cuts ++ end ∷ []) es ≡ true
+pub whole_cut : (cuts : List ℕ) (es : List Entry) (end : ℕ) → are_whole cuts es ≡ true → is_grouped es ≡ true → end ≡ length es
+    → are_whole (cuts ++ end ∷ []) es ≡ true
 whole_cut [] es end h g is = both (is_grouped (take end es)) true (ap (λ n. is_grouped (take n es)) is ∙ ap is_grouped (take-length es) ∙ g) refl
 whole_cut (c ∷ cs) es end h g is = keep (is_grouped (take c es)) (are_whole cs es) (are_whole (cs ++ end ∷ []) es) h (λ k. whole_cut cs es end k g is)
 

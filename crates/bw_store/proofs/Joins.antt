@@ -19,7 +19,8 @@ use Rattle.bw_codec.specs.declared.block.Frame.{Frame}
 use Rattle.bw_page.specs.Leaves.{changed, all_changed}
 use Rattle.bw_page.specs.Standing.{after, content, blocks_of}
 use Rattle.bw_page.proofs.OneStanding.{untouched}
-use Rattle.bw_buffer.specs.Joining.{is_delta, open_after, open_from, last_delta, open_records, records_after, records_in, takes, joins, joins_of, joined_by, joined, added}
+use Rattle.bw_buffer.specs.Joining.{is_delta, open_after, open_from, last_delta, open_records, records_after, records_in, takes, joins, joins_of}
+use Rattle.bw_buffer.specs.Joining.{joined_by, joined, added}
 use Rattle.bw_buffer.proofs.Joined.{StandsOpen, Joinable, JoinsIn, found, joins_parts, joins_one, joins_none, added_fold, added_flat, added_any, added_touches}
 use Rattle.bw_buffer.proofs.Sizes.{pushed_size, joined_size}
 use Rattle.bw_log.proofs.Walks.{content_push}
@@ -33,7 +34,8 @@ all-append P (x ∷ xs) ys h k = (h.0, all-append P xs ys h.1 k)
 
 -- ---- content
 
-changed_twice : (old new : List Record) (w : Option Leaf) → option_map (all_changed (old ++ new)) w ≡ option_map (all_changed new) (option_map (all_changed old) w)
+changed_twice : (old new : List Record) (w : Option Leaf) → option_map (all_changed (old ++ new)) w ≡ option_map (all_changed new)
+    (option_map (all_changed old) w)
 changed_twice old new None = refl
 changed_twice old new (Some leaf) = ap Some (fold-append (λ l r. changed r l) leaf old new)
 
@@ -86,7 +88,8 @@ pub quiet_with : (p : ℕ) (fs : List Frame) (f : Frame) (bs : List Block) → A
     → All (λ b. touches p b ≡ false) bs → All (λ b. touches p b ≡ false) (blocks_of (fs ++ with_blocks f bs ∷ []))
 quiet_with p fs f bs old new =
     let was : (list_any (touches p) (blocks_of fs) || list_any (touches p) f.blocks) ≡ false =
-    sym (list_any-append (touches p) (blocks_of fs) f.blocks) ∙ ap (list_any (touches p)) (sym (blocks_push fs f)) ∙ none_touches p (blocks_of (fs ++ f ∷ [])) old in
+    sym (list_any-append (touches p) (blocks_of fs) f.blocks) ∙ ap (list_any (touches p)) (sym (blocks_push fs f))
+    ∙ none_touches p (blocks_of (fs ++ f ∷ [])) old in
     let parts = or_parts (list_any (touches p) (blocks_of fs)) (list_any (touches p) f.blocks) was in
     let last : list_any (touches p) (added f.blocks bs) ≡ false =
     added_touches p f.blocks bs ∙ list_any-append (touches p) f.blocks bs
@@ -142,7 +145,8 @@ open_suc p i was (b ∷ bs) =
     ap (λ (o : Option ℕ). open_from p (suc (suc i)) o bs)
     (elim (touches p b) as (λ t. (if t then (if is_delta b then Some (suc i) else None) else option_map suc was)
     ≡ option_map suc (if t then (if is_delta b then Some i else None) else was)) [
-      | true ↦ elim (is_delta b) as (λ t. ◌≡◌ {A = Option ℕ} (if t then Some (suc i) else None) (option_map suc (if t then Some i else None))) [ true ↦ refl | false ↦ refl ]
+      | true ↦ elim (is_delta b) as (λ t. ◌≡◌ {A = Option ℕ} (if t then Some (suc i) else None) (option_map suc (if t then Some i else None)))
+          [ true ↦ refl | false ↦ refl ]
       | false ↦ refl
     ])
     ∙ open_suc p (suc i) (open_after p i b was) bs
@@ -153,7 +157,8 @@ behind_none p leaf = elim (leaf.page == p) as (λ t. ◌≡◌ {A = Option ℕ} 
 joins_behind : (n p : ℕ) (leaf : Leaf) (bs : List Block) → joins_of n p (Base leaf ∷ bs) ≡ option_map suc (joins_of n p bs)
 joins_behind n p leaf bs =
     let last : last_delta p (Base leaf ∷ bs) ≡ option_map suc (last_delta p bs) =
-    ap (λ (o : Option ℕ). open_from p (suc 0) o bs) (elim (leaf.page == p) as (λ t. ◌≡◌ {A = Option ℕ} (if t then None else None) None) [ true ↦ refl | false ↦ refl ])
+    ap (λ (o : Option ℕ). open_from p (suc 0) o bs) (elim (leaf.page == p) as (λ t. ◌≡◌ {A = Option ℕ} (if t then None else None) None)
+    [ true ↦ refl | false ↦ refl ])
     ∙ open_suc p 0 None bs in
     ap (λ (o : Option ℕ). if takes n (fold (records_after p) o bs) then last_delta p (Base leaf ∷ bs) else None) (behind_none p leaf)
     ∙ ap (λ (o : Option ℕ). if takes n (open_records p bs) then o else None) last
@@ -163,7 +168,8 @@ joins_behind n p leaf bs =
 joined_behind : (leaf : Leaf) (bs : List Block) (b : Block) → joined (Base leaf ∷ bs) b ≡ Base leaf ∷ joined bs b
 joined_behind leaf bs (Delta p back ops) =
     ap (λ (o : Option ℕ). joined_by o ops (Delta p back ops) (Base leaf ∷ bs)) (joins_behind (length ops) p leaf bs)
-    ∙ elim (joins_of (length ops) p bs) as (λ o. joined_by (option_map suc o) ops (Delta p back ops) (Base leaf ∷ bs) ≡ Base leaf ∷ joined_by o ops (Delta p back ops) bs) [
+    ∙ elim (joins_of (length ops) p bs) as (λ o. joined_by (option_map suc o) ops (Delta p back ops) (Base leaf ∷ bs) ≡ Base leaf ∷ joined_by o ops
+    (Delta p back ops) bs) [
       | None ↦ refl
       | Some i ↦ refl
     ]

@@ -38,7 +38,8 @@ of_entered w i (m ∷ ms) = ap (λ (l : List Marked). if i == w then m ∷ l els
 
 of_push : (w i : ℕ) (es : List Entry) (ms : List Marked) → of_writer w (es ++ entered i ms) ≡ of_writer w es ++ (if i == w then ms else [])
 of_push w i [] ms = of_entered w i ms
-of_push w i (x ∷ es) ms = if_more (x.writer == w) (record { item = x.item; more = x.more }) (of_writer w es) (of_writer w (es ++ entered i ms)) (if i == w then ms else []) (of_push w i es ms)
+of_push w i (x ∷ es) ms = if_more (x.writer == w) (record { item = x.item; more = x.more }) (of_writer w es) (of_writer w (es ++ entered i ms))
+    (if i == w then ms else []) (of_push w i es ms)
 
 of_more : (w i : ℕ) (es : List Entry) (ms : List Marked) → i ≡ w → of_writer w (es ++ entered i ms) ≡ of_writer w es ++ ms
 of_more w i es ms is = of_push w i es ms ∙ ap (λ (b : Bool). of_writer w es ++ (if b then ms else [])) (eq-eqb i w is)
@@ -112,13 +113,15 @@ field_at f [] i d lt is = absurd (omega arith)
 field_at f (y ∷ ys) zero d lt is = ap f (sym is)
 field_at f (y ∷ ys) (suc i) d lt is = field_at f ys i d (omega arith) is
 
-pub known_after : (xs : List Lane) (i : ℕ) (x d : Lane) (r : List Record) → i < length xs → d ≡ get_or xs i d → known d ≡ r ∷ known x → TookKnown i xs (set xs i x)
+pub known_after : (xs : List Lane) (i : ℕ) (x d : Lane) (r : List Record) → i < length xs → d ≡ get_or xs i d → known d ≡ r ∷ known x
+    → TookKnown i xs (set xs i x)
 known_after xs i x d r lt is first =
     map_set known xs i x
     ∙ ap (λ (ks : List (List Record)). set (map known xs) i ks) (sym (ap (drop 1) (field_at known xs i d lt is ∙ first)))
 
 -- the history's streams are what the lanes gave, after one group more
-pub entered_streams : (old new : List Lane) (before after : List Entry) (i : ℕ) (g : List Record) → i < length old → streams 0 (length old) before ≡ map taken old
+pub entered_streams : (old new : List Lane) (before after : List Entry) (i : ℕ) (g : List Record) → i < length old
+    → streams 0 (length old) before ≡ map taken old
     → length new ≡ length old → TookAt i g (map taken old) (map taken new) → after ≡ before ++ entered i (marked g)
     → streams 0 (length new) after ≡ map taken new
 entered_streams old new before after i g lt was count took more =
@@ -188,7 +191,8 @@ took_fewer at old new took some =
 pub given_all : (xs : List Lane) → ((i : ℕ) → i < length xs → known_at xs i ≡ []) → map taken xs ≡ map given xs
 given_all [] dry = refl
 given_all (x ∷ xs) dry =
-    ap (λ (ks : List Marked). ks ∷ map taken xs) (sym (append-nil (taken x)) ∙ ap (λ (ks : List (List Record)). taken x ++ joined ks) (sym (dry zero (omega arith))))
+    ap (λ (ks : List Marked). ks ∷ map taken xs) (sym (append-nil (taken x))
+    ∙ ap (λ (ks : List (List Record)). taken x ++ joined ks) (sym (dry zero (omega arith))))
     ∙ ap (λ (l : List (List Marked)). given x ∷ l) (given_all xs (λ i lt. dry (suc i) (omega arith)))
 
 -- one lane more that knows of none
@@ -392,7 +396,8 @@ durable_and_waiting w n es end waiting lt is =
 no_writer : (w n : ℕ) (es : List Entry) → n ≤ w → All (λ e. e.writer < n) es → of_writer w es ≡ []
 no_writer w n [] le h = refl
 no_writer w n (e ∷ es) le h =
-    ap (λ (b : Bool). if b then record { item = e.item; more = e.more } ∷ of_writer w es else of_writer w es) (ne_eqb e.writer w (λ same. let low = h.0 in absurd (omega arith)))
+    ap (λ (b : Bool). if b then record { item = e.item; more = e.more } ∷ of_writer w es else of_writer w es)
+    (ne_eqb e.writer w (λ same. let low = h.0 in absurd (omega arith)))
     ∙ no_writer w n es le h.1
 
 -- a number that no writer has stands in no entry

@@ -1,6 +1,7 @@
 -- The records of a group are planned one by one.
 
-use Rattle.std.proofs.Common.{◌≡◌, ℕ, zero, suc, ◌+◌, ◌^◌, ◌<◌, ◌≤◌, Bool, true, false, Option, None, List, [], ◌∷◌, ◌++◌, length, take, drop, get_or, refl, sym, ap, ◌∙◌, subst, arith, append_assoc, take-append-drop}
+use Rattle.std.proofs.Common.{◌≡◌, ℕ, zero, suc, ◌+◌, ◌^◌, ◌<◌, ◌≤◌, Bool, true, false, Option, None, List, [], ◌∷◌, ◌++◌, length, take, drop, get_or}
+use Rattle.std.proofs.Common.{refl, sym, ap, ◌∙◌, subst, arith, append_assoc, take-append-drop}
 use Rattle.std.specs.Prelude.{IsTrue, ◌↔◌}
 use Rattle.std.specs.List.{AllByRecursion as All, fold}
 use Rattle.std.proofs.lemmas.List.{take_more}
@@ -87,7 +88,8 @@ draft_room s rs n d slice b a same tests sure =
 pub draft_full : (s : Kept) (rs : List Record) (n : ℕ) (d : Draft) (slice : List Block) (b : Bool) → IsAhead s (take n rs) d → slice ≡ d.blocks.items
     → IsTrue b ↔ (size_of (with_all s.making slice) ≤ s.making.limit) → b ≡ false → Fits s rs → ⊥
 draft_full s rs n d slice b a same tests full fits =
-    let there : b ≡ true = tests.1 (subst (λ (bs : List Block). size_of (with_all s.making bs) ≤ s.making.limit) (sym (same ∙ a.blocks)) (part_fits s rs n fits)) in
+    let there : b ≡ true = tests.1 (subst (λ (bs : List Block). size_of (with_all s.making bs) ≤ s.making.limit) (sym (same ∙ a.blocks))
+    (part_fits s rs n fits)) in
     cc
 
 -- all of the group is planned
@@ -123,7 +125,8 @@ ahead_none s d blocks rows count = record {
 
 module _ (s : Kept) (lane : ℕ) (evicted : List ℕ) (rs : List Record) (at : ℕ) (item : Record) (inside : at < length rs) (is : item ≡ get_or rs at item)
     (t : Stands s lane (take at rs)) (old : Draft) (a : IsAhead s (take at rs) old) (ops : All IsOp rs) (room : HasPages s.filed.m s.filed.leaves rs)
-    (steps : List Step) (all : steps ≡ steps_of (record { m = s.filed.m; leaves = s.filed.leaves; evicted = evicted }) rs) (step : Step) (same : step ≡ get_or steps at step) where
+    (steps : List Step) (all : steps ≡ steps_of (record { m = s.filed.m; leaves = s.filed.leaves; evicted = evicted }) rs) (step : Step)
+    (same : step ≡ get_or steps at step) where
   abbrev done : List Record
   done = take at rs
 
@@ -142,7 +145,8 @@ module _ (s : Kept) (lane : ℕ) (evicted : List ℕ) (rs : List Record) (at : �
   pub lay_few : old.count + 2 < 2 ^ 32
   lay_few = few_before s lane done t old old a item step.page step.upper op_now room_now (ap (λ (x : Step). x.page) this) (ap (λ (x : Step). x.upper) this)
 
-  pub lay_ahead : (new : Draft) (upper : Option Leaf) → upper ≡ step.upper → Added old s.making s.newest item step.page upper new → IsAhead s (take (at + 1) rs) new
+  pub lay_ahead : (new : Draft) (upper : Option Leaf) → upper ≡ step.upper → Added old s.making s.newest item step.page upper new
+      → IsAhead s (take (at + 1) rs) new
   lay_ahead new upper copied x =
       subst (λ (xs : List Record). IsAhead s xs new) (sym (next_take s evicted rs at item inside is))
       (ahead_next s lane done t old new a item step.page upper op_now room_now (ap (λ (y : Step). y.page) this) (copied ∙ ap (λ (y : Step). y.upper) this) x)

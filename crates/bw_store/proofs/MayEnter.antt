@@ -151,7 +151,8 @@ module _ (making now : Filling) (page : ℕ) (blocks : List Block) (one : AreOne
   of_first place (b ∷ c ∷ d ∷ bs) h is = absurd h
 
   -- the place that is answered is that of the Delta
-  pub first_here : (place : Place) → IfSome (slice_get blocks 0) (λ b. place ≡ place_at making (index_for making.blocks b)) → place ≡ here_for (frame_of making) page
+  pub first_here : (place : Place) → IfSome (slice_get blocks 0) (λ b. place ≡ place_at making (index_for making.blocks b))
+      → place ≡ here_for (frame_of making) page
   first_here place is = of_first place blocks one is
 
   two : (b c : Block) → IsDeltaOf page b → IsSplit c
@@ -214,7 +215,8 @@ noted_is m leaves back here last r newest =
 pub entered : {s : Kept} {back : Place} {blocks : List Block} (m : Marked) → Enters s m.item back blocks → (IsSpent (shown_of s.filed) m.item → ⊥)
     → (writer page : ℕ) (entries : List Entry) (filed : Filed) (newest : List Place) (making : Filling)
     → page ≡ directed_at s.filed.leaves m.item
-    → (es : List Entry) → entries ≡ es ++ record { writer = writer; more = m.more; item = m.item } ∷ [] → es ≡ s.entries → filed ≡ record s.filed { leaves = applied s.filed.m s.filed.leaves m.item }
+    → (es : List Entry) → entries ≡ es ++ record { writer = writer; more = m.more; item = m.item } ∷ [] → es ≡ s.entries
+    → filed ≡ record s.filed { leaves = applied s.filed.m s.filed.leaves m.item }
     → (ps : List Place) → newest ≡ noted ps page (here_for (frame_of s.making) page) (last_for (frame_of s.making) page) (length blocks) → ps ≡ s.newest
     → making ≡ with_all s.making blocks
     → (rings rs : List Ring) → rings ≡ rs → rs ≡ s.rings
@@ -229,7 +231,12 @@ entered {s} {back} {blocks} m e not writer page entries filed newest making at e
     ap (λ (l : List Ring). record s { rings = l; entries = entries; filed = filed; newest = newest; making = making }) (e5 ∙ e5') ∙
     ap (λ (es : List Entry). record s { entries = es; filed = filed; newest = newest; making = making })
     (e1 ∙ ap (λ (l : List Entry). l ++ record { writer = writer; more = m.more; item = m.item } ∷ []) e1')
-    ∙ ap (λ (f : Filed). record s { entries = s.entries ++ record { writer = writer; more = m.more; item = m.item } ∷ []; filed = f; newest = newest; making = making }) e2
+    ∙ ap (λ (f : Filed). record s {
+      entries = s.entries ++ record { writer = writer; more = m.more; item = m.item } ∷ [];
+      filed = f;
+      newest = newest;
+      making = making;
+    }) e2
     ∙ ap (λ (ps : List Place). record s {
       entries = s.entries ++ record { writer = writer; more = m.more; item = m.item } ∷ [];
       filed = record s.filed { leaves = applied s.filed.m s.filed.leaves m.item };
@@ -243,7 +250,8 @@ entered {s} {back} {blocks} m e not writer page entries filed newest making at e
       making = b;
     }) made
 
-pub entered_sound : {s : Kept} {back : Place} {blocks : List Block} (m : Marked) → Enters s m.item back blocks → (IsSpent (shown_of s.filed) m.item → ⊥) → (writer : ℕ)
+pub entered_sound : {s : Kept} {back : Place} {blocks : List Block} (m : Marked) → Enters s m.item back blocks
+    → (IsSpent (shown_of s.filed) m.item → ⊥) → (writer : ℕ)
     → writer < length s.rings → IsSound (taken s writer m back)
 entered_sound {s} {back} {blocks} m e not writer inside = taken_sound s writer m back (takes_one s writer m.item back blocks e not inside)
 

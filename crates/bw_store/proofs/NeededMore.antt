@@ -1,6 +1,7 @@
 -- What is needed of a segment, page by page.
 
-use Rattle.std.proofs.Common.{◌≡◌, ℕ, zero, suc, ◌+◌, ◌<◌, ◌≤◌, ◌∙◌, Bool, true, false, if◌then◌else◌, Option, Some, None, List, [], ◌∷◌, length, take, refl, sym, ap, arith}
+use Rattle.std.proofs.Common.{◌≡◌, ℕ, zero, suc, ◌+◌, ◌<◌, ◌≤◌, ◌∙◌, Bool, true, false, if◌then◌else◌, Option, Some, None, List, [], ◌∷◌, length}
+use Rattle.std.proofs.Common.{take, refl, sym, ap, arith}
 use Rattle.std.specs.Prelude.{IfSome, MatchOption}
 use Rattle.std.specs.List.{slice_get}
 use Rattle.bw_codec.specs.Grammar.{block_bytes}
@@ -30,7 +31,8 @@ pub needed_next : (after last : ℕ) (frames : List Frame) (ls : List Leaf) (n k
     → IfSome (slice_get ls n) (λ l. k ≡ needed_by after last frames l)
     → needed_of after last frames (take (suc n) ls) ≡ needed_of after last frames (take n ls) + k
 needed_next after last frames [] n k lt h = absurd (omega arith)
-needed_next after last frames (l ∷ ls) zero k lt h = ap (λ j. j + needed_of after last frames (take 0 ls)) (sym h) ∙ (let none = needed_none after last frames ls in omega arith)
+needed_next after last frames (l ∷ ls) zero k lt h = ap (λ j. j + needed_of after last frames (take 0 ls)) (sym h)
+    ∙ (let none = needed_none after last frames ls in omega arith)
 needed_next after last frames (l ∷ ls) (suc n) k lt h =
     (let rest = needed_next after last frames ls n k (omega arith) h in omega arith)
 

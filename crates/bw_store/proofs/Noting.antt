@@ -8,7 +8,8 @@ use Rattle.bw_store.specs.Kept.{Kept, IsSound}
 use Rattle.bw_store.specs.Moving.{HasNoted, MayMove, MayNote}
 use Rattle.bw_store.specs.Views.{kept_by}
 use Rattle.bw_store.specs.declared.store.Store.{Store}
-use Rattle.bw_store.proofs.CleanedMore.{Begins, Cleans, Notes, Wrote, done_sound, few_newest, has_given, has_moved, has_stopped, note_after, note_few, note_room, note_some, notes_of, refused_sound, there}
+use Rattle.bw_store.proofs.CleanedMore.{Begins, Cleans, Notes, Wrote, done_sound, few_newest, has_given, has_moved, has_stopped, note_after, note_few}
+use Rattle.bw_store.proofs.CleanedMore.{note_room, note_some, notes_of, refused_sound, there}
 
 pub begins : {I : Type 0} {H : I → Type 0} {s : Store I H} {v : (i : I) × H i → Holding} → MayMove s v → Begins (kept_by s v)
 begins ready = record { sound = ready.sound; done = ready.settled; empty = ready.empty; works = ready.works }

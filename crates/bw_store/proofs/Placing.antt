@@ -15,7 +15,8 @@ use Rattle.bw_codec.specs.declared.block.Block.TheVariants.{Delta, Base, Split}
 use Rattle.bw_codec.specs.declared.block.Frame.{Frame}
 use Rattle.bw_buffer.specs.Joining.{joins, with_ops, ops_added, joined_by}
 use Rattle.bw_buffer.proofs.Joined.{StandsOpen, found, joins_parts}
-use Rattle.bw_log.specs.Places.{placed, all_placed, later, last_place, place_of, is_place, is_back, fault_at, fault_of, or_else, bad_link, first_number, AreLinked}
+use Rattle.bw_log.specs.Places.{placed, all_placed, later, last_place, place_of, is_place, is_back, fault_at, fault_of, or_else, bad_link}
+use Rattle.bw_log.specs.Places.{first_number, AreLinked}
 use Rattle.bw_log.proofs.Links.{bad_link-append}
 use Rattle.bw_store.specs.Adding.{with_blocks, end_of, count_after, here_for, last_for}
 
@@ -220,7 +221,8 @@ module _ (fs : List Frame) (f : Frame) (p : ℕ) (back : Place) (r : Record) whe
         | Some i ↦ linked_more fs f i ops old
       ]
 
-  pub delta_place : (q : ℕ) → place_of q (fs ++ with_blocks f (Delta p back ops ∷ []) ∷ []) ≡ (if p == q then Some (here_for f p) else place_of q (fs ++ f ∷ []))
+  pub delta_place : (q : ℕ) → place_of q (fs ++ with_blocks f (Delta p back ops ∷ []) ∷ []) ≡
+      (if p == q then Some (here_for f p) else place_of q (fs ++ f ∷ []))
   delta_place q =
       let at : ℕ → Place = λ n. record { frame = f.number; index = n } in
       elim (joins p f.blocks) as (λ o. joins p f.blocks ≡ o → place_of q (fs ++ record f { blocks = joined_by o ops (Delta p back ops) f.blocks } ∷ [])

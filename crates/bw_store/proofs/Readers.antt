@@ -1,6 +1,8 @@
 -- What readers have is a beginning of what is durable, step by step.
 
-use Rattle.std.proofs.Common.{◌≡◌, ℕ, zero, suc, ◌+◌, ◌-◌, ◌≤◌, Some, Result, Ok, Err, IsOk, OnOk, OnErr, MatchResult, List, [], ◌∷◌, ◌++◌, length, length-append, length-take, length-take-le, take, drop, refl, sym, ap, ◌∙◌, ◌⊎◌, inl, inr, append-nil, append_assoc, subst, arith}
+use Rattle.std.proofs.Common.{◌≡◌, ℕ, zero, suc, ◌+◌, ◌-◌, ◌≤◌, Some, Result, Ok, Err, IsOk, OnOk, OnErr, MatchResult, List, [], ◌∷◌, ◌++◌, length}
+use Rattle.std.proofs.Common.{length-append, length-take, length-take-le, take, drop, refl, sym, ap, ◌∙◌, ◌⊎◌, inl, inr, append-nil, append_assoc}
+use Rattle.std.proofs.Common.{subst, arith}
 use Rattle.std.specs.declared.alloc.AllocError.{AllocError}
 use mathlib.Core.List.{IsPrefix}
 use Rattle.bw_codec.specs.declared.leaf.Leaf.{Leaf}

@@ -202,7 +202,8 @@ pub flush_refuses : (away : ℕ → Bool) (group : List Record) (old new : Kept)
 flush_refuses away group old new NoMemory full a left = (other_cause old.log.is_failed _ NoMemory (λ e. cc) a, inl left)
 flush_refuses away group old new BadConfig full a left = absurd (is_cause false old BadConfig (λ x. x) a)
 flush_refuses away group old new NoSegment full a left = (left, full, same_answer (flush_refusal old) NoSegment (λ x. x) a)
-flush_refuses away group old new (Device lease) full a left = (other_cause old.log.is_failed _ (Device lease) (λ e. cc) a, inl (full, none_at old lease a, left))
+flush_refuses away group old new (Device lease) full a left =
+    (other_cause old.log.is_failed _ (Device lease) (λ e. cc) a, inl (full, none_at old lease a, left))
 flush_refuses away group old new Failed full a left = (left, is_cause false old Failed (λ x. x) a)
 flush_refuses away group old new Spent full a left = (
   other_cause old.log.is_failed _ Spent (λ e. cc) a,

@@ -1,6 +1,7 @@
 -- Row after row of a group is noted.
 
-use Rattle.std.proofs.Common.{◌≡◌, ℕ, Bool, map, length-set, length-append, zero, suc, ◌+◌, ◌-◌, ◌<◌, ◌≤◌, Option, Some, None, List, [], ◌∷◌, ◌++◌, length, set, take, drop, get_or, refl, sym, ap, ◌∙◌, subst, arith}
+use Rattle.std.proofs.Common.{◌≡◌, ℕ, Bool, map, length-set, length-append, zero, suc, ◌+◌, ◌-◌, ◌<◌, ◌≤◌, Option, Some, None, List, [], ◌∷◌, ◌++◌}
+use Rattle.std.proofs.Common.{length, set, take, drop, get_or, refl, sym, ap, ◌∙◌, subst, arith}
 use Rattle.std.specs.Prelude.{is_some, IfSome}
 use Rattle.std.specs.List.{AllByRecursion as All, fold, slice_index_or}
 use Rattle.std.proofs.lemmas.List.{take_more, drop_more, length-map}
@@ -35,7 +36,8 @@ pub all_by : {X : Type 0} (P Q : X → Type 0) (xs : List X) → ((x : X) → P 
 all_by P Q [] f h = tt
 all_by P Q (x ∷ xs) f h = (f x h.0, all_by P Q xs f h.1)
 
-pub all_push : {X : Type 0} (P : X → Type 0) (xs : List X) (i : ℕ) (x : X) → i < length xs → x ≡ get_or xs i x → All P (take i xs) → P x → All P (take (i + 1) xs)
+pub all_push : {X : Type 0} (P : X → Type 0) (xs : List X) (i : ℕ) (x : X) → i < length xs → x ≡ get_or xs i x → All P (take i xs) → P x
+    → All P (take (i + 1) xs)
 all_push P xs i x lt is h k =
     subst (All P) (sym (take_more xs i x lt)) (all-append P (take i xs) (get_or xs i x ∷ []) h (subst P is k, tt))
 
@@ -46,7 +48,8 @@ all_first P (x ∷ xs) (suc n) end h = (h.0, all_first P xs n (omega arith) h.1)
 
 -- what is left of the rows
 
-pub in_here : (n : ℕ) (rows : List Row) (i : ℕ) (row : Row) → i < length rows → row ≡ get_or rows i row → AreIn n (drop i rows) → (1 ≤ row.page) × (row.page ≤ n)
+pub in_here : (n : ℕ) (rows : List Row) (i : ℕ) (row : Row) → i < length rows → row ≡ get_or rows i row → AreIn n (drop i rows)
+    → (1 ≤ row.page) × (row.page ≤ n)
 in_here n rows i row lt is h = (subst (AreIn n) (drop_at rows i row lt is) h).0
 
 pub in_rest : (n : ℕ) (rows : List Row) (i : ℕ) (row : Row) → i < length rows → row ≡ get_or rows i row → AreIn n (drop i rows)
@@ -64,7 +67,8 @@ set_end rows n now end = ap (fold set_row now) (sym (drop_all rows n end))
 abbrev pub Told : Type 0
 Told = List (Option (List Record))
 
-pub tails_rest : (rows : List Row) (rs : List Record) (i : ℕ) (row : Row) (r : Record) (was now : Told) (cuts : Bool) → i < length rows → row ≡ get_or rows i row
+pub tails_rest : (rows : List Row) (rs : List Record) (i : ℕ) (row : Row) (r : Record) (was now : Told) (cuts : Bool) → i < length rows
+    → row ≡ get_or rows i row
     → i < length rs → r ≡ get_or rs i r → cuts ≡ is_some row.made → now ≡ tails_after row.page r cuts was
     → tails_all (drop (i + 1) rows) (drop (i + 1) rs) now ≡ tails_all (drop i rows) (drop i rs) was
 tails_rest rows rs i row r was now cuts lt is lt_r is_r made e =
@@ -97,7 +101,8 @@ tails_end rows rs n now end = ap (λ (l : List Row). tails_all l (drop n rs) now
 -- one more record of a page uses up at most one place
 pub rooms_less : (rows : List Row) (old new : List (Option Tailed)) (k : ℕ) → ((more at : ℕ) → HasRoomsAt (more + 1) old at → HasRoomsAt more new at)
     → All (λ row. HasRoomsAt (k + 1) old (row.page - 1)) rows → All (λ row. HasRoomsAt k new (row.page - 1)) rows
-rooms_less rows old new k step h = all_by (λ (row : Row). HasRoomsAt (k + 1) old (row.page - 1)) (λ (row : Row). HasRoomsAt k new (row.page - 1)) rows (λ row x. step k (row.page - 1) x) h
+rooms_less rows old new k step h = all_by (λ (row : Row). HasRoomsAt (k + 1) old (row.page - 1)) (λ (row : Row). HasRoomsAt k new (row.page - 1))
+    rows (λ row x. step k (row.page - 1) x) h
 
 -- ---- room at an index, where one tail changed
 
@@ -109,7 +114,8 @@ at_set P Q (t ∷ ts) zero was now is here others (suc at) h = others (get_or ts
 at_set P Q (t ∷ ts) (suc i) was now is here others zero h = others t h
 at_set P Q (t ∷ ts) (suc i) was now is here others (suc at) h = at_set P Q ts i was now is here others at h
 
-pub at_push : (P : Option Tailed → Type 0) (tails : List (Option Tailed)) → P None → (at : ℕ) → P (get_or tails at None) → P (get_or (tails ++ None ∷ []) at None)
+pub at_push : (P : Option Tailed → Type 0) (tails : List (Option Tailed)) → P None → (at : ℕ) → P (get_or tails at None)
+    → P (get_or (tails ++ None ∷ []) at None)
 at_push P [] none zero h = none
 at_push P [] none (suc at) h = none
 at_push P (t ∷ ts) none zero h = h

@@ -1,6 +1,7 @@
 -- What follows from a publication.
 
-use Rattle.std.proofs.Common.{◌≡◌, ℕ, Bool, false, inr, Option, Some, None, Result, Ok, Err, List, [], ◌++◌, length, take, take_all, refl, sym, ap, ◌∙◌, subst, arith, append-nil}
+use Rattle.std.proofs.Common.{◌≡◌, ℕ, Bool, false, inr, Option, Some, None, Result, Ok, Err, List, [], ◌++◌, length, take, take_all, refl, sym, ap}
+use Rattle.std.proofs.Common.{◌∙◌, subst, arith, append-nil}
 use Rattle.bw_log.specs.Contents.{roster}
 use Rattle.bw_versions.specs.Batches.{BatchData}
 use Rattle.bw_versions.specs.Versioned.{Versioned}

@@ -162,7 +162,8 @@ module _ (s : Kept) (h : IsSound s) (works : s.log.is_failed ≡ false) (n : ℕ
   holds : frames_upto (s.before + s.floor) cut_frames ≡ frames_upto (s.before + s.floor) counted
   holds =
       held_upto (s.before + s.floor) n s.log.live
-      (held_only (newest_number s.log ≡ s.edge.segment → s.edge.length ≤ n) (λ x. HoldsUpto (s.before + s.floor) x.bytes (take n x.bytes)) (last_of s.log.live) may)
+      (held_only (newest_number s.log ≡ s.edge.segment → s.edge.length ≤ n) (λ x. HoldsUpto (s.before + s.floor) x.bytes (take n x.bytes))
+      (last_of s.log.live) may)
       ∙ ap (frames_upto (s.before + s.floor)) all_counted
 
   abbrev first : ℕ

@@ -34,7 +34,8 @@ gave_up_old s upgraded new b x = record {
 pub upgraded_wrote : (s : Kept) (upgraded : Upgraded) (new : logs.Contents) → Begins s → logs.IsSound new → upgrades.IsUpgraded s.log upgraded new
     → StandsOn s new → Wrote s (length s.log.pages) new (λ fs. length fs ≡ upgraded.frames)
 upgraded_wrote s upgraded new b sound x stands =
-    given_wrote s (last_of_old s.log) (pages_of_old s.log) upgraded.frames (old_segments s.log) (count_in (old_segments s.log) x.then_log.live) (length s.log.pages)
+    given_wrote s (last_of_old s.log) (pages_of_old s.log) upgraded.frames (old_segments s.log) (count_in (old_segments s.log) x.then_log.live)
+    (length s.log.pages)
     x.then_log new b sound (few_upto s (last_of_old s.log)) x.moved (gave_up_old s upgraded new b x) stands
 
 -- an upgrade that is not refused at once

@@ -4,7 +4,8 @@ use Rattle.std.proofs.Common.{◌≡◌, ℕ, ◌≤◌, ◌<◌, true, false, i
 use Rattle.std.specs.Prelude.{is_some}
 use Rattle.bw_codec.specs.declared.leaf.Leaf.{Leaf}
 use Rattle.bw_log.specs.Reads.{HoldsPage}
-use Rattle.bw_page.specs.Ahead.{IsFirst, IsFirstPair, HasNoPair, HasCome, pair_above, HasNoLowAbove, IsNextLow, IsStretch, HasGone, ahead, pairs_above, with_some}
+use Rattle.bw_page.specs.Ahead.{IsFirst, IsFirstPair, HasNoPair, HasCome, pair_above, HasNoLowAbove, IsNextLow, IsStretch, HasGone, ahead}
+use Rattle.bw_page.specs.Ahead.{pairs_above, with_some}
 use Rattle.bw_page.specs.Leaves.{Bytes, Pairs, Map, home, leaf_at, plain, union}
 use Rattle.bw_page.specs.Shown.{Shown, is_evicted_page, leaf_here}
 use Rattle.bw_page.proofs.Ahead.{ahead_less, come_first, come_found, come_further, come_last}
@@ -36,7 +37,8 @@ here_at f p leaf e = elim (is_evicted_page p f) as (λ b. (if b then None else l
 
 module _ (s : Kept) (h : IsSound s) where
   -- the page of a key's home has its leaf
-  pub home_leaf : (key : Bytes) (p : ℕ) (leaf : Leaf) → p ≡ (home key s.filed.leaves).page → leaf_at p s.filed.leaves ≡ Some leaf → leaf ≡ home key s.filed.leaves
+  pub home_leaf : (key : Bytes) (p : ℕ) (leaf : Leaf) → p ≡ (home key s.filed.leaves).page → leaf_at p s.filed.leaves ≡ Some leaf
+      → leaf ≡ home key s.filed.leaves
   home_leaf key p leaf at there =
       let home_is : Some (home key s.filed.leaves) ≡ Some leaf =
       sym (home_there s.filed.m s.filed.leaves key h.grown.stands.lawful) ∙ ap (λ (q : ℕ). leaf_at q s.filed.leaves) (sym at) ∙ there in

@@ -125,7 +125,12 @@ impl Intake {
         ensures { IfOk result (λ v. v.items ≡ entered lane (marked group.now)) }
     {
         let _ = self.lanes.len();
-        pack(*self.counts.allocator(), lane as u16, group.as_slice(), rows)
+        pack(
+            *self.counts.allocator(),
+            lane as u16,
+            group.as_slice(),
+            rows,
+        )
     }
 
     /// The entry of a record of a lane that is a group of its own, on this page.

@@ -13,6 +13,7 @@ mod readme;
 mod scripts;
 mod steps;
 mod streams;
+mod telling;
 mod walking;
 
 use std::fs;

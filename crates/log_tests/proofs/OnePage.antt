@@ -1,6 +1,7 @@
 -- A log of one page takes one more frame, and stays one through each other call.
 
-use Rattle.std.proofs.Common.{◌≡◌, ℕ, ◌+◌, ◌^◌, ◌<◌, ◌≤◌, ◌==◌, ◌&&◌, drop, lit≤, lit<, Bool, true, false, Option, Some, None, Result, Ok, Err, MatchOption, eq-eqb}
+use Rattle.std.proofs.Common.{◌≡◌, ℕ, ◌+◌, ◌^◌, ◌<◌, ◌≤◌, ◌==◌, ◌&&◌, drop, lit≤, lit<, Bool, true, false, Option, Some, None, Result, Ok, Err}
+use Rattle.std.proofs.Common.{MatchOption, eq-eqb}
 use Rattle.std.proofs.Common.{List, [], ◌∷◌, ◌++◌, length, slice_get, refl, sym, ap, subst, ◌∙◌, append-nil, arith, length-append}
 use Rattle.std.proofs.lemmas.Bool.{and_from}
 use Rattle.std.specs.List.{AllByRecursion}
@@ -227,7 +228,8 @@ base_left old new n leaf copy buffer blocks one is spelled same left =
     (subst (λ (b : Filling). Stand 4 (counted old ++ frame_of b ∷ []) (leaf ∷ [])) (sym made) (base_stands old n leaf one))
 
 -- the same whatever the append answers
-pub base_after : (old new : Contents) (n : ℕ) (leaf copy : Leaf) (buffer : Filling) (blocks : List Block) (answer : Result (Unit {0}) LogFault) → HoldsOne old leaf
+pub base_after : (old new : Contents) (n : ℕ) (leaf copy : Leaf) (buffer : Filling) (blocks : List Block) (answer : Result (Unit {0}) LogFault)
+    → HoldsOne old leaf
     → buffer ≡ filled n blocks → blocks ≡ Base copy ∷ [] → copy ≡ leaf → AfterAppend old (frame_of buffer) true answer new → HoldsOne new leaf
 base_after old new n leaf copy buffer blocks (Ok tt) one is spelled same left = base_left old new n leaf copy buffer blocks one is spelled same left
 base_after old new n leaf copy buffer blocks (Err fault) one is spelled same left = holds_refused old new (frame_of buffer) true fault leaf one left

@@ -13,7 +13,8 @@ use Rattle.bw_log.specs.Contents.{Contents}
 use Rattle.bw_log.specs.Appends.{MayFollow, AfterAppend}
 use Rattle.log_tests.specs.Examples.{split_frame_2, split_frame_1, split_frame_3, split_frame_4, split_frame_5, split_blocks, split_frames, split_upper}
 use Rattle.log_tests.specs.OnePage.{Counts, leaf_with}
-use Rattle.log_tests.proofs.Exampled.{not_one, short, page_lawful, put_lawful, put_frame_lawful, first_of_lawful, first_of_stands, page_stands, follows_of, more_counts}
+use Rattle.log_tests.proofs.Exampled.{not_one, short, page_lawful, put_lawful, put_frame_lawful, first_of_lawful, first_of_stands, page_stands}
+use Rattle.log_tests.proofs.Exampled.{follows_of, more_counts}
 
 -- a place in a frame that was appended
 place : (frame index : ℕ) → 1 ≤ frame → frame < 2 ^ 64 → index < 2 ^ 32 → IsPlace (record { frame = frame; index = index })

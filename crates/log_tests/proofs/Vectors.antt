@@ -3,7 +3,8 @@
 
 use Rattle.std.proofs.Common.{◌≡◌, ℕ, Some, None, true, false, List, [], ◌∷◌, ◌++◌, length, take, refl}
 use Rattle.bw_codec.specs.Bytes.{number_bytes}
-use Rattle.bw_codec.specs.Reading.{front_at, heading_of, text_at, value_at, op_at, pair_at, many_at, place_at, page_at, pairs_at, delta_at, base_at, upper_at, split_at}
+use Rattle.bw_codec.specs.Reading.{front_at, heading_of, text_at, value_at, op_at, pair_at, many_at, place_at, page_at, pairs_at, delta_at, base_at}
+use Rattle.bw_codec.specs.Reading.{upper_at, split_at}
 use Rattle.bw_codec.specs.Reading.{block_at, head_at}
 use Rattle.bw_codec.specs.declared.block.Block.TheVariants.{Delta}
 use Rattle.bw_codec.specs.declared.block.Frame.{Frame}
@@ -23,13 +24,15 @@ first_segment =
     1 ∷ 0 ∷ 1 ∷ 1 ∷ 107 ∷ 1 ∷ 0 ∷ 118 ∷ []
 
 pub first_is_read : segment_frames first_segment ≡ first_example ∷ []
-unfolding segment_frames frames_at heading_of front_at text_at value_at op_at pair_at many_at place_at page_at pairs_at delta_at base_at upper_at split_at block_at
+unfolding segment_frames frames_at heading_of front_at text_at value_at op_at pair_at many_at place_at page_at pairs_at delta_at base_at upper_at
+    split_at block_at
     head_at number_bytes
 first_is_read = refl
 
 -- cut by one byte it holds no whole frame, and cut in its header none either
 first_is_cut : segment_frames (take 76 first_segment) ++ segment_frames (take 23 first_segment) ≡ []
-unfolding segment_frames frames_at heading_of front_at text_at value_at op_at pair_at many_at place_at page_at pairs_at delta_at base_at upper_at split_at block_at
+unfolding segment_frames frames_at heading_of front_at text_at value_at op_at pair_at many_at place_at page_at pairs_at delta_at base_at upper_at
+    split_at block_at
     head_at number_bytes
 first_is_cut = refl
 
@@ -69,24 +72,28 @@ cleaned = record {
 }
 
 cleaned_frames : counted_in cleaned ≡ after_first_example ∷ after_second_example ∷ rewritten_example ∷ []
-unfolding segment_frames frames_at heading_of front_at text_at value_at op_at pair_at many_at place_at page_at pairs_at delta_at base_at upper_at split_at block_at
+unfolding segment_frames frames_at heading_of front_at text_at value_at op_at pair_at many_at place_at page_at pairs_at delta_at base_at upper_at
+    split_at block_at
     head_at number_bytes
 cleaned_frames = refl
 
 cleaned_at : counted_at cleaned ≡ record { number = 2; segment = 2; at = 24; len = 45; starts = 20 ∷ [] }
     ∷ record { number = 3; segment = 3; at = 24; len = 45; starts = 20 ∷ [] } ∷ record { number = 4; segment = 3; at = 69; len = 38; starts = 20 ∷ [] } ∷ []
-unfolding segment_frames frames_at heading_of front_at text_at value_at op_at pair_at many_at place_at page_at pairs_at delta_at base_at upper_at split_at block_at
+unfolding segment_frames frames_at heading_of front_at text_at value_at op_at pair_at many_at place_at page_at pairs_at delta_at base_at upper_at
+    split_at block_at
     head_at number_bytes
 cleaned_at = refl
 
 cleaned_places : (place_of 1 (counted_in cleaned) ≡ Some (record { frame = 4; index = 0 }))
     × (base_of 1 (counted_in cleaned) ≡ Some (record { frame = 4; index = 0 }))
-unfolding segment_frames frames_at heading_of front_at text_at value_at op_at pair_at many_at place_at page_at pairs_at delta_at base_at upper_at split_at block_at
+unfolding segment_frames frames_at heading_of front_at text_at value_at op_at pair_at many_at place_at page_at pairs_at delta_at base_at upper_at
+    split_at block_at
     head_at number_bytes
 cleaned_places = (refl, refl)
 
 cleaned_links : (first_number (counted_in cleaned) ≡ 2) × (bad_link 2 [] (all_placed (counted_in cleaned)) ≡ None)
-unfolding segment_frames frames_at heading_of front_at text_at value_at op_at pair_at many_at place_at page_at pairs_at delta_at base_at upper_at split_at block_at
+unfolding segment_frames frames_at heading_of front_at text_at value_at op_at pair_at many_at place_at page_at pairs_at delta_at base_at upper_at
+    split_at block_at
     head_at number_bytes
 cleaned_links = (refl, refl)
 
@@ -95,7 +102,8 @@ abbrev failed : Image
 failed = record cleaned { is_failed = true; next = Some 4 }
 
 failed_count : (length (counted_in failed) ≡ 2) × (length (frames_of failed.bytes) ≡ 3) × (base_of 1 (counted_in failed) ≡ None)
-unfolding segment_frames frames_at heading_of front_at text_at value_at op_at pair_at many_at place_at page_at pairs_at delta_at base_at upper_at split_at block_at
+unfolding segment_frames frames_at heading_of front_at text_at value_at op_at pair_at many_at place_at page_at pairs_at delta_at base_at upper_at
+    split_at block_at
     head_at number_bytes
 failed_count = (refl, refl, refl)
 

@@ -5,7 +5,8 @@ use Rattle.std.specs.List.{AllByRecursion}
 use Rattle.bw_codec.specs.declared.leaf.Leaf.{Leaf}
 use Rattle.bw_codec.specs.declared.block.Block.TheVariants.{Base}
 use Rattle.bw_codec.specs.Bytes.{number_bytes}
-use Rattle.bw_codec.specs.Reading.{front_at, heading_of, text_at, value_at, op_at, pair_at, many_at, place_at, page_at, pairs_at, delta_at, base_at, upper_at, split_at}
+use Rattle.bw_codec.specs.Reading.{front_at, heading_of, text_at, value_at, op_at, pair_at, many_at, place_at, page_at, pairs_at, delta_at, base_at}
+use Rattle.bw_codec.specs.Reading.{upper_at, split_at}
 use Rattle.bw_codec.specs.Reading.{block_at, head_at}
 use Rattle.bw_device.specs.Holding.{Holding}
 use Rattle.bw_log.specs.Segments.{segment_frames, frames_at}
@@ -81,7 +82,8 @@ pub vectors_whole : AreTold ((
     (box first_segment ∷ box older_segment ∷ [], found (page_one ((106 ∷ [], 50 ∷ []) ∷ (107 ∷ [], 118 ∷ []) ∷ []) ∷ []) 1 2 0 0) ∷
     (box [] ∷ box first_segment ∷ box (take 3 first_segment) ∷ [], found (page_one ((107 ∷ [], 118 ∷ []) ∷ []) ∷ []) 1 1 0 1) ∷
     [])
-unfolding segment_frames frames_at heading_of front_at text_at value_at op_at pair_at many_at place_at page_at pairs_at delta_at base_at upper_at split_at block_at
+unfolding segment_frames frames_at heading_of front_at text_at value_at op_at pair_at many_at place_at page_at pairs_at delta_at base_at upper_at
+    split_at block_at
     head_at number_bytes rest_of first_such contents
 vectors_whole = (refl, (refl, (refl, (refl, (refl, (refl, tt))))))
 
@@ -95,7 +97,8 @@ pub vectors_cut : AreTold (
     (box (first_segment ++ 70 ∷ []) ∷ [], found (page_one ((107 ∷ [], 118 ∷ []) ∷ []) ∷ []) 1 1 1 0) ∷
     ([], Err Empty) ∷
     [])
-unfolding segment_frames frames_at heading_of front_at text_at value_at op_at pair_at many_at place_at page_at pairs_at delta_at base_at upper_at split_at block_at
+unfolding segment_frames frames_at heading_of front_at text_at value_at op_at pair_at many_at place_at page_at pairs_at delta_at base_at upper_at
+    split_at block_at
     head_at number_bytes rest_of first_such contents
 vectors_cut = (refl, (refl, (refl, (refl, (refl, (refl, (refl, tt)))))))
 
@@ -107,7 +110,8 @@ pub bytes_changed : AreTold (
     (box (with 36 (255 ∷ 255 ∷ 255 ∷ 255 ∷ []) first_segment) ∷ [], Err (BadBytes 0 24)) ∷
     (box (with 40 (255 ∷ 255 ∷ 255 ∷ 255 ∷ []) first_segment) ∷ [], Err (BadBytes 0 24)) ∷
     [])
-unfolding segment_frames frames_at heading_of front_at text_at value_at op_at pair_at many_at place_at page_at pairs_at delta_at base_at upper_at split_at block_at
+unfolding segment_frames frames_at heading_of front_at text_at value_at op_at pair_at many_at place_at page_at pairs_at delta_at base_at upper_at
+    split_at block_at
     head_at number_bytes rest_of first_such contents
 bytes_changed = (refl, (refl, (refl, (refl, (refl, tt)))))
 
@@ -118,7 +122,8 @@ pub gaps_and_limits : AreTold (
     (box first_segment ∷ box (with 16 (5 ∷ []) older_segment) ∷ [], Err Mixed) ∷
     (box first_segment ∷ roomed 65559 ∷ [], Err BadConfig) ∷
     [])
-unfolding segment_frames frames_at heading_of front_at text_at value_at op_at pair_at many_at place_at page_at pairs_at delta_at base_at upper_at split_at block_at
+unfolding segment_frames frames_at heading_of front_at text_at value_at op_at pair_at many_at place_at page_at pairs_at delta_at base_at upper_at
+    split_at block_at
     head_at number_bytes rest_of first_such contents
 gaps_and_limits = (refl, (refl, (refl, (refl, tt))))
 
@@ -130,7 +135,8 @@ pub links_and_pages : AreTold (
     (box (with 53 (3 ∷ []) first_segment) ∷ [], Err (BadLink 3)) ∷
     (box (with 45 (2 ∷ []) greatest) ∷ [], Err (Unlawful 1)) ∷
     [])
-unfolding segment_frames frames_at heading_of front_at text_at value_at op_at pair_at many_at place_at page_at pairs_at delta_at base_at upper_at split_at block_at
+unfolding segment_frames frames_at heading_of front_at text_at value_at op_at pair_at many_at place_at page_at pairs_at delta_at base_at upper_at
+    split_at block_at
     head_at number_bytes rest_of first_such contents
 links_and_pages = (refl, (refl, (refl, (refl, (refl, tt)))))
 
@@ -144,7 +150,8 @@ pub two_faults : AreTold (
     (box (take 24 first_segment) ∷ roomed 65559 ∷ [], Err Empty) ∷
     (box (with 53 (3 ∷ []) first_segment) ∷ roomed 65559 ∷ [], Err BadConfig) ∷
     [])
-unfolding segment_frames frames_at heading_of front_at text_at value_at op_at pair_at many_at place_at page_at pairs_at delta_at base_at upper_at split_at block_at
+unfolding segment_frames frames_at heading_of front_at text_at value_at op_at pair_at many_at place_at page_at pairs_at delta_at base_at upper_at
+    split_at block_at
     head_at number_bytes rest_of first_such contents
 two_faults = (refl, (refl, (refl, (refl, (refl, (refl, (refl, tt)))))))
 

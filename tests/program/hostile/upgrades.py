@@ -68,8 +68,7 @@ def in_lines(program, segments):
     if standing is not None:
         wanted += "".join("dump %s\n" % it.hex() for it in standing) + "".join(it + "\n" for it in pages_told(log_of(segments).pages))
     answer = program.run(["upgrade"], "".join(it.hex() + "\n" for it in segments).encode())
-    is_full = first == "refused E5 NoSegment\n"
-    if answer[:2] != (4 if standing is None else 0, wanted.encode()) or (answer[2] != b"") != is_full:
+    if answer != (4 if standing is None else 0, wanted.encode(), b""):
         raise Otherwise("upgrade answers %r, and the reader %r" % (answer, wanted))
     return first.split(" ")[0 if standing is not None else 1]
 
@@ -134,6 +133,31 @@ def upgrades(program, runs, place, draw):
     found = in_a_folder(program, segments, place, draw)
     shutil.rmtree(place)
     return found
+
+
+def a_full_log_of_lines(program, _folder, _segments, _draw):
+    """Pages that the four spares behind lines have no room for are refused, and nothing is told of lines that could make room: there are none."""
+    keys, value, frames, made = [b"k%06d" % number for number in range(9000)], b"v" * 128, [], []
+    for page, at in enumerate(range(0, len(keys), 3), 1):
+        some = [(key, value) for key in keys[at : at + 3]]
+        made.append(Base(1, b"", some) if page == 1 else Delta(page - 1, (1, 0), some))
+        if page > 1:
+            made.append(Split(page - 1, (1, 0), some[0][0], page, some))
+    size = 0
+    for block in made:
+        length = len(block_bytes(block, 1))
+        if not frames or size + length > 65536:
+            frames.append([len(frames) + 1, []])
+            size = 20
+        frames[-1][1].append(block)
+        size += length
+    half = len(frames) // 3
+    parts = [Parts(number + 1, 4, 65536, frames[at : at + half], version=1) for number, at in enumerate(range(0, len(frames), half))]
+    linked(parts)
+    segments = [part.bytes() for part in parts]
+    if upgraded(segments, SPARES)[0] != "refused E5 NoSegment\n":
+        raise Otherwise("the reader answers %r" % (upgraded(segments, SPARES)[0],))
+    in_lines(program, segments)
 
 
 # What is told of an empty file for which no run has a lease.

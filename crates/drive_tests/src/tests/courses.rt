@@ -2,7 +2,7 @@
 
 use super::all_went;
 use super::scripts::Part;
-use super::steps::Step::{Begins, Boxes, Drives, Durable, Learns, Reads, Settles};
+use super::steps::Step::{Begins, Boxes, Drives, Durable, Forgets, Learns, Reads, Settles};
 use super::steps::{MANY, Pace, Run};
 use super::walking::{PLAIN, Table, wrong_table};
 use bw_store::StoreFault::{Device, Failed, NoSegment, NothingOld};
@@ -126,9 +126,47 @@ const NO_SPARE: &Table = &Table {
     ..PLAIN
 };
 
-const ENDED: &[&Table] = &[&TWICE, SIXTY_FOUR, ONE_PLACE, FEW_TRIES];
+/// By a plan that forgets, nothing of the history is in memory at the end; what was put is read.
+const FORGOTTEN: &Table = &Table {
+    name: "forgotten",
+    boxes: 8,
+    steps: &[
+        Forgets(
+            Run(Part(0, 300, KEYS), Pace(64, 4, 0, MANY), Ok((600, 600))),
+            (0, 0),
+            (600, 600),
+        ),
+        Reads(300, KEYS),
+        Learns(300, KEYS),
+    ],
+    ..PLAIN
+};
 
-const REFUSED: &[&Table] = &[FIRST_APPEND, FIFTH_FRAME, NOTHING_OLD, NO_SPARE];
+/// Behind each flush, and not only at the end: a frame fails behind four, of at most 16 records each,
+/// and what was flushed has left memory; what was only taken has not.
+const FORGOTTEN_BEFORE: &Table = &Table {
+    name: "forgotten before",
+    fuse: Some(5),
+    steps: &[
+        Forgets(
+            Run(ALL, Pace(16, 1, 0, MANY), Err(Device { lease: 0 })),
+            (1, 16),
+            (3, 64),
+        ),
+        Durable(4, 4),
+    ],
+    ..PLAIN
+};
+
+const ENDED: &[&Table] = &[&TWICE, SIXTY_FOUR, ONE_PLACE, FEW_TRIES, FORGOTTEN];
+
+const REFUSED: &[&Table] = &[
+    FIRST_APPEND,
+    FIFTH_FRAME,
+    FORGOTTEN_BEFORE,
+    NOTHING_OLD,
+    NO_SPARE,
+];
 
 #[test]
 fn runs_go_as_told(rt: HostRuntime) {

@@ -37,6 +37,9 @@ pub(super) struct Run(
 #[derive(Drop)]
 pub(super) enum Step {
     Drives(Run),
+    /// The same, by a plan that forgets: how many entries are in memory behind it, at least and at
+    /// most, and likewise how many were forgotten.
+    Forgets(Run, (u64, u64), (u64, u64)),
     /// All is taken and flushed, or refused.
     Settles(Result<(), StoreFault>),
     /// The history is the first records of each writer, and has so many entries at most.
@@ -55,7 +58,7 @@ pub(super) enum Step {
     Splits,
 }
 
-use Step::{Begins, Boxes, Drives, Durable, Learns, Reads, Settles, Splits};
+use Step::{Begins, Boxes, Drives, Durable, Forgets, Learns, Reads, Settles, Splits};
 
 // Whether of each writer so many records were accepted here, at least and at most, and all that its
 // feed accepted was taken.
@@ -83,6 +86,58 @@ fn is_told(store: &Store, driven: &Driven, many: usize, run: &Run) -> bool {
             are_all && are_taken(driven.accepted.as_slice(), &taken, *part, *least, *most)
         }
         None => false,
+    }
+}
+
+// Whether so many entries are in memory, and so many were forgotten.
+fn is_forgotten(store: &Store, kept: (u64, u64), gone: (u64, u64)) -> bool {
+    let (here, past) = (store.history().len() as u64, store.forgotten());
+    kept.0 <= here && here <= kept.1 && gone.0 <= past && past <= gone.1
+}
+
+fn sum_of(counts: &[u64]) -> u64 {
+    let mut sum: u64 = 0;
+    for count in counts {
+        sum = sum.saturating_add(*count);
+    }
+    sum
+}
+
+// A run by a plan that forgets: the feeds, and whether it ended as told.
+fn forgets<R: AllocGlobal + Threads + Wait, G: Gate>(
+    rt: &R,
+    store: &mut Store,
+    feeds: Vec<Feed>,
+    gate: &G,
+    run: &Run,
+    sizes: Sizes,
+) -> (Vec<Feed>, bool)
+    requires sound { IsSound store.old holding }
+    requires feeds { map ring_of_feed feeds.items ≡ (kept_by store.old holding).rings }
+    ensures sound { IsSound store.new holding }
+    ensures feeds { map ring_of_feed result.0.items ≡ (kept_by store.new holding).rings }
+{
+    let Run(part, Pace(limit, flush_every, clean_at, max_turns), told) = *run;
+    let many = feeds.len();
+    let Ok(scripts) = scripts(rt.alloc(), many, part, sizes) else {
+        return (feeds, false);
+    };
+    let plan = Plan {
+        limit: limit.max(1),
+        flush_every: flush_every.max(1),
+        clean_at,
+        forgets: true,
+    };
+    match drive(rt, store, feeds, scripts, gate, plan, max_turns) {
+        Ok(driven) => {
+            let all = sum_of(driven.accepted.as_slice());
+            let went = driven.entries == all && told == Ok((all, all));
+            (driven.feeds, went)
+        }
+        Err(DriveFault { feeds, cause }) => {
+            let went = feeds.len() == many && told == Err(cause);
+            (feeds, went)
+        }
     }
 }
 
@@ -180,6 +235,11 @@ pub(super) fn goes<R: AllocGlobal + Threads + Wait, G: Gate>(
 {
     match step {
         Drives(run) => drives(rt, store, feeds, gate, run, sizes),
+        Forgets(run, kept, gone) => {
+            let (feeds, went) = forgets(rt, store, feeds, gate, run, sizes);
+            let went = went && is_forgotten(store, *kept, *gone);
+            (feeds, went)
+        }
         Settles(told) => {
             let mut feeds = feeds;
             let went = settles(rt, store, &mut feeds, *told);

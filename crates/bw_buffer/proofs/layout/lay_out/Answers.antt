@@ -30,12 +30,14 @@ piece_is pieces j lt = again pieces j _ lt
 
 pub push_row-requires-clause-few : goal.push_row-requires-clause-few
 push_row-requires-clause-few c =
-    few_here 0 c.loop-row.row-index c.args.rows.now (parts c.args.pieces.now c.args.arena.now) (row_of c.args.rows.now c.loop-row.row-index) c.requires.measured c.loop-row-test.true
+    few_here 0 c.loop-row.row-index c.args.rows.now (parts c.args.pieces.now c.args.arena.now) (row_of c.args.rows.now c.loop-row.row-index)
+    c.requires.measured c.loop-row-test.true
     (row_is c.args.rows.now c.loop-row.row-index c.loop-row-test.true)
 
 pub push_row-requires-clause-room : goal.push_row-requires-clause-room
 push_row-requires-clause-room c =
-    let room = rows_room c.args.rows.now (parts c.args.pieces.now c.args.arena.now) c.args.number c.args.size (length c.args.rows.now) c.loop-row.row-index (row_of c.args.rows.now c.loop-row.row-index) c.loop-row.bytes.items
+    let room = rows_room c.args.rows.now (parts c.args.pieces.now c.args.arena.now) c.args.number c.args.size (length c.args.rows.now)
+    c.loop-row.row-index (row_of c.args.rows.now c.loop-row.row-index) c.loop-row.bytes.items
     c.requires.measured c.requires.size c.loop-row.invariant.bytes c.loop-row-test.true (row_is c.args.rows.now c.loop-row.row-index c.loop-row-test.true) in
     let long = c.loop-row.invariant.bytes_len in
     let all = c.loop-row.invariant.bytes_room in
@@ -43,7 +45,8 @@ push_row-requires-clause-room c =
 
 pub push_row-requires-clause-short : goal.push_row-requires-clause-short
 push_row-requires-clause-short c =
-    let room = rows_room c.args.rows.now (parts c.args.pieces.now c.args.arena.now) c.args.number c.args.size (length c.args.rows.now) c.loop-row.row-index (row_of c.args.rows.now c.loop-row.row-index) c.loop-row.bytes.items
+    let room = rows_room c.args.rows.now (parts c.args.pieces.now c.args.arena.now) c.args.number c.args.size (length c.args.rows.now)
+    c.loop-row.row-index (row_of c.args.rows.now c.loop-row.row-index) c.loop-row.bytes.items
     c.requires.measured c.requires.size c.loop-row.invariant.bytes c.loop-row-test.true (row_is c.args.rows.now c.loop-row.row-index c.loop-row-test.true) in
     let short = c.requires.short in
     omega arith
@@ -54,10 +57,13 @@ loop-row-preserved c =
     let is = row_is c.args.rows.now c.loop-row.row-index c.loop-row-test.true in
     let more = front_of row ++ zeros row.len in
     record {
-      bytes = bytes_next (head_bytes c.args.number (c.args.size - 20) (length c.args.rows.now)) c.loop-row.bytes.items c.push_row.new.bytes.items c.args.rows.now c.loop-row.row-index row
+      bytes = bytes_next (head_bytes c.args.number (c.args.size - 20) (length c.args.rows.now)) c.loop-row.bytes.items c.push_row.new.bytes.items
+          c.args.rows.now c.loop-row.row-index row
           c.loop-row-test.true is c.loop-row.invariant.bytes c.push_row.ensures.bytes.items;
-      spots = spots_next (head_bytes c.args.number (c.args.size - 20) (length c.args.rows.now)) c.loop-row.bytes.items c.loop-row.spots.items c.push_row.new.spots.items c.args.rows.now c.loop-row.row-index row
-          (length-head latest c.args.number (c.args.size - 20) (length c.args.rows.now)) c.loop-row-test.true is c.loop-row.invariant.bytes c.loop-row.invariant.spots c.push_row.ensures.spots.items;
+      spots = spots_next (head_bytes c.args.number (c.args.size - 20) (length c.args.rows.now)) c.loop-row.bytes.items c.loop-row.spots.items
+          c.push_row.new.spots.items c.args.rows.now c.loop-row.row-index row
+          (length-head latest c.args.number (c.args.size - 20) (length c.args.rows.now)) c.loop-row-test.true is c.loop-row.invariant.bytes
+          c.loop-row.invariant.spots c.push_row.ensures.spots.items;
       bytes_len = (let was = c.loop-row.invariant.bytes_len in let now = c.push_row.ensures.bytes.len in
           omega (arith, ap (λ (l : List ℕ). length l) c.push_row.ensures.bytes.items, length-append c.loop-row.bytes.items more));
       bytes_room = (let was = c.loop-row.invariant.bytes_room in let now = c.push_row.ensures.bytes.capacity in omega arith);
@@ -68,24 +74,30 @@ loop-row-preserved c =
 
 pub split_at-requires : goal.split_at-requires
 split_at-requires c =
-    let step = piece_step (head_bytes c.args.number (c.args.size - 20) (length c.args.rows.now)) c.args.rows.now c.args.pieces.now c.args.arena.now c.loop-piece.piece-index
-    (piece_of c.args.pieces.now c.loop-piece.piece-index) c.loop-piece.rest.now c.loop-piece.bytes.items c.loop-piece.spots.items (length-head latest c.args.number (c.args.size - 20) (length c.args.rows.now))
+    let step = piece_step (head_bytes c.args.number (c.args.size - 20) (length c.args.rows.now)) c.args.rows.now c.args.pieces.now c.args.arena.now
+    c.loop-piece.piece-index
+    (piece_of c.args.pieces.now c.loop-piece.piece-index) c.loop-piece.rest.now c.loop-piece.bytes.items c.loop-piece.spots.items
+    (length-head latest c.args.number (c.args.size - 20) (length c.args.rows.now))
     c.requires.measured c.requires.within c.requires.cut c.loop-piece-test.true (piece_is c.args.pieces.now c.loop-piece.piece-index c.loop-piece-test.true)
     c.loop-piece.invariant.rest c.loop-piece.invariant.bytes c.loop-piece.invariant.spots in
     step.inside
 
 pub put_piece-requires-clause-spot : goal.put_piece-requires-clause-spot
 put_piece-requires-clause-spot c =
-    let step = piece_step (head_bytes c.args.number (c.args.size - 20) (length c.args.rows.now)) c.args.rows.now c.args.pieces.now c.args.arena.now c.loop-piece.piece-index
-    (piece_of c.args.pieces.now c.loop-piece.piece-index) c.loop-piece.rest.now c.loop-piece.bytes.items c.loop-piece.spots.items (length-head latest c.args.number (c.args.size - 20) (length c.args.rows.now))
+    let step = piece_step (head_bytes c.args.number (c.args.size - 20) (length c.args.rows.now)) c.args.rows.now c.args.pieces.now c.args.arena.now
+    c.loop-piece.piece-index
+    (piece_of c.args.pieces.now c.loop-piece.piece-index) c.loop-piece.rest.now c.loop-piece.bytes.items c.loop-piece.spots.items
+    (length-head latest c.args.number (c.args.size - 20) (length c.args.rows.now))
     c.requires.measured c.requires.within c.requires.cut c.loop-piece-test.true (piece_is c.args.pieces.now c.loop-piece.piece-index c.loop-piece-test.true)
     c.loop-piece.invariant.rest c.loop-piece.invariant.bytes c.loop-piece.invariant.spots in
     step.spot
 
 pub put_piece-requires-clause-within : goal.put_piece-requires-clause-within
 put_piece-requires-clause-within c =
-    let step = piece_step (head_bytes c.args.number (c.args.size - 20) (length c.args.rows.now)) c.args.rows.now c.args.pieces.now c.args.arena.now c.loop-piece.piece-index
-    (piece_of c.args.pieces.now c.loop-piece.piece-index) c.loop-piece.rest.now c.loop-piece.bytes.items c.loop-piece.spots.items (length-head latest c.args.number (c.args.size - 20) (length c.args.rows.now))
+    let step = piece_step (head_bytes c.args.number (c.args.size - 20) (length c.args.rows.now)) c.args.rows.now c.args.pieces.now c.args.arena.now
+    c.loop-piece.piece-index
+    (piece_of c.args.pieces.now c.loop-piece.piece-index) c.loop-piece.rest.now c.loop-piece.bytes.items c.loop-piece.spots.items
+    (length-head latest c.args.number (c.args.size - 20) (length c.args.rows.now))
     c.requires.measured c.requires.within c.requires.cut c.loop-piece-test.true (piece_is c.args.pieces.now c.loop-piece.piece-index c.loop-piece-test.true)
     c.loop-piece.invariant.rest c.loop-piece.invariant.bytes c.loop-piece.invariant.spots in
     let within = step.within in
@@ -93,8 +105,10 @@ put_piece-requires-clause-within c =
 
 pub put_piece-requires-clause-short : goal.put_piece-requires-clause-short
 put_piece-requires-clause-short c =
-    let step = piece_step (head_bytes c.args.number (c.args.size - 20) (length c.args.rows.now)) c.args.rows.now c.args.pieces.now c.args.arena.now c.loop-piece.piece-index
-    (piece_of c.args.pieces.now c.loop-piece.piece-index) c.loop-piece.rest.now c.loop-piece.bytes.items c.loop-piece.spots.items (length-head latest c.args.number (c.args.size - 20) (length c.args.rows.now))
+    let step = piece_step (head_bytes c.args.number (c.args.size - 20) (length c.args.rows.now)) c.args.rows.now c.args.pieces.now c.args.arena.now
+    c.loop-piece.piece-index
+    (piece_of c.args.pieces.now c.loop-piece.piece-index) c.loop-piece.rest.now c.loop-piece.bytes.items c.loop-piece.spots.items
+    (length-head latest c.args.number (c.args.size - 20) (length c.args.rows.now))
     c.requires.measured c.requires.within c.requires.cut c.loop-piece-test.true (piece_is c.args.pieces.now c.loop-piece.piece-index c.loop-piece-test.true)
     c.loop-piece.invariant.rest c.loop-piece.invariant.bytes c.loop-piece.invariant.spots in
     let size = step.size in
@@ -104,8 +118,10 @@ put_piece-requires-clause-short c =
 
 pub loop-piece-preserved : goal.loop-piece-preserved
 loop-piece-preserved c =
-    let step = piece_step (head_bytes c.args.number (c.args.size - 20) (length c.args.rows.now)) c.args.rows.now c.args.pieces.now c.args.arena.now c.loop-piece.piece-index
-    (piece_of c.args.pieces.now c.loop-piece.piece-index) c.loop-piece.rest.now c.loop-piece.bytes.items c.loop-piece.spots.items (length-head latest c.args.number (c.args.size - 20) (length c.args.rows.now))
+    let step = piece_step (head_bytes c.args.number (c.args.size - 20) (length c.args.rows.now)) c.args.rows.now c.args.pieces.now c.args.arena.now
+    c.loop-piece.piece-index
+    (piece_of c.args.pieces.now c.loop-piece.piece-index) c.loop-piece.rest.now c.loop-piece.bytes.items c.loop-piece.spots.items
+    (length-head latest c.args.number (c.args.size - 20) (length c.args.rows.now))
     c.requires.measured c.requires.within c.requires.cut c.loop-piece-test.true (piece_is c.args.pieces.now c.loop-piece.piece-index c.loop-piece-test.true)
     c.loop-piece.invariant.rest c.loop-piece.invariant.bytes c.loop-piece.invariant.spots in
     let block = (piece_of c.args.pieces.now c.loop-piece.piece-index).block in
@@ -122,4 +138,5 @@ pub returns-clause-bytes : goal.returns-clause-bytes
 returns-clause-bytes c =
     c.loop-piece.invariant.bytes
     ∙ ap (λ (l : List ℕ). head_bytes c.args.number (c.args.size - 20) (length c.args.rows.now) ++ l)
-    (all_written c.args.rows.now c.args.pieces.now c.args.arena.now c.loop-piece.piece-index (let end = c.loop-piece-test.false in omega arith) c.requires.measured)
+    (all_written c.args.rows.now c.args.pieces.now c.args.arena.now c.loop-piece.piece-index (let end = c.loop-piece-test.false in omega arith)
+    c.requires.measured)

@@ -30,7 +30,8 @@ returns-clause-cleaned g c =
       ap (λ (l : List ℕ). length l) (c.in-Ok.ensures
           ∙ ap (λ (n : ℕ). pages_upto n (seen c.args.log.now (λ b. (goal.Segment-dyn g b).holding b.1))) c.last_old.ensures),
     ) in
-    all_cleaned _ _ _ _ (Some (c.in-Some.segment, c.in-Some.lease, c.in-Some.field-0-2)) c.in-Some.field-0-2 c.requires c.in-Ok-move_pages.ensures.sound two (sym c.if-is_failed.ensures)
+    all_cleaned _ _ _ _ (Some (c.in-Some.segment, c.in-Some.lease, c.in-Some.field-0-2)) c.in-Some.field-0-2 c.requires
+    c.in-Ok-move_pages.ensures.sound two (sym c.if-is_failed.ensures)
     c.in-Ok-move_pages.ensures.moved
     c.give_up_oldest.ensures.given_up c.give_up_oldest.ensures.counted c.in-Some.ensures refl many
 

@@ -10,7 +10,8 @@ invariant-loop-at g l = record {
   sound : IsSound l.log (λ b. (goal.Segment-dyn g b).holding b.1);
   works : (seen l.log (λ b. (goal.Segment-dyn g b).holding b.1)).is_failed ≡ false;
   moved : (last : ℕ) → IsNextBehind last (seen l.initial.log (λ b. (goal.Segment-dyn g b).holding b.1))
-      → MovedBehind last (seen l.initial.log (λ b. (goal.Segment-dyn g b).holding b.1)) (seen l.log (λ b. (goal.Segment-dyn g b).holding b.1)) (take l.at l.pages)
+      → MovedBehind last (seen l.initial.log (λ b. (goal.Segment-dyn g b).holding b.1)) (seen l.log (λ b. (goal.Segment-dyn g b).holding b.1))
+      (take l.at l.pages)
       (drop l.at l.pages) l.frames;
 }
 

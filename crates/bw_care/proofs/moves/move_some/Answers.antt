@@ -3,7 +3,8 @@ use Rattle.std.proofs.lemmas.Result.{err_from_is_err_and}
 use Rattle.bw_buffer.specs.Filling.{frame_of}
 use Rattle.bw_care.specs.Views.{seen}
 use Rattle.bw_care.proofs.BasesLeave.{next_range}
-use Rattle.bw_care.proofs.CleaningSteps.{fill_refused, fill_reason, append_refused, append_reason, next_sent, sends_of, short_enough, follows_sent, moved_sent, other_fault, full_sent}
+use Rattle.bw_care.proofs.CleaningSteps.{fill_refused, fill_reason, append_refused, append_reason, next_sent, sends_of, short_enough, follows_sent}
+use Rattle.bw_care.proofs.CleaningSteps.{moved_sent, other_fault, full_sent}
 use Rattle.bw_care.proofs.moves.move_some.Goals as goal
 
 pub new-requires-clause-numbered : goal.new-requires-clause-numbered

@@ -7,7 +7,8 @@ use Rattle.bw_care.specs.Upgrading.{old_segments, last_of_old, pages_of_old}
 use Rattle.bw_care.specs.Views.{seen}
 use Rattle.bw_care.proofs.CleaningSteps.{stopped_first, stopped_stands, moved_stand, same_m}
 use Rattle.bw_care.proofs.OldPages.{old_are_pages}
-use Rattle.bw_care.proofs.UpgradeMoved.{few_old, old_behind, some_count, pages_are, moved_old, stopped_old, never_failed, none_left, halts, all_upgraded, more_left, are_behind}
+use Rattle.bw_care.proofs.UpgradeMoved.{few_old, old_behind, some_count, pages_are, moved_old, stopped_old, never_failed, none_left, halts}
+use Rattle.bw_care.proofs.UpgradeMoved.{all_upgraded, more_left, are_behind}
 use Rattle.bw_care.proofs.upgrader.upgrade.Goals as goal
 
 pub last_among-requires-clause-inside : goal.last_among-requires-clause-inside
@@ -37,7 +38,8 @@ returns-in-Err-move_all-clause-failed g c =
     let log = seen c.args.log.now (λ b. (goal.Segment-dyn g b).holding b.1) in
     let stopped = stopped_old log (seen c.move_all.new.log (λ b. (goal.Segment-dyn g b).holding b.1)) c.requires.sound c.as_slice.ensures.value
     c.in-Ok.ensures c.last_among.ensures c.old_segments-segments.ensures c.in-Err-move_all.ensures.refused in (
-      λ e. absurd (never_failed (last_of_old log) log _ (pages_of_old log) c.in-Err-move_all.fault stopped (let same : c.in-Err-move_all.fault ≡ Failed = cc in same)),
+      λ e. absurd (never_failed (last_of_old log) log _ (pages_of_old log) c.in-Err-move_all.fault stopped
+          (let same : c.in-Err-move_all.fault ≡ Failed = cc in same)),
       λ both. absurd (true≢false (sym both.1 ∙ sym c.if-is_failed.ensures)),
     )
 

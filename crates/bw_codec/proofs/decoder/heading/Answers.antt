@@ -10,7 +10,8 @@ use Rattle.bw_codec.proofs.Heading.{no_header_there, header_told}
 use Rattle.bw_codec.proofs.decoder.heading.Goals as goal
 
 -- some bytes that agree with the word, too few for a header
-part_there : (bytes : List ℕ) → agrees bytes (segment_word (version_in bytes)) ≡ true → length bytes < 24 → (length bytes == 0) ≡ false → Part ≡ heading_of bytes
+part_there : (bytes : List ℕ) → agrees bytes (segment_word (version_in bytes)) ≡ true → length bytes < 24 → (length bytes == 0) ≡ false
+    → Part ≡ heading_of bytes
 unfolding heading_of
 part_there bytes word short some =
     let more : 0 < length bytes = omega (arith, eqb-false (length bytes) 0 some) in

@@ -12,12 +12,14 @@ returns-in_err-block c =
     let p = err_from_is_err_and c.from_residual-in_err-block.result c.from_residual-in_err-block.ensures.1 in
     let stops = λ (none : ((block_at c.args.version) c.args.m) c.loop-i.rest.now ≡ None). sym c.loop-i.invariant
     ∙ many_stops ((block_at c.args.version) c.args.m) c.args.count c.loop-i._i c.loop-i.items.items c.loop-i.rest.now c.loop-i-test.true none in
-    rw (p.1, p.2) (fault_goes_on c.in_err-block.field-0.0 (((block_at c.args.version) c.args.m) c.loop-i.rest.now) (many_at ((block_at c.args.version) c.args.m) c.args.count c.args.bytes.now)
+    rw (p.1, p.2) (fault_goes_on c.in_err-block.field-0.0 (((block_at c.args.version) c.args.m) c.loop-i.rest.now)
+    (many_at ((block_at c.args.version) c.args.m) c.args.count c.args.bytes.now)
     stops c.in_err-block.ensures)
 
 pub loop-i-preserved : goal.loop-i-preserved
 loop-i-preserved c =
-    rw c.in_ok-push.ensures.items (sym (many_goes_on ((block_at c.args.version) c.args.m) c.args.count c.loop-i._i c.loop-i.items.items c.loop-i.rest.now c.in_ok-block.block
+    rw c.in_ok-push.ensures.items (sym (many_goes_on ((block_at c.args.version) c.args.m) c.args.count c.loop-i._i c.loop-i.items.items
+    c.loop-i.rest.now c.in_ok-block.block
     c.in_ok-block.others.now c.loop-i-test.true c.in_ok-block.ensures) ∙ c.loop-i.invariant)
 
 pub returns : goal.returns
@@ -25,4 +27,5 @@ returns c =
     let all : c.loop-i._i ≡ c.args.count = omega arith in
     let last = subst (λ i. prefixed c.loop-i.items.items (many_at ((block_at c.args.version) c.args.m) (c.args.count - i) c.loop-i.rest.now)
     ≡ many_at ((block_at c.args.version) c.args.m) c.args.count c.args.bytes.now) all c.loop-i.invariant in
-    sym last ∙ many_ends ((block_at c.args.version) c.args.m) c.args.count c.loop-i.items.items c.loop-i.rest.now ∙ rw (append-nil c.loop-i.items.items, c.of.ensures) refl
+    sym last ∙ many_ends ((block_at c.args.version) c.args.m) c.args.count c.loop-i.items.items c.loop-i.rest.now
+    ∙ rw (append-nil c.loop-i.items.items, c.of.ensures) refl

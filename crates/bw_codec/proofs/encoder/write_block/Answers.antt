@@ -18,7 +18,16 @@ push_place-requires c =
     let room = subst (λ (b : Block). HasRoom c.args.out.now (length (block_bytes b))) c.in-Delta.is c.requires.room in
     let tagged = c.push.ensures in
     let numbered = c.push_four.ensures in
-    omega (arith, room, length-delta c.in-Delta.page c.in-Delta.back c.in-Delta.ops, length-number 4 c.in-Delta.page, tagged.len, tagged.capacity, numbered.len, numbered.capacity)
+    omega (
+      arith,
+      room,
+      length-delta c.in-Delta.page c.in-Delta.back c.in-Delta.ops,
+      length-number 4 c.in-Delta.page,
+      tagged.len,
+      tagged.capacity,
+      numbered.len,
+      numbered.capacity,
+    )
 
 pub push_four-requires-in-Base : goal.push_four-requires-in-Base
 push_four-requires-in-Base c =
@@ -30,7 +39,16 @@ push_place-requires-in-Split c =
     let room = subst (λ (b : Block). HasRoom c.args.out.now (length (block_bytes b))) c.in-Split.is c.requires.room in
     let tagged = c.push-in-Split.ensures in
     let numbered = c.push_four-in-Split.ensures in
-    omega (arith, room, length-split c.in-Split.page c.in-Split.back c.in-Split.upper, length-number 4 c.in-Split.page, tagged.len, tagged.capacity, numbered.len, numbered.capacity)
+    omega (
+      arith,
+      room,
+      length-split c.in-Split.page c.in-Split.back c.in-Split.upper,
+      length-number 4 c.in-Split.page,
+      tagged.len,
+      tagged.capacity,
+      numbered.len,
+      numbered.capacity,
+    )
 
 pub returns-in-Split : goal.returns-in-Split
 returns-in-Split c =

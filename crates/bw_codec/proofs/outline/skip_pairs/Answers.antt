@@ -10,7 +10,8 @@ returns-in_err-rest-clause-gives c =
     let p = err_from_is_err_and c.from_residual.result c.from_residual.ensures.1 in
     let stops = λ (none : (pair_after c.args.version) c.loop-i.rest.now ≡ None). sym c.loop-i.invariant
     ∙ steps_stop (pair_after c.args.version) c.args.count c.loop-i._i c.loop-i.rest.now c.loop-i-test.true none in
-    rw (p.1, p.2) (fault_goes_on c.in_err-rest.field-0.0 ((pair_after c.args.version) c.loop-i.rest.now) (many_after (pair_after c.args.version) c.args.count c.args.bytes.now) stops
+    rw (p.1, p.2) (fault_goes_on c.in_err-rest.field-0.0 ((pair_after c.args.version) c.loop-i.rest.now)
+    (many_after (pair_after c.args.version) c.args.count c.args.bytes.now) stops
     c.in_err-rest.ensures.gives)
 
 pub loop-i-preserved : goal.loop-i-preserved
@@ -21,6 +22,7 @@ loop-i-preserved c =
 pub returns-clause-gives : goal.returns-clause-gives
 returns-clause-gives c =
     let all : c.loop-i._i ≡ c.args.count = omega arith in
-    let last = subst (λ i. many_after (pair_after c.args.version) (c.args.count - i) c.loop-i.rest.now ≡ many_after (pair_after c.args.version) c.args.count c.args.bytes.now) all
+    let last = subst (λ i. many_after (pair_after c.args.version) (c.args.count - i) c.loop-i.rest.now ≡ many_after (pair_after c.args.version)
+    c.args.count c.args.bytes.now) all
     c.loop-i.invariant in
     sym last ∙ steps_end (pair_after c.args.version) c.args.count c.loop-i.rest.now

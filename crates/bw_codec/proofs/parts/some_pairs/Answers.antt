@@ -12,7 +12,8 @@ returns-in_err-read c =
     let p = err_from_is_err_and c.from_residual-in_err-read.result c.from_residual-in_err-read.ensures.1 in
     let stops = λ (none : (pair_at c.args.version) c.loop-i.rest.now ≡ None). sym c.loop-i.invariant
     ∙ many_stops (pair_at c.args.version) c.args.count c.loop-i._i c.loop-i.items.items c.loop-i.rest.now c.loop-i-test.true none in
-    rw (p.1, p.2) (fault_goes_on c.in_err-read.field-0.0 ((pair_at c.args.version) c.loop-i.rest.now) (many_at (pair_at c.args.version) c.args.count c.args.bytes.now) stops
+    rw (p.1, p.2) (fault_goes_on c.in_err-read.field-0.0 ((pair_at c.args.version) c.loop-i.rest.now)
+    (many_at (pair_at c.args.version) c.args.count c.args.bytes.now) stops
     c.in_err-read.ensures.gives)
 
 pub loop-i-preserved : goal.loop-i-preserved
@@ -25,6 +26,8 @@ loop-i-preserved c =
 pub returns : goal.returns
 returns c =
     let all : c.loop-i._i ≡ c.args.count = omega arith in
-    let last = subst (λ i. prefixed c.loop-i.items.items (many_at (pair_at c.args.version) (c.args.count - i) c.loop-i.rest.now) ≡ many_at (pair_at c.args.version) c.args.count c.args.bytes.now)
+    let last = subst (λ i. prefixed c.loop-i.items.items (many_at (pair_at c.args.version) (c.args.count - i) c.loop-i.rest.now) ≡ many_at
+    (pair_at c.args.version) c.args.count c.args.bytes.now)
     all c.loop-i.invariant in
-    sym last ∙ many_ends (pair_at c.args.version) c.args.count c.loop-i.items.items c.loop-i.rest.now ∙ rw (append-nil c.loop-i.items.items, c.of-2.ensures) refl
+    sym last ∙ many_ends (pair_at c.args.version) c.args.count c.loop-i.items.items c.loop-i.rest.now
+    ∙ rw (append-nil c.loop-i.items.items, c.of-2.ensures) refl

@@ -1,7 +1,8 @@
 use Rattle.std.proofs.Common.{inl, inr, refl, arith}
 use Rattle.std.proofs.lemmas.Result.{err_from_is_err_and}
 use Rattle.bw_drive.proofs.Runs.{kept_all, kept_but, runs_then, stops_now, stops_then}
-use Rattle.bw_drive.proofs.store_thread.flush_and_clean.Goals.{then-clean_at-eq0-via-then-clean_at-eq0, then-clean_at-eq0-via-else-clean_at-eq0+then-live-clean_at}
+use Rattle.bw_drive.proofs.store_thread.flush_and_clean.Goals.{then-clean_at-eq0-via-then-clean_at-eq0}
+use Rattle.bw_drive.proofs.store_thread.flush_and_clean.Goals.{then-clean_at-eq0-via-else-clean_at-eq0+then-live-clean_at}
 use Rattle.bw_drive.proofs.store_thread.flush_and_clean.Goals as goal
 
 pub returns-in_err-flush-clause-runs : goal.returns-in_err-flush-clause-runs

@@ -2,7 +2,8 @@ use Rattle.std.proofs.Common.{◌≤◌, arith, length, refl}
 use Rattle.std.proofs.lemmas.Result.{err_from_is_err_and}
 use Rattle.bw_codec.specs.Grammar.{body_bytes_in}
 use Rattle.bw_log.specs.Starts.{starts_of}
-use Rattle.bw_log.proofs.Looked.{begins, some_left, none_left, next_block, all_passed, outlined_as, behind_it, stepped, no_outline, only_memory, some_as, head_there}
+use Rattle.bw_log.proofs.Looked.{begins, some_left, none_left, next_block, all_passed, outlined_as, behind_it, stepped, no_outline, only_memory}
+use Rattle.bw_log.proofs.Looked.{some_as, head_there}
 use Rattle.bw_log.proofs.starts.starts_in.Goals as goal
 
 pub returns-in_err-rest : goal.returns-in_err-rest

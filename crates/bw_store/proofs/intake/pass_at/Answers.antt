@@ -9,7 +9,8 @@ returns-clause-rings c = set_kept ring_of_lane c.args.lanes.now.items c.args.at 
     c.index_mut.ensures.value c.pass_alone.ensures.ring
 
 pub returns-clause-took : goal.returns-clause-took
-returns-clause-took c = took taken c.args.lanes.now.items c.args.at c.pass_alone.new.self c.index_mut.result.now (marked (c.args.item.now ∷ [])) c.requires.inside
+returns-clause-took c = took taken c.args.lanes.now.items c.args.at c.pass_alone.new.self c.index_mut.result.now (marked (c.args.item.now ∷ []))
+    c.requires.inside
     c.index_mut.ensures.value c.pass_alone.ensures.added
 
 pub returns-clause-given : goal.returns-clause-given

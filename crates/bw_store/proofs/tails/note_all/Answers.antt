@@ -10,7 +10,8 @@ rows-init c = record {
   rest = refl;
   inside = c.requires.inside;
   room = (let room = c.requires.room in omega arith);
-  links = subst (λ n. AllByRecursion (λ row. HasRoomsAt n c.args.tails.now.items (row.page - 1)) c.args.rows.now) (less_none (length c.args.rows.now)) c.requires.links;
+  links = subst (λ n. AllByRecursion (λ row. HasRoomsAt n c.args.tails.now.items (row.page - 1)) c.args.rows.now)
+      (less_none (length c.args.rows.now)) c.requires.links;
 }
 
 pub rows-preserved : goal.rows-preserved
@@ -27,7 +28,8 @@ rows-preserved c =
           c.is_some.ensures c.note.ensures.value ∙ i.rest;
       inside = subst (λ n. AreIn n (drop (c.rows.at + 1) c.args.rows.now))
           (sym (tails_length c.rows.tails.items c.note.new.tails.items
-          (get_or c.args.rows.now c.rows.at (record { page = 0; made = None; place = record { frame = 0; index = 0 }; records = None })) c.index-records-at.result c.is_some.result c.is_some.ensures c.note.ensures.value))
+          (get_or c.args.rows.now c.rows.at (record { page = 0; made = None; place = record { frame = 0; index = 0 }; records = None }))
+          c.index-records-at.result c.is_some.result c.is_some.ensures c.note.ensures.value))
           (in_rest _ c.args.rows.now c.rows.at _ lt is i.inside);
       room = omega arith;
       links = rooms_less c.args.rows.now c.rows.tails.items c.note.new.tails.items (length c.args.rows.now - (c.rows.at + 1)) c.note.ensures.links

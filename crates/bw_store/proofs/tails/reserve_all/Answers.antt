@@ -22,5 +22,6 @@ pub returns-clause-same : goal.returns-clause-same
 returns-clause-same c = c.rows.invariant.same ∙ ap (map tail_of) c.in_ok-reserve.ensures.items
 
 pub returns-clause-links : goal.returns-clause-links
-returns-clause-links c = all_first (λ row. HasRoomsAt 4 c.rows.tails.items (row.page - 1)) c.args.rows.now c.rows.at (let end = c.rows-test.false in omega arith)
+returns-clause-links c = all_first (λ row. HasRoomsAt 4 c.rows.tails.items (row.page - 1)) c.args.rows.now c.rows.at
+    (let end = c.rows-test.false in omega arith)
     c.rows.invariant.links

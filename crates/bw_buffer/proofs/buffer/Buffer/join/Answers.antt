@@ -15,26 +15,32 @@ use Rattle.bw_buffer.proofs.buffer.Buffer.join.Goals.{After-self-2-1}
 use Rattle.bw_buffer.proofs.Joining.{joins_room}
 
 pub index-row-requires : goal.index-row-requires
-index-row-requires c = (joins_room c.self.inside c.args.self.now c.args.page c.args.at c.args.back.now c.args.ops.now c.self.invariant c.self.view_is c.requires.joins c.requires.fits c.requires.lawful).row
+index-row-requires c = (joins_room c.self.inside c.args.self.now c.args.page c.args.at c.args.back.now c.args.ops.now c.self.invariant c.self.view_is
+    c.requires.joins c.requires.fits c.requires.lawful).row
 
 pub index_mut-requires : goal.index_mut-requires
-index_mut-requires c = (joins_room c.self.inside c.args.self.now c.args.page c.args.at c.args.back.now c.args.ops.now c.self.invariant c.self.view_is c.requires.joins c.requires.fits c.requires.lawful).row
+index_mut-requires c = (joins_room c.self.inside c.args.self.now c.args.page c.args.at c.args.back.now c.args.ops.now c.self.invariant c.self.view_is
+    c.requires.joins c.requires.fits c.requires.lawful).row
 
 pub overflow_add-row : goal.overflow_add-row
 overflow_add-row c =
-    let r = joins_room c.self.inside c.args.self.now c.args.page c.args.at c.args.back.now c.args.ops.now c.self.invariant c.self.view_is c.requires.joins c.requires.fits c.requires.lawful in
+    let r = joins_room c.self.inside c.args.self.now c.args.page c.args.at c.args.back.now c.args.ops.now c.self.invariant c.self.view_is
+    c.requires.joins c.requires.fits c.requires.lawful in
     let f = r.few c.index-row.result.now c.index-row.ensures in record { fits = (let x = f.0 in omega arith) }
 
 pub overflow_add-row-2 : goal.overflow_add-row-2
 overflow_add-row-2 c =
-    let r = joins_room c.self.inside c.args.self.now c.args.page c.args.at c.args.back.now c.args.ops.now c.self.invariant c.self.view_is c.requires.joins c.requires.fits c.requires.lawful in
+    let r = joins_room c.self.inside c.args.self.now c.args.page c.args.at c.args.back.now c.args.ops.now c.self.invariant c.self.view_is
+    c.requires.joins c.requires.fits c.requires.lawful in
     let f = r.few c.index-row.result.now c.index-row.ensures in record { fits = (let x = f.1 in omega (arith, c.ops_length-more.ensures.value)) }
 
 pub push_reserved-requires : goal.push_reserved-requires
-push_reserved-requires c = (joins_room c.self.inside c.args.self.now c.args.page c.args.at c.args.back.now c.args.ops.now c.self.invariant c.self.view_is c.requires.joins c.requires.fits c.requires.lawful).pieces
+push_reserved-requires c = (joins_room c.self.inside c.args.self.now c.args.page c.args.at c.args.back.now c.args.ops.now c.self.invariant
+    c.self.view_is c.requires.joins c.requires.fits c.requires.lawful).pieces
 
 pub write_ops-requires : goal.write_ops-requires
-write_ops-requires c = (joins_room c.self.inside c.args.self.now c.args.page c.args.at c.args.back.now c.args.ops.now c.self.invariant c.self.view_is c.requires.joins c.requires.fits c.requires.lawful).arena
+write_ops-requires c = (joins_room c.self.inside c.args.self.now c.args.page c.args.at c.args.back.now c.args.ops.now c.self.invariant c.self.view_is
+    c.requires.joins c.requires.fits c.requires.lawful).arena
 
 abbrev row : After-self-2-1 → Row
 row c = c.index-row.result.now
@@ -54,7 +60,8 @@ fields c = record c.self.inside {
 now_holds : (c : After-self-2-1) → Holds (fields c) (joined (blocks_of c.self.inside) (Delta c.args.page c.args.back.now c.args.ops.now))
 now_holds c =
     let a = c.self.inside in
-    let r = joins_room a c.args.self.now c.args.page c.args.at c.args.back.now c.args.ops.now c.self.invariant c.self.view_is c.requires.joins c.requires.fits c.requires.lawful in
+    let r = joins_room a c.args.self.now c.args.page c.args.at c.args.back.now c.args.ops.now c.self.invariant c.self.view_is c.requires.joins
+    c.requires.fits c.requires.lawful in
     let fits = r.fits in
     let len = c.ops_length-more.ensures.value in
     lengthened a (fields c) c.args.page c.args.at c.args.back.now c.args.ops.now (flat_map op_bytes c.args.ops.now) (row c) (piece c) (record {

@@ -9,10 +9,12 @@ index-requires c = (told_some c.self.inside c.args.page c.in-Some.at c.self.inva
 
 pub returns-then-have_room : goal.returns-then-have_room
 returns-then-have_room c =
-    sym (joins_told c.self.inside c.args.page c.in-Some.at c.args.records c.index.result.now true c.self.invariant c.in-Some.ensures c.index.ensures c.if-have_room.ensures)
+    sym (joins_told c.self.inside c.args.page c.in-Some.at c.args.records c.index.result.now true c.self.invariant c.in-Some.ensures c.index.ensures
+    c.if-have_room.ensures)
     ∙ ap (λ (f : Filling). joins_of c.args.records c.args.page f.blocks) c.self.view_is
 
 pub returns-else-have_room : goal.returns-else-have_room
 returns-else-have_room c =
-    sym (joins_told c.self.inside c.args.page c.in-Some.at c.args.records c.index.result.now false c.self.invariant c.in-Some.ensures c.index.ensures c.if-have_room.ensures)
+    sym (joins_told c.self.inside c.args.page c.in-Some.at c.args.records c.index.result.now false c.self.invariant c.in-Some.ensures c.index.ensures
+    c.if-have_room.ensures)
     ∙ ap (λ (f : Filling). joins_of c.args.records c.args.page f.blocks) c.self.view_is

@@ -67,7 +67,8 @@ invariant_of-self c =
 
 pub returns : goal.returns
 returns c leaf lawful spelled =
-    let same : Base c.requires.spells.0 ≡ Base leaf = same_block (Base c.requires.spells.0) (Base leaf) c.requires.spells.2 lawful (sym c.requires.spells.3 ∙ spelled) in
+    let same : Base c.requires.spells.0 ≡ Base leaf = same_block (Base c.requires.spells.0) (Base leaf) c.requires.spells.2 lawful
+    (sym c.requires.spells.3 ∙ spelled) in
     let one : c.requires.spells.0 ≡ leaf = cc in
     let page : leaf.page ≡ c.args.page = ap (λ (l : Leaf). l.page) (sym one) ∙ c.requires.spells.1 in
     seen (fields c) (blocks_of c.self.inside ++ Base leaf ∷ []) (now_holds c leaf page lawful spelled)

@@ -37,7 +37,8 @@ whole_row_is (Delta page back ops) r n whole is len = absurd cc
 whole_row_is (Base leaf) r n whole is len = (ap (λ (x : Row). x.mark) is, ap (λ (x : Row). x.len) is ∙ len, refl)
 whole_row_is (Split page back upper) r n whole is len = (ap (λ (x : Row). x.mark) is, ap (λ (x : Row). x.len) is ∙ len, refl)
 
-closed_is : (b : Block) (p n : ℕ) (was now : Option ℕ) → is_delta b ≡ false → now ≡ (if is_closed_by p (mark_of b) then None else was) → now ≡ open_after p n b was
+closed_is : (b : Block) (p n : ℕ) (was now : Option ℕ) → is_delta b ≡ false → now ≡ (if is_closed_by p (mark_of b) then None else was)
+    → now ≡ open_after p n b was
 closed_is (Delta page back ops) p n was now whole e = absurd cc
 closed_is (Base leaf) p n was now whole e = e
 closed_is (Split page back upper) p n was now whole e = e
@@ -66,7 +67,8 @@ now_holds c =
       arena = c.write_block.ensures.items;
       piece = (count, c.block_length-len.ensures.value);
       row_is = whole_row_is c.args.block.now c.whole_row.result c.block_length-len.result c.requires.whole
-          (c.whole_row.ensures ∙ ap (λ m. let r : Row = record { mark = m; back = record { frame = 0; index = 0 }; ops = 0; len = c.block_length-len.result } in r) c.of-mark.ensures)
+          (c.whole_row.ensures ∙ ap (λ m. let r : Row = record
+          { mark = m; back = record { frame = 0; index = 0 }; ops = 0; len = c.block_length-len.result } in r) c.of-mark.ensures)
           c.block_length-len.ensures.value;
       told = λ p. closed_is c.args.block.now p (length a.rows.items) (index_at a.deltas p) (index_at c.close.new.index p) c.requires.whole
           (c.close.ensures.value p ∙ ap (λ m. if is_closed_by p m then None else index_at a.deltas p) c.of-mark.ensures);
@@ -87,5 +89,6 @@ returns c =
 
 pub push_reserved-requires : goal.push_reserved-requires
 push_reserved-requires c =
-    let room = room_rows_of c.self.inside c.args.self.now c.self.view_is (length (block_bytes c.args.block.now)) c.self.invariant (some_bytes c.args.block.now) c.requires.fits in
+    let room = room_rows_of c.self.inside c.args.self.now c.self.view_is (length (block_bytes c.args.block.now)) c.self.invariant
+    (some_bytes c.args.block.now) c.requires.fits in
     omega arith

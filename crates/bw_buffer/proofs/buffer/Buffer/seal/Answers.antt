@@ -17,7 +17,8 @@ pub lay_out-requires-clause-within : goal.lay_out-requires-clause-within
 lay_out-requires-clause-within c = rw (c.as_slice.ensures.value, c.as_slice-2.ensures.value) c.self.invariant.within
 
 pub lay_out-requires-clause-size : goal.lay_out-requires-clause-size
-lay_out-requires-clause-size c = rw (c.as_slice.ensures.value, c.as_slice-2.ensures.value, c.as_slice-3.ensures.value) (body_size c.self.inside c.self.invariant)
+lay_out-requires-clause-size c = rw (c.as_slice.ensures.value, c.as_slice-2.ensures.value, c.as_slice-3.ensures.value)
+    (body_size c.self.inside c.self.invariant)
 
 pub lay_out-requires-clause-spots : goal.lay_out-requires-clause-spots
 lay_out-requires-clause-spots c = rw c.as_slice.ensures.value (spots_enough c.self.inside c.self.invariant)

@@ -17,5 +17,6 @@ renew-requires-2 g c = record {
 pub returns-clause-leaves : goal.returns-clause-leaves
 returns-clause-leaves g c =
     subst (λ (s : Kept). CleanShows s (Ok c.in_ok-cleaned.cleaned) (kept_in c.renew-2.new.self (λ z. (goal.Segment-dyn g z).holding z.1))) c.renew.ensures.same
-    (subst (λ (t : Kept). CleanShows (kept_in c.renew.new.self (λ z. (goal.Segment-dyn g z).holding z.1)) (Ok c.in_ok-cleaned.cleaned) t) (sym c.renew-2.ensures.same)
+    (subst (λ (t : Kept). CleanShows (kept_in c.renew.new.self (λ z. (goal.Segment-dyn g z).holding z.1)) (Ok c.in_ok-cleaned.cleaned) t)
+    (sym c.renew-2.ensures.same)
     c.in_ok-cleaned.ensures.leaves)

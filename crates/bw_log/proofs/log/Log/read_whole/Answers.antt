@@ -17,7 +17,8 @@ read_onto-requires-clause-within g c = spot_within (spotted_own c.requires.sound
 pub starts_in-requires : goal.starts_in-requires
 starts_in-requires g c =
     let s = spotted_own c.requires.sound c.requires.inside c.spot-spot.ensures in
-    let read = c.deref.ensures.value ∙ spot_bytes s c.new-bytes.result.items c.read_onto.new.out.items c.new-bytes.ensures.items c.in_ok-read_onto.ensures.bytes in
+    let read = c.deref.ensures.value ∙ spot_bytes s c.new-bytes.result.items c.read_onto.new.out.items c.new-bytes.ensures.items
+    c.in_ok-read_onto.ensures.bytes in
     let short : c.spot-spot.result.len < 2 ^ 32 = search rules in
     let size = s.boxed.size in
     let len = s.len in

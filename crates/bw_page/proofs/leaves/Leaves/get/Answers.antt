@@ -8,7 +8,8 @@ use Rattle.bw_page.proofs.leaves.Leaves.get.Goals as goal
 pub returns-in-Ok : goal.returns-in-Ok
 returns-in-Ok c =
     let found : Ok c.in-Ok.at ≡ seek_of c.args.key.now c.home_of-leaf.result.now.pairs = cc (c.in-Ok.ensures.found) in
-    let value = reads c.args.key.now c.home_of-leaf.result.now.pairs (Ok c.in-Ok.at) (ascends_rises _ c.home_of-leaf.ensures.ascends) found c.index-pairs-at.result in
+    let value = reads c.args.key.now c.home_of-leaf.result.now.pairs (Ok c.in-Ok.at) (ascends_rises _ c.home_of-leaf.ensures.ascends) found
+    c.index-pairs-at.result in
     ap Some (c.to_value.ensures ∙ ap (λ (p : Bytes × Bytes). p.1) c.index-pairs-at.is)
     ∙ ap (λ (ps : Pairs). Some (get_or ps c.in-Ok.at c.index-pairs-at.result).1) c.as_slice-pairs.ensures
     ∙ sym (c.home_of-leaf.ensures.value ∙ value)
@@ -16,4 +17,5 @@ returns-in-Ok c =
 pub returns-in-Err : goal.returns-in-Err
 returns-in-Err c =
     let found : Err c.in-Err.field-0 ≡ seek_of c.args.key.now c.home_of-leaf.result.now.pairs = cc (c.in-Err.ensures.found) in
-    sym (c.home_of-leaf.ensures.value ∙ reads c.args.key.now c.home_of-leaf.result.now.pairs (Err c.in-Err.field-0) (ascends_rises _ c.home_of-leaf.ensures.ascends) found)
+    sym (c.home_of-leaf.ensures.value ∙ reads c.args.key.now c.home_of-leaf.result.now.pairs (Err c.in-Err.field-0)
+    (ascends_rises _ c.home_of-leaf.ensures.ascends) found)

@@ -16,7 +16,8 @@ no_pair None above e none = sym e
 no_pair (Some p) above e none = absurd cc
 
 pub pages-init : goal.pages-init
-pages-init c = subst (λ (f : Bytes). HasCome (union c.args.self.now.leaves) c.args.key.now f) (sym c.copy-from.ensures) (come_first c.args.self.now.leaves c.args.key.now)
+pages-init c = subst (λ (f : Bytes). HasCome (union c.args.self.now.leaves) c.args.key.now f) (sym c.copy-from.ensures)
+    (come_first c.args.self.now.leaves c.args.key.now)
 
 pub returns-then-is_some : goal.returns-then-is_some
 returns-then-is_some c =
@@ -32,7 +33,8 @@ pub pages-preserved : goal.pages-preserved
 pages-preserved c =
     let none = no_pair c.pair_from-found.result _ (c.pair_from-found.ensures ∙ ap (λ (l : Leaf). pair_above c.pages.from l.pairs) c.home_of.ensures.home)
     (sym c.is_some.ensures ∙ c.if-is_some.false) in
-    come_further c.args.self.now.m c.args.self.now.leaves c.count.ensures.lawful c.args.key.now c.pages.from c.in-Some.low c.pages.invariant none c.in-Some.ensures.some
+    come_further c.args.self.now.m c.args.self.now.leaves c.count.ensures.lawful c.args.key.now c.pages.from c.in-Some.low c.pages.invariant none
+    c.in-Some.ensures.some
 
 pub returns-in-None : goal.returns-in-None
 returns-in-None c =

@@ -8,7 +8,8 @@ use Rattle.bw_page.proofs.leaves.Leaves.scan.Goals as goal
 
 pub pages-init : goal.pages-init
 pages-init c =
-    subst (λ (x : Bytes × Pairs). HasGone (union c.args.self.now.leaves) c.args.key.now x.0 c.args.most x.1) (λ i. (sym c.copy-from.ensures i, sym c.clear.ensures.items i))
+    subst (λ (x : Bytes × Pairs). HasGone (union c.args.self.now.leaves) c.args.key.now x.0 c.args.most x.1)
+    (λ i. (sym c.copy-from.ensures i, sym c.clear.ensures.items i))
     (gone_first c.args.self.now.leaves c.args.key.now c.args.most)
 
 pub pages-smaller : goal.pages-smaller
@@ -18,14 +19,16 @@ pages-smaller c =
 pub pages-preserved : goal.pages-preserved
 pages-preserved c =
     subst (λ (ps : Pairs). HasGone (union c.args.self.now.leaves) c.args.key.now c.in-Some.low c.args.most ps)
-    (sym (c.in_ok-add_pairs.ensures.ok ∙ ap (λ (l : Leaf). with_some c.args.most c.pages.found.items (pairs_above c.pages.from l.pairs)) c.home_of.ensures.home))
+    (sym (c.in_ok-add_pairs.ensures.ok ∙ ap (λ (l : Leaf). with_some c.args.most c.pages.found.items (pairs_above c.pages.from l.pairs))
+    c.home_of.ensures.home))
     (gone_more c.args.self.now.m c.args.self.now.leaves c.count.ensures.lawful c.args.key.now c.pages.from c.args.most c.pages.found.items c.pages.invariant
     c.in-Some.low (omega (arith, c.pages-test.true, c.len.ensures)) c.in-Some.ensures.some)
 
 pub returns-in-None : goal.returns-in-None
 returns-in-None c =
     subst (λ (ps : Pairs). IsStretch (union c.args.self.now.leaves) c.args.key.now c.args.most ps)
-    (sym (c.in_ok-add_pairs.ensures.ok ∙ ap (λ (l : Leaf). with_some c.args.most c.pages.found.items (pairs_above c.pages.from l.pairs)) c.home_of.ensures.home))
+    (sym (c.in_ok-add_pairs.ensures.ok ∙ ap (λ (l : Leaf). with_some c.args.most c.pages.found.items (pairs_above c.pages.from l.pairs))
+    c.home_of.ensures.home))
     (gone_last c.args.self.now.m c.args.self.now.leaves c.count.ensures.lawful c.args.key.now c.pages.from c.args.most c.pages.found.items c.pages.invariant
     (omega (arith, c.pages-test.true, c.len.ensures)) (c.in-None.ensures.none refl))
 

@@ -30,7 +30,8 @@ pub returns-in_err-step-clause-only_spent : goal.returns-in_err-step-clause-only
 returns-in_err-step-clause-only_spent g c e =
     let p = err_from_is_err_and c.from_residual.result c.from_residual.ensures.1 in
     let was : c.in_err-step.field-0.0 ≡ Spent = cc (e, p.1, p.2) in
-    next_spent g.T.HasRecord.record_of c.args.items.now c.loop-item.item-index c.item-item.result c.record-change.result.now c.loop-item-test.true c.item-item.is
+    next_spent g.T.HasRecord.record_of c.args.items.now c.loop-item.item-index c.item-item.result c.record-change.result.now c.loop-item-test.true
+    c.item-item.is
     c.record-change.ensures _ _ _ c.loop-item.invariant.ran (c.in_err-step.ensures.only_spent (ap Err was))
 
 pub displace-requires : goal.displace-requires

@@ -7,7 +7,8 @@ use Rattle.bw_page.proofs.lows.LowIndex.find_whole.Goals as goal
 pub returns-in-Some-clause-some : goal.returns-in-Some-clause-some
 returns-in-Some-clause-some c =
     let range = c.range.ensures.in_range tt in
-    let last = last_of_range (page_of_low c.self.inside.all.entries) c.copy.result _ _ (range.3 _ _ c.in-Some.ensures.steps) (range.4 _ _ c.in-Some.ensures.steps) in
+    let last = last_of_range (page_of_low c.self.inside.all.entries) c.copy.result _ _ (range.3 _ _ c.in-Some.ensures.steps)
+    (range.4 _ _ c.in-Some.ensures.steps) in
     subst (λ (lows : List (Bytes × ℕ)). IsGreatestLow (page_of_low lows) c.args.key.now c.in-Some.page.now) c.self.view_is
     (subst (λ (key : Bytes). IsGreatestLow (page_of_low c.self.inside.all.entries) key c.in-Some.page.now) c.copy.ensures last)
 

@@ -20,23 +20,32 @@ pub invariant_of-self-else-is_none : goal.invariant_of-self-else-is_none
 invariant_of-self-else-is_none c =
     let marked = heads_set (page_of_low c.self.inside.all.entries) (tree.get nat_cmp c.self.inside.heads) c.self.invariant (tree.get nat_cmp c.insert.new.self)
     c.head-head.result 0 (λ no. absurd (no refl)) c.in_ok-before.ensures.updates.0 in
-    let zero : tree.get nat_cmp c.insert.new.self (head c.args.low) ≡ Some 0 = own_head _ _ 0 _ _ c.head-head.ensures.value (c.in_ok-before.ensures.updates.0 (head c.args.low)) in
-    lows_set (page_of_low c.self.inside.all.entries) (tree.get nat_cmp c.insert.new.self) marked (page_of_low c.insert-2.new.self.entries) c.args.low (Some c.args.page)
-    (λ some. (c.head-head.ensures.bytes, subst (λ (o : Option ℕ). IsSome o) (sym zero) refl)) (λ p is. let e : p ≡ 0 = cc (is, zero) in e) c.in_ok-insert.ensures.updates.0
+    let zero : tree.get nat_cmp c.insert.new.self (head c.args.low) ≡ Some 0 = own_head _ _ 0 _ _ c.head-head.ensures.value
+    (c.in_ok-before.ensures.updates.0 (head c.args.low)) in
+    lows_set (page_of_low c.self.inside.all.entries) (tree.get nat_cmp c.insert.new.self) marked (page_of_low c.insert-2.new.self.entries) c.args.low
+    (Some c.args.page)
+    (λ some. (c.head-head.ensures.bytes, subst (λ (o : Option ℕ). IsSome o) (sym zero) refl)) (λ p is. let e : p ≡ 0 = cc (is, zero) in e)
+    c.in_ok-insert.ensures.updates.0
 
 pub invariant_of-self-in-Ok : goal.invariant_of-self-in-Ok
 invariant_of-self-in-Ok c =
     let marked = heads_set (page_of_low c.self.inside.all.entries) (tree.get nat_cmp c.self.inside.heads) c.self.invariant (tree.get nat_cmp c.insert.new.self)
     c.head-head.result 0 (λ no. absurd (no refl)) c.in_ok-before.ensures.updates.0 in
-    let zero : tree.get nat_cmp c.insert.new.self (head c.args.low) ≡ Some 0 = own_head _ _ 0 _ _ c.head-head.ensures.value (c.in_ok-before.ensures.updates.0 (head c.args.low)) in
-    let added = lows_set (page_of_low c.self.inside.all.entries) (tree.get nat_cmp c.insert.new.self) marked (page_of_low c.insert-2.new.self.entries) c.args.low (Some c.args.page)
-    (λ some. (c.head-head.ensures.bytes, subst (λ (o : Option ℕ). IsSome o) (sym zero) refl)) (λ p is. let e : p ≡ 0 = cc (is, zero) in e) c.in_ok-insert.ensures.updates.0 in
-    let own = only_low (page_of_low c.self.inside.all.entries) (tree.get nat_cmp c.self.inside.heads) c.self.invariant (page_of_low c.insert-2.new.self.entries) c.args.low c.args.page
+    let zero : tree.get nat_cmp c.insert.new.self (head c.args.low) ≡ Some 0 = own_head _ _ 0 _ _ c.head-head.ensures.value
+    (c.in_ok-before.ensures.updates.0 (head c.args.low)) in
+    let added = lows_set (page_of_low c.self.inside.all.entries) (tree.get nat_cmp c.insert.new.self) marked
+    (page_of_low c.insert-2.new.self.entries) c.args.low (Some c.args.page)
+    (λ some. (c.head-head.ensures.bytes, subst (λ (o : Option ℕ). IsSome o) (sym zero) refl)) (λ p is. let e : p ≡ 0 = cc (is, zero) in e)
+    c.in_ok-insert.ensures.updates.0 in
+    let own = only_low (page_of_low c.self.inside.all.entries) (tree.get nat_cmp c.self.inside.heads) c.self.invariant
+    (page_of_low c.insert-2.new.self.entries) c.args.low c.args.page
     (ap (tree.get nat_cmp c.self.inside.heads) (sym c.head-head.ensures.value) ∙ sym c.in_ok-before.ensures.old
     ∙ none_told c.in_ok-before.before c.is_none.result c.is_none.ensures c.if-is_none.true)
-    (c.in_ok-insert.ensures.updates.0 c.args.low ∙ ap (λ b. cond b (Some c.args.page) (page_of_low c.self.inside.all.entries c.args.low)) (itself c.args.low)) c.in_ok-insert.ensures.updates.0 in
+    (c.in_ok-insert.ensures.updates.0 c.args.low ∙ ap (λ b. cond b (Some c.args.page) (page_of_low c.self.inside.all.entries c.args.low))
+    (itself c.args.low)) c.in_ok-insert.ensures.updates.0 in
     heads_set (page_of_low c.insert-2.new.self.entries) (tree.get nat_cmp c.insert.new.self) added (tree.get nat_cmp c.insert-then-is_none.new.self)
-    c.head-head.result c.args.page (λ no. subst (λ (h : ℕ). IsOnlyLow (page_of_low c.insert-2.new.self.entries) h c.args.page) (sym c.head-head.ensures.value) own) c.in-Ok.ensures.updates.0
+    c.head-head.result c.args.page (λ no. subst (λ (h : ℕ). IsOnlyLow (page_of_low c.insert-2.new.self.entries) h c.args.page)
+    (sym c.head-head.ensures.value) own) c.in-Ok.ensures.updates.0
 
 pub returns-in-Ok-clause-ok : goal.returns-in-Ok-clause-ok
 returns-in-Ok-clause-ok c q =

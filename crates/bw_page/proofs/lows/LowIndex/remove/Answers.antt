@@ -12,11 +12,13 @@ use Rattle.bw_page.proofs.lows.LowIndex.remove.Goals as goal
 
 pub invariant_of-self : goal.invariant_of-self
 invariant_of-self c =
-    let marked = heads_marked (page_of_low c.self.inside.all.entries) (tree.get nat_cmp c.self.inside.heads) c.self.invariant (tree.get nat_cmp c.insert.new.self)
+    let marked = heads_marked (page_of_low c.self.inside.all.entries) (tree.get nat_cmp c.self.inside.heads) c.self.invariant
+    (tree.get nat_cmp c.insert.new.self)
     c.head.result _ _ _ c.insert.result (λ e h. ap (λ (es : List (ℕ × ℕ)). lookup (tree.is_at (nat_cmp h)) es) e)
     (on_ok_weaker c.insert.result (λ u. u.0) c.insert.ensures.updates) c.insert.ensures.absent c.insert.ensures.err in
     lows_set (page_of_low c.self.inside.all.entries) (tree.get nat_cmp c.insert.new.self) marked.0 (page_of_low c.remove.new.self.entries) c.args.low.now None
-    (λ some. let no : IsSome {T = ℕ} None = some in absurd (cc)) (λ p is. marked.1 p (ap (tree.get nat_cmp c.insert.new.self) c.head.ensures.value ∙ is)) c.remove.ensures.updates.0
+    (λ some. let no : IsSome {T = ℕ} None = some in absurd (cc))
+    (λ p is. marked.1 p (ap (tree.get nat_cmp c.insert.new.self) c.head.ensures.value ∙ is)) c.remove.ensures.updates.0
 
 pub returns : goal.returns
 returns c q =

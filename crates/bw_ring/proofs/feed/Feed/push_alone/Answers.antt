@@ -12,5 +12,6 @@ invariant_of-self c = record {
 
 pub returns-clause-added : goal.returns-clause-added
 returns-clause-added c = one-more _ _ (c.args.item ∷ [])
-    (more-alone c.args.self.now.firsts.end.past c.push_reserved.new.self.end.past c.args.self.now.rests.end.past (Alone c.args.item) c.args.item (c.args.item ∷ [])
+    (more-alone c.args.self.now.firsts.end.past c.push_reserved.new.self.end.past c.args.self.now.rests.end.past (Alone c.args.item) c.args.item
+    (c.args.item ∷ [])
     c.args.self.now.whole c.push_reserved.ensures.sent.0 refl refl)

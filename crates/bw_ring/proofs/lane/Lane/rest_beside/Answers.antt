@@ -16,11 +16,13 @@ returns-clause-value c =
     let past : leading c.slots_beside-groups.new.self.end.past ≡ length c.slots_beside.new.self.end.past = grind arith in
     let sent : leading c.slots_beside-groups.new.producer.end.past ≡ length c.slots_beside.new.producer.end.past = grind arith in
     let whole = rest-whole c.slots_beside-groups.new.self.end.past c.slots_beside-groups.new.self.end.ahead c.slots_beside-groups.new.producer.end.past
-    c.slots_beside.new.self.end.past c.slots_beside.new.self.end.ahead c.slots_beside.new.producer.end.past past sent c.slots_beside-groups.ensures.fifo c.slots_beside.ensures.fifo in
+    c.slots_beside.new.self.end.past c.slots_beside.new.self.end.ahead c.slots_beside.new.producer.end.past past sent
+    c.slots_beside-groups.ensures.fifo c.slots_beside.ensures.fifo in
     c.slots_beside-groups.ensures.value ∙ sym (all-grouped c.slots_beside-groups.new.self.end.ahead c.slots_beside.new.self.end.ahead whole)
 
 pub returns-clause-whole : goal.returns-clause-whole
 returns-clause-whole c =
     let past : leading c.slots_beside-groups.new.self.end.past ≡ length c.slots_beside.new.self.end.past = grind arith in
     all-given c.slots_beside-groups.new.self.end.past c.slots_beside-groups.new.self.end.ahead c.slots_beside-groups.new.producer.end.past
-    c.slots_beside.new.self.end.past c.slots_beside.new.self.end.ahead c.slots_beside.new.producer.end.past past c.slots_beside-groups.ensures.fifo c.slots_beside.ensures.fifo
+    c.slots_beside.new.self.end.past c.slots_beside.new.self.end.ahead c.slots_beside.new.producer.end.past past c.slots_beside-groups.ensures.fifo
+    c.slots_beside.ensures.fifo

@@ -8,7 +8,8 @@ use Rattle.bw_store.proofs.Showing.{hides_continues, hides_floor, shows_continue
 use Rattle.bw_store.proofs.store.Store.clean.Goals as goal
 
 pub returns-in_err-cleaned-clause-leaves : goal.returns-in_err-cleaned-clause-leaves
-returns-in_err-cleaned-clause-leaves g c = (let p = err_from_is_err_and c.from_residual.result c.from_residual.ensures.1 in rw (p.1, p.2) (inl c.in_err-cleaned.ensures.leaves))
+returns-in_err-cleaned-clause-leaves g c = (let p = err_from_is_err_and c.from_residual.result c.from_residual.ensures.1 in rw (p.1, p.2)
+    (inl c.in_err-cleaned.ensures.leaves))
 
 pub returns-in_err-publish-clause-leaves : goal.returns-in_err-publish-clause-leaves
 returns-in_err-publish-clause-leaves g c =
@@ -30,19 +31,24 @@ returns-clause-boxes g c = shows_roster _ _ c.in_ok-publish.ensures.leaves ∙ c
 pub returns-in_err-publish-clause-floor : goal.returns-in_err-publish-clause-floor
 returns-in_err-publish-clause-floor g c =
     let p = err_from_is_err_and c.from_residual-in_err-publish.result c.from_residual-in_err-publish.ensures.1 in
-    rw (p.1, p.2) (hides_floor 1 (kept_by c.args.self.now (λ z. (goal.Segment-dyn g z).holding z.1)) _ _ c.in_ok-cleaned.cleaned c.in_ok-cleaned.ensures.floor c.in_ok-cleaned.ensures.boxes c.in_err-publish.ensures.leaves)
+    rw (p.1, p.2) (hides_floor 1 (kept_by c.args.self.now (λ z. (goal.Segment-dyn g z).holding z.1)) _ _ c.in_ok-cleaned.cleaned
+    c.in_ok-cleaned.ensures.floor c.in_ok-cleaned.ensures.boxes c.in_err-publish.ensures.leaves)
 
 pub returns-clause-floor : goal.returns-clause-floor
-returns-clause-floor g c = shows_floor 1 (kept_by c.args.self.now (λ z. (goal.Segment-dyn g z).holding z.1)) _ _ c.in_ok-cleaned.cleaned c.in_ok-cleaned.ensures.floor c.in_ok-publish.ensures.leaves
+returns-clause-floor g c = shows_floor 1 (kept_by c.args.self.now (λ z. (goal.Segment-dyn g z).holding z.1)) _ _ c.in_ok-cleaned.cleaned
+    c.in_ok-cleaned.ensures.floor c.in_ok-publish.ensures.leaves
 
 pub returns-in_err-cleaned-clause-counts : goal.returns-in_err-cleaned-clause-counts
-returns-in_err-cleaned-clause-counts g c = (let p = err_from_is_err_and c.from_residual.result c.from_residual.ensures.1 in rw (p.1, p.2) (inl c.in_err-cleaned.ensures.counts))
+returns-in_err-cleaned-clause-counts g c = (let p = err_from_is_err_and c.from_residual.result c.from_residual.ensures.1 in rw (p.1, p.2)
+    (inl c.in_err-cleaned.ensures.counts))
 
 pub returns-in_err-publish-clause-counts : goal.returns-in_err-publish-clause-counts
 returns-in_err-publish-clause-counts g c =
     let p = err_from_is_err_and c.from_residual-in_err-publish.result c.from_residual-in_err-publish.ensures.1 in
-    rw (p.1, p.2) (hidden_counts (λ _. 1) MoveLeaves _ _ _ _ _ _ _ c.in_ok-cleaned.ensures.counts (ap (λ (n : Noted). n.tally) c.publish.ensures.noted) c.in_err-publish.ensures.leaves)
+    rw (p.1, p.2) (hidden_counts (λ _. 1) MoveLeaves _ _ _ _ _ _ _ c.in_ok-cleaned.ensures.counts
+    (ap (λ (n : Noted). n.tally) c.publish.ensures.noted) c.in_err-publish.ensures.leaves)
 
 pub returns-clause-counts : goal.returns-clause-counts
 returns-clause-counts g c =
-    shown_counts (λ _. 1) MoveLeaves _ _ _ _ _ _ _ c.in_ok-cleaned.ensures.counts (ap (λ (n : Noted). n.tally) c.publish.ensures.noted) c.in_ok-publish.ensures.leaves
+    shown_counts (λ _. 1) MoveLeaves _ _ _ _ _ _ _ c.in_ok-cleaned.ensures.counts (ap (λ (n : Noted). n.tally) c.publish.ensures.noted)
+    c.in_ok-publish.ensures.leaves

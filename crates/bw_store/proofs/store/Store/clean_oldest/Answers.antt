@@ -69,8 +69,11 @@ returns-clause-nothing_old g c =
     let emptied = c.in_ok-make_ready.ensures.emptied in
     let stay = live_stay _ _ emptied.number emptied.leaves in
     let live = c.live.ensures in
-    let many = c.if-live-lt2.false in
-    (λ e. absurd (not_nothing (λ (x : Cleaned). x.frames) IsCleaned Refuses _ _ _ (λ r. (let few = r.1 in omega arith)) c.move_pages.ensures.leaves e), λ few. absurd (omega arith))
+    let many = c.if-live-lt2.false in (
+      λ e. absurd (not_nothing (λ (x : Cleaned). x.frames) IsCleaned Refuses _ _ _ (λ r. (let few = r.1 in omega arith)) c.move_pages.ensures.leaves
+          e),
+      λ few. absurd (omega arith),
+    )
 
 pub returns-clause-floor : goal.returns-clause-floor
 returns-clause-floor g c =

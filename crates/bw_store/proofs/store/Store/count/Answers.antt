@@ -16,7 +16,8 @@ overflow_add-pairs g c =
     let leaves = c.args.self.now.leaves.leaves in
     let within = c.pages-test.true in
     let count = c.count-pages.ensures.value in
-    let more = pairs_more c.args.self.now.leaves _ c.pages.before _ _ c.pages.invariant.pages (omega arith) c.pages.invariant.so_far c.in_ok-pairs.ensures.value in
+    let more = pairs_more c.args.self.now.leaves _ c.pages.before _ _ c.pages.invariant.pages (omega arith) c.pages.invariant.so_far
+    c.in_ok-pairs.ensures.value in
     let few = total_few c.args.self.now.leaves.m leaves (c.pages.before + 1) c.count-pages.ensures.limit.1 c.count-pages.ensures.lawful in
     omega arith
 
@@ -24,7 +25,8 @@ pub pages-preserved : goal.pages-preserved
 pages-preserved g c =
     let within = c.pages-test.true in
     let count = c.count-pages.ensures.value in
-    let more = pairs_more c.args.self.now.leaves _ c.pages.before _ _ c.pages.invariant.pages (omega arith) c.pages.invariant.so_far c.in_ok-pairs.ensures.value in
+    let more = pairs_more c.args.self.now.leaves _ c.pages.before _ _ c.pages.invariant.pages (omega arith) c.pages.invariant.so_far
+    c.in_ok-pairs.ensures.value in
     record {
       sound = c.pairs_on.ensures.sound;
       same = c.in_ok-pairs.ensures.leaves ∙ c.pages.invariant.same;

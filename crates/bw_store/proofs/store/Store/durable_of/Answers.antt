@@ -20,13 +20,15 @@ returns-then-lane-len g c =
 
 pub between-requires-clause-kept : goal.between-requires-clause-kept
 between-requires-clause-kept g c =
-    let low = known_within (kept_by c.args.self.now (λ z. (goal.Segment-dyn g z).holding z.1)) c.durable_end-from.result c.requires c.durable_end-from.ensures in
+    let low = known_within (kept_by c.args.self.now (λ z. (goal.Segment-dyn g z).holding z.1)) c.durable_end-from.result c.requires
+    c.durable_end-from.ensures in
     let gone = c.args.self.now.forgotten in
     omega arith
 
 pub between-requires-clause-order : goal.between-requires-clause-order
 between-requires-clause-order g c =
-    let within = end_within (kept_by c.args.self.now (λ z. (goal.Segment-dyn g z).holding z.1)) c.durable_end-from.result c.requires c.durable_end-from.ensures in
+    let within = end_within (kept_by c.args.self.now (λ z. (goal.Segment-dyn g z).holding z.1)) c.durable_end-from.result c.requires
+    c.durable_end-from.ensures in
     let all = c.len-to.ensures in
     omega arith
 
@@ -50,7 +52,8 @@ overflow_sub-result g c =
     let s = c.args.self.now.intake in
     let counts = ap length s.counted ∙ counts_length (length s.lanes.items) s.history.items in
     let inside : c.args.writer < length s.counts.items = omega (arith, c.len.ensures, c.if-lane-len.false, s.counts.ok) in
-    let is = durable_is c.args.writer (length s.lanes.items) s.history.items c.between.result.now c.durable_end-from.result c.len-to.result c.count_of-waiting.result (omega arith) c.between.ensures c.len-to.ensures c.count_of-waiting.ensures in
+    let is = durable_is c.args.writer (length s.lanes.items) s.history.items c.between.result.now c.durable_end-from.result c.len-to.result
+    c.count_of-waiting.result (omega arith) c.between.ensures c.len-to.ensures c.count_of-waiting.ensures in
     let at = c.index.ensures ∙ count_at s.counts.items c.args.writer c.index.result.now inside s.counted in
     omega arith
 
@@ -59,7 +62,9 @@ returns g c =
     let s = c.args.self.now.intake in
     let counts = ap length s.counted ∙ counts_length (length s.lanes.items) s.history.items in
     let inside : c.args.writer < length s.counts.items = omega (arith, c.len.ensures, c.if-lane-len.false, s.counts.ok) in
-    let is = durable_is c.args.writer (length s.lanes.items) s.history.items c.between.result.now c.durable_end-from.result c.len-to.result c.count_of-waiting.result (omega arith) c.between.ensures c.len-to.ensures c.count_of-waiting.ensures in
+    let is = durable_is c.args.writer (length s.lanes.items) s.history.items c.between.result.now c.durable_end-from.result c.len-to.result
+    c.count_of-waiting.result (omega arith) c.between.ensures c.len-to.ensures c.count_of-waiting.ensures in
     let at = c.index.ensures ∙ count_at s.counts.items c.args.writer c.index.result.now inside s.counted in
-    let durable : c.index.result.now - c.count_of-waiting.result ≡ length (of_writer c.args.writer (take c.durable_end-from.result s.history.items)) = omega arith in
+    let durable : c.index.result.now - c.count_of-waiting.result ≡ length (of_writer c.args.writer (take c.durable_end-from.result s.history.items))
+    = omega arith in
     durable ∙ ap (λ n. length (of_writer c.args.writer (take n s.history.items))) c.durable_end-from.ensures

@@ -71,7 +71,8 @@ invariant_of-self-2 g c =
           ap (is_made q) made
           ∙ evicted_entered f.m f.leaves c.args.back here c.args.item was.making.blocks f.evicted q
           (subst (λ (ps : List ℕ). is_among q ps ≡ true) c.apply_on.ensures.evicted evicted) c.requires.here
-          (c.count.ensures.beyond (length f.leaves + 1) (omega arith)) (was.logged q (subst (λ (ps : List ℕ). is_among q ps ≡ true) c.apply_on.ensures.evicted evicted));
+          (c.count.ensures.beyond (length f.leaves + 1) (omega arith))
+          (was.logged q (subst (λ (ps : List ℕ). is_among q ps ≡ true) c.apply_on.ensures.evicted evicted));
       began = was.began;
       forgotten = (let entered = c.enter_alone.ensures.gone in let reserved = c.reserve.ensures.gone in let known = was.forgotten in omega arith);
     }
@@ -97,7 +98,8 @@ returns-clause-sound g c =
     let e = enters_at c.args.page c.requires.sound c.requires.next c.key.ensures.lawful c.requires.page c.requires.back c.requires.blocks c.requires.fits in
     let not : IsSpent c.args.self.now.leaves c.args.item → ⊥ = λ p. let x = c.in_ok-apply_on.ensures.spent p in cc in
     subst kept.IsSound
-    (sym (entered (alone c.args.item) e not c.args.lane c.args.page c.enter_alone.new.self.history.items (filed_of c.apply_on.new.self) c.file.new.newest.items c.file.new.making c.requires.page
+    (sym (entered (alone c.args.item) e not c.args.lane c.args.page c.enter_alone.new.self.history.items (filed_of c.apply_on.new.self)
+    c.file.new.newest.items c.file.new.making c.requires.page
     _ c.enter_alone.ensures.grows c.reserve.ensures.history (ap filed_of c.in_ok-apply_on.ensures.ok)
     _ c.file.ensures.newest c.reserve-2.ensures.items c.file.ensures.making
     _ _ c.enter_alone.ensures.rings (ap (λ v. map ring_of_lane v.items) c.reserve.ensures.lanes)))
@@ -106,5 +108,6 @@ returns-clause-sound g c =
 pub returns-in_err-apply_on-clause-refused : goal.returns-in_err-apply_on-clause-refused
 returns-in_err-apply_on-clause-refused g c =
     let p = err_from_is_err_and c.from_residual-in_err-apply_on.result c.from_residual-in_err-apply_on.ensures.1 in
-    rw (p.1, p.2) (one_wanting_of (kept_by c.args.self.now (λ z. (goal.Segment-dyn g z).holding z.1)) c.args.self.now.leaves c.args.item c.in_err-apply_on.field-0.0 refl refl
+    rw (p.1, p.2) (one_wanting_of (kept_by c.args.self.now (λ z. (goal.Segment-dyn g z).holding z.1)) c.args.self.now.leaves c.args.item
+    c.in_err-apply_on.field-0.0 refl refl
     (λ e. c.in_err-apply_on.ensures.only_spent (ap (λ (x : ApplyError). Err x) e)))

@@ -80,7 +80,8 @@ invariant_of-self-2 g c =
           c.as_slice-rows.ensures.value c.as_slice-2.ensures.value (c.reserve_all.ensures.same ∙ was.tailed) c.note_all.ensures
           c.file_all.ensures.making c.as_slice-3.ensures.value leaves;
       logged = λ q there.
-          evicted_now s c.args.group c.args.draft.now c.requires.sound c.requires.lawful c.requires.draft was.leaves.evicted q _ _ c.requires.here c.count.ensures.beyond
+          evicted_now s c.args.group c.args.draft.now c.requires.sound c.requires.lawful c.requires.draft was.leaves.evicted q _ _ c.requires.here
+          c.count.ensures.beyond
           (subst (λ (ps : List ℕ). is_among q ps ≡ true) evicted there) (was.logged q (subst (λ (ps : List ℕ). is_among q ps ≡ true) evicted there))
           c.file_all.ensures.making c.as_slice-3.ensures.value;
       began = was.began;

@@ -20,7 +20,8 @@ pages-preserved g c =
     let within = c.pages-test.true in
     let count = c.count-before-end.ensures.value in
     let at : c.pages.before + 1 ≡ suc c.pages.before = omega arith in
-    let here = subst (λ (p : ℕ). IfSome (leaf_at p leaves) (λ l. c.needed_on-needed.result ≡ needed_by c.args.after c.args.last frames l)) at c.needed_on-needed.ensures.value in
+    let here = subst (λ (p : ℕ). IfSome (leaf_at p leaves) (λ l. c.needed_on-needed.result ≡ needed_by c.args.after c.args.last frames l)) at
+    c.needed_on-needed.ensures.value in
     let next = needed_next c.args.after c.args.last frames leaves c.pages.before c.needed_on-needed.result (omega arith) here in
     let same = ap (λ (n : ℕ). needed_of c.args.after c.args.last frames (take n leaves)) at in
     let so_far = c.pages.invariant.value in

@@ -40,7 +40,8 @@ pages-preserved g c =
     let s = kept_by c.args.self.now (λ z. (goal.Segment-dyn g z).holding z.1) in
     let value = c.in_ok-found.ensures.value ∙ ap (λ (f : Shown). pair_above c.pages.from (home c.pages.from f.leaves).pairs) c.pages.invariant.pages in
     let none = no_pair c.in_ok-found.found _ value (sym c.is_some.ensures ∙ c.if-is_some.false) in
-    let next = subst (λ (f : Shown). IsNextLow f.leaves c.pages.from c.in-Some.low) (c.pair_from.ensures.pages ∙ c.pages.invariant.pages) c.in-Some.ensures.some in
+    let next = subst (λ (f : Shown). IsNextLow f.leaves c.pages.from c.in-Some.low) (c.pair_from.ensures.pages ∙ c.pages.invariant.pages)
+    c.in-Some.ensures.some in
     record {
       sound = c.pair_from.ensures.sound;
       same = c.in_ok-found.ensures.leaves ∙ c.pages.invariant.same;

@@ -3,7 +3,8 @@ use Rattle.bw_store.proofs.Fresh.{started_sound, taken_at}
 use Rattle.bw_store.proofs.store.Store.open.Goals as goal
 
 pub returns-in-Ok-new-clause-sound : goal.returns-in-Ok-new-clause-sound
-returns-in-Ok-new-clause-sound g c = started_sound _ _ _ _ _ _ _ _ _ _ c.begun.ensures.store c.in-Ok.ensures.history c.in-Ok.ensures.leaves c.in-Ok.ensures.newest
+returns-in-Ok-new-clause-sound g c = started_sound _ _ _ _ _ _ _ _ _ _ c.begun.ensures.store c.in-Ok.ensures.history c.in-Ok.ensures.leaves
+    c.in-Ok.ensures.newest
     c.in-Ok.ensures.making c.in-Ok-new.ensures.made c.in-Ok-new.ensures.sound c.in-Ok-unseen.ensures
 
 pub returns-in_default-clause-back : goal.returns-in_default-clause-back

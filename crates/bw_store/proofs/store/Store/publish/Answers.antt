@@ -10,7 +10,8 @@ use Rattle.bw_store.proofs.store.Store.publish.Goals as goal
 
 pub between-fresh-requires-clause-order : goal.between-fresh-requires-clause-order
 between-fresh-requires-clause-order g c =
-    let low = known_within (kept_by c.args.self.now (λ z. (goal.Segment-dyn g z).holding z.1)) c.durable_end-end.result c.requires.sound c.durable_end-end.ensures in
+    let low = known_within (kept_by c.args.self.now (λ z. (goal.Segment-dyn g z).holding z.1)) c.durable_end-end.result c.requires.sound
+    c.durable_end-end.ensures in
     let known = c.entered-known.ensures in
     omega arith
 

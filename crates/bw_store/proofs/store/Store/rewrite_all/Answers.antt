@@ -47,7 +47,8 @@ rewrite_pages-requires-clause-pages g c =
 pub returns-clause-follows : goal.returns-clause-follows
 returns-clause-follows g c =
     let flushed = (follows_left _ _ _ c.flush_making.ensures.leaves).follows in
-    let begun : Follows (kept_by c.args.self.now (λ z. (goal.Segment-dyn g z).holding z.1)) (kept_by c.reserve_cuts.new.self (λ z. (goal.Segment-dyn g z).holding z.1)) = rw c.reserve_cuts.ensures.same flushed in
+    let begun : Follows (kept_by c.args.self.now (λ z. (goal.Segment-dyn g z).holding z.1))
+    (kept_by c.reserve_cuts.new.self (λ z. (goal.Segment-dyn g z).holding z.1)) = rw c.reserve_cuts.ensures.same flushed in
     follow_then _ _ _ begun (rewrite_stays _ _ c.args.pages.now c.rewrite_pages.result c.rewrite_pages.ensures.leaves).0
 
 pub returns-clause-boxes : goal.returns-clause-boxes

@@ -12,7 +12,8 @@ pub note_moved-requires : goal.note_moved-requires
 note_moved-requires g c =
     let r = c.requires in
     let e = c.rewrite-result.ensures in
-    let b : Begins (kept_by c.args.self.now (λ z. (goal.Segment-dyn g z).holding z.1)) = record { sound = r.sound; done = r.settled; empty = r.empty; works = r.works } in
+    let b : Begins (kept_by c.args.self.now (λ z. (goal.Segment-dyn g z).holding z.1)) = record
+    { sound = r.sound; done = r.settled; empty = r.empty; works = r.works } in
     may_note _ _ _ b _ c.next_frame-first.ensures (rewrites_of _ c.args.pages.now _ c.rewrite-result.result b e.sound e.rewritten e.refused e.stands) _ _ r.room
 
 pub returns-in-Ok : goal.returns-in-Ok
@@ -36,5 +37,6 @@ returns-in-Err g c =
     let le : length ps ≤ length ps = omega arith in
     let held = held_of s ps c.in-Err.fault _ b c.in-Err.ensures.refused in
     let wrote = refused_wrote s 0 ps c.in-Err.fault (length ps) _ b c.rewrite-result.ensures.sound le held c.rewrite-result.ensures.stands in
-    let stop = stopped_noted s _ _ b _ c.next_frame-first.ensures _ _ c.note_moved.ensures.noted wrote (rewrites.RefusesRewrite c.in-Err.fault s.log ps) c.in-Err.ensures.refused in
+    let stop = stopped_noted s _ _ b _ c.next_frame-first.ensures _ _ c.note_moved.ensures.noted wrote
+    (rewrites.RefusesRewrite c.in-Err.fault s.log ps) c.in-Err.ensures.refused in
     record { sound = stop.0; leaves = (c.in-Err.fault, c.from.ensures, stop.1); noted = c.note_moved.ensures.stays }

@@ -31,7 +31,8 @@ pages-preserved g c =
     let s = kept_by c.args.self.now (λ z. (goal.Segment-dyn g z).holding z.1) in
     let value = c.in_ok-add_pairs.ensures.value
     ∙ ap (λ (f : Shown). with_some c.args.most c.pages.found.items (pairs_above c.pages.from (home c.pages.from f.leaves).pairs)) c.pages.invariant.pages in
-    let next = subst (λ (f : Shown). IsNextLow f.leaves c.pages.from c.in-Some.low) (c.add_pairs.ensures.pages ∙ c.pages.invariant.pages) c.in-Some.ensures.some in
+    let next = subst (λ (f : Shown). IsNextLow f.leaves c.pages.from c.in-Some.low) (c.add_pairs.ensures.pages ∙ c.pages.invariant.pages)
+    c.in-Some.ensures.some in
     record {
       sound = c.add_pairs.ensures.sound;
       same = c.in_ok-add_pairs.ensures.leaves ∙ c.pages.invariant.same;

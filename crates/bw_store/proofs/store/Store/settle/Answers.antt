@@ -36,11 +36,13 @@ returns-in_err-publish-clause-refused g c =
 
 pub returns-in_err-publish-clause-follows : goal.returns-in_err-publish-clause-follows
 returns-in_err-publish-clause-follows g c =
-    rw (sym c.look_beside.ensures.same) (flushed_hides _ _ _ _ _ c.in_ok-take_known.ensures.took c.flush_making.ensures.leaves c.in_err-publish.ensures.leaves).0
+    rw (sym c.look_beside.ensures.same) (flushed_hides _ _ _ _ _ c.in_ok-take_known.ensures.took c.flush_making.ensures.leaves
+    c.in_err-publish.ensures.leaves).0
 
 pub returns-in_err-publish-clause-boxes : goal.returns-in_err-publish-clause-boxes
 returns-in_err-publish-clause-boxes g c =
-    rw (sym c.look_beside.ensures.same) (flushed_hides _ _ _ _ _ c.in_ok-take_known.ensures.took c.flush_making.ensures.leaves c.in_err-publish.ensures.leaves).1
+    rw (sym c.look_beside.ensures.same) (flushed_hides _ _ _ _ _ c.in_ok-take_known.ensures.took c.flush_making.ensures.leaves
+    c.in_err-publish.ensures.leaves).1
 
 pub returns-clause-follows : goal.returns-clause-follows
 returns-clause-follows g c =

@@ -51,6 +51,7 @@ returns-clause-leaves g c =
     let least = few.0 in
     let most = few.1 in
     drafted_left c.args.lane _ _ flushed _ _ c.args.group _ c.in_ok-draft.field-0 c.in-Some.draft _ (omega arith, omega arith) c.requires.works
-    (flushed_or_not c.args.group _ _ _ c.requires.full c.in_ok-flush_making.ensures.answers c.in_ok-flush_making.ensures.leaves) c.in_ok-draft.ensures.works c.draft.ensures.same
+    (flushed_or_not c.args.group _ _ _ c.requires.full c.in_ok-flush_making.ensures.answers c.in_ok-flush_making.ensures.leaves)
+    c.in_ok-draft.ensures.works c.draft.ensures.same
     c.as_slice.ensures.value c.in-Some.is c.in_ok-draft.ensures.draft
     c.enter_all.ensures.ok c.enter_all.ensures.unchanged c.enter_all.ensures.refused

@@ -1,5 +1,5 @@
 use Rattle.std.proofs.Common.{◌∷◌, [], ℕ, refl, sym}
-use Rattle.bw_store.proofs.Fetched.{fetch_refuses, one_unread}
+use Rattle.bw_store.proofs.Fetched.{fetch_refuses, key_unread}
 use Rattle.std.proofs.lemmas.Result.{err_from_is_err_and}
 use Rattle.bw_store.proofs.Refusing.{stopped_unplanned, unplanned_now}
 use Rattle.bw_store.proofs.store.Store.take_item.Goals as goal
@@ -16,4 +16,5 @@ pub returns-in_err-page-clause-leaves : goal.returns-in_err-page-clause-leaves
 returns-in_err-page-clause-leaves g c =
     let p = err_from_is_err_and c.from_residual-in_err-page.result c.from_residual-in_err-page.ensures.1 in
     rw (p.1, p.2) (fetch_refuses _ (c.args.item ∷ []) _ _ _ c.in_ok-goes_on.ensures.works
-    (one_unread ℕ _ (c.args.item ∷ []) 0 c.args.item _ _ _ refl c.in_err-page.ensures.away c.fetch-page.ensures.read c.in_err-page.ensures.leaves))
+    (key_unread ℕ _ (c.args.item ∷ []) 0 c.args.item _ _ _ _ c.key.ensures.value refl c.in_err-page.ensures.away c.fetch.ensures.read
+    c.in_err-page.ensures.leaves))

@@ -2,7 +2,7 @@ use Rattle.std.proofs.Common.{inl, arith}
 use Rattle.std.proofs.lemmas.Result.{err_from_is_err_and}
 use Rattle.bw_store.specs.Views.{kept_by}
 use Rattle.bw_store.proofs.EnterMore.{drafted_left}
-use Rattle.bw_store.proofs.Fetched.{fetch_refuses}
+use Rattle.bw_store.proofs.Fetched.{fetch_refuses_as}
 use Rattle.bw_store.proofs.Refusing.{stopped_unplanned, unplanned_now}
 use Rattle.bw_store.proofs.store.Store.take_many.Goals as goal
 
@@ -25,4 +25,4 @@ returns-in-Some-clause-leaves g c =
 pub returns-in_err-fetch_all-clause-leaves : goal.returns-in_err-fetch_all-clause-leaves
 returns-in_err-fetch_all-clause-leaves g c =
     let p = err_from_is_err_and c.from_residual-in_err-fetch_all.result c.from_residual-in_err-fetch_all.ensures.1 in
-    rw (p.1, p.2) (fetch_refuses _ c.args.group _ _ _ c.in_ok-goes_on.ensures.works c.in_err-fetch_all.ensures.leaves)
+    rw (p.1, p.2) (fetch_refuses_as _ c.args.group _ _ _ _ c.as_slice.ensures.value c.in_ok-goes_on.ensures.works c.in_err-fetch_all.ensures.leaves)

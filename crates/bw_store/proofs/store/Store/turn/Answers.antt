@@ -56,4 +56,4 @@ returns-in_err-more-clause-refused g c =
 pub returns-in_err-more-clause-tried : goal.returns-in_err-more-clause-tried
 returns-in_err-more-clause-tried g c =
     let p = err_from_is_err_and c.from_residual.result c.from_residual.ensures.1 in
-    rw (p.1, p.2) (c.in_err-more.ensures.turned _ c.rounds.invariant.turned).1
+    rw p.1 (c.in_err-more.ensures.turned _ c.rounds.invariant.turned).1

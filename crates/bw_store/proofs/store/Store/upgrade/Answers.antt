@@ -10,7 +10,8 @@ use Rattle.bw_store.proofs.Showing.{hides_continues, hides_floor, shows_continue
 use Rattle.bw_store.proofs.store.Store.upgrade.Goals as goal
 
 pub returns-in_err-upgraded-clause-leaves : goal.returns-in_err-upgraded-clause-leaves
-returns-in_err-upgraded-clause-leaves g c = (let p = err_from_is_err_and c.from_residual.result c.from_residual.ensures.1 in rw (p.1, p.2) (inl c.in_err-upgraded.ensures.leaves))
+returns-in_err-upgraded-clause-leaves g c = (let p = err_from_is_err_and c.from_residual.result c.from_residual.ensures.1 in rw (p.1, p.2)
+    (inl c.in_err-upgraded.ensures.leaves))
 
 pub returns-in_err-publish-clause-leaves : goal.returns-in_err-publish-clause-leaves
 returns-in_err-publish-clause-leaves g c =
@@ -32,22 +33,29 @@ returns-clause-boxes g c = shows_roster _ _ c.in_ok-publish.ensures.leaves ∙ c
 pub returns-in_err-publish-clause-floor : goal.returns-in_err-publish-clause-floor
 returns-in_err-publish-clause-floor g c =
     let p = err_from_is_err_and c.from_residual-in_err-publish.result c.from_residual-in_err-publish.ensures.1 in
-    rw (p.1, p.2) (hides_floor (old_segments (kept_by c.args.self.now (λ z. (goal.Segment-dyn g z).holding z.1)).log) (kept_by c.args.self.now (λ z. (goal.Segment-dyn g z).holding z.1)) _ _ c.in_ok-upgraded.upgraded c.in_ok-upgraded.ensures.floor c.in_ok-upgraded.ensures.boxes c.in_err-publish.ensures.leaves)
+    rw (p.1, p.2) (hides_floor (old_segments (kept_by c.args.self.now (λ z. (goal.Segment-dyn g z).holding z.1)).log)
+    (kept_by c.args.self.now (λ z. (goal.Segment-dyn g z).holding z.1)) _ _ c.in_ok-upgraded.upgraded c.in_ok-upgraded.ensures.floor
+    c.in_ok-upgraded.ensures.boxes c.in_err-publish.ensures.leaves)
 
 pub returns-clause-floor : goal.returns-clause-floor
-returns-clause-floor g c = shows_floor (old_segments (kept_by c.args.self.now (λ z. (goal.Segment-dyn g z).holding z.1)).log) (kept_by c.args.self.now (λ z. (goal.Segment-dyn g z).holding z.1)) _ _ c.in_ok-upgraded.upgraded c.in_ok-upgraded.ensures.floor c.in_ok-publish.ensures.leaves
+returns-clause-floor g c = shows_floor (old_segments (kept_by c.args.self.now (λ z. (goal.Segment-dyn g z).holding z.1)).log)
+    (kept_by c.args.self.now (λ z. (goal.Segment-dyn g z).holding z.1)) _ _ c.in_ok-upgraded.upgraded c.in_ok-upgraded.ensures.floor
+    c.in_ok-publish.ensures.leaves
 
 pub returns-clause-none_left : goal.returns-clause-none_left
 returns-clause-none_left g c = ap (λ (s : Kept). old_segments s.log) c.in_ok-publish.ensures.leaves.is ∙ c.in_ok-upgraded.ensures.none_left
 
 pub returns-in_err-upgraded-clause-counts : goal.returns-in_err-upgraded-clause-counts
-returns-in_err-upgraded-clause-counts g c = (let p = err_from_is_err_and c.from_residual.result c.from_residual.ensures.1 in rw (p.1, p.2) (inl c.in_err-upgraded.ensures.counts))
+returns-in_err-upgraded-clause-counts g c = (let p = err_from_is_err_and c.from_residual.result c.from_residual.ensures.1 in rw (p.1, p.2)
+    (inl c.in_err-upgraded.ensures.counts))
 
 pub returns-in_err-publish-clause-counts : goal.returns-in_err-publish-clause-counts
 returns-in_err-publish-clause-counts g c =
     let p = err_from_is_err_and c.from_residual-in_err-publish.result c.from_residual-in_err-publish.ensures.1 in
-    rw (p.1, p.2) (hidden_counts (λ (s : Kept). old_segments s.log) UpgradeMoves _ _ _ _ _ _ _ c.in_ok-upgraded.ensures.counts (ap (λ (n : Noted). n.tally) c.publish.ensures.noted) c.in_err-publish.ensures.leaves)
+    rw (p.1, p.2) (hidden_counts (λ (s : Kept). old_segments s.log) UpgradeMoves _ _ _ _ _ _ _ c.in_ok-upgraded.ensures.counts
+    (ap (λ (n : Noted). n.tally) c.publish.ensures.noted) c.in_err-publish.ensures.leaves)
 
 pub returns-clause-counts : goal.returns-clause-counts
 returns-clause-counts g c =
-    shown_counts (λ (s : Kept). old_segments s.log) UpgradeMoves _ _ _ _ _ _ _ c.in_ok-upgraded.ensures.counts (ap (λ (n : Noted). n.tally) c.publish.ensures.noted) c.in_ok-publish.ensures.leaves
+    shown_counts (λ (s : Kept). old_segments s.log) UpgradeMoves _ _ _ _ _ _ _ c.in_ok-upgraded.ensures.counts
+    (ap (λ (n : Noted). n.tally) c.publish.ensures.noted) c.in_ok-publish.ensures.leaves

@@ -72,8 +72,11 @@ returns-clause-nothing_old g c =
     let emptied = c.in_ok-make_ready.ensures.emptied in
     let stay = old_stay _ _ emptied.number c.requires.sound.log c.make_ready.ensures.sound.log emptied.leaves in
     let live = c.old_segments.ensures in
-    let many = c.if-old_segments-eq0.false in
-    (λ e. absurd (not_nothing (λ (x : Upgraded). x.frames) IsUpgraded RefusesUpgrade _ _ _ (λ r. (let none = r.1 in omega arith)) c.upgrade_counted.ensures.leaves e), λ few. absurd (omega arith))
+    let many = c.if-old_segments-eq0.false in (
+      λ e. absurd (not_nothing (λ (x : Upgraded). x.frames) IsUpgraded RefusesUpgrade _ _ _ (λ r. (let none = r.1 in omega arith))
+          c.upgrade_counted.ensures.leaves e),
+      λ few. absurd (omega arith),
+    )
 
 pub returns-clause-floor : goal.returns-clause-floor
 returns-clause-floor g c =
@@ -97,5 +100,6 @@ returns-clause-counts g c =
     let s = kept_by c.make_ready.new.self (λ z. (goal.Segment-dyn g z).holding z.1) in
     let new = kept_by c.upgrade_counted.new.self (λ z. (goal.Segment-dyn g z).holding z.1) in
     let tally = ap (λ (n : Noted). n.tally) c.make_ready.ensures.noted in
-    step_counts (λ (k : Kept). old_segments k.log) UpgradeMoves _ s new c.upgrade_counted.result _ _ c.in_ok-make_ready.ensures.emptied c.upgrade_counted.ensures.leaves
+    step_counts (λ (k : Kept). old_segments k.log) UpgradeMoves _ s new c.upgrade_counted.result _ _ c.in_ok-make_ready.ensures.emptied
+    c.upgrade_counted.ensures.leaves
     (c.upgrade_counted.ensures.counts ∙ ap (λ (t : Tally). counted_gone (old_segments s.log) t s (is_ok c.upgrade_counted.result) new) tally)

@@ -11,11 +11,16 @@ pub upgrade-result-requires-clause-some : goal.upgrade-result-requires-clause-so
 upgrade-result-requires-clause-some g c = c.requires.ready.settled.stands.some
 
 pub note_moved-requires : goal.note_moved-requires
-note_moved-requires g c = (let e = c.upgrade-result.ensures in may_note _ _ _ (begins c.requires.ready) _ c.next_frame-first.ensures (upgrades_of (kept_by c.args.self.now (λ z. (goal.Segment-dyn g z).holding z.1)) _ c.upgrade-result.result (begins c.requires.ready) c.requires.some e.sound e.upgraded e.refused e.stands) _ _ c.requires.ready.room)
+note_moved-requires g c = (let e = c.upgrade-result.ensures in may_note _ _ _ (begins c.requires.ready) _ c.next_frame-first.ensures
+    (upgrades_of (kept_by c.args.self.now (λ z. (goal.Segment-dyn g z).holding z.1)) _ c.upgrade-result.result (begins c.requires.ready)
+    c.requires.some e.sound e.upgraded e.refused e.stands) _ _ c.requires.ready.room)
 
 pub returns-in-Ok : goal.returns-in-Ok
 returns-in-Ok g c =
-    let done = given_noted _ _ _ (begins c.requires.ready) _ c.next_frame-first.ensures _ _ c.note_moved.ensures.noted _ (upgraded_wrote (kept_by c.args.self.now (λ z. (goal.Segment-dyn g z).holding z.1)) c.in-Ok.upgraded _ (begins c.requires.ready) c.upgrade-result.ensures.sound c.in-Ok.ensures.upgraded c.upgrade-result.ensures.stands) (care.IsUpgraded (kept_by c.args.self.now (λ z. (goal.Segment-dyn g z).holding z.1)).log c.in-Ok.upgraded) c.in-Ok.ensures.upgraded in
+    let done = given_noted _ _ _ (begins c.requires.ready) _ c.next_frame-first.ensures _ _ c.note_moved.ensures.noted _
+    (upgraded_wrote (kept_by c.args.self.now (λ z. (goal.Segment-dyn g z).holding z.1)) c.in-Ok.upgraded _ (begins c.requires.ready)
+    c.upgrade-result.ensures.sound c.in-Ok.ensures.upgraded c.upgrade-result.ensures.stands)
+    (care.IsUpgraded (kept_by c.args.self.now (λ z. (goal.Segment-dyn g z).holding z.1)).log c.in-Ok.upgraded) c.in-Ok.ensures.upgraded in
     record {
       sound = done.0;
       leaves = done.1;
@@ -25,6 +30,8 @@ returns-in-Ok g c =
 
 pub returns-in-Err : goal.returns-in-Err
 returns-in-Err g c =
-    let wrote = halted_wrote (kept_by c.args.self.now (λ z. (goal.Segment-dyn g z).holding z.1)) c.in-Err.fault _ (begins c.requires.ready) c.requires.some c.upgrade-result.ensures.sound c.in-Err.ensures.refused c.upgrade-result.ensures.stands in
-    let stop = stopped_noted _ _ _ (begins c.requires.ready) _ c.next_frame-first.ensures _ _ c.note_moved.ensures.noted wrote (care.RefusesUpgrade c.in-Err.fault (kept_by c.args.self.now (λ z. (goal.Segment-dyn g z).holding z.1)).log) c.in-Err.ensures.refused in
+    let wrote = halted_wrote (kept_by c.args.self.now (λ z. (goal.Segment-dyn g z).holding z.1)) c.in-Err.fault _ (begins c.requires.ready)
+    c.requires.some c.upgrade-result.ensures.sound c.in-Err.ensures.refused c.upgrade-result.ensures.stands in
+    let stop = stopped_noted _ _ _ (begins c.requires.ready) _ c.next_frame-first.ensures _ _ c.note_moved.ensures.noted wrote
+    (care.RefusesUpgrade c.in-Err.fault (kept_by c.args.self.now (λ z. (goal.Segment-dyn g z).holding z.1)).log) c.in-Err.ensures.refused in
     record { sound = stop.0; leaves = (c.in-Err.fault, c.from.ensures, stop.1); none_left = tt; noted = c.note_moved.ensures.stays }
