@@ -37,8 +37,9 @@ FOLDERS = int(sys.argv[1]) if len(sys.argv) > 1 else 10000
 SEED = int(sys.argv[2]) if len(sys.argv) > 2 else 1
 OPTIONS = ["--places", "64", "--m", "4", "--segments", "6", "--capacity", "65560"]
 WORD, HEAD = b"FRM2", 24
-# What stands on standard error behind a run that met a full log.
-FULL = "the log is full: `clean` gives up its oldest segment, and `add` adds a new one\n"
+# What stands on standard error behind a run: nothing, or that it met a full log, without `--reuse` and with it.
+TELLS = ("", "the log is full: `clean` gives up its oldest segment, and `add` adds a new one\n",
+         "the log is full: `clean` gives up its oldest segment, whose room is a spare again\n")
 
 
 class Wrong(Exception):
@@ -110,7 +111,7 @@ class Life:
             check=False,
             env={"LD_PRELOAD": shim, "WATCH": folder, "WATCH_LOG": log},
         )
-        ask(ran.returncode in (0, 4) and ran.stderr in ("", FULL), "status", ran.returncode, ran.stdout[-300:], ran.stderr)
+        ask(ran.returncode in (0, 4) and ran.stderr in TELLS, "status", ran.returncode, ran.stdout[-300:], ran.stderr)
         printed = ran.stdout.splitlines()
         began = re.fullmatch(r"frames \d+ (\d+) tail 0", printed[1]) if number > 0 else None
         self.before = int(began[1]) if began else 0

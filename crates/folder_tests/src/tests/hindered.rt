@@ -34,7 +34,10 @@ fn is_hindered<R: System>(rt: &R, home: &mut Home) -> bool
     requires { IsReady home.old holding }
     ensures { IsReady home.new holding }
 {
-    matches!(home.clean(rt), Err(HomeFault::Folder(FolderFault::NotPlain)))
+    matches!(
+        home.clean(rt),
+        Err(HomeFault::Folder(FolderFault::NotPlain))
+    )
 }
 
 // How many bytes the file of this path has.
