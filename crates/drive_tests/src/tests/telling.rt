@@ -1,11 +1,12 @@
 //! What each writer is told behind each flush.
 
-ghost use Rattle.std.specs.Prelude.{◌≡◌, map};
+ghost use Rattle.std.specs.Prelude.{◌≡◌, ◌<◌, length, map};
 ghost use Rattle.bw_ring.specs.Ends.{ring_of_feed};
 ghost use Rattle.bw_store.specs.Views.{kept_by, IsSound};
 
 use super::boxes::boxes;
 use super::scripts::{Part, Sizes, numbered, scripts};
+use bw_codec::Record;
 use bw_drive::{Driven, Gate, Plan, drive};
 use bw_ring::Feed;
 use bw_store::{Config, Store};
@@ -74,10 +75,19 @@ impl Gate for Notes {
 fn put_at(feeds: &mut Vec<Feed>, writer: usize, number: u32) -> bool
     ensures { map ring_of_feed feeds.new.items ≡ map ring_of_feed feeds.old.items }
 {
+    let item = numbered(writer, number, KEYS);
     if writer >= feeds.as_slice().len() {
         return false;
     }
-    feeds[writer].put(numbered(writer, number, KEYS)).is_ok()
+    is_put(feeds, writer, item)
+}
+
+fn is_put(feeds: &mut Vec<Feed>, writer: usize, item: Record) -> bool
+    requires { writer < length feeds.old.items }
+    ensures { map ring_of_feed feeds.new.items ≡ map ring_of_feed feeds.old.items }
+{
+    let _ = feeds.as_slice().len();
+    feeds[writer].put(item).is_ok()
 }
 
 // Whether the feeds accepted four records of the first writer and two of the second.

@@ -1,0 +1,7 @@
+use Rattle.bw_ring.specs.Ends.{ring_of_feed}
+use Rattle.bw_store.proofs.Laned.{set_kept}
+use Rattle.drive_tests.proofs.tests.telling.is_put.Goals as goal
+
+pub returns : goal.returns
+returns c = set_kept ring_of_feed c.args.feeds.now.items c.args.writer c.put.new.self c.index_mut.result.now c.requires
+    c.index_mut.ensures.value c.put.ensures.ring
