@@ -376,6 +376,18 @@ impl Session {
         Ok(longest)
     }
 
+    // Before the first leg of parts, the longest pair that there is.
+    fn look_ahead(&mut self, legs: &mut Legs) -> Result<(), Miss>
+        requires { IsReady self.old holding }
+        ensures { IsReady self.new holding }
+    {
+        if !legs.is_new || legs.most.is_none() {
+            return Ok(());
+        }
+        legs.longest = self.longest(legs.longest)?;
+        Ok(())
+    }
+
     // What stands: each page was set last in one of the live segments.
     fn held(&self) -> Held
         requires { IsReady self.now holding }
@@ -395,9 +407,7 @@ impl Session {
         requires { IsReady self.old holding }
         ensures { IsReady self.new holding }
     {
-        if legs.is_new && legs.most.is_some() {
-            legs.longest = self.longest(legs.longest)?;
-        }
+        self.look_ahead(legs)?;
         let leg = legs.next(rt.alloc(), self.feeds.len(), self.held())?;
         let lengths = lengths_of(rt.alloc(), leg.as_slice())?;
         let run = self.drive_tended(rt, leg, pace)??;

@@ -165,12 +165,13 @@ impl Session {
         if self.store.spares() > 1 {
             return Ok(None);
         }
-        if self.wins(tending) {
-            if let Some(made) = self.won(rt, tending)? {
-                return Ok(Some(made));
-            }
+        if !self.wins(tending) {
+            return self.further(rt, tending);
         }
-        self.further(rt, tending)
+        match self.won(rt, tending)? {
+            Some(made) => Ok(Some(made)),
+            None => self.further(rt, tending),
+        }
     }
 
     /// The same where a segment was begun since the spares were looked at last: to ask whether it
