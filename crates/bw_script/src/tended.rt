@@ -227,7 +227,7 @@ impl Session {
     {
         'parts: for _ in 0..u64::MAX {
             match self.take(tending.part()) {
-                Ok(0) => break,
+                Ok(0) => return Ok(None),
                 Ok(_) => {}
                 Err(miss) => return Ok(Some(self.room_for(rt, tending, miss)?)),
             }
@@ -261,6 +261,65 @@ impl Session {
         }
     }
 
+    /// Whether it is a put, and the queue had a place for it.
+    fn is_put_at_once(&mut self, request: &Request) -> bool
+        requires { IsReady self.old holding }
+        ensures { IsReady self.new holding }
+    {
+        match request {
+            Request::Put(group) => self.has_put(group),
+            _ => false,
+        }
+    }
+
+    /// Takes all that waits before a request that reads what was put.
+    fn take_before<R: System>(
+        &mut self,
+        rt: &R,
+        request: &Request,
+        tending: &mut Tending,
+    ) -> Result<Option<Made>, Miss>
+        requires { IsReady self.old holding }
+        ensures { IsReady self.new holding }
+    {
+        if !request.takes() {
+            return Ok(None);
+        }
+        self.take_tended(rt, tending)
+    }
+
+    /// The answer of a request; or room, where it was refused for want of some.
+    fn answered<R: System>(
+        &mut self,
+        rt: &R,
+        request: Request,
+        tending: &mut Tending,
+    ) -> Result<Served, Miss>
+        requires { IsReady self.old holding }
+        ensures { IsReady self.new holding }
+    {
+        match self.answer(rt, request) {
+            Ok(answer) => Ok(Served::Answer(self.told(tending, answer))),
+            Err(miss) => Ok(Served::Room(self.room_for(rt, tending, miss)?)),
+        }
+    }
+
+    /// The same behind all that waits.
+    fn behind<R: System>(
+        &mut self,
+        rt: &R,
+        request: Request,
+        tending: &mut Tending,
+    ) -> Result<Served, Miss>
+        requires { IsReady self.old holding }
+        ensures { IsReady self.new holding }
+    {
+        match self.take_before(rt, &request, tending)? {
+            Some(made) => Ok(Served::Room(made)),
+            None => self.answered(rt, request, tending),
+        }
+    }
+
     /// Does what a request asks for, and makes room where it wants some. What was accepted is taken
     /// before anything is read, so a program reads what it put. A spare that is asked for is not
     /// added here.
@@ -273,22 +332,12 @@ impl Session {
         requires { IsReady self.old holding }
         ensures { IsReady self.new holding }
     {
-        if let Request::Put(group) = &request {
-            if self.has_put(group) {
-                return Ok(Served::Answer(Answer::Put(true)));
-            }
+        if self.is_put_at_once(&request) {
+            return Ok(Served::Answer(Answer::Put(true)));
         }
         if matches!(request, Request::Add) {
             return Ok(Served::Answer(self.spare(rt, tending.capacity)?));
         }
-        if request.takes() {
-            if let Some(made) = self.take_tended(rt, tending)? {
-                return Ok(Served::Room(made));
-            }
-        }
-        match self.answer(rt, request) {
-            Ok(answer) => Ok(Served::Answer(self.told(tending, answer))),
-            Err(miss) => Ok(Served::Room(self.room_for(rt, tending, miss)?)),
-        }
+        self.behind(rt, request, tending)
     }
 }
