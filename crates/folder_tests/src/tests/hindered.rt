@@ -59,13 +59,13 @@ impl<R: System> Course<R> for Hindered {
         put_one(rt, home, b'c')?;
         fs::rename(rt, FIRST, ASIDE)?;
         fs::create_dir(rt, FIRST)?;
-        let waits = is_hindered(rt, home) && is_hindered(rt, home);
+        let (first, again) = (is_hindered(rt, home), is_hindered(rt, home));
         let stays = length_of(rt, SECOND)? > 0;
         fs::remove_dir(rt, FIRST)?;
         fs::rename(rt, ASIDE, FIRST)?;
         let _ = home.clean(rt)?;
         let goes = length_of(rt, FIRST)? == 0 && length_of(rt, SECOND)? == 0;
-        Ok(waits && stays && goes)
+        Ok(first && again && stays && goes)
     }
 }
 
