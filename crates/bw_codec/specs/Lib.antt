@@ -14,3 +14,4 @@ pub mod Reading
 pub mod Skipping
 pub mod Items
 pub mod Paired
+pub mod Packed

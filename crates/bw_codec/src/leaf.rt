@@ -1,10 +1,10 @@
 //! A leaf: a page's low key and its pairs in the order of their keys.
 
-ghost use Rattle.std.specs.Prelude.{◌≡◌, ◌<◌, ◌≤◌, length, insert, remove, take, drop, slice_set, slice_index_or, OnOk, OnErr, IfOk};
+ghost use Rattle.std.specs.Prelude.{◌≡◌, ◌<◌, ◌≤◌, ◌-◌, [], length, reverse, vec_len, insert, remove, take, drop, slice_set, slice_index_or, OnOk, OnErr, IfOk};
+ghost use Rattle.std.specs.Vec.{vec_capacity};
 ghost use Rattle.bw_codec.specs.Heads.{AreBelow, IsRow};
 
 use crate::heads::{count_below, head_of, insert_head, remove_head, row_of, set_head};
-use crate::key::{Key, Value};
 use crate::pair::Pair;
 use std::alloc::{AllocError, Global};
 use std::marker::Model;
@@ -56,8 +56,8 @@ impl Low {
     }
 }
 
-/// Keys with their values, in the order of the keys where a lawful leaf holds them. Each pair takes
-/// memory of its own, and no more than it needs.
+/// Keys with their values, in the order of the keys where a lawful leaf holds them. Their bytes may
+/// be shared with other leaves.
 ///
 /// Beside them stands a row with the first eight bytes of each key as a number, which a search reads
 /// in place of most keys. It takes memory of its own, and where that is refused there is none: then
@@ -105,33 +105,26 @@ impl Pairs {
     }
 
     /// Puts a pair before the one at an index, or last. A refusal changes nothing.
-    pub fn insert(&mut self, at: usize, key: &Key, value: &Value) -> Result<(), AllocError>
+    pub fn insert(&mut self, at: usize, pair: Pair) -> Result<(), AllocError>
         requires { at ≤ length self.old }
-        ensures ok { OnOk result (self.new ≡ insert self.old at (key.now, value.now)) }
+        ensures ok { OnOk result (self.new ≡ insert self.old at pair) }
         ensures err { OnErr result (self.new ≡ self.old) }
     {
         // Tells the proof that the list is as long as the `Vec`; so below.
         let count = self.items.as_slice().len();
         self.items.reserve(1)?;
-        let pair = Pair::of(*self.items.allocator(), key, value)?;
-        insert_head(&mut self.row, count, at, key.as_slice());
+        insert_head(&mut self.row, count, at, pair.key());
         self.items.insert(at, pair)?;
         Ok(())
     }
 
-    /// Puts a pair in the place of the one at an index, which it gives back. That the keys still
-    /// ascend is the caller's care. A refusal changes nothing.
-    pub fn replace(&mut self, at: usize, key: &Key, value: &Value) -> Result<Pair, AllocError>
-        requires { at < length self.old }
-        ensures ok { OnOk result (self.new ≡ slice_set self.old at (key.now, value.now)) }
-        ensures was { IfOk result (λ was. was ≡ slice_index_or self.old at was) }
-        ensures err { OnErr result (self.new ≡ self.old) }
-    {
-        let pair = Pair::of(*self.items.allocator(), key, value)?;
-        Ok(self.set(at, pair))
+    /// The allocator of the list.
+    pub fn allocator(&self) -> Global {
+        *self.items.allocator()
     }
 
-    /// The same with a pair that has its memory. None is taken.
+    /// Puts a pair in the place of the one at an index, which it gives back. No memory is taken. That
+    /// the keys still ascend is the caller's care.
     pub fn set(&mut self, at: usize, pair: Pair) -> Pair
         requires { at < length self.old }
         ensures set { self.new ≡ slice_set self.old at pair }
@@ -174,6 +167,23 @@ impl Pairs {
         Ok(Pairs::of(rest))
     }
 
+    /// Moves the pairs from an index on into an empty `Vec` that has room for them: none of them is
+    /// copied. It is never refused; a row of heads takes memory, and is linear in them.
+    pub fn move_off(&mut self, at: usize, room: Vec<Pair>) -> Pairs
+        requires within { at ≤ length self.old }
+        requires empty { (room.items ≡ []) × (vec_len room ≡ 0) }
+        requires room { length self.old - at ≤ vec_capacity room }
+        ensures kept { self.new ≡ take at self.old }
+        ensures rest { result ≡ drop at self.old }
+    {
+        let _ = self.items.as_slice().len();
+        let mut rest = room;
+        move_last(&mut self.items, at, &mut rest);
+        rest.reverse();
+        self.row.truncate(at);
+        Pairs::of(rest)
+    }
+
     /// How many pairs from the first on have a key below this one, as far as the first eight bytes
     /// tell: a search for the key can begin behind them. There may be more.
     pub fn skipped(&self, key: &[u8]) -> usize
@@ -207,6 +217,22 @@ impl Pairs {
         ensures { IfOk result (λ copy. copy ≡ self.now) }
     {
         Pairs::copy_of(*self.items.allocator(), self.items.as_slice())
+    }
+}
+
+// Moves the pairs from an index on, the last of them first. There is room for them.
+fn move_last(from: &mut Vec<Pair>, at: usize, to: &mut Vec<Pair>)
+    requires within { at ≤ vec_len from.old }
+    requires empty { (to.old.items ≡ []) × (vec_len to.old ≡ 0) }
+    requires room { vec_len from.old - at ≤ vec_capacity to.old }
+    ensures from { from.new.items ≡ take at from.old.items }
+    ensures to { reverse to.new.items ≡ drop at from.old.items }
+{
+    while from.len() > at {
+        match from.pop() {
+            Some(pair) => to.push_reserved(pair),
+            None => unreachable!(),
+        }
     }
 }
 

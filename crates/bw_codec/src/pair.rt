@@ -1,16 +1,17 @@
-//! A key with its value, in no more room than they take.
+//! A key with its value, in no more room than they take; whoever holds a pair shares its bytes.
 
 ghost use Rattle.std.specs.Prelude.{◌≡◌, ◌≤◌, length, IfOk};
 
 use crate::key::{Key, Value};
 use std::alloc::{AllocError, Global};
 use std::marker::Model;
+use std::sync::Arc;
 
-/// A key and its value, as pages hold them: their bytes in one run of memory.
+/// A key and its value, as pages hold them: their bytes are one run of memory, which pairs share.
 #[derive(Drop)]
 pub struct Pair {
     /// The key's length, the key's bytes, and the value's.
-    bytes: Vec<u8>,
+    run: Arc<Vec<u8>, Global>,
 }
 
 impl Model for Pair {
@@ -19,9 +20,9 @@ impl Model for Pair {
 
     ghost Value = { List ℕ × List ℕ };
 
-    ghost view = { λ p. paired p.bytes.items };
+    ghost view = { λ p. paired p.run.value.items };
 
-    ghost invariant = { λ p. IsPaired p.bytes.items };
+    ghost invariant = { λ p. IsPaired p.run.value.items };
 }
 
 impl Pair {
@@ -35,7 +36,8 @@ impl Pair {
         bytes.push(key.len() as u8)?;
         bytes.extend_from_slice(key)?;
         bytes.extend_from_slice(value)?;
-        Ok(Pair { bytes })
+        let run = Arc::new(alloc, bytes)?;
+        Ok(Pair { run })
     }
 
     /// The key's bytes.
@@ -43,7 +45,7 @@ impl Pair {
         ensures value { result.now ≡ self.now.0 }
         ensures lawful { (1 ≤ length self.now.0) × (length self.now.0 ≤ 128) }
     {
-        match self.bytes.as_slice() {
+        match self.run.as_slice() {
             [length, rest @ ..] => &rest[..usize::from(*length)],
             [] => unreachable!(),
         }
@@ -54,7 +56,7 @@ impl Pair {
         ensures value { result.now ≡ self.now.1 }
         ensures lawful { length self.now.1 ≤ 512 }
     {
-        match self.bytes.as_slice() {
+        match self.run.as_slice() {
             [length, rest @ ..] => &rest[usize::from(*length)..],
             [] => unreachable!(),
         }
@@ -80,11 +82,12 @@ impl Pair {
         }
     }
 
-    /// The same pair. It takes memory, whose refusal is the only error.
+    /// The same pair, which shares the bytes of this one. No memory is taken; it is refused alone
+    /// where the count of those that share is full.
     pub fn copy(&self) -> Result<Pair, AllocError>
         ensures { IfOk result (λ pair. pair ≡ self.now) }
     {
-        let bytes = Vec::from_slice(*self.bytes.allocator(), self.bytes.as_slice())?;
-        Ok(Pair { bytes })
+        let run = Arc::try_clone(&self.run)?;
+        Ok(Pair { run })
     }
 }

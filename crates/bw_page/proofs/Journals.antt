@@ -57,7 +57,7 @@ module _ (m : ℕ) (leaves : List Leaf) (k : Bytes) (a : AreLeaves m leaves) whe
       ∙ ap (slice_set leaves ((home k leaves).page - 1)) (sym (home_stands m k leaves a (home k leaves)))
       ∙ set-get_or leaves ((home k leaves).page - 1) (home k leaves)
 
-  front : (x u : Leaf) → take (length leaves) (map (put_in x) leaves ++ u ∷ []) ≡ map (put_in x) leaves
+  pub front : (x u : Leaf) → take (length leaves) (map (put_in x) leaves ++ u ∷ []) ≡ map (put_in x) leaves
   front x u = ap (λ n. take n (map (put_in x) leaves ++ u ∷ [])) (sym (same-length x leaves)) ∙ take-append_seam (map (put_in x) leaves) (u ∷ [])
 
   pub goes_back : (next : List Leaf) → Stepped m leaves k next → with_leaf (take (length leaves) next) (home k leaves) ≡ leaves
@@ -75,7 +75,7 @@ module _ (m : ℕ) (leaves : List Leaf) (k : Bytes) (a : AreLeaves m leaves) whe
       let n : length next ≡ length (map (put_in x) leaves ++ u ∷ []) = ap length e in
       let p = length-append (map (put_in x) leaves) (u ∷ []) in (omega arith, omega arith)
 
-  last_is : (x u d : Leaf) → get_or (map (put_in x) leaves ++ u ∷ []) (length leaves) d ≡ u
+  pub last_is : (x u d : Leaf) → get_or (map (put_in x) leaves ++ u ∷ []) (length leaves) d ≡ u
   last_is x u d =
       let zeroth : length leaves - length leaves ≡ 0 = omega arith in
       get_or-append_right (map (put_in x) leaves) (u ∷ []) (length leaves) (length leaves) d (same-length x leaves) (omega arith)

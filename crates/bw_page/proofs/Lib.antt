@@ -1,4 +1,5 @@
 pub mod Seeking
+pub mod Parting
 pub mod Skipping
 pub mod Rows
 pub mod Order

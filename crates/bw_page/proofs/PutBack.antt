@@ -1,35 +1,47 @@
 -- What stays in step where the newest record is taken back.
 
-use Rattle.std.proofs.Common.{◌≡◌, ℕ, List, false, Some, Result, map, ◌+◌, ◌-◌, ◌<◌, ◌≤◌, cond, None, length}
+use Rattle.std.proofs.Common.{◌≡◌, ℕ, List, [], ◌∷◌, ◌++◌, ◌/◌, true, false, IsTrue, nat_le, refl, Some, Option, Result, map, ◌+◌, ◌-◌, ◌<◌, ◌≤◌, cond, None, length}
 use Rattle.std.proofs.Common.{take, drop, get_or, sym, ap, ◌∙◌, subst, arith, length-take}
-use Rattle.std.specs.Prelude.{slice_set}
+use Rattle.std.proofs.Common.{length-append}
+use Rattle.std.specs.Prelude.{slice_set, not}
+use Rattle.std.proofs.lemmas.Bool.{leb-false}
+use Rattle.std.proofs.lemmas.List.{length-map, get_or-set_same}
 use Rattle.std.specs.Ordering.{eq_by_cmp}
 use Rattle.std.specs.FinMap.Entries.{find}
 use Rattle.bw_codec.specs.Bytes.{IsKey}
 use Rattle.bw_codec.specs.Grammar.{IsOp}
 use Rattle.bw_codec.specs.Record.{key_of}
 use Rattle.bw_codec.specs.declared.record.Record.{Record}
+use Rattle.bw_codec.specs.declared.record.Record.TheVariants.{Del}
 use Rattle.bw_codec.specs.declared.leaf.Leaf.{Leaf}
 use Rattle.bw_page.specs.declared.leaves.Leaves.TheInside.{Inside}
 use Rattle.bw_page.specs.declared.journal.Undo.TheVariants.{Back, Page}
-use Rattle.bw_page.specs.declared.journal.Displaced.{Displaced}
-use Rattle.bw_page.specs.Leaves.{Bytes, order, empty_leaf, changed, home, result_of, with_leaf, applied, AreLeaves}
+use Rattle.bw_page.specs.Displaced.{Displaced, joined, AreParts}
+use Rattle.bw_page.specs.Leaves.{Bytes, order, empty_leaf, changed, home, result_of, lower_of, upper_of, with_leaf, applied, AreLeaves}
 use Rattle.bw_page.specs.LowHeads.{page_of_low}
-use Rattle.bw_page.specs.Seats.{is_among}
+use Rattle.bw_page.specs.Seats.{Seating, is_among}
 use Rattle.bw_page.specs.Seek.{seek_of, AddsNone, back_of}
 use Rattle.bw_page.specs.Shown.{Shown, IsHere}
 use Rattle.bw_page.specs.Lows.{lows_of}
 use Rattle.bw_page.specs.Journal.{undone, IsNewest}
 use Rattle.bw_page.specs.Index.{view_of, IsIndexed}
-use Rattle.bw_page.proofs.Journals.{Stepped, stepped, one_more, new_key, index_back}
+use Rattle.bw_page.proofs.Journals.{Stepped, stepped, one_more, new_key, index_back, front, last_is}
 use Rattle.bw_page.proofs.Indexed.{home_within}
 use Rattle.bw_page.proofs.Indexing.{filed_new}
-use Rattle.bw_page.proofs.Homes.{put_in}
+use Rattle.bw_page.proofs.Homes.{put_in, set_is_put}
+use Rattle.bw_page.proofs.Parting.{parts_few, parts_whole}
+use Rattle.bw_page.proofs.Sorted.{ascends_rises}
 use Rattle.bw_page.proofs.Applying.{Replaces, same_lows, put_in-page, home-put}
-use Rattle.bw_page.proofs.Law.{applied-whole}
+use Rattle.bw_page.proofs.Law.{directed, home_base, lower_in, applied-whole, applied-cut}
 use Rattle.bw_page.proofs.Closed.{leaf_is, lows-put}
 use Rattle.bw_page.proofs.TakenBack.{into, back_adds, back-key}
 use Rattle.bw_page.proofs.Runs.{back_one, page_of, back_is}
+
+-- more pairs than a page may have
+over_of : (n m : ℕ) → IsTrue (not (nat_le n m)) → m < n
+over_of n m h =
+    elim (nat_le n m) as (λ b. nat_le n m ≡ b → IsTrue (not b) → m < n)
+    [ true ↦ λ e no. absurd (cc) | false ↦ λ e yes. leb-false n m e ] refl h
 
 module _ (a : Inside) (h : IsIndexed a) (now : Shown) (v : view_of a ≡ now) (u : Displaced) (n : IsNewest now (Page u)) where
   pages_are : u.pages ≡ length n.before.leaves
@@ -74,6 +86,49 @@ module _ (a : Inside) (h : IsIndexed a) (now : Shown) (v : view_of a ≡ now) (u
 
   pub put_page : 1 ≤ u.leaf.page
   put_page = let p = page_is in let w = home_within n.before.m (key_of n.change) n.before.leaves n.lawful in omega arith
+
+  -- where the record cut the page, its parts are there
+  pub put_parts : (seats : Seating) (upper : Option Leaf) → seats.items ≡ take u.pages a.leaves.items → seats.evicted ≡ a.leaves.evicted
+      → ((d : Leaf) → u.pages < length a.leaves.items → upper ≡ Some (get_or a.leaves.items u.pages d)) → IsTrue u.is_cut → AreParts u seats upper
+  put_parts seats upper items evicted last cut =
+      let m = n.before.m in
+      let leaves = n.before.leaves in
+      let k = key_of n.change in
+      let base = home_base m leaves k n.lawful in
+      let rises = ascends_rises (home k leaves).pairs base.ascends in
+      let x : Leaf = result_of leaves n.change in
+      let lower : Leaf = lower_of m x in
+      let upper_is : Leaf = upper_of m (length leaves + 1) x in
+      let was = page_of n.before n.change u n.displaced in
+      let cut_is : IsTrue (not (nat_le (length x.pairs) m)) = subst IsTrue (ap (λ (d : Displaced). d.is_cut) was) cut in
+      let over : m < length x.pairs = over_of (length x.pairs) m cut_is in
+      let form : a.leaves.items ≡ map (put_in lower) leaves ++ upper_is ∷ [] = leaves_are ∙ applied-cut m leaves n.change n.some n.lawful n.op over in
+      let into = lower_in m leaves k x n.some (directed m leaves n.change n.lawful n.op) in
+      let p = pages_are in
+      let page = page_is in
+      let w = home_within m k leaves n.lawful in
+      let some : 1 ≤ lower.page = omega arith in
+      let front_is : seats.items ≡ map (put_in lower) leaves =
+      items ∙ (λ i. take (p i) (form i)) ∙ front m leaves k n.lawful lower upper_is in
+      let long = length-map leaves (put_in lower) in
+      let count : length seats.items ≡ length (map (put_in lower) leaves) = ap length front_is in
+      let longer : length a.leaves.items ≡ length (map (put_in lower) leaves ++ upper_is ∷ []) = ap length form in
+      let added = length-append (map (put_in lower) leaves) (upper_is ∷ []) in
+      let at : (d : Leaf) → get_or seats.items (u.leaf.page - 1) d ≡ lower = λ d.
+      (λ i. get_or ((front_is ∙ sym (set_is_put lower leaves n.lawful.pages some)) i) (page i - 1) d)
+      ∙ get_or-set_same leaves (lower.page - 1) lower d (omega arith) in
+      record {
+        page = (put_page, omega arith);
+        here = ap (is_among u.leaf.page) evicted ∙ put_here;
+        other = upper_is;
+        is = last lower (omega arith) ∙ ap Some ((λ i. get_or (form i) (p i) lower) ∙ last_is m leaves k n.lawful lower upper_is lower);
+        few = λ d. subst (λ (l : Leaf). length l.pairs + length upper_is.pairs ≤ length u.leaf.pairs + 1) (sym (at d))
+            (subst (λ (l : Leaf). length lower.pairs + length upper_is.pairs ≤ length l.pairs + 1) (sym (ap (λ (d : Displaced). d.leaf) was))
+            (parts_few ((m + 1) / 2) n.change (home k leaves) upper_is refl));
+        whole = λ d. (λ i. changed (Del (was i).key) (joined (at d i) upper_is))
+            ∙ parts_whole m ((m + 1) / 2) n.change (home k leaves) upper_is rises base.count over refl
+            ∙ sym (ap (λ (d : Displaced). d.leaf) was);
+      }
 
   pub put_back_filed : (b : Inside) → b.m ≡ a.m → b.leaves.evicted ≡ a.leaves.evicted
       → b.leaves.items ≡ slice_set (take u.pages a.leaves.items) (u.leaf.page - 1) u.leaf

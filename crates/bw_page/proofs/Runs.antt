@@ -12,7 +12,7 @@ use Rattle.bw_codec.specs.declared.leaf.Leaf.{Leaf}
 use Rattle.bw_codec.specs.declared.record.Record.{Record}
 use Rattle.bw_page.specs.declared.journal.Undo.{Undo}
 use Rattle.bw_page.specs.declared.journal.Undo.TheVariants.{Back, Page}
-use Rattle.bw_page.specs.declared.journal.Displaced.{Displaced}
+use Rattle.bw_page.specs.Displaced.{Displaced}
 use Rattle.bw_page.specs.Leaves.{order, home, result_of, applied, pages, HasPage, HasPages, AreLeaves, union, plain}
 use Rattle.bw_page.specs.Seek.{back_of}
 use Rattle.bw_page.specs.Seats.{is_among}

@@ -1,6 +1,6 @@
 -- What takes records back, one after the other.
 
-use Rattle.std.specs.Prelude.{◌≡◌, ◌≤◌, ◌+◌, false, nat_le, if◌then◌else◌, Option, Some, None, List, [], ◌∷◌, length, take}
+use Rattle.std.specs.Prelude.{◌≡◌, ◌≤◌, ◌+◌, false, not, nat_le, if◌then◌else◌, Option, Some, None, List, [], ◌∷◌, length, take}
 use Rattle.std.specs.List.{AllByRecursion}
 use Rattle.std.specs.FinMap.Entries.{find}
 use Rattle.bw_codec.specs.Grammar.{IsOp}
@@ -8,16 +8,21 @@ use Rattle.bw_codec.specs.Record.{key_of}
 use Rattle.bw_codec.specs.declared.record.Record.{Record}
 use Rattle.bw_page.specs.declared.journal.Undo.{Undo}
 use Rattle.bw_page.specs.declared.journal.Undo.TheVariants.{Back, Page}
-use Rattle.bw_page.specs.declared.journal.Displaced.{Displaced}
+use Rattle.bw_page.specs.Displaced.{Displaced}
 use Rattle.bw_page.specs.Leaves.{order, home, result_of, with_leaf, HasPage, HasPages, AreLeaves}
 use Rattle.bw_page.specs.Seek.{back_of}
 use Rattle.bw_page.specs.Shown.{Shown, IsHere, is_evicted_page}
 use Rattle.bw_page.specs.Batch.{AreHere, NoneBeyond}
 pub use Rattle.bw_page.specs.Shown.{after_record, run}
 
--- the leaf that a record displaces, and how many pages there were
+-- the leaf that a record displaces
 abbrev pub displaced_by : Shown → Record → Displaced
-displaced_by f r = record { leaf = home (key_of r) f.leaves; pages = length f.leaves }
+displaced_by f r = record {
+  leaf = home (key_of r) f.leaves;
+  pages = length f.leaves;
+  key = key_of r;
+  is_cut = not (nat_le (length (result_of f.leaves r).pairs) f.m);
+}
 
 abbrev pub undo_by : Option Record → Displaced → Undo
 undo_by (Some back) d = Back back

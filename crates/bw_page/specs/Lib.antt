@@ -23,5 +23,6 @@ pub mod Seek
 pub mod Drafting
 pub mod Aim
 pub mod Cutting
-pub mod Means
+pub mod Displaced
+pub mod Keeping
 pub mod Journal

@@ -37,6 +37,12 @@ AddsNone (Put key value) (Ok at) = Unit {0}
 AddsNone (Put key value) (Err at) = ⊥
 AddsNone (Del key) found = Unit {0}
 
+-- a record adds a pair where the search for its key ended so
+abbrev pub AddsOne : Record → Result ℕ ℕ → Type 0
+AddsOne (Put key value) (Ok at) = ⊥
+AddsOne (Put key value) (Err at) = Unit {0}
+AddsOne (Del key) found = ⊥
+
 -- the record that takes a record back, where its key had this value; there is none that would add a pair
 abbrev pub back_of : Record → Option Bytes → Option Record
 back_of (Put key value) (Some old) = Some (Put key old)

@@ -7,9 +7,9 @@ ghost use Rattle.bw_page.specs.Links.{count_deltas, content_of, log_end, is_flus
 ghost use Rattle.bw_page.specs.Words.{records_word};
 ghost use Rattle.bw_page.specs.Marks.{mark_after};
 
-use crate::changes::change;
-use crate::words::{Word, word_of};
-use bw_codec::{Key, Leaf, Place, Record};
+use crate::changes::change_packed;
+use crate::words::{Word, word_packed};
+use bw_codec::{Key, Leaf, Packed, Place};
 use smallvec::SmallVec;
 use std::alloc::{AllocError, Global};
 use std::marker::Model;
@@ -18,7 +18,7 @@ use std::marker::Model;
 #[derive(Drop)]
 pub enum Link {
     /// The page was changed by this record.
-    Delta(Record),
+    Delta(Packed),
     /// What stands below is in the log, at this place.
     Flushed(Place),
 }
@@ -42,7 +42,7 @@ impl Default for Link {
 #[derive(Drop)]
 pub struct Chain {
     /// Oldest first, so that the newest is a push. None stands in the chain itself: there is one a
-    /// page, most have no link, and a link has some 220 bytes.
+    /// page, and most have no link.
     links: SmallVec<Link, 0>,
     end: End,
 }
@@ -94,7 +94,7 @@ impl Chain {
     }
 
     /// Adds a record as the newest link. A refusal changes nothing.
-    pub fn prepend(&mut self, change: Record) -> Result<(), AllocError>
+    pub fn prepend(&mut self, change: Packed) -> Result<(), AllocError>
         ensures ok { OnOk result (self.new.links ≡ Link.Delta change ∷ self.old.links) }
         ensures end { self.new.end ≡ self.old.end }
         ensures room { self.old.room - 1 ≤ self.new.room }
@@ -151,7 +151,7 @@ impl Chain {
         };
         for link in self.links.as_slice() {
             if let Link::Delta(record) = link {
-                change(&mut leaf, record)?;
+                change_packed(&mut leaf, record)?;
             }
         }
         Ok(leaf)
@@ -165,7 +165,7 @@ impl Chain {
         let mut word = Word::Silent;
         for link in self.links.as_slice() {
             if let Link::Delta(item) = link {
-                word = word.then(word_of(item, key));
+                word = word.then(word_packed(item, key));
             }
         }
         word

@@ -9,8 +9,7 @@ ghost use Rattle.bw_page.specs.Leaves.{Pairs as PairList, order, empty_leaf, cha
 ghost use Rattle.bw_codec.specs.Record.{key_of};
 ghost use Rattle.bw_page.specs.Seek.{seek_of, end_of, IsWithin, AddsNone, back_of};
 
-use crate::journal::Back;
-use bw_codec::{Key, Leaf, Low, Pair, Pairs, Record, Value};
+use bw_codec::{Key, Leaf, Low, Packed, Pair, Pairs, Record, Value};
 use std::alloc::{AllocError, Global};
 use std::cmp::Ordering;
 
@@ -72,6 +71,24 @@ pub(crate) fn count_found(pairs: &[Pair], found: Result<usize, usize>, change: &
     }
 }
 
+/// The same of a packed record.
+pub(crate) fn count_packed(pairs: &[Pair], found: Result<usize, usize>, change: &Packed) -> usize
+    requires found { found ≡ seek_of (key_of change.now) pairs.now }
+    requires within { IsWithin (length pairs.now) found }
+    ensures { result ≡ length (changed_pairs change.now pairs.now) }
+{
+    match change.pair() {
+        Ok(_) => match found {
+            Ok(_) => pairs.len(),
+            Err(_) => pairs.len() + 1,
+        },
+        Err(_) => match found {
+            Ok(_) => pairs.len() - 1,
+            Err(_) => pairs.len(),
+        },
+    }
+}
+
 /// Changes a leaf by a record: a put sets the key's value, a delete removes the key if it is there.
 /// There is no limit on how many pairs the leaf then has. A refusal changes nothing.
 ///
@@ -80,7 +97,16 @@ pub fn change(leaf: &mut Leaf, change: &Record) -> Result<(), AllocError>
     ensures ok { OnOk result (leaf.new ≡ changed change.now leaf.old) }
     ensures unchanged { OnErr result (leaf.new ≡ leaf.old) }
 {
-    let found = find_key(&leaf.pairs, change.key().as_slice());
+    let packed = Packed::of(leaf.pairs.allocator(), change)?;
+    change_packed(leaf, &packed)
+}
+
+/// The same by a packed record, whose bytes the leaf then shares.
+pub(crate) fn change_packed(leaf: &mut Leaf, change: &Packed) -> Result<(), AllocError>
+    ensures ok { OnOk result (leaf.new ≡ changed change.now leaf.old) }
+    ensures unchanged { OnErr result (leaf.new ≡ leaf.old) }
+{
+    let found = find_key(&leaf.pairs, change.key());
     let _ = change_found(leaf, found, change)?;
     Ok(())
 }
@@ -91,8 +117,8 @@ pub fn change(leaf: &mut Leaf, change: &Record) -> Result<(), AllocError>
 pub(crate) fn change_found(
     leaf: &mut Leaf,
     found: Result<usize, usize>,
-    change: &Record,
-) -> Result<Option<Back>, AllocError>
+    change: &Packed,
+) -> Result<Option<Packed>, AllocError>
     requires found { found ≡ seek_of (key_of change.now) leaf.old.pairs }
     requires within { IsWithin (length leaf.old.pairs) found }
     ensures ok { OnOk result (leaf.new ≡ changed change.now leaf.old) }
@@ -100,30 +126,34 @@ pub(crate) fn change_found(
         back ≡ back_of change.now (find order (key_of change.now) leaf.old.pairs)) }
     ensures unchanged { OnErr result (leaf.new ≡ leaf.old) }
 {
-    match change {
-        Record::Put(key, value) => match found {
-            Ok(at) => {
-                let was = leaf.pairs.replace(at, key, value)?;
-                Ok(Some(Back::to(was)))
+    match change.pair() {
+        Ok(pair) => {
+            let own = pair.copy()?;
+            match found {
+                Ok(at) => {
+                    let was = leaf.pairs.set(at, own);
+                    Ok(Some(Packed::put(was)))
+                }
+                Err(at) => {
+                    let back = pair.copy()?;
+                    leaf.pairs.insert(at, own)?;
+                    Ok(Some(Packed::del(back)))
+                }
             }
-            Err(at) => {
-                leaf.pairs.insert(at, key, value)?;
-                Ok(Some(Back::without(key.copy())))
-            }
-        },
-        Record::Del(key) => match found {
+        }
+        Err(pair) => match found {
             Ok(at) => {
                 leaf.pairs.remove(at);
                 Ok(None)
             }
-            Err(_) => Ok(Some(Back::without(key.copy()))),
+            Err(_) => Ok(Some(Packed::del(pair.copy()?))),
         },
     }
 }
 
 /// Changes a leaf by a record that adds no pair and has its memory, where the search for its key
 /// ended so. No memory is taken.
-pub(crate) fn take_back(leaf: &mut Leaf, found: Result<usize, usize>, back: Back)
+pub(crate) fn take_back(leaf: &mut Leaf, found: Result<usize, usize>, back: Packed)
     requires found { found ≡ seek_of (key_of back) leaf.old.pairs }
     requires within { IsWithin (length leaf.old.pairs) found }
     requires none { AddsNone back found }
@@ -140,13 +170,13 @@ pub(crate) fn take_back(leaf: &mut Leaf, found: Result<usize, usize>, back: Back
 }
 
 /// Whether a record removes a pair, where the search for its key ended so.
-pub(crate) fn removes(found: Result<usize, usize>, change: &Record) -> bool
+pub(crate) fn removes(found: Result<usize, usize>, change: &Packed) -> bool
     ensures { (pairs : PairList) → IsTrue (ascends pairs) → found ≡ seek_of (key_of change.now) pairs
         → result ≡ is_none (back_of change.now (find order (key_of change.now) pairs)) }
 {
-    match change {
-        Record::Put(_, _) => false,
-        Record::Del(_) => found.is_ok(),
+    match change.pair() {
+        Ok(_) => false,
+        Err(_) => found.is_ok(),
     }
 }
 

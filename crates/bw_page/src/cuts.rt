@@ -1,17 +1,19 @@
 //! A leaf changed in its place, and a leaf cut in two by the split rule.
 
-ghost use Rattle.std.specs.Prelude.{◌≡◌, ◌<◌, ◌≤◌, ◌+◌, ◌/◌, ◌++◌, false, [], ◌∷◌, length, slice_set, slice_index_or, Some, if◌then◌else◌, OnOk, OnErr, IfOk};
+ghost use Rattle.std.specs.Prelude.{◌≡◌, ◌<◌, ◌≤◌, ◌+◌, ◌/◌, ◌++◌, false, [], ◌∷◌, length, slice_set, slice_index_or, Some, Err, if◌then◌else◌, OnOk, OnErr, IfOk};
 ghost use Rattle.std.specs.Ordering.{eq_by_cmp};
+ghost use Rattle.bw_codec.specs.Record.{key_of};
 ghost use Rattle.bw_codec.specs.declared.leaf.Leaf.{Leaf as LeafValue};
+ghost use Rattle.bw_codec.specs.declared.record.Record.TheVariants.{Put};
 ghost use Rattle.bw_page.specs.Leaves.{Bytes, order, changed, lower_of, upper_of};
 ghost use Rattle.bw_page.specs.Cutting.{changed_at};
 ghost use Rattle.bw_page.specs.LowHeads.{page_of_low};
 ghost use Rattle.bw_page.specs.Seats.{is_among};
+ghost use Rattle.bw_page.specs.Seek.{seek_of, IsWithin, AddsOne};
 
-use crate::changes;
 use crate::lows::LowIndex;
 use crate::seats::Seats;
-use bw_codec::{Key, Leaf, Low, Record};
+use bw_codec::{Leaf, Low, Packed, Pair};
 use std::alloc::{AllocError, Global};
 
 /// A leaf that was cut in two.
@@ -59,49 +61,104 @@ fn take_upper(alloc: Global, m: u16, leaf: &mut Leaf, page: u32) -> Result<Leaf,
     })
 }
 
-/// The parts of a leaf that was cut in two, with the low key of the upper one.
-#[derive(Drop)]
-pub(crate) struct Pieces {
-    pub(crate) lower: Leaf,
-    pub(crate) upper: Leaf,
-    pub(crate) low: Key,
-}
-
-/// The two parts of a leaf that has too many pairs after a record; `page` is that of the upper one.
-pub(crate) fn parts(
-    alloc: Global,
-    m: u16,
-    leaf: &Leaf,
-    item: &Record,
-    page: u32,
-) -> Result<Pieces, AllocError>
-    requires some { 1 ≤ m }
-    requires over { m < length (changed item.now leaf.now).pairs }
-    ensures lower { IfOk result (λ p. p.lower ≡ lower_of m (changed item.now leaf.now)) }
-    ensures upper { IfOk result (λ p. p.upper ≡ upper_of m page (changed item.now leaf.now)) }
-    ensures low { IfOk result (λ p. p.low ≡ p.upper.low) }
-{
-    let mut whole = leaf.copy()?;
-    changes::change(&mut whole, item)?;
-    let Cut { lower, upper } = cut_in_two(alloc, m, whole, page)?;
-    let low = upper.pairs.as_slice()[0].to_key();
-    Ok(Pieces { lower, upper, low })
-}
-
-/// Cuts one of some leaves that has too many pairs after a record: the lower part stands in its
-/// place, the upper one last and in the index, and what stood there is given. A refusal changes
+/// Changes a leaf by a record that adds one pair too many, where the search for its key ended so, and
+/// moves off the part that becomes a new page, whose low key goes into the index. A refusal changes
 /// nothing.
+pub(crate) fn cut_leaf(
+    index: &mut LowIndex,
+    m: u16,
+    leaf: &mut Leaf,
+    found: Result<usize, usize>,
+    item: &Packed,
+    page: u32,
+) -> Result<Leaf, AllocError>
+    requires some { 1 ≤ m }
+    requires found { found ≡ seek_of (key_of item.now) leaf.old.pairs }
+    requires within { IsWithin (length leaf.old.pairs) found }
+    requires adds { AddsOne item.now found }
+    requires over { m < length (changed item.now leaf.old).pairs }
+    ensures lower { OnOk result (leaf.new ≡ lower_of m (changed item.now leaf.old)) }
+    ensures upper { IfOk result (λ upper. upper ≡ upper_of m page (changed item.now leaf.old)) }
+    ensures index { (q : Bytes) → OnOk result (page_of_low index.new q
+        ≡ (if eq_by_cmp order q (upper_of m page (changed item.now leaf.old)).low
+        then Some page else page_of_low index.old q)) }
+    ensures leaf_stays { OnErr result (leaf.new ≡ leaf.old) }
+    ensures index_stays { OnErr result (index.new ≡ index.old) }
+{
+    let (at, own) = new_pair(found, item)?;
+    leaf.pairs.insert(at, own)?;
+    match sever(index, m, leaf, page) {
+        Ok(upper) => Ok(upper),
+        Err(error) => {
+            leaf.pairs.remove(at);
+            Err(error)
+        }
+    }
+}
+
+// The pair that a record adds, which shares the record's bytes, and where it goes.
+fn new_pair(found: Result<usize, usize>, item: &Packed) -> Result<(usize, Pair), AllocError>
+    requires adds { AddsOne item.now found }
+    ensures at { IfOk result (λ r. found ≡ Err r.0) }
+    ensures pair { IfOk result (λ r. item.now ≡ Put r.1.0 r.1.1) }
+{
+    match (found, item.pair()) {
+        (Err(at), Ok(pair)) => Ok((at, pair.copy()?)),
+        (Err(_), Err(_)) => unreachable!(),
+        (Ok(_), Ok(_)) => unreachable!(),
+        (Ok(_), Err(_)) => unreachable!(),
+    }
+}
+
+// Moves the part off a leaf that becomes a new page, whose low key goes into the index. A refusal
+// changes nothing.
+fn sever(index: &mut LowIndex, m: u16, leaf: &mut Leaf, page: u32) -> Result<Leaf, AllocError>
+    requires some { 1 ≤ m }
+    requires over { m < length leaf.old.pairs }
+    ensures lower { OnOk result (leaf.new ≡ lower_of m leaf.old) }
+    ensures upper { IfOk result (λ upper. upper ≡ upper_of m page leaf.old) }
+    ensures index { (q : Bytes) → OnOk result (page_of_low index.new q
+        ≡ (if eq_by_cmp order q (upper_of m page leaf.old).low
+        then Some page else page_of_low index.old q)) }
+    ensures leaf_stays { OnErr result (leaf.new ≡ leaf.old) }
+    ensures index_stays { OnErr result (index.new ≡ index.old) }
+{
+    let alloc = leaf.pairs.allocator();
+    let half = half_of(m);
+    let pairs = leaf.pairs.as_slice();
+    let count = pairs.len() - half;
+    let low = pairs[half].to_key();
+    let bytes = Vec::from_slice(alloc, low.as_slice())?;
+    let room = Vec::with_capacity(alloc, count)?;
+    index.insert(low, page)?;
+    let pairs = leaf.pairs.move_off(half, room);
+    Ok(Leaf {
+        page,
+        low: Low::of(bytes),
+        pairs,
+    })
+}
+
+/// Cuts one of some leaves that has one pair too many after a record, in which the search for its key
+/// ended so: the lower part stays in its place, the upper one stands last and in the index. A refusal
+/// changes nothing.
 pub(crate) fn cut_at(
     leaves: &mut Seats,
     index: &mut LowIndex,
     m: u16,
     at: usize,
-    item: &Record,
+    found: Result<usize, usize>,
+    item: &Packed,
     page: u32,
-) -> Result<Leaf, AllocError>
+) -> Result<(), AllocError>
     requires some { 1 ≤ m }
     requires within { at < length leaves.old.items }
     requires here { is_among (at + 1) leaves.old.evicted ≡ false }
+    requires found { (d : LeafValue)
+        → found ≡ seek_of (key_of item.now) (slice_index_or leaves.old.items at d).pairs }
+    requires found_within { (d : LeafValue)
+        → IsWithin (length (slice_index_or leaves.old.items at d).pairs) found }
+    requires adds { AddsOne item.now found }
     requires over { (d : LeafValue) → m < length (changed_at item.now leaves.old.items at d).pairs }
     ensures leaves { (d : LeafValue) → OnOk result (leaves.new.items
         ≡ slice_set leaves.old.items at (lower_of m (changed_at item.now leaves.old.items at d))
@@ -109,18 +166,14 @@ pub(crate) fn cut_at(
     ensures index { (d : LeafValue) (q : Bytes) → OnOk result (page_of_low index.new q
         ≡ (if eq_by_cmp order q (upper_of m page (changed_at item.now leaves.old.items at d)).low
         then Some page else page_of_low index.old q)) }
-    ensures was { (d : LeafValue) → IfOk result (λ was. was ≡ slice_index_or leaves.old.items at d) }
     ensures evicted { leaves.new.evicted ≡ leaves.old.evicted }
     ensures leaves_stay { OnErr result (leaves.new.items ≡ leaves.old.items) }
     ensures index_stays { OnErr result (index.new ≡ index.old) }
 {
-    let alloc = leaves.allocator();
-    let Pieces { lower, upper, low } = parts(alloc, m, leaves.get(at), item, page)?;
     leaves.reserve(1)?;
-    index.insert(low, page)?;
-    let was = leaves.exchange(at, lower);
+    let upper = leaves.cut(index, m, at, found, item, page)?;
     match leaves.push(upper) {
-        Ok(()) => Ok(was),
+        Ok(()) => Ok(()),
         Err(_) => unreachable!(),
     }
 }

@@ -1,6 +1,6 @@
 //! All leaves at once: copied, and the index of their low keys.
 
-ghost use Rattle.std.specs.Prelude.{◌≡◌, ◌≤◌, ◌<◌, ◌+◌, false, [], None, drop, take, length, slice_index_or, if◌then◌else◌, IfOk};
+ghost use Rattle.std.specs.Prelude.{◌≡◌, ◌≤◌, ◌<◌, ◌+◌, false, [], None, Some, drop, take, length, slice_index_or, if◌then◌else◌, IfOk};
 ghost use Rattle.std.specs.List.{AllByRecursion};
 ghost use Rattle.std.specs.FinMap.Entries.{find};
 ghost use Rattle.std.specs.Ordering.{eq_by_cmp};
@@ -69,15 +69,17 @@ pub(crate) fn index_of(alloc: Global, leaves: &[Leaf]) -> Result<LowIndex, Alloc
     Ok(index)
 }
 
-/// Drops the last leaf, and its low key from the index, where there are more leaves than these. No
-/// memory is taken.
-pub(crate) fn drop_above(leaves: &mut Seats, index: &mut LowIndex, pages: u32)
+/// Takes off the last leaf, and its low key from the index, where there are more leaves than these.
+/// No memory is taken.
+pub(crate) fn take_above(leaves: &mut Seats, index: &mut LowIndex, pages: u32) -> Option<Leaf>
     requires over { length leaves.old.items ≤ pages + 1 }
     requires key { (d : LeafValue) → pages < length leaves.old.items
         → IsKey (slice_index_or leaves.old.items pages d).low }
     requires here { is_among (pages + 1) leaves.old.evicted ≡ false }
     ensures leaves { leaves.new.items ≡ take pages leaves.old.items }
     ensures evicted { leaves.new.evicted ≡ leaves.old.evicted }
+    ensures upper { (d : LeafValue) → pages < length leaves.old.items
+        → result ≡ Some (slice_index_or leaves.old.items pages d) }
     ensures kept { length leaves.old.items ≤ pages → index.new ≡ index.old }
     ensures dropped { (d : LeafValue) → pages < length leaves.old.items → (q : Bytes)
         → page_of_low index.new q
@@ -85,7 +87,7 @@ pub(crate) fn drop_above(leaves: &mut Seats, index: &mut LowIndex, pages: u32)
         then None else page_of_low index.old q) }
 {
     if leaves.len() <= pages as usize {
-        return;
+        return None;
     }
     let upper = leaves.pop();
     match Key::new(upper.low.as_slice()) {
@@ -94,4 +96,5 @@ pub(crate) fn drop_above(leaves: &mut Seats, index: &mut LowIndex, pages: u32)
         }
         Err(_) => unreachable!(),
     }
+    Some(upper)
 }

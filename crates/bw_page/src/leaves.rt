@@ -23,15 +23,15 @@ mod batch;
 mod hinted;
 mod walk;
 
-use crate::changes::{count_found, empty_page, find_key};
+use crate::changes::{count_packed, empty_page, find_key};
 use crate::cuts::cut_at;
 use crate::fault::ApplyError;
 use crate::index::{copy_all, index_of};
-use crate::journal::{Back, Displaced};
+use crate::journal::Displaced;
 use crate::lows::LowIndex;
 use crate::seats::Seats;
 pub use batch::{HasRecord, Step};
-use bw_codec::{Key, Leaf, Record, Value};
+use bw_codec::{Key, Leaf, Packed, Value};
 use std::alloc::{AllocError, Global};
 use std::marker::Model;
 
@@ -193,11 +193,20 @@ impl Leaves {
             ≡ find order key.now result.now.pairs }
         ensures within { (1 ≤ result.now.page) × (result.now.page ≤ length self.now.leaves) }
     {
-        self.home_on(self.find(key), key)
+        self.home_on(self.find(key), key.as_slice())
+    }
+
+    /// The page at which a record is directed.
+    fn find_packed(&self, change: &Packed) -> u32
+        ensures directed { result ≡ directed_at self.now.leaves change.now }
+        ensures within { (1 ≤ result) × (result ≤ length self.now.leaves) }
+    {
+        let key = key_in(change);
+        self.find(&key)
     }
 
     /// The same, where its page is known.
-    fn home_on(&self, page: u32, _key: &Key) -> &Leaf
+    fn home_on(&self, page: u32, _key: &[u8]) -> &Leaf
         requires here { IsHere _key.now self.now }
         requires page { page ≡ (home _key.now self.now.leaves).page }
         ensures home { result.now ≡ home _key.now self.now.leaves }
@@ -213,8 +222,9 @@ impl Leaves {
     /// more than `m` pairs: the first (m + 1) / 2 stay, and the others become a new last page.
     ///
     /// It costs a search among the pages and work within one page; a new page also costs what a
-    /// push on a `Vec` does. A refusal changes nothing.
-    pub fn apply(&mut self, change: &Record) -> Result<Applied, ApplyError>
+    /// push on a `Vec` does. The pairs of a page that is cut are moved, and none is copied. A refusal
+    /// changes nothing.
+    pub fn apply(&mut self, change: &Packed) -> Result<Applied, ApplyError>
         requires { IsHere (key_of change.now) self.old }
         ensures ok { OnOk result (self.new ≡ after_record self.old change.now) }
         ensures plain { OnOk result (union self.new.leaves
@@ -228,12 +238,12 @@ impl Leaves {
         ensures only_spent { result ≡ Err ApplyError.Spent → IsSpent self.old change.now }
         ensures unchanged { OnErr result (self.new ≡ self.old) }
     {
-        self.apply_on(self.find(change.key()), change)
+        self.apply_on(self.find_packed(change), change)
     }
 
     /// The same, where the page at which the record is directed is known: it costs no search among
     /// the pages.
-    pub fn apply_on(&mut self, page: u32, change: &Record) -> Result<Applied, ApplyError>
+    pub fn apply_on(&mut self, page: u32, change: &Packed) -> Result<Applied, ApplyError>
         requires here { IsHere (key_of change.now) self.old }
         requires page { page ≡ directed_at self.old.leaves change.now }
         ensures ok { OnOk result (self.new ≡ after_record self.old change.now) }
@@ -254,15 +264,15 @@ impl Leaves {
 
     /// Where the leaf of this page stands, which the record changes, how many pairs it would have,
     /// and where the search in it for the record's key ended.
-    fn aim(&self, page: u32, change: &Record) -> (usize, usize, Result<usize, usize>)
+    fn aim(&self, page: u32, change: &Packed) -> (usize, usize, Result<usize, usize>)
         requires here { IsHere (key_of change.now) self.now }
         requires page { page ≡ directed_at self.now.leaves change.now }
         ensures { IsAim self.now change.now result.0 result.1 result.2 }
     {
         let leaf = self.home_on(page, change.key());
         let pairs = leaf.pairs.as_slice();
-        let found = find_key(&leaf.pairs, change.key().as_slice());
-        let count = count_found(pairs, found, change);
+        let found = find_key(&leaf.pairs, change.key());
+        let count = count_packed(pairs, found, change);
         (leaf.page as usize - 1, count, found)
     }
 
@@ -272,7 +282,7 @@ impl Leaves {
         at: usize,
         count: usize,
         found: Result<usize, usize>,
-        change: &Record,
+        change: &Packed,
     ) -> Result<Applied, ApplyError>
         requires { IsAim self.old change.now at count found }
         ensures ok { OnOk result (self.new ≡ after_record self.old change.now) }
@@ -305,8 +315,8 @@ impl Leaves {
         at: usize,
         count: usize,
         found: Result<usize, usize>,
-        change: &Record,
-    ) -> Result<Option<Back>, AllocError>
+        change: &Packed,
+    ) -> Result<Option<Packed>, AllocError>
         requires aim { IsAim self.old change.now at count found }
         requires few { count ≤ self.old.m }
         ensures ok { OnOk result (self.new ≡ after_record self.old change.now) }
@@ -321,14 +331,14 @@ impl Leaves {
         Ok(back)
     }
 
-    /// Applies a record where `aim` says, which cuts the page in two. It gives the page as it was,
-    /// with how many pages there were, and the number of the page that is made.
+    /// Applies a record where `aim` says, which cuts the page in two. It gives what puts the page back
+    /// as it was, and the number of the page that is made.
     fn cut_page(
         &mut self,
         at: usize,
         count: usize,
         found: Result<usize, usize>,
-        change: &Record,
+        change: &Packed,
     ) -> Result<(Displaced, u32), ApplyError>
         requires aim { IsAim self.old change.now at count found }
         requires many { self.old.m < count }
@@ -347,15 +357,17 @@ impl Leaves {
             return Err(ApplyError::Spent);
         }
         let pages = before as u32;
-        let leaf = cut_at(
+        let displaced = Displaced::cut(self.leaves.get(at), pages, change)?;
+        cut_at(
             &mut self.leaves,
             &mut self.index,
             self.m,
             at,
+            found,
             change,
             pages + 1,
         )?;
-        Ok((Displaced { leaf, pages }, pages + 1))
+        Ok((displaced, pages + 1))
     }
 
     /// The leaves as they stand.
@@ -401,5 +413,15 @@ impl Leaves {
             leaves: Seats::of(leaves)?,
             index,
         })
+    }
+}
+
+// The key of a record, in fixed room.
+fn key_in(change: &Packed) -> Key
+    ensures { result ≡ key_of change.now }
+{
+    match Key::new(change.key()) {
+        Ok(key) => key,
+        Err(_) => unreachable!(),
     }
 }

@@ -13,7 +13,7 @@
 //! among the page's pairs is at home there.
 //!
 //! A batch is applied whole or not at all. What takes each record back is kept until the last is
-//! applied, and taking back takes no memory.
+//! applied, and taking back is never refused.
 //!
 //! A page may be evicted from memory. What it holds is then known to the proof alone, by a
 //! snapshot, which has no bytes; whoever brings it back has to have read exactly that.

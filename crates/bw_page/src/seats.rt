@@ -10,15 +10,18 @@ ghost use Rattle.std.specs.Option.{option_copied};
 ghost use Rattle.bw_codec.specs.declared.leaf.Leaf.{Leaf as LeafValue};
 ghost use Rattle.std.specs.FinMap.Entries.{find};
 ghost use Rattle.bw_codec.specs.Bytes.{ascends};
-ghost use Rattle.bw_page.specs.Leaves.{order, changed};
+ghost use Rattle.std.specs.Ordering.{eq_by_cmp};
+ghost use Rattle.bw_page.specs.Leaves.{Bytes, order, changed, lower_of, upper_of};
+ghost use Rattle.bw_page.specs.LowHeads.{page_of_low};
 ghost use Rattle.bw_page.specs.Cutting.{changed_at};
 ghost use Rattle.bw_page.specs.Seats.{is_among};
-ghost use Rattle.bw_page.specs.Seek.{seek_of, back_of, IsWithin, AddsNone};
+ghost use Rattle.bw_page.specs.Seek.{seek_of, back_of, IsWithin, AddsNone, AddsOne};
 ghost use Rattle.bw_codec.specs.Record.{key_of};
 
 use crate::changes;
-use crate::journal::Back;
-use bw_codec::{Leaf, Record, base_length};
+use crate::cuts::cut_leaf;
+use crate::lows::LowIndex;
+use bw_codec::{Leaf, Packed, base_length};
 use std::alloc::{AllocError, Global};
 use std::marker::Model;
 use std::mem;
@@ -92,8 +95,8 @@ impl Seat {
     fn change(
         &mut self,
         found: Result<usize, usize>,
-        item: &Record,
-    ) -> Result<Option<Back>, AllocError>
+        item: &Packed,
+    ) -> Result<Option<Packed>, AllocError>
         requires here { self.old.is_evicted ≡ false }
         requires found { found ≡ seek_of (key_of item.now) self.old.leaf.pairs }
         requires within { IsWithin (length self.old.leaf.pairs) found }
@@ -114,9 +117,47 @@ impl Seat {
         }
     }
 
+    /// Changes the leaf by a record that adds one pair too many, where the search for its key ended
+    /// so, and gives the part that becomes a new page, whose low key goes into the index. A refusal
+    /// changes nothing.
+    fn cut(
+        &mut self,
+        index: &mut LowIndex,
+        m: u16,
+        found: Result<usize, usize>,
+        item: &Packed,
+        page: u32,
+    ) -> Result<Leaf, AllocError>
+        requires some { 1 ≤ m }
+        requires here { self.old.is_evicted ≡ false }
+        requires found { found ≡ seek_of (key_of item.now) self.old.leaf.pairs }
+        requires within { IsWithin (length self.old.leaf.pairs) found }
+        requires adds { AddsOne item.now found }
+        requires over { m < length (changed item.now self.old.leaf).pairs }
+        ensures lower { OnOk result (self.new
+            ≡ record self.old { leaf = lower_of m (changed item.now self.old.leaf) }) }
+        ensures here { self.new.is_evicted ≡ false }
+        ensures upper { IfOk result (λ upper.
+            upper ≡ upper_of m page (changed item.now self.old.leaf)) }
+        ensures index { (q : Bytes) → OnOk result (page_of_low index.new q
+            ≡ (if eq_by_cmp order q (upper_of m page (changed item.now self.old.leaf)).low
+            then Some page else page_of_low index.old q)) }
+        ensures unchanged { OnErr result (self.new ≡ self.old) }
+        ensures index_stays { OnErr result (index.new ≡ index.old) }
+    {
+        match &mut self.leaf {
+            Some(leaf) => {
+                let upper = cut_leaf(index, m, leaf, found, item, page)?;
+                self.was = Snapshot::of(leaf);
+                Ok(upper)
+            }
+            None => unreachable!(),
+        }
+    }
+
     /// Changes the leaf by a record that adds no pair and has its memory, where the search for its
     /// key ended so.
-    fn take_back(&mut self, found: Result<usize, usize>, back: Back)
+    fn take_back(&mut self, found: Result<usize, usize>, back: Packed)
         requires here { self.old.is_evicted ≡ false }
         requires found { found ≡ seek_of (key_of back) self.old.leaf.pairs }
         requires within { IsWithin (length self.old.leaf.pairs) found }
@@ -294,8 +335,8 @@ impl Seats {
         &mut self,
         at: usize,
         found: Result<usize, usize>,
-        item: &Record,
-    ) -> Result<Option<Back>, AllocError>
+        item: &Packed,
+    ) -> Result<Option<Packed>, AllocError>
         requires within { at < length self.old.items }
         requires here { is_among (at + 1) self.old.evicted ≡ false }
         requires found { (d : LeafValue)
@@ -314,9 +355,46 @@ impl Seats {
         self.seats[at].change(found, item)
     }
 
+    /// Changes a leaf, which is in memory, by a record that adds one pair too many, where the search
+    /// for its key ended so, and gives the part that becomes a new page, whose low key goes into the
+    /// index. A refusal changes nothing.
+    pub(crate) fn cut(
+        &mut self,
+        index: &mut LowIndex,
+        m: u16,
+        at: usize,
+        found: Result<usize, usize>,
+        item: &Packed,
+        page: u32,
+    ) -> Result<Leaf, AllocError>
+        requires some { 1 ≤ m }
+        requires within { at < length self.old.items }
+        requires here { is_among (at + 1) self.old.evicted ≡ false }
+        requires found { (d : LeafValue)
+            → found ≡ seek_of (key_of item.now) (slice_index_or self.old.items at d).pairs }
+        requires found_within { (d : LeafValue)
+            → IsWithin (length (slice_index_or self.old.items at d).pairs) found }
+        requires adds { AddsOne item.now found }
+        requires over { (d : LeafValue) → m < length (changed_at item.now self.old.items at d).pairs }
+        ensures lower { (d : LeafValue) → OnOk result (self.new.items
+            ≡ slice_set self.old.items at (lower_of m (changed_at item.now self.old.items at d))) }
+        ensures upper { (d : LeafValue) → IfOk result (λ upper.
+            upper ≡ upper_of m page (changed_at item.now self.old.items at d)) }
+        ensures index { (d : LeafValue) (q : Bytes) → OnOk result (page_of_low index.new q
+            ≡ (if eq_by_cmp order q (upper_of m page (changed_at item.now self.old.items at d)).low
+            then Some page else page_of_low index.old q)) }
+        ensures evicted { self.new.evicted ≡ self.old.evicted }
+        ensures room { self.new.room ≡ self.old.room }
+        ensures unchanged { OnErr result (self.new.items ≡ self.old.items) }
+        ensures index_stays { OnErr result (index.new ≡ index.old) }
+    {
+        let _ = self.seats.as_slice().len();
+        self.seats[at].cut(index, m, found, item, page)
+    }
+
     /// Changes a leaf, which is in memory, by a record that adds no pair and has its memory, where
     /// the search for its key ended so.
-    pub(crate) fn take_back(&mut self, at: usize, found: Result<usize, usize>, back: Back)
+    pub(crate) fn take_back(&mut self, at: usize, found: Result<usize, usize>, back: Packed)
         requires within { at < length self.old.items }
         requires here { is_among (at + 1) self.old.evicted ≡ false }
         requires found { (d : LeafValue)

@@ -10,7 +10,7 @@ ghost use Rattle.bw_page.specs.Words.{newer, told_by, record_word, records_word,
 ghost use Rattle.bw_page.specs.Words.{word_of as word_of_value};
 
 use crate::changes::value_in;
-use bw_codec::{Block, Key, Leaf, Low, Record, Value};
+use bw_codec::{Block, Key, Leaf, Low, Packed, Record, Value};
 use std::cmp::Ordering;
 
 /// What records or blocks say of a key.
@@ -58,6 +58,20 @@ pub(crate) fn word_of(item: &Record, key: &Key) -> Word
         Ordering::Equal => match item {
             Record::Put(_, value) => Word::Holds(value.copy()),
             Record::Del(_) => Word::Gone,
+        },
+    }
+}
+
+/// What a packed record says of a key.
+pub(crate) fn word_packed(item: &Packed, key: &Key) -> Word
+    ensures { result ≡ record_word key.now item.now }
+{
+    match key.as_slice().cmp(item.key()) {
+        Ordering::Less => Word::Silent,
+        Ordering::Greater => Word::Silent,
+        Ordering::Equal => match item.pair() {
+            Ok(pair) => Word::Holds(pair.to_value()),
+            Err(_) => Word::Gone,
         },
     }
 }

@@ -2,7 +2,7 @@
 use Rattle.std.proofs.Common.{◌≡◌, List, [], ◌∷◌, ◌++◌, Option, Some, fold, ap, sym, ◌∙◌, append_assoc}
 use Rattle.std.proofs.lemmas.List.{append-nil}
 use Rattle.bw_page.specs.Shown.{Shown}
-use Rattle.bw_versions.specs.declared.entry.Entry.{Entry}
+use Rattle.bw_history.specs.declared.entry.Entry.{Entry}
 use Rattle.bw_versions.specs.Batches.{BatchData, entries_of}
 use Rattle.bw_versions.specs.Posted.{brings, begun}
 use Rattle.bw_versions.specs.Laws.{AreJoined}

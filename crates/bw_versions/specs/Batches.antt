@@ -3,7 +3,7 @@
 use Rattle.std.specs.Prelude.{List, Option}
 use Rattle.std.specs.List.{flat_map}
 use Rattle.bw_page.specs.Shown.{Shown}
-use Rattle.bw_versions.specs.declared.entry.Entry.{Entry}
+use Rattle.bw_history.specs.declared.entry.Entry.{Entry}
 
 -- entries, and the start leaves where the batch is the first
 pub record BatchData : Type 0 where

@@ -1,6 +1,5 @@
 -- what callers see, in reading order
 
-pub mod Entries
 pub mod Batches
 pub mod Posted
 pub mod Laws
@@ -16,7 +15,6 @@ pub mod Keeping
 pub mod BookRule
 -- how values stand in memory
 
-pub mod Packed
 pub mod Posting
 pub mod Sending
 pub mod Holds

@@ -6,9 +6,9 @@ use Rattle.bw_codec.specs.declared.leaf.Leaf.{Leaf}
 use Rattle.bw_page.specs.Ahead.{IsFirst}
 use Rattle.bw_page.specs.Leaves.{Bytes, plain, leaf_at}
 use Rattle.bw_page.specs.Shown.{Shown, run}
-use Rattle.bw_versions.specs.declared.entry.Entry.{Entry}
+use Rattle.bw_history.specs.declared.entry.Entry.{Entry}
 use Rattle.bw_versions.specs.Batches.{BatchData}
-use Rattle.bw_versions.specs.Entries.{records}
+use Rattle.bw_history.specs.Entries.{records}
 
 -- start leaves, and the entries published since
 pub record Posted : Type 0 where

@@ -3,7 +3,7 @@
 use Rattle.std.specs.Prelude.{◌≡◌, [], map}
 use Rattle.bw_page.specs.Leaves.{union, plain}
 use Rattle.bw_versions.specs.declared.board.Board.TheInside.{Inside}
-use Rattle.bw_versions.specs.Entries.{records}
+use Rattle.bw_history.specs.Entries.{records}
 use Rattle.bw_versions.specs.Posted.{Posted, pages_of}
 
 abbrev pub view_of : Inside → Posted

@@ -3,7 +3,7 @@
 use Rattle.std.specs.Prelude.{ℕ, ◌≡◌, ◌≤◌, ◌⊎◌, List, [], ◌∷◌, ◌++◌, length}
 use Rattle.bw_page.specs.Shown.{Shown}
 use Rattle.logbook.specs.Pages.{Book}
-use Rattle.bw_versions.specs.declared.entry.Entry.{Entry}
+use Rattle.bw_history.specs.declared.entry.Entry.{Entry}
 use Rattle.bw_versions.specs.Batches.{BatchData, entries_of}
 
 pub record Versioned : Type 0 where

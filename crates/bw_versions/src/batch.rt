@@ -3,7 +3,7 @@
 ghost use Rattle.std.specs.Prelude.{◌≡◌, []};
 ghost use Rattle.std.specs.Option.{ForSome};
 
-use crate::entry::Entry;
+use bw_history::PackedEntry;
 use bw_page::{Leaves, Start};
 use std::marker::Model;
 
@@ -12,10 +12,7 @@ use std::marker::Model;
 pub struct Batch {
     /// All of them in memory.
     pub(crate) start: Option<Start>,
-    pub(crate) entries: Vec<Entry>,
-    /// The pages at which the entries' records may be directed, each at the index of its entry.
-    /// Nothing is known of them.
-    pub(crate) pages: Vec<u32>,
+    pub(crate) entries: Vec<PackedEntry>,
 }
 
 impl Model for Batch {
@@ -32,38 +29,29 @@ impl Model for Batch {
 
 impl Batch {
     /// A batch of these entries. No memory is taken.
-    pub fn new(start: Option<Leaves>, entries: Vec<Entry>) -> Batch
+    pub fn new(start: Option<Leaves>, entries: Vec<PackedEntry>) -> Batch
         requires here { ForSome start (λ leaves. leaves.evicted ≡ []) }
         ensures { result ≡ record { start = start; entries = entries.items } }
     {
-        let pages = Vec::new(*entries.allocator());
         match start {
-            Some(leaves) => Batch::of(Some(Start::of(leaves)), entries, pages),
-            None => Batch::of(None, entries, pages),
+            Some(leaves) => Batch::of(Some(Start::of(leaves)), entries),
+            None => Batch::of(None, entries),
         }
     }
 
-    /// The same, where the start leaves wait, and the entries' pages are guessed.
-    pub(crate) fn of(start: Option<Start>, entries: Vec<Entry>, pages: Vec<u32>) -> Batch
+    /// The same, where the start leaves wait.
+    pub(crate) fn of(start: Option<Start>, entries: Vec<PackedEntry>) -> Batch
         requires here { ForSome start (λ leaves. leaves.evicted ≡ []) }
         ensures { result ≡ record { start = start; entries = entries.items } }
     {
-        Batch {
-            start,
-            entries,
-            pages,
-        }
+        Batch { start, entries }
     }
 
     /// The start leaves that it brings.
     pub(crate) fn into_start(self) -> Option<Start>
         ensures { result ≡ self.start }
     {
-        let Batch {
-            start,
-            entries: _,
-            pages: _,
-        } = self;
+        let Batch { start, entries: _ } = self;
         start
     }
 }

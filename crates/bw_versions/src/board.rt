@@ -6,11 +6,11 @@ ghost use Rattle.std.specs.FinMap as finite;
 ghost use Rattle.bw_page.specs.Ahead.{IsFirst};
 ghost use Rattle.bw_page.specs.Leaves.{plain, union};
 ghost use Rattle.bw_page.specs.Batch.{SomeIsSpent};
-ghost use Rattle.bw_versions.specs.Entries.{records};
+ghost use Rattle.bw_history.specs.Entries.{records};
 ghost use Rattle.bw_versions.specs.Posted.{pages_of};
 
-use crate::entry::Entry;
 use bw_codec::{Key, Value};
+use bw_history::PackedEntry;
 use bw_page::{ApplyError, Leaves, Start};
 use std::alloc::{AllocError, Global};
 use std::marker::Model;
@@ -22,7 +22,7 @@ use std::snapshot::Snapshot;
 pub struct Board {
     leaves: Leaves,
     start: Snapshot<Leaves>,
-    entries: Vec<Snapshot<Entry>>,
+    entries: Vec<Snapshot<PackedEntry>>,
 }
 
 impl Model for Board {
@@ -89,25 +89,9 @@ impl Board {
         self.leaves.next_at(key)
     }
 
-    /// Appends entries, all or none: a refusal changes nothing. No record is copied but into its
-    /// page, and into what would take the batch back.
-    pub fn publish(&mut self, more: &[Entry]) -> Result<(), ApplyError>
-        ensures added { OnOk result
-            (self.new ≡ record self.old { entries = self.old.entries ++ more.now }) }
-
-        // As a batch of records: `Spent` only where one of them needs a page number that does not
-        // exist, and a refusal wherever one does, perhaps for want of memory before that record.
-        ensures spent { SomeIsSpent (pages_of self.old) (records more.now) → IsErr result }
-        ensures only_spent { result ≡ Err ApplyError.Spent
-            → SomeIsSpent (pages_of self.old) (records more.now) }
-        ensures unchanged { OnErr result (self.new ≡ self.old) }
-    {
-        self.publish_hinted(more, &[])
-    }
-
-    /// The same, where the page at which an entry's record is directed may be the one at its index
-    /// here, which is looked at first. There may be fewer pages than entries, or more.
-    pub fn publish_hinted(&mut self, more: &[Entry], pages: &[u32]) -> Result<(), ApplyError>
+    /// Appends entries, all or none: a refusal changes nothing. No record is copied: the pages share
+    /// its bytes. Each is looked for on the page that was guessed for its entry.
+    pub fn publish(&mut self, more: &[PackedEntry]) -> Result<(), ApplyError>
         ensures added { OnOk result
             (self.new ≡ record self.old { entries = self.old.entries ++ more.now }) }
 
@@ -124,14 +108,14 @@ impl Board {
             entries,
             leaves,
         } = self;
-        leaves.apply_all_hinted(more, pages)?;
+        leaves.apply_all_of(more)?;
         append(entries, more);
         Ok(())
     }
 }
 
 // Appends entries, for which there is room. No memory is taken.
-fn append(entries: &mut Vec<Snapshot<Entry>>, more: &[Entry])
+fn append(entries: &mut Vec<Snapshot<PackedEntry>>, more: &[PackedEntry])
     requires { vec_len entries.old + length more.now ≤ vec_capacity entries.old }
     ensures { map (λ s. s.value) entries.new.items
         ≡ map (λ s. s.value) entries.old.items ++ more.now }

@@ -13,12 +13,10 @@
 mod batch;
 mod board;
 mod book;
-mod entry;
 mod front;
 mod informed;
 mod laws;
 mod operation;
-mod packed;
 mod publisher;
 mod reader;
 mod threads;
@@ -29,9 +27,7 @@ mod writer;
 
 pub use batch::Batch;
 pub use board::Board;
-pub use entry::Entry;
 pub use laws::batches_are_joined;
-pub use packed::PackedEntry;
 pub use publisher::{Publisher, Unpublished};
 pub use reader::{News, NoReader, ReadFault, Reader, ReaderOf};
 pub use versions::Versions;

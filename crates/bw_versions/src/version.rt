@@ -102,7 +102,7 @@ fn bring(alloc: Global, board: &mut Option<Board>, batch: &Batch) -> Result<(), 
     ensures unchanged { OnErr result (board.new ≡ board.old) }
 {
     match board {
-        Some(old) => match old.publish_hinted(batch.entries.as_slice(), batch.pages.as_slice()) {
+        Some(old) => match old.publish(batch.entries.as_slice()) {
             Ok(()) => Ok(()),
             Err(_) => Err(AllocError),
         },
@@ -111,7 +111,7 @@ fn bring(alloc: Global, board: &mut Option<Board>, batch: &Batch) -> Result<(), 
                 return Ok(());
             };
             let mut new = Board::at(alloc, start)?;
-            match new.publish_hinted(batch.entries.as_slice(), batch.pages.as_slice()) {
+            match new.publish(batch.entries.as_slice()) {
                 Ok(()) => {
                     *board = Some(new);
                     Ok(())

@@ -7,10 +7,9 @@ ghost use Rattle.bw_versions.specs.Posted.{posted_of};
 ghost use Rattle.bw_versions.specs.Versioned.{EntersWhole, IsUpTo, history_of};
 
 use crate::batch::Batch;
-use crate::entry::Entry;
-use crate::packed::PackedEntry;
 use crate::publisher::{Publisher, Unpublished};
 use crate::reader::{News, ReadFault, Reader};
+use bw_history::PackedEntry;
 use bw_page::{Leaves, Start};
 use std::alloc::{AllocError, Global};
 use std::marker::Model;
@@ -94,8 +93,8 @@ impl Versions {
 
     /// Publishes the history up to `end`, all of it at once. `fresh` are its entries that the book
     /// does not have: they are one batch, and the first also brings the start leaves. Where nothing
-    /// is new, nothing is done. Readers' copies look for a record on the page that was guessed for
-    /// its entry; where memory is wanting for these pages, they are not used.
+    /// is new, nothing is done. Readers' copies share the bytes of the entries, and look for a record
+    /// on the page that was guessed for its entry.
     ///
     /// It may wait for readers. A refused growth is the only error: then what is published stays,
     /// and the next call brings it. A call costs what the new entries cost to apply, and no page
@@ -133,7 +132,7 @@ impl Versions {
             return publisher.catch_up(rt);
         }
         let entries = copies(*alloc, fresh)?;
-        let batch = Batch::of(start.take(), entries, pages_of(*alloc, fresh));
+        let batch = Batch::of(start.take(), entries);
         match publisher.publish(rt, batch) {
             Ok(()) => {
                 *count = end;
@@ -185,26 +184,13 @@ impl Versions {
     }
 }
 
-// The same entries, in fixed room.
-fn copies(alloc: Global, entries: &[PackedEntry]) -> Result<Vec<Entry>, AllocError>
+// The same entries, which share their bytes with these.
+fn copies(alloc: Global, entries: &[PackedEntry]) -> Result<Vec<PackedEntry>, AllocError>
     ensures { IfOk result (λ v. v.items ≡ entries.now) }
 {
     let mut all = Vec::with_capacity(alloc, entries.len())?;
     for entry in entries {
-        all.push(entry.entry())?;
+        all.push(entry.copy()?)?;
     }
     Ok(all)
-}
-
-// The pages that were guessed for them, or none where memory is wanting.
-fn pages_of(alloc: Global, entries: &[PackedEntry]) -> Vec<u32> {
-    let Ok(mut pages) = Vec::with_capacity(alloc, entries.len()) else {
-        return Vec::new(alloc);
-    };
-    for entry in entries {
-        if pages.push(entry.page()).is_err() {
-            return pages;
-        }
-    }
-    pages
 }

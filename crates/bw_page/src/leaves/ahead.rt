@@ -7,39 +7,39 @@
 //! What they answer is of no use; but the reads are made only where it is used.
 
 use super::{HasRecord, Leaves};
-use bw_codec::Key;
 
 /// How many heads of a row stand side by side in memory.
 const ROW: usize = 8;
 
 impl Leaves {
-    /// Reads ahead what these records will look at, if the page of each is the one at its index here.
-    pub(super) fn read_ahead<T: HasRecord>(&self, items: &[T], pages: &[u32]) -> u64 {
-        self.read_fronts(pages) ^ self.read_rows(pages) ^ self.read_pairs(items, pages)
+    /// Reads ahead what these records will look at, if the page of each is the one that was guessed.
+    pub(super) fn read_ahead<T: HasRecord>(&self, items: &[T]) -> u64 {
+        self.read_fronts(items) ^ self.read_rows(items) ^ self.read_pairs(items)
     }
 
-    fn read_fronts(&self, pages: &[u32]) -> u64 {
+    fn read_fronts<T: HasRecord>(&self, items: &[T]) -> u64 {
         let mut sum = 0;
-        for page in pages {
-            sum ^= self.head_at(*page, 0);
+        for item in items {
+            sum ^= self.head_at(item.guess(), 0);
         }
         sum
     }
 
-    fn read_rows(&self, pages: &[u32]) -> u64 {
+    fn read_rows<T: HasRecord>(&self, items: &[T]) -> u64 {
         let mut sum = 0;
-        for page in pages {
-            sum ^= self.head_at(*page, ROW)
-                ^ self.head_at(*page, 2 * ROW)
-                ^ self.head_at(*page, 3 * ROW);
+        for item in items {
+            let page = item.guess();
+            sum ^= self.head_at(page, ROW)
+                ^ self.head_at(page, 2 * ROW)
+                ^ self.head_at(page, 3 * ROW);
         }
         sum
     }
 
-    fn read_pairs<T: HasRecord>(&self, items: &[T], pages: &[u32]) -> u64 {
+    fn read_pairs<T: HasRecord>(&self, items: &[T]) -> u64 {
         let mut sum = 0;
-        for (item, page) in items.iter().zip(pages) {
-            sum ^= self.length_at(*page, item.record().key());
+        for item in items {
+            sum ^= self.length_at(item.guess(), item.record().key());
         }
         sum
     }
@@ -56,11 +56,11 @@ impl Leaves {
     }
 
     /// The length of the key on a page at which a search for this key begins, or 0.
-    fn length_at(&self, page: u32, key: &Key) -> u64 {
+    fn length_at(&self, page: u32, key: &[u8]) -> u64 {
         let Some(leaf) = self.page(page) else {
             return 0;
         };
-        let from = leaf.pairs.skipped(key.as_slice());
+        let from = leaf.pairs.skipped(key);
         match leaf.pairs.as_slice().get(from) {
             Some(pair) => pair.key().len() as u64,
             None => 0,

@@ -1,8 +1,8 @@
 //! Records applied as one: what takes each of them back is kept until the last is applied.
 //!
 //! A record that adds no pair takes back most of them: a put of the key's old value, or a delete of
-//! a key that had none. To put back a pair that was removed, or to join a page that was cut, might
-//! take memory; there the leaf is kept as it was before.
+//! a key that had none. To put back a pair that was removed might take memory; there the leaf is kept
+//! as it was before. A page that was cut is joined again in room that was made before the cut.
 
 ghost use Rattle.std.specs.Prelude.{◌≡◌, ◌≤◌, ◌<◌, ◌+◌, [], length, map, vec_len, is_none, is_some, IfOk, IfSome, IsOk, IsErr, OnOk, OnErr, ◌⊎◌};
 ghost use Rattle.std.specs.Vec.{vec_capacity};
@@ -12,19 +12,18 @@ ghost use Rattle.std.specs.FinMap.Entries.{find};
 ghost use Rattle.bw_page.specs.Leaves.{order, home, HasPage, HasPages, directed_at, result_of, union, plain};
 ghost use Rattle.bw_page.specs.Seek.{back_of};
 ghost use Rattle.bw_page.specs.Shown.{IsSpent, after_record, run, IsHere};
-ghost use Rattle.bw_page.specs.Journal.{undo_of, undone, all_undone, GoesBack, IsJournal, IsNewest};
+ghost use Rattle.bw_page.specs.Journal.{displaced_by, undo_of, undone, all_undone, GoesBack, IsJournal, IsNewest};
 ghost use Rattle.bw_page.specs.Batch.{SomeIsSpent, AreHere, upper_if, step_of, steps_of};
 ghost use Rattle.bw_page.specs.Aim.{IsAim};
 
 use super::Leaves;
-use crate::changes::{change as change_leaf, count_after, removes};
+use crate::changes::{change_packed, count_packed, find_key, removes};
 use crate::cuts::{Cut, cut_in_two};
 use crate::fault::ApplyError;
-use crate::index::drop_above;
-use crate::journal::{Back, Displaced, Undo};
-use bw_codec::{Leaf, Record};
+use crate::index::take_above;
+use crate::journal::{Displaced, Undo};
+use bw_codec::{Leaf, Packed};
 use std::alloc::AllocError;
-use std::slice;
 
 /// A value in which a record stands.
 pub trait HasRecord {
@@ -33,15 +32,23 @@ pub trait HasRecord {
     ghost record_of: { Self → RecordValue };
 
     /// The record.
-    fn record(&self) -> &Record
+    fn record(&self) -> &Packed
         ensures { result.now ≡ record_of self.now };
+
+    /// The page at which the record may be directed, which is looked at first. Nothing is known of
+    /// it: any number may be given, and 0 is that of no page.
+    fn guess(&self) -> u32;
 }
 
-impl HasRecord for Record {
+impl HasRecord for Packed {
     ghost record_of = { λ r. r };
 
-    fn record(&self) -> &Record {
+    fn record(&self) -> &Packed {
         self
+    }
+
+    fn guess(&self) -> u32 {
+        NO_PAGE
     }
 }
 
@@ -57,20 +64,12 @@ pub struct Step {
 /// The number of no page.
 const NO_PAGE: u32 = 0;
 
-// The next page of some that may be right.
-fn next_hint(hints: &mut slice::Iter<'_, u32>) -> u32 {
-    match hints.next() {
-        Some(page) => *page,
-        None => NO_PAGE,
-    }
-}
-
 impl Leaves {
     /// Applies records one after the other, all or none: a refusal changes nothing.
     ///
-    /// Beside what `apply` costs, it costs for each record that removes a pair or cuts a page a
-    /// copy of that page, for any other a copy of its old pair, held until the end.
-    pub fn apply_all(&mut self, records: &[Record]) -> Result<(), ApplyError>
+    /// Beside what `apply` costs, it costs for each record that removes a pair a copy of its page,
+    /// which shares the pairs, held until the end.
+    pub fn apply_all(&mut self, records: &[Packed]) -> Result<(), ApplyError>
         requires { self.old.evicted ≡ [] }
         ensures ok { OnOk result (self.new ≡ run self.old records.now) }
         ensures plain { OnOk result (union self.new.leaves ≡ plain self.old.leaves records.now) }
@@ -85,7 +84,8 @@ impl Leaves {
     }
 
     /// The same, where the records stand in other values, and the page of each is in memory when
-    /// its turn comes: none of the records is copied.
+    /// its turn comes: none of the records is copied. Each is looked for on the page that was guessed
+    /// for it, as by `apply_hinted`.
     pub fn apply_all_of<T: HasRecord>(&mut self, items: &[T]) -> Result<(), ApplyError>
         requires { AreHere self.old (map T.record_of items.now) }
         ensures ok { OnOk result (self.new ≡ run self.old (map T.record_of items.now)) }
@@ -96,32 +96,11 @@ impl Leaves {
             → SomeIsSpent self.old (map T.record_of items.now) }
         ensures unchanged { OnErr result (self.new ≡ self.old) }
     {
-        self.apply_all_hinted(items, &[])
-    }
-
-    /// The same, where the page at which a record is directed may be the one at its index here:
-    /// what `apply_hinted` makes of it. There may be fewer pages than records, or more.
-    pub fn apply_all_hinted<T: HasRecord>(
-        &mut self,
-        items: &[T],
-        pages: &[u32],
-    ) -> Result<(), ApplyError>
-        requires { AreHere self.old (map T.record_of items.now) }
-        ensures ok { OnOk result (self.new ≡ run self.old (map T.record_of items.now)) }
-        ensures plain { OnOk result (union self.new.leaves
-            ≡ plain self.old.leaves (map T.record_of items.now)) }
-        ensures spent { SomeIsSpent self.old (map T.record_of items.now) → IsErr result }
-        ensures only_spent { result ≡ Err ApplyError.Spent
-            → SomeIsSpent self.old (map T.record_of items.now) }
-        ensures unchanged { OnErr result (self.new ≡ self.old) }
-    {
         let _ = self.count();
-        let ahead = (self.read_ahead(items, pages) % 2) as usize;
+        let ahead = (self.read_ahead(items) % 2) as usize;
         let mut journal = Vec::with_capacity(self.leaves.allocator(), items.len().max(ahead))?;
-        let mut hints = pages.iter();
         for item in items {
-            let page = next_hint(&mut hints);
-            match self.displace(page, item.record()) {
+            match self.displace(item.guess(), item.record()) {
                 Ok(undo) => match journal.push(undo) {
                     Ok(()) => {}
                     Err(_) => unreachable!(),
@@ -215,20 +194,20 @@ impl Leaves {
 
     /// What a record would do. It costs a search among the pages, and a copy of the page that it
     /// would cut.
-    pub fn step(&self, change: &Record) -> Result<Step, ApplyError>
+    pub fn step(&self, change: &Packed) -> Result<Step, ApplyError>
         requires { IsHere (key_of change.now) self.now }
         ensures step { IfOk result (λ step. step ≡ step_of self.now change.now) }
         ensures room { OnOk result (HasPage self.now.m self.now.leaves change.now) }
         ensures spent { IsSpent self.now change.now → result ≡ Err ApplyError.Spent }
         ensures only_spent { result ≡ Err ApplyError.Spent → IsSpent self.now change.now }
     {
-        let page = self.find(change.key());
+        let page = self.find_packed(change);
         let upper = self.upper_of(page, change)?;
         Ok(Step { page, upper })
     }
 
     /// The page that a record of this page would make, if it does.
-    fn upper_of(&self, page: u32, change: &Record) -> Result<Option<Leaf>, ApplyError>
+    fn upper_of(&self, page: u32, change: &Packed) -> Result<Option<Leaf>, ApplyError>
         requires here { IsHere (key_of change.now) self.now }
         requires page { page ≡ directed_at self.now.leaves change.now }
         ensures upper { IfOk result (λ upper. upper ≡ upper_if self.now.m
@@ -238,21 +217,22 @@ impl Leaves {
         ensures only_spent { result ≡ Err ApplyError.Spent → IsSpent self.now change.now }
     {
         let leaf = self.home_on(page, change.key());
-        if count_after(leaf, change) <= usize::from(self.m) {
+        let found = find_key(&leaf.pairs, change.key());
+        if count_packed(leaf.pairs.as_slice(), found, change) <= usize::from(self.m) {
             return Ok(None);
         }
         let Some(made) = self.count().checked_add(1) else {
             return Err(ApplyError::Spent);
         };
         let mut whole = leaf.copy()?;
-        change_leaf(&mut whole, change)?;
+        change_packed(&mut whole, change)?;
         let Cut { lower: _, upper } = cut_in_two(self.leaves.allocator(), self.m, whole, made)?;
         Ok(Some(upper))
     }
 
     /// Applies a record, which may be directed at this page, and gives what takes it back. A
     /// refusal changes nothing.
-    fn displace(&mut self, page: u32, change: &Record) -> Result<Undo, ApplyError>
+    fn displace(&mut self, page: u32, change: &Packed) -> Result<Undo, ApplyError>
         requires { IsHere (key_of change.now) self.old }
         ensures undo { IfOk result (λ undo. undo ≡ undo_of self.old change.now) }
         ensures ok { OnOk result (self.new ≡ after_record self.old change.now) }
@@ -276,7 +256,7 @@ impl Leaves {
         at: usize,
         count: usize,
         found: Result<usize, usize>,
-        change: &Record,
+        change: &Packed,
     ) -> Result<Undo, AllocError>
         requires aim { IsAim self.old change.now at count found }
         requires few { count ≤ self.old.m }
@@ -284,12 +264,11 @@ impl Leaves {
         ensures ok { OnOk result (self.new ≡ after_record self.old change.now) }
         ensures unchanged { OnErr result (self.new ≡ self.old) }
     {
-        let pages = self.count();
         let kept = self.lost_page(at, count, found, change)?;
         match self.change_at(at, count, found, change)? {
             Some(back) => Ok(Undo::Back(back)),
             None => match kept {
-                Some(leaf) => Ok(Undo::Page(Displaced { leaf, pages })),
+                Some(displaced) => Ok(Undo::Page(displaced)),
                 None => unreachable!(),
             },
         }
@@ -301,21 +280,24 @@ impl Leaves {
         at: usize,
         count: usize,
         found: Result<usize, usize>,
-        change: &Record,
-    ) -> Result<Option<Leaf>, AllocError>
-        requires { IsAim self.now change.now at count found }
-        ensures leaf { IfOk result (λ kept. IfSome kept (λ leaf.
-            leaf ≡ home (key_of change.now) self.now.leaves)) }
+        change: &Packed,
+    ) -> Result<Option<Displaced>, AllocError>
+        requires aim { IsAim self.now change.now at count found }
+        requires few { count ≤ self.now.m }
+        ensures leaf { IfOk result (λ kept. IfSome kept (λ displaced.
+            displaced ≡ displaced_by self.now change.now)) }
         ensures kept { IfOk result (λ kept. is_none kept ≡ is_some (back_of change.now
             (find order (key_of change.now) (home (key_of change.now) self.now.leaves).pairs))) }
     {
         if removes(found, change) {
-            return Ok(Some(self.leaves.get(at).copy()?));
+            let by = change.copy()?;
+            let leaf = self.leaves.get(at).copy()?;
+            return Ok(Some(Displaced::whole(leaf, self.count(), by)));
         }
         Ok(None)
     }
 
-    /// Takes records back, the newest first. No memory is taken.
+    /// Takes records back, the newest first. It is never refused.
     fn take_back(&mut self, journal: Vec<Undo>)
         requires { IsJournal self.old journal.items }
         ensures { self.new ≡ all_undone self.old journal.items }
@@ -326,7 +308,7 @@ impl Leaves {
         }
     }
 
-    /// Takes the newest record back. No memory is taken.
+    /// Takes the newest record back. It is never refused.
     fn put_back(&mut self, undo: Undo)
         requires { IsNewest self.old undo }
         ensures { self.new ≡ undone self.old undo }
@@ -338,22 +320,21 @@ impl Leaves {
     }
 
     /// Takes the newest record back by another.
-    fn change_back(&mut self, back: Back)
+    fn change_back(&mut self, back: Packed)
         requires { IsNewest self.old (Undo.Back back) }
         ensures { self.new ≡ undone self.old (Undo.Back back) }
     {
-        let record = back.record();
-        let (at, _, found) = self.aim(self.find(record.key()), &record);
+        let (at, _, found) = self.aim(self.find_packed(&back), &back);
         self.leaves.take_back(at, found, back);
     }
 
-    /// Takes the newest record back by the leaf that it displaced.
+    /// Takes the newest record back by the leaf that it displaced: whole, or joined of its parts.
     fn put_page_back(&mut self, displaced: Displaced)
         requires { IsNewest self.old (Undo.Page displaced) }
         ensures { self.new ≡ undone self.old (Undo.Page displaced) }
     {
-        let Displaced { leaf, pages } = displaced;
-        drop_above(&mut self.leaves, &mut self.index, pages);
+        let upper = take_above(&mut self.leaves, &mut self.index, displaced.pages());
+        let leaf = displaced.into_leaf(&mut self.leaves, upper);
         let at = leaf.page as usize - 1;
         self.leaves.set(at, leaf);
     }

@@ -9,15 +9,15 @@ ghost use Rattle.bw_page.specs.Aim.{IsAim};
 ghost use Rattle.bw_page.specs.Seek.{IsBetween};
 
 use super::{Applied, Leaves};
-use crate::changes::{count_found, find_key};
+use crate::changes::{count_packed, find_key};
 use crate::fault::ApplyError;
-use bw_codec::Record;
+use bw_codec::Packed;
 
 impl Leaves {
     /// The same as `apply`, where this may be the page at which the record is directed: it costs no
     /// search among the pages where one of the page's pairs has the record's key, or the key lies
     /// between two of them. Any number may be given, also that of no page.
-    pub fn apply_hinted(&mut self, page: u32, change: &Record) -> Result<Applied, ApplyError>
+    pub fn apply_hinted(&mut self, page: u32, change: &Packed) -> Result<Applied, ApplyError>
         requires { IsHere (key_of change.now) self.old }
         ensures ok { OnOk result (self.new ≡ after_record self.old change.now) }
         ensures plain { OnOk result (union self.new.leaves
@@ -36,18 +36,18 @@ impl Leaves {
     }
 
     /// What `aim` tells, where this may be the page at which the record is directed.
-    pub(super) fn aim_by(&self, page: u32, change: &Record) -> (usize, usize, Result<usize, usize>)
+    pub(super) fn aim_by(&self, page: u32, change: &Packed) -> (usize, usize, Result<usize, usize>)
         requires { IsHere (key_of change.now) self.now }
         ensures { IsAim self.now change.now result.0 result.1 result.2 }
     {
         match self.aim_at(page, change) {
             Some(aim) => aim,
-            None => self.aim(self.find(change.key()), change),
+            None => self.aim(self.find_packed(change), change),
         }
     }
 
     /// The same, if the pairs of this page show that the record is directed at it.
-    fn aim_at(&self, page: u32, change: &Record) -> Option<(usize, usize, Result<usize, usize>)>
+    fn aim_at(&self, page: u32, change: &Packed) -> Option<(usize, usize, Result<usize, usize>)>
         requires { IsHere (key_of change.now) self.now }
         ensures { IfSome result (λ a. IsAim self.now change.now a.0 a.1 a.2) }
     {
@@ -56,12 +56,12 @@ impl Leaves {
         let Some(leaf) = self.page(page) else {
             return None;
         };
-        let found = find_key(&leaf.pairs, change.key().as_slice());
+        let found = find_key(&leaf.pairs, change.key());
         let pairs = leaf.pairs.as_slice();
         if !is_between(found, pairs.len()) {
             return None;
         }
-        let count = count_found(pairs, found, change);
+        let count = count_packed(pairs, found, change);
         Some((leaf.page as usize - 1, count, found))
     }
 }

@@ -1,18 +1,14 @@
-use Rattle.std.proofs.Common.{◌≡◌, ◌∙◌, sym, ap, subst, Ok, Err, Result, MatchResult}
+use Rattle.std.proofs.Common.{◌≡◌, ◌∙◌, sym, ap, Ok, Err}
 use Rattle.bw_codec.specs.Record.{key_of}
 use Rattle.bw_codec.specs.declared.record.Record.{Record}
 use Rattle.bw_codec.specs.declared.record.Record.TheVariants.{Put, Del}
-use Rattle.bw_page.specs.Leaves.{Bytes}
 use Rattle.bw_page.specs.Seek.{seek_of}
 use Rattle.bw_page.proofs.Seeking.{put_there, gone_there}
 use Rattle.bw_page.proofs.changes.take_back.Goals as goal
 
-abbrev Is : Record → Result (Bytes × Bytes) Bytes → Type 0
-Is back means = MatchResult means (λ pair. back ≡ Put pair.0 pair.1) (λ key. back ≡ Del key)
-
 pub returns-in-Ok-Ok : goal.returns-in-Ok-Ok
 returns-in-Ok-Ok c =
-    let is : c.args.back ≡ Put c.in-Ok-Ok.pair.0 c.in-Ok-Ok.pair.1 = subst (Is c.args.back) c.in-Ok-Ok.is-1 c.into_pair.ensures in
+    let is : c.args.back ≡ Put c.in-Ok-Ok.pair.0 c.in-Ok-Ok.pair.1 = c.in-Ok-Ok.ensures in
     let found : Ok c.in-Ok-Ok.at ≡ seek_of c.in-Ok-Ok.pair.0 c.args.leaf.now.pairs =
     sym c.in-Ok-Ok.is-0 ∙ c.requires.found ∙ ap (λ (r : Record). seek_of (key_of r) c.args.leaf.now.pairs) is in
     let there = put_there c.args.leaf.now _ _ _ _ is found in
@@ -20,16 +16,16 @@ returns-in-Ok-Ok c =
 
 pub returns-in-Ok-Err : goal.returns-in-Ok-Err
 returns-in-Ok-Err c =
-    let is : c.args.back ≡ Del c.in-Ok-Err.field-0-1 = subst (Is c.args.back) c.in-Ok-Err.is-1 c.into_pair.ensures in
-    let found : Ok c.in-Ok-Err.at ≡ seek_of c.in-Ok-Err.field-0-1 c.args.leaf.now.pairs =
+    let is : c.args.back ≡ Del c.in-Ok-Err.field-0-1.0 = c.in-Ok-Err.ensures in
+    let found : Ok c.in-Ok-Err.at ≡ seek_of c.in-Ok-Err.field-0-1.0 c.args.leaf.now.pairs =
     sym c.in-Ok-Err.is-0 ∙ c.requires.found ∙ ap (λ (r : Record). seek_of (key_of r) c.args.leaf.now.pairs) is in
     let there = gone_there c.args.leaf.now _ _ _ is found in
     there.0 _ (c.remove.ensures ∙ there.1.1)
 
-pub returns-in-Err-Err : goal.returns-in-Err-Err
-returns-in-Err-Err c =
-    let is : c.args.back ≡ Del c.in-Err-Err.field-0-1 = subst (Is c.args.back) c.in-Err-Err.is-1 c.into_pair.ensures in
-    let found : Err c.in-Err-Err.field-0-0 ≡ seek_of c.in-Err-Err.field-0-1 c.args.leaf.now.pairs =
+pub returns : goal.returns
+returns c =
+    let is : c.args.back ≡ Del c.in-Err-Err.field-0-1.0 = c.in-Err-Err.ensures in
+    let found : Err c.in-Err-Err.field-0-0 ≡ seek_of c.in-Err-Err.field-0-1.0 c.args.leaf.now.pairs =
     sym c.in-Err-Err.is-0 ∙ c.requires.found ∙ ap (λ (r : Record). seek_of (key_of r) c.args.leaf.now.pairs) is in
     let there = gone_there c.args.leaf.now _ _ _ is found in
     there.0 _ there.1.1

@@ -17,7 +17,7 @@ returns c =
       page = page ∙ ap (λ (l : Leaf). l.page) leaf;
       within = omega arith;
       lawful = c.key.ensures.lawful;
-      pairs = c.count_found-count.ensures ∙ ap (λ ps. length (changed_pairs c.args.change.now ps)) pairs;
-      sought = c.find_key-found.ensures.found ∙ (λ i. seek_of ((c.as_slice.ensures.value ∙ c.key-2.ensures.value) i) (leaf i).pairs);
+      pairs = c.count_packed-count.ensures ∙ ap (λ ps. length (changed_pairs c.args.change.now ps)) pairs;
+      sought = c.find_key-found.ensures.found ∙ (λ i. seek_of (c.key-2.ensures.value i) (leaf i).pairs);
       ends = subst (λ (l : Leaf). IsWithin (length l.pairs) c.find_key-found.result) leaf c.find_key-found.ensures.within;
     }

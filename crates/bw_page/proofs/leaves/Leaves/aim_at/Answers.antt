@@ -13,7 +13,7 @@ returns c =
     let leaf = c.in-Some.leaf.now in
     let there = stands_here c.args.page c.args.self.now leaf c.in-Some.ensures in
     let sought : c.find_key-found.result ≡ seek_of key leaf.pairs =
-    c.find_key-found.ensures.found ∙ ap (λ k. seek_of k leaf.pairs) (c.as_slice.ensures.value ∙ c.key.ensures.value) in
+    c.find_key-found.ensures.found ∙ ap (λ k. seek_of k leaf.pairs) c.key.ensures.value in
     let pairs : c.as_slice-pairs.result.now ≡ leaf.pairs = c.as_slice-pairs.ensures in
     let ended : IsBetween (length c.as_slice-pairs.result.now) c.find_key-found.result = c.if-not-is_between.ensures refl in
     let between : IsBetween (length leaf.pairs) (seek_of key leaf.pairs) =
@@ -28,7 +28,7 @@ returns c =
       page = page ∙ ap (λ (l : Leaf). l.page) is.1;
       within = omega (arith, within.0, within.1);
       lawful = c.key.ensures.lawful;
-      pairs = c.count_found-count.ensures ∙ ap (λ (ps : Pairs). length (changed_pairs c.args.change.now ps)) (pairs ∙ ap (λ (l : Leaf). l.pairs) is.1);
+      pairs = c.count_packed-count.ensures ∙ ap (λ (ps : Pairs). length (changed_pairs c.args.change.now ps)) (pairs ∙ ap (λ (l : Leaf). l.pairs) is.1);
       sought = sought ∙ ap (λ (l : Leaf). seek_of key l.pairs) is.1;
       ends = subst (λ (l : Leaf). IsWithin (length l.pairs) c.find_key-found.result) is.1 c.find_key-found.ensures.within;
     }

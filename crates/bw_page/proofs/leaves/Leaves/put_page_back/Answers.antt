@@ -1,25 +1,73 @@
-use Rattle.std.proofs.Common.{◌≡◌, ◌+◌, ◌-◌, ◌∙◌, false, ap, refl, length, take, arith}
+use Rattle.std.proofs.Common.{◌≡◌, ◌+◌, ◌-◌, ◌∙◌, List, Some, false, ap, refl, length, length-set, take, get_or, cond, None, arith}
 use Rattle.std.specs.Prelude.{slice_set}
+use Rattle.std.specs.Ordering.{eq_by_cmp}
+use Rattle.bw_codec.specs.declared.leaf.Leaf.{Leaf}
+use Rattle.bw_page.specs.declared.journal.Undo.TheVariants.{Page}
+use Rattle.bw_page.specs.Index.{view_of}
+use Rattle.bw_page.specs.Journal.{undone}
+use Rattle.bw_page.specs.Leaves.{order}
+use Rattle.bw_page.specs.LowHeads.{page_of_low}
 use Rattle.bw_page.specs.Seats.{is_among}
+use Rattle.bw_page.specs.Shown.{Shown}
 use Rattle.bw_page.proofs.Closed.{same_gets}
-use Rattle.bw_page.proofs.PutBack.{put_here, put_page, put_within, put_back_filed}
+use Rattle.bw_page.proofs.PutBack.{put_here, put_page, put_within, put_parts, put_back_filed}
 use Rattle.bw_page.proofs.leaves.Leaves.put_page_back.Goals as goal
+use Rattle.bw_page.proofs.leaves.Leaves.put_page_back.Goals.{After-set}
+
+pub into_leaf-leaf-requires : goal.into_leaf-leaf-requires
+into_leaf-leaf-requires c =
+    let pages = c.pages.ensures in
+    put_parts c.self.inside c.self.invariant c.args.self.now c.self.view_is c.args.displaced c.requires c.take_above-upper.new.leaves c.take_above-upper.result
+    (c.take_above-upper.ensures.leaves ∙ ap (λ p. take p c.self.inside.leaves.items) pages)
+    c.take_above-upper.ensures.evicted
+    (λ d more. c.take_above-upper.ensures.upper d (omega arith) ∙ ap (λ p. Some (get_or c.self.inside.leaves.items p d)) pages)
 
 pub set-requires : goal.set-requires
 set-requires c =
     let within = put_within c.self.inside c.self.invariant c.args.self.now c.self.view_is c.args.displaced c.requires in
-    let long : length c.drop_above.new.leaves.items ≡ length (take c.args.displaced.pages c.self.inside.leaves.items) = ap length c.drop_above.ensures.leaves in
+    let page = ap (λ (l : Leaf). l.page) c.into_leaf-leaf.ensures.leaf in
+    let x = c.into_leaf-leaf.result in
+    let i = c.args.displaced.leaf.page - 1 in
+    let same : length (slice_set c.into_leaf-leaf.new.leaves.items i x) ≡ length (slice_set c.take_above-upper.new.leaves.items i x) =
+    ap length (c.into_leaf-leaf.ensures.others x) in
+    let one = length-set c.into_leaf-leaf.new.leaves.items i x in
+    let other = length-set c.take_above-upper.new.leaves.items i x in
+    let long : length c.take_above-upper.new.leaves.items ≡ length (take c.args.displaced.pages c.self.inside.leaves.items) =
+    ap length (c.take_above-upper.ensures.leaves ∙ ap (λ p. take p c.self.inside.leaves.items) c.pages.ensures) in
     omega arith
+
+-- the leaf stands in its place again
+items : (c : After-set) → c.set.new.self.items
+    ≡ slice_set (take c.args.displaced.pages c.self.inside.leaves.items) (c.args.displaced.leaf.page - 1) c.args.displaced.leaf
+items c =
+    let leaf = c.into_leaf-leaf.ensures.leaf in
+    c.set.ensures.items
+    ∙ (λ i. slice_set c.into_leaf-leaf.new.leaves.items ((leaf i).page - 1) (leaf i))
+    ∙ c.into_leaf-leaf.ensures.others c.args.displaced.leaf
+    ∙ ap (λ (ls : List Leaf). slice_set ls (c.args.displaced.leaf.page - 1) c.args.displaced.leaf)
+    (c.take_above-upper.ensures.leaves ∙ ap (λ p. take p c.self.inside.leaves.items) c.pages.ensures)
+
+evicted : (c : After-set) → c.set.new.self.evicted ≡ c.self.inside.leaves.evicted
+evicted c =
+    let some = put_page c.self.inside c.self.invariant c.args.self.now c.self.view_is c.args.displaced c.requires in
+    let page = ap (λ (l : Leaf). l.page) c.into_leaf-leaf.ensures.leaf in
+    let at : c.into_leaf-leaf.result.page - 1 + 1 ≡ c.args.displaced.leaf.page = omega arith in
+    let here : is_among (c.into_leaf-leaf.result.page - 1 + 1) c.into_leaf-leaf.new.leaves.evicted ≡ false =
+    (λ i. is_among (at i) ((c.into_leaf-leaf.ensures.evicted ∙ c.take_above-upper.ensures.evicted) i))
+    ∙ put_here c.self.inside c.self.invariant c.args.self.now c.self.view_is c.args.displaced c.requires in
+    c.set.ensures.kept here ∙ c.into_leaf-leaf.ensures.evicted ∙ c.take_above-upper.ensures.evicted
 
 pub invariant_of-self : goal.invariant_of-self
 invariant_of-self c =
-    let some = put_page c.self.inside c.self.invariant c.args.self.now c.self.view_is c.args.displaced c.requires in
-    let at : c.args.displaced.leaf.page - 1 + 1 ≡ c.args.displaced.leaf.page = omega arith in
-    let here : is_among (c.args.displaced.leaf.page - 1 + 1) c.drop_above.new.leaves.evicted ≡ false =
-    (λ i. is_among (at i) (c.drop_above.ensures.evicted i))
-    ∙ put_here c.self.inside c.self.invariant c.args.self.now c.self.view_is c.args.displaced c.requires in
-    put_back_filed c.self.inside c.self.invariant c.args.self.now c.self.view_is c.args.displaced c.requires _ refl
-    (c.set.ensures.kept here ∙ c.drop_above.ensures.evicted)
-    (c.set.ensures.items ∙ ap (λ ls. slice_set ls (c.args.displaced.leaf.page - 1) c.args.displaced.leaf) c.drop_above.ensures.leaves)
-    (λ few. same_gets c.self.inside.index c.drop_above.new.index (c.drop_above.ensures.kept few))
-    c.drop_above.ensures.dropped
+    let pages = c.pages.ensures in
+    put_back_filed c.self.inside c.self.invariant c.args.self.now c.self.view_is c.args.displaced c.requires _ refl (evicted c) (items c)
+    (λ few. same_gets c.self.inside.index c.take_above-upper.new.index (c.take_above-upper.ensures.kept (omega arith)))
+    (λ d more q. c.take_above-upper.ensures.dropped d (omega arith) q
+    ∙ ap (λ p. cond (eq_by_cmp order q (get_or c.self.inside.leaves.items p d).low) None (page_of_low c.self.inside.index q)) pages)
+
+pub returns : goal.returns
+returns c =
+    let to : (let f : Shown = record { m = c.self.inside.m; leaves = c.set.new.self.items; evicted = c.set.new.self.evicted } in f)
+    ≡ undone (view_of c.self.inside) (Page c.args.displaced) =
+    λ i. record { m = c.self.inside.m; leaves = items c i; evicted = evicted c i } in
+    to ∙ ap (λ f. undone f (Page c.args.displaced)) c.self.view_is

@@ -3,7 +3,7 @@ use Rattle.std.proofs.lemmas.List.Concat.{flat_map-append}
 use Rattle.std.proofs.lemmas.List.{append-nil}
 use Rattle.std.proofs.lemmas.List.Sums.{fold_push}
 use Rattle.bw_page.specs.Shown.{Shown}
-use Rattle.bw_versions.specs.declared.entry.Entry.{Entry}
+use Rattle.bw_history.specs.declared.entry.Entry.{Entry}
 use Rattle.bw_versions.specs.Batches.{BatchData, entries_of}
 use Rattle.bw_versions.specs.Posted.{Posted, brings, begun}
 use Rattle.bw_versions.specs.Reach.{Reach}

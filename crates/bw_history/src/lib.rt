@@ -1,0 +1,19 @@
+//! What was taken: records with their writers, in groups, as a history keeps them, and the lanes from
+//! which they come.
+//!
+//! `PackedEntry` is a record that was taken, with its writer; its bytes are shared with the pages that
+//! have them. `Intake` is the lanes and the history together: what is taken from a lane stands in the
+//! history at once, so each writer's records in the history are always those that its lane gave, in
+//! order. `specs/History.antt` has what a history tells: streams of writers, groups, cuts and shares.
+#![tactic(auto)]
+
+mod beside;
+mod entry;
+mod history;
+mod intake;
+mod packed;
+
+pub use entry::Entry;
+pub use history::History;
+pub use intake::Intake;
+pub use packed::PackedEntry;

@@ -1,0 +1,30 @@
+-- A leaf that a record changed, as it was before.
+
+use Rattle.std.specs.Prelude.{ℕ, ◌+◌, ◌-◌, ◌≤◌, ◌<◌, ◌≡◌, Bool, false, Option, Some, ◌++◌, length, slice_index_or}
+use Rattle.bw_codec.specs.declared.leaf.Leaf.{Leaf}
+use Rattle.bw_codec.specs.declared.record.Record.TheVariants.{Del}
+use Rattle.bw_page.specs.Leaves.{Bytes, changed}
+use Rattle.bw_page.specs.Seats.{is_among, Seating}
+
+pub record Displaced : Type 0 where
+  pub leaf : Leaf
+  -- how many pages there were
+  pub pages : ℕ
+  -- the key of the record
+  pub key : Bytes
+  -- whether the record cut the page
+  pub is_cut : Bool
+
+-- two parts as one leaf
+abbrev pub joined : Leaf → Leaf → Leaf
+joined lower upper = record lower { pairs = lower.pairs ++ upper.pairs }
+
+-- the parts of a leaf that was cut: the lower one in its place among others, and the upper one; without the record's pair they
+-- are the leaf
+pub record AreParts (d : Displaced) (seats : Seating) (upper : Option Leaf) : Type 0 where
+  pub page : (1 ≤ d.leaf.page) × (d.leaf.page - 1 < length seats.items)
+  pub here : is_among d.leaf.page seats.evicted ≡ false
+  pub other : Leaf
+  pub is : upper ≡ Some other
+  pub few : (x : Leaf) → length (slice_index_or seats.items (d.leaf.page - 1) x).pairs + length other.pairs ≤ length d.leaf.pairs + 1
+  pub whole : (x : Leaf) → changed (Del d.key) (joined (slice_index_or seats.items (d.leaf.page - 1) x) other) ≡ d.leaf

@@ -1,8 +1,0 @@
--- The records of entries.
-
-use Rattle.std.specs.Prelude.{List, map}
-use Rattle.bw_codec.specs.declared.record.Record.{Record}
-use Rattle.bw_versions.specs.declared.entry.Entry.{Entry}
-
-abbrev pub records : List Entry → List Record
-records es = map (λ e. e.item) es
