@@ -4,12 +4,13 @@ use Rattle.std.proofs.Common.{ℕ, ◌≡◌, ◌≤◌, ◌+◌, ◌⊎◌, inl
 use Rattle.std.proofs.lemmas.List.{drop-drop}
 use Rattle.bw_log.specs.Contents.{roster}
 use Rattle.bw_care.specs.declared.cleaner.Cleaned.{Cleaned}
-use Rattle.bw_store.specs.declared.fault.StoreFault.{StoreFault}
+use Rattle.bw_core.specs.declared.fault.StoreFault.{StoreFault}
 use Rattle.bw_store.specs.Kept.{Kept}
 use Rattle.bw_ring.specs.declared.lane.Lane.{Lane}
 use Rattle.bw_store.specs.Following.{Continues, Follows, HasBoxes}
-use Rattle.bw_store.specs.Showing.{HasBoxesAfter, HasFloorAfter, SettleRefuses}
-use Rattle.bw_store.proofs.FollowMore.{continue_then, follows_as}
+use Rattle.bw_store.specs.Renewing.{HasBoxesAfter, HasFloorAfter}
+use Rattle.bw_store.specs.Showing.{SettleRefuses}
+use Rattle.bw_store.proofs.Showing.{boxes_stay, continue_then, stays_as_it_was}
 use Rattle.bw_drive.specs.Ran.{GaveUp, Runs, CallRefused, StopsAfter, Stops}
 
 drop_none : {A : Type 0} (xs : List A) → xs ≡ drop 0 xs
@@ -23,7 +24,7 @@ kept_all (suc n) a b f k =
     record { continues = f.continues; boxes = record { count = 0; rest = k.same ∙ drop_none (roster a.log) }; floor = inl f.floor }
 
 stays : (a : Kept) → Continues a a
-stays a = (follows_as a a refl).follows.continues
+stays a = (stays_as_it_was a).continues
 
 -- a cleaning gave a segment up
 gave_up : (a b : Kept) → Continues a b → roster b.log ≡ drop 1 (roster a.log) → b.floor ≡ b.durable → GaveUp a b
@@ -49,7 +50,7 @@ kept_but (suc n) a b (Err x) some f (inr k) floor =
     record { continues = f; boxes = record { count = 1; rest = k.1 }; floor = refused_floor a b x f floor }
 
 pub runs_none : (n : ℕ) (a : Kept) → Runs n a a
-runs_none n a = kept_all n a a (follows_as a a refl).follows (follows_as a a refl).boxes
+runs_none n a = kept_all n a a (stays_as_it_was a) (boxes_stay a)
 
 floors_then : (a b c : Kept) → Continues a b → Continues b c → (b.floor ≡ a.floor) ⊎ GaveUp a b → (c.floor ≡ b.floor) ⊎ GaveUp b c
     → (c.floor ≡ a.floor) ⊎ GaveUp a c

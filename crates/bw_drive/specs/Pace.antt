@@ -3,11 +3,12 @@
 use Rattle.std.specs.Prelude.{ℕ, zero, suc, ◌+◌, ◌%◌, ◌≡◌, ◌==◌, ◌<◌, ◌≤◌, ◌⊎◌, Bool, true, false, Option, List, Ok, Err, length}
 use Rattle.bw_care.specs.declared.cleaner.Cleaned.{Cleaned}
 use Rattle.bw_ring.specs.declared.lane.Lane.{Lane}
-use Rattle.bw_store.specs.declared.fault.StoreFault.{StoreFault}
+use Rattle.bw_core.specs.declared.fault.StoreFault.{StoreFault}
 use Rattle.bw_store.specs.Kept.{Kept}
 use Rattle.bw_store.specs.Following.{TookInTurn, RefusedAt, groups_since}
-use Rattle.bw_store.specs.Faults.{FlushAnswers, flush_refusal}
-use Rattle.bw_store.specs.Showing.{FlushShows, CleanShows}
+use Rattle.bw_core.specs.Faults.{FlushAnswers}
+use Rattle.bw_store.specs.Renewing.{CleanShows}
+use Rattle.bw_store.specs.Showing.{FlushShows, flush_refusal}
 use Rattle.bw_drive.specs.declared.plan.Plan.{Plan}
 
 -- a turn takes at most so many groups

@@ -2,13 +2,14 @@
 
 use Rattle.std.specs.Prelude.{ℕ, zero, suc, ◌≡◌, ◌≤◌, ◌⊎◌, Bool, Err, List, length, drop}
 use Rattle.bw_log.specs.Contents.{roster}
-use Rattle.bw_store.specs.declared.fault.StoreFault.{StoreFault}
-use Rattle.bw_store.specs.declared.fault.StoreFault.TheVariants.{NoMemory}
+use Rattle.bw_core.specs.declared.fault.StoreFault.{StoreFault}
+use Rattle.bw_core.specs.declared.fault.StoreFault.TheVariants.{NoMemory}
 use Rattle.bw_store.specs.Kept.{Kept}
 use Rattle.bw_ring.specs.declared.lane.Lane.{Lane}
 use Rattle.bw_store.specs.Following.{Continues, HasBoxes, RefusedAt}
-use Rattle.bw_store.specs.Faults.{FlushAnswers, flush_refusal}
-use Rattle.bw_store.specs.Showing.{FlushShows, CleanShows, SettleRefuses}
+use Rattle.bw_core.specs.Faults.{FlushAnswers}
+use Rattle.bw_store.specs.Renewing.{CleanShows}
+use Rattle.bw_store.specs.Showing.{FlushShows, SettleRefuses, flush_refusal}
 
 -- the boxes are the old ones without some of the first
 pub record LosesSome (old new : Kept) : Type 0 where

@@ -6,9 +6,9 @@ use Rattle.bw_ring.specs.declared.feed.Feed.{Feed}
 use Rattle.bw_ring.specs.Ends.{accepted}
 use Rattle.bw_log.specs.Contents.{counted}
 use Rattle.bw_versions.specs.Posted.{posted_of}
-use Rattle.bw_store.specs.History.{streams}
+use Rattle.bw_history.specs.History.{streams}
 use Rattle.bw_store.specs.Kept.{Kept, TellsShare, start_of}
-use Rattle.bw_store.specs.Settled.{IsSettled}
+use Rattle.bw_store.specs.Showing.{IsSettled}
 
 -- each accepted record is in the history exactly once, each writer's in its order, and in the segments
 pub record HasSettled (s : Kept) (feeds : List Feed) (entries : ℕ) : Type 0 where

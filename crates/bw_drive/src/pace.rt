@@ -1,7 +1,7 @@
 //! Turns are counted where they are made, and nowhere else.
 
 ghost use Rattle.std.specs.Prelude.{◌≡◌, ◌+◌, ◌<◌, IfErr, MatchResult};
-ghost use Rattle.bw_store.specs.Views.{away_in, kept_by, IsSound};
+ghost use Rattle.bw_store.specs.Views.{away_in, kept_by, lanes_of, IsSound};
 ghost use Rattle.bw_store.specs.Following.{Follows, HasBoxes, RefusedAt};
 ghost use Rattle.bw_drive.specs.Pace.{TurnedOnce};
 
@@ -30,7 +30,7 @@ impl Pace {
         ensures sound { IsSound store.new holding }
         ensures took { MatchResult result
             (λ _. TurnedOnce limit (kept_by store.old holding) (kept_by store.new holding))
-            (λ cause. RefusedAt (kept_by store.old holding) store.new.intake.lanes.items
+            (λ cause. RefusedAt (kept_by store.old holding) (lanes_of store.new)
             (away_in store.new) cause (kept_by store.new holding)) }
         ensures follows { Follows (kept_by store.old holding) (kept_by store.new holding) }
         ensures boxes { HasBoxes (kept_by store.old holding) (kept_by store.new holding) }

@@ -7,8 +7,10 @@ use Rattle.std.specs.declared.alloc.Global.{Global}
 use Rattle.std.specs.declared.vec.Vec.{Vec}
 use Rattle.bw_device.specs.Holding.{Holding}
 use Rattle.bw_ring.specs.declared.feed.Feed.{Feed}
+use Rattle.bw_core.specs.declared.store.Core.{Core}
 use Rattle.bw_store.specs.declared.store.Store.{Store}
 use Rattle.bw_home.specs.Ready.{AreReadyBeside}
+use Rattle.bw_home.specs.Sharing.{AreSharedBeside}
 
 -- the kind of a box, where boxes of two kinds are made
 abbrev pub Kind : Type 0
@@ -45,10 +47,19 @@ module _ {H : Kind → Type 0} where
       )
 
   -- so a store and its feeds are ready by the one reading where they are by the other
-  pub ready_by_kind : {s : Store Kind H} {ends : Vec Feed Global} {m : First H} {n : Second H} {w : DynBox Kind Global H → Holding}
+  pub ready_by_kind : {s : Core Kind H} {ends : Vec Feed Global} {m : First H} {n : Second H} {w : DynBox Kind Global H → Holding}
       → Says m n w → AreReadyBeside s ends w → AreReadyBeside s ends (by_kind m n)
   ready_by_kind {s = s} {ends = ends} {m = m} {n = n} {w = w} says ready = subst (AreReadyBeside s ends) (alike m n w says) ready
 
-  pub ready_from_kind : {s : Store Kind H} {ends : Vec Feed Global} {m : First H} {n : Second H} {w : DynBox Kind Global H → Holding}
+  pub ready_from_kind : {s : Core Kind H} {ends : Vec Feed Global} {m : First H} {n : Second H} {w : DynBox Kind Global H → Holding}
       → Says m n w → AreReadyBeside s ends (by_kind m n) → AreReadyBeside s ends w
   ready_from_kind {s = s} {ends = ends} {m = m} {n = n} {w = w} says ready = subst (AreReadyBeside s ends) (sym (alike m n w says)) ready
+
+  -- the same where the store has readers
+  pub shared_by_kind : {s : Store Kind H} {ends : Vec Feed Global} {m : First H} {n : Second H} {w : DynBox Kind Global H → Holding}
+      → Says m n w → AreSharedBeside s ends w → AreSharedBeside s ends (by_kind m n)
+  shared_by_kind {s = s} {ends = ends} {m = m} {n = n} {w = w} says ready = subst (AreSharedBeside s ends) (alike m n w says) ready
+
+  pub shared_from_kind : {s : Store Kind H} {ends : Vec Feed Global} {m : First H} {n : Second H} {w : DynBox Kind Global H → Holding}
+      → Says m n w → AreSharedBeside s ends (by_kind m n) → AreSharedBeside s ends w
+  shared_from_kind {s = s} {ends = ends} {m = m} {n = n} {w = w} says ready = subst (AreSharedBeside s ends) (sym (alike m n w says)) ready

@@ -1,3 +1,4 @@
 pub mod Ready
 pub mod Putting
 pub mod Renewing
+pub mod Sharing

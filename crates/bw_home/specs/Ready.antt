@@ -7,14 +7,14 @@ use Rattle.std.specs.declared.vec.Vec.{Vec}
 use Rattle.bw_device.specs.Holding.{Holding}
 use Rattle.bw_ring.specs.Ends.{ring_of_feed}
 use Rattle.bw_ring.specs.declared.feed.Feed.{Feed}
-use Rattle.bw_store.specs.Kept.{Kept, IsSound}
-use Rattle.bw_store.specs.Views.{kept_beside}
-use Rattle.bw_store.specs.declared.store.Store.{Store}
+use Rattle.bw_core.specs.Kept.{Kept, IsSound}
+use Rattle.bw_core.specs.Views.{kept_beside}
+use Rattle.bw_core.specs.declared.store.Core.{Core}
 use Rattle.bw_home.specs.declared.home.Home.{Home}
 
 module _ {I : Type 0} {H : I → Type 0} where
   -- a store is sound, and the feeds are those of its lanes, in order
-  pub record AreReadyBeside (s : Store I H) (ends : Vec Feed Global) (v : DynBox I Global H → Holding) : Type 0 where
+  pub record AreReadyBeside (s : Core I H) (ends : Vec Feed Global) (v : DynBox I Global H → Holding) : Type 0 where
     pub sound : IsSound (kept_beside s v)
     pub feeds : map ring_of_feed ends.items ≡ (kept_beside s v).rings
 

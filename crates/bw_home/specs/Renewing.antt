@@ -2,12 +2,12 @@
 
 use Rattle.std.specs.Prelude.{◌≡◌, ◌⊎◌, Result, Ok, Err}
 use Rattle.bw_care.specs.declared.cleaner.Cleaned.{Cleaned}
-use Rattle.bw_store.specs.Counting.{CountsCleaning}
-use Rattle.bw_store.specs.Kept.{Kept}
-use Rattle.bw_store.specs.Noted.{Noted}
-use Rattle.bw_store.specs.Showing.{CleanShows, HasBoxesAfter, HasFloorAfter}
-use Rattle.bw_store.specs.declared.fault.StoreFault.{StoreFault}
-use Rattle.bw_store.specs.declared.fault.StoreFault.TheVariants as store
+use Rattle.bw_core.specs.Cleaning.{CleanLeaves, HasBoxesBut, HasFloorBut}
+use Rattle.bw_core.specs.Counting.{CountsClean}
+use Rattle.bw_core.specs.Kept.{Kept}
+use Rattle.bw_core.specs.Noted.{Noted}
+use Rattle.bw_core.specs.declared.fault.StoreFault.{StoreFault}
+use Rattle.bw_core.specs.declared.fault.StoreFault.TheVariants as store
 use Rattle.bw_home.specs.declared.fault.HomeFault.{HomeFault}
 use Rattle.bw_home.specs.declared.fault.HomeFault.TheVariants.{NoMemory, Folder, Made, Lease, Recovery, Store}
 
@@ -37,11 +37,11 @@ IsOfSite (Store fault) = ⊥
 
 -- what a store says of its own cleaning, by its answer
 pub record StoreCleans (old : Kept) (was : Noted) (result : Result Cleaned StoreFault) (new : Kept) (now : Noted) : Type 0 where
-  pub leaves : CleanShows old result new
-  pub floor : HasFloorAfter 1 old result new
-  pub boxes : HasBoxesAfter 1 old result new
+  pub leaves : CleanLeaves old result new
+  pub floor : HasFloorBut old result new
+  pub boxes : HasBoxesBut 1 old result new
   pub gone : now.gone ≡ was.gone
-  pub counts : CountsCleaning old was.tally result new now.tally
+  pub counts : CountsClean old was.tally result new now.tally
 
 -- a cleaning of a home; where it is refused, the store is as it was, or it was refused too, or it was cleaned
 abbrev pub HomeCleans : Kept → Noted → Result Cleaned HomeFault → Kept → Noted → Type 0

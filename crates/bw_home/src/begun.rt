@@ -5,6 +5,7 @@ ghost use Rattle.std.specs.Prelude.{IfOk};
 ghost use Rattle.bw_home.specs.Ready.{IsReadyBeside};
 
 use crate::fault::HomeFault;
+use crate::found::Found;
 use crate::home::Home;
 use crate::options::Options;
 use crate::site::Site;
@@ -16,17 +17,17 @@ use bw_device::Segment;
 /// The beginning of a first frame, of which nothing was ever durable: the file that has it, and how
 /// many bytes it holds.
 #[derive(Clone, Copy)]
-pub struct Beginning {
-    pub lease: u32,
-    pub bytes: u64,
+pub(crate) struct Beginning {
+    lease: u32,
+    bytes: u64,
 }
 
 /// Why no store began.
 pub(crate) enum NotBegun {
     Fault(HomeFault),
-    /// There was the beginning of a first frame alone. Nothing of that is there any more, so
-    /// another attempt finds a folder of no bytes.
-    Cleared,
+    /// There was the beginning of a first frame alone, as this tells. Nothing of that is there any
+    /// more, so another attempt finds a folder of no bytes.
+    Cleared(Found),
 }
 
 impl From<HomeFault> for NotBegun {
@@ -69,7 +70,7 @@ fn beginning_in(boxes: &mut [Box<dyn Segment>]) -> Option<Beginning> {
 
 /// The beginning of a first frame, where that is all there is in what was not recovered; else why
 /// it was not. The boxes are dropped.
-pub fn beginning_of(fault: RecoverFault) -> Result<Beginning, HomeFault> {
+pub(crate) fn beginning_of(fault: RecoverFault) -> Result<Beginning, HomeFault> {
     let RecoverFault { mut boxes, cause } = fault;
     if matches!(cause, RecoverCause::Empty) {
         if let Some(beginning) = beginning_in(&mut boxes) {
@@ -79,33 +80,41 @@ pub fn beginning_of(fault: RecoverFault) -> Result<Beginning, HomeFault> {
     Err(HomeFault::from(cause))
 }
 
-/// Empties the file of the beginning of a first frame, where that is all there was.
-fn clear<R: System>(rt: &R, site: &Site, fault: RecoverFault) -> Result<(), HomeFault> {
+/// Empties the file of the beginning of a first frame, where that is all there was in so many
+/// segments, and answers what was found.
+pub(crate) fn clear<R: System>(
+    rt: &R,
+    site: &Site,
+    fault: RecoverFault,
+    count: usize,
+) -> Result<Found, HomeFault> {
     let beginning = beginning_of(fault)?;
     site.empty(rt, beginning.lease)?;
-    Ok(())
+    Ok(Found::none(count, beginning.bytes))
 }
 
-/// A new store where all boxes are new, and else the one that they hold. Where they have the
-/// beginning of a first frame alone, that is cleared.
+/// A new store where all boxes are new, with what was found before; and else the one that they
+/// hold. Where they have the beginning of a first frame alone, that is cleared.
 pub(crate) fn begin<R: System>(
     rt: &R,
     options: &Options,
     boxes: Vec<Box<dyn Segment>>,
     are_new: bool,
     site: Site,
+    found: Option<Found>,
 ) -> Result<Home, NotBegun>
     requires { Unit {0} }
     ensures { IfOk result (λ home. IsReadyBeside home holding) }
 {
     if are_new {
-        return Ok(Home::open(rt, rt.alloc(), options, boxes, site)?);
+        return Ok(Home::open(rt, options, boxes, site, found)?);
     }
+    let count = boxes.len();
     match recover(rt.alloc(), boxes) {
-        Ok(found) => Ok(Home::reopen(rt, rt.alloc(), options, found, site)?),
+        Ok(found) => Ok(Home::reopen(rt, options, found, site)?),
         Err(fault) => {
-            clear(rt, &site, fault)?;
-            Err(NotBegun::Cleared)
+            let cleared = clear(rt, &site, fault, count)?;
+            Err(NotBegun::Cleared(cleared))
         }
     }
 }

@@ -1,11 +1,11 @@
-//! What is done with a store in a folder.
+//! What is done with a store.
 
 ghost use Rattle.std.specs.Prelude.{IfSome, MatchOption};
 ghost use Rattle.bw_home.specs.Ready.{IsReady};
 
 use crate::home::Home;
 
-/// What is done with a store in a folder, by a handle `R`.
+/// What is done with a store, by a handle `R`.
 ///
 /// The home that it is handed is ready: its store is sound, and its feeds are those of the store's
 /// rings, all of them, in order. `run` leaves it so, whatever it answers.
@@ -23,8 +23,8 @@ pub trait Course<R>: Drop {
         ensures answer { says self result };
 }
 
-/// The same in legs. Between two of them what stands in the place of segments that were given up
-/// becomes spares: a box is made by nobody who is lent the store.
+/// The same in legs. Between two of them the segments that were made become spares: a box is made by
+/// nobody who is lent the store.
 pub trait Legs<R>: Drop {
     /// What it answers.
     type Answer;

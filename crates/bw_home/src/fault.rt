@@ -1,15 +1,16 @@
-//! Why a folder was not opened, and why a record was not put.
+//! Why a store was not opened, and why a record was not put.
 
 use bw_care::RecoverCause;
 use bw_codec::Record;
+use bw_core::{StoreFault, TurnFault};
 use bw_device::{NotMade, NotTaken};
 use bw_file::FolderFault;
-use bw_store::{StoreFault, TurnFault};
+use bw_ring::Group;
 use std::alloc::{AllocError, AllocFailed};
 use std::fmt::{self, Display, Formatter};
 use thiserror::Error;
 
-/// Why a store in a folder was not opened, or has no new spare, by the step that was refused.
+/// Why a store was not opened, or has no new spare, by the step that was refused.
 #[derive(Debug, Clone, Copy, Error)]
 pub enum HomeFault {
     /// A growth was refused.
@@ -134,5 +135,13 @@ impl From<TurnFault> for HomeFault {
 #[error("the queue is full")]
 pub struct NotPut {
     pub record: Record,
+    pub cause: Option<StoreFault>,
+}
+
+/// The same of a group.
+#[derive(Debug, Drop, Error)]
+#[error("the queue is full")]
+pub struct GroupNotPut {
+    pub group: Group,
     pub cause: Option<StoreFault>,
 }

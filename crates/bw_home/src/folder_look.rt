@@ -9,10 +9,10 @@ use crate::site::{count_over, desk_of, taken};
 use crate::system::System;
 use bw_care::recover;
 use bw_codec::limits::{HEADER_LEN, MAX_FRAME};
+use bw_core::StoreFault;
 use bw_device::{Desk, MemSegment, Segment};
 use bw_file::{FolderFault, FolderReader};
 use bw_log::Log;
-use bw_store::StoreFault;
 use std::alloc::Global;
 use std::io::ErrorKind;
 
@@ -77,7 +77,7 @@ fn copies_of<R: System>(
 /// What recovery refuses of its segments is refused, but for the beginning of a first frame.
 /// Whoever opens it looks again at what is opened, so nothing hangs on what somebody else does in
 /// between. It takes memory for a copy of all files, and the time of a recovery.
-pub fn look<R: System>(
+pub(crate) fn look<R: System>(
     rt: &R,
     path: &str,
     leases: u32,

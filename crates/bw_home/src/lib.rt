@@ -1,32 +1,38 @@
-//! One call that opens a folder, gives a course the store in it with the feeds of its writers, and
-//! ends the store.
+//! One call that opens a store in memory or in a folder, gives a course the store with the feeds of
+//! its writers, and ends it.
 //!
 //! `with_store` looks before it writes anything: what recovery refuses of the folder is refused,
 //! and the folder stays as it is. Then it locks the folder, which is made where it is missing,
-//! goes on from the store there or begins a new one, and runs the course. A `Course` is handed a
-//! `Home`: the store, its feeds, and where its segments stand. The store is sound and the rings
-//! are those of the feeds (`specs/Ready.antt`), and the course has to leave them so: each call of
-//! `Home` does.
+//! goes on from the store there or begins a new one, and runs the course. `with_store_in_memory`
+//! and `with_segments` do the same over segments in memory. A `Course` is handed a `Home`: the
+//! store, its feeds, and where its segments stand. The store is sound and the rings are those of
+//! the feeds (`specs/Ready.antt`), and the course has to leave them so: each call of `Home` does.
 #![tactic(auto)]
 
 mod begun;
+mod cleaning;
 mod course;
 mod fault;
 mod folder_look;
+mod found;
 mod home;
 mod opened;
 mod options;
+mod segments;
+mod shared;
 mod site;
+mod stock;
 mod system;
 mod upgraded;
 
-pub use begun::{Beginning, beginning_of};
 pub use course::{Course, Legs};
-pub use fault::{HomeFault, NotPut};
-pub use folder_look::look;
+pub use fault::{GroupNotPut, HomeFault, NotPut};
+pub use found::Found;
 pub use home::Home;
-pub use opened::{with_store, with_store_in_legs};
+pub use opened::{with_store, with_store_at, with_store_in_legs, with_store_in_memory};
 pub use options::Options;
-pub use site::{Made, Site};
+pub use segments::with_segments;
+pub use shared::{SharedHome, SharedLegs, with_readers};
+pub use stock::Added;
 pub use system::System;
 pub use upgraded::upgrade;

@@ -1,4 +1,4 @@
-//! One call that opens a folder, runs a course over the store in it, and ends the store.
+//! One call that opens a store, runs a course over it, and ends it.
 
 ghost use Rattle.std.specs.Prelude.{◌≡◌, IfOk, IfSome, IsNone};
 
@@ -6,29 +6,47 @@ use crate::begun::{NotBegun, begin};
 use crate::course::{Course, Legs, Whole};
 use crate::fault::HomeFault;
 use crate::folder_look::look;
+use crate::found::Found;
 use crate::options::Options;
 use crate::site::{Made, Site};
 use crate::system::System;
 use bw_care::RecoverCause;
 use bw_device::{MAX_LEASES, Segment};
 
-// Opens the folder, goes leg by leg over the store in it, and ends the store; `None` where the
-// folder had the beginning of a first frame alone, which was cleared. Boxes are made here alone: a
-// function that takes or gives a box, or a home, makes none.
+/// Where the segments of a store stand, and how many it begins with. A folder is looked at before:
+/// what would be refused is refused before anything is written there.
+pub(crate) fn site_of<R: System>(
+    rt: &R,
+    dir: Option<&str>,
+    leases: u32,
+    options: &Options,
+) -> Result<(Site, u32), HomeFault> {
+    if let Some(path) = dir {
+        look(rt, path, leases, options.segments, options.capacity)?;
+    }
+    let site = Site::open(rt, dir, leases)?;
+    let count = site.count(rt, options.segments)?;
+    Ok((site, count))
+}
+
+// Opens a store, goes leg by leg over it, and ends it; `None` where its folder had the beginning of
+// a first frame alone, which was cleared, and is what was found by the next attempt. Boxes are made
+// here alone: a function that takes or gives a box, or a home, makes none.
 fn go<R: System, L: Legs<R>>(
     rt: &R,
-    path: &str,
+    dir: Option<&str>,
+    leases: u32,
     options: &Options,
+    found: &mut Option<Found>,
     legs: &mut L,
 ) -> Result<Option<L::Answer>, HomeFault>
     ensures answer { IfOk result (λ went. IfSome went (λ answer. L.says legs.old answer)) }
     ensures anew { IfOk result (λ went. IsNone went → legs.new ≡ legs.old) }
 {
-    look(rt, path, MAX_LEASES, options.segments, options.capacity)?;
-    let mut site = Site::open(rt, Some(path), MAX_LEASES)?;
+    let (mut site, count) = site_of(rt, dir, leases, options)?;
     let mut boxes: Vec<Box<dyn Segment>> = Vec::new(rt.alloc());
     let mut are_new = true;
-    for _ in 0..site.count(rt, options.segments)? {
+    for _ in 0..count {
         let made = site.segment(rt, options.capacity)?;
         are_new &= made.is_empty();
         let segment: Box<dyn Segment> = match made {
@@ -37,10 +55,13 @@ fn go<R: System, L: Legs<R>>(
         };
         boxes.push(segment)?;
     }
-    let mut home = match begin(rt, options, boxes, are_new, site) {
+    let mut home = match begin(rt, options, boxes, are_new, site, *found) {
         Ok(home) => home,
         Err(NotBegun::Fault(fault)) => return Err(fault),
-        Err(NotBegun::Cleared) => return Ok(None),
+        Err(NotBegun::Cleared(cleared)) => {
+            *found = Some(cleared);
+            return Ok(None);
+        }
     };
     'legs: for _ in rt.forever() {
         if let Some(made) = home.next_made() {
@@ -50,11 +71,34 @@ fn go<R: System, L: Legs<R>>(
             };
             home.add(spare);
         } else if let Some(answer) = legs.leg(rt, &mut home) {
-            home.shut(rt);
             return Ok(Some(answer));
         }
     }
     unreachable!()
+}
+
+/// Opens the folder of this path, or begins a store in memory where there is none, goes leg by leg
+/// over the store, and ends it: what was not flushed is gone then, and what stands in memory too.
+/// There are so many leases, 1 to 4,096 (`Made` else): `Lease` where more segments are wanted, or
+/// where a file is that of another one. As `with_store` else.
+pub fn with_store_at<R: System, L: Legs<R>>(
+    rt: &R,
+    dir: Option<&str>,
+    leases: u32,
+    options: &Options,
+    legs: &mut L,
+) -> Result<L::Answer, HomeFault>
+    ensures answer { IfOk result (λ answer. L.says legs.old answer) }
+{
+    let mut found = None;
+    if let Some(answer) = go(rt, dir, leases, options, &mut found, legs)? {
+        return Ok(answer);
+    }
+    match go(rt, dir, leases, options, &mut found, legs)? {
+        Some(answer) => Ok(answer),
+        // Only somebody else can have put such a beginning there once more.
+        None => Err(HomeFault::Recovery(RecoverCause::Empty)),
+    }
 }
 
 /// Opens the folder of this path, goes leg by leg over the store in it, and ends the store: what
@@ -67,14 +111,7 @@ pub fn with_store_in_legs<R: System, L: Legs<R>>(
 ) -> Result<L::Answer, HomeFault>
     ensures answer { IfOk result (λ answer. L.says legs.old answer) }
 {
-    if let Some(answer) = go(rt, path, options, legs)? {
-        return Ok(answer);
-    }
-    match go(rt, path, options, legs)? {
-        Some(answer) => Ok(answer),
-        // Only somebody else can have put such a beginning there once more.
-        None => Err(HomeFault::Recovery(RecoverCause::Empty)),
-    }
+    with_store_at(rt, Some(path), MAX_LEASES, options, legs)
 }
 
 /// Opens the folder of this path, runs the course over the store in it, and ends the store: what
@@ -103,4 +140,19 @@ pub fn with_store<R: System, C: Course<R>>(
         course: Some(course),
     };
     with_store_in_legs(rt, path, options, &mut whole)
+}
+
+/// Begins a store in memory, runs the course over it, and drops it. As `with_store` else, but that
+/// there is no folder.
+pub fn with_store_in_memory<R: System, C: Course<R>>(
+    rt: &R,
+    options: &Options,
+    course: C,
+) -> Result<C::Answer, HomeFault>
+    ensures answer { IfOk result (λ answer. C.says course answer) }
+{
+    let mut whole = Whole {
+        course: Some(course),
+    };
+    with_store_at(rt, None, MAX_LEASES, options, &mut whole)
 }

@@ -1,18 +1,16 @@
-//! What a store in a folder is opened with.
+//! What a store is opened with.
 
 use bw_codec::limits::{MAX_PAIRS, MIN_FRAME};
-use bw_store::Config;
+use bw_core::Config;
 
-/// How a store in a folder is opened. The limits of pages and frames are for a new one: another
-/// goes on with its own.
+/// How a store is opened. The limits of pages and frames are for a new one: another goes on with
+/// its own.
 #[derive(Debug, Clone, Copy, PartialEq, Eq)]
 pub struct Options {
     /// How many writers there are, 1 to 64: each has a queue of its own.
     pub writers: usize,
     /// The places of each queue, 1 to 4,096.
     pub places: usize,
-    /// The places for readers, 1 to 64.
-    pub readers: usize,
     /// The most pairs of a page, 4 to 32.
     pub m: u16,
     /// The most bytes of a frame, 65,536 to 262,144.
@@ -24,12 +22,11 @@ pub struct Options {
 }
 
 impl Default for Options {
-    /// One writer and one reader, the largest pages, frames of 64 KiB, and four segments of 16 MiB.
+    /// One writer, the largest pages, frames of 64 KiB, and four segments of 16 MiB.
     fn default() -> Options {
         Options {
             writers: 1,
             places: 64,
-            readers: 1,
             m: MAX_PAIRS,
             f: MIN_FRAME,
             segments: 4,
@@ -44,7 +41,6 @@ impl Options {
         Config {
             writers: self.writers,
             places: self.places,
-            readers: self.readers,
             m: self.m,
             f: self.f,
         }

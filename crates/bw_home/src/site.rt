@@ -5,9 +5,9 @@ ghost use Rattle.bw_home.specs.Renewing.{IsOfSite};
 
 use crate::fault::HomeFault;
 use crate::system::System;
-use bw_device::{Desk, Lease, MemSegment, Segment};
+use bw_device::{Desk, Lease, MAX_LEASES, MemSegment, Segment};
 use bw_file::{FileSegment, Folder, FolderFault, NotOpened};
-use std::alloc::Global;
+use std::alloc::{AllocError, Global};
 
 /// Where segments stand.
 #[derive(Drop)]
@@ -20,22 +20,14 @@ enum Place {
 
 /// A segment that was made.
 #[derive(Drop)]
-pub enum Made {
+pub(crate) enum Made {
     Memory(Box<MemSegment>),
     File(Box<FileSegment>),
 }
 
 impl Made {
-    /// Its lease.
-    pub fn lease(&self) -> u32 {
-        match self {
-            Made::Memory(segment) => segment.lease(),
-            Made::File(segment) => segment.lease(),
-        }
-    }
-
     /// Whether it has no bytes.
-    pub fn is_empty(&self) -> bool {
+    pub(crate) fn is_empty(&self) -> bool {
         match self {
             Made::Memory(segment) => segment.len() == 0,
             Made::File(segment) => segment.len() == 0,
@@ -83,32 +75,39 @@ fn in_file(alloc: Global, opened: Result<FileSegment, NotOpened>) -> Result<Made
 }
 
 /// Where the segments of a store stand, and the desk from which they have their leases.
-pub struct Site {
+#[derive(Drop)]
+pub(crate) struct Site {
     place: Place,
     desk: Desk,
-}
-
-impl Drop for Site {
-    fn drop(self) {
-        let Site { place: _, desk: _ } = self;
-    }
 }
 
 impl Site {
     /// The folder of this path, made where it is missing and locked; memory where there is none. It
     /// has a desk of so many leases.
-    pub fn open<R: System>(rt: &R, path: Option<&str>, leases: u32) -> Result<Site, HomeFault> {
+    pub(crate) fn open<R: System>(
+        rt: &R,
+        dir: Option<&str>,
+        leases: u32,
+    ) -> Result<Site, HomeFault> {
         let desk = desk_of(rt.alloc(), leases)?;
-        let place = match path {
+        let place = match dir {
             Some(path) => Place::Folder(Folder::open(rt, path)?),
             None => Place::Memory,
         };
         Ok(Site { place, desk })
     }
 
+    /// Memory, with leases of this desk.
+    pub(crate) fn of(desk: Desk) -> Site {
+        Site {
+            place: Place::Memory,
+            desk,
+        }
+    }
+
     /// How many segments a store begins with: so many at least, and one for each lease up to the
     /// last that has a file.
-    pub fn count<R: System>(&self, rt: &R, least: u32) -> Result<u32, HomeFault> {
+    pub(crate) fn count<R: System>(&self, rt: &R, least: u32) -> Result<u32, HomeFault> {
         match &self.place {
             Place::Memory => Ok(least),
             Place::Folder(folder) => Ok(count_over(&folder.leases(rt)?, least)),
@@ -116,7 +115,7 @@ impl Site {
     }
 
     /// The segment of the least lease that is free, with what its file has.
-    pub fn segment<R: System>(&mut self, rt: &R, capacity: u64) -> Result<Made, HomeFault> {
+    pub(crate) fn segment<R: System>(&mut self, rt: &R, capacity: u64) -> Result<Made, HomeFault> {
         let lease = taken(&mut self.desk)?;
         match &self.place {
             Place::Memory => in_memory(rt.alloc(), lease, capacity),
@@ -126,10 +125,10 @@ impl Site {
 
     /// A new segment of the least lease that is free, once those that came back are, over a file of
     /// no bytes.
-    pub fn spare<R: System>(&mut self, rt: &R, capacity: u64) -> Result<Made, HomeFault>
+    pub(crate) fn spare<R: System>(&mut self, rt: &R, capacity: u64) -> Result<Made, HomeFault>
         ensures { IfErr result IsOfSite }
     {
-        self.collect();
+        let _ = self.desk.collect();
         let lease = taken(&mut self.desk)?;
         match &self.place {
             Place::Memory => in_memory(rt.alloc(), lease, capacity),
@@ -137,32 +136,38 @@ impl Site {
         }
     }
 
-    /// Leases that came back are free again.
-    pub fn collect(&mut self) {
+    /// The leases that are out, ascending, once those that came back are free.
+    pub(crate) fn out(&mut self, alloc: Global) -> Result<Vec<u32>, AllocError> {
         let _ = self.desk.collect();
-    }
-
-    /// Whether one of so many first leases is free, once those that came back are.
-    pub(crate) fn has_free(&mut self, leases: u32) -> bool {
-        self.collect();
-        for lease in 0..leases {
-            if !self.desk.is_out(lease) {
-                return true;
+        let mut out = Vec::new(alloc);
+        for lease in 0..MAX_LEASES {
+            if self.desk.is_out(lease) {
+                out.push(lease)?;
             }
         }
-        false
-    }
-
-    /// Whether a lease is out.
-    pub fn is_out(&self, lease: u32) -> bool {
-        self.desk.is_out(lease)
+        Ok(out)
     }
 
     /// The file of a lease whose segment was given up has no bytes any more.
-    pub fn empty<R: System>(&self, rt: &R, lease: u32) -> Result<(), FolderFault> {
+    pub(crate) fn empty<R: System>(&self, rt: &R, lease: u32) -> Result<(), FolderFault> {
         match &self.place {
             Place::Memory => Ok(()),
             Place::Folder(folder) => folder.empty(rt, lease),
         }
+    }
+
+    /// The same of each of these leases that came back, in this order.
+    pub(crate) fn empty_free<R: System>(
+        &mut self,
+        rt: &R,
+        leases: &[u32],
+    ) -> Result<(), FolderFault> {
+        let _ = self.desk.collect();
+        for lease in leases {
+            if !self.desk.is_out(*lease) {
+                self.empty(rt, *lease)?;
+            }
+        }
+        Ok(())
     }
 }

@@ -4,16 +4,14 @@ use crate::course::Legs;
 use crate::fault::HomeFault;
 use crate::folder_look::{Old, look_for_old};
 use crate::home::Home;
-use crate::opened::with_store_in_legs;
+use crate::opened::with_store_at;
 use crate::options::Options;
 use crate::system::System;
-use bw_store::{StoreFault, Upgraded};
+use bw_core::{StoreFault, Upgraded};
 
-/// An upgrade, one try a leg: where the spares do not suffice, a further one is asked for, as long
-/// as there are so many leases.
+/// An upgrade, one try a leg: where the spares do not suffice, a further one is asked for.
 #[derive(Drop)]
 struct Upgrades {
-    leases: u32,
     old: Old,
 }
 
@@ -28,7 +26,7 @@ impl<R: System> Legs<R> for Upgrades {
                 frames: home.next_frame().wrapping_sub(self.old.next),
             })),
             Err(HomeFault::Store(StoreFault::NoSegment)) => {
-                match home.make_spare(rt, self.leases) {
+                match home.make_spare(rt) {
                     Ok(()) => None,
                     Err(fault) => Some(Err(fault)),
                 }
@@ -52,18 +50,17 @@ impl<R: System> Legs<R> for Upgrades {
 /// file in it, was not opened, made or emptied. `Lease`: there are fewer leases than segments.
 ///
 /// It takes memory for all files twice for a moment, and three times the time of a recovery, beside
-/// what `Store::upgrade` costs, at most once for each spare that is added.
+/// what `Core::upgrade` costs, at most once for each spare that is added.
 pub fn upgrade<R: System>(rt: &R, path: &str, leases: u32) -> Result<Upgraded, HomeFault> {
     let old = look_for_old(rt, path, leases)?;
-    // Nobody puts, and nobody reads beside.
+    // Nobody puts.
     let options = Options {
         writers: 1,
         places: 1,
-        readers: 1,
         segments: 0,
         capacity: old.capacity,
         ..Options::default()
     };
-    let mut upgrades = Upgrades { leases, old };
-    with_store_in_legs(rt, path, &options, &mut upgrades)?
+    let mut upgrades = Upgrades { old };
+    with_store_at(rt, Some(path), leases, &options, &mut upgrades)?
 }

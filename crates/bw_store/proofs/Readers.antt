@@ -1,8 +1,6 @@
 -- What readers have is a beginning of what is durable, step by step.
 
-use Rattle.std.proofs.Common.{◌≡◌, ℕ, zero, suc, ◌+◌, ◌-◌, ◌≤◌, Some, Result, Ok, Err, IsOk, OnOk, OnErr, MatchResult, List, [], ◌∷◌, ◌++◌, length}
-use Rattle.std.proofs.Common.{length-append, length-take, length-take-le, take, drop, refl, sym, ap, ◌∙◌, ◌⊎◌, inl, inr, append-nil, append_assoc}
-use Rattle.std.proofs.Common.{subst, arith}
+use Rattle.std.proofs.Common.{◌≡◌, ℕ, zero, suc, ◌+◌, ◌-◌, ◌≤◌, Some, Result, Ok, Err, IsOk, OnOk, OnErr, MatchResult, List, [], ◌∷◌, ◌++◌, length, length-append, length-take, length-take-le, take, drop, refl, sym, ap, ◌∙◌, ◌⊎◌, inl, inr, append-nil, append_assoc, subst, arith}
 use Rattle.std.specs.declared.alloc.AllocError.{AllocError}
 use mathlib.Core.List.{IsPrefix}
 use Rattle.bw_codec.specs.declared.leaf.Leaf.{Leaf}
@@ -10,37 +8,21 @@ use Rattle.bw_page.specs.Shown.{Shown}
 use Rattle.bw_versions.specs.Batches.{BatchData, entries_of}
 use Rattle.bw_versions.specs.Posted.{posted_of}
 use Rattle.bw_versions.specs.Versioned.{EntersWhole, IsUpTo, Versioned}
-use Rattle.bw_versions.specs.declared.entry.Entry.{Entry}
+use Rattle.bw_history.specs.declared.entry.Entry.{Entry}
 use Rattle.bw_versions.proofs.Fronts.{prefix_trans}
-use Rattle.bw_store.specs.History.{cut, upto}
-use Rattle.bw_store.specs.Kept.{Kept, AreVersions, EndAtCuts, IsSound, with_batches}
+use Rattle.bw_history.specs.History.{cut, upto}
+use Rattle.bw_store.specs.Kept.{Kept, AreVersions, EndAtCuts, IsSound, core_of, with_batches}
 use Rattle.bw_store.specs.Showing.{Hides, Shows, with_places}
-use Rattle.bw_store.proofs.RecordMore.{cut_within}
+use Rattle.bw_core.proofs.Forgetting.{end_within as core_end_within}
 
 -- ---- beginnings of the history
 
-take_prefix : {A : Type 0} (xs : List A) (c d : ℕ) → c ≤ d → IsPrefix (take c xs) (take d xs)
+pub take_prefix : {A : Type 0} (xs : List A) (c d : ℕ) → c ≤ d → IsPrefix (take c xs) (take d xs)
 take_prefix xs zero d le = (take d xs, refl)
 take_prefix [] (suc c) zero le = absurd (omega arith)
 take_prefix [] (suc c) (suc d) le = ([], refl)
 take_prefix (x ∷ xs) (suc c) zero le = absurd (omega arith)
 take_prefix (x ∷ xs) (suc c) (suc d) le = (let rest = take_prefix xs c d (omega arith) in (rest.0, ap (λ ys. x ∷ ys) rest.1))
-
--- a later cut leaves it so
-pub later_cut : (s : Kept) (cuts : List ℕ) (durable : ℕ) → AreVersions s → cut s.cuts s.durable ≤ cut cuts durable
-    → IsPrefix (entries_of s.versions.entered) (upto cuts s.entries durable)
-later_cut s cuts durable h le = prefix_trans _ _ _ h.begins (take_prefix s.entries (cut s.cuts s.durable) (cut cuts durable) le)
-
--- cuts that stood stay where they were, and there are no fewer
-pub ends_later : (s t : Kept) → s.durable ≤ t.durable → t.entries ≡ s.entries
-    → ((k : ℕ) → k ≤ s.durable → cut t.cuts k ≡ cut s.cuts k) → (batches : List BatchData) → EndAtCuts s batches → EndAtCuts t batches
-ends_later s t more entries same batches ends = λ n.
-    let old = ends n in
-    let low = old.1 in (
-      old.0,
-      omega arith,
-      old.2 ∙ ap (λ c. take c s.entries) (sym (same old.0 old.1)) ∙ ap (λ (es : List Entry). take (cut t.cuts old.0) es) (sym entries),
-    )
 
 take_nil : {A : Type 0} (n : ℕ) → take n (let none : List A = [] in none) ≡ []
 take_nil zero = refl
@@ -92,42 +74,17 @@ same_readers old new same =
     ∙ ap (λ p. record { start = old.start; book = old.book; published = new.published; entered = new.entered; places = p }) same.2
 
 -- a store with other readers
-abbrev pub with_versions : Kept → Versioned → Kept
-with_versions s new = record s { start = new.start.leaves; versions = new }
+abbrev pub reading : Kept → Versioned → Kept
+reading s new = record s { versions = new }
 
-batches_are : (s : Kept) (new : Versioned) → AreVersions s
+batches_are : (s : Kept) (new : Versioned)
     → (new.start ≡ s.versions.start) × (new.book ≡ s.versions.book) × (new.places ≡ s.versions.places)
-    → with_versions s new ≡ with_batches s new.published new.entered
-batches_are s new h same =
-    ap (λ (ls : List Leaf). record s { start = ls; versions = new }) (ap (λ (l : Shown). l.leaves) (same.0 ∙ h.start))
-    ∙ ap (λ (v : Versioned). record s { versions = v }) (same_readers s.versions new same)
+    → reading s new ≡ with_batches s new.published new.entered
+batches_are s new same = ap (λ (v : Versioned). record s { versions = v }) (same_readers s.versions new same)
 
 -- what readers have may change, if it stays a beginning of what is durable
 shown_sound : (s : Kept) (versions : Versioned) → IsSound s → AreVersions (record s { versions = versions }) → IsSound (record s { versions = versions })
-shown_sound s versions h shown = record {
-  log = h.log;
-  pairs = h.pairs;
-  limit = h.limit;
-  leaves = h.leaves;
-  mapped = h.mapped;
-  ops = h.ops;
-  writers = h.writers;
-  grown = h.grown;
-  next = h.next;
-  last = h.last;
-  number = h.number;
-  sealed = h.sealed;
-  ordered = h.ordered;
-  beyond = h.beyond;
-  floor = h.floor;
-  stands = h.stands;
-  shares = h.shares;
-  tells = h.tells;
-  shown = record { start = shown.start; begins = shown.begins; ends = shown.ends };
-  edged = h.edged;
-  begun = h.begun;
-  left = h.left;
-}
+shown_sound s versions h shown = record { base = h.base; shown = shown }
 
 batched_sound : (s : Kept) (published entered : List BatchData) → IsSound s → IsPrefix (entries_of entered) (upto s.cuts s.entries s.durable)
     → EndAtCuts s entered → IsSound (with_batches s published entered)
@@ -139,18 +96,15 @@ placed_sound s places h =
     shown_sound s (record s.versions { places = places }) h (record { start = h.shown.start; begins = h.shown.begins; ends = h.shown.ends })
 
 -- a reader more has one place less
-pub places_are : (s : Kept) (new : Versioned) → AreVersions s → new ≡ record s.versions { places = new.places }
-    → with_versions s new ≡ with_places s new.places
-places_are s new h same =
-    ap (λ (v : Versioned). with_versions s v) same
-    ∙ ap (λ (ls : List Leaf). record s { start = ls; versions = record s.versions { places = new.places } }) (ap (λ (l : Shown). l.leaves) h.start)
+pub places_are : (s : Kept) (new : Versioned) → new ≡ record s.versions { places = new.places } → reading s new ≡ with_places s new.places
+places_are s new same = ap (λ (v : Versioned). reading s v) same
 
-pub reader_sound : (s : Kept) (new : Versioned) → IsSound s → new ≡ record s.versions { places = new.places } → IsSound (with_versions s new)
-reader_sound s new h same = subst IsSound (sym (places_are s new h.shown same)) (placed_sound s new.places h)
+pub reader_sound : (s : Kept) (new : Versioned) → IsSound s → new ≡ record s.versions { places = new.places } → IsSound (reading s new)
+reader_sound s new h same = subst IsSound (sym (places_are s new same)) (placed_sound s new.places h)
 
 -- the durable cut is within the history
 pub end_within : (s : Kept) (end : ℕ) → IsSound s → end ≡ cut s.cuts s.durable → end ≤ length s.entries
-end_within s end h is = (let within = cut_within s.cuts (length s.entries) s.durable h.ordered in omega arith)
+end_within s end h is = core_end_within (core_of s) end h.base is
 
 -- ---- the entries up to the durable cut are handed to the readers
 
@@ -159,12 +113,13 @@ upto_is s end entries is same = ap (λ n. take n entries) is ∙ ap (λ (es : Li
 
 pub publish_sound : (s : Kept) (new : Versioned) (end : ℕ) (entries : List Entry) → IsSound s → end ≡ cut s.cuts s.durable → entries ≡ s.entries
     → (new.start ≡ s.versions.start) × (new.book ≡ s.versions.book) × (new.places ≡ s.versions.places)
-    → IsPrefix (entries_of new.entered) (take end entries) → EntersWhole s.versions.entered new.entered (take end entries) → IsSound (with_versions s new)
+    → IsPrefix (entries_of new.entered) (take end entries) → EntersWhole s.versions.entered new.entered (take end entries) → IsSound (reading s new)
 publish_sound s new end entries h is all same begins whole =
-    subst IsSound (sym (batches_are s new h.shown same))
+    subst IsSound (sym (batches_are s new same))
     (batched_sound s new.published new.entered h (subst (IsPrefix (entries_of new.entered)) (upto_is s end entries is all) begins)
     (ends_pushed s s.versions.entered new.entered h.shown.ends (subst (EntersWhole s.versions.entered new.entered) (upto_is s end entries is all) whole)))
 
+-- a refusal is no answer
 no_ok : (x : AllocError) → IsOk {T = Unit {0}} (Err x) → ⊥
 no_ok x e = cc
 
@@ -174,22 +129,19 @@ pub publish_leaves : (s : Kept) (new : Versioned) (r : Result (Unit {0}) AllocEr
     → OnOk r (posted_of new.published ≡ Some (record { start = s.versions.start; entries = take end entries }))
     → OnOk r (IsPrefix s.versions.published new.published) → OnErr r (new.published ≡ s.versions.published) → OnOk r (IsUpTo new (take end entries))
     → (IsUpTo s.versions (take end entries) → (new ≡ s.versions) × IsOk r)
-    → MatchResult r (λ _. Shows s (with_versions s new)) (λ _. Hides s (with_versions s new))
+    → MatchResult r (λ _. Shows s (reading s new)) (λ _. Hides s (reading s new))
 publish_leaves s new (Ok x) end entries h is all same posted grows err level idle = record {
-  is = batches_are s new h.shown same;
+  is = batches_are s new same;
   shown =
       posted ∙ ap (λ (es : List Entry). Some (record { start = s.versions.start; entries = es })) (upto_is s end entries is all)
       ∙ ap (λ (l : Shown). Some (record { start = l; entries = upto s.cuts s.entries s.durable })) h.shown.start;
   more = grows.0;
   grows = sym grows.1;
   level = subst (IsUpTo new) (upto_is s end entries is all) level;
-  idle = λ was.
-      (let same_versions = (idle (subst (IsUpTo s.versions) (sym (upto_is s end entries is all)) was)).0 in
-      ap (λ (v : Versioned). with_versions s v) same_versions
-      ∙ ap (λ (ls : List Leaf). record s { start = ls }) (ap (λ (l : Shown). l.leaves) h.shown.start));
+  idle = λ was. ap (λ (v : Versioned). reading s v) (idle (subst (IsUpTo s.versions) (sym (upto_is s end entries is all)) was)).0;
 }
 publish_leaves s new (Err x) end entries h is all same posted grows err level idle = record {
-  is = batches_are s new h.shown same ∙ ap (λ (bs : List BatchData). with_batches s bs new.entered) err;
+  is = batches_are s new same ∙ ap (λ (bs : List BatchData). with_batches s bs new.entered) err;
   fresh = λ was. no_ok x (idle (subst (IsUpTo s.versions) (sym (upto_is s end entries is all)) was)).1;
 }
 

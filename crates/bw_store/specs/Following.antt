@@ -1,32 +1,15 @@
 -- What no call takes back.
 
-use Rattle.std.specs.Prelude.{ℕ, zero, suc, ◌+◌, ◌*◌, ◌≡◌, ◌≤◌, ◌<◌, Bool, true, List, ◌++◌, length, drop, Result, MatchResult}
-use Rattle.bw_log.specs.Contents.{roster}
+use Rattle.std.specs.Prelude.{ℕ, ◌≡◌, Bool, List, ◌++◌}
 use Rattle.bw_versions.specs.Batches.{BatchData}
-use Rattle.bw_versions.specs.declared.entry.Entry.{Entry}
-use Rattle.bw_store.specs.declared.fault.StoreFault.{StoreFault}
-use Rattle.bw_store.specs.declared.turn.Count.{Count}
-use Rattle.bw_store.specs.declared.fault.TurnFault.{TurnFault}
-use Rattle.bw_store.specs.History.{ends_in}
-use Rattle.bw_store.specs.Kept.{Kept}
 use Rattle.bw_ring.specs.declared.lane.Lane.{Lane}
-use Rattle.bw_store.specs.Taking.{RefusesNext, Took}
+use Rattle.bw_core.specs.declared.fault.StoreFault.{StoreFault}
+use Rattle.bw_core.specs.Following as core
+use Rattle.bw_store.specs.Kept.{Kept, core_of, Beside}
 
--- what no call takes back: the old history and cuts begin the new ones, no frame is forgotten, and
--- where the store began stays
+-- what no call takes back: that of the core, what was published, and the readers' book
 pub record Continues (old new : Kept) : Type 0 where
-  -- which feed is a lane's, and how many writers there are
-  pub rings : new.rings ≡ old.rings
-  pub start : new.start ≡ old.start
-  pub before : new.before ≡ old.before
-  pub edge : new.edge ≡ old.edge
-  pub entries_more : List Entry
-  pub history : new.entries ≡ old.entries ++ entries_more
-  pub cuts_more : List ℕ
-  pub cuts : new.cuts ≡ old.cuts ++ cuts_more
-  pub appended : old.durable ≤ new.durable
-  pub floor : old.floor ≤ new.floor
-  -- what was published stays so, and readers keep their book
+  pub base : core.Continues (core_of old) (core_of new)
   pub book : new.versions.book ≡ old.versions.book
   pub batches_more : List BatchData
   pub published : new.versions.published ≡ old.versions.published ++ batches_more
@@ -37,55 +20,30 @@ pub record Follows (old new : Kept) : Type 0 where
   pub floor : new.floor ≡ old.floor
 
 -- each box is where it was in the row of all
-pub record HasBoxes (old new : Kept) : Type 0 where
-  pub same : roster new.log ≡ roster old.log
+abbrev pub HasBoxes : Kept → Kept → Type 0
+HasBoxes old new = core.HasBoxes (core_of old) (core_of new)
 
--- a call that gives up no segment and publishes nothing, by which the history grew by so many entries
-pub record Turned (n : ℕ) (old new : Kept) : Type 0 where
-  pub follows : Follows old new
-  pub boxes : HasBoxes old new
-  pub grew : length new.entries ≡ length old.entries + n
-  pub quiet : new.versions ≡ old.versions
+-- ---- the core's words, of calls that publish nothing
 
--- so many groups, one after the other
-abbrev pub Takes : ℕ → Kept → Kept → Type 0
-Takes zero old new = new ≡ old
-Takes (suc n) old new = (middle : Kept) × Takes n old middle × ((lane : ℕ) × Took lane middle new)
+-- a call that gives up no segment, by which the history grew by so many entries
+abbrev pub Turned : ℕ → Kept → Kept → Type 0
+Turned n old new = Beside (core.Turned n) old new
 
 -- how many groups came since
 abbrev pub groups_since : Kept → Kept → ℕ
-groups_since old new = ends_in (drop (length old.entries) new.entries)
+groups_since old new = core.groups_since (core_of old) (core_of new)
 
 -- so many records were taken, group after group; where an append failed before, none was
-pub record TookInTurn (n : ℕ) (old new : Kept) : Type 0 where
-  pub turned : Turned n old new
-  pub each : Takes (groups_since old new) old new
-  pub few : (groups_since old new ≤ n) × (n ≤ 4 * groups_since old new)
-  pub works : new.log.is_failed ≡ true → (n ≡ 0) × (new ≡ old)
+abbrev pub TookInTurn : ℕ → Kept → Kept → Type 0
+TookInTurn n old new = Beside (core.TookInTurn n) old new
 
--- so many records were taken, group after group, and then a group was refused, which is still the
--- first of its lane
-pub record RefusedAfter (n : ℕ) (old : Kept) (lanes : List Lane) (away : ℕ → Bool) (cause : StoreFault) (new : Kept) : Type 0 where
-  pub middle : Kept
-  pub took : TookInTurn n old middle
-  pub lane : ℕ
-  pub refuses : RefusesNext lane lanes away middle cause new
-
--- the same of so many groups
-abbrev pub TookGroups : ℕ → ℕ → Kept → Kept → Type 0
-TookGroups groups n old new = TookInTurn n old new × (groups_since old new ≡ groups)
+-- and then a group was refused, which is still the first of its lane
+abbrev pub RefusedAfter : ℕ → Kept → List Lane → (ℕ → Bool) → StoreFault → Kept → Type 0
+RefusedAfter n old lanes away cause new = Beside (λ o s. core.RefusedAfter n o lanes away cause s) old new
 
 -- the same without a number
 abbrev pub TookSome : Kept → Kept → Type 0
-TookSome old new = (n : ℕ) × TookInTurn n old new
+TookSome old new = Beside core.TookSome old new
 
 abbrev pub RefusedAt : Kept → List Lane → (ℕ → Bool) → StoreFault → Kept → Type 0
-RefusedAt old lanes away cause new = (n : ℕ) × RefusedAfter n old lanes away cause new
-
--- a round goes on behind what was taken before: it tells all that was taken since the first, or why no
--- more was, before so many groups were taken
-abbrev pub TurnsOn : ℕ → Count → Kept → Result Count TurnFault → List Lane → (ℕ → Bool) → Kept → Type 0
-TurnsOn limit taken old result lanes away new =
-    (first : Kept) → TookGroups taken.groups taken.records first old → MatchResult result
-    (λ count. TookGroups count.groups count.records first new)
-    (λ fault. RefusedAfter fault.taken first lanes away fault.cause new × (groups_since first new < limit))
+RefusedAt old lanes away cause new = Beside (λ o s. core.RefusedAt o lanes away cause s) old new

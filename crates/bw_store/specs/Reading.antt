@@ -1,73 +1,37 @@
--- What the calls leave that only ask or read, or change the boxes alone.
+-- What the calls leave that only ask or read, or change the boxes alone: what the core's call leaves,
+-- beside readers that see the same.
 
-use Rattle.std.specs.Prelude.{ℕ, ◌≡◌, false, Result, Ok, Err, List, [], ◌∷◌, ◌++◌}
+use Rattle.std.specs.Prelude.{ℕ, Result, List}
 use Rattle.bw_codec.specs.declared.leaf.Leaf.{Leaf}
-use Rattle.bw_page.specs.Leaves.{pages}
 use Rattle.bw_device.specs.Holding.{Holding}
-use Rattle.bw_log.specs.Contents as logs
-use Rattle.bw_log.specs.Reads.{IsKept, IsWornOut, FailedRead, HoldsPage}
-use Rattle.bw_store.specs.declared.fault.StoreFault.{StoreFault}
-use Rattle.bw_store.specs.declared.fault.StoreFault.TheVariants.{NoMemory, BadConfig, NoSegment, Device, Failed, Spent, NoPage, NothingOld}
-use Rattle.bw_versions.specs.Entries.{records}
-use Rattle.bw_store.specs.Kept.{Kept}
+use Rattle.bw_core.specs.declared.fault.StoreFault.{StoreFault}
+use Rattle.bw_core.specs.Reading as core
+use Rattle.bw_store.specs.Kept.{Kept, Beside, core_of, with_versions}
 
 -- the pages of the history
 abbrev pub leaves_now : Kept → List Leaf
-leaves_now s = pages s.filed.m s.start (records s.entries)
-
--- with another log
-abbrev pub with_log : Kept → logs.Contents → Kept
-with_log s log = record s { log = log }
+leaves_now s = core.leaves_now (core_of s)
 
 -- a call that at most reads the boxes: cuts and all held bytes stay
-pub record HasRead (old new : Kept) : Type 0 where
-  pub is : new ≡ with_log old new.log
-  pub kept : IsKept old.log new.log
+abbrev pub HasRead : Kept → Kept → Type 0
+HasRead old new = Beside core.HasRead old new
 
 -- one spare more, which goes last
 abbrev pub with_spare : Kept → Holding → Kept
-with_spare s one = with_log s (record s.log { spares = s.log.spares ++ one ∷ [] })
+with_spare s one = with_versions (core.with_spare (core_of s) one) s.versions
 
 -- the current segment takes no more frames
 abbrev pub rolled : Kept → Kept
-rolled s = with_log s (record s.log { is_open = false })
+rolled s = with_versions (core.rolled (core_of s)) s.versions
 
 -- what a call leaves that may have had to read the live segments of these indices
 abbrev pub ReadLeaves : {A : Type 0} → (ℕ → Type 0) → Kept → Result A StoreFault → Kept → Type 0
-ReadLeaves reads old (Ok x) new = new ≡ old
-ReadLeaves reads old (Err NoMemory) new = new ≡ old
-ReadLeaves reads old (Err BadConfig) new = ⊥
-ReadLeaves reads old (Err NoSegment) new = ⊥
-ReadLeaves reads old (Err (Device lease)) new = FailedRead reads lease old.log new.log
-ReadLeaves reads old (Err Failed) new = ⊥
-ReadLeaves reads old (Err Spent) new = (new ≡ old) × IsWornOut reads old.log.live
-ReadLeaves reads old (Err NoPage) new = ⊥
-ReadLeaves reads old (Err NothingOld) new = ⊥
+ReadLeaves reads old result new = Beside (λ o s. core.ReadLeaves reads o result s) old new
 
 -- the same of a page, which there may not be
 abbrev pub PageLeaves : (ℕ → Type 0) → Kept → Result Leaf StoreFault → Kept → Type 0
-PageLeaves reads old (Err NoPage) new = new ≡ old
-PageLeaves reads old result new = ReadLeaves reads old result new
-
--- a page had to be read, and the segment of this lease failed
-pub record CouldNotRead (lease : ℕ) (old new : Kept) : Type 0 where
-  pub page : ℕ
-  pub read : HasRead old new
-  pub failed : FailedRead (HoldsPage old.log page) lease old.log new.log
-
--- a page has to be read, and a further failure of its segment could not be counted
-pub record IsUnread (s : Kept) : Type 0 where
-  pub page : ℕ
-  pub worn : IsWornOut (HoldsPage s.log page) s.log.live
+PageLeaves reads old result new = Beside (λ o s. core.PageLeaves reads o result s) old new
 
 -- what a walk leaves, which may have had to read several pages
 abbrev pub WalkLeaves : {A : Type 0} → Kept → Result A StoreFault → Kept → Type 0
-WalkLeaves old (Ok x) new = new ≡ old
-WalkLeaves old (Err NoMemory) new = new ≡ old
-WalkLeaves old (Err BadConfig) new = ⊥
-WalkLeaves old (Err NoSegment) new = ⊥
-WalkLeaves old (Err (Device lease)) new = CouldNotRead lease old new
-WalkLeaves old (Err Failed) new = ⊥
-WalkLeaves old (Err Spent) new = (new ≡ old) × IsUnread old
-WalkLeaves old (Err NoPage) new = ⊥
-WalkLeaves old (Err NothingOld) new = ⊥
+WalkLeaves old result new = Beside (λ o s. core.WalkLeaves o result s) old new

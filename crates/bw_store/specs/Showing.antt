@@ -1,21 +1,20 @@
 -- What a publication leaves, and the calls that end with one.
 
-use Rattle.std.specs.Prelude.{ℕ, Bool, false, ◌≡◌, ◌⊎◌, ◌++◌, List, [], Option, Some, Result, Ok, Err, drop}
+use Rattle.std.specs.Prelude.{ℕ, Bool, false, ◌≡◌, ◌⊎◌, ◌++◌, List, [], Option, Some, Result, Ok, Err}
 use Rattle.bw_versions.specs.Batches.{BatchData}
 use Rattle.bw_versions.specs.Posted.{posted_of}
 use Rattle.bw_versions.specs.Versioned.{IsUpTo, Versioned}
 use Rattle.bw_page.specs.Shown.{Shown}
-use Rattle.bw_log.specs.Contents.{roster}
-use Rattle.bw_care.specs.declared.cleaner.Cleaned.{Cleaned}
-use Rattle.bw_store.specs.declared.fault.StoreFault.{StoreFault}
-use Rattle.bw_store.specs.declared.fault.StoreFault.TheVariants.{NoMemory}
-use Rattle.bw_store.specs.History.{upto}
-use Rattle.bw_store.specs.Kept.{Kept, start_of, with_batches}
 use Rattle.bw_ring.specs.declared.lane.Lane.{Lane}
-use Rattle.bw_store.specs.Faults.{FlushAnswers, FlushLeaves, flush_refusal}
-use Rattle.bw_store.specs.Emptied.{Emptied}
-use Rattle.bw_store.specs.Cleaning.{CleanLeaves}
+use Rattle.bw_core.specs.declared.fault.StoreFault.{StoreFault}
+use Rattle.bw_core.specs.declared.fault.StoreFault.TheVariants.{NoMemory}
+use Rattle.bw_history.specs.History.{upto}
+use Rattle.bw_core.specs.Faults.{FlushAnswers}
+use Rattle.bw_core.specs.Faults as faults
+use Rattle.bw_core.specs.Emptied as core
+use Rattle.bw_core.specs.Settled as core_settled
 use Rattle.bw_store.specs.Following.{RefusedAt, TookSome}
+use Rattle.bw_store.specs.Kept.{Kept, Beside, core_of, start_of, with_batches}
 
 -- before the first publication: so many readers may be made, and they start from these leaves
 pub record AreUnseen (leaves : Shown) (readers : ℕ) (v : Versioned) : Type 0 where
@@ -27,6 +26,25 @@ pub record AreUnseen (leaves : Shown) (readers : ℕ) (v : Versioned) : Type 0 w
 -- so many readers may still be made
 abbrev pub with_places : Kept → ℕ → Kept
 with_places s places = record s { versions = record s.versions { places = places } }
+
+-- ---- the core's words
+
+abbrev pub flush_refusal : Kept → Option StoreFault
+flush_refusal s = faults.flush_refusal (core_of s)
+
+abbrev pub FlushLeaves : Kept → Result (Option ℕ) StoreFault → Kept → Type 0
+FlushLeaves old result new = Beside (λ o s. faults.FlushLeaves o result s) old new
+
+abbrev pub Emptied : Bool → Kept → Kept → Type 0
+Emptied takes_last old new = Beside (core.Emptied takes_last) old new
+
+abbrev pub IsAllCut : Kept → Type 0
+IsAllCut s = core_settled.IsAllCut (core_of s)
+
+abbrev pub IsSettled : Kept → Type 0
+IsSettled s = core_settled.IsSettled (core_of s)
+
+-- ---- a publication
 
 -- readers have the start, and the entries up to the durable cut
 abbrev pub IsLevel : Kept → Type 0
@@ -75,20 +93,3 @@ abbrev pub ThenShows : {A : Type 0} → (Result A StoreFault → Kept → Type 0
 ThenShows leaves (Ok x) new = (middle : Kept) × leaves (Ok x) middle × Shows middle new
 ThenShows {A} leaves (Err fault) new =
     leaves (Err fault) new ⊎ ((fault ≡ NoMemory) × ((middle : Kept) × ((x : A) × leaves (Ok x) middle) × Hides middle new))
-
--- a cleaning, and then a publication
-abbrev pub CleanShows : Kept → Result Cleaned StoreFault → Kept → Type 0
-CleanShows old result new = ThenShows (CleanLeaves old) result new
-
--- the row of all boxes lacks its first so many on Ok, and also where nothing but the publication was refused; it is the same else
-abbrev pub HasBoxesAfter : {A : Type 0} → ℕ → Kept → Result A StoreFault → Kept → Type 0
-HasBoxesAfter k old (Ok given) new = roster new.log ≡ drop k (roster old.log)
-HasBoxesAfter k old (Err fault) new =
-    (roster new.log ≡ roster old.log) ⊎ ((fault ≡ NoMemory) × (roster new.log ≡ drop k (roster old.log)))
-
--- the floor is what is durable where so many segments were given up, and what it was else
-abbrev pub HasFloorAfter : {A : Type 0} → ℕ → Kept → Result A StoreFault → Kept → Type 0
-HasFloorAfter k old (Ok given) new = new.floor ≡ new.durable
-HasFloorAfter k old (Err fault) new =
-    (new.floor ≡ old.floor)
-    ⊎ ((fault ≡ NoMemory) × (new.floor ≡ new.durable) × (roster new.log ≡ drop k (roster old.log)))

@@ -2,8 +2,8 @@
 
 ghost use Rattle.std.specs.Prelude.{◌≡◌, ◌≤◌, ◌+◌, length};
 ghost use Rattle.bw_versions.specs.Batches.{entries_of};
+ghost use Rattle.bw_history.specs.History.{cut};
 ghost use Rattle.bw_store.specs.Following.{Follows, HasBoxes};
-ghost use Rattle.bw_store.specs.History.{cut};
 
 use crate::store::Store;
 
@@ -11,13 +11,7 @@ impl Store {
     ghost use Rattle.bw_store.specs.Views.{forgotten_of, kept_by, noted_of, IsSound};
 
     /// Lets go of what the readers' book has of the history, all of it durable, and answers how
-    /// many entries more are forgotten by that. They leave memory alone: nothing that a clause says
-    /// of the store changes, `history` then has the entries behind them, and `forgotten` tells how
-    /// many they are. No other call does this (`noted` of each).
-    ///
-    /// Behind a `flush`, `settle` or `clean` that answered Ok these are all entries up to the last
-    /// durable cut. No memory is taken, and the room of what was forgotten is used again. It costs
-    /// a step for each entry that was kept.
+    /// many entries more are forgotten by that.
     pub fn forget(&mut self) -> u64
         requires { IsSound self.old holding }
         ensures sound { IsSound self.new holding }
@@ -34,9 +28,7 @@ impl Store {
         ensures follows { Follows (kept_by self.old holding) (kept_by self.new holding) }
         ensures boxes { HasBoxes (kept_by self.old holding) (kept_by self.new holding) }
     {
-        let gone = self.intake.history.gone();
         let known = self.versions.entered();
-        self.intake.history.forget(known);
-        (known - gone) as u64
+        self.core.forget_upto(known as u64)
     }
 }

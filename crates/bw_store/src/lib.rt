@@ -1,57 +1,32 @@
-//! The page store: turns take records from the writers' rings, flushes append what they did, and
-//! `settle` does both for all that was accepted: the goal of the whole store stands on it.
+//! The page store with readers: the core, and what it publishes of itself to other threads.
 //!
-//! Writers live in threads of their own, each with a feed; one thread owns the store. What it took
-//! stands in the history at once, in the pages, and in a frame in the making; a flush appends that
-//! frame and cuts the history there. `clean` gives up the oldest segment, `upgrade` all segments of
-//! format 1, and `reopen` goes on from what was recovered. `specs/Kept.antt` has what holds between
-//! calls, and `specs/Following.antt` what no call takes back. `evict` drops a page from memory: it
-//! is then read from the log, and `specs/Tails.antt` has what the frame in the making adds to it.
-//! `forget` drops from memory what readers have of the history; the clauses go on speaking of all
-//! of it.
+//! `Core` of `bw_core` is the store itself; this one holds a core, and shows its readers what is
+//! durable: behind each flush, settlement, cleaning, upgrade and rewriting. Each call is the core's,
+//! and then the publication. A reader looks keys up in any thread, and waits for nobody; what it saw
+//! it never loses. For that the pages are kept twice more, and each record is applied twice more: who
+//! needs no readers takes a `Core`. `specs/Kept.antt` has what holds between calls,
+//! `specs/Following.antt` what no call takes back, and `specs/Showing.antt` what a publication
+//! leaves.
 #![tactic(auto)]
 
-mod append;
-mod beside;
-mod clean;
 mod config;
-mod count;
-mod counters;
-mod draft;
-mod edge;
-mod enter;
-mod evict;
-mod fault;
 mod flush;
 mod forget;
-mod groups;
-mod history;
-mod intake;
-mod moved;
-mod needed;
 mod open;
-mod plan;
 mod publish;
 mod questions;
 mod reads;
-mod receipts;
 mod renew;
 mod reopen;
-mod rewrite;
 mod segments;
 mod settle;
 mod store;
-mod tails;
-mod take;
 mod turn;
-mod upgrade;
-mod walk;
 
-pub use bw_care::{Cleaned, Upgraded};
-pub use bw_versions::{Entry, News, NoReader, PackedEntry, ReadFault, Reader};
+pub use bw_core::{
+    Cleaned, Core, Counters, Edge, Entry, OpenFault, PackedEntry, ReopenFault, StoreFault,
+    TurnFault, Upgraded,
+};
+pub use bw_versions::{News, NoReader, ReadFault, Reader};
 pub use config::Config;
-pub use counters::Counters;
-pub use edge::Edge;
-pub use fault::{OpenFault, StoreFault, TurnFault};
-pub use reopen::ReopenFault;
 pub use store::Store;

@@ -1,174 +1,35 @@
 //! A store is opened over empty segments.
 
-ghost use Rattle.std.specs.Prelude.{◌≡◌, ◌≤◌, ◌+◌, ◌↔◌, [], ◌∷◌, length, map, replicate, false, None, IsTrue, IfOk, IfErr, MatchResult};
-ghost use Rattle.std.specs.List.{AllByRecursion};
-ghost use Rattle.bw_codec.specs.Grammar.{IsBlock};
-ghost use Rattle.bw_codec.specs.declared.block.Block.TheVariants.{Base};
-ghost use Rattle.bw_buffer.specs.Filling.{size_of, with_all};
-ghost use Rattle.bw_page.specs.Leaves.{empty_leaf};
-ghost use Rattle.bw_ring.specs.Ends.{ring_of_feed, ring_of_lane};
-ghost use Rattle.bw_store.specs.Tails.{tail_of, tails_for};
-ghost use Rattle.bw_store.specs.Opened.{opened, one_empty, started, first_place, first_making, AreFresh, AreTaken, IsConfig, IsOpenFault};
-ghost use Rattle.bw_store.specs.Counting.{noted_from};
+ghost use Rattle.std.specs.Prelude.{◌≡◌, ◌≤◌, ◌↔◌, map, IfOk, IfErr, MatchResult};
+ghost use Rattle.bw_ring.specs.Ends.{ring_of_feed};
+ghost use Rattle.bw_log.specs.Limits.{AreLimits};
+ghost use Rattle.bw_core.specs.Counting.{noted_from};
+ghost use Rattle.bw_core.specs.Opened.{one_empty};
+ghost use Rattle.bw_store.specs.Opened.{opened, AreFresh, AreTaken, IsOpenFault};
 ghost use Rattle.bw_store.specs.Showing.{AreUnseen};
 
 use crate::config::Config;
-use crate::counters::{Looks, Tally};
-use crate::edge::Edge;
-use crate::fault::{OpenFault, StoreFault};
-use crate::history::History;
-use crate::intake::Intake;
+use crate::publish::Publications;
 use crate::store::Store;
-use crate::tails::Tail;
-use bw_buffer::Buffer;
-use bw_codec::{Block, Place};
-use bw_device::{Segment, are_spares};
-use bw_log::Log;
-use bw_page::{Leaves, empty_page};
-use bw_ring::{Feed, lanes};
+use bw_core::{Core, OpenFault, StoreFault, are_taken};
+use bw_device::Segment;
+use bw_page::Leaves;
+use bw_ring::Feed;
 use bw_versions::Versions;
 use std::alloc::{AllocError, Global};
 use std::sync::Wait;
 
-/// How many boxes a log has at most.
-const MAX_BOXES: usize = 4096;
-
-// What a store that begins has beside its log and its leaves.
-#[derive(Drop)]
-pub(crate) struct Ends {
-    pub(crate) feeds: Vec<Feed>,
-    pub(crate) intake: Intake,
-    pub(crate) newest: Vec<Place>,
-    pub(crate) tails: Vec<Option<Tail>>,
-    pub(crate) making: Buffer,
-}
-
-// Where a store begins: behind so many frames, with this edge and so many live bytes.
-#[derive(Clone, Copy)]
-pub(crate) struct Origin {
-    pub(crate) before: u64,
-    pub(crate) edge: Edge,
-    pub(crate) bytes: u64,
-}
-
-fn are_taken(config: &Config, segments: &[Box<dyn Segment>]) -> bool
-    ensures { IsTrue result ↔ AreTaken config.now (map holding segments.now) }
-{
-    config.is_lawful()
-        && segments.len() <= MAX_BOXES
-        && are_spares(segments, 24 + u64::from(config.f))
-}
-
-// The frame in the making, with the first page.
-fn first_frame(alloc: Global, f: u32) -> Result<Buffer, AllocError>
-    requires { (65536 ≤ f) × (f ≤ 262144) }
-    ensures { IfOk result (λ b. b ≡ first_making f) }
-{
-    let blocks = first_blocks(alloc)?;
-    let mut making = Buffer::new(alloc, 1, f)?;
-    put_first(&mut making, &blocks);
-    Ok(making)
-}
-
-fn first_blocks(alloc: Global) -> Result<Vec<Block>, AllocError>
-    ensures { IfOk result (λ bs. bs.items ≡ Base empty_leaf ∷ []) }
-{
-    let mut blocks = Vec::new(alloc);
-    blocks.push(Block::Base(empty_page(alloc)))?;
-    Ok(blocks)
-}
-
-fn put_first(making: &mut Buffer, blocks: &[Block])
-    requires unsealed { making.old.is_sealed ≡ false }
-    requires some { 1 ≤ length blocks.now }
-    requires lawful { AllByRecursion (IsBlock 32) blocks.now }
-    requires fits { size_of (with_all making.old blocks.now) ≤ making.old.limit }
-    ensures { making.new ≡ with_all making.old blocks.now }
-{
-    let Ok(_) = making.put_all(blocks) else {
-        unreachable!();
-    };
-}
-
-// Lanes from which nothing was taken, and the feeds that belong to them.
-pub(crate) fn intake_of(alloc: Global, config: &Config) -> Result<(Vec<Feed>, Intake), StoreFault>
-    requires { IsConfig config.now }
-    ensures feeds { IfOk result (λ p.
-        map ring_of_lane p.1.lanes.items ≡ map ring_of_feed p.0.items) }
-    ensures unused { IfOk result (λ p. AreFresh config.now p.0.items) }
-    ensures history { IfOk result (λ p. p.1.history.items ≡ []) }
-    ensures gone { IfOk result (λ p. p.1.history.gone ≡ 0) }
-    ensures memory { IfErr result (λ fault. fault ≡ StoreFault.NoMemory) }
-{
-    let Ok((feeds, ends)) = lanes(alloc, config.writers, config.places) else {
-        return Err(StoreFault::NoMemory);
-    };
-    let _ = ends.as_slice().len();
-    let counts = no_counts(alloc, config.writers)?;
-    let intake = Intake {
-        lanes: ends,
-        history: History::new(alloc),
-        counts,
-    };
-    Ok((feeds, intake))
-}
-
-// A count of none for each lane.
-fn no_counts(alloc: Global, lanes: usize) -> Result<Vec<u64>, AllocError>
-    ensures { IfOk result (λ counts. counts.items ≡ replicate lanes 0) }
-{
-    let mut counts = Vec::new(alloc);
-    counts.resize(lanes, 0)?;
-    Ok(counts)
-}
-
-fn parts_of(alloc: Global, config: &Config) -> Result<(Leaves, Ends), StoreFault>
-    requires { IsConfig config.now }
-    ensures feeds { IfOk result (λ p.
-        map ring_of_lane p.1.intake.lanes.items ≡ map ring_of_feed p.1.feeds.items) }
-    ensures unused { IfOk result (λ p. AreFresh config.now p.1.feeds.items) }
-    ensures history { IfOk result (λ p. p.1.intake.history.items ≡ []) }
-    ensures gone { IfOk result (λ p. p.1.intake.history.gone ≡ 0) }
-    ensures leaves { IfOk result (λ p.
-        p.0 ≡ one_empty config.now.m) }
-    ensures newest { IfOk result (λ p. p.1.newest.items ≡ first_place ∷ []) }
-    ensures tails { IfOk result (λ p. map tail_of p.1.tails.items ≡ None ∷ []) }
-    ensures making { IfOk result (λ p. p.1.making ≡ first_making config.now.f) }
-    ensures memory { IfErr result (λ fault. fault ≡ StoreFault.NoMemory) }
-{
-    let (feeds, intake) = intake_of(alloc, config)?;
-    let leaves = Leaves::one_empty(alloc, config.m)?;
-    let mut newest = Vec::with_capacity(alloc, 1)?;
-    newest.push_reserved(Place { frame: 1, index: 0 });
-    let mut tails = Vec::with_capacity(alloc, 1)?;
-    tails.push_reserved(None);
-    let making = first_frame(alloc, config.f)?;
-    let ends = Ends {
-        feeds,
-        intake,
-        newest,
-        tails,
-        making,
-    };
-    Ok((leaves, ends))
-}
-
 // What readers of an opened store see: nothing yet, and one empty page from the first publication.
-fn unseen<R: Wait>(rt: &R, alloc: Global, config: &Config) -> Result<Versions, AllocError>
-    requires { IsConfig config.now }
-    ensures { IfOk result (λ v. AreUnseen (one_empty config.now.m) config.now.readers v) }
+fn unseen<R: Wait>(rt: &R, alloc: Global, m: u16, readers: usize) -> Result<Versions, AllocError>
+    requires readers { (1 ≤ readers) × (readers ≤ 64) }
+    requires limit { (4 ≤ m) × (m ≤ 32) }
+    ensures { IfOk result (λ v. AreUnseen (one_empty m) readers v) }
 {
-    Versions::open(
-        rt,
-        alloc,
-        config.readers,
-        Leaves::one_empty(alloc, config.m)?,
-    )
+    Versions::open(rt, alloc, readers, Leaves::one_empty(alloc, m)?)
 }
 
 impl Store {
-    ghost use Rattle.bw_log.specs.Views.{seen_by};
-    ghost use Rattle.bw_store.specs.Views.{kept_by, kept_beside, noted_of, IsSoundBeside};
+    ghost use Rattle.bw_store.specs.Views.{kept_beside, noted_of, IsSoundBeside};
 
     /// A store of one empty page over empty segments, and a feed for each writer, which may go to
     /// another thread. The first page is the first block of frame 1.
@@ -199,81 +60,29 @@ impl Store {
             (λ e. IsOpenFault config.now (map holding segments.items) e.cause) }
         ensures back { IfErr result (λ e. e.segments.items ≡ segments.items) }
     {
-        if !are_taken(config, &segments) {
+        let limits = config.without_readers();
+        if !config.are_readers() || !are_taken(&limits, &segments) {
             let cause = StoreFault::BadConfig;
             return Err(OpenFault { segments, cause });
         }
-        let (leaves, ends) = match parts_of(alloc, config) {
-            Ok(parts) => parts,
-            Err(cause) => return Err(OpenFault { segments, cause }),
-        };
-        let Ok(versions) = unseen(rt, alloc, config) else {
+        let Ok(versions) = unseen(rt, alloc, config.m, config.readers) else {
             let cause = StoreFault::NoMemory;
             return Err(OpenFault { segments, cause });
         };
-        let origin = Origin {
-            before: 0,
-            edge: Edge {
-                segment: 0,
-                length: 0,
-            },
-            bytes: 0,
-        };
-        match Log::new(alloc, segments, config.m, config.f) {
-            Ok(log) => Ok(Store::begun(alloc, ends, leaves, log, versions, origin)),
-            Err((segments, fault)) => {
+        match Core::open(alloc, &limits, segments) {
+            Ok((core, feeds)) => {
+                let publications = Publications::none();
+                let store = Store {
+                    core,
+                    versions,
+                    publications,
+                };
+                Ok((store, feeds))
+            }
+            Err(fault) => {
                 versions.shut(rt);
-                let cause = StoreFault::from(fault);
-                Err(OpenFault { segments, cause })
+                Err(fault)
             }
         }
-    }
-
-    // A store of these ends over a log: its history begins here.
-    pub(crate) fn begun(
-        alloc: Global,
-        ends: Ends,
-        leaves: Leaves,
-        log: Log,
-        versions: Versions,
-        origin: Origin,
-    ) -> (Store, Vec<Feed>)
-        requires tails { map tail_of ends.tails.items
-            ≡ tails_for (length leaves.leaves) ends.making.blocks }
-        requires here { leaves.evicted ≡ [] }
-        requires gone { ends.intake.history.gone ≡ 0 }
-        requires start { versions.start ≡ leaves }
-        ensures store { kept_by result.0 holding
-            ≡ record (started (map ring_of_lane ends.intake.lanes.items) ends.intake.history.items
-            leaves ends.newest.items ends.making (seen_by (λ b. holding (b.vtable, b.value)) log)
-            versions) { before = origin.before; edge = origin.edge } }
-        ensures feeds { result.1 ≡ ends.feeds }
-        ensures noted { noted_of result.0 ≡ noted_from (length leaves.leaves) origin.bytes }
-    {
-        let Ends {
-            feeds,
-            intake,
-            newest,
-            tails,
-            making,
-        } = ends;
-        let tally = Tally::from(leaves.count(), origin.bytes);
-        let store = Store {
-            intake,
-            before: origin.before,
-            floor: 0,
-            edge: origin.edge,
-            cuts: Vec::new(alloc),
-            durable: 0,
-            leaves,
-            newest,
-            tails,
-            making,
-            log,
-            versions,
-            tally,
-            looks: Looks::new(),
-        };
-        (store, feeds)
     }
 }

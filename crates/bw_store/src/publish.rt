@@ -2,7 +2,6 @@
 
 ghost use Rattle.std.specs.Prelude.{◌≡◌, ◌≤◌, ◌↔◌, ◌-◌, [], Err, length, MatchResult, IfOk, OnOk, OnErr};
 ghost use Rattle.bw_versions.specs.declared.reader.ReadFault.TheVariants as read;
-ghost use Rattle.bw_store.specs.History.{cut};
 ghost use Rattle.bw_store.specs.Following.{Follows, HasBoxes};
 ghost use Rattle.bw_store.specs.Showing.{Hides, Shows, with_places};
 
@@ -10,6 +9,32 @@ use crate::store::Store;
 use bw_versions::{News, ReadFault, Reader};
 use std::alloc::AllocError;
 use std::sync::Wait;
+
+/// How many publications there were. What is counted here is known to no clause.
+#[derive(Clone, Copy)]
+pub(crate) struct Publications {
+    count: u64,
+    /// The history's length at the last one, if there was one.
+    end: Option<usize>,
+}
+
+impl Publications {
+    /// None yet.
+    pub(crate) fn none() -> Publications {
+        Publications {
+            count: 0,
+            end: None,
+        }
+    }
+
+    // The history is published up to this length, or it was refused. It counts where that is new.
+    fn count_upto(&mut self, end: usize, is_shown: bool) {
+        if is_shown && self.end != Some(end) {
+            self.count = self.count.saturating_add(1);
+            self.end = Some(end);
+        }
+    }
+}
 
 impl Store {
     ghost use Rattle.bw_store.specs.Views.{kept_by, noted_of, IsSound};
@@ -47,32 +72,26 @@ impl Store {
         self.versions.news()
     }
 
+    /// How many publications showed readers something new, since this store was opened.
+    pub fn publications(&self) -> u64 {
+        self.publications.count
+    }
+
     // Publishes the entries up to the durable cut.
     pub(crate) fn publish<R: Wait>(&mut self, rt: &R) -> Result<(), AllocError>
         requires sound { IsSound self.old holding }
         ensures sound { IsSound self.new holding }
-        ensures intake { self.new.intake ≡ self.old.intake }
+        ensures core { self.new.core ≡ self.old.core }
+        ensures noted { noted_of self.new ≡ noted_of self.old }
         ensures leaves { MatchResult result
             (λ _. Shows (kept_by self.old holding) (kept_by self.new holding))
             (λ _. Hides (kept_by self.old holding) (kept_by self.new holding)) }
-        ensures noted { noted_of self.new ≡ noted_of self.old }
     {
-        let end = self.durable_end();
+        let end = self.core.durable_end();
         let known = self.versions.entered();
-        let fresh = self.intake.between(known, end);
+        let fresh = self.core.entries(known, end);
         let went = self.versions.publish_up_to(rt, end, fresh);
-        self.looks.show_upto(end as u64, went.is_ok());
+        self.publications.count_upto(end, went.is_ok());
         went
-    }
-
-    // The history's length at the durable cut.
-    pub(crate) fn durable_end(&self) -> usize
-        requires { IsSound self.now holding }
-        ensures { result ≡ cut (kept_by self.now holding).cuts (kept_by self.now holding).durable }
-    {
-        if self.durable == 0 {
-            return 0;
-        }
-        self.cuts[self.durable as usize - 1] as usize
     }
 }

@@ -1,24 +1,22 @@
-//! Pages and values, as the history leaves them, in memory or read from the log.
+//! Pages and values, as the history leaves them: the core's calls.
 
-ghost use Rattle.std.specs.Prelude.{ℕ, ◌≡◌, ◌≤◌, ◌↔◌, ◌⊎◌, true, false, Some, None, List, length, IfOk, IfErr, OnErr, OnOk, IsErrOf};
+ghost use Rattle.std.specs.Prelude.{ℕ, ◌≡◌, ◌==◌, ◌↔◌, ◌⊎◌, ◌&&◌, not, true, false, None, Some, if◌then◌else◌, IfOk, IfErr, OnOk, IsErrOf, MatchResult};
 ghost use Rattle.std.specs.FinMap as finite;
 ghost use Rattle.bw_log.specs.Reads.{HoldsPage};
+ghost use Rattle.bw_page.specs.Ahead.{IsFirst, IsStretch};
 ghost use Rattle.bw_page.specs.Leaves.{leaf_at, home, plain};
-ghost use Rattle.bw_page.specs.Shown.{is_evicted_page, IsHere};
-ghost use Rattle.bw_page.specs.Words.{value_on};
-ghost use Rattle.bw_versions.specs.Entries.{records};
+ghost use Rattle.bw_history.specs.Entries.{records};
+ghost use Rattle.bw_core.specs.Counting.{noted_left};
+ghost use Rattle.bw_making.specs.Tails.{is_made};
 ghost use Rattle.bw_store.specs.Following.{Follows, HasBoxes};
-ghost use Rattle.bw_store.specs.Reading.{leaves_now, HasRead, ReadLeaves, PageLeaves};
-ghost use Rattle.bw_store.specs.Share.{ops_at};
+ghost use Rattle.bw_store.specs.Reading.{leaves_now, HasRead, PageLeaves, ReadLeaves, WalkLeaves};
 
-use crate::fault::StoreFault;
 use crate::store::Store;
-use crate::tails::Tail;
 use bw_codec::{Key, Leaf, Value};
-use bw_page::Word;
+use bw_core::StoreFault;
 
 impl Store {
-    ghost use Rattle.bw_store.specs.Views.{away_in, kept_by, is_evicted, noted_of, IsSound};
+    ghost use Rattle.bw_store.specs.Views.{kept_by, is_evicted, noted_of, IsSound};
 
     /// A copy of a page as all records of the history leave it, flushed or not, in memory or
     /// evicted. A page that is evicted is read from the log, and stays evicted.
@@ -45,13 +43,7 @@ impl Store {
         ensures boxes { HasBoxes (kept_by self.old holding) (kept_by self.new holding) }
         ensures noted { noted_of self.new ≡ noted_of self.old }
     {
-        if page == 0 || page > self.leaves.count() {
-            return Err(StoreFault::NoPage);
-        }
-        if let Some(leaf) = self.leaves.page(page) {
-            return Ok(leaf.copy()?);
-        }
-        self.read_evicted(page)
+        self.core.page(page)
     }
 
     /// The value of a key as all records of the history leave it, flushed or not, in memory or
@@ -77,106 +69,110 @@ impl Store {
         ensures boxes { HasBoxes (kept_by self.old holding) (kept_by self.new holding) }
         ensures noted { noted_of self.new ≡ noted_of self.old }
     {
-        let page = self.leaves.find(key);
-        if self.leaves.is_here(page) {
-            return Ok(self.leaves.get(key));
-        }
-        self.value_of_evicted(page, key)
+        self.core.get(key)
     }
 
-    /// A page that is evicted: what the log has of it, and the records that the frame in the making
-    /// has of it. It stays evicted.
-    pub(crate) fn read_evicted(&mut self, page: u32) -> Result<Leaf, StoreFault>
-        requires sound { IsSound self.old holding }
-        requires inside { (1 ≤ page) × (page ≤ length self.old.leaves.leaves) }
-        requires evicted { is_evicted_page page self.old.leaves ≡ true }
-        ensures leaf { IfOk result (λ leaf. leaf_at page self.old.leaves.leaves ≡ Some leaf) }
+    /// The pair with the least key at or above this one, as all records of the history leave it,
+    /// flushed or not, in memory or evicted; `None` behind the last pair. Pages that are evicted
+    /// are read from the log, and stay evicted.
+    ///
+    /// It costs a search and a look at a page; and, where that page has no such pair, another
+    /// search and look for each page behind it that has none. Refused as `get` is.
+    pub fn next_at(&mut self, key: &Key) -> Result<Option<(Key, Value)>, StoreFault>
+        requires { IsSound self.old holding }
+        ensures value { IfOk result (λ pair. IsFirst (plain (kept_by self.old holding).start
+            (records (kept_by self.old holding).entries)) key.now pair) }
         ensures sound { IsSound self.new holding }
-        ensures intake { self.new.intake ≡ self.old.intake }
-        ensures pages { self.new.leaves ≡ self.old.leaves }
         ensures read { HasRead (kept_by self.old holding) (kept_by self.new holding) }
-        ensures leaves { ReadLeaves (HoldsPage (kept_by self.old holding).log page)
-            (kept_by self.old holding) result (kept_by self.new holding) }
+        ensures leaves { WalkLeaves (kept_by self.old holding) result
+            (kept_by self.new holding) }
+        ensures memory { ((p : ℕ) → is_evicted p self.old ≡ false)
+            → IfErr result (λ fault. fault ≡ StoreFault.NoMemory) }
+        ensures evicted { (p : ℕ) → is_evicted p self.new ≡ is_evicted p self.old }
+
+        ensures follows { Follows (kept_by self.old holding) (kept_by self.new holding) }
+        ensures boxes { HasBoxes (kept_by self.old holding) (kept_by self.new holding) }
         ensures noted { noted_of self.new ≡ noted_of self.old }
     {
-        let below = match self.log.read_page(page) {
-            Ok(below) => below,
-            Err(fault) => return Err(StoreFault::from(fault)),
-        };
-        self.looks.read_one();
-        Ok(self.tail(page).content(&below)?)
+        self.core.next_at(key)
     }
 
-    /// The value of a key on a page that is evicted: what the newest record of the frame in the
-    /// making says, or what the log has of it. The page stays evicted.
-    pub(crate) fn value_of_evicted(
+    /// Puts the pairs at or above a key into `found`, as all records of the history leave them, in
+    /// the order of keys and no more than so many. What stood in `found` is dropped before. A walk
+    /// goes on behind the last of them. Pages that are evicted are read from the log, and stay
+    /// evicted.
+    ///
+    /// It costs a search and a look for each page, and a copy of each pair. Refused as `get` is, or
+    /// `NoMemory` where `found` does not grow; it then has some of the pairs.
+    pub fn scan(
         &mut self,
-        page: u32,
         key: &Key,
-    ) -> Result<Option<Value>, StoreFault>
-        requires sound { IsSound self.old holding }
-        requires inside { (1 ≤ page) × (page ≤ length self.old.leaves.leaves) }
-        requires evicted { is_evicted_page page self.old.leaves ≡ true }
-        ensures value { IfOk result (λ value. value
-            ≡ value_on key.now (leaf_at page self.old.leaves.leaves)) }
+        most: usize,
+        found: &mut Vec<(Key, Value)>,
+    ) -> Result<(), StoreFault>
+        requires { IsSound self.old holding }
+        ensures value { OnOk result (IsStretch (plain (kept_by self.old holding).start
+            (records (kept_by self.old holding).entries)) key.now most found.new.items) }
         ensures sound { IsSound self.new holding }
-        ensures pages { self.new.leaves ≡ self.old.leaves }
         ensures read { HasRead (kept_by self.old holding) (kept_by self.new holding) }
-        ensures leaves { ReadLeaves (HoldsPage (kept_by self.old holding).log page)
-            (kept_by self.old holding) result (kept_by self.new holding) }
+        ensures leaves { WalkLeaves (kept_by self.old holding) result
+            (kept_by self.new holding) }
+        ensures memory { ((p : ℕ) → is_evicted p self.old ≡ false)
+            → IfErr result (λ fault. fault ≡ StoreFault.NoMemory) }
+        ensures evicted { (p : ℕ) → is_evicted p self.new ≡ is_evicted p self.old }
+
+        ensures follows { Follows (kept_by self.old holding) (kept_by self.new holding) }
+        ensures boxes { HasBoxes (kept_by self.old holding) (kept_by self.new holding) }
         ensures noted { noted_of self.new ≡ noted_of self.old }
     {
-        match self.tail(page).word(key) {
-            Word::Silent => {}
-            Word::Gone => return Ok(None),
-            Word::Holds(value) => return Ok(Some(value)),
-        }
-        match self.log.read_value(page, key) {
-            Ok(value) => {
-                self.looks.read_one();
-                Ok(value)
-            }
-            Err(fault) => Err(StoreFault::from(fault)),
-        }
+        self.core.scan(key, most, found)
     }
 
-    // What the frame in the making has of a page that is evicted: such a page has a tail.
-    fn tail(&self, page: u32) -> &Tail
-        requires inside { (1 ≤ page) × (page ≤ length self.now.leaves.leaves) }
-        requires evicted { is_evicted_page page self.now.leaves ≡ true }
-        ensures { result.now.records ≡ ops_at page self.now.making.blocks }
-    {
-        let _ = self.tails.as_slice().len();
-        match &self.tails[page as usize - 1] {
-            Some(tail) => tail,
-            None => unreachable!(),
-        }
-    }
-
-    /// Brings back the page that a record of this key changes, if it is evicted, and tells which it
-    /// is.
-    pub(crate) fn fetch(&mut self, key: &Key) -> Result<u32, StoreFault>
-        requires sound { IsSound self.old holding }
-        ensures page { IfOk result (λ page. page ≡ (home key.now self.new.leaves.leaves).page) }
-        ensures here { OnOk result (IsHere key.now self.new.leaves) }
-        ensures others { OnOk result ((other : List ℕ) → IsHere other self.old.leaves
-            → IsHere other self.new.leaves) }
+    /// How many pairs there are, as all records of the history leave them, flushed or not, in
+    /// memory or evicted. Pages that are evicted are read from the log, and stay evicted.
+    ///
+    /// It costs a look at each page. Refused as `get` is.
+    pub fn count(&mut self) -> Result<u64, StoreFault>
+        requires { IsSound self.old holding }
+        ensures value { IfOk result (λ count. count
+            ≡ finite.len (plain (kept_by self.old holding).start
+            (records (kept_by self.old holding).entries))) }
         ensures sound { IsSound self.new holding }
-        ensures intake { self.new.intake ≡ self.old.intake }
         ensures read { HasRead (kept_by self.old holding) (kept_by self.new holding) }
-        ensures leaves { ReadLeaves (HoldsPage (kept_by self.old holding).log
-            (home key.now (kept_by self.old holding).filed.leaves).page)
-            (kept_by self.old holding) result (kept_by self.new holding) }
-        ensures away { OnErr result (away_in self.new
-            (home key.now (kept_by self.old holding).filed.leaves).page ≡ true) }
+        ensures leaves { WalkLeaves (kept_by self.old holding) result
+            (kept_by self.new holding) }
+        ensures memory { ((p : ℕ) → is_evicted p self.old ≡ false)
+            → IfErr result (λ fault. fault ≡ StoreFault.NoMemory) }
+        ensures evicted { (p : ℕ) → is_evicted p self.new ≡ is_evicted p self.old }
+
+        ensures follows { Follows (kept_by self.old holding) (kept_by self.new holding) }
+        ensures boxes { HasBoxes (kept_by self.old holding) (kept_by self.new holding) }
         ensures noted { noted_of self.new ≡ noted_of self.old }
     {
-        let page = self.leaves.find(key);
-        if self.leaves.is_here(page) {
-            return Ok(page);
-        }
-        let leaf = self.read_evicted(page)?;
-        self.leaves.bring_back(page, leaf);
-        Ok(page)
+        self.core.count()
+    }
+
+    /// Drops a page from memory; answers whether it left. The page stays: it is then read from the
+    /// log, and the records that no frame has yet are kept. It does not leave where it is evicted,
+    /// nor where the frame in the making makes it or cuts it.
+    ///
+    /// Refused `NoPage`, where the number is 0 or above the number of pages. No memory is taken.
+    pub fn evict(&mut self, page: u32) -> Result<bool, StoreFault>
+        requires { IsSound self.old holding }
+        ensures left { IfOk result (λ left. left
+            ≡ (not (is_evicted page self.old)
+            && not (is_made page (kept_by self.old holding).making.blocks))) }
+        ensures evicted { IfOk result (λ left. (p : ℕ) → is_evicted p self.new
+            ≡ (if left && (p == page) then true else is_evicted p self.old)) }
+
+        ensures no_page { IsErrOf result StoreFault.NoPage
+            ↔ (leaf_at page (leaves_now (kept_by self.old holding)) ≡ None) }
+        ensures only { IfErr result (λ fault. fault ≡ StoreFault.NoPage) }
+        ensures same { kept_by self.new holding ≡ kept_by self.old holding }
+        ensures noted { MatchResult result
+            (λ left. noted_of self.new ≡ noted_left left (noted_of self.old))
+            (λ _. noted_of self.new ≡ noted_of self.old) }
+    {
+        self.core.evict(page)
     }
 }

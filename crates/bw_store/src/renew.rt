@@ -1,45 +1,135 @@
-//! The last block of each page, asked of the log again.
+//! Segments are given up and pages written again: the core's calls, and then what is durable is
+//! published.
 
-ghost use Rattle.std.specs.Prelude.{◌≡◌, ◌≤◌, ◌<◌, ◌+◌, ◌-◌, ◌^◌, None, ℕ, length, vec_len, slice_get};
-ghost use Rattle.bw_log.specs.Contents.{counted};
-ghost use Rattle.bw_log.specs.Places.{place_of};
-ghost use Rattle.bw_care.specs.Views.{seen, IsSound};
+ghost use Rattle.std.specs.Prelude.{◌≡◌, ◌<◌, ◌↔◌, false, length, IsErrOf, IfOk};
+ghost use Rattle.bw_care.specs.Upgrading.{old_segments};
+ghost use Rattle.bw_core.specs.Rewriting.{are_pages};
+ghost use Rattle.bw_store.specs.Following.{Continues, Follows, HasBoxes};
+ghost use Rattle.bw_store.specs.Kept.{EachCutStands};
+ghost use Rattle.bw_store.specs.Renewing.{CleanShows, CountsCleaning, CountsUpgrade, HasBoxesAfter, HasFloorAfter, RewriteShows, UpgradeShows};
 
-use bw_codec::Place;
-use bw_log::Log;
+use crate::store::Store;
+use bw_core::{Cleaned, StoreFault, Upgraded};
+use std::sync::Wait;
 
-/// Notes the last block of each page as the log has it. Nothing waits in the frame in the making.
-pub(crate) fn renew(newest: &mut Vec<Place>, log: &Log)
-    requires sound { IsSound log.now holding }
-    requires count { length newest.old.items < 2 ^ 32 }
-    requires there { (p : ℕ) → 1 ≤ p → p ≤ length newest.old.items
-        → place_of p (counted (seen log.now holding)) ≡ None → ⊥ }
-    ensures count { length newest.new.items ≡ length newest.old.items }
-    ensures each { (p : ℕ) → 1 ≤ p → p ≤ length newest.old.items
-        → slice_get newest.new.items (p - 1) ≡ place_of p (counted (seen log.now holding)) }
-{
-    let pages = newest.as_slice().len();
-    'pages: for at in 0..pages {
-        renew_at(newest, log, at);
+impl Store {
+    ghost use Rattle.bw_store.specs.Views.{forgotten_of, kept_by, noted_of, IsSound};
+
+    /// Gives up the oldest live segment: what waits is flushed, then each page that was last set in
+    /// that segment is written again, and its box is dropped.
+    ///
+    /// Refused `NothingOld`, exactly where fewer than two segments are live, before anything else;
+    /// then as `flush` is, but `NoSegment` only where no spare stands at all; then `NoMemory`; then
+    /// as the cleaner is. A refused step leaves the steps before it done: frames that were appended
+    /// stay and are durable, each with a cut at the end of the history, and no box is dropped.
+    /// After a refusal other than `Failed` and a failed append it may be called again.
+    ///
+    /// Then what is durable is published, as `flush` does it. Where that alone finds no memory the
+    /// call is refused `NoMemory`, though the segment is given up: its box is dropped.
+    ///
+    /// It costs what a flush and `bw_care::clean` cost, and a look at each page's line in memory.
+    pub fn clean<R: Wait>(&mut self, rt: &R) -> Result<Cleaned, StoreFault>
+        requires sound { IsSound self.old holding }
+        ensures sound { IsSound self.new holding }
+        ensures leaves { CleanShows (kept_by self.old holding) result (kept_by self.new holding) }
+
+        ensures nothing_old { IsErrOf result StoreFault.NothingOld
+            ↔ (length (kept_by self.old holding).log.live < 2) }
+
+        // The floor is what is durable once a segment is given up, and stays else.
+        ensures floor { HasFloorAfter 1 (kept_by self.old holding) result (kept_by self.new holding) }
+        ensures each_cut { EachCutStands (kept_by self.new holding) }
+
+        // Nothing is forgotten, and what is counted is what the cleaner did.
+        ensures gone { forgotten_of self.new ≡ forgotten_of self.old }
+        ensures counts { CountsCleaning (kept_by self.old holding) (noted_of self.old).tally result
+            (kept_by self.new holding) (noted_of self.new).tally }
+
+        ensures follows { Continues (kept_by self.old holding) (kept_by self.new holding) }
+        ensures boxes { HasBoxesAfter 1 (kept_by self.old holding) result (kept_by self.new holding) }
+    {
+        let cleaned = self.core.clean()?;
+        self.publish(rt)?;
+        Ok(cleaned)
     }
-}
 
-// The same of one page.
-fn renew_at(newest: &mut Vec<Place>, log: &Log, at: usize)
-    requires sound { IsSound log.now holding }
-    requires few { at + 1 < 2 ^ 32 }
-    requires inside { at < length newest.old.items }
-    requires there { place_of (at + 1) (counted (seen log.now holding)) ≡ None → ⊥ }
-    ensures len { vec_len newest.new ≡ vec_len newest.old }
-    ensures count { length newest.new.items ≡ length newest.old.items }
-    ensures at { slice_get newest.new.items at
-        ≡ place_of (at + 1) (counted (seen log.now holding)) }
-    ensures others { (i : ℕ) → (i ≡ at → ⊥)
-        → slice_get newest.new.items i ≡ slice_get newest.old.items i }
-{
-    let Some(place) = log.place_of(at as u32 + 1) else {
-        unreachable!();
-    };
-    let _ = newest.as_slice().len();
-    newest[at] = place;
+    /// Gives up all live segments of format 1: what waits is flushed, then each page that was last
+    /// set in one of them is written again in format 2, and their boxes are dropped, oldest first.
+    ///
+    /// Refused `NothingOld`, exactly where no live segment has format 1, before anything else; then
+    /// as `flush` is, but `NoSegment` only where no spare stands at all; then `NoMemory`; then as
+    /// the upgrade of `bw_care` is. A refused step leaves the steps before it done: frames that
+    /// were appended stay and are durable, each with a cut at the end of the history, and no box is
+    /// dropped. After a refusal other than `Failed` and a failed append it may be called again: it
+    /// does not write a page again that stands in a segment of format 2 by then. So where the
+    /// spares run out (`NoSegment`), `add_segment` and a second call go on.
+    ///
+    /// Then what is durable is published, as `flush` does it. Where that alone finds no memory the
+    /// call is refused `NoMemory`, though the segments are given up: their boxes are dropped.
+    ///
+    /// It costs what a flush and `bw_care::upgrade` cost, and a look at each page's line in memory.
+    pub fn upgrade<R: Wait>(&mut self, rt: &R) -> Result<Upgraded, StoreFault>
+        requires sound { IsSound self.old holding }
+        ensures sound { IsSound self.new holding }
+        ensures leaves { UpgradeShows (kept_by self.old holding) result (kept_by self.new holding) }
+
+        ensures nothing_old { IsErrOf result StoreFault.NothingOld
+            ↔ (old_segments (kept_by self.old holding).log ≡ 0) }
+        ensures none_left { IfOk result (λ _. old_segments (kept_by self.new holding).log ≡ 0) }
+
+        // The floor is what is durable once segments are given up, and stays else.
+        ensures floor { HasFloorAfter (old_segments (kept_by self.old holding).log)
+            (kept_by self.old holding) result (kept_by self.new holding) }
+        ensures each_cut { EachCutStands (kept_by self.new holding) }
+
+        ensures follows { Continues (kept_by self.old holding) (kept_by self.new holding) }
+        ensures boxes { HasBoxesAfter (old_segments (kept_by self.old holding).log)
+            (kept_by self.old holding) result (kept_by self.new holding) }
+        // Nothing is forgotten, and what is counted is what the upgrade did.
+        ensures gone { forgotten_of self.new ≡ forgotten_of self.old }
+        ensures counts { CountsUpgrade (kept_by self.old holding) (noted_of self.old).tally result
+            (kept_by self.new holding) (noted_of self.new).tally }
+    {
+        let upgraded = self.core.upgrade()?;
+        self.publish(rt)?;
+        Ok(upgraded)
+    }
+
+    /// Writes each of these pages again, whole, and answers in how many frames: what waits is
+    /// flushed, then a Base of each page is appended, in this order, as many to a frame as fit. No
+    /// page changes, and no segment is given up.
+    ///
+    /// A page that is evicted is read back from all frames that touched it since it was last
+    /// written whole; behind this call it is read from one. So whoever evicts pages that many
+    /// flushes changed calls it first. A page that is named twice is written twice.
+    ///
+    /// Refused `NoPage`, exactly where one of the numbers is no page's, before anything else; then
+    /// as `flush` is, but `NoSegment` only where no spare stands at all; then `NoMemory`; then as
+    /// `bw_care::rewrite` is. A refused step leaves the steps before it done: frames that were
+    /// appended stay and are durable, each with a cut at the end of the history. After a refusal
+    /// other than `Failed` and a failed append it may be called again.
+    ///
+    /// Then what is durable is published, as `flush` does it. Where that alone finds no memory the
+    /// call is refused `NoMemory`, though the pages are written.
+    ///
+    /// It costs what a flush and reading these pages cost, the bytes of the new frames, and a look
+    /// at each page's line in memory.
+    pub fn rewrite<R: Wait>(&mut self, rt: &R, pages: &[u32]) -> Result<u64, StoreFault>
+        requires sound { IsSound self.old holding }
+        ensures sound { IsSound self.new holding }
+        ensures leaves { RewriteShows (kept_by self.old holding) pages.now result
+            (kept_by self.new holding) }
+
+        ensures no_page { IsErrOf result StoreFault.NoPage
+            ↔ (are_pages (length (kept_by self.old holding).filed.leaves) pages.now ≡ false) }
+
+        ensures each_cut { EachCutStands (kept_by self.new holding) }
+        ensures follows { Follows (kept_by self.old holding) (kept_by self.new holding) }
+        ensures boxes { HasBoxes (kept_by self.old holding) (kept_by self.new holding) }
+        ensures noted { noted_of self.new ≡ noted_of self.old }
+    {
+        let frames = self.core.rewrite(pages)?;
+        self.publish(rt)?;
+        Ok(frames)
+    }
 }

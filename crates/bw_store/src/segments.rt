@@ -1,16 +1,16 @@
-//! The boxes of a store: one more, the current one closed, one dumped, all handed back.
+//! The boxes of a store: the core's calls; and its end, which tells the readers.
 
-ghost use Rattle.std.specs.Prelude.{◌≡◌, ◌≢◌, ◌+◌, ◌++◌, ◌∷◌, ◌↔◌, ◌⊎◌, [], ℕ, true, false, map, length, MatchOption, OnOk, OnErr, IfOk, IfErr, IsErrAnd};
+ghost use Rattle.std.specs.Prelude.{◌≡◌, ◌↔◌, ◌⊎◌, ◌++◌, ℕ, true, false, map, MatchOption, OnOk, OnErr, IfOk, IfErr, IsErrAnd};
 ghost use Rattle.bw_care.specs.Laws.{cut_newest};
 ghost use Rattle.bw_log.specs.Limits.{IsNotTaken};
 ghost use Rattle.bw_log.specs.Reads.{IsNumbered, segment_at};
+ghost use Rattle.bw_core.specs.Stopping.{FindsCut, FindsStop, MayCut};
 ghost use Rattle.bw_store.specs.Following.{Follows, HasBoxes};
-ghost use Rattle.bw_store.specs.Kept.{EachCutStands};
+ghost use Rattle.bw_store.specs.Kept.{EachCutStands, core_of};
 ghost use Rattle.bw_store.specs.Reading.{HasRead, ReadLeaves, with_spare, rolled};
-ghost use Rattle.bw_store.specs.Stopping.{FindsCut, FindsStop, MayCut};
 
-use crate::fault::StoreFault;
 use crate::store::Store;
+use bw_core::StoreFault;
 use bw_device::Segment;
 use std::sync::Wait;
 
@@ -41,10 +41,7 @@ impl Store {
         ensures follows { Follows (kept_beside self.old holding) (kept_beside self.new holding) }
         ensures noted { noted_of self.new ≡ noted_of self.old }
     {
-        match self.log.add_segment(one) {
-            Ok(()) => Ok(()),
-            Err((one, fault)) => Err((one, StoreFault::from(fault))),
-        }
+        self.core.add_segment(one)
     }
 
     /// Closes the current segment, if any: the next append begins another. No memory is taken.
@@ -60,7 +57,7 @@ impl Store {
             (kept_by self.new holding) }
         ensures noted { noted_of self.new ≡ noted_of self.old }
     {
-        self.log.roll();
+        self.core.roll();
     }
 
     /// Appends the bytes of the live segment with this number to a `Vec`; answers `false` where no
@@ -89,10 +86,7 @@ impl Store {
             (kept_by self.new holding) }
         ensures noted { noted_of self.new ≡ noted_of self.old }
     {
-        match self.log.dump(segment, out) {
-            Ok(found) => Ok(found),
-            Err(fault) => Err(StoreFault::from(fault)),
-        }
+        self.core.dump(segment, out)
     }
 
     /// All boxes, as they are: the live ones in the order of their numbers, and the spares in
@@ -115,31 +109,19 @@ impl Store {
 
         // After a stop, and behind a cut of the newest segment, recovery finds the pages of a cut.
         ensures stops { (kept_beside self holding).log.is_failed ≡ true
-            → FindsStop (kept_beside self holding)
+            → FindsStop (core_of (kept_beside self holding))
             (map holding result.0.items ++ map holding result.1.items) }
         ensures cuts { (kept_beside self holding).log.is_failed ≡ false
-            → (n : ℕ) → MayCut (kept_beside self holding) n
-            → FindsCut (kept_beside self holding)
+            → (n : ℕ) → MayCut (core_of (kept_beside self holding)) n
+            → FindsCut (core_of (kept_beside self holding))
             (cut_newest n (map holding result.0.items) ++ map holding result.1.items) }
     {
         let Store {
-            intake: _intake,
-            before: _,
-            floor: _,
-            edge: _,
-            cuts: _cuts,
-            durable: _,
-            leaves: _leaves,
-            newest: _newest,
-            tails: _tails,
-            making: _making,
-            log,
+            core,
             versions,
-            tally: _,
-            looks: _,
+            publications: _,
         } = self;
         versions.shut(rt);
-        let (live, spares) = log.into_segments();
-        (live, spares)
+        core.shut()
     }
 }

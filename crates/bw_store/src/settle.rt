@@ -1,28 +1,26 @@
-//! All that was accepted is taken and appended.
+//! All that was accepted is taken, appended and published.
 
-ghost use Rattle.std.specs.Prelude.{ℕ, ◌≡◌, ◌<◌, Some, Err, [], true, length, map, IfOk, IfErr, OnOk, MatchResult};
+ghost use Rattle.std.specs.Prelude.{ℕ, ◌≡◌, ◌<◌, Some, Err, [], true, length, map, IfOk, IfErr, OnOk};
 ghost use Rattle.std.specs.List.{AllByRecursion};
 ghost use Rattle.bw_page.specs.Leaves.{pages};
 ghost use Rattle.bw_page.specs.Standing.{Stand};
-ghost use Rattle.bw_ring.specs.Ends.{accepted, taken, given, ring_of_feed};
+ghost use Rattle.bw_ring.specs.Ends.{accepted, ring_of_feed};
 ghost use Rattle.bw_log.specs.Contents.{counted, image, limits_of};
 ghost use Rattle.bw_log.specs.Segments.{AreLive};
-ghost use Rattle.bw_versions.specs.Entries.{records};
-ghost use Rattle.bw_store.specs.History.{streams};
+ghost use Rattle.bw_history.specs.Entries.{records};
 ghost use Rattle.bw_versions.specs.Posted.{posted_of};
-ghost use Rattle.bw_store.specs.Kept.{EachCutStands, Kept, TellsShare, start_of};
-ghost use Rattle.bw_store.specs.Following.{Follows, HasBoxes, TookSome, RefusedAt};
-ghost use Rattle.bw_store.specs.Lanes.{known_at, StayDry};
-ghost use Rattle.bw_store.specs.Settled.{IsAllCut};
-ghost use Rattle.bw_store.specs.Showing.{Settles, SettleRefuses};
+ghost use Rattle.bw_history.specs.History.{streams};
+ghost use Rattle.bw_store.specs.Kept.{EachCutStands, TellsShare, start_of};
+ghost use Rattle.bw_store.specs.Following.{Follows, HasBoxes};
+ghost use Rattle.bw_store.specs.Showing.{IsAllCut, Settles, SettleRefuses};
 
-use crate::fault::StoreFault;
 use crate::store::Store;
+use bw_core::StoreFault;
 use bw_ring::Feed;
 use std::sync::Wait;
 
 impl Store {
-    ghost use Rattle.bw_store.specs.Views.{away_in, kept_by, noted_of, IsSound};
+    ghost use Rattle.bw_store.specs.Views.{away_in, kept_by, lanes_of, noted_of, IsSound};
 
     /// Takes all that the feeds accepted, flushes, and answers the length of the history. The feeds
     /// are those that `open` or `reopen` gave, all of them, in order.
@@ -64,7 +62,7 @@ impl Store {
         ensures ends { map ring_of_feed feeds.new.items ≡ map ring_of_feed feeds.old.items }
         ensures accepted { map accepted feeds.new.items ≡ map accepted feeds.old.items }
         ensures refused { IfErr result (λ cause.
-            SettleRefuses (kept_by self.old holding) self.new.intake.lanes.items
+            SettleRefuses (kept_by self.old holding) (lanes_of self.new)
             (away_in self.new) cause (kept_by self.new holding)) }
 
         // What was taken is flushed as `flush` does it, also where nothing waits: a log that failed
@@ -84,64 +82,8 @@ impl Store {
         ensures boxes { HasBoxes (kept_by self.old holding) (kept_by self.new holding) }
         ensures noted { noted_of self.new ≡ noted_of self.old }
     {
-        self.look_beside(feeds);
-        self.take_known()?;
-        self.flush_making(false)?;
+        let entries = self.core.settle(feeds)?;
         self.publish(rt)?;
-        Ok(self.intake.history.len())
-    }
-
-    // A look at both ends of all rings.
-    fn look_beside(&mut self, feeds: &mut Vec<Feed>)
-        requires { map ring_of_feed feeds.old.items ≡ (kept_by self.old holding).rings }
-        ensures same { kept_by self.new holding ≡ kept_by self.old holding }
-        ensures ends { map ring_of_feed feeds.new.items ≡ map ring_of_feed feeds.old.items }
-        ensures accepted { map accepted feeds.new.items ≡ map accepted feeds.old.items }
-        ensures whole { map given self.new.intake.lanes.items ≡ map accepted feeds.old.items }
-        ensures noted { noted_of self.new ≡ noted_of self.old }
-    {
-        self.intake.look_beside(feeds);
-    }
-
-    // Takes all that the lanes know of, lane by lane. No ring is looked at.
-    fn take_known(&mut self) -> Result<(), StoreFault>
-        requires sound { IsSound self.old holding }
-        ensures sound { IsSound self.new holding }
-        ensures taken { OnOk result
-            (map taken self.new.intake.lanes.items ≡ map given self.old.intake.lanes.items) }
-        ensures took { MatchResult result
-            (λ _. TookSome (kept_by self.old holding) (kept_by self.new holding))
-            (λ cause. RefusedAt (kept_by self.old holding) self.new.intake.lanes.items
-            (away_in self.new) cause (kept_by self.new holding)) }
-        ensures noted { noted_of self.new ≡ noted_of self.old }
-    {
-        let lanes = self.intake.lanes.as_slice().len();
-        'lanes: for lane in 0..lanes {
-            self.take_lane(lane)?;
-        }
-        Ok(())
-    }
-
-    // Takes all that a lane knows of.
-    fn take_lane(&mut self, lane: usize) -> Result<(), StoreFault>
-        requires sound { IsSound self.old holding }
-        requires inside { lane < length self.old.intake.lanes.items }
-        ensures sound { IsSound self.new holding }
-        ensures count { length self.new.intake.lanes.items ≡ length self.old.intake.lanes.items }
-        ensures given { OnOk result (map given self.new.intake.lanes.items
-            ≡ map given self.old.intake.lanes.items) }
-        ensures dry { OnOk result (known_at self.new.intake.lanes.items lane ≡ []) }
-        ensures others { OnOk result
-            (StayDry self.old.intake.lanes.items self.new.intake.lanes.items) }
-        ensures took { MatchResult result
-            (λ _. TookSome (kept_by self.old holding) (kept_by self.new holding))
-            (λ cause. RefusedAt (kept_by self.old holding) self.new.intake.lanes.items
-            (away_in self.new) cause (kept_by self.new holding)) }
-        ensures noted { noted_of self.new ≡ noted_of self.old }
-    {
-        'records: while self.intake.waits(lane) {
-            self.take_waiting(lane)?;
-        }
-        Ok(())
+        Ok(entries)
     }
 }

@@ -1,21 +1,14 @@
-//! Turns: rounds over the lanes.
+//! Turns: the core's. Nothing is published.
 
-ghost use Rattle.std.specs.Prelude.{◌≡◌, ◌≤◌, ◌<◌, ◌+◌, ◌*◌, length, IfOk, IfErr, MatchResult};
-ghost use Rattle.bw_store.specs.Following.{Turned, TookInTurn, RefusedAfter, TurnsOn, groups_since};
-ghost use Rattle.bw_store.specs.Lanes.{Dries, AreDry};
+ghost use Rattle.std.specs.Prelude.{◌≡◌, ◌≤◌, ◌<◌, IfOk, IfErr, MatchResult};
+ghost use Rattle.bw_history.specs.Lanes.{AreDry};
+ghost use Rattle.bw_store.specs.Following.{Turned, TookInTurn, RefusedAfter, groups_since};
 
-use crate::fault::TurnFault;
 use crate::store::Store;
-
-/// How many groups were taken, and how many records these have.
-#[derive(Clone, Copy)]
-pub(crate) struct Count {
-    pub(crate) groups: u32,
-    pub(crate) records: u64,
-}
+use bw_core::TurnFault;
 
 impl Store {
-    ghost use Rattle.bw_store.specs.Views.{away_in, kept_by, noted_of, IsSound};
+    ghost use Rattle.bw_store.specs.Views.{away_in, kept_by, lanes_of, noted_of, IsSound};
 
     /// Takes groups in rounds over lanes 0, 1, .., one from each that has one, until `limit` of
     /// them are taken or a round took none; answers how many records these have. A group's blocks
@@ -41,7 +34,7 @@ impl Store {
             groups_since (kept_by self.old holding) (kept_by self.new holding) ≤ limit) }
         ensures dry { IfOk result (λ n.
             groups_since (kept_by self.old holding) (kept_by self.new holding) < limit
-            → AreDry self.new.intake.lanes.items) }
+            → AreDry (lanes_of self.new)) }
 
         // One group after the other, and no frame before one that fits. `Failed` exactly where an
         // append failed before; every other cause with its reason. The refused group is still the
@@ -49,78 +42,12 @@ impl Store {
         ensures took { IfOk result (λ n.
             TookInTurn n (kept_by self.old holding) (kept_by self.new holding)) }
         ensures refused { IfErr result (λ fault. RefusedAfter fault.taken
-            (kept_by self.old holding) self.new.intake.lanes.items (away_in self.new) fault.cause
+            (kept_by self.old holding) (lanes_of self.new) (away_in self.new) fault.cause
             (kept_by self.new holding)) }
         ensures tried { IfErr result (λ fault.
             groups_since (kept_by self.old holding) (kept_by self.new holding) < limit) }
         ensures noted { noted_of self.new ≡ noted_of self.old }
     {
-        let mut taken = Count {
-            groups: 0,
-            records: 0,
-        };
-        'rounds: while taken.groups < limit {
-            let more = self.round_more(taken, limit)?;
-            if more.groups == taken.groups {
-                return Ok(more.records);
-            }
-            taken = more;
-        }
-        Ok(taken.records)
-    }
-
-    // A round behind what was taken: one group from each lane that has one.
-    fn round_more(&mut self, taken: Count, limit: u32) -> Result<Count, TurnFault>
-        requires sound { IsSound self.old holding }
-        requires within { taken.groups ≤ limit }
-        requires few { taken.records ≤ 4 * taken.groups }
-        ensures sound { IsSound self.new holding }
-        ensures turned { TurnsOn limit taken (kept_by self.old holding) result
-            self.new.intake.lanes.items (away_in self.new) (kept_by self.new holding) }
-        ensures within { IfOk result (λ n. (taken.groups ≤ n.groups) × (n.groups ≤ limit)) }
-        ensures few { IfOk result (λ n. n.records ≤ 4 * n.groups) }
-        ensures dry { IfOk result (λ n. n.groups ≡ taken.groups → taken.groups < limit
-            → AreDry self.new.intake.lanes.items) }
-        ensures noted { noted_of self.new ≡ noted_of self.old }
-    {
-        let mut so_far = taken;
-        let lanes = self.intake.lanes.as_slice().len();
-        'lanes: for lane in 0..lanes {
-            if so_far.groups == limit {
-                return Ok(so_far);
-            }
-            so_far = self.take_more(lane, so_far)?;
-        }
-        Ok(so_far)
-    }
-
-    // One group more, if the lane has one.
-    fn take_more(&mut self, lane: usize, taken: Count) -> Result<Count, TurnFault>
-        requires sound { IsSound self.old holding }
-        requires inside { lane < length self.old.intake.lanes.items }
-        requires room { taken.groups < u32.MAX }
-        requires few { taken.records ≤ 4 * taken.groups }
-        ensures sound { IsSound self.new holding }
-        ensures count { length self.new.intake.lanes.items ≡ length self.old.intake.lanes.items }
-        ensures turned { TurnsOn (taken.groups + 1) taken (kept_by self.old holding) result
-            self.new.intake.lanes.items (away_in self.new) (kept_by self.new holding) }
-        ensures within { IfOk result (λ n.
-            (taken.groups ≤ n.groups) × (n.groups ≤ taken.groups + 1)) }
-        ensures few { IfOk result (λ n. n.records ≤ 4 * n.groups) }
-        ensures dry { IfOk result (λ n. n.groups ≡ taken.groups
-            → Dries lane self.old.intake.lanes.items self.new.intake.lanes.items) }
-        ensures noted { noted_of self.new ≡ noted_of self.old }
-    {
-        match self.take_from(lane) {
-            Ok(Some(records)) => Ok(Count {
-                groups: taken.groups + 1,
-                records: taken.records + records,
-            }),
-            Ok(None) => Ok(taken),
-            Err(cause) => Err(TurnFault {
-                taken: taken.records,
-                cause,
-            }),
-        }
+        self.core.turn(limit)
     }
 }

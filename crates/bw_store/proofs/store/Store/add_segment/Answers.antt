@@ -1,18 +1,16 @@
-use Rattle.std.proofs.Common.{◌∙◌, ap, sym}
-use Rattle.bw_store.specs.Faults.{fault_of}
-use Rattle.bw_store.proofs.Logs.{added_counts, log_follows, log_sound, only_bad}
+use Rattle.std.proofs.Common.{refl}
+use Rattle.bw_core.specs.Views as core
+use Rattle.bw_store.specs.Kept.{with_versions}
+use Rattle.bw_store.specs.Views.{kept_beside}
+use Rattle.bw_store.proofs.Later.{beside_sound}
+use Rattle.bw_store.proofs.Showing.{beside_follows}
 use Rattle.bw_store.proofs.store.Store.add_segment.Goals as goal
 
-pub returns-in-Ok-clause-sound : goal.returns-in-Ok-clause-sound
-returns-in-Ok-clause-sound g c =
-    log_sound _ _ c.requires (added_counts _ _ _ c.in-Ok.ensures.sound c.in-Ok.ensures.added)
+pub returns-clause-sound : goal.returns-clause-sound
+returns-clause-sound g c =
+    beside_sound (kept_beside c.args.self.now (λ b. (goal.Segment-dyn g (b.vtable, b.value)).holding b.value))
+    (with_versions (core.kept_beside c.add_segment.new.self (λ b. (goal.Segment-dyn g (b.vtable, b.value)).holding b.value)) c.args.self.now.versions)
+    c.requires c.add_segment.ensures.sound c.add_segment.ensures.follows.continues refl
 
-pub returns-in-Ok-clause-follows : goal.returns-in-Ok-clause-follows
-returns-in-Ok-clause-follows g c = log_follows _ _
-
-pub returns-in-Err-clause-follows : goal.returns-in-Err-clause-follows
-returns-in-Err-clause-follows g c = log_follows _ _
-
-pub returns-in-Err-clause-bad_config : goal.returns-in-Err-clause-bad_config
-returns-in-Err-clause-bad_config g c =
-    (λ e. c.in-Err.ensures.bad_config.0 (only_bad _ (sym c.from.ensures ∙ e)), λ none. c.from.ensures ∙ ap fault_of (c.in-Err.ensures.bad_config.1 none))
+pub returns-clause-follows : goal.returns-clause-follows
+returns-clause-follows g c = beside_follows _ _ c.add_segment.ensures.follows refl

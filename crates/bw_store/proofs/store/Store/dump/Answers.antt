@@ -1,14 +1,22 @@
+use Rattle.std.proofs.Common.{refl}
+use Rattle.bw_core.specs.Views as core
+use Rattle.bw_store.specs.Kept.{with_versions}
 use Rattle.bw_store.specs.Views.{kept_by}
-use Rattle.bw_store.proofs.Logs.{log_follows, log_sound, read_counts}
+use Rattle.bw_store.proofs.Later.{beside_sound}
+use Rattle.bw_store.proofs.Showing.{beside_follows}
 use Rattle.bw_store.proofs.store.Store.dump.Goals as goal
 
-pub returns-in-Ok-clause-follows : goal.returns-in-Ok-clause-follows
-returns-in-Ok-clause-follows g c = log_follows _ _
+pub returns-clause-sound : goal.returns-clause-sound
+returns-clause-sound g c =
+    beside_sound (kept_by c.args.self.now (λ z. (goal.Segment-dyn g z).holding z.1))
+    (with_versions (core.kept_by c.dump.new.self (λ z. (goal.Segment-dyn g z).holding z.1)) c.args.self.now.versions)
+    c.requires c.dump.ensures.sound c.dump.ensures.follows.continues refl
 
-pub returns-in-Err-clause-follows : goal.returns-in-Err-clause-follows
-returns-in-Err-clause-follows g c = log_follows _ _
+pub returns-clause-read : goal.returns-clause-read
+returns-clause-read g c = record { base = c.dump.ensures.read; quiet = refl }
 
-pub returns-in-Err-clause-sound : goal.returns-in-Err-clause-sound
-returns-in-Err-clause-sound g c =
-    let s = kept_by c.args.self.now (λ z. (goal.Segment-dyn g z).holding z.1) in
-    log_sound s _ c.requires (read_counts s.log _ c.in-Err.ensures.sound c.in-Err.ensures.kept)
+pub returns-clause-leaves : goal.returns-clause-leaves
+returns-clause-leaves g c = record { base = c.dump.ensures.leaves; quiet = refl }
+
+pub returns-clause-follows : goal.returns-clause-follows
+returns-clause-follows g c = beside_follows _ _ c.dump.ensures.follows refl

@@ -1,12 +1,32 @@
-use Rattle.std.proofs.Common.{false, ◌∙◌}
+use Rattle.std.proofs.Common.{inl, refl}
 use Rattle.std.proofs.lemmas.Result.{err_from_is_err_and}
-use Rattle.bw_store.proofs.FollowMore.{follows_left}
-use Rattle.bw_store.proofs.SettledMore.{settled_by}
-use Rattle.bw_store.proofs.Showing.{flush_hides, flush_shows, hides_follows, hides_roster, may_want, shows_follows, shows_roster, shows_settled}
+use Rattle.bw_core.specs.Views as core
+use Rattle.bw_store.specs.Kept.{with_versions}
+use Rattle.bw_store.specs.Views.{kept_by}
+use Rattle.bw_store.proofs.Later.{beside_sound}
+use Rattle.bw_store.proofs.Showing.{beside_follows, flush_hides, flush_shows, hides_follows, may_want, shows_follows}
 use Rattle.bw_store.proofs.store.Store.flush.Goals as goal
 
+pub publish-requires : goal.publish-requires
+publish-requires g c = record {
+  sound = beside_sound (kept_by c.args.self.now (λ z. (goal.Segment-dyn g z).holding z.1))
+      (with_versions (core.kept_by c.flush.new.self (λ z. (goal.Segment-dyn g z).holding z.1)) c.args.self.now.versions)
+      c.requires.sound c.flush.ensures.sound c.flush.ensures.follows.continues refl;
+}
+
+pub returns-in_err-number-clause-sound : goal.returns-in_err-number-clause-sound
+returns-in_err-number-clause-sound g c =
+    beside_sound (kept_by c.args.self.now (λ z. (goal.Segment-dyn g z).holding z.1))
+    (with_versions (core.kept_by c.flush.new.self (λ z. (goal.Segment-dyn g z).holding z.1)) c.args.self.now.versions)
+    c.requires.sound c.flush.ensures.sound c.flush.ensures.follows.continues refl
+
+pub returns-in_err-number-clause-leaves : goal.returns-in_err-number-clause-leaves
+returns-in_err-number-clause-leaves g c =
+    let p = err_from_is_err_and c.from_residual.result c.from_residual.ensures.1 in
+    rw (p.1, p.2) (inl (record { base = c.in_err-number.ensures.leaves; quiet = refl }))
+
 pub returns-in_err-number-clause-follows : goal.returns-in_err-number-clause-follows
-returns-in_err-number-clause-follows g c = (follows_left _ _ _ c.flush_making.ensures.leaves).follows
+returns-in_err-number-clause-follows g c = beside_follows _ _ c.flush.ensures.follows refl
 
 pub returns-in_err-publish-clause-answers : goal.returns-in_err-publish-clause-answers
 returns-in_err-publish-clause-answers g c =
@@ -16,26 +36,13 @@ returns-in_err-publish-clause-answers g c =
 pub returns-in_err-publish-clause-leaves : goal.returns-in_err-publish-clause-leaves
 returns-in_err-publish-clause-leaves g c =
     let p = err_from_is_err_and c.from_residual-in_err-publish.result c.from_residual-in_err-publish.ensures.1 in
-    rw (p.1, p.2) (flush_hides _ _ _ _ c.in_ok-number.ensures.answers c.in_ok-number.ensures.leaves c.in_err-publish.ensures.leaves)
+    rw (p.1, p.2) (flush_hides _ _ _ _ c.in_ok-number.ensures.answers (record { base = c.in_ok-number.ensures.leaves; quiet = refl }) c.in_err-publish.ensures.leaves)
 
 pub returns-in_err-publish-clause-follows : goal.returns-in_err-publish-clause-follows
-returns-in_err-publish-clause-follows g c = hides_follows _ _ _ (follows_left _ _ _ c.flush_making.ensures.leaves).follows c.in_err-publish.ensures.leaves
-
-pub returns-in_err-publish-clause-boxes : goal.returns-in_err-publish-clause-boxes
-returns-in_err-publish-clause-boxes g c =
-    record { same = hides_roster _ _ c.in_err-publish.ensures.leaves ∙ (follows_left _ _ _ c.flush_making.ensures.leaves).boxes.same }
+returns-in_err-publish-clause-follows g c = hides_follows _ _ _ (beside_follows _ _ c.flush.ensures.follows refl) c.in_err-publish.ensures.leaves
 
 pub returns-clause-leaves : goal.returns-clause-leaves
-returns-clause-leaves g c = flush_shows _ _ _ _ c.in_ok-number.ensures.leaves c.in_ok-publish.ensures.leaves
-
-pub returns-clause-settled : goal.returns-clause-settled
-returns-clause-settled g c =
-    shows_settled _ _ (settled_by false _ _ _ c.in_ok-number.ensures.sound c.in_ok-number.ensures.answers c.in_ok-number.ensures.leaves)
-    c.in_ok-publish.ensures.leaves
+returns-clause-leaves g c = flush_shows _ _ _ _ (record { base = c.in_ok-number.ensures.leaves; quiet = refl }) c.in_ok-publish.ensures.leaves
 
 pub returns-clause-follows : goal.returns-clause-follows
-returns-clause-follows g c = shows_follows _ _ _ (follows_left _ _ _ c.flush_making.ensures.leaves).follows c.in_ok-publish.ensures.leaves
-
-pub returns-clause-boxes : goal.returns-clause-boxes
-returns-clause-boxes g c =
-    record { same = shows_roster _ _ c.in_ok-publish.ensures.leaves ∙ (follows_left _ _ _ c.flush_making.ensures.leaves).boxes.same }
+returns-clause-follows g c = shows_follows _ _ _ (beside_follows _ _ c.flush.ensures.follows refl) c.in_ok-publish.ensures.leaves

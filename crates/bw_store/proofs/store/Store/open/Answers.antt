@@ -1,19 +1,13 @@
-use Rattle.std.proofs.Common.{refl}
-use Rattle.bw_store.proofs.Fresh.{started_sound, taken_at}
+use Rattle.std.proofs.Common.{[], sym, ap, ◌∙◌}
+use Rattle.bw_page.specs.Shown.{Shown}
+use Rattle.bw_core.specs.Kept as kept
+use Rattle.bw_core.specs.Opened.{one_empty}
+use Rattle.bw_core.specs.declared.config.Config.{Config}
+use Rattle.bw_store.proofs.Forwards.{begun_sound}
 use Rattle.bw_store.proofs.store.Store.open.Goals as goal
 
-pub returns-in-Ok-new-clause-sound : goal.returns-in-Ok-new-clause-sound
-returns-in-Ok-new-clause-sound g c = started_sound _ _ _ _ _ _ _ _ _ _ c.begun.ensures.store c.in-Ok.ensures.history c.in-Ok.ensures.leaves
-    c.in-Ok.ensures.newest
-    c.in-Ok.ensures.making c.in-Ok-new.ensures.made c.in-Ok-new.ensures.sound c.in-Ok-unseen.ensures
-
-pub returns-in_default-clause-back : goal.returns-in_default-clause-back
-returns-in_default-clause-back g c = refl
-
-pub returns-in-Ok-new-clause-bad_config : goal.returns-in-Ok-new-clause-bad_config
-returns-in-Ok-new-clause-bad_config g c = taken_at c.args.config.now _ _ _ (c.are_taken.ensures.0 c.if-not-are_taken.false) c.deref.ensures.value
-
-pub returns-in-Err-new-clause-bad_config : goal.returns-in-Err-new-clause-bad_config
-returns-in-Err-new-clause-bad_config g c =
-    let taken = taken_at c.args.config.now _ _ _ (c.are_taken.ensures.0 c.if-not-are_taken.false) c.deref.ensures.value in
-    absurd (c.in-Err-new.ensures.bad_config.1 taken.1)
+pub returns-in-Ok-open-clause-sound : goal.returns-in-Ok-open-clause-sound
+returns-in-Ok-open-clause-sound g c =
+    begun_sound _ _ _ _ c.in-Ok-open.ensures.sound c.in-Ok.ensures
+    (ap (λ (x : Config). one_empty x.m) (sym c.without_readers-limits.ensures)
+    ∙ sym (ap (λ (k : kept.Kept). let l : Shown = record { m = k.filed.m; leaves = k.start; evicted = [] } in l) c.in-Ok-open.ensures.made))

@@ -1,40 +1,22 @@
-use Rattle.std.proofs.Common.{refl, sym, ap, arith}
-use Rattle.std.specs.Option.{option_copied}
+use Rattle.std.proofs.Common.{refl}
+use Rattle.bw_core.specs.Views as core
+use Rattle.bw_store.specs.Kept.{with_versions}
 use Rattle.bw_store.specs.Views.{kept_by}
-use Rattle.bw_store.proofs.FollowMore.{follows_as, follows_read}
-use Rattle.bw_store.proofs.EvictedPages.{none_evicted, never_none, read_no_page, was_evicted}
+use Rattle.bw_store.proofs.Later.{beside_sound}
+use Rattle.bw_store.proofs.Showing.{beside_follows}
 use Rattle.bw_store.proofs.store.Store.page.Goals as goal
 
-pub returns-then-page-eq0-clause-follows : goal.returns-then-page-eq0-clause-follows
-returns-then-page-eq0-clause-follows g c = (follows_as _ _ refl).follows
+pub returns-clause-sound : goal.returns-clause-sound
+returns-clause-sound g c =
+    beside_sound (kept_by c.args.self.now (λ z. (goal.Segment-dyn g z).holding z.1))
+    (with_versions (core.kept_by c.page.new.self (λ z. (goal.Segment-dyn g z).holding z.1)) c.args.self.now.versions)
+    c.requires c.page.ensures.sound c.page.ensures.follows.continues refl
 
-pub returns-in_err-copy-clause-follows : goal.returns-in_err-copy-clause-follows
-returns-in_err-copy-clause-follows g c = (follows_as _ _ refl).follows
+pub returns-clause-read : goal.returns-clause-read
+returns-clause-read g c = record { base = c.page.ensures.read; quiet = refl }
 
-pub returns-in-Some-clause-follows : goal.returns-in-Some-clause-follows
-returns-in-Some-clause-follows g c = (follows_as _ _ refl).follows
-
-pub read_evicted-requires-clause-evicted : goal.read_evicted-requires-clause-evicted
-read_evicted-requires-clause-evicted g c =
-    let low = c.if-page-eq0.false in
-    let high = c.if-page-count.false in
-    let count = c.count.ensures.value in
-    none_evicted c.args.self.now.leaves c.args.page _ (sym c.page.ensures) (ap option_copied c.in_default.is) (omega arith) (omega arith)
-
-pub returns-clause-no_page : goal.returns-clause-no_page
-returns-clause-no_page g c =
-    let low = c.if-page-eq0.false in
-    let high = c.if-page-count.false in
-    let count = c.count.ensures.value in
-    let s = kept_by c.args.self.now (λ z. (goal.Segment-dyn g z).holding z.1) in
-    (λ e. absurd (read_no_page _ _ _ _ c.read_evicted.ensures.leaves e), λ none. absurd (never_none s c.requires c.args.page (omega arith) (omega arith) none))
-
-pub returns-clause-memory : goal.returns-clause-memory
-returns-clause-memory g c = λ here. (
-    let low = c.if-page-eq0.false in
-    let high = c.if-page-count.false in
-    let count = c.count.ensures.value in
-    was_evicted _ (none_evicted c.args.self.now.leaves c.args.page _ (sym c.page.ensures) (ap option_copied c.in_default.is) (omega arith) (omega arith)) here)
+pub returns-clause-leaves : goal.returns-clause-leaves
+returns-clause-leaves g c = record { base = c.page.ensures.leaves; quiet = refl }
 
 pub returns-clause-follows : goal.returns-clause-follows
-returns-clause-follows g c = (follows_read _ _ c.read_evicted.ensures.read).follows
+returns-clause-follows g c = beside_follows _ _ c.page.ensures.follows refl

@@ -9,4 +9,4 @@ returns-clause-sound g c =
 
 pub returns-clause-follows : goal.returns-clause-follows
 returns-clause-follows g c =
-    reader_follows (kept_by c.args.self.now (λ z. (goal.Segment-dyn g z).holding z.1)) c.reader.new.self c.requires.sound c.reader.ensures.same
+    reader_follows (kept_by c.args.self.now (λ z. (goal.Segment-dyn g z).holding z.1)) c.reader.new.self c.reader.ensures.same

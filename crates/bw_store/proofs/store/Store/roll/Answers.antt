@@ -1,8 +1,16 @@
-use Rattle.bw_store.proofs.Logs.{log_sound, log_follows, rolled_counts}
+use Rattle.std.proofs.Common.{refl}
+use Rattle.bw_core.specs.Views as core
+use Rattle.bw_store.specs.Kept.{with_versions}
+use Rattle.bw_store.specs.Views.{kept_by}
+use Rattle.bw_store.proofs.Later.{beside_sound}
+use Rattle.bw_store.proofs.Showing.{beside_follows}
 use Rattle.bw_store.proofs.store.Store.roll.Goals as goal
 
 pub returns-clause-sound : goal.returns-clause-sound
-returns-clause-sound g c = log_sound _ _ c.requires (rolled_counts _ _ c.roll.ensures.sound c.roll.ensures.closed)
+returns-clause-sound g c =
+    beside_sound (kept_by c.args.self.now (λ z. (goal.Segment-dyn g z).holding z.1))
+    (with_versions (core.kept_by c.roll.new.self (λ z. (goal.Segment-dyn g z).holding z.1)) c.args.self.now.versions)
+    c.requires c.roll.ensures.sound c.roll.ensures.follows.continues refl
 
 pub returns-clause-follows : goal.returns-clause-follows
-returns-clause-follows g c = log_follows _ _
+returns-clause-follows g c = beside_follows _ _ c.roll.ensures.follows refl

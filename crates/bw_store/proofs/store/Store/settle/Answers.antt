@@ -1,111 +1,52 @@
-use Rattle.std.proofs.Common.{false, Err, ap, sym, inl, inr, ◌∙◌, map}
+use Rattle.std.proofs.Common.{refl}
 use Rattle.std.proofs.lemmas.Result.{err_from_is_err_and}
-use Rattle.bw_ring.specs.Ends.{taken, ring_of_lane}
-use Rattle.bw_store.specs.Kept.{Kept}
-use Rattle.bw_store.proofs.FollowMore.{failed_at, failed_flushes, failed_never, refused_follows, flushed_follows}
-use Rattle.bw_store.proofs.Laned.{exact, writers_of}
-use Rattle.bw_store.proofs.SettledMore.{settled_by}
-use Rattle.bw_store.proofs.Showing.{flushed_hides, flushed_shows, settle_done, settle_hides, settle_shows, shows_all}
+use Rattle.bw_core.specs.Views as core
+use Rattle.bw_store.specs.Kept.{with_versions}
+use Rattle.bw_store.specs.Views.{kept_by}
+use Rattle.bw_store.proofs.Forwards.{settle_hides, settle_refuses, settle_shows}
+use Rattle.bw_store.proofs.Later.{beside_sound}
+use Rattle.bw_store.proofs.Showing.{beside_follows, hides_follows, shows_all, shows_follows}
 use Rattle.bw_store.proofs.store.Store.settle.Goals as goal
 
-pub returns-in_err-take_known-clause-refused : goal.returns-in_err-take_known-clause-refused
-returns-in_err-take_known-clause-refused g c =
+pub publish-requires : goal.publish-requires
+publish-requires g c = record {
+  sound = beside_sound (kept_by c.args.self.now (λ z. (goal.Segment-dyn g z).holding z.1))
+      (with_versions (core.kept_by c.settle.new.self (λ z. (goal.Segment-dyn g z).holding z.1)) c.args.self.now.versions)
+      c.requires.sound c.settle.ensures.sound c.settle.ensures.follows.continues refl;
+}
+
+pub returns-in_err-entries-clause-sound : goal.returns-in_err-entries-clause-sound
+returns-in_err-entries-clause-sound g c =
+    beside_sound (kept_by c.args.self.now (λ z. (goal.Segment-dyn g z).holding z.1))
+    (with_versions (core.kept_by c.settle.new.self (λ z. (goal.Segment-dyn g z).holding z.1)) c.args.self.now.versions)
+    c.requires.sound c.settle.ensures.sound c.settle.ensures.follows.continues refl
+
+pub returns-in_err-entries-clause-refused : goal.returns-in_err-entries-clause-refused
+returns-in_err-entries-clause-refused g c =
     let p = err_from_is_err_and c.from_residual.result c.from_residual.ensures.1 in
-    rw (p.1, p.2, sym c.look_beside.ensures.same) (inl c.in_err-take_known.ensures.took)
+    rw (p.1, p.2) (settle_refuses (kept_by c.args.self.now (λ z. (goal.Segment-dyn g z).holding z.1))
+    (core.kept_by c.settle.new.self (λ z. (goal.Segment-dyn g z).holding z.1)) _ _ _ c.in_err-entries.ensures.refused)
 
-pub returns-in_err-take_known-clause-follows : goal.returns-in_err-take_known-clause-follows
-returns-in_err-take_known-clause-follows g c =
-    rw (sym c.look_beside.ensures.same) (refused_follows _ _ _ _ _ c.in_err-take_known.ensures.took)
-
-pub returns-in_err-flush_making-clause-refused : goal.returns-in_err-flush_making-clause-refused
-returns-in_err-flush_making-clause-refused g c =
-    let p = err_from_is_err_and c.from_residual-in_err-flush_making.result c.from_residual-in_err-flush_making.ensures.1 in
-    rw (p.1, p.2, sym c.look_beside.ensures.same)
-    (inr (inl (_, c.in_ok-take_known.ensures.took, c.in_err-flush_making.ensures.answers, c.in_err-flush_making.ensures.leaves)))
-
-pub returns-in_err-flush_making-clause-follows : goal.returns-in_err-flush_making-clause-follows
-returns-in_err-flush_making-clause-follows g c =
-    rw (sym c.look_beside.ensures.same) (flushed_follows _ _ _ _ c.in_ok-take_known.ensures.took c.flush_making.ensures.leaves)
+pub returns-in_err-entries-clause-follows : goal.returns-in_err-entries-clause-follows
+returns-in_err-entries-clause-follows g c = beside_follows _ _ c.settle.ensures.follows refl
 
 pub returns-in_err-publish-clause-refused : goal.returns-in_err-publish-clause-refused
 returns-in_err-publish-clause-refused g c =
     let p = err_from_is_err_and c.from_residual-in_err-publish.result c.from_residual-in_err-publish.ensures.1 in
-    rw (p.1, p.2, sym c.look_beside.ensures.same)
-    (settle_hides _ _ _ _ _ c.in_ok-take_known.ensures.took c.in_ok-flush_making.ensures.answers c.in_ok-flush_making.ensures.leaves
-    c.in_err-publish.ensures.leaves _ _)
+    rw (p.1, p.2) (settle_hides (kept_by c.args.self.now (λ z. (goal.Segment-dyn g z).holding z.1))
+    (core.kept_by c.settle.new.self (λ z. (goal.Segment-dyn g z).holding z.1)) _ _ _ c.in_ok-entries.ensures.settles c.in_err-publish.ensures.leaves)
 
 pub returns-in_err-publish-clause-follows : goal.returns-in_err-publish-clause-follows
-returns-in_err-publish-clause-follows g c =
-    rw (sym c.look_beside.ensures.same) (flushed_hides _ _ _ _ _ c.in_ok-take_known.ensures.took c.flush_making.ensures.leaves
-    c.in_err-publish.ensures.leaves).0
-
-pub returns-in_err-publish-clause-boxes : goal.returns-in_err-publish-clause-boxes
-returns-in_err-publish-clause-boxes g c =
-    rw (sym c.look_beside.ensures.same) (flushed_hides _ _ _ _ _ c.in_ok-take_known.ensures.took c.flush_making.ensures.leaves
-    c.in_err-publish.ensures.leaves).1
+returns-in_err-publish-clause-follows g c = hides_follows _ _ _ (beside_follows _ _ c.settle.ensures.follows refl) c.in_err-publish.ensures.leaves
 
 pub returns-clause-follows : goal.returns-clause-follows
-returns-clause-follows g c =
-    rw (sym c.look_beside.ensures.same) (flushed_shows _ _ _ _ _ c.in_ok-take_known.ensures.took c.flush_making.ensures.leaves c.in_ok-publish.ensures.leaves).0
-
-pub returns-clause-boxes : goal.returns-clause-boxes
-returns-clause-boxes g c =
-    rw (sym c.look_beside.ensures.same) (flushed_shows _ _ _ _ _ c.in_ok-take_known.ensures.took c.flush_making.ensures.leaves c.in_ok-publish.ensures.leaves).1
-
-pub returns-clause-exactly : goal.returns-clause-exactly
-returns-clause-exactly g c =
-    exact c.publish.new.self.intake.lanes.items _ _ c.publish.new.self.intake.takes
-    (ap (λ i. map taken i.lanes.items) (c.publish.ensures.intake ∙ c.flush_making.ensures.intake) ∙ c.in_ok-take_known.ensures.taken
-    ∙ c.look_beside.ensures.whole ∙ sym c.look_beside.ensures.accepted)
-
-pub returns-clause-writers : goal.returns-clause-writers
-returns-clause-writers g c =
-    writers_of c.publish.new.self.intake.lanes.items _ _
-    (c.look_beside.ensures.ends ∙ c.requires.feeds
-    ∙ sym (ap (λ i. map ring_of_lane i.lanes.items) (c.publish.ensures.intake ∙ c.flush_making.ensures.intake)
-    ∙ c.in_ok-take_known.ensures.took.1.turned.follows.continues.rings
-    ∙ ap (λ (s : Kept). s.rings) c.look_beside.ensures.same)) c.publish.ensures.sound.writers
-
-pub returns-clause-last_cut : goal.returns-clause-last_cut
-returns-clause-last_cut g c =
-    (settle_done _ _ _ _ c.in_ok-flush_making.ensures.sound c.in_ok-flush_making.ensures.answers c.in_ok-flush_making.ensures.leaves
-    c.in_ok-publish.ensures.leaves).cut
-
-pub returns-clause-pages : goal.returns-clause-pages
-returns-clause-pages g c =
-    (settle_done _ _ _ _ c.in_ok-flush_making.ensures.sound c.in_ok-flush_making.ensures.answers c.in_ok-flush_making.ensures.leaves
-    c.in_ok-publish.ensures.leaves).stands
-
-pub returns-clause-published : goal.returns-clause-published
-returns-clause-published g c =
-    shows_all _ _ (settled_by false _ _ _ c.in_ok-flush_making.ensures.sound c.in_ok-flush_making.ensures.answers c.in_ok-flush_making.ensures.leaves).cut
-    c.in_ok-publish.ensures.leaves
+returns-clause-follows g c = shows_follows _ _ _ (beside_follows _ _ c.settle.ensures.follows refl) c.in_ok-publish.ensures.leaves
 
 pub returns-clause-settles : goal.returns-clause-settles
 returns-clause-settles g c =
-    rw (sym c.look_beside.ensures.same)
-    (settle_shows _ _ _ _ _ c.in_ok-take_known.ensures.took c.in_ok-flush_making.ensures.answers c.in_ok-flush_making.ensures.leaves
-    c.in_ok-publish.ensures.leaves)
+    settle_shows (kept_by c.args.self.now (λ z. (goal.Segment-dyn g z).holding z.1))
+    (core.kept_by c.settle.new.self (λ z. (goal.Segment-dyn g z).holding z.1)) (core.lanes_of c.settle.new.self)
+    (core.away_in c.settle.new.self) _ c.in_ok-entries.ensures.settles c.in_ok-publish.ensures.leaves
 
-pub returns-in_err-take_known-clause-failed : goal.returns-in_err-take_known-clause-failed
-returns-in_err-take_known-clause-failed g c =
-    let p = err_from_is_err_and c.from_residual.result c.from_residual.ensures.1 in
-    let same = ap (λ (s : Kept). s.log.is_failed) c.look_beside.ensures.same in
-    rw (p.1, p.2) (λ failed. ap (λ f. Err f) (failed_at _ _ _ _ _ (same ∙ failed) c.in_err-take_known.ensures.took))
-
-pub returns-in_err-flush_making-clause-failed : goal.returns-in_err-flush_making-clause-failed
-returns-in_err-flush_making-clause-failed g c =
-    let p = err_from_is_err_and c.from_residual-in_err-flush_making.result c.from_residual-in_err-flush_making.ensures.1 in
-    let same = ap (λ (s : Kept). s.log.is_failed) c.look_beside.ensures.same in
-    rw (p.1, p.2)
-    (λ failed. ap (λ f. Err f) (failed_flushes _ _ _ (same ∙ failed) c.in_ok-take_known.ensures.took c.in_err-flush_making.ensures.answers))
-
-pub returns-in_err-publish-clause-failed : goal.returns-in_err-publish-clause-failed
-returns-in_err-publish-clause-failed g c =
-    let same = ap (λ (s : Kept). s.log.is_failed) c.look_beside.ensures.same in
-    λ failed. absurd (failed_never _ _ _ (same ∙ failed) c.in_ok-take_known.ensures.took c.in_ok-flush_making.ensures.answers)
-
-pub returns-clause-failed : goal.returns-clause-failed
-returns-clause-failed g c =
-    let same = ap (λ (s : Kept). s.log.is_failed) c.look_beside.ensures.same in
-    λ failed. absurd (failed_never _ _ _ (same ∙ failed) c.in_ok-take_known.ensures.took c.in_ok-flush_making.ensures.answers)
+pub returns-clause-published : goal.returns-clause-published
+returns-clause-published g c = shows_all _ _ c.in_ok-entries.ensures.last_cut c.in_ok-publish.ensures.leaves

@@ -1,0 +1,15 @@
+-- What a call counts that gives segments up.
+
+use Rattle.std.proofs.Common.{◌≡◌, ℕ, true, Result, inr, Ok, Err}
+use Rattle.std.specs.Prelude.{is_ok}
+use Rattle.bw_core.specs.declared.counters.Tally.{Tally}
+use Rattle.bw_core.specs.declared.fault.StoreFault.{StoreFault}
+use Rattle.bw_core.specs.Counting.{counted_gone, CountsStep}
+use Rattle.bw_core.specs.Emptied.{Emptied}
+use Rattle.bw_core.specs.Kept.{Kept}
+
+module _ {A : Type 0} (gone : Kept → ℕ) (leaves : Kept → Result A StoreFault → Kept → Type 0) where
+  pub step_counts : (old middle new : Kept) (r : Result A StoreFault) (t u : Tally) → Emptied true old middle → leaves middle r new
+      → u ≡ counted_gone (gone middle) t middle (is_ok r) new → CountsStep gone leaves old t r new u
+  step_counts old middle new (Ok x) t u empty moved is = (middle, empty, moved, is)
+  step_counts old middle new (Err fault) t u empty moved is = inr (middle, empty, moved, is)

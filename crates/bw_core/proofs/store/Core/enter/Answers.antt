@@ -1,0 +1,116 @@
+use Rattle.std.proofs.Common.{◌≡◌, [], ◌∷◌, ◌∙◌, ◌+◌, ◌++◌, ℕ, Err, refl, List, true, length, map, ap, subst, sym, arith}
+use Rattle.std.specs.Prelude.{nat_lt}
+use Rattle.bw_codec.specs.declared.block.Block.{Block}
+use Rattle.bw_codec.specs.declared.leaf.Leaf.{Leaf}
+use Rattle.bw_buffer.specs.Filling.{Filling, frame_of}
+use Rattle.bw_page.specs.Leaves.{applied}
+use Rattle.bw_page.specs.Seats.{is_among}
+use Rattle.bw_page.specs.Shown.{Shown}
+use Rattle.bw_buffer.specs.Joining.{added}
+use Rattle.bw_making.specs.Adding.{here_for, blocks_for}
+use Rattle.bw_codec.specs.declared.record.Record.{Record}
+use Rattle.bw_making.specs.Tails.{tail_of, tails_for, tails_after, is_made}
+use Rattle.bw_core.specs.Views.{kept_by}
+use Rattle.bw_core.proofs.EvictedPages.{page_within, tails_entered, evicted_entered}
+use Rattle.bw_making.proofs.TailLists.{as_many}
+use Rattle.bw_page.specs.Shown.{IsSpent}
+use Rattle.bw_core.specs.Kept.{filed_of}
+use Rattle.bw_core.specs.Kept as kept
+use Rattle.bw_history.specs.declared.entry.Entry.{Entry}
+use Rattle.bw_ring.specs.Marks.{marked}
+use Rattle.bw_history.specs.History.{entered as entries_of}
+use Rattle.bw_history.proofs.Grouped.{whole_entered}
+use Rattle.std.proofs.lemmas.Result.{err_from_is_err_and}
+use Rattle.bw_page.specs.declared.fault.ApplyError.{ApplyError}
+use Rattle.bw_core.specs.Taken.{alone}
+use Rattle.bw_core.proofs.Planned.{one_wanting_of}
+use Rattle.bw_core.proofs.MayEnter.{enters_at, file_one, file_page, file_lawful, entered, entered_sound, lane_inside}
+use Rattle.bw_ring.specs.Ends.{ring_of_lane}
+use Rattle.bw_core.proofs.store.Core.enter.Goals as goal
+
+pub apply_entry-requires-clause-here : goal.apply_entry-requires-clause-here
+apply_entry-requires-clause-here g c = c.requires.here
+
+pub apply_entry-requires-clause-page : goal.apply_entry-requires-clause-page
+apply_entry-requires-clause-page g c = c.requires.page
+
+pub reserve_for-requires : goal.reserve_for-requires
+reserve_for-requires g c =
+    let range = page_within (kept_by c.args.self.now (λ z. (goal.Segment-dyn g z).holding z.1)) c.requires.sound c.args.item c.args.page c.requires.page in
+    let many = as_many _ _ c.args.self.now.making.blocks c.args.self.now.tailed in
+    (omega arith, omega arith)
+
+pub note-requires-clause-inside : goal.note-requires-clause-inside
+note-requires-clause-inside g c =
+    let range = page_within (kept_by c.args.self.now (λ z. (goal.Segment-dyn g z).holding z.1)) c.requires.sound c.args.item c.args.page c.requires.page in
+    let many = as_many _ _ c.args.self.now.making.blocks (c.reserve_for.ensures.same ∙ c.args.self.now.tailed) in
+    (omega arith, omega arith)
+
+pub invariant_of-self-2 : goal.invariant_of-self-2
+invariant_of-self-2 g c =
+    let was = c.args.self.now in
+    let f = was.leaves in
+    let here = here_for (frame_of was.making) c.args.page in
+    let range = page_within (kept_by was (λ z. (goal.Segment-dyn g z).holding z.1)) c.requires.sound c.args.item c.args.page c.requires.page in
+    let limit = c.count.ensures.limit in
+    let at = c.requires.page in
+    let made : c.file.new.making.blocks ≡ added was.making.blocks (blocks_for f.m f.leaves c.args.back here c.args.item) =
+    ap (λ (b : Filling). b.blocks) c.file.ensures.making ∙ ap (added was.making.blocks) c.requires.blocks in
+    let leaves = ap (λ (x : Shown). x.leaves) c.in_ok-apply_entry.ensures.ok in
+    record {
+      whole = whole_entered was.cuts.items was.intake.history.items c.enter_alone.new.self.history.items c.args.lane (c.args.item ∷ [])
+          c.requires.sound.ordered was.whole
+          (c.enter_alone.ensures.grows ∙ ap (λ (es : List Entry). es ++ entries_of c.args.lane (marked (c.args.item ∷ []))) c.reserve.ensures.history);
+      tailed = c.note.ensures.value
+          ∙ ap (λ (r : Record). tails_after c.args.page r (nat_lt 1 (length c.args.blocks.now)) (map tail_of c.reserve_for.new.tails.items))
+          c.in_ok-share.ensures
+          ∙ ap (tails_after c.args.page c.args.item (nat_lt 1 (length c.args.blocks.now))) (c.reserve_for.ensures.same ∙ was.tailed)
+          ∙ ap (λ (p : ℕ). tails_after p c.args.item (nat_lt 1 (length c.args.blocks.now)) (tails_for (length f.leaves) was.making.blocks)) at
+          ∙ sym (tails_entered f.m f.leaves c.args.back here c.args.item was.making.blocks (omega arith) c.count.ensures.lawful c.key.ensures.lawful
+          (omega arith) (omega arith) (nat_lt 1 (length c.args.blocks.now)) (ap (λ (bs : List Block). nat_lt 1 (length bs)) c.requires.blocks))
+          ∙ ap (tails_for (length (applied f.m f.leaves c.args.item))) (sym made)
+          ∙ ap (λ (ls : List Leaf). tails_for (length ls) c.file.new.making.blocks) (sym leaves);
+      logged = λ q evicted.
+          ap (is_made q) made
+          ∙ evicted_entered f.m f.leaves c.args.back here c.args.item was.making.blocks f.evicted q
+          (subst (λ (ps : List ℕ). is_among q ps ≡ true) c.apply_entry.ensures.evicted evicted) c.requires.here
+          (c.count.ensures.beyond (length f.leaves + 1) (omega arith))
+          (was.logged q (subst (λ (ps : List ℕ). is_among q ps ≡ true) c.apply_entry.ensures.evicted evicted));
+      began = was.began;
+      forgotten = (let entered = c.enter_alone.ensures.gone in let reserved = c.reserve.ensures.gone in let known = was.forgotten in omega arith);
+    }
+
+pub file-requires-clause-lawful : goal.file-requires-clause-lawful
+file-requires-clause-lawful g c =
+    file_lawful (enters_at c.args.page c.requires.sound c.requires.next c.key.ensures.lawful c.requires.page c.requires.back c.requires.blocks c.requires.fits)
+    (λ p. let x = c.in_ok-apply_entry.ensures.spent p in cc)
+
+pub file-requires-clause-one : goal.file-requires-clause-one
+file-requires-clause-one g c =
+    file_one (enters_at c.args.page c.requires.sound c.requires.next c.key.ensures.lawful c.requires.page c.requires.back c.requires.blocks c.requires.fits)
+    c.args.page c.requires.page
+
+pub file-requires-clause-page : goal.file-requires-clause-page
+file-requires-clause-page g c =
+    rw c.reserve-2.ensures.items
+    (file_page (enters_at c.args.page c.requires.sound c.requires.next c.key.ensures.lawful c.requires.page c.requires.back c.requires.blocks c.requires.fits)
+    c.args.page c.requires.page)
+
+pub returns-clause-sound : goal.returns-clause-sound
+returns-clause-sound g c =
+    let e = enters_at c.args.page c.requires.sound c.requires.next c.key.ensures.lawful c.requires.page c.requires.back c.requires.blocks c.requires.fits in
+    let not : IsSpent c.args.self.now.leaves c.args.item → ⊥ = λ p. let x = c.in_ok-apply_entry.ensures.spent p in cc in
+    subst kept.IsSound
+    (sym (entered (alone c.args.item) e not c.args.lane c.args.page c.enter_alone.new.self.history.items (filed_of c.apply_entry.new.leaves)
+    c.file.new.newest.items c.file.new.making c.requires.page
+    _ c.enter_alone.ensures.grows c.reserve.ensures.history (ap filed_of c.in_ok-apply_entry.ensures.ok)
+    _ c.file.ensures.newest c.reserve-2.ensures.items c.file.ensures.making
+    _ _ c.enter_alone.ensures.rings (ap (λ v. map ring_of_lane v.items) c.reserve.ensures.lanes)))
+    (entered_sound (alone c.args.item) e not c.args.lane (lane_inside _ _ c.requires.inside))
+
+pub returns-in_err-apply_entry-clause-refused : goal.returns-in_err-apply_entry-clause-refused
+returns-in_err-apply_entry-clause-refused g c =
+    let p = err_from_is_err_and c.from_residual-in_err-apply_entry.result c.from_residual-in_err-apply_entry.ensures.1 in
+    rw (p.1, p.2) (one_wanting_of (kept_by c.args.self.now (λ z. (goal.Segment-dyn g z).holding z.1)) c.args.self.now.leaves c.args.item
+    c.in_err-apply_entry.field-0.0 refl refl
+    (λ e. c.in_err-apply_entry.ensures.only_spent (ap (λ (x : ApplyError). Err x) e)))

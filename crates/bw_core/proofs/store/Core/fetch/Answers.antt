@@ -1,0 +1,22 @@
+use Rattle.std.proofs.Common.{List, length, ap, sym, ◌∙◌}
+use Rattle.bw_codec.specs.declared.leaf.Leaf.{Leaf}
+use Rattle.bw_making.specs.Tails.{tails_for}
+use Rattle.bw_core.proofs.EvictedPages.{evicted_less}
+use Rattle.bw_core.proofs.Fetched.{same_here, still_here}
+use Rattle.bw_core.proofs.store.Core.fetch.Goals as goal
+
+pub invariant_of-self : goal.invariant_of-self
+invariant_of-self g c =
+    let read = c.read_evicted.new.self in
+    record {
+      whole = read.whole;
+      tailed = read.tailed ∙ ap (λ (ls : List Leaf). tails_for (length ls) read.making.blocks) (sym c.bring_back.ensures.leaves);
+      logged = evicted_less read.leaves c.bring_back.new.self c.find-page.result read.making.blocks c.bring_back.ensures.evicted read.logged;
+      forgotten = read.forgotten;
+      began = read.began;
+    }
+
+pub returns-clause-others : goal.returns-clause-others
+returns-clause-others g c = λ other here.
+    still_here c.read_evicted.new.self.leaves c.bring_back.new.self c.find-page.result other c.bring_back.ensures.leaves c.bring_back.ensures.evicted
+    (same_here _ _ other c.read_evicted.ensures.pages here)

@@ -1,0 +1,59 @@
+use Rattle.std.proofs.Common.{refl, ◌∙◌, arith}
+use Rattle.std.proofs.lemmas.Result.{err_from_is_err_and}
+use Rattle.bw_core.proofs.FollowMore.{no_groups, refused_turned}
+use Rattle.bw_core.proofs.store.Core.turn.Goals as goal
+
+pub rounds-init : goal.rounds-init
+rounds-init g c = record { sound = c.requires.sound; turned = no_groups _ _ refl; within = omega arith; few = omega arith; noted = refl }
+
+pub rounds-preserved : goal.rounds-preserved
+rounds-preserved g c = record {
+  sound = c.in_ok-more.ensures.sound;
+  turned = c.in_ok-more.ensures.turned _ c.rounds.invariant.turned;
+  within = c.in_ok-more.ensures.within.1;
+  few = c.in_ok-more.ensures.few;
+  noted = c.in_ok-more.ensures.noted ∙ c.rounds.invariant.noted;
+}
+
+pub returns-then-more-taken-clause-turned : goal.returns-then-more-taken-clause-turned
+returns-then-more-taken-clause-turned g c = (c.in_ok-more.ensures.turned _ c.rounds.invariant.turned).0.turned
+
+pub returns-then-more-taken-clause-took : goal.returns-then-more-taken-clause-took
+returns-then-more-taken-clause-took g c = (c.in_ok-more.ensures.turned _ c.rounds.invariant.turned).0
+
+pub returns-then-more-taken-clause-within : goal.returns-then-more-taken-clause-within
+returns-then-more-taken-clause-within g c =
+    (let same = (c.in_ok-more.ensures.turned _ c.rounds.invariant.turned).1 in let le = c.in_ok-more.ensures.within.1 in omega arith)
+
+pub returns-then-more-taken-clause-dry : goal.returns-then-more-taken-clause-dry
+returns-then-more-taken-clause-dry g c = λ below. (
+    let same = (c.in_ok-more.ensures.turned _ c.rounds.invariant.turned).1 in
+    let none = c.if-more-taken.true in
+    c.in_ok-more.ensures.dry none (omega arith))
+
+pub returns-clause-turned : goal.returns-clause-turned
+returns-clause-turned g c = c.rounds.invariant.turned.0.turned
+
+pub returns-clause-took : goal.returns-clause-took
+returns-clause-took g c = c.rounds.invariant.turned.0
+
+pub returns-clause-within : goal.returns-clause-within
+returns-clause-within g c = (let same = c.rounds.invariant.turned.1 in let le = c.rounds.invariant.within in omega arith)
+
+pub returns-clause-dry : goal.returns-clause-dry
+returns-clause-dry g c = λ below. (let same = c.rounds.invariant.turned.1 in let end = c.rounds-test.false in absurd (omega arith))
+
+pub returns-in_err-more-clause-turned : goal.returns-in_err-more-clause-turned
+returns-in_err-more-clause-turned g c =
+    let p = err_from_is_err_and c.from_residual.result c.from_residual.ensures.1 in
+    rw (p.1, p.2) (refused_turned _ _ _ _ _ (c.in_err-more.ensures.turned _ c.rounds.invariant.turned).0)
+
+pub returns-in_err-more-clause-refused : goal.returns-in_err-more-clause-refused
+returns-in_err-more-clause-refused g c =
+    let p = err_from_is_err_and c.from_residual.result c.from_residual.ensures.1 in
+    rw (p.1, p.2) (c.in_err-more.ensures.turned _ c.rounds.invariant.turned).0
+
+pub returns-in_err-more-clause-tried : goal.returns-in_err-more-clause-tried
+returns-in_err-more-clause-tried g c =
+    let p = err_from_is_err_and c.from_residual.result c.from_residual.ensures.1 in
+    rw p.1 (c.in_err-more.ensures.turned _ c.rounds.invariant.turned).1

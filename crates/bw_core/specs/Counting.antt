@@ -1,0 +1,111 @@
+-- What a store counts beside what it keeps.
+
+use Rattle.std.specs.Prelude.{ℕ, zero, suc, ◌+◌, ◌-◌, ◌^◌, ◌≡◌, ◌⊎◌, Bool, true, false, if◌then◌else◌, min, take, Result, Ok, Err, List, [], ◌∷◌, length}
+use Rattle.bw_device.specs.Holding.{Holding}
+use Rattle.bw_care.specs.Upgrading.{old_segments}
+use Rattle.bw_care.specs.declared.cleaner.Cleaned.{Cleaned}
+use Rattle.bw_care.specs.declared.upgrader.Upgraded.{Upgraded}
+use Rattle.bw_core.specs.declared.counters.Counters.{Counters}
+use Rattle.bw_core.specs.declared.counters.Looks.{Looks}
+use Rattle.bw_core.specs.declared.counters.Tally.{Tally}
+use Rattle.bw_core.specs.declared.fault.StoreFault.{StoreFault}
+use Rattle.bw_core.specs.Cleaning.{MoveLeaves}
+use Rattle.bw_core.specs.Emptied.{Emptied, IsUnready}
+use Rattle.bw_core.specs.Kept.{Kept}
+use Rattle.bw_core.specs.Noted.{Noted}
+use Rattle.bw_core.specs.Upgrading.{UpgradeMoves}
+
+-- a count with so many more: it stays where it is at the greatest number
+abbrev pub up : ℕ → ℕ → ℕ
+up n more = min (n + more) (2 ^ 64 - 1)
+
+-- ---- bytes of segments
+
+abbrev pub bytes_of : List Holding → ℕ
+bytes_of [] = 0
+bytes_of (h ∷ hs) = length h.bytes + bytes_of hs
+
+-- those of the one at an index, if there is one
+abbrev pub length_at : List Holding → ℕ → ℕ
+length_at [] i = 0
+length_at (h ∷ hs) zero = length h.bytes
+length_at (h ∷ hs) (suc i) = length_at hs i
+
+-- ---- counts
+
+-- nothing yet, over so many pages and bytes
+abbrev pub counted_from : ℕ → ℕ → Tally
+counted_from pages bytes = record {
+  pages = pages;
+  bytes = bytes;
+  given_up = 0;
+  cleanings = 0;
+  cleaner_frames = 0;
+  cleaner_bytes = 0;
+  evictions = 0;
+}
+
+abbrev pub counted_out : Tally → Tally
+counted_out t = record t { evictions = up t.evictions 1 }
+
+abbrev pub counted_up : Tally → ℕ → ℕ → ℕ → ℕ → Tally
+counted_up t frames bytes given_up cleanings = record t {
+  given_up = up t.given_up given_up;
+  cleanings = up t.cleanings cleanings;
+  cleaner_frames = up t.cleaner_frames frames;
+  cleaner_bytes = up t.cleaner_bytes bytes;
+}
+
+-- a store that begins: nothing is forgotten
+abbrev pub noted_from : ℕ → ℕ → Noted
+noted_from pages bytes = record { gone = 0; tally = counted_from pages bytes }
+
+-- an eviction, by whether the page left
+abbrev pub noted_left : Bool → Noted → Noted
+noted_left left n = if left then record n { tally = counted_out n.tally } else n
+
+-- ---- what a cleaning counts, and an upgrade
+
+-- so many frames, and as many bytes as there are more after it than before; where it is done, the segments that were given up, and
+-- their bytes, which are among these
+abbrev pub counted_by : Tally → Bool → ℕ → ℕ → ℕ → ℕ → ℕ → Tally
+counted_by t done frames before after gone count =
+    if done then counted_up t frames (up after gone - before) gone count else counted_up t frames (up after 0 - before) 0 0
+
+-- the first live segments are given up, so many of them, in a store where nothing waits
+abbrev pub counted_gone : ℕ → Tally → Kept → Bool → Kept → Tally
+counted_gone count t old done new =
+    counted_by t done (new.durable - old.durable) (up 0 (bytes_of old.log.live)) (up 0 (bytes_of new.log.live))
+    (up 0 (bytes_of (take count old.log.live))) count
+
+-- a call that gives segments up: it counts what its step did behind the flush, and nothing else
+abbrev pub CountsStep : {A : Type 0} → (Kept → ℕ) → (Kept → Result A StoreFault → Kept → Type 0)
+    → Kept → Tally → Result A StoreFault → Kept → Tally → Type 0
+CountsStep gone leaves old t (Ok x) new u =
+    (middle : Kept) × Emptied true old middle × leaves middle (Ok x) new × (u ≡ counted_gone (gone middle) t middle true new)
+CountsStep gone leaves old t (Err fault) new u =
+    (((new ≡ old) ⊎ IsUnready old fault new) × (u ≡ t))
+    ⊎ ((middle : Kept) × Emptied true old middle × leaves middle (Err fault) new × (u ≡ counted_gone (gone middle) t middle false new))
+
+-- a cleaning
+abbrev pub CountsClean : Kept → Tally → Result Cleaned StoreFault → Kept → Tally → Type 0
+CountsClean old t result new u = CountsStep (λ _. 1) MoveLeaves old t result new u
+
+-- an upgrade
+abbrev pub CountsUpgraded : Kept → Tally → Result Upgraded StoreFault → Kept → Tally → Type 0
+CountsUpgraded old t result new u = CountsStep (λ s. old_segments s.log) UpgradeMoves old t result new u
+
+-- ---- what is told
+
+abbrev pub counters_of : Kept → Tally → Looks → Counters
+counters_of s t looks = record {
+  records = length s.entries;
+  frames = s.durable;
+  bytes = up t.given_up (bytes_of s.log.live) - t.bytes;
+  cleaner_frames = t.cleaner_frames;
+  cleaner_bytes = t.cleaner_bytes;
+  splits = length s.filed.leaves - length s.start;
+  evictions = t.evictions;
+  reads = looks.reads;
+  cleanings = t.cleanings;
+}

@@ -1,0 +1,90 @@
+-- A store that was just opened.
+
+use Rattle.std.specs.Prelude.{ℕ, ◌≡◌, ◌≤◌, ◌⊎◌, false, List, [], ◌∷◌, map, replicate}
+use Rattle.bw_codec.specs.declared.block.Place.{Place}
+use Rattle.bw_codec.specs.declared.block.Block.TheVariants.{Base}
+use Rattle.bw_codec.specs.declared.block.Frame.{Frame}
+use Rattle.bw_page.specs.Leaves.{empty_leaf}
+use Rattle.bw_page.specs.Shown.{Shown}
+use Rattle.bw_buffer.specs.Filling.{Filling}
+use Rattle.bw_device.specs.Holding.{Holding}
+use Rattle.bw_ring.specs.declared.feed.Feed.{Feed}
+use Rattle.bw_ring.specs.Ends.{Ring, accepted, places_of, ring_of_feed}
+use Rattle.bw_ring.specs.Limits.{IsConfig as IsRings}
+use Rattle.bw_log.specs.Contents.{Contents}
+use Rattle.bw_log.specs.Limits.{fresh, AreLimits, IsFit}
+use Rattle.bw_core.specs.declared.config.Config.{Config}
+use Rattle.bw_core.specs.declared.edge.Edge.{Edge}
+use Rattle.bw_history.specs.declared.entry.Entry.{Entry}
+use Rattle.bw_core.specs.declared.fault.StoreFault.{StoreFault}
+use Rattle.bw_core.specs.declared.fault.StoreFault.TheVariants.{NoMemory, BadConfig}
+use Rattle.bw_core.specs.Kept.{Kept, filed_of}
+
+abbrev pub first_place : Place
+first_place = record { frame = 1; index = 0 }
+
+abbrev pub first_frame : Frame
+first_frame = record { number = 1; blocks = Base empty_leaf ∷ [] }
+
+-- one empty page
+abbrev pub one_empty : ℕ → Shown
+one_empty m = record { m = m; leaves = empty_leaf ∷ []; evicted = [] }
+
+abbrev pub no_edge : Edge
+no_edge = record { segment = 0; length = 0 }
+
+-- a frame 1 in the making that has the first page
+abbrev pub first_making : ℕ → Filling
+first_making f = record { frame = 1; limit = f; blocks = Base empty_leaf ∷ []; is_sealed = false }
+
+-- a store that starts with these, at these pages
+abbrev pub started : List Ring → List Entry → Shown → List Place → Filling → Contents → Kept
+started rings entries filed newest making log = record {
+  rings = rings;
+  start = filed.leaves;
+  before = 0;
+  floor = 0;
+  edge = no_edge;
+  entries = entries;
+  cuts = [];
+  durable = 0;
+  filed = filed_of filed;
+  newest = newest;
+  making = making;
+  log = log;
+}
+
+-- a store of one empty page over spares alone
+abbrev pub opened : List Ring → ℕ → ℕ → List Holding → Kept
+opened rings m f spares = started rings [] (one_empty m) (first_place ∷ []) (first_making f) (fresh m f spares)
+
+-- ---- what a store is opened with
+
+-- so many writers with rings of so many places each, 1 to 64 and 1 to 4,096
+abbrev pub AreEnds : ℕ → ℕ → Type 0
+AreEnds writers places = IsRings writers places
+
+abbrev pub AreWriters : Config → Type 0
+AreWriters c = AreEnds c.writers c.places
+
+abbrev pub IsConfig : Config → Type 0
+IsConfig c = AreWriters c × AreLimits c.m c.f
+
+-- the boxes are spares that a log of these limits takes
+abbrev pub AreTaken : Config → List Holding → Type 0
+AreTaken c boxes = AreWriters c × IsFit c.m c.f boxes
+
+-- an unused feed for each writer
+pub record AreUnused (writers places : ℕ) (feeds : List Feed) : Type 0 where
+  pub nothing : map accepted feeds ≡ replicate writers []
+  pub rooms : map places_of (map ring_of_feed feeds) ≡ replicate writers places
+
+abbrev pub AreFresh : Config → List Feed → Type 0
+AreFresh c feeds = AreUnused c.writers c.places feeds
+
+-- why no store was made of what was handed in, which is looked at before memory is
+abbrev pub IsUnmade : Type 0 → StoreFault → Type 0
+IsUnmade Fits cause = ((cause ≡ BadConfig) × (Fits → ⊥)) ⊎ ((cause ≡ NoMemory) × Fits)
+
+abbrev pub IsOpenFault : Config → List Holding → StoreFault → Type 0
+IsOpenFault c boxes cause = IsUnmade (AreTaken c boxes) cause

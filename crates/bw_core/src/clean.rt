@@ -1,0 +1,123 @@
+//! The oldest segment is given up, and no page changes.
+
+ghost use Rattle.std.specs.Prelude.{◌≡◌, ◌≤◌, ◌<◌, ◌+◌, ◌↔◌, [], true, false, length, vec_len, is_ok, IfErr, IsErrOf, OnOk};
+ghost use Rattle.std.specs.Vec.{vec_capacity};
+ghost use Rattle.bw_core.specs.Cleaning.{MoveLeaves, CleanLeaves, HasBoxesBut, HasFloorBut};
+ghost use Rattle.bw_core.specs.Counting.{counted_gone, CountsClean};
+ghost use Rattle.bw_core.specs.Emptied.{Emptied, IsUnready};
+ghost use Rattle.bw_core.specs.Following.{Continues, Follows, HasBoxes};
+ghost use Rattle.bw_core.specs.Kept.{EachCutStands};
+ghost use Rattle.bw_core.specs.Settled.{IsSettled};
+
+use crate::counters::{bytes_upto, live_bytes};
+use crate::fault::StoreFault;
+use crate::store::Core;
+use bw_care::{Cleaned, clean};
+
+impl Core {
+    ghost use Rattle.bw_core.specs.Moving.{MayMove};
+    ghost use Rattle.bw_core.specs.Views.{forgotten_of, kept_by, noted_of, IsSound};
+
+    /// Gives up the oldest live segment: what waits is flushed, then each page that was last set in
+    /// that segment is written again, and its box is dropped.
+    ///
+    /// Refused `NothingOld`, exactly where fewer than two segments are live, before anything else;
+    /// then as `flush` is, but `NoSegment` only where no spare stands at all; then `NoMemory`; then
+    /// as the cleaner is. A refused step leaves the steps before it done: frames that were appended
+    /// stay and are durable, each with a cut at the end of the history, and no box is dropped.
+    /// After a refusal other than `Failed` and a failed append it may be called again.
+    ///
+    /// It costs what a flush and `bw_care::clean` cost, and a look at each page's line in memory.
+    pub fn clean(&mut self) -> Result<Cleaned, StoreFault>
+        requires sound { IsSound self.old holding }
+        ensures sound { IsSound self.new holding }
+        ensures leaves { CleanLeaves (kept_by self.old holding) result (kept_by self.new holding) }
+
+        ensures nothing_old { IsErrOf result StoreFault.NothingOld
+            ↔ (length (kept_by self.old holding).log.live < 2) }
+
+        // The floor is what is durable once a segment is given up, and stays else.
+        ensures floor { HasFloorBut (kept_by self.old holding) result (kept_by self.new holding) }
+        ensures each_cut { EachCutStands (kept_by self.new holding) }
+
+        // Nothing is forgotten, and what is counted is what the cleaner did.
+        ensures gone { forgotten_of self.new ≡ forgotten_of self.old }
+        ensures counts { CountsClean (kept_by self.old holding) self.old.tally result
+            (kept_by self.new holding) self.new.tally }
+
+        ensures follows { Continues (kept_by self.old holding) (kept_by self.new holding) }
+        ensures boxes { HasBoxesBut 1 (kept_by self.old holding) result (kept_by self.new holding) }
+    {
+        if self.log.live() < 2 {
+            return Err(StoreFault::NothingOld);
+        }
+        self.make_ready()?;
+        self.move_pages()
+    }
+
+    // What waits is flushed, and there is room for a cut for each page: a step that writes pages
+    // again adds no more frames than that.
+    pub(crate) fn make_ready(&mut self) -> Result<(), StoreFault>
+        requires sound { IsSound self.old holding }
+        ensures sound { IsSound self.new holding }
+        ensures emptied { OnOk result
+            (Emptied true (kept_by self.old holding) (kept_by self.new holding)) }
+        ensures settled { OnOk result (IsSettled (kept_by self.new holding)) }
+        ensures empty { OnOk result (self.new.making.blocks ≡ []) }
+        ensures works { OnOk result ((kept_by self.new holding).log.is_failed ≡ false) }
+        ensures room { OnOk result (vec_len self.new.cuts
+            + length (kept_by self.new holding).log.pages ≤ vec_capacity self.new.cuts) }
+        ensures refused { IfErr result (λ fault. IsUnready (kept_by self.old holding) fault
+            (kept_by self.new holding)) }
+        ensures follows { Follows (kept_by self.old holding) (kept_by self.new holding) }
+        ensures boxes { HasBoxes (kept_by self.old holding) (kept_by self.new holding) }
+        ensures noted { noted_of self.new ≡ noted_of self.old }
+    {
+        self.flush_making(true)?;
+        let pages = self.log.pages() as usize;
+        self.reserve_cuts(pages)?;
+        Ok(())
+    }
+
+    // The cleaner, where nothing waits, and what is counted of it.
+    fn move_pages(&mut self) -> Result<Cleaned, StoreFault>
+        requires ready { MayMove self.old holding }
+        requires two { 2 ≤ length (kept_by self.old holding).log.live }
+        ensures sound { IsSound self.new holding }
+        ensures leaves { MoveLeaves (kept_by self.old holding) result (kept_by self.new holding) }
+        ensures counts { self.new.tally ≡ counted_gone 1 self.old.tally (kept_by self.old holding)
+            (is_ok result) (kept_by self.new holding) }
+        ensures gone { forgotten_of self.new ≡ forgotten_of self.old }
+    {
+        let durable = self.durable;
+        let before = live_bytes(&self.log);
+        let oldest = bytes_upto(&self.log, 1);
+        let moved = self.move_all();
+        let after = live_bytes(&self.log);
+        let frames = self.durable.saturating_sub(durable);
+        let tally = self.tally;
+        self.tally = tally.with_moved(moved.is_ok(), frames, before, after, oldest, 1);
+        moved
+    }
+
+    // The cleaner, and what the store notes of its frames.
+    fn move_all(&mut self) -> Result<Cleaned, StoreFault>
+        requires ready { MayMove self.old holding }
+        requires two { 2 ≤ length (kept_by self.old holding).log.live }
+        ensures sound { IsSound self.new holding }
+        ensures leaves { MoveLeaves (kept_by self.old holding) result (kept_by self.new holding) }
+        ensures noted { noted_of self.new ≡ noted_of self.old }
+    {
+        let alloc = *self.cuts.allocator();
+        let first = self.log.next_frame();
+        let result = clean(alloc, &mut self.log);
+        self.note_moved(first);
+        match result {
+            Ok(cleaned) => {
+                self.floor = self.durable;
+                Ok(cleaned)
+            }
+            Err(fault) => Err(StoreFault::from(fault)),
+        }
+    }
+}

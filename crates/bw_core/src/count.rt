@@ -1,0 +1,67 @@
+//! How many pairs there are.
+
+ghost use Rattle.std.specs.Prelude.{ℕ, ◌≡◌, ◌≤◌, ◌-◌, false, length, slice_index_or, IfOk, IfErr};
+ghost use Rattle.std.specs.FinMap as finite;
+ghost use Rattle.bw_log.specs.Reads.{HoldsPage};
+ghost use Rattle.bw_page.specs.Leaves.{empty_leaf, plain};
+ghost use Rattle.bw_history.specs.Entries.{records};
+ghost use Rattle.bw_core.specs.Following.{Follows, HasBoxes};
+ghost use Rattle.bw_core.specs.Reading.{HasRead, ReadLeaves, WalkLeaves};
+
+use crate::fault::StoreFault;
+use crate::store::Core;
+
+impl Core {
+    ghost use Rattle.bw_core.specs.Views.{kept_by, is_evicted, noted_of, IsSound};
+
+    // How many pairs a page has.
+    fn pairs_on(&mut self, page: u32) -> Result<u64, StoreFault>
+        requires sound { IsSound self.old holding }
+        requires inside { (1 ≤ page) × (page ≤ length self.old.leaves.leaves) }
+        ensures value { IfOk result (λ count. count
+            ≡ length (slice_index_or self.old.leaves.leaves (page - 1) empty_leaf).pairs) }
+        ensures sound { IsSound self.new holding }
+        ensures pages { self.new.leaves ≡ self.old.leaves }
+        ensures read { HasRead (kept_by self.old holding) (kept_by self.new holding) }
+        ensures leaves { ReadLeaves (HoldsPage (kept_by self.old holding).log page)
+            (kept_by self.old holding) result (kept_by self.new holding) }
+        ensures memory { is_evicted page self.old ≡ false
+            → IfErr result (λ fault. fault ≡ StoreFault.NoMemory) }
+        ensures noted { noted_of self.new ≡ noted_of self.old }
+    {
+        if let Some(leaf) = self.leaves.page(page) {
+            return Ok(leaf.pairs.as_slice().len() as u64);
+        }
+        let leaf = self.read_evicted(page)?;
+        Ok(leaf.pairs.as_slice().len() as u64)
+    }
+
+    /// How many pairs there are, as all records of the history leave them, flushed or not, in
+    /// memory or evicted. Pages that are evicted are read from the log, and stay evicted.
+    ///
+    /// It costs a look at each page. Refused as `get` is.
+    pub fn count(&mut self) -> Result<u64, StoreFault>
+        requires { IsSound self.old holding }
+        ensures value { IfOk result (λ count. count
+            ≡ finite.len (plain (kept_by self.old holding).start
+            (records (kept_by self.old holding).entries))) }
+        ensures sound { IsSound self.new holding }
+        ensures read { HasRead (kept_by self.old holding) (kept_by self.new holding) }
+        ensures leaves { WalkLeaves (kept_by self.old holding) result
+            (kept_by self.new holding) }
+        ensures memory { ((p : ℕ) → is_evicted p self.old ≡ false)
+            → IfErr result (λ fault. fault ≡ StoreFault.NoMemory) }
+        ensures evicted { (p : ℕ) → is_evicted p self.new ≡ is_evicted p self.old }
+
+        ensures follows { Follows (kept_by self.old holding) (kept_by self.new holding) }
+        ensures boxes { HasBoxes (kept_by self.old holding) (kept_by self.new holding) }
+        ensures noted { noted_of self.new ≡ noted_of self.old }
+    {
+        let pages = self.leaves.count();
+        let mut pairs = 0;
+        'pages: for before in 0..pages {
+            pairs += self.pairs_on(before + 1)?;
+        }
+        Ok(pairs)
+    }
+}

@@ -1,0 +1,137 @@
+//! Records are entered in the history and in the frame in the making.
+
+ghost use Rattle.std.specs.Prelude.{◌≡◌, ◌≤◌, ◌<◌, ◌+◌, ◌-◌, ◌^◌, ◌∷◌, [], Some, false, length, map, vec_len, slice_get, OnOk, OnErr, IfOk, IfErr};
+ghost use Rattle.std.specs.List.{AllByRecursion, fold};
+ghost use Rattle.std.specs.Vec.{vec_capacity};
+ghost use Rattle.bw_codec.specs.Grammar.{IsBlock};
+ghost use Rattle.bw_codec.specs.Record.{key_of};
+ghost use Rattle.bw_page.specs.Leaves.{directed_at};
+ghost use Rattle.bw_page.specs.Shown.{IsSpent, IsHere, after_record};
+ghost use Rattle.bw_ring.specs.Ends.{given};
+ghost use Rattle.bw_buffer.specs.Filling.{frame_of, size_of, with_all};
+ghost use Rattle.bw_making.specs.Adding.{blocks_for, here_for, last_for, noted};
+ghost use Rattle.bw_making.specs.Drafting.{AreIn, count_by, set_row};
+ghost use Rattle.bw_core.specs.Filing.{AreOne};
+ghost use Rattle.bw_history.specs.Lanes.{IsNext, TookKnown};
+ghost use Rattle.bw_core.specs.Taken.{alone, taken};
+ghost use Rattle.bw_core.specs.Taking.{IsWanting};
+
+use crate::fault::StoreFault;
+use crate::store::Core;
+use bw_buffer::Buffer;
+use bw_codec::{Block, Packed, Place, Record};
+use bw_history::PackedEntry;
+use bw_making::{note, reserve_for};
+use bw_page::{Applied, ApplyError, Leaves};
+use std::alloc::AllocError;
+
+impl Core {
+    ghost use Rattle.bw_core.specs.Views.{kept_by, noted_of, IsSound};
+
+    // Enters a record whose blocks fit the frame in the making.
+    pub(crate) fn enter(
+        &mut self,
+        lane: usize,
+        item: Record,
+        page: u32,
+        back: Place,
+        blocks: &[Block],
+    ) -> Result<(), StoreFault>
+        requires sound { IsSound self.old holding }
+        requires inside { lane < length self.old.intake.lanes.items }
+        requires comes { IsNext self.old.intake.lanes.items lane (item ∷ []) }
+        requires here { IsHere (key_of item) self.old.leaves }
+        requires next { (kept_by self.old holding).log.next ≡ Some self.old.making.frame }
+        requires unsealed { self.old.making.is_sealed ≡ false }
+        requires page { page ≡ directed_at self.old.leaves.leaves item }
+        requires back { slice_get self.old.newest.items (page - 1) ≡ Some back }
+        requires blocks { blocks.now ≡ blocks_for self.old.leaves.m self.old.leaves.leaves back
+            (here_for (frame_of self.old.making) page) item }
+        requires fits { size_of (with_all self.old.making blocks.now) ≤ self.old.making.limit }
+        ensures sound { IsSound self.new holding }
+        ensures count { length self.new.intake.lanes.items ≡ length self.old.intake.lanes.items }
+        ensures ok { OnOk result (kept_by self.new holding
+            ≡ taken (kept_by self.old holding) lane (alone item) back) }
+        ensures unchanged { OnErr result (kept_by self.new holding ≡ kept_by self.old holding) }
+        ensures stays { OnErr result
+            (self.new.intake.lanes.items ≡ self.old.intake.lanes.items) }
+        ensures refused { IfErr result
+            (IsWanting (kept_by self.old holding) (item ∷ [])) }
+        ensures given { OnOk result (map given self.new.intake.lanes.items
+            ≡ map given self.old.intake.lanes.items) }
+        ensures known { OnOk result
+            (TookKnown lane self.old.intake.lanes.items self.new.intake.lanes.items) }
+        ensures noted { noted_of self.new ≡ noted_of self.old }
+    {
+        let _ = item.key();
+        let _ = self.leaves.count();
+        let entry = self.intake.packed_alone(lane, &item, page)?;
+        self.intake.reserve()?;
+        self.newest.reserve(1)?;
+        reserve_for(&mut self.tails, page)?;
+        let share = share_of(&entry, &item)?;
+        let _ = apply_entry(&mut self.leaves, page, &item, &entry)?;
+        note(&mut self.tails, page, share, blocks.len() > 1);
+        file(&mut self.making, &mut self.newest, page, blocks);
+        self.intake.enter_alone(lane, &item, entry);
+        Ok(())
+    }
+}
+
+// The record of an entry, which shares its bytes.
+fn share_of(entry: &PackedEntry, _item: &Record) -> Result<Packed, AllocError>
+    requires { entry.now.item ≡ _item.now }
+    ensures { IfOk result (λ packed. packed ≡ _item.now) }
+{
+    entry.item().copy()
+}
+
+// Applies the record of an entry to its page, which is known: the page shares the record's bytes.
+fn apply_entry(
+    leaves: &mut Leaves,
+    page: u32,
+    _item: &Record,
+    entry: &PackedEntry,
+) -> Result<Applied, ApplyError>
+    requires same { entry.now.item ≡ _item.now }
+    requires here { IsHere (key_of _item.now) leaves.old }
+    requires page { page ≡ directed_at leaves.old.leaves _item.now }
+    ensures ok { OnOk result (leaves.new ≡ after_record leaves.old _item.now) }
+    ensures evicted { leaves.new.evicted ≡ leaves.old.evicted }
+    ensures spent { IsSpent leaves.old _item.now → result ≡ Err ApplyError.Spent }
+    ensures only_spent { result ≡ Err ApplyError.Spent → IsSpent leaves.old _item.now }
+    ensures unchanged { OnErr result (leaves.new ≡ leaves.old) }
+{
+    leaves.apply_on(page, entry.item())
+}
+
+// Puts the blocks into the frame in the making, and notes where the last of them stands: a Delta
+// that joined stands where the one before it of its page does, and a Split stands behind all
+// blocks.
+fn file(making: &mut Buffer, newest: &mut Vec<Place>, page: u32, blocks: &[Block])
+    requires unsealed { making.old.is_sealed ≡ false }
+    requires fits { size_of (with_all making.old blocks.now) ≤ making.old.limit }
+    requires lawful { AllByRecursion (IsBlock 32) blocks.now }
+    requires one { AreOne page blocks.now }
+    requires page { (1 ≤ page) × (page ≤ length newest.old.items) }
+    requires room { vec_len newest.old < vec_capacity newest.old }
+    ensures making { making.new ≡ with_all making.old blocks.now }
+    ensures newest { newest.new.items ≡ noted newest.old.items page
+        (here_for (frame_of making.old) page) (last_for (frame_of making.old) page)
+        (length blocks.now) }
+{
+    let Ok(first) = making.put_all(blocks) else {
+        unreachable!();
+    };
+    let _ = newest.as_slice().len();
+    if blocks.len() <= 1 {
+        newest[page as usize - 1] = first;
+        return;
+    }
+    let last = Place {
+        frame: first.frame,
+        index: making.count() - 1,
+    };
+    newest[page as usize - 1] = last;
+    newest.push_reserved(last);
+}

@@ -1,0 +1,70 @@
+//! Pages leave memory, and what it takes to bring them back.
+
+ghost use Rattle.std.specs.Prelude.{ℕ, ◌≡◌, ◌==◌, ◌↔◌, ◌&&◌, not, true, None, Some, if◌then◌else◌, IfOk, IfErr, IsErrOf, MatchOption, MatchResult};
+ghost use Rattle.bw_page.specs.Leaves.{leaf_at};
+ghost use Rattle.bw_log.specs.Contents.{counted};
+ghost use Rattle.bw_log.specs.Places.{walk_of};
+ghost use Rattle.bw_core.specs.Counting.{noted_left};
+ghost use Rattle.bw_core.specs.Reading.{leaves_now};
+ghost use Rattle.bw_making.specs.Tails.{is_made};
+
+use crate::fault::StoreFault;
+use crate::store::Core;
+
+impl Core {
+    ghost use Rattle.bw_core.specs.Views.{kept_by, is_evicted, noted_of, IsSound};
+
+    /// From how many frames a page would be read, if it were evicted: those that were appended and
+    /// have a block of it, from the last that says all of it on. It is 0 where no frame has the page
+    /// yet, and `None` where there is no such page, evicted or not. `rewrite` makes it 1.
+    ///
+    /// No memory is taken, and it costs the same for each page. Whoever evicts pages asks this first,
+    /// and writes a page again whose walk is long, so that bringing it back stays cheap.
+    pub fn walk_of(&self, page: u32) -> Option<u64>
+        requires { IsSound self.now holding }
+        ensures { MatchOption (leaf_at page (leaves_now (kept_by self.now holding)))
+            (result ≡ None)
+            (λ _. result ≡ Some (walk_of page (counted (kept_by self.now holding).log))) }
+    {
+        if page == 0 || page > self.leaves.count() {
+            return None;
+        }
+        Some(self.log.walk_of(page))
+    }
+
+    /// Drops a page from memory; answers whether it left. The page stays: it is then read from the
+    /// log, and the records that no frame has yet are kept. It does not leave where it is evicted,
+    /// nor where the frame in the making makes it or cuts it.
+    ///
+    /// Refused `NoPage`, where the number is 0 or above the number of pages. No memory is taken.
+    pub fn evict(&mut self, page: u32) -> Result<bool, StoreFault>
+        requires { IsSound self.old holding }
+        ensures left { IfOk result (λ left. left
+            ≡ (not (is_evicted page self.old)
+            && not (is_made page (kept_by self.old holding).making.blocks))) }
+        ensures evicted { IfOk result (λ left. (p : ℕ) → is_evicted p self.new
+            ≡ (if left && (p == page) then true else is_evicted p self.old)) }
+
+        ensures no_page { IsErrOf result StoreFault.NoPage
+            ↔ (leaf_at page (leaves_now (kept_by self.old holding)) ≡ None) }
+        ensures only { IfErr result (λ fault. fault ≡ StoreFault.NoPage) }
+        ensures same { kept_by self.new holding ≡ kept_by self.old holding }
+        ensures noted { MatchResult result
+            (λ left. noted_of self.new ≡ noted_left left (noted_of self.old))
+            (λ _. noted_of self.new ≡ noted_of self.old) }
+    {
+        if page == 0 || page > self.leaves.count() {
+            return Err(StoreFault::NoPage);
+        }
+        if !self.leaves.is_here(page) {
+            return Ok(false);
+        }
+        let _ = self.tails.as_slice().len();
+        if self.tails[page as usize - 1].is_none() {
+            return Ok(false);
+        }
+        self.leaves.evict_page(page);
+        self.tally = self.tally.with_eviction();
+        Ok(true)
+    }
+}

@@ -1,0 +1,132 @@
+//! The frame in the making is appended, and the next one begun.
+
+ghost use Rattle.std.specs.Prelude.{◌≡◌, ◌≤◌, ◌<◌, Some, [], true, false, length, vec_len, OnOk, IfErr};
+ghost use Rattle.std.specs.Vec.{vec_capacity};
+ghost use Rattle.bw_codec.specs.Grammar.{frame_bytes};
+ghost use Rattle.bw_buffer.specs.Filling.{frame_of};
+ghost use Rattle.bw_log.specs.Views.{IsReady};
+ghost use Rattle.bw_log.specs.Appends.{refusal};
+ghost use Rattle.bw_core.specs.Faults.{FlushLeaves, AppendLeaves, IsNext, IsRefused, FlushAnswers, flush_refusal, refusal_by};
+ghost use Rattle.bw_core.specs.Following.{Follows, HasBoxes};
+ghost use Rattle.bw_core.specs.Kept.{EachCutStands};
+ghost use Rattle.bw_core.specs.Settled.{IsSettled};
+
+use crate::append::append_to;
+use crate::fault::StoreFault;
+use crate::store::Core;
+use bw_buffer::Buffer;
+use bw_making::rest;
+
+impl Core {
+    ghost use Rattle.bw_core.specs.Views.{kept_by, noted_of, IsSound};
+
+    /// Seals the frame in the making and appends it; answers its number, or `None` where nothing
+    /// waited.
+    ///
+    /// Refused `Failed`, where an append failed before; then `Spent`, where there is no number for
+    /// a frame, even if nothing waits; then, where something waits, `NoSegment`, `Spent` and
+    /// `NoMemory` as the log's append is: nothing was changed. `Device`: the frame stays sealed and
+    /// kept, and every later flush is refused `Failed`. Time is linear in the frame.
+    pub fn flush(&mut self) -> Result<Option<u64>, StoreFault>
+        requires sound { IsSound self.old holding }
+        ensures sound { IsSound self.new holding }
+        ensures intake { self.new.intake ≡ self.old.intake }
+
+        ensures answers { FlushAnswers (flush_refusal (kept_by self.old holding)) result }
+        ensures leaves { FlushLeaves (kept_by self.old holding) result (kept_by self.new holding) }
+        ensures settled { OnOk result (IsSettled (kept_by self.new holding)) }
+        ensures each_cut { EachCutStands (kept_by self.new holding) }
+
+        ensures follows { Follows (kept_by self.old holding) (kept_by self.new holding) }
+        ensures boxes { HasBoxes (kept_by self.old holding) (kept_by self.new holding) }
+        ensures noted { noted_of self.new ≡ noted_of self.old }
+    {
+        self.flush_making(false)
+    }
+
+    // The same, without what follows from it; it may take the last spare, or may not.
+    pub(crate) fn flush_making(&mut self, takes_last: bool) -> Result<Option<u64>, StoreFault>
+        requires sound { IsSound self.old holding }
+        ensures sound { IsSound self.new holding }
+        ensures intake { self.new.intake ≡ self.old.intake }
+        ensures pages { self.new.leaves ≡ self.old.leaves }
+        ensures answers { FlushAnswers (refusal_by takes_last (kept_by self.old holding)) result }
+        ensures leaves { FlushLeaves (kept_by self.old holding) result (kept_by self.new holding) }
+        ensures noted { noted_of self.new ≡ noted_of self.old }
+    {
+        if self.log.is_failed() {
+            return Err(StoreFault::Failed);
+        }
+        let Some(next) = self.log.next_frame() else {
+            return Err(StoreFault::Spent);
+        };
+        if self.making.count() == 0 {
+            return Ok(None);
+        }
+        self.prepare(takes_last)?;
+        self.append_making(takes_last)?;
+        Ok(Some(next))
+    }
+
+    // All growths and checks of the append.
+    fn prepare(&mut self, takes_last: bool) -> Result<(), StoreFault>
+        requires sound { IsSound self.old holding }
+        requires some { 1 ≤ length self.old.making.blocks }
+        ensures intake { self.new.intake ≡ self.old.intake }
+        ensures pages { self.new.leaves ≡ self.old.leaves }
+        ensures same { kept_by self.new holding ≡ kept_by self.old holding }
+        ensures ready { OnOk result (IsReady (λ b. holding (b.vtable, b.value)) self.new.log
+            (length (frame_bytes (frame_of self.new.making))) takes_last) }
+        ensures room { OnOk result (vec_len self.new.cuts < vec_capacity self.new.cuts) }
+        ensures fits { length (frame_bytes (frame_of self.new.making)) ≤ self.new.making.limit }
+        ensures refused { IfErr result (IsRefused
+            (refusal (kept_by self.old holding).log
+            (length (frame_bytes (frame_of self.old.making))) takes_last)) }
+        ensures noted { noted_of self.new ≡ noted_of self.old }
+    {
+        let len = self.making.len();
+        self.log.ready(len, takes_last)?;
+        self.cuts.reserve(1)?;
+        Ok(())
+    }
+
+    // What is left once nothing but the device can refuse.
+    fn append_making(&mut self, takes_last: bool) -> Result<(), StoreFault>
+        requires sound { IsSound self.old holding }
+        requires next { (kept_by self.old holding).log.next ≡ Some self.old.making.frame }
+        requires works { (kept_by self.old holding).log.is_failed ≡ false }
+        requires some { 1 ≤ length self.old.making.blocks }
+        requires fits { length (frame_bytes (frame_of self.old.making)) ≤ self.old.making.limit }
+        requires ready { IsReady (λ b. holding (b.vtable, b.value)) self.old.log
+            (length (frame_bytes (frame_of self.old.making))) takes_last }
+        requires room { vec_len self.old.cuts < vec_capacity self.old.cuts }
+        requires countable { self.old.durable < u64.MAX }
+        ensures sound { IsSound self.new holding }
+        ensures intake { self.new.intake ≡ self.old.intake }
+        ensures pages { self.new.leaves ≡ self.old.leaves }
+        ensures leaves { AppendLeaves (kept_by self.old holding) result (kept_by self.new holding) }
+        ensures noted { noted_of self.new ≡ noted_of self.old }
+    {
+        let end = self.intake.len();
+        self.making.seal();
+        self.cuts.push_reserved(end);
+        match append_to(&mut self.log, &self.making, takes_last) {
+            Ok(()) => {
+                self.durable += 1;
+                rest(&mut self.tails, &self.making, &self.newest);
+                begin_next(&mut self.making);
+                Ok(())
+            }
+            Err(fault) => Err(StoreFault::from(fault)),
+        }
+    }
+}
+
+// Makes a sealed buffer the empty one of the next frame, if there is a number for it.
+fn begin_next(making: &mut Buffer)
+    requires { making.old.is_sealed ≡ true }
+    ensures { IsNext making.old making.new }
+{
+    let next = making.frame().saturating_add(1);
+    making.restart(next);
+}

@@ -1,0 +1,214 @@
+//! A group of several records: all of it is planned, and then all of it is entered.
+
+ghost use Rattle.std.specs.Prelude.{ℕ, ◌≡◌, ◌<◌, ◌+◌, Some, Err, true, false, List, length, map, take, IfOk, IfErr, OnOk, OnErr, MatchOption};
+ghost use Rattle.std.specs.List.{AllByRecursion};
+ghost use Rattle.bw_codec.specs.Grammar.{IsOp};
+ghost use Rattle.bw_codec.specs.Record.{key_of};
+ghost use Rattle.bw_history.specs.Entries.{records as records_of};
+ghost use Rattle.bw_page.specs.Batch.{AreHere, SomeIsSpent, steps_of};
+ghost use Rattle.bw_log.specs.Reads.{HoldsPage};
+ghost use Rattle.bw_page.specs.Leaves.{directed_at, HasPages};
+ghost use Rattle.bw_page.specs.Shown.{IsHere, run};
+ghost use Rattle.bw_ring.specs.Ends.{given};
+ghost use Rattle.bw_ring.specs.Marks.{marked};
+ghost use Rattle.bw_core.specs.Drafting.{IsAhead, IsDraft, Stands};
+ghost use Rattle.bw_core.specs.Fitting.{Fits};
+ghost use Rattle.bw_history.specs.History.{entered};
+ghost use Rattle.bw_history.specs.Lanes.{IsNext, TookKnown};
+ghost use Rattle.bw_core.specs.Reading.{HasRead, ReadLeaves};
+ghost use Rattle.bw_core.specs.Taken.{taken_all};
+ghost use Rattle.bw_core.specs.Taking.{FetchLeaves, IsUnplanned, IsWanting};
+
+use crate::fault::StoreFault;
+use crate::store::Core;
+use bw_codec::Record;
+use bw_history::PackedEntry;
+use bw_making::{
+    Draft, apply_entries, copy_of, file_all, guessed, note_all, reserve_all, shares_of, steps_in,
+};
+use bw_page::Step;
+use bw_ring::Group;
+use std::alloc::AllocError;
+
+impl Core {
+    ghost use Rattle.bw_core.specs.Views.{away_in, kept_by, noted_of, IsSound};
+
+    /// Brings back the pages of all records of a group, before it is planned. A page that one of
+    /// them makes comes out of a page that is then in memory.
+    pub(crate) fn fetch_all(&mut self, records: &[Record]) -> Result<(), StoreFault>
+        requires sound { IsSound self.old holding }
+        ensures sound { IsSound self.new holding }
+        ensures intake { self.new.intake ≡ self.old.intake }
+        ensures here { OnOk result (AreHere self.new.leaves records.now) }
+        ensures lawful { OnOk result (AllByRecursion IsOp records.now) }
+        ensures leaves { FetchLeaves (away_in self.new) records.now (kept_by self.old holding)
+            result (kept_by self.new holding) }
+        ensures noted { noted_of self.new ≡ noted_of self.old }
+    {
+        'records: for at in 0..records.len() {
+            self.fetch_one(&records[at])?;
+        }
+        let _ = self.leaves.count();
+        Ok(())
+    }
+
+    // The same of one record.
+    fn fetch_one(&mut self, item: &Record) -> Result<(), StoreFault>
+        requires sound { IsSound self.old holding }
+        ensures sound { IsSound self.new holding }
+        ensures intake { self.new.intake ≡ self.old.intake }
+        ensures here { OnOk result (IsHere (key_of item.now) self.new.leaves) }
+        ensures others { OnOk result ((key : List ℕ) → IsHere key self.old.leaves
+            → IsHere key self.new.leaves) }
+        ensures lawful { IsOp item.now }
+        ensures read { HasRead (kept_by self.old holding) (kept_by self.new holding) }
+        ensures away { OnErr result (away_in self.new
+            (directed_at (kept_by self.old holding).filed.leaves item.now) ≡ true) }
+        ensures leaves { ReadLeaves (HoldsPage (kept_by self.old holding).log
+            (directed_at (kept_by self.old holding).filed.leaves item.now))
+            (kept_by self.old holding) result (kept_by self.new holding) }
+        ensures noted { noted_of self.new ≡ noted_of self.old }
+    {
+        let _ = self.fetch(item.key())?;
+        Ok(())
+    }
+
+    /// What a group adds to the frame in the making, or `None` where it does not fit there whole.
+    pub(crate) fn draft(
+        &mut self,
+        lane: usize,
+        records: &[Record],
+        entries: &[PackedEntry],
+    ) -> Result<Option<Draft>, StoreFault>
+        requires sound { IsSound self.old holding }
+        requires inside { lane < length self.old.intake.lanes.items }
+        requires entries { records_of entries.now ≡ records.now }
+        requires here { AreHere self.old.leaves records.now }
+        requires lawful { AllByRecursion IsOp records.now }
+        ensures sound { IsSound self.new holding }
+        ensures same { kept_by self.new holding ≡ kept_by self.old holding }
+        ensures intake { self.new.intake ≡ self.old.intake }
+        ensures pages { self.new.leaves ≡ self.old.leaves }
+        ensures works { OnOk result ((kept_by self.old holding).log.is_failed ≡ false) }
+        ensures unsealed { OnOk result (self.new.making.is_sealed ≡ false) }
+        ensures next { OnOk result ((kept_by self.new holding).log.next
+            ≡ Some self.new.making.frame) }
+        ensures room { OnOk result (HasPages self.old.leaves.m self.old.leaves.leaves records.now) }
+        ensures draft { IfOk result (λ o. MatchOption o
+            (Fits (kept_by self.old holding) records.now → ⊥)
+            (IsDraft (kept_by self.old holding) records.now)) }
+        ensures refused { IfErr result
+            (IsUnplanned (kept_by self.old holding) records.now) }
+        ensures noted { noted_of self.new ≡ noted_of self.old }
+    {
+        self.goes_on()?;
+        let steps = steps_in(&mut self.leaves, records, entries)?;
+        Ok(self.lay(lane, records, steps.as_slice())?)
+    }
+
+    // The same from what the records do to the pages.
+    fn lay(
+        &self,
+        lane: usize,
+        records: &[Record],
+        steps: &[Step],
+    ) -> Result<Option<Draft>, AllocError>
+        requires sound { IsSound self.now holding }
+        requires inside { lane < length self.now.intake.lanes.items }
+        requires next { (kept_by self.now holding).log.next ≡ Some self.now.making.frame }
+        requires lawful { AllByRecursion IsOp records.now }
+        requires room { HasPages self.now.leaves.m self.now.leaves.leaves records.now }
+        requires steps { steps.now ≡ steps_of self.now.leaves records.now }
+        ensures { IfOk result (λ o. MatchOption o
+            (Fits (kept_by self.now holding) records.now → ⊥)
+            (IsDraft (kept_by self.now holding) records.now)) }
+    {
+        let mut draft = Draft::new(*self.cuts.allocator(), &self.making);
+        let _ = self.making.room();
+        'records: for at in 0..records.len() {
+            if !self.lay_one(lane, &mut draft, records, steps, at)? {
+                return Ok(None);
+            }
+        }
+        Ok(Some(draft))
+    }
+
+    // The same of one record, behind those before it; answers whether there is room so far.
+    fn lay_one(
+        &self,
+        lane: usize,
+        draft: &mut Draft,
+        records: &[Record],
+        steps: &[Step],
+        at: usize,
+    ) -> Result<bool, AllocError>
+        requires inside { lane < length self.now.intake.lanes.items }
+        requires lawful { AllByRecursion IsOp records.now }
+        requires room { HasPages self.now.leaves.m self.now.leaves.leaves records.now }
+        requires steps { steps.now ≡ steps_of self.now.leaves records.now }
+        requires at { at < length records.now }
+        requires stands { Stands (kept_by self.now holding) lane (take at records.now) }
+        requires ahead { IsAhead (kept_by self.now holding) (take at records.now) draft.old }
+        ensures full { IfOk result (λ fits. fits ≡ false
+            → Fits (kept_by self.now holding) records.now → ⊥) }
+        ensures stands { IfOk result (λ fits. fits ≡ true
+            → Stands (kept_by self.now holding) lane (take (at + 1) records.now)) }
+        ensures ahead { IfOk result (λ fits. fits ≡ true
+            → IsAhead (kept_by self.now holding) (take (at + 1) records.now) draft.new) }
+    {
+        let step = &steps[at];
+        let upper = copy_of(&step.upper)?;
+        draft.add(&self.making, &self.newest, &records[at], step.page, upper)?;
+        Ok(self.making.has_room(draft.blocks.as_slice()))
+    }
+
+    /// Enters a group whose draft fits the frame in the making: all growths come first.
+    pub(crate) fn enter_all(
+        &mut self,
+        lane: usize,
+        group: Group,
+        entries: Vec<PackedEntry>,
+        draft: &Draft,
+    ) -> Result<(), StoreFault>
+        requires sound { IsSound self.old holding }
+        requires inside { lane < length self.old.intake.lanes.items }
+        requires comes { IsNext self.old.intake.lanes.items lane group }
+        requires entries { entries.items ≡ entered lane (marked group) }
+        requires records { records_of entries.items ≡ group }
+        requires here { AreHere self.old.leaves group }
+        requires lawful { AllByRecursion IsOp group }
+        requires next { (kept_by self.old holding).log.next ≡ Some self.old.making.frame }
+        requires unsealed { self.old.making.is_sealed ≡ false }
+        requires draft { IsDraft (kept_by self.old holding) group draft.now }
+        ensures sound { IsSound self.new holding }
+        ensures count { length self.new.intake.lanes.items ≡ length self.old.intake.lanes.items }
+        ensures ok { OnOk result (kept_by self.new holding
+            ≡ taken_all (kept_by self.old holding) lane (marked group)) }
+        ensures unchanged { OnErr result (kept_by self.new holding ≡ kept_by self.old holding) }
+        ensures stays { OnErr result
+            (self.new.intake.lanes.items ≡ self.old.intake.lanes.items) }
+        ensures refused { IfErr result (IsWanting (kept_by self.old holding) group) }
+        ensures given { OnOk result (map given self.new.intake.lanes.items
+            ≡ map given self.old.intake.lanes.items) }
+        ensures known { OnOk result
+            (TookKnown lane self.old.intake.lanes.items self.new.intake.lanes.items) }
+        ensures noted { noted_of self.new ≡ noted_of self.old }
+    {
+        let rows = draft.rows.as_slice();
+        let _ = self.leaves.count();
+        self.intake.reserve()?;
+        self.newest.reserve(group.len())?;
+        reserve_all(&mut self.tails, rows)?;
+        let shares = shares_of(*entries.allocator(), entries.as_slice())?;
+        apply_entries(&mut self.leaves, group.as_slice(), entries.as_slice())?;
+        note_all(&mut self.tails, rows, shares);
+        file_all(
+            &mut self.making,
+            &mut self.newest,
+            rows,
+            draft.blocks.as_slice(),
+        );
+        self.intake.enter(lane, &group, guessed(entries, rows));
+        Ok(())
+    }
+}

@@ -1,0 +1,52 @@
+//! The page store: turns take records from the writers' rings, flushes append what they did, and
+//! `settle` does both for all that was accepted: the goal of the whole store stands on it.
+//!
+//! Writers live in threads of their own, each with a feed; one thread owns the store. What it took
+//! stands in the history at once, in the pages, and in a frame in the making; a flush appends that
+//! frame and cuts the history there. `clean` gives up the oldest segment, `upgrade` all segments of
+//! format 1, and `reopen` goes on from what was recovered. `specs/Kept.antt` has what holds between
+//! calls, and `specs/Following.antt` what no call takes back. `evict` drops a page from memory: it
+//! is then read from the log, and `specs/Tails.antt` has what the frame in the making adds to it.
+//! `forget` drops from memory what is durable of the history; the clauses go on speaking of all of
+//! it. No call waits, and nothing here is read from another thread.
+#![tactic(auto)]
+
+mod append;
+mod clean;
+mod config;
+mod count;
+mod counters;
+mod edge;
+mod enter;
+mod evict;
+mod fault;
+mod flush;
+mod forget;
+mod groups;
+mod moved;
+mod needed;
+mod open;
+mod plan;
+mod questions;
+mod reads;
+mod receipts;
+mod renew;
+mod reopen;
+mod rewrite;
+mod segments;
+mod settle;
+mod store;
+mod take;
+mod turn;
+mod upgrade;
+mod walk;
+
+pub use bw_care::{Cleaned, Upgraded};
+pub use bw_history::{Entry, PackedEntry};
+pub use config::Config;
+pub use counters::Counters;
+pub use edge::Edge;
+pub use fault::{OpenFault, StoreFault, TurnFault};
+pub use open::are_taken;
+pub use reopen::ReopenFault;
+pub use store::Core;

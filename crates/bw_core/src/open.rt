@@ -1,0 +1,237 @@
+//! A store is opened over empty segments.
+
+ghost use Rattle.std.specs.Prelude.{◌≡◌, ◌≤◌, ◌+◌, ◌↔◌, [], ◌∷◌, length, map, replicate, false, None, IsTrue, IfOk, IfErr, MatchResult};
+ghost use Rattle.std.specs.List.{AllByRecursion};
+ghost use Rattle.bw_codec.specs.Grammar.{IsBlock};
+ghost use Rattle.bw_codec.specs.declared.block.Block.TheVariants.{Base};
+ghost use Rattle.bw_buffer.specs.Filling.{size_of, with_all};
+ghost use Rattle.bw_page.specs.Leaves.{empty_leaf};
+ghost use Rattle.bw_ring.specs.Ends.{ring_of_feed, ring_of_lane};
+ghost use Rattle.bw_making.specs.Tails.{tail_of, tails_for};
+ghost use Rattle.bw_core.specs.Opened.{opened, one_empty, started, first_place, first_making, AreFresh, AreTaken, IsConfig, IsOpenFault};
+ghost use Rattle.bw_core.specs.Counting.{noted_from};
+
+use crate::config::Config;
+use crate::counters::{Looks, Tally};
+use crate::edge::Edge;
+use crate::fault::{OpenFault, StoreFault};
+use crate::store::Core;
+use bw_buffer::Buffer;
+use bw_codec::{Block, Place};
+use bw_device::{Segment, are_spares};
+use bw_history::Intake;
+use bw_log::Log;
+use bw_making::Tail;
+use bw_page::{Leaves, empty_page};
+use bw_ring::Feed;
+use std::alloc::{AllocError, Global};
+use std::snapshot::Snapshot;
+
+/// How many boxes a log has at most.
+const MAX_BOXES: usize = 4096;
+
+// What a store that begins has beside its log and its leaves.
+#[derive(Drop)]
+pub(crate) struct Ends {
+    pub(crate) feeds: Vec<Feed>,
+    pub(crate) intake: Intake,
+    pub(crate) newest: Vec<Place>,
+    pub(crate) tails: Vec<Option<Tail>>,
+    pub(crate) making: Buffer,
+}
+
+// Where a store begins: behind so many frames, with this edge and so many live bytes.
+#[derive(Clone, Copy)]
+pub(crate) struct Origin {
+    pub(crate) before: u64,
+    pub(crate) edge: Edge,
+    pub(crate) bytes: u64,
+}
+
+/// Whether a core is opened over these: the numbers are in their ranges, and the boxes are spares
+/// with room. It is looked at before memory is.
+pub fn are_taken(config: &Config, segments: &[Box<dyn Segment>]) -> bool
+    ensures { IsTrue result ↔ AreTaken config.now (map holding segments.now) }
+{
+    config.is_lawful()
+        && segments.len() <= MAX_BOXES
+        && are_spares(segments, 24 + u64::from(config.f))
+}
+
+// The frame in the making, with the first page.
+fn first_frame(alloc: Global, f: u32) -> Result<Buffer, AllocError>
+    requires { (65536 ≤ f) × (f ≤ 262144) }
+    ensures { IfOk result (λ b. b ≡ first_making f) }
+{
+    let blocks = first_blocks(alloc)?;
+    let mut making = Buffer::new(alloc, 1, f)?;
+    put_first(&mut making, &blocks);
+    Ok(making)
+}
+
+fn first_blocks(alloc: Global) -> Result<Vec<Block>, AllocError>
+    ensures { IfOk result (λ bs. bs.items ≡ Base empty_leaf ∷ []) }
+{
+    let mut blocks = Vec::new(alloc);
+    blocks.push(Block::Base(empty_page(alloc)))?;
+    Ok(blocks)
+}
+
+fn put_first(making: &mut Buffer, blocks: &[Block])
+    requires unsealed { making.old.is_sealed ≡ false }
+    requires some { 1 ≤ length blocks.now }
+    requires lawful { AllByRecursion (IsBlock 32) blocks.now }
+    requires fits { size_of (with_all making.old blocks.now) ≤ making.old.limit }
+    ensures { making.new ≡ with_all making.old blocks.now }
+{
+    let Ok(_) = making.put_all(blocks) else {
+        unreachable!();
+    };
+}
+
+// Lanes from which nothing was taken, and the feeds that belong to them.
+pub(crate) fn intake_of(alloc: Global, config: &Config) -> Result<(Vec<Feed>, Intake), StoreFault>
+    requires { IsConfig config.now }
+    ensures feeds { IfOk result (λ p.
+        map ring_of_lane p.1.lanes.items ≡ map ring_of_feed p.0.items) }
+    ensures unused { IfOk result (λ p. AreFresh config.now p.0.items) }
+    ensures history { IfOk result (λ p. p.1.history.items ≡ []) }
+    ensures gone { IfOk result (λ p. p.1.history.gone ≡ 0) }
+    ensures memory { IfErr result (λ fault. fault ≡ StoreFault.NoMemory) }
+{
+    Ok(Intake::open(alloc, config.writers, config.places)?)
+}
+
+fn parts_of(alloc: Global, config: &Config) -> Result<(Leaves, Ends), StoreFault>
+    requires { IsConfig config.now }
+    ensures feeds { IfOk result (λ p.
+        map ring_of_lane p.1.intake.lanes.items ≡ map ring_of_feed p.1.feeds.items) }
+    ensures unused { IfOk result (λ p. AreFresh config.now p.1.feeds.items) }
+    ensures history { IfOk result (λ p. p.1.intake.history.items ≡ []) }
+    ensures gone { IfOk result (λ p. p.1.intake.history.gone ≡ 0) }
+    ensures leaves { IfOk result (λ p.
+        p.0 ≡ one_empty config.now.m) }
+    ensures newest { IfOk result (λ p. p.1.newest.items ≡ first_place ∷ []) }
+    ensures tails { IfOk result (λ p. map tail_of p.1.tails.items ≡ None ∷ []) }
+    ensures making { IfOk result (λ p. p.1.making ≡ first_making config.now.f) }
+    ensures memory { IfErr result (λ fault. fault ≡ StoreFault.NoMemory) }
+{
+    let (feeds, intake) = intake_of(alloc, config)?;
+    let leaves = Leaves::one_empty(alloc, config.m)?;
+    let mut newest = Vec::with_capacity(alloc, 1)?;
+    newest.push_reserved(Place { frame: 1, index: 0 });
+    let mut tails = Vec::with_capacity(alloc, 1)?;
+    tails.push_reserved(None);
+    let making = first_frame(alloc, config.f)?;
+    let ends = Ends {
+        feeds,
+        intake,
+        newest,
+        tails,
+        making,
+    };
+    Ok((leaves, ends))
+}
+
+impl Core {
+    ghost use Rattle.bw_log.specs.Views.{seen_by};
+    ghost use Rattle.bw_core.specs.Views.{kept_by, kept_beside, noted_of, IsSoundBeside};
+
+    /// A store of one empty page over empty segments, and a feed for each writer, which may go to
+    /// another thread. The first page is the first block of frame 1.
+    ///
+    /// Refused `BadConfig`, where a value is out of its range, there are more than 4,096 boxes, or
+    /// one of them is not empty or has not room for 24 + `f` bytes to 1,073,741,824; or `NoMemory`.
+    /// The boxes then come back as they were.
+    pub fn open(
+        alloc: Global,
+        config: &Config,
+        segments: Vec<Box<dyn Segment>>,
+    ) -> Result<(Core, Vec<Feed>), OpenFault>
+        requires { Unit {0} }
+        ensures made { IfOk result (λ r. kept_beside r.0 holding
+            ≡ opened (map ring_of_feed r.1.items) config.now.m config.now.f
+            (map holding segments.items)) }
+        ensures sound { IfOk result (λ r. IsSoundBeside r.0 holding) }
+        ensures feeds { IfOk result (λ r. AreFresh config.now r.1.items) }
+
+        ensures noted { IfOk result (λ r. noted_of r.0 ≡ noted_from 1 0) }
+
+        // The limits and the boxes are looked at before memory is.
+        ensures bad_config { MatchResult result
+            (λ _. AreTaken config.now (map holding segments.items))
+            (λ e. IsOpenFault config.now (map holding segments.items) e.cause) }
+        ensures back { IfErr result (λ e. e.segments.items ≡ segments.items) }
+    {
+        if !are_taken(config, &segments) {
+            let cause = StoreFault::BadConfig;
+            return Err(OpenFault { segments, cause });
+        }
+        let (leaves, ends) = match parts_of(alloc, config) {
+            Ok(parts) => parts,
+            Err(cause) => return Err(OpenFault { segments, cause }),
+        };
+        let origin = Origin {
+            before: 0,
+            edge: Edge {
+                segment: 0,
+                length: 0,
+            },
+            bytes: 0,
+        };
+        match Log::new(alloc, segments, config.m, config.f) {
+            Ok(log) => Ok(Core::begun(alloc, ends, leaves, log, origin)),
+            Err((segments, fault)) => {
+                let cause = StoreFault::from(fault);
+                Err(OpenFault { segments, cause })
+            }
+        }
+    }
+
+    // A store of these ends over a log: its history begins here.
+    pub(crate) fn begun(
+        alloc: Global,
+        ends: Ends,
+        leaves: Leaves,
+        log: Log,
+        origin: Origin,
+    ) -> (Core, Vec<Feed>)
+        requires tails { map tail_of ends.tails.items
+            ≡ tails_for (length leaves.leaves) ends.making.blocks }
+        requires here { leaves.evicted ≡ [] }
+        requires gone { ends.intake.history.gone ≡ 0 }
+        ensures store { kept_by result.0 holding
+            ≡ record (started (map ring_of_lane ends.intake.lanes.items) ends.intake.history.items
+            leaves ends.newest.items ends.making (seen_by (λ b. holding (b.vtable, b.value)) log))
+            { before = origin.before; edge = origin.edge } }
+        ensures feeds { result.1 ≡ ends.feeds }
+        ensures noted { noted_of result.0 ≡ noted_from (length leaves.leaves) origin.bytes }
+    {
+        let Ends {
+            feeds,
+            intake,
+            newest,
+            tails,
+            making,
+        } = ends;
+        let tally = Tally::from(leaves.count(), origin.bytes);
+        let start = Snapshot::of(&leaves);
+        let store = Core {
+            intake,
+            before: origin.before,
+            floor: 0,
+            edge: origin.edge,
+            cuts: Vec::new(alloc),
+            durable: 0,
+            leaves,
+            newest,
+            tails,
+            making,
+            log,
+            start,
+            tally,
+            looks: Looks::new(),
+        };
+        (store, feeds)
+    }
+}

@@ -1,0 +1,182 @@
+//! Pages and values, as the history leaves them, in memory or read from the log.
+
+ghost use Rattle.std.specs.Prelude.{ℕ, ◌≡◌, ◌≤◌, ◌↔◌, ◌⊎◌, true, false, Some, None, List, length, IfOk, IfErr, OnErr, OnOk, IsErrOf};
+ghost use Rattle.std.specs.FinMap as finite;
+ghost use Rattle.bw_log.specs.Reads.{HoldsPage};
+ghost use Rattle.bw_page.specs.Leaves.{leaf_at, home, plain};
+ghost use Rattle.bw_page.specs.Shown.{is_evicted_page, IsHere};
+ghost use Rattle.bw_page.specs.Words.{value_on};
+ghost use Rattle.bw_history.specs.Entries.{records};
+ghost use Rattle.bw_core.specs.Following.{Follows, HasBoxes};
+ghost use Rattle.bw_core.specs.Reading.{leaves_now, HasRead, ReadLeaves, PageLeaves};
+ghost use Rattle.bw_making.specs.Share.{ops_at};
+
+use crate::fault::StoreFault;
+use crate::store::Core;
+use bw_codec::{Key, Leaf, Value};
+use bw_making::Tail;
+use bw_page::Word;
+
+impl Core {
+    ghost use Rattle.bw_core.specs.Views.{away_in, kept_by, is_evicted, noted_of, IsSound};
+
+    /// A copy of a page as all records of the history leave it, flushed or not, in memory or
+    /// evicted. A page that is evicted is read from the log, and stays evicted.
+    ///
+    /// Refused `NoPage`, where the number is 0 or above the number of pages; `NoMemory`; and, where
+    /// the page is evicted, `Device`, where the read failed: the next one may not; `Spent`, where
+    /// one more failure of a segment that has to be read could not be counted.
+    pub fn page(&mut self, page: u32) -> Result<Leaf, StoreFault>
+        requires { IsSound self.old holding }
+        ensures value { IfOk result (λ leaf.
+            leaf_at page (leaves_now (kept_by self.old holding)) ≡ Some leaf) }
+        ensures no_page { IsErrOf result StoreFault.NoPage
+            ↔ (leaf_at page (leaves_now (kept_by self.old holding)) ≡ None) }
+        ensures sound { IsSound self.new holding }
+        ensures read { HasRead (kept_by self.old holding) (kept_by self.new holding) }
+
+        ensures leaves { PageLeaves (HoldsPage (kept_by self.old holding).log page)
+            (kept_by self.old holding) result (kept_by self.new holding) }
+        ensures memory { is_evicted page self.old ≡ false → IfErr result (λ fault.
+            (fault ≡ StoreFault.NoPage) ⊎ (fault ≡ StoreFault.NoMemory)) }
+        ensures evicted { (p : ℕ) → is_evicted p self.new ≡ is_evicted p self.old }
+
+        ensures follows { Follows (kept_by self.old holding) (kept_by self.new holding) }
+        ensures boxes { HasBoxes (kept_by self.old holding) (kept_by self.new holding) }
+        ensures noted { noted_of self.new ≡ noted_of self.old }
+    {
+        if page == 0 || page > self.leaves.count() {
+            return Err(StoreFault::NoPage);
+        }
+        if let Some(leaf) = self.leaves.page(page) {
+            return Ok(leaf.copy()?);
+        }
+        self.read_evicted(page)
+    }
+
+    /// The value of a key as all records of the history leave it, flushed or not, in memory or
+    /// evicted. It is refused as `page` is, but never `NoPage`, and its page stays where it is.
+    /// Where the page is evicted, it is read from its newest block back, up to the first that
+    /// speaks of the key: a key that changed lately costs one frame.
+    pub fn get(&mut self, key: &Key) -> Result<Option<Value>, StoreFault>
+        requires { IsSound self.old holding }
+        ensures value { IfOk result (λ value. value
+            ≡ finite.get (plain (kept_by self.old holding).start
+            (records (kept_by self.old holding).entries)) key.now) }
+        ensures sound { IsSound self.new holding }
+        ensures read { HasRead (kept_by self.old holding) (kept_by self.new holding) }
+
+        ensures leaves { ReadLeaves (HoldsPage (kept_by self.old holding).log
+            (home key.now (leaves_now (kept_by self.old holding))).page)
+            (kept_by self.old holding) result (kept_by self.new holding) }
+        ensures memory { is_evicted (home key.now (leaves_now (kept_by self.old holding))).page
+            self.old ≡ false → IfErr result (λ fault. fault ≡ StoreFault.NoMemory) }
+        ensures evicted { (p : ℕ) → is_evicted p self.new ≡ is_evicted p self.old }
+
+        ensures follows { Follows (kept_by self.old holding) (kept_by self.new holding) }
+        ensures boxes { HasBoxes (kept_by self.old holding) (kept_by self.new holding) }
+        ensures noted { noted_of self.new ≡ noted_of self.old }
+    {
+        let page = self.leaves.find(key);
+        if self.leaves.is_here(page) {
+            return Ok(self.leaves.get(key));
+        }
+        self.value_of_evicted(page, key)
+    }
+
+    /// A page that is evicted: what the log has of it, and the records that the frame in the making
+    /// has of it. It stays evicted.
+    pub(crate) fn read_evicted(&mut self, page: u32) -> Result<Leaf, StoreFault>
+        requires sound { IsSound self.old holding }
+        requires inside { (1 ≤ page) × (page ≤ length self.old.leaves.leaves) }
+        requires evicted { is_evicted_page page self.old.leaves ≡ true }
+        ensures leaf { IfOk result (λ leaf. leaf_at page self.old.leaves.leaves ≡ Some leaf) }
+        ensures sound { IsSound self.new holding }
+        ensures intake { self.new.intake ≡ self.old.intake }
+        ensures pages { self.new.leaves ≡ self.old.leaves }
+        ensures read { HasRead (kept_by self.old holding) (kept_by self.new holding) }
+        ensures leaves { ReadLeaves (HoldsPage (kept_by self.old holding).log page)
+            (kept_by self.old holding) result (kept_by self.new holding) }
+        ensures noted { noted_of self.new ≡ noted_of self.old }
+    {
+        let below = match self.log.read_page(page) {
+            Ok(below) => below,
+            Err(fault) => return Err(StoreFault::from(fault)),
+        };
+        self.looks.read_one();
+        Ok(self.tail(page).content(&below)?)
+    }
+
+    /// The value of a key on a page that is evicted: what the newest record of the frame in the
+    /// making says, or what the log has of it. The page stays evicted.
+    pub(crate) fn value_of_evicted(
+        &mut self,
+        page: u32,
+        key: &Key,
+    ) -> Result<Option<Value>, StoreFault>
+        requires sound { IsSound self.old holding }
+        requires inside { (1 ≤ page) × (page ≤ length self.old.leaves.leaves) }
+        requires evicted { is_evicted_page page self.old.leaves ≡ true }
+        ensures value { IfOk result (λ value. value
+            ≡ value_on key.now (leaf_at page self.old.leaves.leaves)) }
+        ensures sound { IsSound self.new holding }
+        ensures pages { self.new.leaves ≡ self.old.leaves }
+        ensures read { HasRead (kept_by self.old holding) (kept_by self.new holding) }
+        ensures leaves { ReadLeaves (HoldsPage (kept_by self.old holding).log page)
+            (kept_by self.old holding) result (kept_by self.new holding) }
+        ensures noted { noted_of self.new ≡ noted_of self.old }
+    {
+        match self.tail(page).word(key) {
+            Word::Silent => {}
+            Word::Gone => return Ok(None),
+            Word::Holds(value) => return Ok(Some(value)),
+        }
+        match self.log.read_value(page, key) {
+            Ok(value) => {
+                self.looks.read_one();
+                Ok(value)
+            }
+            Err(fault) => Err(StoreFault::from(fault)),
+        }
+    }
+
+    // What the frame in the making has of a page that is evicted: such a page has a tail.
+    fn tail(&self, page: u32) -> &Tail
+        requires inside { (1 ≤ page) × (page ≤ length self.now.leaves.leaves) }
+        requires evicted { is_evicted_page page self.now.leaves ≡ true }
+        ensures { result.now.records ≡ ops_at page self.now.making.blocks }
+    {
+        let _ = self.tails.as_slice().len();
+        match &self.tails[page as usize - 1] {
+            Some(tail) => tail,
+            None => unreachable!(),
+        }
+    }
+
+    /// Brings back the page that a record of this key changes, if it is evicted, and tells which it
+    /// is.
+    pub(crate) fn fetch(&mut self, key: &Key) -> Result<u32, StoreFault>
+        requires sound { IsSound self.old holding }
+        ensures page { IfOk result (λ page. page ≡ (home key.now self.new.leaves.leaves).page) }
+        ensures here { OnOk result (IsHere key.now self.new.leaves) }
+        ensures others { OnOk result ((other : List ℕ) → IsHere other self.old.leaves
+            → IsHere other self.new.leaves) }
+        ensures sound { IsSound self.new holding }
+        ensures intake { self.new.intake ≡ self.old.intake }
+        ensures read { HasRead (kept_by self.old holding) (kept_by self.new holding) }
+        ensures leaves { ReadLeaves (HoldsPage (kept_by self.old holding).log
+            (home key.now (kept_by self.old holding).filed.leaves).page)
+            (kept_by self.old holding) result (kept_by self.new holding) }
+        ensures away { OnErr result (away_in self.new
+            (home key.now (kept_by self.old holding).filed.leaves).page ≡ true) }
+        ensures noted { noted_of self.new ≡ noted_of self.old }
+    {
+        let page = self.leaves.find(key);
+        if self.leaves.is_here(page) {
+            return Ok(page);
+        }
+        let leaf = self.read_evicted(page)?;
+        self.leaves.bring_back(page, leaf);
+        Ok(page)
+    }
+}

@@ -1,0 +1,199 @@
+//! A store is opened again over what was recovered.
+
+ghost use Rattle.std.specs.Prelude.{◌≡◌, ◌≤◌, ◌<◌, ◌+◌, ◌-◌, ◌^◌, [], None, ℕ, map, length, false, slice_get, IfOk, IfErr, IfSome, MatchResult, OnOk};
+ghost use Rattle.bw_log.specs.Contents.{counted};
+ghost use Rattle.bw_log.specs.Places.{place_of};
+ghost use Rattle.bw_ring.specs.Ends.{ring_of_feed, ring_of_lane};
+ghost use Rattle.bw_care.specs.Views.{seen, IsSound as IsSoundLog};
+ghost use Rattle.bw_making.specs.Tails.{tail_of, tails_for};
+ghost use Rattle.bw_core.specs.Opened.{AreEnds, AreFresh, AreUnused, IsConfig};
+ghost use Rattle.bw_core.specs.Counting.{bytes_of, noted_from, up};
+ghost use Rattle.bw_core.specs.Reopened.{edge_of as newest_edge, reopened, IsReopenFault};
+
+use crate::config::Config;
+use crate::counters::live_bytes;
+use crate::edge::Edge;
+use crate::fault::StoreFault;
+use crate::open::{Ends, Origin, intake_of};
+use crate::renew::renew;
+use crate::store::Core;
+use bw_buffer::Buffer;
+use bw_care::Recovered;
+use bw_codec::Place;
+use bw_log::Log;
+use bw_making::tails_on;
+use bw_ring::Feed;
+use std::alloc::{AllocError, Global};
+use std::fmt::{self, Debug, Formatter};
+use thiserror::Error;
+
+/// Why a store was not opened again, with what was recovered.
+#[derive(Drop, Error)]
+#[error("{cause}")]
+pub struct ReopenFault {
+    pub recovered: Recovered,
+    pub cause: StoreFault,
+}
+
+impl Debug for ReopenFault {
+    fn fmt<W: fmt::Write>(&self, f: &mut Formatter<W>) -> fmt::Result {
+        write!(f, "ReopenFault({:?})", self.cause)
+    }
+}
+
+// So many places, which are noted later.
+fn blank_places(alloc: Global, pages: usize) -> Result<Vec<Place>, AllocError>
+    ensures { IfOk result (λ places. length places.items ≡ pages) }
+{
+    let mut places = Vec::with_capacity(alloc, pages)?;
+    'pages: for _ in 0..pages {
+        places.push_reserved(Place { frame: 1, index: 0 });
+    }
+    Ok(places)
+}
+
+// The newest segment, and its length.
+fn edge_of(log: &Log) -> Edge
+    requires { IsSoundLog log.now holding }
+    ensures { result ≡ newest_edge (seen log.now holding) }
+{
+    match log.live_segment(log.live().saturating_sub(1)) {
+        Some((segment, _, length)) => Edge { segment, length },
+        None => Edge {
+            segment: 0,
+            length: 0,
+        },
+    }
+}
+
+// The frame in the making, the next one if it has a number.
+fn next_buffer(alloc: Global, next: Option<u64>, f: u32) -> Result<Buffer, AllocError>
+    requires some { IfSome next (λ n. 1 ≤ n) }
+    requires limit { (65536 ≤ f) × (f ≤ 262144) }
+    ensures limit { IfOk result (λ b. b.limit ≡ f) }
+    ensures empty { IfOk result (λ b. b.blocks ≡ []) }
+    ensures unsealed { IfOk result (λ b. b.is_sealed ≡ false) }
+    ensures number { IfOk result (λ b. IfSome next (λ n. b.frame ≡ n)) }
+{
+    match next {
+        Some(next) => Buffer::new(alloc, next, f),
+        None => Buffer::new(alloc, 1, f),
+    }
+}
+
+fn ends_of(alloc: Global, config: &Config, log: &Log, pages: usize) -> Result<Ends, StoreFault>
+    requires config { IsConfig config.now }
+    requires sound { IsSoundLog log.now holding }
+    requires next { IfSome (seen log.now holding).next (λ n. 1 ≤ n) }
+    requires few { pages < 2 ^ 32 }
+    requires there { (p : ℕ) → 1 ≤ p → p ≤ pages
+        → place_of p (counted (seen log.now holding)) ≡ None → ⊥ }
+    ensures feeds { IfOk result (λ e.
+        map ring_of_lane e.intake.lanes.items ≡ map ring_of_feed e.feeds.items) }
+    ensures unused { IfOk result (λ e. AreFresh config.now e.feeds.items) }
+    ensures history { IfOk result (λ e. e.intake.history.items ≡ []) }
+    ensures gone { IfOk result (λ e. e.intake.history.gone ≡ 0) }
+    ensures count { IfOk result (λ e. length e.newest.items ≡ pages) }
+    ensures tails { IfOk result (λ e. map tail_of e.tails.items ≡ tails_for pages []) }
+    ensures each { IfOk result (λ e. (p : ℕ) → 1 ≤ p → p ≤ pages
+        → slice_get e.newest.items (p - 1) ≡ place_of p (counted (seen log.now holding))) }
+    ensures limit { IfOk result (λ e. e.making.limit ≡ config.now.f) }
+    ensures empty { IfOk result (λ e. e.making.blocks ≡ []) }
+    ensures unsealed { IfOk result (λ e. e.making.is_sealed ≡ false) }
+    ensures number { IfOk result (λ e.
+        IfSome (seen log.now holding).next (λ n. e.making.frame ≡ n)) }
+    ensures memory { IfErr result (λ fault. fault ≡ StoreFault.NoMemory) }
+{
+    let (feeds, intake) = intake_of(alloc, config)?;
+    let mut newest = blank_places(alloc, pages)?;
+    renew(&mut newest, log);
+    let tails = tails_on(alloc, &newest)?;
+    let making = next_buffer(alloc, log.next_frame(), config.f)?;
+    Ok(Ends {
+        feeds,
+        intake,
+        newest,
+        tails,
+        making,
+    })
+}
+
+impl Core {
+    ghost use Rattle.bw_care.specs.Found.{IsRecovered};
+    ghost use Rattle.bw_core.specs.Views.{kept_by, noted_of, IsSound};
+
+    /// A store that goes on from what was recovered, and a feed for each of `writers` writers, 1 to
+    /// 64, with rings of `places` places, 1 to 4,096. Its pages are the recovered leaves, its
+    /// history is empty, and its next frame is the one after the last.
+    ///
+    /// Refused `BadConfig`, where a number is out of its range, or `NoMemory`. What was recovered
+    /// then comes back. It costs a look at each page's line.
+    pub fn reopen(
+        alloc: Global,
+        recovered: Recovered,
+        writers: usize,
+        places: usize,
+    ) -> Result<(Core, Vec<Feed>), ReopenFault>
+        requires { IsRecovered (λ b. holding (b.vtable, b.value)) recovered }
+        ensures made { IfOk result (λ r. kept_by r.0 holding
+            ≡ reopened (map ring_of_feed r.1.items) recovered.last recovered.leaves
+            (kept_by r.0 holding).newest (kept_by r.0 holding).making
+            (seen recovered.log holding)) }
+        ensures empty { IfOk result (λ r. (kept_by r.0 holding).making.blocks ≡ []) }
+        ensures sound { IfOk result (λ r. IsSound r.0 holding) }
+        ensures feeds { IfOk result (λ r. AreUnused writers places r.1.items) }
+        ensures noted { IfOk result (λ r. noted_of r.0
+            ≡ noted_from (length recovered.leaves.leaves)
+            (up 0 (bytes_of (seen recovered.log holding).live))) }
+
+        ensures bad_config { MatchResult result (λ _. AreEnds writers places)
+            (λ e. IsReopenFault writers places e.cause) }
+        ensures back { IfErr result (λ e. e.recovered ≡ recovered) }
+    {
+        let config = Config {
+            writers,
+            places,
+            m: recovered.leaves.limit(),
+            f: recovered.log.limit(),
+        };
+        if !config.is_lawful() {
+            let cause = StoreFault::BadConfig;
+            return Err(ReopenFault { recovered, cause });
+        }
+        let pages = recovered.leaves.count() as usize;
+        match ends_of(alloc, &config, &recovered.log, pages) {
+            Ok(ends) => Ok(Core::again(alloc, ends, recovered)),
+            Err(cause) => Err(ReopenFault { recovered, cause }),
+        }
+    }
+
+    // A store of these ends over what was recovered.
+    fn again(alloc: Global, ends: Ends, recovered: Recovered) -> (Core, Vec<Feed>)
+        requires sound { IsSoundLog recovered.log holding }
+        requires tails { map tail_of ends.tails.items
+            ≡ tails_for (length recovered.leaves.leaves) ends.making.blocks }
+        requires here { recovered.leaves.evicted ≡ [] }
+        requires gone { ends.intake.history.gone ≡ 0 }
+        ensures store { kept_by result.0 holding
+            ≡ record (reopened (map ring_of_lane ends.intake.lanes.items) recovered.last
+            recovered.leaves ends.newest.items ends.making (seen recovered.log holding))
+            { entries = ends.intake.history.items } }
+        ensures feeds { result.1 ≡ ends.feeds }
+        ensures noted { noted_of result.0 ≡ noted_from (length recovered.leaves.leaves)
+            (up 0 (bytes_of (seen recovered.log holding).live)) }
+    {
+        let Recovered {
+            log,
+            leaves,
+            last,
+            ..
+        } = recovered;
+        let edge = edge_of(&log);
+        let origin = Origin {
+            before: last,
+            edge,
+            bytes: live_bytes(&log),
+        };
+        Core::begun(alloc, ends, leaves, log, origin)
+    }
+}

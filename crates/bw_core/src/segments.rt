@@ -1,0 +1,142 @@
+//! The boxes of a store: one more, the current one closed, one dumped, all handed back.
+
+ghost use Rattle.std.specs.Prelude.{◌≡◌, ◌≢◌, ◌+◌, ◌++◌, ◌∷◌, ◌↔◌, ◌⊎◌, [], ℕ, true, false, map, length, MatchOption, OnOk, OnErr, IfOk, IfErr, IsErrAnd};
+ghost use Rattle.bw_care.specs.Laws.{cut_newest};
+ghost use Rattle.bw_log.specs.Limits.{IsNotTaken};
+ghost use Rattle.bw_log.specs.Reads.{IsNumbered, segment_at};
+ghost use Rattle.bw_core.specs.Following.{Follows, HasBoxes};
+ghost use Rattle.bw_core.specs.Kept.{EachCutStands};
+ghost use Rattle.bw_core.specs.Reading.{HasRead, ReadLeaves, with_spare, rolled};
+ghost use Rattle.bw_core.specs.Stopping.{FindsCut, FindsStop, MayCut};
+
+use crate::fault::StoreFault;
+use crate::store::Core;
+use bw_device::Segment;
+
+impl Core {
+    ghost use Rattle.bw_core.specs.Views.{kept_by, kept_beside, noted_of, IsSound, IsSoundBeside};
+
+    /// A further spare, which goes last. A box that is not empty or has not the room that `open`
+    /// asks, or one above 4,096, comes back with `BadConfig`, and any box with `NoMemory` where a
+    /// growth is refused; the store is then as it was.
+    pub fn add_segment(
+        &mut self,
+        one: Box<dyn Segment>,
+    ) -> Result<(), (Box<dyn Segment>, StoreFault)>
+        requires { IsSoundBeside self.old holding }
+        ensures sound { IsSoundBeside self.new holding }
+        ensures added { OnOk result
+            (kept_beside self.new holding
+            ≡ with_spare (kept_beside self.old holding) (holding one)) }
+
+        ensures bad_config { IsErrAnd result (λ e. e.1 ≡ StoreFault.BadConfig)
+            ↔ IsNotTaken (kept_beside self.old holding).log (holding one) }
+        ensures memory { IfErr result (λ e.
+            (e.1 ≡ StoreFault.BadConfig) ⊎ (e.1 ≡ StoreFault.NoMemory)) }
+        ensures back { IfErr result (λ e. e.0 ≡ one) }
+        ensures unchanged { OnErr result
+            (kept_beside self.new holding ≡ kept_beside self.old holding) }
+
+        ensures follows { Follows (kept_beside self.old holding) (kept_beside self.new holding) }
+        ensures noted { noted_of self.new ≡ noted_of self.old }
+    {
+        match self.log.add_segment(one) {
+            Ok(()) => Ok(()),
+            Err((one, fault)) => Err((one, StoreFault::from(fault))),
+        }
+    }
+
+    /// Closes the current segment, if any: the next append begins another. No memory is taken.
+    pub fn roll(&mut self)
+        requires { IsSound self.old holding }
+        ensures sound { IsSound self.new holding }
+        ensures closed { kept_by self.new holding
+            ≡ rolled (kept_by self.old holding) }
+
+        ensures follows { Follows (kept_by self.old holding)
+            (kept_by self.new holding) }
+        ensures boxes { HasBoxes (kept_by self.old holding)
+            (kept_by self.new holding) }
+        ensures noted { noted_of self.new ≡ noted_of self.old }
+    {
+        self.log.roll();
+    }
+
+    /// Appends the bytes of the live segment with this number to a `Vec`; answers `false` where no
+    /// live segment has it. A refusal leaves the `Vec` as it was. Refused `NoMemory`; `Device`,
+    /// where the read failed: the next one may not; `Spent`, where one more failure of that segment
+    /// could not be counted.
+    pub fn dump(&mut self, segment: u64, out: &mut Vec<u8>) -> Result<bool, StoreFault>
+        requires { IsSound self.old holding }
+        ensures found { IfOk result (λ found.
+            MatchOption (segment_at (kept_by self.old holding).log
+            segment) ((found ≡ false) × (out.new.items ≡ out.old.items))
+            (λ h. (found ≡ true) × (out.new.items ≡ out.old.items ++ h.bytes))) }
+        ensures sound { IsSound self.new holding }
+        ensures read { HasRead (kept_by self.old holding)
+            (kept_by self.new holding) }
+
+        ensures unchanged { OnErr result (out.new.items ≡ out.old.items) }
+        ensures leaves { ReadLeaves (IsNumbered
+            (kept_by self.old holding).log segment)
+            (kept_by self.old holding) result
+            (kept_by self.new holding) }
+
+        ensures follows { Follows (kept_by self.old holding)
+            (kept_by self.new holding) }
+        ensures boxes { HasBoxes (kept_by self.old holding)
+            (kept_by self.new holding) }
+        ensures noted { noted_of self.new ≡ noted_of self.old }
+    {
+        match self.log.dump(segment, out) {
+            Ok(found) => Ok(found),
+            Err(fault) => Err(StoreFault::from(fault)),
+        }
+    }
+
+    /// All boxes, as they are: the live ones in the order of their numbers, and the spares in
+    /// theirs. Nothing is flushed. No memory is taken.
+    ///
+    /// Where an append failed, `recover` is the way on, and the only one: the box may hold any
+    /// beginning of the piece, also all of it. It finds the pages up to the last durable cut or,
+    /// where that piece was a whole frame, up to the cut of this frame. A stop in the middle of any
+    /// call leaves no other boxes, since nothing is appended behind a failed append. Where none
+    /// failed, the newest segment may even be cut short, as a file is by a loss of power: what is
+    /// left shows the pages up to a cut.
+    pub fn shut(self) -> (Vec<Box<dyn Segment>>, Vec<Box<dyn Segment>>)
+        requires { IsSoundBeside self holding }
+        ensures live { map holding result.0.items ≡ (kept_beside self holding).log.live }
+        ensures spares { map holding result.1.items ≡ (kept_beside self holding).log.spares }
+
+        // What the boxes hold up to each durable cut from the floor on are the pages of that cut.
+        ensures each_cut { EachCutStands (kept_beside self holding) }
+
+        // After a stop, and behind a cut of the newest segment, recovery finds the pages of a cut.
+        ensures stops { (kept_beside self holding).log.is_failed ≡ true
+            → FindsStop (kept_beside self holding)
+            (map holding result.0.items ++ map holding result.1.items) }
+        ensures cuts { (kept_beside self holding).log.is_failed ≡ false
+            → (n : ℕ) → MayCut (kept_beside self holding) n
+            → FindsCut (kept_beside self holding)
+            (cut_newest n (map holding result.0.items) ++ map holding result.1.items) }
+    {
+        let Core {
+            intake: _intake,
+            before: _,
+            floor: _,
+            edge: _,
+            cuts: _cuts,
+            durable: _,
+            leaves: _leaves,
+            newest: _newest,
+            tails: _tails,
+            making: _making,
+            log,
+            start: _start,
+            tally: _,
+            looks: _,
+        } = self;
+        let (live, spares) = log.into_segments();
+        (live, spares)
+    }
+}

@@ -1,0 +1,53 @@
+//! The store itself.
+
+ghost use Rattle.std.specs.Prelude.{ℕ, ◌≡◌, ◌≤◌, true, false, length, map};
+ghost use Rattle.bw_page.specs.Shown.{is_evicted_page};
+ghost use Rattle.bw_history.specs.History.{are_whole, cut};
+ghost use Rattle.bw_making.specs.Tails.{tail_of, tails_for, is_made};
+
+use crate::counters::{Looks, Tally};
+use crate::edge::Edge;
+use bw_buffer::Buffer;
+use bw_codec::Place;
+use bw_history::Intake;
+use bw_log::Log;
+use bw_making::Tail;
+use bw_page::Leaves;
+use std::snapshot::Snapshot;
+
+/// Pages that writers change and a log keeps, for one thread: nobody else reads them.
+#[derive(Drop)]
+pub struct Core {
+    /// The lanes, and what was taken from them.
+    pub(crate) intake: Intake,
+    /// The number of the frame before the first of this store.
+    pub(crate) before: u64,
+    /// How many cuts were durable when a segment was last given up.
+    pub(crate) floor: u64,
+    /// Where this store's bytes begin.
+    pub(crate) edge: Edge,
+    /// The history's length at each seal, and how many of the sealed frames were appended.
+    pub(crate) cuts: Vec<u64>,
+    pub(crate) durable: u64,
+    pub(crate) leaves: Leaves,
+    /// The last block of each page, from page 1 on.
+    pub(crate) newest: Vec<Place>,
+    /// What the frame in the making does to each page; `None` where it makes or cuts the page.
+    pub(crate) tails: Vec<Option<Tail>>,
+    /// The frame in the making.
+    pub(crate) making: Buffer,
+    pub(crate) log: Log,
+    /// The leaves at `open` or `reopen`, which the proof alone knows.
+    pub(crate) start: Snapshot<Leaves>,
+    /// What is counted.
+    pub(crate) tally: Tally,
+    pub(crate) looks: Looks,
+    ghost tailed: { map tail_of tails.items ≡ tails_for (length leaves.leaves) making.blocks },
+    // No cut stands inside a group.
+    ghost whole: { are_whole cuts.items intake.history.items ≡ true },
+    // A page that is evicted is in the log, but for its tail.
+    ghost logged: { (p : ℕ) → is_evicted_page p leaves ≡ true → is_made p making.blocks ≡ false },
+    // What was forgotten is durable.
+    ghost forgotten: { intake.history.gone ≤ cut cuts.items durable },
+    ghost began: { tally.pages ≡ length start.value.leaves },
+}

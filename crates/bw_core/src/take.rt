@@ -1,0 +1,290 @@
+//! One group is taken from a lane, whole or not at all.
+
+ghost use Rattle.std.specs.Prelude.{◌≡◌, ◌≤◌, ◌<◌, ◌+◌, ◌-◌, ◌∷◌, [], Some, None, false, length, map, IfSome, IfNone, IfOk, IfErr, OnOk, OnErr, MatchResult};
+ghost use Rattle.std.specs.List.{AllByRecursion};
+ghost use Rattle.bw_codec.specs.Grammar.{body_bytes, IsBlock, IsOp};
+ghost use Rattle.bw_codec.specs.Record.{key_of};
+ghost use Rattle.bw_page.specs.Batch.{AreHere};
+ghost use Rattle.bw_page.specs.Leaves.{directed_at, HasPages};
+ghost use Rattle.bw_page.specs.Shown.{IsHere};
+ghost use Rattle.bw_ring.specs.Ends.{given};
+ghost use Rattle.bw_ring.specs.Marks.{marked};
+ghost use Rattle.bw_history.specs.Entries.{records};
+ghost use Rattle.bw_history.specs.History.{entered};
+ghost use Rattle.bw_buffer.specs.Filling.{size_of};
+ghost use Rattle.bw_core.specs.Fitting.{Fits};
+ghost use Rattle.bw_history.specs.Lanes.{IsNext, IsWaiting, Dries, TookKnown};
+ghost use Rattle.bw_making.specs.Planning.{listed};
+ghost use Rattle.bw_core.specs.Taking.{TakeLeaves, WaitingLeaves, GroupLeaves, IsPlan, IsStopped, IsUnplanned};
+
+use crate::fault::StoreFault;
+use crate::plan::{Plan, planned_for};
+use crate::store::Core;
+use bw_codec::Record;
+use bw_history::PackedEntry;
+use bw_making::place_for;
+use bw_ring::{Group, Items};
+
+impl Core {
+    ghost use Rattle.bw_core.specs.Views.{away_in, kept_by, noted_of, IsSound};
+
+    /// Takes the next group of a lane, if there is one; answers how many records it has, 1 to 4.
+    pub(crate) fn take_from(&mut self, lane: usize) -> Result<Option<u64>, StoreFault>
+        requires sound { IsSound self.old holding }
+        requires inside { lane < length self.old.intake.lanes.items }
+        ensures sound { IsSound self.new holding }
+        ensures count { length self.new.intake.lanes.items ≡ length self.old.intake.lanes.items }
+        ensures dry { IfOk result (λ took. IfNone took
+            (Dries lane self.old.intake.lanes.items self.new.intake.lanes.items)) }
+        ensures few { IfOk result (λ took. IfSome took (λ n. n ≤ 4)) }
+        ensures leaves { TakeLeaves lane self.new.intake.lanes.items (away_in self.new)
+            (kept_by self.old holding) result (kept_by self.new holding) }
+        ensures noted { noted_of self.new ≡ noted_of self.old }
+    {
+        if let Some(item) = self.intake.alone(lane) {
+            self.take_item(lane, item)?;
+            return Ok(Some(1));
+        }
+        let Some(group) = self.look(lane) else {
+            return Ok(None);
+        };
+        let records = group.len() as u64;
+        self.take_group(lane, group)?;
+        Ok(Some(records))
+    }
+
+    /// Takes the next group of a lane, which the lane knows of: its ring is not looked at.
+    pub(crate) fn take_waiting(&mut self, lane: usize) -> Result<(), StoreFault>
+        requires sound { IsSound self.old holding }
+        requires inside { lane < length self.old.intake.lanes.items }
+        requires waits { IsWaiting self.old.intake.lanes.items lane }
+        ensures sound { IsSound self.new holding }
+        ensures count { length self.new.intake.lanes.items ≡ length self.old.intake.lanes.items }
+        ensures given { OnOk result (map given self.new.intake.lanes.items
+            ≡ map given self.old.intake.lanes.items) }
+        ensures known { OnOk result
+            (TookKnown lane self.old.intake.lanes.items self.new.intake.lanes.items) }
+        ensures leaves { WaitingLeaves lane self.new.intake.lanes.items (away_in self.new)
+            (kept_by self.old holding) result (kept_by self.new holding) }
+        ensures noted { noted_of self.new ≡ noted_of self.old }
+    {
+        if let Some(item) = self.intake.alone(lane) {
+            return self.take_item(lane, item);
+        }
+        let group = self.intake.first(lane);
+        self.take_group(lane, group)
+    }
+
+    // Takes this group, which is the next of its lane.
+    fn take_group(&mut self, lane: usize, group: Group) -> Result<(), StoreFault>
+        requires sound { IsSound self.old holding }
+        requires inside { lane < length self.old.intake.lanes.items }
+        requires comes { IsNext self.old.intake.lanes.items lane group }
+        ensures sound { IsSound self.new holding }
+        ensures count { length self.new.intake.lanes.items ≡ length self.old.intake.lanes.items }
+        ensures given { OnOk result (map given self.new.intake.lanes.items
+            ≡ map given self.old.intake.lanes.items) }
+        ensures known { OnOk result
+            (TookKnown lane self.old.intake.lanes.items self.new.intake.lanes.items) }
+        ensures stays { OnErr result
+            (self.new.intake.lanes.items ≡ self.old.intake.lanes.items) }
+        ensures leaves { GroupLeaves lane (away_in self.new) group
+            (kept_by self.old holding) result (kept_by self.new holding) }
+        ensures noted { noted_of self.new ≡ noted_of self.old }
+    {
+        match alone(group) {
+            Ok(item) => self.take_item(lane, item),
+            Err(group) => self.take_many(lane, group),
+        }
+    }
+
+    // Takes a group of this one record: its plan takes no memory of its own.
+    fn take_item(&mut self, lane: usize, item: Record) -> Result<(), StoreFault>
+        requires sound { IsSound self.old holding }
+        requires inside { lane < length self.old.intake.lanes.items }
+        requires comes { IsNext self.old.intake.lanes.items lane (item ∷ []) }
+        ensures sound { IsSound self.new holding }
+        ensures count { length self.new.intake.lanes.items ≡ length self.old.intake.lanes.items }
+        ensures given { OnOk result (map given self.new.intake.lanes.items
+            ≡ map given self.old.intake.lanes.items) }
+        ensures known { OnOk result
+            (TookKnown lane self.old.intake.lanes.items self.new.intake.lanes.items) }
+        ensures stays { OnErr result
+            (self.new.intake.lanes.items ≡ self.old.intake.lanes.items) }
+        ensures leaves { GroupLeaves lane (away_in self.new) (item ∷ [])
+            (kept_by self.old holding) result (kept_by self.new holding) }
+        ensures noted { noted_of self.new ≡ noted_of self.old }
+    {
+        self.goes_on()?;
+        let page = self.fetch(item.key())?;
+        self.take_here(lane, item, page)
+    }
+
+    // The same, where the page at which it is directed is in memory.
+    fn take_here(&mut self, lane: usize, item: Record, page: u32) -> Result<(), StoreFault>
+        requires sound { IsSound self.old holding }
+        requires inside { lane < length self.old.intake.lanes.items }
+        requires comes { IsNext self.old.intake.lanes.items lane (item ∷ []) }
+        requires here { IsHere (key_of item) self.old.leaves }
+        requires page { page ≡ directed_at self.old.leaves.leaves item }
+        ensures sound { IsSound self.new holding }
+        ensures count { length self.new.intake.lanes.items ≡ length self.old.intake.lanes.items }
+        ensures given { OnOk result (map given self.new.intake.lanes.items
+            ≡ map given self.old.intake.lanes.items) }
+        ensures known { OnOk result
+            (TookKnown lane self.old.intake.lanes.items self.new.intake.lanes.items) }
+        ensures stays { OnErr result
+            (self.new.intake.lanes.items ≡ self.old.intake.lanes.items) }
+        ensures leaves { GroupLeaves lane (away_in self.new) (item ∷ [])
+            (kept_by self.old holding) result (kept_by self.new holding) }
+        ensures noted { noted_of self.new ≡ noted_of self.old }
+    {
+        let plan = self.plan(page, &item)?;
+        if self.making.has_room(plan.blocks.as_slice()) {
+            return self.enter(lane, item, plan.page, plan.back, plan.blocks.as_slice());
+        }
+        self.flush_making(false)?;
+        let plan = self.plan(page, &item)?;
+        self.enter(lane, item, plan.page, plan.back, plan.blocks.as_slice())
+    }
+
+    // Takes a group of several records: all of it is planned before anything is entered.
+    fn take_many(&mut self, lane: usize, group: Group) -> Result<(), StoreFault>
+        requires sound { IsSound self.old holding }
+        requires inside { lane < length self.old.intake.lanes.items }
+        requires comes { IsNext self.old.intake.lanes.items lane group }
+        ensures sound { IsSound self.new holding }
+        ensures count { length self.new.intake.lanes.items ≡ length self.old.intake.lanes.items }
+        ensures given { OnOk result (map given self.new.intake.lanes.items
+            ≡ map given self.old.intake.lanes.items) }
+        ensures known { OnOk result
+            (TookKnown lane self.old.intake.lanes.items self.new.intake.lanes.items) }
+        ensures stays { OnErr result
+            (self.new.intake.lanes.items ≡ self.old.intake.lanes.items) }
+        ensures leaves { GroupLeaves lane (away_in self.new) group
+            (kept_by self.old holding) result (kept_by self.new holding) }
+        ensures noted { noted_of self.new ≡ noted_of self.old }
+    {
+        let _ = group.len();
+        self.goes_on()?;
+        self.fetch_all(group.as_slice())?;
+        let entries = self.intake.packed(lane, &group)?;
+        match self.draft(lane, group.as_slice(), entries.as_slice())? {
+            Some(draft) => self.enter_all(lane, group, entries, &draft),
+            None => self.take_behind(lane, group, entries),
+        }
+    }
+
+    // The same, where the frame in the making has no room for all of the group: it is appended
+    // first.
+    fn take_behind(
+        &mut self,
+        lane: usize,
+        group: Group,
+        entries: Vec<PackedEntry>,
+    ) -> Result<(), StoreFault>
+        requires sound { IsSound self.old holding }
+        requires inside { lane < length self.old.intake.lanes.items }
+        requires comes { IsNext self.old.intake.lanes.items lane group }
+        requires entries { entries.items ≡ entered lane (marked group) }
+        requires records { records entries.items ≡ group }
+        requires here { AreHere self.old.leaves group }
+        requires lawful { AllByRecursion IsOp group }
+        requires works { (kept_by self.old holding).log.is_failed ≡ false }
+        requires room { HasPages self.old.leaves.m self.old.leaves.leaves group }
+        requires full { Fits (kept_by self.old holding) group → ⊥ }
+        ensures sound { IsSound self.new holding }
+        ensures count { length self.new.intake.lanes.items ≡ length self.old.intake.lanes.items }
+        ensures given { OnOk result (map given self.new.intake.lanes.items
+            ≡ map given self.old.intake.lanes.items) }
+        ensures known { OnOk result
+            (TookKnown lane self.old.intake.lanes.items self.new.intake.lanes.items) }
+        ensures stays { OnErr result
+            (self.new.intake.lanes.items ≡ self.old.intake.lanes.items) }
+        ensures leaves { GroupLeaves lane (away_in self.new) group
+            (kept_by self.old holding) result (kept_by self.new holding) }
+        ensures noted { noted_of self.new ≡ noted_of self.old }
+    {
+        let _ = group.len();
+        self.flush_making(false)?;
+        match self.draft(lane, group.as_slice(), entries.as_slice())? {
+            Some(draft) => self.enter_all(lane, group, entries, &draft),
+            None => unreachable!(),
+        }
+    }
+
+    // A copy of the group that a lane gives next.
+    fn look(&mut self, lane: usize) -> Option<Group>
+        requires { lane < length self.old.intake.lanes.items }
+        ensures same { kept_by self.new holding ≡ kept_by self.old holding }
+        ensures count { length self.new.intake.lanes.items ≡ length self.old.intake.lanes.items }
+        ensures next { IfSome result (IsNext self.new.intake.lanes.items lane) }
+        ensures none { IfNone result (Dries lane self.old.intake.lanes.items
+            self.new.intake.lanes.items) }
+        ensures noted { noted_of self.new ≡ noted_of self.old }
+    {
+        self.intake.next(lane)
+    }
+
+    // Whether there is a frame for a further record.
+    pub(crate) fn goes_on(&self) -> Result<(), StoreFault>
+        requires sound { IsSound self.now holding }
+        ensures works { OnOk result ((kept_by self.now holding).log.is_failed ≡ false) }
+        ensures unsealed { OnOk result (self.now.making.is_sealed ≡ false) }
+        ensures next { OnOk result ((kept_by self.now holding).log.next
+            ≡ Some self.now.making.frame) }
+        ensures refused { IfErr result (IsStopped (kept_by self.now holding)) }
+    {
+        if self.log.is_failed() {
+            return Err(StoreFault::Failed);
+        }
+        match self.log.next_frame() {
+            Some(_) => Ok(()),
+            None => Err(StoreFault::Spent),
+        }
+    }
+
+    // What a record of this page adds, where there is a frame for it.
+    fn plan(&self, page: u32, item: &Record) -> Result<Plan, StoreFault>
+        requires sound { IsSound self.now holding }
+        requires here { IsHere (key_of item.now) self.now.leaves }
+        requires page { page ≡ directed_at self.now.leaves.leaves item.now }
+        ensures works { OnOk result ((kept_by self.now holding).log.is_failed ≡ false) }
+        ensures unsealed { OnOk result (self.now.making.is_sealed ≡ false) }
+        ensures next { OnOk result ((kept_by self.now holding).log.next
+            ≡ Some self.now.making.frame) }
+        ensures plan { IfOk result (IsPlan (kept_by self.now holding) item.now) }
+        ensures lawful { IfOk result (λ p. AllByRecursion (IsBlock 32) (listed p.blocks)
+            × (length (listed p.blocks) ≤ 2)) }
+        ensures short { IfOk result (λ p. length (body_bytes (listed p.blocks)) ≤ 12000) }
+        ensures refused { IfErr result
+            (IsUnplanned (kept_by self.now holding) (item.now ∷ [])) }
+    {
+        self.goes_on()?;
+        let _ = item.key();
+        let _ = self.making.room();
+        let here = place_for(&self.making, page);
+        planned_for(
+            *self.cuts.allocator(),
+            &self.leaves,
+            &self.newest,
+            here,
+            page,
+            item,
+        )
+    }
+}
+
+// The record of a group of one, or the group.
+fn alone(group: Group) -> Result<Record, Group>
+    ensures { MatchResult result (λ item. item ∷ [] ≡ group)
+        (λ back. (back ≡ group) × (2 ≤ length group) × (length group ≤ 4)) }
+{
+    if group.len() > 1 {
+        return Err(group);
+    }
+    match group.into_items() {
+        Items::One([item]) => Ok(item),
+        _ => unreachable!(),
+    }
+}

@@ -1,0 +1,150 @@
+//! A walk over the pairs of all pages in the order of their keys.
+//!
+//! Pages are numbered as they were made, and their lows are in no order. So a walk goes from a
+//! key's page to the page with the next low, which a search among the lows tells.
+
+ghost use Rattle.std.specs.Prelude.{ℕ, ◌≡◌, false, IfOk, IfErr, OnOk};
+ghost use Rattle.bw_log.specs.Reads.{HoldsPage};
+ghost use Rattle.bw_page.specs.Ahead.{IsFirst, IsStretch, pair_above, pairs_above, with_some};
+ghost use Rattle.bw_page.specs.Leaves.{home, plain};
+ghost use Rattle.bw_history.specs.Entries.{records};
+ghost use Rattle.bw_core.specs.Following.{Follows, HasBoxes};
+ghost use Rattle.bw_core.specs.Reading.{HasRead, ReadLeaves, WalkLeaves};
+
+use crate::fault::StoreFault;
+use crate::store::Core;
+use bw_codec::{Key, Value};
+use bw_page::{add_pairs, pair_from};
+
+impl Core {
+    ghost use Rattle.bw_core.specs.Views.{kept_by, is_evicted, noted_of, IsSound};
+
+    /// The first pair at or above a key of the page on which a record of the key would stand.
+    fn pair_from(&mut self, key: &Key) -> Result<Option<(Key, Value)>, StoreFault>
+        requires { IsSound self.old holding }
+        ensures value { IfOk result (λ pair. pair
+            ≡ pair_above key.now (home key.now self.old.leaves.leaves).pairs) }
+        ensures sound { IsSound self.new holding }
+        ensures pages { self.new.leaves ≡ self.old.leaves }
+        ensures read { HasRead (kept_by self.old holding) (kept_by self.new holding) }
+        ensures leaves { ReadLeaves (HoldsPage (kept_by self.old holding).log
+            (home key.now self.old.leaves.leaves).page)
+            (kept_by self.old holding) result (kept_by self.new holding) }
+        ensures memory { is_evicted (home key.now self.old.leaves.leaves).page
+            self.old ≡ false → IfErr result (λ fault. fault ≡ StoreFault.NoMemory) }
+        ensures noted { noted_of self.new ≡ noted_of self.old }
+    {
+        let page = self.leaves.find(key);
+        if let Some(leaf) = self.leaves.page(page) {
+            return Ok(pair_from(leaf, key));
+        }
+        let leaf = self.read_evicted(page)?;
+        Ok(pair_from(&leaf, key))
+    }
+
+    /// The pair with the least key at or above this one, as all records of the history leave it,
+    /// flushed or not, in memory or evicted; `None` behind the last pair. Pages that are evicted
+    /// are read from the log, and stay evicted.
+    ///
+    /// It costs a search and a look at a page; and, where that page has no such pair, another
+    /// search and look for each page behind it that has none. Refused as `get` is.
+    pub fn next_at(&mut self, key: &Key) -> Result<Option<(Key, Value)>, StoreFault>
+        requires { IsSound self.old holding }
+        ensures value { IfOk result (λ pair. IsFirst (plain (kept_by self.old holding).start
+            (records (kept_by self.old holding).entries)) key.now pair) }
+        ensures sound { IsSound self.new holding }
+        ensures read { HasRead (kept_by self.old holding) (kept_by self.new holding) }
+        ensures leaves { WalkLeaves (kept_by self.old holding) result
+            (kept_by self.new holding) }
+        ensures memory { ((p : ℕ) → is_evicted p self.old ≡ false)
+            → IfErr result (λ fault. fault ≡ StoreFault.NoMemory) }
+        ensures evicted { (p : ℕ) → is_evicted p self.new ≡ is_evicted p self.old }
+
+        ensures follows { Follows (kept_by self.old holding) (kept_by self.new holding) }
+        ensures boxes { HasBoxes (kept_by self.old holding) (kept_by self.new holding) }
+        ensures noted { noted_of self.new ≡ noted_of self.old }
+    {
+        let mut from = key.copy();
+        'pages: loop {
+            let found = self.pair_from(&from)?;
+            if found.is_some() {
+                return Ok(found);
+            }
+            match self.leaves.low_above(&from) {
+                Some(low) => from = low,
+                None => return Ok(None),
+            }
+        }
+    }
+
+    /// Adds the pairs at or above a key of the page on which a record of the key would stand, until
+    /// there are so many.
+    fn add_pairs(
+        &mut self,
+        key: &Key,
+        most: usize,
+        found: &mut Vec<(Key, Value)>,
+    ) -> Result<(), StoreFault>
+        requires { IsSound self.old holding }
+        ensures value { OnOk result (found.new.items ≡ with_some most found.old.items
+            (pairs_above key.now (home key.now self.old.leaves.leaves).pairs)) }
+        ensures sound { IsSound self.new holding }
+        ensures pages { self.new.leaves ≡ self.old.leaves }
+        ensures read { HasRead (kept_by self.old holding) (kept_by self.new holding) }
+        ensures leaves { ReadLeaves (HoldsPage (kept_by self.old holding).log
+            (home key.now self.old.leaves.leaves).page)
+            (kept_by self.old holding) result (kept_by self.new holding) }
+        ensures memory { is_evicted (home key.now self.old.leaves.leaves).page
+            self.old ≡ false → IfErr result (λ fault. fault ≡ StoreFault.NoMemory) }
+        ensures noted { noted_of self.new ≡ noted_of self.old }
+    {
+        let page = self.leaves.find(key);
+        if let Some(leaf) = self.leaves.page(page) {
+            add_pairs(leaf, key, most, found)?;
+            return Ok(());
+        }
+        let leaf = self.read_evicted(page)?;
+        add_pairs(&leaf, key, most, found)?;
+        Ok(())
+    }
+
+    /// Puts the pairs at or above a key into `found`, as all records of the history leave them, in
+    /// the order of keys and no more than so many. What stood in `found` is dropped before. A walk
+    /// goes on behind the last of them. Pages that are evicted are read from the log, and stay
+    /// evicted.
+    ///
+    /// It costs a search and a look for each page, and a copy of each pair. Refused as `get` is, or
+    /// `NoMemory` where `found` does not grow; it then has some of the pairs.
+    pub fn scan(
+        &mut self,
+        key: &Key,
+        most: usize,
+        found: &mut Vec<(Key, Value)>,
+    ) -> Result<(), StoreFault>
+        requires { IsSound self.old holding }
+        ensures value { OnOk result (IsStretch (plain (kept_by self.old holding).start
+            (records (kept_by self.old holding).entries)) key.now most found.new.items) }
+        ensures sound { IsSound self.new holding }
+        ensures read { HasRead (kept_by self.old holding) (kept_by self.new holding) }
+        ensures leaves { WalkLeaves (kept_by self.old holding) result
+            (kept_by self.new holding) }
+        ensures memory { ((p : ℕ) → is_evicted p self.old ≡ false)
+            → IfErr result (λ fault. fault ≡ StoreFault.NoMemory) }
+        ensures evicted { (p : ℕ) → is_evicted p self.new ≡ is_evicted p self.old }
+
+        ensures follows { Follows (kept_by self.old holding) (kept_by self.new holding) }
+        ensures boxes { HasBoxes (kept_by self.old holding) (kept_by self.new holding) }
+        ensures noted { noted_of self.new ≡ noted_of self.old }
+    {
+        found.clear();
+        let mut from = key.copy();
+        'pages: while found.len() < most {
+            self.add_pairs(&from, most, found)?;
+            match self.leaves.low_above(&from) {
+                Some(low) => from = low,
+                None => return Ok(()),
+            }
+        }
+        Ok(())
+    }
+}

@@ -1,0 +1,25 @@
+use Rattle.std.proofs.Common.{refl}
+use Rattle.bw_home.proofs.Readings.{shared_by_kind, shared_from_kind}
+use Rattle.bw_home.proofs.shared.go.Goals as goal
+
+pub legs-init : goal.legs-init
+legs-init g c = (tt, tt, shared_by_kind (record { first = λ _ _ _. refl; second = λ _ _ _. refl }) c.in-Ok.ensures, λ answer says. says)
+
+pub next_made-requires : goal.next_made-requires
+next_made-requires g c = shared_from_kind (record { first = λ _ _ _. refl; second = λ _ _ _. refl }) c.legs.invariant.2
+
+-- whichever segment is added
+pub legs-preserved-in-Some-next_made : goal.legs-preserved-in-Some-next_made
+legs-preserved-in-Some-next_made g c =
+    (tt, tt, shared_by_kind (record { first = λ _ _ _. refl; second = λ _ _ _. refl }) c.add.ensures, c.legs.invariant.3)
+
+pub returns-in-Some-leg-clause-answer : goal.returns-in-Some-leg-clause-answer
+returns-in-Some-leg-clause-answer g c = c.legs.invariant.3 _ c.in-Some-leg.ensures.answer
+
+pub legs-preserved : goal.legs-preserved
+legs-preserved g c = (
+  tt,
+  tt,
+  shared_by_kind (record { first = λ _ _ _. refl; second = λ _ _ _. refl }) c.leg.ensures.ready,
+  λ answer says. c.legs.invariant.3 answer (c.in_default-leg.ensures.answer answer says),
+)

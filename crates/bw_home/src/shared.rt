@@ -1,0 +1,308 @@
+//! A store with readers: it is opened as one without, and shows what is durable to other threads.
+
+ghost use Rattle.std.specs.Prelude.{◌≡◌, map, IfOk, IfSome, IsNone, MatchOption};
+ghost use Rattle.bw_ring.specs.Ends.{ring_of_feed};
+ghost use Rattle.bw_care.specs.Found.{IsRecovered};
+ghost use Rattle.bw_home.specs.Sharing.{IsShared, IsSharedBeside};
+
+use crate::begun::{NotBegun, clear};
+use crate::fault::HomeFault;
+use crate::found::Found;
+use crate::opened::site_of;
+use crate::options::Options;
+use crate::site::{Made, Site};
+use crate::stock::Stock;
+use crate::system::System;
+use bw_care::{RecoverCause, Recovered, recover};
+use bw_device::Segment;
+use bw_file::FolderFault;
+use bw_ring::Feed;
+use bw_store::{Cleaned, Config, Store};
+use std::alloc::{AllocError, Global};
+
+/// A store with readers, the feeds of its writers, and where its segments stand. As `Home` else.
+pub struct SharedHome {
+    pub store: Store,
+    pub feeds: Vec<Feed>,
+    stock: Stock,
+}
+
+/// What is done with a store that has readers, in legs. As `Legs` else.
+pub trait SharedLegs<R>: Drop {
+    /// What it answers.
+    type Answer;
+
+    // What it says of its answer: nothing, where it does not tell. A leg adds nothing to that.
+    ghost says: { Self → Self.Answer → Type 0 } = { λ _ _. Unit {0} };
+
+    /// Goes on, up to the answer; `None` asks for another leg.
+    fn leg(&mut self, rt: &R, home: &mut SharedHome) -> Option<Self::Answer>
+        requires { IsShared home.old holding }
+        ensures ready { IsShared home.new holding }
+        ensures answer { MatchOption result
+            ((answer : Self.Answer) → says self.new answer → says self.old answer)
+            (λ answer. says self.old answer) };
+}
+
+impl SharedHome {
+    ghost use Rattle.bw_store.specs.Views.{kept_by, IsSound};
+
+    // A store and its feeds, over a site of which new segments have this capacity.
+    fn of(
+        store: Store,
+        feeds: Vec<Feed>,
+        site: Site,
+        capacity: u64,
+        found: Option<Found>,
+    ) -> SharedHome
+        requires sound { IsSound store holding }
+        requires feeds { map ring_of_feed feeds.items ≡ (kept_by store holding).rings }
+        ensures { IsShared result holding }
+    {
+        let stock = Stock::of(*feeds.allocator(), site, capacity, found);
+        SharedHome {
+            store,
+            feeds,
+            stock,
+        }
+    }
+
+    fn open<R: System>(
+        rt: &R,
+        options: &Options,
+        readers: usize,
+        segments: Vec<Box<dyn Segment>>,
+        site: Site,
+        found: Option<Found>,
+    ) -> Result<SharedHome, HomeFault>
+        requires { Unit {0} }
+        ensures { IfOk result (λ home. IsSharedBeside home holding) }
+    {
+        let config = Config {
+            writers: options.writers,
+            places: options.places,
+            readers,
+            m: options.m,
+            f: options.f,
+        };
+        match Store::open(rt, rt.alloc(), &config, segments) {
+            Ok((store, feeds)) => Ok(SharedHome::of(store, feeds, site, options.capacity, found)),
+            Err(fault) => Err(HomeFault::from(fault.cause)),
+        }
+    }
+
+    fn reopen<R: System>(
+        rt: &R,
+        options: &Options,
+        readers: usize,
+        recovered: Recovered,
+        site: Site,
+    ) -> Result<SharedHome, HomeFault>
+        requires { IsRecovered (λ b. holding (b.vtable, b.value)) recovered }
+        ensures { IfOk result (λ home. IsShared home holding) }
+    {
+        let Options {
+            writers,
+            places,
+            ..
+        } = *options;
+        let found = Some(Found::of(&recovered));
+        match Store::reopen(rt, rt.alloc(), recovered, writers, places, readers) {
+            Ok((store, feeds)) => Ok(SharedHome::of(store, feeds, site, options.capacity, found)),
+            Err(fault) => Err(HomeFault::from(fault.cause)),
+        }
+    }
+
+    /// As `Home::found`.
+    pub fn found(&self) -> Option<Found>
+        ensures { result ≡ self.now.stock.found }
+    {
+        self.stock.found
+    }
+
+    /// As `Home::clean`.
+    pub fn clean<R: System>(&mut self, rt: &R) -> Result<Cleaned, HomeFault>
+        requires { IsShared self.old holding }
+        ensures ready { IsShared self.new holding }
+        ensures feeds { self.new.feeds ≡ self.old.feeds }
+    {
+        self.stock.renew(rt)?;
+        let cleaned = self.store.clean(rt)?;
+        self.stock.given_up = Some(cleaned.lease);
+        self.stock.renew(rt)?;
+        Ok(cleaned)
+    }
+
+    // The leases of the live segments, the oldest first.
+    fn live_leases(&self) -> Result<Vec<u32>, AllocError>
+        requires { IsShared self.now holding }
+    {
+        let mut leases = Vec::new(*self.feeds.allocator());
+        for i in 0..self.store.live() {
+            if let Some((_, lease, _)) = self.store.live_segment(i) {
+                leases.push(lease)?;
+            }
+        }
+        Ok(leases)
+    }
+
+    /// As `Home::row`.
+    pub fn row(&mut self) -> Result<Vec<u32>, AllocError>
+        requires { IsShared self.old holding }
+        ensures ready { IsShared self.new holding }
+        ensures feeds { self.new.feeds ≡ self.old.feeds }
+    {
+        let live = self.live_leases()?;
+        self.stock.row(*self.feeds.allocator(), live)
+    }
+
+    /// As `Home::empty_row`.
+    pub fn empty_row<R: System>(&mut self, rt: &R, row: &[u32]) -> Result<(), FolderFault>
+        requires { IsShared self.old holding }
+        ensures ready { IsShared self.new holding }
+        ensures feeds { self.new.feeds ≡ self.old.feeds }
+    {
+        self.stock.empty_row(rt, row)
+    }
+
+    fn next_made(&mut self) -> Option<Made>
+        requires { IsShared self.old holding }
+        ensures { IsShared self.new holding }
+    {
+        self.stock.next_made()
+    }
+
+    fn add(&mut self, spare: Box<dyn Segment>)
+        requires { IsSharedBeside self.old holding }
+        ensures { IsSharedBeside self.new holding }
+    {
+        let _ = self.store.add_segment(spare);
+    }
+
+    // Ends the store: its readers are refused from then on.
+    fn shut<R: System>(self, rt: &R)
+        requires { IsShared self holding }
+    {
+        let SharedHome {
+            store,
+            feeds: _feeds,
+            stock: _stock,
+        } = self;
+        let _ = store.shut(rt);
+    }
+}
+
+// As `begin`.
+fn begin<R: System>(
+    rt: &R,
+    options: &Options,
+    readers: usize,
+    boxes: Vec<Box<dyn Segment>>,
+    are_new: bool,
+    site: Site,
+    found: Option<Found>,
+) -> Result<SharedHome, NotBegun>
+    requires { Unit {0} }
+    ensures { IfOk result (λ home. IsSharedBeside home holding) }
+{
+    if are_new {
+        return Ok(SharedHome::open(rt, options, readers, boxes, site, found)?);
+    }
+    let count = boxes.len();
+    match recover(rt.alloc(), boxes) {
+        Ok(found) => Ok(SharedHome::reopen(rt, options, readers, found, site)?),
+        Err(fault) => {
+            let cleared = clear(rt, &site, fault, count)?;
+            Err(NotBegun::Cleared(cleared))
+        }
+    }
+}
+
+/// How a store with readers is opened, and what was found there.
+#[derive(Clone, Copy)]
+struct Opening<'a> {
+    dir: Option<&'a str>,
+    leases: u32,
+    readers: usize,
+    found: Option<Found>,
+}
+
+// As `go` of a store without readers.
+fn go<R: System, L: SharedLegs<R>>(
+    rt: &R,
+    opening: &mut Opening<'_>,
+    options: &Options,
+    legs: &mut L,
+) -> Result<Option<L::Answer>, HomeFault>
+    ensures answer { IfOk result (λ went. IfSome went (λ answer. L.says legs.old answer)) }
+    ensures anew { IfOk result (λ went. IsNone went → legs.new ≡ legs.old) }
+{
+    let (mut site, count) = site_of(rt, opening.dir, opening.leases, options)?;
+    let mut boxes: Vec<Box<dyn Segment>> = Vec::new(rt.alloc());
+    let mut are_new = true;
+    for _ in 0..count {
+        let made = site.segment(rt, options.capacity)?;
+        are_new &= made.is_empty();
+        let segment: Box<dyn Segment> = match made {
+            Made::Memory(segment) => segment,
+            Made::File(segment) => segment,
+        };
+        boxes.push(segment)?;
+    }
+    let mut home = match begin(
+        rt,
+        options,
+        opening.readers,
+        boxes,
+        are_new,
+        site,
+        opening.found,
+    ) {
+        Ok(home) => home,
+        Err(NotBegun::Fault(fault)) => return Err(fault),
+        Err(NotBegun::Cleared(cleared)) => {
+            opening.found = Some(cleared);
+            return Ok(None);
+        }
+    };
+    'legs: for _ in rt.forever() {
+        if let Some(made) = home.next_made() {
+            let spare: Box<dyn Segment> = match made {
+                Made::Memory(segment) => segment,
+                Made::File(segment) => segment,
+            };
+            home.add(spare);
+        } else if let Some(answer) = legs.leg(rt, &mut home) {
+            home.shut(rt);
+            return Ok(Some(answer));
+        }
+    }
+    unreachable!()
+}
+
+/// Opens a store as `with_store_at` does, but with places for so many readers, 1 to 64, goes leg by
+/// leg over it, and ends it.
+pub fn with_readers<R: System, L: SharedLegs<R>>(
+    rt: &R,
+    dir: Option<&str>,
+    leases: u32,
+    readers: usize,
+    options: &Options,
+    legs: &mut L,
+) -> Result<L::Answer, HomeFault>
+    ensures answer { IfOk result (λ answer. L.says legs.old answer) }
+{
+    let mut opening = Opening {
+        dir,
+        leases,
+        readers,
+        found: None,
+    };
+    if let Some(answer) = go(rt, &mut opening, options, legs)? {
+        return Ok(answer);
+    }
+    match go(rt, &mut opening, options, legs)? {
+        Some(answer) => Ok(answer),
+        None => Err(HomeFault::Recovery(RecoverCause::Empty)),
+    }
+}

@@ -1,0 +1,4 @@
+pub mod Joins
+pub mod TailSteps
+pub mod TailLists
+pub mod RowsMore

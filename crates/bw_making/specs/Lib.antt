@@ -1,0 +1,8 @@
+-- What callers see, in reading order.
+pub mod Share
+pub mod Adding
+pub mod Planning
+pub mod Tails
+pub mod Drafting
+-- How values stand in memory.
+pub mod Tailing

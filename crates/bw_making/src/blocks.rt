@@ -1,0 +1,61 @@
+//! The blocks of one record.
+
+ghost use Rattle.std.specs.Prelude.{◌≡◌};
+ghost use Rattle.bw_buffer.specs.Filling.{frame_of};
+ghost use Rattle.bw_making.specs.Adding.{here_for, planned};
+ghost use Rattle.bw_making.specs.Planning.{listed};
+
+use bw_buffer::Buffer;
+use bw_codec::{Block, Leaf, Ops, Place, Record};
+
+/// The blocks of one record: its Delta, and a Split where its page is cut. They take no memory of
+/// their own.
+#[derive(Drop)]
+pub enum Blocks {
+    One([Block; 1]),
+    Two([Block; 2]),
+}
+
+impl Blocks {
+    pub fn as_slice(&self) -> &[Block]
+        ensures { result.now ≡ listed self.now }
+    {
+        match self {
+            Blocks::One(blocks) => blocks,
+            Blocks::Two(blocks) => blocks,
+        }
+    }
+}
+
+/// The blocks of a record of a page. No memory is taken.
+pub fn blocks_of(page: u32, back: Place, here: Place, item: &Record, upper: Option<Leaf>) -> Blocks
+    ensures { listed result ≡ planned page back here item.now upper }
+{
+    let delta = Block::Delta {
+        page,
+        back,
+        ops: Ops::one(item.copy()),
+    };
+    let Some(upper) = upper else {
+        return Blocks::One([delta]);
+    };
+    let split = Block::Split {
+        page,
+        back: here,
+        upper,
+    };
+    Blocks::Two([delta, split])
+}
+
+/// Where the Delta of a record of this page goes: into the block that it joins, or to the end.
+pub fn place_for(making: &Buffer, page: u32) -> Place
+    ensures { result ≡ here_for (frame_of making.now) page }
+{
+    match making.joins(page) {
+        Some(place) => place,
+        None => Place {
+            frame: making.frame(),
+            index: making.count(),
+        },
+    }
+}

@@ -1,0 +1,87 @@
+//! What the records of a group do to the pages, and what of them is shared.
+
+ghost use Rattle.std.specs.Prelude.{◌≡◌, ◌<◌, Err, length, IfOk, OnOk, OnErr};
+ghost use Rattle.bw_history.specs.Entries.{records as records_of};
+ghost use Rattle.bw_page.specs.Batch.{AreHere, SomeIsSpent, steps_of};
+ghost use Rattle.bw_page.specs.Leaves.{HasPages};
+ghost use Rattle.bw_page.specs.Shown.{run};
+
+use crate::draft::Row;
+use bw_codec::{Leaf, Packed, Record};
+use bw_history::PackedEntry;
+use bw_page::{ApplyError, Leaves, Step};
+use std::alloc::{AllocError, Global};
+
+/// The records of these entries, which share their bytes.
+pub fn shares_of(alloc: Global, entries: &[PackedEntry]) -> Result<Vec<Packed>, AllocError>
+    ensures { IfOk result (λ shares. shares.items ≡ records_of entries.now) }
+{
+    let mut shares = Vec::with_capacity(alloc, entries.len())?;
+    for entry in entries {
+        shares.push(entry.item().copy()?)?;
+    }
+    Ok(shares)
+}
+
+/// What each of these records does, one after the other: they stand in entries.
+pub fn steps_in(
+    leaves: &mut Leaves,
+    _records: &[Record],
+    entries: &[PackedEntry],
+) -> Result<Vec<Step>, ApplyError>
+    requires entries { records_of entries.now ≡ _records.now }
+    requires here { AreHere leaves.old _records.now }
+    ensures steps { IfOk result (λ steps. steps.items ≡ steps_of leaves.old _records.now) }
+    ensures room { OnOk result (HasPages leaves.old.m leaves.old.leaves _records.now) }
+    ensures same { leaves.new ≡ leaves.old }
+    ensures only_spent { result ≡ Err ApplyError.Spent → SomeIsSpent leaves.old _records.now }
+{
+    leaves.steps(entries)
+}
+
+/// Applies these records, all or none: they stand in entries, and the pages share their bytes.
+pub fn apply_entries(
+    leaves: &mut Leaves,
+    _records: &[Record],
+    entries: &[PackedEntry],
+) -> Result<(), ApplyError>
+    requires entries { records_of entries.now ≡ _records.now }
+    requires here { AreHere leaves.old _records.now }
+    ensures ok { OnOk result (leaves.new ≡ run leaves.old _records.now) }
+    ensures only_spent { result ≡ Err ApplyError.Spent → SomeIsSpent leaves.old _records.now }
+    ensures unchanged { OnErr result (leaves.new ≡ leaves.old) }
+{
+    leaves.apply_all_of(entries)
+}
+
+/// The same entries, on the pages of these rows. Readers' copies look for each record there first, and
+/// search where it is not the right page, so nothing has to be known of them.
+pub fn guessed(entries: Vec<PackedEntry>, rows: &[Row]) -> Vec<PackedEntry>
+    ensures { result.items ≡ entries.items }
+{
+    let mut entries = entries;
+    let count = entries.len().min(rows.len());
+    'entries: for at in 0..count {
+        guess_at(&mut entries, at, rows[at].page);
+    }
+    entries
+}
+
+// The same entries, where the page of one of them is guessed.
+fn guess_at(entries: &mut Vec<PackedEntry>, at: usize, page: u32)
+    requires { at < length entries.old.items }
+    ensures { entries.new.items ≡ entries.old.items }
+{
+    let _ = entries.as_slice().len();
+    entries[at].direct_at(page);
+}
+
+/// A copy of a page, if there is one.
+pub fn copy_of(upper: &Option<Leaf>) -> Result<Option<Leaf>, AllocError>
+    ensures { IfOk result (λ o. o ≡ upper.now) }
+{
+    match upper {
+        Some(leaf) => Ok(Some(leaf.copy()?)),
+        None => Ok(None),
+    }
+}
