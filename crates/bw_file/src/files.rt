@@ -31,6 +31,13 @@ impl SegmentFile for File {
     }
 }
 
+/// A segment's file, and the one with its sums beside it.
+#[derive(Drop)]
+pub(crate) struct Pair<F> {
+    pub(crate) file: F,
+    pub(crate) sums: F,
+}
+
 /// The bytes of an open file. Its length is looked at before any is read.
 pub(crate) fn bytes_of<F: SegmentFile>(alloc: Global, file: &F) -> Result<Vec<u8>, FolderFault>
     ensures within { IfOk result (λ bytes. length bytes.items ≤ MAX_CAPACITY) }

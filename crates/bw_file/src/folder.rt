@@ -5,14 +5,17 @@ ghost use Rattle.bw_device.specs.Leases.{number_of};
 ghost use Rattle.bw_device.specs.Memory.{fresh_holding};
 ghost use Rattle.bw_device.specs.declared.leases.TheConstants.{MAX_LEASES};
 ghost use Rattle.bw_device.specs.declared.memory.TheConstants.{MAX_CAPACITY};
+ghost use Rattle.bw_digest.specs.Rows.{reach};
 ghost use Rattle.bw_file.specs.FileHolding.{file_holding, IsOpened};
 ghost use Rattle.bw_file.specs.declared.refusals.FolderFault.TheVariants.{BadConfig};
 
-use crate::files::{SegmentFile, bytes_of, copy_of, with_capacity};
-use crate::names::{leases_in, lock_path, segment_path};
+use crate::files::{Pair, SegmentFile, bytes_of, copy_of, with_capacity};
+use crate::names::{leases_in, lock_path, segment_path, sums_path};
 use crate::refusals::{FolderFault, NotOpened};
 use crate::segment::{FileSegment, Shared};
+use crate::sums::{checked, complete, note, sums_of};
 use bw_device::{Lease, MAX_CAPACITY, MemSegment};
+use bw_digest::{Row, Sum};
 use std::alloc::Global;
 use std::fs::{self, File, OpenOptions};
 use std::io::{self, ErrorKind};
@@ -35,8 +38,9 @@ pub struct Folder<F = File> {
     shared: Arc<Shared<F>>,
 }
 
-// An open file and its bytes, with what the folder shares.
-type Settled<F> = (F, Vec<u8>, Arc<Shared<F>>);
+// The files of a lease, the bytes of its segment and the sums that tell of them, with what the folder
+// shares.
+type Settled<F> = (Pair<F>, Vec<u8>, Row, Arc<Shared<F>>);
 
 // Makes the folder where it is missing, and then waits until its name stands in its parent. The
 // parent of a folder that is there may be one that nobody may read.
@@ -62,6 +66,15 @@ fn settle<F: SegmentFile>(file: &F, bytes: &[u8]) -> io::Result<()> {
     let from = bytes.len().saturating_sub(LAST);
     file.write_all_at(&bytes[from..], from as u64)?;
     file.sync_all()
+}
+
+// The file of this name, made where it is missing, to be read and written.
+fn opened<R: AllocGlobal + Files<File = F>, F: SegmentFile>(rt: &R, name: &str) -> io::Result<F> {
+    OpenOptions::new()
+        .read(true)
+        .write(true)
+        .create(true)
+        .open(rt, name)
 }
 
 // Empties a file, and waits until that stands.
@@ -111,42 +124,52 @@ impl<F: SegmentFile> Folder<F> {
         leases_in(rt, self.path.as_str())
     }
 
-    // The file of this lease, made where it is missing, on which no segment stands.
-    fn taken<R: AllocGlobal + Files<File = F>>(&self, rt: &R, lease: u32) -> Result<F, FolderFault>
+    // The files of this lease, made where they are missing, on which no segment stands. The lock of
+    // the first is that of both.
+    fn taken<R: AllocGlobal + Files<File = F>>(
+        &self,
+        rt: &R,
+        lease: u32,
+    ) -> Result<Pair<F>, FolderFault>
         ensures cause { IfErr result (λ cause. cause ≢ BadConfig) }
     {
         let name = segment_path(rt, self.path.as_str(), lease)?;
-        let file = OpenOptions::new()
-            .read(true)
-            .write(true)
-            .create(true)
-            .open(rt, name.as_str())?;
+        let beside = sums_path(rt, self.path.as_str(), lease)?;
+        let file = opened(rt, name.as_str())?;
         file.lock_alone()?;
+        let sums = opened(rt, beside.as_str())?;
         self.itself.sync_all()?;
-        Ok(file)
+        Ok(Pair { file, sums })
     }
 
-    // The file of this lease and its bytes, which stand on the disk before anything follows them.
+    // The files of this lease and its bytes, which fit their sums, and stand on the disk before
+    // anything follows them. Nothing is written before they were checked.
     fn settled<R: AllocGlobal + Files<File = F>>(
         &self,
         rt: &R,
         lease: u32,
     ) -> Result<Settled<F>, FolderFault>
         ensures within { IfOk result (λ settled. length settled.1.items ≤ MAX_CAPACITY) }
+        ensures noted { IfOk result
+            (λ settled. (reach settled.2).end ≡ length settled.1.items) }
         ensures cause { IfErr result (λ cause. cause ≢ BadConfig) }
     {
-        let file = self.taken(rt, lease)?;
-        let bytes = bytes_of(rt.alloc(), &file)?;
-        settle(&file, &bytes)?;
-        Ok((file, bytes, self.shared.clone()?))
+        let files = self.taken(rt, lease)?;
+        let bytes = bytes_of(rt.alloc(), &files.file)?;
+        let sums = sums_of(rt.alloc(), &files.sums)?;
+        let row = checked(lease, &bytes, &sums)?;
+        settle(&files.file, &bytes)?;
+        let row = complete(&files.sums, sums.len() as u64, row, &bytes)?;
+        Ok((files, bytes, row, self.shared.clone()?))
     }
 
     /// The segment of this lease, with the bytes of its file, which is made where it is missing.
     ///
     /// Its capacity is the greater of this one, in bytes, and the file's length. For a moment it
     /// takes memory for both. `InUse` where a segment stands on the file, `TooLong` where the file
-    /// is longer than any segment may be, `NotPlain` where it is none; the file's bytes stay as they
-    /// are in each refusal.
+    /// is longer than any segment may be, `NotPlain` where it is none, `Damaged` where its bytes do
+    /// not fit the sums beside it; the file's bytes stay as they are in each refusal, and so do the
+    /// sums in these. Bytes that no sum tells of, as in a folder without sums, get one here.
     pub fn segment<R: AllocGlobal + Files<File = F>>(
         &self,
         rt: &R,
@@ -160,25 +183,27 @@ impl<F: SegmentFile> Folder<F> {
         ensures lease { IfErr result (λ e. e.lease ≡ lease) }
     {
         let lease = with_capacity(lease, capacity)?;
-        let (file, bytes, shared) = match self.settled(rt, lease.number()) {
+        let (files, bytes, row, shared) = match self.settled(rt, lease.number()) {
             Ok(settled) => settled,
             Err(cause) => return Err(NotOpened { lease, cause }),
         };
         let copy = copy_of(rt.alloc(), lease, capacity, &bytes)?;
-        Ok(FileSegment::over(copy, file, shared))
+        Ok(FileSegment::over(copy, files, row, shared))
     }
 
-    // The file of this lease, which is empty and stands so, with what the folder shares.
+    // The files of this lease, which are empty and stand so, with what the folder shares. The sums
+    // go first: those of an earlier segment must not come back beside the bytes of a later one.
     fn emptied<R: AllocGlobal + Files<File = F>>(
         &self,
         rt: &R,
         lease: u32,
-    ) -> Result<(F, Arc<Shared<F>>), FolderFault>
+    ) -> Result<(Pair<F>, Arc<Shared<F>>), FolderFault>
         ensures cause { IfErr result (λ cause. cause ≢ BadConfig) }
     {
-        let file = self.taken(rt, lease)?;
-        cut_to_nothing(&file)?;
-        Ok((file, self.shared.clone()?))
+        let files = self.taken(rt, lease)?;
+        cut_to_nothing(&files.sums)?;
+        cut_to_nothing(&files.file)?;
+        Ok((files, self.shared.clone()?))
     }
 
     /// A new segment of this lease and capacity, in bytes, over an empty file: what the file held is
@@ -200,12 +225,12 @@ impl<F: SegmentFile> Folder<F> {
         ensures lease { IfErr result (λ e. e.lease ≡ lease) }
     {
         let lease = with_capacity(lease, capacity)?;
-        let (file, shared) = match self.emptied(rt, lease.number()) {
+        let (files, shared) = match self.emptied(rt, lease.number()) {
             Ok(emptied) => emptied,
             Err(cause) => return Err(NotOpened { lease, cause }),
         };
         match MemSegment::new(rt.alloc(), lease, capacity) {
-            Ok(copy) => Ok(FileSegment::over(copy, file, shared)),
+            Ok(copy) => Ok(FileSegment::over(copy, files, Row::new(), shared)),
             Err(refused) => Err(NotOpened {
                 lease: refused.lease,
                 cause: FolderFault::NoMemory,
@@ -228,10 +253,12 @@ impl<F: SegmentFile> Folder<F> {
         if bytes.len() as u64 > MAX_CAPACITY {
             return Err(FolderFault::TooLong);
         }
-        let file = self.taken(rt, lease)?;
+        let Pair { file, sums } = self.taken(rt, lease)?;
+        cut_to_nothing(&sums)?;
         file.set_len(0)?;
         file.write_all_at(bytes, 0)?;
         file.sync_all()?;
+        note(&sums, Row::new(), bytes)?;
         Ok(())
     }
 
@@ -249,18 +276,17 @@ impl<F: SegmentFile> Folder<F> {
         if bytes.len() as u64 > MAX_CAPACITY {
             return Err(FolderFault::TooLong);
         }
-        let file = self.taken(rt, lease)?;
-        file.set_len(0)?;
+        let files = self.taken(rt, lease)?;
+        cut_to_nothing(&files.sums)?;
+        files.file.set_len(0)?;
         let Some((first, rest)) = bytes.split_first() else {
-            return Ok(HeldBack { file, first: None });
+            return Ok(HeldBack { files, last: None });
         };
-        file.write_all_at(&[0], 0)?;
-        file.write_all_at(rest, 1)?;
-        file.sync_all()?;
-        Ok(HeldBack {
-            file,
-            first: Some(*first),
-        })
+        files.file.write_all_at(&[0], 0)?;
+        files.file.write_all_at(rest, 1)?;
+        files.file.sync_all()?;
+        let last = Some((*first, Row::new().sum_of(bytes)));
+        Ok(HeldBack { files, last })
     }
 
     /// Empties the file of a lease whose segment was given up and dropped, and waits until that
@@ -275,29 +301,34 @@ impl<F: SegmentFile> Folder<F> {
         lease: u32,
     ) -> Result<(), FolderFault> {
         let name = segment_path(rt, self.path.as_str(), lease)?;
+        let beside = sums_path(rt, self.path.as_str(), lease)?;
         let file = OpenOptions::new().write(true).open(rt, name.as_str())?;
         file.lock_alone()?;
+        // Nobody waits for this cut: a sum that ends behind its file does not count, and before bytes
+        // follow there `spare` or `segment` waits for it.
+        opened(rt, beside.as_str())?.set_len(0)?;
         cut_to_nothing(&file)?;
         Ok(())
     }
 }
 
-/// A file that was written but for its first byte.
+/// A file that was written but for its first byte, and for the sums beside it.
 #[derive(Drop)]
 pub struct HeldBack<F = File> {
-    file: F,
-    /// None where the file has no bytes.
-    first: Option<u8>,
+    files: Pair<F>,
+    /// The first byte, and the sum of all. None where the file has no bytes.
+    last: Option<(u8, Sum)>,
 }
 
 impl<F: SegmentFile> HeldBack<F> {
-    /// Writes the first byte, and waits until it stands. What the file holds behind a refusal is not
-    /// known of that byte alone.
+    /// Writes the first byte, and waits until it stands; then the sum. What the file holds behind a
+    /// refusal is not known of that byte alone.
     pub fn end(self) -> Result<(), FolderFault> {
-        let HeldBack { file, first } = self;
-        if let Some(first) = first {
-            file.write_all_at(&[first], 0)?;
-            file.sync_all()?;
+        let HeldBack { files, last } = self;
+        if let Some((first, sum)) = last {
+            files.file.write_all_at(&[first], 0)?;
+            files.file.sync_all()?;
+            files.sums.write_all_at(&sum.to_bytes(), 0)?;
         }
         Ok(())
     }

@@ -31,6 +31,20 @@ pub(crate) fn segment_path<R: AllocGlobal + Files>(
     )
 }
 
+/// The path of the file with the sums of a lease's, which is plain where it is there.
+pub(crate) fn sums_path<R: AllocGlobal + Files>(
+    rt: &R,
+    folder: &str,
+    lease: u32,
+) -> Result<String, FolderFault>
+    ensures cause { IfErr result (λ cause. cause ≢ BadConfig) }
+{
+    plain(
+        rt,
+        format!(in rt.alloc(); "{folder}/segment-{lease:04}.sum")?,
+    )
+}
+
 // Refuses what has the name of a file and is no plain file, before it is opened: a pipe would keep
 // its opener waiting, and by a link a file outside the folder would be made or written.
 fn plain<R: Files>(rt: &R, path: String) -> Result<String, FolderFault>

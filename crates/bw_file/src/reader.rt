@@ -5,13 +5,16 @@ ghost use Rattle.bw_device.specs.Leases.{number_of};
 ghost use Rattle.bw_device.specs.Memory.{memory_holding};
 ghost use Rattle.bw_device.specs.declared.leases.TheConstants.{MAX_LEASES};
 ghost use Rattle.bw_device.specs.declared.memory.TheConstants.{MAX_CAPACITY};
+ghost use Rattle.bw_digest.specs.Rows.{reach};
 ghost use Rattle.bw_file.specs.FileHolding.{IsOpened};
 ghost use Rattle.bw_file.specs.declared.refusals.FolderFault.TheVariants.{BadConfig};
 
 use crate::files::{SegmentFile, bytes_of, copy_of, with_capacity};
-use crate::names::{leases_in, lock_path, segment_path};
+use crate::names::{leases_in, lock_path, segment_path, sums_path};
 use crate::refusals::{FolderFault, NotOpened};
+use crate::sums::{checked, sums_of};
 use bw_device::{Lease, MemSegment};
+use bw_digest::Row;
 use std::fs::{self, File};
 use std::io::ErrorKind;
 use std::rt::Files;
@@ -23,6 +26,18 @@ pub struct FolderReader<F = File> {
     path: String,
     /// Held beside other readers. A folder that was never opened to be written has no such file.
     lock: Option<F>,
+}
+
+/// How much of a file its sums tell of, all of which fits them. Behind these bytes stands what was
+/// appended last before a crash, or all of a file of an older folder.
+#[derive(Clone, Copy, Debug, PartialEq, Eq)]
+pub struct Sound {
+    /// How many bytes the file has.
+    pub len: u64,
+    /// How many of its first ones have a digest.
+    pub summed: u64,
+    /// How many pieces these are.
+    pub pieces: u64,
 }
 
 // The lock of a folder beside other readers, where it has the file for it.
@@ -67,8 +82,8 @@ impl<F: SegmentFile> FolderReader<F> {
         leases_in(rt, self.path.as_str())
     }
 
-    /// The bytes of the file of this lease, which has to be there. `TooLong` where the file is longer
-    /// than any segment may be, `NotPlain` where it is none.
+    /// The bytes of the file of this lease, which has to be there, be they damaged or not. `TooLong`
+    /// where the file is longer than any segment may be, `NotPlain` where it is none.
     pub fn bytes<R: AllocGlobal + Files<File = F>>(
         &self,
         rt: &R,
@@ -82,11 +97,79 @@ impl<F: SegmentFile> FolderReader<F> {
         bytes_of(rt.alloc(), &file)
     }
 
-    /// A segment in memory with the bytes of the file of this lease, which has to be there.
+    // The bytes of the sums beside the file of this lease. None where there are no sums.
+    fn sums<R: AllocGlobal + Files<File = F>>(
+        &self,
+        rt: &R,
+        lease: u32,
+    ) -> Result<Vec<u8>, FolderFault>
+        ensures cause { IfErr result (λ cause. cause ≢ BadConfig) }
+    {
+        let name = sums_path(rt, self.path.as_str(), lease)?;
+        match fs::open(rt, name.as_str()) {
+            Ok(sums) => sums_of(rt.alloc(), &sums),
+            Err(error) if error.kind() == ErrorKind::NotFound => Ok(Vec::new(rt.alloc())),
+            Err(error) => Err(FolderFault::from(error)),
+        }
+    }
+
+    // The bytes of the file of this lease, and the row of its sums, which they fit.
+    fn fitting<R: AllocGlobal + Files<File = F>>(
+        &self,
+        rt: &R,
+        lease: u32,
+    ) -> Result<(Vec<u8>, Row), FolderFault>
+        ensures within { IfOk result (λ found. length found.0.items ≤ MAX_CAPACITY) }
+        ensures noted { IfOk result (λ found. (reach found.1).end ≤ length found.0.items) }
+        ensures cause { IfErr result (λ cause. cause ≢ BadConfig) }
+    {
+        let bytes = self.bytes(rt, lease)?;
+        let sums = self.sums(rt, lease)?;
+        let row = checked(lease, &bytes, &sums)?;
+        Ok((bytes, row))
+    }
+
+    /// The bytes of the file of this lease, which has to be there, where they fit the sums beside it.
+    /// `Damaged` where they do not, `TooLong` where the file is longer than any segment may be,
+    /// `NotPlain` where one of the two files is none.
+    pub fn sound_bytes<R: AllocGlobal + Files<File = F>>(
+        &self,
+        rt: &R,
+        lease: u32,
+    ) -> Result<Vec<u8>, FolderFault>
+        ensures within { IfOk result (λ bytes. length bytes.items ≤ MAX_CAPACITY) }
+        ensures cause { IfErr result (λ cause. cause ≢ BadConfig) }
+    {
+        let (bytes, _) = self.fitting(rt, lease)?;
+        Ok(bytes)
+    }
+
+    /// Reads the file of this lease, which has to be there, and tells how much of it has a digest,
+    /// where all of that fits. It is refused as `sound_bytes` is.
+    pub fn verify<R: AllocGlobal + Files<File = F>>(
+        &self,
+        rt: &R,
+        lease: u32,
+    ) -> Result<Sound, FolderFault>
+        ensures within { IfOk result
+            (λ sound. (sound.pieces ≤ sound.summed) × (sound.summed ≤ sound.len)
+            × (sound.len ≤ MAX_CAPACITY)) }
+        ensures cause { IfErr result (λ cause. cause ≢ BadConfig) }
+    {
+        let (bytes, row) = self.fitting(rt, lease)?;
+        Ok(Sound {
+            len: bytes.len() as u64,
+            summed: row.end(),
+            pieces: row.count(),
+        })
+    }
+
+    /// A segment in memory with the bytes of the file of this lease, which has to be there, and which
+    /// fit the sums beside it.
     ///
     /// Its capacity is the greater of this one, in bytes, and the file's length. What is appended to
-    /// it stands in memory alone. `TooLong` where the file is longer than any segment may be,
-    /// `NotPlain` where it is none.
+    /// it stands in memory alone. `Damaged` where the bytes do not fit, `TooLong` where the file is
+    /// longer than any segment may be, `NotPlain` where one of the two files is none.
     pub fn copy<R: AllocGlobal + Files<File = F>>(
         &self,
         rt: &R,
@@ -101,7 +184,7 @@ impl<F: SegmentFile> FolderReader<F> {
         ensures lease { IfErr result (λ e. e.lease ≡ lease) }
     {
         let lease = with_capacity(lease, capacity)?;
-        match self.bytes(rt, lease.number()) {
+        match self.sound_bytes(rt, lease.number()) {
             Ok(bytes) => copy_of(rt.alloc(), lease, capacity, &bytes),
             Err(cause) => Err(NotOpened { lease, cause }),
         }

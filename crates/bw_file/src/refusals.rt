@@ -25,6 +25,10 @@ pub enum FolderFault {
     /// opened.
     #[error("what has the name of a file is no plain file")]
     NotPlain,
+    /// A file's bytes are not those that were appended: from here on, in bytes, a piece has not its
+    /// digest. Nothing was written. What stands before it fits.
+    #[error("damaged: segment-{lease:04}.bw at {at}")]
+    Damaged { lease: u32, at: u64 },
     /// Another process has the folder or the file open, or a value of this one.
     #[error("in use")]
     InUse,

@@ -1,8 +1,12 @@
 // A segment in a file, and what it shares with its folder.
-ghost use Rattle.std.specs.Prelude.{◌≡◌, ◌+◌, ◌<◌, ◌≤◌, length, take, drop, OnOk, OnErr, IsOk};
+ghost use Rattle.std.specs.Prelude.{◌≡◌, ◌+◌, ◌<◌, ◌≤◌, length, take, drop, OnOk, OnErr, IfOk, IsOk};
+ghost use Rattle.bw_device.specs.Memory.{memory_holding};
+ghost use Rattle.bw_digest.specs.Rows.{reach};
 
-use crate::files::SegmentFile;
+use crate::files::{Pair, SegmentFile};
+use crate::sums::note;
 use bw_device::{Fault, MemSegment, Segment};
+use bw_digest::Row;
 use std::fs::File;
 use std::io::{self, ErrorKind};
 use std::sync::Arc;
@@ -37,37 +41,53 @@ impl<F> Shared<F> {
 #[derive(Drop)]
 pub struct FileSegment<F = File> {
     copy: MemSegment,
-    file: F,
+    files: Pair<F>,
+    /// The sums that stand: they tell of each byte that is held.
+    row: Row,
     /// Shared with the folder and its other segments.
     shared: Arc<Shared<F>>,
     /// How many appends have failed.
     failed: u64,
+    ghost noted: { (reach row).end ≡ length (memory_holding copy).bytes },
 }
 
 impl<F: SegmentFile> FileSegment<F> {
-    ghost use Rattle.bw_device.specs.Memory.{memory_holding};
     ghost use Rattle.bw_file.specs.FileHolding.{file_holding};
 
-    /// Over a file that holds what the copy has.
-    pub(crate) fn over(copy: MemSegment, file: F, shared: Arc<Shared<F>>) -> FileSegment<F>
+    /// Over a file that holds what the copy has, of which this row of sums tells.
+    pub(crate) fn over(
+        copy: MemSegment,
+        files: Pair<F>,
+        row: Row,
+        shared: Arc<Shared<F>>,
+    ) -> FileSegment<F>
+        requires { (reach row).end ≡ length (memory_holding copy).bytes }
         ensures { file_holding result ≡ memory_holding copy }
     {
         FileSegment {
             copy,
-            file,
+            files,
+            row,
             shared,
             failed: 0,
         }
     }
 
-    // Writes the piece behind what the file holds, and waits until the system says it is there.
-    // No clause sees what this does to the file: it is the one function to be read with care.
-    fn write_through(&self, piece: &[u8]) -> io::Result<()> {
+    // Writes the piece behind what the file holds, waits until the system says it is there, and then
+    // writes its sum, for which nobody waits. No clause sees what this does to the files: it is the
+    // one function to be read with care.
+    fn write_through(&self, piece: &[u8]) -> io::Result<Row>
+        requires { length (file_holding self.now).bytes + length piece.now ≤
+            (file_holding self.now).room }
+        ensures { IfOk result
+            (λ row. (reach row).end ≡ length (file_holding self.now).bytes + length piece.now) }
+    {
         if self.shared.has_failed.load(Ordering::SeqCst) {
             return Err(io::Error::from(ErrorKind::Other));
         }
-        self.file.write_all_at(piece, self.copy.len())?;
-        self.file.sync_data()
+        self.files.file.write_all_at(piece, self.copy.len())?;
+        self.files.file.sync_data()?;
+        note(&self.files.sums, self.row, piece)
     }
 }
 
@@ -77,8 +97,9 @@ impl<F: SegmentFile + Send + Sync> Segment for FileSegment<F> {
 
     ghost holding = { file_holding };
 
-    /// Adds the piece, and waits until the system says that the file has it. Where it fails, the
-    /// held bytes stay, and every later append in this folder fails.
+    /// Adds the piece, and waits until the system says that the file has it; its sum is written
+    /// behind it. Where one of these fails, the held bytes stay, and every later append in this
+    /// folder fails.
     ///
     /// A piece is at most 262,168 bytes where the files are to be opened again after a sync that
     /// failed: so many the next opening writes once more.
@@ -92,15 +113,17 @@ impl<F: SegmentFile + Send + Sync> Segment for FileSegment<F> {
             (file_holding self.new ≡ failed_once (file_holding self.old)) }
     {
         // The copy is changed last, so that an append that fails leaves it as it was.
-        if self.write_through(piece).is_err() {
+        let Ok(row) = self.write_through(piece) else {
             self.shared.has_failed.store(true, Ordering::SeqCst);
             self.failed += 1;
             return Err(Fault);
-        }
+        };
         match self.copy.append(piece) {
-            Ok(()) => Ok(()),
+            Ok(()) => {}
             Err(Fault) => unreachable!(),
         }
+        self.row = row;
+        Ok(())
     }
 
     /// Fills the slice with the held bytes from `at` on, by the copy. It never fails.

@@ -1,0 +1,7 @@
+-- What callers see, in the order in which to read it.
+pub mod Digest
+pub mod Sums
+pub mod Rows
+pub mod Laws
+-- What a private function says.
+pub mod Checked

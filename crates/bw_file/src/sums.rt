@@ -1,0 +1,90 @@
+// The sums beside a segment's file: by them its bytes are checked when they are read again.
+ghost use Rattle.std.specs.Prelude.{◌≡◌, ◌≢◌, ◌+◌, ◌≤◌, ◌↔◌, length, IsOk, IfOk, IfErr};
+ghost use Rattle.bw_device.specs.declared.memory.TheConstants.{MAX_CAPACITY};
+ghost use Rattle.bw_digest.specs.Sums.{no_sums, sums_in, with_all, Fits};
+ghost use Rattle.bw_digest.specs.Rows.{reach};
+ghost use Rattle.bw_file.specs.Damage.{IsDamage};
+ghost use Rattle.bw_file.specs.declared.refusals.FolderFault.TheVariants.{BadConfig};
+
+use crate::files::SegmentFile;
+use crate::refusals::FolderFault;
+use bw_device::MAX_CAPACITY;
+use bw_digest::{Row, SUM_LEN, check};
+use std::alloc::Global;
+use std::io;
+
+/// The bytes of an open file of sums. Of a long one as many are read as a segment may have: what
+/// stands behind them is as good as lost.
+pub(crate) fn sums_of<F: SegmentFile>(alloc: Global, sums: &F) -> Result<Vec<u8>, FolderFault>
+    ensures cause { IfErr result (λ cause. cause ≢ BadConfig) }
+{
+    let len = sums.metadata()?.len().min(MAX_CAPACITY);
+    let mut bytes = vec![in alloc; 0u8; len as usize]?;
+    sums.read_exact_at(&mut bytes, 0)?;
+    Ok(bytes)
+}
+
+/// The row of the sums that count, where the bytes of the lease's file fit them.
+pub(crate) fn checked(lease: u32, bytes: &[u8], sums: &[u8]) -> Result<Row, FolderFault>
+    ensures whole { IsOk result ↔
+        Fits bytes.now no_sums (sums_in (length bytes.now) sums.now) }
+    ensures row { IfOk result
+        (λ row. reach row ≡ with_all no_sums (sums_in (length bytes.now) sums.now)) }
+    ensures within { IfOk result (λ row. (reach row).end ≤ length bytes.now) }
+    ensures damaged { IfErr result (λ cause. IsDamage lease bytes.now sums.now cause) }
+{
+    match check(bytes, sums) {
+        Ok(row) => Ok(row),
+        Err(damaged) => Err(FolderFault::Damaged {
+            lease,
+            at: damaged.at,
+        }),
+    }
+}
+
+/// Writes the sum of a piece behind those of the row, and answers the row with it. A piece of no
+/// bytes has no sum. The piece has to stand on the disk: a sum is never there without its bytes.
+pub(crate) fn note<F: SegmentFile>(sums: &F, row: Row, piece: &[u8]) -> io::Result<Row>
+    requires { (reach row).end + length piece.now ≤ MAX_CAPACITY }
+    ensures { IfOk result (λ new. (reach new).end ≡ (reach row).end + length piece.now) }
+{
+    if piece.is_empty() {
+        return Ok(row);
+    }
+    let sum = row.sum_of(piece);
+    sums.write_all_at(&sum.to_bytes(), row.count() * SUM_LEN as u64)?;
+    Ok(row.with(sum))
+}
+
+// The file of sums ends with this row, and with one sum for the bytes behind its last piece. Where it
+// held so many bytes as the row has, and none are behind, nothing is written.
+fn filled<F: SegmentFile>(sums: &F, held: u64, row: Row, bytes: &[u8]) -> io::Result<Row>
+    requires end { (reach row).end ≤ length bytes.now }
+    requires within { length bytes.now ≤ MAX_CAPACITY }
+    ensures { IfOk result (λ new. (reach new).end ≡ length bytes.now) }
+{
+    let stands = row.count() * SUM_LEN as u64;
+    if stands == held && row.end() == bytes.len() as u64 {
+        return Ok(row);
+    }
+    sums.set_len(stands)?;
+    note(sums, row, &bytes[row.end() as usize..])
+}
+
+/// Makes a file of sums that holds so many bytes end with this row, and with one sum for the bytes
+/// behind its last piece, and waits until that stands: what did not count must not come back behind
+/// other sums, nor what an earlier life cut and did not wait for.
+pub(crate) fn complete<F: SegmentFile>(
+    sums: &F,
+    held: u64,
+    row: Row,
+    bytes: &[u8],
+) -> io::Result<Row>
+    requires end { (reach row).end ≤ length bytes.now }
+    requires within { length bytes.now ≤ MAX_CAPACITY }
+    ensures { IfOk result (λ new. (reach new).end ≡ length bytes.now) }
+{
+    let row = filled(sums, held, row, bytes)?;
+    sums.sync_all()?;
+    Ok(row)
+}
