@@ -1,0 +1,189 @@
+//! Records that go into a store, in bounded memory: what is durable leaves the history, and room is
+//! made where there is too little.
+
+ghost use Rattle.bw_home.specs.Ready.{IsReady};
+
+use crate::fault::KeysFault;
+use crate::records::Records;
+use crate::tending::{Tending, forget};
+use bw_home::{Added, Home, HomeFault, Legs, System};
+use bw_ring::{FullGroup, Group};
+
+/// What comes next.
+#[derive(Debug, Clone, Copy, PartialEq, Eq)]
+enum Step {
+    /// The next record.
+    On,
+    /// The next leg, by which a spare was added.
+    Room,
+    /// All is durable.
+    End,
+}
+
+/// Records that go into a store.
+#[derive(Drop)]
+pub struct Load<'a, S> {
+    records: &'a mut S,
+    tending: Tending,
+    /// A record that found the queue full.
+    waiting: Option<Group>,
+    /// Whether there are no more records.
+    is_over: bool,
+    /// Why there are none.
+    fault: Option<KeysFault>,
+    /// How many went in.
+    count: u64,
+}
+
+impl<'a, S: Records> Load<'a, S> {
+    /// These records, into a store that is tended so.
+    pub fn new(records: &'a mut S, tending: Tending) -> Load<'a, S> {
+        Load {
+            records,
+            tending,
+            waiting: None,
+            is_over: false,
+            fault: None,
+            count: 0,
+        }
+    }
+
+    /// The next record: one that waits, or one that is read. What is at fault ends the records.
+    fn next_group(&mut self) -> Option<Group> {
+        if let Some(group) = self.waiting.take() {
+            return Some(group);
+        }
+        match self.records.next_record() {
+            Ok(Some(record)) => Some(Group::one(record)),
+            Ok(None) => {
+                self.is_over = true;
+                None
+            }
+            Err(fault) => {
+                self.is_over = true;
+                self.fault = Some(fault);
+                None
+            }
+        }
+    }
+
+    /// Takes what waits in the queue, and lets what got durable leave memory.
+    fn take<R: System>(&mut self, rt: &R, home: &mut Home) -> Result<Step, KeysFault>
+        requires { IsReady home.old holding }
+        ensures { IsReady home.new holding }
+    {
+        if self.tending.takes_room(rt, home)? {
+            return Ok(Step::Room);
+        }
+        forget(home);
+        Ok(Step::On)
+    }
+
+    /// Puts a record into the queue.
+    fn put<R: System>(&mut self, rt: &R, home: &mut Home, group: Group) -> Result<Step, KeysFault>
+        requires { IsReady home.old holding }
+        ensures { IsReady home.new holding }
+    {
+        match home.offer(0, group) {
+            Ok(()) => {
+                self.count = self.count.saturating_add(1);
+                Ok(Step::On)
+            }
+            Err(FullGroup(group)) => {
+                self.waiting = Some(group);
+                self.take(rt, home)
+            }
+        }
+    }
+
+    /// Appends what was taken.
+    fn flush<R: System>(&mut self, rt: &R, home: &mut Home) -> Result<Step, KeysFault>
+        requires { IsReady home.old holding }
+        ensures { IsReady home.new holding }
+    {
+        match home.flush() {
+            Ok(_) => Ok(Step::End),
+            Err(fault) => {
+                self.tending.room_for(rt, home, HomeFault::from(fault))?;
+                Ok(Step::Room)
+            }
+        }
+    }
+
+    /// Takes and appends all that is there.
+    fn close<R: System>(&mut self, rt: &R, home: &mut Home) -> Result<Step, KeysFault>
+        requires { IsReady home.old holding }
+        ensures { IsReady home.new holding }
+    {
+        if self.take(rt, home)? == Step::Room {
+            return Ok(Step::Room);
+        }
+        self.flush(rt, home)
+    }
+
+    /// Does what comes next.
+    fn step<R: System>(&mut self, rt: &R, home: &mut Home) -> Result<Step, KeysFault>
+        requires { IsReady home.old holding }
+        ensures { IsReady home.new holding }
+    {
+        if self.is_over {
+            return self.close(rt, home);
+        }
+        match self.next_group() {
+            Some(group) => self.put(rt, home, group),
+            None => Ok(Step::On),
+        }
+    }
+
+    /// Goes on up to a spare that was made, or the end.
+    fn up_to_room<R: System>(&mut self, rt: &R, home: &mut Home) -> Result<Step, KeysFault>
+        requires { IsReady home.old holding }
+        ensures { IsReady home.new holding }
+    {
+        'steps: for _ in 0..u64::MAX {
+            let step = self.step(rt, home)?;
+            if step != Step::On {
+                return Ok(step);
+            }
+        }
+        Ok(Step::Room)
+    }
+
+    /// How many records are durable, or why no more.
+    fn answer(&self) -> Result<u64, KeysFault> {
+        match self.fault {
+            Some(fault) => Err(fault),
+            None => Ok(self.count),
+        }
+    }
+}
+
+/// Why the spare that was made for this leg was not added. What wants it would ask for ever.
+fn refused_spare(home: &Home) -> Result<(), KeysFault>
+    requires { IsReady home.now holding }
+{
+    match home.added() {
+        Some(
+            Added {
+                refused: Some(fault),
+                ..
+            },
+        ) => Err(KeysFault::from(fault)),
+        _ => Ok(()),
+    }
+}
+
+impl<R: System, S: Records> Legs<R> for Load<'_, S> {
+    type Answer = Result<u64, KeysFault>;
+
+    fn leg(&mut self, rt: &R, home: &mut Home) -> Option<Result<u64, KeysFault>> {
+        if let Err(fault) = refused_spare(home) {
+            return Some(Err(fault));
+        }
+        match self.up_to_room(rt, home) {
+            Ok(Step::End) => Some(self.answer()),
+            Ok(_) => None,
+            Err(fault) => Some(Err(fault)),
+        }
+    }
+}

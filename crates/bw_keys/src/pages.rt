@@ -1,0 +1,165 @@
+//! The pages of a folder that is only looked at, as recovery finds them.
+
+use crate::fault::KeysFault;
+use crate::span::Span;
+use bw_care::{RecoverCause, RecoverFault, recover};
+use bw_codec::limits::{HEADER_LEN, MAX_FRAME};
+use bw_codec::{HeaderRead, Key, Pair, read_header};
+use bw_device::{Desk, MemSegment, Segment};
+use bw_file::FolderReader;
+use bw_home::{HomeFault, System};
+use bw_page::Leaves;
+use std::alloc::Global;
+
+/// The least capacity of a copy, in bytes: a header and the longest frame.
+const LEAST: u64 = HEADER_LEN as u64 + MAX_FRAME as u64;
+
+/// A copy of the file of the next lease; an empty segment where it has none.
+fn copy_of<R: System>(
+    rt: &R,
+    reader: &FolderReader,
+    desk: &mut Desk,
+    leases: &[u32],
+) -> Result<MemSegment, HomeFault> {
+    let lease = desk.take()?;
+    if leases.contains(&lease.number()) {
+        return match reader.copy(rt, lease, LEAST) {
+            Ok(copy) => Ok(copy),
+            Err(refused) => Err(HomeFault::from(refused.cause)),
+        };
+    }
+    match MemSegment::new(rt.alloc(), lease, LEAST) {
+        Ok(segment) => Ok(segment),
+        Err(refused) => Err(HomeFault::from(refused.cause)),
+    }
+}
+
+/// Opens a folder for reading, and answers the leases of its files, one at least.
+fn opened<R: System>(rt: &R, path: &str) -> Result<(FolderReader, Vec<u32>), KeysFault> {
+    let reader = match FolderReader::open(rt, path) {
+        Ok(reader) => reader,
+        Err(fault) => return Err(KeysFault::from(HomeFault::from(fault))),
+    };
+    match reader.leases(rt) {
+        Ok(leases) if leases.is_empty() => Err(KeysFault::NoStore),
+        Ok(leases) => Ok((reader, leases)),
+        Err(fault) => Err(KeysFault::from(HomeFault::from(fault))),
+    }
+}
+
+/// Refuses a folder that is not there, or has no store.
+pub fn check_store<R: System>(rt: &R, path: &str) -> Result<(), KeysFault> {
+    let _ = opened(rt, path)?;
+    Ok(())
+}
+
+/// Copies of all segments of a folder, by a desk of so many leases. Each is the one of its lease, so
+/// what is told of one names it.
+fn copies_of<R: System>(
+    rt: &R,
+    reader: &FolderReader,
+    files: &[u32],
+    leases: u32,
+) -> Result<Vec<MemSegment>, HomeFault> {
+    let count = files.last().map_or(0, |last| last.saturating_add(1));
+    let mut desk = Desk::new(rt.alloc(), leases)?;
+    let mut copies = Vec::new(rt.alloc());
+    for _ in 0..count {
+        copies.push(copy_of(rt, reader, &mut desk, files)?)?;
+    }
+    Ok(copies)
+}
+
+/// Whether a segment, of a log in which no frame is whole, may be the first that was ever begun: it
+/// has no bytes or a part of a header, or the header of segment 1.
+fn may_be_first(one: &mut Box<dyn Segment>) -> bool {
+    let mut front = [0u8; 24];
+    if one.len() < 24 {
+        return true;
+    }
+    if one.failures() == u64::MAX || one.read(0, &mut front).is_err() {
+        return false;
+    }
+    matches!(read_header(&front), HeaderRead::Whole(header) if header.number == 1)
+}
+
+/// Whether these segments, which have no whole frame, hold the beginning of a first one alone, of
+/// which nothing was ever durable: whoever writes there begins anew.
+fn are_begun(boxes: &mut [Box<dyn Segment>]) -> bool {
+    let mut count = 0usize;
+    for one in boxes {
+        if one.len() > 0 {
+            count = count.saturating_add(1);
+            if !may_be_first(one) {
+                return false;
+            }
+        }
+    }
+    count <= 1
+}
+
+/// The pages of these segments; `None` where nothing was ever durable in them.
+fn pages_of(alloc: Global, boxes: Vec<Box<dyn Segment>>) -> Result<Option<Leaves>, HomeFault> {
+    let RecoverFault { mut boxes, cause } = match recover(alloc, boxes) {
+        Ok(recovered) => return Ok(Some(recovered.leaves)),
+        Err(fault) => fault,
+    };
+    if matches!(cause, RecoverCause::Empty) && are_begun(&mut boxes) {
+        return Ok(None);
+    }
+    Err(HomeFault::from(cause))
+}
+
+/// The same of copies. Their boxes are made here alone.
+fn pages_in_copies(alloc: Global, copies: Vec<MemSegment>) -> Result<Option<Leaves>, HomeFault> {
+    let mut boxes: Vec<Box<dyn Segment>> = Vec::new(alloc);
+    for copy in copies {
+        boxes.push(Box::new(alloc, copy)?)?;
+    }
+    pages_of(alloc, boxes)
+}
+
+/// The pages of the store in a folder, which has to be there, and stays as it is; `None` where
+/// nothing was ever durable there. Other readers are no hindrance.
+///
+/// What recovery refuses is refused, a file above so many leases, and a folder without the file of
+/// any segment. It takes memory for a copy of
+/// all files, and the time of a recovery.
+pub fn pages_in<R: System>(rt: &R, path: &str, leases: u32) -> Result<Option<Leaves>, KeysFault> {
+    let (reader, files) = opened(rt, path)?;
+    let copies = copies_of(rt, &reader, files.as_slice(), leases)?;
+    Ok(pages_in_copies(rt.alloc(), copies)?)
+}
+
+/// The numbers of the pages that may have wanted keys, in the order of their keys.
+pub fn pages_over(alloc: Global, leaves: &Leaves, span: &Span) -> Result<Vec<u32>, KeysFault> {
+    let mut pages = Vec::new(alloc);
+    let mut key = span.start_key();
+    pages.push(leaves.find(&key))?;
+    for _ in 0..leaves.count() {
+        match leaves.low_above(&key) {
+            Some(low) if !span.is_over(low.as_slice()) => key = low,
+            _ => break,
+        }
+        pages.push(leaves.find(&key))?;
+    }
+    Ok(pages)
+}
+
+/// The pair of a key.
+pub fn pair_of<'a>(leaves: &'a Leaves, key: &Key) -> Option<&'a Pair> {
+    let leaf = leaves.page(leaves.find(key))?;
+    let pairs = leaf.pairs.as_slice();
+    pairs.iter().find(|pair| pair.key() == key.as_slice())
+}
+
+/// How many pairs all pages have.
+pub fn count_of(leaves: &Leaves) -> u64 {
+    let mut count = 0u64;
+    for index in 0..leaves.count() {
+        if let Some(leaf) = leaves.page(index.saturating_add(1)) {
+            count = count.saturating_add(leaf.pairs.as_slice().len() as u64);
+        }
+    }
+    count
+}

@@ -1,0 +1,73 @@
+//! Which keys are wanted.
+
+use bw_codec::{Key, is_before};
+
+/// A stretch of keys.
+#[derive(Drop)]
+pub struct Span {
+    /// The least that is wanted.
+    pub from: Option<Key>,
+    /// The least above it that is not.
+    pub to: Option<Key>,
+    /// What each begins with.
+    pub prefix: Option<Key>,
+}
+
+/// The least of all keys.
+fn least() -> Key {
+    match Key::new(&[0]) {
+        Ok(key) => key,
+        Err(_) => unreachable!(),
+    }
+}
+
+impl Span {
+    /// All keys.
+    pub fn all() -> Span {
+        Span {
+            from: None,
+            to: None,
+            prefix: None,
+        }
+    }
+
+    /// The least key that may be wanted.
+    pub fn start_key(&self) -> Key {
+        match (&self.from, &self.prefix) {
+            (Some(from), Some(prefix)) if is_before(prefix.as_slice(), from.as_slice()) => {
+                from.copy()
+            }
+            (_, Some(prefix)) => prefix.copy(),
+            (Some(from), None) => from.copy(),
+            (None, None) => least(),
+        }
+    }
+
+    /// Whether neither this key nor any above it is wanted.
+    pub fn is_over(&self, key: &[u8]) -> bool {
+        let is_above = match &self.to {
+            Some(to) => !is_before(key, to.as_slice()),
+            None => false,
+        };
+        let is_behind = match &self.prefix {
+            Some(prefix) => {
+                !key.starts_with(prefix.as_slice()) && is_before(prefix.as_slice(), key)
+            }
+            None => false,
+        };
+        is_above || is_behind
+    }
+
+    /// Whether a key that is not over is wanted.
+    pub fn has_begun(&self, key: &[u8]) -> bool {
+        let is_from = match &self.from {
+            Some(from) => !is_before(key, from.as_slice()),
+            None => true,
+        };
+        let is_within = match &self.prefix {
+            Some(prefix) => !is_before(key, prefix.as_slice()),
+            None => true,
+        };
+        is_from && is_within
+    }
+}

@@ -1,0 +1,240 @@
+//! The text format of `mdb_dump` and `db_dump`, version 3: a header of `name=value` lines up to
+//! `HEADER=END`, then a line for each key and one for its value, each behind a space, up to
+//! `DATA=END`.
+
+use crate::fault::LineFault;
+use crate::spelling::{decoded, key_from, value_from, write_hex};
+use arrayvec::ArrayVec;
+use bw_codec::limits::MAX_VALUE;
+use bw_codec::{Key, Value};
+use std::io::{self, Write};
+
+/// How a dump spells bytes.
+#[derive(Debug, Clone, Copy, PartialEq, Eq)]
+pub enum Letters {
+    /// `bytevalue`: hex digits.
+    Hex,
+    /// `print`: printable ASCII as it is, and all else, and a backslash, as a backslash and two hex
+    /// digits.
+    Print,
+}
+
+// ---- out
+
+/// Writes the header of a dump. A size of the map, in bytes, stands in it where one is wanted:
+/// `mdb_load` makes a database of 1 MiB else, and `db_load` refuses the line.
+pub fn write_header<O: Write>(
+    output: &mut O,
+    letters: Letters,
+    mapsize: Option<u64>,
+) -> io::Result<()> {
+    output.write_all(b"VERSION=3\n")?;
+    match letters {
+        Letters::Hex => output.write_all(b"format=bytevalue\n")?,
+        Letters::Print => output.write_all(b"format=print\n")?,
+    }
+    output.write_all(b"type=btree\n")?;
+    if let Some(size) = mapsize {
+        writeln!(output, "mapsize={size}")?;
+    }
+    output.write_all(b"HEADER=END\n")
+}
+
+/// Writes the end of a dump.
+pub fn write_end<O: Write>(output: &mut O) -> io::Result<()> {
+    output.write_all(b"DATA=END\n")
+}
+
+/// Writes bytes with escapes.
+fn write_escaped<O: Write>(output: &mut O, bytes: &[u8]) -> io::Result<()> {
+    for byte in bytes {
+        let one = [*byte];
+        if matches!(*byte, 0x20..=0x7e) && *byte != b'\\' {
+            output.write_all(&one)?;
+        } else {
+            output.write_all(b"\\")?;
+            write_hex(output, &one)?;
+        }
+    }
+    Ok(())
+}
+
+/// Writes the line of a key or a value.
+fn write_bytes<O: Write>(output: &mut O, letters: Letters, bytes: &[u8]) -> io::Result<()> {
+    output.write_all(b" ")?;
+    match letters {
+        Letters::Hex => write_hex(output, bytes)?,
+        Letters::Print => write_escaped(output, bytes)?,
+    }
+    output.write_all(b"\n")
+}
+
+/// Writes the two lines of a pair.
+pub fn write_dumped<O: Write>(
+    output: &mut O,
+    letters: Letters,
+    key: &[u8],
+    value: &[u8],
+) -> io::Result<()> {
+    write_bytes(output, letters, key)?;
+    write_bytes(output, letters, value)
+}
+
+// ---- in
+
+/// Where in an escape a reader stands.
+#[derive(Clone, Copy)]
+enum Escape {
+    /// In none.
+    Outside,
+    /// Behind the backslash.
+    Begun,
+    /// Behind the first digit, which this is.
+    Half(u8),
+}
+
+/// The bytes of a line with escapes, as far as it was read.
+#[derive(Drop)]
+struct Unescaping {
+    bytes: ArrayVec<u8, MAX_VALUE>,
+    escape: Escape,
+    too_long: LineFault,
+}
+
+/// The value of a hex digit.
+fn digit_of(letter: u8) -> Result<u8, LineFault> {
+    match letter {
+        b'0'..=b'9' => Ok(letter - b'0'),
+        b'a'..=b'f' => Ok(letter - b'a' + 10),
+        b'A'..=b'F' => Ok(letter - b'A' + 10),
+        _ => Err(LineFault::BadEscape),
+    }
+}
+
+impl Unescaping {
+    /// A byte of the line was read to its end.
+    fn push(&mut self, byte: u8) -> Result<(), LineFault> {
+        self.escape = Escape::Outside;
+        match self.bytes.try_push(byte) {
+            Ok(()) => Ok(()),
+            Err(_) => Err(self.too_long),
+        }
+    }
+
+    /// Reads a letter.
+    fn take(&mut self, letter: u8) -> Result<(), LineFault> {
+        match self.escape {
+            Escape::Outside if letter == b'\\' => {
+                self.escape = Escape::Begun;
+                Ok(())
+            }
+            Escape::Outside => self.push(letter),
+            Escape::Begun if letter == b'\\' => self.push(letter),
+            Escape::Begun => {
+                self.escape = Escape::Half(digit_of(letter)?);
+                Ok(())
+            }
+            Escape::Half(first) => self.push((first & 0x0f) << 4 | digit_of(letter)?),
+        }
+    }
+}
+
+/// The bytes of a line with escapes; `too_long` where a value has not so many.
+fn unescaped(line: &[u8], too_long: LineFault) -> Result<ArrayVec<u8, MAX_VALUE>, LineFault> {
+    let mut read = Unescaping {
+        bytes: ArrayVec::new(),
+        escape: Escape::Outside,
+        too_long,
+    };
+    for letter in line {
+        read.take(*letter)?;
+    }
+    match read.escape {
+        Escape::Outside => Ok(read.bytes),
+        _ => Err(LineFault::BadEscape),
+    }
+}
+
+/// What stands behind the space of a line of data.
+fn behind_space(line: &[u8]) -> Result<&[u8], LineFault> {
+    match line.strip_prefix(b" ") {
+        Some(text) => Ok(text),
+        None => Err(LineFault::NoSpace),
+    }
+}
+
+/// The key of a line.
+pub fn key_in(letters: Letters, line: &[u8]) -> Result<Key, LineFault> {
+    let text = behind_space(line)?;
+    match letters {
+        Letters::Hex => {
+            let mut room = [0u8; MAX_VALUE];
+            key_from(decoded(text, &mut room, LineFault::BadKey)?)
+        }
+        Letters::Print => key_from(unescaped(text, LineFault::BadKey)?.as_slice()),
+    }
+}
+
+/// The value of a line.
+pub fn value_in(letters: Letters, line: &[u8]) -> Result<Value, LineFault> {
+    let text = behind_space(line)?;
+    match letters {
+        Letters::Hex => {
+            let mut room = [0u8; MAX_VALUE];
+            value_from(decoded(text, &mut room, LineFault::BadValue)?)
+        }
+        Letters::Print => value_from(unescaped(text, LineFault::BadValue)?.as_slice()),
+    }
+}
+
+/// What is known of a dump from its header, as far as that was read.
+#[derive(Debug, Clone, Copy, PartialEq, Eq)]
+pub enum Header {
+    /// Its first line comes next.
+    First,
+    /// Another one comes next.
+    Rest(Letters),
+    /// It is at its end.
+    End(Letters),
+}
+
+/// How bytes are spelled, by the value of `format`.
+fn letters_of(value: &str) -> Result<Letters, LineFault> {
+    match value {
+        "bytevalue" => Ok(Letters::Hex),
+        "print" => Ok(Letters::Print),
+        _ => Err(LineFault::BadFormat),
+    }
+}
+
+/// What is known once a line behind the first one is read. What says how another store lays out
+/// its pages, or orders its keys, is read over.
+fn with_line(letters: Letters, text: &str) -> Result<Header, LineFault> {
+    let Some((name, value)) = text.split_once('=') else {
+        return Err(LineFault::BadHeader);
+    };
+    match (name, value) {
+        ("HEADER", "END") => Ok(Header::End(letters)),
+        ("HEADER", _) => Err(LineFault::BadHeader),
+        ("format", value) => Ok(Header::Rest(letters_of(value)?)),
+        ("type", "btree" | "hash") => Ok(Header::Rest(letters)),
+        ("type", _) | ("keys", "0") => Err(LineFault::BadType),
+        ("duplicates" | "dupsort", "1") => Err(LineFault::Duplicates),
+        _ => Ok(Header::Rest(letters)),
+    }
+}
+
+impl Header {
+    /// What is known once a line more is read.
+    pub fn then(self, line: &[u8]) -> Result<Header, LineFault> {
+        let Ok(text) = std::str::from_utf8(line) else {
+            return Err(LineFault::BadHeader);
+        };
+        match self {
+            Header::First if text == "VERSION=3" => Ok(Header::Rest(Letters::Hex)),
+            Header::First => Err(LineFault::NoVersion),
+            Header::Rest(letters) => with_line(letters, text),
+            Header::End(letters) => Ok(Header::End(letters)),
+        }
+    }
+}

@@ -1,0 +1,71 @@
+//! Why a line is no pair, and why there are no more of them.
+
+use std::io::{self, ErrorKind};
+use thiserror::Error;
+
+/// Why a line, or a word, is not what it has to be.
+#[derive(Debug, Clone, Copy, PartialEq, Eq, Error)]
+pub enum LineFault {
+    /// It has more bytes than the longest pair.
+    #[error("line too long")]
+    TooLong,
+    /// No tab parts a key from a value.
+    #[error("no tab behind a key")]
+    NoTab,
+    #[error("a key has 1 to 128 bytes")]
+    BadKey,
+    #[error("a value has 0 to 512 bytes")]
+    BadValue,
+    /// What stands behind `0x`, or on a line of a dump, is no hex.
+    #[error("bad hex")]
+    BadHex,
+    /// What stands behind a backslash in a dump is neither another one nor two hex digits.
+    #[error("bad escape")]
+    BadEscape,
+    /// The first line of a dump is another one.
+    #[error("a dump begins with VERSION=3")]
+    NoVersion,
+    /// A line of a dump's header has no `=`, or the header has no end.
+    #[error("bad header of a dump")]
+    BadHeader,
+    #[error("the format of a dump is bytevalue or print")]
+    BadFormat,
+    /// A queue, or a list by numbers.
+    #[error("a dump has to be of type btree or hash, with keys")]
+    BadType,
+    /// Of two values of a key one would be lost.
+    #[error("a dump with several values of a key is not read")]
+    Duplicates,
+    /// A line of a dump's data begins with a space.
+    #[error("no space before the data of a dump")]
+    NoSpace,
+    #[error("a key without a value")]
+    NoValue,
+    /// The input ended before it.
+    #[error("the dump has no DATA=END")]
+    NoEnd,
+    #[error("a second database in one dump")]
+    Second,
+}
+
+/// Why no pair was read.
+#[derive(Debug, Clone, Copy, PartialEq, Eq)]
+pub enum PairsFault {
+    /// A growth was refused.
+    NoMemory,
+    /// The input could not be read.
+    Input,
+    /// The line of this number, from 1, is not what it has to be.
+    Line(u64, LineFault),
+}
+
+impl PairsFault {
+    /// An error of a read, or of a growth for what was read.
+    pub fn of_read(error: io::Error) -> PairsFault {
+        if error.kind() == ErrorKind::OutOfMemory {
+            PairsFault::NoMemory
+        } else {
+            PairsFault::Input
+        }
+    }
+}

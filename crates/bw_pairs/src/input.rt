@@ -1,0 +1,212 @@
+//! The pairs of an input, one after another.
+
+use crate::dump::{Header, Letters, key_in, value_in};
+use crate::fault::{LineFault, PairsFault};
+use crate::lines::{Lines, READS};
+use crate::tabs::put_of;
+use bw_codec::Record;
+use std::alloc::Global;
+use std::io::Read;
+
+/// More bytes than the line of the longest pair has, whatever its spelling.
+pub const LONGEST: u32 = 4_096;
+
+/// How an input spells its pairs.
+#[derive(Debug, Clone, Copy, PartialEq, Eq)]
+enum Form {
+    /// A pair a line.
+    Tabs,
+    /// A dump, whose header comes next.
+    Dump,
+    /// A dump behind its header.
+    Data(Letters),
+    /// A dump behind its end.
+    Ended,
+}
+
+/// What comes next.
+#[derive(Drop)]
+enum Next {
+    Put(Record),
+    /// A pair that is none, for this reason, by the line that is at fault.
+    Bad(u64, LineFault),
+    End,
+}
+
+/// The lines of bad pairs that were read over.
+#[derive(Debug, Clone, Copy, PartialEq, Eq)]
+pub struct Skipped {
+    /// How many pairs.
+    pub count: u64,
+    /// The line of the first one, and what is wrong with it.
+    pub first: Option<(u64, LineFault)>,
+}
+
+/// The pairs of an input.
+#[derive(Drop)]
+pub struct Pairs<I> {
+    lines: Lines<I>,
+    form: Form,
+    /// Whether a bad pair is read over.
+    skips: bool,
+    skipped: Skipped,
+}
+
+impl<I: Read + Drop> Pairs<I> {
+    /// Those of a reader, as a dump or a pair a line. A bad pair ends them, or is read over.
+    pub fn new(
+        alloc: Global,
+        input: I,
+        is_dump: bool,
+        skips: bool,
+    ) -> Result<Pairs<I>, PairsFault> {
+        let lines = Lines::new(alloc, input, READS, LONGEST).map_err(PairsFault::of_read)?;
+        Ok(Pairs {
+            lines,
+            form: if is_dump { Form::Dump } else { Form::Tabs },
+            skips,
+            skipped: Skipped {
+                count: 0,
+                first: None,
+            },
+        })
+    }
+
+    /// What was read over.
+    pub fn skipped(&self) -> Skipped {
+        self.skipped
+    }
+
+    /// Reads the next line, and says whether there was one.
+    fn read_line(&mut self) -> Result<bool, PairsFault> {
+        self.lines.read_line().map_err(PairsFault::of_read)
+    }
+
+    /// The line that was read.
+    fn line(&self) -> Result<&[u8], LineFault> {
+        let line = self.lines.line();
+        if line.len() > LONGEST as usize {
+            return Err(LineFault::TooLong);
+        }
+        Ok(line)
+    }
+
+    /// A fault of the line that was read, which is not read over.
+    fn fault(&self, fault: LineFault) -> PairsFault {
+        PairsFault::Line(self.lines.number(), fault)
+    }
+
+    /// The pair of the next line.
+    fn next_tabs(&mut self) -> Result<Next, PairsFault> {
+        if !self.read_line()? {
+            return Ok(Next::End);
+        }
+        let put = match self.line() {
+            Ok(line) => put_of(line),
+            Err(fault) => Err(fault),
+        };
+        match put {
+            Ok(put) => Ok(Next::Put(put)),
+            Err(fault) => Ok(Next::Bad(self.lines.number(), fault)),
+        }
+    }
+
+    /// What the header of a dump says, once a line more is read.
+    fn header_then(&mut self, header: Header) -> Result<Header, PairsFault> {
+        let is_there = self.read_line()?;
+        let then = match self.line() {
+            Ok(line) if is_there => header.then(line),
+            Ok(_) => Err(LineFault::BadHeader),
+            Err(fault) => Err(fault),
+        };
+        then.map_err(|fault| self.fault(fault))
+    }
+
+    /// Reads the header of a dump.
+    fn read_header(&mut self) -> Result<(), PairsFault> {
+        let mut header = Header::First;
+        for _ in 0..READS {
+            header = self.header_then(header)?;
+            if let Header::End(letters) = header {
+                self.form = Form::Data(letters);
+                return Ok(());
+            }
+        }
+        Err(self.fault(LineFault::BadHeader))
+    }
+
+    /// Reads a line of data, and says whether it is one, and not the end.
+    fn read_data(&mut self) -> Result<bool, PairsFault> {
+        if !self.read_line()? {
+            return Err(self.fault(LineFault::NoEnd));
+        }
+        Ok(self.lines.line() != b"DATA=END".as_slice())
+    }
+
+    /// The pair of the next two lines. The value of a bad key is read over with it.
+    fn next_data(&mut self, letters: Letters) -> Result<Next, PairsFault> {
+        if !self.read_data()? {
+            self.form = Form::Ended;
+            return self.end();
+        }
+        let number = self.lines.number();
+        let key = match self.line() {
+            Ok(line) => key_in(letters, line),
+            Err(fault) => Err(fault),
+        };
+        if !self.read_data()? {
+            return Err(self.fault(LineFault::NoValue));
+        }
+        let value = match self.line() {
+            Ok(line) => value_in(letters, line),
+            Err(fault) => Err(fault),
+        };
+        match (key, value) {
+            (Ok(key), Ok(value)) => Ok(Next::Put(Record::Put(key, value))),
+            (Err(fault), _) => Ok(Next::Bad(number, fault)),
+            (_, Err(fault)) => Ok(Next::Bad(self.lines.number(), fault)),
+        }
+    }
+
+    /// Nothing may stand behind the end of a dump.
+    fn end(&mut self) -> Result<Next, PairsFault> {
+        if self.read_line()? {
+            return Err(self.fault(LineFault::Second));
+        }
+        Ok(Next::End)
+    }
+
+    /// What comes next.
+    fn next(&mut self) -> Result<Next, PairsFault> {
+        if self.form == Form::Dump {
+            self.read_header()?;
+        }
+        match self.form {
+            Form::Tabs => self.next_tabs(),
+            Form::Data(letters) => self.next_data(letters),
+            Form::Dump | Form::Ended => Ok(Next::End),
+        }
+    }
+
+    /// Notes a bad pair, which ends the input where none is read over.
+    fn note(&mut self, number: u64, fault: LineFault) -> Result<(), PairsFault> {
+        if !self.skips {
+            return Err(PairsFault::Line(number, fault));
+        }
+        self.skipped.count = self.skipped.count.saturating_add(1);
+        self.skipped.first = self.skipped.first.or(Some((number, fault)));
+        Ok(())
+    }
+
+    /// The put of the next pair; `None` behind the last.
+    pub fn next_put(&mut self) -> Result<Option<Record>, PairsFault> {
+        for _ in 0..u64::MAX {
+            match self.next()? {
+                Next::Put(record) => return Ok(Some(record)),
+                Next::Bad(number, fault) => self.note(number, fault)?,
+                Next::End => break,
+            }
+        }
+        Ok(None)
+    }
+}

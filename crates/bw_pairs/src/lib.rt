@@ -1,0 +1,20 @@
+//! Pairs as text: a line for each, in a spelling that gives back any bytes, and the dumps of other
+//! stores.
+//!
+//! `Pairs` reads an input in bounded memory, and tells the line of what is no pair. What writes
+//! takes any output.
+#![tactic(auto)]
+
+mod dump;
+mod fault;
+mod input;
+mod lines;
+mod spelling;
+mod tabs;
+
+pub use dump::{Letters, write_dumped, write_end, write_header};
+pub use fault::{LineFault, PairsFault};
+pub use input::{Pairs, Skipped};
+pub use lines::{Lines, READS};
+pub use spelling::{Spelling, key_of, value_from, value_of, write_word};
+pub use tabs::write_pair;

@@ -1,0 +1,28 @@
+//! A pair as a line: the key, a tab, the value.
+
+use crate::fault::LineFault;
+use crate::spelling::{Spelling, key_of, value_of, write_word};
+use bw_codec::Record;
+use std::io::{self, Write};
+
+/// Writes the line of a pair.
+pub fn write_pair<O: Write>(
+    output: &mut O,
+    spelling: Spelling,
+    key: &[u8],
+    value: &[u8],
+) -> io::Result<()> {
+    write_word(output, spelling, key)?;
+    output.write_all(b"\t")?;
+    write_word(output, spelling, value)?;
+    output.write_all(b"\n")
+}
+
+/// The put that a line stands for. The first tab parts its words: a word with a tab is written in
+/// hex.
+pub fn put_of(line: &[u8]) -> Result<Record, LineFault> {
+    match line.iter().position(|byte| *byte == b'\t') {
+        Some(at) => Ok(Record::Put(key_of(&line[..at])?, value_of(&line[at + 1..])?)),
+        None => Err(LineFault::NoTab),
+    }
+}
