@@ -1,0 +1,54 @@
+//! A store is written anew.
+
+use crate::copying::Copied;
+use crate::fault::RescueFault;
+use crate::judged::{Judged, judge};
+use crate::load::load;
+use crate::order::pairs_of;
+use crate::reading::sound_images;
+use crate::target::Target;
+use bw_codec::Leaf;
+use bw_codec::limits::HEADER_LEN;
+use bw_core::StoreFault;
+use bw_home::{HomeFault, Options, System};
+use std::alloc::{AllocError, Global};
+
+/// The pages that were found.
+fn leaves_of(alloc: Global, judged: &Judged) -> Result<Vec<Leaf>, AllocError> {
+    let mut leaves = Vec::new(alloc);
+    for index in 0..judged.leaves.count() {
+        if let Some(leaf) = judged.leaves.page(index.saturating_add(1)) {
+            leaves.push(leaf.copy()?)?;
+        }
+    }
+    Ok(leaves)
+}
+
+/// Refuses segments without room for a frame, before anything is made.
+fn with_room(options: &Options) -> Result<(), RescueFault> {
+    if options.capacity < u64::from(options.f).saturating_add(HEADER_LEN as u64) {
+        return Err(RescueFault::Home(HomeFault::Store(StoreFault::BadConfig)));
+    }
+    Ok(())
+}
+
+/// Writes all pairs of the store in a folder into a new store, by these options, in a new folder. Its
+/// pages are full, but for the last three at most; no empty page is among them. There are so many
+/// leases. It is refused as `copy` is, and `Home` where the options allow no store, or the leases
+/// too few segments.
+pub fn compact<R: System>(
+    rt: &R,
+    from: &str,
+    to: &str,
+    leases: u32,
+    options: &Options,
+) -> Result<Copied, RescueFault> {
+    with_room(options)?;
+    let target = Target::of(rt, to)?;
+    let images = sound_images(rt, from, leases)?;
+    let judged = judge(rt.alloc(), images.as_slice())?;
+    let leaves = leaves_of(rt.alloc(), &judged)?;
+    let pairs = pairs_of(rt.alloc(), leaves.as_slice())?;
+    load(rt, target.partial(), leases, options, pairs.as_slice())?;
+    target.end(rt, leases)
+}

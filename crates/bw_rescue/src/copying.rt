@@ -1,0 +1,56 @@
+//! A store is copied as it is.
+
+use crate::fault::RescueFault;
+use crate::judged::{Judged, judge};
+use crate::reading::sound_images;
+use crate::target::Target;
+use bw_codec::{HeaderRead, read_header};
+use bw_home::System;
+use bw_look::Image;
+use std::alloc::AllocError;
+
+/// What a new folder holds.
+#[derive(Debug, Clone, Copy, PartialEq, Eq)]
+pub struct Copied {
+    /// The number of its last frame.
+    pub frame: u64,
+    /// How many pages there are.
+    pub pages: u64,
+    /// How many pairs they have.
+    pub pairs: u64,
+}
+
+impl Copied {
+    pub(crate) fn of(judged: &Judged) -> Copied {
+        Copied {
+            frame: judged.found.last,
+            pages: judged.pages(),
+            pairs: judged.pairs(),
+        }
+    }
+}
+
+/// The live segments: those with a whole header.
+fn live_of(images: Vec<Image>) -> Result<Vec<Image>, AllocError> {
+    let mut live = Vec::new(*images.allocator());
+    for image in images {
+        if let HeaderRead::Whole(_) = read_header(image.bytes.as_slice()) {
+            live.push(image)?;
+        }
+    }
+    Ok(live)
+}
+
+/// Copies the live segments of a folder, byte by byte, into a new one, with a digest for each. It
+/// opens as the store of that moment. There are so many leases.
+///
+/// Refused, and nothing is made: `Target` where the new folder is there already; `Source`, where the
+/// other one is locked for writing or damaged; `Recovery`, where it is no store. Behind `Partial` and
+/// `Target` a part may stand under the name with `.partial` behind, which is no copy.
+pub fn copy<R: System>(rt: &R, from: &str, to: &str, leases: u32) -> Result<Copied, RescueFault> {
+    let target = Target::of(rt, to)?;
+    let images = sound_images(rt, from, leases)?;
+    let _ = judge(rt.alloc(), images.as_slice())?;
+    target.write(rt, live_of(images)?.as_slice())?;
+    target.end(rt, leases)
+}

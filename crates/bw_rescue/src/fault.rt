@@ -1,0 +1,127 @@
+//! Why a folder was not verified, copied, salvaged or restored.
+
+use bw_care::RecoverCause;
+use bw_device::{NotMade, NotTaken};
+use bw_file::FolderFault;
+use bw_home::HomeFault;
+use std::alloc::{AllocError, AllocFailed};
+use std::fmt::{self, Display, Formatter};
+use std::io::{self, ErrorKind};
+use thiserror::Error;
+
+/// Why a folder was not verified, copied, salvaged or restored.
+#[derive(Debug, Clone, Copy, Error)]
+pub enum RescueFault {
+    /// A growth was refused.
+    NoMemory,
+    /// The folder that is read has a file of a lease above those that were allowed.
+    NoLease,
+    /// The folder that is read, or a file in it, was not opened or read, or is damaged.
+    Source(FolderFault),
+    /// The new folder is there already, or was not made.
+    Target(FolderFault),
+    /// The same of the folder beside it, in which it is made: its name with `.partial` behind.
+    Partial(FolderFault),
+    /// What was read, or what was written, is no store.
+    Recovery(RecoverCause),
+    /// The new store was not opened, or a call on it was refused.
+    Home(HomeFault),
+    /// The log has the frames from the first to the last, and not the one that was asked for.
+    NoFrame { first: u64, last: u64 },
+}
+
+// By hand, since a derived one writes in each variant, which is dear to prove.
+impl Display for RescueFault {
+    fn fmt<W: fmt::Write>(&self, f: &mut Formatter<W>) -> fmt::Result {
+        match self {
+            RescueFault::NoMemory => f.write_str("out of memory"),
+            RescueFault::NoLease => f.write_str("no lease"),
+            RescueFault::Source(fault) | RescueFault::Target(fault) | RescueFault::Partial(fault) =>
+                write!(f, "{fault}"),
+            RescueFault::Recovery(cause) => write!(f, "{cause}"),
+            RescueFault::Home(fault) => write!(f, "{fault}"),
+            RescueFault::NoFrame { first, last } => write!(f, "the frames are {first} to {last}"),
+        }
+    }
+}
+
+impl RescueFault {
+    /// A fault of the new folder.
+    pub(crate) fn of_target(fault: FolderFault) -> RescueFault {
+        match fault {
+            FolderFault::NoMemory => RescueFault::NoMemory,
+            other => RescueFault::Target(other),
+        }
+    }
+
+    /// A fault of the folder in which it is made.
+    pub(crate) fn of_partial(fault: FolderFault) -> RescueFault {
+        match fault {
+            FolderFault::NoMemory => RescueFault::NoMemory,
+            other => RescueFault::Partial(other),
+        }
+    }
+}
+
+/// What is told of a name that something has already.
+pub(crate) fn already_there() -> FolderFault {
+    FolderFault::System(io::Error::from(ErrorKind::AlreadyExists))
+}
+
+impl From<AllocError> for RescueFault {
+    fn from(_error: AllocError) -> RescueFault {
+        RescueFault::NoMemory
+    }
+}
+
+impl<T: Drop> From<AllocFailed<T>> for RescueFault {
+    fn from(_error: AllocFailed<T>) -> RescueFault {
+        RescueFault::NoMemory
+    }
+}
+
+impl From<FolderFault> for RescueFault {
+    fn from(fault: FolderFault) -> RescueFault {
+        match fault {
+            FolderFault::NoMemory => RescueFault::NoMemory,
+            other => RescueFault::Source(other),
+        }
+    }
+}
+
+impl From<NotTaken> for RescueFault {
+    fn from(fault: NotTaken) -> RescueFault {
+        match fault {
+            NotTaken::NoMemory => RescueFault::NoMemory,
+            NotTaken::NoLease => RescueFault::NoLease,
+        }
+    }
+}
+
+impl From<NotMade> for RescueFault {
+    fn from(fault: NotMade) -> RescueFault {
+        match fault {
+            NotMade::NoMemory => RescueFault::NoMemory,
+            NotMade::BadConfig => RescueFault::Recovery(RecoverCause::BadConfig),
+        }
+    }
+}
+
+impl From<RecoverCause> for RescueFault {
+    fn from(cause: RecoverCause) -> RescueFault {
+        match cause {
+            RecoverCause::NoMemory => RescueFault::NoMemory,
+            other => RescueFault::Recovery(other),
+        }
+    }
+}
+
+impl From<HomeFault> for RescueFault {
+    fn from(fault: HomeFault) -> RescueFault {
+        match fault {
+            HomeFault::NoMemory => RescueFault::NoMemory,
+            HomeFault::Folder(fault) => RescueFault::of_partial(fault),
+            other => RescueFault::Home(other),
+        }
+    }
+}

@@ -1,0 +1,73 @@
+//! The segments of a folder that is read, as bytes.
+
+use crate::fault::RescueFault;
+use bw_file::{FolderFault, FolderReader};
+use bw_home::System;
+use bw_look::Image;
+
+/// The lease again, where it is below the number of leases.
+pub(crate) fn allowed(lease: u32, leases: u32) -> Result<u32, RescueFault> {
+    if lease < leases {
+        Ok(lease)
+    } else {
+        Err(RescueFault::NoLease)
+    }
+}
+
+/// The segments of a folder, by their leases, of which there are so many. Refused where the bytes of
+/// one do not fit their digests.
+pub(crate) fn sound_images<R: System>(
+    rt: &R,
+    path: &str,
+    leases: u32,
+) -> Result<Vec<Image>, RescueFault> {
+    let reader = FolderReader::open(rt, path)?;
+    let mut images = Vec::new(rt.alloc());
+    for lease in &reader.leases(rt)? {
+        let lease = allowed(*lease, leases)?;
+        images.push(Image {
+            lease: Some(lease),
+            bytes: reader.sound_bytes(rt, lease)?,
+        })?;
+    }
+    Ok(images)
+}
+
+/// A segment as it was read, be it damaged or not.
+#[derive(Drop)]
+pub(crate) struct Seen {
+    pub(crate) image: Image,
+    /// Where the first piece begins, in bytes, that has not its digest, and what is told of it.
+    pub(crate) hurt: Option<(u64, FolderFault)>,
+}
+
+/// The segment of this lease as it is.
+fn look_at<R: System>(rt: &R, reader: &FolderReader, lease: u32) -> Result<Seen, FolderFault> {
+    let (bytes, hurt) = match reader.sound_bytes(rt, lease) {
+        Ok(bytes) => (bytes, None),
+        Err(FolderFault::Damaged { lease, at }) => {
+            let hurt = Some((at, FolderFault::Damaged { lease, at }));
+            (reader.bytes(rt, lease)?, hurt)
+        }
+        Err(fault) => return Err(fault),
+    };
+    let image = Image {
+        lease: Some(lease),
+        bytes,
+    };
+    Ok(Seen { image, hurt })
+}
+
+/// The segments of a folder, by their leases, be they damaged or not.
+pub(crate) fn seen_images<R: System>(
+    rt: &R,
+    path: &str,
+    leases: u32,
+) -> Result<Vec<Seen>, RescueFault> {
+    let reader = FolderReader::open(rt, path)?;
+    let mut all = Vec::new(rt.alloc());
+    for lease in &reader.leases(rt)? {
+        all.push(look_at(rt, &reader, allowed(*lease, leases)?)?)?;
+    }
+    Ok(all)
+}

@@ -1,0 +1,211 @@
+//! A store as of an earlier frame, in another folder.
+
+use crate::copying::Copied;
+use crate::fault::{RescueFault, already_there};
+use crate::judged::{Judged, judge};
+use crate::reading::{Seen, seen_images};
+use bw_care::RecoverCause;
+use bw_file::{Folder, FolderFault};
+use bw_home::{Found, System};
+use bw_look::{Image, Survey, kept_bytes, pages_at};
+use std::alloc::{AllocError, Global};
+
+/// A log that was read.
+#[derive(Drop)]
+struct Log {
+    images: Vec<Image>,
+    /// Where the first piece of each begins, in bytes, that has not its digest.
+    hurts: Vec<Option<(u64, FolderFault)>>,
+}
+
+impl Log {
+    fn of(seen: Vec<Seen>) -> Result<Log, AllocError> {
+        let alloc = *seen.allocator();
+        let mut log = Log {
+            images: Vec::new(alloc),
+            hurts: Vec::new(alloc),
+        };
+        for Seen { image, hurt } in seen {
+            log.images.push(image)?;
+            log.hurts.push(hurt)?;
+        }
+        Ok(log)
+    }
+
+    /// What is told of the first segment that is damaged, if one is.
+    fn first_hurt(&self) -> Option<FolderFault> {
+        for hurt in self.hurts.as_slice() {
+            if let Some((_, fault)) = hurt {
+                return Some(*fault);
+            }
+        }
+        None
+    }
+
+    /// What stands against the whole of it: damage, or what recovery refuses.
+    fn judged(&self, alloc: Global) -> Result<Judged, RescueFault> {
+        match self.first_hurt() {
+            Some(fault) => Err(RescueFault::from(fault)),
+            None => judge(alloc, self.images.as_slice()),
+        }
+    }
+}
+
+/// The greatest page that a block of a survey touches or makes.
+fn greatest_page(survey: &Survey) -> u64 {
+    let mut greatest = 0;
+    for row in survey.blocks() {
+        greatest = greatest.max(u64::from(row.page));
+        greatest = greatest.max(u64::from(row.made.unwrap_or(0)));
+    }
+    greatest
+}
+
+/// Refuses a store that lacks a page: where the log had so many pages, a segment with its blocks was
+/// given up since.
+fn with_pages(then: Judged, pages: u64) -> Result<Judged, RescueFault> {
+    if then.pages() < pages {
+        let page = then.leaves.count().saturating_add(1);
+        return Err(RescueFault::Recovery(RecoverCause::Unlawful { page }));
+    }
+    Ok(then)
+}
+
+/// The segments as they were when this frame was the last.
+fn cut_at(alloc: Global, images: Vec<Image>, frame: u64) -> Result<Vec<Image>, AllocError> {
+    let mut cut = Vec::new(alloc);
+    for mut image in images {
+        let kept = kept_bytes(alloc, &image, frame)?;
+        image.bytes.truncate(kept);
+        cut.push(image)?;
+    }
+    Ok(cut)
+}
+
+/// Refuses segments of which a piece is kept, in a part at least, that has not its digest.
+fn with_digests(cut: &[Image], hurts: &[Option<(u64, FolderFault)>]) -> Result<(), RescueFault> {
+    for (image, hurt) in cut.iter().zip(hurts) {
+        if let Some((at, fault)) = hurt {
+            if *at < image.bytes.len() as u64 {
+                return Err(RescueFault::from(*fault));
+            }
+        }
+    }
+    Ok(())
+}
+
+/// A log as of a frame: its segments, and what recovery says of them.
+#[derive(Drop)]
+struct Restored {
+    cut: Vec<Image>,
+    then: Judged,
+}
+
+/// The log of a sound folder as of a frame. `now` is what recovery says of all of it.
+fn of_sound(
+    alloc: Global,
+    images: Vec<Image>,
+    now: &Judged,
+    frame: u64,
+) -> Result<Restored, RescueFault> {
+    let Found { first, last, .. } = now.found;
+    if frame < first || frame > last {
+        return Err(RescueFault::NoFrame { first, last });
+    }
+    let survey = Survey::of(alloc, images.as_slice())?;
+    let pages = pages_at(&survey, frame, now.pages());
+    let cut = cut_at(alloc, images, frame)?;
+    let then = with_pages(judge(alloc, cut.as_slice())?, pages)?;
+    Ok(Restored { cut, then })
+}
+
+/// The log as of a frame where there is this fault. It is told unless it stands behind that frame: so
+/// the segments are cut first, and recovery has to find the frame in what is left. How many pages
+/// there were is asked of the frames that can be read.
+fn in_front_of(
+    alloc: Global,
+    log: Log,
+    fault: RescueFault,
+    frame: u64,
+) -> Result<Restored, RescueFault> {
+    let Log { images, hurts } = log;
+    let survey = Survey::of(alloc, images.as_slice())?;
+    let pages = pages_at(&survey, frame, greatest_page(&survey));
+    let cut = cut_at(alloc, images, frame)?;
+    with_digests(cut.as_slice(), hurts.as_slice())?;
+    match judge(alloc, cut.as_slice()) {
+        Ok(then) if then.found.last == frame => {
+            let then = with_pages(then, pages)?;
+            Ok(Restored { cut, then })
+        }
+        Err(RescueFault::NoMemory) => Err(RescueFault::NoMemory),
+        // All frames are there, and a page was set in a segment that was given up since.
+        Err(RescueFault::Recovery(RecoverCause::Unlawful { page })) => Err(RescueFault::Recovery(
+            RecoverCause::Unlawful { page },
+        )),
+        _ => Err(fault),
+    }
+}
+
+/// The log as of a frame.
+fn as_of(alloc: Global, log: Log, frame: u64) -> Result<Restored, RescueFault> {
+    match log.judged(alloc) {
+        Ok(now) => of_sound(alloc, log.images, &now, frame),
+        Err(RescueFault::NoMemory) => Err(RescueFault::NoMemory),
+        Err(fault) => in_front_of(alloc, log, fault, frame),
+    }
+}
+
+/// Writes the segments that have bytes, but for the first one, into a folder.
+fn write_rest<R: System>(rt: &R, folder: &Folder, images: &[Image]) -> Result<(), FolderFault> {
+    let held = images.iter().filter(|image| !image.bytes.is_empty());
+    for image in held.skip(1) {
+        if let Some(lease) = image.lease {
+            folder.write(rt, lease, image.bytes.as_slice())?;
+        }
+    }
+    Ok(())
+}
+
+/// Writes the segments that have bytes into a folder that has none yet. Some of them may be a store
+/// as of an earlier frame, so the first one is no segment until all others stand: a stop in between
+/// leaves a folder that is refused.
+fn write_all<R: System>(rt: &R, path: &str, images: &[Image]) -> Result<(), FolderFault> {
+    let folder = Folder::open(rt, path)?;
+    if !folder.leases(rt)?.is_empty() {
+        return Err(already_there());
+    }
+    let first = images.iter().find(|image| !image.bytes.is_empty());
+    if let Some(
+        Image {
+            lease: Some(lease),
+            bytes,
+        },
+    ) = first
+    {
+        let begun = folder.write_held_back(rt, *lease, bytes.as_slice())?;
+        write_rest(rt, &folder, images)?;
+        begun.end()?;
+    }
+    Ok(())
+}
+
+/// Makes a folder that holds a store as it was when this frame was its last; the folder may not have
+/// segments yet. There are so many leases. A fault of the log that stands behind the frame is no
+/// hindrance.
+///
+/// `NoFrame` where the log has no such frame; `Recovery`, with the page that is missing, where a
+/// segment with its blocks was given up since; `Source` and `Recovery` for what stands against the
+/// log up to the frame.
+pub fn restore<R: System>(
+    rt: &R,
+    from: &str,
+    to: &str,
+    frame: u64,
+    leases: u32,
+) -> Result<Copied, RescueFault> {
+    let log = Log::of(seen_images(rt, from, leases)?)?;
+    let Restored { cut, then } = as_of(rt.alloc(), log, frame)?;
+    write_all(rt, to, cut.as_slice()).map_err(RescueFault::of_target)?;
+    Ok(Copied::of(&then))
+}

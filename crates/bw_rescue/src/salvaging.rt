@@ -1,0 +1,206 @@
+//! What a damaged folder still has goes into a new store.
+
+use crate::copying::Copied;
+use crate::fault::RescueFault;
+use crate::load::load;
+use crate::lost::Loss;
+use crate::order::pairs_of;
+use crate::pages::Pages;
+use crate::pieces::sums_beside;
+use crate::target::Target;
+use crate::whole::{Held, frame_at};
+use bw_care::RecoverCause;
+use bw_codec::Leaf;
+use bw_file::{FolderFault, FolderReader};
+use bw_home::{Options, System};
+use std::alloc::{AllocError, Global};
+use std::collections::BTreeMap;
+
+/// What was salvaged, and what was not.
+#[derive(Drop)]
+pub struct Salvaged {
+    /// What the new folder holds.
+    pub copied: Copied,
+    /// Files, then frames, then pages.
+    pub losses: Vec<Loss>,
+}
+
+/// The segments of a folder, as far as they can be read.
+#[derive(Drop)]
+struct Wreck {
+    held: Vec<Held>,
+    losses: Vec<Loss>,
+}
+
+/// Where a whole frame stands: the position of its segment, and its offset.
+#[derive(Debug, Clone, Copy)]
+struct At {
+    segment: usize,
+    at: usize,
+}
+
+impl Wreck {
+    /// Adds the segment of a lease, with these bytes and sums.
+    fn add(
+        &mut self,
+        alloc: Global,
+        lease: u32,
+        bytes: Vec<u8>,
+        sums: &[u8],
+    ) -> Result<(), AllocError> {
+        let held = Held::of(alloc, lease, bytes, sums)?;
+        for piece in held.unchecked.as_slice() {
+            self.losses.push(Loss::Unchecked {
+                lease: held.lease,
+                from: piece.from,
+                to: piece.to,
+            })?;
+        }
+        self.held.push(held)?;
+        Ok(())
+    }
+
+    /// Reads the file of a lease, if it can be.
+    fn look<R: System>(
+        &mut self,
+        rt: &R,
+        reader: &FolderReader,
+        path: &str,
+        lease: u32,
+    ) -> Result<(), AllocError> {
+        match reader.bytes(rt, lease) {
+            Ok(bytes) => {
+                let sums = sums_beside(rt, path, lease)?;
+                self.add(rt.alloc(), lease, bytes, sums.as_slice())
+            }
+            Err(FolderFault::NoMemory) => Err(AllocError),
+            Err(fault) => {
+                self.losses.push(Loss::File { lease, fault })?;
+                Ok(())
+            }
+        }
+    }
+
+    /// Reads all files of a folder.
+    fn of<R: System>(rt: &R, path: &str) -> Result<Wreck, RescueFault> {
+        let reader = FolderReader::open(rt, path)?;
+        let mut wreck = Wreck {
+            held: Vec::new(rt.alloc()),
+            losses: Vec::new(rt.alloc()),
+        };
+        for lease in &reader.leases(rt)? {
+            wreck.look(rt, &reader, path, *lease)?;
+        }
+        Ok(wreck)
+    }
+
+    /// The most pairs of a page, as the headers tell that can be read; else the program's own.
+    fn m(&self) -> u16 {
+        let mut most = 0;
+        for held in self.held.as_slice() {
+            most = most.max(held.m().unwrap_or(0));
+        }
+        if most == 0 {
+            Options::default().m
+        } else {
+            most
+        }
+    }
+
+    /// All whole frames, by their numbers. Where two have one number, the first one counts.
+    fn frames(&self, alloc: Global) -> Result<BTreeMap<u64, At>, AllocError> {
+        let mut frames = BTreeMap::new(alloc);
+        for (segment, held) in self.held.as_slice().iter().enumerate() {
+            add_spots(&mut frames, segment, held)?;
+        }
+        Ok(frames)
+    }
+
+    /// Reads a frame into the pages.
+    fn read(&self, alloc: Global, pages: &mut Pages, at: At) -> Result<(), AllocError> {
+        let Some(held) = self.held.as_slice().get(at.segment) else {
+            return Ok(());
+        };
+        match frame_at(alloc, held.bytes.as_slice(), held.header, at.at)? {
+            Some((frame, _)) => pages.read(frame),
+            None => Ok(()),
+        }
+    }
+
+    /// Reads all whole frames, in their order.
+    fn pages(&self, alloc: Global) -> Result<Pages, AllocError> {
+        let mut pages = Pages::new(alloc);
+        for (_, at) in &self.frames(alloc)? {
+            self.read(alloc, &mut pages, *at)?;
+        }
+        Ok(pages)
+    }
+}
+
+/// Adds the whole frames of a segment.
+fn add_spots(
+    frames: &mut BTreeMap<u64, At>,
+    segment: usize,
+    held: &Held,
+) -> Result<(), AllocError> {
+    for spot in held.spots.as_slice() {
+        if !frames.contains_key(&spot.number) {
+            let at = At {
+                segment,
+                at: spot.at,
+            };
+            let _ = frames.insert(spot.number, at)?;
+        }
+    }
+    Ok(())
+}
+
+/// What was read of a folder.
+#[derive(Drop)]
+struct Saved {
+    leaves: Vec<Leaf>,
+    losses: Vec<Loss>,
+    m: u16,
+}
+
+/// The pages of a folder, as far as its frames are whole. Refused where there is none.
+fn read_saved<R: System>(rt: &R, path: &str) -> Result<Saved, RescueFault> {
+    let wreck = Wreck::of(rt, path)?;
+    let m = wreck.m();
+    let pages = wreck.pages(rt.alloc())?;
+    let mut losses = wreck.losses;
+    pages.add_gaps(&mut losses)?;
+    let leaves = pages.end(&mut losses)?;
+    if leaves.is_empty() {
+        return Err(RescueFault::Recovery(RecoverCause::Empty));
+    }
+    Ok(Saved { leaves, losses, m })
+}
+
+/// Writes all that a folder still has into a new store, in a new folder; the other one is not
+/// changed. There are so many leases in the new one.
+///
+/// Each page comes as of the last whole frame up to which none of its blocks is missing. So pages may
+/// be of different moments, and a group may be there in a part: where all of a moment is wanted,
+/// `restore` gives it, up to the first fault. Of each key the page with the greatest low that is not
+/// above it counts.
+///
+/// Refused, and nothing is made: `Target` where the new folder is there already; `Source` where the
+/// other one cannot be listed, or is locked for writing; `Recovery`, `Empty`, where no page is left.
+pub fn salvage<R: System>(
+    rt: &R,
+    from: &str,
+    to: &str,
+    leases: u32,
+) -> Result<Salvaged, RescueFault> {
+    let target = Target::of(rt, to)?;
+    let Saved { leaves, losses, m } = read_saved(rt, from)?;
+    let pairs = pairs_of(rt.alloc(), leaves.as_slice())?;
+    let options = Options {
+        m,
+        ..Options::default()
+    };
+    load(rt, target.partial(), leases, &options, pairs.as_slice())?;
+    let copied = target.end(rt, leases)?;
+    Ok(Salvaged { copied, losses })
+}
