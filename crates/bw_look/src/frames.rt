@@ -5,7 +5,7 @@ use std::alloc::{AllocError, Global};
 
 /// What stands in a segment behind what was read of it.
 #[derive(Drop)]
-pub(crate) enum Step {
+pub enum Step {
     /// A frame, in so many bytes.
     Frame(Frame, usize),
     /// So many bytes, perhaps none, at which a frame was cut off.
@@ -16,7 +16,7 @@ pub(crate) enum Step {
 
 /// A segment that is read frame by frame.
 #[derive(Clone, Copy)]
-pub(crate) struct Frames<'a> {
+pub struct Frames<'a> {
     bytes: &'a [u8],
     header: Header,
     at: usize,
@@ -24,12 +24,12 @@ pub(crate) struct Frames<'a> {
 
 impl<'a> Frames<'a> {
     /// The frames behind this header, which takes so many bytes.
-    pub(crate) fn behind(bytes: &'a [u8], header: Header, at: usize) -> Frames<'a> {
+    pub fn behind(bytes: &'a [u8], header: Header, at: usize) -> Frames<'a> {
         Frames { bytes, header, at }
     }
 
     /// Where the next one begins.
-    pub(crate) fn at(&self) -> usize {
+    pub fn at(&self) -> usize {
         self.at
     }
 
@@ -43,7 +43,7 @@ impl<'a> Frames<'a> {
     }
 
     /// What stands there. Behind a frame the next one is looked at.
-    pub(crate) fn step(&mut self, alloc: Global) -> Result<Step, AllocError> {
+    pub fn step(&mut self, alloc: Global) -> Result<Step, AllocError> {
         let rest = self.rest();
         match read_frame(alloc, rest, &self.header) {
             Ok(FrameRead::Whole(frame, len)) => {

@@ -21,6 +21,7 @@ mod survey;
 mod words;
 
 pub use counts::{Counts, write_counts};
+pub use frames::{Frames, Step};
 pub use image::Image;
 pub use limits::{Limits, limits_in};
 pub use listing::write_image;

@@ -1,16 +1,15 @@
 //! What commands come to, and how that is printed.
 
-ghost use Rattle.bw_script.specs.Session.{IsReady};
+ghost use Rattle.bw_home.specs.Ready.{IsReady};
 
-use crate::leases::LEASES;
-use crate::miss::Miss;
-use crate::printed::{write_dump, write_entry, write_found, write_value};
-use crate::session::Session;
-use crate::system::System;
+use crate::calls::durable;
 use bw_codec::{Key, Leaf, Value};
-use bw_home::{Made, Site};
+use bw_core::{Cleaned, PackedEntry};
+use bw_file::FolderFault;
+use bw_home::Home;
 use bw_look::{Printer, write_page};
-use bw_store::{Cleaned, PackedEntry};
+use bw_rescue::Copied;
+use bw_words::{Stop, write_dump, write_entry, write_pair_line, write_value};
 use std::io::Write;
 
 /// What a command comes to.
@@ -43,13 +42,18 @@ pub enum Answer {
     Rolled,
     /// The bytes of a segment.
     Dump(Vec<u8>),
-    /// A segment that is to be added. It is told of once it is.
-    Spare(Made),
-    // What is printed as the session has it.
+    /// A spare was made. It is told of once it was added.
+    Spare,
+    /// What a new folder holds.
+    Copied(Copied),
+    /// No new folder was made, for this reason.
+    NotCopied(FolderFault),
+    /// The leases that are out.
+    Leases(Vec<u32>),
+    // What is printed as the store has it.
     History,
     Cuts,
     Segments,
-    Leases,
     Stats,
 }
 
@@ -58,6 +62,12 @@ fn write_cleaned<O: Write>(out: &mut Printer<'_, O>, cleaned: &Cleaned) {
     out.named(" lease ", cleaned.lease);
     out.named(" pages ", cleaned.pages);
     out.line(" frames ", cleaned.frames);
+}
+
+fn write_copied<O: Write>(out: &mut Printer<'_, O>, copied: Copied) {
+    out.named("copied frame ", copied.frame);
+    out.named(" pages ", copied.pages);
+    out.line(" pairs ", copied.pairs);
 }
 
 /// An answer that says all by itself.
@@ -71,7 +81,7 @@ fn write_answer<O: Write>(out: &mut Printer<'_, O>, answer: &Answer) {
         Answer::Settled(length) => out.line("settled ", *length),
         Answer::Page(leaf) => write_page(out, leaf),
         Answer::Value(value) => write_value(out, value.as_ref()),
-        Answer::Pair(pair) => write_found(out, pair.as_ref()),
+        Answer::Pair(pair) => write_pair_line(out, pair.as_ref()),
         Answer::Pages(count) => out.line("pages ", *count),
         Answer::Durable(frame) => out.line("durable ", *frame),
         Answer::Evicted(true) => out.text(b"evicted\n"),
@@ -81,6 +91,9 @@ fn write_answer<O: Write>(out: &mut Printer<'_, O>, answer: &Answer) {
         Answer::Cleaned(cleaned) => write_cleaned(out, cleaned),
         Answer::Rolled => out.text(b"rolled\n"),
         Answer::Dump(bytes) => write_dump(out, bytes.as_slice()),
+        Answer::Leases(leases) => write_leases(out, leases.as_slice()),
+        Answer::Copied(copied) => write_copied(out, *copied),
+        Answer::NotCopied(fault) => out.line("fault ", *fault),
         _ => {}
     }
 }
@@ -100,69 +113,58 @@ fn write_cuts<O: Write>(out: &mut Printer<'_, O>, cuts: &[u64]) {
     out.text(b"\n");
 }
 
-fn write_segments<O: Write>(out: &mut Printer<'_, O>, session: &Session)
-    requires { IsReady session.now holding }
+fn write_segments<O: Write>(out: &mut Printer<'_, O>, home: &Home)
+    requires { IsReady home.now holding }
 {
-    for i in 0..session.store.live() {
-        if let Some((segment, lease, length)) = session.store.live_segment(i) {
+    for i in 0..home.store.live() {
+        if let Some((segment, lease, length)) = home.store.live_segment(i) {
             out.named("segment ", segment);
             out.named(" lease ", lease);
             out.line(" bytes ", length);
         }
     }
-    out.line("spares ", session.store.spares());
+    out.line("spares ", home.store.spares());
 }
 
-fn write_leases<O: Write>(out: &mut Printer<'_, O>, site: &Site) {
+fn write_leases<O: Write>(out: &mut Printer<'_, O>, leases: &[u32]) {
     out.text(b"out");
-    for lease in 0..LEASES {
-        if site.is_out(lease) {
-            out.named(" ", lease);
-        }
+    for lease in leases {
+        out.named(" ", *lease);
     }
     out.text(b"\n");
 }
 
-/// All numbers of a session on one line.
-fn write_stats<O: Write>(out: &mut Printer<'_, O>, session: &Session)
-    requires { IsReady session.now holding }
+/// All numbers of a store on one line.
+fn write_stats<O: Write>(out: &mut Printer<'_, O>, home: &Home)
+    requires { IsReady home.now holding }
 {
-    let kept = session.store.history().len() as u64;
-    out.named("history ", session.store.forgotten().saturating_add(kept));
-    out.named(" durable ", session.durable());
-    out.named(" segments ", session.store.live());
-    out.named(" spares ", session.store.spares());
-    out.line(" pages ", session.store.pages());
+    let kept = home.store.history().len() as u64;
+    out.named("history ", home.store.forgotten().saturating_add(kept));
+    out.named(" durable ", durable(home));
+    out.named(" segments ", home.store.live());
+    out.named(" spares ", home.store.spares());
+    out.line(" pages ", home.store.pages());
 }
 
-/// Writes an answer of this session.
-fn write_all<O: Write>(out: &mut Printer<'_, O>, session: &Session, answer: &Answer)
-    requires { IsReady session.now holding }
+/// Writes an answer of this store.
+fn write_all<O: Write>(out: &mut Printer<'_, O>, home: &Home, answer: &Answer)
+    requires { IsReady home.now holding }
 {
     match answer {
-        Answer::History => write_history(out, session.store.history()),
-        Answer::Cuts => write_cuts(out, session.store.cuts()),
-        Answer::Segments => write_segments(out, session),
-        Answer::Leases => write_leases(out, &session.site),
-        Answer::Stats => write_stats(out, session),
+        Answer::History => write_history(out, home.store.history()),
+        Answer::Cuts => write_cuts(out, home.store.cuts()),
+        Answer::Segments => write_segments(out, home),
+        Answer::Stats => write_stats(out, home),
         _ => write_answer(out, answer),
     }
 }
 
-/// Prints an answer. The file of what was given up is emptied then, before the next segment can be.
-pub fn tell<R: System, O: Write>(
-    rt: &R,
-    session: &Session,
-    output: &mut O,
-    answer: &Answer,
-) -> Result<(), Miss>
-    requires { IsReady session.now holding }
+/// Prints an answer.
+pub fn tell<O: Write>(home: &Home, output: &mut O, answer: &Answer) -> Result<(), Stop>
+    requires { IsReady home.now holding }
 {
     let mut out = Printer::new(output);
-    write_all(&mut out, session, answer);
+    write_all(&mut out, home, answer);
     out.end()?;
-    if let Answer::Cleaned(cleaned) = answer {
-        session.site.empty(rt, cleaned.lease)?;
-    }
     Ok(())
 }

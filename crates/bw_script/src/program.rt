@@ -1,18 +1,16 @@
 //! The program over any reader and writers: the command line, what it asks for, and the exit
 //! status.
 
-use crate::heed::{tell_above, tell_unheeded};
-use crate::looks::{look, restore};
-use crate::options::{Mode, is_memory, mode_of};
-use crate::print::print;
-use crate::refusal::Refusal;
-use crate::replay::{Manner, replay};
-use crate::scan::{scan, scan_folder};
-use crate::stop::{Met, Stop};
-use crate::system::Host;
-use crate::threads::threads;
-use crate::upgrade::{upgrade, upgrade_folder};
+use crate::keyed::keys;
+use crate::replay::replay;
+use bw_file::FolderFault;
 use bw_look::Printer;
+use bw_segments::{
+    compact, copy, look, restore, salvage, scan, tell_above, tell_unheeded, upgrade,
+    upgrade_folder, verify,
+};
+use bw_words::{Host, Manner, Met, Mode, Refusal, Stop, is_memory, mode_of, print};
+use bw_writers::threads;
 use clap::Error;
 use std::io::{Read, Write};
 
@@ -30,12 +28,17 @@ fn start<R: Host, I: Read, O: Write, E: Write>(
     match mode {
         Mode::Lines(options, manner) => replay(rt, options, *manner, input, output),
         Mode::Threads(options, pace) => threads(rt, options, input, output, *pace),
-        Mode::Scan(None) => scan(rt, input, output),
-        Mode::Scan(Some(path)) => scan_folder(rt, *path, output),
+        Mode::Scan(dir) => scan(rt, *dir, input, output),
         Mode::Look(view, dir) => look(rt, *view, *dir, input, output),
-        Mode::Restore(copying) => restore(rt, copying, output),
+        Mode::Verify(dir) => verify(rt, *dir, output),
+        Mode::Copy(ends) => copy(rt, *ends, output),
+        Mode::Compact(ends, options) => compact(rt, *ends, options, output),
+        Mode::Salvage(ends) => salvage(rt, *ends, output),
+        Mode::Restore(ends, frame) => restore(rt, *ends, *frame, output),
         Mode::Upgrade(None) => upgrade(rt, input, output),
         Mode::Upgrade(Some(path)) => upgrade_folder(rt, *path, output),
+        // `run` does these.
+        Mode::Keys(..) => Ok(Met::NOTHING),
     }
 }
 
@@ -106,6 +109,10 @@ fn tell_stop<E: Write>(errors: &mut E, folders: Folders<'_>, stop: Stop) -> Resu
             out.named("folder ", folders.source);
             out.line(": ", fault);
         }
+        Stop::Partial(fault) => {
+            out.named("folder ", folders.dir.trim_end_matches('/'));
+            out.line(".partial: ", fault);
+        }
         _ => out.text(b"input failed\n"),
     }
     out.end()?;
@@ -153,6 +160,11 @@ fn status_of_end<O: Write, E: Write>(
     }
 }
 
+/// Whether a file's bytes are not those that were appended.
+fn is_damage(fault: FolderFault) -> bool {
+    matches!(fault, FolderFault::Damaged { .. })
+}
+
 /// Prints what an end has to say, and gives its exit status.
 fn status_of<O: Write, E: Write>(
     end: Result<Met, Stop>,
@@ -174,16 +186,39 @@ fn status_of<O: Write, E: Write>(
             let is_told = output.flush().is_ok() && tell_stop(errors, folders, stop).is_ok();
             match stop {
                 Stop::Fault(..) if is_told => 3,
+                Stop::Folder(fault) | Stop::Source(fault) | Stop::Partial(fault)
+                    if is_told && is_damage(fault) => 4,
                 _ => 6,
             }
         }
     }
 }
 
-/// Runs the program on the words after its name, and answers its exit status: 0; 2 where the words
-/// are no command line; 3 at a fault of the script; 4 where something was refused or a writer gave
-/// up; 5 at once where a growth was refused; 6 where a read or a write failed. The outputs are
-/// flushed before it answers.
+/// Does what the words of a mode ask for, that is not one over keys, and answers its exit status.
+fn run_mode<R: Host, I: Read, O: Write, E: Write>(
+    rt: &R,
+    mode: &Mode<'_>,
+    input: &mut I,
+    output: &mut O,
+    errors: &mut E,
+) -> u8 {
+    let end = ended(rt, mode, input, output, errors);
+    status_of(end, Folders::of(mode), advice_of(mode), output, errors)
+}
+
+/// Prints why words are no command line, and answers the exit status.
+fn run_usage<O: Write, E: Write>(error: &Error, output: &mut O, errors: &mut E) -> u8 {
+    let none = Folders {
+        dir: "",
+        source: "",
+    };
+    status_of(Err(usage(error, errors)), none, None, output, errors)
+}
+
+/// Runs the program on the words after its name, and answers its exit status: 0; 1 where `get` finds
+/// no value; 2 where the words are no command line; 3 at a fault of the script; 4 where something
+/// was refused, a writer gave up, or a file of the folder is damaged; 5 at once where a growth was
+/// refused; 6 where a read or a write failed. The outputs are flushed before it answers.
 pub fn run<R: Host, I: Read, O: Write, E: Write>(
     rt: &R,
     words: &[&str],
@@ -192,17 +227,9 @@ pub fn run<R: Host, I: Read, O: Write, E: Write>(
     errors: &mut E,
 ) -> u8 {
     let status = match mode_of(rt.alloc(), words) {
-        Ok(mode) => {
-            let end = ended(rt, &mode, input, output, errors);
-            status_of(end, Folders::of(&mode), advice_of(&mode), output, errors)
-        }
-        Err(error) => {
-            let none = Folders {
-                dir: "",
-                source: "",
-            };
-            status_of(Err(usage(&error, errors)), none, None, output, errors)
-        }
+        Ok(Mode::Keys(dir, task)) => return keys(rt, dir, &task, input, output, errors),
+        Ok(mode) => run_mode(rt, &mode, input, output, errors),
+        Err(error) => run_usage(&error, output, errors),
     };
     let is_printed = output.flush().is_ok();
     let is_told = errors.flush().is_ok();

@@ -1,35 +1,18 @@
 //! `bwlog replay`: a script over one store, line by line; and `bwlog serve`, by the same lines, but
 //! each is a request that has one line of answer, whatever it is.
 
-ghost use Rattle.bw_script.specs.Session.{IsReady};
+ghost use Rattle.bw_home.specs.Ready.{IsReady};
 
 use crate::answers::{Answer, tell};
-use crate::begun::Told;
-use crate::lines::{Lines, READS};
-use crate::miss::Miss;
-use crate::options::Options;
-use crate::print::print;
-use crate::refusal::Refusal;
-use crate::request::{Request, parse_request};
-use crate::script::{Command, Fault, LONGEST, parse};
-use crate::session::Session;
-use crate::stop::{Met, Stop, missed, no_input, refuse};
-use crate::system::System;
+use crate::calls::{call, durable, put_taking};
 use crate::tended::{Served, Tending};
-use crate::work::{Work, do_work};
-use bw_home::Made;
+use bw_home::{Added, Home, Legs, with_store_at};
+use bw_pairs::{Lines, READS};
+use bw_words::{
+    Command, Fault, LEASES, LONGEST, Manner, Met, Miss, Options, Refusal, Request, Stop, System,
+    missed, no_input, parse, parse_request, print, print_found, refuse,
+};
 use std::io::{Read, Write};
-
-/// How lines are read and answered.
-#[derive(Debug, Clone, Copy, PartialEq, Eq)]
-pub enum Manner {
-    /// A script: each line is a command, and a fault ends it.
-    Script,
-    /// A script in which a group that finds its ring full has the store take what waits before.
-    Taking,
-    /// Requests of a program, over a store with one writer.
-    Requests,
-}
 
 /// What a line asks for.
 #[derive(Drop)]
@@ -43,32 +26,23 @@ enum Asked {
 }
 
 /// What came of a line.
-#[derive(Drop)]
+#[derive(Debug, Clone, Copy, PartialEq, Eq)]
 enum Done {
     /// There was none.
     End,
     /// It was answered.
     Answered,
-    /// It asks for a spare, which was made, and is answered once that was added.
-    Add(Made),
-    /// It is answered, or is asked again: a spare was made, and is to be added, of which no line
-    /// tells.
-    Room(Made),
+    /// A spare was made, and the line is answered once that was added.
+    Add,
+    /// A spare was made, of which no line tells: the line is answered, or is asked again then.
+    Room,
 }
 
-/// What came of a line that has this answer.
-fn done_of(answer: Answer) -> Done {
-    match answer {
-        Answer::Spare(made) => Done::Add(made),
-        _ => Done::Answered,
-    }
-}
-
-/// What comes of room that is made behind an answer. The line is answered already, so a spare that
-/// cannot be made is none: `stats` tells it.
-fn done_of_room(room: Result<Option<Made>, Miss>) -> Result<Done, Miss> {
+/// What comes of room that is made behind an answer, or is not. The line is answered already, so a
+/// spare that cannot be made is none: `stats` tells it.
+fn done_of_room(room: Result<bool, Miss>) -> Result<Done, Miss> {
     match room {
-        Ok(Some(made)) => Ok(Done::Room(made)),
+        Ok(true) => Ok(Done::Room),
         Err(Miss::Ended(stop)) => Err(Miss::Ended(stop)),
         _ => Ok(Done::Answered),
     }
@@ -87,61 +61,53 @@ fn joined(end: Result<Met, Stop>, answer: Result<Met, Stop>) -> Result<Met, Stop
     Ok(end?.and(answer?))
 }
 
-/// Says that a store is there, and which frame is its last.
-fn greet<O: Write>(session: &Session, output: &mut O) -> Result<Met, Stop>
-    requires { IsReady session.now holding }
-{
-    print(output, "ready frame ", session.durable())?;
-    Ok(Met::NOTHING)
-}
-
 /// Says that a spare was added, or why not.
-fn tell_added<O: Write>(
-    lease: u32,
-    added: Result<(), Refusal>,
-    output: &mut O,
-) -> Result<Met, Stop> {
-    match added {
-        Ok(()) => {
-            print(output, "added ", lease)?;
+fn tell_added<O: Write>(added: Added, output: &mut O) -> Result<Met, Stop> {
+    match added.refused {
+        None => {
+            print(output, "added ", added.lease)?;
             Ok(Met::NOTHING)
         }
-        Err(refusal) => refuse(output, refusal),
+        Some(fault) => refuse(output, Refusal::from(fault)),
     }
 }
 
 /// The lines of an input, over a store.
 #[derive(Drop)]
-struct Script<'a, I> {
-    options: &'a Options<'a>,
+struct Script<'a, I, O> {
     manner: Manner,
-    lines: Lines<&'a mut I>,
+    /// How many writers the store has.
+    writers: usize,
+    /// Whether the file of what was given up is a spare again.
+    reuse: bool,
+    lines: &'a mut Lines<I>,
+    output: &'a mut O,
     /// How a store that is served is tended.
     tending: Tending,
+    /// What came of the last line; none before the first leg.
+    done: Option<Done>,
     /// Whether the last line, a request, is asked again.
     is_again: bool,
-    /// Whether the last line is answered once its spare was added.
-    adds: bool,
     /// Whether the answer of the last line is a receipt.
     is_receipt: bool,
     /// What was met so far, or what ends it.
     end: Result<Met, Stop>,
 }
 
-impl<I: Read> Script<'_, I> {
+impl<I: Read + Drop, O: Write> Script<'_, I, O> {
     /// Reads the next line, and says whether there was one. Whoever writes the lines may wait for
     /// an answer before the next one ends: so what was printed is written out before more of the
     /// input is asked for.
-    fn read_line<O: Write>(&mut self, output: &mut O) -> Result<bool, Miss> {
+    fn read_line(&mut self) -> Result<bool, Miss> {
         if !self.lines.holds_line() {
-            write_out(output)?;
+            write_out(self.output)?;
         }
         Ok(self.lines.read_line().map_err(no_input)?)
     }
 
     /// What the next line asks for as a request, or the last one again.
-    fn next_request<O: Write>(&mut self, output: &mut O) -> Result<Asked, Miss> {
-        if !self.is_again && !self.read_line(output)? {
+    fn next_request(&mut self) -> Result<Asked, Miss> {
+        if !self.is_again && !self.read_line()? {
             return Ok(Asked::Nothing);
         }
         self.is_again = false;
@@ -152,12 +118,12 @@ impl<I: Read> Script<'_, I> {
     }
 
     /// The next command. Lines that have none are skipped.
-    fn next_command<O: Write>(&mut self, output: &mut O) -> Result<Asked, Miss> {
+    fn next_command(&mut self) -> Result<Asked, Miss> {
         for _ in 0..u64::MAX {
-            if !self.read_line(output)? {
+            if !self.read_line()? {
                 break;
             }
-            match parse(self.lines.line(), self.options.writers) {
+            match parse(self.lines.line(), self.writers) {
                 Ok(None) => {}
                 Ok(Some(command)) => return Ok(Asked::Command(command)),
                 Err(fault) => return Err(Miss::Fault(fault)),
@@ -167,10 +133,19 @@ impl<I: Read> Script<'_, I> {
     }
 
     /// What the next line asks for in this manner.
-    fn next_asked<O: Write>(&mut self, output: &mut O) -> Result<Asked, Miss> {
+    fn next_asked(&mut self) -> Result<Asked, Miss> {
         match self.manner {
-            Manner::Script | Manner::Taking => self.next_command(output),
-            Manner::Requests => self.next_request(output),
+            Manner::Script | Manner::Taking => self.next_command(),
+            Manner::Requests => self.next_request(),
+        }
+    }
+
+    /// Writes out what was printed, where the answer is a receipt.
+    fn write_receipt(&mut self) -> Result<(), Stop> {
+        if self.is_receipt {
+            write_out(self.output)
+        } else {
+            Ok(())
         }
     }
 
@@ -178,179 +153,224 @@ impl<I: Read> Script<'_, I> {
     fn answer_of<R: System>(
         &self,
         rt: &R,
-        session: &mut Session,
+        home: &mut Home,
         command: Command,
     ) -> Result<Answer, Miss>
-        requires { IsReady session.old holding }
-        ensures { IsReady session.new holding }
+        requires { IsReady home.old holding }
+        ensures { IsReady home.new holding }
     {
         match command {
-            Command::Put(writer, group) if self.manner == Manner::Taking => session.put_taking(
-                writer, group,
+            Command::Put(writer, group) if self.manner == Manner::Taking => put_taking(
+                home, writer, group,
             ),
-            command => session.call(rt, u64::from(self.options.capacity), command),
+            command => call(rt, home, command),
         }
     }
 
-    /// Does what a command asks for, but that a spare is only made.
-    fn do_command<R: System, O: Write>(
-        &self,
+    /// Does what a command asks for, but that a spare is only made. The file of what was given up
+    /// is emptied behind its line, before the next segment can be given up.
+    fn do_command<R: System>(
+        &mut self,
         rt: &R,
-        session: &mut Session,
+        home: &mut Home,
         command: Command,
-        output: &mut O,
     ) -> Result<Done, Miss>
-        requires { IsReady session.old holding }
-        ensures { IsReady session.new holding }
+        requires { IsReady home.old holding }
+        ensures { IsReady home.new holding }
     {
-        let answer = self.answer_of(rt, session, command)?;
-        tell(rt, session, output, &answer)?;
-        if self.options.reuse && matches!(answer, Answer::Cleaned(_)) {
-            let spare = session.spare(rt, u64::from(self.options.capacity))?;
-            return Ok(done_of(spare));
+        let answer = self.answer_of(rt, home, command)?;
+        if matches!(answer, Answer::Spare) {
+            return Ok(Done::Add);
         }
-        Ok(done_of(answer))
+        tell(home, self.output, &answer)?;
+        if !matches!(answer, Answer::Cleaned(_)) {
+            return Ok(Done::Answered);
+        }
+        home.empty(rt)?;
+        if !self.reuse {
+            return Ok(Done::Answered);
+        }
+        home.make_spare(rt)?;
+        Ok(Done::Add)
     }
 
     /// Does what a request asks for, and makes room behind it where one spare is left. A spare is
     /// only made.
-    fn do_request<R: System, O: Write>(
+    fn do_request<R: System>(
         &mut self,
         rt: &R,
-        session: &mut Session,
+        home: &mut Home,
         request: Request,
-        output: &mut O,
     ) -> Result<Done, Miss>
-        requires { IsReady session.old holding }
-        ensures { IsReady session.new holding }
+        requires { IsReady home.old holding }
+        ensures { IsReady home.new holding }
     {
-        let answer = match session.serve(rt, request, &mut self.tending)? {
-            Served::Answer(Answer::Spare(made)) => return Ok(Done::Add(made)),
+        let answer = match self.tending.serve(rt, home, request)? {
+            Served::Answer(Answer::Spare) => return Ok(Done::Add),
             Served::Answer(answer) => answer,
-            Served::Room(made) => {
+            Served::Room => {
                 self.is_again = true;
-                return Ok(Done::Room(made));
+                return Ok(Done::Room);
             }
         };
-        tell(rt, session, output, &answer)?;
-        if self.is_receipt {
-            write_out(output)?;
+        tell(home, self.output, &answer)?;
+        if !matches!(answer, Answer::Cleaned(_)) {
+            self.write_receipt()?;
+            return done_of_room(self.tending.look(rt, home));
         }
-        if matches!(answer, Answer::Cleaned(_)) {
-            return done_of_room(session.place(rt, &self.tending));
-        }
-        done_of_room(session.look(rt, &mut self.tending))
+        home.empty(rt)?;
+        self.write_receipt()?;
+        done_of_room(home.make_spare(rt).map(|()| true).map_err(Miss::from))
     }
 
     /// Does what the next line asks for. What is no request is answered too.
-    fn do_next<R: System, O: Write>(
-        &mut self,
-        rt: &R,
-        session: &mut Session,
-        output: &mut O,
-    ) -> Result<Done, Miss>
-        requires { IsReady session.old holding }
-        ensures { IsReady session.new holding }
+    fn do_next<R: System>(&mut self, rt: &R, home: &mut Home) -> Result<Done, Miss>
+        requires { IsReady home.old holding }
+        ensures { IsReady home.new holding }
     {
         self.is_receipt = false;
-        match self.next_asked(output)? {
+        match self.next_asked()? {
             Asked::Command(command) => {
                 self.is_receipt = command.is_receipt();
-                self.do_command(rt, session, command, output)
+                self.do_command(rt, home, command)
             }
             Asked::Request(Request::Quit) => {
-                print(output, "", "bye")?;
+                print(self.output, "", "bye")?;
                 Ok(Done::End)
             }
             Asked::Request(request) => {
                 self.is_receipt = request.is_receipt();
-                self.do_request(rt, session, request, output)
+                self.do_request(rt, home, request)
             }
             Asked::NoRequest(fault) => {
-                print(output, "fault ", fault)?;
+                print(self.output, "fault ", fault)?;
                 Ok(Done::Answered)
             }
             Asked::Nothing => Ok(Done::End),
         }
     }
 
-    /// Does line by line up to one that asks for a spare, which is handed out; `None` at the end.
-    fn up_to_spare<R: System, O: Write>(
-        &mut self,
-        rt: &R,
-        session: &mut Session,
-        output: &mut O,
-    ) -> Option<Made>
-        requires { IsReady session.old holding }
-        ensures { IsReady session.new holding }
+    /// Does line by line up to one that made a spare, or the end.
+    fn up_to_spare<R: System>(&mut self, rt: &R, home: &mut Home)
+        requires { IsReady home.old holding }
+        ensures { IsReady home.new holding }
     {
         'lines: for _ in 0..u64::MAX {
-            if self.end.is_err() {
-                return None;
+            let done = self.do_next(rt, home);
+            self.note(done);
+            if self.done != Some(Done::Answered) {
+                break;
             }
-            let answer = match self.do_next(rt, session, output) {
-                Ok(Done::End) => return None,
-                Ok(Done::Add(made)) => return Some(self.handed_out(made, true)),
-                Ok(Done::Room(made)) => return Some(self.handed_out(made, false)),
-                Ok(Done::Answered) => Ok(Met::NOTHING),
-                Err(miss) => missed(output, self.lines.number(), miss),
-            };
-            self.note(answer, output);
         }
-        None
     }
 
-    /// The spare, of which the line tells once it was added, or does not.
-    fn handed_out(&mut self, made: Made, adds: bool) -> Made {
-        self.adds = adds;
-        made
+    /// Notes what came of a line.
+    fn note(&mut self, done: Result<Done, Miss>) {
+        let answer = match done {
+            Ok(Done::Answered) => Ok(Met::NOTHING),
+            Ok(done) => {
+                self.done = Some(done);
+                return;
+            }
+            Err(miss) => missed(self.output, self.lines.number(), miss),
+        };
+        self.done = Some(Done::Answered);
+        self.note_answer(answer);
     }
 
-    /// Notes what came of a line. A receipt is written out at once.
-    fn note<O: Write>(&mut self, answer: Result<Met, Stop>, output: &mut O) {
+    /// Notes what was met at an answer, or what ends the script there. A receipt is written out at
+    /// once.
+    fn note_answer(&mut self, answer: Result<Met, Stop>) {
         self.end = joined(self.end, answer);
-        if self.is_receipt && self.end.is_ok() {
-            if let Err(stop) = write_out(output) {
+        if self.end.is_ok() {
+            if let Err(stop) = self.write_receipt() {
                 self.end = Err(stop);
             }
+        }
+        if self.end.is_err() {
+            self.done = Some(Done::End);
+        }
+    }
+
+    /// Tells that a store is there: which frame is its last, or what was found.
+    fn begin(&mut self, home: &Home)
+        requires { IsReady home.now holding }
+    {
+        let told = match self.manner {
+            Manner::Requests => print(self.output, "ready frame ", durable(home)),
+            Manner::Script | Manner::Taking => print_found(self.output, home.found()),
+        };
+        if let Err(stop) = told {
+            self.end = Err(stop);
+            self.done = Some(Done::End);
+        }
+    }
+
+    /// Tells what came of a spare that was made, where it is told. A request that is asked again for
+    /// room that was not added would be so for ever.
+    fn tell_spare(&mut self, added: Added) {
+        if self.done == Some(Done::Add) {
+            let answer = tell_added(added, self.output);
+            self.note_answer(answer);
+        } else if let (true, Some(fault)) = (self.is_again, added.refused) {
+            self.is_again = false;
+            let answer = refuse(self.output, Refusal::from(fault));
+            self.note_answer(answer);
+        }
+    }
+
+    /// What stands before the lines of a leg.
+    fn begin_leg(&mut self, home: &Home)
+        requires { IsReady home.now holding }
+    {
+        match (self.done, home.added()) {
+            (None, _) => self.begin(home),
+            (Some(_), Some(added)) => self.tell_spare(added),
+            _ => {}
         }
     }
 }
 
-impl<R: System, I: Read, O: Write> Work<R, O> for Script<'_, I> {
-    fn told(&self) -> Told {
-        match self.manner {
-            Manner::Script | Manner::Taking => Told::Lines,
-            Manner::Requests => Told::Nothing,
+impl<R: System, I: Read + Drop, O: Write> Legs<R> for Script<'_, I, O> {
+    type Answer = Result<Met, Stop>;
+
+    fn leg(&mut self, rt: &R, home: &mut Home) -> Option<Result<Met, Stop>> {
+        self.begin_leg(home);
+        if self.done == Some(Done::End) {
+            return Some(self.end);
+        }
+        self.up_to_spare(rt, home);
+        if self.done == Some(Done::End) {
+            Some(self.end)
+        } else {
+            None
         }
     }
+}
 
-    fn begun(&mut self, session: &Session, output: &mut O) {
-        if self.manner == Manner::Requests {
-            self.end = greet(session, output);
-        }
-    }
-
-    fn next_spare(&mut self, rt: &R, session: &mut Session, output: &mut O) -> Option<Made> {
-        self.up_to_spare(rt, session, output)
-    }
-
-    fn added(&mut self, lease: u32, added: Result<(), Refusal>, output: &mut O) {
-        if self.adds {
-            let answer = tell_added(lease, added, output);
-            self.note(answer, output);
-            return;
-        }
-        // A request that is asked again for this room would be so for ever.
-        if let (true, Err(refusal)) = (self.is_again, added) {
-            self.is_again = false;
-            let answer = refuse(output, refusal);
-            self.note(answer, output);
-        }
-    }
-
-    fn end(&mut self, _rt: &R, _session: &mut Session, _output: &mut O) -> Result<Met, Stop> {
-        self.end
+// Runs the lines over a store.
+fn run_lines<R: System, I: Read + Drop, O: Write>(
+    rt: &R,
+    options: &Options<'_>,
+    manner: Manner,
+    lines: &mut Lines<I>,
+    output: &mut O,
+) -> Result<Met, Stop> {
+    let mut script = Script {
+        manner,
+        writers: options.store.writers,
+        reuse: options.reuse,
+        lines: &mut *lines,
+        output: &mut *output,
+        tending: Tending::new(options),
+        done: None,
+        is_again: false,
+        is_receipt: false,
+        end: Ok(Met::NOTHING),
+    };
+    match with_store_at(rt, options.dir, LEASES, &options.store, &mut script) {
+        Ok(end) => end,
+        Err(fault) => missed(script.output, 0, Miss::from(fault)),
     }
 }
 
@@ -363,15 +383,6 @@ pub fn replay<R: System, I: Read, O: Write>(
     input: &mut I,
     output: &mut O,
 ) -> Result<Met, Stop> {
-    let mut script = Script {
-        options,
-        manner,
-        lines: Lines::new(rt.alloc(), input, READS, LONGEST).map_err(no_input)?,
-        tending: Tending::new(options),
-        is_again: false,
-        adds: false,
-        is_receipt: false,
-        end: Ok(Met::NOTHING),
-    };
-    do_work(rt, options, &mut script, output)
+    let mut lines = Lines::new(rt.alloc(), input, READS, LONGEST).map_err(no_input)?;
+    run_lines(rt, options, manner, &mut lines, output)
 }

@@ -1,7 +1,8 @@
 //! The program: `bw_script::run` on the words and the standard streams that the system gives it.
 #![tactic(auto)]
 
-use bw_script::{Host, Refusal, run};
+use bw_script::run;
+use bw_words::{Host, Refusal};
 use std::alloc::Global;
 use std::io::{self, BufWriter, ErrorKind};
 use std::process::ExitCode;

@@ -1,5 +1,0 @@
-use Rattle.std.proofs.Common.{◌≡◌, vec_len}
-use Rattle.bw_script.proofs.legs.Legs.round.Given as goal
-
-abbrev pub invariant-writers : goal.invariant-writers
-invariant-writers l = vec_len l.leg ≡ vec_len l.initial.leg

@@ -1,0 +1,115 @@
+//! Segments that are looked at, as bytes: the files of a folder, or lines in hex. None is changed.
+
+use bw_codec::limits::{HEADER_LEN, MAX_FRAME};
+use bw_device::{Desk, MemSegment};
+use bw_file::FolderReader;
+use bw_look::Image;
+use bw_pairs::{Lines, READS};
+use bw_words::{Fault, LEASES, Miss, Refusal, System, are_printable, no_input};
+use hex::FromHexError;
+use std::alloc::Global;
+use std::io::Read;
+
+/// The most bytes of a line, which is a segment in hex.
+const LONGEST: u32 = 2_097_152;
+
+/// The least capacity of a copy, in bytes: a header and the longest frame.
+pub const LEAST: u64 = HEADER_LEN as u64 + MAX_FRAME as u64;
+
+/// The segments of a folder, by their leases. One that no run could open is refused, and so is one
+/// whose bytes do not fit the sums beside it.
+pub fn images_in<R: System>(rt: &R, path: &str) -> Result<Vec<Image>, Miss> {
+    let reader = FolderReader::open(rt, path)?;
+    let leases = reader.leases(rt)?;
+    let mut images = Vec::new(rt.alloc());
+    for lease in &leases {
+        if *lease >= LEASES {
+            return Err(Miss::Refused(Refusal::NoLease));
+        }
+        images.push(Image {
+            lease: Some(*lease),
+            bytes: reader.sound_bytes(rt, *lease)?,
+        })?;
+    }
+    Ok(images)
+}
+
+/// The bytes that a line stands for. The first fault in the order of the list is told.
+fn bytes_of(alloc: Global, line: &[u8]) -> Result<Vec<u8>, Miss> {
+    if line.len() > LONGEST as usize {
+        return Err(Miss::Fault(Fault::LineTooLong));
+    }
+    if !are_printable(line) {
+        return Err(Miss::Fault(Fault::BadByte));
+    }
+    match hex::decode(alloc, line) {
+        Ok(bytes) => Ok(bytes),
+        Err(FromHexError::OutOfMemory) => Err(Miss::Refused(Refusal::NO_MEMORY)),
+        Err(_) => Err(Miss::Fault(Fault::BadWord)),
+    }
+}
+
+/// The segment of the next line; `None` where there is no further one.
+fn next_image<I: Read>(alloc: Global, lines: &mut Lines<&mut I>) -> Result<Option<Image>, Miss> {
+    if !lines.read_line().map_err(no_input)? {
+        return Ok(None);
+    }
+    Ok(Some(Image {
+        lease: None,
+        bytes: bytes_of(alloc, lines.line())?,
+    }))
+}
+
+/// A segment of each line, up to one for which there is no lease.
+fn images_of<I: Read>(alloc: Global, lines: &mut Lines<&mut I>) -> Result<Vec<Image>, Miss> {
+    let mut images = Vec::new(alloc);
+    for _ in 0..u64::MAX {
+        match next_image(alloc, lines)? {
+            Some(_) if images.len() >= LEASES as usize => {
+                return Err(Miss::Refused(Refusal::NoLease));
+            }
+            Some(image) => images.push(image)?,
+            None => break,
+        }
+    }
+    Ok(images)
+}
+
+/// The segments that are looked at, or the line that is none, and why.
+pub fn images<R: System, I: Read>(
+    rt: &R,
+    dir: Option<&str>,
+    input: &mut I,
+) -> Result<Vec<Image>, (u64, Miss)> {
+    if let Some(path) = dir {
+        return images_in(rt, path).map_err(|miss| (0, miss));
+    }
+    let mut lines = match Lines::new(rt.alloc(), input, READS, LONGEST) {
+        Ok(lines) => lines,
+        Err(error) => return Err((0, Miss::from(no_input(error)))),
+    };
+    images_of(rt.alloc(), &mut lines).map_err(|miss| (lines.number(), miss))
+}
+
+/// A copy of a segment in memory, with the least lease that is free.
+pub fn copy_of(alloc: Global, desk: &mut Desk, bytes: &[u8]) -> Result<MemSegment, Miss> {
+    let lease = desk.take()?;
+    let capacity = LEAST.max(bytes.len() as u64);
+    match MemSegment::with_bytes(alloc, lease, capacity, bytes) {
+        Ok(copy) => Ok(copy),
+        Err(refused) => Err(Miss::from(refused.cause)),
+    }
+}
+
+/// Copies in place of the segments.
+pub fn copies_of(
+    alloc: Global,
+    desk: &mut Desk,
+    images: Vec<Image>,
+) -> Result<Vec<MemSegment>, Miss> {
+    let mut copies = Vec::new(alloc);
+    for image in images {
+        copies.push(copy_of(alloc, desk, image.bytes.as_slice())?)?;
+    }
+    Ok(copies)
+}

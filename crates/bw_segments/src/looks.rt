@@ -1,0 +1,121 @@
+//! `bwlog print`, `stats` and `picture`: what segments hold, for people. Each reads the segments of a
+//! folder, or lines in hex, and changes none of them.
+
+use crate::images::images;
+use crate::judged::{Judged, judge};
+use bw_care::RecoverCause;
+use bw_codec::Leaf;
+use bw_look::{Counts, Image, Printer, Survey, write_counts, write_image, write_picture};
+use bw_page::Leaves;
+use bw_words::{Met, Miss, Refusal, Stop, System, View, missed, refuse};
+use std::alloc::{AllocError, Global};
+use std::io::{Read, Write};
+
+/// How many bytes a page has as a Base: a pair is its key and value, with one byte for the length of
+/// the key and two for that of the value.
+fn base_length(leaf: &Leaf) -> u64 {
+    let mut length = 8 + leaf.low.as_slice().len() as u64;
+    for pair in leaf.pairs.as_slice() {
+        let cells = 3 + pair.key().len() as u64 + pair.value().len() as u64;
+        length = length.saturating_add(cells);
+    }
+    length
+}
+
+/// How many bytes the Base of each page would have, from page 1 on.
+fn lengths_of(alloc: Global, leaves: &Leaves) -> Result<Vec<u64>, AllocError> {
+    let mut lengths = Vec::new(alloc);
+    for index in 0..leaves.count() {
+        if let Some(leaf) = leaves.page(index.saturating_add(1)) {
+            lengths.push(base_length(leaf))?;
+        }
+    }
+    Ok(lengths)
+}
+
+fn counts_of(judged: &Judged) -> Counts {
+    Counts {
+        spares: u64::from(judged.found.spares),
+        tail: judged.found.tail,
+        pages: judged.pages(),
+        pairs: judged.pairs(),
+        first: judged.found.first,
+        last: judged.found.last,
+    }
+}
+
+/// Writes segments up to the first fault, whose segment and offset are answered.
+fn write_images<O: Write>(
+    alloc: Global,
+    out: &mut Printer<'_, O>,
+    images: &[Image],
+) -> Result<Option<(usize, usize)>, AllocError> {
+    for (position, image) in images.iter().enumerate() {
+        if let Some(at) = write_image(alloc, out, position, image)? {
+            return Ok(Some((position, at)));
+        }
+    }
+    Ok(None)
+}
+
+/// Prints each header, frame and block, up to the first fault.
+fn print_images<O: Write>(alloc: Global, images: &[Image], output: &mut O) -> Result<Met, Stop> {
+    let mut out = Printer::new(output);
+    let fault = write_images(alloc, &mut out, images);
+    out.end()?;
+    match fault? {
+        Some((segment, at)) => refuse(
+            output,
+            Refusal::Recovery(RecoverCause::BadBytes {
+                segment: u32::try_from(segment).unwrap_or(u32::MAX),
+                at: at as u64,
+            }),
+        ),
+        None => Ok(Met::NOTHING),
+    }
+}
+
+/// Counts what segments hold of each kind, once recovery has found them to be those of a log.
+fn count_images<O: Write>(alloc: Global, images: &[Image], output: &mut O) -> Result<Met, Stop> {
+    let judged = match judge(alloc, images) {
+        Ok(judged) => judged,
+        Err(miss) => return missed(output, 0, miss),
+    };
+    let lengths = lengths_of(alloc, &judged.leaves)?;
+    let survey = Survey::of(alloc, images)?;
+    let mut out = Printer::new(output);
+    write_counts(&mut out, &survey, counts_of(&judged), lengths.as_slice());
+    out.end()?;
+    Ok(Met::NOTHING)
+}
+
+/// Draws segments, once recovery has found them to be those of a log.
+fn draw_images<O: Write>(alloc: Global, images: &[Image], output: &mut O) -> Result<Met, Stop> {
+    if let Err(miss) = judge(alloc, images) {
+        return missed(output, 0, miss);
+    }
+    let survey = Survey::of(alloc, images)?;
+    let mut out = Printer::new(output);
+    write_picture(&mut out, &survey);
+    out.end()?;
+    Ok(Met::NOTHING)
+}
+
+/// Shows segments in this view.
+pub fn look<R: System, I: Read, O: Write>(
+    rt: &R,
+    view: View,
+    dir: Option<&str>,
+    input: &mut I,
+    output: &mut O,
+) -> Result<Met, Stop> {
+    let images = match images(rt, dir, input) {
+        Ok(images) => images,
+        Err((number, miss)) => return missed(output, number, miss),
+    };
+    match view {
+        View::Print => print_images(rt.alloc(), images.as_slice(), output),
+        View::Stats => count_images(rt.alloc(), images.as_slice(), output),
+        View::Picture => draw_images(rt.alloc(), images.as_slice(), output),
+    }
+}

@@ -1,0 +1,127 @@
+//! `bwlog verify`, `copy`, `salvage` and `restore`: what `bw_rescue` does, in words.
+
+use bw_home::Options;
+use bw_look::Printer;
+use bw_rescue::{Copied, Hurt, Loss, RescueFault, Salvaged, Verdict, Verified};
+use bw_words::{Ends, LEASES, Met, Miss, Stop, System, missed};
+use std::io::Write;
+
+/// What was met where something is damaged.
+const DAMAGE: Met = Met {
+    refusal: true,
+    ..Met::NOTHING
+};
+
+/// The line of a new folder.
+fn write_copied<O: Write>(out: &mut Printer<'_, O>, word: &str, copied: Copied) {
+    out.named(word, copied.frame);
+    out.named(" pages ", copied.pages);
+    out.line(" pairs ", copied.pairs);
+}
+
+/// Prints the line of a new folder, or why there is none.
+fn tell_copied<O: Write>(
+    output: &mut O,
+    word: &str,
+    copied: Result<Copied, RescueFault>,
+) -> Result<Met, Stop> {
+    match copied {
+        Ok(copied) => {
+            let mut out = Printer::new(output);
+            write_copied(&mut out, word, copied);
+            out.end()?;
+            Ok(Met::NOTHING)
+        }
+        Err(fault) => missed(output, 0, Miss::from(fault)),
+    }
+}
+
+/// Copies a folder as it is.
+pub fn copy<R: System, O: Write>(rt: &R, ends: Ends<'_>, output: &mut O) -> Result<Met, Stop> {
+    let copied = bw_rescue::copy(rt, ends.from, ends.to, LEASES);
+    tell_copied(output, "copied frame ", copied)
+}
+
+/// Writes the pairs of a folder into a new store.
+pub fn compact<R: System, O: Write>(
+    rt: &R,
+    ends: Ends<'_>,
+    options: &Options,
+    output: &mut O,
+) -> Result<Met, Stop> {
+    let copied = bw_rescue::compact(rt, ends.from, ends.to, LEASES, options);
+    tell_copied(output, "copied frame ", copied)
+}
+
+/// Makes a folder that holds a store as of an earlier frame.
+pub fn restore<R: System, O: Write>(
+    rt: &R,
+    ends: Ends<'_>,
+    frame: u64,
+    output: &mut O,
+) -> Result<Met, Stop> {
+    let copied = bw_rescue::restore(rt, ends.from, ends.to, frame, LEASES);
+    tell_copied(output, "restored frame ", copied)
+}
+
+/// A line for each loss.
+fn write_losses<O: Write>(out: &mut Printer<'_, O>, losses: &[Loss]) {
+    for loss in losses {
+        out.line("", *loss);
+    }
+}
+
+/// Writes all that a folder still has into a new store, and tells what was lost.
+pub fn salvage<R: System, O: Write>(rt: &R, ends: Ends<'_>, output: &mut O) -> Result<Met, Stop> {
+    let Salvaged { copied, losses } = match bw_rescue::salvage(rt, ends.from, ends.to, LEASES) {
+        Ok(salvaged) => salvaged,
+        Err(fault) => return missed(output, 0, Miss::from(fault)),
+    };
+    let mut out = Printer::new(output);
+    write_losses(&mut out, losses.as_slice());
+    write_copied(&mut out, "salvaged frame ", copied);
+    out.end()?;
+    Ok(if losses.is_empty() {
+        Met::NOTHING
+    } else {
+        DAMAGE
+    })
+}
+
+/// A line for each fault.
+fn write_hurts<O: Write>(out: &mut Printer<'_, O>, hurts: &[Hurt]) {
+    for hurt in hurts {
+        out.line("", *hurt);
+    }
+}
+
+/// The line of a folder without a fault, and one for bytes that have no digest.
+fn write_verified<O: Write>(out: &mut Printer<'_, O>, verified: Verified) {
+    out.named("verified segments ", verified.segments);
+    out.named(" frames ", verified.frames);
+    out.line(" bytes ", verified.bytes);
+    if verified.unsummed > 0 {
+        out.line("without a digest bytes ", verified.unsummed);
+    }
+}
+
+/// Verifies a folder.
+pub fn verify<R: System, O: Write>(rt: &R, dir: &str, output: &mut O) -> Result<Met, Stop> {
+    let verdict = match bw_rescue::verify(rt, dir, LEASES) {
+        Ok(verdict) => verdict,
+        Err(fault) => return missed(output, 0, Miss::from(fault)),
+    };
+    let mut out = Printer::new(output);
+    let met = match verdict {
+        Verdict::Whole(verified) => {
+            write_verified(&mut out, verified);
+            Met::NOTHING
+        }
+        Verdict::Hurt(hurts) => {
+            write_hurts(&mut out, hurts.as_slice());
+            DAMAGE
+        }
+    };
+    out.end()?;
+    Ok(met)
+}

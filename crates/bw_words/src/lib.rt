@@ -1,0 +1,25 @@
+//! The words of the program `bwlog`: those of its command line, of a script's lines and of the
+//! requests to a store that is served; and what is printed of refusals, and of what ends a run. No
+//! store stands here, and no function has a clause.
+#![tactic(auto)]
+
+mod found;
+mod miss;
+mod options;
+mod people;
+mod printed;
+mod refusal;
+mod request;
+mod script;
+mod stop;
+mod system;
+
+pub use found::{print_found, write_found};
+pub use miss::Miss;
+pub use options::{Ends, LEASES, Manner, Mode, Options, Pace, View, is_memory, mode_of};
+pub use printed::{print, write_dump, write_entry, write_pair_line, write_pairs, write_value};
+pub use refusal::Refusal;
+pub use request::{Request, parse_request};
+pub use script::{Command, Fault, LONGEST, are_printable, parse, parse_group};
+pub use stop::{Met, Stop, missed, no_input, refuse};
+pub use system::{Host, System};

@@ -1,0 +1,96 @@
+//! One line of a program that drives a store: a request, or a fault.
+
+use crate::script::{
+    Command, Fault, alone, asked_of, group_of, key_of, ops_of, single, text_of, value_of,
+};
+use bw_codec::{Key, Value};
+use std::str;
+
+/// What a line asks for. There is one writer, so no request names one.
+#[derive(Drop)]
+pub enum Request {
+    /// What a command of a script asks for, of the writer 0.
+    Do(Command),
+    /// The first pair at or above a key.
+    Next(Key),
+    /// How many pages there are.
+    Pages,
+    /// The number of the last frame that was appended.
+    Durable,
+    /// All numbers of the store.
+    Stats,
+    /// A copy in a new folder, whose path is a text in these bytes.
+    Backup(Value),
+    /// The run ends.
+    Quit,
+}
+
+impl Request {
+    /// Whether its answer is a receipt, for which a program may wait before it tells others.
+    pub fn is_receipt(&self) -> bool {
+        match self {
+            Request::Do(command) => command.is_receipt(),
+            Request::Durable | Request::Backup(_) => true,
+            _ => false,
+        }
+    }
+
+    /// Whether what was accepted before is taken first, so that a program reads what it put.
+    pub fn takes(&self) -> bool {
+        match self {
+            Request::Do(command) => !matches!(command, Command::Clean | Command::Add),
+            Request::Next(_) | Request::Pages | Request::Backup(_) => true,
+            _ => false,
+        }
+    }
+}
+
+/// The path that a word gives: a text of 1 to 512 bytes.
+fn path_of(word: &str) -> Result<Value, Fault> {
+    let path = value_of(word)?;
+    if path.as_slice().is_empty() || str::from_utf8(path.as_slice()).is_err() {
+        return Err(Fault::BadWord);
+    }
+    Ok(path)
+}
+
+/// The request of a name that takes one word.
+fn request_of(name: &str, word: &str) -> Result<Request, Fault> {
+    match name {
+        "next" => Ok(Request::Next(key_of(word)?)),
+        "backup" => Ok(Request::Backup(path_of(word)?)),
+        _ => Ok(Request::Do(asked_of(name, word)?)),
+    }
+}
+
+/// The request of a name that takes no word.
+fn plain_of(name: &str) -> Option<Request> {
+    match name {
+        "pages" => Some(Request::Pages),
+        "flush" => Some(Request::Do(Command::Flush)),
+        "settle" => Some(Request::Do(Command::Settle)),
+        "durable" => Some(Request::Durable),
+        "stats" => Some(Request::Stats),
+        "clean" => Some(Request::Do(Command::Clean)),
+        "add" => Some(Request::Do(Command::Add)),
+        "quit" => Some(Request::Quit),
+        _ => None,
+    }
+}
+
+/// What a line asks for. A line that a script would skip is no command here, since each line has an
+/// answer.
+pub fn parse_request(line: &[u8]) -> Result<Request, Fault> {
+    let mut words = text_of(line)?.unwrap_or("").split_whitespace();
+    let name = words.next().unwrap_or("");
+    match name {
+        "put" | "del" | "group" => {
+            let group = group_of(ops_of(name, &mut words)?)?;
+            Ok(Request::Do(Command::Put(0, group)))
+        }
+        "get" | "next" | "page" | "evict" | "rewrite" | "walk" | "backup" => {
+            request_of(name, single(words.next(), words.next())?)
+        }
+        _ => alone(plain_of(name), words.next()),
+    }
+}

@@ -1,0 +1,120 @@
+//! What ends a run before its end, and what is printed of it.
+
+use crate::miss::Miss;
+use crate::printed::print;
+use crate::refusal::Refusal;
+use crate::script::Fault;
+use bw_core::StoreFault;
+use bw_file::FolderFault;
+use bw_look::NotWritten;
+use std::alloc::{AllocError, AllocFailed};
+use std::io::{self, ErrorKind, Write};
+
+/// What ends a script before its end, or a run before its script.
+#[derive(Clone, Copy)]
+pub enum Stop {
+    /// The command line is no parse. Its text was printed.
+    Usage,
+    /// The line of this number, from 1, is not what it has to be.
+    Fault(u64, Fault),
+    /// A growth was refused.
+    NoMemory,
+    /// The input could not be read.
+    Input,
+    /// An output could not be written.
+    Output,
+    /// The folder of the segments could not be opened, read or written.
+    Folder(FolderFault),
+    /// The same of the folder that is read, where another one is written.
+    Source(FolderFault),
+    /// The same of the one in which that is made, whose name has `.partial` behind.
+    Partial(FolderFault),
+}
+
+impl From<AllocError> for Stop {
+    fn from(_error: AllocError) -> Stop {
+        Stop::NoMemory
+    }
+}
+
+impl<T: Drop> From<AllocFailed<T>> for Stop {
+    fn from(_error: AllocFailed<T>) -> Stop {
+        Stop::NoMemory
+    }
+}
+
+impl From<FolderFault> for Stop {
+    fn from(fault: FolderFault) -> Stop {
+        match fault {
+            FolderFault::NoMemory => Stop::NoMemory,
+            other => Stop::Folder(other),
+        }
+    }
+}
+
+impl From<NotWritten> for Stop {
+    fn from(_error: NotWritten) -> Stop {
+        Stop::Output
+    }
+}
+
+/// What a run has met that came to its end.
+#[derive(Debug, Clone, Copy)]
+pub struct Met {
+    /// Something was refused, or a writer gave up.
+    pub refusal: bool,
+    /// The log had no room.
+    pub full: bool,
+    /// There are more segments than leases.
+    pub above: bool,
+}
+
+impl Met {
+    /// Nothing of that.
+    pub const NOTHING: Met = Met {
+        refusal: false,
+        full: false,
+        above: false,
+    };
+
+    /// What both have met.
+    pub fn and(self, other: Met) -> Met {
+        Met {
+            refusal: self.refusal | other.refusal,
+            full: self.full | other.full,
+            above: self.above | other.above,
+        }
+    }
+}
+
+/// An error of a read, or of a growth for what was read.
+pub fn no_input(error: io::Error) -> Stop {
+    if error.kind() == ErrorKind::OutOfMemory {
+        Stop::NoMemory
+    } else {
+        Stop::Input
+    }
+}
+
+/// Prints a refusal, and says what was met. What was asked of the program may go on behind it, but not
+/// behind a refused growth.
+pub fn refuse<O: Write>(output: &mut O, refusal: Refusal) -> Result<Met, Stop> {
+    if refusal.is_no_memory() {
+        return Err(Stop::NoMemory);
+    }
+    print(output, "", refusal)?;
+    Ok(Met {
+        refusal: true,
+        full: matches!(refusal, Refusal::Store(StoreFault::NoSegment)),
+        above: matches!(refusal, Refusal::NoLease),
+    })
+}
+
+/// What comes of a line that has no answer.
+pub fn missed<O: Write>(output: &mut O, number: u64, miss: Miss) -> Result<Met, Stop> {
+    match miss {
+        Miss::Refused(refusal) => refuse(output, refusal),
+        Miss::Fault(fault) => Err(Stop::Fault(number, fault)),
+        Miss::Ended(stop) => Err(stop),
+    }
+}
