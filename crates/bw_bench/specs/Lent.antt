@@ -7,12 +7,12 @@ use Rattle.bw_device.specs.Holding.{Holding}
 use Rattle.bw_ring.specs.declared.feed.Feed.{Feed}
 use Rattle.bw_store.specs.Views.{kept_by, IsSound}
 use Rattle.bw_store.specs.declared.store.Store.{Store}
-use Rattle.bw_home.specs.Ready.{AreReadyBeside}
+use Rattle.bw_home.specs.Sharing.{AreSharedBeside}
 
 module _ {I : Type 0} {H : I → Type 0} where
   -- the store is sound, and the feeds are those of its lanes, in order
   abbrev pub AreReady : Store I H → Vec Feed Global → ((i : I) × H i → Holding) → Type 0
-  AreReady s ends v = AreReadyBeside s ends (λ b. v (b.vtable, b.value))
+  AreReady s ends v = AreSharedBeside s ends (λ b. v (b.vtable, b.value))
 
   -- the store is sound again, and its rings are the same
   abbrev pub Keeps : Store I H → Store I H → ((i : I) × H i → Holding) → Type 0

@@ -21,7 +21,8 @@ use std::thread::Threads;
 /// Of how many keys one is asked for when all pages are evicted.
 const KEYS_AWAY: u64 = 16;
 
-fn tell_cost(bench: &Bench, span: Span, cost: Cost) {
+/// What the puts, turns and flushes of a span took.
+pub fn tell_cost(bench: &Bench, span: Span, cost: Cost) {
     let count = span.count();
     bench.tell(span.name, count, cost.all());
     bench.tell_each("  its puts", count, cost.puts, "ns");

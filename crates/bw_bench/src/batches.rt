@@ -35,7 +35,7 @@ impl Cost {
     }
 
     /// With the parts of one more batch, which stand between these times.
-    fn and(self, start: u64, put: u64, taken: u64, flushed: u64) -> Cost {
+    pub fn and(self, start: u64, put: u64, taken: u64, flushed: u64) -> Cost {
         Cost {
             puts: self.puts.saturating_add(put.saturating_sub(start)),
             turns: self.turns.saturating_add(taken.saturating_sub(put)),
@@ -45,7 +45,7 @@ impl Cost {
 }
 
 /// Puts all of a batch.
-fn put_all(bench: &Bench, feed: &mut Feed, batch: &[Record]) -> Option<()>
+pub fn put_all(bench: &Bench, feed: &mut Feed, batch: &[Record]) -> Option<()>
     ensures { ring_of_feed feed.new ≡ ring_of_feed feed.old }
 {
     'puts: for item in batch {

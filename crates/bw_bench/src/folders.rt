@@ -6,9 +6,9 @@ use crate::reopened::tell_opened;
 use crate::stop::Stop;
 use crate::subject::{Course, Subject};
 use bw_codec::limits::{MAX_PAIRS, MIN_FRAME};
-use bw_device::{Desk, Segment};
+use bw_device::{Desk, MAX_LEASES, Segment};
 use bw_file::{FileSegment, Folder};
-use bw_home::{Course as InHome, Home, Options, System, with_store};
+use bw_home::{Options, SharedHome, SharedLegs, System, with_readers};
 use std::thread::Threads;
 
 /// What is appended: as it is told, and its bytes.
@@ -117,13 +117,13 @@ struct Over<'b> {
     course: Course,
 }
 
-impl<R: Threads + System> InHome<R> for Over<'_> {
+impl<R: Threads + System> SharedLegs<R> for Over<'_> {
     type Answer = Option<()>;
 
-    fn run(self, rt: &R, home: &mut Home) -> Option<()> {
-        let Over { bench, course } = self;
+    fn leg(&mut self, rt: &R, home: &mut SharedHome) -> Option<Option<()>> {
+        let Over { bench, course } = *self;
         let subject = Subject { rt, bench, course };
-        subject.go(&mut home.store, &mut home.feeds)
+        Some(subject.go(&mut home.store, &mut home.feeds))
     }
 }
 
@@ -134,35 +134,42 @@ struct Again<'b> {
     start: u64,
 }
 
-impl<R: System> InHome<R> for Again<'_> {
+impl<R: System> SharedLegs<R> for Again<'_> {
     type Answer = Option<()>;
 
-    fn run(self, _rt: &R, home: &mut Home) -> Option<()> {
+    fn leg(&mut self, _rt: &R, home: &mut SharedHome) -> Option<Option<()>> {
         let opened = self.bench.since(self.start);
-        tell_opened(self.bench, &mut home.store, opened)
+        Some(tell_opened(self.bench, &mut home.store, opened))
     }
 }
 
 /// Does something with the store in the folder of this name in another.
-fn in_folder<R: System, C: InHome<R, Answer = Option<()>>>(
+fn in_folder<R: System, L: SharedLegs<R, Answer = Option<()>>>(
     rt: &R,
     bench: &Bench,
     dir: &str,
     name: &'static str,
     writers: usize,
-    what: C,
+    what: L,
 ) -> Option<()> {
     let path = format!(in bench.alloc; "{dir}/{name}").ok()?;
     let options = Options {
         writers,
         places: usize::from(bench.options.batch),
-        readers: READERS,
         m: MAX_PAIRS,
         f: MIN_FRAME,
         segments: count_of(bench.options),
         capacity: CAPACITY,
     };
-    match with_store(rt, path.as_str(), &options, what) {
+    let mut what = what;
+    match with_readers(
+        rt,
+        Some(path.as_str()),
+        MAX_LEASES,
+        READERS,
+        &options,
+        &mut what,
+    ) {
         Ok(went) => went,
         Err(fault) => bench.not_begun(fault),
     }

@@ -9,6 +9,7 @@
 
 mod alone;
 mod asking;
+mod bare;
 mod batches;
 mod bench;
 mod beside;

@@ -71,6 +71,7 @@ const SUBJECTS: &[&str] = &[
     "pages",
     "cleaning",
     "appends",
+    "core",
     "alone",
     "beside",
     "late",

@@ -6,7 +6,7 @@ use crate::bench::Bench;
 use crate::shape::{Shape, Span, WHOLE};
 use crate::stop::Stop;
 use crate::watch::resident;
-use bw_codec::Record;
+use bw_codec::{Packed, Record};
 use bw_page::{ApplyError, Leaves};
 
 fn apply_all(bench: &Bench, leaves: &mut Leaves, script: &[Record]) -> Option<()>
@@ -14,7 +14,8 @@ fn apply_all(bench: &Bench, leaves: &mut Leaves, script: &[Record]) -> Option<()
     ensures { leaves.new.evicted ≡ [] }
 {
     'records: for item in script {
-        match leaves.apply(item) {
+        let packed = Packed::of(bench.alloc, item).ok()?;
+        match leaves.apply(&packed) {
             Ok(_) => {}
             Err(ApplyError::NoMemory) => return None,
             Err(fault) => return bench.stop(Stop::Refused, fault),

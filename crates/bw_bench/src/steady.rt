@@ -56,8 +56,8 @@ impl Updating<'_> {
         }
     }
 
-    // Puts a batch, and settles. What readers have leaves memory.
-    fn put_batch<R: System>(&mut self, rt: &R, home: &mut Home, to: u64) -> Option<()>
+    // Puts a batch, and settles. What is durable of the history leaves memory.
+    fn put_batch(&mut self, home: &mut Home, to: u64) -> Option<()>
         requires { IsReady home.old holding }
         ensures { IsReady home.new holding }
     {
@@ -65,7 +65,7 @@ impl Updating<'_> {
             self.put(home, put)?;
         }
         self.puts = to;
-        match home.settle(rt) {
+        match home.settle() {
             Ok(_) => {}
             Err(fault) => return self.bench.refused(fault),
         }
@@ -107,7 +107,7 @@ impl Updating<'_> {
             if self.puts >= all {
                 break;
             }
-            self.put_batch(rt, home, self.puts.saturating_add(size).min(all))?;
+            self.put_batch(home, self.puts.saturating_add(size).min(all))?;
             self.meter.tell(self.bench, self.puts);
             if home.store.spares() < 2 && home.store.pays() {
                 self.clean(rt, home)?;

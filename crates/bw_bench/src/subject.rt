@@ -1,5 +1,6 @@
 //! The subjects, each over a store of its own.
 
+use crate::bare::bare;
 use crate::bench::Bench;
 use crate::boxes::over_memory;
 use crate::cleaning::cleaning;
@@ -72,6 +73,7 @@ const MANY_BESIDE: Course = Course {
 enum Work {
     Pages,
     Cleaning,
+    Bare,
     Appends,
     Steady,
     Over(Course),
@@ -81,6 +83,7 @@ const SUBJECTS: &[(&str, Work)] = &[
     ("pages", Work::Pages),
     ("cleaning", Work::Cleaning),
     ("appends", Work::Appends),
+    ("core", Work::Bare),
     ("alone", Work::Over(ALONE)),
     ("beside", Work::Over(BESIDE)),
     ("late", Work::Over(LATE)),
@@ -107,6 +110,7 @@ fn run_one<R: Threads + System>(
     match (work, dir) {
         (Work::Pages, _) => pages(bench),
         (Work::Cleaning, _) => cleaning(bench),
+        (Work::Bare, _) => bare(bench),
         (Work::Appends, dir) => appends(bench, dir.unwrap_or(".")),
         (Work::Steady, dir) => steady(rt, bench, dir.unwrap_or("."), name),
         (Work::Over(course), Some(dir)) => over_files(rt, bench, course, dir, name),

@@ -1,10 +1,13 @@
-//! A store in a folder, by one call: what a course puts there is found again, what is refused
-//! stays as it is, and the room of segments that are given up comes back.
+//! A store in a folder or in memory, by one call: what a course puts there is found again, what is
+//! refused stays as it is, and the room of segments that are given up comes back.
 
 mod again;
 mod hindered;
+mod in_memory;
 mod memory;
+mod parts;
 mod refused;
+mod shared;
 
 use bw_codec::{Key, Record, Value};
 use bw_home::{Course, Home, Options, System, with_store};
@@ -21,10 +24,10 @@ struct PutAndWalk;
 impl<R: System> Course<R> for PutAndWalk {
     type Answer = Result<Option<Pair>, Fail>;
 
-    fn run(self, rt: &R, home: &mut Home) -> Result<Option<Pair>, Fail> {
+    fn run(self, _rt: &R, home: &mut Home) -> Result<Option<Pair>, Fail> {
         home.put(Record::Put(Key::new(b"k")?, Value::new(b"v")?))?;
         home.put(Record::Put(Key::new(b"l")?, Value::new(b"w")?))?;
-        home.settle(rt)?; // taken from the queue, and in the folder
+        home.settle()?; // taken from the queue, and in the folder
         let pair = home.next_at(&Key::new(b"a")?)?; // the first pair at or above "a"
         Ok(pair)
     }

@@ -11,7 +11,7 @@ mod stores;
 mod versions;
 mod without;
 
-use bw_codec::{Key, Leaf, Record, Value};
+use bw_codec::{Key, Leaf, Packed, Record, Value};
 use std::alloc::Global;
 use std::process::Abort;
 use std::sync::Wait;
@@ -136,6 +136,11 @@ fn is(bytes: &[u8], told: &[u8]) -> bool {
 
 fn put(key: &[u8], value: &[u8]) -> Option<Record> {
     Some(Record::Put(Key::new(key).ok()?, Value::new(value).ok()?))
+}
+
+/// A put as pages apply it.
+fn packed_put(alloc: Global, key: &[u8], value: &[u8]) -> Option<Packed> {
+    Packed::of(alloc, &put(key, value)?).ok()
 }
 
 /// One letter a put, without values.

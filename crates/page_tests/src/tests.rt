@@ -1,6 +1,8 @@
 //! Worked rows as tables of steps, each walked to the first step that goes otherwise than told:
 //! bytes, buffers and rings, pages, chains, and what readers see.
 
+ghost use Rattle.std.specs.Prelude.{◌≡◌, IfSome};
+
 mod chains;
 mod codec;
 mod evicted;
@@ -9,7 +11,7 @@ mod pages;
 mod reading;
 mod versions;
 
-use bw_codec::{Key, Leaf, Record, Value};
+use bw_codec::{Key, Leaf, Packed, Record, Value};
 use bw_page::Leaves;
 use std::alloc::Global;
 use std::process::Abort;
@@ -70,6 +72,13 @@ fn put(key: &[u8], value: &[u8]) -> Option<Record> {
 
 fn del(key: &[u8]) -> Option<Record> {
     Some(Record::Del(Key::new(key).ok()?))
+}
+
+/// A record as pages apply it.
+fn packed(alloc: Global, record: &Record) -> Option<Packed>
+    ensures { IfSome result (λ packed. packed ≡ record.now) }
+{
+    Packed::of(alloc, record).ok()
 }
 
 /// Puts, and a delete where there is no value.

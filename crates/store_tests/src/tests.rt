@@ -1,4 +1,5 @@
-//! Calls on a store as tables of steps, each walked to the first that goes otherwise than told.
+//! Calls on a core, and on a store with readers, as tables of steps: each is walked over both to the
+//! first step that goes otherwise than told.
 
 mod asking;
 mod boxes;
@@ -17,6 +18,7 @@ mod reading;
 mod readme;
 mod reopening;
 mod rewriting;
+mod serving;
 mod settling;
 mod sides;
 mod spent;

@@ -1,7 +1,8 @@
 //! Lines of a script, of which one allocation is refused: the call tells it. The other calls that take
 //! memory stand in `memory_tests`.
 
-use bw_script::{LONGEST, Lines};
+use bw_pairs::Lines;
+use bw_words::LONGEST;
 use std::alloc::Global;
 use std::io::{self, ErrorKind};
 use test_marks::{begin, end, refuse};

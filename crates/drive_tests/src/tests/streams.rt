@@ -1,7 +1,8 @@
 //! Lines of a reader whose reads are counted, and may be interrupted: how many of them are enough.
 
 use super::all_went;
-use bw_script::{LONGEST, Lines};
+use bw_pairs::Lines;
+use bw_words::LONGEST;
 use std::alloc::Global;
 use std::io::{self, ErrorKind, Read};
 

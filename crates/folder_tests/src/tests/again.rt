@@ -14,7 +14,6 @@ use std::test::Fail;
 pub(super) const SMALL: Options = Options {
     writers: 1,
     places: 8,
-    readers: 1,
     m: 4,
     f: MIN_FRAME,
     segments: 4,
@@ -33,7 +32,7 @@ fn update<R: System>(rt: &R, home: &mut Home, number: u32) -> Result<(), Fail>
     let key = Key::new(&[b'k', (number % 16) as u8])?;
     let value = Value::new(&[(number % 251) as u8; 100])?;
     home.put(Record::Put(key, value))?;
-    home.settle(rt)?;
+    home.settle()?;
     if home.store.spares() < 2 && home.store.pays() {
         let _ = home.clean(rt)?;
     }

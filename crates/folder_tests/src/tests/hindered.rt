@@ -19,12 +19,12 @@ const SECOND: &str = "folder_tests_hindered/segment-0001.bw";
 const ASIDE: &str = "folder_tests_hindered/aside";
 
 // Puts a record, settles, and ends the segment.
-fn put_one<R: System>(rt: &R, home: &mut Home, name: u8) -> Result<(), Fail>
+pub(super) fn put_one(home: &mut Home, name: u8) -> Result<(), Fail>
     requires { IsReady home.old holding }
     ensures { IsReady home.new holding }
 {
     home.put(Record::Put(Key::new(&[name])?, Value::new(b"v")?))?;
-    home.settle(rt)?;
+    home.settle()?;
     home.store.roll();
     Ok(())
 }
@@ -41,7 +41,7 @@ fn is_hindered<R: System>(rt: &R, home: &mut Home) -> bool
 }
 
 // How many bytes the file of this path has.
-fn length_of<R: System>(rt: &R, path: &str) -> Result<u64, Fail> {
+pub(super) fn length_of<R: System>(rt: &R, path: &str) -> Result<u64, Fail> {
     Ok(fs::metadata(rt, path)?.len())
 }
 
@@ -54,9 +54,9 @@ impl<R: System> Course<R> for Hindered {
     type Answer = Result<bool, Fail>;
 
     fn run(self, rt: &R, home: &mut Home) -> Result<bool, Fail> {
-        put_one(rt, home, b'a')?;
-        put_one(rt, home, b'b')?;
-        put_one(rt, home, b'c')?;
+        put_one(home, b'a')?;
+        put_one(home, b'b')?;
+        put_one(home, b'c')?;
         fs::rename(rt, FIRST, ASIDE)?;
         fs::create_dir(rt, FIRST)?;
         let (first, again) = (is_hindered(rt, home), is_hindered(rt, home));

@@ -3,8 +3,8 @@
 
 use bw_codec::limits::MIN_FRAME;
 use bw_codec::{Key, Record, Value};
+use bw_core::StoreFault;
 use bw_home::{Course, Home, HomeFault, NotPut, Options, System, with_store};
-use bw_store::StoreFault;
 use std::fs;
 use test_marks::{begin, end, refuse};
 
@@ -16,7 +16,6 @@ const MOST: u32 = 2_000;
 const SMALL: Options = Options {
     writers: 1,
     places: 2,
-    readers: 1,
     m: 4,
     f: MIN_FRAME,
     segments: 2,
@@ -34,7 +33,7 @@ fn record() -> Option<Record> {
 impl<R: System> Course<R> for Settle {
     type Answer = Result<(), StoreFault>;
 
-    fn run(self, rt: &R, home: &mut Home) -> Result<(), StoreFault> {
+    fn run(self, _rt: &R, home: &mut Home) -> Result<(), StoreFault> {
         let Some(item) = record() else {
             return Ok(());
         };
@@ -47,7 +46,7 @@ impl<R: System> Course<R> for Settle {
         {
             return Err(cause);
         }
-        let _ = home.settle(rt)?;
+        let _ = home.settle()?;
         Ok(())
     }
 }

@@ -4,8 +4,8 @@
 use super::{PutAndWalk, is_first};
 use bw_care::RecoverCause;
 use bw_codec::limits::MIN_FRAME;
+use bw_core::StoreFault;
 use bw_home::{HomeFault, Options, System, with_store};
-use bw_store::StoreFault;
 use std::fs;
 use std::test::Fail;
 
@@ -106,7 +106,6 @@ fn what_holds_no_store_is_refused_and_stays(rt: HostRuntime) -> Result<(), Fail>
 const NO_WRITER: Options = Options {
     writers: 0,
     places: 64,
-    readers: 1,
     m: 32,
     f: MIN_FRAME,
     segments: 2,

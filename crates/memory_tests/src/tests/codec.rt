@@ -234,7 +234,10 @@ fn inserts(alloc: Global, leaf: &mut Leaf) -> Option<Try> {
         return None;
     }
     begin(alloc);
-    let went = leaf.pairs.insert(1, &key, &value).is_ok();
+    let went = match Pair::of(alloc, &key, &value) {
+        Ok(pair) => leaf.pairs.insert(1, pair).is_ok(),
+        Err(_) => false,
+    };
     changed(leaf, went, end(alloc), b"a: a=1 b=2 c=3", b"a: a=1 c=3")
 }
 

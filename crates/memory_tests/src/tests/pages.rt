@@ -3,13 +3,16 @@
 ghost use Rattle.std.specs.Prelude.{◌≡◌, [], IfOk, IfSome};
 
 use super::versions::entries;
-use super::{Ask, Row, Try, all_went, asked_again, changed, lettered, put, then, tried, wrong_row};
-use bw_codec::{Block, Leaf, Ops, Place, Record};
+use super::{
+    Ask, Row, Try, all_went, asked_again, changed, lettered, packed_put, put, then, tried,
+    wrong_row,
+};
+use bw_codec::{Block, Key, Leaf, Ops, Packed, Place, Record};
+use bw_history::PackedEntry;
 use bw_page::{
     Applied, ApplyError, Chain, Draft, Leaves, Start, change, change_all, cut_in_two, empty_page,
     read_block, read_blocks,
 };
-use bw_versions::Entry;
 use std::alloc::{AllocError, Global};
 use std::sync::Wait;
 use std::thread::Threads;
@@ -49,8 +52,6 @@ enum Way {
     Hinted,
     All,
     AllOf,
-    /// The first record's page is looked at first.
-    AllHinted,
     /// They are not, but what they would do is told.
     Steps,
     /// What the first would do.
@@ -156,12 +157,21 @@ fn copies_start(alloc: Global) -> Option<Try> {
     }
 }
 
+/// One letter a put, without values, as pages apply them.
+fn packed_letters(alloc: Global, letters: &[u8]) -> Option<Vec<Packed>> {
+    let mut records = Vec::new(alloc);
+    for letter in letters {
+        records.push(packed_put(alloc, &[*letter], b"")?).ok()?;
+    }
+    Some(records)
+}
+
 /// A full page.
 fn full(alloc: Global) -> Option<Leaves>
     ensures { IfSome result (λ l. l.evicted ≡ []) }
 {
     let mut leaves = Leaves::one_empty(alloc, 4).ok()?;
-    let records = lettered(alloc, b"abcd")?;
+    let records = packed_letters(alloc, b"abcd")?;
     match leaves.apply_all(records.as_slice()) {
         Ok(()) => Some(leaves),
         Err(_) => None,
@@ -169,7 +179,7 @@ fn full(alloc: Global) -> Option<Leaves>
 }
 
 /// What a record does where it is applied.
-fn applies(leaves: &mut Leaves, change: &Record, way: Way) -> Result<bool, ApplyError>
+fn applies(leaves: &mut Leaves, change: &Packed, way: Way) -> Result<bool, ApplyError>
     requires { leaves.old.evicted ≡ [] }
     ensures { leaves.new.evicted ≡ [] }
 {
@@ -177,7 +187,10 @@ fn applies(leaves: &mut Leaves, change: &Record, way: Way) -> Result<bool, Apply
         page: 1,
         made: Some(2),
     };
-    let page = leaves.find(change.key());
+    let Ok(key) = Key::new(change.key()) else {
+        return Ok(false);
+    };
+    let page = leaves.find(&key);
     let done = match way {
         Way::On => leaves.apply_on(page, change)?,
         Way::Hinted => leaves.apply_hinted(page, change)?,
@@ -191,8 +204,8 @@ fn applies(leaves: &mut Leaves, change: &Record, way: Way) -> Result<bool, Apply
 fn looked(
     alloc: Global,
     leaves: &mut Leaves,
-    first: &Record,
-    entries: &[Entry],
+    first: &Packed,
+    entries: &[PackedEntry],
     way: Way,
 ) -> Result<bool, ApplyError>
     requires { leaves.old.evicted ≡ [] }
@@ -202,8 +215,11 @@ fn looked(
         return Ok(leaves.step(first)?.upper.is_some());
     }
     if way == Way::Scan {
+        let Ok(key) = Key::new(first.key()) else {
+            return Ok(false);
+        };
         let mut found = Vec::new(alloc);
-        leaves.scan(first.key(), 2, &mut found)?;
+        leaves.scan(&key, 2, &mut found)?;
         return Ok(found.as_slice().len() == 2);
     }
     let steps = leaves.steps(entries)?;
@@ -217,8 +233,8 @@ fn looks_at(alloc: Global, leaves: &mut Leaves, way: Way) -> Option<Try>
 {
     let entries = entries(alloc, b"efg")?;
     let first = match way {
-        Way::Scan => put(b"b", b"")?,
-        _ => put(b"e", b"")?,
+        Way::Scan => packed_put(alloc, b"b", b"")?,
+        _ => packed_put(alloc, b"e", b"")?,
     };
     begin(alloc);
     let answer = looked(alloc, leaves, &first, entries.as_slice(), way);
@@ -235,15 +251,12 @@ fn applied(alloc: Global, leaves: &mut Leaves, way: Way) -> Option<Try>
     requires { leaves.old.evicted ≡ [] }
     ensures { leaves.new.evicted ≡ [] }
 {
-    let records = lettered(alloc, b"efg")?;
+    let records = packed_letters(alloc, b"efg")?;
     let entries = entries(alloc, b"efg")?;
-    let first = put(b"e", b"")?;
+    let first = packed_put(alloc, b"e", b"")?;
     begin(alloc);
     let answer = match way {
         Way::One | Way::On | Way::Hinted => applies(leaves, &first, way),
-        Way::AllHinted => leaves
-            .apply_all_hinted(entries.as_slice(), &[1])
-            .map(|_| true),
         Way::All => leaves.apply_all(records.as_slice()).map(|_| true),
         _ => leaves.apply_all_of(entries.as_slice()).map(|_| true),
     };
@@ -428,14 +441,14 @@ fn reads(alloc: Global, how: Reading, count: u8) -> Option<Try> {
 /// A chain with a=1, which stands in the log where that is asked.
 fn chain(alloc: Global, marked: bool) -> Option<Chain> {
     let mut chain = Chain::whole(alloc, empty_page(alloc));
-    chain.prepend(put(b"a", b"1")?).ok()?;
+    chain.prepend(packed_put(alloc, b"a", b"1")?).ok()?;
     if marked {
         chain.mark_flushed(BACK).ok()?;
         return Some(chain);
     }
     // What stands in the chain itself is used up.
-    chain.prepend(put(b"a", b"1")?).ok()?;
-    chain.prepend(put(b"a", b"1")?).ok()?;
+    chain.prepend(packed_put(alloc, b"a", b"1")?).ok()?;
+    chain.prepend(packed_put(alloc, b"a", b"1")?).ok()?;
     Some(chain)
 }
 
@@ -449,7 +462,7 @@ fn has(alloc: Global, chain: &Chain, text: &[u8]) -> bool {
 
 /// One try of a call on a chain.
 fn links(alloc: Global, chain: &mut Chain, link: Link) -> Option<Try> {
-    let record = put(b"b", b"2")?;
+    let record = packed_put(alloc, b"b", b"2")?;
     let below = empty_page(alloc);
     begin(alloc);
     let answer = match link {
@@ -541,7 +554,6 @@ const CALLS: &[Call] = &[
     Call::Apply(Way::Hinted),
     Call::Apply(Way::All),
     Call::Apply(Way::AllOf),
-    Call::Apply(Way::AllHinted),
     Call::Look(Way::Steps),
     Call::Look(Way::Step),
     Call::Look(Way::Scan),

@@ -5,11 +5,10 @@ ghost use mathlib.Core.List.{IsPrefix};
 ghost use Rattle.bw_versions.specs.Batches.{entries_of};
 
 use super::{Ask, Row, Try, all_went, asked_again, lettered, put, then, tried, wrong_row};
-use bw_codec::{Key, Record};
+use bw_codec::Key;
+use bw_history::{Entry, PackedEntry};
 use bw_page::Leaves;
-use bw_versions::{
-    Batch, Board, Entry, PackedEntry, Publisher, ReadFault, Reader, Unpublished, Versions,
-};
+use bw_versions::{Batch, Board, Publisher, ReadFault, Reader, Unpublished, Versions};
 use std::alloc::{AllocError, Global};
 use std::sync::Wait;
 use std::thread::Threads;
@@ -45,15 +44,12 @@ fn start(alloc: Global) -> Result<Leaves, AllocError>
     Leaves::one_empty(alloc, 4)
 }
 
-fn entry(writer: u16, more: bool, item: Record) -> Entry {
-    Entry { writer, more, item }
-}
-
 /// One writer's puts of these letters, without values.
-pub(super) fn entries(alloc: Global, letters: &[u8]) -> Option<Vec<Entry>> {
+pub(super) fn entries(alloc: Global, letters: &[u8]) -> Option<Vec<PackedEntry>> {
     let mut entries = Vec::new(alloc);
-    for item in lettered(alloc, letters)? {
-        entries.push(entry(0, false, item)).ok()?;
+    for item in lettered(alloc, letters)?.as_slice() {
+        let entry = PackedEntry::of(alloc, 0, false, item).ok()?;
+        entries.push(entry).ok()?;
     }
     Some(entries)
 }
@@ -67,7 +63,11 @@ fn has_page(board: &Board, text: &[u8], count: u32) -> bool {
 }
 
 fn packs(alloc: Global) -> Option<Try> {
-    let told = entry(3, true, put(b"k", b"v")?);
+    let told = Entry {
+        writer: 3,
+        more: true,
+        item: put(b"k", b"v")?,
+    };
     begin(alloc);
     let made = PackedEntry::of(alloc, 3, true, &told.item);
     let refused = end(alloc);
@@ -350,21 +350,11 @@ fn is_up_to<R: Wait>(rt: &R, alloc: Global, stand: &mut Stand) -> Option<Try>
     }
 }
 
-// The same puts as a history keeps them.
-fn packed(alloc: Global, letters: &[u8]) -> Option<Vec<PackedEntry>> {
-    let mut history = Vec::new(alloc);
-    for entry in entries(alloc, letters)?.as_slice() {
-        let kept = PackedEntry::of(alloc, entry.writer, entry.more, &entry.item).ok()?;
-        history.push(kept).ok()?;
-    }
-    Some(history)
-}
-
 fn stand_of<R: AllocGlobal + Wait>(rt: &R) -> Option<Stand>
     ensures { IfSome result (λ stand. stand.versions.entered ≡ []) }
 {
     let alloc = rt.alloc();
-    let history = packed(alloc, b"abc")?;
+    let history = entries(alloc, b"abc")?;
     let start = start(alloc).ok()?;
     Some(Stand {
         versions: Versions::open(rt, alloc, 1, start).ok()?,

@@ -1,6 +1,6 @@
 //! Calls on one chain.
 
-use super::{Table, is_shown, put, tables_go, went};
+use super::{Table, is_shown, packed, put, tables_go, went};
 use bw_codec::{Leaf, Place};
 use bw_page::{Chain, empty_page};
 use std::alloc::Global;
@@ -28,11 +28,9 @@ const FIRST: Place = Place { frame: 1, index: 1 };
 
 const SECOND: Place = Place { frame: 2, index: 0 };
 
-fn prepended(chain: &mut Chain, key: &str, value: &str) -> bool {
-    match put(key.as_bytes(), value.as_bytes()) {
-        Some(record) => chain.prepend(record).is_ok(),
-        None => false,
-    }
+fn prepended(alloc: Global, chain: &mut Chain, key: &str, value: &str) -> Option<()> {
+    let record = put(key.as_bytes(), value.as_bytes())?;
+    chain.prepend(packed(alloc, &record)?).ok()
 }
 
 fn consolidates(chain: &mut Chain, below: &Leaf, told: bool) -> bool {
@@ -60,7 +58,7 @@ fn alone(alloc: Global, chain: &Chain, text: &str) -> bool {
 /// Whether the step went as told.
 fn goes(alloc: Global, chain: &mut Chain, below: &mut Leaf, step: &Step) -> bool {
     match step {
-        Step::Put(key, value) => prepended(chain, key, value),
+        Step::Put(key, value) => prepended(alloc, chain, key, value).is_some(),
         Step::Mark(place) => chain.mark_flushed(*place).is_ok(),
         Step::Rest(place) => {
             chain.rest_on(*place);

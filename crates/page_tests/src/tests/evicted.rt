@@ -2,7 +2,7 @@
 
 ghost use Rattle.std.specs.Prelude.{◌≡◌, [], IfOk};
 
-use super::{all_went, is_shown, leads, put};
+use super::{all_went, is_shown, leads, packed, put};
 use bw_codec::Key;
 use bw_page::{Applied, Leaves};
 use std::alloc::{AllocError, Global};
@@ -125,31 +125,38 @@ const CHANGED: &[Ask] = &[
 ];
 
 /// What a record of this key and value does, if the page at which it is directed is in memory.
-fn applied(leaves: &mut Leaves, key: &[u8], value: &[u8]) -> Option<Option<Applied>> {
-    let change = put(key, value)?;
-    if !leaves.is_here(leaves.find(change.key())) {
+fn applied(
+    alloc: Global,
+    leaves: &mut Leaves,
+    key: &[u8],
+    value: &[u8],
+) -> Option<Option<Applied>> {
+    let record = put(key, value)?;
+    let change = packed(alloc, &record)?;
+    if !leaves.is_here(leaves.find(record.key())) {
         return Some(None);
     }
     Some(Some(leaves.apply(&change).ok()?))
 }
 
 /// Whether a record of the page that is evicted is left alone, and one of the other page applied.
-fn changes_one(leaves: &mut Leaves) -> bool {
+fn changes_one(alloc: Global, leaves: &mut Leaves) -> bool {
     let told = Applied {
         page: 1,
         made: None,
     };
-    applied(leaves, b"d", b"5") == Some(None) && applied(leaves, b"b", b"2") == Some(Some(told))
+    applied(alloc, leaves, b"d", b"5") == Some(None)
+        && applied(alloc, leaves, b"b", b"2") == Some(Some(told))
 }
 
 /// Page 1 is changed while page 2 is evicted: the first question that was not answered as told
 /// then.
-fn changed_beside(leaves: &mut Leaves) -> Option<(usize, usize)> {
+fn changed_beside(alloc: Global, leaves: &mut Leaves) -> Option<(usize, usize)> {
     if leaves.count() != 2 {
         return Some(OTHER_PAGES);
     }
     leaves.evict_page(2);
-    if !changes_one(leaves) {
+    if !changes_one(alloc, leaves) {
         return Some(OTHER_CHANGE);
     }
     wrong_answer(leaves, 0, CHANGED)
@@ -159,7 +166,7 @@ fn changed_beside(leaves: &mut Leaves) -> Option<(usize, usize)> {
 fn first_wrong(alloc: Global, comes_back: bool) -> Option<(usize, usize)> {
     match two_pages(alloc) {
         Ok(mut leaves) if comes_back => goes_and_returns(&mut leaves),
-        Ok(mut leaves) => changed_beside(&mut leaves),
+        Ok(mut leaves) => changed_beside(alloc, &mut leaves),
         Err(_) => Some(OTHER_PAGES),
     }
 }

@@ -3,8 +3,9 @@
 ghost use Rattle.std.specs.Prelude.{◌≤◌, ◌≡◌, []};
 
 use super::evicted::two_pages;
-use super::{Table, del, is_shown, leads, put, records, tables_go, went};
-use bw_codec::{Key, Record};
+use super::{Table, del, is_shown, leads, packed, put, records, tables_go, went};
+use bw_codec::{Key, Packed};
+use bw_history::PackedEntry;
 use bw_page::{Applied, Leaves};
 use std::alloc::Global;
 
@@ -32,17 +33,21 @@ pub(super) enum Step {
     Find(&'static str, u32),
     /// The value of a key; no text where there is none.
     Get(&'static str, &'static str),
+    /// What the records of `TEN` would do: the pages at which they are directed.
+    Foretold(&'static [u32]),
     /// All keys of `TEN`, by one batch.
     Batch,
-    /// The same, where these pages are looked at first.
-    HintedBatch(&'static [u32]),
+    /// The same, where these pages are looked at first, and for the others none.
+    GuessedBatch(&'static [u32]),
     /// Goes on with a copy.
     Copy,
 }
 
-use Step::{Batch, Copy, Count, Del, Fill, Find, Get, Hinted, HintedBatch, Page, Put, Singly};
+use Step::{
+    Batch, Copy, Count, Del, Fill, Find, Foretold, Get, GuessedBatch, Hinted, Page, Put, Singly,
+};
 
-fn applied(leaves: &mut Leaves, change: Option<Record>, page: u32, made: u32) -> bool
+fn applied(leaves: &mut Leaves, change: Option<Packed>, page: u32, made: u32) -> bool
     requires { leaves.old.evicted ≡ [] }
     ensures { leaves.new.evicted ≡ [] }
 {
@@ -53,7 +58,7 @@ fn applied(leaves: &mut Leaves, change: Option<Record>, page: u32, made: u32) ->
     leaves.apply(&change) == Ok(Applied { page, made })
 }
 
-fn hinted(leaves: &mut Leaves, hint: u32, change: Option<Record>, page: u32, made: u32) -> bool
+fn hinted(leaves: &mut Leaves, hint: u32, change: Option<Packed>, page: u32, made: u32) -> bool
     requires { leaves.old.evicted ≡ [] }
     ensures { leaves.new.evicted ≡ [] }
 {
@@ -64,12 +69,23 @@ fn hinted(leaves: &mut Leaves, hint: u32, change: Option<Record>, page: u32, mad
     leaves.apply_hinted(hint, &change) == Ok(Applied { page, made })
 }
 
-fn filled(leaves: &mut Leaves, count: u16) -> bool
+/// A put of this value, packed.
+fn putting(alloc: Global, key: &[u8], value: &[u8]) -> Option<Packed> {
+    packed(alloc, &put(key, value)?)
+}
+
+/// A delete of this key, packed.
+fn deleting(alloc: Global, key: &[u8]) -> Option<Packed> {
+    packed(alloc, &del(key)?)
+}
+
+fn filled(alloc: Global, leaves: &mut Leaves, count: u16) -> bool
     requires { leaves.old.evicted ≡ [] }
     ensures { leaves.new.evicted ≡ [] }
 {
     for i in 0..count {
-        let Some(change) = put(&[b'0' + (i / 10 % 10) as u8, b'0' + (i % 10) as u8], b"") else {
+        let digits = [b'0' + (i / 10 % 10) as u8, b'0' + (i % 10) as u8];
+        let Some(change) = putting(alloc, &digits, b"") else {
             return false;
         };
         if leaves.apply(&change).is_err() {
@@ -79,13 +95,33 @@ fn filled(leaves: &mut Leaves, count: u16) -> bool
     true
 }
 
+/// The records of `TEN`, packed.
+fn ten(alloc: Global) -> Option<Vec<Packed>> {
+    let mut all = Vec::new(alloc);
+    for record in records(alloc, TEN)?.as_slice() {
+        all.push(packed(alloc, record)?).ok()?;
+    }
+    Some(all)
+}
+
+/// The same as entries, each with the page at its index as a guess.
+fn ten_guessed(alloc: Global, pages: &[u32]) -> Option<Vec<PackedEntry>> {
+    let mut all = Vec::new(alloc);
+    for (i, record) in records(alloc, TEN)?.as_slice().iter().enumerate() {
+        let entry = PackedEntry::of(alloc, 0, false, record).ok()?;
+        let guess = pages.get(i).copied().unwrap_or(0);
+        all.push(entry.on(guess)).ok()?;
+    }
+    Some(all)
+}
+
 fn singly(alloc: Global, leaves: &mut Leaves, pages: &[u32], made: &[u32]) -> Option<bool>
     requires { leaves.old.evicted ≡ [] }
     ensures { leaves.new.evicted ≡ [] }
 {
-    let all = records(alloc, TEN)?;
+    let all = ten(alloc)?;
     'records: for (i, page) in pages.iter().enumerate() {
-        let change = all.as_slice().get(i)?.copy();
+        let change = all.as_slice().get(i)?.copy().ok()?;
         if !applied(leaves, Some(change), *page, *made.get(i)?) {
             return Some(false);
         }
@@ -97,18 +133,35 @@ fn batch(alloc: Global, leaves: &mut Leaves) -> bool
     requires { leaves.old.evicted ≡ [] }
     ensures { leaves.new.evicted ≡ [] }
 {
-    match records(alloc, TEN) {
+    match ten(alloc) {
         Some(records) => leaves.apply_all(records.as_slice()).is_ok(),
         None => false,
     }
 }
 
-fn hinted_batch(alloc: Global, leaves: &mut Leaves, pages: &[u32]) -> bool
+fn foretold(alloc: Global, leaves: &mut Leaves, pages: &[u32]) -> Option<bool>
     requires { leaves.old.evicted ≡ [] }
     ensures { leaves.new.evicted ≡ [] }
 {
-    match records(alloc, TEN) {
-        Some(records) => leaves.apply_all_hinted(records.as_slice(), pages).is_ok(),
+    let records = ten(alloc)?;
+    let steps = leaves.steps(records.as_slice()).ok()?;
+    Some(are_at(steps.as_slice(), pages))
+}
+
+fn are_at(steps: &[bw_page::Step], pages: &[u32]) -> bool {
+    steps.len() == pages.len()
+        && steps
+            .iter()
+            .zip(pages)
+            .all(|(step, page)| step.page == *page)
+}
+
+fn guessed_batch(alloc: Global, leaves: &mut Leaves, pages: &[u32]) -> bool
+    requires { leaves.old.evicted ≡ [] }
+    ensures { leaves.new.evicted ≡ [] }
+{
+    match ten_guessed(alloc, pages) {
+        Some(entries) => leaves.apply_all_of(entries.as_slice()).is_ok(),
         None => false,
     }
 }
@@ -150,22 +203,24 @@ fn goes(alloc: Global, leaves: &mut Leaves, step: &Step) -> bool
 {
     match step {
         Step::Put(key, value, page, made) => {
-            applied(leaves, put(key.as_bytes(), value.as_bytes()), *page, *made)
+            let change = putting(alloc, key.as_bytes(), value.as_bytes());
+            applied(leaves, change, *page, *made)
         }
         Step::Hinted(hint, key, value, page, made) => {
-            let change = put(key.as_bytes(), value.as_bytes());
+            let change = putting(alloc, key.as_bytes(), value.as_bytes());
             hinted(leaves, *hint, change, *page, *made)
         }
         Step::Singly(pages, made) => singly(alloc, leaves, *pages, *made) == Some(true),
-        Step::Del(key, page) => applied(leaves, del(key.as_bytes()), *page, 0),
-        Step::Fill(count) => filled(leaves, *count),
+        Step::Del(key, page) => applied(leaves, deleting(alloc, key.as_bytes()), *page, 0),
+        Step::Fill(count) => filled(alloc, leaves, *count),
         Step::Count(count) => leaves.count() == *count,
         Step::Page(page, text) => is_shown(leaves.page(*page), text),
         Step::Pairs(page, count) => pairs(leaves, *page) == *count,
         Step::Find(key, page) => leads(leaves, key, *page),
         Step::Get(key, text) => has(leaves, key, text),
+        Step::Foretold(pages) => foretold(alloc, leaves, pages) == Some(true),
         Step::Batch => batch(alloc, leaves),
-        Step::HintedBatch(pages) => hinted_batch(alloc, leaves, pages),
+        Step::GuessedBatch(pages) => guessed_batch(alloc, leaves, pages),
         Step::Copy => copied(leaves),
     }
 }
@@ -197,6 +252,14 @@ const TEN: &[(&str, Option<&str>)] = &[
 ];
 
 const FOUR: &[Step] = &[
+    Put("cc", "0", 1, 0),
+    Foretold(&[1, 1, 1, 1, 2, 2, 3, 1, 1, 1]),
+    Count(1),
+    Page(1, ": cc=0"),
+    Del("cc", 1),
+    Foretold(&[1, 1, 1, 1, 1, 2, 2, 1, 1, 1]),
+    Count(1),
+    Page(1, ":"),
     Batch,
     Count(4),
     Page(1, ": a=1 aa=1"),
@@ -240,7 +303,7 @@ const SINGLE: &[Step] = &[
 
 // Pages that are right, those of other keys, of no page, and too few.
 const HINTED: &[Step] = &[
-    HintedBatch(&[0, 1, 1, 1, 1, 1, 9, 2]),
+    GuessedBatch(&[0, 1, 1, 1, 1, 1, 9, 2]),
     Count(4),
     Page(1, ": a=1 aa=1"),
     Page(2, "c: c=1 d=1"),

@@ -14,8 +14,9 @@ mod walking;
 
 use super::{is_shown, put};
 use bw_codec::{Key, Record, Value};
+use bw_history::PackedEntry;
 use bw_page::Leaves;
-use bw_versions::{Entry, PackedEntry, Reader, Versions};
+use bw_versions::{Reader, Versions};
 use std::alloc::{AllocError, Global};
 use std::sync::Wait;
 use std::thread::Threads;
@@ -27,20 +28,13 @@ fn start(alloc: Global) -> Result<Leaves, AllocError>
     Leaves::one_empty(alloc, 4)
 }
 
-fn first_writers(item: Record) -> Entry {
-    Entry {
-        writer: 0,
-        more: false,
-        item,
-    }
-}
-
 /// One writer's puts.
-fn entries(alloc: Global, pairs: &[(&str, &str)]) -> Option<Vec<Entry>> {
+fn entries(alloc: Global, pairs: &[(&str, &str)]) -> Option<Vec<PackedEntry>> {
     let mut entries = Vec::new(alloc);
     for (key, value) in pairs {
         let item = put(key.as_bytes(), value.as_bytes())?;
-        entries.push(first_writers(item)).ok()?;
+        let entry = PackedEntry::of(alloc, 0, false, &item).ok()?;
+        entries.push(entry).ok()?;
     }
     Some(entries)
 }

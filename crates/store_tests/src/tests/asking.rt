@@ -1,19 +1,19 @@
 //! What is asked of a store, as text.
 
 ghost use Rattle.std.specs.Prelude.{◌≡◌};
-ghost use Rattle.bw_store.specs.Views.{kept_by, IsSound};
-ghost use Rattle.bw_store.specs.Following.{Follows};
+ghost use Rattle.store_tests.specs.Views.{rings_by, IsSound};
 
+use crate::subject::Subject;
 use bw_codec::{Key, Leaf, Record};
-use bw_store::{PackedEntry, Store, StoreFault};
+use bw_store::{PackedEntry, StoreFault};
 use std::alloc::Global;
 use test_vectors::{behind, behind_leaf, is_at_end, spells};
 
 /// Whether these are the bytes of a live segment.
-pub(super) fn are_bytes(alloc: Global, store: &mut Store, segment: u64, hex: &str) -> bool
+pub(super) fn are_bytes(alloc: Global, store: &mut Subject, segment: u64, hex: &str) -> bool
     requires { IsSound store.old holding }
     ensures sound { IsSound store.new holding }
-    ensures follows { Follows (kept_by store.old holding) (kept_by store.new holding) }
+    ensures rings { rings_by store.new holding ≡ rings_by store.old holding }
 {
     let mut bytes = Vec::new(alloc);
     store.dump(segment, &mut bytes) == Ok(true) && spells(&bytes, hex.as_bytes())
@@ -46,10 +46,10 @@ fn is_leaf(leaf: &Leaf, text: &str) -> bool {
 }
 
 /// Whether a page is so: its number, low key and pairs; with no text, whether there is none.
-pub(super) fn is_page(store: &mut Store, page: u32, text: &str) -> bool
+pub(super) fn is_page(store: &mut Subject, page: u32, text: &str) -> bool
     requires { IsSound store.old holding }
     ensures sound { IsSound store.new holding }
-    ensures rings { (kept_by store.new holding).rings ≡ (kept_by store.old holding).rings }
+    ensures rings { rings_by store.new holding ≡ rings_by store.old holding }
 {
     match store.page(page) {
         Ok(leaf) => is_leaf(&leaf, text),
@@ -59,10 +59,10 @@ pub(super) fn is_page(store: &mut Store, page: u32, text: &str) -> bool
 }
 
 /// Whether a page is refused so.
-pub(super) fn is_unread(store: &mut Store, page: u32, fault: StoreFault) -> bool
+pub(super) fn is_unread(store: &mut Subject, page: u32, fault: StoreFault) -> bool
     requires { IsSound store.old holding }
     ensures sound { IsSound store.new holding }
-    ensures rings { (kept_by store.new holding).rings ≡ (kept_by store.old holding).rings }
+    ensures rings { rings_by store.new holding ≡ rings_by store.old holding }
 {
     match store.page(page) {
         Ok(_) => false,
@@ -71,10 +71,10 @@ pub(super) fn is_unread(store: &mut Store, page: u32, fault: StoreFault) -> bool
 }
 
 /// Whether a key has this value; with no text, whether it has none.
-pub(super) fn has(store: &mut Store, key: &[u8], text: &[u8]) -> bool
+pub(super) fn has(store: &mut Subject, key: &[u8], text: &[u8]) -> bool
     requires { IsSound store.old holding }
     ensures sound { IsSound store.new holding }
-    ensures rings { (kept_by store.new holding).rings ≡ (kept_by store.old holding).rings }
+    ensures rings { rings_by store.new holding ≡ rings_by store.old holding }
 {
     let Ok(key) = Key::new(key) else {
         return false;

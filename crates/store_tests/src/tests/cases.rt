@@ -1,11 +1,12 @@
-//! What is done with a store of some boxes, which is then shut.
+//! What is done with a store that has readers or threads beside it, which is then shut.
 
-ghost use Rattle.bw_store.specs.Views.{IsSoundBeside};
-ghost use Rattle.store_tests.specs.Views.{AreItsFeeds};
+ghost use Rattle.std.specs.Prelude.{◌≡◌, map};
+ghost use Rattle.bw_ring.specs.Ends.{ring_of_feed};
+ghost use Rattle.bw_store.specs.Views.{kept_by, IsSound};
 
-use super::boxes::{Row, supplied};
-use super::opening::{Held, opened, shut};
-use super::{large, readers, threads};
+use super::boxes::{plain, supplied};
+use super::serving::{Served, ended, store_over};
+use super::{readers, threads};
 use bw_store::Config;
 use std::sync::Wait;
 use std::thread::Threads;
@@ -13,36 +14,34 @@ use std::thread::Threads;
 /// What is done.
 #[derive(Drop)]
 pub(super) enum Case {
-    /// A long segment is filled, and cleaned.
-    Long,
     /// A reader in a thread of its own reads beside the flushes.
     Race,
     /// Four writers in threads of their own put while the store turns.
     Writers,
 }
 
-fn does<R: AllocGlobal + Threads + Wait>(rt: &R, held: &mut Held, case: &Case) -> bool
-    requires sound { IsSoundBeside held.old.store holding }
-    requires feeds { AreItsFeeds held.old.feeds.items held.old.store holding }
-    ensures { IsSoundBeside held.new.store holding }
+fn does<R: Threads + Wait>(rt: &R, served: &mut Served, case: &Case) -> bool
+    requires sound { IsSound served.old.store holding }
+    requires feeds { map ring_of_feed served.old.feeds.items
+        ≡ (kept_by served.old.store holding).rings }
+    ensures { IsSound served.new.store holding }
 {
     match case {
-        Case::Long => large::goes(rt, held),
-        Case::Race => readers::race(rt, held),
-        Case::Writers => threads::are_settled(rt, held),
+        Case::Race => readers::race(rt, served),
+        Case::Writers => threads::are_settled(rt, served),
     }
 }
 
-/// Whether it went as told; none where there was no such store.
+/// Whether it went as told over so many boxes; none where there was no such store.
 pub(super) fn over<R: AllocGlobal + Threads + Wait>(
     rt: &R,
-    row: &Row,
+    boxes: u32,
     config: &Config,
     case: &Case,
 ) -> Option<bool> {
-    let mut supply = supplied(rt.alloc(), row)?;
-    let mut held = opened(rt, config, &mut supply)?;
-    let went = does(rt, &mut held, case);
-    let _ = shut(rt, held, &mut supply);
+    let supply = supplied(rt.alloc(), &plain(boxes, 0))?;
+    let mut served = store_over(rt, supply, config)?;
+    let went = does(rt, &mut served, case);
+    ended(rt, served);
     Some(went)
 }

@@ -21,7 +21,6 @@ const NONE: Counters = Counters {
     splits: 0,
     evictions: 0,
     reads: 0,
-    publications: 0,
     cleanings: 0,
 };
 
@@ -35,26 +34,27 @@ const CLEANED: Counters = Counters {
     splits: 0,
     evictions: 1,
     reads: 1,
-    publications: 3,
     cleanings: 1,
 };
 
 /// A header has 24 bytes, a frame 20 around its blocks, an empty Base 8 and each of its pairs 5
 /// here, and a Delta of one put 25. The cleaner writes a Base of two pairs.
 const THREE_SEGMENTS: &[Step] = &[
-    Counts(NONE),
+    Counts(NONE, 0),
     Needed(0, None),
     Pays(false),
     Taken(b"k", b"1"),
-    Counts(Counters { records: 1, ..NONE }),
+    Counts(Counters { records: 1, ..NONE }, 0),
     Flush(Some(1)),
-    Counts(Counters {
-        records: 1,
-        frames: 1,
-        bytes: 77,
-        publications: 1,
-        ..NONE
-    }),
+    Counts(
+        Counters {
+            records: 1,
+            frames: 1,
+            bytes: 77,
+            ..NONE
+        },
+        1,
+    ),
     Needed(0, Some(13)),
     Needed(1, None),
     Pays(false),
@@ -67,28 +67,33 @@ const THREE_SEGMENTS: &[Step] = &[
     Roll,
     Frame(b"k", b"3", 3),
     Forget(3, 3),
-    Counts(Counters {
-        records: 3,
-        frames: 3,
-        bytes: 215,
-        publications: 3,
-        ..NONE
-    }),
+    Counts(
+        Counters {
+            records: 3,
+            frames: 3,
+            bytes: 215,
+            ..NONE
+        },
+        3,
+    ),
     Evict(1, Ok(true)),
     Evict(1, Ok(false)),
     Needed(0, Some(18)),
     Pays(false),
     Page(1, "1 : j=2 k=3"),
     Clean(1, 0, 1, 1),
-    Counts(CLEANED),
+    Counts(CLEANED, 3),
     Needed(0, Some(0)),
     Needed(1, Some(18)),
     Clean(2, 1, 0, 0),
     Uncleaned(StoreFault::NothingOld),
-    Counts(Counters {
-        cleanings: 2,
-        ..CLEANED
-    }),
+    Counts(
+        Counters {
+            cleanings: 2,
+            ..CLEANED
+        },
+        3,
+    ),
 ];
 
 /// Five pairs are cut: a Delta of five puts has 49 bytes, and a Split with a low of one byte and
@@ -96,14 +101,16 @@ const THREE_SEGMENTS: &[Step] = &[
 const CUT: &[Step] = &[
     Each(0, FIVE),
     Settle(5),
-    Counts(Counters {
-        records: 5,
-        frames: 1,
-        bytes: 141,
-        splits: 1,
-        publications: 1,
-        ..NONE
-    }),
+    Counts(
+        Counters {
+            records: 5,
+            frames: 1,
+            bytes: 141,
+            splits: 1,
+            ..NONE
+        },
+        1,
+    ),
     Needed(0, Some(42)),
     Evict(2, Ok(true)),
     Needed(0, Some(42)),
@@ -122,24 +129,26 @@ const UPDATED: &[Step] = &[
     Pays(true),
     Clean(1, 0, 1, 1),
     Pays(false),
-    Counts(Counters {
-        records: 9,
-        frames: 3,
-        bytes: 757,
-        cleaner_frames: 1,
-        cleaner_bytes: 97,
-        publications: 2,
-        cleanings: 1,
-        ..NONE
-    }),
+    Counts(
+        Counters {
+            records: 9,
+            frames: 3,
+            bytes: 757,
+            cleaner_frames: 1,
+            cleaner_bytes: 97,
+            cleanings: 1,
+            ..NONE
+        },
+        2,
+    ),
 ];
 
 /// What was there before a store was opened again is not counted.
 const OPENED_AGAIN: &[Step] = &[
-    Counts(NONE),
+    Counts(NONE, 0),
     Needed(0, Some(13)),
     Taken(b"j", b"2"),
-    Counts(Counters { records: 1, ..NONE }),
+    Counts(Counters { records: 1, ..NONE }, 0),
 ];
 
 const TABLES: &[Tables] = &[
@@ -156,13 +165,15 @@ fn what_was_done_is_counted(rt: HostRuntime) {
 const FAILED: &[Step] = &[
     Segments(1, &[Set(b"k", b"1"), Set(b"j", b"2")]),
     Uncleaned(StoreFault::Device { lease: 1 }),
-    Counts(Counters {
-        records: 2,
-        frames: 2,
-        bytes: 146,
-        publications: 2,
-        ..NONE
-    }),
+    Counts(
+        Counters {
+            records: 2,
+            frames: 2,
+            bytes: 146,
+            ..NONE
+        },
+        2,
+    ),
 ];
 
 const FAILS: &[Tables] = &[(Stand::Fuse(1, (3, 3), (0, 0)), &[FAILED])];

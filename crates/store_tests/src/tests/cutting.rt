@@ -2,7 +2,7 @@
 
 ghost use Rattle.std.specs.Prelude.{IfSome};
 ghost use Rattle.bw_care.specs.Found.{IsRecovered};
-ghost use Rattle.bw_store.specs.Views.{IsSoundBeside};
+ghost use Rattle.store_tests.specs.Views.{IsSoundBeside};
 
 use super::boxes::{LEAST, Supply, fused, maker_of, plain, supplied};
 use super::opening::{Held, config_of, opened, reopened, shut};
@@ -12,6 +12,7 @@ use super::steps::Step::{Cuts, Flush, Frame, Lives, Page, Put, Refused, Segments
 use super::telling::{holds, went};
 use super::turning::FAILED;
 use super::walking::{lives, wrong_step};
+use crate::subject::{BOTH, Over};
 use bw_care::{RecoverCause, Recovered, recover};
 use bw_store::StoreFault;
 use std::alloc::Global;
@@ -39,11 +40,11 @@ const AFTER: &[Step] = &[
 pub(super) const THREE: &[Step] = &[Segments(1, AGAIN)];
 
 // Whether nothing is found of a store whose first box fails so, and all boxes come back.
-fn finds_nothing<R: AllocGlobal + Wait>(rt: &R, fuse: (u64, u64)) -> bool {
+fn finds_nothing<R: AllocGlobal + Wait>(rt: &R, over: Over, fuse: (u64, u64)) -> bool {
     let Some(mut supply) = supplied(rt.alloc(), &fused(0, fuse, 3)) else {
         return false;
     };
-    if lives(rt, &mut supply, 8, FAILED).is_some() {
+    if lives(rt, over, &mut supply, 8, FAILED).is_some() {
         return false;
     }
     match recover(rt.alloc(), supply.boxes) {
@@ -52,11 +53,11 @@ fn finds_nothing<R: AllocGlobal + Wait>(rt: &R, fuse: (u64, u64)) -> bool {
     }
 }
 
-fn goes_on<R: AllocGlobal + Wait>(rt: &R) -> Option<usize> {
+fn goes_on<R: AllocGlobal + Wait>(rt: &R, over: Over) -> Option<usize> {
     let Some(mut supply) = supplied(rt.alloc(), &fused(0, (2, 30), 3)) else {
         return Some(100);
     };
-    let first = lives(rt, &mut supply, 8, SECOND);
+    let first = lives(rt, over, &mut supply, 8, SECOND);
     if first.is_some() {
         return first;
     }
@@ -67,19 +68,20 @@ fn goes_on<R: AllocGlobal + Wait>(rt: &R) -> Option<usize> {
     if (recovered.first, recovered.last, recovered.tail) != (1, 1, 30) {
         return Some(102);
     }
-    shows(rt, recovered, &mut supply, AFTER)
+    shows(rt, over, recovered, &mut supply, AFTER)
 }
 
 // The first step that did not go as told over what was recovered; the boxes are put in a supply.
 pub(super) fn shows<R: AllocGlobal + Wait>(
     rt: &R,
+    over: Over,
     recovered: Recovered,
     supply: &mut Supply,
     steps: &[Step],
 ) -> Option<usize>
     requires { IsRecovered holding recovered }
 {
-    let Some(mut held) = reopened(rt, recovered, 8, supply) else {
+    let Some(mut held) = reopened(rt, over, recovered, 8, supply) else {
         return Some(103);
     };
     let wrong = wrong_step(rt, &mut held, steps);
@@ -145,10 +147,10 @@ pub(super) fn dumped(alloc: Global, held: &mut Held, segment: u64) -> Option<Vec
 }
 
 // The segments of a store that went through three flushes.
-fn three<R: AllocGlobal + Wait>(rt: &R) -> Option<ThreeSegments> {
+fn three<R: AllocGlobal + Wait>(rt: &R, over: Over) -> Option<ThreeSegments> {
     let alloc = rt.alloc();
     let mut supply = supplied(alloc, &plain(4, 0))?;
-    let mut held = opened(rt, &config_of(2, 8, 1), &mut supply)?;
+    let mut held = opened(rt, over, &config_of(2, 8, 1), &mut supply)?;
     let wrong = wrong_step(rt, &mut held, THREE);
     let first = dumped(alloc, &mut held, 1);
     let second = dumped(alloc, &mut held, 2);
@@ -169,7 +171,12 @@ const OLDER: &[Step] = &[Page(1, "1 : j=2 k=1")];
 const NEWER: &[Step] = &[Page(1, "1 : j=2 k=3")];
 
 // Whether the newest segment, cut at a length, shows just the frames that are whole.
-fn cut_shows<R: AllocGlobal + Wait>(rt: &R, bytes: &ThreeSegments, length: usize) -> bool {
+fn cut_shows<R: AllocGlobal + Wait>(
+    rt: &R,
+    over: Over,
+    bytes: &ThreeSegments,
+    length: usize,
+) -> bool {
     let mut supply = Supply {
         boxes: Vec::new(rt.alloc()),
         more: Vec::new(rt.alloc()),
@@ -181,16 +188,16 @@ fn cut_shows<R: AllocGlobal + Wait>(rt: &R, bytes: &ThreeSegments, length: usize
         return false;
     }
     let steps = if length < 69 { OLDER } else { NEWER };
-    shows(rt, recovered, &mut supply, steps).is_none()
+    shows(rt, over, recovered, &mut supply, steps).is_none()
 }
 
 // The first cut of the newest of three segments that does not.
-fn each_cut<R: AllocGlobal + Wait>(rt: &R) -> Option<usize> {
-    let Some(bytes) = three(rt) else {
+fn each_cut<R: AllocGlobal + Wait>(rt: &R, over: Over) -> Option<usize> {
+    let Some(bytes) = three(rt, over) else {
         return Some(1000);
     };
     for length in 0..=69 {
-        if !cut_shows(rt, &bytes, length) {
+        if !cut_shows(rt, over, &bytes, length) {
             return Some(length);
         }
     }
@@ -199,16 +206,22 @@ fn each_cut<R: AllocGlobal + Wait>(rt: &R) -> Option<usize> {
 
 #[test]
 fn nothing_is_found_where_no_frame_is_whole(rt: HostRuntime) {
-    holds(&rt, finds_nothing(&rt, (0, 10)));
-    holds(&rt, finds_nothing(&rt, (1, 52)));
+    for over in BOTH {
+        holds(&rt, over, finds_nothing(&rt, over, (0, 10)));
+        holds(&rt, over, finds_nothing(&rt, over, (1, 52)));
+    }
 }
 
 #[test]
 fn a_torn_second_frame_is_left_out(rt: HostRuntime) {
-    went(&rt, goes_on(&rt));
+    for over in BOTH {
+        went(&rt, over, goes_on(&rt, over));
+    }
 }
 
 #[test]
 fn each_cut_shows_a_cut_of_the_history(rt: HostRuntime) {
-    went(&rt, each_cut(&rt));
+    for over in BOTH {
+        went(&rt, over, each_cut(&rt, over));
+    }
 }

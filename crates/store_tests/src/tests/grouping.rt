@@ -15,6 +15,7 @@ use super::steps::Step::{
 };
 use super::telling::went;
 use super::walking::{Stand, Tables, all_go, wrong_step};
+use crate::subject::{BOTH, Over};
 use bw_care::{Recovered, recover};
 use bw_store::StoreFault;
 use std::alloc::Global;
@@ -221,9 +222,9 @@ const BEFORE: &[Step] = &[Page(1, "1 : a=1 b=2 c=3 d=4"), Page(2, "")];
 const BEHIND: &[Step] = &[Pages(&["1 : a=1 b=2", "2 c: c=3 d=4 e=5 f=6", ""])];
 
 // The segment of a store that went through these frames.
-fn segment<R: AllocGlobal + Wait>(rt: &R) -> Option<Vec<u8>> {
+fn segment<R: AllocGlobal + Wait>(rt: &R, over: Over) -> Option<Vec<u8>> {
     let mut supply = supplied(rt.alloc(), &plain(4, 0))?;
-    let mut held = opened(rt, &config_of(2, 8, 1), &mut supply)?;
+    let mut held = opened(rt, over, &config_of(2, 8, 1), &mut supply)?;
     let wrong = wrong_step(rt, &mut held, TWO_FRAMES);
     let bytes = dumped(rt.alloc(), &mut held, 1);
     let _ = shut(rt, held, &mut supply);
@@ -248,7 +249,7 @@ fn cut_at(alloc: Global, bytes: &[u8], length: usize, supply: &mut Supply) -> Op
 }
 
 // Whether the segment, cut at a length, shows the whole group or none of it.
-fn cut_shows<R: AllocGlobal + Wait>(rt: &R, bytes: &[u8], length: usize) -> bool {
+fn cut_shows<R: AllocGlobal + Wait>(rt: &R, over: Over, bytes: &[u8], length: usize) -> bool {
     let mut supply = Supply {
         boxes: Vec::new(rt.alloc()),
         more: Vec::new(rt.alloc()),
@@ -257,16 +258,16 @@ fn cut_shows<R: AllocGlobal + Wait>(rt: &R, bytes: &[u8], length: usize) -> bool
         return false;
     };
     let steps = if length < WHOLE { BEFORE } else { BEHIND };
-    shows(rt, recovered, &mut supply, steps).is_none()
+    shows(rt, over, recovered, &mut supply, steps).is_none()
 }
 
 // The first cut of the group's frame that does not.
-fn each_cut<R: AllocGlobal + Wait>(rt: &R) -> Option<usize> {
-    let Some(bytes) = segment(rt) else {
+fn each_cut<R: AllocGlobal + Wait>(rt: &R, over: Over) -> Option<usize> {
+    let Some(bytes) = segment(rt, over) else {
         return Some(1000);
     };
     for length in FIRST..=WHOLE {
-        if !cut_shows(rt, bytes.as_slice(), length) {
+        if !cut_shows(rt, over, bytes.as_slice(), length) {
             return Some(length);
         }
     }
@@ -275,5 +276,7 @@ fn each_cut<R: AllocGlobal + Wait>(rt: &R) -> Option<usize> {
 
 #[test]
 fn each_cut_shows_a_whole_group_or_none_of_it(rt: HostRuntime) {
-    went(&rt, each_cut(&rt));
+    for over in BOTH {
+        went(&rt, over, each_cut(&rt, over));
+    }
 }

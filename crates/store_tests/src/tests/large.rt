@@ -2,16 +2,15 @@
 
 ghost use Rattle.std.specs.Prelude.{◌≡◌, ◌<◌, length, map};
 ghost use Rattle.bw_ring.specs.Ends.{ring_of_feed};
-ghost use Rattle.bw_store.specs.Views.{IsSoundBeside};
-ghost use Rattle.store_tests.specs.Views.{AreItsFeeds};
+ghost use Rattle.store_tests.specs.Views.{AreItsFeeds, IsSoundBeside};
 
-use super::boxes::Row;
-use super::cases::{Case, over};
-use super::opening::{Held, config_of};
+use super::boxes::{Row, supplied};
+use super::opening::{Held, config_of, opened, shut};
 use super::putting::{is_put, record};
 use super::steps::Step::{Puts, Reads, Roll, Settle};
 use super::telling::holds;
 use super::walking::wrong_step;
+use crate::subject::Over;
 use bw_ring::Feed;
 use std::sync::Wait;
 
@@ -97,8 +96,8 @@ fn is_cleaned<R: AllocGlobal + Wait>(rt: &R, held: &mut Held) -> bool
     }
 }
 
-/// Whether both go well.
-pub(super) fn goes<R: AllocGlobal + Wait>(rt: &R, held: &mut Held) -> bool
+// Whether both go well.
+fn goes<R: AllocGlobal + Wait>(rt: &R, held: &mut Held) -> bool
     requires sound { IsSoundBeside held.old.store holding }
     requires feeds { AreItsFeeds held.old.feeds.items held.old.store holding }
     ensures { IsSoundBeside held.new.store holding }
@@ -109,8 +108,22 @@ pub(super) fn goes<R: AllocGlobal + Wait>(rt: &R, held: &mut Held) -> bool
     is_cleaned(rt, held)
 }
 
+// Whether they do over a core or a store of its own; none where there was none.
+fn goes_over<R: AllocGlobal + Wait>(rt: &R, over: Over) -> Option<bool> {
+    let mut supply = supplied(rt.alloc(), &LARGE)?;
+    let mut held = opened(rt, over, &config_of(2, 4096, 1), &mut supply)?;
+    let went = goes(rt, &mut held);
+    let _ = shut(rt, held, &mut supply);
+    Some(went)
+}
+
+// One life each: a test has a minute.
 #[test]
-fn a_segment_above_sixteen_mebibytes_is_cleaned(rt: HostRuntime) {
-    let went = over(&rt, &LARGE, &config_of(2, 4096, 1), &Case::Long);
-    holds(&rt, went == Some(true));
+fn a_segment_above_sixteen_mebibytes_is_cleaned_by_a_core(rt: HostRuntime) {
+    holds(&rt, Over::Core, goes_over(&rt, Over::Core) == Some(true));
+}
+
+#[test]
+fn a_segment_above_sixteen_mebibytes_is_cleaned_by_a_store(rt: HostRuntime) {
+    holds(&rt, Over::Store, goes_over(&rt, Over::Store) == Some(true));
 }

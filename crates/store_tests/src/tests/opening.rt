@@ -1,16 +1,16 @@
-//! Stores are opened; and what `open` refuses: the boxes come back.
+//! Cores and stores are opened; and what `open` refuses: the boxes come back.
 
 ghost use Rattle.std.specs.Prelude.{IfSome};
 ghost use Rattle.bw_care.specs.Found.{IsRecovered};
-ghost use Rattle.bw_store.specs.Views.{IsSoundBeside};
-ghost use Rattle.store_tests.specs.Views.{AreItsFeeds};
+ghost use Rattle.store_tests.specs.Views.{AreItsFeeds, IsSoundBeside};
 
 use super::boxes::{Supply, plain, supplied};
 use super::telling::went;
+use crate::subject::{BOTH, Over, Subject};
 use bw_care::Recovered;
 use bw_device::Segment;
 use bw_ring::Feed;
-use bw_store::{Config, Store, StoreFault};
+use bw_store::{Config, StoreFault};
 use std::mem;
 use std::sync::Wait;
 
@@ -25,16 +25,17 @@ pub(super) fn config_of(writers: usize, places: usize, readers: usize) -> Config
     }
 }
 
-/// A store with a feed for each of its writers, and the boxes that there are more.
+/// A core or a store with a feed for each of its writers, and the boxes that there are more.
 pub(super) struct Held {
-    pub(super) store: Store,
+    pub(super) store: Subject,
     pub(super) feeds: Vec<Feed>,
     pub(super) more: Vec<Box<dyn Segment>>,
 }
 
-/// A store over the boxes of a supply, which is then empty.
+/// A core or a store over the boxes of a supply, which is then empty.
 pub(super) fn opened<R: AllocGlobal + Wait>(
     rt: &R,
+    over: Over,
     config: &Config,
     supply: &mut Supply,
 ) -> Option<Held>
@@ -44,15 +45,17 @@ pub(super) fn opened<R: AllocGlobal + Wait>(
     let alloc = rt.alloc();
     let boxes = mem::replace(&mut supply.boxes, Vec::new(alloc));
     let more = mem::replace(&mut supply.more, Vec::new(alloc));
-    match Store::open(rt, alloc, config, boxes) {
+    match Subject::open(rt, alloc, over, config, boxes) {
         Ok((store, feeds)) => Some(Held { store, feeds, more }),
         Err(_fault) => None,
     }
 }
 
-/// A store of two writers that goes on from what was recovered, each with a ring of so many places.
+/// A core or a store of two writers that goes on from what was recovered, each with a ring of so
+/// many places.
 pub(super) fn reopened<R: AllocGlobal + Wait>(
     rt: &R,
+    over: Over,
     recovered: Recovered,
     places: usize,
     supply: &mut Supply,
@@ -62,13 +65,13 @@ pub(super) fn reopened<R: AllocGlobal + Wait>(
     ensures feeds { IfSome result (λ o. AreItsFeeds o.feeds.items o.store holding) }
 {
     let more = mem::replace(&mut supply.more, Vec::new(rt.alloc()));
-    match Store::reopen(rt, rt.alloc(), recovered, 2, places, 1) {
+    match Subject::reopen(rt, rt.alloc(), over, recovered, 2, places) {
         Ok((store, feeds)) => Some(Held { store, feeds, more }),
         Err(_fault) => None,
     }
 }
 
-/// The store is shut; whether all boxes are in the supply again.
+/// It is shut; whether all boxes are in the supply again.
 pub(super) fn shut<R: Wait>(rt: &R, opened: Held, supply: &mut Supply) -> bool
     requires { IsSoundBeside opened.store holding }
 {
@@ -83,12 +86,12 @@ pub(super) fn shut<R: Wait>(rt: &R, opened: Held, supply: &mut Supply) -> bool
     supply.boxes.append(&mut spares).is_ok()
 }
 
-// Whether a store over two boxes is refused, and both come back.
-fn is_refused<R: AllocGlobal + Wait>(rt: &R, config: &Config) -> bool {
+// Whether it is refused over two boxes, and both come back.
+fn is_refused<R: AllocGlobal + Wait>(rt: &R, over: Over, config: &Config) -> bool {
     let Some(supply) = supplied(rt.alloc(), &plain(2, 0)) else {
         return false;
     };
-    match Store::open(rt, rt.alloc(), config, supply.boxes) {
+    match Subject::open(rt, rt.alloc(), over, config, supply.boxes) {
         Ok((store, _feeds)) => {
             let _ = store.shut(rt);
             false
@@ -97,14 +100,15 @@ fn is_refused<R: AllocGlobal + Wait>(rt: &R, config: &Config) -> bool {
     }
 }
 
-// Writers, places, readers, pairs of a page and bytes of a frame; boxes have room for 65,536.
-const BAD: &[(usize, usize, usize, u16, u32)] = &[
+/// Writers, places, readers, pairs of a page and bytes of a frame.
+type Numbers = (usize, usize, usize, u16, u32);
+
+/// Boxes have room for 65,536.
+const BAD: &[Numbers] = &[
     (0, 8, 1, 4, 65_536),
     (65, 8, 1, 4, 65_536),
     (1, 0, 1, 4, 65_536),
     (1, 4097, 1, 4, 65_536),
-    (1, 8, 0, 4, 65_536),
-    (1, 8, 65, 4, 65_536),
     (1, 8, 1, 3, 65_536),
     (1, 8, 1, 33, 65_536),
     (1, 8, 1, 4, 65_535),
@@ -112,9 +116,12 @@ const BAD: &[(usize, usize, usize, u16, u32)] = &[
     (1, 8, 1, 4, 65_537),
 ];
 
+/// A core does not know of readers.
+const BAD_READERS: &[Numbers] = &[(1, 8, 0, 4, 65_536), (1, 8, 65, 4, 65_536)];
+
 // The first of them that is not refused.
-fn first_taken<R: AllocGlobal + Wait>(rt: &R) -> Option<usize> {
-    for (i, (writers, places, readers, m, f)) in BAD.iter().enumerate() {
+fn first_taken<R: AllocGlobal + Wait>(rt: &R, over: Over, rows: &[Numbers]) -> Option<usize> {
+    for (i, (writers, places, readers, m, f)) in rows.iter().enumerate() {
         let config = Config {
             writers: *writers,
             places: *places,
@@ -122,7 +129,7 @@ fn first_taken<R: AllocGlobal + Wait>(rt: &R) -> Option<usize> {
             m: *m,
             f: *f,
         };
-        if !is_refused(rt, &config) {
+        if !is_refused(rt, over, &config) {
             return Some(i);
         }
     }
@@ -131,5 +138,8 @@ fn first_taken<R: AllocGlobal + Wait>(rt: &R) -> Option<usize> {
 
 #[test]
 fn a_bad_config_is_refused(rt: HostRuntime) {
-    went(&rt, first_taken(&rt));
+    for over in BOTH {
+        went(&rt, over, first_taken(&rt, over, BAD));
+    }
+    went(&rt, Over::Store, first_taken(&rt, Over::Store, BAD_READERS));
 }

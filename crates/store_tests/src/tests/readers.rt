@@ -1,12 +1,14 @@
 //! Readers beside a store: what is published is what was flushed.
 
-ghost use Rattle.bw_store.specs.Views.{IsSound, IsSoundBeside};
+ghost use Rattle.bw_store.specs.Views.{IsSound};
 
 use super::boxes::{plain, supplied};
 use super::cases::{Case, over};
-use super::opening::{Held, config_of, opened, shut};
+use super::opening::config_of;
 use super::putting::{is_put, record};
+use super::serving::{Served, ended, store_over};
 use super::telling::holds;
+use crate::subject::Over;
 use bw_codec::Key;
 use bw_ring::Feed;
 use bw_store::{NoReader, ReadFault, Reader, Store};
@@ -62,17 +64,17 @@ fn flushes<R: Wait>(rt: &R, store: &mut Store, told: Option<u64>) -> bool
 // A value is taken: a reader sees the old one still, and this one once it is flushed.
 fn is_seen<R: Wait>(
     rt: &R,
-    opened: &mut Held,
+    served: &mut Served,
     reader: &mut Reader,
     step: (&[u8], &[u8], u64),
 ) -> bool
-    requires { IsSoundBeside opened.old.store holding }
-    ensures { IsSoundBeside opened.new.store holding }
+    requires { IsSound served.old.store holding }
+    ensures { IsSound served.new.store holding }
 {
     let (old, new, frame) = step;
-    let before = is_taken(&mut opened.store, &mut opened.feeds, new) & reads(reader, old);
-    let after = flushes(rt, &mut opened.store, Some(frame)) & reads(reader, new);
-    before & after & flushes(rt, &mut opened.store, None)
+    let before = is_taken(&mut served.store, &mut served.feeds, new) & reads(reader, old);
+    let after = flushes(rt, &mut served.store, Some(frame)) & reads(reader, new);
+    before & after & flushes(rt, &mut served.store, None)
 }
 
 // A reader that learnt the last news reads what they tell.
@@ -98,17 +100,17 @@ fn has_one_place(store: &mut Store) -> bool
 
 // A reader sees what was flushed, and not what was only taken, and what the last news tell; one
 // more has a place beside it.
-fn serves<R: Wait>(rt: &R, opened: &mut Held) -> Option<Reader>
-    requires { IsSoundBeside opened.old.store holding }
-    ensures { IsSoundBeside opened.new.store holding }
+fn serves<R: Wait>(rt: &R, served: &mut Served) -> Option<Reader>
+    requires { IsSound served.old.store holding }
+    ensures { IsSound served.new.store holding }
 {
-    let Ok(mut reader) = opened.store.reader() else {
+    let Ok(mut reader) = served.store.reader() else {
         return None;
     };
-    let first = is_seen(rt, opened, &mut reader, (b"", b"1", 1));
-    let second = is_seen(rt, opened, &mut reader, (b"1", b"2", 2));
-    let news = reads_news(rt, &mut opened.store);
-    let places = has_one_place(&mut opened.store);
+    let first = is_seen(rt, served, &mut reader, (b"", b"1", 1));
+    let second = is_seen(rt, served, &mut reader, (b"1", b"2", 2));
+    let news = reads_news(rt, &mut served.store);
+    let places = has_one_place(&mut served.store);
     if first & second & news & places {
         Some(reader)
     } else {
@@ -129,20 +131,20 @@ fn is_refused(reader: Option<Reader>) -> bool {
 
 // Whether the readers of a store see what they should, in a life of it.
 fn is_served<R: AllocGlobal + Wait>(rt: &R) -> bool {
-    let Some(mut supply) = supplied(rt.alloc(), &plain(8, 0)) else {
+    let Some(supply) = supplied(rt.alloc(), &plain(8, 0)) else {
         return false;
     };
-    let Some(mut opened) = opened(rt, &config_of(1, 8, 3), &mut supply) else {
+    let Some(mut served) = store_over(rt, supply, &config_of(1, 8, 3)) else {
         return false;
     };
-    let reader = serves(rt, &mut opened);
-    let _ = shut(rt, opened, &mut supply);
+    let reader = serves(rt, &mut served);
+    ended(rt, served);
     is_refused(reader)
 }
 
 #[test]
 fn a_reader_sees_what_was_flushed(rt: HostRuntime) {
-    holds(&rt, is_served(&rt));
+    holds(&rt, Over::Store, is_served(&rt));
 }
 
 // How many reads were refused or went back.
@@ -154,36 +156,36 @@ fn read_all(mut reader: Reader) -> u32 {
 }
 
 // Whether all the values were taken and flushed.
-fn flush_all<R: Wait>(rt: &R, opened: &mut Held) -> bool
-    requires { IsSoundBeside opened.old.store holding }
-    ensures { IsSoundBeside opened.new.store holding }
+fn flush_all<R: Wait>(rt: &R, served: &mut Served) -> bool
+    requires { IsSound served.old.store holding }
+    ensures { IsSound served.new.store holding }
 {
     let mut went = true;
     for value in 0..VALUES {
-        let taken = is_taken(&mut opened.store, &mut opened.feeds, &[value]);
-        let flushed = flushes(rt, &mut opened.store, Some(u64::from(value) + 1));
+        let taken = is_taken(&mut served.store, &mut served.feeds, &[value]);
+        let flushed = flushes(rt, &mut served.store, Some(u64::from(value) + 1));
         went &= taken & flushed;
     }
     went
 }
 
 /// Whether all the values were taken and flushed, and no read beside it was wrong.
-pub(super) fn race<R: Threads + Wait>(rt: &R, opened: &mut Held) -> bool
-    requires { IsSoundBeside opened.old.store holding }
-    ensures { IsSoundBeside opened.new.store holding }
+pub(super) fn race<R: Threads + Wait>(rt: &R, served: &mut Served) -> bool
+    requires { IsSound served.old.store holding }
+    ensures { IsSound served.new.store holding }
 {
-    let Ok(reader) = opened.store.reader() else {
+    let Ok(reader) = served.store.reader() else {
         return false;
     };
     let Ok(child) = thread::spawn(rt, move || read_all(reader)) else {
         return false;
     };
-    let flushed = flush_all(rt, opened);
+    let flushed = flush_all(rt, served);
     child.join(rt) == 0 && flushed
 }
 
 #[test]
 fn no_value_goes_back_beside_the_flusher(rt: HostRuntime) {
-    let went = over(&rt, &plain(8, 0), &config_of(1, 8, 3), &Case::Race);
-    holds(&rt, went == Some(true));
+    let went = over(&rt, 8, &config_of(1, 8, 3), &Case::Race);
+    holds(&rt, Over::Store, went == Some(true));
 }

@@ -1,11 +1,12 @@
 //! All pages of two writers' puts, read back.
 
 ghost use Rattle.std.specs.Prelude.{◌≡◌};
-ghost use Rattle.bw_store.specs.Views.{kept_by, IsSound};
+ghost use Rattle.store_tests.specs.Views.{rings_by, IsSound};
 
 use super::putting::numbered;
+use crate::subject::Subject;
 use bw_codec::{Leaf, Record};
-use bw_store::{Store, StoreFault};
+use bw_store::StoreFault;
 
 // How many pairs a leaf has, if each is the put of a number.
 fn count_in(leaf: &Leaf) -> Option<u32> {
@@ -24,10 +25,10 @@ fn count_in(leaf: &Leaf) -> Option<u32> {
 }
 
 // How many pairs a page has; none where there is no such page.
-fn pairs_of(store: &mut Store, page: u32) -> Result<Option<u32>, StoreFault>
+fn pairs_of(store: &mut Subject, page: u32) -> Result<Option<u32>, StoreFault>
     requires { IsSound store.old holding }
     ensures sound { IsSound store.new holding }
-    ensures rings { (kept_by store.new holding).rings ≡ (kept_by store.old holding).rings }
+    ensures rings { rings_by store.new holding ≡ rings_by store.old holding }
 {
     match store.page(page) {
         Ok(leaf) => Ok(count_in(&leaf)),
@@ -37,10 +38,10 @@ fn pairs_of(store: &mut Store, page: u32) -> Result<Option<u32>, StoreFault>
 }
 
 // How many pairs all pages have.
-fn pairs(store: &mut Store) -> Result<u32, StoreFault>
+fn pairs(store: &mut Subject) -> Result<u32, StoreFault>
     requires { IsSound store.old holding }
     ensures sound { IsSound store.new holding }
-    ensures rings { (kept_by store.new holding).rings ≡ (kept_by store.old holding).rings }
+    ensures rings { rings_by store.new holding ≡ rings_by store.old holding }
 {
     let mut count: u32 = 0;
     'pages: for page in 1..100_000 {
@@ -53,10 +54,10 @@ fn pairs(store: &mut Store) -> Result<u32, StoreFault>
 }
 
 // Whether the key of a put has its value.
-fn is_read(store: &mut Store, writer: u8, number: u32) -> bool
+fn is_read(store: &mut Subject, writer: u8, number: u32) -> bool
     requires { IsSound store.old holding }
     ensures sound { IsSound store.new holding }
-    ensures rings { (kept_by store.new holding).rings ≡ (kept_by store.old holding).rings }
+    ensures rings { rings_by store.new holding ≡ rings_by store.old holding }
 {
     let Record::Put(key, value) = numbered(writer, number) else {
         return false;
@@ -69,10 +70,10 @@ fn is_read(store: &mut Store, writer: u8, number: u32) -> bool
 
 /// Whether all pages together have the first so many puts of writers 0 and 1 and no more, and so
 /// has each key.
-pub(super) fn reads(store: &mut Store, many: u32) -> bool
+pub(super) fn reads(store: &mut Subject, many: u32) -> bool
     requires { IsSound store.old holding }
     ensures sound { IsSound store.new holding }
-    ensures rings { (kept_by store.new holding).rings ≡ (kept_by store.old holding).rings }
+    ensures rings { rings_by store.new holding ≡ rings_by store.old holding }
 {
     'numbers: for number in 0..many {
         let first = is_read(store, b'a', number);

@@ -7,6 +7,7 @@ ghost use Rattle.bw_store.specs.Views.{kept_by, IsSound};
 use super::boxes::{Supply, plain, supplied};
 use super::telling::holds;
 use super::threads::OfOneRing;
+use crate::subject::Over;
 use bw_codec::{Key, Record, Value};
 use bw_device::Segment;
 use bw_ring::Feed;
@@ -74,6 +75,6 @@ fn the_example_of_readme_reads_its_value(rt: HostRuntime) -> Result<(), Fail> {
         Some(value) => value.as_slice() == b"v".as_slice(),
         None => false,
     };
-    holds(&rt, read);
+    holds(&rt, Over::Store, read);
     Ok(())
 }

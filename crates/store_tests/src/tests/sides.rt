@@ -1,9 +1,9 @@
 //! One of two stores side by side, with its reader.
 
-ghost use Rattle.bw_store.specs.Views.{IsSoundBeside};
+ghost use Rattle.bw_store.specs.Views.{IsSound};
 
-use super::opening::Held;
 use super::readers::is_taken;
+use super::serving::Served;
 use bw_store::Reader;
 use std::sync::Wait;
 
@@ -27,20 +27,20 @@ use Step::{Flushes, Takes};
 
 /// A store and its reader.
 pub(super) struct Sided {
-    pub(super) opened: Held,
+    pub(super) served: Served,
     pub(super) reader: Reader,
 }
 
 /// Whether a store takes and flushes as told.
 pub(super) fn goes<R: Wait>(rt: &R, sided: &mut Sided, side: Side, step: &Step) -> bool
-    requires { IsSoundBeside sided.old.opened.store holding }
-    ensures { IsSoundBeside sided.new.opened.store holding }
+    requires { IsSound sided.old.served.store holding }
+    ensures { IsSound sided.new.served.store holding }
 {
     match step {
         Takes(of, value) if *of == side => {
-            is_taken(&mut sided.opened.store, &mut sided.opened.feeds, *value)
+            is_taken(&mut sided.served.store, &mut sided.served.feeds, *value)
         }
-        Flushes(of) if *of == side => sided.opened.store.flush(rt).is_ok(),
+        Flushes(of) if *of == side => sided.served.store.flush(rt).is_ok(),
         _ => true,
     }
 }

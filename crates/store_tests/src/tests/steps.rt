@@ -2,17 +2,16 @@
 
 ghost use Rattle.std.specs.Prelude.{◌≡◌, ◌<◌, length, map};
 ghost use Rattle.bw_ring.specs.Ends.{ring_of_feed};
-ghost use Rattle.bw_store.specs.Following.{Follows};
-ghost use Rattle.bw_store.specs.Views.{kept_by, kept_beside, IsSound, IsSoundBeside};
-ghost use Rattle.store_tests.specs.Views.{AreItsFeeds};
+ghost use Rattle.store_tests.specs.Views.{rings_beside, rings_by, AreItsFeeds, IsSound, IsSoundBeside};
 
 use super::asking::{are_bytes, has, is_history, is_page, is_unread};
 use super::opening::Held;
 use super::putting::{Op, are_each_put, are_put, are_same, is_grouped, is_put, record};
 use super::reading::reads;
+use crate::subject::Subject;
 use bw_device::Segment;
 use bw_ring::Feed;
-use bw_store::{Cleaned, Counters, Store, StoreFault, TurnFault, Upgraded};
+use bw_store::{Cleaned, Counters, StoreFault, TurnFault, Upgraded};
 use std::alloc::Global;
 use std::sync::Wait;
 
@@ -85,8 +84,8 @@ pub(super) enum Step {
     Receipt(u16, u64),
     /// How many pairs there are.
     Count(u64),
-    /// What was counted.
-    Counts(Counters),
+    /// What was counted, and how many publications there were: a core has none.
+    Counts(Counters, u64),
     /// How many bytes of a live segment are still needed, from 0.
     Needed(u32, Option<u64>),
     /// From how many frames a page would be read.
@@ -112,21 +111,21 @@ fn are_cuts(cuts: &[u64], told: &[u64]) -> bool {
 }
 
 /// Whether the store has a segment more.
-pub(super) fn is_added(store: &mut Store, more: &mut Vec<Box<dyn Segment>>) -> bool
+pub(super) fn is_added(store: &mut Subject, more: &mut Vec<Box<dyn Segment>>) -> bool
     requires { IsSoundBeside store.old holding }
     ensures sound { IsSoundBeside store.new holding }
-    ensures follows { Follows (kept_beside store.old holding) (kept_beside store.new holding) }
+    ensures rings { rings_beside store.new holding ≡ rings_beside store.old holding }
 {
     match more.pop() {
-        Some(one) => store.add_segment(one).is_ok(),
+        Some(one) => store.is_added(one),
         None => false,
     }
 }
 
-fn takes(store: &mut Store, limit: u32, told: Result<u64, TurnFault>) -> bool
+fn takes(store: &mut Subject, limit: u32, told: Result<u64, TurnFault>) -> bool
     requires { IsSound store.old holding }
     ensures sound { IsSound store.new holding }
-    ensures follows { Follows (kept_by store.old holding) (kept_by store.new holding) }
+    ensures rings { rings_by store.new holding ≡ rings_by store.old holding }
 {
     match store.turn(limit) {
         Ok(taken) => told == Ok(taken),
@@ -175,8 +174,16 @@ fn puts(feeds: &mut Vec<Feed>, step: &Step) -> bool
     }
 }
 
+// Whether a store had so many publications; of a core there is nothing to count.
+fn are_shown(store: &Subject, told: u64) -> bool {
+    match store.publications() {
+        Some(shown) => shown == told,
+        None => true,
+    }
+}
+
 // Whether the live segments, from the first on, have these numbers, leases and lengths.
-fn lives(store: &Store, told: &[(u64, u32, u64)]) -> bool
+fn lives(store: &Subject, told: &[(u64, u32, u64)]) -> bool
     requires { IsSound store.now holding }
 {
     let mut at: u32 = 0;
@@ -190,10 +197,10 @@ fn lives(store: &Store, told: &[(u64, u32, u64)]) -> bool
 }
 
 // Whether the pages from page 1 on are so.
-fn are_pages(store: &mut Store, texts: &[&'static str]) -> bool
+fn are_pages(store: &mut Subject, texts: &[&'static str]) -> bool
     requires { IsSound store.old holding }
     ensures sound { IsSound store.new holding }
-    ensures rings { (kept_by store.new holding).rings ≡ (kept_by store.old holding).rings }
+    ensures rings { rings_by store.new holding ≡ rings_by store.old holding }
 {
     let mut page: u32 = 0;
     'pages: for text in texts {
@@ -206,10 +213,10 @@ fn are_pages(store: &mut Store, texts: &[&'static str]) -> bool
 }
 
 // A step that only asks.
-fn answers(alloc: Global, store: &mut Store, step: &Step) -> bool
+fn answers(alloc: Global, store: &mut Subject, step: &Step) -> bool
     requires { IsSound store.old holding }
     ensures sound { IsSound store.new holding }
-    ensures rings { (kept_by store.new holding).rings ≡ (kept_by store.old holding).rings }
+    ensures rings { rings_by store.new holding ≡ rings_by store.old holding }
 {
     match step {
         Page(page, text) => is_page(store, *page, *text),
@@ -229,7 +236,7 @@ fn answers(alloc: Global, store: &mut Store, step: &Step) -> bool
         Forget(count, all) => (store.forget() == *count) & (store.forgotten() == *all),
         Receipt(writer, told) => store.durable_of(*writer) == *told,
         Count(told) => store.count() == Ok(*told),
-        Counts(told) => store.counters() == *told,
+        Counts(told, shown) => (store.counters() == *told) & are_shown(store, *shown),
         Needed(at, told) => store.needed(*at) == *told,
         Walk(page, told) => store.walk_of(*page) == *told,
         Pays(told) => store.pays() == *told,
@@ -238,10 +245,10 @@ fn answers(alloc: Global, store: &mut Store, step: &Step) -> bool
 }
 
 // A step that changes the store alone.
-fn changes<R: Wait>(rt: &R, store: &mut Store, step: &Step) -> bool
+fn changes<R: Wait>(rt: &R, store: &mut Subject, step: &Step) -> bool
     requires { IsSound store.old holding }
     ensures sound { IsSound store.new holding }
-    ensures rings { (kept_by store.new holding).rings ≡ (kept_by store.old holding).rings }
+    ensures rings { rings_by store.new holding ≡ rings_by store.old holding }
 {
     match *step {
         Turn(limit, taken) => takes(store, limit, Ok(taken)),
@@ -301,10 +308,10 @@ fn is_appended<R: Wait>(rt: &R, opened: &mut Held, key: &[u8], value: &[u8], tol
 }
 
 // Lets no further frame into the current segment, if told.
-fn roll_if(store: &mut Store, is_told: bool)
+fn roll_if(store: &mut Subject, is_told: bool)
     requires { IsSound store.old holding }
     ensures sound { IsSound store.new holding }
-    ensures rings { (kept_by store.new holding).rings ≡ (kept_by store.old holding).rings }
+    ensures rings { rings_by store.new holding ≡ rings_by store.old holding }
 {
     if is_told {
         store.roll();

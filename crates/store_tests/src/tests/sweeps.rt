@@ -1,8 +1,7 @@
 //! Of two scripts each append fails in turn, and keeps each number of bytes that it may; and each read
 //! fails in turn.
 
-ghost use Rattle.bw_store.specs.Views.{IsSoundBeside};
-ghost use Rattle.store_tests.specs.Views.{AreItsFeeds};
+ghost use Rattle.store_tests.specs.Views.{AreItsFeeds, IsSoundBeside};
 
 use super::boxes::{Supply, dying, fused, supplied};
 use super::cutting::THREE;
@@ -12,6 +11,7 @@ use super::steps::Step::{Clean, Evict, Frame, Frames, Get, Page, Put, Turn};
 use super::steps::{Step, goes};
 use super::telling::{all_went, holds};
 use super::walking::{lives_on, wrong_step};
+use crate::subject::{BOTH, Over};
 use bw_care::{RecoverCause, recover};
 use std::sync::Wait;
 
@@ -99,8 +99,8 @@ fn is_wrong<R: AllocGlobal + Wait>(rt: &R, held: &mut Held, course: &Course) -> 
 }
 
 // The same over a store of these boxes, which then come out.
-fn stops<R: AllocGlobal + Wait>(rt: &R, supply: &mut Supply, course: &Course) -> bool {
-    let Some(mut held) = opened(rt, &config_of(2, 8, 1), supply) else {
+fn stops<R: AllocGlobal + Wait>(rt: &R, over: Over, supply: &mut Supply, course: &Course) -> bool {
+    let Some(mut held) = opened(rt, over, &config_of(2, 8, 1), supply) else {
         return false;
     };
     let wrong = is_wrong(rt, &mut held, course);
@@ -119,13 +119,19 @@ fn finds_nothing<R: AllocGlobal>(rt: &R, supply: Supply) -> bool {
 
 // Whether a store whose append failed, with so many bytes kept, is found again with the frames that
 // are whole, and goes on.
-fn is_found<R: AllocGlobal + Wait>(rt: &R, course: &Course, append: &Append, keep: u64) -> bool {
+fn is_found<R: AllocGlobal + Wait>(
+    rt: &R,
+    over: Over,
+    course: &Course,
+    append: &Append,
+    keep: u64,
+) -> bool {
     let Append(lease, calls, length, torn, whole) = append;
     let row = fused(*lease, (*calls, keep), 5u32.saturating_sub(*lease));
     let Some(mut supply) = supplied(rt.alloc(), &row) else {
         return false;
     };
-    if !stops(rt, &mut supply, course) {
+    if !stops(rt, over, &mut supply, course) {
         return false;
     }
     let frames = if keep == *length { *whole } else { *torn };
@@ -133,18 +139,24 @@ fn is_found<R: AllocGlobal + Wait>(rt: &R, course: &Course, append: &Append, kee
         return finds_nothing(rt, supply);
     }
     match course.shown.get(frames - 1) {
-        Some(steps) => lives_on(rt, &mut supply, None, *steps).is_none(),
+        Some(steps) => lives_on(rt, over, &mut supply, None, *steps).is_none(),
         None => false,
     }
 }
 
 // Whether a box that failed for good in this append fails in recovery too, and all boxes come back.
-fn is_dead<R: AllocGlobal + Wait>(rt: &R, course: &Course, append: &Append, keep: u64) -> bool {
+fn is_dead<R: AllocGlobal + Wait>(
+    rt: &R,
+    over: Over,
+    course: &Course,
+    append: &Append,
+    keep: u64,
+) -> bool {
     let Append(lease, calls, _, torn, _) = append;
     let Some(mut supply) = dying(rt.alloc(), *lease, (*calls, keep)) else {
         return false;
     };
-    if !stops(rt, &mut supply, course) {
+    if !stops(rt, over, &mut supply, course) {
         return false;
     }
     let Supply { boxes, more: _ } = supply;
@@ -164,9 +176,9 @@ fn is_dead<R: AllocGlobal + Wait>(rt: &R, course: &Course, append: &Append, keep
 }
 
 // Whether an append goes as told with each number of bytes kept.
-fn goes_well<R: AllocGlobal + Wait>(rt: &R, course: &Course, append: &Append) -> bool {
+fn goes_well<R: AllocGlobal + Wait>(rt: &R, over: Over, course: &Course, append: &Append) -> bool {
     for keep in 0..=append.2 {
-        if !is_found(rt, course, append, keep) || !is_dead(rt, course, append, keep) {
+        if !is_found(rt, over, course, append, keep) || !is_dead(rt, over, course, append, keep) {
             return false;
         }
     }
@@ -174,13 +186,18 @@ fn goes_well<R: AllocGlobal + Wait>(rt: &R, course: &Course, append: &Append) ->
 }
 
 // The first of a course's appends that does not.
-fn wrong_append<R: AllocGlobal + Wait>(rt: &R, course: &Course) -> Option<usize> {
+fn wrong_append<R: AllocGlobal + Wait>(rt: &R, over: Over, course: &Course) -> Option<usize> {
     let mut count: usize = 0;
     for Appends(lease, first, before, each) in course.appends {
         let mut calls = *first;
         let mut torn = *before;
         for (length, whole) in *each {
-            if !goes_well(rt, course, &Append(*lease, calls, *length, torn, *whole)) {
+            if !goes_well(
+                rt,
+                over,
+                course,
+                &Append(*lease, calls, *length, torn, *whole),
+            ) {
                 return Some(count);
             }
             (calls, torn) = (calls.saturating_add(1), *whole);
@@ -191,9 +208,9 @@ fn wrong_append<R: AllocGlobal + Wait>(rt: &R, course: &Course) -> Option<usize>
 }
 
 // The first course with one, and which.
-fn wrong_course<R: AllocGlobal + Wait>(rt: &R) -> Option<(usize, usize)> {
+fn wrong_course<R: AllocGlobal + Wait>(rt: &R, over: Over) -> Option<(usize, usize)> {
     for (i, course) in COURSES.iter().enumerate() {
-        if let Some(append) = wrong_append(rt, course) {
+        if let Some(append) = wrong_append(rt, over, course) {
             return Some((i, append));
         }
     }
@@ -202,7 +219,9 @@ fn wrong_course<R: AllocGlobal + Wait>(rt: &R) -> Option<(usize, usize)> {
 
 #[test]
 fn each_append_fails_in_turn(rt: HostRuntime) {
-    all_went(&rt, wrong_course(&rt));
+    for over in BOTH {
+        all_went(&rt, over, wrong_course(&rt, over));
+    }
 }
 
 /// Behind five frames pages leave memory, are read, and come back.
@@ -241,12 +260,13 @@ fn retried<R: AllocGlobal + Wait>(rt: &R, held: &mut Held, steps: &[Step]) -> Op
 // many calls; none where one went otherwise twice, or one of the first steps at all.
 fn twice<R: AllocGlobal + Wait>(
     rt: &R,
+    over: Over,
     calls: u64,
     steps: &[Step],
     last: &[Step],
 ) -> Option<usize> {
     let mut supply = supplied(rt.alloc(), &fused(0, (calls, 0), 5))?;
-    let mut held = opened(rt, &config_of(2, 8, 1), &mut supply)?;
+    let mut held = opened(rt, over, &config_of(2, 8, 1), &mut supply)?;
     let went = wrong_step(rt, &mut held, steps).is_none();
     let again = retried(rt, &mut held, last);
     let _ = shut(rt, held, &mut supply);
@@ -257,13 +277,14 @@ fn twice<R: AllocGlobal + Wait>(
 // of them comes after so many calls of the first box.
 fn fail_in_turn<R: AllocGlobal + Wait>(
     rt: &R,
+    over: Over,
     calls: u64,
     least: u64,
     steps: &[Step],
     last: &[Step],
 ) -> bool {
     for reads in 0..64u64 {
-        match twice(rt, calls.saturating_add(reads), steps, last) {
+        match twice(rt, over, calls.saturating_add(reads), steps, last) {
             Some(1) => {}
             Some(0) => return reads >= least,
             _ => return false,
@@ -274,6 +295,8 @@ fn fail_in_turn<R: AllocGlobal + Wait>(
 
 #[test]
 fn each_read_fails_in_turn(rt: HostRuntime) {
-    holds(&rt, fail_in_turn(&rt, 6, 4, FIVE_FRAMES, AWAY));
-    holds(&rt, fail_in_turn(&rt, 2, 1, THREE, CLEANED));
+    for over in BOTH {
+        holds(&rt, over, fail_in_turn(&rt, over, 6, 4, FIVE_FRAMES, AWAY));
+        holds(&rt, over, fail_in_turn(&rt, over, 2, 1, THREE, CLEANED));
+    }
 }

@@ -1,18 +1,20 @@
 //! How a walk went is told.
 
+use crate::subject::Over;
 use std::process::Abort;
 
-/// All tables went as told; a failure tells the first that did not, and its step.
-pub(super) fn all_went(rt: &impl Abort, wrong: Option<(usize, usize)>) {
-    assert_eq!(rt; wrong, None);
+/// All tables went as told; a failure tells over which of the two one did not, the first that did
+/// not, and its step.
+pub(super) fn all_went(rt: &impl Abort, over: Over, wrong: Option<(usize, usize)>) {
+    assert_eq!(rt; (over, wrong), (over, None));
 }
 
-/// All steps went as told; a failure tells the first that did not.
-pub(super) fn went(rt: &impl Abort, wrong: Option<usize>) {
-    assert_eq!(rt; wrong, None);
+/// All steps went as told; a failure tells over which of the two one did not, and the first.
+pub(super) fn went(rt: &impl Abort, over: Over, wrong: Option<usize>) {
+    assert_eq!(rt; (over, wrong), (over, None));
 }
 
-/// This holds.
-pub(super) fn holds(rt: &impl Abort, said: bool) {
-    assert!(rt; said);
+/// This holds; a failure tells over which of the two it does not.
+pub(super) fn holds(rt: &impl Abort, over: Over, said: bool) {
+    assert_eq!(rt; (over, said), (over, true));
 }

@@ -2,15 +2,15 @@
 
 ghost use Rattle.std.specs.Prelude.{◌≡◌, ◌++◌, ◌∷◌, [], map, IfSome};
 ghost use Rattle.bw_ring.specs.Ends.{ring_of_feed};
-ghost use Rattle.bw_store.specs.Views.{kept_by, IsSound, IsSoundBeside};
+ghost use Rattle.bw_store.specs.Views.{kept_by, IsSound};
 ghost use Rattle.bw_store.specs.Following.{Follows};
-ghost use Rattle.store_tests.specs.Views.{AreItsFeeds};
 
-use super::boxes::plain;
 use super::cases::{Case, over};
-use super::opening::{Held, config_of};
+use super::opening::config_of;
 use super::putting::numbered;
+use super::serving::Served;
 use super::telling::holds;
+use crate::subject::Over;
 use bw_ring::Feed;
 use bw_store::{PackedEntry, Store};
 use std::snapshot::Snapshot;
@@ -175,29 +175,30 @@ fn are_scripts(entries: &[PackedEntry]) -> bool {
 }
 
 /// Whether all that four writers put meanwhile is settled, each writer's records in order.
-pub(super) fn are_settled<R: Threads + Wait>(rt: &R, opened: &mut Held) -> bool
-    requires sound { IsSoundBeside opened.old.store holding }
-    requires feeds { AreItsFeeds opened.old.feeds.items opened.old.store holding }
-    ensures { IsSoundBeside opened.new.store holding }
+pub(super) fn are_settled<R: Threads + Wait>(rt: &R, served: &mut Served) -> bool
+    requires sound { IsSound served.old.store holding }
+    requires feeds { map ring_of_feed served.old.feeds.items
+        ≡ (kept_by served.old.store holding).rings }
+    ensures { IsSound served.new.store holding }
 {
-    let Some(later) = two_leave(rt, &mut opened.feeds, (b'd', b'c')) else {
+    let Some(later) = two_leave(rt, &mut served.feeds, (b'd', b'c')) else {
         return false;
     };
-    let Some(earlier) = two_leave(rt, &mut opened.feeds, (b'b', b'a')) else {
+    let Some(earlier) = two_leave(rt, &mut served.feeds, (b'b', b'a')) else {
         return false;
     };
-    take_meanwhile(&mut opened.store);
-    let Some(()) = two_return(rt, &mut opened.feeds, earlier) else {
+    take_meanwhile(&mut served.store);
+    let Some(()) = two_return(rt, &mut served.feeds, earlier) else {
         return false;
     };
-    let Some(()) = two_return(rt, &mut opened.feeds, later) else {
+    let Some(()) = two_return(rt, &mut served.feeds, later) else {
         return false;
     };
-    opened.store.settle(rt, &mut opened.feeds) == Ok(4000) && are_scripts(opened.store.history())
+    served.store.settle(rt, &mut served.feeds) == Ok(4000) && are_scripts(served.store.history())
 }
 
 #[test]
 fn four_writers_in_threads_are_settled(rt: HostRuntime) {
-    let went = over(&rt, &plain(40, 0), &config_of(4, 256, 1), &Case::Writers);
-    holds(&rt, went == Some(true));
+    let went = over(&rt, 40, &config_of(4, 256, 1), &Case::Writers);
+    holds(&rt, Over::Store, went == Some(true));
 }

@@ -1,15 +1,17 @@
 //! Readers of two stores side by side: each sees its own store's values.
 
 ghost use Rattle.std.specs.Prelude.{IfSome};
-ghost use Rattle.bw_store.specs.Views.{IsSoundBeside};
+ghost use Rattle.bw_store.specs.Views.{IsSound, IsSoundBeside};
 
 use super::boxes::{Supply, plain, supplied};
-use super::opening::{config_of, opened, shut};
+use super::opening::config_of;
 use super::readers::reads;
+use super::serving::{ended, store_over};
 use super::sides::Side::{Left, Right};
 use super::sides::Step::{Flushes, Rest, Takes};
 use super::sides::{Sided, Step, goes};
 use super::telling::went;
+use crate::subject::Over;
 use std::sync::Wait;
 
 /// A step, and the values of `k` that the readers of the left and the right store see behind it; of
@@ -32,10 +34,10 @@ const STEPS: &[Seen] = &[
 
 // Whether a step goes as told at both stores, and both readers see as told behind it.
 fn go_both<R: Wait>(rt: &R, left: &mut Sided, right: &mut Sided, seen: &Seen) -> bool
-    requires left { IsSoundBeside left.old.opened.store holding }
-    requires right { IsSoundBeside right.old.opened.store holding }
-    ensures left { IsSoundBeside left.new.opened.store holding }
-    ensures right { IsSoundBeside right.new.opened.store holding }
+    requires left { IsSound left.old.served.store holding }
+    requires right { IsSound right.old.served.store holding }
+    ensures left { IsSound left.new.served.store holding }
+    ensures right { IsSound right.new.served.store holding }
 {
     let (step, one, other) = seen;
     let is_left = goes(rt, left, Left, step);
@@ -46,10 +48,10 @@ fn go_both<R: Wait>(rt: &R, left: &mut Sided, right: &mut Sided, seen: &Seen) ->
 
 // The first step that did not go as told.
 fn wrong_step<R: Wait>(rt: &R, left: &mut Sided, right: &mut Sided) -> Option<usize>
-    requires left { IsSoundBeside left.old.opened.store holding }
-    requires right { IsSoundBeside right.old.opened.store holding }
-    ensures left { IsSoundBeside left.new.opened.store holding }
-    ensures right { IsSoundBeside right.new.opened.store holding }
+    requires left { IsSound left.old.served.store holding }
+    requires right { IsSound right.old.served.store holding }
+    ensures left { IsSound left.new.served.store holding }
+    ensures right { IsSound right.new.served.store holding }
 {
     'steps: for (at, seen) in STEPS.iter().enumerate() {
         if !go_both(rt, left, right, seen) {
@@ -60,59 +62,55 @@ fn wrong_step<R: Wait>(rt: &R, left: &mut Sided, right: &mut Sided) -> Option<us
 }
 
 // A store over these boxes, and its reader.
-fn with_reader<R: AllocGlobal + Wait>(rt: &R, supply: &mut Supply) -> Option<Sided>
-    ensures { IfSome result (λ s. IsSoundBeside s.opened.store holding) }
+fn with_reader<R: AllocGlobal + Wait>(rt: &R, supply: Supply) -> Option<Sided>
+    ensures { IfSome result (λ s. IsSoundBeside s.served.store holding) }
 {
-    let mut opened = opened(rt, &config_of(1, 8, 1), supply)?;
-    match opened.store.reader() {
-        Ok(reader) => Some(Sided { opened, reader }),
+    let mut served = store_over(rt, supply, &config_of(1, 8, 1))?;
+    match served.store.reader() {
+        Ok(reader) => Some(Sided { served, reader }),
         Err(_) => {
-            let _ = shut(rt, opened, supply);
+            ended(rt, served);
             None
         }
     }
 }
 
 // The same with a left store over these boxes, which is then shut.
-fn go_against<R: AllocGlobal + Wait>(
-    rt: &R,
-    right: &mut Sided,
-    supply: &mut Supply,
-) -> Option<usize>
-    requires { IsSoundBeside right.old.opened.store holding }
-    ensures { IsSoundBeside right.new.opened.store holding }
+fn go_against<R: AllocGlobal + Wait>(rt: &R, right: &mut Sided, supply: Supply) -> Option<usize>
+    requires { IsSoundBeside right.old.served.store holding }
+    ensures { IsSoundBeside right.new.served.store holding }
 {
     let Some(mut left) = with_reader(rt, supply) else {
         return Some(0);
     };
     let wrong = wrong_step(rt, &mut left, right);
     let Sided {
-        opened,
+        served,
         reader: _reader,
     } = left;
-    let _ = shut(rt, opened, supply);
+    ended(rt, served);
     wrong
 }
 
 // The same where the right store's reader then sees on; the first step where it does not.
 fn walked<R: AllocGlobal + Wait>(rt: &R) -> Option<usize> {
-    let Some(mut supply) = supplied(rt.alloc(), &plain(4, 0)) else {
+    let Some(supply) = supplied(rt.alloc(), &plain(4, 0)) else {
         return Some(0);
     };
-    let Some(mut more) = supplied(rt.alloc(), &plain(4, 0)) else {
+    let Some(more) = supplied(rt.alloc(), &plain(4, 0)) else {
         return Some(0);
     };
-    let Some(mut right) = with_reader(rt, &mut supply) else {
+    let Some(mut right) = with_reader(rt, supply) else {
         return Some(0);
     };
-    let wrong = go_against(rt, &mut right, &mut more);
-    let Sided { opened, mut reader } = right;
+    let wrong = go_against(rt, &mut right, more);
+    let Sided { served, mut reader } = right;
     let sees = reads(&mut reader, b"3");
-    let _ = shut(rt, opened, &mut supply);
+    ended(rt, served);
     if sees { wrong } else { Some(0) }
 }
 
 #[test]
 fn each_reader_sees_its_own_store(rt: HostRuntime) {
-    went(&rt, walked(&rt));
+    went(&rt, Over::Store, walked(&rt));
 }

@@ -8,6 +8,7 @@ use super::steps::Step::{
 };
 use super::telling::went;
 use super::walking::{Stand, Tables, all_go, lives_on};
+use crate::subject::{BOTH, Over};
 use bw_device::Segment;
 use bw_store::{Counters, StoreFault};
 use std::alloc::Global;
@@ -52,18 +53,20 @@ const COUNTED: &[Step] = &[
     Taken(b"i", b"1"),
     Upgrade(2, 1, 1),
     Live(0, 4, 2, 112),
-    Counts(Counters {
-        records: 1,
-        frames: 2,
-        bytes: 112,
-        cleaner_frames: 1,
-        cleaner_bytes: 43,
-        splits: 0,
-        evictions: 0,
-        reads: 0,
-        publications: 1,
-        cleanings: 2,
-    }),
+    Counts(
+        Counters {
+            records: 1,
+            frames: 2,
+            bytes: 112,
+            cleaner_frames: 1,
+            cleaner_bytes: 43,
+            splits: 0,
+            evictions: 0,
+            reads: 0,
+            cleanings: 2,
+        },
+        1,
+    ),
     Page(1, "1 : i=1 j=2 k=3"),
 ];
 
@@ -265,16 +268,18 @@ const TWICE: &[Step] = &[
 const AGAIN: &[Step] = &[Stands(2, 0), NotUpgraded(StoreFault::NothingOld), Settle(0)];
 
 /// The first step that did not go as told, in the first of two lives where one did not.
-fn half_by_half<R: AllocGlobal + Wait>(rt: &R) -> Option<usize> {
+fn half_by_half<R: AllocGlobal + Wait>(rt: &R, over: Over) -> Option<usize> {
     let Some(mut supply) = supply(rt.alloc()) else {
         return Some(100);
     };
-    let first = lives_on(rt, &mut supply, Some(8), TWICE);
-    let second = lives_on(rt, &mut supply, None, AGAIN);
+    let first = lives_on(rt, over, &mut supply, Some(8), TWICE);
+    let second = lives_on(rt, over, &mut supply, None, AGAIN);
     first.or(second)
 }
 
 #[test]
 fn an_upgrade_goes_on_once_there_is_a_spare(rt: HostRuntime) {
-    went(&rt, half_by_half(&rt));
+    for over in BOTH {
+        went(&rt, over, half_by_half(&rt, over));
+    }
 }

@@ -2,13 +2,13 @@
 
 ghost use Rattle.std.specs.Prelude.{IfSome};
 ghost use Rattle.bw_care.specs.Found.{IsRecovered};
-ghost use Rattle.bw_store.specs.Views.{IsSoundBeside};
-ghost use Rattle.store_tests.specs.Views.{AreItsFeeds};
+ghost use Rattle.store_tests.specs.Views.{AreItsFeeds, IsSoundBeside};
 
 use super::boxes::{LEAST, Row, Supply, fused, maker_of, plain, supplied, worn};
 use super::opening::{Held, config_of, opened, reopened, shut};
 use super::steps::{Step, goes};
 use super::telling::all_went;
+use crate::subject::{BOTH, Over};
 use bw_care::{Recovered, recover};
 use bw_device::Segment;
 use std::alloc::Global;
@@ -39,11 +39,12 @@ pub(super) fn wrong_step<R: AllocGlobal + Wait>(
 /// as told, and the first one where there was no store. The boxes then come out of it.
 pub(super) fn lives<R: AllocGlobal + Wait>(
     rt: &R,
+    over: Over,
     supply: &mut Supply,
     places: usize,
     steps: &[Step],
 ) -> Option<usize> {
-    let Some(mut opened) = opened(rt, &config_of(2, places, 1), supply) else {
+    let Some(mut opened) = opened(rt, over, &config_of(2, places, 1), supply) else {
         return Some(0);
     };
     let wrong = wrong_step(rt, &mut opened, steps);
@@ -74,6 +75,7 @@ pub(super) fn recovered_from(alloc: Global, supply: &mut Supply) -> Option<Recov
 /// told, any.
 pub(super) fn lives_on<R: AllocGlobal + Wait>(
     rt: &R,
+    over: Over,
     supply: &mut Supply,
     last: Option<u64>,
     steps: &[Step],
@@ -84,7 +86,7 @@ pub(super) fn lives_on<R: AllocGlobal + Wait>(
     if !are_found(&recovered, last) {
         return Some(0);
     }
-    let Some(mut opened) = reopened(rt, recovered, 8, supply) else {
+    let Some(mut opened) = reopened(rt, over, recovered, 8, supply) else {
         return Some(0);
     };
     let wrong = wrong_step(rt, &mut opened, steps);
@@ -95,12 +97,13 @@ pub(super) fn lives_on<R: AllocGlobal + Wait>(
 // Over these boxes, with rings of so many places.
 fn within<R: AllocGlobal + Wait>(
     rt: &R,
+    over: Over,
     row: &Row,
     places: usize,
     steps: &[Step],
 ) -> Option<usize> {
     match supplied(rt.alloc(), row) {
-        Some(mut supply) => lives(rt, &mut supply, places, steps),
+        Some(mut supply) => lives(rt, over, &mut supply, places, steps),
         None => Some(0),
     }
 }
@@ -109,6 +112,7 @@ fn within<R: AllocGlobal + Wait>(
 // calls and keeps each of these numbers of bytes (the least and the greatest), and a spare.
 fn over_fuses<R: AllocGlobal + Wait>(
     rt: &R,
+    over: Over,
     boxes: u32,
     calls: (u64, u64),
     keeps: (u64, u64),
@@ -118,7 +122,7 @@ fn over_fuses<R: AllocGlobal + Wait>(
         for keep in keeps.0..=keeps.1 {
             let mut row = fused(boxes, (first, keep), 1);
             row.more = 1;
-            if let Some(step) = within(rt, &row, 8, steps) {
+            if let Some(step) = within(rt, over, &row, 8, steps) {
                 return Some(step);
             }
         }
@@ -143,20 +147,26 @@ fn with_bytes(alloc: Global, texts: &[&'static str], spares: u32) -> Option<Supp
 // Over what is recovered from a box for each of these texts in hex, in any order, and so many spares.
 fn over_bytes<R: AllocGlobal + Wait>(
     rt: &R,
+    over: Over,
     texts: &[&'static str],
     spares: u32,
     steps: &[Step],
 ) -> Option<usize> {
     match with_bytes(rt.alloc(), texts, spares) {
-        Some(mut supply) => lives_on(rt, &mut supply, None, steps),
+        Some(mut supply) => lives_on(rt, over, &mut supply, None, steps),
         None => Some(0),
     }
 }
 
 // Over a box whose failures cannot be counted any more, and so many behind it.
-fn over_worn<R: AllocGlobal + Wait>(rt: &R, behind: u32, steps: &[Step]) -> Option<usize> {
+fn over_worn<R: AllocGlobal + Wait>(
+    rt: &R,
+    over: Over,
+    behind: u32,
+    steps: &[Step],
+) -> Option<usize> {
     match worn(rt.alloc(), "", behind) {
-        Some(mut supply) => lives(rt, &mut supply, 8, steps),
+        Some(mut supply) => lives(rt, over, &mut supply, 8, steps),
         None => Some(0),
     }
 }
@@ -179,13 +189,18 @@ pub(super) enum Stand {
     Worn(u32),
 }
 
-fn over<R: AllocGlobal + Wait>(rt: &R, stand: &Stand, steps: &[Step]) -> Option<usize> {
+fn walked<R: AllocGlobal + Wait>(
+    rt: &R,
+    over: Over,
+    stand: &Stand,
+    steps: &[Step],
+) -> Option<usize> {
     match stand {
-        Stand::Boxes(many, places) => within(rt, &plain(*many, 1), *places, steps),
-        Stand::Fuse(many, calls, keeps) => over_fuses(rt, *many, *calls, *keeps, steps),
-        Stand::Bytes(texts) => over_bytes(rt, *texts, 2, steps),
-        Stand::Last(texts) => over_bytes(rt, *texts, 1, steps),
-        Stand::Worn(behind) => over_worn(rt, *behind, steps),
+        Stand::Boxes(many, places) => within(rt, over, &plain(*many, 1), *places, steps),
+        Stand::Fuse(many, calls, keeps) => over_fuses(rt, over, *many, *calls, *keeps, steps),
+        Stand::Bytes(texts) => over_bytes(rt, over, *texts, 2, steps),
+        Stand::Last(texts) => over_bytes(rt, over, *texts, 1, steps),
+        Stand::Worn(behind) => over_worn(rt, over, *behind, steps),
     }
 }
 
@@ -193,11 +208,15 @@ fn over<R: AllocGlobal + Wait>(rt: &R, stand: &Stand, steps: &[Step]) -> Option<
 pub(super) type Tables = (Stand, &'static [&'static [Step]]);
 
 // The first of the tables that went otherwise than told, and its step.
-fn first_wrong<R: AllocGlobal + Wait>(rt: &R, rows: &[Tables]) -> Option<(usize, usize)> {
+fn first_wrong<R: AllocGlobal + Wait>(
+    rt: &R,
+    over: Over,
+    rows: &[Tables],
+) -> Option<(usize, usize)> {
     let mut count: usize = 0;
     for (stand, tables) in rows {
         for steps in *tables {
-            if let Some(step) = over(rt, stand, *steps) {
+            if let Some(step) = walked(rt, over, stand, *steps) {
                 return Some((count, step));
             }
             count = count.saturating_add(1);
@@ -206,7 +225,9 @@ fn first_wrong<R: AllocGlobal + Wait>(rt: &R, rows: &[Tables]) -> Option<(usize,
     None
 }
 
-/// All tables go as told.
+/// All tables go as told, over a core and then over a store.
 pub(super) fn all_go<R: Abort + AllocGlobal + Wait>(rt: &R, rows: &[Tables]) {
-    all_went(rt, first_wrong(rt, rows));
+    for over in BOTH {
+        all_went(rt, over, first_wrong(rt, over, rows));
+    }
 }

@@ -25,13 +25,14 @@ fn is_made(watched: &Watched, length: usize) -> bool {
         && fs::write(&rt, "again/segment-0000.bw", bytes.as_slice()).is_ok()
 }
 
-// What is written last when it is opened.
+// What is written last when it is opened with the sums that it has since an earlier opening.
 fn written(rt: HostRuntime, length: usize) -> Option<(u64, u64)> {
     let watched = Watched::new(rt, "again")?;
     if !is_made(&watched, length) {
         return None;
     }
     let folder = Folder::open(&watched, "again").ok()?;
+    let _ = folder.segment(&watched, lease_of(rt.alloc(), 0)?, 600_000);
     let lease = lease_of(rt.alloc(), 0)?;
     match folder.segment(&watched, lease, 600_000) {
         Ok(_segment) => Some(watched.watch.wrote()),

@@ -3,7 +3,7 @@
 
 use super::super::{all_went, clear};
 use super::steps::Act::{
-    Append, Copy, Empty, Holds, Leave, Listed, Look, Make, Open, Segment, Spare, Stop, Write,
+    Append, Copy, Empty, Holds, Leave, Listed, Look, Make, Open, Opens, Segment, Spare, Stop, Write,
 };
 use super::steps::Told::{Done, System};
 use super::steps::{Act, Row, Stand, Told, at, goes, wrong_row};
@@ -27,12 +27,29 @@ const TRIALS: &[Trial] = &[
         &[
             Row(Open, Done, "doanool"),
             Row(Write("segment-0000.bw", "abc"), Done, ""),
+            Row(Opens(0, 64), Done, ""),
+            Row(Stop(0), Done, ""),
         ],
         Segment(0, 64),
-        8,
+        13,
         &[
-            Row(Segment(0, 64), Done, "nolamrwa"),
+            Row(Segment(0, 64), Done, "nnoloamrmrwaa"),
             Row(Holds(0, "abc", 0), Done, ""),
+        ],
+    ),
+    Trial(
+        "older",
+        &[
+            Row(Open, Done, "doanool"),
+            Row(Write("segment-0000.bw", "abc"), Done, ""),
+        ],
+        Segment(0, 64),
+        14,
+        &[
+            Row(Opens(0, 64), Done, ""),
+            Row(Holds(0, "abc", 0), Done, ""),
+            Row(Stop(0), Done, ""),
+            Row(Segment(0, 64), Done, "nnoloamrmrwaa"),
         ],
     ),
     Trial(
@@ -42,9 +59,9 @@ const TRIALS: &[Trial] = &[
             Row(Write("segment-0001.bw", "abc"), Done, ""),
         ],
         Spare(1, 64),
-        6,
+        10,
         &[
-            Row(Spare(1, 64), Done, "nolaca"),
+            Row(Spare(1, 64), Done, "nnoloacaca"),
             Row(Holds(1, "", 0), Done, ""),
         ],
     ),
@@ -55,9 +72,9 @@ const TRIALS: &[Trial] = &[
             Row(Write("segment-0000.bw", "abc"), Done, ""),
         ],
         Empty(0),
-        5,
+        8,
         &[
-            Row(Empty(0), Done, "nolca"),
+            Row(Empty(0), Done, "nnolocca"),
             Row(Act::File("segment-0000.bw", ""), Done, ""),
         ],
     ),
@@ -65,19 +82,19 @@ const TRIALS: &[Trial] = &[
         "append",
         &[
             Row(Open, Done, "doanool"),
-            Row(Segment(0, 64), Done, "nolama"),
-            Row(Append(0, "abc"), Done, "ws"),
+            Row(Segment(0, 64), Done, "nnoloammaa"),
+            Row(Append(0, "abc"), Done, "wsw"),
         ],
         Append(0, "d"),
-        2,
+        3,
         &[
             Row(Holds(0, "abc", 1), Done, ""),
             Row(Append(0, "d"), System, ""),
             Row(Stop(0), Done, ""),
             Row(Leave, Done, ""),
             Row(Open, Done, "dnool"),
-            Row(Segment(0, 64), Done, "nolamrwa"),
-            Row(Append(0, "e"), Done, "ws"),
+            Row(Opens(0, 64), Done, ""),
+            Row(Append(0, "e"), Done, "wsw"),
         ],
     ),
     Trial(
@@ -96,8 +113,22 @@ const TRIALS: &[Trial] = &[
             Row(Look, Done, "pnok"),
         ],
         Copy(0, 64, "abc"),
-        4,
-        &[Row(Copy(0, 64, "abc"), Done, "nomr")],
+        6,
+        &[Row(Copy(0, 64, "abc"), Done, "nomrno")],
+    ),
+    Trial(
+        "copy-with-sums",
+        &[
+            Row(Open, Done, "doanool"),
+            Row(Write("segment-0000.bw", "abc"), Done, ""),
+            Row(Opens(0, 64), Done, ""),
+            Row(Stop(0), Done, ""),
+            Row(Leave, Done, ""),
+            Row(Look, Done, "pnok"),
+        ],
+        Copy(0, 64, "abc"),
+        8,
+        &[Row(Copy(0, 64, "abc"), Done, "nomrnomr")],
     ),
 ];
 

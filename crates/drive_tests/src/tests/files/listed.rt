@@ -20,6 +20,7 @@ const LISTED: &[Row] = &[
     Row(Write("Segment-0004.bw", ""), Done, ""),
     Row(Write("segment-0005", ""), Done, ""),
     Row(Write("notes", ""), Done, ""),
+    Row(Write("segment-0009.sum", ""), Done, ""),
     Row(Listed(&[0, 7, 4095]), Done, ""),
 ];
 

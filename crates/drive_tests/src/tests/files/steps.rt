@@ -3,9 +3,9 @@
 use super::super::clear;
 use super::listed::are_listed;
 use super::recovered::{Said, goes_opened};
-use super::watched::{Watched, WatchedFile, number_of};
+use super::watched::{Watched, WatchedFile, numbers_of};
 use bw_device::{Desk, Lease, MAX_CAPACITY, Segment};
-use bw_file::{FileSegment, Folder, FolderFault, FolderReader, NotOpened};
+use bw_file::{FileSegment, Folder, FolderFault, FolderReader, NotOpened, Sound};
 use std::alloc::Global;
 use std::fs::{self, OpenOptions};
 use std::os::unix::fs::symlink;
@@ -22,6 +22,8 @@ pub(super) enum Act {
     LookEvicted,
     /// A segment of this capacity is opened.
     Segment(u32, u64),
+    /// The same. The calls are not told.
+    Opens(u32, u64),
     /// A new segment of this capacity.
     Spare(u32, u64),
     /// A segment is dropped.
@@ -31,7 +33,13 @@ pub(super) enum Act {
     Holds(u32, &'static str, u64),
     /// A copy of at least this capacity, for reading alone, holds this.
     Copy(u32, u64, &'static str),
+    /// A file has so many bytes, of which so many first ones are so many pieces with a sum.
+    Verify(u32, u64, u64, u64),
     Empty(u32),
+    /// A file is written anew, whole.
+    Whole(u32, &'static str),
+    /// The same with its first byte at the end.
+    HeldBack(u32, &'static str),
     /// After so many calls one fails, a write with so many bytes kept.
     Fail(u64, u64),
     /// Writes go to a device that is full, or no longer.
@@ -44,6 +52,8 @@ pub(super) enum Act {
     Bytes(&'static str, &'static str, usize),
     /// A file of the folder has these bytes, and no more.
     File(&'static str, &'static str),
+    /// A file of the folder has so many first bytes of these, which are in hex, and no more.
+    Has(&'static str, &'static str, usize),
     /// The file of the first lease has so many first bytes of these, which are in hex, and no more.
     First(&'static str, usize),
     /// No file of this name stands.
@@ -69,6 +79,8 @@ pub(super) enum Told {
     BadConfig,
     TooLong,
     NotPlain,
+    /// At this offset of the file of this lease.
+    Damaged(u32, u64),
     InUse,
     System,
 }
@@ -115,6 +127,7 @@ fn fault(cause: FolderFault) -> Told {
         FolderFault::BadConfig => Told::BadConfig,
         FolderFault::TooLong => Told::TooLong,
         FolderFault::NotPlain => Told::NotPlain,
+        FolderFault::Damaged { lease, at } => Told::Damaged(lease, at),
         FolderFault::InUse => Told::InUse,
         FolderFault::System(_) => Told::System,
     }
@@ -248,6 +261,40 @@ fn copy(stand: &Stand, number: u32, capacity: u64, held: &str) -> Told {
     }
 }
 
+fn whole(stand: &Stand, lease: u32, text: &str) -> Told {
+    let Some(folder) = &stand.folder else {
+        return Told::No;
+    };
+    match folder.write(&stand.rt, lease, text.as_bytes()) {
+        Ok(()) => Told::Done,
+        Err(cause) => fault(cause),
+    }
+}
+
+fn held_back(stand: &Stand, lease: u32, text: &str) -> Told {
+    let Some(folder) = &stand.folder else {
+        return Told::No;
+    };
+    let begun = match folder.write_held_back(&stand.rt, lease, text.as_bytes()) {
+        Ok(begun) => begun,
+        Err(cause) => return fault(cause),
+    };
+    match begun.end() {
+        Ok(()) => Told::Done,
+        Err(cause) => fault(cause),
+    }
+}
+
+fn verify(stand: &Stand, lease: u32, sound: Sound) -> Told {
+    let Some(reader) = &stand.reader else {
+        return Told::No;
+    };
+    match reader.verify(&stand.rt, lease) {
+        Ok(found) => done_if(found == sound),
+        Err(cause) => fault(cause),
+    }
+}
+
 // Whether these bytes are written to a file, or it holds them and no more.
 fn goes_with(rt: &HostRuntime, path: &str, bytes: &[u8], writes: bool) -> bool {
     if writes {
@@ -280,6 +327,7 @@ fn name_of(act: &Act) -> &'static str {
         Act::Write(name, _) => *name,
         Act::Bytes(name, _, _) => *name,
         Act::File(name, _) => *name,
+        Act::Has(name, _, _) => *name,
         Act::NoFile(name) => *name,
         Act::Link(name, _) => *name,
         _ => "segment-0000.bw",
@@ -292,6 +340,7 @@ fn goes_on(rt: &HostRuntime, path: &str, act: &Act) -> bool {
         Act::Write(_, text) => goes_with(rt, path, text.as_bytes(), true),
         Act::Bytes(_, hex, n) => goes_in_hex(rt, path, *hex, *n, true),
         Act::File(_, text) => goes_with(rt, path, text.as_bytes(), false),
+        Act::Has(_, hex, n) => goes_in_hex(rt, path, *hex, *n, false),
         Act::First(hex, n) => goes_in_hex(rt, path, *hex, *n, false),
         Act::NoFile(_) => matches!(fs::exists(rt, path), Ok(false)),
         Act::Link(_, to) => symlink(rt, *to, path).is_ok(),
@@ -339,6 +388,11 @@ pub(super) fn goes(stand: &mut Stand, act: &Act) -> Told {
             Told::Done
         }
         Act::Segment(place, capacity) => segment(stand, *place, *capacity, false),
+        Act::Opens(place, capacity) => {
+            let went = segment(stand, *place, *capacity, false);
+            stand.rt.watch.take_letters();
+            went
+        }
         Act::Spare(place, capacity) => segment(stand, *place, *capacity, true),
         Act::Stop(place) => {
             if *place == 0 {
@@ -351,7 +405,17 @@ pub(super) fn goes(stand: &mut Stand, act: &Act) -> Told {
         Act::Append(place, piece) => append(stand, *place, piece),
         Act::Holds(place, held, failures) => holds_at(stand, *place, held, *failures),
         Act::Copy(lease, capacity, held) => copy(stand, *lease, *capacity, held),
+        Act::Verify(lease, len, summed, pieces) => {
+            let sound = Sound {
+                len: *len,
+                summed: *summed,
+                pieces: *pieces,
+            };
+            verify(stand, *lease, sound)
+        }
         Act::Empty(lease) => empty(stand, *lease),
+        Act::Whole(lease, text) => whole(stand, *lease, text),
+        Act::HeldBack(lease, text) => held_back(stand, *lease, text),
         _ => done_if(goes_outside(&stand.rt, act)),
     }
 }
@@ -361,7 +425,7 @@ pub(super) fn is_told(stand: &mut Stand, row: &Row) -> bool {
     let Row(act, told, letters) = row;
     let went = goes(stand, act);
     let made = stand.rt.watch.take_letters();
-    went == *told && made == number_of(letters)
+    went == *told && made == numbers_of(letters)
 }
 
 /// The first row that did not go as told.

@@ -104,7 +104,7 @@ fn are_flushed<R: Wait>(
 {
     let first = is_flushed(wait, store, feeds, (b"k", b"v"), 1);
     rt.watch.fail_after(stop.0, stop.1);
-    let told = if stop.0 < 2 { FAILS } else { 2 };
+    let told = if stop.0 < 3 { FAILS } else { 2 };
     let second = is_flushed(wait, store, feeds, (b"j", b"w"), told);
     first & second
 }
@@ -161,8 +161,8 @@ fn is_there<R: Wait>(wait: &R, rt: HostRuntime, stop: Stop, of_second: u64) -> b
 
 // The first stop behind which it is otherwise: how many calls passed, or how many bytes were kept.
 fn wrong_stop<R: Wait>(wait: &R, rt: HostRuntime) -> Option<(&'static str, usize)> {
-    // No call fails; or the sync: the frame was not promised, and is there.
-    for passes in [99, 1] {
+    // No call fails; or the write of the sum, or the sync: the frame was not promised, and is there.
+    for passes in [99, 2, 1] {
         if !is_there(wait, rt, Stop(passes, 0), SECOND_LENGTH) {
             return Some(("passed", passes as usize));
         }

@@ -10,11 +10,16 @@ use std::rt::Files;
 use std::sync::Arc;
 use std::sync::atomic::{AtomicBool, AtomicU64, Ordering};
 
+/// The weight of the highest of eight letters.
+const HIGHEST: u64 = 72_057_594_037_927_936;
+
 /// What was asked, and what is to fail.
 #[derive(Drop)]
 pub(super) struct Watch {
     /// The letters of the last eight calls, the last one in the lowest byte.
     letters: AtomicU64,
+    /// Those of the eight before them.
+    earlier: AtomicU64,
     /// How many calls pass before one fails; `u64::MAX` where none is to.
     passes: AtomicU64,
     /// How many bytes of its piece a write keeps that fails.
@@ -28,13 +33,15 @@ pub(super) struct Watch {
     full: File,
 }
 
-/// Such letters as a number.
-pub(super) fn number_of(letters: &str) -> u64 {
-    let mut number = 0u64;
+/// Such letters as numbers: of the last eight, and of the eight before them.
+pub(super) fn numbers_of(letters: &str) -> (u64, u64) {
+    let mut last = 0u64;
+    let mut earlier = 0u64;
     for letter in letters.as_bytes() {
-        number = number.wrapping_mul(256).wrapping_add(*letter as u64);
+        earlier = earlier.wrapping_mul(256).wrapping_add(last / HIGHEST);
+        last = last.wrapping_mul(256).wrapping_add(*letter as u64);
     }
-    number
+    (last, earlier)
 }
 
 impl Watch {
@@ -42,6 +49,7 @@ impl Watch {
     fn new(full: File) -> Watch {
         Watch {
             letters: AtomicU64::new(0),
+            earlier: AtomicU64::new(0),
             passes: AtomicU64::new(u64::MAX),
             keep: AtomicU64::new(0),
             at: AtomicU64::new(0),
@@ -63,11 +71,13 @@ impl Watch {
         self.is_full.store(is_full, Ordering::SeqCst);
     }
 
-    /// The letters of the calls since the last look, as a number.
-    pub(super) fn take_letters(&self) -> u64 {
+    /// The letters of the calls since the last look, as numbers.
+    pub(super) fn take_letters(&self) -> (u64, u64) {
         let letters = self.letters.load(Ordering::SeqCst);
+        let earlier = self.earlier.load(Ordering::SeqCst);
         self.letters.store(0, Ordering::SeqCst);
-        letters
+        self.earlier.store(0, Ordering::SeqCst);
+        (letters, earlier)
     }
 
     /// Where the last write went, and how many bytes it had.
@@ -81,8 +91,11 @@ impl Watch {
     // Whether a call passes, which has this letter.
     fn passes(&self, letter: u8) -> bool {
         let before = self.letters.load(Ordering::SeqCst);
+        let earlier = self.earlier.load(Ordering::SeqCst);
         let letters = before.wrapping_mul(256).wrapping_add(letter as u64);
+        let earlier = earlier.wrapping_mul(256).wrapping_add(before / HIGHEST);
         self.letters.store(letters, Ordering::SeqCst);
+        self.earlier.store(earlier, Ordering::SeqCst);
         match self.passes.load(Ordering::SeqCst) {
             0 => {
                 self.passes.store(u64::MAX, Ordering::SeqCst);

@@ -3,12 +3,12 @@
 ghost use Rattle.std.specs.Prelude.{IfSome};
 ghost use Rattle.bw_codec.specs.Grammar.{IsBlock};
 
-use super::super::{is, put};
+use super::super::{is, packed_put, put};
 use super::{asked, spared};
 use bw_codec::limits::LATEST;
 use bw_codec::{
-    Block, Blocks, Head, Header, HeaderRead, Key, Low, Ops, Outline, Pair, Pairs, Place, Value,
-    ascend, block_length, frame_cells, header_cells, is_before, read_block, read_header,
+    Block, Blocks, Head, Header, HeaderRead, Key, Low, Ops, Outline, Packed, Pair, Pairs, Place,
+    Value, ascend, block_length, frame_cells, header_cells, is_before, read_block, read_header,
     write_block,
 };
 use std::alloc::Global;
@@ -187,8 +187,29 @@ fn a_block_is_written(alloc: Global) -> Option<bool> {
     asked(alloc, length == DELTA.len() && is(out.as_slice(), DELTA))
 }
 
+/// Whether a packed put of k=v and what shares its bytes are so.
+fn is_shared(packed: &Packed) -> bool {
+    let Ok(copy) = packed.copy() else {
+        return false;
+    };
+    let is_put = packed.pair().is_ok() && is(packed.record().key().as_slice(), b"k");
+    match copy.into_pair() {
+        Ok(pair) => is_put && is(pair.value(), b"v") && is(Packed::del(pair).key(), b"k"),
+        Err(_) => false,
+    }
+}
+
+fn packed_records(alloc: Global) -> Option<bool> {
+    let packed = packed_put(alloc, b"k", b"v")?;
+    let (key, value) = pair()?;
+    let pair = Pair::of(alloc, &key, &value).ok()?;
+    begin_without(alloc);
+    let is_so = is_shared(&packed) && is_shared(&Packed::put(pair));
+    asked(alloc, is_so)
+}
+
 /// What each of these says.
-pub(super) fn said(alloc: Global) -> [Option<bool>; 9] {
+pub(super) fn said(alloc: Global) -> [Option<bool>; 10] {
     [
         keys_and_values(alloc),
         records(alloc),
@@ -199,5 +220,6 @@ pub(super) fn said(alloc: Global) -> [Option<bool>; 9] {
         blocks(alloc),
         outlines(alloc),
         a_block_is_written(alloc),
+        packed_records(alloc),
     ]
 }

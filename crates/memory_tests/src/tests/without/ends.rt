@@ -1,4 +1,4 @@
-//! Of `bw_ring`, `bw_device`, `bw_log`, `bw_versions` and `bw_drive`.
+//! Of `bw_ring`, `bw_device`, `bw_log`, `bw_history`, `bw_versions` and `bw_drive`.
 
 ghost use Rattle.std.specs.Prelude.{◌≡◌, IfOk};
 ghost use Rattle.bw_ring.specs.Ends.{IsFeedOf, ring_of_feed};
@@ -14,10 +14,11 @@ use bw_device::{
     failures_of, is_spare, lease_of, len_of, read_from,
 };
 use bw_drive::{Gate, MeetGate, OpenGate};
+use bw_history::{Entry, PackedEntry};
 use bw_log::Log;
 use bw_page::Leaves;
 use bw_ring::{Feed, FullGroup, Group, Items, Lane, LanesError, lanes};
-use bw_versions::{Board, Entry, PackedEntry};
+use bw_versions::Board;
 use std::alloc::Global;
 use test_marks::begin_without;
 use test_vectors::{THIRD_LOST, THIRD_OLDER};
@@ -247,6 +248,14 @@ fn boards(alloc: Global) -> Option<bool> {
     asked(alloc, is_so)
 }
 
+/// Whether a copy has the same record.
+fn is_copied(packed: &PackedEntry) -> bool {
+    match packed.copy() {
+        Ok(copy) => copy.item().record() == packed.item().record(),
+        Err(_) => false,
+    }
+}
+
 fn entries(alloc: Global) -> Option<bool> {
     let entry = Entry {
         writer: 3,
@@ -255,7 +264,7 @@ fn entries(alloc: Global) -> Option<bool> {
     };
     let packed = PackedEntry::of(alloc, 3, true, &entry.item).ok()?;
     begin_without(alloc);
-    let is_so = packed.entry() == entry && packed.writer() == 3;
+    let is_so = packed.entry() == entry && packed.writer() == 3 && is_copied(&packed);
     asked(alloc, is_so)
 }
 

@@ -5,11 +5,11 @@ ghost use Rattle.std.specs.List.{AllByRecursion};
 ghost use Rattle.bw_codec.specs.Bytes.{ascends};
 ghost use Rattle.bw_codec.specs.Grammar.{IsBlock};
 
-use super::super::{is, put};
+use super::super::{is, packed_put, put};
 use super::{asked, spared};
 use bw_buffer::{Buffer, Mark};
 use bw_codec::limits::MIN_FRAME;
-use bw_codec::{Block, Blocks, Key, Leaf, Place, Record, Value, encode_block};
+use bw_codec::{Block, Blocks, Key, Leaf, Packed, Place, Value, encode_block};
 use bw_page::{Chain, Draft, Leaves, change, count_after, empty_page, keep_below, value_in};
 use std::alloc::Global;
 use test_marks::begin_without;
@@ -31,7 +31,7 @@ fn one_page(alloc: Global) -> Option<Leaves>
     ensures { IfSome result (λ l. l.evicted ≡ []) }
 {
     let mut leaves = Leaves::one_empty(alloc, 4).ok()?;
-    match leaves.apply_all(&[put(b"a", b"1")?]) {
+    match leaves.apply_all(&[packed_put(alloc, b"a", b"1")?]) {
         Ok(()) => Some(leaves),
         Err(_) => None,
     }
@@ -85,7 +85,7 @@ fn tells(leaf: &Leaf, key: &Key, text: &[u8]) -> bool
 
 fn one_leaf(alloc: Global) -> Option<bool> {
     let mut leaves = Leaves::one_empty(alloc, 4).ok()?;
-    leaves.apply_all(&[put(b"a", b"1")?]).ok()?;
+    leaves.apply_all(&[packed_put(alloc, b"a", b"1")?]).ok()?;
     let (key, record) = (Key::new(b"a").ok()?, put(b"b", b"2")?);
     let leaf = leaves.page(1)?;
     begin_without(alloc);
@@ -109,7 +109,7 @@ fn pairs_are_dropped(alloc: Global) -> Option<bool> {
 /// A chain with a=1, which stands in the log.
 fn chain(alloc: Global) -> Option<Chain> {
     let mut chain = Chain::whole(alloc, empty_page(alloc));
-    chain.prepend(put(b"a", b"1")?).ok()?;
+    chain.prepend(packed_put(alloc, b"a", b"1")?).ok()?;
     chain.mark_flushed(BACK).ok()?;
     Some(chain)
 }
@@ -127,7 +127,7 @@ fn chains(alloc: Global) -> Option<bool> {
 }
 
 /// Puts one pair and marks it.
-fn grows(chain: &mut Chain, record: Record) -> bool {
+fn grows(chain: &mut Chain, record: Packed) -> bool {
     chain.prepend(record).is_ok() && chain.mark_flushed(BACK).is_ok()
 }
 
@@ -135,7 +135,8 @@ fn grows(chain: &mut Chain, record: Record) -> bool {
 fn reserved_chains(alloc: Global) -> Option<bool> {
     let mut chain = chain(alloc)?;
     chain.reserve(4).ok()?;
-    let (one, other) = (put(b"b", b"2")?, put(b"c", b"3")?);
+    let one = packed_put(alloc, b"b", b"2")?;
+    let other = packed_put(alloc, b"c", b"3")?;
     begin_without(alloc);
     let is_so = grows(&mut chain, one) && grows(&mut chain, other);
     asked(alloc, is_so)

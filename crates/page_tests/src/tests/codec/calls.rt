@@ -69,7 +69,8 @@ fn inserted_pairs(alloc: Global) -> Option<Pairs> {
         if pairs.as_slice().len() < *at {
             return None;
         }
-        pairs.insert(*at, &key, &value).ok()?;
+        let pair = Pair::of(alloc, &key, &value).ok()?;
+        pairs.insert(*at, pair).ok()?;
     }
     Some(pairs)
 }
@@ -86,12 +87,12 @@ fn is_pair(pair: &Pair, key: u8, value: u8) -> Option<bool> {
 }
 
 /// Whether a pair is set in another one's place, and goes back there.
-fn is_set_and_back(pairs: &mut Pairs) -> Option<bool> {
+fn is_set_and_back(alloc: Global, pairs: &mut Pairs) -> Option<bool> {
     if pairs.as_slice().len() != 4 {
         return None;
     }
     let (key, value) = pair_of(b"a", b"1")?;
-    let was = pairs.replace(0, &key, &value).ok()?;
+    let was = pairs.set(0, Pair::of(alloc, &key, &value).ok()?);
     let first = is_pair(&was, b'a', b'0')?;
     let newer = pairs.set(0, was);
     let second = is_pair(&newer, b'a', b'1')?;
@@ -102,7 +103,7 @@ fn is_set_and_back(pairs: &mut Pairs) -> Option<bool> {
 /// The pairs a=1 and c=3, built and changed by each call that does so.
 fn changed_pairs(alloc: Global) -> Option<Pairs> {
     let mut pairs = inserted_pairs(alloc)?;
-    if !is_set_and_back(&mut pairs)? || pairs.as_slice().len() != 4 {
+    if !is_set_and_back(alloc, &mut pairs)? || pairs.as_slice().len() != 4 {
         return None;
     }
     pairs.remove(1);

@@ -1,5 +1,5 @@
 use Rattle.bw_ring.specs.Ends.{ring_of_feed}
-use Rattle.bw_store.proofs.Laned.{set_kept}
+use Rattle.bw_history.proofs.Laned.{set_kept}
 use Rattle.bw_bench.proofs.subject.Subject.by_first.Goals as goal
 
 pub returns-clause-feeds : goal.returns-clause-feeds

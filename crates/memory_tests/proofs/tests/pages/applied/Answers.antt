@@ -3,6 +3,3 @@ use Rattle.memory_tests.proofs.tests.pages.applied.Goals as goal
 
 pub apply_all_of-requires : goal.apply_all_of-requires
 apply_all_of-requires c = all_here _ _ c.requires
-
-pub apply_all_hinted-requires : goal.apply_all_hinted-requires
-apply_all_hinted-requires c = all_here _ _ c.requires

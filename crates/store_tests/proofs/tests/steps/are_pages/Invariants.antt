@@ -1,8 +1,8 @@
 use Rattle.std.specs.Prelude.{◌≡◌}
-use Rattle.bw_store.specs.Views.{kept_by, IsSound}
+use Rattle.store_tests.specs.Views.{rings_by, IsSound}
 use Rattle.store_tests.proofs.tests.steps.are_pages.Given as goal
 
 abbrev pub invariant-pages : goal.invariant-pages
 invariant-pages g l =
     IsSound l.store (λ z. (goal.Segment-dyn g z).holding z.1)
-    × ((kept_by l.store (λ z. (goal.Segment-dyn g z).holding z.1)).rings ≡ (kept_by l.fn.store (λ z. (goal.Segment-dyn g z).holding z.1)).rings)
+    × (rings_by l.store (λ z. (goal.Segment-dyn g z).holding z.1) ≡ rings_by l.fn.store (λ z. (goal.Segment-dyn g z).holding z.1))
