@@ -15,7 +15,7 @@ PROGRAM = crates/bwlog
 BENCH = --keys 1000000 --operations 1000000
 # One check a processor, each at one job: two jobs for one check cost a tenth more time of the processors.
 JOBS = $(shell n=$$(nproc); echo $$((n < 4 ? n : 4)))
-SUBJECTS = pages cleaning alone beside late one one-beside many many-beside
+SUBJECTS = pages cleaning core alone beside late one one-beside many many-beside
 
 .PHONY: run try test wrong memory bench peers crash fuzz
 
@@ -36,7 +36,10 @@ test:
 	python3 tests/program/fuzz.py --cases 500
 	python3 tests/program/waits.py
 	python3 tests/program/clients.py
+	python3 tests/program/sums.py
+	python3 tests/program/rescue.py
 	python3 tests/program/steady.py
+	python3 tests/program/people.py crates/bwlog/out/bwlog 100000
 	python3 tests/program/growth.py
 	python3 tools/refuse.py --every 5
 

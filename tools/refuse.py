@@ -70,12 +70,13 @@ def is_tested(shim, tests, name, folder):
 
 
 class Case:
-    """A worked script: its command line and input, the records that its frames hold, how many bytes a file may have, and
-    a segment that stands in the folder "from", where one does. "{}" in a word is the folder of the run."""
+    """A worked script: its command line and input, the records that its frames hold, how many bytes a file may have,
+    a segment that stands in the folder "from", where one does, and whether a refusal is told on standard error. "{}" in a word is the
+    folder of the run."""
 
-    def __init__(self, name, words, text, records=None, file_bytes=None, segment=None):
+    def __init__(self, name, words, text, records=None, file_bytes=None, segment=None, tells=False):
         self.name, self.words, self.text, self.records, self.file_bytes = name, words, text.encode(), records, file_bytes
-        self.segment = segment
+        self.segment, self.tells = segment, tells
 
     def words_in(self, folder):
         if self.segment:
@@ -102,6 +103,7 @@ CASES = [
     Case("an eviction", ["replay"], "put 0 k v\nturn 1\nevict 1\nflush\nevict 1\nevict 1\npage 1\nget k\nevict 1\nput 0 l w\nsettle\n", [("k", "v"), ("l", "w")]),
     Case("an append that fails", ["replay"], "put 0 k v\nflush\nput 0 j 2\nflush\nflush\npage 1\ncuts\n", [("k", "v")], file_bytes=80),
     Case("writers", ["threads", "--limit=2", "--flush-every=1"], "".join("put %d %s%d %d\n" % (w, "ab"[w], it, it) for it in range(4) for w in range(2))),
+    Case("readers", ["threads", "--readers=2"], "put 0 a 1\nput 1 b 2\ngroup 0 put a 3 put c 4\ndel 1 b\n"),
     Case("requests", ["serve", "--places=2"], "put k v\nput l w\nput m x\nget k\nnext l\nflush\nevict 1\nnext l\npage 1\nstats\nclean\nzap\n"),
     Case("a scan", ["scan"], "\n" + FIRST + "\n42574c\n"),
     Case("a print", ["print"], "\n" + FIRST + "\n42574c\n"),
@@ -109,6 +111,15 @@ CASES = [
     Case("a picture", ["picture"], "\n" + FIRST + "\n42574c\n"),
     Case("an upgrade", ["upgrade"], "\n" + FIRST + "\n42574c\n"),
     Case("limits that a folder does not heed", ["replay", "--dir={}/from", "--m=9", "--frame=65537"], "get k\n", segment=FIRST),
+    Case("a put of a key", ["put", "--dir={}/store", "k", "v"], "", tells=True),
+    Case("a value that is read", ["put", "--dir={}/store", "k", "-"], "v", tells=True),
+    Case("a key that is deleted", ["del", "--dir={}/from", "k"], "", segment=FIRST, tells=True),
+    Case("a key that is got", ["get", "--dir={}/from", "k"], "", segment=FIRST, tells=True),
+    Case("keys that are counted", ["count", "--dir={}/from"], "", segment=FIRST, tells=True),
+    Case("a list", ["list", "--dir={}/from", "--from=a", "--to=z", "--prefix=k", "--reverse"], "", segment=FIRST, tells=True),
+    Case("an export", ["export", "--dir={}/from", "--format=print"], "", segment=FIRST, tells=True),
+    Case("an import", ["import", "--dir={}/store", "--skip"], "a\t1\nb\nc\t0x32\n", tells=True),
+    Case("an import of a dump", ["import", "--dir={}/store", "--format=dump"], "VERSION=3\nHEADER=END\n 61\n 31\nDATA=END\n", tells=True),
     Case("a folder as of a frame", ["restore", "--dir={}/from", "--to={}/to", "--frame=1"], "", segment=FIRST),
 ]
 # Modes that look at segments, and keep none.
@@ -165,6 +176,8 @@ def run_of(shim, program, case, number, in_folder):
         words = [program, *case.words_in(folder)] + ["--dir=" + os.path.join(folder, "store")] * in_folder
         status, printed, told, counts = beside(shim, words, number, folder, input=case.text, preexec_fn=case.set_limit)
         wrong = left_wrong(program, case, folder, printed) if in_folder else None
+        if case.tells:
+            wrong = goes_on(program, os.path.join(folder, "from" if case.segment else "store"), {})
     return (status, printed, told.replace(folder.encode(), b"{}")), counts[0], wrong
 
 
@@ -173,6 +186,9 @@ def is_answered(case, answer, whole):
     status, printed, told = answer
     if answer == whole:
         return True
+    if case.tells:
+        # (before the words are read no mode is known, and all is printed)
+        return status == 5 and (told == REFUSED and whole[1].startswith(printed) or (printed, told) == (REFUSED, b""))
     if status != 5 or not whole[2].startswith(told):
         return False
     return printed.endswith(REFUSED) and whole[1].startswith(printed.removesuffix(REFUSED))
@@ -216,7 +232,7 @@ def main():
         program = os.path.abspath(given.program)
         for case in CASES:
             for in_folder in (False, True):
-                if (case.words[0] in LOOKS or case.segment) and in_folder or case.file_bytes is not None and not in_folder:
+                if (case.words[0] in LOOKS or case.segment or case.tells) and in_folder or case.file_bytes is not None and not in_folder:
                     continue
                 other, runs = case_wrong(shim, program, case, in_folder, given.every, pool)
                 wrong += other

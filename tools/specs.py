@@ -19,9 +19,9 @@ TOP = os.path.join(HERE, "..")
 PAGE = os.path.join(TOP, "docs", "SPECS.md")
 # The function, its file, and what it says in short.
 THEOREMS = [
-    ("settle", "bw_store", "settle.rt", "All that was accepted is in the history once, and in the log."),
+    ("settle", "bw_core", "settle.rt", "All that was accepted is in the history once, and in the log."),
     ("recover", "bw_care", "recovery.rt", "Any bytes are the log that they hold, or the first fault."),
-    ("shut", "bw_store", "segments.rt", "What a crash leaves of the segments, a flush at least is found there."),
+    ("shut", "bw_core", "segments.rt", "What a crash leaves of the segments, a flush at least is found there."),
     ("get", "bw_versions", "reader.rt", "A reader sees a published state, and never goes back."),
     ("read_frame", "bw_codec", "decoder.rt", "Bytes are a frame, the beginning of one, or neither."),
 ]

@@ -88,7 +88,7 @@ def pages_of(lines):
 
 def filled(folder):
     """How many segments have bytes."""
-    names = [name for name in os.listdir(folder) if name.startswith("segment-")] if os.path.isdir(folder) else []
+    names = [name for name in os.listdir(folder) if name.endswith(".bw")] if os.path.isdir(folder) else []
     return sum(1 for name in names if os.path.getsize(os.path.join(folder, name)))
 
 

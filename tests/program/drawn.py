@@ -487,9 +487,9 @@ def frame_behind(held, at):
 
 
 def held_in(folder):
-    """The bytes of each file."""
+    """The bytes of each segment."""
     held = {}
-    for name in os.listdir(folder):
+    for name in (it for it in os.listdir(folder) if it.endswith(".bw")):
         with open(os.path.join(folder, name), "rb") as file:
             held[name] = file.read()
     return held

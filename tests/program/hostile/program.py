@@ -62,7 +62,7 @@ def held_in(folder):
     """The bytes of each segment's file, in the order of the leases."""
     held = {}
     for name in sorted(os.listdir(folder)):
-        if name.startswith("segment-"):
+        if name.startswith("segment-") and name.endswith(".bw"):
             with open(os.path.join(folder, name), "rb") as file:
                 held[name] = file.read()
     return held

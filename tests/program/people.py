@@ -1,0 +1,289 @@
+#!/usr/bin/env python3
+"""The modes of `bwlog` for people, beside the programs that people have.
+
+    people.py [PROGRAM [NUMBER]]
+
+Without a program it takes the one that `make run` leaves. It makes 63,000 records as of a list of packages, and imports, counts, lists and
+exports them; they go to LMDB and to Berkeley DB and come back, where `mdb_load`, `mdb_dump`, `db_load` and `db_dump` are installed
+(lmdb-utils and db-util), and any bytes go to them and come back too. Then: an output that nobody reads ends a list with status 0 and
+nothing told; updates of a few keys want no more segments; a full disk is
+told, where this process may mount a small one; and NUMBER pairs of 108 bytes are imported, a million where it is not given, with the
+time and the memory that it took. What is not tried is said."""
+
+import contextlib
+import os
+import random
+import resource
+import shutil
+import subprocess
+import sys
+import tempfile
+
+HERE = os.path.dirname(os.path.abspath(__file__))
+BUILT = os.path.join(HERE, "..", "..", "crates", "bwlog", "out", "bwlog")
+PACKAGES = 63000
+# More than LMDB's map of 1 MiB holds.
+MAPSIZE = str(1 << 30)
+
+
+class Wrong(Exception):
+    """Something went otherwise than it has to."""
+
+
+def expect(found, wanted, what):
+    if found != wanted:
+        raise Wrong("%s: %.200r in place of %.200r" % (what, found, wanted))
+
+
+class Program:
+    """The program, and the folder in which its stores stand."""
+
+    def __init__(self, path, folder):
+        self.path, self.folder = os.path.abspath(path), folder
+
+    def run(self, *words, given=b""):
+        return subprocess.run([self.path, *words], input=given, capture_output=True, cwd=self.folder, check=False)
+
+    def do(self, *words, given=b""):
+        """What it prints, once it ended well and told nothing."""
+        ended = self.run(*words, given=given)
+        expect((ended.returncode, ended.stderr), (0, b""), " ".join(words))
+        return ended.stdout
+
+
+def packages():
+    """Pairs as of a list of packages: names with a version, and a line of text."""
+    drawn = random.Random(63)
+    parts = ["lib", "python3-", "golang-", "ruby-", "fonts-", "node-", "", "r-cran-"]
+    stems = ["%s%s" % (a, b) for a in ("foo", "net", "x11", "gtk", "data", "geo", "z", "qt5") for b in ("core", "utils", "tools", "io", "", "++")]
+    pairs = {}
+    while len(pairs) < PACKAGES:
+        number = len(pairs)
+        key = "%s%s-%d" % (drawn.choice(parts), drawn.choice(stems), number)
+        pairs[key.encode()] = ("%d.%d-%d%s; %s" % (number % 9, number % 23, number % 5, "~é"[number % 2], "x" * drawn.randrange(200))).encode()
+    return pairs
+
+
+def any_bytes():
+    """Pairs of any bytes, those among them that an escape could take for its own."""
+    drawn = random.Random(7)
+    odd = [b"0x", b"0x00", b"0X00", b"\\", b"\\\\", b"\\00", b" ", b"\t", b"\n", b"\r", b"\r\n", b"\x00", b"\xff", b"#", b"=", b"DATA=END", b"\x7f", b"\xc2\x80"]
+    pairs = {key: value for key in odd for value in odd}
+    pairs.update((key + tail, tail + key) for key in odd for tail in odd)
+    pairs.update((bytes([byte]), bytes([byte]) * 512) for byte in range(256))
+    for _ in range(2000):
+        pairs[drawn.randbytes(drawn.randrange(1, 129))] = drawn.randbytes(drawn.randrange(513))
+    return pairs
+
+
+def in_hex(pairs):
+    return b"".join(b"0x%s\t0x%s\n" % (key.hex().encode(), pairs[key].hex().encode()) for key in sorted(pairs))
+
+
+def as_dump(pairs):
+    data = b"".join(b" %s\n %s\n" % (key.hex().encode(), value.hex().encode()) for key, value in pairs.items())
+    return b"VERSION=3\nformat=bytevalue\ntype=btree\nHEADER=END\n%sDATA=END\n" % data
+
+
+def pipes(program, pairs):
+    """Pairs go in by lines and by dumps, and out again in each form."""
+    lines = in_hex(pairs)
+    expect(program.do("import", "--dir", "by-lines", given=lines), b"imported %d\n" % len(pairs), "import")
+    expect(program.do("import", "--dir", "by-dump", "--format", "dump", given=as_dump(pairs)), b"imported %d\n" % len(pairs), "import")
+    for folder in ("by-lines", "by-dump"):
+        expect(program.do("count", "--dir", folder), b"%d\n" % len(pairs), "count")
+        expect(program.do("list", "--dir", folder, "--hex"), lines, "list")
+        back = b"".join(reversed(lines.splitlines(True)))
+        expect(program.do("list", "--dir", folder, "--hex", "--reverse"), back, "list --reverse")
+    written = program.do("export", "--dir", "by-lines")
+    for number, form in enumerate(("lines", "dump", "print")):
+        folder = "again-%d" % number
+        taken = program.do("export", "--dir", "by-lines", "--format", form)
+        read = "lines" if form == "lines" else "dump"
+        program.do("import", "--dir", folder, "--format", read, given=taken)
+        expect(program.do("export", "--dir", folder), written, "export --format %s and back" % form)
+    for key in random.Random(5).sample(sorted(pairs), 20):
+        expect(program.do("get", "--dir", "by-lines", "--raw", "0x" + key.hex()), pairs[key], "get")
+
+
+def tool(*words, given=b""):
+    ended = subprocess.run(words, input=given, capture_output=True, check=False)
+    expect((ended.returncode, ended.stderr), (0, b""), " ".join(words))
+    return ended.stdout
+
+
+def through_lmdb(program, pairs):
+    """Pairs go to LMDB in both formats, and come back in both. (mdb_dump -p of LMDB 0.9 writes a backslash as it is, which mdb_load does not
+    read either, so pairs with one come back as bytevalue.)"""
+    plain = [] if any(b"\\" in key + value for key, value in pairs.items()) else ["-p"]
+    if not shutil.which("mdb_load") or not shutil.which("mdb_dump"):
+        return "not tried: mdb_load and mdb_dump are not installed (lmdb-utils)"
+    written = program.do("export", "--dir", "by-lines")
+    for form, flags in (("dump", []), ("print", plain)):
+        other = os.path.join(program.folder, "lmdb-" + form)
+        os.mkdir(other)
+        tool("mdb_load", other, given=program.do("export", "--dir", "by-lines", "--format", form, "--mapsize", MAPSIZE))
+        folder = "from-lmdb-" + form
+        told = program.do("import", "--dir", folder, "--format", "dump", given=tool("mdb_dump", *flags, other))
+        expect(told, b"imported %d\n" % len(pairs), "import of mdb_dump")
+        expect(program.do("export", "--dir", folder), written, "through LMDB")
+    return "%d pairs went to LMDB as bytevalue and as print, and came back%s" % (len(pairs), " as both" if plain else "")
+
+
+def through_berkeley(program, pairs):
+    """The same of Berkeley DB."""
+    if not shutil.which("db_load") or not shutil.which("db_dump"):
+        return "not tried: db_load and db_dump are not installed (db-util)"
+    written = program.do("export", "--dir", "by-lines")
+    for form, flags in (("dump", []), ("print", ["-p"])):
+        other = os.path.join(program.folder, "berkeley-%s.db" % form)
+        tool("db_load", other, given=program.do("export", "--dir", "by-lines", "--format", form))
+        folder = "from-berkeley-" + form
+        told = program.do("import", "--dir", folder, "--format", "dump", given=tool("db_dump", *flags, other))
+        expect(told, b"imported %d\n" % len(pairs), "import of db_dump")
+        expect(program.do("export", "--dir", folder), written, "through Berkeley DB")
+    return "%d pairs went to Berkeley DB and came back, as bytevalue and as print" % len(pairs)
+
+
+def closed_pipe(program, words):
+    """The first line of a list, of which nobody reads the rest."""
+    with subprocess.Popen([program.path, *words], stdout=subprocess.PIPE, stderr=subprocess.PIPE, cwd=program.folder) as child:
+        line = child.stdout.readline()
+        child.stdout.close()
+        told = child.stderr.read()
+        expect((child.wait(timeout=60), told), (0, b""), " ".join(words) + " | head -1")
+    return line
+
+
+def closed_pipes(program):
+    first = program.do("list", "--dir", "by-lines", "--limit", "1")
+    expect(closed_pipe(program, ["list", "--dir", "by-lines"]), first, "the first line")
+    expect(closed_pipe(program, ["export", "--dir", "by-lines", "--format", "dump"]), b"VERSION=3\n", "the first line")
+    # Nobody reads from the beginning.
+    end, other = os.pipe()
+    os.close(end)
+    for words in (["list"], ["count"], ["get", "k"], ["export"]):
+        program.do("put", "--dir", "small", "k", "v")
+        ended = subprocess.run([program.path, *words, "--dir", "small"], stdout=other, stderr=subprocess.PIPE, cwd=program.folder, check=False)
+        expect((ended.returncode, ended.stderr), (0, b""), words[0] + " into a closed pipe")
+    os.close(other)
+    return "an output that nobody reads ends a run with status 0"
+
+
+def updates(program):
+    """Updates of a hundred keys, of more bytes than the segments have room for at the beginning."""
+    rounds, value = 4000, b"v" * 400
+    lines = b"".join(b"k%d\t%s%d\n" % (key, value, turn) for turn in range(rounds) for key in range(100))
+    expect(program.do("import", "--dir", "updated", given=lines), b"imported %d\n" % (100 * rounds), "import")
+    expect(program.do("count", "--dir", "updated"), b"100\n", "count")
+    wanted = b"".join(b"k%d\t%s%d\n" % (key, value, rounds - 1) for key in sorted(range(100), key=str))
+    expect(program.do("list", "--dir", "updated"), wanted, "list")
+    files = [name for name in os.listdir(os.path.join(program.folder, "updated")) if name.endswith(".bw")]
+    if len(files) > 5:
+        raise Wrong("updates left %d segments" % len(files))
+    return "%d updates of 100 keys, %d MB, stand in %d segments" % (100 * rounds, len(lines) // 1000000, len(files))
+
+
+@contextlib.contextmanager
+def small_disk(folder, size):
+    """A disk of so many bytes, where this process may mount one; else nothing."""
+    os.mkdir(folder)
+    mounted = subprocess.run(["mount", "-t", "tmpfs", "-o", "size=%d" % size, "tmpfs", folder], capture_output=True, check=False).returncode == 0
+    try:
+        yield mounted
+    finally:
+        if mounted:
+            subprocess.run(["umount", folder], check=True)
+
+
+def full_disk(program):
+    """An import into a disk that gets full is refused, what was durable before stays, and a put goes in once there is room."""
+    folder = os.path.join(program.folder, "disk")
+    with small_disk(folder, 4 << 20) as is_there:
+        if not is_there:
+            return "a full disk is not tried: a tmpfs cannot be mounted here"
+        program.do("put", "--dir", "disk/store", "before", "there")
+        lines = b"".join(b"k%06d\t%s\n" % (key, b"v" * 200) for key in range(50000))
+        ended = program.run("import", "--dir", "disk/store", given=lines)
+        expect((ended.returncode, ended.stdout), (4, b""), "import into a full disk")
+        if b"is its disk full?" not in ended.stderr:
+            raise Wrong("a full disk was told as %r" % ended.stderr)
+        expect(program.do("get", "--dir", "disk/store", "before"), b"there\n", "get on a full disk")
+        listed = program.do("list", "--dir", "disk/store", "--prefix", "k")
+        if not lines.startswith(listed):
+            raise Wrong("other pairs stand on a full disk than the first ones")
+        ended = program.run("put", "--dir", "disk/store", "behind", "v" * 500)
+        told = "%d of 50000 pairs stand on a full disk, and a put there ends with status %d" % (listed.count(b"\n"), ended.returncode)
+        subprocess.run(["mount", "-o", "remount,size=%d" % (16 << 20), folder], check=True)
+        program.do("put", "--dir", "disk/store", "behind", "there")
+        expect(program.do("get", "--dir", "disk/store", "behind"), b"there\n", "get with room again")
+    return told
+
+
+# Run by an interpreter of its own: the greatest resident set of a process is never told below that of the one that began it.
+TIMED = """
+import os, subprocess, sys, time
+begun = time.monotonic()
+child = subprocess.Popen(sys.argv[1:], stdout=subprocess.PIPE)
+text = child.stdout.read()
+sys.stdout.write("" if sys.argv[2] == "export" else text.decode())
+_, status, usage = os.wait4(child.pid, 0)
+figures = (time.monotonic() - begun, usage.ru_utime + usage.ru_stime, usage.ru_maxrss >> 10)
+sys.stderr.write("%.1f s, %.1f s of the processor, %d MiB" % figures)
+sys.exit(os.waitstatus_to_exitcode(status))
+"""
+
+
+def timed(program, *words, given=None):
+    """What a run printed, how long it took, its processor time, and the memory that it touched at most."""
+    words = [sys.executable, "-c", TIMED, program.path, *words]
+    ended = subprocess.run(words, stdin=given, capture_output=True, cwd=program.folder, check=False)
+    expect(ended.returncode, 0, " ".join(words[3:]))
+    return ended.stdout, ended.stderr.decode()
+
+
+def import_many(program, number):
+    """So many pairs of 8 and 100 bytes, in a drawn order."""
+    keys = list(range(number))
+    random.Random(1).shuffle(keys)
+    path = os.path.join(program.folder, "many.txt")
+    with open(path, "wb") as file:
+        file.writelines(b"%08d\t%s\n" % (key, b"v" * 100) for key in keys)
+    with open(path, "rb") as file:
+        printed, imported = timed(program, "import", "--dir", "many", given=file)
+    expect(printed, b"imported %d\n" % number, "import")
+    printed, counted = timed(program, "count", "--dir", "many")
+    expect(printed, b"%d\n" % number, "count")
+    _, got = timed(program, "get", "--dir", "many", "00000007")
+    _, exported = timed(program, "export", "--dir", "many")
+    return "%d pairs of 108 bytes: import %s; count %s; get %s; export %s" % (number, imported, counted, got, exported)
+
+
+def main():
+    path = sys.argv[1] if len(sys.argv) > 1 else BUILT
+    number = int(sys.argv[2]) if len(sys.argv) > 2 else 1000000
+    if not os.path.isfile(path):
+        print("there is no program: make run builds it")
+        return 1
+    resource.setrlimit(resource.RLIMIT_CORE, (0, 0))
+    sets = {"packages": packages(), "any bytes": any_bytes()}
+    try:
+        for name, pairs in sets.items():
+            with tempfile.TemporaryDirectory() as folder:
+                program = Program(path, folder)
+                pipes(program, pairs)
+                print("%s: %d pairs go in and out" % (name, len(pairs)))
+                print(through_lmdb(program, pairs))
+                print(through_berkeley(program, pairs))
+                print(closed_pipes(program))
+        with tempfile.TemporaryDirectory() as folder:
+            program = Program(path, folder)
+            for told in (updates(program), full_disk(program), import_many(program, number)):
+                print(told)
+    except Wrong as wrong:
+        print(wrong)
+        return 1
+    return 0
+
+
+sys.exit(main())
