@@ -5,12 +5,12 @@ use Rattle.std.proofs.Common.{refl, sym, ap, ◌∙◌, subst, Less, Equal, Grea
 use Rattle.std.specs.Prelude.{is_some, not, Result, Ok, Err, OnOk, OnErr}
 use Rattle.std.specs.Ordering.{MatchOrdering, nat_cmp, is_eq, is_lt, is_gt}
 use Rattle.std.specs.Cmp.{ranked}
-use Rattle.bw_codec.specs.Bytes.{is_below, IsBytes}
-use Rattle.bw_codec.specs.Heads.{head}
-use Rattle.bw_codec.proofs.HeadRows.{below_by_head}
-use Rattle.bw_page.specs.Leaves.{Bytes, order}
+use Rattle.bw_record.specs.Keys.{is_below, IsBytes}
+use Rattle.bw_record.specs.Heads.{head}
+use Rattle.bw_record.proofs.HeadRows.{below_by_head}
+use Rattle.bw_leaf.specs.Changed.{Bytes, order}
 use Rattle.bw_page.specs.LowHeads.{IsGreatestLow, HasNoLow, IsOnlyLow, AreHeads}
-use Rattle.bw_page.proofs.Order.{UpTo, below_upto, upto-refl, greater_is_below, tied, not_both}
+use Rattle.bw_leaf.proofs.Order.{UpTo, below_upto, upto-refl, greater_is_below, tied, not_both}
 
 -- ---- a search
 

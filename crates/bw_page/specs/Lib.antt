@@ -4,8 +4,6 @@ pub mod Leaves
 pub mod Shown
 pub mod Batch
 pub mod Standing
-pub mod Links
-pub mod Words
 pub mod Lows
 pub mod Ahead
 pub mod Laws
@@ -15,12 +13,8 @@ pub mod LowHeads
 pub mod LowIndex
 pub mod Index
 pub mod Beginning
-pub mod Linked
-pub mod Marks
 pub mod Seats
 pub mod Seating
-pub mod Seek
-pub mod Drafting
 pub mod Aim
 pub mod Cutting
 pub mod Displaced

@@ -3,9 +3,9 @@
 use Rattle.std.specs.Prelude.{ℕ, ◌≡◌, List, Option, Some, None, IsSome, IsTrue, false}
 use Rattle.std.specs.BTreeMap.{is_at}
 use Rattle.std.specs.Map.{lookup}
-use Rattle.bw_codec.specs.Bytes.{is_below, IsBytes}
-use Rattle.bw_codec.specs.Heads.{head}
-use Rattle.bw_page.specs.Leaves.{Bytes, order}
+use Rattle.bw_record.specs.Keys.{is_below, IsBytes}
+use Rattle.bw_record.specs.Heads.{head}
+use Rattle.bw_leaf.specs.Changed.{Bytes, order}
 
 -- the page of a low
 abbrev pub page_of_low : List (Bytes × ℕ) → Bytes → Option ℕ

@@ -3,7 +3,7 @@
 use Rattle.std.specs.BTreeMap as tree
 use Rattle.std.specs.Ordering.{nat_cmp}
 use Rattle.bw_page.specs.declared.lows.LowIndex.TheInside.{Inside}
-use Rattle.bw_page.specs.Leaves.{order}
+use Rattle.bw_leaf.specs.Changed.{order}
 use Rattle.bw_page.specs.LowHeads.{AreHeads}
 
 abbrev pub IsHeaded : Inside → Type 0

@@ -5,7 +5,7 @@
 
 ghost use Rattle.std.specs.Prelude.{◌≡◌, [], None, Some, if◌then◌else◌, IfSome, OnOk, OnErr};
 ghost use Rattle.std.specs.Ordering.{eq_by_cmp};
-ghost use Rattle.bw_page.specs.Leaves.{Bytes, order};
+ghost use Rattle.bw_leaf.specs.Changed.{Bytes, order};
 ghost use Rattle.bw_page.specs.LowHeads.{page_of_low, IsGreatestLow, HasNoLow, IsLeastLow, HasNoHigher};
 
 use bw_codec::Key;
@@ -29,7 +29,7 @@ pub(crate) struct LowIndex {
 
 impl Model for LowIndex {
     ghost use Rattle.std.specs.Prelude.{ℕ, List};
-    ghost use Rattle.bw_page.specs.Leaves.{Bytes};
+    ghost use Rattle.bw_leaf.specs.Changed.{Bytes};
 
     ghost Value = { List (Bytes × ℕ) };
 

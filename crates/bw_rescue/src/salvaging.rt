@@ -3,16 +3,12 @@
 use crate::copying::Copied;
 use crate::fault::RescueFault;
 use crate::load::load;
-use crate::lost::Loss;
-use crate::order::pairs_of;
-use crate::pages::Pages;
-use crate::pieces::sums_beside;
 use crate::target::Target;
-use crate::whole::{Held, frame_at};
 use bw_care::RecoverCause;
 use bw_codec::Leaf;
 use bw_file::{FolderFault, FolderReader};
 use bw_home::{Options, System};
+use bw_remains::{Held, Loss, Pages, frame_at, pairs_of, sums_beside};
 use std::alloc::{AllocError, Global};
 use std::collections::BTreeMap;
 

@@ -1,5 +1,5 @@
 use Rattle.std.proofs.Common.{subst, sym, List, ℕ}
-use Rattle.bw_page.specs.Leaves.{Bytes}
+use Rattle.bw_leaf.specs.Changed.{Bytes}
 use Rattle.bw_page.specs.LowHeads.{page_of_low, IsLeastLow}
 use Rattle.bw_page.proofs.Ahead.{first_of_range}
 use Rattle.bw_page.proofs.lows.LowIndex.above.Goals as goal

@@ -1,7 +1,7 @@
 use Rattle.std.proofs.Common.{subst, List, ℕ}
 use Rattle.std.specs.BTreeMap as tree
 use Rattle.std.specs.Ordering.{nat_cmp}
-use Rattle.bw_page.specs.Leaves.{Bytes}
+use Rattle.bw_leaf.specs.Changed.{Bytes}
 use Rattle.bw_page.specs.LowHeads.{page_of_low, IsGreatestLow, HasNoLow}
 use Rattle.bw_page.proofs.HeadedLows.{empty_heads, last_of_heads}
 use Rattle.bw_page.proofs.lows.LowIndex.find.Goals as goal

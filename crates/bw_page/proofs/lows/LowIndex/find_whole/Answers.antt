@@ -1,5 +1,5 @@
 use Rattle.std.proofs.Common.{subst, List, ℕ}
-use Rattle.bw_page.specs.Leaves.{Bytes}
+use Rattle.bw_leaf.specs.Changed.{Bytes}
 use Rattle.bw_page.specs.LowHeads.{page_of_low, IsGreatestLow, HasNoLow}
 use Rattle.bw_page.proofs.HeadedLows.{empty_range, last_of_range}
 use Rattle.bw_page.proofs.lows.LowIndex.find_whole.Goals as goal

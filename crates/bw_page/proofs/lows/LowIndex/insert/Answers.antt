@@ -2,11 +2,11 @@ use Rattle.std.proofs.Common.{◌≡◌, ℕ, cond, Some, refl, subst, sym, ap, 
 use Rattle.std.specs.BTreeMap as tree
 use Rattle.std.specs.Ordering.{nat_cmp, eq_by_cmp}
 use Rattle.std.specs.Cmp.{eq_by_cmp_equiv}
-use Rattle.bw_codec.specs.Heads.{head}
-use Rattle.bw_page.specs.Leaves.{Bytes, order}
+use Rattle.bw_record.specs.Heads.{head}
+use Rattle.bw_leaf.specs.Changed.{Bytes, order}
 use Rattle.bw_page.specs.LowHeads.{page_of_low, IsOnlyLow, AreHeads}
-use Rattle.bw_page.proofs.Order.{order-total}
-use Rattle.bw_page.proofs.Indexed.{itself}
+use Rattle.bw_leaf.proofs.Order.{order-total}
+use Rattle.bw_leaf.proofs.Order.{itself}
 use Rattle.bw_page.proofs.HeadedLows.{heads_set, lows_set, only_low, own_head, none_told}
 use Rattle.bw_page.proofs.lows.LowIndex.insert.Goals as goal
 

@@ -4,9 +4,9 @@ use Rattle.std.specs.BTreeMap as tree
 use Rattle.std.specs.Map.{lookup}
 use Rattle.std.specs.Ordering.{nat_cmp, eq_by_cmp}
 use Rattle.std.specs.Cmp.{eq_by_cmp_equiv}
-use Rattle.bw_page.specs.Leaves.{Bytes, order}
+use Rattle.bw_leaf.specs.Changed.{Bytes, order}
 use Rattle.bw_page.specs.LowHeads.{page_of_low}
-use Rattle.bw_page.proofs.Order.{order-total}
+use Rattle.bw_leaf.proofs.Order.{order-total}
 use Rattle.bw_page.proofs.HeadedLows.{heads_marked, lows_set}
 use Rattle.bw_page.proofs.lows.LowIndex.remove.Goals as goal
 
