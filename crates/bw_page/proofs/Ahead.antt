@@ -15,7 +15,7 @@ use Rattle.bw_record.specs.declared.leaf.Leaf.{Leaf}
 use Rattle.bw_leaf.specs.Changed.{Bytes, Pairs, order}
 use Rattle.bw_page.specs.Leaves.{home, union, AtHome, AreLeaves}
 use Rattle.bw_page.specs.Lows.{lows_of}
-use Rattle.bw_page.specs.LowHeads.{IsLeastLow, HasNoHigher}
+use Rattle.bw_lows.specs.LowHeads.{IsLeastLow, HasNoHigher}
 use Rattle.bw_leaf.specs.Above.{pair_above}
 use Rattle.bw_page.specs.Ahead.{HasNoPair, IsFirstPair, HasCome, HasNoLowAbove, IsNextLow, ahead}
 use Rattle.bw_leaf.specs.Seek.{seek_of, passed, end_of}
@@ -177,25 +177,6 @@ module _ (m : ℕ) (q : Bytes) (leaves : List Leaf) (a : AreLeaves m leaves) (go
       all-map (λ l. Below q l.low → IsSome (got l.low)) (λ l. UpTo l.low q)
       (λ l some. must_not (is_below q l.low) (λ b. let no : IsSome {T = ℕ} None = subst (λ (o : Option ℕ). IsSome o) (none l.low b) (some b)
       in absurd (cc))) leaves got_each
-
-is_less : (o : Ordering) → is_lt o ≡ true → o ≡ Less
-is_less Less h = refl
-is_less Equal h = cc
-is_less Greater h = cc
-
--- what a range behind a key tells of its first entry
-pub first_of_range : (lows : Bytes → Option ℕ) (key low : Bytes) (page : ℕ) (r rest : List (Bytes × ℕ)) → r ≡ (low, page) ∷ rest
-    → IfSome (slice_get r 0) (λ e. ((order key e.0 ≡ Less) × Unit {0}) × (lows e.0 ≡ Some e.1))
-    → ((q : Bytes) → (order key q ≡ Less) × Unit {0} → IsSome (lows q) → IfSome (slice_get r 0) (λ e. is_gt (order e.0 q) ≡ false)) → IsLeastLow lows key low
-first_of_range lows key low page r rest e first least =
-    let its = subst (λ (x : List (Bytes × ℕ)). IfSome (slice_get x 0) (λ e. ((order key e.0 ≡ Less) × Unit {0}) × (lows e.0 ≡ Some e.1))) e first in
-    let each = subst (λ (x : List (Bytes × ℕ)). (q : Bytes) → (order key q ≡ Less) × Unit {0} → IsSome (lows q)
-    → IfSome (slice_get x 0) (λ e. is_gt (order e.0 q) ≡ false)) e least in
-    record {
-      its = subst (λ (o : Option ℕ). IsSome o) (sym its.1) refl;
-      above = ap is_lt its.0.0;
-      least = λ q b some. sym (greater_is_below low q) ∙ each q (is_less (order key q) b, tt) some;
-    }
 
 pub if_some_map : {X : Type 0} (P Q : X → Type 0) (o : Option X) → ((x : X) → P x → Q x) → IfSome o P → IfSome o Q
 if_some_map P Q None f h = tt

@@ -16,7 +16,7 @@ use Rattle.bw_record.specs.declared.record.Record.{Record}
 use Rattle.bw_page.specs.declared.leaves.Leaves.TheInside.{Inside}
 use Rattle.bw_leaf.specs.Changed.{Bytes, order, empty_leaf, changed, changed_map}
 use Rattle.bw_page.specs.Leaves.{home, AreLeaves, BeginsEmpty, HasPage, lower_of, upper_of, applied, union}
-use Rattle.bw_page.specs.LowHeads.{page_of_low}
+use Rattle.bw_lows.specs.LowHeads.{page_of_low}
 use Rattle.bw_page.specs.Shown.{Shown, applied_by}
 use Rattle.bw_leaf.specs.Seek.{seek_of, IsWithin}
 use Rattle.bw_page.specs.Lows.{lows_of}

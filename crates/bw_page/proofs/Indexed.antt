@@ -11,7 +11,7 @@ use Rattle.bw_record.specs.declared.leaf.Leaf.{Leaf}
 use Rattle.bw_leaf.specs.Changed.{Bytes, order, empty_leaf}
 use Rattle.bw_page.specs.Leaves.{best, home, leaf_at, AreNumbered, AreLeaves}
 use Rattle.bw_page.specs.Lows.{lows_of}
-use Rattle.bw_page.specs.LowHeads.{IsGreatestLow, HasNoLow}
+use Rattle.bw_lows.specs.LowHeads.{IsGreatestLow, HasNoLow}
 use Rattle.bw_page.specs.Shown.{HasGreatestLow, TakesKey}
 use Rattle.bw_leaf.proofs.Order.{UpTo, order-total, upto_empty, upto-antisymm, tied, itself}
 use Rattle.bw_leaf.proofs.Sorted.{all-map, all-zip}

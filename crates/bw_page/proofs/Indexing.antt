@@ -11,7 +11,7 @@ use Rattle.bw_record.specs.declared.leaf.Leaf.{Leaf}
 use Rattle.bw_page.specs.declared.leaves.Leaves.TheInside.{Inside}
 use Rattle.bw_leaf.specs.Changed.{Bytes, order}
 use Rattle.bw_page.specs.Leaves.{AreNumbered, AreLeaves}
-use Rattle.bw_page.specs.LowHeads.{page_of_low}
+use Rattle.bw_lows.specs.LowHeads.{page_of_low}
 use Rattle.bw_page.specs.Lows.{lows_of}
 use Rattle.bw_page.specs.Index.{IsIndexed}
 use Rattle.bw_leaf.proofs.Sorted.{all-map, all-zip}

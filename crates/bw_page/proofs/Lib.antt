@@ -3,7 +3,6 @@ pub mod Rows
 pub mod Homes
 pub mod Applying
 pub mod Law
-pub mod HeadedLows
 pub mod Indexed
 pub mod Closed
 pub mod Bases

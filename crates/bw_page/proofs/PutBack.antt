@@ -19,7 +19,7 @@ use Rattle.bw_page.specs.declared.journal.Undo.TheVariants.{Back, Page}
 use Rattle.bw_page.specs.Displaced.{Displaced, joined, AreParts}
 use Rattle.bw_leaf.specs.Changed.{Bytes, order, empty_leaf, changed}
 use Rattle.bw_page.specs.Leaves.{home, result_of, lower_of, upper_of, with_leaf, applied, AreLeaves}
-use Rattle.bw_page.specs.LowHeads.{page_of_low}
+use Rattle.bw_lows.specs.LowHeads.{page_of_low}
 use Rattle.bw_page.specs.Seats.{Seating, is_among}
 use Rattle.bw_leaf.specs.Seek.{seek_of, AddsNone, back_of}
 use Rattle.bw_page.specs.Shown.{Shown, IsHere}

@@ -5,7 +5,7 @@ use Rattle.std.specs.FinMap.Entries.{find}
 use Rattle.bw_page.specs.declared.leaves.Leaves.TheInside.{Inside}
 use Rattle.bw_leaf.specs.Changed.{Bytes, order}
 use Rattle.bw_page.specs.Leaves.{AreLeaves}
-use Rattle.bw_page.specs.LowHeads.{page_of_low}
+use Rattle.bw_lows.specs.LowHeads.{page_of_low}
 use Rattle.bw_page.specs.Shown.{Shown}
 use Rattle.bw_page.specs.Lows.{lows_of}
 

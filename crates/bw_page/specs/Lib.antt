@@ -9,8 +9,6 @@ pub mod Ahead
 pub mod Laws
 -- what private functions say, and how values stand in memory
 
-pub mod LowHeads
-pub mod LowIndex
 pub mod Index
 pub mod Beginning
 pub mod Seats

@@ -8,13 +8,13 @@ ghost use Rattle.bw_record.specs.declared.record.Record.TheVariants.{Put};
 ghost use Rattle.bw_leaf.specs.Changed.{Bytes, order, changed};
 ghost use Rattle.bw_page.specs.Leaves.{lower_of, upper_of};
 ghost use Rattle.bw_page.specs.Cutting.{changed_at};
-ghost use Rattle.bw_page.specs.LowHeads.{page_of_low};
+ghost use Rattle.bw_lows.specs.LowHeads.{page_of_low};
 ghost use Rattle.bw_page.specs.Seats.{is_among};
 ghost use Rattle.bw_leaf.specs.Seek.{seek_of, IsWithin, AddsOne};
 
-use crate::lows::LowIndex;
 use crate::seats::Seats;
 use bw_codec::{Leaf, Low, Packed, Pair};
+use bw_lows::LowIndex;
 use std::alloc::{AllocError, Global};
 
 /// A leaf that was cut in two.

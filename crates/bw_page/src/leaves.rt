@@ -28,11 +28,11 @@ use crate::cuts::cut_at;
 use crate::fault::ApplyError;
 use crate::index::{copy_all, index_of};
 use crate::journal::Displaced;
-use crate::lows::LowIndex;
 use crate::seats::Seats;
 pub use batch::{HasRecord, Step};
 use bw_codec::{Key, Leaf, Packed, Value};
 use bw_leaf::{count_packed, empty_page, find_key};
+use bw_lows::LowIndex;
 use std::alloc::{AllocError, Global};
 use std::marker::Model;
 

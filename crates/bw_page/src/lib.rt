@@ -25,7 +25,6 @@ mod index;
 mod journal;
 mod laws;
 mod leaves;
-mod lows;
 mod seats;
 mod start;
 

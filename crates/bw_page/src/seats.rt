@@ -13,16 +13,16 @@ ghost use Rattle.bw_record.specs.Keys.{ascends};
 ghost use Rattle.std.specs.Ordering.{eq_by_cmp};
 ghost use Rattle.bw_leaf.specs.Changed.{Bytes, order, changed};
 ghost use Rattle.bw_page.specs.Leaves.{lower_of, upper_of};
-ghost use Rattle.bw_page.specs.LowHeads.{page_of_low};
+ghost use Rattle.bw_lows.specs.LowHeads.{page_of_low};
 ghost use Rattle.bw_page.specs.Cutting.{changed_at};
 ghost use Rattle.bw_page.specs.Seats.{is_among};
 ghost use Rattle.bw_leaf.specs.Seek.{seek_of, back_of, IsWithin, AddsNone, AddsOne};
 ghost use Rattle.bw_record.specs.Record.{key_of};
 
 use crate::cuts::cut_leaf;
-use crate::lows::LowIndex;
 use bw_codec::{Leaf, Packed, base_length};
 use bw_leaf::{change_found, take_back};
+use bw_lows::LowIndex;
 use std::alloc::{AllocError, Global};
 use std::marker::Model;
 use std::mem;

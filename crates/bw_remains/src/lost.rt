@@ -8,6 +8,8 @@ use std::fmt::{self, Display, Formatter};
 pub enum Loss {
     /// The file of a lease was not read.
     File { lease: u32, fault: FolderFault },
+    /// The digests beside the file of a lease were not read: its pieces were taken without them.
+    Sums { lease: u32, fault: FolderFault },
     /// A piece of a file, from one byte to another, has not its digest, and is no frame but has some:
     /// these were taken as they are.
     Unchecked { lease: u32, from: u64, to: u64 },
@@ -23,6 +25,7 @@ impl Display for Loss {
     fn fmt<W: fmt::Write>(&self, f: &mut Formatter<W>) -> fmt::Result {
         match self {
             Loss::File { lease, fault } => write!(f, "segment-{lease:04}.bw not read: {fault}"),
+            Loss::Sums { lease, fault } => write!(f, "segment-{lease:04}.sum not read: {fault}"),
             Loss::Unchecked { lease, from, to } => write!(
                 f,
                 "segment-{lease:04}.bw unchecked from {from} to {to}"

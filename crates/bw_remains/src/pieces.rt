@@ -9,6 +9,7 @@ use byteorder::{ByteOrder, LittleEndian};
 use std::alloc::{AllocError, Global};
 use std::fs;
 use std::hash::{DefaultHasher, Hasher};
+use std::io::ErrorKind;
 
 /// A piece of a file, of which a sum tells that counts.
 #[derive(Clone, Copy)]
@@ -141,12 +142,13 @@ fn plain_bytes<R: System>(rt: &R, name: &str) -> Result<Vec<u8>, FolderFault> {
     Ok(fs::read(rt, name)?)
 }
 
-/// The bytes of the sums beside the file of a lease; none where they cannot be read.
-pub fn sums_beside<R: System>(rt: &R, folder: &str, lease: u32) -> Result<Vec<u8>, AllocError> {
+/// The bytes of the sums beside the file of a lease; none where there is no such file.
+pub fn sums_beside<R: System>(rt: &R, folder: &str, lease: u32) -> Result<Vec<u8>, FolderFault> {
     let name = format!(in rt.alloc(); "{folder}/segment-{lease:04}.sum")?;
     match plain_bytes(rt, name.as_str()) {
-        Ok(sums) => Ok(sums),
-        Err(FolderFault::NoMemory) => Err(AllocError),
-        Err(_) => Ok(Vec::new(rt.alloc())),
+        Err(FolderFault::System(error)) if error.kind() == ErrorKind::NotFound => {
+            Ok(Vec::new(rt.alloc()))
+        }
+        read => read,
     }
 }

@@ -66,13 +66,31 @@ impl Wreck {
     ) -> Result<(), AllocError> {
         match reader.bytes(rt, lease) {
             Ok(bytes) => {
-                let sums = sums_beside(rt, path, lease)?;
+                let sums = self.sums_of(rt, path, lease)?;
                 self.add(rt.alloc(), lease, bytes, sums.as_slice())
             }
             Err(FolderFault::NoMemory) => Err(AllocError),
             Err(fault) => {
                 self.losses.push(Loss::File { lease, fault })?;
                 Ok(())
+            }
+        }
+    }
+
+    /// The digests beside the file of a lease; none where there are none, or they are not read, which
+    /// is told.
+    fn sums_of<R: System>(
+        &mut self,
+        rt: &R,
+        path: &str,
+        lease: u32,
+    ) -> Result<Vec<u8>, AllocError> {
+        match sums_beside(rt, path, lease) {
+            Ok(sums) => Ok(sums),
+            Err(FolderFault::NoMemory) => Err(AllocError),
+            Err(fault) => {
+                self.losses.push(Loss::Sums { lease, fault })?;
+                Ok(Vec::new(rt.alloc()))
             }
         }
     }

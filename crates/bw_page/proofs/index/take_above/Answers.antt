@@ -3,7 +3,7 @@ use Rattle.std.specs.Ordering.{eq_by_cmp}
 use Rattle.bw_record.specs.Keys.{IsKey}
 use Rattle.bw_record.specs.declared.leaf.Leaf.{Leaf}
 use Rattle.bw_leaf.specs.Changed.{order}
-use Rattle.bw_page.specs.LowHeads.{page_of_low}
+use Rattle.bw_lows.specs.LowHeads.{page_of_low}
 use Rattle.bw_page.proofs.index.take_above.Goals as goal
 
 -- the leaf that goes is that of the page above

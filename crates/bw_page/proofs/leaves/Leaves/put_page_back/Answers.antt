@@ -6,7 +6,7 @@ use Rattle.bw_page.specs.declared.journal.Undo.TheVariants.{Page}
 use Rattle.bw_page.specs.Index.{view_of}
 use Rattle.bw_page.specs.Journal.{undone}
 use Rattle.bw_leaf.specs.Changed.{order}
-use Rattle.bw_page.specs.LowHeads.{page_of_low}
+use Rattle.bw_lows.specs.LowHeads.{page_of_low}
 use Rattle.bw_page.specs.Seats.{is_among}
 use Rattle.bw_page.specs.Shown.{Shown}
 use Rattle.bw_page.proofs.Closed.{same_gets}
