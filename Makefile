@@ -38,6 +38,7 @@ test:
 	python3 tests/program/clients.py
 	python3 tests/program/sums.py
 	python3 tests/program/rescue.py
+	python3 tests/program/failing.py
 	python3 tests/program/steady.py
 	python3 tests/program/people.py crates/bwlog/out/bwlog 100000
 	python3 tests/program/growth.py
