@@ -75,7 +75,8 @@ fn main() -> Result<()> {
     // Another run has to wait for this one, and its words say so.
     assert_eq!(told(Store::open(&words[1], &words[2])), format!("folder {}: in use", words[2]));
     assert!(store.add()?.starts_with("added "));
-    assert!(store.flush()?.is_some());
+    store.put(b"late", b"1")?;
+    assert!(store.flush()?.is_some() && store.flush()?.is_none());
     store.put(b"lost", b"1")?;
     drop(store);
     let mut store = Store::open(&words[1], &words[2])?;
