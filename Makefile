@@ -31,6 +31,7 @@ test:
 	python3 tools/specs.py --check
 	python3 tools/surface.py
 	RT_JOBS=$(JOBS) rt ci
+	python3 tools/manual.py --check
 	python3 tests/program/cases.py
 	python3 tests/program/drawn.py
 	python3 tests/program/fuzz.py --cases 500
