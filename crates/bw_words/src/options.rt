@@ -2,7 +2,7 @@
 
 use crate::mode::{Ends, Manner, Mode, Options, Pace, View};
 use crate::people::{FORMS as OVER_KEYS, keys_in};
-use crate::table::{ABOUT, FORMS, Form, Kind, Row, VERSION};
+use crate::table::{ABOUT, COMPACT, FORMS, Form, Kind, Row, VERSION};
 use bw_codec::limits::{MAX_PAIRS, MIN_FRAME, MIN_PAIRS};
 use clap::error::ErrorKind;
 use clap::{Arg, ArgAction, ArgMatches, Command, Error};

@@ -153,7 +153,7 @@ const VERIFY_DIR: Row = Row {
     help: "the folder that is verified, which is not changed",
 };
 
-const COMPACT: Row = Row {
+pub const COMPACT: Row = Row {
     name: "compact",
     kind: Kind::Flag,
     help: "writes all pairs into a new store, whose pages are full, by the options below",
