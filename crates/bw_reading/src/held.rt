@@ -37,4 +37,15 @@ impl Held {
     {
         self.leaves.next_at(key)
     }
+
+    /// How many pairs there are. It costs a look at each page.
+    pub(crate) fn count(&self) -> u64 {
+        let mut count = 0u64;
+        for index in 0..self.leaves.count() {
+            if let Some(leaf) = self.leaves.page(index.saturating_add(1)) {
+                count = count.saturating_add(leaf.pairs.as_slice().len() as u64);
+            }
+        }
+        count
+    }
 }
