@@ -1,6 +1,6 @@
 -- The numbers that the calls answer, and which fault is told as which.
 
-use Rattle.std.specs.Prelude.{◌≡◌, ◌≢◌, ◌⊎◌, ℤ, negsuc}
+use Rattle.std.specs.Prelude.{◌≡◌, ◌≢◌, ◌⊎◌, ℤ, pos, negsuc}
 use Rattle.bw_file.specs.declared.refusals.FolderFault.{FolderFault}
 use Rattle.bw_file.specs.declared.refusals.FolderFault.TheVariants as folder
 use Rattle.bw_care.specs.declared.fault.RecoverCause.{RecoverCause}
@@ -16,6 +16,19 @@ number_of Damaged = negsuc 12
 number_of (System reason) = negsuc 14
 number_of InUse = negsuc 15
 number_of BadPath = negsuc 16
+
+-- an answer says that a folder was not read
+abbrev pub IsRefusal : ℤ → Type 0
+IsRefusal answer = (fault : Fault) × (answer ≡ number_of fault)
+
+-- the system's number that comes with a fault; 0 where it is none of the system's
+abbrev pub reason_of : Fault → ℤ
+reason_of NoMemory = pos 0
+reason_of NoStore = pos 0
+reason_of Damaged = pos 0
+reason_of (System reason) = reason
+reason_of InUse = pos 0
+reason_of BadPath = pos 0
 
 -- what is told of a fault of the folder: a changed byte is damage, a writer is told as one
 abbrev pub IsToldOf : FolderFault → Fault → Type 0

@@ -1,6 +1,6 @@
 -- What the calls write for C, and what they answer.
 
-use Rattle.std.specs.Prelude.{◌≡◌, ℕ, ◌≤◌, ℤ, pos, List, ◌++◌, take, drop, length, MatchOption}
+use Rattle.std.specs.Prelude.{◌≡◌, ◌⊎◌, ℕ, ◌≤◌, ◌<◌, ℤ, pos, List, ◌++◌, take, drop, length, MatchOption}
 use Rattle.std.specs.FinMap as finite
 use Rattle.bw_page.specs.Ahead.{HasNoPair, IsFirstPair}
 use Rattle.bw_page.specs.Leaves.{Bytes, Map}
@@ -8,6 +8,10 @@ use Rattle.bw_page.specs.Leaves.{Bytes, Map}
 -- a key is no longer than any may be, and not empty
 abbrev pub IsKey : Bytes → Type 0
 IsKey key = (1 ≤ length key) × (length key ≤ 128)
+
+-- no key has so many bytes
+abbrev pub IsNoKey : Bytes → Type 0
+IsNoKey key = (length key ≡ 0) ⊎ (128 < length key)
 
 -- room of C's after bytes were written there, as many as it has room for
 abbrev pub over : Bytes → Bytes → Bytes
@@ -34,5 +38,6 @@ pub record HoldsPair (old now : Room) (pair : Bytes × Bytes) : Type 0 where
 
 -- the pair with the least key at or above this one was written; or there is none
 pub record FindsFirst (map : Map) (key : Bytes) (answer : ℤ) (old now : Room) : Type 0 where
+  pub told : (answer ≡ pos 0) ⊎ (answer ≡ pos 1)
   pub found : answer ≡ pos 0 → (pair : Bytes × Bytes) × IsFirstPair map key pair × HoldsPair old now pair
   pub none : answer ≡ pos 1 → HasNoPair map key

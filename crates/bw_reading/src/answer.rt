@@ -1,7 +1,6 @@
 //! What the calls answer to C: numbers, which the header names.
 
 ghost use Rattle.std.specs.Prelude.{◌≡◌};
-ghost use Rattle.bw_reading.specs.Answers.{number_of};
 
 use bw_care::RecoverCause;
 use bw_device::{NotMade, NotTaken};
@@ -37,7 +36,7 @@ pub(crate) enum Fault {
 
 impl Fault {
     ghost use Rattle.std.specs.Prelude.{◌≡◌};
-    ghost use Rattle.bw_reading.specs.Answers.{number_of};
+    ghost use Rattle.bw_reading.specs.Answers.{number_of, reason_of};
 
     /// The number of it.
     pub(crate) fn number(self) -> i32
@@ -54,7 +53,9 @@ impl Fault {
     }
 
     /// The system's number for the reason, where it has one; else 0.
-    pub(crate) fn reason(self) -> i32 {
+    pub(crate) fn reason(self) -> i32
+        ensures { result ≡ reason_of self }
+    {
         match self {
             Fault::System(reason) => reason,
             _ => 0,

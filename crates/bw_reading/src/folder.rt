@@ -21,10 +21,7 @@ const NONE_LIMIT: u16 = 32;
 
 // The folder at a path, which stays locked against writers while it is read, and the leases of its
 // files, one at least.
-fn opened(
-    alloc: Global,
-    path: &str,
-) -> Result<(FolderReader<NativeFile>, Vec<u32>), Fault> {
+fn opened(alloc: Global, path: &str) -> Result<(FolderReader<NativeFile>, Vec<u32>), Fault> {
     let rt = (Native, alloc);
     let reader = FolderReader::<NativeFile>::open(&rt, path)?;
     let files = reader.leases(&rt)?;

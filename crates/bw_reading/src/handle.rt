@@ -41,3 +41,6 @@ impl Handle {
         unsafe { Box::from_raw(alloc, at as *mut Held) }
     }
 }
+
+// It may go to another thread, as what it stands for may.
+unsafe impl Send for Handle {}

@@ -1,9 +1,10 @@
 //! What a handle stands for.
 
-ghost use Rattle.std.specs.Prelude.{◌≡◌, []};
+ghost use Rattle.std.specs.Prelude.{◌≡◌, ◌≤◌, ◌-◌, [], length, slice_index_or};
 ghost use Rattle.std.specs.FinMap as finite;
 ghost use Rattle.bw_page.specs.Ahead.{IsFirst};
-ghost use Rattle.bw_page.specs.Leaves.{union};
+ghost use Rattle.bw_page.specs.Leaves.{union, empty_leaf};
+ghost use Rattle.bw_reading.specs.Pages.{pair_count};
 
 use bw_codec::{Key, Value};
 use bw_page::Leaves;
@@ -38,13 +39,28 @@ impl Held {
         self.leaves.next_at(key)
     }
 
+    // How many pairs a page has.
+    fn pairs_on(&self, page: u32) -> u64
+        requires { (1 ≤ page) × (page ≤ length self.now.leaves.leaves) }
+        ensures value { result
+            ≡ length (slice_index_or self.now.leaves.leaves (page - 1) empty_leaf).pairs }
+        ensures few { result ≤ 32 }
+    {
+        let _ = self.leaves.count();
+        match self.leaves.page(page) {
+            Some(leaf) => leaf.pairs.as_slice().len() as u64,
+            None => unreachable!(),
+        }
+    }
+
     /// How many pairs there are. It costs a look at each page.
-    pub(crate) fn count(&self) -> u64 {
+    pub(crate) fn count(&self) -> u64
+        ensures { result ≡ pair_count self.now.leaves.leaves }
+    {
+        let pages = self.leaves.count();
         let mut count = 0u64;
-        for index in 0..self.leaves.count() {
-            if let Some(leaf) = self.leaves.page(index.saturating_add(1)) {
-                count = count.saturating_add(leaf.pairs.as_slice().len() as u64);
-            }
+        'pages: for before in 0..pages {
+            count += self.pairs_on(before + 1);
         }
         count
     }

@@ -9,9 +9,11 @@
 //! it calls one, and is what a program includes.
 #![tactic(auto)]
 
-ghost use Rattle.std.specs.Prelude.{◌≡◌, ◌≤◌, ◌++◌, pos, negsuc, take, drop, length};
+ghost use Rattle.std.specs.Prelude.{◌≡◌, ◌≢◌, ◌⊎◌, pos, negsuc, length};
 ghost use Rattle.bw_page.specs.Leaves.{union};
-ghost use Rattle.bw_reading.specs.Calls.{IsKey, over, Gets, FindsFirst};
+ghost use Rattle.bw_reading.specs.Calls.{IsKey, IsNoKey, over, Gets, FindsFirst};
+ghost use Rattle.bw_reading.specs.Answers.{IsRefusal};
+ghost use Rattle.bw_reading.specs.Pages.{pair_count};
 
 mod answer;
 mod folder;
@@ -37,12 +39,11 @@ fn held_in(alloc: Global, path: &[u8]) -> Result<Box<Held>, Fault> {
 /// Reads the store in the folder of this path, and puts its handle into the word. Where that is
 /// refused, the word stays as it was; `reason` is then the system's number for the reason, or 0.
 #[unsafe(no_mangle)]
-pub extern "C" fn bw_raw_open(
-    alloc: Global,
-    path: &[u8],
-    at: &mut *mut u8,
-    reason: &mut i32,
-) -> i32 {
+pub extern "C" fn bw_raw_open(alloc: Global, path: &[u8], at: &mut *mut u8, reason: &mut i32) -> i32
+    ensures told { (result ≡ pos 0) ⊎ IsRefusal result }
+    ensures stays { IsRefusal result → at.new ≡ at.old }
+    ensures reason { result ≢ negsuc 14 → reason.new ≡ pos 0 }
+{
     match held_in(alloc, path) {
         Ok(held) => {
             let (held, _) = Box::into_raw_with_allocator(held);
@@ -77,6 +78,7 @@ pub extern "C" fn bw_raw_get(
 ) -> i32
     ensures got { IsKey key.now → Gets (union handle.old.held.leaves.leaves) key.now result
         value.old value.new value_len.new }
+    ensures length { IsNoKey key.now → result ≡ negsuc 5 }
     ensures kept { handle.new.held ≡ handle.old.held }
 {
     let Ok(key) = Key::new(key) else {
@@ -105,6 +107,7 @@ pub extern "C" fn bw_raw_at_or_above(
     ensures first { IsKey key.now → FindsFirst (union handle.old.held.leaves.leaves) key.now result
         (record { key = key_out.old; key_len = key_len.old; value = value.old; value_len = value_len.old })
         (record { key = key_out.new; key_len = key_len.new; value = value.new; value_len = value_len.new }) }
+    ensures length { IsNoKey key.now → result ≡ negsuc 5 }
     ensures kept { handle.new.held ≡ handle.old.held }
 {
     let Ok(key) = Key::new(key) else {
@@ -123,6 +126,7 @@ pub extern "C" fn bw_raw_at_or_above(
 /// How many pairs there are. It costs a look at each page.
 #[unsafe(no_mangle)]
 pub extern "C" fn bw_raw_count(handle: &mut Handle) -> u64
+    ensures value { result ≡ pair_count handle.old.held.leaves.leaves }
     ensures kept { handle.new.held ≡ handle.old.held }
 {
     handle.held().count()
