@@ -12,7 +12,8 @@
  * Link with -lhechdoram_read (pkg-config hechdoram_read).
  *
  * Answers. A call answers BW_OK, or BW_NOT_FOUND where there is no such pair, or a number below 0,
- *   whose text bw_read_error gives. But for BW_OK nothing was written for the caller.
+ *   whose text bw_read_error gives. Where it is none of BW_OK, what the caller's memory then has says
+ *   nothing.
  * Bytes. A key has 1 to BW_MAX_KEY bytes, a value 0 to BW_MAX_VALUE, any bytes, and no 0 ends one.
  *   Keys stand in the order of memcmp; of two that begin alike the shorter comes first. A length
  *   stands behind its pointer.
@@ -83,8 +84,9 @@ typedef struct bw_pair {
     uint8_t key[BW_MAX_KEY], value[BW_MAX_VALUE];
 } bw_pair;
 
-/* The library's own calls, for other languages and for the calls below. No pointer may be null, be
- * its length 0; memory that is written overlaps no other; `at` points to an open reader's word. */
+/* The library's own calls, for other languages and for the calls below. No pointer may be null, not
+ * even where its length is 0; memory that is written overlaps no other; bw_raw_open writes the word
+ * of a reader that is not open, and the others are given one that is. */
 int32_t bw_raw_open(const uint8_t *path, size_t path_len, void **at, int32_t *reason);
 int32_t bw_raw_get(bw_reader *reader, const uint8_t *key, size_t key_len, uint8_t *value,
                    size_t value_room, size_t *value_len);

@@ -10,7 +10,7 @@ int main(int count, char **words) {
     bw_pair pair;
     int got = bw_read_open(count > 1 ? words[1] : ".", &reader);
     if (got != BW_OK) {
-        fprintf(stderr, "%s: %s\n", count > 1 ? words[1] : ".", bw_read_error(got));
+        fprintf(stderr, "%s\n", got == BW_IO ? strerror(errno) : bw_read_error(got));
         return 1;
     }
     got = bw_read_first_of(&reader, prefix, strlen(prefix), &pair);

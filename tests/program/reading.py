@@ -7,7 +7,8 @@ It needs `make run` and `make lib`. Folders are made by `import` and by `serve`:
 others, keys that begin one another, deletes and groups, cleanings, one pair, none, a cut tail. Of each folder every key is asked for,
 absent keys, the first pair at or above each, and walks of prefixes; C is compiled as C11 and as C++14, with a sanitizer where there is
 one, and run under valgrind where it is there; Rust where cargo is there. Refused have to be: a folder that is not there, has no store,
-has other files, has one byte changed, or is open to be written. No file is changed by a reader. The two examples of EMBEDDING run.
+has other files, has one byte changed, or is open to be written; and each allocation of an opening is refused in turn. No file is changed by a reader. The two examples of
+EMBEDDING run.
 It prints one line with counts; what is left out is said."""
 
 import bisect
@@ -15,6 +16,7 @@ import os
 import random
 import re
 import shutil
+import struct
 import subprocess
 import sys
 import tempfile
@@ -341,12 +343,41 @@ def ways_in(programs, folder, pairs):
     for path in (link, link + "/", folder + "/", os.path.join(folder, "..", os.path.basename(folder))):
         for name, words in programs.items():
             expect(do(*words, path, given=b"count\n"), wanted, "%s over %s" % (name, path))
-    if os.geteuid() == 0:
-        return  # for whom nothing may only be read
     for name in os.listdir(folder):
         os.chmod(os.path.join(folder, name), 0o444)
+    # To the system's administrator nothing may only be read.
+    nobody = {"user": 65534, "group": 65534} if os.geteuid() == 0 else {}
     for name, words in programs.items():
-        expect(do(*words, folder, given=b"count\n"), wanted, "%s over files that may only be read" % name)
+        if name != "valgrind":
+            expect(do(*words, folder, given=b"count\n", **nobody), wanted, "%s over files that may only be read" % name)
+
+
+def together(programs, folder, pairs):
+    """All programs over one folder at once."""
+    given = b"walk \n"
+    wanted = "".join(told((key, pairs[key])) for key in sorted(pairs)).encode() + b"end\n"
+    ran = [subprocess.Popen([*words, folder], stdin=subprocess.PIPE, stdout=subprocess.PIPE) for words in list(programs.values()) * 3]
+    for one in ran:
+        one.stdin.write(given)
+        one.stdin.flush()
+    for one in ran:
+        expect(one.communicate()[0], wanted, "many readers at once")
+
+
+def refused_memory(program, room, folder, pairs):
+    """Each allocation is refused in turn: it is told, or the answer is right all the same. How many were told."""
+    shim, count = os.path.join(room, "refuse.so"), os.path.join(room, "refused")
+    do("cc", "-O2", "-shared", "-fPIC", "-o", shim, os.path.join(TOP, "tools", "refuse.c"))
+    wanted, tellings = b"count %d\n" % len(pairs), 0
+    for number in range(1, 100000):
+        ended = run(*program, folder, given=b"count\n", env={"LD_PRELOAD": shim, "REFUSE": str(number), "REFUSE_COUNT": count})
+        expect((ended.returncode, ended.stdout) in ((0, wanted), (3, b"refused -1\n")), True, "allocation %d refused: %r" % (number, ended))
+        tellings += ended.returncode == 3
+        with open(count, "rb") as file:
+            if struct.unpack("4q", file.read(32))[1] == 0:
+                break
+    expect(tellings > 20, True, "refused memory is told")
+    return tellings
 
 
 # ---- the examples
@@ -384,11 +415,14 @@ def main():
     drawn = random.Random(SEED)
     with tempfile.TemporaryDirectory(dir=FAST, prefix="bwlog-reading-") as room:
         try:
+            os.chmod(room, 0o755)
             programs, left = built(room)
             made = folders(drawn, room)
             asked = read_all(drawn, programs, made)
             kept_out = no_stores(programs, room) + damaged(drawn, programs, made[0][0]) + in_use(programs, *made[2])
             ways_in(programs, *made[3])
+            together(programs, *made[1])
+            kept_out += refused_memory(programs["C"], room, *made[3])
             ran = examples(room)
         except Wrong as wrong:
             print("seed %d: %s" % (SEED, wrong))

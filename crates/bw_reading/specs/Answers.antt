@@ -1,6 +1,6 @@
 -- The numbers that the calls answer, and which fault is told as which.
 
-use Rattle.std.specs.Prelude.{◌≡◌, ◌≢◌, ◌⊎◌, ℤ, pos, negsuc}
+use Rattle.std.specs.Prelude.{◌≡◌, ◌≢◌, ℤ, pos, negsuc}
 use Rattle.bw_file.specs.declared.refusals.FolderFault.{FolderFault}
 use Rattle.bw_file.specs.declared.refusals.FolderFault.TheVariants as folder
 use Rattle.bw_care.specs.declared.fault.RecoverCause.{RecoverCause}

@@ -7,7 +7,7 @@ use crate::answer::Fault;
 use bw_care::{RecoverCause, RecoverFault, recover};
 use bw_codec::limits::{HEADER_LEN, MAX_FRAME};
 use bw_codec::{HeaderRead, read_header};
-use bw_device::{Desk, MAX_LEASES, MemSegment, Segment};
+use bw_device::{Desk, MemSegment, Segment};
 use bw_file::FolderReader;
 use bw_native::{Native, NativeFile};
 use bw_page::Leaves;
@@ -35,9 +35,10 @@ fn opened(alloc: Global, path: &str) -> Result<(FolderReader<NativeFile>, Vec<u3
 fn copies_in(alloc: Global, path: &str) -> Result<Vec<MemSegment>, Fault> {
     let rt = (Native, alloc);
     let (reader, files) = opened(alloc, path)?;
-    let mut desk = Desk::new(alloc, MAX_LEASES)?;
+    let count = files.last().map_or(0, |last| last.saturating_add(1));
+    let mut desk = Desk::new(alloc, count)?;
     let mut copies = Vec::new(alloc);
-    for _ in 0..MAX_LEASES {
+    for _ in 0..count {
         let lease = desk.take()?;
         if files.contains(&lease.number()) {
             match reader.copy(&rt, lease, LEAST) {

@@ -44,3 +44,10 @@ impl Handle {
 
 // It may go to another thread, as what it stands for may.
 unsafe impl Send for Handle {}
+
+fn is_sent<T: Send>(_value: &T) {}
+
+/// C may hand a handle to another thread: the check refuses this function where it may not.
+pub(crate) fn cross(handle: &Handle) {
+    is_sent(handle);
+}

@@ -5,11 +5,11 @@ use base.Fraction.{full_share}
 use mir.Syntax.{named}
 use mir.Val.{Val, vptr}
 use mir.Raw.{raw as bare}
-use base.Logic.{SProp, ent, sep, never, fst∗, id⊢}
-use base.Fml.{Lft, GName, Share, Fml, ftrue, fsep, flft}
+use base.Logic.{ent, sep, never, fst∗, id⊢}
+use base.Fml.{GName, Fml, ftrue, fsep, flft}
 use types.Logic.{Logic, sem}
 use contract.Running.{tables}
-use types.Kit.{‵, raw, ◌⊛◌, some, later, at_ret, ◌$◌, ◌∵◌, !, qed, by, move, keep, drop, use1, split, split3, join, group, fsplit, fsplit3, fjoin, fpack, pick, await, rewrite, suffices, frame, done}
+use types.Kit.{‵, raw, ◌⊛◌, some, later, at_ret, ◌$◌, ◌∵◌, !, qed, move, keep, use1, split, split3, join, group, fsplit, fsplit3, fjoin, fpack, pick, await, rewrite, suffices, frame, done}
 use types.Run.{enter, of_opd, addr, load, stop, fld, first, blocks, exec, returns}
 use types.ByLocal.{alloc_all, pass_all, free_all, look_at, get, through, sets, sets_last, env}
 use types.Part.{whole, sub, look_in}

@@ -1,5 +1,5 @@
 -- A handle is taken apart, and what it owned is a box again.
-use Rattle.std.proofs.Common.{◌≡◌, ℕ, T, List, [], ◌∷◌, ◌++◌, refl, sym, ap, ◌∙◌, subst}
+use Rattle.std.proofs.Common.{◌≡◌, T, List, [], ◌∷◌, ◌++◌, refl, sym, ap, ◌∙◌, subst}
 use mir.Syntax.{Dict, impl, tnil, tcons, dnil}
 use mir.Raw.{raw as bare}
 use mir.Val.{Val, vptr, vstruct, vcons, vnil, of_list, has_ty, WT}
@@ -81,8 +81,8 @@ into_box_spec {M} 𝓤 𝓛 𝓜 𝓡 wired =
     let R : RattleType = handle.the_row in let c = clauses 𝓛 𝓜.mem 𝓡.returns in let fn = code.function in
     let k = triple_of 𝓛 (callee.signature Sp Zp ghosts dict drops) (callee.spec Sp Zp ghosts dict drops 𝓛 𝓜.mem 𝓡.returns) in let Ce = callee.ended Sp Zp ghosts dict drops in
     let known = met 𝓤 𝓛 𝓜 𝓡 (code.calls-std_alloc::boxed::Box::from_raw 𝓡.env wired) Sp Zp LS LZ ghosts dict drops
-            (passed 𝓡.env (code.calls-std_heap::GlobalAllocator::allocate 𝓡.env wired) (code.calls-std_heap::GlobalAllocator::deallocate 𝓡.env wired) (code.calls-std_heap::GlobalAllocator::grow 𝓡.env wired) (code.calls-std_heap::GlobalAllocator::shrink 𝓡.env wired) M 𝓤 𝓛 𝓜 𝓡)
-            (glues "bw_reading::Destruct++none::drop" 𝓡.env (code.calls-bw_reading::Destruct++none::drop 𝓡.env wired) Zp LZ M 𝓤 𝓛 𝓜 𝓡) in
+    (passed 𝓡.env (code.calls-std_heap::GlobalAllocator::allocate 𝓡.env wired) (code.calls-std_heap::GlobalAllocator::deallocate 𝓡.env wired) (code.calls-std_heap::GlobalAllocator::grow 𝓡.env wired) (code.calls-std_heap::GlobalAllocator::shrink 𝓡.env wired) M 𝓤 𝓛 𝓜 𝓡)
+    (glues "bw_reading::Destruct++none::drop" 𝓡.env (code.calls-bw_reading::Destruct++none::drop 𝓡.env wired) Zp LZ M 𝓤 𝓛 𝓜 𝓡) in
     let hs : Stays ended.signature.params ended.kept = (stay_dropped (plain (λ _. R)) yes, (stay_dropped (plain (λ _. Z)) yes, tt)) in
     proved_at 𝓛 ended hs c 𝓜 𝓡 (Goes-dropped 𝓛 0 (plain (λ _. R)) yes (λ κs x f. refl), (Goes-dropped 𝓛 0 (plain (λ _. Z)) yes (λ κs x f. refl), tt)) #self fn (code.unfolded 𝓤 H 𝓜 𝓡 wired) (λ z are.
     let v = z.0.3.0 in let a = z.0.3.1.0 in let Post : Val → SProp 𝓤 = (walk_of 𝓛 ended hs c).post z in let Run : List Val → SProp 𝓤 = λ ws. WpFn 𝓤 H 𝓣.C 𝓣.Λ fn ws Post in
