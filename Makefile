@@ -42,6 +42,7 @@ test:
 	python3 tools/specs.py --check
 	python3 tools/surface.py
 	RT_JOBS=$(JOBS) rt ci
+	python3 tools/manual.py --check
 	python3 tests/program/cases.py
 	python3 tests/program/drawn.py
 	python3 tests/program/fuzz.py --cases 500
@@ -52,6 +53,7 @@ test:
 	python3 tests/program/reading.py
 	python3 tests/program/sums.py
 	python3 tests/program/rescue.py
+	python3 tests/program/failing.py
 	python3 tests/program/steady.py
 	python3 tests/program/people.py crates/bwlog/out/bwlog 100000
 	python3 tests/program/growth.py

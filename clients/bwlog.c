@@ -294,6 +294,17 @@ int store_flush(struct store *s) { return store_ask(s, "flush", NULL, 0, NULL, 0
 /* Gives up the oldest segment, whose room is free again. */
 int store_clean(struct store *s) { return store_ask(s, "clean", NULL, 0, NULL, 0); }
 
+/* How many pairs there are, or -1. */
+long long store_count(struct store *s) {
+    if (store_ask(s, "count", NULL, 0, NULL, 0)) return -1;
+    return strncmp(s->line, "count ", 6) ? -1 : strtoll(s->line + 6, NULL, 10);
+}
+
+/* Flushes, and copies the store into a new folder, which is seen from where the program runs. */
+int store_backup(struct store *s, const char *to) {
+    return store_ask(s, "backup", to, strlen(to), NULL, 0);
+}
+
 /* Adds a segment. */
 int store_add(struct store *s) { return store_ask(s, "add", NULL, 0, NULL, 0); }
 

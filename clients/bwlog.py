@@ -78,15 +78,29 @@ class Store:
         key, value = answer[len("pair ") :].split("=")
         return bytes_of(key), bytes_of(value)
 
-    def walk(self, prefix=b""):
-        """All pairs whose key begins with this prefix, in the order of their keys."""
+    def scan(self, key, most=64):
+        """The first pairs at or above a key, no more than so many of 1 to 1,024."""
+        pairs = self._ask("scan %s %d" % (word_of(key), most)).split(" ")[2:]
+        return [tuple(bytes_of(word) for word in pair.split("=")) for pair in pairs]
+
+    def walk(self, prefix=b"", most=64):
+        """All pairs whose key begins with this prefix, in the order of their keys; so many are asked for at once."""
         key = prefix or b"\0"
         while key is not None:
-            pair = self.next(key)
-            if pair is None or not pair[0].startswith(prefix):
-                return
-            yield pair
-            key = after(pair[0])
+            pairs = self.scan(key, most)
+            for pair in pairs:
+                if not pair[0].startswith(prefix):
+                    return
+                yield pair
+            key = after(pairs[-1][0]) if len(pairs) == most else None
+
+    def count(self):
+        """How many pairs there are."""
+        return int(self._ask("count").split()[1])
+
+    def backup(self, to):
+        """Flushes, and copies the store into a new folder, which is seen from where the program runs."""
+        return self._ask("backup " + word_of(to.encode()))
 
     def flush(self):
         """Keeps what was put: the number of the last frame; None where nothing was new."""

@@ -190,20 +190,42 @@ impl Store {
         Ok(Some((bytes_of(key)?, bytes_of(value)?)))
     }
 
+    /// The first pairs at or above a key, no more than so many of 1 to 1,024.
+    pub fn scan(&mut self, key: &[u8], most: usize) -> Result<Vec<Pair>> {
+        let answer = self.ask(format!("scan {} {most}", word_of(key)))?;
+        let pairs = answer.split(' ').skip(2).filter_map(|pair| pair.split_once('='));
+        pairs.map(|(key, value)| Ok((bytes_of(key)?, bytes_of(value)?))).collect()
+    }
+
     /// All pairs whose key begins with this prefix, in the order of their keys.
     pub fn walk(&mut self, prefix: &[u8]) -> Result<Vec<Pair>> {
+        const MOST: usize = 64;
         let mut found = Vec::new();
         let mut from = Some(if prefix.is_empty() { vec![0] } else { prefix.to_vec() });
         while let Some(key) = from {
-            match self.next(&key)? {
-                Some(pair) if pair.0.starts_with(prefix) => {
-                    from = after(&pair.0);
-                    found.push(pair);
+            let pairs = self.scan(&key, MOST)?;
+            let is_last = pairs.len() < MOST;
+            from = pairs.last().filter(|_| !is_last).and_then(|pair| after(&pair.0));
+            for pair in pairs {
+                if !pair.0.starts_with(prefix) {
+                    return Ok(found);
                 }
-                _ => break,
+                found.push(pair);
             }
         }
         Ok(found)
+    }
+
+    /// How many pairs there are.
+    pub fn count(&mut self) -> Result<u64> {
+        let answer = self.ask("count".to_string())?;
+        let number = answer.strip_prefix("count ").and_then(|number| number.parse().ok());
+        number.ok_or_else(|| Error::other(answer.clone()))
+    }
+
+    /// Flushes, and copies the store into a new folder, which is seen from where the program runs.
+    pub fn backup(&mut self, to: &str) -> Result<String> {
+        self.ask(format!("backup {}", word_of(to.as_bytes())))
     }
 
     /// Keeps what was put: the number of the last frame; `None` where nothing was new.

@@ -121,6 +121,11 @@ CASES = [
     Case("an import", ["import", "--dir={}/store", "--skip"], "a\t1\nb\nc\t0x32\n", tells=True),
     Case("an import of a dump", ["import", "--dir={}/store", "--format=dump"], "VERSION=3\nHEADER=END\n 61\n 31\nDATA=END\n", tells=True),
     Case("a folder as of a frame", ["restore", "--dir={}/from", "--to={}/to", "--frame=1"], "", segment=FIRST),
+    Case("a folder that is verified", ["verify", "--dir={}/from"], "", segment=FIRST),
+    Case("a copy", ["copy", "--dir={}/from", "--to={}/to"], "", segment=FIRST),
+    Case("a compacted copy", ["copy", "--dir={}/from", "--to={}/to", "--compact"], "", segment=FIRST),
+    Case("a salvage", ["salvage", "--dir={}/from", "--to={}/to"], "", segment=FIRST),
+    Case("a backup", ["serve", "--dir={}/from"], "put l w\nbackup {}/to\nget l\n", segment=FIRST),
 ]
 # Modes that look at segments, and keep none.
 LOOKS = ("scan", "print", "stats", "picture", "restore", "upgrade")
@@ -174,7 +179,8 @@ def run_of(shim, program, case, number, in_folder):
     """A run of a case that is refused this allocation: what it answered, how many it made, and what is wrong with what it left."""
     with tempfile.TemporaryDirectory() as folder:
         words = [program, *case.words_in(folder)] + ["--dir=" + os.path.join(folder, "store")] * in_folder
-        status, printed, told, counts = beside(shim, words, number, folder, input=case.text, preexec_fn=case.set_limit)
+        text = case.text.replace(b"{}", folder.encode())
+        status, printed, told, counts = beside(shim, words, number, folder, input=text, preexec_fn=case.set_limit)
         wrong = left_wrong(program, case, folder, printed) if in_folder else None
         if case.tells:
             wrong = goes_on(program, os.path.join(folder, "from" if case.segment else "store"), {})

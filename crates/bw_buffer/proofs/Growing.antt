@@ -10,11 +10,12 @@ use Rattle.std.specs.Vec.{vec_capacity}
 use Rattle.std.specs.HashMap.{spare, hash_map_len}
 use Rattle.bw_buffer.specs.Index.{index_at}
 use Rattle.std.proofs.lemmas.Grind.{flat_map-append}
-use Rattle.bw_codec.specs.Version.{latest}
+use Rattle.bw_record.specs.Version.{latest}
 use Rattle.bw_codec.specs.Bytes.{text, value_bytes}
-use Rattle.bw_codec.specs.Grammar.{op_bytes, block_bytes, body_bytes, IsBlock, IsOp}
-use Rattle.bw_codec.specs.declared.record.Record.{Record}
-use Rattle.bw_codec.specs.declared.record.Record.TheVariants.{Put, Del}
+use Rattle.bw_record.specs.Lawful.{IsOp}
+use Rattle.bw_codec.specs.Grammar.{op_bytes, block_bytes, body_bytes, IsBlock}
+use Rattle.bw_record.specs.declared.record.Record.{Record}
+use Rattle.bw_record.specs.declared.record.Record.TheVariants.{Put, Del}
 use Rattle.bw_codec.specs.declared.block.Place.{Place}
 use Rattle.bw_codec.specs.declared.block.Block.{Block}
 use Rattle.bw_codec.specs.declared.block.Block.TheVariants.{Delta, Base, Split}

@@ -7,7 +7,7 @@ use Rattle.std.specs.Prelude.{is_some, nat_le, if◌then◌else◌}
 use Rattle.std.specs.Vec.{vec_len, vec_capacity}
 use Rattle.std.proofs.lemmas.Grind.{flat_map-append}
 use Rattle.bw_codec.specs.Grammar.{op_bytes, block_bytes, body_bytes, IsBlock}
-use Rattle.bw_codec.specs.declared.record.Record.{Record}
+use Rattle.bw_record.specs.declared.record.Record.{Record}
 use Rattle.bw_codec.specs.declared.block.Place.{Place}
 use Rattle.bw_codec.specs.declared.block.Block.{Block}
 use Rattle.bw_codec.specs.declared.block.Block.TheVariants.{Delta}

@@ -11,7 +11,7 @@ use Rattle.bw_codec.proofs.Adding.{taken_within}
 use Rattle.bw_buffer.specs.Rows.{Parts, parts, pieces_length, bytes_at, front_of, laid, IsFewBy, AreMeasured}
 use Rattle.std.proofs.lemmas.List.{take_more, take_all}
 use Rattle.std.proofs.lemmas.Bool.{eq-eqb}
-use Rattle.bw_codec.specs.Version.{latest}
+use Rattle.bw_record.specs.Version.{latest}
 use Rattle.bw_codec.specs.Grammar.{head_bytes}
 use Rattle.bw_codec.proofs.FrontFormat.{length-head}
 use Rattle.bw_buffer.specs.Gaps.{zeros, padded, filled, ends, written}

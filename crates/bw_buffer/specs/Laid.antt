@@ -5,7 +5,7 @@ use Rattle.std.specs.List.{AllByRecursion}
 use Rattle.std.specs.Vec.{vec_capacity}
 use Rattle.std.specs.HashMap.{spare, hash_map_len}
 use Rattle.bw_buffer.specs.Index.{index_at}
-use Rattle.bw_codec.specs.Version.{latest}
+use Rattle.bw_record.specs.Version.{latest}
 use Rattle.bw_codec.specs.Grammar.{body_bytes, head_bytes, IsBlock}
 use Rattle.bw_codec.specs.Reading.{Found, many_at, block_at}
 use Rattle.bw_codec.specs.declared.block.Block.{Block}

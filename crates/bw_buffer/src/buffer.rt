@@ -5,7 +5,7 @@ ghost use Rattle.std.specs.List.{AllByRecursion};
 ghost use Rattle.std.specs.Option.{option_map};
 ghost use Rattle.bw_codec.specs.Grammar.{block_bytes, frame_bytes, IsBlock};
 ghost use Rattle.bw_codec.specs.Touch.{touches};
-ghost use Rattle.bw_codec.specs.declared.leaf.Leaf.{Leaf};
+ghost use Rattle.bw_record.specs.declared.leaf.Leaf.{Leaf};
 ghost use Rattle.bw_codec.specs.declared.block.Block.TheVariants.{Delta, Base};
 ghost use Rattle.std.specs.HashMap.{spare, hash_map_len};
 ghost use Rattle.bw_buffer.specs.Index.{index_at};

@@ -7,14 +7,15 @@ use Rattle.std.proofs.lemmas.Bool.{eqb-true, ltb-true}
 use Rattle.std.proofs.lemmas.Grind.{fold-append}
 use Rattle.bw_codec.specs.Grammar.{block_bytes, IsBase, IsFrame}
 use Rattle.bw_codec.specs.Touch.{touches}
-use Rattle.bw_codec.specs.declared.leaf.Leaf.{Leaf}
+use Rattle.bw_record.specs.declared.leaf.Leaf.{Leaf}
 use Rattle.bw_codec.specs.declared.block.Place.{Place}
 use Rattle.bw_codec.specs.declared.block.Block.{Block}
 use Rattle.bw_codec.specs.declared.block.Block.TheVariants.{Delta, Base, Split}
 use Rattle.bw_codec.specs.declared.block.Frame.{Frame}
 use Rattle.bw_codec.proofs.Sizing.{block_lengths}
 use Rattle.bw_page.specs.Leaves.{AreNumbered}
-use Rattle.bw_page.specs.Standing.{after, content, blocks_of, Stand}
+use Rattle.bw_leaf.specs.Forwards.{after, content, blocks_of}
+use Rattle.bw_page.specs.Standing.{Stand}
 use Rattle.bw_log.specs.Places.{placed, all_placed, or_else, bad_link, AreLinked}
 use Rattle.bw_log.specs.Segments.{following}
 use Rattle.bw_log.specs.Contents.{Contents, counted, IsStanding, IsSound}

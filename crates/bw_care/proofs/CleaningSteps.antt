@@ -7,12 +7,13 @@ use Rattle.std.proofs.Common.{arith}
 use Rattle.std.specs.List.{AllByRecursion}
 use Rattle.std.proofs.lemmas.Bool.{cases_lt}
 use Rattle.bw_codec.specs.Grammar.{block_bytes, body_bytes, frame_bytes, IsBase}
-use Rattle.bw_codec.specs.declared.leaf.Leaf.{Leaf}
+use Rattle.bw_record.specs.declared.leaf.Leaf.{Leaf}
 use Rattle.bw_codec.specs.declared.block.Block.{Block}
 use Rattle.bw_codec.specs.declared.block.Block.TheVariants.{Base}
 use Rattle.bw_codec.specs.declared.block.Frame.{Frame}
 use Rattle.bw_codec.proofs.Wider.{block_wider}
-use Rattle.bw_page.specs.Standing.{content, blocks_of, Stand}
+use Rattle.bw_leaf.specs.Forwards.{content, blocks_of}
+use Rattle.bw_page.specs.Standing.{Stand}
 use Rattle.bw_buffer.specs.Filling.{Filling, frame_of}
 use Rattle.bw_log.specs.Places.{base_of}
 use Rattle.bw_log.specs.Contents.{Contents, boxes, counted, IsSound}

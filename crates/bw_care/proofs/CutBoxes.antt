@@ -10,7 +10,7 @@ use Rattle.byteorder.specs.Endian.{little_number}
 use Rattle.bw_codec.specs.Bytes.{number_bytes}
 use Rattle.bw_codec.specs.Grammar.{agrees, segment_word, frame_bytes_in, header_bytes, is_header, IsHeader}
 use Rattle.bw_codec.specs.Reading.{version_in, header_in, heading_of}
-use Rattle.bw_codec.specs.declared.leaf.Leaf.{Leaf}
+use Rattle.bw_record.specs.declared.leaf.Leaf.{Leaf}
 use Rattle.bw_codec.specs.declared.block.Frame.{Frame}
 use Rattle.bw_codec.specs.declared.block.Header.{Header}
 use Rattle.bw_codec.specs.declared.block.HeaderRead.TheVariants as heading
@@ -30,7 +30,7 @@ use Rattle.bw_log.proofs.Links.{bad_link-append, neither}
 use Rattle.bw_log.proofs.Reread.{clean_is_new, header_is_clean, header_new, new_is_live}
 use Rattle.bw_care.specs.Laws.{AreSorted, IsFound, IsLoose, OwnCutsFound, OwnStopFound, cut_newest, frames_held, sorted_finding}
 use Rattle.bw_care.specs.Recovery.{frames_in, last_number, recovery}
-use Rattle.bw_care.specs.declared.fault.RecoverCause.TheVariants.{Empty}
+use Rattle.bw_lines.specs.declared.cause.RecoverCause.TheVariants.{Empty}
 use Rattle.bw_care.proofs.OwnFound.{all_bounded, empty_boxes, frames_sorted, sorted_boxes, spares_loose}
 use Rattle.bw_log.proofs.Entries.{all_append}
 

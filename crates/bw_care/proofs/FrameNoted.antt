@@ -8,9 +8,9 @@ use Rattle.std.proofs.lemmas.List.{drop-drop, take-append-drop, length-take-le, 
 use Rattle.std.proofs.lemmas.Option.{slice_get_within, get_or_from_slice_get}
 use Rattle.bw_codec.specs.Grammar.{block_bytes, body_bytes, head_bytes, frame_bytes, frame_bytes_in, IsBlock, IsFrameIn}
 use Rattle.bw_codec.specs.Reading.{version_in}
-use Rattle.bw_codec.specs.Version.{latest}
+use Rattle.bw_record.specs.Version.{latest}
 use Rattle.bw_codec.specs.Outline.{outline_of}
-use Rattle.bw_codec.specs.declared.leaf.Leaf.{Leaf}
+use Rattle.bw_record.specs.declared.leaf.Leaf.{Leaf}
 use Rattle.bw_codec.specs.declared.block.Block.{Block}
 use Rattle.bw_codec.specs.declared.block.Block.TheVariants.{Delta, Base, Split}
 use Rattle.bw_codec.specs.declared.block.Frame.{Frame}
@@ -19,7 +19,7 @@ use Rattle.bw_codec.specs.declared.outline.Outline.{Outline}
 use Rattle.bw_codec.proofs.FrontFormat.{length-head}
 use Rattle.bw_codec.proofs.Stepping.{length-outlined}
 use Rattle.bw_device.specs.Holding.{Holding}
-use Rattle.bw_page.specs.Standing.{content, blocks_of}
+use Rattle.bw_leaf.specs.Forwards.{content, blocks_of}
 use Rattle.bw_log.specs.Contents.{Contents, counted, image, limits_of, IsSound}
 use Rattle.bw_log.specs.Places.{place_of, first_number}
 use Rattle.bw_log.specs.Segments.{version_at, AreLive, AreFrom}

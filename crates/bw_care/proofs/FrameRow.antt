@@ -15,7 +15,7 @@ use Rattle.bw_log.specs.Segments.{Limits, segment_frames, frames_of, AreFrom, fo
 use Rattle.bw_log.specs.Adopting.{next_in}
 use Rattle.bw_log.specs.declared.places.FrameAt.{FrameAt}
 use Rattle.bw_care.specs.Behind.{frames_behind}
-use Rattle.bw_care.specs.Lawful.{HasLawful}
+use Rattle.bw_lines.specs.Lawful.{HasLawful}
 use Rattle.bw_care.specs.Scanned.{IsScan}
 use Rattle.bw_care.specs.Ordering.{follow_from, AreFound, lines_found}
 use Rattle.bw_care.specs.declared.scan.Scan.TheVariants.{Live}

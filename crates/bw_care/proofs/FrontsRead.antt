@@ -6,7 +6,7 @@ use Rattle.std.proofs.lemmas.List.{drop_at, drop-drop, map-append, take_all}
 use Rattle.std.specs.List.{flat_map, AllByRecursion}
 use Rattle.std.proofs.lemmas.Grind.{flat_map-append}
 use Rattle.bw_log.proofs.Reread.{all-push}
-use Rattle.bw_codec.specs.Bytes.{IsBytes}
+use Rattle.bw_record.specs.Keys.{IsBytes}
 use Rattle.bw_codec.specs.Grammar.{frame_bytes_in, IsFrameIn, IsTailIn, IsFront}
 use Rattle.bw_codec.specs.Reading.{Says, Gives, front_at}
 use Rattle.bw_codec.specs.declared.block.Frame.{Frame}

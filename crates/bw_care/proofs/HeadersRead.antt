@@ -5,7 +5,7 @@ use Rattle.std.proofs.Common.{refl, sym, ap, subst, ◌∙◌, arith, length-app
 use Rattle.std.proofs.lemmas.List.{drop_at}
 use Rattle.bw_care.specs.Behind.{frames_behind, IsBehind}
 use Rattle.bw_care.specs.declared.scan.Behind.{Behind}
-use Rattle.bw_codec.specs.Bytes.{IsBytes}
+use Rattle.bw_record.specs.Keys.{IsBytes}
 use Rattle.bw_codec.specs.Grammar.{IsWhole, header_bytes, IsHeading}
 use Rattle.bw_codec.specs.Reading.{heading_of}
 use Rattle.bw_codec.specs.declared.block.Header.{Header}

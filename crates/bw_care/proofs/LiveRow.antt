@@ -8,7 +8,7 @@ use Rattle.std.proofs.lemmas.Bool.{or_parts, and_parts, and_from, eqb-true, eq-e
 use Rattle.std.proofs.lemmas.List.{map-append}
 use Rattle.bw_codec.specs.Grammar.{IsHeader, IsWhole, frame_bytes_in}
 use Rattle.bw_codec.specs.Reading.{version_in}
-use Rattle.bw_codec.specs.Version.{latest}
+use Rattle.bw_record.specs.Version.{latest}
 use Rattle.bw_codec.specs.declared.block.Frame.{Frame}
 use Rattle.bw_codec.specs.declared.block.Header.{Header}
 use Rattle.bw_device.specs.Holding.{Holding}

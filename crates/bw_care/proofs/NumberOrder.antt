@@ -18,8 +18,8 @@ use Rattle.bw_care.specs.Scanned.{IsScan, AreScans}
 use Rattle.bw_care.specs.Recovery.{placed_by, number_in, segments_in, live_in, spares_in, frames_in, headers_in, limit_of, are_mixed, is_mixed}
 use Rattle.bw_care.specs.Recovery.{follow_on, has_gap, is_small, is_none, when, fault_of_order}
 use Rattle.bw_log.specs.Places.{or_else}
-use Rattle.bw_care.specs.declared.fault.RecoverCause.{RecoverCause}
-use Rattle.bw_care.specs.declared.fault.RecoverCause.TheVariants.{BadConfig, Empty, Gap, Mixed}
+use Rattle.bw_lines.specs.declared.cause.RecoverCause.{RecoverCause}
+use Rattle.bw_lines.specs.declared.cause.RecoverCause.TheVariants.{BadConfig, Empty, Gap, Mixed}
 use Rattle.bw_care.specs.Ordering.{order_fault, lives_from, lives, number_found, sorted, moved_to, lines_found, line_number, has_none}
 use Rattle.bw_care.specs.Ordering.{headers_of, any_narrow}
 use Rattle.bw_care.specs.Ordering.{follow_from, AreFound}

@@ -8,14 +8,15 @@ use Rattle.bw_codec.specs.Reading.{header_in}
 use Rattle.bw_codec.specs.Grammar.{IsFrameIn}
 use Rattle.bw_codec.specs.declared.block.Frame.{Frame}
 use Rattle.bw_codec.specs.declared.block.Header.{Header}
-use Rattle.bw_codec.specs.declared.leaf.Leaf.{Leaf}
-use Rattle.bw_page.specs.Standing.{blocks_of, Stand}
+use Rattle.bw_record.specs.declared.leaf.Leaf.{Leaf}
+use Rattle.bw_leaf.specs.Forwards.{blocks_of}
+use Rattle.bw_page.specs.Standing.{Stand}
 use Rattle.bw_device.specs.Holding.{Holding}
 use Rattle.bw_log.specs.Contents.{Contents, image, limits_of, IsBounded, IsRoomy, IsSpare, IsSound, counted}
 use Rattle.bw_log.specs.PageTable.{top_page}
 use Rattle.bw_log.specs.Places.{first_number, or_else, AreLinked}
 use Rattle.bw_log.specs.Segments.{Limits, version_at, limit_at, segment_frames, frames_of, AreFrom, AreLive}
-use Rattle.bw_care.specs.Lawful.{HasLawful, is_at_fault, first_such, contents}
+use Rattle.bw_lines.specs.Lawful.{HasLawful, is_at_fault, first_such, contents}
 use Rattle.bw_care.specs.Laws.{OwnBoxesFound, WholeBoxesFound, SortedBoxesFound, SortedBoxesEmpty, AreSorted, IsLoose, EndWhole, own_finding}
 use Rattle.bw_care.specs.Laws.{sorted_finding, frames_held}
 use Rattle.bw_care.specs.Recovery.{Finding, first_fault, fault_of_order, fault_of_frames, found_in, answer, when, too_large, bytes_fault, is_mixed, has_gap}
@@ -23,16 +24,16 @@ use Rattle.bw_care.specs.Recovery.{is_none, is_small, link_fault, link_fault_by,
 use Rattle.bw_care.specs.Recovery.{headers_in, pairs_of, pairs_in, limit_of, limit_in, are_mixed}
 use Rattle.bw_care.specs.Scanning.{rest_in}
 use Rattle.bw_care.specs.Recovery.{live_in, spares_in, parts_in, tails_of, last_number, number_in}
-use Rattle.bw_care.specs.declared.fault.RecoverCause.{RecoverCause}
-use Rattle.bw_care.specs.declared.fault.RecoverCause.TheVariants.{BadConfig, Empty, Gap, Mixed}
-use Rattle.bw_care.proofs.FoundStand.{blocks_lawful}
+use Rattle.bw_lines.specs.declared.cause.RecoverCause.{RecoverCause}
+use Rattle.bw_lines.specs.declared.cause.RecoverCause.TheVariants.{BadConfig, Empty, Gap, Mixed}
+use Rattle.bw_lines.proofs.FoundStand.{blocks_lawful}
 use Rattle.bw_care.proofs.FrameRow.{frame_lawful}
 use Rattle.bw_log.proofs.Entries.{all_mapped}
-use Rattle.bw_care.proofs.OwnPages.{top_is, contents_are}
+use Rattle.bw_lines.proofs.OwnPages.{top_is, contents_are}
 use Rattle.bw_care.proofs.OwnSegments.{heads, headers_live, heads_unmixed, heads_limit, segments_are, live_are, spares_are, spares_roomy, parts_are}
 use Rattle.bw_care.proofs.OwnSegments.{no_parts, bytes_right}
 use Rattle.bw_care.proofs.OwnSegments.{segments_follow, frames_follow}
-use Rattle.bw_care.proofs.StandingAgain.{stands_again}
+use Rattle.bw_lines.proofs.StandingAgain.{stands_again}
 
 -- ---- what is found
 

@@ -7,7 +7,7 @@ use Rattle.std.specs.List.{fold, flat_map, list_any, AllByRecursion}
 use Rattle.std.proofs.lemmas.Bool.{eq-eqb, le-ltb, leb-true, leb-false}
 use Rattle.std.proofs.lemmas.List.{drop_at}
 use Rattle.bw_codec.specs.Grammar.{frame_bytes_in, header_bytes, IsHeader}
-use Rattle.bw_codec.specs.Version.{latest}
+use Rattle.bw_record.specs.Version.{latest}
 use Rattle.bw_codec.specs.Reading.{front_at, heading_of, header_in}
 use Rattle.bw_codec.specs.declared.block.Frame.{Frame}
 use Rattle.bw_codec.specs.declared.block.FrameRead.TheVariants.{Tail}

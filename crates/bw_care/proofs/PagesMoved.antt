@@ -9,7 +9,8 @@ use Rattle.std.proofs.lemmas.List.{map-append, length-map}
 use Rattle.bw_codec.specs.Grammar.{frame_bytes, IsBlock, IsFrame}
 use Rattle.bw_codec.specs.declared.block.Block.{Block}
 use Rattle.bw_codec.specs.declared.block.Frame.{Frame}
-use Rattle.bw_page.specs.Standing.{content, blocks_of, Stand}
+use Rattle.bw_leaf.specs.Forwards.{content, blocks_of}
+use Rattle.bw_page.specs.Standing.{Stand}
 use Rattle.bw_buffer.proofs.Holding.{few_blocks}
 use Rattle.bw_device.specs.Holding.{Holding}
 use Rattle.bw_log.specs.Places.{base_of, first_number}

@@ -12,8 +12,8 @@ use Rattle.bw_care.specs.Recovery.{bytes_fault, bytes_fault_by}
 use Rattle.bw_care.specs.Passing.{ReadStops, PassStops}
 use Rattle.bw_care.specs.declared.scan.Scan.{Scan}
 use Rattle.bw_care.specs.declared.scan.Scan.TheVariants.{Bare, Part, Live}
-use Rattle.bw_care.specs.declared.fault.RecoverCause.{RecoverCause}
-use Rattle.bw_care.specs.declared.fault.RecoverCause.TheVariants.{NoMemory, BadConfig, Device, Spent, Empty, BadBytes, Gap, Mixed, BadLink, Unlawful}
+use Rattle.bw_lines.specs.declared.cause.RecoverCause.{RecoverCause}
+use Rattle.bw_lines.specs.declared.cause.RecoverCause.TheVariants.{NoMemory, BadConfig, Device, Spent, Empty, BadBytes, Gap, Mixed, BadLink, Unlawful}
 
 pub scans_more : (hs : List Holding) (ss : List Scan) (i : ℕ) (h : Holding) (s : Scan) → slice_get hs i ≡ Some h → IsScan h.bytes s → AreScans (take i hs) ss
     → AreScans (take (suc i) hs) (ss ++ s ∷ [])

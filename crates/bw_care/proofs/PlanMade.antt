@@ -4,10 +4,11 @@ use Rattle.std.proofs.Common.{◌≡◌, ℕ, suc, ◌+◌, ◌-◌, ◌==◌, i
 use Rattle.std.proofs.Common.{refl, sym, ap, subst, ◌∙◌, arith}
 use Rattle.std.specs.List.{fold, AllByRecursion}
 use Rattle.std.proofs.lemmas.List.{length-map}
-use Rattle.bw_codec.specs.declared.leaf.Leaf.{Leaf}
+use Rattle.bw_record.specs.declared.leaf.Leaf.{Leaf}
 use Rattle.bw_codec.specs.declared.block.Frame.{Frame}
 use Rattle.bw_device.specs.Holding.{Holding}
-use Rattle.bw_page.specs.Standing.{blocks_of, Stand}
+use Rattle.bw_leaf.specs.Forwards.{blocks_of}
+use Rattle.bw_page.specs.Standing.{Stand}
 use Rattle.bw_log.specs.PageTable.{top_page}
 use Rattle.bw_log.specs.Places.{bad_link, first_number, all_placed}
 use Rattle.bw_log.specs.Segments.{Limits, frames_of, entries, AreLive, IsCleanLast, following, next_of}
@@ -16,27 +17,27 @@ use Rattle.bw_log.specs.Adopting.{adopted, in_segments, old_in, next_in}
 use Rattle.bw_log.specs.declared.places.Tables.{Tables}
 use Rattle.bw_care.specs.Recovery.{Finding, found_in, fault_of_order, is_small, when, frames_in, live_in, spares_in, parts_in, tails_of, link_fault}
 use Rattle.bw_care.specs.Recovery.{link_fault_by, last_number}
-use Rattle.bw_care.specs.Lawful.{HasLawful}
-use Rattle.bw_care.specs.Paging.{IsRight}
+use Rattle.bw_lines.specs.Lawful.{HasLawful}
+use Rattle.bw_lines.specs.Paging.{IsRight}
 use Rattle.bw_care.specs.Planned.{IsSurvey, IsPlan, planned}
 use Rattle.bw_care.specs.Surveying.{kind_seen}
 use Rattle.bw_care.specs.Parting.{parted}
 use Rattle.bw_care.specs.Ordering.{number_found, sorted, follow_from, AreFound, oldest_number, is_clean_from}
-use Rattle.bw_care.specs.declared.fault.RecoverCause.TheVariants.{BadConfig}
+use Rattle.bw_lines.specs.declared.cause.RecoverCause.TheVariants.{BadConfig}
 use Rattle.bw_care.specs.declared.order.Found.{Found}
-use Rattle.bw_care.specs.declared.lawful.Pages.{Pages}
+use Rattle.bw_lines.specs.declared.lawful.Pages.{Pages}
 use Rattle.bw_care.specs.declared.parts.Kind.{Kind}
 use Rattle.bw_care.specs.declared.plan.Survey.{Survey}
 use Rattle.bw_care.specs.declared.plan.Plan.{Plan}
 use Rattle.bw_care.proofs.ScannedLog.{IsScanned, counts_all}
 use Rattle.bw_care.proofs.TailsCounted.{tails_are, ends_are, parts_are}
-use Rattle.bw_care.proofs.PagesAtFault.{contents_length, all_set}
+use Rattle.bw_lines.proofs.PagesAtFault.{contents_length, all_set}
 use Rattle.bw_care.proofs.NewestWhole.{clean_last}
 use Rattle.bw_care.proofs.FrameRow.{frames_from, next_same}
 use Rattle.bw_care.proofs.LiveRow.{IsLike, row_limits, numbers_are, all_live, lines_are}
 use Rattle.bw_care.proofs.SurveyFacts.{facts, or_none, when_none, scans_count, all_answer}
 use Rattle.bw_care.proofs.SortedOut.{parted_is}
-use Rattle.bw_care.proofs.FoundStand.{top_small, blocks_lawful, found_stands}
+use Rattle.bw_lines.proofs.FoundStand.{top_small, blocks_lawful, found_stands}
 use Rattle.bw_care.proofs.RoomsParted.{few_live, sound_is}
 
 -- ---- live segments

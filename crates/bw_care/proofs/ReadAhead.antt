@@ -6,7 +6,7 @@ use Rattle.std.proofs.Common.{inl, inr, refl, sym, ap, subst, ◌∙◌, arith}
 use Rattle.std.specs.List.{AllByRecursion}
 use Rattle.std.proofs.lemmas.Bool.{le-leb}
 use Rattle.bw_codec.specs.Grammar.{block_bytes}
-use Rattle.bw_codec.specs.declared.leaf.Leaf.{Leaf}
+use Rattle.bw_record.specs.declared.leaf.Leaf.{Leaf}
 use Rattle.bw_codec.specs.declared.block.Place.{Place}
 use Rattle.bw_codec.specs.declared.block.Block.TheVariants.{Base}
 use Rattle.bw_codec.specs.declared.block.Frame.{Frame}
@@ -15,7 +15,7 @@ use Rattle.bw_buffer.proofs.Sizes.{pushed_size}
 use Rattle.bw_buffer.specs.declared.fault.PutError.{PutError}
 use Rattle.bw_buffer.specs.declared.fault.PutError.TheVariants.{Sealed, NoRoom}
 use Rattle.bw_device.specs.Holding.{Holding}
-use Rattle.bw_page.specs.Standing.{content, blocks_of}
+use Rattle.bw_leaf.specs.Forwards.{content, blocks_of}
 use Rattle.bw_log.specs.Contents.{Contents, counted}
 use Rattle.bw_log.specs.Reads.{IsPage, segment_at}
 use Rattle.bw_care.specs.Ahead.{PageRead, IsBaseOf, IsWithin, Tells, AreSpots, IsPiece, IsNoted, IsOldest, Puts}

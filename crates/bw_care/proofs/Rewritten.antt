@@ -3,7 +3,7 @@
 use Rattle.std.proofs.Common.{inr, ◌≡◌, ℕ, true, false, Result, Ok, Err, IfOk, IfErr, List, [], sym, ◌∙◌}
 use Rattle.std.proofs.lemmas.Bool.{true≢false}
 use Rattle.std.specs.Prelude.{◌↔◌, IsErrOf}
-use Rattle.bw_codec.specs.declared.leaf.Leaf.{Leaf}
+use Rattle.bw_record.specs.declared.leaf.Leaf.{Leaf}
 use Rattle.bw_page.specs.Standing.{Stand}
 use Rattle.bw_log.specs.Contents.{Contents, counted}
 use Rattle.bw_log.specs.declared.fault.LogFault.{LogFault}

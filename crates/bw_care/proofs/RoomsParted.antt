@@ -5,7 +5,7 @@ use Rattle.std.proofs.Common.{subst, arith}
 use Rattle.std.specs.List.{fold, list_any, AllByRecursion}
 use Rattle.std.proofs.lemmas.Bool.{or_parts, ltb-false}
 use Rattle.bw_device.specs.Holding.{Holding}
-use Rattle.bw_codec.specs.declared.leaf.Leaf.{Leaf}
+use Rattle.bw_record.specs.declared.leaf.Leaf.{Leaf}
 use Rattle.bw_log.specs.Adopting.{adopted}
 use Rattle.bw_log.specs.declared.places.Tables.{Tables}
 use Rattle.bw_care.proofs.ScannedLog.{IsScanned, scanned_image}

@@ -14,9 +14,9 @@ use Rattle.bw_codec.specs.Touch.{touches}
 use Rattle.bw_codec.specs.declared.block.Block.TheVariants.{Base}
 use Rattle.bw_codec.specs.declared.block.Frame.{Frame}
 use Rattle.bw_codec.specs.declared.block.Place.{Place}
-use Rattle.bw_codec.specs.declared.leaf.Leaf.{Leaf}
+use Rattle.bw_record.specs.declared.leaf.Leaf.{Leaf}
 use Rattle.bw_device.specs.Holding.{Holding}
-use Rattle.bw_page.specs.Standing.{after, content, blocks_of}
+use Rattle.bw_leaf.specs.Forwards.{after, content, blocks_of}
 use Rattle.bw_log.specs.Contents.{Contents, image, limits_of, counted, IsSound}
 use Rattle.bw_log.specs.Oldest.{last_number}
 use Rattle.bw_log.specs.Places.{later, last_place, all_placed, first_number, place_of}
@@ -29,12 +29,12 @@ use Rattle.bw_care.specs.Ahead.{PageRead, IsBaseOf, Tells, AreSpots, piece_at, I
 use Rattle.bw_care.specs.Behind.{frames_behind}
 use Rattle.bw_care.specs.Forward.{IsFramed}
 use Rattle.bw_care.specs.Cleaning.{is_old, oldest_last}
-use Rattle.bw_care.specs.Reading.{IsRead, leaf_in, line_of}
+use Rattle.bw_lines.specs.Reading.{IsRead, leaf_in, line_of}
 use Rattle.bw_care.specs.declared.ahead.Spot.{Spot}
-use Rattle.bw_care.specs.declared.page_lines.Line.{Line}
+use Rattle.bw_lines.specs.declared.page_lines.Line.{Line}
 use Rattle.bw_care.proofs.BasesFound.{above}
 use Rattle.bw_care.proofs.BasesLeave.{page_read}
-use Rattle.bw_care.proofs.LinesTaken.{leaf_is}
+use Rattle.bw_lines.proofs.LinesTaken.{leaf_is}
 use Rattle.bw_care.proofs.OldPages.{all_after, any_all_placed, plain_by, set_where}
 use Rattle.bw_care.proofs.OwnSegments.{live_heading, live_long, live_ends}
 use Rattle.bw_care.proofs.ReadAhead.{set_tell}

@@ -6,11 +6,11 @@ use Rattle.std.specs.List.{fold, list_any, AllByRecursion}
 use Rattle.std.proofs.lemmas.Bool.{and_parts, eqb-true, le-ltb, ltb-false}
 use Rattle.std.proofs.lemmas.List.{length-map}
 use Rattle.bw_codec.specs.Grammar.{IsHeader}
-use Rattle.bw_codec.specs.Version.{least_limit, greatest_limit}
+use Rattle.bw_record.specs.Version.{least_limit, greatest_limit}
 use Rattle.bw_codec.specs.declared.block.Header.{Header}
 use Rattle.bw_codec.specs.declared.block.Frame.{Frame}
 use Rattle.bw_device.specs.Holding.{Holding}
-use Rattle.bw_page.specs.Standing.{blocks_of}
+use Rattle.bw_leaf.specs.Forwards.{blocks_of}
 use Rattle.bw_log.specs.Places.{or_else, bad_link, first_number, all_placed}
 use Rattle.bw_log.specs.Segments.{Limits, frames_of}
 use Rattle.bw_log.specs.declared.places.FrameAt.{FrameAt}
@@ -21,15 +21,15 @@ use Rattle.bw_care.specs.Recovery.{pairs_in, limit_in, pairs_of, limit_of, are_m
 use Rattle.bw_care.specs.Recovery.{page_fault, page_fault_by, last_number}
 use Rattle.bw_care.specs.Passing.{PassStops}
 use Rattle.bw_care.specs.Found.{Refuses}
-use Rattle.bw_care.specs.Lawful.{HasLawful}
+use Rattle.bw_lines.specs.Lawful.{HasLawful}
 use Rattle.bw_care.specs.Forward.{IsFramed, AreReady, ForwardStops}
-use Rattle.bw_care.specs.Paging.{PageFaultIs, fault_among}
+use Rattle.bw_lines.specs.Paging.{PageFaultIs, fault_among}
 use Rattle.bw_care.specs.Planned.{HasRoom, AreRooms, RoomsStop, IsSurvey, first_line, last_line}
 use Rattle.bw_care.specs.Surveying.{HasShortTail}
 use Rattle.bw_care.specs.Ordering.{number_found, sorted, headers_of, follow_from, lines_found, line_number, has_none}
 use Rattle.bw_care.specs.Ordering.{order_fault, AreFound, CauseIs}
-use Rattle.bw_care.specs.declared.fault.RecoverCause.{RecoverCause}
-use Rattle.bw_care.specs.declared.fault.RecoverCause.TheVariants.{NoMemory, BadConfig, Device, Spent, Empty, BadBytes, Gap, Mixed, BadLink, Unlawful}
+use Rattle.bw_lines.specs.declared.cause.RecoverCause.{RecoverCause}
+use Rattle.bw_lines.specs.declared.cause.RecoverCause.TheVariants.{NoMemory, BadConfig, Device, Spent, Empty, BadBytes, Gap, Mixed, BadLink, Unlawful}
 use Rattle.bw_care.specs.declared.scan.Scan.{Scan}
 use Rattle.bw_care.specs.declared.scan.Scan.TheVariants.{Bare, Part, Live}
 use Rattle.bw_care.specs.declared.order.Found.{Found}

@@ -8,15 +8,16 @@ use Rattle.std.proofs.lemmas.Bool.{cases_lt, cases_Bool, or_parts, le-leb, leb-t
 use Rattle.std.proofs.lemmas.List.{length-map}
 use Rattle.bw_codec.specs.Reading.{version_in}
 use Rattle.bw_codec.specs.Touch.{sets}
-use Rattle.bw_codec.specs.declared.leaf.Leaf.{Leaf}
+use Rattle.bw_record.specs.declared.leaf.Leaf.{Leaf}
 use Rattle.bw_codec.specs.declared.block.Place.{Place}
 use Rattle.bw_codec.specs.declared.block.Block.{Block}
 use Rattle.bw_codec.specs.declared.block.Frame.{Frame}
 use Rattle.bw_device.specs.Holding.{Holding}
 use Rattle.bw_page.specs.Leaves.{leaf_at}
-use Rattle.bw_page.specs.Standing.{content, blocks_of, Stand}
+use Rattle.bw_leaf.specs.Forwards.{content, blocks_of}
+use Rattle.bw_page.specs.Standing.{Stand}
 use Rattle.bw_log.specs.Adopting.{old_in}
-use Rattle.bw_codec.specs.Version.{latest}
+use Rattle.bw_record.specs.Version.{latest}
 use Rattle.bw_log.specs.Contents.{Contents, counted, image, limits_of, roster, IsStanding, IsSound}
 use Rattle.bw_log.specs.Oldest.{IsAfter, last_number}
 use Rattle.bw_log.specs.Places.{placed, all_placed, later, base_of, first_number}

@@ -6,7 +6,7 @@ use Rattle.std.specs.List.{fold, filter}
 use Rattle.std.proofs.lemmas.List.{drop-drop}
 use Rattle.std.proofs.lemmas.Bool.{eq-eqb, eqb-true}
 use Rattle.bw_codec.specs.Reading.{version_in}
-use Rattle.bw_codec.specs.declared.leaf.Leaf.{Leaf}
+use Rattle.bw_record.specs.declared.leaf.Leaf.{Leaf}
 use Rattle.bw_device.specs.Holding.{Holding}
 use Rattle.bw_page.specs.Standing.{Stand}
 use Rattle.bw_log.specs.Adopting.{old_in}

@@ -7,17 +7,17 @@ use Rattle.bw_codec.specs.Grammar.{block_bytes, frame_bytes, IsBase, IsFrame}
 use Rattle.bw_codec.specs.declared.block.Block.{Block}
 use Rattle.bw_codec.specs.declared.block.Block.TheVariants.{Base}
 use Rattle.bw_codec.specs.declared.block.Frame.{Frame}
-use Rattle.bw_codec.specs.declared.leaf.Leaf.{Leaf}
+use Rattle.bw_record.specs.declared.leaf.Leaf.{Leaf}
 use Rattle.bw_buffer.specs.Filling.{Filling, size_of}
 use Rattle.bw_device.specs.Holding.{Holding}
-use Rattle.bw_page.specs.Standing.{content, blocks_of}
+use Rattle.bw_leaf.specs.Forwards.{content, blocks_of}
 use Rattle.bw_log.specs.Contents.{Contents, counted}
 use Rattle.bw_log.specs.Segments.{segment_frames}
 use Rattle.bw_log.specs.Walking.{StandsAt}
 use Rattle.bw_log.specs.declared.places.FrameAt.{FrameAt}
-use Rattle.bw_care.specs.Reading.{leaf_in}
+use Rattle.bw_lines.specs.Reading.{leaf_in}
 use Rattle.bw_care.specs.declared.ahead.Spot.{Spot}
-use Rattle.bw_care.specs.declared.page_lines.Line.{Line}
+use Rattle.bw_lines.specs.declared.page_lines.Line.{Line}
 
 -- this leaf is the page, as the counted frames leave it
 pub record PageRead (c : Contents) (p : ℕ) (leaf : Leaf) : Type 0 where

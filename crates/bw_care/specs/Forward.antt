@@ -11,8 +11,8 @@ use Rattle.bw_log.specs.Places.{bad_link}
 use Rattle.bw_log.specs.Segments.{segment_frames}
 use Rattle.bw_care.specs.Behind.{frames_behind, EndsInTail}
 use Rattle.bw_care.specs.Passing.{Fails, IsWorn}
-use Rattle.bw_care.specs.declared.fault.RecoverCause.{RecoverCause}
-use Rattle.bw_care.specs.declared.fault.RecoverCause.TheVariants.{NoMemory, BadConfig, Device, Spent, Empty, BadBytes, Gap, Mixed, BadLink, Unlawful}
+use Rattle.bw_lines.specs.declared.cause.RecoverCause.{RecoverCause}
+use Rattle.bw_lines.specs.declared.cause.RecoverCause.TheVariants.{NoMemory, BadConfig, Device, Spent, Empty, BadBytes, Gap, Mixed, BadLink, Unlawful}
 
 -- a segment's frames stand behind its header, and a tail behind them
 pub record IsFramed (bytes : List ℕ) : Type 0 where

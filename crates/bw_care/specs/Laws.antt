@@ -5,18 +5,19 @@ use Rattle.std.specs.List.{AllByRecursion}
 use Rattle.bw_codec.specs.Reading.{heading_of}
 use Rattle.bw_codec.specs.declared.block.HeaderRead.TheVariants as heading
 use Rattle.bw_codec.specs.declared.block.Frame.{Frame}
-use Rattle.bw_codec.specs.declared.leaf.Leaf.{Leaf}
+use Rattle.bw_record.specs.declared.leaf.Leaf.{Leaf}
 use Rattle.bw_device.specs.Holding.{Holding}
-use Rattle.bw_page.specs.Standing.{blocks_of, Stand}
+use Rattle.bw_leaf.specs.Forwards.{blocks_of}
+use Rattle.bw_page.specs.Standing.{Stand}
 use Rattle.bw_log.specs.Appends.{last_of, with_last}
 use Rattle.bw_log.specs.Contents.{Contents, IsBounded, IsRoomy, IsSound, boxes, counted}
 use Rattle.bw_log.specs.PageTable.{top_page}
 use Rattle.bw_log.specs.Places.{first_number, AreLinked}
 use Rattle.bw_log.specs.Segments.{Limits, frames_of, AreFrom, AreLive}
-use Rattle.bw_care.specs.Lawful.{HasLawful, is_at_fault, first_such, contents}
+use Rattle.bw_lines.specs.Lawful.{HasLawful, is_at_fault, first_such, contents}
 use Rattle.bw_care.specs.Recovery.{Finding, frames_in, last_number, parts_in, recovery, tails_of}
 use Rattle.bw_care.specs.Scanning.{rest_in}
-use Rattle.bw_care.specs.declared.fault.RecoverCause.TheVariants.{Empty}
+use Rattle.bw_lines.specs.declared.cause.RecoverCause.TheVariants.{Empty}
 
 -- where no page is at fault, the frames stand for the leaves found
 abbrev pub FoundStand : Type 0

@@ -8,8 +8,8 @@ use Rattle.bw_log.specs.Places.{or_else}
 use Rattle.bw_care.specs.Recovery.{pairs_of, limit_of, are_mixed, in_order, when}
 use Rattle.bw_care.specs.Surveying.{tails_found}
 use Rattle.bw_care.specs.declared.order.Order.{Order}
-use Rattle.bw_care.specs.declared.fault.RecoverCause.{RecoverCause}
-use Rattle.bw_care.specs.declared.fault.RecoverCause.TheVariants.{NoMemory, BadConfig, Device, Spent, Empty, BadBytes, Gap, Mixed, BadLink, Unlawful}
+use Rattle.bw_lines.specs.declared.cause.RecoverCause.{RecoverCause}
+use Rattle.bw_lines.specs.declared.cause.RecoverCause.TheVariants.{NoMemory, BadConfig, Device, Spent, Empty, BadBytes, Gap, Mixed, BadLink, Unlawful}
 use Rattle.bw_care.specs.Scanned.{IsScan}
 use Rattle.bw_care.specs.declared.scan.Scan.{Scan}
 use Rattle.bw_care.specs.declared.scan.Scan.TheVariants.{Bare, Part, Live}

@@ -17,10 +17,10 @@ use Rattle.bw_care.specs.declared.scan.Scan.{Scan}
 use Rattle.bw_care.specs.declared.plan.Survey.{Survey}
 use Rattle.bw_care.specs.Parting.{parted}
 use Rattle.bw_care.specs.declared.plan.Plan.{Plan}
-use Rattle.bw_care.specs.declared.page_lines.ReadFault.{ReadFault}
-use Rattle.bw_care.specs.declared.page_lines.ReadFault.TheVariants as read
-use Rattle.bw_care.specs.declared.fault.RecoverCause.{RecoverCause}
-use Rattle.bw_care.specs.declared.fault.RecoverCause.TheVariants.{NoMemory, BadConfig, Device, Spent, Empty, BadBytes, Gap, Mixed, BadLink, Unlawful}
+use Rattle.bw_lines.specs.declared.page_lines.ReadFault.{ReadFault}
+use Rattle.bw_lines.specs.declared.page_lines.ReadFault.TheVariants as read
+use Rattle.bw_lines.specs.declared.cause.RecoverCause.{RecoverCause}
+use Rattle.bw_lines.specs.declared.cause.RecoverCause.TheVariants.{NoMemory, BadConfig, Device, Spent, Empty, BadBytes, Gap, Mixed, BadLink, Unlawful}
 
 abbrev pub planned : Plan → Finding
 planned p = record { leaves = p.leaves.leaves; first = p.first; last = p.last; tail = p.tail; dropped = p.dropped }

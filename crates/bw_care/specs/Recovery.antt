@@ -4,19 +4,19 @@ use Rattle.std.specs.Prelude.{ℕ, ◌+◌, ◌==◌, ◌&&◌, ◌||◌, not, n
 use Rattle.std.specs.Prelude.{◌∷◌, length, map}
 use Rattle.std.specs.List.{fold, filter, list_any}
 use Rattle.bw_codec.specs.Reading.{header_in}
-use Rattle.bw_codec.specs.declared.leaf.Leaf.{Leaf}
+use Rattle.bw_record.specs.declared.leaf.Leaf.{Leaf}
 use Rattle.bw_codec.specs.declared.block.Block.{Block}
 use Rattle.bw_codec.specs.declared.block.Frame.{Frame}
 use Rattle.bw_codec.specs.declared.block.Header.{Header}
-use Rattle.bw_page.specs.Standing.{blocks_of}
+use Rattle.bw_leaf.specs.Forwards.{blocks_of}
 use Rattle.bw_device.specs.Holding.{Holding}
 use Rattle.bw_log.specs.Places.{or_else, all_placed, bad_link, first_number}
 use Rattle.bw_log.specs.Segments.{frames_of}
 use Rattle.bw_log.specs.PageTable.{top_page}
 use Rattle.bw_care.specs.Scanning.{has_header, has_part, is_bare, rest_in, fault_in}
-use Rattle.bw_care.specs.Lawful.{is_at_fault, first_such, contents}
-use Rattle.bw_care.specs.declared.fault.RecoverCause.{RecoverCause}
-use Rattle.bw_care.specs.declared.fault.RecoverCause.TheVariants.{BadConfig, Empty, BadBytes, Gap, Mixed, BadLink, Unlawful}
+use Rattle.bw_lines.specs.Lawful.{is_at_fault, first_such, contents}
+use Rattle.bw_lines.specs.declared.cause.RecoverCause.{RecoverCause}
+use Rattle.bw_lines.specs.declared.cause.RecoverCause.TheVariants.{BadConfig, Empty, BadBytes, Gap, Mixed, BadLink, Unlawful}
 
 -- ---- the boxes, sorted out
 

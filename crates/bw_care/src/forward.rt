@@ -10,14 +10,13 @@ ghost use Rattle.bw_log.specs.Segments.{segment_frames, frames_of};
 ghost use Rattle.bw_care.specs.Behind.{frames_behind, EndsInTail};
 ghost use Rattle.bw_care.specs.Forward.{IsFramed, AreReady, ForwardStops};
 ghost use Rattle.bw_care.specs.Planned.{as_cause};
-ghost use Rattle.bw_care.specs.Reading.{IsRead, LinkFaultIs};
+ghost use Rattle.bw_lines.specs.Reading.{IsRead, LinkFaultIs};
 
-use crate::fault::RecoverCause;
-use crate::page_lines::{DraftLine, ReadFault, read_blocks_linked};
 use crate::pass_over::read_box;
 use crate::scan::front;
 use bw_codec::{CodecFault, Frame, FrameRead, Header, HeaderRead, read_header};
 use bw_device::Segment;
+use bw_lines::{DraftLine, ReadFault, RecoverCause, read_blocks_linked};
 use std::alloc::Global;
 use std::collections::BTreeMap;
 

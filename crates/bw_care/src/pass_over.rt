@@ -4,9 +4,9 @@ ghost use Rattle.std.specs.Prelude.{◌≡◌, ◌<◌, ◌^◌, length, map, sl
 ghost use Rattle.bw_care.specs.Passing.{ReadStops, PassStops};
 ghost use Rattle.bw_care.specs.Scanned.{AreScans};
 
-use crate::fault::RecoverCause;
 use crate::scan::{Scan, ScanFault, scan_bytes};
 use bw_device::{Segment, failures_of, lease_of, len_of, read_from};
+use bw_lines::RecoverCause;
 use std::alloc::Global;
 
 /// All bytes of a box; one of no bytes is not asked.

@@ -5,14 +5,13 @@ ghost use Rattle.std.specs.Vec.{vec_capacity};
 ghost use Rattle.bw_care.specs.Planned.{HasRoom, AreRooms, RoomsStop, IsSurvey, IsPlan, first_line, last_line};
 ghost use Rattle.bw_care.specs.Found.{Refuses};
 
-use crate::fault::RecoverCause;
 use crate::forward::read_forward;
-use crate::lawful::{Pages, pages_of};
 use crate::order::{Order, order_of};
 use crate::parts::{Kind, Numbered};
 use crate::pass_over::scan_all;
 use crate::survey::{kinds_of, parts_of};
 use bw_device::{MAX_CAPACITY, Segment, capacity_of, len_of};
+use bw_lines::{Pages, RecoverCause, pages_of};
 use bw_log::{FrameAt, Tables};
 use bw_page::Leaves;
 use std::alloc::Global;

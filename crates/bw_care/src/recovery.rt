@@ -5,11 +5,11 @@ ghost use Rattle.bw_care.specs.Recovery.{recovery, limit_in, live_in, spares_in,
 ghost use Rattle.bw_care.specs.Found.{finding_of, IsRecovered, Refuses};
 ghost use Rattle.bw_log.specs.Views.{seen_by};
 
-use crate::fault::RecoverCause;
 use crate::parts::{Parts, part};
 use crate::plan::{Plan, boxes_of, places, prepare};
 use crate::recovered::Recovered;
 use bw_device::Segment;
+use bw_lines::RecoverCause;
 use bw_log::Log;
 use std::alloc::Global;
 use std::fmt::{self, Debug, Formatter};

@@ -5,17 +5,20 @@ use Rattle.std.proofs.Common.{sym, ap, subst, ◌∙◌, arith}
 use Rattle.std.proofs.lemmas.Bool.{ltb-false, le-ltb, eqb-true, eqb-false, ne_eqb}
 use Rattle.std.specs.List.{flat_map, AllByRecursion}
 use lib.Pointwise.{bytes_decides}
-use Rattle.bw_codec.specs.Version.{key_limit}
-use Rattle.bw_codec.specs.Bytes.{number_bytes, text, value_bytes, ascends, IsBytes}
-use Rattle.bw_codec.specs.Grammar.{op_bytes_in, pair_bytes_in, place_bytes, pairs_bytes_in, ops_bytes_in, upper_bytes_in, block_bytes_in, IsPairIn}
-use Rattle.bw_codec.specs.Grammar.{IsOpIn, IsPage, IsPlace, IsDeltaIn}
+use Rattle.bw_record.specs.Version.{key_limit}
+use Rattle.bw_codec.specs.Bytes.{number_bytes, text, value_bytes}
+use Rattle.bw_record.specs.Keys.{ascends, IsBytes}
+use Rattle.bw_record.specs.Lawful.{IsPairIn}
+use Rattle.bw_codec.specs.Grammar.{op_bytes_in, pair_bytes_in, place_bytes, pairs_bytes_in, ops_bytes_in, upper_bytes_in, block_bytes_in}
+use Rattle.bw_record.specs.Lawful.{IsOpIn}
+use Rattle.bw_codec.specs.Grammar.{IsPage, IsPlace, IsDeltaIn}
 use Rattle.bw_codec.specs.Grammar.{IsBaseIn, IsSplitIn, IsBlockIn, first_key}
 use Rattle.bw_codec.specs.Reading.{Found, ◌>>=◌, number_at, text_at, value_at, put_at, del_at, op_at, pair_at, many_at, place_at, page_at, pairs_at}
 use Rattle.bw_codec.specs.Reading.{delta_at, base_at}
 use Rattle.bw_codec.specs.Reading.{upper_at, split_at, block_at, is_led}
-use Rattle.bw_codec.specs.declared.record.Record.{Record}
-use Rattle.bw_codec.specs.declared.record.Record.TheVariants.{Put, Del}
-use Rattle.bw_codec.specs.declared.leaf.Leaf.{Leaf}
+use Rattle.bw_record.specs.declared.record.Record.{Record}
+use Rattle.bw_record.specs.declared.record.Record.TheVariants.{Put, Del}
+use Rattle.bw_record.specs.declared.leaf.Leaf.{Leaf}
 use Rattle.bw_codec.specs.declared.block.Place.{Place}
 use Rattle.bw_codec.specs.declared.block.Block.{Block}
 use Rattle.bw_codec.specs.declared.block.Block.TheVariants.{Delta, Base, Split}

@@ -6,7 +6,7 @@ use Rattle.bw_codec.specs.Reading.{Says, block_at}
 use Rattle.bw_codec.specs.declared.block.Block.{Block}
 use Rattle.bw_codec.specs.declared.fault.CodecFault.{CodecFault}
 use Rattle.bw_codec.specs.declared.fault.CodecFault.TheVariants.{NoMemory, BadBytes}
-use Rattle.bw_codec.specs.Bytes.{IsBytes}
+use Rattle.bw_record.specs.Keys.{IsBytes}
 use Rattle.bw_codec.proofs.Format.{found}
 use Rattle.bw_codec.proofs.BlockFormat.{block_format}
 use Rattle.bw_codec.proofs.Stepping.{no_both}

@@ -9,8 +9,9 @@ use Rattle.std.proofs.Math.Nat.{pow-succ', div-div-eq-div-mul}
 use Rattle.std.specs.Int.{byte_at, bytes_low_first}
 use Rattle.byteorder.specs.Endian.{little_from, little_number}
 use Rattle.byteorder.specs.Numbers.{little_from-cons, little_from-take, little_from-lt, little_number-reads_back, length-bytes_low_first}
-use Rattle.bw_codec.specs.Version.{value_limit, value_width}
-use Rattle.bw_codec.specs.Bytes.{IsBytes, number_bytes, text, value_bytes}
+use Rattle.bw_record.specs.Version.{value_limit, value_width}
+use Rattle.bw_codec.specs.Bytes.{number_bytes, text, value_bytes}
+use Rattle.bw_record.specs.Keys.{IsBytes}
 use Rattle.bw_codec.specs.Reading.{Found, ◌>>=◌, number_at, run_at, text_at, value_at}
 
 -- what was taken from the front

@@ -6,7 +6,8 @@ use Rattle.std.proofs.lemmas.Bool.{ltb-false, ltb-true, le-ltb, lt-ltb, leb-true
 use Rattle.std.proofs.lemmas.List.{take_at, take-append-drop, nil_from_length, length-take-le, append_cancel_left}
 use Rattle.std.proofs.Math.Seq.{take-append-add}
 use Rattle.byteorder.specs.Numbers.{length-bytes_low_first}
-use Rattle.bw_codec.specs.Bytes.{number_bytes, IsBytes}
+use Rattle.bw_codec.specs.Bytes.{number_bytes}
+use Rattle.bw_record.specs.Keys.{IsBytes}
 use Rattle.bw_codec.specs.Grammar.{block_bytes_in, body_bytes_in, frame_word, head_bytes_in, frame_bytes_in, agrees, is_head, IsHead, IsBlockIn}
 use Rattle.bw_codec.specs.Grammar.{IsFrameIn, IsFront}
 use Rattle.std.specs.Prelude.{Result, Ok, Err, IfOk}

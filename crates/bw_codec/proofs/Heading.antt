@@ -6,8 +6,9 @@ use Rattle.std.proofs.Common.{subst, ◌∙◌, append_assoc, arith, length-appe
 use Rattle.std.proofs.lemmas.Bool.{ltb-false, ltb-true, le-ltb, lt-ltb, leb-true, le-leb, eqb-true, and_parts, and_from}
 use Rattle.std.proofs.lemmas.List.{drop_at, drop-drop, append_cancel_left}
 use Rattle.byteorder.specs.Endian.{little_number}
-use Rattle.bw_codec.specs.Version.{least_limit, greatest_limit}
-use Rattle.bw_codec.specs.Bytes.{number_bytes, IsBytes}
+use Rattle.bw_record.specs.Version.{least_limit, greatest_limit}
+use Rattle.bw_codec.specs.Bytes.{number_bytes}
+use Rattle.bw_record.specs.Keys.{IsBytes}
 use Rattle.bw_codec.specs.Grammar.{segment_word, header_bytes, agrees, is_header, AgreesIn, IsHeader, IsPart, IsHeading}
 use Rattle.bw_codec.specs.Laws.{OneHeaderSpelling}
 use Rattle.bw_codec.specs.Reading.{version_in, header_in, heading_of}

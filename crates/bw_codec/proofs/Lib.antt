@@ -4,7 +4,6 @@ pub mod BlockFormat
 pub mod FrontFormat
 pub mod Heading
 pub mod FrameHead
-pub mod HeadRows
 pub mod Adding
 pub mod Lengths
 pub mod Sizing

@@ -1,7 +1,6 @@
--- Loops that read many things, one after the other, and the loop that looks at keys side by side.
+-- Loops that read many things, one after the other.
 
-use Rattle.std.proofs.Common.{◌≡◌, ℕ, suc, ◌+◌, ◌-◌, ◌<◌, ◌&&◌, Bool, true, Option, Some, None, List, [], ◌∷◌, ◌++◌, refl, sym, ap, ◌∙◌, append_assoc, arith}
-use Rattle.bw_codec.specs.Bytes.{is_below, ascends}
+use Rattle.std.proofs.Common.{◌≡◌, ℕ, suc, ◌+◌, ◌-◌, ◌<◌, Option, Some, None, List, [], ◌∷◌, ◌++◌, refl, sym, ap, ◌∙◌, append_assoc, arith}
 use Rattle.bw_codec.specs.Reading.{Found, ◌>>=◌, Says, many_at}
 use Rattle.bw_codec.specs.declared.fault.CodecFault.{CodecFault}
 use Rattle.bw_codec.specs.declared.fault.CodecFault.TheVariants.{NoMemory, BadBytes}
@@ -60,14 +59,6 @@ many_begins {X} one count bytes =
     ap (λ k. prefixed [] (many_at one k bytes)) n
     ∙ (let all : (read : Found (List X)) → prefixed [] read ≡ read = λ read. elim read as (λ r. prefixed [] r ≡ r) [ None ↦ refl | Some x ↦ refl ]
     in all (many_at one count bytes))
-
--- ---- keys side by side
-
--- the keys after one ascend, and the first is above it
-abbrev pub ascends_after : Option (List ℕ) → List (List ℕ × List ℕ) → Bool
-ascends_after None pairs = ascends pairs
-ascends_after (Some key) [] = true
-ascends_after (Some key) (p ∷ ps) = is_below key p.0 && ascends (p ∷ ps)
 
 -- ---- what a fault says
 

@@ -2,12 +2,13 @@
 
 use Rattle.std.proofs.Common.{◌≡◌, ℕ, ◌+◌, ◌*◌, ◌≤◌, List, [], ◌∷◌, length, subst, arith, length-append}
 use Rattle.std.specs.List.{flat_map, AllByRecursion}
-use Rattle.bw_codec.specs.Version.{latest, least_limit}
+use Rattle.bw_record.specs.Version.{latest, least_limit}
 use Rattle.bw_codec.specs.Bytes.{text, value_bytes}
-use Rattle.bw_codec.specs.Grammar.{op_bytes, pair_bytes, block_bytes, body_bytes, IsPair, IsOp, IsHeader}
+use Rattle.bw_record.specs.Lawful.{IsPair, IsOp}
+use Rattle.bw_codec.specs.Grammar.{op_bytes, pair_bytes, block_bytes, body_bytes, IsHeader}
 use Rattle.bw_codec.specs.Sizes.{BlockLengths, LargestBlocks, LargestFit}
-use Rattle.bw_codec.specs.declared.record.Record.{Record}
-use Rattle.bw_codec.specs.declared.record.Record.TheVariants.{Put, Del}
+use Rattle.bw_record.specs.declared.record.Record.{Record}
+use Rattle.bw_record.specs.declared.record.Record.TheVariants.{Put, Del}
 use Rattle.bw_codec.specs.declared.block.Header.{Header}
 use Rattle.bw_codec.specs.declared.block.Block.{Block}
 use Rattle.bw_codec.specs.declared.block.Block.TheVariants.{Delta, Base, Split}

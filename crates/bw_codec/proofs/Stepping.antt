@@ -6,11 +6,12 @@ use Rattle.std.proofs.lemmas.Bool.{le-ltb}
 use Rattle.std.proofs.lemmas.List.{drop_at}
 use Rattle.std.specs.List.{flat_map, AllByRecursion}
 use Rattle.byteorder.specs.Endian.{little_number}
-use Rattle.bw_codec.specs.Version.{value_width}
+use Rattle.bw_record.specs.Version.{value_width}
 use Rattle.bw_codec.specs.Bytes.{number_bytes, text, value_bytes}
 use Rattle.bw_codec.specs.Grammar.{op_bytes_in, pair_bytes_in, place_bytes, pairs_bytes_in, ops_bytes_in, upper_bytes_in, block_bytes_in, IsPage}
 use Rattle.bw_codec.specs.Grammar.{IsPlace, IsDeltaIn}
-use Rattle.bw_codec.specs.Grammar.{IsPairIn, IsOpIn, IsBaseIn, IsSplitIn, IsBlockIn}
+use Rattle.bw_record.specs.Lawful.{IsPairIn, IsOpIn}
+use Rattle.bw_codec.specs.Grammar.{IsBaseIn, IsSplitIn, IsBlockIn}
 use Rattle.bw_codec.specs.Reading.{◌>>=◌, Says, number_at, place_at, page_at}
 use Rattle.bw_codec.specs.declared.fault.CodecFault.{CodecFault}
 use Rattle.bw_codec.specs.declared.fault.CodecFault.TheVariants.{BadBytes}
@@ -18,9 +19,9 @@ use Rattle.bw_codec.specs.Outline.{outline_of}
 use Rattle.bw_codec.specs.Skipping.{Pages, run_after, value_after, pair_after, op_after, many_after, counted_after, delta_after, base_after, upper_after}
 use Rattle.bw_codec.specs.Outline.{OutlinesTouch}
 use Rattle.bw_codec.specs.Skipping.{split_after, block_after}
-use Rattle.bw_codec.specs.declared.record.Record.{Record}
-use Rattle.bw_codec.specs.declared.record.Record.TheVariants.{Put, Del}
-use Rattle.bw_codec.specs.declared.leaf.Leaf.{Leaf}
+use Rattle.bw_record.specs.declared.record.Record.{Record}
+use Rattle.bw_record.specs.declared.record.Record.TheVariants.{Put, Del}
+use Rattle.bw_record.specs.declared.leaf.Leaf.{Leaf}
 use Rattle.bw_codec.specs.declared.block.Place.{Place}
 use Rattle.bw_codec.specs.declared.block.Block.{Block}
 use Rattle.bw_codec.specs.declared.block.Block.TheVariants.{Delta, Base, Split}

@@ -6,7 +6,7 @@ use Rattle.bw_codec.specs.Grammar.{frame_bytes, frame_bytes_in, header_bytes}
 use Rattle.bw_codec.specs.Reading.{front_at, heading_of, text_at, value_at, op_at, pair_at, many_at, place_at, page_at, pairs_at, delta_at, base_at}
 use Rattle.bw_codec.specs.Reading.{upper_at, split_at}
 use Rattle.bw_codec.specs.Reading.{block_at, head_at}
-use Rattle.bw_codec.specs.declared.record.Record.TheVariants.{Put}
+use Rattle.bw_record.specs.declared.record.Record.TheVariants.{Put}
 use Rattle.bw_codec.specs.declared.block.Block.TheVariants.{Delta, Base, Split}
 use Rattle.bw_codec.specs.declared.block.Frame.{Frame}
 use Rattle.bw_codec.specs.declared.block.Header.{Header}

@@ -2,12 +2,13 @@
 
 use Rattle.std.proofs.Common.{◌≡◌, ℕ, List, [], ◌∷◌, get_or, ap, arith}
 use Rattle.std.specs.List.{AllByRecursion}
-use Rattle.bw_codec.specs.Version.{latest}
-use Rattle.bw_codec.specs.Grammar.{IsPairIn, IsOpIn, IsBaseIn}
+use Rattle.bw_record.specs.Version.{latest}
+use Rattle.bw_record.specs.Lawful.{IsPairIn, IsOpIn}
+use Rattle.bw_codec.specs.Grammar.{IsBaseIn}
 use Rattle.bw_codec.specs.Laws.{OldMayBeWritten, NoFrameOfBoth}
-use Rattle.bw_codec.specs.declared.record.Record.{Record}
-use Rattle.bw_codec.specs.declared.record.Record.TheVariants.{Put, Del}
-use Rattle.bw_codec.specs.declared.leaf.Leaf.{Leaf}
+use Rattle.bw_record.specs.declared.record.Record.{Record}
+use Rattle.bw_record.specs.declared.record.Record.TheVariants.{Put, Del}
+use Rattle.bw_record.specs.declared.leaf.Leaf.{Leaf}
 use Rattle.bw_codec.specs.declared.block.Block.TheVariants.{Delta, Base, Split}
 
 pair_newer : (p : List ℕ × List ℕ) → IsPairIn 1 p → IsPairIn latest p

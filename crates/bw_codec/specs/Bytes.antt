@@ -1,36 +1,12 @@
--- Keys as bytes, their order, and a run of bytes behind its length.
+-- A run of bytes behind its length, and numbers as bytes.
 
-use Rattle.std.specs.Prelude.{ℕ, ◌<◌, ◌≤◌, ◌&&◌, Bool, true, List, [], ◌∷◌, ◌++◌, get_or, length}
-use Rattle.std.specs.Ordering.{nat_cmp, is_lt}
-use Rattle.std.specs.Cmp.Lexicographic.{slice_cmp}
+use Rattle.std.specs.Prelude.{ℕ, List, ◌∷◌, ◌++◌, length}
 use Rattle.byteorder.specs.Endian.{little_bytes}
-use Rattle.bw_codec.specs.Version.{latest, key_limit, value_width}
-
--- keys are ordered by bytes, a beginning before its continuation
-abbrev pub is_below : List ℕ → List ℕ → Bool
-is_below a b = is_lt (slice_cmp nat_cmp a b)
-
--- each key is below the next
-abbrev pub ascends : List (List ℕ × List ℕ) → Bool
-ascends [] = true
-ascends (p ∷ []) = true
-ascends (p ∷ q ∷ rest) = is_below p.0 q.0 && ascends (q ∷ rest)
+use Rattle.bw_record.specs.Version.{value_width}
 
 -- one byte of length, and that many bytes
 abbrev pub text : List ℕ → List ℕ
 text bytes = length bytes ∷ bytes
-
--- the length of a key in a format
-abbrev pub IsKeyIn : ℕ → List ℕ → Type 0
-IsKeyIn v k = (1 ≤ length k) × (length k ≤ key_limit v)
-
--- the length of a key
-abbrev pub IsKey : List ℕ → Type 0
-IsKey k = IsKeyIn latest k
-
--- each of these numbers is a byte
-abbrev pub IsBytes : List ℕ → Type 0
-IsBytes bytes = (i : ℕ) → get_or bytes i 0 < 256
 
 -- a number in n bytes, the lowest first
 unfoldable pub number_bytes : ℕ → ℕ → List ℕ

@@ -2,11 +2,13 @@
 
 use Rattle.std.specs.Prelude.{ℕ, ◌+◌, ◌^◌, ◌<◌, ◌≤◌, ◌≡◌, ◌≢◌, ◌⊎◌, ◌==◌, ◌&&◌, ◌||◌, nat_lt, nat_le, Bool, IsTrue, List, [], ◌∷◌, ◌++◌, length}
 use Rattle.std.specs.List.{flat_map, list_all, zip, AllByRecursion}
-use Rattle.bw_codec.specs.Bytes.{number_bytes, text, value_bytes, ascends, IsKeyIn}
-use Rattle.bw_codec.specs.Version.{latest, digit, key_limit, value_limit, least_limit, greatest_limit}
-use Rattle.bw_codec.specs.declared.record.Record.{Record}
-use Rattle.bw_codec.specs.declared.record.Record.TheVariants.{Put, Del}
-use Rattle.bw_codec.specs.declared.leaf.Leaf.{Leaf}
+use Rattle.bw_codec.specs.Bytes.{number_bytes, text, value_bytes}
+use Rattle.bw_record.specs.Keys.{ascends}
+use Rattle.bw_record.specs.Lawful.{IsPairIn, IsOpIn}
+use Rattle.bw_record.specs.Version.{latest, digit, key_limit, least_limit, greatest_limit}
+use Rattle.bw_record.specs.declared.record.Record.{Record}
+use Rattle.bw_record.specs.declared.record.Record.TheVariants.{Put, Del}
+use Rattle.bw_record.specs.declared.leaf.Leaf.{Leaf}
 use Rattle.bw_codec.specs.declared.block.Place.{Place}
 use Rattle.bw_codec.specs.declared.block.Block.{Block}
 use Rattle.bw_codec.specs.declared.block.Block.TheVariants.{Delta, Base, Split}
@@ -100,13 +102,6 @@ frame_bytes f = frame_bytes_in latest f
 
 -- ---- what is lawful in a format
 
-abbrev pub IsPairIn : ℕ → List ℕ × List ℕ → Type 0
-IsPairIn v p = IsKeyIn v p.0 × (length p.1 ≤ value_limit v)
-
-abbrev pub IsOpIn : ℕ → Record → Type 0
-IsOpIn v (Put key value) = IsKeyIn v key × (length value ≤ value_limit v)
-IsOpIn v (Del key) = IsKeyIn v key
-
 abbrev pub IsPage : ℕ → Type 0
 IsPage page = (1 ≤ page) × (page < 2 ^ 32)
 
@@ -167,12 +162,6 @@ pub record IsHeader (h : Header) : Type 0 where
   pub f : (least_limit h.version ≤ h.f) × (h.f ≤ greatest_limit h.version)
 
 -- ---- what may be written
-
-abbrev pub IsPair : List ℕ × List ℕ → Type 0
-IsPair p = IsPairIn latest p
-
-abbrev pub IsOp : Record → Type 0
-IsOp op = IsOpIn latest op
 
 abbrev pub IsDelta : ℕ → Place → List Record → Type 0
 IsDelta page back ops = IsDeltaIn latest page back ops

@@ -1,10 +1,7 @@
 -- what callers see, in reading order
-pub mod Version
 pub mod Bytes
-pub mod Record
 pub mod Grammar
 pub mod Touch
-pub mod Heads
 pub mod Outline
 pub mod Writing
 pub mod Sizes
@@ -12,6 +9,3 @@ pub mod Laws
 -- what private functions say; of `Reading` callers see what a fault says of bytes
 pub mod Reading
 pub mod Skipping
-pub mod Items
-pub mod Paired
-pub mod Packed

@@ -4,12 +4,12 @@ use Rattle.std.specs.Prelude.{ℕ, zero, suc, ◌+◌, ◌≡◌, ◌==◌, nat_
 use Rattle.std.specs.Prelude.{length, take, drop}
 use lib.Pointwise.{pointwise}
 use Rattle.byteorder.specs.Endian.{little_number}
-use Rattle.bw_codec.specs.Version.{key_limit, value_limit, value_width}
-use Rattle.bw_codec.specs.Bytes.{ascends}
+use Rattle.bw_record.specs.Version.{key_limit, value_limit, value_width}
+use Rattle.bw_record.specs.Keys.{ascends}
 use Rattle.bw_codec.specs.Grammar.{agrees, frame_word, segment_word, is_head, is_header}
-use Rattle.bw_codec.specs.declared.record.Record.{Record}
-use Rattle.bw_codec.specs.declared.record.Record.TheVariants.{Put, Del}
-use Rattle.bw_codec.specs.declared.leaf.Leaf.{Leaf}
+use Rattle.bw_record.specs.declared.record.Record.{Record}
+use Rattle.bw_record.specs.declared.record.Record.TheVariants.{Put, Del}
+use Rattle.bw_record.specs.declared.leaf.Leaf.{Leaf}
 use Rattle.bw_codec.specs.declared.block.Place.{Place}
 use Rattle.bw_codec.specs.declared.block.Block.{Block}
 use Rattle.bw_codec.specs.declared.block.Block.TheVariants.{Delta, Base, Split}

@@ -2,7 +2,7 @@
 
 use Rattle.std.specs.Prelude.{ℕ, zero, suc, ◌==◌, nat_lt, length, drop, if◌then◌else◌, Option, Some, None, List, [], ◌∷◌}
 use Rattle.byteorder.specs.Endian.{little_number}
-use Rattle.bw_codec.specs.Version.{value_width}
+use Rattle.bw_record.specs.Version.{value_width}
 use Rattle.bw_codec.specs.Reading.{Found, ◌>>=◌, number_at, run_at, place_at, page_at}
 
 -- the bytes after a run of bytes and its length

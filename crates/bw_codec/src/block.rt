@@ -4,10 +4,9 @@ ghost use Rattle.std.specs.Prelude.{◌≡◌};
 ghost use Rattle.bw_codec.specs.Grammar.{is_head, is_header};
 ghost use Rattle.bw_codec.specs.Touch.{sets, touches, back_of};
 
-use crate::leaf::Leaf;
 use crate::limits::{HEAD_LEN, MAX_PAIRS, MIN_BLOCK, MIN_PAIRS};
-use crate::record::Ops;
 use crate::version::{greatest_limit, least_limit};
+use bw_record::{Leaf, Ops};
 use std::marker::Model;
 
 /// Where a block stands: its frame's number, from 1, and its index in that frame, from 0. It does

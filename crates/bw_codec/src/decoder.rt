@@ -8,12 +8,12 @@ ghost use Rattle.bw_codec.specs.Reading.{Gives, delta_at, base_at, upper_at, spl
 
 use crate::block::{Block, Blocks, Frame, FrameRead, Head, Header, HeaderRead};
 use crate::fault::CodecFault;
-use crate::leaf::Leaf;
 use crate::limits::{HEAD_LEN, HEADER_LEN, MIN_BLOCK};
 use crate::parts::{
     eight_of, four_of, low_of, page_of, pairs_of, place_of, room_for, some_ops, two_of,
 };
 use crate::version::{frame_word, segment_word};
+use bw_record::Leaf;
 use byteorder::{ByteOrder, LittleEndian};
 use std::alloc::Global;
 

@@ -4,15 +4,13 @@
 ghost use Rattle.std.specs.Prelude.{◌≡◌, ◌≤◌, ◌<◌, ◌+◌, ◌*◌, ◌^◌, ◌++◌, length, OnOk, OnErr};
 ghost use Rattle.std.specs.List.{flat_map};
 ghost use Rattle.bw_codec.specs.Bytes.{number_bytes, text, value_bytes};
-ghost use Rattle.bw_codec.specs.Version.{latest};
+ghost use Rattle.bw_record.specs.Version.{latest};
 ghost use Rattle.bw_codec.specs.Grammar.{op_bytes, pair_bytes, place_bytes, pairs_bytes, ops_bytes, delta_front, upper_bytes, block_bytes, head_bytes, header_bytes, IsBase, IsBlock};
 ghost use Rattle.bw_codec.specs.Writing.{HasRoom, Adds};
 
 use crate::block::{Block, Header, Place};
-use crate::leaf::Leaf;
 use crate::limits::{HEAD_LEN, HEADER_LEN};
-use crate::pair::Pair;
-use crate::record::Record;
+use bw_record::{Leaf, Pair, Record};
 use byteorder::{ByteOrder, LittleEndian};
 use std::alloc::AllocError;
 

@@ -20,29 +20,20 @@ mod block;
 mod decoder;
 mod encoder;
 mod fault;
-mod heads;
-mod key;
 pub mod laws;
-mod leaf;
 pub mod limits;
 mod outline;
-mod packed;
-mod pair;
 mod parts;
-mod record;
 mod version;
 
 pub use block::{Block, Blocks, Frame, FrameRead, Head, Header, HeaderRead, Place};
+pub use bw_record::{
+    Key, Leaf, LengthError, Low, Ops, Packed, Pair, Pairs, Record, Value, ascend, is_before,
+};
 pub use decoder::{read_block, read_frame, read_header};
 pub use encoder::{
     base_length, block_length, encode_block, encode_frame_head, encode_header, frame_cells,
     header_cells, ops_length, write_block, write_delta_head, write_ops,
 };
 pub use fault::CodecFault;
-pub use key::{Key, LengthError, Value, is_before};
-pub use leaf::{Leaf, Low, Pairs};
 pub use outline::Outline;
-pub use packed::Packed;
-pub use pair::Pair;
-pub use parts::ascend;
-pub use record::{Ops, Record};

@@ -2,11 +2,7 @@
 //! contracts of `Key::new`, `Value::new`, `Header::is_lawful` and `Head::is_lawful` tie them to the
 //! grammar.
 
-/// The greatest length of a key, in bytes; the least is 1.
-pub const MAX_KEY: usize = 128;
-
-/// The greatest length of a value, in bytes; the least is 0.
-pub const MAX_VALUE: usize = 512;
+pub use bw_record::limits::{MAX_KEY, MAX_VALUE};
 
 /// The least page limit that a segment may have, in pairs.
 pub const MIN_PAIRS: u16 = 4;

@@ -4,18 +4,14 @@
 
 ghost use Rattle.std.specs.Prelude.{◌≡◌, ◌≤◌, ◌/◌, [], length, min, IfOk, IfErr};
 ghost use Rattle.std.specs.Vec.{vec_capacity};
-ghost use Rattle.bw_codec.specs.Bytes.{ascends};
-ghost use Rattle.bw_codec.specs.Version.{key_limit, value_width};
+ghost use Rattle.bw_record.specs.Version.{key_limit, value_width};
 ghost use Rattle.bw_codec.specs.Reading.{Gives, number_at, run_at, text_at, value_at, op_at, pair_at, many_at, place_at, page_at, pairs_at};
 
 use crate::block::Place;
 use crate::fault::CodecFault;
-use crate::key::{Key, Value, is_before};
-use crate::leaf::{Low, Pairs};
 use crate::limits::{MIN_OP, MIN_PAIR};
-use crate::pair::Pair;
-use crate::record::{Ops, Record};
 use crate::version::{key_limit, value_limit};
+use bw_record::{Key, Low, Ops, Pair, Pairs, Record, Value, ascend};
 use byteorder::{ByteOrder, LittleEndian};
 use std::alloc::{AllocError, Global};
 
@@ -229,26 +225,6 @@ pub(crate) fn some_ops(
         rest = others;
     }
     Ok((Ops::of(items), rest))
-}
-
-/// Whether each key is below the next. No memory is taken.
-pub fn ascend(pairs: &[Pair]) -> bool
-    ensures { result ≡ ascends pairs.now }
-{
-    let mut last: Option<&[u8]> = None;
-    for pair in pairs {
-        let key = pair.key();
-        match last {
-            None => {}
-            Some(before) => {
-                if !is_before(before, key) {
-                    return false;
-                }
-            }
-        }
-        last = Some(key);
-    }
-    true
 }
 
 /// A count of at most `m`, and that many pairs in the order of their keys.

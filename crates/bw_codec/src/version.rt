@@ -1,7 +1,7 @@
 //! What differs between the formats: the one definition of the grammar is over these numbers.
 
 ghost use Rattle.std.specs.Prelude.{◌≡◌};
-ghost use Rattle.bw_codec.specs.Version.{digit, key_limit, value_limit, least_limit, greatest_limit};
+ghost use Rattle.bw_record.specs.Version.{digit, key_limit, value_limit, least_limit, greatest_limit};
 ghost use Rattle.bw_codec.specs.Grammar.{frame_word, segment_word};
 
 use crate::limits::{

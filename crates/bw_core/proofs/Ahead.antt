@@ -5,9 +5,9 @@ use Rattle.std.proofs.Common.{length, set, refl, sym, ap, ◌∙◌, arith, if�
 use Rattle.std.specs.Prelude.{nat_le, ◌==◌, ◌||◌, unwrap_or, slice_get}
 use Rattle.std.proofs.lemmas.Bool.{eqb-true, eqb-false, leb-true, leb-false}
 use Rattle.std.proofs.lemmas.Grind.{fold-append}
-use Rattle.bw_codec.specs.Grammar.{IsOp}
-use Rattle.bw_codec.specs.declared.record.Record.{Record}
-use Rattle.bw_codec.specs.declared.leaf.Leaf.{Leaf}
+use Rattle.bw_record.specs.Lawful.{IsOp}
+use Rattle.bw_record.specs.declared.record.Record.{Record}
+use Rattle.bw_record.specs.declared.leaf.Leaf.{Leaf}
 use Rattle.bw_codec.specs.declared.block.Place.{Place}
 use Rattle.bw_codec.specs.declared.block.Block.{Block}
 use Rattle.bw_codec.specs.declared.block.Block.TheVariants.{Delta, Split}

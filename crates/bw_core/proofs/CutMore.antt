@@ -2,11 +2,11 @@
 
 use Rattle.std.proofs.Common.{◌≡◌, ℕ, ◌+◌, ◌-◌, ◌<◌, ◌≤◌, List, take, drop, sym, ap, ◌∙◌, subst, arith}
 use Rattle.std.specs.List.{AllByRecursion as All}
-use Rattle.bw_codec.specs.declared.record.Record.{Record}
-use Rattle.bw_codec.specs.declared.leaf.Leaf.{Leaf}
+use Rattle.bw_record.specs.declared.record.Record.{Record}
+use Rattle.bw_record.specs.declared.leaf.Leaf.{Leaf}
 use Rattle.bw_codec.specs.declared.block.Frame.{Frame}
 use Rattle.bw_page.specs.Leaves.{pages}
-use Rattle.bw_page.proofs.Sorted.{all-zip}
+use Rattle.bw_leaf.proofs.Sorted.{all-zip}
 use Rattle.bw_history.specs.Entries.{records}
 use Rattle.bw_history.specs.History.{cut, upto, share}
 use Rattle.bw_core.specs.Kept.{Kept, leaves_at, share_at, TellsAs, TellsShare}

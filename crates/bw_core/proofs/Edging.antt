@@ -7,7 +7,7 @@ use Rattle.std.specs.List.{AllByRecursion as All}
 use Rattle.std.proofs.lemmas.List.{length-map}
 use Rattle.bw_codec.specs.Grammar.{frame_bytes, header_bytes}
 use Rattle.bw_codec.specs.declared.block.Frame.{Frame}
-use Rattle.bw_page.proofs.Sorted.{all-map}
+use Rattle.bw_leaf.proofs.Sorted.{all-map}
 use Rattle.bw_device.specs.Holding.{Holding, appended}
 use Rattle.bw_device.specs.declared.memory.TheConstants.{MAX_CAPACITY}
 use Rattle.bw_log.specs.Appends.{last_of, with_last, begun, begun_with, header_of, roomy, wants_segment, torn, Appended, Stopped}

@@ -7,22 +7,25 @@ use Rattle.std.specs.List.{AllByRecursion as All, fold, list_any, slice_get}
 use Rattle.std.proofs.lemmas.Bool.{ne_eqb, eqb-true, leb-true, leb-false}
 use Rattle.std.proofs.lemmas.Grind.{flat_map-append}
 use Rattle.std.proofs.lemmas.List.Folds.{list_any-append}
-use Rattle.bw_codec.specs.Bytes.{ascends}
-use Rattle.bw_codec.specs.Grammar.{IsBase, IsBlock, IsOp}
-use Rattle.bw_codec.specs.Record.{key_of}
+use Rattle.bw_record.specs.Keys.{ascends}
+use Rattle.bw_record.specs.Lawful.{IsOp}
+use Rattle.bw_codec.specs.Grammar.{IsBase, IsBlock}
+use Rattle.bw_record.specs.Record.{key_of}
 use Rattle.bw_codec.specs.Touch.{touches}
-use Rattle.bw_codec.specs.declared.record.Record.{Record}
-use Rattle.bw_codec.specs.declared.leaf.Leaf.{Leaf}
+use Rattle.bw_record.specs.declared.record.Record.{Record}
+use Rattle.bw_record.specs.declared.leaf.Leaf.{Leaf}
 use Rattle.bw_codec.specs.declared.block.Place.{Place}
 use Rattle.bw_codec.specs.declared.block.Block.{Block}
 use Rattle.bw_codec.specs.declared.block.Block.TheVariants.{Delta, Base, Split}
 use Rattle.bw_codec.specs.declared.block.Frame.{Frame}
 use Rattle.std.specs.FinMap as finite
 use Rattle.std.specs.FinMap.Entries.{find}
-use Rattle.bw_page.specs.Leaves.{Bytes, Map, order, home, plain, leaf_at, all_changed, applied, directed_at, upper_of, AreLeaves}
+use Rattle.bw_leaf.specs.Changed.{Bytes, Map, order, all_changed}
+use Rattle.bw_page.specs.Leaves.{home, plain, leaf_at, applied, directed_at, upper_of, AreLeaves}
 use Rattle.bw_page.specs.Seats.{is_among}
 use Rattle.bw_page.specs.Shown.{Shown, is_evicted_page, leaf_here}
-use Rattle.bw_page.specs.Standing.{after, content, blocks_of, Stand}
+use Rattle.bw_leaf.specs.Forwards.{after, content, blocks_of}
+use Rattle.bw_page.specs.Standing.{Stand}
 use Rattle.bw_page.proofs.Indexed.{home_within}
 use Rattle.bw_page.proofs.Law.{get-union}
 use Rattle.bw_page.proofs.OneStanding.{untouched}
@@ -43,9 +46,9 @@ use Rattle.bw_core.specs.Faults.{fault_of}
 use Rattle.bw_core.specs.Reading.{leaves_now, ReadLeaves, with_log}
 use Rattle.bw_making.specs.Share.{ops_at}
 use Rattle.bw_making.specs.Tails.{Tailed, tail_of, tail_for, makes, is_made, tails_for, tails_after}
-use Rattle.bw_page.specs.Words.{told_by, records_word, value_on}
-use Rattle.bw_page.specs.declared.words.Word.{Word}
-use Rattle.bw_page.proofs.Wording.{records_tell}
+use Rattle.bw_leaf.specs.Words.{told_by, records_word, value_on}
+use Rattle.bw_leaf.specs.declared.words.Word.{Word}
+use Rattle.bw_leaf.proofs.Wording.{records_tell}
 use Rattle.bw_log.proofs.Valued.{page_rises}
 use Rattle.bw_log.proofs.Walked.{page_set}
 use Rattle.bw_making.proofs.Joins.{none_touches, added_made}

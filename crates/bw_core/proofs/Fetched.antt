@@ -6,12 +6,12 @@ use Rattle.std.specs.Prelude.{◌==◌, slice_get}
 use Rattle.std.specs.List.{AllByRecursion as All}
 use Rattle.std.proofs.lemmas.List.{take_more}
 use Rattle.std.proofs.lemmas.Option.{slice_get_read}
-use Rattle.bw_codec.specs.Record.{key_of}
-use Rattle.bw_codec.specs.declared.record.Record.{Record}
+use Rattle.bw_record.specs.Record.{key_of}
+use Rattle.bw_record.specs.declared.record.Record.{Record}
 use Rattle.bw_log.specs.Reads.{HoldsPage}
 use Rattle.bw_page.specs.Leaves.{directed_at, home}
 use Rattle.bw_page.specs.Shown.{Shown, IsHere, is_evicted_page}
-use Rattle.bw_page.proofs.Sorted.{all-map}
+use Rattle.bw_leaf.proofs.Sorted.{all-map}
 use Rattle.bw_core.specs.declared.fault.StoreFault.{StoreFault}
 use Rattle.bw_core.specs.declared.fault.StoreFault.TheVariants.{NoMemory, BadConfig, NoSegment, Device, Failed, Spent, NoPage, NothingOld}
 use Rattle.bw_core.specs.Kept.{Kept}

@@ -15,7 +15,7 @@ use Rattle.bw_history.specs.declared.entry.Entry.{Entry}
 use Rattle.bw_core.specs.declared.fault.StoreFault.{StoreFault}
 use Rattle.bw_core.specs.Kept.{Filed, Kept, with_frame, with_stop}
 use Rattle.bw_core.specs.Taken.{taken, taken_all}
-use Rattle.bw_codec.specs.declared.record.Record.{Record}
+use Rattle.bw_record.specs.declared.record.Record.{Record}
 use Rattle.bw_ring.specs.declared.lane.Lane.{Lane}
 use Rattle.bw_core.specs.Taking.{MakesRoom, Took, TakeLeaves, Refuses, RefusesNext}
 use Rattle.bw_core.specs.declared.fault.StoreFault.TheVariants.{NoMemory, BadConfig, NoSegment, Device, Failed, Spent, NoPage, NothingOld}

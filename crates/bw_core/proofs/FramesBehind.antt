@@ -7,13 +7,14 @@ use Rattle.std.specs.List.{AllByRecursion as All, fold, slice_get}
 use Rattle.std.proofs.lemmas.Bool.{leb-true, leb-false, ltb-true, ltb-false}
 use Rattle.bw_codec.specs.Grammar.{IsFrameIn, IsPlace}
 use Rattle.bw_codec.specs.Touch.{touches}
-use Rattle.bw_codec.specs.declared.leaf.Leaf.{Leaf}
+use Rattle.bw_record.specs.declared.leaf.Leaf.{Leaf}
 use Rattle.bw_codec.specs.declared.block.Place.{Place}
 use Rattle.bw_codec.specs.declared.block.Block.{Block}
 use Rattle.bw_codec.specs.declared.block.Frame.{Frame}
 use Rattle.bw_codec.proofs.Format.{held, found}
 use Rattle.bw_page.specs.Leaves.{leaf_at}
-use Rattle.bw_page.specs.Standing.{blocks_of, Stand}
+use Rattle.bw_leaf.specs.Forwards.{blocks_of}
+use Rattle.bw_page.specs.Standing.{Stand}
 use Rattle.bw_page.proofs.OneStanding.{one}
 use Rattle.bw_log.specs.Contents as logs
 use Rattle.bw_core.specs.Cleaning.{end_by}

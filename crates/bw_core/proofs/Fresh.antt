@@ -11,8 +11,10 @@ use Rattle.bw_codec.proofs.Lengths.{length-base}
 use Rattle.bw_codec.specs.declared.block.Place.{Place}
 use Rattle.bw_codec.specs.declared.block.Block.{Block}
 use Rattle.bw_codec.specs.declared.block.Block.TheVariants.{Base}
-use Rattle.bw_page.specs.Leaves.{leaf_at, empty_leaf}
-use Rattle.bw_page.specs.Standing.{content, Stand}
+use Rattle.bw_leaf.specs.Changed.{empty_leaf}
+use Rattle.bw_page.specs.Leaves.{leaf_at}
+use Rattle.bw_leaf.specs.Forwards.{content}
+use Rattle.bw_page.specs.Standing.{Stand}
 use Rattle.bw_page.proofs.Law.{one_empty-lawful}
 use Rattle.bw_device.specs.Holding.{Holding}
 use Rattle.bw_buffer.specs.Filling.{Filling, size_of, with_all}

@@ -5,10 +5,10 @@ use Rattle.std.proofs.Common.{length, map, set, take, refl, sym, ap, ◌∙◌, 
 use Rattle.std.specs.Prelude.{nat_le, nat_lt, is_some, IfSome}
 use Rattle.std.specs.List.{AllByRecursion as All, fold, slice_index_or}
 use Rattle.std.proofs.lemmas.Grind.{fold-append}
-use Rattle.bw_codec.specs.Grammar.{IsOp}
-use Rattle.bw_codec.specs.Record.{key_of}
-use Rattle.bw_codec.specs.declared.record.Record.{Record}
-use Rattle.bw_codec.specs.declared.leaf.Leaf.{Leaf}
+use Rattle.bw_record.specs.Lawful.{IsOp}
+use Rattle.bw_record.specs.Record.{key_of}
+use Rattle.bw_record.specs.declared.record.Record.{Record}
+use Rattle.bw_record.specs.declared.leaf.Leaf.{Leaf}
 use Rattle.bw_codec.specs.declared.block.Place.{Place}
 use Rattle.bw_codec.specs.declared.block.Block.{Block}
 use Rattle.bw_codec.specs.declared.block.Block.TheVariants.{Delta, Split}

@@ -6,18 +6,20 @@ use Rattle.std.proofs.Common.{length-drop}
 use Rattle.std.specs.Prelude.{◌==◌, ◌||◌, nat_le}
 use Rattle.std.specs.List.{AllByRecursion as All, fold, slice_get}
 use Rattle.std.proofs.lemmas.Bool.{eq-eqb, ne_eqb, leb-true, leb-false}
-use Rattle.bw_codec.specs.Grammar.{IsOp, IsBlock, IsPlace, IsDelta}
-use Rattle.bw_codec.specs.Record.{key_of}
+use Rattle.bw_record.specs.Lawful.{IsOp}
+use Rattle.bw_codec.specs.Grammar.{IsBlock, IsPlace, IsDelta}
+use Rattle.bw_record.specs.Record.{key_of}
 use Rattle.bw_codec.specs.Touch.{touches}
-use Rattle.bw_codec.specs.declared.record.Record.{Record}
-use Rattle.bw_codec.specs.declared.leaf.Leaf.{Leaf}
+use Rattle.bw_record.specs.declared.record.Record.{Record}
+use Rattle.bw_record.specs.declared.leaf.Leaf.{Leaf}
 use Rattle.bw_codec.specs.declared.block.Place.{Place}
 use Rattle.bw_codec.specs.declared.block.Block.TheVariants.{Delta, Split}
 use Rattle.bw_codec.specs.declared.block.Frame.{Frame}
 use Rattle.bw_buffer.specs.Joining.{joins}
 use Rattle.bw_page.specs.Leaves.{directed_at, upper_of, leaf_at, applied, HasPage, AreLeaves}
-use Rattle.bw_page.specs.Standing.{after, content, blocks_of, Stand}
-use Rattle.bw_page.proofs.Sorted.{all-push}
+use Rattle.bw_leaf.specs.Forwards.{after, content, blocks_of}
+use Rattle.bw_page.specs.Standing.{Stand}
+use Rattle.bw_leaf.proofs.Sorted.{all-push}
 use Rattle.bw_page.proofs.Indexed.{home_within}
 use Rattle.bw_page.proofs.Law.{applied-lawful, cut_within, upper_in, home_base}
 use Rattle.bw_page.proofs.Law as law

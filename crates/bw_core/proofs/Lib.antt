@@ -36,6 +36,5 @@ pub mod Stopping
 pub mod EvictedPages
 pub mod Walks
 pub mod Counted
-pub mod Tallied
 pub mod NeededMore
 pub mod CountsMore

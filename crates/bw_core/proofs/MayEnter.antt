@@ -4,19 +4,20 @@ use Rattle.std.proofs.Common.{◌≡◌, ℕ, ◌+◌, ◌-◌, ◌^◌, ◌<◌
 use Rattle.std.proofs.Common.{[], ◌∷◌, ◌++◌, length, map, set, refl, sym, ap, ◌∙◌, subst, arith, if◌then◌else◌, length-append}
 use Rattle.std.specs.Prelude.{nat_le, IfSome, unwrap_or}
 use Rattle.std.specs.List.{AllByRecursion as All, slice_get}
-use Rattle.bw_codec.specs.Grammar.{IsBlock, IsOp}
-use Rattle.bw_codec.specs.declared.record.Record.{Record}
+use Rattle.bw_record.specs.Lawful.{IsOp}
+use Rattle.bw_codec.specs.Grammar.{IsBlock}
+use Rattle.bw_record.specs.declared.record.Record.{Record}
 use Rattle.bw_codec.specs.declared.block.Place.{Place}
 use Rattle.bw_codec.specs.declared.block.Block.{Block}
 use Rattle.bw_codec.specs.declared.block.Block.TheVariants.{Delta, Base, Split}
-use Rattle.bw_codec.specs.declared.leaf.Leaf.{Leaf}
+use Rattle.bw_record.specs.declared.leaf.Leaf.{Leaf}
 use Rattle.std.proofs.lemmas.Bool.{leb-true, leb-false, lt-leb}
 use Rattle.bw_codec.proofs.Wider.{blocks_wider}
 use Rattle.bw_page.specs.Leaves.{directed_at, upper_of, applied, HasPage, AreLeaves}
 use Rattle.bw_page.specs.Shown.{Shown, IsSpent}
 use Rattle.bw_page.proofs.Indexing.{count_fits}
 use Rattle.bw_page.proofs.Indexed.{home_within}
-use Rattle.bw_codec.specs.Record.{key_of}
+use Rattle.bw_record.specs.Record.{key_of}
 use Rattle.bw_buffer.specs.Filling.{Filling, frame_of, size_of, with_all, place_at}
 use Rattle.bw_buffer.specs.Joining.{joins, joins_of, joined, index_for, added}
 use Rattle.bw_buffer.proofs.Holding.{few_blocks}

@@ -9,15 +9,16 @@ use Rattle.std.specs.List.{AllByRecursion as All, filter}
 use Rattle.std.proofs.lemmas.Bool.{leb-true, leb-false, le-leb, lt-leb}
 use Rattle.std.proofs.lemmas.List.{get_or_append_left}
 use Rattle.std.proofs.lemmas.List.Elements.{filter-append}
-use Rattle.bw_codec.specs.declared.record.Record.{Record}
-use Rattle.bw_codec.specs.declared.leaf.Leaf.{Leaf}
+use Rattle.bw_record.specs.declared.record.Record.{Record}
+use Rattle.bw_record.specs.declared.leaf.Leaf.{Leaf}
 use Rattle.bw_codec.specs.declared.block.Place.{Place}
 use Rattle.bw_codec.specs.declared.block.Block.{Block}
 use Rattle.bw_codec.specs.declared.block.Block.TheVariants.{Delta, Base, Split}
 use Rattle.bw_codec.specs.declared.block.Frame.{Frame}
 use Rattle.bw_page.specs.Leaves.{pages}
-use Rattle.bw_page.specs.Standing.{blocks_of, Stand}
-use Rattle.bw_page.proofs.Sorted.{all-map, all-zip}
+use Rattle.bw_leaf.specs.Forwards.{blocks_of}
+use Rattle.bw_page.specs.Standing.{Stand}
+use Rattle.bw_leaf.proofs.Sorted.{all-map, all-zip}
 use Rattle.bw_buffer.specs.Filling.{Filling, frame_of}
 use Rattle.bw_log.specs.Contents as logs
 use Rattle.bw_log.specs.Places.{first_number}

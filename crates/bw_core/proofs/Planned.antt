@@ -17,15 +17,17 @@ use Rattle.bw_core.specs.Taking.{MakesRoom, IsPlan, GroupLeaves, Took, WaitingLe
 use Rattle.bw_core.proofs.Refusing.{entered_not, none_of}
 use Rattle.bw_core.specs.Taken.{alone, taken, taken_all}
 use Rattle.std.specs.List.{AllByRecursion as All}
-use Rattle.bw_codec.specs.Grammar.{body_bytes, block_bytes, IsBlock, IsOp}
-use Rattle.bw_codec.specs.Record.{key_of}
-use Rattle.bw_codec.specs.declared.record.Record.{Record}
-use Rattle.bw_codec.specs.declared.leaf.Leaf.{Leaf}
+use Rattle.bw_record.specs.Lawful.{IsOp}
+use Rattle.bw_codec.specs.Grammar.{body_bytes, block_bytes, IsBlock}
+use Rattle.bw_record.specs.Record.{key_of}
+use Rattle.bw_record.specs.declared.record.Record.{Record}
+use Rattle.bw_record.specs.declared.leaf.Leaf.{Leaf}
 use Rattle.bw_codec.specs.declared.block.Place.{Place}
 use Rattle.bw_codec.specs.declared.block.Block.{Block}
 use Rattle.bw_codec.specs.declared.block.Block.TheVariants.{Delta, Split}
 use Rattle.bw_codec.proofs.Sizing.{largest_blocks}
-use Rattle.bw_page.specs.Leaves.{home, changed, directed_at, upper_of, leaf_at, HasPage, AreLeaves}
+use Rattle.bw_leaf.specs.Changed.{changed}
+use Rattle.bw_page.specs.Leaves.{home, directed_at, upper_of, leaf_at, HasPage, AreLeaves}
 use Rattle.std.specs.List.{slice_get}
 use Rattle.bw_page.specs.declared.fault.ApplyError.{ApplyError}
 use Rattle.bw_page.specs.declared.fault.ApplyError.TheVariants as apply

@@ -4,15 +4,16 @@ use Rattle.std.proofs.Common.{◌≡◌, ℕ, zero, suc, ◌+◌, ◌-◌, ◌<�
 use Rattle.std.proofs.Common.{length, take, drop, get_or, refl, sym, ap, ◌∙◌, subst, arith, length-append, take-append-drop}
 use Rattle.std.proofs.lemmas.List.{map-append, take-append-le, drop-append-le}
 use Rattle.std.proofs.lemmas.Grind.{fold-append}
-use Rattle.bw_codec.specs.Grammar.{IsOp}
-use Rattle.bw_codec.specs.declared.record.Record.{Record}
-use Rattle.bw_codec.specs.declared.leaf.Leaf.{Leaf}
+use Rattle.bw_record.specs.Lawful.{IsOp}
+use Rattle.bw_record.specs.declared.record.Record.{Record}
+use Rattle.bw_record.specs.declared.leaf.Leaf.{Leaf}
 use Rattle.bw_codec.specs.declared.block.Place.{Place}
 use Rattle.bw_codec.specs.declared.block.Block.{Block}
-use Rattle.bw_page.specs.Leaves.{Map, pages, applied, empty_leaf, union, plain, changed_map}
+use Rattle.bw_leaf.specs.Changed.{Map, empty_leaf, changed_map}
+use Rattle.bw_page.specs.Leaves.{pages, applied, union, plain}
 use Rattle.bw_page.proofs.Law.{applied-plain}
 use Rattle.bw_page.specs.Standing.{Stand}
-use Rattle.bw_page.proofs.Sorted.{all-map, all-push}
+use Rattle.bw_leaf.proofs.Sorted.{all-map, all-push}
 use Rattle.bw_buffer.specs.Filling.{frame_of}
 use Rattle.bw_buffer.specs.Joining.{added}
 use Rattle.bw_ring.specs.Marks.{Marked}

@@ -13,7 +13,7 @@ use Rattle.bw_core.specs.declared.fault.StoreFault.TheVariants.{NoMemory, BadCon
 use Rattle.bw_core.specs.Kept.{Kept}
 use Rattle.bw_core.specs.Emptied.{IsUnready}
 use Rattle.bw_core.specs.Faults.{FlushAnswers, FlushLeaves, IsRefused, flush_refusal, refusal_by, fault_of}
-use Rattle.bw_codec.specs.declared.record.Record.{Record}
+use Rattle.bw_record.specs.declared.record.Record.{Record}
 use Rattle.bw_core.specs.Fitting.{Fits}
 use Rattle.bw_core.specs.Taking.{MakesRoom, IsWanting, IsSpentFor, IsStopped, IsUnplanned, Refuses, Works}
 

@@ -11,7 +11,7 @@ use Rattle.bw_codec.specs.declared.block.Frame.{Frame}
 use Rattle.bw_device.specs.Holding.{Holding}
 use Rattle.bw_page.specs.Shown.{Shown}
 use Rattle.bw_page.specs.Standing.{Stand}
-use Rattle.bw_page.proofs.Sorted.{all-map}
+use Rattle.bw_leaf.proofs.Sorted.{all-map}
 use Rattle.bw_buffer.specs.Filling.{Filling, frame_of}
 use Rattle.bw_ring.specs.Ends.{Ring}
 use Rattle.bw_log.specs.Contents as logs

@@ -5,7 +5,7 @@ use Rattle.std.proofs.Common.{length, refl, sym, ap, ◌∙◌, subst, arith}
 use Rattle.std.specs.Prelude.{nat_le, IfOk, IfErr}
 use Rattle.std.specs.List.{AllByRecursion as All, list_all}
 use Rattle.std.proofs.lemmas.Bool.{leb-true, and_parts}
-use Rattle.bw_codec.specs.declared.leaf.Leaf.{Leaf}
+use Rattle.bw_record.specs.declared.leaf.Leaf.{Leaf}
 use Rattle.bw_page.specs.Leaves.{pages}
 use Rattle.bw_page.specs.Standing.{Stand}
 use Rattle.bw_log.specs.Contents as logs

@@ -1,12 +1,13 @@
 -- The share of a frame on worked examples: five puts, one a frame, of which the last cuts page 1; and a frame of the cleaner's.
 
 use Rattle.std.proofs.Common.{◌≡◌, ℕ, Bool, true, false, List, [], ◌∷◌, refl, arith}
-use Rattle.bw_codec.specs.declared.record.Record.{Record}
-use Rattle.bw_codec.specs.declared.record.Record.TheVariants.{Put}
-use Rattle.bw_codec.specs.declared.leaf.Leaf.{Leaf}
+use Rattle.bw_record.specs.declared.record.Record.{Record}
+use Rattle.bw_record.specs.declared.record.Record.TheVariants.{Put}
+use Rattle.bw_record.specs.declared.leaf.Leaf.{Leaf}
 use Rattle.bw_codec.specs.declared.block.Place.{Place}
 use Rattle.bw_codec.specs.declared.block.Block.TheVariants.{Delta, Base, Split}
-use Rattle.bw_page.specs.Leaves.{empty_leaf, pages}
+use Rattle.bw_leaf.specs.Changed.{empty_leaf}
+use Rattle.bw_page.specs.Leaves.{pages}
 use Rattle.bw_history.specs.declared.entry.Entry.{Entry}
 use Rattle.bw_history.specs.Entries.{records}
 use Rattle.bw_history.specs.History.{upto, share, streams, are_whole}

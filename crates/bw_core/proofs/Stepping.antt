@@ -7,14 +7,15 @@ use Rattle.std.specs.List.{fold}
 use Rattle.std.specs.Option.{option_map}
 use Rattle.std.proofs.lemmas.Bool.{eqb-true, eq-eqb, ne_eqb, le-leb, lt-leb, leb-true, leb-false}
 use Rattle.std.proofs.lemmas.List.{length-map}
-use Rattle.bw_codec.specs.Grammar.{IsOp}
-use Rattle.bw_codec.specs.Record.{key_of}
-use Rattle.bw_codec.specs.declared.record.Record.{Record}
-use Rattle.bw_codec.specs.declared.leaf.Leaf.{Leaf}
+use Rattle.bw_record.specs.Lawful.{IsOp}
+use Rattle.bw_record.specs.Record.{key_of}
+use Rattle.bw_record.specs.declared.record.Record.{Record}
+use Rattle.bw_record.specs.declared.leaf.Leaf.{Leaf}
 use Rattle.bw_codec.specs.declared.block.Place.{Place}
 use Rattle.bw_codec.specs.declared.block.Block.TheVariants.{Delta, Split}
-use Rattle.bw_page.specs.Leaves.{changed, directed_at, lower_of, upper_of, leaf_at, applied, AreLeaves}
-use Rattle.bw_page.specs.Standing.{kept_below, after}
+use Rattle.bw_leaf.specs.Changed.{changed}
+use Rattle.bw_page.specs.Leaves.{directed_at, lower_of, upper_of, leaf_at, applied, AreLeaves}
+use Rattle.bw_leaf.specs.Forwards.{kept_below, after}
 use Rattle.bw_page.proofs.Homes.{put_in}
 use Rattle.bw_page.proofs.PageByPage.{home_there, put_at}
 use Rattle.bw_page.proofs.Law.{directed, cut_within, applied-whole, applied-cut}

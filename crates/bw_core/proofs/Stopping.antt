@@ -6,7 +6,7 @@ use Rattle.std.specs.Prelude.{IfSome, MatchResult, nat_le}
 use Rattle.std.specs.List.{AllByRecursion as All}
 use Rattle.std.proofs.lemmas.Bool.{cases_lt, le-leb, lt-leb}
 use Rattle.std.proofs.lemmas.List.Elements.{filter-append}
-use Rattle.bw_codec.specs.declared.leaf.Leaf.{Leaf}
+use Rattle.bw_record.specs.declared.leaf.Leaf.{Leaf}
 use Rattle.bw_codec.specs.declared.block.Frame.{Frame}
 use Rattle.bw_page.specs.Standing.{Stand}
 use Rattle.bw_device.specs.Holding.{Holding}
@@ -17,8 +17,8 @@ use Rattle.bw_log.specs.Places.{first_number}
 use Rattle.bw_log.specs.Segments.{segment_frames, AreFrom}
 use Rattle.bw_care.specs.Laws.{cut_newest, frames_held, FoundAs, IsFound}
 use Rattle.bw_care.specs.Recovery.{Finding, frames_in, last_number}
-use Rattle.bw_care.specs.declared.fault.RecoverCause.{RecoverCause}
-use Rattle.bw_care.specs.declared.fault.RecoverCause.TheVariants.{Empty}
+use Rattle.bw_lines.specs.declared.cause.RecoverCause.{RecoverCause}
+use Rattle.bw_lines.specs.declared.cause.RecoverCause.TheVariants.{Empty}
 use Rattle.bw_care.proofs.CutBoxes.{cut_boxes, cut_taken, numbered_taken, stopped_boxes}
 use Rattle.bw_core.specs.Edges.{newest_number}
 use Rattle.bw_core.specs.Growing.{frames_upto}

@@ -2,11 +2,13 @@
 
 use Rattle.std.proofs.Common.{◌≡◌, ℕ, ◌≤◌, ◌<◌, true, false, if◌then◌else◌, Option, Some, None, Err, [], length, sym, ap, ◌∙◌, subst, arith}
 use Rattle.std.specs.Prelude.{is_some}
-use Rattle.bw_codec.specs.declared.leaf.Leaf.{Leaf}
+use Rattle.bw_record.specs.declared.leaf.Leaf.{Leaf}
 use Rattle.bw_log.specs.Reads.{HoldsPage}
-use Rattle.bw_page.specs.Ahead.{IsFirst, IsFirstPair, HasNoPair, HasCome, pair_above, HasNoLowAbove, IsNextLow, IsStretch, HasGone, ahead}
-use Rattle.bw_page.specs.Ahead.{pairs_above, with_some}
-use Rattle.bw_page.specs.Leaves.{Bytes, Pairs, Map, home, leaf_at, plain, union}
+use Rattle.bw_leaf.specs.Above.{pair_above}
+use Rattle.bw_page.specs.Ahead.{IsFirst, IsFirstPair, HasNoPair, HasCome, HasNoLowAbove, IsNextLow, IsStretch, HasGone, ahead}
+use Rattle.bw_leaf.specs.Above.{pairs_above, with_some}
+use Rattle.bw_leaf.specs.Changed.{Bytes, Pairs, Map}
+use Rattle.bw_page.specs.Leaves.{home, leaf_at, plain, union}
 use Rattle.bw_page.specs.Shown.{Shown, is_evicted_page, leaf_here}
 use Rattle.bw_page.proofs.Ahead.{ahead_less, come_first, come_found, come_further, come_last}
 use Rattle.bw_page.proofs.PageByPage.{home_there}

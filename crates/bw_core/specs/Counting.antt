@@ -1,60 +1,19 @@
 -- What a store counts beside what it keeps.
 
 use Rattle.std.specs.Prelude.{ℕ, zero, suc, ◌+◌, ◌-◌, ◌^◌, ◌≡◌, ◌⊎◌, Bool, true, false, if◌then◌else◌, min, take, Result, Ok, Err, List, [], ◌∷◌, length}
-use Rattle.bw_device.specs.Holding.{Holding}
+use Rattle.bw_care.specs.Tallies.{up, bytes_of, counted_from, counted_out, counted_by}
 use Rattle.bw_care.specs.Upgrading.{old_segments}
 use Rattle.bw_care.specs.declared.cleaner.Cleaned.{Cleaned}
 use Rattle.bw_care.specs.declared.upgrader.Upgraded.{Upgraded}
-use Rattle.bw_core.specs.declared.counters.Counters.{Counters}
-use Rattle.bw_core.specs.declared.counters.Looks.{Looks}
-use Rattle.bw_core.specs.declared.counters.Tally.{Tally}
+use Rattle.bw_care.specs.declared.tally.Counters.{Counters}
+use Rattle.bw_care.specs.declared.tally.Looks.{Looks}
+use Rattle.bw_care.specs.declared.tally.Tally.{Tally}
 use Rattle.bw_core.specs.declared.fault.StoreFault.{StoreFault}
 use Rattle.bw_core.specs.Cleaning.{MoveLeaves}
 use Rattle.bw_core.specs.Emptied.{Emptied, IsUnready}
 use Rattle.bw_core.specs.Kept.{Kept}
 use Rattle.bw_core.specs.Noted.{Noted}
 use Rattle.bw_core.specs.Upgrading.{UpgradeMoves}
-
--- a count with so many more: it stays where it is at the greatest number
-abbrev pub up : ℕ → ℕ → ℕ
-up n more = min (n + more) (2 ^ 64 - 1)
-
--- ---- bytes of segments
-
-abbrev pub bytes_of : List Holding → ℕ
-bytes_of [] = 0
-bytes_of (h ∷ hs) = length h.bytes + bytes_of hs
-
--- those of the one at an index, if there is one
-abbrev pub length_at : List Holding → ℕ → ℕ
-length_at [] i = 0
-length_at (h ∷ hs) zero = length h.bytes
-length_at (h ∷ hs) (suc i) = length_at hs i
-
--- ---- counts
-
--- nothing yet, over so many pages and bytes
-abbrev pub counted_from : ℕ → ℕ → Tally
-counted_from pages bytes = record {
-  pages = pages;
-  bytes = bytes;
-  given_up = 0;
-  cleanings = 0;
-  cleaner_frames = 0;
-  cleaner_bytes = 0;
-  evictions = 0;
-}
-
-abbrev pub counted_out : Tally → Tally
-counted_out t = record t { evictions = up t.evictions 1 }
-
-abbrev pub counted_up : Tally → ℕ → ℕ → ℕ → ℕ → Tally
-counted_up t frames bytes given_up cleanings = record t {
-  given_up = up t.given_up given_up;
-  cleanings = up t.cleanings cleanings;
-  cleaner_frames = up t.cleaner_frames frames;
-  cleaner_bytes = up t.cleaner_bytes bytes;
-}
 
 -- a store that begins: nothing is forgotten
 abbrev pub noted_from : ℕ → ℕ → Noted
@@ -65,12 +24,6 @@ abbrev pub noted_left : Bool → Noted → Noted
 noted_left left n = if left then record n { tally = counted_out n.tally } else n
 
 -- ---- what a cleaning counts, and an upgrade
-
--- so many frames, and as many bytes as there are more after it than before; where it is done, the segments that were given up, and
--- their bytes, which are among these
-abbrev pub counted_by : Tally → Bool → ℕ → ℕ → ℕ → ℕ → ℕ → Tally
-counted_by t done frames before after gone count =
-    if done then counted_up t frames (up after gone - before) gone count else counted_up t frames (up after 0 - before) 0 0
 
 -- the first live segments are given up, so many of them, in a store where nothing waits
 abbrev pub counted_gone : ℕ → Tally → Kept → Bool → Kept → Tally

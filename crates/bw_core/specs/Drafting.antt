@@ -3,7 +3,7 @@
 use Rattle.std.specs.Prelude.{ℕ, ◌-◌, ◌≡◌, ◌≤◌, Some, List, length, map, slice_get}
 use Rattle.std.specs.List.{fold, AllByRecursion}
 use Rattle.bw_codec.specs.Grammar.{IsBlock}
-use Rattle.bw_codec.specs.declared.record.Record.{Record}
+use Rattle.bw_record.specs.declared.record.Record.{Record}
 use Rattle.bw_page.specs.Leaves.{HasPages}
 use Rattle.bw_buffer.specs.Filling.{size_of}
 use Rattle.bw_buffer.specs.Joining.{joins, open_records}

@@ -1,7 +1,7 @@
 -- Whether a group's blocks have room in the frame in the making.
 
 use Rattle.std.specs.Prelude.{◌≤◌, List}
-use Rattle.bw_codec.specs.declared.record.Record.{Record}
+use Rattle.bw_record.specs.declared.record.Record.{Record}
 use Rattle.bw_codec.specs.declared.block.Place.{Place}
 use Rattle.bw_codec.specs.declared.block.Block.{Block}
 use Rattle.bw_page.specs.Leaves.{directed_at}

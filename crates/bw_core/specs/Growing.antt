@@ -3,7 +3,7 @@
 use Rattle.std.specs.Prelude.{ℕ, nat_le, ◌-◌, ◌≡◌, ◌≤◌, List, [], ◌∷◌, ◌++◌, length, slice_get}
 use Rattle.std.specs.List.{AllByRecursion, filter}
 use Rattle.bw_codec.specs.Grammar.{IsBlock, IsPlace}
-use Rattle.bw_codec.specs.declared.leaf.Leaf.{Leaf}
+use Rattle.bw_record.specs.declared.leaf.Leaf.{Leaf}
 use Rattle.bw_codec.specs.declared.block.Place.{Place}
 use Rattle.bw_codec.specs.declared.block.Frame.{Frame}
 use Rattle.bw_page.specs.Standing.{Stand}

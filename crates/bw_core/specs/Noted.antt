@@ -1,7 +1,7 @@
 -- What a store notes beside what it keeps.
 
 use Rattle.std.specs.Prelude.{ℕ}
-use Rattle.bw_core.specs.declared.counters.Tally.{Tally}
+use Rattle.bw_care.specs.declared.tally.Tally.{Tally}
 
 pub record Noted : Type 0 where
   -- how many entries of the history left memory

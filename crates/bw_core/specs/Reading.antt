@@ -1,7 +1,7 @@
 -- What the calls leave that only ask or read, or change the boxes alone.
 
 use Rattle.std.specs.Prelude.{ℕ, ◌≡◌, false, Result, Ok, Err, List, [], ◌∷◌, ◌++◌}
-use Rattle.bw_codec.specs.declared.leaf.Leaf.{Leaf}
+use Rattle.bw_record.specs.declared.leaf.Leaf.{Leaf}
 use Rattle.bw_page.specs.Leaves.{pages}
 use Rattle.bw_device.specs.Holding.{Holding}
 use Rattle.bw_log.specs.Contents as logs

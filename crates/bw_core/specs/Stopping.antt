@@ -5,7 +5,7 @@ use Rattle.bw_device.specs.Holding.{Holding}
 use Rattle.bw_log.specs.Appends.{last_of}
 use Rattle.bw_log.specs.Segments.{segment_frames}
 use Rattle.bw_care.specs.Recovery.{frames_in, recovery}
-use Rattle.bw_care.specs.declared.fault.RecoverCause.TheVariants.{Empty}
+use Rattle.bw_lines.specs.declared.cause.RecoverCause.TheVariants.{Empty}
 use Rattle.bw_core.specs.Edges.{newest_number}
 use Rattle.bw_core.specs.Growing.{frames_upto}
 use Rattle.bw_core.specs.Kept.{Kept, leaves_at}

@@ -1,7 +1,7 @@
 -- A store after one record, and after the records of a group.
 
 use Rattle.std.specs.Prelude.{ℕ, false, List, [], ◌∷◌}
-use Rattle.bw_codec.specs.declared.record.Record.{Record}
+use Rattle.bw_record.specs.declared.record.Record.{Record}
 use Rattle.bw_codec.specs.declared.block.Place.{Place}
 use Rattle.bw_page.specs.Leaves.{applied}
 use Rattle.bw_ring.specs.Marks.{Marked}

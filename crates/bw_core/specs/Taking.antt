@@ -1,7 +1,7 @@
 -- What a take of one lane leaves.
 
 use Rattle.std.specs.Prelude.{ℕ, ◌≡◌, Bool, false, ◌⊎◌, ◌≤◌, ◌<◌, ◌-◌, ◌^◌, true, Option, None, Some, Result, Ok, Err, List, length, take, slice_get}
-use Rattle.bw_codec.specs.declared.record.Record.{Record}
+use Rattle.bw_record.specs.declared.record.Record.{Record}
 use Rattle.bw_page.specs.Leaves.{directed_at, pages, result_of, HasPage}
 use Rattle.bw_log.specs.Reads.{FailedRead, HoldsPage, IsWornOut}
 use Rattle.bw_core.specs.declared.fault.StoreFault.{StoreFault}

@@ -10,7 +10,7 @@ use Rattle.bw_ring.specs.declared.lane.Lane.{Lane}
 use Rattle.bw_log.specs.Views.{seen_by}
 use Rattle.bw_core.specs.Kept.{Kept, filed_of}
 use Rattle.bw_core.specs.Noted.{Noted}
-use Rattle.bw_core.specs.declared.counters.Looks.{Looks}
+use Rattle.bw_care.specs.declared.tally.Looks.{Looks}
 use Rattle.bw_core.specs.Kept as kept
 use Rattle.bw_core.specs.declared.store.Core.{Core}
 

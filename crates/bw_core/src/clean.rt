@@ -9,10 +9,9 @@ ghost use Rattle.bw_core.specs.Following.{Continues, Follows, HasBoxes};
 ghost use Rattle.bw_core.specs.Kept.{EachCutStands};
 ghost use Rattle.bw_core.specs.Settled.{IsSettled};
 
-use crate::counters::{bytes_upto, live_bytes};
 use crate::fault::StoreFault;
 use crate::store::Core;
-use bw_care::{Cleaned, clean};
+use bw_care::{Cleaned, bytes_upto, clean, live_bytes};
 
 impl Core {
     ghost use Rattle.bw_core.specs.Moving.{MayMove};

@@ -3,7 +3,8 @@
 ghost use Rattle.std.specs.Prelude.{ℕ, ◌≡◌, ◌≤◌, ◌-◌, false, length, slice_index_or, IfOk, IfErr};
 ghost use Rattle.std.specs.FinMap as finite;
 ghost use Rattle.bw_log.specs.Reads.{HoldsPage};
-ghost use Rattle.bw_page.specs.Leaves.{empty_leaf, plain};
+ghost use Rattle.bw_leaf.specs.Changed.{empty_leaf};
+ghost use Rattle.bw_page.specs.Leaves.{plain};
 ghost use Rattle.bw_history.specs.Entries.{records};
 ghost use Rattle.bw_core.specs.Following.{Follows, HasBoxes};
 ghost use Rattle.bw_core.specs.Reading.{HasRead, ReadLeaves, WalkLeaves};

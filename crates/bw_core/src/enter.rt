@@ -1,16 +1,15 @@
 //! Records are entered in the history and in the frame in the making.
 
 ghost use Rattle.std.specs.Prelude.{◌≡◌, ◌≤◌, ◌<◌, ◌+◌, ◌-◌, ◌^◌, ◌∷◌, [], Some, false, length, map, vec_len, slice_get, OnOk, OnErr, IfOk, IfErr};
-ghost use Rattle.std.specs.List.{AllByRecursion, fold};
+ghost use Rattle.std.specs.List.{AllByRecursion};
 ghost use Rattle.std.specs.Vec.{vec_capacity};
 ghost use Rattle.bw_codec.specs.Grammar.{IsBlock};
-ghost use Rattle.bw_codec.specs.Record.{key_of};
+ghost use Rattle.bw_record.specs.Record.{key_of};
 ghost use Rattle.bw_page.specs.Leaves.{directed_at};
-ghost use Rattle.bw_page.specs.Shown.{IsSpent, IsHere, after_record};
+ghost use Rattle.bw_page.specs.Shown.{IsHere};
 ghost use Rattle.bw_ring.specs.Ends.{given};
 ghost use Rattle.bw_buffer.specs.Filling.{frame_of, size_of, with_all};
 ghost use Rattle.bw_making.specs.Adding.{blocks_for, here_for, last_for, noted};
-ghost use Rattle.bw_making.specs.Drafting.{AreIn, count_by, set_row};
 ghost use Rattle.bw_core.specs.Filing.{AreOne};
 ghost use Rattle.bw_history.specs.Lanes.{IsNext, TookKnown};
 ghost use Rattle.bw_core.specs.Taken.{alone, taken};
@@ -19,11 +18,8 @@ ghost use Rattle.bw_core.specs.Taking.{IsWanting};
 use crate::fault::StoreFault;
 use crate::store::Core;
 use bw_buffer::Buffer;
-use bw_codec::{Block, Packed, Place, Record};
-use bw_history::PackedEntry;
-use bw_making::{note, reserve_for};
-use bw_page::{Applied, ApplyError, Leaves};
-use std::alloc::AllocError;
+use bw_codec::{Block, Place, Record};
+use bw_making::{apply_entry, note, reserve_for, share_of};
 
 impl Core {
     ghost use Rattle.bw_core.specs.Views.{kept_by, noted_of, IsSound};
@@ -76,33 +72,6 @@ impl Core {
         self.intake.enter_alone(lane, &item, entry);
         Ok(())
     }
-}
-
-// The record of an entry, which shares its bytes.
-fn share_of(entry: &PackedEntry, _item: &Record) -> Result<Packed, AllocError>
-    requires { entry.now.item ≡ _item.now }
-    ensures { IfOk result (λ packed. packed ≡ _item.now) }
-{
-    entry.item().copy()
-}
-
-// Applies the record of an entry to its page, which is known: the page shares the record's bytes.
-fn apply_entry(
-    leaves: &mut Leaves,
-    page: u32,
-    _item: &Record,
-    entry: &PackedEntry,
-) -> Result<Applied, ApplyError>
-    requires same { entry.now.item ≡ _item.now }
-    requires here { IsHere (key_of _item.now) leaves.old }
-    requires page { page ≡ directed_at leaves.old.leaves _item.now }
-    ensures ok { OnOk result (leaves.new ≡ after_record leaves.old _item.now) }
-    ensures evicted { leaves.new.evicted ≡ leaves.old.evicted }
-    ensures spent { IsSpent leaves.old _item.now → result ≡ Err ApplyError.Spent }
-    ensures only_spent { result ≡ Err ApplyError.Spent → IsSpent leaves.old _item.now }
-    ensures unchanged { OnErr result (leaves.new ≡ leaves.old) }
-{
-    leaves.apply_on(page, entry.item())
 }
 
 // Puts the blocks into the frame in the making, and notes where the last of them stands: a Delta

@@ -2,8 +2,8 @@
 
 ghost use Rattle.std.specs.Prelude.{ℕ, ◌≡◌, ◌<◌, ◌+◌, Some, Err, true, false, List, length, map, take, IfOk, IfErr, OnOk, OnErr, MatchOption};
 ghost use Rattle.std.specs.List.{AllByRecursion};
-ghost use Rattle.bw_codec.specs.Grammar.{IsOp};
-ghost use Rattle.bw_codec.specs.Record.{key_of};
+ghost use Rattle.bw_record.specs.Lawful.{IsOp};
+ghost use Rattle.bw_record.specs.Record.{key_of};
 ghost use Rattle.bw_history.specs.Entries.{records as records_of};
 ghost use Rattle.bw_page.specs.Batch.{AreHere, SomeIsSpent, steps_of};
 ghost use Rattle.bw_log.specs.Reads.{HoldsPage};

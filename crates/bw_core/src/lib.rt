@@ -41,10 +41,9 @@ mod turn;
 mod upgrade;
 mod walk;
 
-pub use bw_care::{Cleaned, Upgraded};
+pub use bw_care::{Cleaned, Counters, Upgraded};
 pub use bw_history::{Entry, PackedEntry};
 pub use config::Config;
-pub use counters::Counters;
 pub use edge::Edge;
 pub use fault::{OpenFault, StoreFault, TurnFault};
 pub use open::are_taken;

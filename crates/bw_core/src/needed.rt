@@ -1,12 +1,12 @@
 //! How much of a live segment is still needed, and when it pays to clean the oldest.
 
-ghost use Rattle.std.specs.Prelude.{◌≡◌, ◌≤◌, ◌<◌, ◌+◌, ◌*◌, ◌^◌, ◌↔◌, None, Some, length, slice_get, IfSome, IsTrue, MatchOption};
+ghost use Rattle.std.specs.Prelude.{◌≡◌, ◌≤◌, ◌<◌, ◌^◌, ◌↔◌, None, Some, length, slice_get, IfSome, IsTrue, MatchOption};
 ghost use Rattle.bw_log.specs.Contents.{counted};
 ghost use Rattle.bw_page.specs.Leaves.{leaf_at};
 ghost use Rattle.bw_core.specs.Needed.{is_between, needed_by, needed_in, needed_of, Pays};
 
-use crate::counters::length_of;
 use crate::store::Core;
+use bw_care::{is_won, length_of};
 use bw_codec::Place;
 
 // Whether a place, if there is one, stands in the frames behind one and up to another.
@@ -17,13 +17,6 @@ fn is_between(after: u64, last: u64, place: Option<Place>) -> bool
         Some(place) => after < place.frame && place.frame <= last,
         None => false,
     }
-}
-
-// Whether a segment of this length is twice what is needed of it, and 88 bytes more.
-fn is_won(length: u64, needed: u64) -> bool
-    ensures { IsTrue result ↔ 2 * needed + 88 ≤ length }
-{
-    length >= 88 && needed <= (length - 88) / 2
 }
 
 impl Core {

@@ -1,8 +1,9 @@
 //! What one record adds to the frame in the making.
 
 ghost use Rattle.std.specs.Prelude.{◌≡◌, ◌≤◌, ◌<◌, ◌+◌, ◌-◌, ◌^◌, Some, length, slice_get, IfOk, IfErr, OnOk};
-ghost use Rattle.bw_codec.specs.Record.{key_of};
-ghost use Rattle.bw_page.specs.Leaves.{changed, directed_at, result_of, HasPage};
+ghost use Rattle.bw_record.specs.Record.{key_of};
+ghost use Rattle.bw_leaf.specs.Changed.{changed};
+ghost use Rattle.bw_page.specs.Leaves.{directed_at, result_of, HasPage};
 ghost use Rattle.bw_page.specs.Shown.{IsHere};
 ghost use Rattle.bw_making.specs.Adding.{upper_if, blocks_for};
 ghost use Rattle.bw_making.specs.Planning.{listed};

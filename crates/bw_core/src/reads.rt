@@ -5,7 +5,7 @@ ghost use Rattle.std.specs.FinMap as finite;
 ghost use Rattle.bw_log.specs.Reads.{HoldsPage};
 ghost use Rattle.bw_page.specs.Leaves.{leaf_at, home, plain};
 ghost use Rattle.bw_page.specs.Shown.{is_evicted_page, IsHere};
-ghost use Rattle.bw_page.specs.Words.{value_on};
+ghost use Rattle.bw_leaf.specs.Words.{value_on};
 ghost use Rattle.bw_history.specs.Entries.{records};
 ghost use Rattle.bw_core.specs.Following.{Follows, HasBoxes};
 ghost use Rattle.bw_core.specs.Reading.{leaves_now, HasRead, ReadLeaves, PageLeaves};

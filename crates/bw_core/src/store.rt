@@ -5,9 +5,9 @@ ghost use Rattle.bw_page.specs.Shown.{is_evicted_page};
 ghost use Rattle.bw_history.specs.History.{are_whole, cut};
 ghost use Rattle.bw_making.specs.Tails.{tail_of, tails_for, is_made};
 
-use crate::counters::{Looks, Tally};
 use crate::edge::Edge;
 use bw_buffer::Buffer;
+use bw_care::{Looks, Tally};
 use bw_codec::Place;
 use bw_history::Intake;
 use bw_log::Log;

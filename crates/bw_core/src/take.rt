@@ -2,8 +2,9 @@
 
 ghost use Rattle.std.specs.Prelude.{◌≡◌, ◌≤◌, ◌<◌, ◌+◌, ◌-◌, ◌∷◌, [], Some, None, false, length, map, IfSome, IfNone, IfOk, IfErr, OnOk, OnErr, MatchResult};
 ghost use Rattle.std.specs.List.{AllByRecursion};
-ghost use Rattle.bw_codec.specs.Grammar.{body_bytes, IsBlock, IsOp};
-ghost use Rattle.bw_codec.specs.Record.{key_of};
+ghost use Rattle.bw_record.specs.Lawful.{IsOp};
+ghost use Rattle.bw_codec.specs.Grammar.{body_bytes, IsBlock};
+ghost use Rattle.bw_record.specs.Record.{key_of};
 ghost use Rattle.bw_page.specs.Batch.{AreHere};
 ghost use Rattle.bw_page.specs.Leaves.{directed_at, HasPages};
 ghost use Rattle.bw_page.specs.Shown.{IsHere};

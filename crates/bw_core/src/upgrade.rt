@@ -8,10 +8,9 @@ ghost use Rattle.bw_core.specs.Following.{Continues};
 ghost use Rattle.bw_core.specs.Kept.{EachCutStands};
 ghost use Rattle.bw_core.specs.Upgrading.{UpgradeMoves, UpgradeLeaves};
 
-use crate::counters::{bytes_upto, live_bytes};
 use crate::fault::StoreFault;
 use crate::store::Core;
-use bw_care::{Upgraded, old_segments, upgrade};
+use bw_care::{Upgraded, bytes_upto, live_bytes, old_segments, upgrade};
 
 impl Core {
     ghost use Rattle.bw_core.specs.Moving.{MayMove};

@@ -5,7 +5,8 @@
 
 ghost use Rattle.std.specs.Prelude.{ℕ, ◌≡◌, false, IfOk, IfErr, OnOk};
 ghost use Rattle.bw_log.specs.Reads.{HoldsPage};
-ghost use Rattle.bw_page.specs.Ahead.{IsFirst, IsStretch, pair_above, pairs_above, with_some};
+ghost use Rattle.bw_leaf.specs.Above.{pair_above, pairs_above, with_some};
+ghost use Rattle.bw_page.specs.Ahead.{IsFirst, IsStretch};
 ghost use Rattle.bw_page.specs.Leaves.{home, plain};
 ghost use Rattle.bw_history.specs.Entries.{records};
 ghost use Rattle.bw_core.specs.Following.{Follows, HasBoxes};

@@ -5,7 +5,7 @@ use Rattle.std.proofs.Common.{length-append, append_assoc}
 use Rattle.std.proofs.Math.Seq.{take-append_seam, take-suc}
 use Rattle.std.proofs.lemmas.List.{take-append-drop, flat_map_more}
 use Rattle.std.proofs.lemmas.Grind.{flat_map-append}
-use Rattle.bw_codec.specs.declared.record.Record.{Record}
+use Rattle.bw_record.specs.declared.record.Record.{Record}
 use Rattle.bw_ring.specs.Marks.{Marked, marked, joined}
 
 -- a mark for each record

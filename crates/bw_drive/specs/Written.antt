@@ -3,7 +3,7 @@
 use Rattle.std.specs.Prelude.{ℕ, ◌≤◌, ◌≡◌, List, [], ◌∷◌, ◌++◌, length, map, take}
 use Rattle.std.specs.declared.alloc.Global.{Global}
 use Rattle.std.specs.declared.vec.Vec.{Vec}
-use Rattle.bw_codec.specs.declared.record.Record.{Record}
+use Rattle.bw_record.specs.declared.record.Record.{Record}
 use Rattle.bw_ring.specs.declared.feed.Feed.{Feed}
 use Rattle.bw_ring.specs.Marks.{Marked, joined}
 use Rattle.bw_ring.specs.Ends.{Ring, accepted, ring_of_feed}

@@ -3,7 +3,7 @@
 ghost use Rattle.std.specs.Prelude.{List, Vec, ◌≡◌, ◌≤◌, length, map, vec_len, IfOk, IfErr, MatchResult};
 ghost use Rattle.std.specs.Vec.{vec_capacity};
 ghost use Rattle.std.specs.declared.alloc.Global.{Global};
-ghost use Rattle.bw_codec.specs.declared.record.Record.{Record};
+ghost use Rattle.bw_record.specs.declared.record.Record.{Record};
 ghost use Rattle.bw_ring.specs.declared.feed.Feed.{Feed};
 ghost use Rattle.bw_ring.specs.Ends.{accepted, ring_of_feed};
 ghost use Rattle.bw_store.specs.Kept.{Kept};

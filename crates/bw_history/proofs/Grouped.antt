@@ -8,7 +8,7 @@ use Rattle.std.specs.List.{AllByRecursion as All}
 use Rattle.std.proofs.Math.Seq.{take-length}
 use Rattle.std.proofs.lemmas.List.{take-append-le}
 use Rattle.std.proofs.lemmas.Bool.{eq-eqb}
-use Rattle.bw_codec.specs.declared.record.Record.{Record}
+use Rattle.bw_record.specs.declared.record.Record.{Record}
 use Rattle.bw_ring.specs.Marks.{marked}
 use Rattle.bw_history.specs.declared.entry.Entry.{Entry}
 use Rattle.bw_history.specs.Entries.{records}

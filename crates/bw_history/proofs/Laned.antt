@@ -9,7 +9,7 @@ use Rattle.std.specs.Option.{IsSomeAnd}
 use Rattle.std.proofs.lemmas.Bool.{eq-eqb, ne_eqb, leb-true, leb-false}
 use Rattle.std.proofs.lemmas.List.{length-map, length-replicate, length-take, take_more, take-append-drop}
 use mathlib.Core.List.{IsPrefix}
-use Rattle.bw_codec.specs.declared.record.Record.{Record}
+use Rattle.bw_record.specs.declared.record.Record.{Record}
 use Rattle.bw_history.specs.declared.entry.Entry.{Entry}
 use Rattle.std.specs.Prelude.{IfSome, IfNone}
 use Rattle.bw_ring.specs.declared.lane.Lane.{Lane}

@@ -1,7 +1,7 @@
 -- What entering a group leaves of the lanes and of the history.
 
 use Rattle.std.specs.Prelude.{ℕ, ◌≡◌, ◌++◌, List, length, map}
-use Rattle.bw_codec.specs.declared.record.Record.{Record}
+use Rattle.bw_record.specs.declared.record.Record.{Record}
 use Rattle.bw_ring.specs.Ends.{given, ring_of_lane}
 use Rattle.bw_ring.specs.Marks.{marked}
 use Rattle.bw_history.specs.History.{entered}

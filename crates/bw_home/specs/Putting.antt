@@ -1,7 +1,7 @@
 -- What a put makes of the feeds.
 
 use Rattle.std.specs.Prelude.{◌≡◌, ℕ, List, [], ◌∷◌, ◌++◌, map, slice_set, slice_index_or}
-use Rattle.bw_codec.specs.declared.record.Record.{Record}
+use Rattle.bw_record.specs.declared.record.Record.{Record}
 use Rattle.bw_ring.specs.Marks.{marked}
 use Rattle.bw_ring.specs.Ends.{accepted}
 use Rattle.bw_ring.specs.declared.feed.Feed.{Feed}

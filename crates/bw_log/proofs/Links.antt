@@ -11,7 +11,7 @@ use Rattle.bw_codec.specs.declared.block.Place.{Place}
 use Rattle.bw_codec.specs.declared.block.Block.{Block}
 use Rattle.bw_codec.specs.declared.block.Block.TheVariants.{Delta, Base, Split}
 use Rattle.bw_codec.specs.declared.block.Frame.{Frame}
-use Rattle.bw_page.specs.Standing.{blocks_of}
+use Rattle.bw_leaf.specs.Forwards.{blocks_of}
 use Rattle.bw_log.specs.Places.{placed, all_placed, later, last_place, is_back, fault_at, fault_of, or_else, bad_link}
 use Rattle.bw_log.specs.Segments.{AreFrom}
 use Rattle.bw_log.specs.Walking.{first_back}

@@ -8,7 +8,7 @@ use Rattle.std.proofs.lemmas.List.{map-append}
 use Rattle.bw_codec.specs.declared.block.Place.{Place}
 use Rattle.bw_codec.specs.declared.block.Block.{Block}
 use Rattle.bw_codec.specs.declared.block.Frame.{Frame}
-use Rattle.bw_page.specs.Standing.{blocks_of}
+use Rattle.bw_leaf.specs.Forwards.{blocks_of}
 use Rattle.bw_log.specs.Places.{placed, all_placed, later}
 use Rattle.bw_log.specs.Segments.{AreFrom}
 use Rattle.bw_log.specs.Walking.{bodies, PlacedAt}

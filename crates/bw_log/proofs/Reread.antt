@@ -7,7 +7,7 @@ use Rattle.std.proofs.lemmas.List.{drop_at, take_all}
 use Rattle.std.proofs.lemmas.Bool.{cases_lt, lt-leb}
 use Rattle.std.proofs.lemmas.Grind.{flat_map-append}
 use Rattle.std.specs.List.{flat_map, AllByRecursion}
-use Rattle.bw_codec.specs.Version.{latest, greatest_limit}
+use Rattle.bw_record.specs.Version.{latest, greatest_limit}
 use Rattle.bw_codec.specs.Bytes.{number_bytes}
 use Rattle.bw_codec.specs.Grammar.{segment_word, body_bytes, body_bytes_in, head_bytes_in, frame_bytes_in, frame_bytes, header_bytes, IsFrameIn}
 use Rattle.bw_codec.specs.Grammar.{IsFrame, IsHeader, IsTailIn, IsWhole}

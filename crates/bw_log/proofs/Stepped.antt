@@ -4,7 +4,7 @@ use Rattle.std.proofs.Common.{◌≡◌, ◌⊎◌, ℕ, suc, ◌+◌, ◌-◌, 
 use Rattle.std.proofs.Common.{◌∙◌, arith, length-append}
 use Rattle.std.proofs.lemmas.List.{map-append, length-map, length-replicate}
 use Rattle.std.specs.List.{AllByRecursion}
-use Rattle.bw_codec.specs.Version.{latest}
+use Rattle.bw_record.specs.Version.{latest}
 use Rattle.bw_codec.specs.Grammar.{frame_bytes, header_bytes, IsBlock}
 use Rattle.bw_codec.specs.declared.block.Block.{Block}
 use Rattle.bw_codec.specs.declared.block.Block.TheVariants.{Delta, Base, Split}

@@ -6,18 +6,18 @@ use Rattle.std.specs.List.{AllByRecursion as All, fold, list_any}
 use Rattle.std.proofs.lemmas.Bool.{or_parts}
 use Rattle.bw_codec.specs.Grammar.{IsBlockIn}
 use Rattle.bw_codec.specs.Touch.{sets}
-use Rattle.bw_codec.specs.declared.leaf.Leaf.{Leaf}
+use Rattle.bw_record.specs.declared.leaf.Leaf.{Leaf}
 use Rattle.bw_codec.specs.declared.block.Place.{Place}
 use Rattle.bw_codec.specs.declared.block.Block.{Block}
 use Rattle.bw_codec.specs.declared.block.Block.TheVariants.{Delta, Base, Split}
 use Rattle.bw_codec.specs.declared.block.Frame.{Frame}
-use Rattle.bw_page.specs.Leaves.{Bytes, empty_leaf}
-use Rattle.bw_page.specs.Standing.{after, content, blocks_of}
-use Rattle.bw_page.specs.Words.{told_by, blocks_word, value_on, HasOrder}
-use Rattle.bw_page.specs.declared.words.Word.{Word}
-use Rattle.bw_page.specs.declared.words.Word.TheVariants.{Silent}
-use Rattle.bw_page.proofs.Sorted.{Rises}
-use Rattle.bw_page.proofs.Wording.{RisesIf, rises_all, blocks_tell, words_append, silent_unset, said_over}
+use Rattle.bw_leaf.specs.Changed.{Bytes, empty_leaf}
+use Rattle.bw_leaf.specs.Forwards.{after, content, blocks_of}
+use Rattle.bw_leaf.specs.Words.{told_by, blocks_word, value_on, HasOrder}
+use Rattle.bw_leaf.specs.declared.words.Word.{Word}
+use Rattle.bw_leaf.specs.declared.words.Word.TheVariants.{Silent}
+use Rattle.bw_leaf.proofs.Sorted.{Rises}
+use Rattle.bw_leaf.proofs.Wording.{RisesIf, rises_all, blocks_tell, words_append, silent_unset, said_over}
 use Rattle.bw_log.specs.Places.{all_placed}
 use Rattle.bw_log.specs.Contents.{Contents, counted, IsSound}
 use Rattle.bw_log.specs.Walking.{first_back, bodies, PlacedAt, IsWalk}
@@ -79,7 +79,7 @@ word_more : (p : ℕ) (k : Bytes) (newer : List Block) (b : Block) → blocks_wo
     → blocks_word p k (b ∷ reverse newer) ≡ blocks_word p k (b ∷ [])
 word_more p k newer b silent =
     words_append p k (b ∷ []) (reverse newer)
-    ∙ ap (λ (w : Word). Rattle.bw_page.specs.Words.newer (blocks_word p k (b ∷ [])) w) silent
+    ∙ ap (λ (w : Word). Rattle.bw_leaf.specs.Words.newer (blocks_word p k (b ∷ [])) w) silent
 
 -- it says something: that is the value
 decides : (p : ℕ) (k : Bytes) (bs : List Block) (before : Option Leaf) → RisesIf before → All HasOrder bs

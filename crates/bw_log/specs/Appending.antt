@@ -1,7 +1,7 @@
 -- The two appends of a frame, each by itself: a header that begins a segment, and the frame.
 
 use Rattle.std.specs.Prelude.{ℕ, ◌+◌, ◌-◌, ◌^◌, ◌<◌, ◌≤◌, ◌≡◌, true, Option, Some, None, IfSome, slice_get, [], ◌∷◌, ◌++◌, length}
-use Rattle.bw_codec.specs.Version.{latest}
+use Rattle.bw_record.specs.Version.{latest}
 use Rattle.bw_codec.specs.Grammar.{frame_bytes, header_bytes}
 use Rattle.bw_codec.specs.declared.block.Frame.{Frame}
 use Rattle.bw_device.specs.Holding.{Holding, appended}

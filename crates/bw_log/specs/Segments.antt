@@ -2,7 +2,7 @@
 
 use Rattle.std.specs.Prelude.{ℕ, zero, suc, ◌+◌, ◌^◌, ◌≡◌, nat_lt, nat_le, Bool, true, if◌then◌else◌, Option, Some, None, List, [], ◌∷◌, ◌++◌, length, drop}
 use Rattle.std.specs.List.{fold, flat_map}
-use Rattle.bw_codec.specs.Version.{latest}
+use Rattle.bw_record.specs.Version.{latest}
 use Rattle.bw_codec.specs.Grammar.{frame_bytes_in, IsWhole}
 use Rattle.bw_codec.specs.Reading.{front_at, heading_of, version_in}
 use Rattle.bw_codec.specs.declared.block.Frame.{Frame}

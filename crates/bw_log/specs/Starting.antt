@@ -1,7 +1,7 @@
 -- Where the blocks of a frame begin, as it stands in memory.
 
 use Rattle.std.specs.Prelude.{ℕ, ◌≡◌, ◌⊎◌, List, []}
-use Rattle.bw_codec.specs.Version.{latest}
+use Rattle.bw_record.specs.Version.{latest}
 use Rattle.bw_buffer.specs.Filling.{frame_of}
 use Rattle.bw_log.specs.Starts.{starts_of}
 use Rattle.bw_log.specs.declared.starts.Source.{Source}

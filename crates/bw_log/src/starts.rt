@@ -5,7 +5,7 @@
 //! knows from the start what a frame holds, so to look through it changes nothing.
 
 ghost use Rattle.std.specs.Prelude.{◌≡◌, ◌<◌, ◌≤◌, ◌^◌, ℕ, Some, None, length, drop, slice_get, IfOk, IfSome, IfErr, MatchOption};
-ghost use Rattle.bw_codec.specs.Version.{latest};
+ghost use Rattle.bw_record.specs.Version.{latest};
 ghost use Rattle.bw_codec.specs.Grammar.{frame_bytes_in, IsFrameIn};
 ghost use Rattle.bw_codec.specs.Reading.{Gives};
 ghost use Rattle.bw_codec.specs.declared.block.Frame.{Frame};

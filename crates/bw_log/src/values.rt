@@ -1,8 +1,8 @@
 //! The value of one key on a page, from the page's newest block back.
 
 ghost use Rattle.std.specs.Prelude.{◌≡◌, ◌≢◌, ◌↔◌, [], Err, IfOk};
-ghost use Rattle.bw_page.specs.Standing.{content, blocks_of};
-ghost use Rattle.bw_page.specs.Words.{value_on};
+ghost use Rattle.bw_leaf.specs.Forwards.{content, blocks_of};
+ghost use Rattle.bw_leaf.specs.Words.{value_on};
 ghost use Rattle.bw_log.specs.Places.{all_placed};
 ghost use Rattle.bw_log.specs.Contents.{counted};
 ghost use Rattle.bw_log.specs.Reads.{IsPage, IsKept, HoldsPage, ReadStops};

@@ -8,16 +8,17 @@ use Rattle.std.specs.Option.{option_map}
 use Rattle.std.proofs.lemmas.Bool.{eqb-true, or_parts, or_from}
 use Rattle.std.proofs.lemmas.Grind.{fold-append, flat_map-append}
 use Rattle.std.proofs.lemmas.List.Folds.{list_any-append}
-use Rattle.bw_codec.specs.Grammar.{block_bytes, body_bytes, IsBlock, IsOp}
+use Rattle.bw_record.specs.Lawful.{IsOp}
+use Rattle.bw_codec.specs.Grammar.{block_bytes, body_bytes, IsBlock}
 use Rattle.bw_codec.specs.Touch.{touches}
-use Rattle.bw_codec.specs.declared.record.Record.{Record}
-use Rattle.bw_codec.specs.declared.leaf.Leaf.{Leaf}
+use Rattle.bw_record.specs.declared.record.Record.{Record}
+use Rattle.bw_record.specs.declared.leaf.Leaf.{Leaf}
 use Rattle.bw_codec.specs.declared.block.Place.{Place}
 use Rattle.bw_codec.specs.declared.block.Block.{Block}
 use Rattle.bw_codec.specs.declared.block.Block.TheVariants.{Delta, Base, Split}
 use Rattle.bw_codec.specs.declared.block.Frame.{Frame}
-use Rattle.bw_page.specs.Leaves.{changed, all_changed}
-use Rattle.bw_page.specs.Standing.{after, content, blocks_of}
+use Rattle.bw_leaf.specs.Changed.{changed, all_changed}
+use Rattle.bw_leaf.specs.Forwards.{after, content, blocks_of}
 use Rattle.bw_page.proofs.OneStanding.{untouched}
 use Rattle.bw_buffer.specs.Joining.{is_delta, open_after, open_from, last_delta, open_records, records_after, records_in, takes, joins, joins_of}
 use Rattle.bw_buffer.specs.Joining.{joined_by, joined, added}

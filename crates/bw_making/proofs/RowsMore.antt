@@ -5,7 +5,7 @@ use Rattle.std.proofs.Common.{length, set, take, drop, get_or, refl, sym, ap, â—
 use Rattle.std.specs.Prelude.{is_some, IfSome}
 use Rattle.std.specs.List.{AllByRecursion as All, fold, slice_index_or}
 use Rattle.std.proofs.lemmas.List.{take_more, drop_more, length-map}
-use Rattle.bw_codec.specs.declared.record.Record.{Record}
+use Rattle.bw_record.specs.declared.record.Record.{Record}
 use Rattle.bw_codec.specs.declared.block.Place.{Place}
 use Rattle.bw_making.specs.declared.draft.Row.{Row}
 use Rattle.bw_making.specs.Drafting.{AreIn, count_by, set_row, tails_all}

@@ -7,16 +7,16 @@ use Rattle.std.specs.List.{fold}
 use Rattle.std.proofs.lemmas.Bool.{or_parts}
 use Rattle.std.proofs.lemmas.Grind.{fold-append, flat_map-append}
 use Rattle.std.proofs.lemmas.List.Folds.{list_any-append}
-use Rattle.bw_codec.specs.declared.record.Record.{Record}
-use Rattle.bw_codec.specs.declared.leaf.Leaf.{Leaf}
+use Rattle.bw_record.specs.declared.record.Record.{Record}
+use Rattle.bw_record.specs.declared.leaf.Leaf.{Leaf}
 use Rattle.bw_codec.specs.declared.block.Place.{Place}
 use Rattle.bw_codec.specs.declared.block.Block.{Block}
 use Rattle.bw_codec.specs.declared.block.Block.TheVariants.{Delta, Base, Split}
-use Rattle.bw_page.specs.declared.chain.End.{End}
-use Rattle.bw_page.specs.declared.chain.End.TheVariants.{Whole, OnLog}
-use Rattle.bw_page.specs.Leaves.{changed, all_changed}
-use Rattle.bw_page.specs.Links.{Chained, ground_of, content_of, records_of, log_end}
-use Rattle.bw_page.specs.Standing.{after}
+use Rattle.bw_leaf.specs.declared.chain.End.{End}
+use Rattle.bw_leaf.specs.declared.chain.End.TheVariants.{Whole, OnLog}
+use Rattle.bw_leaf.specs.Changed.{changed, all_changed}
+use Rattle.bw_leaf.specs.Links.{Chained, ground_of, content_of, records_of, log_end}
+use Rattle.bw_leaf.specs.Forwards.{after}
 use Rattle.bw_page.proofs.NewerPages.{told-records}
 use Rattle.bw_buffer.specs.Joining.{added}
 use Rattle.bw_making.specs.Share.{ops_of, ops_at}

@@ -1,7 +1,7 @@
 -- How a tail is kept: as a chain over the log.
 
 use Rattle.std.specs.Prelude.{◌≡◌, true, is_some}
-use Rattle.bw_page.specs.Links.{records_of, log_end}
+use Rattle.bw_leaf.specs.Links.{records_of, log_end}
 use Rattle.bw_making.specs.Tails.{Tailed}
 use Rattle.bw_making.specs.declared.tails.Tail.TheInside.{Inside}
 

@@ -15,5 +15,5 @@ mod tails;
 pub use blocks::{Blocks, blocks_of, place_for};
 pub use draft::{Draft, Row};
 pub use filing::file_all;
-pub use sharing::{apply_entries, copy_of, guessed, shares_of, steps_in};
+pub use sharing::{apply_entries, apply_entry, copy_of, guessed, share_of, shares_of, steps_in};
 pub use tails::{Tail, note, note_all, reserve_all, reserve_for, rest, tails_on};

@@ -1,16 +1,44 @@
 //! What the records of a group do to the pages, and what of them is shared.
 
 ghost use Rattle.std.specs.Prelude.{◌≡◌, ◌<◌, Err, length, IfOk, OnOk, OnErr};
+ghost use Rattle.bw_record.specs.Record.{key_of};
 ghost use Rattle.bw_history.specs.Entries.{records as records_of};
 ghost use Rattle.bw_page.specs.Batch.{AreHere, SomeIsSpent, steps_of};
-ghost use Rattle.bw_page.specs.Leaves.{HasPages};
-ghost use Rattle.bw_page.specs.Shown.{run};
+ghost use Rattle.bw_page.specs.Leaves.{directed_at, HasPages};
+ghost use Rattle.bw_page.specs.Shown.{IsHere, IsSpent, after_record, run};
 
 use crate::draft::Row;
 use bw_codec::{Leaf, Packed, Record};
 use bw_history::PackedEntry;
-use bw_page::{ApplyError, Leaves, Step};
+use bw_page::{Applied, ApplyError, Leaves, Step};
 use std::alloc::{AllocError, Global};
+
+/// The record of an entry, which shares its bytes.
+pub fn share_of(entry: &PackedEntry, _item: &Record) -> Result<Packed, AllocError>
+    requires { entry.now.item ≡ _item.now }
+    ensures { IfOk result (λ packed. packed ≡ _item.now) }
+{
+    entry.item().copy()
+}
+
+/// Applies the record of an entry to its page, which is known: the page shares the record's bytes.
+pub fn apply_entry(
+    leaves: &mut Leaves,
+    page: u32,
+    _item: &Record,
+    entry: &PackedEntry,
+) -> Result<Applied, ApplyError>
+    requires same { entry.now.item ≡ _item.now }
+    requires here { IsHere (key_of _item.now) leaves.old }
+    requires page { page ≡ directed_at leaves.old.leaves _item.now }
+    ensures ok { OnOk result (leaves.new ≡ after_record leaves.old _item.now) }
+    ensures evicted { leaves.new.evicted ≡ leaves.old.evicted }
+    ensures spent { IsSpent leaves.old _item.now → result ≡ Err ApplyError.Spent }
+    ensures only_spent { result ≡ Err ApplyError.Spent → IsSpent leaves.old _item.now }
+    ensures unchanged { OnErr result (leaves.new ≡ leaves.old) }
+{
+    leaves.apply_on(page, entry.item())
+}
 
 /// The records of these entries, which share their bytes.
 pub fn shares_of(alloc: Global, entries: &[PackedEntry]) -> Result<Vec<Packed>, AllocError>

@@ -8,8 +8,8 @@ ghost use Rattle.std.specs.Prelude.{ℕ, ◌≡◌, ◌≤◌, ◌<◌, ◌+◌,
 ghost use Rattle.std.specs.List.{list_any, AllByRecursion};
 ghost use Rattle.std.specs.Vec.{vec_capacity};
 ghost use Rattle.bw_codec.specs.Touch.{touches};
-ghost use Rattle.bw_page.specs.Leaves.{all_changed};
-ghost use Rattle.bw_page.specs.Words.{records_word};
+ghost use Rattle.bw_leaf.specs.Changed.{all_changed};
+ghost use Rattle.bw_leaf.specs.Words.{records_word};
 ghost use Rattle.bw_making.specs.Drafting.{AreIn, tails_all};
 ghost use Rattle.bw_making.specs.Tails.{tail_of, tails_for, tails_after, rest_by, with_one, HasRoomAt, HasRoomsAt, IsMarkWithin};
 

@@ -9,93 +9,24 @@ use Rattle.std.specs.FinMap as finite
 use Rattle.std.specs.FinMap.Entries.{find, by_order}
 use Rattle.std.specs.declared.cmp.Ordering.{Ordering}
 use Rattle.std.specs.declared.cmp.Ordering.TheVariants.{Less, Equal, Greater}
-use Rattle.bw_codec.specs.Bytes.{is_below}
+use Rattle.bw_record.specs.Keys.{is_below}
 use Rattle.bw_codec.specs.Grammar.{IsBase}
-use Rattle.bw_codec.specs.declared.leaf.Leaf.{Leaf}
-use Rattle.bw_page.specs.Leaves.{Bytes, Pairs, order, home, union, AtHome, AreLeaves}
+use Rattle.bw_record.specs.declared.leaf.Leaf.{Leaf}
+use Rattle.bw_leaf.specs.Changed.{Bytes, Pairs, order}
+use Rattle.bw_page.specs.Leaves.{home, union, AtHome, AreLeaves}
 use Rattle.bw_page.specs.Lows.{lows_of}
-use Rattle.bw_page.specs.LowHeads.{IsLeastLow, HasNoHigher}
-use Rattle.bw_page.specs.Ahead.{HasNoPair, IsFirstPair, HasCome, pair_above, HasNoLowAbove, IsNextLow, ahead}
-use Rattle.bw_page.specs.Seek.{seek_of, passed, end_of}
-use Rattle.bw_page.proofs.Order.{Below, UpTo, not_both, must_be, must_not, upto-trans, upto-refl, upto-antisymm, upto_empty, below-upto, below-trans}
-use Rattle.bw_page.proofs.Order.{below_upto, below_apart, above_apart, greater_is_below, tied}
-use Rattle.bw_page.proofs.Sorted.{all-map, Rises, ascends_rises, find-none}
+use Rattle.bw_lows.specs.LowHeads.{IsLeastLow, HasNoHigher}
+use Rattle.bw_leaf.specs.Above.{pair_above}
+use Rattle.bw_page.specs.Ahead.{HasNoPair, IsFirstPair, HasCome, HasNoLowAbove, IsNextLow, ahead}
+use Rattle.bw_leaf.specs.Seek.{seek_of, passed, end_of}
+use Rattle.bw_leaf.proofs.Order.{Below, UpTo, not_both, must_be, must_not, upto-trans, upto-refl, upto-antisymm, upto_empty, below-upto, below-trans}
+use Rattle.bw_leaf.proofs.Order.{below_upto, below_apart, above_apart, greater_is_below, tied}
+use Rattle.bw_leaf.proofs.Sorted.{all-map, Rises, ascends_rises, find-none}
+use Rattle.bw_leaf.proofs.Sought.{above-all, above_from, above_found, above_between, above_none}
 use Rattle.bw_page.proofs.Homes.{home-all, home-low, home-max, same_home}
-use Rattle.bw_page.proofs.Indexed.{itself, some_either, lows_found}
+use Rattle.bw_leaf.proofs.Order.{itself}
+use Rattle.bw_page.proofs.Indexed.{some_either, lows_found}
 use Rattle.bw_page.proofs.Law.{get-union}
-
--- ---- a page
-
-pub end_passed : (s : Result ℕ ℕ) → end_of (passed 1 s) ≡ suc (end_of s)
-end_passed (Ok at) = one-add at
-end_passed (Err at) = one-add at
-
--- the pair at the end of a search is the first at or above the key
-pub pair_sought : (key : Bytes) (ps : Pairs) → slice_get ps (end_of (seek_of key ps)) ≡ pair_above key ps
-pair_sought key [] = refl
-pair_sought key (p ∷ ps) =
-    elim (order key p.0) as (λ o. order key p.0 ≡ o → slice_get (p ∷ ps) (end_of (by_order o (Err 0) (Ok 0) (passed 1 (seek_of key ps)))) ≡
-    pair_above key (p ∷ ps)) [
-      | Less ↦ λ e. let not : is_below p.0 key ≡ false = sym (greater_is_below key p.0) ∙ ap is_gt e in rw not refl
-      | Equal ↦ λ e. let not : is_below p.0 key ≡ false = sym (greater_is_below key p.0) ∙ ap is_gt e in rw not refl
-      | Greater ↦ λ e. let is : is_below p.0 key ≡ true = sym (greater_is_below key p.0) ∙ ap is_gt e in
-          rw is (ap (slice_get (p ∷ ps)) (end_passed (seek_of key ps)) ∙ pair_sought key ps)
-    ] refl
-
--- what is said of each pair is said of the first one
-pub above-all : (P : Bytes × Bytes → Type 0) (key : Bytes) (ps : Pairs) (p : Bytes × Bytes) → pair_above key ps ≡ Some p → All P ps → P p
-above-all P key [] p e h = absurd (cc)
-above-all P key (x ∷ xs) p e h =
-    elim (is_below x.0 key) as (λ b. (if b then pair_above key xs else Some x) ≡ Some p → P p) [
-      | true ↦ λ s. above-all P key xs p s h.1
-      | false ↦ λ s. subst P (let same : x ≡ p = cc in same) h.0
-    ] e
-
--- it is not below the key
-pub above_from : (key : Bytes) (ps : Pairs) (p : Bytes × Bytes) → pair_above key ps ≡ Some p → UpTo key p.0
-above_from key [] p e = absurd (cc)
-above_from key (x ∷ xs) p e =
-    elim (is_below x.0 key) as (λ b. is_below x.0 key ≡ b → (if b then pair_above key xs else Some x) ≡ Some p → UpTo key p.0) [
-      | true ↦ λ t s. above_from key xs p s
-      | false ↦ λ t s. subst (λ (y : Bytes × Bytes). UpTo key y.0) (let same : x ≡ p = cc in same) t
-    ] refl e
-
-pub skipped : (q : Bytes) (x : Bytes × Bytes) (xs : Pairs) → Below x.0 q → find order q (x ∷ xs) ≡ find order q xs
-skipped q x xs b = ap (λ t. cond t (Some x.1) (find order q xs)) (above_apart q x.0 b)
-
--- its value is found there
-pub above_found : (key : Bytes) (ps : Pairs) (p : Bytes × Bytes) → Rises ps → pair_above key ps ≡ Some p → find order p.0 ps ≡ Some p.1
-above_found key [] p r e = absurd (cc)
-above_found key (x ∷ xs) p r e =
-    elim (is_below x.0 key) as (λ b. (if b then pair_above key xs else Some x) ≡ Some p → find order p.0 (x ∷ xs) ≡ Some p.1) [
-      | true ↦ λ s. skipped p.0 x xs (above-all (λ y. Below x.0 y.0) key xs p s r.0) ∙ above_found key xs p r.1 s
-      | false ↦ λ s. subst (λ (y : Bytes × Bytes). find order y.0 (x ∷ xs) ≡ Some y.1) (let same : x ≡ p = cc in same)
-          (ap (λ t. cond t (Some x.1) (find order x.0 xs)) (itself x.0))
-    ] e
-
--- and no value between
-pub above_between : (key : Bytes) (ps : Pairs) (p : Bytes × Bytes) → Rises ps → pair_above key ps ≡ Some p
-    → (q : Bytes) → UpTo key q → Below q p.0 → find order q ps ≡ None
-above_between key [] p r e q u b = refl
-above_between key (x ∷ xs) p r e q u b =
-    elim (is_below x.0 key) as (λ t. is_below x.0 key ≡ t → (if t then pair_above key xs else Some x) ≡ Some p → find order q (x ∷ xs) ≡ None) [
-      | true ↦ λ t s. skipped q x xs (below-upto x.0 key q t u) ∙ above_between key xs p r.1 s q u b
-      | false ↦ λ t s. let under : Below q x.0 = subst (λ (y : Bytes × Bytes). Below q y.0) (let same : p ≡ x = cc in same) b in
-          find-none q (x ∷ xs) (
-            below_apart q x.0 under,
-            all-map (λ y. Below x.0 y.0) (λ y. eq_by_cmp order q y.0 ≡ false)
-                (λ y h. below_apart q y.0 (below-trans q x.0 y.0 under h)) xs r.0,
-          )
-    ] refl e
-
--- where there is none, no key from this one on has a value there
-pub above_none : (key : Bytes) (ps : Pairs) → pair_above key ps ≡ None → (q : Bytes) → UpTo key q → find order q ps ≡ None
-above_none key [] e q u = refl
-above_none key (x ∷ xs) e q u =
-    elim (is_below x.0 key) as (λ t. is_below x.0 key ≡ t → (if t then pair_above key xs else Some x) ≡ None → find order q (x ∷ xs) ≡ None) [
-      | true ↦ λ t s. skipped q x xs (below-upto x.0 key q t u) ∙ above_none key xs s q u
-      | false ↦ λ t s. absurd (cc)
-    ] refl e
 
 -- ---- from page to page
 
@@ -246,25 +177,6 @@ module _ (m : ℕ) (q : Bytes) (leaves : List Leaf) (a : AreLeaves m leaves) (go
       all-map (λ l. Below q l.low → IsSome (got l.low)) (λ l. UpTo l.low q)
       (λ l some. must_not (is_below q l.low) (λ b. let no : IsSome {T = ℕ} None = subst (λ (o : Option ℕ). IsSome o) (none l.low b) (some b)
       in absurd (cc))) leaves got_each
-
-is_less : (o : Ordering) → is_lt o ≡ true → o ≡ Less
-is_less Less h = refl
-is_less Equal h = cc
-is_less Greater h = cc
-
--- what a range behind a key tells of its first entry
-pub first_of_range : (lows : Bytes → Option ℕ) (key low : Bytes) (page : ℕ) (r rest : List (Bytes × ℕ)) → r ≡ (low, page) ∷ rest
-    → IfSome (slice_get r 0) (λ e. ((order key e.0 ≡ Less) × Unit {0}) × (lows e.0 ≡ Some e.1))
-    → ((q : Bytes) → (order key q ≡ Less) × Unit {0} → IsSome (lows q) → IfSome (slice_get r 0) (λ e. is_gt (order e.0 q) ≡ false)) → IsLeastLow lows key low
-first_of_range lows key low page r rest e first least =
-    let its = subst (λ (x : List (Bytes × ℕ)). IfSome (slice_get x 0) (λ e. ((order key e.0 ≡ Less) × Unit {0}) × (lows e.0 ≡ Some e.1))) e first in
-    let each = subst (λ (x : List (Bytes × ℕ)). (q : Bytes) → (order key q ≡ Less) × Unit {0} → IsSome (lows q)
-    → IfSome (slice_get x 0) (λ e. is_gt (order e.0 q) ≡ false)) e least in
-    record {
-      its = subst (λ (o : Option ℕ). IsSome o) (sym its.1) refl;
-      above = ap is_lt its.0.0;
-      least = λ q b some. sym (greater_is_below low q) ∙ each q (is_less (order key q) b, tt) some;
-    }
 
 pub if_some_map : {X : Type 0} (P Q : X → Type 0) (o : Option X) → ((x : X) → P x → Q x) → IfSome o P → IfSome o Q
 if_some_map P Q None f h = tt

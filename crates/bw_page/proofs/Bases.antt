@@ -3,7 +3,7 @@
 use Rattle.std.proofs.Common.{ℕ, ◌≡◌, ◌<◌, ◌≤◌, ◌∙◌, Some, List, length, get_or, ap, sym, arith}
 use Rattle.std.specs.List.{AllByRecursion as All, slice_get}
 use Rattle.bw_codec.specs.Grammar.{IsBase}
-use Rattle.bw_codec.specs.declared.leaf.Leaf.{Leaf}
+use Rattle.bw_record.specs.declared.leaf.Leaf.{Leaf}
 use Rattle.bw_codec.proofs.Wider.{base_wider}
 use Rattle.bw_page.specs.declared.seats.Seats.TheInside.{Inside}
 use Rattle.bw_page.specs.Leaves.{AreLeaves}
@@ -11,7 +11,7 @@ use Rattle.bw_page.specs.Seating.{seats_view}
 use Rattle.bw_page.specs.Seats.{Seated, Seating}
 use Rattle.bw_page.proofs.Hinted.{all-get}
 use Rattle.bw_page.proofs.Seating.{count_is, look_at}
-use Rattle.bw_page.proofs.Sorted.{all-map}
+use Rattle.bw_leaf.proofs.Sorted.{all-map}
 
 pub all_bases : (m : ℕ) (leaves : List Leaf) → m ≤ 32 → AreLeaves m leaves → All (IsBase 32) leaves
 all_bases m leaves few lawful = all-map (IsBase m) (IsBase 32) (λ leaf is. base_wider m 32 leaf few is) leaves lawful.each

@@ -9,22 +9,23 @@ use Rattle.std.specs.Ordering.{eq_by_cmp}
 use Rattle.std.specs.FinMap.Entries.{find, find-append}
 use Rattle.std.proofs.lemmas.Bool.{le-leb, lt-leb}
 use Rattle.std.proofs.lemmas.List.{length-map}
-use Rattle.bw_codec.specs.Grammar.{IsOp}
-use Rattle.bw_codec.specs.Record.{key_of}
-use Rattle.bw_codec.specs.declared.leaf.Leaf.{Leaf}
-use Rattle.bw_codec.specs.declared.record.Record.{Record}
+use Rattle.bw_record.specs.Lawful.{IsOp}
+use Rattle.bw_record.specs.Record.{key_of}
+use Rattle.bw_record.specs.declared.leaf.Leaf.{Leaf}
+use Rattle.bw_record.specs.declared.record.Record.{Record}
 use Rattle.bw_page.specs.declared.leaves.Leaves.TheInside.{Inside}
-use Rattle.bw_page.specs.Leaves.{Bytes, order, empty_leaf, home, changed, AreLeaves, BeginsEmpty, HasPage, lower_of, upper_of, applied, union, changed_map}
-use Rattle.bw_page.specs.LowHeads.{page_of_low}
+use Rattle.bw_leaf.specs.Changed.{Bytes, order, empty_leaf, changed, changed_map}
+use Rattle.bw_page.specs.Leaves.{home, AreLeaves, BeginsEmpty, HasPage, lower_of, upper_of, applied, union}
+use Rattle.bw_lows.specs.LowHeads.{page_of_low}
 use Rattle.bw_page.specs.Shown.{Shown, applied_by}
-use Rattle.bw_page.specs.Seek.{seek_of, IsWithin}
+use Rattle.bw_leaf.specs.Seek.{seek_of, IsWithin}
 use Rattle.bw_page.specs.Lows.{lows_of}
 use Rattle.bw_page.specs.Index.{view_of, IsIndexed}
-use Rattle.bw_page.proofs.Order.{order-total, apart}
+use Rattle.bw_leaf.proofs.Order.{order-total, apart}
 use Rattle.bw_page.proofs.Homes.{put_in, set_is_put}
 use Rattle.bw_page.proofs.Applying.{put_in-page, same_lows, put_leaves, new_low}
 use Rattle.bw_page.proofs.Law.{directed, whole_in, lower_in, upper_in, applied-whole, applied-cut, applied-lawful, applied-plain}
-use Rattle.bw_page.proofs.Valued.{home_stands}
+use Rattle.bw_page.proofs.Homes.{home_stands}
 
 -- ---- the lows of changed leaves
 

@@ -7,11 +7,12 @@ use Rattle.std.specs.List.{AllByRecursion as All, flat_map}
 use Rattle.std.specs.Ordering.{eq_by_cmp}
 use Rattle.std.specs.FinMap.Entries.{find}
 use Rattle.std.proofs.lemmas.Bool.{eqb-true, eqb-false, eq-eqb, ne_eqb}
-use Rattle.bw_codec.specs.Bytes.{is_below}
-use Rattle.bw_codec.specs.declared.leaf.Leaf.{Leaf}
-use Rattle.bw_page.specs.Leaves.{Bytes, Pairs, order, is_better, best, home, AreNumbered, BeginsEmpty, AtHome, AreLeaves}
-use Rattle.bw_page.proofs.Order.{Below, UpTo, not_both, below_upto, upto-trans, upto-refl, upto_empty, apart}
-use Rattle.bw_page.proofs.Sorted.{all-map, all-zip, find-none}
+use Rattle.bw_record.specs.Keys.{is_below}
+use Rattle.bw_record.specs.declared.leaf.Leaf.{Leaf}
+use Rattle.bw_leaf.specs.Changed.{Bytes, Pairs, order}
+use Rattle.bw_page.specs.Leaves.{is_better, best, home, AreNumbered, BeginsEmpty, AtHome, AreLeaves}
+use Rattle.bw_leaf.proofs.Order.{Below, UpTo, not_both, below_upto, upto-trans, upto-refl, upto_empty, apart}
+use Rattle.bw_leaf.proofs.Sorted.{all-map, all-zip, find-none}
 
 -- ---- one step of the search
 
@@ -251,3 +252,7 @@ find-home m q leaves a =
       | inl e ↦ e
       | inr e ↦ e.0 ∙ sym (home-all (λ l. find order q l.pairs ≡ None) q leaves a.first e.1)
     ]
+
+-- the leaf of a key's home stands at its place
+pub home_stands : (m : ℕ) (q : Bytes) (leaves : List Leaf) → AreLeaves m leaves → (d : Leaf) → get_or leaves ((home q leaves).page - 1) d ≡ home q leaves
+home_stands m q leaves a d = home-all (λ l. get_or leaves (l.page - 1) d ≡ l) q leaves a.first (stands_at leaves d a.pages)

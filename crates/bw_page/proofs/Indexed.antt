@@ -5,20 +5,17 @@ use Rattle.std.proofs.Common.{refl, sym, ap, ◌∙◌, subst}
 use Rattle.std.specs.List.{AllByRecursion as All, slice_get}
 use Rattle.std.specs.Option.{IsSomeAnd}
 use Rattle.std.specs.Ordering.{eq_by_cmp, is_eq}
-use Rattle.std.specs.Cmp.{tied_itself}
 use Rattle.std.specs.FinMap.Entries.{find}
 use Rattle.std.proofs.lemmas.Option.{slice_get-get_or}
-use Rattle.bw_codec.specs.declared.leaf.Leaf.{Leaf}
-use Rattle.bw_page.specs.Leaves.{Bytes, order, empty_leaf, best, home, leaf_at, AreNumbered, AreLeaves}
+use Rattle.bw_record.specs.declared.leaf.Leaf.{Leaf}
+use Rattle.bw_leaf.specs.Changed.{Bytes, order, empty_leaf}
+use Rattle.bw_page.specs.Leaves.{best, home, leaf_at, AreNumbered, AreLeaves}
 use Rattle.bw_page.specs.Lows.{lows_of}
-use Rattle.bw_page.specs.LowHeads.{IsGreatestLow, HasNoLow}
+use Rattle.bw_lows.specs.LowHeads.{IsGreatestLow, HasNoLow}
 use Rattle.bw_page.specs.Shown.{HasGreatestLow, TakesKey}
-use Rattle.bw_page.proofs.Order.{UpTo, order-total, upto_empty, upto-antisymm, tied}
-use Rattle.bw_page.proofs.Sorted.{all-map, all-zip}
+use Rattle.bw_leaf.proofs.Order.{UpTo, order-total, upto_empty, upto-antisymm, tied, itself}
+use Rattle.bw_leaf.proofs.Sorted.{all-map, all-zip}
 use Rattle.bw_page.proofs.Homes.{picks, second, first, home-all, home-low, home-max, stands_at, pages_within}
-
-pub itself : (a : Bytes) → eq_by_cmp order a a ≡ true
-itself a = ap is_eq (tied_itself order-total a)
 
 -- a page that the lows give a low has that low
 low_found : (P : ℕ → Type 0) (low : Bytes) (page : ℕ) (ls : List Leaf) → find order low (lows_of ls) ≡ Some page → All (λ l. l.low ≡ low → P l.page) ls → P page

@@ -5,15 +5,16 @@ use Rattle.std.proofs.Common.{drop-cons, lit<}
 use Rattle.std.specs.List.{AllByRecursion as All}
 use Rattle.std.specs.Ordering.{eq_by_cmp}
 use Rattle.std.specs.FinMap.Entries.{find}
-use Rattle.bw_codec.specs.Bytes.{IsKey}
+use Rattle.bw_record.specs.Keys.{IsKey}
 use Rattle.bw_codec.specs.Grammar.{IsBase}
-use Rattle.bw_codec.specs.declared.leaf.Leaf.{Leaf}
+use Rattle.bw_record.specs.declared.leaf.Leaf.{Leaf}
 use Rattle.bw_page.specs.declared.leaves.Leaves.TheInside.{Inside}
-use Rattle.bw_page.specs.Leaves.{Bytes, order, AreNumbered, AreLeaves}
-use Rattle.bw_page.specs.LowHeads.{page_of_low}
+use Rattle.bw_leaf.specs.Changed.{Bytes, order}
+use Rattle.bw_page.specs.Leaves.{AreNumbered, AreLeaves}
+use Rattle.bw_lows.specs.LowHeads.{page_of_low}
 use Rattle.bw_page.specs.Lows.{lows_of}
 use Rattle.bw_page.specs.Index.{IsIndexed}
-use Rattle.bw_page.proofs.Sorted.{all-map, all-zip}
+use Rattle.bw_leaf.proofs.Sorted.{all-map, all-zip}
 use Rattle.bw_page.proofs.Homes.{pages_from}
 
 some_length : (low : Bytes) → (low ≡ [] → ⊥) → 1 ≤ length low

@@ -8,18 +8,19 @@ use Rattle.std.specs.FinMap.Entries.{find}
 use Rattle.std.proofs.Math.Seq.{take-append_seam}
 use Rattle.std.proofs.lemmas.Bool.{leb-true, leb-false}
 use Rattle.std.proofs.lemmas.List.{length-map, set-set, set-get_or, take_all, get_or-append_right}
-use Rattle.bw_codec.specs.Bytes.{IsKey}
-use Rattle.bw_codec.specs.Grammar.{IsOp}
-use Rattle.bw_codec.specs.Record.{key_of}
-use Rattle.bw_codec.specs.declared.leaf.Leaf.{Leaf}
-use Rattle.bw_codec.specs.declared.record.Record.{Record}
-use Rattle.bw_page.specs.Leaves.{Bytes, order, home, changed, with_leaf, lower_of, upper_of, applied, HasPage, AreLeaves}
+use Rattle.bw_record.specs.Keys.{IsKey}
+use Rattle.bw_record.specs.Lawful.{IsOp}
+use Rattle.bw_record.specs.Record.{key_of}
+use Rattle.bw_record.specs.declared.leaf.Leaf.{Leaf}
+use Rattle.bw_record.specs.declared.record.Record.{Record}
+use Rattle.bw_leaf.specs.Changed.{Bytes, order, changed}
+use Rattle.bw_page.specs.Leaves.{home, with_leaf, lower_of, upper_of, applied, HasPage, AreLeaves}
 use Rattle.bw_page.specs.Lows.{lows_of}
-use Rattle.bw_page.proofs.Order.{Below, not_both, upto_empty, tied}
+use Rattle.bw_leaf.proofs.Order.{Below, not_both, upto_empty, tied}
 use Rattle.bw_page.proofs.Homes.{put_in, set_is_put}
 use Rattle.bw_page.proofs.Applying.{Replaces, same_lows, put_leaves, Splits, new_low}
 use Rattle.bw_page.proofs.Law.{directed, home_base, whole_in, lower_in, upper_in, applied-whole, applied-cut}
-use Rattle.bw_page.proofs.Valued.{home_stands}
+use Rattle.bw_page.proofs.Homes.{home_stands}
 use Rattle.bw_page.proofs.Closed.{lows-put, find-push, not_among_others}
 
 -- ---- the two forms of leaves after a record

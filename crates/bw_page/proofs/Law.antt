@@ -11,18 +11,20 @@ use Rattle.std.specs.FinMap as finite
 use Rattle.std.specs.FinMap.{get-from_entries, same_map, slice_cmp-IsAntisymmetric, nat_cmp-IsAntisymmetric}
 use Rattle.std.specs.FinMap.Entries.{find}
 use Rattle.std.proofs.lemmas.Bool.{eqb-true, eqb-false, le-leb, leb-true, leb-false, lt-leb}
-use Rattle.bw_codec.specs.Bytes.{is_below}
-use Rattle.bw_codec.specs.Grammar.{IsBase, IsOp, IsPair, first_key}
-use Rattle.bw_codec.specs.Record.{key_of}
-use Rattle.bw_codec.specs.declared.leaf.Leaf.{Leaf}
-use Rattle.bw_codec.specs.declared.record.Record.{Record}
-use Rattle.bw_codec.specs.declared.record.Record.TheVariants.{Put, Del}
-use Rattle.bw_page.specs.Leaves.{Bytes, order, empty_leaf, home, changed, changed_map, AtHome, AreLeaves, HasPage, HasPages, lower_of, upper_of, applied, pages}
+use Rattle.bw_record.specs.Keys.{is_below}
+use Rattle.bw_record.specs.Lawful.{IsOp, IsPair}
+use Rattle.bw_codec.specs.Grammar.{IsBase, first_key}
+use Rattle.bw_record.specs.Record.{key_of}
+use Rattle.bw_record.specs.declared.leaf.Leaf.{Leaf}
+use Rattle.bw_record.specs.declared.record.Record.{Record}
+use Rattle.bw_record.specs.declared.record.Record.TheVariants.{Put, Del}
+use Rattle.bw_leaf.specs.Changed.{Bytes, order, empty_leaf, changed, changed_map}
+use Rattle.bw_page.specs.Leaves.{home, AtHome, AreLeaves, HasPage, HasPages, lower_of, upper_of, applied, pages}
 use Rattle.bw_page.specs.Leaves.{union, plain}
-use Rattle.bw_page.proofs.Order.{Below, UpTo, order-total, upto-below, apart}
-use Rattle.bw_page.proofs.Sorted.{all-map, all-zip, all-take, all-drop, Rises, ascends_rises, rises_ascends, rises-take, rises-drop, first-all, lower_below}
-use Rattle.bw_page.proofs.Sorted.{upper_from, find-lower, find-upper, rises-changed, value_of, find-changed, get-changed, HoldsOfNew, all-changed}
-use Rattle.bw_page.proofs.Sorted.{length-changed}
+use Rattle.bw_leaf.proofs.Order.{Below, UpTo, order-total, upto-below, apart}
+use Rattle.bw_leaf.proofs.Sorted.{all-map, all-zip, all-take, all-drop, Rises, ascends_rises, rises_ascends, rises-take, rises-drop, first-all, lower_below}
+use Rattle.bw_leaf.proofs.Sorted.{upper_from, find-lower, find-upper, rises-changed, value_of, find-changed, get-changed, HoldsOfNew, all-changed}
+use Rattle.bw_leaf.proofs.Sorted.{length-changed}
 use Rattle.bw_page.proofs.Homes.{home-all, home-low, same_home, put_in, set_is_put, pairs_of, find-home}
 use Rattle.bw_page.proofs.Applying.{Replaces, home-put_here, home-put_elsewhere, put_leaves, Splits, home-push_lower, home-push_upper, home-push_elsewhere}
 use Rattle.bw_page.proofs.Applying.{push_leaves}

@@ -1,19 +1,12 @@
-pub mod Seeking
 pub mod Parting
-pub mod Skipping
 pub mod Rows
-pub mod Order
-pub mod Sorted
 pub mod Homes
 pub mod Applying
 pub mod Law
-pub mod HeadedLows
 pub mod Indexed
-pub mod Valued
 pub mod Closed
 pub mod Bases
 pub mod Indexing
-pub mod Chains
 pub mod Ranges
 pub mod Twice
 pub mod Journals
@@ -29,7 +22,5 @@ pub mod Hinted
 pub mod NewerPages
 pub mod OneStanding
 pub mod LowsAlone
-pub mod Trees
 pub mod Ahead
 pub mod Stretch
-pub mod Wording

@@ -2,11 +2,11 @@
 
 use Rattle.std.proofs.Common.{◌≡◌, List, [], ◌∷◌, ◌++◌, refl, sym, ap, ◌∙◌}
 use Rattle.std.proofs.lemmas.List.Sums.{fold-append}
-use Rattle.bw_codec.specs.declared.leaf.Leaf.{Leaf}
-use Rattle.bw_page.specs.declared.chain.Link.{Link}
-use Rattle.bw_page.specs.declared.chain.Link.TheVariants.{Delta, Flushed}
-use Rattle.bw_page.specs.Leaves.{changed, all_changed}
-use Rattle.bw_page.specs.Links.{told, records_of}
+use Rattle.bw_record.specs.declared.leaf.Leaf.{Leaf}
+use Rattle.bw_leaf.specs.declared.chain.Link.{Link}
+use Rattle.bw_leaf.specs.declared.chain.Link.TheVariants.{Delta, Flushed}
+use Rattle.bw_leaf.specs.Changed.{changed, all_changed}
+use Rattle.bw_leaf.specs.Links.{told, records_of}
 use Rattle.bw_page.specs.Laws.{ChainsReadOverNewer}
 use Rattle.bw_page.proofs.Twice.{twice}
 

@@ -7,9 +7,10 @@ use Rattle.std.specs.List.{slice_get}
 use Rattle.std.specs.Option.{option_map}
 use Rattle.std.proofs.lemmas.Bool.{eqb-true, eqb-false}
 use Rattle.std.proofs.lemmas.List.{length-map}
-use Rattle.bw_codec.specs.Record.{key_of}
-use Rattle.bw_codec.specs.declared.leaf.Leaf.{Leaf}
-use Rattle.bw_page.specs.Leaves.{Bytes, home, changed, lower_of, upper_of, leaf_at, AreNumbered, AreLeaves}
+use Rattle.bw_record.specs.Record.{key_of}
+use Rattle.bw_record.specs.declared.leaf.Leaf.{Leaf}
+use Rattle.bw_leaf.specs.Changed.{Bytes, changed}
+use Rattle.bw_page.specs.Leaves.{home, lower_of, upper_of, leaf_at, AreNumbered, AreLeaves}
 use Rattle.bw_page.specs.Laws.{AppliesPageByPage}
 use Rattle.bw_page.proofs.Homes.{home-all, put_in}
 use Rattle.bw_page.proofs.Applying.{put_in-at, put_in-other}

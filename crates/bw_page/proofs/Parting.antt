@@ -5,17 +5,17 @@ use Rattle.std.proofs.Common.{Less, Equal, Greater, length-append}
 use Rattle.std.specs.FinMap.Entries.{find, by_order}
 use Rattle.std.proofs.lemmas.List.{take-append-drop}
 use Rattle.std.specs.Prelude.{insert, remove}
-use Rattle.bw_codec.specs.Record.{key_of}
-use Rattle.bw_codec.specs.declared.leaf.Leaf.{Leaf}
-use Rattle.bw_codec.specs.declared.record.Record.{Record}
-use Rattle.bw_codec.specs.declared.record.Record.TheVariants.{Put, Del}
-use Rattle.bw_page.specs.Leaves.{Bytes, Pairs, order, changed, changed_pairs}
+use Rattle.bw_record.specs.Record.{key_of}
+use Rattle.bw_record.specs.declared.leaf.Leaf.{Leaf}
+use Rattle.bw_record.specs.declared.record.Record.{Record}
+use Rattle.bw_record.specs.declared.record.Record.TheVariants.{Put, Del}
+use Rattle.bw_leaf.specs.Changed.{Bytes, Pairs, order, changed, changed_pairs}
 use Rattle.bw_page.specs.Displaced.{joined}
-use Rattle.bw_page.specs.Seek.{seek_of, passed, IsWithin, AddsOne}
-use Rattle.bw_page.proofs.Seeking.{put_there, counted}
-use Rattle.bw_page.proofs.Sorted.{Rises, length-changed}
+use Rattle.bw_leaf.specs.Seek.{seek_of, passed, IsWithin, AddsOne}
+use Rattle.bw_leaf.proofs.Seeking.{put_there, counted}
+use Rattle.bw_leaf.proofs.Sorted.{Rises, length-changed}
 use Rattle.bw_page.proofs.TakenBack.{pairs_back}
-use Rattle.bw_page.proofs.Valued.{Reads, reads}
+use Rattle.bw_leaf.proofs.Valued.{Reads, reads}
 
 -- what was put between two pairs is taken out again
 pub remove_inserted : {X : Type 0} (xs : List X) (at : ℕ) (x : X) → at ≤ length xs → remove (insert xs at x) at ≡ xs

@@ -8,19 +8,20 @@ use Rattle.std.proofs.lemmas.Bool.{leb-false}
 use Rattle.std.proofs.lemmas.List.{length-map, get_or-set_same}
 use Rattle.std.specs.Ordering.{eq_by_cmp}
 use Rattle.std.specs.FinMap.Entries.{find}
-use Rattle.bw_codec.specs.Bytes.{IsKey}
-use Rattle.bw_codec.specs.Grammar.{IsOp}
-use Rattle.bw_codec.specs.Record.{key_of}
-use Rattle.bw_codec.specs.declared.record.Record.{Record}
-use Rattle.bw_codec.specs.declared.record.Record.TheVariants.{Del}
-use Rattle.bw_codec.specs.declared.leaf.Leaf.{Leaf}
+use Rattle.bw_record.specs.Keys.{IsKey}
+use Rattle.bw_record.specs.Lawful.{IsOp}
+use Rattle.bw_record.specs.Record.{key_of}
+use Rattle.bw_record.specs.declared.record.Record.{Record}
+use Rattle.bw_record.specs.declared.record.Record.TheVariants.{Del}
+use Rattle.bw_record.specs.declared.leaf.Leaf.{Leaf}
 use Rattle.bw_page.specs.declared.leaves.Leaves.TheInside.{Inside}
 use Rattle.bw_page.specs.declared.journal.Undo.TheVariants.{Back, Page}
 use Rattle.bw_page.specs.Displaced.{Displaced, joined, AreParts}
-use Rattle.bw_page.specs.Leaves.{Bytes, order, empty_leaf, changed, home, result_of, lower_of, upper_of, with_leaf, applied, AreLeaves}
-use Rattle.bw_page.specs.LowHeads.{page_of_low}
+use Rattle.bw_leaf.specs.Changed.{Bytes, order, empty_leaf, changed}
+use Rattle.bw_page.specs.Leaves.{home, result_of, lower_of, upper_of, with_leaf, applied, AreLeaves}
+use Rattle.bw_lows.specs.LowHeads.{page_of_low}
 use Rattle.bw_page.specs.Seats.{Seating, is_among}
-use Rattle.bw_page.specs.Seek.{seek_of, AddsNone, back_of}
+use Rattle.bw_leaf.specs.Seek.{seek_of, AddsNone, back_of}
 use Rattle.bw_page.specs.Shown.{Shown, IsHere}
 use Rattle.bw_page.specs.Lows.{lows_of}
 use Rattle.bw_page.specs.Journal.{undone, IsNewest}
@@ -30,7 +31,7 @@ use Rattle.bw_page.proofs.Indexed.{home_within}
 use Rattle.bw_page.proofs.Indexing.{filed_new}
 use Rattle.bw_page.proofs.Homes.{put_in, set_is_put}
 use Rattle.bw_page.proofs.Parting.{parts_few, parts_whole}
-use Rattle.bw_page.proofs.Sorted.{ascends_rises}
+use Rattle.bw_leaf.proofs.Sorted.{ascends_rises}
 use Rattle.bw_page.proofs.Applying.{Replaces, same_lows, put_in-page, home-put}
 use Rattle.bw_page.proofs.Law.{directed, home_base, lower_in, applied-whole, applied-cut}
 use Rattle.bw_page.proofs.Closed.{leaf_is, lows-put}

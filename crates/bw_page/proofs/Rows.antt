@@ -3,13 +3,15 @@
 use Rattle.std.proofs.Common.{◌≡◌, ℕ, ◌≤◌, false, List, [], ◌∷◌, ◌++◌, Some, None, refl, sym, subst, arith, lit≤, lit<}
 use Rattle.std.proofs.lemmas.Bool.{ne_eqb}
 use Rattle.std.specs.Prelude.{codes, ◌==◌}
-use Rattle.bw_codec.specs.declared.leaf.Leaf.{Leaf}
-use Rattle.bw_codec.specs.declared.record.Record.{Record}
-use Rattle.bw_codec.specs.declared.record.Record.TheVariants.{Put, Del}
+use Rattle.bw_record.specs.declared.leaf.Leaf.{Leaf}
+use Rattle.bw_record.specs.declared.record.Record.{Record}
+use Rattle.bw_record.specs.declared.record.Record.TheVariants.{Put, Del}
 use Rattle.bw_codec.specs.declared.block.Block.TheVariants.{Delta, Base}
 use Rattle.bw_codec.specs.declared.block.Frame.{Frame}
-use Rattle.bw_page.specs.Leaves.{Bytes, empty_leaf, directed_at, pages, leaf_at}
-use Rattle.bw_page.specs.Standing.{content, blocks_of, Stand}
+use Rattle.bw_leaf.specs.Changed.{Bytes, empty_leaf}
+use Rattle.bw_page.specs.Leaves.{directed_at, pages, leaf_at}
+use Rattle.bw_leaf.specs.Forwards.{content, blocks_of}
+use Rattle.bw_page.specs.Standing.{Stand}
 
 put : Bytes → Record
 put key = Put key (49 ∷ [])

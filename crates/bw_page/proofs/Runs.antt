@@ -6,20 +6,21 @@ use Rattle.std.specs.List.{AllByRecursion as All, slice_get}
 use Rattle.std.specs.FinMap.Entries.{find}
 use Rattle.std.proofs.lemmas.Bool.{leb-true, le-leb, lt-leb}
 use Rattle.std.proofs.lemmas.List.Sums.{fold_push}
-use Rattle.bw_codec.specs.Grammar.{IsOp}
-use Rattle.bw_codec.specs.Record.{key_of}
-use Rattle.bw_codec.specs.declared.leaf.Leaf.{Leaf}
-use Rattle.bw_codec.specs.declared.record.Record.{Record}
+use Rattle.bw_record.specs.Lawful.{IsOp}
+use Rattle.bw_record.specs.Record.{key_of}
+use Rattle.bw_record.specs.declared.leaf.Leaf.{Leaf}
+use Rattle.bw_record.specs.declared.record.Record.{Record}
 use Rattle.bw_page.specs.declared.journal.Undo.{Undo}
 use Rattle.bw_page.specs.declared.journal.Undo.TheVariants.{Back, Page}
 use Rattle.bw_page.specs.Displaced.{Displaced}
-use Rattle.bw_page.specs.Leaves.{order, home, result_of, applied, pages, HasPage, HasPages, AreLeaves, union, plain}
-use Rattle.bw_page.specs.Seek.{back_of}
+use Rattle.bw_leaf.specs.Changed.{order}
+use Rattle.bw_page.specs.Leaves.{home, result_of, applied, pages, HasPage, HasPages, AreLeaves, union, plain}
+use Rattle.bw_leaf.specs.Seek.{back_of}
 use Rattle.bw_page.specs.Seats.{is_among}
 use Rattle.bw_page.specs.Shown.{Shown, IsHere}
 use Rattle.bw_page.specs.Batch.{SomeIsSpent, AreHere, NoneBeyond, step_of, steps_of}
 use Rattle.bw_page.specs.Journal.{after_record, run, displaced_by, undo_by, undo_of, journal_of, undone, all_undone, Ran, IsJournal, IsNewest}
-use Rattle.bw_page.proofs.Sorted.{all-push}
+use Rattle.bw_leaf.proofs.Sorted.{all-push}
 use Rattle.bw_page.proofs.Law.{applied-lawful, pages-plain}
 use Rattle.bw_page.proofs.Journals.{stepped, goes_back, one_more}
 use Rattle.bw_page.proofs.TakenBack.{leaves_back}

@@ -3,13 +3,14 @@
 use Rattle.std.proofs.Common.{◌≡◌, ℕ, zero, suc, ◌+◌, ◌/◌, ◌<◌, ◌≤◌, Some, List, [], ◌∷◌, ◌++◌, map, length, take, drop, refl, ap, arith, add-one}
 use Rattle.std.specs.List.{AllByRecursion as All, filter, slice_get}
 use Rattle.std.specs.Option.{option_map}
-use Rattle.bw_codec.specs.Bytes.{is_below}
+use Rattle.bw_record.specs.Keys.{is_below}
 use Rattle.bw_codec.specs.Grammar.{first_key}
-use Rattle.bw_codec.specs.declared.leaf.Leaf.{Leaf}
-use Rattle.bw_page.specs.Leaves.{Bytes, Pairs, leaf_at, lower_of, upper_of}
-use Rattle.bw_page.specs.Standing.{kept_below}
-use Rattle.bw_page.proofs.Order.{Below, UpTo}
-use Rattle.bw_page.proofs.Sorted.{Rises, lower_below, upper_from}
+use Rattle.bw_record.specs.declared.leaf.Leaf.{Leaf}
+use Rattle.bw_leaf.specs.Changed.{Bytes, Pairs}
+use Rattle.bw_page.specs.Leaves.{leaf_at, lower_of, upper_of}
+use Rattle.bw_leaf.specs.Forwards.{kept_below}
+use Rattle.bw_leaf.proofs.Order.{Below, UpTo}
+use Rattle.bw_leaf.proofs.Sorted.{Rises, lower_below, upper_from}
 
 filter-none : (s : Bytes) (ps : Pairs) → All (λ p. UpTo s p.0) ps → filter (λ p. is_below p.0 s) ps ≡ []
 filter-none s [] h = refl

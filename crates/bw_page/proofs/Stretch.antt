@@ -12,18 +12,21 @@ use Rattle.std.specs.List.{AllByRecursion as All}
 use Rattle.std.specs.Ordering.{eq_by_cmp, is_gt}
 use Rattle.std.specs.FinMap as finite
 use Rattle.std.specs.FinMap.Entries.{find}
-use Rattle.bw_codec.specs.Bytes.{is_below}
-use Rattle.bw_codec.specs.declared.leaf.Leaf.{Leaf}
-use Rattle.bw_page.specs.Leaves.{Bytes, Pairs, order, home, union, AtHome, AreLeaves}
+use Rattle.bw_record.specs.Keys.{is_below}
+use Rattle.bw_record.specs.declared.leaf.Leaf.{Leaf}
+use Rattle.bw_leaf.specs.Changed.{Bytes, Pairs, order}
+use Rattle.bw_page.specs.Leaves.{home, union, AtHome, AreLeaves}
 use Rattle.bw_page.specs.Lows.{lows_of}
-use Rattle.bw_page.specs.Ahead.{Reaches, IsStretch, HasGone, HasNoLowAbove, IsNextLow, pairs_above, with_some}
-use Rattle.bw_page.specs.Seek.{seek_of, passed, end_of}
-use Rattle.bw_page.proofs.Order.{Below, UpTo, greater_is_below, not_both, must_be, upto-trans, upto-refl, below-upto, upto-below, below-trans}
-use Rattle.bw_page.proofs.Order.{below_upto, below_apart, above_apart, tied}
-use Rattle.bw_page.proofs.Sorted.{all-map, all-take, Rises, ascends_rises, rises_ascends, rises-take, find-none}
+use Rattle.bw_leaf.specs.Above.{pairs_above, with_some}
+use Rattle.bw_page.specs.Ahead.{Reaches, IsStretch, HasGone, HasNoLowAbove, IsNextLow}
+use Rattle.bw_leaf.specs.Seek.{seek_of, passed, end_of}
+use Rattle.bw_leaf.proofs.Order.{Below, UpTo, greater_is_below, not_both, must_be, upto-trans, upto-refl, below-upto, upto-below, below-trans}
+use Rattle.bw_leaf.proofs.Order.{below_upto, below_apart, above_apart, tied}
+use Rattle.bw_leaf.proofs.Sorted.{all-map, all-take, Rises, ascends_rises, rises_ascends, rises-take, find-none}
 use Rattle.bw_page.proofs.Homes.{home-all, home-low, home-max, same_home}
 use Rattle.bw_page.proofs.Law.{get-union}
-use Rattle.bw_page.proofs.Ahead.{skipped, same_leaf, rises_at, end_passed}
+use Rattle.bw_leaf.proofs.Sought.{skipped}
+use Rattle.bw_page.proofs.Ahead.{same_leaf, rises_at}
 
 -- ---- lists of pairs
 
@@ -95,25 +98,6 @@ above_find q key (x ∷ xs) u =
       | true ↦ λ t. above_find q key xs u ∙ sym (skipped q x xs (below-upto x.0 key q t u))
       | false ↦ λ t. refl
     ] refl
-
--- they begin where a search for the key ends
-sought_rest : (key : Bytes) (ps : Pairs) → drop (end_of (seek_of key ps)) ps ≡ pairs_above key ps
-sought_rest key [] = refl
-sought_rest key (p ∷ ps) =
-    elim (order key p.0) as (λ o. order key p.0 ≡ o → drop (end_of (by_order o (Err 0) (Ok 0) (passed 1 (seek_of key ps)))) (p ∷ ps) ≡ pairs_above
-    key (p ∷ ps)) [
-      | Less ↦ λ e. let not : is_below p.0 key ≡ false = sym (greater_is_below key p.0) ∙ ap is_gt e in rw not refl
-      | Equal ↦ λ e. let not : is_below p.0 key ≡ false = sym (greater_is_below key p.0) ∙ ap is_gt e in rw not refl
-      | Greater ↦ λ e. let is : is_below p.0 key ≡ true = sym (greater_is_below key p.0) ∙ ap is_gt e in
-          rw is (ap (λ n. drop n (p ∷ ps)) (end_passed (seek_of key ps)) ∙ sought_rest key ps)
-    ] refl
-
-pub some_above : (key : Bytes) (ps : Pairs) (from count room : ℕ) → from ≡ end_of (seek_of key ps) → count ≡ min (length ps - from) room
-    → take (from + count - from) (drop from ps) ≡ take room (pairs_above key ps)
-some_above key ps from count room at is =
-    let long = length-drop from ps in
-    let first : from + count - from ≡ min room (length (drop from ps)) = omega arith in
-    ap (λ n. take n (drop from ps)) first ∙ take_min room (drop from ps) ∙ ap (take room) (ap (λ n. drop n ps) at ∙ sought_rest key ps)
 
 -- what is said of each low is said of one that is among them
 low_among : (Q : Bytes → Type 0) (low : Bytes) (ls : List Leaf) → IsSome (find order low (lows_of ls)) → All (λ l. Q l.low) ls → Q low

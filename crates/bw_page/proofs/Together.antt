@@ -2,15 +2,16 @@
 
 use Rattle.std.proofs.Common.{◌≡◌, ℕ, ◌+◌, ◌≤◌, ◌⊎◌, inl, inr, arith, List, [], ◌∷◌, length, map, ap, ◌∙◌}
 use Rattle.std.proofs.lemmas.List.{length-map}
-use Rattle.bw_codec.specs.Grammar.{IsOp}
-use Rattle.bw_codec.specs.Record.{key_of}
-use Rattle.bw_codec.specs.declared.leaf.Leaf.{Leaf}
-use Rattle.bw_codec.specs.declared.record.Record.{Record}
-use Rattle.bw_page.specs.Leaves.{Bytes, home, applied, HasPage, AreLeaves}
+use Rattle.bw_record.specs.Lawful.{IsOp}
+use Rattle.bw_record.specs.Record.{key_of}
+use Rattle.bw_record.specs.declared.leaf.Leaf.{Leaf}
+use Rattle.bw_record.specs.declared.record.Record.{Record}
+use Rattle.bw_leaf.specs.Changed.{Bytes}
+use Rattle.bw_page.specs.Leaves.{home, applied, HasPage, AreLeaves}
 use Rattle.bw_page.specs.Laws.{HomesStay, HereTogether}
 use Rattle.bw_page.specs.Shown.{Shown, IsHere, is_evicted_page, after_record}
 use Rattle.bw_page.specs.Batch.{NoneBeyond}
-use Rattle.bw_page.proofs.Sorted.{all-map}
+use Rattle.bw_leaf.proofs.Sorted.{all-map}
 use Rattle.bw_page.proofs.Homes.{put_in, picks, second, first, home-push}
 use Rattle.bw_page.proofs.Applying.{Replaces, put_in-page, home-put, put_leaves}
 use Rattle.bw_page.proofs.Law.{applied-lawful}

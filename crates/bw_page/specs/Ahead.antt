@@ -4,9 +4,9 @@ use Rattle.std.specs.Prelude.{◌≡◌, ◌⊎◌, ℕ, ◌+◌, ◌-◌, ◌<�
 use Rattle.std.specs.List.{AllByRecursion}
 use Rattle.std.specs.FinMap as finite
 use Rattle.std.specs.FinMap.Entries.{find}
-use Rattle.bw_codec.specs.Bytes.{is_below, ascends}
-use Rattle.bw_codec.specs.declared.leaf.Leaf.{Leaf}
-use Rattle.bw_page.specs.Leaves.{Bytes, Pairs, Map, order}
+use Rattle.bw_record.specs.Keys.{is_below, ascends}
+use Rattle.bw_record.specs.declared.leaf.Leaf.{Leaf}
+use Rattle.bw_leaf.specs.Changed.{Bytes, Pairs, Map, order}
 use Rattle.bw_page.specs.Lows.{lows_of}
 
 -- ---- a map
@@ -30,13 +30,6 @@ IsFirst map key (Some pair) = IsFirstPair map key pair
 pub record HasCome (map : Map) (key to : Bytes) : Type 0 where
   pub upto : is_below to key ≡ false
   pub none : (q : Bytes) → is_below q key ≡ false → IsTrue (is_below q to) → finite.get map q ≡ None
-
--- ---- a page
-
--- the first pair of a page at or above a key
-abbrev pub pair_above : Bytes → Pairs → Option (Bytes × Bytes)
-pair_above key [] = None
-pair_above key (p ∷ ps) = if is_below p.0 key then pair_above key ps else Some p
 
 -- ---- the lows
 
@@ -79,12 +72,3 @@ pub record HasGone (map : Map) (key to : Bytes) (most : ℕ) (pairs : Pairs) : T
   pub upto : is_below to key ≡ false
   pub all : (q : Bytes) → is_below q key ≡ false → IsTrue (is_below q to) → (length pairs < most) ⊎ Reaches q pairs
       → finite.get map q ≡ find order q pairs
-
--- the pairs of a page at or above a key
-abbrev pub pairs_above : Bytes → Pairs → Pairs
-pairs_above key [] = []
-pairs_above key (p ∷ ps) = if is_below p.0 key then pairs_above key ps else p ∷ ps
-
--- pairs, with as many of others as there are wanting
-abbrev pub with_some : ℕ → Pairs → Pairs → Pairs
-with_some most pairs others = pairs ++ take (most - length pairs) others

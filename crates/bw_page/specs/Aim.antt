@@ -1,12 +1,12 @@
 -- Where a record changes leaves.
 
 use Rattle.std.specs.Prelude.{ℕ, ◌+◌, ◌<◌, ◌≡◌, Result, length}
-use Rattle.bw_codec.specs.Grammar.{IsOp}
-use Rattle.bw_codec.specs.Record.{key_of}
-use Rattle.bw_codec.specs.declared.record.Record.{Record}
+use Rattle.bw_record.specs.Lawful.{IsOp}
+use Rattle.bw_record.specs.Record.{key_of}
+use Rattle.bw_record.specs.declared.record.Record.{Record}
 use Rattle.bw_page.specs.Leaves.{home, result_of}
 use Rattle.bw_page.specs.Shown.{Shown, IsHere}
-use Rattle.bw_page.specs.Seek.{seek_of, IsWithin}
+use Rattle.bw_leaf.specs.Seek.{seek_of, IsWithin}
 
 -- the leaf that a record changes is in memory, at this index; it would have so many pairs, and the search for the
 -- record's key ended so in it

@@ -1,9 +1,9 @@
 -- Records applied as one.
 
 use Rattle.std.specs.Prelude.{ℕ, ◌+◌, ◌<◌, ◌≡◌, nat_le, if◌then◌else◌, false, Option, None, Some, List, [], ◌∷◌, take, length, slice_get}
-use Rattle.bw_codec.specs.Record.{key_of}
-use Rattle.bw_codec.specs.declared.leaf.Leaf.{Leaf}
-use Rattle.bw_codec.specs.declared.record.Record.{Record}
+use Rattle.bw_record.specs.Record.{key_of}
+use Rattle.bw_record.specs.declared.leaf.Leaf.{Leaf}
+use Rattle.bw_record.specs.declared.record.Record.{Record}
 use Rattle.bw_page.specs.declared.leaves.batch.Step.{Step}
 use Rattle.bw_page.specs.Leaves.{directed_at, result_of, upper_of, HasPage}
 use Rattle.bw_page.specs.Shown.{Shown, IsSpent, IsHere, is_evicted_page, after_record, run}

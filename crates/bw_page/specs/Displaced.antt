@@ -1,9 +1,9 @@
 -- A leaf that a record changed, as it was before.
 
 use Rattle.std.specs.Prelude.{ℕ, ◌+◌, ◌-◌, ◌≤◌, ◌<◌, ◌≡◌, Bool, false, Option, Some, ◌++◌, length, slice_index_or}
-use Rattle.bw_codec.specs.declared.leaf.Leaf.{Leaf}
-use Rattle.bw_codec.specs.declared.record.Record.TheVariants.{Del}
-use Rattle.bw_page.specs.Leaves.{Bytes, changed}
+use Rattle.bw_record.specs.declared.leaf.Leaf.{Leaf}
+use Rattle.bw_record.specs.declared.record.Record.TheVariants.{Del}
+use Rattle.bw_leaf.specs.Changed.{Bytes, changed}
 use Rattle.bw_page.specs.Seats.{is_among, Seating}
 
 pub record Displaced : Type 0 where

@@ -3,8 +3,9 @@
 use Rattle.std.specs.Prelude.{◌^◌, ◌<◌, ◌≤◌, ◌≡◌, length, drop}
 use Rattle.std.specs.FinMap.Entries.{find}
 use Rattle.bw_page.specs.declared.leaves.Leaves.TheInside.{Inside}
-use Rattle.bw_page.specs.Leaves.{Bytes, order, AreLeaves}
-use Rattle.bw_page.specs.LowHeads.{page_of_low}
+use Rattle.bw_leaf.specs.Changed.{Bytes, order}
+use Rattle.bw_page.specs.Leaves.{AreLeaves}
+use Rattle.bw_lows.specs.LowHeads.{page_of_low}
 use Rattle.bw_page.specs.Shown.{Shown}
 use Rattle.bw_page.specs.Lows.{lows_of}
 

@@ -3,14 +3,15 @@
 use Rattle.std.specs.Prelude.{◌≡◌, ◌≤◌, ◌+◌, false, not, nat_le, if◌then◌else◌, Option, Some, None, List, [], ◌∷◌, length, take}
 use Rattle.std.specs.List.{AllByRecursion}
 use Rattle.std.specs.FinMap.Entries.{find}
-use Rattle.bw_codec.specs.Grammar.{IsOp}
-use Rattle.bw_codec.specs.Record.{key_of}
-use Rattle.bw_codec.specs.declared.record.Record.{Record}
+use Rattle.bw_record.specs.Lawful.{IsOp}
+use Rattle.bw_record.specs.Record.{key_of}
+use Rattle.bw_record.specs.declared.record.Record.{Record}
 use Rattle.bw_page.specs.declared.journal.Undo.{Undo}
 use Rattle.bw_page.specs.declared.journal.Undo.TheVariants.{Back, Page}
 use Rattle.bw_page.specs.Displaced.{Displaced}
-use Rattle.bw_page.specs.Leaves.{order, home, result_of, with_leaf, HasPage, HasPages, AreLeaves}
-use Rattle.bw_page.specs.Seek.{back_of}
+use Rattle.bw_leaf.specs.Changed.{order}
+use Rattle.bw_page.specs.Leaves.{home, result_of, with_leaf, HasPage, HasPages, AreLeaves}
+use Rattle.bw_leaf.specs.Seek.{back_of}
 use Rattle.bw_page.specs.Shown.{Shown, IsHere, is_evicted_page}
 use Rattle.bw_page.specs.Batch.{AreHere, NoneBeyond}
 pub use Rattle.bw_page.specs.Shown.{after_record, run}

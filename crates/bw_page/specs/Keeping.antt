@@ -2,8 +2,8 @@
 
 use Rattle.std.specs.Prelude.{◌+◌, ◌≤◌, ◌≡◌, [], Bool, true, false, length}
 use Rattle.std.specs.Vec.{vec_len, vec_capacity}
-use Rattle.bw_codec.specs.Record.{key_of}
-use Rattle.bw_codec.specs.declared.leaf.Leaf.{Leaf}
+use Rattle.bw_record.specs.Record.{key_of}
+use Rattle.bw_record.specs.declared.leaf.Leaf.{Leaf}
 use Rattle.bw_page.specs.declared.journal.Kept.{Kept}
 use Rattle.bw_page.specs.declared.journal.Kept.TheVariants.{Whole, Parted}
 use Rattle.bw_page.specs.declared.journal.Displaced.TheInside.{Inside}

@@ -2,18 +2,20 @@
 
 use Rattle.std.specs.Prelude.{ℕ, ◌+◌, ◌<◌, ◌≤◌, ◌≡◌, ◌↔◌, ◌⊎◌, ◌==◌, false, IsTrue, if◌then◌else◌, Some, List, ◌++◌, map, length}
 use Rattle.std.specs.List.{AllByRecursion}
-use Rattle.bw_codec.specs.Bytes.{is_below, ascends}
-use Rattle.bw_codec.specs.Grammar.{IsBase, IsOp}
-use Rattle.bw_codec.specs.Record.{key_of}
+use Rattle.bw_record.specs.Keys.{is_below, ascends}
+use Rattle.bw_record.specs.Lawful.{IsOp}
+use Rattle.bw_codec.specs.Grammar.{IsBase}
+use Rattle.bw_record.specs.Record.{key_of}
 use Rattle.bw_codec.specs.declared.block.Frame.{Frame}
-use Rattle.bw_codec.specs.declared.leaf.Leaf.{Leaf}
-use Rattle.bw_codec.specs.declared.record.Record.{Record}
-use Rattle.bw_page.specs.declared.chain.Link.{Link}
-use Rattle.bw_page.specs.Leaves.{Bytes, all_changed, home, directed_at, result_of, leaf_at, AreNumbered, BeginsEmpty, HaveOwnLows, AreLeaves, HasPage}
+use Rattle.bw_record.specs.declared.leaf.Leaf.{Leaf}
+use Rattle.bw_record.specs.declared.record.Record.{Record}
+use Rattle.bw_leaf.specs.declared.chain.Link.{Link}
+use Rattle.bw_leaf.specs.Changed.{Bytes, all_changed}
+use Rattle.bw_page.specs.Leaves.{home, directed_at, result_of, leaf_at, AreNumbered, BeginsEmpty, HaveOwnLows, AreLeaves, HasPage}
 use Rattle.bw_page.specs.Shown.{Shown, IsHere}
 use Rattle.bw_page.specs.Batch.{AreHere, NoneBeyond}
 use Rattle.bw_page.specs.Leaves.{lower_of, upper_of, applied}
-use Rattle.bw_page.specs.Links.{told}
+use Rattle.bw_leaf.specs.Links.{told}
 use Rattle.bw_page.specs.Lows.{home_page}
 use Rattle.bw_page.specs.Standing.{Stand}
 

@@ -4,23 +4,15 @@ pub mod Leaves
 pub mod Shown
 pub mod Batch
 pub mod Standing
-pub mod Links
-pub mod Words
 pub mod Lows
 pub mod Ahead
 pub mod Laws
 -- what private functions say, and how values stand in memory
 
-pub mod LowHeads
-pub mod LowIndex
 pub mod Index
 pub mod Beginning
-pub mod Linked
-pub mod Marks
 pub mod Seats
 pub mod Seating
-pub mod Seek
-pub mod Drafting
 pub mod Aim
 pub mod Cutting
 pub mod Displaced

@@ -3,7 +3,7 @@
 use Rattle.std.specs.Prelude.{ℕ, ◌+◌, ◌-◌, ◌≡◌, List, [], ◌∷◌, map, not, is_some, IfSome, IfNone, length, if◌then◌else◌}
 use Rattle.std.specs.Vec.{vec_len, vec_capacity}
 use Rattle.bw_codec.specs.Grammar.{block_bytes}
-use Rattle.bw_codec.specs.declared.leaf.Leaf.{Leaf}
+use Rattle.bw_record.specs.declared.leaf.Leaf.{Leaf}
 use Rattle.bw_codec.specs.declared.block.Block.TheVariants.{Base}
 use Rattle.bw_page.specs.declared.seats.Seat.TheInside.{Inside as SeatInside}
 use Rattle.bw_page.specs.declared.seats.Seats.TheInside.{Inside as SeatsInside}

@@ -1,7 +1,7 @@
 -- What contracts see of seats: the leaves, and which of them are evicted from memory.
 
 use Rattle.std.specs.Prelude.{ℕ, Bool, true, false, ◌==◌, List, [], ◌∷◌, if◌then◌else◌}
-use Rattle.bw_codec.specs.declared.leaf.Leaf.{Leaf}
+use Rattle.bw_record.specs.declared.leaf.Leaf.{Leaf}
 
 -- one leaf, and whether it is evicted
 pub record Seated : Type 0 where

@@ -3,12 +3,13 @@
 use Rattle.std.specs.Prelude.{ℕ, ◌+◌, ◌^◌, ◌<◌, ◌≡◌, Bool, false, if◌then◌else◌, nat_le, Option, None, Some, List, length}
 use Rattle.std.specs.List.{AllByRecursion}
 use Rattle.std.specs.Option.{IsSomeAnd}
-use Rattle.bw_codec.specs.Bytes.{is_below}
-use Rattle.bw_codec.specs.Record.{key_of}
-use Rattle.bw_codec.specs.declared.leaf.Leaf.{Leaf}
-use Rattle.bw_codec.specs.declared.record.Record.{Record}
+use Rattle.bw_record.specs.Keys.{is_below}
+use Rattle.bw_record.specs.Record.{key_of}
+use Rattle.bw_record.specs.declared.leaf.Leaf.{Leaf}
+use Rattle.bw_record.specs.declared.record.Record.{Record}
 use Rattle.bw_page.specs.declared.leaves.Applied.{Applied}
-use Rattle.bw_page.specs.Leaves.{Bytes, home, changed, leaf_at, applied, pages}
+use Rattle.bw_leaf.specs.Changed.{Bytes, changed}
+use Rattle.bw_page.specs.Leaves.{home, leaf_at, applied, pages}
 use Rattle.bw_page.specs.Seats.{is_among}
 
 -- leaves of at most m pairs each

@@ -2,18 +2,19 @@
 
 ghost use Rattle.std.specs.Prelude.{◌≡◌, ◌<◌, ◌≤◌, ◌+◌, ◌/◌, ◌++◌, false, [], ◌∷◌, length, slice_set, slice_index_or, Some, Err, if◌then◌else◌, OnOk, OnErr, IfOk};
 ghost use Rattle.std.specs.Ordering.{eq_by_cmp};
-ghost use Rattle.bw_codec.specs.Record.{key_of};
-ghost use Rattle.bw_codec.specs.declared.leaf.Leaf.{Leaf as LeafValue};
-ghost use Rattle.bw_codec.specs.declared.record.Record.TheVariants.{Put};
-ghost use Rattle.bw_page.specs.Leaves.{Bytes, order, changed, lower_of, upper_of};
+ghost use Rattle.bw_record.specs.Record.{key_of};
+ghost use Rattle.bw_record.specs.declared.leaf.Leaf.{Leaf as LeafValue};
+ghost use Rattle.bw_record.specs.declared.record.Record.TheVariants.{Put};
+ghost use Rattle.bw_leaf.specs.Changed.{Bytes, order, changed};
+ghost use Rattle.bw_page.specs.Leaves.{lower_of, upper_of};
 ghost use Rattle.bw_page.specs.Cutting.{changed_at};
-ghost use Rattle.bw_page.specs.LowHeads.{page_of_low};
+ghost use Rattle.bw_lows.specs.LowHeads.{page_of_low};
 ghost use Rattle.bw_page.specs.Seats.{is_among};
-ghost use Rattle.bw_page.specs.Seek.{seek_of, IsWithin, AddsOne};
+ghost use Rattle.bw_leaf.specs.Seek.{seek_of, IsWithin, AddsOne};
 
-use crate::lows::LowIndex;
 use crate::seats::Seats;
 use bw_codec::{Leaf, Low, Packed, Pair};
+use bw_lows::LowIndex;
 use std::alloc::{AllocError, Global};
 
 /// A leaf that was cut in two.

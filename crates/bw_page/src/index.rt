@@ -4,17 +4,17 @@ ghost use Rattle.std.specs.Prelude.{◌≡◌, ◌≤◌, ◌<◌, ◌+◌, fals
 ghost use Rattle.std.specs.List.{AllByRecursion};
 ghost use Rattle.std.specs.FinMap.Entries.{find};
 ghost use Rattle.std.specs.Ordering.{eq_by_cmp};
-ghost use Rattle.bw_codec.specs.Bytes.{IsKey};
-ghost use Rattle.bw_codec.specs.declared.leaf.Leaf.{Leaf as LeafValue};
-ghost use Rattle.bw_page.specs.Leaves.{Bytes, order};
+ghost use Rattle.bw_record.specs.Keys.{IsKey};
+ghost use Rattle.bw_record.specs.declared.leaf.Leaf.{Leaf as LeafValue};
+ghost use Rattle.bw_leaf.specs.Changed.{Bytes, order};
 ghost use Rattle.bw_page.specs.Lows.{lows_of};
-ghost use Rattle.bw_page.specs.LowHeads.{page_of_low};
+ghost use Rattle.bw_lows.specs.LowHeads.{page_of_low};
 ghost use Rattle.bw_page.specs.Seats.{is_among};
 
-use crate::lows::LowIndex;
-use crate::room::fitted_copy;
 use crate::seats::Seats;
 use bw_codec::{Key, Leaf};
+use bw_leaf::fitted_copy;
+use bw_lows::LowIndex;
 use std::alloc::{AllocError, Global};
 
 /// The same leaves, each in no more room than it needs.

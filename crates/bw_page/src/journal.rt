@@ -2,15 +2,15 @@
 
 ghost use Rattle.std.specs.Prelude.{◌≡◌, ◌≤◌, ◌+◌, ◌-◌, ◌++◌, [], true, false, length, slice_set, IfOk, IsTrue, vec_len};
 ghost use Rattle.std.specs.Vec.{vec_capacity};
-ghost use Rattle.bw_codec.specs.Record.{key_of};
-ghost use Rattle.bw_codec.specs.declared.leaf.Leaf.{Leaf as LeafValue};
-ghost use Rattle.bw_codec.specs.declared.record.Record.TheVariants.{Del};
-ghost use Rattle.bw_page.specs.Leaves.{changed};
+ghost use Rattle.bw_record.specs.Record.{key_of};
+ghost use Rattle.bw_record.specs.declared.leaf.Leaf.{Leaf as LeafValue};
+ghost use Rattle.bw_record.specs.declared.record.Record.TheVariants.{Del};
+ghost use Rattle.bw_leaf.specs.Changed.{changed};
 ghost use Rattle.bw_page.specs.Displaced.{joined, AreParts};
 
-use crate::changes::{empty_page, find_key, take_back};
 use crate::seats::Seats;
 use bw_codec::{Leaf, Packed, Pair, Pairs};
+use bw_leaf::{empty_page, find_key, take_back};
 use std::alloc::AllocError;
 use std::marker::Model;
 use std::snapshot::Snapshot;

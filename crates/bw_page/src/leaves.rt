@@ -7,15 +7,16 @@ ghost use Rattle.std.specs.Prelude.{ℕ, ◌≡◌, ◌==◌, ◌<◌, ◌≤◌
 ghost use Rattle.std.specs.Option.{option_copied};
 ghost use Rattle.std.specs.FinMap as finite;
 ghost use Rattle.std.specs.FinMap.Entries.{find};
-ghost use Rattle.bw_codec.specs.Bytes.{ascends};
+ghost use Rattle.bw_record.specs.Keys.{ascends};
 ghost use Rattle.bw_codec.specs.Grammar.{block_bytes};
-ghost use Rattle.bw_codec.specs.Record.{key_of};
+ghost use Rattle.bw_record.specs.Record.{key_of};
 ghost use Rattle.bw_codec.specs.declared.block.Block.TheVariants.{Base};
-ghost use Rattle.bw_page.specs.Leaves.{order, empty_leaf, home, leaf_at, directed_at, AreLeaves, changed_map, union};
+ghost use Rattle.bw_leaf.specs.Changed.{order, empty_leaf, changed_map};
+ghost use Rattle.bw_page.specs.Leaves.{home, leaf_at, directed_at, AreLeaves, union};
 ghost use Rattle.bw_page.specs.Shown.{TakesKey, IsSpent, after_record, is_evicted_page, leaf_here, IsHere, applied_by};
 ghost use Rattle.bw_page.specs.Aim.{IsAim};
 ghost use Rattle.bw_page.specs.Journal.{displaced_by};
-ghost use Rattle.bw_page.specs.Seek.{back_of};
+ghost use Rattle.bw_leaf.specs.Seek.{back_of};
 ghost use Rattle.bw_page.specs.Ahead.{HasNoLowAbove, IsNextLow};
 
 mod ahead;
@@ -23,15 +24,15 @@ mod batch;
 mod hinted;
 mod walk;
 
-use crate::changes::{count_packed, empty_page, find_key};
 use crate::cuts::cut_at;
 use crate::fault::ApplyError;
 use crate::index::{copy_all, index_of};
 use crate::journal::Displaced;
-use crate::lows::LowIndex;
 use crate::seats::Seats;
 pub use batch::{HasRecord, Step};
 use bw_codec::{Key, Leaf, Packed, Value};
+use bw_leaf::{count_packed, empty_page, find_key};
+use bw_lows::LowIndex;
 use std::alloc::{AllocError, Global};
 use std::marker::Model;
 

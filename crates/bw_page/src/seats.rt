@@ -7,21 +7,22 @@ ghost use Rattle.std.specs.List.{AllByRecursion};
 ghost use Rattle.bw_codec.specs.Grammar.{block_bytes, IsBase};
 ghost use Rattle.bw_codec.specs.declared.block.Block.TheVariants.{Base};
 ghost use Rattle.std.specs.Option.{option_copied};
-ghost use Rattle.bw_codec.specs.declared.leaf.Leaf.{Leaf as LeafValue};
+ghost use Rattle.bw_record.specs.declared.leaf.Leaf.{Leaf as LeafValue};
 ghost use Rattle.std.specs.FinMap.Entries.{find};
-ghost use Rattle.bw_codec.specs.Bytes.{ascends};
+ghost use Rattle.bw_record.specs.Keys.{ascends};
 ghost use Rattle.std.specs.Ordering.{eq_by_cmp};
-ghost use Rattle.bw_page.specs.Leaves.{Bytes, order, changed, lower_of, upper_of};
-ghost use Rattle.bw_page.specs.LowHeads.{page_of_low};
+ghost use Rattle.bw_leaf.specs.Changed.{Bytes, order, changed};
+ghost use Rattle.bw_page.specs.Leaves.{lower_of, upper_of};
+ghost use Rattle.bw_lows.specs.LowHeads.{page_of_low};
 ghost use Rattle.bw_page.specs.Cutting.{changed_at};
 ghost use Rattle.bw_page.specs.Seats.{is_among};
-ghost use Rattle.bw_page.specs.Seek.{seek_of, back_of, IsWithin, AddsNone, AddsOne};
-ghost use Rattle.bw_codec.specs.Record.{key_of};
+ghost use Rattle.bw_leaf.specs.Seek.{seek_of, back_of, IsWithin, AddsNone, AddsOne};
+ghost use Rattle.bw_record.specs.Record.{key_of};
 
-use crate::changes;
 use crate::cuts::cut_leaf;
-use crate::lows::LowIndex;
 use bw_codec::{Leaf, Packed, base_length};
+use bw_leaf::{change_found, take_back};
+use bw_lows::LowIndex;
 use std::alloc::{AllocError, Global};
 use std::marker::Model;
 use std::mem;
@@ -109,7 +110,7 @@ impl Seat {
     {
         match &mut self.leaf {
             Some(leaf) => {
-                let back = changes::change_found(leaf, found, item)?;
+                let back = change_found(leaf, found, item)?;
                 self.was = Snapshot::of(leaf);
                 Ok(back)
             }
@@ -167,7 +168,7 @@ impl Seat {
     {
         match &mut self.leaf {
             Some(leaf) => {
-                changes::take_back(leaf, found, back);
+                take_back(leaf, found, back);
                 self.was = Snapshot::of(leaf);
             }
             None => unreachable!(),

@@ -1,7 +1,7 @@
 -- The pages that segments stand for.
 
 use Rattle.std.specs.Prelude.{◌≡◌, ℕ, ◌⊎◌, Ok, Err, List, [], ◌∷◌, length, sum_by}
-use Rattle.bw_codec.specs.declared.leaf.Leaf.{Leaf}
+use Rattle.bw_record.specs.declared.leaf.Leaf.{Leaf}
 use Rattle.bw_device.specs.Holding.{Holding}
 use Rattle.bw_page.specs.Leaves.{empty_leaf}
 use Rattle.bw_care.specs.Recovery.{Finding, recovery}

@@ -4,13 +4,13 @@ use crate::copying::Copied;
 use crate::fault::RescueFault;
 use crate::judged::{Judged, judge};
 use crate::load::load;
-use crate::order::pairs_of;
 use crate::reading::sound_images;
 use crate::target::Target;
 use bw_codec::Leaf;
 use bw_codec::limits::HEADER_LEN;
 use bw_core::StoreFault;
 use bw_home::{HomeFault, Options, System};
+use bw_remains::pairs_of;
 use std::alloc::{AllocError, Global};
 
 /// The pages that were found.

@@ -1,9 +1,9 @@
 //! Damage is found, what is whole is saved, and a store is copied.
 //!
 //! Each call but `backup`, which copies an open store, reads a folder that it does not change, and
-//! whose lock it takes beside other readers. `verify` tells the first fault of each of its segments. `copy` and `compact` write the store of
-//! that moment into a new folder, `restore` that of an earlier frame, and `salvage` all that a
-//! damaged one still has. A new folder is made under another name, and gets its own once it was
+//! whose lock it takes beside other readers. `verify` tells the first fault of each of its segments.
+//! `copy` and `compact` write the store of that moment into a new folder, `restore` that of an
+//! earlier frame, and `salvage` all that a damaged one still has (`bw_remains`). A new folder is made under another name, and gets its own once it was
 //! read again and stands on the disk (`Target`): a part of a copy is never taken for a store.
 #![tactic(auto)]
 
@@ -13,22 +13,17 @@ mod copying;
 mod fault;
 mod judged;
 mod load;
-mod lost;
-mod order;
-mod pages;
-mod pieces;
 mod reading;
 mod restoring;
 mod salvaging;
 mod target;
 mod verifying;
-mod whole;
 
 pub use backing::backup;
+pub use bw_remains::Loss;
 pub use compacting::compact;
 pub use copying::{Copied, copy};
 pub use fault::RescueFault;
-pub use lost::Loss;
 pub use restoring::restore;
 pub use salvaging::{Salvaged, salvage};
 pub use verifying::{Hurt, Verdict, Verified, verify};

@@ -3,16 +3,12 @@
 use crate::copying::Copied;
 use crate::fault::RescueFault;
 use crate::load::load;
-use crate::lost::Loss;
-use crate::order::pairs_of;
-use crate::pages::Pages;
-use crate::pieces::sums_beside;
 use crate::target::Target;
-use crate::whole::{Held, frame_at};
 use bw_care::RecoverCause;
 use bw_codec::Leaf;
 use bw_file::{FolderFault, FolderReader};
 use bw_home::{Options, System};
+use bw_remains::{Held, Loss, Pages, frame_at, pairs_of, sums_beside};
 use std::alloc::{AllocError, Global};
 use std::collections::BTreeMap;
 
@@ -70,13 +66,31 @@ impl Wreck {
     ) -> Result<(), AllocError> {
         match reader.bytes(rt, lease) {
             Ok(bytes) => {
-                let sums = sums_beside(rt, path, lease)?;
+                let sums = self.sums_of(rt, path, lease)?;
                 self.add(rt.alloc(), lease, bytes, sums.as_slice())
             }
             Err(FolderFault::NoMemory) => Err(AllocError),
             Err(fault) => {
                 self.losses.push(Loss::File { lease, fault })?;
                 Ok(())
+            }
+        }
+    }
+
+    /// The digests beside the file of a lease; none where there are none, or they are not read, which
+    /// is told.
+    fn sums_of<R: System>(
+        &mut self,
+        rt: &R,
+        path: &str,
+        lease: u32,
+    ) -> Result<Vec<u8>, AllocError> {
+        match sums_beside(rt, path, lease) {
+            Ok(sums) => Ok(sums),
+            Err(FolderFault::NoMemory) => Err(AllocError),
+            Err(fault) => {
+                self.losses.push(Loss::Sums { lease, fault })?;
+                Ok(Vec::new(rt.alloc()))
             }
         }
     }

@@ -1,7 +1,7 @@
 -- Groups that are put together from the two rings.
 use Rattle.std.proofs.Common.{◌≡◌, ◌+◌, ◌<◌, List, [], ◌∷◌, ◌++◌, length, refl, ap, ap₂, sym, ◌∙◌, subst, arith, append-nil, append_assoc}
 use mathlib.Core.List.{IsPrefix}
-use Rattle.bw_codec.specs.declared.record.Record.{Record}
+use Rattle.bw_record.specs.declared.record.Record.{Record}
 use Rattle.bw_ring.specs.declared.slots.First.{First}
 use Rattle.bw_ring.specs.declared.slots.First.TheVariants.{Alone, Leads}
 use Rattle.bw_ring.specs.declared.slots.Rest.{Rest}

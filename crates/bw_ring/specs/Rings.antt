@@ -1,7 +1,7 @@
 -- The two rings of a writer: the first record of each group, and its others.
 
 use Rattle.std.specs.Prelude.{ℕ, ◌+◌, List, [], ◌∷◌}
-use Rattle.bw_codec.specs.declared.record.Record.{Record}
+use Rattle.bw_record.specs.declared.record.Record.{Record}
 use Rattle.bw_ring.specs.declared.slots.First.{First}
 use Rattle.bw_ring.specs.declared.slots.First.TheVariants.{Alone, Leads}
 use Rattle.bw_ring.specs.declared.slots.Rest.{Rest}

@@ -7,7 +7,7 @@ use bw_codec::{Key, Leaf, Value};
 use bw_core::{Cleaned, PackedEntry};
 use bw_file::FolderFault;
 use bw_home::Home;
-use bw_look::{Printer, write_page};
+use bw_look::{Printer, write_page, write_pair};
 use bw_rescue::Copied;
 use bw_words::{Stop, write_dump, write_entry, write_pair_line, write_value};
 use std::io::Write;
@@ -27,6 +27,10 @@ pub enum Answer {
     Value(Option<Value>),
     /// The first pair at or above a key, if there is one.
     Pair(Option<(Key, Value)>),
+    /// Some pairs, in the order of their keys.
+    Pairs(Vec<(Key, Value)>),
+    /// How many pairs there are.
+    Count(u64),
     /// How many pages there are.
     Pages(u32),
     /// The number of the last frame that was appended; 0 before the first.
@@ -70,6 +74,15 @@ fn write_copied<O: Write>(out: &mut Printer<'_, O>, copied: Copied) {
     out.line(" pairs ", copied.pairs);
 }
 
+fn write_pairs<O: Write>(out: &mut Printer<'_, O>, pairs: &[(Key, Value)]) {
+    out.named("pairs ", pairs.len());
+    for pair in pairs {
+        out.text(b" ");
+        write_pair(out, &pair.0, &pair.1);
+    }
+    out.text(b"\n");
+}
+
 /// An answer that says all by itself.
 fn write_answer<O: Write>(out: &mut Printer<'_, O>, answer: &Answer) {
     match answer {
@@ -82,6 +95,8 @@ fn write_answer<O: Write>(out: &mut Printer<'_, O>, answer: &Answer) {
         Answer::Page(leaf) => write_page(out, leaf),
         Answer::Value(value) => write_value(out, value.as_ref()),
         Answer::Pair(pair) => write_pair_line(out, pair.as_ref()),
+        Answer::Pairs(pairs) => write_pairs(out, pairs.as_slice()),
+        Answer::Count(count) => out.line("count ", *count),
         Answer::Pages(count) => out.line("pages ", *count),
         Answer::Durable(frame) => out.line("durable ", *frame),
         Answer::Evicted(true) => out.text(b"evicted\n"),

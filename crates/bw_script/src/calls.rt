@@ -123,6 +123,24 @@ fn next_at(home: &mut Home, key: &Key) -> Result<Answer, Miss>
     Ok(Answer::Pair(home.next_at(key)?))
 }
 
+/// The pairs at or above this key, no more than so many, as the history leaves them.
+fn scan(alloc: Global, home: &mut Home, key: &Key, most: u32) -> Result<Answer, Miss>
+    requires { IsReady home.old holding }
+    ensures { IsReady home.new holding }
+{
+    let mut found = Vec::new(alloc);
+    home.scan(key, most as usize, &mut found)?;
+    Ok(Answer::Pairs(found))
+}
+
+/// How many pairs there are, as the history leaves them.
+fn count(home: &mut Home) -> Result<Answer, Miss>
+    requires { IsReady home.old holding }
+    ensures { IsReady home.new holding }
+{
+    Ok(Answer::Count(home.store.count()?))
+}
+
 /// Copies the store into a new folder, once all that waits was taken and flushed. Where the folder
 /// cannot be made, that is an answer.
 fn backup<R: System>(rt: &R, home: &mut Home, to: &Value) -> Result<Answer, Miss>
@@ -213,6 +231,8 @@ pub fn answer<R: System>(rt: &R, home: &mut Home, request: Request) -> Result<An
     match request {
         Request::Do(command) => call_served(rt, home, command),
         Request::Next(key) => next_at(home, &key),
+        Request::Scan(key, most) => scan(rt.alloc(), home, &key, most),
+        Request::Count => count(home),
         Request::Backup(to) => backup_served(rt, home, &to),
         Request::Durable => Ok(Answer::Durable(durable(home))),
         Request::Pages => Ok(Answer::Pages(home.store.pages())),

@@ -5,7 +5,7 @@ use Rattle.std.specs.Prelude.{get_or}
 use Rattle.std.proofs.lemmas.List.{get_or_append_left, take-append-le}
 use mathlib.Core.List.{IsPrefix}
 use Rattle.bw_page.specs.Shown.{Shown}
-use Rattle.bw_codec.specs.declared.leaf.Leaf.{Leaf}
+use Rattle.bw_record.specs.declared.leaf.Leaf.{Leaf}
 use Rattle.bw_versions.specs.Batches.{entries_of}
 use Rattle.bw_versions.specs.Versioned.{Versioned}
 use Rattle.bw_history.specs.declared.entry.Entry.{Entry}

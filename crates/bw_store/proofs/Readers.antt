@@ -3,7 +3,7 @@
 use Rattle.std.proofs.Common.{◌≡◌, ℕ, zero, suc, ◌+◌, ◌-◌, ◌≤◌, Some, Result, Ok, Err, IsOk, OnOk, OnErr, MatchResult, List, [], ◌∷◌, ◌++◌, length, length-append, length-take, length-take-le, take, drop, refl, sym, ap, ◌∙◌, ◌⊎◌, inl, inr, append-nil, append_assoc, subst, arith}
 use Rattle.std.specs.declared.alloc.AllocError.{AllocError}
 use mathlib.Core.List.{IsPrefix}
-use Rattle.bw_codec.specs.declared.leaf.Leaf.{Leaf}
+use Rattle.bw_record.specs.declared.leaf.Leaf.{Leaf}
 use Rattle.bw_page.specs.Shown.{Shown}
 use Rattle.bw_versions.specs.Batches.{BatchData, entries_of}
 use Rattle.bw_versions.specs.Posted.{posted_of}

@@ -3,7 +3,7 @@
 
 use Rattle.std.specs.Prelude.{ℕ, ◌≡◌, ◌≤◌, List, [], take}
 use mathlib.Core.List.{IsPrefix}
-use Rattle.bw_codec.specs.declared.leaf.Leaf.{Leaf}
+use Rattle.bw_record.specs.declared.leaf.Leaf.{Leaf}
 use Rattle.bw_codec.specs.declared.block.Place.{Place}
 use Rattle.bw_codec.specs.declared.block.Frame.{Frame}
 use Rattle.bw_page.specs.Shown.{Shown}

@@ -2,7 +2,7 @@
 -- beside readers that see the same.
 
 use Rattle.std.specs.Prelude.{ℕ, Result, List}
-use Rattle.bw_codec.specs.declared.leaf.Leaf.{Leaf}
+use Rattle.bw_record.specs.declared.leaf.Leaf.{Leaf}
 use Rattle.bw_device.specs.Holding.{Holding}
 use Rattle.bw_core.specs.declared.fault.StoreFault.{StoreFault}
 use Rattle.bw_core.specs.Reading as core

@@ -6,7 +6,7 @@ use Rattle.std.specs.declared.alloc.Global.{Global}
 use Rattle.bw_device.specs.Holding.{Holding}
 use Rattle.bw_ring.specs.declared.lane.Lane.{Lane}
 use Rattle.bw_core.specs.Noted.{Noted}
-use Rattle.bw_core.specs.declared.counters.Looks.{Looks}
+use Rattle.bw_care.specs.declared.tally.Looks.{Looks}
 use Rattle.bw_core.specs.Views as core
 use Rattle.bw_store.specs.Kept.{Kept, with_versions}
 use Rattle.bw_store.specs.Kept as kept

@@ -3,7 +3,8 @@
 ghost use Rattle.std.specs.Prelude.{◌≡◌, ◌≤◌, [], length, map, IfOk, IfErr, MatchResult};
 ghost use Rattle.bw_ring.specs.Ends.{ring_of_feed};
 ghost use Rattle.bw_care.specs.Views.{seen};
-ghost use Rattle.bw_core.specs.Counting.{bytes_of, noted_from, up};
+ghost use Rattle.bw_care.specs.Tallies.{bytes_of, up};
+ghost use Rattle.bw_core.specs.Counting.{noted_from};
 ghost use Rattle.bw_core.specs.Opened.{AreUnused};
 ghost use Rattle.bw_store.specs.Opened.{reopened, AreEnds, IsReopenFault};
 ghost use Rattle.bw_store.specs.Showing.{AreUnseen};

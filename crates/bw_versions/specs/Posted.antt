@@ -2,9 +2,10 @@
 
 use Rattle.std.specs.Prelude.{ℕ, ◌≡◌, List, [], ◌++◌, Option, Some, None, fold}
 use Rattle.std.specs.FinMap as finite
-use Rattle.bw_codec.specs.declared.leaf.Leaf.{Leaf}
+use Rattle.bw_record.specs.declared.leaf.Leaf.{Leaf}
 use Rattle.bw_page.specs.Ahead.{IsFirst}
-use Rattle.bw_page.specs.Leaves.{Bytes, plain, leaf_at}
+use Rattle.bw_leaf.specs.Changed.{Bytes}
+use Rattle.bw_page.specs.Leaves.{plain, leaf_at}
 use Rattle.bw_page.specs.Shown.{Shown, run}
 use Rattle.bw_history.specs.declared.entry.Entry.{Entry}
 use Rattle.bw_versions.specs.Batches.{BatchData}

@@ -1,10 +1,14 @@
 //! One line of a program that drives a store: a request, or a fault.
 
 use crate::script::{
-    Command, Fault, alone, asked_of, group_of, key_of, ops_of, single, text_of, value_of,
+    Command, Fault, alone, asked_of, group_of, key_of, number_of, ops_of, single, text_of, value_of,
 };
 use bw_codec::{Key, Value};
 use std::str;
+use std::str::SplitWhitespace;
+
+/// The most pairs that one answer has.
+const MOST_PAIRS: u32 = 1024;
 
 /// What a line asks for. There is one writer, so no request names one.
 #[derive(Drop)]
@@ -13,6 +17,10 @@ pub enum Request {
     Do(Command),
     /// The first pair at or above a key.
     Next(Key),
+    /// The pairs at or above a key, no more than so many.
+    Scan(Key, u32),
+    /// How many pairs there are.
+    Count,
     /// How many pages there are.
     Pages,
     /// The number of the last frame that was appended.
@@ -39,7 +47,8 @@ impl Request {
     pub fn takes(&self) -> bool {
         match self {
             Request::Do(command) => !matches!(command, Command::Clean | Command::Add),
-            Request::Next(_) | Request::Pages | Request::Backup(_) => true,
+            Request::Next(_) | Request::Scan(_, _) | Request::Backup(_) => true,
+            Request::Pages | Request::Count => true,
             _ => false,
         }
     }
@@ -63,10 +72,24 @@ fn request_of(name: &str, word: &str) -> Result<Request, Fault> {
     }
 }
 
+/// The request of a walk: a key, and how many pairs from there on, of 1 to `MOST_PAIRS`.
+fn scan_of(words: &mut SplitWhitespace<'_>) -> Result<Request, Fault> {
+    let Some(word) = words.next() else {
+        return Err(Fault::WrongNumberOfWords);
+    };
+    let most = single(words.next(), words.next())?;
+    let key = key_of(word)?;
+    match number_of(most)? {
+        most @ 1..=MOST_PAIRS => Ok(Request::Scan(key, most)),
+        _ => Err(Fault::BadNumber),
+    }
+}
+
 /// The request of a name that takes no word.
 fn plain_of(name: &str) -> Option<Request> {
     match name {
         "pages" => Some(Request::Pages),
+        "count" => Some(Request::Count),
         "flush" => Some(Request::Do(Command::Flush)),
         "settle" => Some(Request::Do(Command::Settle)),
         "durable" => Some(Request::Durable),
@@ -91,6 +114,7 @@ pub fn parse_request(line: &[u8]) -> Result<Request, Fault> {
         "get" | "next" | "page" | "evict" | "rewrite" | "walk" | "backup" => {
             request_of(name, single(words.next(), words.next())?)
         }
+        "scan" => scan_of(&mut words),
         _ => alone(plain_of(name), words.next()),
     }
 }

@@ -3,15 +3,19 @@
 use Rattle.std.proofs.Common.{◌≡◌, ℕ, ◌^◌, ◌<◌, ◌≤◌, ◌==◌, lit≤, lit<, Some, false, true, IsTrue, List, [], ◌∷◌, ◌++◌, length, refl, sym, ap, subst, ◌∙◌, arith}
 use Rattle.std.proofs.lemmas.Bool.{ne_eqb}
 use Rattle.std.specs.List.{AllByRecursion}
-use Rattle.bw_codec.specs.Bytes.{number_bytes, ascends}
-use Rattle.bw_codec.specs.Grammar.{IsPair, IsPlace, IsBlock, IsFrame}
+use Rattle.bw_codec.specs.Bytes.{number_bytes}
+use Rattle.bw_record.specs.Keys.{ascends}
+use Rattle.bw_record.specs.Lawful.{IsPair}
+use Rattle.bw_codec.specs.Grammar.{IsPlace, IsBlock, IsFrame}
 use Rattle.bw_codec.specs.Touch.{touches}
-use Rattle.bw_codec.specs.declared.leaf.Leaf.{Leaf}
+use Rattle.bw_record.specs.declared.leaf.Leaf.{Leaf}
 use Rattle.bw_codec.specs.declared.block.Block.TheVariants.{Base}
 use Rattle.bw_codec.specs.declared.block.Frame.{Frame}
 use Rattle.bw_codec.specs.declared.block.Place.{Place}
-use Rattle.bw_page.specs.Leaves.{home, leaf_at, Pairs}
-use Rattle.bw_page.specs.Standing.{content, blocks_of, Stand}
+use Rattle.bw_leaf.specs.Changed.{Pairs}
+use Rattle.bw_page.specs.Leaves.{home, leaf_at}
+use Rattle.bw_leaf.specs.Forwards.{content, blocks_of}
+use Rattle.bw_page.specs.Standing.{Stand}
 use Rattle.bw_log.specs.Places.{AreLinked}
 use Rattle.bw_log.specs.Segments.{next_of}
 use Rattle.bw_log.specs.Contents.{Contents, IsSound, counted}

@@ -4,13 +4,14 @@ use Rattle.std.proofs.Common.{◌≡◌, ℕ, suc, zero, ◌+◌, lit≤, lit<, 
 use Rattle.std.proofs.lemmas.List.{replicate_more}
 use Rattle.std.specs.List.{AllByRecursion}
 use Rattle.bw_codec.specs.Bytes.{number_bytes}
-use Rattle.bw_codec.specs.Grammar.{IsOp, IsBlock, IsFrame}
-use Rattle.bw_codec.specs.declared.record.Record.{Record}
+use Rattle.bw_record.specs.Lawful.{IsOp}
+use Rattle.bw_codec.specs.Grammar.{IsBlock, IsFrame}
+use Rattle.bw_record.specs.declared.record.Record.{Record}
 use Rattle.bw_codec.specs.declared.block.Block.{Block}
 use Rattle.bw_codec.specs.declared.block.Block.TheVariants.{Delta}
 use Rattle.bw_buffer.specs.Filling.{Filling}
-use Rattle.bw_codec.specs.declared.leaf.Leaf.{Leaf}
-use Rattle.bw_page.specs.Leaves.{changed, Pairs}
+use Rattle.bw_record.specs.declared.leaf.Leaf.{Leaf}
+use Rattle.bw_leaf.specs.Changed.{changed, Pairs}
 use Rattle.bw_page.specs.Standing.{Stand}
 use Rattle.log_tests.specs.Examples.{long_put, last_put, filling_blocks, filling_example, filling_leaf}
 use Rattle.log_tests.specs.OnePage.{Opens, first_with, leaf_with}

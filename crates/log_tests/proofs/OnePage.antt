@@ -5,17 +5,20 @@ use Rattle.std.proofs.Common.{MatchOption, eq-eqb}
 use Rattle.std.proofs.Common.{List, [], ◌∷◌, ◌++◌, length, slice_get, refl, sym, ap, subst, ◌∙◌, append-nil, arith, length-append}
 use Rattle.std.proofs.lemmas.Bool.{and_from}
 use Rattle.std.specs.List.{AllByRecursion}
-use Rattle.bw_codec.specs.Grammar.{frame_bytes, IsOp, IsBlock, IsFrame, IsPlace}
+use Rattle.bw_record.specs.Lawful.{IsOp}
+use Rattle.bw_codec.specs.Grammar.{frame_bytes, IsBlock, IsFrame, IsPlace}
 use Rattle.bw_codec.specs.Touch.{touches}
 use Rattle.bw_codec.specs.declared.block.Block.{Block}
 use Rattle.bw_codec.specs.declared.block.Block.TheVariants.{Delta, Base}
 use Rattle.bw_codec.specs.declared.block.Frame.{Frame}
 use Rattle.bw_codec.specs.declared.block.Place.{Place}
-use Rattle.bw_codec.specs.declared.leaf.Leaf.{Leaf}
-use Rattle.bw_codec.specs.declared.record.Record.{Record}
+use Rattle.bw_record.specs.declared.leaf.Leaf.{Leaf}
+use Rattle.bw_record.specs.declared.record.Record.{Record}
 use Rattle.bw_device.specs.Holding.{Holding}
-use Rattle.bw_page.specs.Leaves.{changed, leaf_at, AreLeaves, Pairs}
-use Rattle.bw_page.specs.Standing.{after, content, blocks_of, Stand}
+use Rattle.bw_leaf.specs.Changed.{changed, Pairs}
+use Rattle.bw_page.specs.Leaves.{leaf_at, AreLeaves}
+use Rattle.bw_leaf.specs.Forwards.{after, content, blocks_of}
+use Rattle.bw_page.specs.Standing.{Stand}
 use Rattle.bw_page.proofs.Law.{applied-lawful, applied-whole}
 use Rattle.bw_buffer.specs.Filling.{Filling, frame_of}
 use Rattle.bw_buffer.proofs.Holding.{few_blocks}

@@ -12,7 +12,7 @@ use Rattle.bw_log.specs.Places.{place_of, base_of, walk_to}
 use Rattle.bw_log.specs.Segments.{segment_frames, entry_of}
 use Rattle.bw_log.specs.Contents.{Contents, counted, place_in, entry_place, walk_in, entry_walk, IsSound}
 use Rattle.log_tests.specs.Examples.{first_example, first_leaf}
-use Rattle.bw_codec.specs.declared.leaf.Leaf.{Leaf}
+use Rattle.bw_record.specs.declared.leaf.Leaf.{Leaf}
 use Rattle.bw_log.specs.Adopting.{adopted}
 use Rattle.bw_log.specs.Limits.{fresh}
 use Rattle.bw_log.specs.declared.places.PageAt.{PageAt}

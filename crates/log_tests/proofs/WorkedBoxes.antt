@@ -2,7 +2,7 @@
 
 use Rattle.std.proofs.Common.{◌≡◌, ℕ, suc, ◌+◌, Bool, true, Some, ap, ◌∙◌, Result, Ok, Err, List, [], ◌∷◌, ◌++◌, length, take, drop, refl}
 use Rattle.std.specs.List.{AllByRecursion}
-use Rattle.bw_codec.specs.declared.leaf.Leaf.{Leaf}
+use Rattle.bw_record.specs.declared.leaf.Leaf.{Leaf}
 use Rattle.bw_codec.specs.declared.block.Block.TheVariants.{Base}
 use Rattle.bw_codec.specs.Bytes.{number_bytes}
 use Rattle.bw_codec.specs.Reading.{front_at, heading_of, text_at, value_at, op_at, pair_at, many_at, place_at, page_at, pairs_at, delta_at, base_at}
@@ -11,10 +11,10 @@ use Rattle.bw_codec.specs.Reading.{block_at, head_at}
 use Rattle.bw_device.specs.Holding.{Holding}
 use Rattle.bw_log.specs.Segments.{segment_frames, frames_at}
 use Rattle.bw_care.specs.Scanning.{rest_of}
-use Rattle.bw_care.specs.Lawful.{is_at_fault, first_such, contents}
+use Rattle.bw_lines.specs.Lawful.{is_at_fault, first_such, contents}
 use Rattle.bw_care.specs.Recovery.{Finding, recovery, page_fault, page_fault_by}
-use Rattle.bw_care.specs.declared.fault.RecoverCause.{RecoverCause}
-use Rattle.bw_care.specs.declared.fault.RecoverCause.TheVariants.{BadConfig, Empty, BadBytes, Gap, Mixed, BadLink, Unlawful}
+use Rattle.bw_lines.specs.declared.cause.RecoverCause.{RecoverCause}
+use Rattle.bw_lines.specs.declared.cause.RecoverCause.TheVariants.{BadConfig, Empty, BadBytes, Gap, Mixed, BadLink, Unlawful}
 use Rattle.log_tests.proofs.Vectors.{first_segment, older_segment, newer_segment}
 
 -- ---- two more worked segments

@@ -6,11 +6,11 @@ use Rattle.bw_codec.specs.declared.block.Block.TheVariants.{Delta, Base}
 use Rattle.bw_codec.specs.Grammar.{IsFrame}
 use Rattle.bw_codec.specs.declared.block.Frame.{Frame}
 use Rattle.bw_codec.specs.declared.block.Place.{Place}
-use Rattle.bw_codec.specs.declared.record.Record.{Record}
-use Rattle.bw_codec.specs.declared.record.Record.TheVariants.{Put}
-use Rattle.bw_codec.specs.declared.leaf.Leaf.{Leaf}
+use Rattle.bw_record.specs.declared.record.Record.{Record}
+use Rattle.bw_record.specs.declared.record.Record.TheVariants.{Put}
+use Rattle.bw_record.specs.declared.leaf.Leaf.{Leaf}
 use Rattle.bw_buffer.specs.Filling.{Filling, frame_of}
-use Rattle.bw_page.specs.Leaves.{Pairs}
+use Rattle.bw_leaf.specs.Changed.{Pairs}
 use Rattle.bw_page.specs.Standing.{Stand}
 use Rattle.bw_log.specs.Contents.{Contents, IsSound, counted}
 use Rattle.bw_log.specs.Places.{AreLinked}

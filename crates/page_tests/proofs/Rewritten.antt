@@ -3,11 +3,12 @@
 use Rattle.std.proofs.Common.{ℕ, ◌≤◌, Bool, true, false, List, [], ◌∷◌, arith}
 use Rattle.std.specs.Prelude.{◌==◌, if◌then◌else◌}
 use Rattle.std.specs.List.{AllByRecursion}
-use Rattle.bw_codec.specs.Version.{latest, key_limit, value_limit}
-use Rattle.bw_codec.specs.Grammar.{IsPairIn, IsOpIn, IsBaseIn, IsBlockIn, IsBlock}
-use Rattle.bw_codec.specs.declared.record.Record.{Record}
-use Rattle.bw_codec.specs.declared.record.Record.TheVariants.{Put, Del}
-use Rattle.bw_codec.specs.declared.leaf.Leaf.{Leaf}
+use Rattle.bw_record.specs.Version.{latest, key_limit, value_limit}
+use Rattle.bw_record.specs.Lawful.{IsPairIn, IsOpIn}
+use Rattle.bw_codec.specs.Grammar.{IsBaseIn, IsBlockIn, IsBlock}
+use Rattle.bw_record.specs.declared.record.Record.{Record}
+use Rattle.bw_record.specs.declared.record.Record.TheVariants.{Put, Del}
+use Rattle.bw_record.specs.declared.leaf.Leaf.{Leaf}
 use Rattle.bw_codec.specs.declared.block.Block.{Block}
 use Rattle.bw_codec.specs.declared.block.Block.TheVariants.{Delta, Base, Split}
 

@@ -87,6 +87,9 @@ static int check_bursts(void) {
     HOLDS(store_walk_next(&s, &found, "p\xff", 2) == 1 && found.key_len == 2);
     HOLDS(store_walk_next(&s, &found, "p\xff", 2) == 1 && found.key_len == 3);
     HOLDS(store_walk_next(&s, &found, "p\xff", 2) == 0);
+    long long count = 0;
+    for (store_walk(&found, "", 0); store_walk_next(&s, &found, "", 0) == 1;) count++;
+    HOLDS(store_count(&s) == count);
     return 0;
 }
 
@@ -96,6 +99,8 @@ int main(int words, char **word) {
     HOLDS(store_open(&s, word[1], word[2]) == 0);
     if (check_long() || check_bursts()) return 1;
     HOLDS(store_add(&s) == 0 && !strncmp(s.line, "added ", 6));
+    snprintf(wanted, sizeof wanted, "%s copy", word[2]);
+    HOLDS(store_backup(&s, wanted) == 0 && !strncmp(s.line, "copied frame ", 13));
     snprintf(wanted, sizeof wanted, "folder %s: in use", word[2]);
     HOLDS(store_open(&other, word[1], word[2]) == -1 && !strcmp(other.line, wanted));
     HOLDS(store_flush(&s) == 0);

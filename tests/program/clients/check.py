@@ -54,6 +54,13 @@ with bwlog.Store(PROGRAM, FOLDER) as store:
     assert list(store.walk(b"p\xff")) == [(key, key) for key in (b"p\xff", b"p\xff\x00", b"p\xffz")]
     assert [pair[0] for pair in store.walk(key_of(3)[:127])] == keys[:256]
     assert list(store.walk(b"nothing")) == []
+    # Of so many pairs in one answer a walk is the same, also where the last answer is full, and just so many are counted.
+    assert list(store.walk()) == list(store.walk(most=3)) == list(store.walk(most=COUNT + 8)) and store.count() == COUNT + 8
+    assert store.scan(b"g", 2) == [(b"g1", b"one"), (b"g2", b"two")] and store.scan(b"\xff") == []
+    assert raised(bwlog.Refused, store.scan, b"g", 1025) == "fault bad number"
+    assert store.backup(FOLDER + " copy") == "copied frame %d pages %d pairs %d" % (store.stats()["durable"], store.stats()["pages"], COUNT + 8)
+    with bwlog.Store(PROGRAM, FOLDER + " copy") as copy:
+        assert list(copy.walk()) == list(store.walk())
 
     # Another run has to wait for this one, and its words say so.
     assert raised(bwlog.Ended, bwlog.Store, PROGRAM, FOLDER) == "folder %s: in use" % FOLDER

@@ -66,11 +66,17 @@ fn main() -> Result<()> {
     assert_eq!(walked, [b"p\xff".to_vec(), b"p\xff\x00".to_vec(), b"p\xffz".to_vec()]);
     assert!(store.walk(&keys[3][..127])? == pairs[..256]);
     assert_eq!(store.walk(b"nothing")?, []);
+    assert_eq!(store.count()?, store.walk(b"")?.len() as u64);
+    assert_eq!(store.scan(b"g", 2)?, [pair(b"g1", b"one"), pair(b"g2", b"two")]);
+    assert_eq!(told(store.scan(b"g", 0)), "fault bad number");
+    let copied = store.backup(&format!("{} copy", words[2]))?;
+    assert!(copied.starts_with("copied frame ") && copied.ends_with(&format!(" pairs {}", store.count()?)));
 
     // Another run has to wait for this one, and its words say so.
     assert_eq!(told(Store::open(&words[1], &words[2])), format!("folder {}: in use", words[2]));
     assert!(store.add()?.starts_with("added "));
-    assert!(store.flush()?.is_some());
+    store.put(b"late", b"1")?;
+    assert!(store.flush()?.is_some() && store.flush()?.is_none());
     store.put(b"lost", b"1")?;
     drop(store);
     let mut store = Store::open(&words[1], &words[2])?;

@@ -6,28 +6,29 @@
 
 ghost use Rattle.std.specs.Prelude.{◌≡◌, ◌≤◌, ◌<◌, ◌+◌, [], length, map, vec_len, is_none, is_some, IfOk, IfSome, IsOk, IsErr, OnOk, OnErr, ◌⊎◌};
 ghost use Rattle.std.specs.Vec.{vec_capacity};
-ghost use Rattle.bw_codec.specs.Grammar.{IsOp};
-ghost use Rattle.bw_codec.specs.Record.{key_of};
+ghost use Rattle.bw_record.specs.Lawful.{IsOp};
+ghost use Rattle.bw_record.specs.Record.{key_of};
 ghost use Rattle.std.specs.FinMap.Entries.{find};
-ghost use Rattle.bw_page.specs.Leaves.{order, home, HasPage, HasPages, directed_at, result_of, union, plain};
-ghost use Rattle.bw_page.specs.Seek.{back_of};
+ghost use Rattle.bw_leaf.specs.Changed.{order};
+ghost use Rattle.bw_page.specs.Leaves.{home, HasPage, HasPages, directed_at, result_of, union, plain};
+ghost use Rattle.bw_leaf.specs.Seek.{back_of};
 ghost use Rattle.bw_page.specs.Shown.{IsSpent, after_record, run, IsHere};
 ghost use Rattle.bw_page.specs.Journal.{displaced_by, undo_of, undone, all_undone, GoesBack, IsJournal, IsNewest};
 ghost use Rattle.bw_page.specs.Batch.{SomeIsSpent, AreHere, upper_if, step_of, steps_of};
 ghost use Rattle.bw_page.specs.Aim.{IsAim};
 
 use super::Leaves;
-use crate::changes::{change_packed, count_packed, find_key, removes};
 use crate::cuts::{Cut, cut_in_two};
 use crate::fault::ApplyError;
 use crate::index::take_above;
 use crate::journal::{Displaced, Undo};
 use bw_codec::{Leaf, Packed};
+use bw_leaf::{change_packed, count_packed, find_key, removes};
 use std::alloc::AllocError;
 
 /// A value in which a record stands.
 pub trait HasRecord {
-    ghost use Rattle.bw_codec.specs.declared.record.Record.{Record as RecordValue};
+    ghost use Rattle.bw_record.specs.declared.record.Record.{Record as RecordValue};
 
     ghost record_of: { Self → RecordValue };
 

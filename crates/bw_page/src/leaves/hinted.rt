@@ -2,16 +2,17 @@
 //! among the pages follows only where it does not.
 
 ghost use Rattle.std.specs.Prelude.{◌≡◌, Err, IfOk, IfSome, OnOk, OnErr, IsTrue, length};
-ghost use Rattle.bw_codec.specs.Record.{key_of};
-ghost use Rattle.bw_page.specs.Leaves.{changed_map, union};
+ghost use Rattle.bw_record.specs.Record.{key_of};
+ghost use Rattle.bw_leaf.specs.Changed.{changed_map};
+ghost use Rattle.bw_page.specs.Leaves.{union};
 ghost use Rattle.bw_page.specs.Shown.{IsSpent, after_record, IsHere, applied_by};
 ghost use Rattle.bw_page.specs.Aim.{IsAim};
-ghost use Rattle.bw_page.specs.Seek.{IsBetween};
+ghost use Rattle.bw_leaf.specs.Seek.{IsBetween};
 
 use super::{Applied, Leaves};
-use crate::changes::{count_packed, find_key};
 use crate::fault::ApplyError;
 use bw_codec::Packed;
+use bw_leaf::{count_packed, find_key};
 
 impl Leaves {
     /// The same as `apply`, where this may be the page at which the record is directed: it costs no

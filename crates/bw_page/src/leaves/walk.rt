@@ -5,8 +5,8 @@ ghost use Rattle.bw_page.specs.Ahead.{IsFirst, IsStretch};
 ghost use Rattle.bw_page.specs.Leaves.{union};
 
 use super::Leaves;
-use crate::changes::{add_pairs, pair_from};
 use bw_codec::{Key, Value};
+use bw_leaf::{add_pairs, pair_from};
 use std::alloc::AllocError;
 
 impl Leaves {

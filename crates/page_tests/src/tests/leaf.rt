@@ -1,7 +1,7 @@
 //! Calls on one leaf.
 
 ghost use Rattle.std.specs.Prelude.{IsTrue};
-ghost use Rattle.bw_codec.specs.Bytes.{ascends};
+ghost use Rattle.bw_record.specs.Keys.{ascends};
 
 use super::{Row, del, is_shown, put, records, rows_go, went};
 use bw_codec::{Key, Leaf, Record};

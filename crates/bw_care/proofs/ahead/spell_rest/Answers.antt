@@ -1,5 +1,5 @@
 use Rattle.std.proofs.Common.{subst}
-use Rattle.bw_page.specs.Standing.{blocks_of}
+use Rattle.bw_leaf.specs.Forwards.{blocks_of}
 use Rattle.bw_care.specs.Ahead.{Says}
 use Rattle.bw_care.proofs.SpelledAhead.{holds_oldest}
 use Rattle.bw_care.proofs.ahead.spell_rest.Goals as goal

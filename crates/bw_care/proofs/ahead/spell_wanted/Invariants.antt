@@ -1,5 +1,5 @@
 use Rattle.std.proofs.Common.{◌≡◌, length}
-use Rattle.bw_page.specs.Standing.{blocks_of}
+use Rattle.bw_leaf.specs.Forwards.{blocks_of}
 use Rattle.bw_care.specs.Ahead.{AreSpots, oldest_frames, Says}
 use Rattle.bw_care.specs.Views.{seen}
 use Rattle.bw_care.proofs.ahead.spell_wanted.Given as goal

@@ -5,7 +5,7 @@ use Rattle.bw_codec.specs.declared.block.Block.{Block}
 use Rattle.bw_device.specs.Holding.{Holding}
 use Rattle.bw_log.specs.Places.{all_placed}
 use Rattle.bw_log.specs.Segments.{frames_of}
-use Rattle.bw_care.specs.Reading.{IsRead}
+use Rattle.bw_lines.specs.Reading.{IsRead}
 use Rattle.bw_care.proofs.SecondPass.{stops_there, place_inside, next_ready, segment_more, segments_around}
 use Rattle.bw_care.proofs.forward.read_forward.Goals as goal
 

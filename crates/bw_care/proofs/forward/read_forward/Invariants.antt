@@ -3,7 +3,7 @@ use Rattle.bw_device.specs.Holding.{Holding}
 use Rattle.bw_log.specs.Places.{all_placed}
 use Rattle.bw_log.specs.Segments.{frames_of}
 use Rattle.bw_care.specs.Forward.{AreReady}
-use Rattle.bw_care.specs.Reading.{IsRead}
+use Rattle.bw_lines.specs.Reading.{IsRead}
 use Rattle.bw_care.proofs.forward.read_forward.Given as goal
 
 -- of the segments that are ready some were read, and the others stand at the positions that are left

@@ -4,9 +4,9 @@ use Rattle.bw_codec.specs.declared.block.Block.{Block}
 use Rattle.bw_codec.specs.declared.block.Frame.{Frame}
 use Rattle.bw_log.specs.Places.{placed, all_placed, bad_link}
 use Rattle.bw_care.specs.Behind.{frames_behind}
-use Rattle.bw_care.specs.Reading.{IsRead, LinkFaultIs}
+use Rattle.bw_lines.specs.Reading.{IsRead, LinkFaultIs}
 use Rattle.bw_care.proofs.FrontsRead.{front_from, there_from, none_from, read_more, ends_tail}
-use Rattle.bw_care.proofs.FramesJoined.{frames_step, frames_wrong}
+use Rattle.bw_lines.proofs.FramesJoined.{frames_step, frames_wrong}
 use Rattle.bw_care.proofs.SecondPass.{frames_around, never_bad}
 use Rattle.bw_care.proofs.forward.read_frames.Goals as goal
 

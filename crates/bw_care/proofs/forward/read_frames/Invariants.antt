@@ -4,7 +4,7 @@ use Rattle.bw_codec.specs.declared.block.Block.{Block}
 use Rattle.bw_codec.specs.declared.block.Frame.{Frame}
 use Rattle.bw_log.specs.Places.{all_placed}
 use Rattle.bw_log.specs.declared.places.FrameAt.{FrameAt}
-use Rattle.bw_care.specs.Reading.{IsRead}
+use Rattle.bw_lines.specs.Reading.{IsRead}
 use Rattle.bw_care.proofs.FrontsRead.{IsReadTo}
 use Rattle.bw_care.proofs.forward.read_frames.Given as goal
 

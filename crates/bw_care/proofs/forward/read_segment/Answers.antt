@@ -4,7 +4,7 @@ use Rattle.bw_codec.specs.declared.block.Header.{Header}
 use Rattle.bw_codec.specs.declared.block.HeaderRead.TheVariants as heading
 use Rattle.bw_log.specs.Places.{all_placed, bad_link}
 use Rattle.bw_care.specs.Behind.{frames_behind, EndsInTail}
-use Rattle.bw_care.specs.Reading.{IsRead, LinkFaultIs}
+use Rattle.bw_lines.specs.Reading.{IsRead, LinkFaultIs}
 use Rattle.bw_care.proofs.HeadersRead.{heading_told}
 use Rattle.bw_care.proofs.SecondPass.{framed_header, never_headless}
 use Rattle.bw_care.proofs.forward.read_segment.Goals as goal

@@ -1,4 +1,4 @@
-use Rattle.bw_care.proofs.FoundStand.{found_stands}
+use Rattle.bw_lines.proofs.FoundStand.{found_stands}
 use Rattle.bw_care.proofs.laws.found_leaves_stand.Goals as goal
 
 pub returns : goal.returns

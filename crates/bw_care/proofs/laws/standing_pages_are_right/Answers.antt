@@ -1,6 +1,6 @@
-use Rattle.bw_page.specs.Standing.{blocks_of}
-use Rattle.bw_care.proofs.FoundStand.{blocks_lawful}
-use Rattle.bw_care.proofs.StandingAgain.{stands_again}
+use Rattle.bw_leaf.specs.Forwards.{blocks_of}
+use Rattle.bw_lines.proofs.FoundStand.{blocks_lawful}
+use Rattle.bw_lines.proofs.StandingAgain.{stands_again}
 use Rattle.bw_care.proofs.laws.standing_pages_are_right.Goals as goal
 
 pub returns : goal.returns

@@ -1,6 +1,6 @@
 use Rattle.std.proofs.Common.{◌≡◌, ◌∙◌, Some, rules}
 use Rattle.bw_care.specs.Ordering.{order_fault}
-use Rattle.bw_care.specs.declared.fault.RecoverCause.TheVariants.{Gap}
+use Rattle.bw_lines.specs.declared.cause.RecoverCause.TheVariants.{Gap}
 use Rattle.bw_care.proofs.TailsFit.{sorted_few, sorted_short}
 use Rattle.bw_care.proofs.order.order_of.Goals as goal
 

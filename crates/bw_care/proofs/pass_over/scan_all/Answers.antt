@@ -1,5 +1,5 @@
 use Rattle.std.proofs.Common.{sym, ap, ◌∙◌, arith, ℕ, Some}
-use Rattle.bw_care.specs.declared.fault.RecoverCause.TheVariants.{BadBytes}
+use Rattle.bw_lines.specs.declared.cause.RecoverCause.TheVariants.{BadBytes}
 use Rattle.std.proofs.lemmas.Result.{err_from_is_err_and}
 use Rattle.bw_care.proofs.PassSoFar.{pass_stops, scan_step, fault_step, inside_map}
 use Rattle.bw_care.proofs.pass_over.scan_all.Goals as goal

@@ -1,6 +1,6 @@
 use Rattle.std.proofs.Common.{◌≡◌, ◌+◌, ◌++◌, ℕ, List, length, take, arith, ap, length-append}
 use Rattle.std.specs.List.{flat_map}
-use Rattle.bw_codec.specs.Version.{latest}
+use Rattle.bw_record.specs.Version.{latest}
 use Rattle.bw_codec.specs.Bytes.{text, value_bytes}
 use Rattle.bw_codec.specs.Grammar.{pair_bytes}
 use Rattle.bw_codec.proofs.Adding.{taken_more}

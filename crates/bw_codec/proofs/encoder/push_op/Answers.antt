@@ -1,9 +1,9 @@
 use Rattle.std.proofs.Common.{length, arith, subst, length-append}
-use Rattle.bw_codec.specs.Version.{latest}
+use Rattle.bw_record.specs.Version.{latest}
 use Rattle.bw_codec.specs.Bytes.{text, value_bytes}
 use Rattle.bw_codec.specs.Grammar.{op_bytes}
 use Rattle.bw_codec.specs.Writing.{HasRoom}
-use Rattle.bw_codec.specs.declared.record.Record.{Record}
+use Rattle.bw_record.specs.declared.record.Record.{Record}
 use Rattle.bw_codec.proofs.Lengths.{length-value}
 use Rattle.bw_codec.proofs.encoder.push_op.Goals as goal
 

@@ -1,5 +1,5 @@
 use Rattle.std.proofs.Common.{arith, length-append}
-use Rattle.bw_codec.specs.Version.{latest}
+use Rattle.bw_record.specs.Version.{latest}
 use Rattle.bw_codec.specs.Bytes.{text, value_bytes}
 use Rattle.bw_codec.proofs.Lengths.{length-value}
 use Rattle.bw_codec.proofs.encoder.push_pair.Goals as goal

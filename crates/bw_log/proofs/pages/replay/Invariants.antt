@@ -1,6 +1,6 @@
 use Rattle.std.proofs.Common.{◌≡◌, None, reverse, vec_len}
 use Rattle.std.specs.List.{fold}
-use Rattle.bw_page.specs.Standing.{after}
+use Rattle.bw_leaf.specs.Forwards.{after}
 use Rattle.bw_log.proofs.pages.replay.Given as goal
 
 abbrev pub invariant-loop-block : goal.invariant-loop-block

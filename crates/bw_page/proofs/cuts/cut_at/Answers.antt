@@ -1,6 +1,6 @@
 use Rattle.std.proofs.Common.{List, get_or, length, subst, sym}
-use Rattle.bw_codec.specs.declared.leaf.Leaf.{Leaf}
-use Rattle.bw_page.specs.Seek.{IsWithin}
+use Rattle.bw_record.specs.declared.leaf.Leaf.{Leaf}
+use Rattle.bw_leaf.specs.Seek.{IsWithin}
 use Rattle.bw_page.proofs.cuts.cut_at.Goals as goal
 
 pub cut-requires-clause-found_within : goal.cut-requires-clause-found_within

@@ -1,9 +1,9 @@
 use Rattle.std.proofs.Common.{◌≡◌, ◌-◌, ◌≤◌, ◌<◌, ◌∙◌, ap, cond, Some, length, arith, subst, sym}
 use Rattle.std.specs.Ordering.{eq_by_cmp}
-use Rattle.bw_codec.specs.Bytes.{IsKey}
-use Rattle.bw_codec.specs.declared.leaf.Leaf.{Leaf}
-use Rattle.bw_page.specs.Leaves.{Bytes, order}
-use Rattle.bw_page.specs.LowHeads.{page_of_low}
+use Rattle.bw_record.specs.Keys.{IsKey}
+use Rattle.bw_record.specs.declared.leaf.Leaf.{Leaf}
+use Rattle.bw_leaf.specs.Changed.{Bytes, order}
+use Rattle.bw_lows.specs.LowHeads.{page_of_low}
 use Rattle.bw_page.proofs.Indexing.{low_key, index-step}
 use Rattle.bw_page.proofs.index.index_of.Goals as goal
 

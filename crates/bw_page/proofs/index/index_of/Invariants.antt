@@ -1,7 +1,7 @@
 use Rattle.std.proofs.Common.{◌≡◌, ◌≤◌, drop, length}
 use Rattle.std.specs.FinMap.Entries.{find}
-use Rattle.bw_page.specs.Leaves.{Bytes, order}
-use Rattle.bw_page.specs.LowHeads.{page_of_low}
+use Rattle.bw_leaf.specs.Changed.{Bytes, order}
+use Rattle.bw_lows.specs.LowHeads.{page_of_low}
 use Rattle.bw_page.specs.Lows.{lows_of}
 use Rattle.bw_page.proofs.index.index_of.Given as goal
 

@@ -1,9 +1,9 @@
 use Rattle.std.proofs.Common.{◌≡◌, ℕ, List, ◌+◌, ◌-◌, ◌≤◌, ◌<◌, subst, ◌∙◌, ap, sym, cond, None, length, get_or, arith}
 use Rattle.std.specs.Ordering.{eq_by_cmp}
-use Rattle.bw_codec.specs.Bytes.{IsKey}
-use Rattle.bw_codec.specs.declared.leaf.Leaf.{Leaf}
-use Rattle.bw_page.specs.Leaves.{order}
-use Rattle.bw_page.specs.LowHeads.{page_of_low}
+use Rattle.bw_record.specs.Keys.{IsKey}
+use Rattle.bw_record.specs.declared.leaf.Leaf.{Leaf}
+use Rattle.bw_leaf.specs.Changed.{order}
+use Rattle.bw_lows.specs.LowHeads.{page_of_low}
 use Rattle.bw_page.proofs.index.take_above.Goals as goal
 
 -- the leaf that goes is that of the page above

@@ -2,7 +2,7 @@
 
 ghost use Rattle.std.specs.Prelude.{◌≡◌, ◌≤◌, [], IfSome, IsTrue, length};
 ghost use Rattle.std.specs.List.{AllByRecursion};
-ghost use Rattle.bw_codec.specs.Bytes.{ascends};
+ghost use Rattle.bw_record.specs.Keys.{ascends};
 ghost use Rattle.bw_codec.specs.Grammar.{IsBlock};
 
 use super::super::{is, packed_put, put};

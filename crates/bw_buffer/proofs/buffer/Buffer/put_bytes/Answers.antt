@@ -1,7 +1,7 @@
 use Rattle.std.proofs.Common.{◌≡◌, ◌∙◌, ◌+◌, ◌∷◌, ◌++◌, ℕ, List, [], None, length, refl, sym, ap, arith, if◌then◌else◌}
 use Rattle.std.specs.Prelude.{◌==◌}
 use Rattle.bw_codec.specs.Grammar.{block_bytes, IsBlock}
-use Rattle.bw_codec.specs.declared.leaf.Leaf.{Leaf}
+use Rattle.bw_record.specs.declared.leaf.Leaf.{Leaf}
 use Rattle.bw_codec.specs.declared.block.Block.TheVariants.{Base}
 use Rattle.bw_buffer.specs.Filling.{Filling}
 use Rattle.bw_buffer.specs.Index.{index_at}

@@ -1,7 +1,7 @@
 use Rattle.std.proofs.Common.{◌∙◌, sym, ap}
 use Rattle.std.specs.Option.{option_copied}
-use Rattle.bw_codec.specs.declared.leaf.Leaf.{Leaf}
-use Rattle.bw_page.specs.Ahead.{pairs_above, with_some}
+use Rattle.bw_record.specs.declared.leaf.Leaf.{Leaf}
+use Rattle.bw_leaf.specs.Above.{pairs_above, with_some}
 use Rattle.bw_core.specs.Views.{kept_by}
 use Rattle.bw_core.proofs.Walks.{here_at, home_leaf}
 use Rattle.bw_core.proofs.store.Core.add_pairs.Goals as goal

@@ -1,6 +1,6 @@
 use Rattle.std.proofs.Common.{◌+◌, refl, sym, ap, ◌∙◌, arith}
 use Rattle.std.specs.FinMap as finite
-use Rattle.bw_page.specs.Leaves.{Map}
+use Rattle.bw_leaf.specs.Changed.{Map}
 use Rattle.bw_core.proofs.Counted.{counted, pairs_more, total_all, total_few, total_none}
 use Rattle.bw_core.proofs.FollowMore.{follows_as, read_follows}
 use Rattle.bw_core.proofs.store.Core.count.Goals as goal

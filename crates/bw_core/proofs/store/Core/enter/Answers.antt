@@ -1,14 +1,14 @@
 use Rattle.std.proofs.Common.{◌≡◌, [], ◌∷◌, ◌∙◌, ◌+◌, ◌++◌, ℕ, Err, refl, List, true, length, map, ap, subst, sym, arith}
 use Rattle.std.specs.Prelude.{nat_lt}
 use Rattle.bw_codec.specs.declared.block.Block.{Block}
-use Rattle.bw_codec.specs.declared.leaf.Leaf.{Leaf}
+use Rattle.bw_record.specs.declared.leaf.Leaf.{Leaf}
 use Rattle.bw_buffer.specs.Filling.{Filling, frame_of}
 use Rattle.bw_page.specs.Leaves.{applied}
 use Rattle.bw_page.specs.Seats.{is_among}
 use Rattle.bw_page.specs.Shown.{Shown}
 use Rattle.bw_buffer.specs.Joining.{added}
 use Rattle.bw_making.specs.Adding.{here_for, blocks_for}
-use Rattle.bw_codec.specs.declared.record.Record.{Record}
+use Rattle.bw_record.specs.declared.record.Record.{Record}
 use Rattle.bw_making.specs.Tails.{tail_of, tails_for, tails_after, is_made}
 use Rattle.bw_core.specs.Views.{kept_by}
 use Rattle.bw_core.proofs.EvictedPages.{page_within, tails_entered, evicted_entered}

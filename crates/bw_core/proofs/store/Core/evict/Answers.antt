@@ -1,7 +1,7 @@
 use Rattle.std.proofs.Common.{◌∙◌, Bool, List, length, ap, sym, arith}
 use Rattle.std.specs.Prelude.{not, ◌&&◌}
-use Rattle.bw_codec.specs.declared.leaf.Leaf.{Leaf}
-use Rattle.bw_core.specs.declared.counters.Tally.{Tally}
+use Rattle.bw_record.specs.declared.leaf.Leaf.{Leaf}
+use Rattle.bw_care.specs.declared.tally.Tally.{Tally}
 use Rattle.bw_making.specs.Tails.{is_made, tails_for}
 use Rattle.bw_making.proofs.TailLists.{as_many, tail_here}
 use Rattle.bw_core.specs.Views.{kept_by}

@@ -1,5 +1,5 @@
 use Rattle.std.proofs.Common.{List, length, ap, sym, ◌∙◌}
-use Rattle.bw_codec.specs.declared.leaf.Leaf.{Leaf}
+use Rattle.bw_record.specs.declared.leaf.Leaf.{Leaf}
 use Rattle.bw_making.specs.Tails.{tails_for}
 use Rattle.bw_core.proofs.EvictedPages.{evicted_less}
 use Rattle.bw_core.proofs.Fetched.{same_here, still_here}

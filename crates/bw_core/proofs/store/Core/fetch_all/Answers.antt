@@ -1,7 +1,7 @@
 use Rattle.std.proofs.Common.{◌∙◌, refl, arith}
 use Rattle.std.proofs.lemmas.Result.{err_from_is_err_and}
-use Rattle.bw_codec.specs.Grammar.{IsOp}
-use Rattle.bw_codec.specs.Record.{key_of}
+use Rattle.bw_record.specs.Lawful.{IsOp}
+use Rattle.bw_record.specs.Record.{key_of}
 use Rattle.bw_page.proofs.Together.{together}
 use Rattle.bw_page.specs.Shown.{IsHere}
 use Rattle.bw_core.proofs.Fetched.{all_here, all_more, all_taken, at_index, later_unread}

@@ -1,7 +1,7 @@
 use Rattle.std.proofs.Common.{◌≡◌, take}
 use Rattle.std.specs.List.{AllByRecursion}
-use Rattle.bw_codec.specs.Grammar.{IsOp}
-use Rattle.bw_codec.specs.Record.{key_of}
+use Rattle.bw_record.specs.Lawful.{IsOp}
+use Rattle.bw_record.specs.Record.{key_of}
 use Rattle.bw_page.specs.Shown.{IsHere}
 use Rattle.bw_core.specs.Views.{kept_by, noted_of, IsSound}
 use Rattle.bw_core.proofs.store.Core.fetch_all.Given as goal

@@ -1,6 +1,8 @@
 use Rattle.std.proofs.Common.{◌∙◌, refl, sym, ap, subst, arith}
-use Rattle.bw_page.specs.Ahead.{HasCome, HasNoLowAbove, IsNextLow, pair_above}
-use Rattle.bw_page.specs.Leaves.{Bytes, home}
+use Rattle.bw_leaf.specs.Above.{pair_above}
+use Rattle.bw_page.specs.Ahead.{HasCome, HasNoLowAbove, IsNextLow}
+use Rattle.bw_leaf.specs.Changed.{Bytes}
+use Rattle.bw_page.specs.Leaves.{home}
 use Rattle.bw_page.specs.Shown.{Shown}
 use Rattle.bw_core.specs.Views.{kept_by}
 use Rattle.bw_core.proofs.FollowMore.{read_follows}

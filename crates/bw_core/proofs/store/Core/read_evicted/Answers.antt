@@ -1,7 +1,7 @@
 use Rattle.std.proofs.Common.{List, Some, Err, ap, sym, ◌∙◌}
-use Rattle.bw_codec.specs.declared.record.Record.{Record}
-use Rattle.bw_codec.specs.declared.leaf.Leaf.{Leaf}
-use Rattle.bw_page.specs.Leaves.{all_changed}
+use Rattle.bw_record.specs.declared.record.Record.{Record}
+use Rattle.bw_record.specs.declared.leaf.Leaf.{Leaf}
+use Rattle.bw_leaf.specs.Changed.{all_changed}
 use Rattle.bw_core.proofs.Logs.{log_sound, read_counts}
 use Rattle.bw_core.proofs.EvictedPages.{evicted_page, evicted_refused}
 use Rattle.bw_core.proofs.store.Core.read_evicted.Goals as goal

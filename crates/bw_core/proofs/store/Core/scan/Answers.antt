@@ -1,6 +1,8 @@
 use Rattle.std.proofs.Common.{◌∙◌, refl, sym, ap, subst, arith}
-use Rattle.bw_page.specs.Ahead.{IsStretch, HasGone, HasNoLowAbove, IsNextLow, pairs_above, with_some}
-use Rattle.bw_page.specs.Leaves.{Bytes, Pairs, home}
+use Rattle.bw_leaf.specs.Above.{pairs_above, with_some}
+use Rattle.bw_page.specs.Ahead.{IsStretch, HasGone, HasNoLowAbove, IsNextLow}
+use Rattle.bw_leaf.specs.Changed.{Bytes, Pairs}
+use Rattle.bw_page.specs.Leaves.{home}
 use Rattle.bw_page.specs.Shown.{Shown}
 use Rattle.bw_core.specs.Views.{kept_by}
 use Rattle.bw_core.proofs.FollowMore.{follows_as, read_follows}

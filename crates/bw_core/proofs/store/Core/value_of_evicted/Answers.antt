@@ -1,5 +1,5 @@
 use Rattle.std.proofs.Common.{Option, Err, ap, ◌∙◌}
-use Rattle.bw_codec.specs.declared.key.Value.{Value}
+use Rattle.bw_record.specs.declared.key.Value.{Value}
 use Rattle.bw_core.proofs.Logs.{log_sound, read_counts}
 use Rattle.bw_core.proofs.EvictedPages.{evicted_refused, told_value}
 use Rattle.bw_core.proofs.store.Core.value_of_evicted.Goals as goal

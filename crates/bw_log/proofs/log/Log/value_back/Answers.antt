@@ -1,5 +1,5 @@
 use Rattle.std.proofs.Common.{◌∙◌, refl, rules}
-use Rattle.bw_page.specs.declared.words.Word.TheVariants.{Gone, Holds}
+use Rattle.bw_leaf.specs.declared.words.Word.TheVariants.{Gone, Holds}
 use Rattle.bw_log.proofs.Valued.{looks_first, read_ordered, found_value, found_on, found_further, never_ends}
 use Rattle.bw_log.proofs.Walked.{place_now, rank_less, stops_on_page}
 use Rattle.bw_log.proofs.log.Log.value_back.Goals as goal

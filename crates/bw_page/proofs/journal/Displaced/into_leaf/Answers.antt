@@ -1,11 +1,11 @@
 use Rattle.std.proofs.Common.{◌≡◌, ◌-◌, ◌∙◌, refl, ap, sym, subst, get_or, length, IsTrue, Some, arith}
 use Rattle.std.specs.Prelude.{slice_set}
 use Rattle.std.proofs.lemmas.List.{set-set}
-use Rattle.bw_codec.specs.Record.{key_of}
-use Rattle.bw_codec.specs.declared.leaf.Leaf.{Leaf}
-use Rattle.bw_codec.specs.declared.record.Record.TheVariants.{Del}
+use Rattle.bw_record.specs.Record.{key_of}
+use Rattle.bw_record.specs.declared.leaf.Leaf.{Leaf}
+use Rattle.bw_record.specs.declared.record.Record.TheVariants.{Del}
 use Rattle.bw_page.specs.declared.journal.Kept.{Kept}
-use Rattle.bw_page.specs.Leaves.{changed}
+use Rattle.bw_leaf.specs.Changed.{changed}
 use Rattle.bw_page.specs.Displaced.{Displaced, joined}
 use Rattle.bw_page.specs.Keeping.{is_parted, KeepsLeaf}
 use Rattle.bw_page.proofs.journal.Displaced.into_leaf.Goals as goal

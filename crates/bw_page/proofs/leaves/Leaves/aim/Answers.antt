@@ -1,8 +1,9 @@
 use Rattle.std.proofs.Common.{◌≡◌, ◌+◌, ◌-◌, ◌∙◌, ap, subst, length, arith}
-use Rattle.bw_codec.specs.Record.{key_of}
-use Rattle.bw_codec.specs.declared.leaf.Leaf.{Leaf}
-use Rattle.bw_page.specs.Leaves.{home, changed_pairs}
-use Rattle.bw_page.specs.Seek.{seek_of, IsWithin}
+use Rattle.bw_record.specs.Record.{key_of}
+use Rattle.bw_record.specs.declared.leaf.Leaf.{Leaf}
+use Rattle.bw_leaf.specs.Changed.{changed_pairs}
+use Rattle.bw_page.specs.Leaves.{home}
+use Rattle.bw_leaf.specs.Seek.{seek_of, IsWithin}
 use Rattle.bw_page.proofs.leaves.Leaves.aim.Goals as goal
 
 pub returns : goal.returns

@@ -1,8 +1,8 @@
 use Rattle.std.proofs.Common.{◌≡◌, ◌+◌, ◌-◌, ◌≤◌, ◌∙◌, ap, sym, subst, length, arith, refl}
-use Rattle.bw_codec.specs.Record.{key_of}
-use Rattle.bw_codec.specs.declared.leaf.Leaf.{Leaf}
-use Rattle.bw_page.specs.Leaves.{Pairs, changed_pairs}
-use Rattle.bw_page.specs.Seek.{seek_of, IsWithin, IsBetween}
+use Rattle.bw_record.specs.Record.{key_of}
+use Rattle.bw_record.specs.declared.leaf.Leaf.{Leaf}
+use Rattle.bw_leaf.specs.Changed.{Pairs, changed_pairs}
+use Rattle.bw_leaf.specs.Seek.{seek_of, IsWithin, IsBetween}
 use Rattle.bw_page.proofs.Hinted.{hinted_home, stands_here}
 use Rattle.bw_page.proofs.Indexed.{home_within}
 use Rattle.bw_page.proofs.leaves.Leaves.aim_at.Goals as goal

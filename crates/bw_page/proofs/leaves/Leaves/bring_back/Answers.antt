@@ -1,7 +1,7 @@
 use Rattle.std.proofs.Common.{◌≡◌, ℕ, zero, suc, ◌+◌, ◌-◌, ◌==◌, ◌∙◌, cond, false, Some, List, ap, refl, arith}
 use Rattle.std.specs.Prelude.{slice_set}
 use Rattle.bw_page.specs.Shown.{Shown}
-use Rattle.bw_codec.specs.declared.leaf.Leaf.{Leaf}
+use Rattle.bw_record.specs.declared.leaf.Leaf.{Leaf}
 use Rattle.bw_page.specs.Leaves.{leaf_at}
 use Rattle.bw_page.specs.Seats.{is_among}
 use Rattle.bw_page.proofs.Closed.{same_filed}

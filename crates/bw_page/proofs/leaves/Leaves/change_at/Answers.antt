@@ -1,11 +1,12 @@
 use Rattle.std.proofs.Common.{◌+◌, ◌≡◌, ◌∙◌, ap, refl, sym, subst, IsTrue, arith}
 use Rattle.std.specs.FinMap.Entries.{find}
-use Rattle.bw_codec.specs.Bytes.{ascends}
+use Rattle.bw_record.specs.Keys.{ascends}
 use Rattle.bw_codec.specs.Grammar.{IsBase}
-use Rattle.bw_codec.specs.Record.{key_of}
-use Rattle.bw_codec.specs.declared.leaf.Leaf.{Leaf}
-use Rattle.bw_page.specs.Leaves.{order, home, empty_leaf}
-use Rattle.bw_page.specs.Seek.{back_of}
+use Rattle.bw_record.specs.Record.{key_of}
+use Rattle.bw_record.specs.declared.leaf.Leaf.{Leaf}
+use Rattle.bw_leaf.specs.Changed.{order, empty_leaf}
+use Rattle.bw_page.specs.Leaves.{home}
+use Rattle.bw_leaf.specs.Seek.{back_of}
 use Rattle.bw_page.specs.Shown.{Shown}
 use Rattle.bw_page.proofs.Homes.{home-all}
 use Rattle.bw_page.proofs.Closed.{leaf_is, same_filed, found_at, within_at, Follows, follows_whole}

@@ -1,7 +1,7 @@
 use Rattle.std.proofs.Common.{◌+◌, ◌<◌, ◌≡◌, ◌∙◌, ap, sym, subst, refl, length, true, nat_le, arith}
 use Rattle.std.specs.Prelude.{not}
 use Rattle.std.proofs.lemmas.Bool.{lt-leb}
-use Rattle.bw_codec.specs.Record.{key_of}
+use Rattle.bw_record.specs.Record.{key_of}
 use Rattle.bw_page.specs.Leaves.{home, result_of, AreLeaves}
 use Rattle.bw_page.specs.Shown.{Shown}
 use Rattle.bw_page.proofs.Law.{home_base}

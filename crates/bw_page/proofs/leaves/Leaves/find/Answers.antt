@@ -1,6 +1,6 @@
 use Rattle.std.proofs.Common.{◌≤◌, ◌∙◌, refl, sym, ap, subst, length}
 use Rattle.bw_page.specs.Leaves.{home, AreLeaves}
-use Rattle.bw_page.specs.LowHeads.{page_of_low}
+use Rattle.bw_lows.specs.LowHeads.{page_of_low}
 use Rattle.bw_page.specs.Shown.{Shown, TakesKey}
 use Rattle.bw_page.proofs.Indexed.{no_low_is_first, greatest_is_home, home_takes, home_within}
 use Rattle.bw_page.proofs.leaves.Leaves.find.Goals as goal

@@ -1,8 +1,8 @@
 use Rattle.std.proofs.Common.{◌≡◌, ◌∙◌, sym, ap, Ok, Err, Some, get_or}
-use Rattle.bw_page.specs.Leaves.{Bytes, Pairs}
-use Rattle.bw_page.specs.Seek.{seek_of}
-use Rattle.bw_page.proofs.Sorted.{ascends_rises}
-use Rattle.bw_page.proofs.Valued.{reads}
+use Rattle.bw_leaf.specs.Changed.{Bytes, Pairs}
+use Rattle.bw_leaf.specs.Seek.{seek_of}
+use Rattle.bw_leaf.proofs.Sorted.{ascends_rises}
+use Rattle.bw_leaf.proofs.Valued.{reads}
 use Rattle.bw_page.proofs.leaves.Leaves.get.Goals as goal
 
 pub returns-in-Ok : goal.returns-in-Ok

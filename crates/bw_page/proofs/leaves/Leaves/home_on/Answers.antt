@@ -1,15 +1,16 @@
 use Rattle.std.proofs.Common.{◌≡◌, ◌≤◌, ◌+◌, ◌-◌, ◌∙◌, sym, ap, subst, length, IsTrue, arith}
 use Rattle.std.specs.FinMap.Entries.{find}
-use Rattle.bw_codec.specs.declared.leaf.Leaf.{Leaf}
-use Rattle.bw_page.specs.Leaves.{order, home, AreLeaves}
+use Rattle.bw_record.specs.declared.leaf.Leaf.{Leaf}
+use Rattle.bw_leaf.specs.Changed.{order}
+use Rattle.bw_page.specs.Leaves.{home, AreLeaves}
 use Rattle.bw_page.specs.Shown.{Shown}
-use Rattle.bw_codec.specs.Bytes.{ascends}
+use Rattle.bw_record.specs.Keys.{ascends}
 use Rattle.bw_codec.specs.Grammar.{IsBase}
 use Rattle.bw_page.specs.Seats.{is_among}
 use Rattle.bw_page.proofs.Homes.{home-all}
 use Rattle.bw_page.proofs.Indexed.{home_within}
 use Rattle.bw_page.proofs.Law.{get-union}
-use Rattle.bw_page.proofs.Valued.{home_stands}
+use Rattle.bw_page.proofs.Homes.{home_stands}
 use Rattle.bw_page.proofs.leaves.Leaves.home_on.Goals as goal
 
 pub overflow_sub-page : goal.overflow_sub-page

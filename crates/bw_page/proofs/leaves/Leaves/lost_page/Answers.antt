@@ -3,15 +3,16 @@ use Rattle.std.proofs.lemmas.Bool.{le-leb}
 use Rattle.std.specs.Prelude.{is_none, is_some, not}
 use Rattle.std.specs.FinMap.Entries.{find}
 use Rattle.bw_codec.specs.Grammar.{IsBase}
-use Rattle.bw_codec.specs.Bytes.{ascends}
-use Rattle.bw_codec.specs.Record.{key_of}
-use Rattle.bw_codec.specs.declared.record.Record.{Record}
-use Rattle.bw_page.specs.Leaves.{order, home, result_of, AreLeaves}
-use Rattle.bw_page.specs.Seek.{back_of}
+use Rattle.bw_record.specs.Keys.{ascends}
+use Rattle.bw_record.specs.Record.{key_of}
+use Rattle.bw_record.specs.declared.record.Record.{Record}
+use Rattle.bw_leaf.specs.Changed.{order}
+use Rattle.bw_page.specs.Leaves.{home, result_of, AreLeaves}
+use Rattle.bw_leaf.specs.Seek.{back_of}
 use Rattle.bw_page.specs.Shown.{Shown}
 use Rattle.bw_page.proofs.Homes.{home-all}
 use Rattle.bw_page.proofs.Closed.{home_at}
-use Rattle.bw_page.proofs.Valued.{some_unless_none}
+use Rattle.bw_leaf.proofs.Valued.{some_unless_none}
 use Rattle.bw_page.proofs.leaves.Leaves.lost_page.Goals as goal
 
 -- a pair is kept for the way back, unless taking the record back removes it

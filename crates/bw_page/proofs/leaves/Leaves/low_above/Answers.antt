@@ -1,6 +1,6 @@
 use Rattle.std.proofs.Common.{IfSome, subst}
 use Rattle.bw_page.specs.Ahead.{IsNextLow, HasNoLowAbove}
-use Rattle.bw_page.specs.LowHeads.{page_of_low, IsLeastLow}
+use Rattle.bw_lows.specs.LowHeads.{page_of_low, IsLeastLow}
 use Rattle.bw_page.specs.Shown.{Shown}
 use Rattle.bw_page.proofs.Ahead.{if_some_map, next_low, no_low_above}
 use Rattle.bw_page.proofs.leaves.Leaves.low_above.Goals as goal

@@ -1,8 +1,10 @@
 use Rattle.std.proofs.Common.{◌≡◌, ◌∙◌, true, false, ℕ, List, refl, Option, Some, None, sym, ap, subst, arith}
 use Rattle.std.specs.Prelude.{is_some}
-use Rattle.bw_codec.specs.declared.leaf.Leaf.{Leaf}
-use Rattle.bw_page.specs.Ahead.{IsFirst, HasCome, pair_above}
-use Rattle.bw_page.specs.Leaves.{Bytes, home, union, AreLeaves}
+use Rattle.bw_record.specs.declared.leaf.Leaf.{Leaf}
+use Rattle.bw_leaf.specs.Above.{pair_above}
+use Rattle.bw_page.specs.Ahead.{IsFirst, HasCome}
+use Rattle.bw_leaf.specs.Changed.{Bytes}
+use Rattle.bw_page.specs.Leaves.{home, union, AreLeaves}
 use Rattle.bw_page.proofs.Ahead.{come_first, come_found, come_further, come_last, ahead_less}
 use Rattle.bw_page.proofs.leaves.Leaves.next_at.Goals as goal
 

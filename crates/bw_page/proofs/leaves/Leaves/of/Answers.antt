@@ -1,9 +1,10 @@
 use Rattle.std.proofs.Common.{◌≡◌, ◌∙◌, ap, sym, subst, List, drop}
 use Rattle.std.specs.List.{AllByRecursion}
 use Rattle.std.specs.FinMap.Entries.{find}
-use Rattle.bw_codec.specs.Bytes.{IsKey}
-use Rattle.bw_codec.specs.declared.leaf.Leaf.{Leaf}
-use Rattle.bw_page.specs.Leaves.{order, AreLeaves}
+use Rattle.bw_record.specs.Keys.{IsKey}
+use Rattle.bw_record.specs.declared.leaf.Leaf.{Leaf}
+use Rattle.bw_leaf.specs.Changed.{order}
+use Rattle.bw_page.specs.Leaves.{AreLeaves}
 use Rattle.bw_page.specs.Lows.{lows_of}
 use Rattle.bw_page.proofs.Indexing.{lows_are_keys, filed_new}
 use Rattle.bw_page.proofs.leaves.Leaves.of.Goals as goal

@@ -1,12 +1,12 @@
 use Rattle.std.proofs.Common.{◌≡◌, ◌+◌, ◌-◌, ◌∙◌, List, Some, false, ap, refl, length, length-set, take, get_or, cond, None, arith}
 use Rattle.std.specs.Prelude.{slice_set}
 use Rattle.std.specs.Ordering.{eq_by_cmp}
-use Rattle.bw_codec.specs.declared.leaf.Leaf.{Leaf}
+use Rattle.bw_record.specs.declared.leaf.Leaf.{Leaf}
 use Rattle.bw_page.specs.declared.journal.Undo.TheVariants.{Page}
 use Rattle.bw_page.specs.Index.{view_of}
 use Rattle.bw_page.specs.Journal.{undone}
-use Rattle.bw_page.specs.Leaves.{order}
-use Rattle.bw_page.specs.LowHeads.{page_of_low}
+use Rattle.bw_leaf.specs.Changed.{order}
+use Rattle.bw_lows.specs.LowHeads.{page_of_low}
 use Rattle.bw_page.specs.Seats.{is_among}
 use Rattle.bw_page.specs.Shown.{Shown}
 use Rattle.bw_page.proofs.Closed.{same_gets}

@@ -1,7 +1,9 @@
 use Rattle.std.proofs.Common.{◌∙◌, refl, sym, ap, subst, arith}
-use Rattle.bw_codec.specs.declared.leaf.Leaf.{Leaf}
-use Rattle.bw_page.specs.Ahead.{IsStretch, HasGone, pairs_above, with_some}
-use Rattle.bw_page.specs.Leaves.{Bytes, Pairs, union}
+use Rattle.bw_record.specs.declared.leaf.Leaf.{Leaf}
+use Rattle.bw_leaf.specs.Above.{pairs_above, with_some}
+use Rattle.bw_page.specs.Ahead.{IsStretch, HasGone}
+use Rattle.bw_leaf.specs.Changed.{Bytes, Pairs}
+use Rattle.bw_page.specs.Leaves.{union}
 use Rattle.bw_page.proofs.Ahead.{ahead_less}
 use Rattle.bw_page.proofs.Stretch.{gone_first, gone_more, gone_last, gone_full}
 use Rattle.bw_page.proofs.leaves.Leaves.scan.Goals as goal

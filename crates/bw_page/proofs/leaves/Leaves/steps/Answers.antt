@@ -1,8 +1,8 @@
 use Rattle.std.proofs.Common.{◌≡◌, ◌∙◌, ◌∷◌, [], ◌++◌, List, Err, inl, inr, map, ap, sym, subst}
 use Rattle.std.proofs.lemmas.List.{map-append}
 use Rattle.std.proofs.lemmas.Result.{err_from_is_err_and}
-use Rattle.bw_codec.specs.Record.{key_of}
-use Rattle.bw_codec.specs.declared.record.Record.{Record}
+use Rattle.bw_record.specs.Record.{key_of}
+use Rattle.bw_record.specs.declared.record.Record.{Record}
 use Rattle.bw_page.specs.declared.fault.ApplyError.TheVariants.{Spent}
 use Rattle.bw_page.specs.Leaves.{HasPage, HasPages}
 use Rattle.bw_page.specs.Shown.{Shown, IsHere, IsSpent, run}

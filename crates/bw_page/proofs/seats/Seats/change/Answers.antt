@@ -2,10 +2,10 @@ use Rattle.std.proofs.Common.{◌∙◌, get_or, length, ap, sym, subst}
 use Rattle.std.specs.Prelude.{slice_set}
 use Rattle.std.proofs.lemmas.List.{map-set}
 use Rattle.std.proofs.lemmas.Result.{on_ok_weaker}
-use Rattle.bw_codec.specs.Record.{key_of}
-use Rattle.bw_codec.specs.declared.leaf.Leaf.{Leaf}
-use Rattle.bw_page.specs.Leaves.{changed}
-use Rattle.bw_page.specs.Seek.{seek_of, IsWithin}
+use Rattle.bw_record.specs.Record.{key_of}
+use Rattle.bw_record.specs.declared.leaf.Leaf.{Leaf}
+use Rattle.bw_leaf.specs.Changed.{changed}
+use Rattle.bw_leaf.specs.Seek.{seek_of, IsWithin}
 use Rattle.bw_page.specs.Seats.{Seated, Seating}
 use Rattle.bw_page.specs.Seating.{leaves_of}
 use Rattle.bw_page.proofs.Seating.{evicted-kept, evicted_is, evicted_there, leaf_in}

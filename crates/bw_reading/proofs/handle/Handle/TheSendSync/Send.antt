@@ -12,10 +12,10 @@ use Rattle.libc.specs.Heap.{chunk-Keyless}
 use Rattle.bw_reading.specs.contracts.handle.Handle.{the_row, the_type}
 use Rattle.bw_reading.specs.contracts.held.Held.{the_row as S}
 use Rattle.bw_page.specs.contracts.leaves.Leaves as leaves
-use Rattle.bw_codec.specs.contracts.leaf.Leaf as leaf
-use Rattle.bw_codec.specs.contracts.leaf.Pairs as pairs
-use Rattle.bw_codec.specs.contracts.pair.Pair as pair
-use Rattle.bw_codec.specs.contracts.key.Key as key
+use Rattle.bw_record.specs.contracts.leaf.Leaf as leaf
+use Rattle.bw_record.specs.contracts.leaf.Pairs as pairs
+use Rattle.bw_record.specs.contracts.pair.Pair as pair
+use Rattle.bw_record.specs.contracts.key.Key as key
 
 key_send : IsSend key.the_row
 key_send = search (crosses, maps_cross, sendable) depth 20

@@ -2,10 +2,11 @@ use Rattle.std.proofs.Common.{◌≡◌, ◌++◌, ◌∙◌, List, ap, sym, sub
 use Rattle.std.specs.Prelude.{fold}
 use Rattle.std.proofs.lemmas.List.{map-append}
 use Rattle.std.proofs.lemmas.List.Sums.{fold-append}
-use Rattle.bw_codec.specs.declared.leaf.Leaf.{Leaf}
-use Rattle.bw_codec.specs.declared.record.Record.{Record}
+use Rattle.bw_record.specs.declared.leaf.Leaf.{Leaf}
+use Rattle.bw_record.specs.declared.record.Record.{Record}
 use Rattle.bw_page.specs.Batch.{SomeIsSpent}
-use Rattle.bw_page.specs.Leaves.{Map, applied, changed_map, union, plain}
+use Rattle.bw_leaf.specs.Changed.{Map, changed_map}
+use Rattle.bw_page.specs.Leaves.{applied, union, plain}
 use Rattle.bw_page.proofs.Runs.{all_here}
 use Rattle.bw_page.specs.Shown.{Shown, run}
 use Rattle.bw_history.specs.declared.entry.Entry.{Entry}

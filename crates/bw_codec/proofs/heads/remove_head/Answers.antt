@@ -1,9 +1,0 @@
-use Rattle.std.proofs.Common.{◌<◌, length, remove, subst, sym, arith}
-use Rattle.bw_codec.specs.Heads.{IsRow}
-use Rattle.bw_codec.proofs.HeadRows.{row_removed}
-use Rattle.bw_codec.proofs.heads.remove_head.Goals as goal
-
-pub returns-then-at-as_slice : goal.returns-then-at-as_slice
-returns-then-at-as_slice c pairs within is =
-    let inside : c.args.at < length c.args.row.now.items = grind (arith, c.as_slice.ensures.value) in
-    subst (λ r. IsRow r (remove pairs c.args.at)) (sym c.remove.ensures.items) (row_removed _ pairs c.args.at is inside)

@@ -1,0 +1,11 @@
+-- what callers see, in reading order
+pub mod Changed
+pub mod Seek
+pub mod Above
+pub mod Forwards
+pub mod Links
+pub mod Words
+-- what private functions say, and how values stand in memory
+pub mod Linked
+pub mod Marks
+pub mod Drafting

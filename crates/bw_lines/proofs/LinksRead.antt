@@ -1,0 +1,153 @@
+-- A map of lines, and the links of the blocks that were read.
+
+use Rattle.std.proofs.Common.{zero, suc, take, drop, reverse, ◌+◌, length, append_assoc, arith, ◌≡◌, ℕ, Bool, true, false, if◌then◌else◌, Option, Some, None}
+use Rattle.std.proofs.Common.{List, [], ◌∷◌, ◌++◌, refl, sym, ap, ◌∙◌, subst}
+use Rattle.std.specs.List.{fold}
+use Rattle.std.specs.BTreeMap as tree
+use Rattle.std.specs.Ordering.{nat_cmp}
+use Rattle.std.proofs.lemmas.Grind.{fold-append}
+use Rattle.std.proofs.lemmas.List.{reverse-append, reverse-reverse}
+use Rattle.bw_codec.specs.Touch.{sets, touches}
+use Rattle.bw_codec.specs.declared.block.Block.{Block}
+use Rattle.bw_codec.specs.declared.block.Place.{Place}
+use Rattle.bw_log.specs.PageTable.{changed_line, set_line}
+use Rattle.bw_log.specs.declared.places.PageAt.{PageAt}
+use Rattle.bw_log.specs.Places.{placed, later, last_place, is_back, fault_at, fault_of, or_else, bad_link}
+use Rattle.bw_log.proofs.Links.{bad_link-append}
+use Rattle.bw_lines.specs.declared.page_lines.Line.{Line}
+use Rattle.bw_lines.specs.declared.page_lines.ReadFault.{ReadFault}
+use Rattle.bw_lines.specs.declared.page_lines.ReadFault.TheVariants.{NoMemory, BadLink}
+use Rattle.bw_lines.specs.Reading.{place_in, at_in, line_after, line_of, AreLines, IsRead, LinkFaultIs}
+
+-- a line's place is the last block that touches the page
+-- wherever a page was set before, its last block is the one that was read
+pub at_place : (t : Bool) (q : Place) (w : PageAt) → (if t then set_line q else changed_line q w).place ≡ q
+at_place true q w = refl
+at_place false q w = refl
+
+place_step : (p : ℕ) (was : Option Line) (last : Option Place) (x : Place × Block) (t : Bool) → touches p x.1 ≡ t → place_in was ≡ last
+    → place_in (line_after p was x) ≡ later (touches p) last x
+place_step p was last x true e same = rw e (ap (λ (q : Place). Some q) (at_place (sets p x.1) x.0 (at_in was)))
+place_step p was last x false e same = rw e same
+
+place_fold : (p : ℕ) (was : Option Line) (last : Option Place) (xs : List (Place × Block)) → place_in was ≡ last
+    → place_in (line_of p was xs) ≡ fold (later (touches p)) last xs
+place_fold p was last [] same = same
+place_fold p was last (x ∷ xs) same = place_fold p (line_after p was x) (later (touches p) last x) xs (place_step p was last x (touches p x.1) refl same)
+
+pub place_is : (p : ℕ) (xs : List (Place × Block)) → place_in (line_of p None xs) ≡ last_place (touches p) xs
+place_is p xs = place_fold p None None xs refl
+
+-- ---- one block
+
+pub right : (first : ℕ) (done : List (Place × Block)) (lines : tree.BTreeMap ℕ Line) (page : ℕ) (back : Place) (t : Bool) → IsRead first done lines
+    → t ≡ is_back first (place_in (tree.get nat_cmp lines page)) back
+    → (if t then None else Some page) ≡ fault_at first done page back
+right first done lines page back t read is =
+    ap (λ (b : Bool). if b then None else Some page)
+    (is ∙ ap (λ (o : Option Place). is_back first o back) (ap place_in (read.lines page) ∙ place_is page done))
+
+pub read_more : (first : ℕ) (done : List (Place × Block)) (old new : tree.BTreeMap ℕ Line) (place : Place) (block : Block) → IsRead first done old
+    → fault_of first done block ≡ None → AreLines old ((place, block) ∷ []) new
+    → IsRead first (done ++ (place, block) ∷ []) new
+read_more first done old new place block read right step = record {
+  lines = λ p. step p ∙ ap (λ (o : Option Line). line_after p o (place, block)) (read.lines p)
+      ∙ sym (fold-append (line_after p) None done ((place, block) ∷ []));
+  linked = bad_link-append first [] done ((place, block) ∷ []) ∙ ap (λ (o : Option ℕ). or_else o (bad_link first done ((place, block) ∷ []))) read.linked
+      ∙ ap (λ (o : Option ℕ). or_else o None) right;
+}
+
+-- the first wrong link of blocks, of which these were read
+pub wrong_here : (first : ℕ) (done : List (Place × Block)) (x : Place × Block) (rest : List (Place × Block)) (p : ℕ) → bad_link first [] done ≡ None
+    → fault_of first done x.1 ≡ Some p → bad_link first [] (done ++ x ∷ rest) ≡ Some p
+wrong_here first done x rest p linked wrong =
+    bad_link-append first [] done (x ∷ rest) ∙ ap (λ (o : Option ℕ). or_else o (bad_link first done (x ∷ rest))) linked
+    ∙ ap (λ (o : Option ℕ). or_else o (bad_link first (done ++ x ∷ []) rest)) wrong
+
+placed_more : (n i : ℕ) (bs : List Block) (b : Block) (k : ℕ) → k ≡ i + length bs
+    → placed n i (bs ++ b ∷ []) ≡ placed n i bs ++ (record { frame = n; index = k }, b) ∷ []
+placed_more n i [] b k is = (let same : i ≡ k = omega arith in ap (λ (j : ℕ). (record { frame = n; index = j }, b) ∷ []) same)
+placed_more n i (c ∷ bs) b k is = (let same : k ≡ i + 1 + length bs = omega arith
+    in ap (λ (l : List (Place × Block)). (record { frame = n; index = i }, c) ∷ l) (placed_more n (i + 1) bs b k same))
+
+pub blocks_more : (first number k : ℕ) (done : List (Place × Block)) (bs : List Block) (b : Block) (lines : tree.BTreeMap ℕ Line) → k ≡ length bs
+    → IsRead first ((done ++ placed number 0 bs) ++ (record { frame = number; index = k }, b) ∷ []) lines
+    → IsRead first (done ++ placed number 0 (bs ++ b ∷ [])) lines
+blocks_more first number k done bs b lines is read =
+    let at : k ≡ 0 + length bs = omega arith in
+    subst (λ (l : List (Place × Block)). IsRead first l lines)
+    (append_assoc done (placed number 0 bs) ((record { frame = number; index = k }, b) ∷ [])
+    ∙ ap (λ (l : List (Place × Block)). done ++ l) (sym (placed_more number 0 bs b k at))) read
+
+placed_join : (n i : ℕ) (xs ys : List Block) (k : ℕ) → k ≡ i + length xs → placed n i (xs ++ ys) ≡ placed n i xs ++ placed n k ys
+placed_join n i [] ys k is = (let same : i ≡ k = omega arith in ap (λ (j : ℕ). placed n j ys) same)
+placed_join n i (x ∷ xs) ys k is = (let same : k ≡ i + 1 + length xs = omega arith
+    in ap (λ (l : List (Place × Block)). (record { frame = n; index = i }, x) ∷ l) (placed_join n (i + 1) xs ys k same))
+
+wrong_as : (o p : Option ℕ) (fault : ReadFault) → ((q : ℕ) → p ≡ Some q → o ≡ Some q) → LinkFaultIs p fault → LinkFaultIs o fault
+wrong_as o p NoMemory f is = tt
+wrong_as o p (BadLink q) f is = f q is
+
+-- a wrong link among the blocks of a frame
+pub blocks_wrong : (first number k : ℕ) (done rest : List (Place × Block)) (bs more all : List Block) (b : Block) (lines : tree.BTreeMap ℕ Line)
+    (fault : ReadFault) → k ≡ length bs → all ≡ bs ++ b ∷ more → IsRead first (done ++ placed number 0 bs) lines
+    → LinkFaultIs (fault_of first (done ++ placed number 0 bs) b) fault → LinkFaultIs (bad_link first [] (done ++ (placed number 0 all ++ rest))) fault
+blocks_wrong first number k done rest bs more all b lines fault is split read wrong =
+    let at : k ≡ 0 + length bs = omega arith in
+    let here : Place × Block = (record { frame = number; index = k }, b) in
+    let parts : placed number 0 all ++ rest ≡ placed number 0 bs ++ here ∷ (placed number (k + 1) more ++ rest) =
+    ap (λ (l : List Block). placed number 0 l ++ rest) split ∙ ap (λ (l : List (Place × Block)). l ++ rest) (placed_join number 0 bs (b ∷ more) k at)
+    ∙ append_assoc (placed number 0 bs) (here ∷ placed number (k + 1) more) rest in
+    let whole : done ++ (placed number 0 all ++ rest) ≡ (done ++ placed number 0 bs) ++ here ∷ (placed number (k + 1) more ++ rest) =
+    ap (λ (l : List (Place × Block)). done ++ l) parts ∙ sym (append_assoc done (placed number 0 bs) (here ∷ (placed number (k + 1) more ++ rest))) in
+    wrong_as (bad_link first [] (done ++ (placed number 0 all ++ rest))) (fault_of first (done ++ placed number 0 bs) b) fault
+    (λ q e. ap (bad_link first []) whole ∙ wrong_here first (done ++ placed number 0 bs) here (placed number (k + 1) more ++ rest) q read.linked e) wrong
+
+-- the items so far, the next one and those behind it
+pub split_there : {X : Type 0} (xs yielded : List X) (x : X) → xs ≡ yielded ++ x ∷ drop (length yielded + 1) xs
+    → xs ≡ yielded ++ x ∷ drop (length yielded + 1) xs
+split_there xs yielded x e = e
+
+-- ---- a frame's blocks, taken from the front
+
+pub record IsNextOf (all : List Block) (i : ℕ) (b : Block) (more : List Block) : Type 0 where
+  pub front : take (i + 1) all ≡ take i all ++ b ∷ []
+  pub beyond : drop (i + 1) all ≡ more
+  pub split : all ≡ take i all ++ b ∷ more
+  pub index : i ≡ length (take i all)
+
+next_of_by : (all : List Block) (i : ℕ) (b : Block) (more : List Block) → drop i all ≡ b ∷ more
+    → (take (suc i) all ≡ take i all ++ b ∷ []) × (drop (suc i) all ≡ more) × (all ≡ take i all ++ b ∷ more) × (i ≡ length (take i all))
+next_of_by [] zero b more is = absurd cc
+next_of_by [] (suc i) b more is = absurd cc
+next_of_by (x ∷ xs) zero b more is = (let same : x ≡ b = cc in let rest : xs ≡ more = cc in (ap (λ (y : Block). y ∷ []) same, rest, λ k. same k ∷ rest k, refl))
+next_of_by (x ∷ xs) (suc i) b more is =
+    let n = next_of_by xs i b more is in
+    (ap (λ (l : List Block). x ∷ l) n.0, n.1, ap (λ (l : List Block). x ∷ l) n.2, ap suc n.3)
+
+pub next_of : (all now later : List Block) (i : ℕ) (b : Block) → now ≡ drop i all → now ≡ b ∷ later → IsNextOf all i b later
+next_of all now later i b is front =
+    let one : suc i ≡ i + 1 = omega arith in
+    let n = next_of_by all i b later (sym is ∙ front) in
+    record { front = ap (λ (k : ℕ). take k all) (sym one) ∙ n.0; beyond = ap (λ (k : ℕ). drop k all) (sym one) ∙ n.1; split = n.2; index = n.3 }
+
+-- what was popped stood in front
+pub popped : (old new : List Block) (b : Block) → old ≡ new ++ b ∷ [] → reverse old ≡ b ∷ reverse new
+popped old new b is = ap reverse is ∙ reverse-append new (b ∷ [])
+
+pub blocks_step : (first number i : ℕ) (done : List (Place × Block)) (all later : List Block) (b : Block) (lines : tree.BTreeMap ℕ Line)
+    → IsNextOf all i b later → IsRead first ((done ++ placed number 0 (take i all)) ++ (record { frame = number; index = i }, b) ∷ []) lines
+    → IsRead first (done ++ placed number 0 (take (i + 1) all)) lines
+blocks_step first number i done all later b lines n read =
+    subst (λ (l : List Block). IsRead first (done ++ placed number 0 l) lines) (sym n.front) (blocks_more first number i done (take i all) b lines n.index read)
+
+again_is : (items turned : List Block) → turned ≡ reverse items → items ≡ reverse turned
+again_is items turned is = sym (reverse-reverse items) ∙ ap reverse (sym is)
+
+pub blocks_wrong_at : (first number i : ℕ) (done rest : List (Place × Block)) (items turned : List Block) (later : List Block) (b : Block)
+    (lines : tree.BTreeMap ℕ Line) (fault : ReadFault) → turned ≡ reverse items → IsNextOf (reverse turned) i b later
+    → IsRead first (done ++ placed number 0 (take i (reverse turned))) lines
+    → LinkFaultIs (fault_of first (done ++ placed number 0 (take i (reverse turned))) b) fault
+    → LinkFaultIs (bad_link first [] (done ++ (placed number 0 items ++ rest))) fault
+blocks_wrong_at first number i done rest items turned later b lines fault is n read wrong =
+    blocks_wrong first number i done rest (take i (reverse turned)) later items b lines fault n.index (again_is items turned is ∙ n.split) read wrong

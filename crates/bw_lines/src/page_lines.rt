@@ -1,0 +1,254 @@
+//! All pages, read forwards over the blocks of all frames, and the links checked on the way.
+//!
+//! A map has a line for each page that was touched, so it grows by the blocks that are there,
+//! whatever page numbers stand in them.
+
+ghost use Rattle.std.specs.Prelude.{◌≡◌, ◌∷◌, ◌++◌, [], Some, None, ◌<◌, ◌^◌, length, OnOk, IfOk, IfErr, if◌then◌else◌, nat_eq, List, ℕ};
+ghost use Rattle.std.specs.Option.{option_map};
+ghost use Rattle.std.specs.List.{AllByRecursion};
+ghost use Rattle.std.specs.BTreeMap as tree;
+ghost use Rattle.std.specs.Ordering.{nat_cmp};
+ghost use Rattle.bw_leaf.specs.Changed.{all_changed};
+ghost use Rattle.bw_leaf.specs.Forwards.{kept_below};
+ghost use Rattle.bw_log.specs.Places.{is_back, fault_at, fault_of, placed, all_placed, bad_link};
+ghost use Rattle.bw_lines.specs.Reading.{place_in, at_in, leaf_in, line_after, AreLines, IsRead, LinkFaultIs};
+ghost use Rattle.bw_codec.specs.declared.block.Place.{Place as PlaceValue};
+ghost use Rattle.bw_codec.specs.declared.block.Block.{Block as BlockValue};
+
+use bw_codec::{Block, Leaf, Place, Record};
+use bw_log::PageAt;
+use bw_page::Draft;
+use std::alloc::{AllocError, Global};
+use std::collections::BTreeMap;
+use std::marker::Model;
+
+/// A page that was touched: where its last blocks stand, and what it is if it was set.
+#[derive(Drop)]
+pub struct Line {
+    pub at: PageAt,
+    pub leaf: Option<Leaf>,
+}
+
+/// A line while blocks are read: the page may hold far more pairs than in the end.
+#[derive(Drop)]
+pub struct DraftLine {
+    at: PageAt,
+    draft: Option<Draft>,
+}
+
+impl Model for DraftLine {
+    ghost use Rattle.bw_lines.specs.declared.page_lines.Line.{Line as LineValue};
+
+    ghost Value = { LineValue };
+
+    ghost view = { λ l. record { at = l.at; leaf = l.draft } };
+}
+
+impl DraftLine {
+    /// The line as it is when all blocks were read. It takes memory where the page has many pairs.
+    pub fn into_line(self) -> Result<Line, AllocError>
+        ensures { IfOk result (λ line. line ≡ self) }
+    {
+        let DraftLine { at, draft } = self;
+        let leaf = match draft {
+            Some(draft) => Some(draft.into_leaf()?),
+            None => None,
+        };
+        Ok(Line { at, leaf })
+    }
+}
+
+// The records of a Delta, where the page was set.
+fn change_some(draft: Option<Draft>, records: &[Record]) -> Result<Option<Draft>, AllocError>
+    ensures { IfOk result (λ d. d ≡ option_map (all_changed records.now) draft) }
+{
+    match draft {
+        Some(draft) => Ok(Some(draft.change_all(records)?)),
+        None => Ok(None),
+    }
+}
+
+fn keep_some(draft: Option<Draft>, separator: &[u8]) -> Option<Draft>
+    ensures { result ≡ option_map (kept_below separator.now) draft }
+{
+    match draft {
+        Some(draft) => Some(draft.keep_below(separator)),
+        None => None,
+    }
+}
+
+// What the map had of a page, taken out of it.
+pub fn take_line(lines: &mut BTreeMap<u32, DraftLine>, page: u32) -> (PageAt, Option<Draft>)
+    ensures at { result.0 ≡ at_in (tree.get nat_cmp lines.old page) }
+    ensures leaf { result.1 ≡ leaf_in (tree.get nat_cmp lines.old page) }
+    ensures others { (p : ℕ) → tree.get nat_cmp lines.new p
+        ≡ (if nat_eq page p then None else tree.get nat_cmp lines.old p) }
+{
+    match lines.remove(&page) {
+        Some(line) => {
+            let DraftLine { at, draft } = line;
+            (at, draft)
+        }
+        None => (PageAt::NONE, None),
+    }
+}
+
+// Puts a line into the map.
+fn put_line(
+    lines: &mut BTreeMap<u32, DraftLine>,
+    page: u32,
+    line: DraftLine,
+) -> Result<(), AllocError>
+    ensures { (p : ℕ) → OnOk result (tree.get nat_cmp lines.new p
+        ≡ (if nat_eq page p then Some line else tree.get nat_cmp lines.old p)) }
+{
+    let _ = lines.insert(page, line)?;
+    Ok(())
+}
+
+/// One more block. A refused growth is the only error.
+pub fn read_one(
+    lines: &mut BTreeMap<u32, DraftLine>,
+    place: Place,
+    block: Block,
+) -> Result<(), AllocError>
+    ensures { OnOk result (AreLines lines.old ((place, block) ∷ []) lines.new) }
+{
+    match block {
+        Block::Delta { page, back: _, ops } => {
+            let (at, draft) = take_line(lines, page);
+            let draft = change_some(draft, ops.as_slice())?;
+            let at = at.changed(place);
+            put_line(lines, page, DraftLine { at, draft })
+        }
+        Block::Base(leaf) => {
+            let page = leaf.page;
+            let line = DraftLine {
+                at: PageAt::set(place),
+                draft: Some(Draft::of(leaf)),
+            };
+            put_line(lines, page, line)
+        }
+        Block::Split {
+            page,
+            back: _,
+            upper,
+        } => {
+            let (at, draft) = take_line(lines, page);
+            let draft = keep_some(draft, upper.low.as_slice());
+            let at = at.changed(place);
+            put_line(lines, page, DraftLine { at, draft })?;
+            let made = upper.page;
+            let line = DraftLine {
+                at: PageAt::set(place),
+                draft: Some(Draft::of(upper)),
+            };
+            put_line(lines, made, line)
+        }
+    }
+}
+
+/// Whether a block of this page may link back so.
+pub fn links_back(lines: &BTreeMap<u32, DraftLine>, first: u64, page: u32, back: Place) -> bool
+    ensures { result ≡ is_back first (place_in (tree.get nat_cmp lines.now page)) back }
+{
+    match lines.get(&page) {
+        Some(line) => line.at.place.frame == back.frame && line.at.place.index == back.index,
+        None => 0 < back.frame && back.frame < first,
+    }
+}
+
+/// Why blocks cannot be read.
+#[derive(Clone, Copy)]
+pub enum ReadFault {
+    NoMemory,
+    /// A block of this page does not link back to the one before it.
+    BadLink(u32),
+}
+
+impl From<AllocError> for ReadFault {
+    ghost use Rattle.bw_lines.specs.declared.page_lines.ReadFault.TheVariants.{NoMemory};
+
+    ghost from_gives = { λ _ fault. fault ≡ NoMemory };
+
+    fn from(_error: AllocError) -> ReadFault {
+        ReadFault::NoMemory
+    }
+}
+
+// The page, where a block of it may not link back so.
+fn wrong_back(lines: &BTreeMap<u32, DraftLine>, first: u64, page: u32, back: Place) -> Option<u32>
+    ensures { (done : List (PlaceValue × BlockValue)) → IsRead first done lines.now
+        → result ≡ fault_at first done page back }
+{
+    if links_back(lines, first, page, back) {
+        None
+    } else {
+        Some(page)
+    }
+}
+
+// The page of a block that links back wrongly.
+fn wrong_link(lines: &BTreeMap<u32, DraftLine>, first: u64, block: &Block) -> Option<u32>
+    ensures { (done : List (PlaceValue × BlockValue)) → IsRead first done lines.now
+        → result ≡ fault_of first done block.now }
+{
+    match block {
+        Block::Delta { page, back, .. } => wrong_back(lines, first, *page, *back),
+        Block::Base(_) => None,
+        Block::Split { page, back, .. } => wrong_back(lines, first, *page, *back),
+    }
+}
+
+/// One more block, whose link is looked at first.
+pub fn read_linked(
+    lines: &mut BTreeMap<u32, DraftLine>,
+    first: u64,
+    place: Place,
+    block: Block,
+) -> Result<(), ReadFault>
+    ensures ok { (done : List (PlaceValue × BlockValue)) → IsRead first done lines.old
+        → OnOk result (IsRead first (done ++ (place, block) ∷ []) lines.new) }
+    ensures fault { (done : List (PlaceValue × BlockValue)) → IsRead first done lines.old
+        → IfErr result (LinkFaultIs (fault_of first done block)) }
+{
+    match wrong_link(lines, first, &block) {
+        Some(page) => Err(ReadFault::BadLink(page)),
+        None => {
+            read_one(lines, place, block)?;
+            Ok(())
+        }
+    }
+}
+
+/// The blocks of one more frame.
+pub fn read_blocks_linked(
+    lines: &mut BTreeMap<u32, DraftLine>,
+    first: u64,
+    number: u64,
+    blocks: Vec<Block>,
+) -> Result<(), ReadFault>
+    requires { length blocks.items < 2 ^ 32 }
+    ensures ok { (done : List (PlaceValue × BlockValue)) → IsRead first done lines.old
+        → OnOk result (IsRead first (done ++ placed number 0 blocks.items) lines.new) }
+    ensures fault { (done rest : List (PlaceValue × BlockValue)) → IsRead first done lines.old
+        → IfErr result (LinkFaultIs
+        (bad_link first [] (done ++ (placed number 0 blocks.items ++ rest)))) }
+{
+    let mut blocks = blocks;
+    blocks.reverse();
+    let mut index: u32 = 0;
+    'next: while let Some(block) = blocks.pop() {
+        read_linked(
+            lines,
+            first,
+            Place {
+                frame: number,
+                index,
+            },
+            block,
+        )?;
+        index += 1;
+    }
+    Ok(())
+}

@@ -1,0 +1,6 @@
+pub mod Order
+pub mod Shorts
+pub mod Cuts
+pub mod Ascending
+pub mod Flattened
+pub mod Changed

@@ -1,0 +1,12 @@
+use Rattle.std.proofs.Common.{◌-◌, length}
+use Rattle.bw_record.specs.Keys.{is_below}
+use Rattle.bw_lows.specs.Rows.{low_at}
+use Rattle.bw_lows.specs.Flat.{block_at}
+use Rattle.bw_lows.proofs.Cuts.{IsBetween}
+use Rattle.bw_lows.proofs.place.count_begun.Given as goal
+
+abbrev pub invariant-loop-from : goal.invariant-loop-from
+invariant-loop-from l = IsBetween (λ i. is_below l.key (low_at (block_at l.blocks i) 0)) (length l.blocks) l.from l.to
+
+abbrev pub decreases-loop-from : goal.decreases-loop-from
+decreases-loop-from l = l.to - l.from

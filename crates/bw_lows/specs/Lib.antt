@@ -1,0 +1,8 @@
+-- what callers see
+
+pub mod LowHeads
+-- what private functions say, and how values stand in memory
+
+pub mod Rows
+pub mod Packing
+pub mod Flat

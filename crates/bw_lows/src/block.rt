@@ -1,0 +1,199 @@
+//! A block: lows with their pages, in the order of the lows where the index holds them.
+
+ghost use Rattle.std.specs.Prelude.{◌≡◌, ◌≤◌, ◌<◌, [], ◌∷◌, ◌++◌, length, insert, remove, slice_set, vec_len, OnOk, OnErr, IfOk};
+ghost use Rattle.std.specs.Ordering.{is_eq};
+ghost use Rattle.bw_record.specs.Keys.{is_below, IsBytes};
+ghost use Rattle.bw_record.specs.Heads.{head};
+ghost use Rattle.bw_lows.specs.LowHeads.{order};
+ghost use Rattle.bw_lows.specs.Rows.{low_at, page_at, IsCut, IsFirst};
+
+use crate::entry::Entry;
+use bw_record::Key;
+use std::alloc::{AllocError, Global};
+use std::cmp::Ordering;
+use std::marker::Model;
+
+/// For how many more lows a block takes room at a time: few, since each block has such room.
+const STEP: usize = 16;
+
+/// Lows with their pages.
+#[derive(Drop)]
+pub(crate) struct Block {
+    /// The head of the first low, which a search among blocks reads in place of the low; 0 where
+    /// there is no low.
+    first: u64,
+    entries: Vec<Entry>,
+}
+
+impl Model for Block {
+    ghost use Rattle.std.specs.Prelude.{List, ℕ};
+    ghost use Rattle.bw_lows.specs.Rows.{IsFirst};
+
+    ghost Value = { List (List ℕ × ℕ) };
+
+    ghost view = { λ b. b.entries.items };
+
+    ghost invariant = { λ b. IsFirst b.first b.entries.items };
+}
+
+impl Block {
+    /// A block of one low. It takes memory, whose refusal is the only error.
+    pub(crate) fn of(alloc: Global, entry: Entry) -> Result<Block, AllocError>
+        ensures { IfOk result (λ block. block ≡ entry ∷ []) }
+    {
+        let first = entry.head();
+        let mut entries = Vec::new(alloc);
+        entries.push(entry)?;
+        Ok(Block { first, entries })
+    }
+
+    /// How many lows it has.
+    pub(crate) fn len(&self) -> usize
+        ensures { result ≡ length self.now }
+    {
+        self.entries.as_slice().len()
+    }
+
+    /// The low at an index.
+    pub(crate) fn low(&self, at: usize) -> Key
+        requires { at < length self.now }
+        ensures { result ≡ low_at self.now at }
+    {
+        let _ = self.entries.as_slice().len();
+        self.entries[at].low()
+    }
+
+    /// The page of the low at an index.
+    pub(crate) fn page(&self, at: usize) -> u32
+        requires { at < length self.now }
+        ensures { result ≡ page_at self.now at }
+    {
+        let _ = self.entries.as_slice().len();
+        self.entries[at].page()
+    }
+
+    /// Whether the low at an index is a key.
+    pub(crate) fn is_at(&self, at: usize, key: &Key) -> bool
+        requires { at < length self.now }
+        ensures { result ≡ is_eq (order key.now (low_at self.now at)) }
+    {
+        let _ = self.entries.as_slice().len();
+        self.entries[at].compare(key) == Ordering::Equal
+    }
+
+    /// Whether the low at an index is above a key with this head.
+    fn is_above(&self, at: usize, start: u64, key: &Key) -> bool
+        requires within { at < length self.now }
+        requires start { start ≡ head key.now }
+        requires bytes { IsBytes key.now }
+        ensures { result ≡ is_below key.now (low_at self.now at) }
+    {
+        let _ = self.entries.as_slice().len();
+        self.entries[at].is_above(start, key)
+    }
+
+    /// Whether the first low is above a key with this head.
+    pub(crate) fn begins_above(&self, start: u64, key: &Key) -> bool
+        requires filled { 0 < length self.now }
+        requires start { start ≡ head key.now }
+        requires bytes { IsBytes key.now }
+        ensures { result ≡ is_below key.now (low_at self.now 0) }
+    {
+        if start < self.first {
+            return true;
+        }
+        if start > self.first {
+            return false;
+        }
+        self.is_above(0, start, key)
+    }
+
+    /// How many lows are not above a key with this head, where lows ascend.
+    pub(crate) fn count_upto(&self, start: u64, key: &Key) -> usize
+        requires start { start ≡ head key.now }
+        requires bytes { IsBytes key.now }
+        ensures { IsCut (λ i. is_below key.now (low_at self.now i)) (length self.now) result }
+    {
+        let mut from = 0;
+        let mut to = self.len();
+        while from < to {
+            let middle = from + (to - from) / 2;
+            if self.is_above(middle, start, key) {
+                to = middle;
+            } else {
+                from = middle + 1;
+            }
+        }
+        from
+    }
+
+    /// Puts a low before the one at an index, or last. A refusal changes nothing.
+    pub(crate) fn insert(&mut self, at: usize, entry: Entry) -> Result<(), AllocError>
+        requires { at ≤ length self.old }
+        ensures ok { OnOk result (self.new ≡ insert self.old at entry) }
+        ensures err { OnErr result (self.new ≡ self.old) }
+    {
+        let _ = self.entries.as_slice().len();
+        make_room(&mut self.entries)?;
+        self.entries.insert(at, entry)?;
+        self.first = first_of(self.entries.as_slice());
+        Ok(())
+    }
+
+    /// Sets the page of the low at an index.
+    pub(crate) fn set_page(&mut self, at: usize, page: u32)
+        requires { at < length self.old }
+        ensures { self.new ≡ slice_set self.old at (low_at self.old at, page) }
+    {
+        let _ = self.entries.as_slice().len();
+        self.entries[at].set_page(page);
+    }
+
+    /// Removes the low at an index; those behind it move up. No memory is taken.
+    pub(crate) fn remove(&mut self, at: usize)
+        requires { at < length self.old }
+        ensures { self.new ≡ remove self.old at }
+    {
+        let _ = self.entries.as_slice().len();
+        let _ = self.entries.remove(at);
+        self.first = first_of(self.entries.as_slice());
+    }
+
+    /// Takes off the upper half of the lows. What stays keeps no more room than it needs. A refusal
+    /// changes nothing.
+    pub(crate) fn split(&mut self) -> Result<Block, AllocError>
+        requires { 2 ≤ length self.old }
+        ensures all { IfOk result (λ upper. self.new ++ upper ≡ self.old) }
+        ensures lower { OnOk result (0 < length self.new) }
+        ensures upper { IfOk result (λ upper. 0 < length upper) }
+        ensures err { OnErr result (self.new ≡ self.old) }
+    {
+        let half = self.entries.as_slice().len() / 2;
+        let entries = self.entries.split_off(half)?;
+        self.entries.shrink_to_fit();
+        self.first = first_of(self.entries.as_slice());
+        let first = first_of(entries.as_slice());
+        Ok(Block { first, entries })
+    }
+}
+
+// The head of the first low; 0 where there is none.
+fn first_of(entries: &[Entry]) -> u64
+    ensures { IsFirst result entries.now }
+{
+    match entries.first() {
+        Some(entry) => entry.head(),
+        None => 0,
+    }
+}
+
+// Makes room for one more low, and a few others.
+fn make_room(entries: &mut Vec<Entry>) -> Result<(), AllocError>
+    ensures items { entries.new.items ≡ entries.old.items }
+    ensures len { vec_len entries.new ≡ vec_len entries.old }
+{
+    if entries.len() == entries.capacity() {
+        entries.reserve_exact(STEP)?;
+    }
+    Ok(())
+}

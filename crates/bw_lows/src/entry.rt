@@ -1,0 +1,146 @@
+//! A low key with its page, in no more room than they take.
+
+ghost use Rattle.std.specs.Prelude.{◌≡◌, ◌≤◌, length, IfOk};
+ghost use Rattle.bw_record.specs.Keys.{is_below, IsBytes};
+ghost use Rattle.bw_record.specs.Heads.{head};
+ghost use Rattle.bw_lows.specs.LowHeads.{order};
+ghost use Rattle.bw_lows.specs.Packing.{eight_bytes};
+
+use bw_record::Key;
+use std::alloc::{AllocError, Global};
+use std::cmp::Ordering;
+use std::marker::Model;
+
+/// A low key with its page.
+#[derive(Drop)]
+pub(crate) struct Entry {
+    /// The low's first eight bytes as a number; zeros stand for those that it lacks.
+    first: u64,
+    /// The low's bytes, where they are more than eight.
+    whole: Vec<u8>,
+    page: u32,
+    /// How many bytes the low has, where they are at most eight.
+    count: u8,
+    /// Whether they are at most eight.
+    short: bool,
+}
+
+impl Model for Entry {
+    ghost use Rattle.std.specs.Prelude.{List, ℕ};
+
+    ghost Value = { List ℕ × ℕ };
+
+    ghost use Rattle.bw_lows.specs.Packing.{entry_of, IsEntry};
+
+    ghost view = { entry_of };
+
+    ghost invariant = { IsEntry };
+}
+
+impl Entry {
+    /// A low with its page. A low of at most eight bytes takes no memory; of a longer one a refusal is
+    /// the only error.
+    pub(crate) fn of(alloc: Global, low: &Key, page: u32) -> Result<Entry, AllocError>
+        ensures { IfOk result (λ entry. entry ≡ (low.now, page)) }
+    {
+        let first = low.head();
+        let bytes = low.as_slice();
+        if bytes.len() <= 8 {
+            return Ok(Entry {
+                first,
+                whole: Vec::new(alloc),
+                page,
+                count: bytes.len() as u8,
+                short: true,
+            });
+        }
+        let whole = Vec::from_slice(alloc, bytes)?;
+        Ok(Entry {
+            first,
+            whole,
+            page,
+            count: 0,
+            short: false,
+        })
+    }
+
+    /// The low in fixed room. No memory is taken.
+    pub(crate) fn low(&self) -> Key
+        ensures { result ≡ self.now.0 }
+    {
+        if self.short {
+            let first = bytes_of(self.first);
+            key_of(&first[..usize::from(self.count)])
+        } else {
+            key_of(self.whole.as_slice())
+        }
+    }
+
+    /// The low's head.
+    pub(crate) fn head(&self) -> u64
+        ensures value { result ≡ head self.now.0 }
+        ensures bytes { IsBytes self.now.0 }
+    {
+        self.first
+    }
+
+    /// The low's page.
+    pub(crate) fn page(&self) -> u32
+        ensures { result ≡ self.now.1 }
+    {
+        self.page
+    }
+
+    /// Sets the low's page.
+    pub(crate) fn set_page(&mut self, page: u32)
+        ensures { self.new ≡ (self.old.0, page) }
+    {
+        self.page = page;
+    }
+
+    /// How a key compares with the low, by all their bytes.
+    pub(crate) fn compare(&self, key: &Key) -> Ordering
+        ensures { result ≡ order key.now self.now.0 }
+    {
+        if self.short {
+            let first = bytes_of(self.first);
+            key.as_slice().cmp(&first[..usize::from(self.count)])
+        } else {
+            key.as_slice().cmp(self.whole.as_slice())
+        }
+    }
+
+    /// Whether the low is above a key with this head.
+    pub(crate) fn is_above(&self, start: u64, key: &Key) -> bool
+        requires start { start ≡ head key.now }
+        requires bytes { IsBytes key.now }
+        ensures { result ≡ is_below key.now self.now.0 }
+    {
+        if start < self.first {
+            return true;
+        }
+        if start > self.first {
+            return false;
+        }
+        self.compare(key) == Ordering::Less
+    }
+}
+
+// A number's eight bytes, the highest first.
+fn bytes_of(x: u64) -> [u8; 8]
+    ensures { result ≡ eight_bytes x }
+{
+    x.to_be_bytes()
+}
+
+// The key of these bytes.
+fn key_of(bytes: &[u8]) -> Key
+    requires least { 1 ≤ length bytes.now }
+    requires most { length bytes.now ≤ 128 }
+    ensures { result ≡ bytes.now }
+{
+    match Key::new(bytes) {
+        Ok(key) => key,
+        Err(_) => unreachable!(),
+    }
+}

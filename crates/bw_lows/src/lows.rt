@@ -1,0 +1,152 @@
+//! The index itself.
+
+ghost use Rattle.std.specs.Prelude.{◌≡◌, [], None, Some, if◌then◌else◌, IfSome, OnOk, OnErr};
+ghost use Rattle.std.specs.Bool.{OnTrue, OnFalse};
+ghost use Rattle.std.specs.Ordering.{eq_by_cmp};
+ghost use Rattle.bw_lows.specs.LowHeads.{Bytes, order, page_of_low, IsGreatestLow, HasNoLow, IsLeastLow, HasNoHigher};
+
+use crate::block::Block;
+use crate::entry::Entry;
+use crate::place::{cut, place, take_out};
+use bw_record::Key;
+use std::alloc::{AllocError, Global};
+use std::marker::Model;
+
+/// How many lows a block may have: few enough that moving them costs little, and enough that there
+/// are few blocks.
+const MOST: usize = 256;
+
+/// Low keys with their pages.
+#[derive(Drop)]
+pub struct LowIndex {
+    blocks: Vec<Block>,
+}
+
+impl Model for LowIndex {
+    ghost use Rattle.std.specs.Prelude.{ℕ, List};
+    ghost use Rattle.bw_lows.specs.LowHeads.{Bytes};
+    ghost use Rattle.bw_lows.specs.Flat.{flat, AreBlocks};
+
+    ghost Value = { List (Bytes × ℕ) };
+
+    ghost view = { λ a. flat a.blocks.items };
+
+    ghost invariant = { λ a. AreBlocks a.blocks.items };
+}
+
+impl LowIndex {
+    /// No lows. No memory is taken.
+    pub fn new(alloc: Global) -> LowIndex
+        ensures { result ≡ [] }
+    {
+        LowIndex {
+            blocks: Vec::new(alloc),
+        }
+    }
+
+    /// The page of the greatest low that is not above a key, if there is one.
+    pub fn find(&self, key: &Key) -> Option<u32>
+        ensures some { IfSome result (λ p. IsGreatestLow (page_of_low self.now) key.now p) }
+        ensures none { result ≡ None → HasNoLow (page_of_low self.now) key.now }
+    {
+        let (at, within) = place(self.blocks.as_slice(), key);
+        if within == 0 {
+            return None;
+        }
+        Some(self.blocks[at].page(within - 1))
+    }
+
+    /// The least low that is above a key, if there is one.
+    pub fn above(&self, key: &Key) -> Option<Key>
+        ensures some { IfSome result (λ low. IsLeastLow (page_of_low self.now) key.now low) }
+        ensures none { result ≡ None → HasNoHigher (page_of_low self.now) key.now }
+    {
+        let (at, within) = place(self.blocks.as_slice(), key);
+        if at >= self.blocks.len() {
+            return None;
+        }
+        let block = &self.blocks[at];
+        if within < block.len() {
+            return Some(block.low(within));
+        }
+        if at + 1 < self.blocks.len() {
+            return Some(self.blocks[at + 1].low(0));
+        }
+        None
+    }
+
+    /// Sets the page of a low. A refused growth is the only error, and changes nothing.
+    pub fn insert(&mut self, low: Key, page: u32) -> Result<(), AllocError>
+        ensures ok { OnOk result ((q : Bytes) → page_of_low self.new q
+            ≡ (if eq_by_cmp order q low then Some page else page_of_low self.old q)) }
+        ensures unchanged { OnErr result (self.new ≡ self.old) }
+    {
+        if self.set_page(&low, page) {
+            return Ok(());
+        }
+        self.make_room(&low)?;
+        self.add(&low, page)
+    }
+
+    // Sets the page of a low where it has one already, and says whether it has.
+    fn set_page(&mut self, low: &Key, page: u32) -> bool
+        ensures set { OnTrue result ((q : Bytes) → page_of_low self.new q
+            ≡ (if eq_by_cmp order q low.now then Some page else page_of_low self.old q)) }
+        ensures same { OnFalse result (self.new ≡ self.old) }
+        ensures absent { OnFalse result (page_of_low self.old low.now ≡ None) }
+    {
+        let (at, within) = place(self.blocks.as_slice(), low);
+        if within == 0 {
+            return false;
+        }
+        let block = &mut self.blocks[at];
+        if !block.is_at(within - 1, low) {
+            return false;
+        }
+        block.set_page(within - 1, page);
+        true
+    }
+
+    // Cuts the block that a low belongs to in two, where it has no room for one more.
+    fn make_room(&mut self, low: &Key) -> Result<(), AllocError>
+        ensures { self.new ≡ self.old }
+    {
+        let (at, _) = place(self.blocks.as_slice(), low);
+        if at >= self.blocks.len() || self.blocks[at].len() < MOST {
+            return Ok(());
+        }
+        cut(&mut self.blocks, at)
+    }
+
+    // Adds a low that has no page yet.
+    fn add(&mut self, low: &Key, page: u32) -> Result<(), AllocError>
+        requires { page_of_low self.old low.now ≡ None }
+        ensures ok { OnOk result ((q : Bytes) → page_of_low self.new q
+            ≡ (if eq_by_cmp order q low.now then Some page else page_of_low self.old q)) }
+        ensures unchanged { OnErr result (self.new ≡ self.old) }
+    {
+        let alloc = *self.blocks.allocator();
+        let entry = Entry::of(alloc, low, page)?;
+        let (at, within) = place(self.blocks.as_slice(), low);
+        if at >= self.blocks.len() {
+            self.blocks.push(Block::of(alloc, entry)?)?;
+            return Ok(());
+        }
+        self.blocks[at].insert(within, entry)
+    }
+
+    /// Drops a low. No memory is taken.
+    pub fn remove(&mut self, low: &Key)
+        ensures { (q : Bytes) → page_of_low self.new q
+            ≡ (if eq_by_cmp order q low.now then None else page_of_low self.old q) }
+    {
+        let (at, within) = place(self.blocks.as_slice(), low);
+        if within == 0 {
+            return;
+        }
+        if !self.blocks[at].is_at(within - 1, low) {
+            return;
+        }
+        take_out(&mut self.blocks, at, within - 1);
+    }
+}

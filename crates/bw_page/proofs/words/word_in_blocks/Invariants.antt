@@ -1,6 +1,0 @@
-use Rattle.std.proofs.Common.{◌≡◌, take}
-use Rattle.bw_page.specs.Words.{blocks_word}
-use Rattle.bw_page.proofs.words.word_in_blocks.Given as goal
-
-abbrev pub invariant-loop-block : goal.invariant-loop-block
-invariant-loop-block l = l.word ≡ blocks_word l.page l.key (take l.block-index l.blocks)

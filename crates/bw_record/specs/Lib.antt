@@ -1,0 +1,10 @@
+-- what callers see, in reading order
+pub mod Version
+pub mod Keys
+pub mod Record
+pub mod Lawful
+pub mod Heads
+-- what private functions say
+pub mod Items
+pub mod Paired
+pub mod Packed

@@ -1,0 +1,23 @@
+//! Keys, values, records and pages as values: what is stored, before anybody spells it as bytes.
+//!
+//! A record is one change of one key. A pair is a key with its value, as pages hold it: its bytes
+//! stand once in memory, and whoever holds the pair shares them; so does a packed record. A leaf is
+//! a page: its number, its low key, and its pairs in the order of their keys.
+//!
+//! Lengths are kept by the types: a `Key` has 1 to 128 bytes and a `Value` 0 to 512, so nobody
+//! above has to ask. Keys are ordered by their bytes, a beginning before its continuation.
+#![tactic(auto)]
+
+mod heads;
+mod key;
+mod leaf;
+pub mod limits;
+mod packed;
+mod pair;
+mod record;
+
+pub use key::{Key, LengthError, Value, is_before};
+pub use leaf::{Leaf, Low, Pairs};
+pub use packed::Packed;
+pub use pair::{Pair, ascend};
+pub use record::{Ops, Record};

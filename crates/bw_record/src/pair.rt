@@ -1,0 +1,114 @@
+//! A key with its value, in no more room than they take; whoever holds a pair shares its bytes.
+
+ghost use Rattle.std.specs.Prelude.{◌≡◌, ◌≤◌, length, IfOk};
+ghost use Rattle.bw_record.specs.Keys.{ascends};
+
+use crate::key::{Key, Value, is_before};
+use std::alloc::{AllocError, Global};
+use std::marker::Model;
+use std::sync::Arc;
+
+/// A key and its value, as pages hold them: their bytes are one run of memory, which pairs share.
+#[derive(Drop)]
+pub struct Pair {
+    /// The key's length, the key's bytes, and the value's.
+    run: Arc<Vec<u8>, Global>,
+}
+
+impl Model for Pair {
+    ghost use Rattle.std.specs.Prelude.{List, ℕ};
+    ghost use Rattle.bw_record.specs.Paired.{paired, IsPaired};
+
+    ghost Value = { List ℕ × List ℕ };
+
+    ghost view = { λ p. paired p.run.value.items };
+
+    ghost invariant = { λ p. IsPaired p.run.value.items };
+}
+
+impl Pair {
+    /// This key with this value. It takes memory, whose refusal is the only error.
+    pub fn of(alloc: Global, key: &Key, value: &Value) -> Result<Pair, AllocError>
+        ensures { IfOk result (λ pair. pair ≡ (key.now, value.now)) }
+    {
+        let key = key.as_slice();
+        let value = value.as_slice();
+        let mut bytes = Vec::with_capacity(alloc, 1 + key.len() + value.len())?;
+        bytes.push(key.len() as u8)?;
+        bytes.extend_from_slice(key)?;
+        bytes.extend_from_slice(value)?;
+        let run = Arc::new(alloc, bytes)?;
+        Ok(Pair { run })
+    }
+
+    /// The key's bytes.
+    pub fn key(&self) -> &[u8]
+        ensures value { result.now ≡ self.now.0 }
+        ensures lawful { (1 ≤ length self.now.0) × (length self.now.0 ≤ 128) }
+    {
+        match self.run.as_slice() {
+            [length, rest @ ..] => &rest[..usize::from(*length)],
+            [] => unreachable!(),
+        }
+    }
+
+    /// The value's bytes.
+    pub fn value(&self) -> &[u8]
+        ensures value { result.now ≡ self.now.1 }
+        ensures lawful { length self.now.1 ≤ 512 }
+    {
+        match self.run.as_slice() {
+            [length, rest @ ..] => &rest[usize::from(*length)..],
+            [] => unreachable!(),
+        }
+    }
+
+    /// The key in fixed room. No memory is taken.
+    pub fn to_key(&self) -> Key
+        ensures { result ≡ self.now.0 }
+    {
+        match Key::new(self.key()) {
+            Ok(key) => key,
+            Err(_) => unreachable!(),
+        }
+    }
+
+    /// The value in fixed room. No memory is taken.
+    pub fn to_value(&self) -> Value
+        ensures { result ≡ self.now.1 }
+    {
+        match Value::new(self.value()) {
+            Ok(value) => value,
+            Err(_) => unreachable!(),
+        }
+    }
+
+    /// The same pair, which shares the bytes of this one. No memory is taken; it is refused alone
+    /// where the count of those that share is full.
+    pub fn copy(&self) -> Result<Pair, AllocError>
+        ensures { IfOk result (λ pair. pair ≡ self.now) }
+    {
+        let run = Arc::try_clone(&self.run)?;
+        Ok(Pair { run })
+    }
+}
+
+/// Whether each key is below the next. No memory is taken.
+pub fn ascend(pairs: &[Pair]) -> bool
+    ensures { result ≡ ascends pairs.now }
+{
+    let mut last: Option<&[u8]> = None;
+    for pair in pairs {
+        let key = pair.key();
+        match last {
+            None => {}
+            Some(before) => {
+                if !is_before(before, key) {
+                    return false;
+                }
+            }
+        }
+        last = Some(key);
+    }
+    true
+}
