@@ -12,22 +12,23 @@
  * Link with -lhechdoram_read (pkg-config hechdoram_read).
  *
  * Answers. A call answers BW_OK, or BW_NOT_FOUND where there is no such pair, or a number below 0,
- *   whose text bw_read_error gives. Where it is none of BW_OK, what the caller's memory then has says
+ *   whose text bw_read_error gives. Where it is not BW_OK, what the caller's memory then has says
  *   nothing.
  * Bytes. A key has 1 to BW_MAX_KEY bytes, a value 0 to BW_MAX_VALUE, any bytes, and no 0 ends one.
  *   Keys stand in the order of memcmp; of two that begin alike the shorter comes first. A length
  *   stands behind its pointer.
  * Time. A folder is read whole when it is opened, and let go of: a reader has the pairs that were
- *   durable then, in memory, and sees nothing of what is written later. While it is read it is locked
- *   beside other readers: a folder that is open to be written is refused, BW_IN_USE. Nothing in it is
- *   changed.
+ *   durable then, in memory, and sees nothing of what is written later. While it is read it is
+ *   locked beside other readers: a folder that is open to be written is refused, BW_IN_USE. Nothing
+ *   in it is changed.
  * Memory. No pointer is kept that the caller gave, and none goes out but the reader's own: what is
  *   answered is copied into the caller's memory. Memory is taken by malloc, and none after the
  *   opening; a want of it is BW_NO_MEMORY.
- * Threads. One thread at a time calls with a reader. Any thread may, where a lock, a join or a start
- *   stands between the two. Several readers, of one folder too, are no concern of one another.
- * Readers. A bw_reader is one word. An open one may be moved, but not used from two places. A closed
- *   one may be closed again, and every other call on it answers BW_MISUSE, as does a null pointer.
+ * Threads. One thread at a time calls with a reader. Any thread may, where a lock, a join or a
+ *   start stands between the two. Several readers, of one folder too, do not concern one another.
+ * Readers. A bw_reader is one word. An open one may be moved, but not used from two places. A
+ *   closed one may be closed again, and every other call on it answers BW_MISUSE, as does a null
+ *   pointer.
  * Forks and signals. No call in a signal handler, nor in the child of a fork of a process that has
  *   threads.
  */
@@ -168,7 +169,8 @@ static inline int bw_begins(const bw_pair *pair, const void *prefix, size_t len)
 }
 
 /* The first pair whose key begins with these bytes; of no bytes, the first of all. */
-static inline int bw_read_first_of(bw_reader *reader, const void *prefix, size_t len, bw_pair *pair) {
+static inline int bw_read_first_of(bw_reader *reader, const void *prefix, size_t len,
+                                   bw_pair *pair) {
     uint8_t begin[BW_MAX_KEY];
     if (!reader || !reader->at || !prefix || !pair) return BW_MISUSE;
     if (len > BW_MAX_KEY) return BW_NOT_FOUND;
@@ -178,8 +180,9 @@ static inline int bw_read_first_of(bw_reader *reader, const void *prefix, size_t
     return answer == BW_OK && !bw_begins(pair, begin, len) ? BW_NOT_FOUND : answer;
 }
 
-/* The pair behind the one in `pair` whose key begins with these bytes, which `pair` does not hold. */
-static inline int bw_read_next_of(bw_reader *reader, const void *prefix, size_t len, bw_pair *pair) {
+/* The pair behind the one in `pair` whose key begins with these bytes, which lie outside `pair`. */
+static inline int bw_read_next_of(bw_reader *reader, const void *prefix, size_t len,
+                                  bw_pair *pair) {
     if (!reader || !reader->at || !prefix || !pair) return BW_MISUSE;
     int answer = bw_read_next(reader, pair);
     return answer == BW_OK && !bw_begins(pair, prefix, len) ? BW_NOT_FOUND : answer;

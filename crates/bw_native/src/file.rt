@@ -102,8 +102,8 @@ impl NativeFile {
     /// What it is. What has no end to seek, as a pipe, is told as a link is: as no plain file. The
     /// place from which it is read next stays.
     ///
-    /// The system's own answer, by `statx`, cannot be asked for here: it is written into a struct of
-    /// which nobody but std may make one.
+    /// The system's own answer, by `statx`, cannot be asked for here: it is written into a struct
+    /// of which nobody but std may make one.
     pub(crate) fn kind(&self) -> io::Result<Metadata> {
         let at = libc::lseek(self.number(), 0, libc::SEEK_CUR);
         let end = libc::lseek(self.number(), 0, libc::SEEK_END);

@@ -57,8 +57,8 @@ fn flags_of(how: &OpenOptions) -> i32
     libc::O_CLOEXEC | access_of(how) | making_of(how)
 }
 
-// Opens what may be a pipe, of which it is only told what it is. A pipe that is opened to be written
-// too keeps nobody waiting; what may only be read is opened to be read.
+// Opens what may be a pipe, of which it is only told what it is. A pipe that is opened to be
+// written too keeps nobody waiting; what may only be read is opened to be read.
 fn opened_to_look(path: &[u8]) -> io::Result<NativeFile> {
     let both = os::open_with(path, libc::O_CLOEXEC | libc::O_RDWR, MODE);
     if both < 0 && (os::errno() == libc::EACCES || os::errno() == libc::EROFS) {

@@ -29,6 +29,10 @@ pub record Room : Type 0 where
   pub value : Bytes
   pub value_len : ℕ
 
+-- the same of its four parts
+abbrev pub room_of : Bytes → ℕ → Bytes → ℕ → Room
+room_of key key_len value value_len = record { key = key; key_len = key_len; value = value; value_len = value_len }
+
 -- a pair was written
 pub record HoldsPair (old now : Room) (pair : Bytes × Bytes) : Type 0 where
   pub key : now.key ≡ over old.key pair.0
@@ -39,5 +43,6 @@ pub record HoldsPair (old now : Room) (pair : Bytes × Bytes) : Type 0 where
 -- the pair with the least key at or above this one was written; or there is none
 pub record FindsFirst (map : Map) (key : Bytes) (answer : ℤ) (old now : Room) : Type 0 where
   pub told : (answer ≡ pos 0) ⊎ (answer ≡ pos 1)
-  pub found : answer ≡ pos 0 → (pair : Bytes × Bytes) × IsFirstPair map key pair × HoldsPair old now pair
+  pub found : answer ≡ pos 0
+      → (pair : Bytes × Bytes) × IsFirstPair map key pair × HoldsPair old now pair
   pub none : answer ≡ pos 1 → HasNoPair map key

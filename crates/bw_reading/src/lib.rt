@@ -2,8 +2,8 @@
 //!
 //! A folder is read whole as it is opened, under a lock beside other readers, and let go of: what a
 //! handle stands for is the pages as they were then, in memory. Nothing in the folder is written. A
-//! key is looked up, or the first pair at or above a key; a walk is the second, again and again. What
-//! is answered is copied into the caller's memory, and no pointer goes out but the handle's.
+//! key is looked up, or the first pair at or above a key; a walk is the second, again and again.
+//! What is answered is copied into the caller's memory, and no pointer goes out but the handle's.
 //!
 //! `include/hechdoram_read.h` has the calls for C: it looks at null pointers and at lengths before
 //! it calls one, and is what a program includes.
@@ -11,7 +11,7 @@
 
 ghost use Rattle.std.specs.Prelude.{◌≡◌, ◌≢◌, ◌⊎◌, pos, negsuc, length};
 ghost use Rattle.bw_page.specs.Leaves.{union};
-ghost use Rattle.bw_reading.specs.Calls.{IsKey, IsNoKey, over, Gets, FindsFirst};
+ghost use Rattle.bw_reading.specs.Calls.{IsKey, IsNoKey, over, Gets, room_of, FindsFirst};
 ghost use Rattle.bw_reading.specs.Answers.{IsRefusal};
 ghost use Rattle.bw_reading.specs.Pages.{pair_count};
 
@@ -93,8 +93,8 @@ pub extern "C" fn bw_raw_get(
     }
 }
 
-/// The pair with the least key at or above this one: as many bytes of both as there is room for, and
-/// how many they have.
+/// The pair with the least key at or above this one: as many bytes of both as there is room for,
+/// and how many they have.
 #[unsafe(no_mangle)]
 pub extern "C" fn bw_raw_at_or_above(
     handle: &mut Handle,
@@ -104,9 +104,10 @@ pub extern "C" fn bw_raw_at_or_above(
     value: &mut [u8],
     value_len: &mut usize,
 ) -> i32
-    ensures first { IsKey key.now → FindsFirst (union handle.old.held.leaves.leaves) key.now result
-        (record { key = key_out.old; key_len = key_len.old; value = value.old; value_len = value_len.old })
-        (record { key = key_out.new; key_len = key_len.new; value = value.new; value_len = value_len.new }) }
+    ensures first { IsKey key.now
+        → FindsFirst (union handle.old.held.leaves.leaves) key.now result
+        (room_of key_out.old key_len.old value.old value_len.old)
+        (room_of key_out.new key_len.new value.new value_len.new) }
     ensures length { IsNoKey key.now → result ≡ negsuc 5 }
     ensures kept { handle.new.held ≡ handle.old.held }
 {
