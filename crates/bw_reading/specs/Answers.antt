@@ -3,8 +3,8 @@
 use Rattle.std.specs.Prelude.{◌≡◌, ◌≢◌, ℤ, pos, negsuc}
 use Rattle.bw_file.specs.declared.refusals.FolderFault.{FolderFault}
 use Rattle.bw_file.specs.declared.refusals.FolderFault.TheVariants as folder
-use Rattle.bw_care.specs.declared.fault.RecoverCause.{RecoverCause}
-use Rattle.bw_care.specs.declared.fault.RecoverCause.TheVariants as cause
+use Rattle.bw_lines.specs.declared.cause.RecoverCause.{RecoverCause}
+use Rattle.bw_lines.specs.declared.cause.RecoverCause.TheVariants as cause
 use Rattle.bw_reading.specs.declared.answer.Fault.{Fault}
 use Rattle.bw_reading.specs.declared.answer.Fault.TheVariants.{NoMemory, NoStore, Damaged, System, InUse, BadPath}
 

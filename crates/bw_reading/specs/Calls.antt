@@ -3,7 +3,7 @@
 use Rattle.std.specs.Prelude.{◌≡◌, ◌⊎◌, ℕ, ◌≤◌, ◌<◌, ℤ, pos, List, ◌++◌, take, drop, length, MatchOption}
 use Rattle.std.specs.FinMap as finite
 use Rattle.bw_page.specs.Ahead.{HasNoPair, IsFirstPair}
-use Rattle.bw_page.specs.Leaves.{Bytes, Map}
+use Rattle.bw_leaf.specs.Changed.{Bytes, Map}
 
 -- a key is no longer than any may be, and not empty
 abbrev pub IsKey : Bytes → Type 0

@@ -3,9 +3,9 @@
 use Rattle.std.specs.Prelude.{◌≡◌, ℕ, ◌⊎◌, Ok, Err, List, [], ◌∷◌, length, sum_by}
 use Rattle.bw_record.specs.declared.leaf.Leaf.{Leaf}
 use Rattle.bw_device.specs.Holding.{Holding}
-use Rattle.bw_page.specs.Leaves.{empty_leaf}
+use Rattle.bw_leaf.specs.Changed.{empty_leaf}
 use Rattle.bw_care.specs.Recovery.{Finding, recovery}
-use Rattle.bw_care.specs.declared.fault.RecoverCause.TheVariants.{Empty}
+use Rattle.bw_lines.specs.declared.cause.RecoverCause.TheVariants.{Empty}
 
 -- recovery finds these pages in the boxes
 pub record AreFound (boxes : List Holding) (leaves : List Leaf) : Type 0 where

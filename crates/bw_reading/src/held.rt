@@ -3,7 +3,8 @@
 ghost use Rattle.std.specs.Prelude.{◌≡◌, ◌≤◌, ◌-◌, [], length, slice_index_or};
 ghost use Rattle.std.specs.FinMap as finite;
 ghost use Rattle.bw_page.specs.Ahead.{IsFirst};
-ghost use Rattle.bw_page.specs.Leaves.{union, empty_leaf};
+ghost use Rattle.bw_leaf.specs.Changed.{empty_leaf};
+ghost use Rattle.bw_page.specs.Leaves.{union};
 ghost use Rattle.bw_reading.specs.Pages.{pair_count};
 
 use bw_codec::{Key, Value};
