@@ -15,10 +15,6 @@ use Rattle.bw_page.specs.contracts.leaves.Leaves as leaves
 use Rattle.bw_record.specs.contracts.leaf.Leaf as leaf
 use Rattle.bw_record.specs.contracts.leaf.Pairs as pairs
 use Rattle.bw_record.specs.contracts.pair.Pair as pair
-use Rattle.bw_record.specs.contracts.key.Key as key
-
-key_send : IsSend key.the_row
-key_send = search (crosses, maps_cross, sendable) depth 20
 
 pair_send : IsSend pair.the_row
 pair_send = search (crosses, maps_cross, sendable) depth 20
@@ -30,7 +26,7 @@ leaf_send : IsSend leaf.the_row
 leaf_send = search (pairs_send, crosses, maps_cross, sendable) depth 20
 
 leaves_send : IsSend leaves.the_row
-leaves_send = search (leaf_send, key_send, crosses, maps_cross, sendable) depth 30
+leaves_send = search (leaf_send, crosses, maps_cross, sendable) depth 30
 
 pub send : IsSend the_row
 send =
