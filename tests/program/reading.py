@@ -132,10 +132,10 @@ def questions(drawn, pairs, is_short):
     for key in keys[: 300 if is_short else None]:
         asked.append("get %s\n" % key.hex())
         wanted.append("value %s\n" % pairs[key].hex())
-    for key in near(drawn, keys):
+    for key in near(drawn, keys)[:: 20 if is_short else 1]:
         asked += ["get %s\n" % key.hex(), "at %s\n" % key.hex()]
         wanted += ["value %s\n" % pairs[key].hex() if key in pairs else "none\n", told(first(keys, pairs, key))]
-    for prefix in prefixes(drawn, keys)[1 if is_short else 0 :]:
+    for prefix in prefixes(drawn, keys)[1:4] if is_short else prefixes(drawn, keys):
         asked.append("walk %s\n" % prefix.hex())
         wanted += [told((key, pairs[key])) for key in keys if key.startswith(prefix)] + ["end\n"]
     return "".join(asked).encode(), "".join(wanted).encode(), len(asked)
