@@ -41,8 +41,8 @@ pub enum Task<'a> {
     Del(&'a str),
     List(Listed<'a>),
     Count,
-    /// Whether it is a dump, and whether bad pairs are read over.
-    Import(bool, bool),
+    /// Lines or a dump, whose bad pairs end it or are read over.
+    Import { is_dump: bool, skips: bool },
     Export(Style),
 }
 
@@ -285,7 +285,7 @@ pub fn perform<R: System, I: Read, O: Write>(
             list(rt, dir, leases, &span_of(listed)?, order, output)
         }
         Task::Count => count(rt, dir, leases, output),
-        Task::Import(is_dump, skips) => import(rt, dir, leases, input, *is_dump, *skips),
+        Task::Import { is_dump, skips } => import(rt, dir, leases, input, *is_dump, *skips),
         Task::Export(style) => export(rt, dir, leases, *style, output),
     }
 }

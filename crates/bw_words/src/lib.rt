@@ -5,6 +5,7 @@
 
 mod found;
 mod miss;
+mod mode;
 mod options;
 mod people;
 mod printed;
@@ -13,10 +14,12 @@ mod request;
 mod script;
 mod stop;
 mod system;
+mod table;
 
 pub use found::{print_found, write_found};
 pub use miss::Miss;
-pub use options::{Ends, LEASES, Manner, Mode, Options, Pace, View, is_memory, mode_of};
+pub use mode::{Ends, LEASES, Manner, Mode, Options, Pace, View};
+pub use options::{is_memory, mode_of};
 pub use printed::{print, write_dump, write_entry, write_pair_line, write_pairs, write_value};
 pub use refusal::Refusal;
 pub use request::{Request, parse_request};

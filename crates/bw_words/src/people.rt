@@ -1,6 +1,8 @@
 //! The words of the modes over the keys of a folder, and the task that they ask for.
 
-use crate::options::{Form, Kind, Mode, Row, text_in};
+use crate::mode::Mode;
+use crate::options::text_in;
+use crate::table::{Form, Kind, Row};
 use bw_keys::{Listed, Style, Task};
 use bw_pairs::{Letters, Spelling};
 use clap::ArgMatches;
@@ -213,7 +215,8 @@ pub fn keys_in<'a>(matches: &ArgMatches<'a>) -> Option<Mode<'a>> {
     }
     if let Some(found) = matches.subcommand_matches("import") {
         let is_dump = word_in(found, "format") == "dump";
-        return keys(found, Task::Import(is_dump, found.get_flag("skip")));
+        let skips = found.get_flag("skip");
+        return keys(found, Task::Import { is_dump, skips });
     }
     if let Some(found) = matches.subcommand_matches("export") {
         return keys(found, Task::Export(style_in(found)));

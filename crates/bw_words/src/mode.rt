@@ -1,0 +1,133 @@
+//! What a command line asks for.
+
+use bw_keys::Task;
+
+/// How lines are read and answered.
+#[derive(Debug, Clone, Copy, PartialEq, Eq)]
+pub enum Manner {
+    /// A script: each line is a command, and a fault ends it.
+    Script,
+    /// A script in which a group that finds its ring full has the store take what waits before.
+    Taking,
+    /// Requests of a program, over a store with one writer.
+    Requests,
+}
+
+/// How segments are shown.
+#[derive(Clone, Copy)]
+pub enum View {
+    /// Frame by frame and block by block.
+    Print,
+    /// By how much they have of each kind.
+    Stats,
+    /// As a picture.
+    Picture,
+}
+
+/// What the command line asks for.
+#[derive(Clone, Copy)]
+pub enum Mode<'a> {
+    /// This is done with the keys of a folder.
+    Keys(&'a str, Task<'a>),
+    /// The lines of the input are done over a store, in this manner.
+    Lines(Options<'a>, Manner),
+    /// Each writer's script is run by a thread of its own over a store.
+    Threads(Options<'a>, Pace),
+    /// Recovery says what segments hold: those of a folder, or lines in hex.
+    Scan(Option<&'a str>),
+    /// The same segments are shown in this view.
+    Look(View, Option<&'a str>),
+    /// A folder is verified.
+    Verify(&'a str),
+    /// A folder is copied as it is.
+    Copy(Ends<'a>),
+    /// The pairs of a folder go into a new store.
+    Compact(Ends<'a>, bw_home::Options),
+    /// What a folder still has goes into a new store.
+    Salvage(Ends<'a>),
+    /// A folder as of an earlier frame, in another folder.
+    Restore(Ends<'a>, u64),
+    /// Segments of format 1 are written again in format 2: those of a folder, or lines in hex.
+    Upgrade(Option<&'a str>),
+}
+
+/// A folder that is read, and one that is made.
+#[derive(Clone, Copy)]
+pub struct Ends<'a> {
+    /// The folder of the log.
+    pub from: &'a str,
+    /// The new folder.
+    pub to: &'a str,
+}
+
+impl<'a> Mode<'a> {
+    /// The folder of the segments.
+    pub fn dir(&self) -> Option<&'a str> {
+        match self {
+            Mode::Lines(options, _) | Mode::Threads(options, _) => options.dir,
+            Mode::Scan(dir) | Mode::Look(_, dir) | Mode::Upgrade(dir) => *dir,
+            Mode::Verify(dir) => Some(*dir),
+            Mode::Copy(ends)
+            | Mode::Compact(ends, _)
+            | Mode::Salvage(ends)
+            | Mode::Restore(ends, _) => Some(ends.to),
+            Mode::Keys(dir, _) => Some(*dir),
+        }
+    }
+
+    /// The folder that is read.
+    pub fn source(&self) -> Option<&'a str> {
+        match self {
+            Mode::Copy(ends)
+            | Mode::Compact(ends, _)
+            | Mode::Salvage(ends)
+            | Mode::Restore(ends, _) => Some(ends.from),
+            mode => mode.dir(),
+        }
+    }
+
+    /// The options of a run over a folder.
+    pub fn in_folder(&self) -> Option<(&'a str, Options<'a>)> {
+        match self {
+            Mode::Lines(options, _) | Mode::Threads(options, _) => Some((options.dir?, *options)),
+            _ => None,
+        }
+    }
+}
+
+/// The options of `replay`, and of `serve` and `threads` likewise.
+#[derive(Clone, Copy)]
+pub struct Options<'a> {
+    /// The store: 2 to 64 segments at the beginning, with room for 65,560 to 16,777,216 bytes each.
+    pub store: bw_home::Options,
+    /// The folder in which they are; in memory where there is none.
+    pub dir: Option<&'a str>,
+    /// Whether a segment that was given up comes back as the last spare.
+    pub reuse: bool,
+    /// Up to how many segments a store that is served adds by itself, 2 to 64.
+    pub most: u16,
+    /// Whether `m` was given, and is no default.
+    pub gives_m: bool,
+    /// The same of `f`.
+    pub gives_f: bool,
+}
+
+/// How the writers of `threads` put, and how the store is tended meanwhile.
+#[derive(Clone, Copy)]
+pub struct Pace {
+    /// How many groups a turn takes at most, 1 to 4,096.
+    pub limit: u32,
+    /// After how many turns a flush comes, 1 to 4,096.
+    pub flush_every: u32,
+    /// After a flush the oldest segment is given up where so many are live, 0 to 64; 0 for never.
+    pub clean_at: u32,
+    /// How often a group is tried, and how many turns there are, at most: 1 to 1,000,000,000.
+    pub tries: u32,
+    /// Whether the history leaves memory behind each flush.
+    pub forgets: bool,
+    /// How many readers look keys up meanwhile, 0 to 64.
+    pub readers: u32,
+}
+
+/// How many leases there are for the program's segments.
+pub const LEASES: u32 = 64;

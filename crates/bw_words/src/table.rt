@@ -1,0 +1,371 @@
+//! The modes of the program and their options, with their help, but for the modes over keys.
+
+use bw_codec::limits::{HEADER_LEN, MAX_FRAME, MAX_PAIRS, MIN_FRAME, MIN_PAIRS};
+
+/// The least capacity of a segment, in bytes: a header and the shortest of the longest frames.
+const LEAST: i64 = HEADER_LEN as i64 + MIN_FRAME as i64;
+
+/// The greatest capacity of a segment, in bytes.
+const MOST: i64 = 16_777_216;
+
+/// What an option takes.
+#[derive(Clone, Copy)]
+pub enum Kind {
+    /// A number from one to another, and what it is where none is given.
+    Number(i64, i64, &'static str),
+    /// The same, where the help tells what it is then.
+    Open(i64, i64),
+    Folder,
+    /// A folder that has to be given.
+    Needed,
+    /// The number of a frame, which has to be given.
+    Frame,
+    /// A number of 64 bits, by the name of its value.
+    Large(&'static str),
+    /// Any text, by the name of its value.
+    Text(&'static str),
+    /// The same, which has to be given, without the name of an option before it.
+    Word,
+    /// One of these texts, and which where none is given.
+    Choice(&'static [&'static str], &'static str),
+    /// Nothing.
+    Flag,
+    /// Nothing, and another flag may not be given then.
+    Either(&'static str),
+}
+
+/// An option: its name, what it takes, and the help.
+#[derive(Clone, Copy)]
+pub struct Row {
+    pub name: &'static str,
+    pub kind: Kind,
+    pub help: &'static str,
+}
+
+const WRITERS: Row = Row {
+    name: "writers",
+    kind: Kind::Number(1, 64, "1"),
+    help: "how many writers there are, numbered from 0",
+};
+
+const PLACES: Row = Row {
+    name: "places",
+    kind: Kind::Number(1, 4096, "8"),
+    help: "how many groups of a writer may wait",
+};
+
+const M: Row = Row {
+    name: "m",
+    kind: Kind::Open(MIN_PAIRS as i64, MAX_PAIRS as i64),
+    help: "the most pairs that a page holds [default: 4, in a folder 32]",
+};
+
+const FRAME: Row = Row {
+    name: "frame",
+    kind: Kind::Open(MIN_FRAME as i64, MAX_FRAME as i64),
+    help: "the most bytes that a frame has [default: 65536]",
+};
+
+const SEGMENTS: Row = Row {
+    name: "segments",
+    kind: Kind::Number(2, 64, "4"),
+    help: "how many segments there are at the beginning",
+};
+
+const CAPACITY: Row = Row {
+    name: "capacity",
+    kind: Kind::Open(LEAST, MOST),
+    help: "how many bytes a segment has room for [default: 262168, in a folder 16777216]",
+};
+
+const MOST_SEGMENTS: Row = Row {
+    name: "most-segments",
+    kind: Kind::Number(2, 64, "64"),
+    help: "up to how many segments are added where one spare is left and a cleaning does not pay",
+};
+
+const STORE_DIR: Row = Row {
+    name: "dir",
+    kind: Kind::Folder,
+    help: "a folder for the segments, made where it is missing, and gone on from where it is there; \
+        refused E13 then tells a lease",
+};
+
+const SCAN_DIR: Row = Row {
+    name: "dir",
+    kind: Kind::Folder,
+    help: "a folder whose segments are looked at, in place of lines; refused E13 then tells a \
+        position among its files",
+};
+
+const LOOK_DIR: Row = Row {
+    name: "dir",
+    kind: Kind::Folder,
+    help: "a folder whose segments are looked at, in place of lines",
+};
+
+const UPGRADE_DIR: Row = Row {
+    name: "dir",
+    kind: Kind::Folder,
+    help: "a folder whose segments are upgraded where they stand, in place of lines",
+};
+
+const TAKE: Row = Row {
+    name: "take",
+    kind: Kind::Flag,
+    help: "a group that finds its ring full has the store take what waits first",
+};
+
+const REUSE: Row = Row {
+    name: "reuse",
+    kind: Kind::Flag,
+    help: "a segment that was given up comes back as the last spare",
+};
+
+/// The same of `threads`, which then cleans where it pays.
+const REUSE_BETWEEN: Row = Row {
+    help: "runs the scripts in parts that a segment has room for, gives up the oldest segment \
+        between two of them where --clean-at says so and it pays, and has it back as the last spare",
+    ..REUSE
+};
+
+const FROM: Row = Row {
+    name: "dir",
+    kind: Kind::Needed,
+    help: "the folder of the log, which is not changed",
+};
+
+const TO: Row = Row {
+    name: "to",
+    kind: Kind::Needed,
+    help: "a new folder, or one without segments",
+};
+
+const NEW: Row = Row {
+    name: "to",
+    kind: Kind::Needed,
+    help: "the new folder, which nothing may have yet; it is made as TO.partial",
+};
+
+const VERIFY_DIR: Row = Row {
+    name: "dir",
+    kind: Kind::Needed,
+    help: "the folder that is verified, which is not changed",
+};
+
+pub const COMPACT: Row = Row {
+    name: "compact",
+    kind: Kind::Flag,
+    help: "writes all pairs into a new store, whose pages are full, by the options below",
+};
+
+const AS_OF: Row = Row {
+    name: "frame",
+    kind: Kind::Frame,
+    help: "the number of the last frame that the new folder has",
+};
+
+const LIMIT: Row = Row {
+    name: "limit",
+    kind: Kind::Number(1, 4096, "64"),
+    help: "how many groups a turn takes at most",
+};
+
+const FLUSH_EVERY: Row = Row {
+    name: "flush-every",
+    kind: Kind::Number(1, 4096, "4"),
+    help: "after how many turns a flush comes",
+};
+
+const CLEAN_AT: Row = Row {
+    name: "clean-at",
+    kind: Kind::Number(0, 64, "3"),
+    help: "how many live segments there are where the oldest is given up, 0 for never; what is still \
+        needed of it is written again, for which --segments has to suffice too",
+};
+
+const TRIES: Row = Row {
+    name: "tries",
+    kind: Kind::Number(1, 1000000000, "1000000000"),
+    help: "how often a group is tried, and how many turns there are, at most",
+};
+
+const READERS: Row = Row {
+    name: "readers",
+    kind: Kind::Number(0, 64, "0"),
+    help: "how many readers look keys up meanwhile, each in a thread of its own",
+};
+
+const FORGET: Row = Row {
+    name: "forget",
+    kind: Kind::Flag,
+    help: "lets what is flushed of the history leave memory",
+};
+
+/// The store of a script.
+const REPLAY: [Row; 9] = [
+    WRITERS, PLACES, M, FRAME, SEGMENTS, CAPACITY, STORE_DIR, TAKE, REUSE,
+];
+
+/// The store of a program, which is one writer.
+const SERVE: [Row; 7] = [
+    Row {
+        kind: Kind::Number(1, 4096, "1024"),
+        ..PLACES
+    },
+    Row {
+        help: "the most pairs that a page holds [default: 32]",
+        ..M
+    },
+    FRAME,
+    SEGMENTS,
+    Row {
+        help: "how many bytes a segment has room for [default: 16777216]",
+        ..CAPACITY
+    },
+    STORE_DIR,
+    MOST_SEGMENTS,
+];
+
+const RESTORE: [Row; 3] = [FROM, TO, AS_OF];
+
+/// The limits of a store that is written anew.
+const COPY: [Row; 7] = [
+    FROM,
+    NEW,
+    COMPACT,
+    Row {
+        help: "of --compact: the most pairs that a page holds [default: 32]",
+        ..M
+    },
+    Row {
+        help: "of --compact: the most bytes that a frame has [default: 65536]",
+        ..FRAME
+    },
+    Row {
+        kind: Kind::Open(2, 64),
+        help: "of --compact: how many segments there are at least [default: 4]",
+        ..SEGMENTS
+    },
+    Row {
+        help: "of --compact: how many bytes a segment has room for [default: 16777216]",
+        ..CAPACITY
+    },
+];
+
+/// The store of several writers, then how it is tended, and how often a group is tried.
+const THREADS: [Row; 14] = [
+    Row {
+        kind: Kind::Number(1, 64, "2"),
+        ..WRITERS
+    },
+    PLACES,
+    M,
+    FRAME,
+    Row {
+        kind: Kind::Number(2, 64, "32"),
+        ..SEGMENTS
+    },
+    CAPACITY,
+    STORE_DIR,
+    LIMIT,
+    FLUSH_EVERY,
+    CLEAN_AT,
+    TRIES,
+    READERS,
+    FORGET,
+    REUSE_BETWEEN,
+];
+
+/// A mode of the program: its name, what it does, its options in the order of the help, and a line of
+/// its use.
+pub struct Form {
+    pub name: &'static str,
+    pub about: &'static str,
+    pub options: &'static [Row],
+    pub example: &'static str,
+}
+
+/// All of them.
+pub const FORMS: [Form; 12] = [
+    Form {
+        name: "replay",
+        about: "Runs a script from standard input",
+        options: &REPLAY,
+        example: "Example: printf 'put 0 k v\\nflush\\n' | bwlog replay --dir store",
+    },
+    Form {
+        name: "serve",
+        about: "Answers each line of standard input, a request, by one line: for other programs",
+        options: &SERVE,
+        example: "Example: printf 'put k v\\nflush\\nget k\\n' | bwlog serve --dir store",
+    },
+    Form {
+        name: "threads",
+        about: "Runs the puts and deletes of standard input, each writer's in a thread of its own",
+        options: &THREADS,
+        example: "Example: printf 'put 0 k v\\nput 1 l w\\n' | bwlog threads --dir store",
+    },
+    Form {
+        name: "scan",
+        about: "Says what segments hold, one in hex on each line of standard input",
+        options: &[SCAN_DIR],
+        example: "Example: bwlog scan --dir store",
+    },
+    Form {
+        name: "print",
+        about: "Prints each header, frame and block of segments, up to the first fault",
+        options: &[LOOK_DIR],
+        example: "Example: bwlog print --dir store",
+    },
+    Form {
+        name: "stats",
+        about: "Counts what segments hold, and how much of each is still needed",
+        options: &[LOOK_DIR],
+        example: "Example: bwlog stats --dir store",
+    },
+    Form {
+        name: "picture",
+        about: "Draws segments as an SVG",
+        options: &[LOOK_DIR],
+        example: "Example: bwlog picture --dir store > store.svg",
+    },
+    Form {
+        name: "verify",
+        about: "Verifies a folder: its digests, and then what recovery says of it",
+        options: &[VERIFY_DIR],
+        example: "Example: bwlog verify --dir store",
+    },
+    Form {
+        name: "copy",
+        about: "Copies a folder, as it is or written anew",
+        options: &COPY,
+        example: "Example: bwlog copy --dir store --to copy --compact",
+    },
+    Form {
+        name: "salvage",
+        about: "Writes all that a damaged folder still has into a new store",
+        options: &[FROM, NEW],
+        example: "Example: bwlog salvage --dir store --to saved",
+    },
+    Form {
+        name: "restore",
+        about: "Makes a folder that holds a store as of an earlier frame",
+        options: &RESTORE,
+        example: "Example: bwlog restore --dir store --to older --frame 7",
+    },
+    Form {
+        name: "upgrade",
+        about: "Writes the pages of segments of format 1 again in format 2, and gives these up",
+        options: &[UPGRADE_DIR],
+        example: "Example: bwlog upgrade --dir store",
+    },
+];
+
+/// What `--help` begins with. A text that was asked for is told as any other that is no run.
+pub const ABOUT: &str =
+    "Keeps keys and values in a folder: put, get, list, import. Runs scripts over the page store, and \
+    says what segments hold. (This text goes to standard error, and the exit status is 2.)";
+
+/// The program's version, and that of the format of its segments.
+pub const VERSION: &str = "0.1.0, format 2";
