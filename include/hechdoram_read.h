@@ -24,8 +24,9 @@
  * Memory. No pointer is kept that the caller gave, and none goes out but the reader's own: what is
  *   answered is copied into the caller's memory. Memory is taken by malloc, and none after the
  *   opening; a want of it is BW_NO_MEMORY.
- * Threads. One thread at a time calls with a reader. Any thread may, where a lock, a join or a
- *   start stands between the two. Several readers, of one folder too, do not concern one another.
+ * Threads. Any number of threads may ask one open reader at once; the opening comes before all of
+ *   it, and the closing behind it, by a lock, a join or a start. Several readers, of one folder too,
+ *   do not concern one another.
  * Readers. A bw_reader is one word. An open one may be moved, but not used from two places. A
  *   closed one may be closed again, and every other call on it answers BW_MISUSE, as does a null
  *   pointer.
@@ -70,7 +71,7 @@ static inline const char *bw_read_error(int answer) {
     case BW_DAMAGED: return "the store is damaged, or is none";
     case BW_IO: return "the system refused a call";
     case BW_IN_USE: return "the folder is open to be written";
-    case BW_BAD_PATH: return "the path is no UTF-8";
+    case BW_BAD_PATH: return "the path has a byte 0";
     case BW_MISUSE: return "the reader is closed or already open, or a pointer is null";
     default: return "an unknown answer";
     }
@@ -87,14 +88,15 @@ typedef struct bw_pair {
 
 /* The library's own calls, for other languages and for the calls below. No pointer may be null, not
  * even where its length is 0; memory that is written overlaps no other; bw_raw_open writes the word
- * of a reader that is not open, and the others are given one that is. */
+ * of a reader that is not open, and the others are given one that is. clients/c/hechdoram_read.c
+ * has them. */
 int32_t bw_raw_open(const uint8_t *path, size_t path_len, void **at, int32_t *reason);
-int32_t bw_raw_get(bw_reader *reader, const uint8_t *key, size_t key_len, uint8_t *value,
+int32_t bw_raw_get(const bw_reader *reader, const uint8_t *key, size_t key_len, uint8_t *value,
                    size_t value_room, size_t *value_len);
-int32_t bw_raw_at_or_above(bw_reader *reader, const uint8_t *key, size_t key_len, uint8_t *key_out,
-                           size_t key_room, size_t *key_out_len, uint8_t *value, size_t value_room,
-                           size_t *value_len);
-uint64_t bw_raw_count(bw_reader *reader);
+int32_t bw_raw_at_or_above(const bw_reader *reader, const uint8_t *key, size_t key_len,
+                           uint8_t *key_out, size_t key_room, size_t *key_out_len,
+                           uint8_t *value, size_t value_room, size_t *value_len);
+uint64_t bw_raw_count(const bw_reader *reader);
 void bw_raw_close(bw_reader reader);
 
 /* Reads the store in a folder. On BW_OK the reader is open; else it stays closed. */
@@ -113,14 +115,14 @@ static inline void bw_read_close(bw_reader *reader) {
     reader->at = NULL;
 }
 
-/* How many pairs there are. 0 of a closed reader. It costs a look at each page. */
-static inline uint64_t bw_read_count(bw_reader *reader) {
+/* How many pairs there are. 0 of a closed reader. */
+static inline uint64_t bw_read_count(const bw_reader *reader) {
     return reader && reader->at ? bw_raw_count(reader) : 0;
 }
 
 /* Writes as many of the value's bytes as there is room for, and to `value_len` how many it has.
  * Either may be null: the value where there is no room, the length where it is not asked. */
-static inline int bw_read_get(bw_reader *reader, const void *key, size_t key_len, void *value,
+static inline int bw_read_get(const bw_reader *reader, const void *key, size_t key_len, void *value,
                               size_t room, size_t *value_len) {
     uint8_t none = 0;
     size_t len = 0;
@@ -132,7 +134,7 @@ static inline int bw_read_get(bw_reader *reader, const void *key, size_t key_len
 }
 
 /* The pair with the least key at or above this one, which may lie in `pair`. */
-static inline int bw_read_at(bw_reader *reader, const void *key, size_t key_len, bw_pair *pair) {
+static inline int bw_read_at(const bw_reader *reader, const void *key, size_t key_len, bw_pair *pair) {
     uint8_t from[BW_MAX_KEY];
     if (!reader || !reader->at || !key || !pair) return BW_MISUSE;
     if (key_len == 0 || key_len > BW_MAX_KEY) return BW_BAD_LENGTH;
@@ -142,12 +144,12 @@ static inline int bw_read_at(bw_reader *reader, const void *key, size_t key_len,
 }
 
 /* The first pair of all. */
-static inline int bw_read_first(bw_reader *reader, bw_pair *pair) {
+static inline int bw_read_first(const bw_reader *reader, bw_pair *pair) {
     return bw_read_at(reader, "", 1, pair);
 }
 
 /* The pair behind the one in `pair`, which has to be one that a call wrote. */
-static inline int bw_read_next(bw_reader *reader, bw_pair *pair) {
+static inline int bw_read_next(const bw_reader *reader, bw_pair *pair) {
     uint8_t from[BW_MAX_KEY];
     if (!reader || !reader->at || !pair) return BW_MISUSE;
     size_t len = pair->key_len;
@@ -169,7 +171,7 @@ static inline int bw_begins(const bw_pair *pair, const void *prefix, size_t len)
 }
 
 /* The first pair whose key begins with these bytes; of no bytes, the first of all. */
-static inline int bw_read_first_of(bw_reader *reader, const void *prefix, size_t len,
+static inline int bw_read_first_of(const bw_reader *reader, const void *prefix, size_t len,
                                    bw_pair *pair) {
     uint8_t begin[BW_MAX_KEY];
     if (!reader || !reader->at || !prefix || !pair) return BW_MISUSE;
@@ -181,7 +183,7 @@ static inline int bw_read_first_of(bw_reader *reader, const void *prefix, size_t
 }
 
 /* The pair behind the one in `pair` whose key begins with these bytes, which lie outside `pair`. */
-static inline int bw_read_next_of(bw_reader *reader, const void *prefix, size_t len,
+static inline int bw_read_next_of(const bw_reader *reader, const void *prefix, size_t len,
                                   bw_pair *pair) {
     if (!reader || !reader->at || !prefix || !pair) return BW_MISUSE;
     int answer = bw_read_next(reader, pair);

@@ -1,11 +1,11 @@
 #!/usr/bin/env python3
-"""Makes the library for other languages of what `rt lib` made of crates/bw_reading, or installs it.
+"""Makes the library for other languages of what `rt lib` made of crates/bw_reading and of its part in C, or installs it.
 
     lib.py                 out/libhechdoram_read.a and .so, and out/hechdoram_read.pc for this folder
     lib.py install PREFIX  the two, the header and the pkg-config file below PREFIX; DESTDIR stands before it, if it is set
 
-Both have the kit's own calls of the C library in them, and show no name but those of the header: so two such libraries may stand in one
-program. It needs cc, ld, objcopy and ar."""
+Both have clients/c/hechdoram_read.c in them and the kit's own calls of malloc, and show no name but those of the header: so two such
+libraries may stand in one program. It needs cc, ld, objcopy and ar."""
 
 import os
 import shutil
@@ -18,6 +18,8 @@ OUT = os.path.join(TOP, "out")
 NAME = "hechdoram_read"
 HEADER = os.path.join(TOP, "include", NAME + ".h")
 BUILT = os.path.join(TOP, "crates", "bw_reading", "out", "libbw_reading.a")
+PART_IN_C = os.path.join(TOP, "clients", "c", NAME + ".c")
+STRICT = ["-std=c11", "-O2", "-fPIC", "-Wall", "-Wextra", "-Wpedantic", "-Wconversion", "-Werror"]
 # What the header declares.
 SHOWN = "bw_raw_*"
 VERSION = "0.1.0"
@@ -43,13 +45,20 @@ def run(*words):
 def archives():
     """The library as it was built, and what of the kit it calls."""
     kit = os.path.dirname(run("rt", "doc").strip())
-    return BUILT, [os.path.join(kit, "c", name) for name in ("libos_c.a", "liblibc_c.a")]
+    return BUILT, [os.path.join(kit, "c", "liblibc_c.a")]
+
+
+def compile_part(folder):
+    """The object file of the part in C."""
+    path = os.path.join(folder, NAME + "_c.o")
+    run("cc", *STRICT, "-I", os.path.dirname(HEADER), "-c", PART_IN_C, "-o", path)
+    return path
 
 
 def make_archive(built, beside, path):
     with tempfile.TemporaryDirectory() as folder:
         one = os.path.join(folder, NAME + ".o")
-        run("ld", "-r", "-o", one, "--whole-archive", built, "--no-whole-archive", *beside)
+        run("ld", "-r", "-o", one, compile_part(folder), "--whole-archive", built, "--no-whole-archive", *beside)
         run("objcopy", "--wildcard", "--keep-global-symbol=" + SHOWN, one)
         if os.path.exists(path):
             os.remove(path)
@@ -61,7 +70,7 @@ def make_shared(built, beside, path):
         names = os.path.join(folder, "names")
         with open(names, "w", encoding="ascii") as file:
             file.write("{ global: %s; local: *; };\n" % SHOWN)
-        run("cc", "-shared", "-o", path, "-Wl,-soname,lib%s.so" % NAME, "-Wl,--version-script=" + names, "-Wl,--no-undefined",
+        run("cc", "-shared", "-o", path, "-Wl,-soname,lib%s.so" % NAME, "-Wl,--version-script=" + names, "-Wl,--no-undefined", compile_part(folder),
             "-Wl,--whole-archive", built, "-Wl,--no-whole-archive", *beside)
 
 

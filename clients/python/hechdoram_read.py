@@ -26,7 +26,7 @@ TEXTS = {
     NO_STORE: "there is no store",
     DAMAGED: "the store is damaged, or is none",
     IN_USE: "the folder is open to be written",
-    BAD_PATH: "the path is no UTF-8",
+    BAD_PATH: "the path has a byte 0",
 }
 
 

@@ -13,9 +13,9 @@
 //! 128 bytes, values up to 512, and keys stand in the order of bytes. `make lib` makes the library
 //! that this links with, out/libhechdoram_read.a; HECHDORAM_READ_LIB names another folder.
 
-use std::cell::UnsafeCell;
 use std::ffi::c_void;
 use std::fmt;
+use std::os::unix::ffi::OsStrExt;
 use std::path::Path;
 use std::ptr;
 
@@ -35,7 +35,7 @@ pub enum Error {
     Io(i32),
     /// The folder is open to be written.
     InUse,
-    /// The path is no UTF-8.
+    /// The path has a byte 0.
     BadPath,
     /// The library answered a number that this crate does not know.
     Unknown(i32),
@@ -63,7 +63,7 @@ impl fmt::Display for Error {
             Error::Damaged => f.write_str("the store is damaged, or is none"),
             Error::Io(reason) => write!(f, "{}", std::io::Error::from_raw_os_error(*reason)),
             Error::InUse => f.write_str("the folder is open to be written"),
-            Error::BadPath => f.write_str("the path is no UTF-8"),
+            Error::BadPath => f.write_str("the path has a byte 0"),
             Error::Unknown(answer) => write!(f, "an unknown answer, {answer}"),
         }
     }
@@ -79,7 +79,7 @@ struct Word(*mut c_void);
 extern "C" {
     fn bw_raw_open(path: *const u8, len: usize, at: *mut Word, reason: *mut i32) -> i32;
     fn bw_raw_get(
-        word: *mut Word,
+        word: *const Word,
         key: *const u8,
         key_len: usize,
         value: *mut u8,
@@ -87,7 +87,7 @@ extern "C" {
         value_len: *mut usize,
     ) -> i32;
     fn bw_raw_at_or_above(
-        word: *mut Word,
+        word: *const Word,
         key: *const u8,
         key_len: usize,
         key_out: *mut u8,
@@ -97,18 +97,18 @@ extern "C" {
         value_room: usize,
         value_len: *mut usize,
     ) -> i32;
-    fn bw_raw_count(word: *mut Word) -> u64;
+    fn bw_raw_count(word: *const Word) -> u64;
     fn bw_raw_close(word: Word);
 }
 
-/// The pairs of a folder as they were when it was opened. It may go to another thread, and one at a
-/// time uses it.
+/// The pairs of a folder as they were when it was opened. Threads may share it.
 pub struct Reader {
-    word: UnsafeCell<Word>,
+    word: Word,
 }
 
-// The library lets any thread call, one at a time; a reader that is shared is not `Sync`.
+// The library lets any number of threads ask a reader at once, and any of them close it behind that.
 unsafe impl Send for Reader {}
+unsafe impl Sync for Reader {}
 
 /// The least key above this one; `None` above the greatest.
 pub fn after(key: &[u8]) -> Option<Vec<u8>> {
@@ -127,15 +127,13 @@ pub fn after(key: &[u8]) -> Option<Vec<u8>> {
 impl Reader {
     /// Reads the store in a folder.
     pub fn open(folder: impl AsRef<Path>) -> Result<Reader, Error> {
-        let path = folder.as_ref().to_str().ok_or(Error::BadPath)?;
+        let path = folder.as_ref().as_os_str().as_bytes();
         let (mut word, mut reason) = (Word(ptr::null_mut()), 0);
         let answer = unsafe { bw_raw_open(path.as_ptr(), path.len(), &mut word, &mut reason) };
         if answer != 0 {
             return Err(Error::of(answer, reason));
         }
-        Ok(Reader {
-            word: UnsafeCell::new(word),
-        })
+        Ok(Reader { word })
     }
 
     /// The value of a key, if it has one.
@@ -143,7 +141,7 @@ impl Reader {
         let (mut value, mut len) = ([0; MAX_VALUE], 0);
         let answer = unsafe {
             bw_raw_get(
-                self.word.get(),
+                &self.word,
                 key.as_ptr(),
                 key.len(),
                 value.as_mut_ptr(),
@@ -165,7 +163,7 @@ impl Reader {
         let (mut found_len, mut its_len) = (0, 0);
         let answer = unsafe {
             bw_raw_at_or_above(
-                self.word.get(),
+                &self.word,
                 key.as_ptr(),
                 key.len(),
                 found.as_mut_ptr(),
@@ -179,9 +177,9 @@ impl Reader {
         (answer == 0).then(|| (found[..found_len].to_vec(), its[..its_len].to_vec()))
     }
 
-    /// How many pairs there are. It costs a look at each page.
+    /// How many pairs there are.
     pub fn count(&self) -> u64 {
-        unsafe { bw_raw_count(self.word.get()) }
+        unsafe { bw_raw_count(&self.word) }
     }
 
     /// All pairs whose key begins with this prefix, in the order of their keys.
@@ -196,7 +194,7 @@ impl Reader {
 
 impl Drop for Reader {
     fn drop(&mut self) {
-        unsafe { bw_raw_close(*self.word.get()) }
+        unsafe { bw_raw_close(self.word) }
     }
 }
 

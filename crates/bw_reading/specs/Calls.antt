@@ -1,48 +1,46 @@
--- What the calls write for C, and what they answer.
+-- What the calls write for C.
 
-use Rattle.std.specs.Prelude.{◌≡◌, ◌⊎◌, ℕ, ◌≤◌, ◌<◌, ℤ, pos, List, ◌++◌, take, drop, length, MatchOption}
-use Rattle.std.specs.FinMap as finite
-use Rattle.bw_page.specs.Ahead.{HasNoPair, IsFirstPair}
-use Rattle.bw_leaf.specs.Changed.{Bytes, Map}
-
--- a key is no longer than any may be, and not empty
-abbrev pub IsKey : Bytes → Type 0
-IsKey key = (1 ≤ length key) × (length key ≤ 128)
-
--- no key has so many bytes
-abbrev pub IsNoKey : Bytes → Type 0
-IsNoKey key = (length key ≡ 0) ⊎ (128 < length key)
+use Rattle.std.specs.Prelude.{◌≡◌, ℕ, ◌+◌, ◌*◌, ◌/◌, ◌%◌, zero, suc, List, [], ◌∷◌, ◌++◌, take, drop, length}
+use Rattle.std.specs.List.{flat_map}
+use Rattle.bw_leaf.specs.Changed.{Bytes, Pairs}
 
 -- room of C's after bytes were written there, as many as it has room for
 abbrev pub over : Bytes → Bytes → Bytes
 over room bytes = take (length room) bytes ++ drop (length bytes) room
 
--- a look-up: the value is written, and its length; or there is none
-abbrev pub Gets : Map → Bytes → ℤ → Bytes → Bytes → ℕ → Type 0
-Gets map key answer room now len = MatchOption (finite.get map key) (answer ≡ pos 1)
-    (λ value. (answer ≡ pos 0) × (now ≡ over room value) × (len ≡ length value))
+-- ---- an image
 
--- what a walk has of C's memory: the room for the key and for the value, and the two lengths
-pub record Room : Type 0 where
-  pub key : Bytes
-  pub key_len : ℕ
-  pub value : Bytes
-  pub value_len : ℕ
+-- a pair in an image: the key's length, the value's in two bytes, the lower first, the key and the value
+abbrev pub pair_bytes : Bytes × Bytes → Bytes
+pair_bytes pair = length pair.0 ∷ length pair.1 % 256 ∷ length pair.1 / 256 ∷ pair.0 ++ pair.1
 
--- the same of its four parts
-abbrev pub room_of : Bytes → ℕ → Bytes → ℕ → Room
-room_of key key_len value value_len = record { key = key; key_len = key_len; value = value; value_len = value_len }
+-- the image of pairs
+abbrev pub spelled : Pairs → Bytes
+spelled pairs = flat_map pair_bytes pairs
 
--- a pair was written
-pub record HoldsPair (old now : Room) (pair : Bytes × Bytes) : Type 0 where
-  pub key : now.key ≡ over old.key pair.0
-  pub key_len : now.key_len ≡ length pair.0
-  pub value : now.value ≡ over old.value pair.1
-  pub value_len : now.value_len ≡ length pair.1
+-- the key of the pair that bytes begin with, or no bytes
+abbrev pub key_in : Bytes → Bytes
+key_in [] = []
+key_in (a ∷ []) = []
+key_in (a ∷ b ∷ []) = []
+key_in (a ∷ b ∷ c ∷ rest) = take a rest
 
--- the pair with the least key at or above this one was written; or there is none
-pub record FindsFirst (map : Map) (key : Bytes) (answer : ℤ) (old now : Room) : Type 0 where
-  pub told : (answer ≡ pos 0) ⊎ (answer ≡ pos 1)
-  pub found : answer ≡ pos 0
-      → (pair : Bytes × Bytes) × IsFirstPair map key pair × HoldsPair old now pair
-  pub none : answer ≡ pos 1 → HasNoPair map key
+-- the key of the pair that begins there in an image
+abbrev pub key_at : Bytes → ℕ → Bytes
+key_at image at = key_in (drop at image)
+
+-- how many bytes the pair has that bytes begin with, or none
+abbrev pub size_in : Bytes → ℕ
+size_in [] = 0
+size_in (a ∷ []) = 0
+size_in (a ∷ b ∷ []) = 0
+size_in (a ∷ b ∷ c ∷ rest) = 3 + a + b + 256 * c
+
+-- where the pair ends that begins there
+abbrev pub end_at : Bytes → ℕ → ℕ
+end_at image at = at + size_in (drop at image)
+
+-- where so many pairs begin, of which the first begins there
+abbrev pub starts_from : Bytes → ℕ → ℕ → List ℕ
+starts_from image at zero = []
+starts_from image at (suc n) = at ∷ starts_from image (end_at image at) n

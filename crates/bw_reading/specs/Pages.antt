@@ -1,6 +1,6 @@
 -- The pages that segments stand for.
 
-use Rattle.std.specs.Prelude.{◌≡◌, ℕ, ◌⊎◌, Ok, Err, List, [], ◌∷◌, length, sum_by}
+use Rattle.std.specs.Prelude.{◌≡◌, ◌⊎◌, Ok, Err, List, [], ◌∷◌}
 use Rattle.bw_record.specs.declared.leaf.Leaf.{Leaf}
 use Rattle.bw_device.specs.Holding.{Holding}
 use Rattle.bw_leaf.specs.Changed.{empty_leaf}
@@ -21,7 +21,3 @@ pub record AreNone (boxes : List Holding) (leaves : List Leaf) : Type 0 where
 -- the pages for which boxes stand
 abbrev pub ArePagesOf : List Holding → List Leaf → Type 0
 ArePagesOf boxes leaves = AreFound boxes leaves ⊎ AreNone boxes leaves
-
--- how many pairs all pages have
-abbrev pub pair_count : List Leaf → ℕ
-pair_count leaves = sum_by (λ leaf. length leaf.pairs) leaves

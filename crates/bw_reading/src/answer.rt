@@ -3,40 +3,26 @@
 ghost use Rattle.std.specs.Prelude.{◌≡◌};
 
 use bw_care::RecoverCause;
-use bw_device::{NotMade, NotTaken};
-use bw_file::FolderFault;
+use bw_device::{NotMade, NotTaken, Refused};
+use bw_digest::Damaged;
 use std::alloc::{AllocError, AllocFailed};
-use std::io::ErrorKind;
 
 /// The call was done.
 pub(crate) const DONE: i32 = 0;
 
-/// There is no such pair. It is no error.
-pub(crate) const NOT_FOUND: i32 = 1;
-
-/// A key has no byte, or more than 128.
-pub(crate) const BAD_LENGTH: i32 = -6;
-
-/// Why a folder was not read.
+/// Why there are no pairs.
 #[derive(Debug, Clone, Copy, PartialEq, Eq)]
 pub(crate) enum Fault {
     /// There was no memory for it.
     NoMemory,
-    /// There is no such folder, or it has no segment, or no frame in its segments is whole.
+    /// No frame in the segments is whole.
     NoStore,
     /// What is there is no store, or one that was changed.
     Damaged,
-    /// The system refused a call, and this is its number for the reason, or 0.
-    System(i32),
-    /// The folder is open to be written.
-    InUse,
-    /// The path is no text.
-    BadPath,
 }
 
 impl Fault {
-    ghost use Rattle.std.specs.Prelude.{◌≡◌};
-    ghost use Rattle.bw_reading.specs.Answers.{number_of, reason_of};
+    ghost use Rattle.bw_reading.specs.Answers.{number_of};
 
     /// The number of it.
     pub(crate) fn number(self) -> i32
@@ -46,19 +32,6 @@ impl Fault {
             Fault::NoMemory => -1,
             Fault::NoStore => -12,
             Fault::Damaged => -13,
-            Fault::System(_) => -15,
-            Fault::InUse => -16,
-            Fault::BadPath => -17,
-        }
-    }
-
-    /// The system's number for the reason, where it has one; else 0.
-    pub(crate) fn reason(self) -> i32
-        ensures { result ≡ reason_of self }
-    {
-        match self {
-            Fault::System(reason) => reason,
-            _ => 0,
         }
     }
 }
@@ -83,6 +56,16 @@ impl<T: Drop> From<AllocFailed<T>> for Fault {
     }
 }
 
+impl From<Damaged> for Fault {
+    ghost use Rattle.bw_reading.specs.declared.answer.Fault.TheVariants as fault;
+
+    ghost from_gives = { λ _ told. told ≡ fault.Damaged };
+
+    fn from(_error: Damaged) -> Fault {
+        Fault::Damaged
+    }
+}
+
 impl From<NotTaken> for Fault {
     fn from(fault: NotTaken) -> Fault {
         match fault {
@@ -101,19 +84,9 @@ impl From<NotMade> for Fault {
     }
 }
 
-impl From<FolderFault> for Fault {
-    ghost use Rattle.bw_reading.specs.Answers.{IsToldOf};
-
-    ghost from_gives = { λ cause fault. IsToldOf cause fault };
-
-    fn from(fault: FolderFault) -> Fault {
-        match fault {
-            FolderFault::NoMemory => Fault::NoMemory,
-            FolderFault::InUse => Fault::InUse,
-            FolderFault::System(error) if error.kind() == ErrorKind::NotFound => Fault::NoStore,
-            FolderFault::System(error) => Fault::System(error.raw_os_error().unwrap_or(0)),
-            _ => Fault::Damaged,
-        }
+impl From<Refused> for Fault {
+    fn from(refused: Refused) -> Fault {
+        Fault::from(refused.cause)
     }
 }
 

@@ -1,140 +1,87 @@
-//! The store in a folder, to be read by a program in another language: opened once, and then asked.
+//! The store in a folder, to be read by a program in another language: its files are read by C, and
+//! what they say is told here.
 //!
-//! A folder is read whole as it is opened, under a lock beside other readers, and let go of: what a
-//! handle stands for is the pages as they were then, in memory. Nothing in the folder is written. A
-//! key is looked up, or the first pair at or above a key; a walk is the second, again and again.
-//! What is answered is copied into the caller's memory, and no pointer goes out but the handle's.
+//! C hands in the bytes of all segments with the sums beside them, and gets the pairs in the order
+//! of their keys, as an image in memory of its own: `bw_pairs_in`. From then on it looks up keys
+//! there: `bw_index_of` notes once where each pair begins, and `bw_first_at` finds the first pair at
+//! or above a key. These two take no memory, and read alone what C lends, so any number of threads
+//! may call. Nothing of Rattle's stays behind a call.
 //!
-//! `include/hechdoram_read.h` has the calls for C: it looks at null pointers and at lengths before
-//! it calls one, and is what a program includes.
+//! `clients/c/hechdoram_read.c` has the part in C, and `include/hechdoram_read.h` the calls for a
+//! program.
 #![tactic(auto)]
 
-ghost use Rattle.std.specs.Prelude.{◌≡◌, ◌≢◌, ◌⊎◌, pos, negsuc, length};
-ghost use Rattle.bw_page.specs.Leaves.{union};
-ghost use Rattle.bw_reading.specs.Calls.{IsKey, IsNoKey, over, Gets, room_of, FindsFirst};
+ghost use Rattle.std.specs.Prelude.{◌≡◌, ◌⊎◌, ◌≤◌, pos, length};
 ghost use Rattle.bw_reading.specs.Answers.{IsRefusal};
-ghost use Rattle.bw_reading.specs.Pages.{pair_count};
 
 mod answer;
-mod folder;
-mod handle;
-mod held;
+mod image;
+mod segments;
 
-use answer::{BAD_LENGTH, DONE, Fault, NOT_FOUND};
-use bw_codec::Key;
-use folder::pages_in;
-use handle::Handle;
-use held::Held;
+use answer::{DONE, Fault};
+use bw_codec::is_before;
+use image::{Image, end_of, image_of, key_of, write};
+use segments::pages_in;
 use std::alloc::Global;
 
-// What the folder of this path holds, as a box.
-fn held_in(alloc: Global, path: &[u8]) -> Result<Box<Held>, Fault> {
-    let Ok(path) = std::str::from_utf8(path) else {
-        return Err(Fault::BadPath);
-    };
-    let leaves = pages_in(alloc, path)?;
-    Ok(Box::new(alloc, Held::new(leaves))?)
+// The image of what these segments hold.
+fn image_in(
+    alloc: Global,
+    bytes: &[u8],
+    sums: &[u8],
+    parts: &[u64],
+    room: usize,
+) -> Result<Image, Fault> {
+    let leaves = pages_in(alloc, bytes, sums, parts)?;
+    image_of(alloc, &leaves, room)
 }
 
-/// Reads the store in the folder of this path, and puts its handle into the word. Where that is
-/// refused, the word stays as it was; `reason` is then the system's number for the reason, or 0.
+/// Writes the image of all pairs that these segments hold: as many bytes as there is room for; and
+/// how many it has, and how many pairs. Where that is refused, nothing is written.
+///
+/// The bytes of the segments stand one behind the other, and so do those of the sums beside them; of
+/// each segment `parts` has two lengths, of its bytes and of its sums.
 #[unsafe(no_mangle)]
-pub extern "C" fn bw_raw_open(alloc: Global, path: &[u8], at: &mut *mut u8, reason: &mut i32) -> i32
+pub extern "C" fn bw_pairs_in(
+    alloc: Global,
+    bytes: &[u8],
+    sums: &[u8],
+    parts: &[u64],
+    image: &mut [u8],
+    needed: &mut u64,
+    count: &mut u64,
+) -> i32
     ensures told { (result ≡ pos 0) ⊎ IsRefusal result }
-    ensures stays { IsRefusal result → at.new ≡ at.old }
-    ensures reason { result ≢ negsuc 14 → reason.new ≡ pos 0 }
+    ensures image { IsRefusal result → image.new ≡ image.old }
+    ensures needed { IsRefusal result → needed.new ≡ needed.old }
+    ensures count { IsRefusal result → count.new ≡ count.old }
 {
-    match held_in(alloc, path) {
-        Ok(held) => {
-            let (held, _) = Box::into_raw_with_allocator(held);
-            *at = held as *mut u8;
-            *reason = 0;
+    match image_in(alloc, bytes, sums, parts, image.len()) {
+        Ok(found) => {
+            write(found.bytes.as_slice(), image);
+            *needed = found.bytes.len() as u64;
+            *count = found.count;
             DONE
         }
-        Err(fault) => {
-            *reason = fault.reason();
-            fault.number()
-        }
+        Err(fault) => fault.number(),
     }
 }
 
-// Writes as many of these bytes as there is room for, and says how many there are.
-fn write(bytes: &[u8], room: &mut [u8]) -> usize
-    ensures len { result ≡ length bytes.now }
-    ensures written { room.new ≡ over room.old bytes.now }
-{
-    let len = bytes.len().min(room.len());
-    room[..len].copy_from_slice(&bytes[..len]);
-    bytes.len()
-}
-
-/// The value of a key: as many of its bytes as there is room for, and how many it has.
+/// Notes where each pair of an image begins, as many as there is room for.
 #[unsafe(no_mangle)]
-pub extern "C" fn bw_raw_get(
-    handle: &mut Handle,
-    key: &[u8],
-    value: &mut [u8],
-    value_len: &mut usize,
-) -> i32
-    ensures got { IsKey key.now → Gets (union handle.old.held.leaves.leaves) key.now result
-        value.old value.new value_len.new }
-    ensures length { IsNoKey key.now → result ≡ negsuc 5 }
-    ensures kept { handle.new.held ≡ handle.old.held }
-{
-    let Ok(key) = Key::new(key) else {
-        return BAD_LENGTH;
-    };
-    match handle.held().get(&key) {
-        Some(found) => {
-            *value_len = write(found.as_slice(), value);
-            DONE
-        }
-        None => NOT_FOUND,
+pub extern "C" fn bw_index_of(image: &[u8], starts: &mut [u64]) {
+    let mut at = 0u64;
+    for start in 0..starts.len() {
+        starts[start] = at;
+        at = end_of(image, at);
     }
 }
 
-/// The pair with the least key at or above this one: as many bytes of both as there is room for,
-/// and how many they have.
+/// How many of these pairs, in the order of their keys, have a key below this one: where the first
+/// is that is at or above it. No memory is taken.
 #[unsafe(no_mangle)]
-pub extern "C" fn bw_raw_at_or_above(
-    handle: &mut Handle,
-    key: &[u8],
-    key_out: &mut [u8],
-    key_len: &mut usize,
-    value: &mut [u8],
-    value_len: &mut usize,
-) -> i32
-    ensures first { IsKey key.now
-        → FindsFirst (union handle.old.held.leaves.leaves) key.now result
-        (room_of key_out.old key_len.old value.old value_len.old)
-        (room_of key_out.new key_len.new value.new value_len.new) }
-    ensures length { IsNoKey key.now → result ≡ negsuc 5 }
-    ensures kept { handle.new.held ≡ handle.old.held }
+pub extern "C" fn bw_first_at(image: &[u8], starts: &[u64], key: &[u8]) -> usize
+    ensures within { result ≤ length starts.now }
 {
-    let Ok(key) = Key::new(key) else {
-        return BAD_LENGTH;
-    };
-    match handle.held().next_at(&key) {
-        Some((found, its)) => {
-            *key_len = write(found.as_slice(), key_out);
-            *value_len = write(its.as_slice(), value);
-            DONE
-        }
-        None => NOT_FOUND,
-    }
-}
-
-/// How many pairs there are. It costs a look at each page.
-#[unsafe(no_mangle)]
-pub extern "C" fn bw_raw_count(handle: &mut Handle) -> u64
-    ensures value { result ≡ pair_count handle.old.held.leaves.leaves }
-    ensures kept { handle.new.held ≡ handle.old.held }
-{
-    handle.held().count()
-}
-
-/// Ends it. The handle is used up.
-#[unsafe(no_mangle)]
-pub extern "C" fn bw_raw_close(alloc: Global, handle: Handle) {
-    drop(handle.into_box(alloc));
+    starts.partition_point(|start| is_before(key_of(image, *start), key))
 }

@@ -1,4 +1,4 @@
-//! The pages of a folder, as recovery finds them.
+//! The pages of segments, as recovery finds them.
 
 ghost use Rattle.std.specs.Prelude.{◌≡◌, [], map, IfOk};
 ghost use Rattle.bw_reading.specs.Pages.{ArePagesOf};
@@ -8,8 +8,7 @@ use bw_care::{RecoverCause, RecoverFault, recover};
 use bw_codec::limits::{HEADER_LEN, MAX_FRAME};
 use bw_codec::{HeaderRead, read_header};
 use bw_device::{Desk, MemSegment, Segment};
-use bw_file::FolderReader;
-use bw_native::{Native, NativeFile};
+use bw_digest::check;
 use bw_page::Leaves;
 use std::alloc::Global;
 
@@ -19,33 +18,36 @@ const LEAST: u64 = HEADER_LEN as u64 + MAX_FRAME as u64;
 /// The most pairs of a page, of a store that has none yet.
 const NONE_LIMIT: u16 = 32;
 
-// The folder at a path, which stays locked against writers while it is read, and the leases of its
-// files, one at least.
-fn opened(alloc: Global, path: &str) -> Result<(FolderReader<NativeFile>, Vec<u32>), Fault> {
-    let rt = (Native, alloc);
-    let reader = FolderReader::<NativeFile>::open(&rt, path)?;
-    let files = reader.leases(&rt)?;
-    if files.is_empty() {
-        return Err(Fault::NoStore);
+// A piece of bytes, where it is all there.
+fn piece(bytes: &[u8], at: u64, len: u64) -> Result<&[u8], Fault> {
+    let Some(end) = at.checked_add(len) else {
+        return Err(Fault::Damaged);
+    };
+    if end > bytes.len() as u64 {
+        return Err(Fault::Damaged);
     }
-    Ok((reader, files))
+    Ok(&bytes[at as usize..end as usize])
 }
 
-// The segments of a folder, each as a copy in memory whose bytes fit their digests.
-fn copies_in(alloc: Global, path: &str) -> Result<Vec<MemSegment>, Fault> {
-    let rt = (Native, alloc);
-    let (reader, files) = opened(alloc, path)?;
-    let count = files.last().map_or(0, |last| last.saturating_add(1));
-    let mut desk = Desk::new(alloc, count)?;
+// The segments, each as a copy in memory whose bytes fit their digests.
+fn copies_of(
+    alloc: Global,
+    bytes: &[u8],
+    sums: &[u8],
+    parts: &[u64],
+) -> Result<Vec<MemSegment>, Fault> {
+    let count = (parts.len() / 2).min(u32::MAX as usize);
+    let mut desk = Desk::new(alloc, count as u32)?;
     let mut copies = Vec::new(alloc);
-    for _ in 0..count {
+    let (mut at, mut sums_at) = (0u64, 0u64);
+    for i in 0..count {
+        let (len, sums_len) = (parts[2 * i], parts[2 * i + 1]);
+        let its = piece(bytes, at, len)?;
+        check(its, piece(sums, sums_at, sums_len)?)?;
         let lease = desk.take()?;
-        if files.contains(&lease.number()) {
-            match reader.copy(&rt, lease, LEAST) {
-                Ok(copy) => copies.push(copy)?,
-                Err(refused) => return Err(Fault::from(refused.cause)),
-            }
-        }
+        copies.push(MemSegment::with_bytes(alloc, lease, LEAST.max(len), its)?)?;
+        at = at.saturating_add(len);
+        sums_at = sums_at.saturating_add(sums_len);
     }
     Ok(copies)
 }
@@ -107,13 +109,18 @@ fn pages_in_copies(alloc: Global, copies: Vec<MemSegment>) -> Result<Leaves, Fau
     pages_of(alloc, boxes)
 }
 
-/// The pages of the store in the folder of this path, which stays as it is. Other readers are no
-/// hindrance.
+/// The pages of segments: of `parts` two lengths for each, of its bytes and of its sums, which stand
+/// one behind the other in `bytes` and in `sums`. Bytes that do not fit their sums are refused.
 ///
-/// It takes memory for a copy of all files, and the time of a recovery.
-pub(crate) fn pages_in(alloc: Global, path: &str) -> Result<Leaves, Fault>
+/// It takes memory for a copy of all bytes, and the time of a recovery.
+pub(crate) fn pages_in(
+    alloc: Global,
+    bytes: &[u8],
+    sums: &[u8],
+    parts: &[u64],
+) -> Result<Leaves, Fault>
     ensures { IfOk result (λ leaves. leaves.evicted ≡ []) }
 {
-    let copies = copies_in(alloc, path)?;
+    let copies = copies_of(alloc, bytes, sums, parts)?;
     pages_in_copies(alloc, copies)
 }
