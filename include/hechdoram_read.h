@@ -25,8 +25,8 @@
  *   answered is copied into the caller's memory. Memory is taken by malloc, and none after the
  *   opening; a want of it is BW_NO_MEMORY.
  * Threads. Any number of threads may ask one open reader at once; the opening comes before all of
- *   it, and the closing behind it, by a lock, a join or a start. Several readers, of one folder too,
- *   do not concern one another.
+ *   it, and the closing behind it, by a lock, a join or a start. Several readers, of one folder
+ *   too, do not concern one another.
  * Readers. A bw_reader is one word. An open one may be moved, but not used from two places. A
  *   closed one may be closed again, and every other call on it answers BW_MISUSE, as does a null
  *   pointer.
@@ -134,7 +134,8 @@ static inline int bw_read_get(const bw_reader *reader, const void *key, size_t k
 }
 
 /* The pair with the least key at or above this one, which may lie in `pair`. */
-static inline int bw_read_at(const bw_reader *reader, const void *key, size_t key_len, bw_pair *pair) {
+static inline int bw_read_at(const bw_reader *reader, const void *key, size_t key_len,
+                             bw_pair *pair) {
     uint8_t from[BW_MAX_KEY];
     if (!reader || !reader->at || !key || !pair) return BW_MISUSE;
     if (key_len == 0 || key_len > BW_MAX_KEY) return BW_BAD_LENGTH;

@@ -20,8 +20,8 @@
 /* The calls of crates/bw_reading. No pointer may be null, not even where its length is 0. */
 
 /* The pairs of the segments whose bytes, and the sums beside them, stand one behind the other; of
- * each segment `parts` has two lengths, of its bytes and of its sums. Writes to the image as much as
- * there is room for, and tells how many bytes it has and how many pairs. */
+ * each segment `parts` has two lengths, of its bytes and of its sums. Writes to the image as much
+ * as there is room for, and tells how many bytes it has and how many pairs. */
 int32_t bw_pairs_in(const uint8_t *bytes, size_t bytes_len, const uint8_t *sums, size_t sums_len,
                     const uint64_t *parts, size_t parts_len, uint8_t *image, size_t image_len,
                     uint64_t *needed, uint64_t *count);
@@ -268,7 +268,8 @@ typedef struct seen { const uint8_t *key, *value; size_t key_len, value_len; } s
 /* The pair with the least key at or above this one. */
 static bool first_at(const bw_reader *reader, const uint8_t *key, size_t key_len, seen *pair) {
     const held *all = (const held *)reader->at;
-    size_t at = bw_first_at(all->image.bytes, all->image.len, all->starts, all->count, key, key_len);
+    size_t at =
+        bw_first_at(all->image.bytes, all->image.len, all->starts, all->count, key, key_len);
     if (at >= all->count) return false;
     const uint8_t *begin = all->image.bytes + all->starts[at];
     pair->key_len = begin[0];
