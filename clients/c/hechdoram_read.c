@@ -133,11 +133,11 @@ static int lease_of(const char *name) {
 /* Says of each lease whether it has a file. */
 static int list(int dir, bool *has_file, int32_t *reason) {
     int fd = openat(dir, ".", O_RDONLY | O_CLOEXEC | O_DIRECTORY);
-    DIR *names = fd < 0 ? NULL : fdopendir(fd);
-    if (!names) {
-        int answer = refusal(reason);
-        if (fd >= 0) close(fd);
-        return answer;
+    if (fd < 0) return refusal(reason);
+    DIR *names = fdopendir(fd);
+    if (!names) { /* it is a folder: so there was no memory */
+        close(fd);
+        return BW_NO_MEMORY;
     }
     struct dirent *entry;
     while (errno = 0, (entry = readdir(names)) != NULL) {
