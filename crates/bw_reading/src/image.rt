@@ -26,34 +26,31 @@ fn least() -> Key {
     }
 }
 
-// Of the longest key, the first bytes with the last of them greater by 1: no key lies between. None
-// behind the greatest.
-fn after_longest(bytes: [u8; 128]) -> Option<Key> {
-    let mut next = bytes;
-    let mut end = 128usize;
-    for _ in 0..128 {
-        if end == 0 {
-            return None;
-        }
-        if next[end - 1] < 255 {
-            next[end - 1] += 1;
-            return Key::new(&next[..end]).ok();
-        }
-        end -= 1;
+// These bytes with the last of them greater by 1.
+fn raised(alloc: Global, front: &[u8]) -> Result<Option<Key>, AllocError> {
+    let mut next = Vec::from_slice(alloc, front)?;
+    if let Some(last) = next.pop() {
+        next.push(last.saturating_add(1))?;
     }
-    None
+    Ok(Key::new(next.as_slice()).ok())
 }
 
 // The least key above this one: none lies between the two. None above the greatest.
-fn after(key: &Key) -> Option<Key> {
+fn after(alloc: Global, key: &Key) -> Result<Option<Key>, AllocError> {
     let bytes = key.as_slice();
-    let len = bytes.len();
-    let mut next = [0u8; 128];
-    next[..len].copy_from_slice(bytes);
-    if len < 128 {
-        return Key::new(&next[..len + 1]).ok();
+    if bytes.len() < 128 {
+        let mut next = Vec::from_slice(alloc, bytes)?;
+        next.push(0)?;
+        return Ok(Key::new(next.as_slice()).ok());
     }
-    after_longest(next)
+    // No key is longer, so the last byte that can be raised is.
+    for back in 0..bytes.len() {
+        let len = bytes.len() - back;
+        if bytes[len - 1] < 255 {
+            return raised(alloc, &bytes[..len]);
+        }
+    }
+    Ok(None)
 }
 
 // Adds a pair to an image.
@@ -83,7 +80,7 @@ pub(crate) fn image_of(alloc: Global, leaves: &Leaves, room: usize) -> Result<Im
             return Ok(Image { bytes, count });
         };
         add_pair(&mut bytes, &key, &value)?;
-        match after(&key) {
+        match after(alloc, &key)? {
             Some(next) => from = next,
             None => {
                 return Ok(Image {

@@ -71,8 +71,8 @@ pub extern "C" fn bw_pairs_in(
 #[unsafe(no_mangle)]
 pub extern "C" fn bw_index_of(image: &[u8], starts: &mut [u64]) {
     let mut at = 0u64;
-    for start in 0..starts.len() {
-        starts[start] = at;
+    for start in starts {
+        *start = at;
         at = end_of(image, at);
     }
 }
