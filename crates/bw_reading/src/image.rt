@@ -3,7 +3,7 @@
 //! Each pair is the key's length, the value's in two bytes, the lower first, the key and the value.
 //! Pairs stand in the order of their keys, one behind the other.
 
-ghost use Rattle.std.specs.Prelude.{◌≡◌, ◌≤◌, ◌++◌, [], drop, length, OnOk, IfOk};
+ghost use Rattle.std.specs.Prelude.{◌≡◌, ◌++◌, [], drop, OnOk};
 ghost use Rattle.bw_reading.specs.Calls.{over, pair_bytes, key_at};
 
 use crate::answer::Fault;

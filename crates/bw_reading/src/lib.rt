@@ -7,11 +7,17 @@
 //! or above a key. These two take no memory, and read alone what C lends, so any number of threads
 //! may call. Nothing of Rattle's stays behind a call.
 //!
+//! What no clause says, and the tests of the program show: that the image has all pairs of the pages
+//! in the order of their keys, that the pages are those of the bytes that C handed in, and that the
+//! index is right. What an answer of `bw_first_at` means rests on keys that ascend.
+//!
 //! `clients/c/hechdoram_read.c` has the part in C, and `include/hechdoram_read.h` the calls for a
 //! program.
 #![tactic(auto)]
 
-ghost use Rattle.std.specs.Prelude.{◌≡◌, ◌⊎◌, ◌≤◌, pos, length};
+ghost use Rattle.std.specs.Prelude.{◌≡◌, ◌⊎◌, ◌≤◌, pos, length, true, false};
+ghost use Rattle.std.specs.List.Sorted.{IsPartitionedBy, IsPartitionPoint};
+ghost use Rattle.bw_reading.specs.Calls.{is_below_at};
 ghost use Rattle.bw_reading.specs.Answers.{IsRefusal};
 
 mod answer;
@@ -82,6 +88,9 @@ pub extern "C" fn bw_index_of(image: &[u8], starts: &mut [u64]) {
 #[unsafe(no_mangle)]
 pub extern "C" fn bw_first_at(image: &[u8], starts: &[u64], key: &[u8]) -> usize
     ensures within { result ≤ length starts.now }
+    ensures first { IsPartitionedBy (is_below_at image.now key.now) starts.now
+        → IsPartitionPoint (λ at. is_below_at image.now key.now at ≡ true)
+        (λ at. is_below_at image.now key.now at ≡ false) starts.now result }
 {
     starts.partition_point(|start| is_before(key_of(image, *start), key))
 }
