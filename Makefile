@@ -3,6 +3,8 @@
 # make test   the gate: the pages against the tests and the sources, every proof, the wrong bodies, the tests, the programs (from nothing, but for what this machine has
 #             passed); then the program that it built over the cases of tests/program/cases, over drawn scripts beside a map, over 500 hostile cases, under the
 #             clients of clients/, over a million updates of a thousand keys, and timed at several sizes; and the tests of refused memory with each allocation refused in turn, and the program with each fifth, by a shim that cc makes
+# make lib    proves bw_reading and all below it, and makes out/libhechdoram_read.a and .so of it, for other languages; make install PREFIX=/usr/local puts
+#             them there, with their header and a file for pkg-config
 # make wrong  tries the wrong bodies outside the gate, in a copy of the repository
 # make memory proves the tests of refused memory, and runs them and the program that make run built with each allocation refused in turn
 # make bench  times the store at a million keys, each subject in a process of its own, and then over files (docs/MEASURED.md)
@@ -12,12 +14,13 @@
 # make fuzz   asks the program that make run built with hostile segments, scripts and folders; FUZZ="--cases 100000 --seed 7" says how many and which
 
 PROGRAM = crates/bwlog
+PREFIX = /usr/local
 BENCH = --keys 1000000 --operations 1000000
 # One check a processor, each at one job: two jobs for one check cost a tenth more time of the processors.
 JOBS = $(shell n=$$(nproc); echo $$((n < 4 ? n : 4)))
 SUBJECTS = pages cleaning core alone beside late one one-beside many many-beside
 
-.PHONY: run try test wrong memory bench peers crash fuzz
+.PHONY: run try lib install test wrong memory bench peers crash fuzz
 
 run:
 	@python3 tools/prove.py bwlog
@@ -25,6 +28,14 @@ run:
 
 try:
 	@echo "(nothing is proved by this run)" && cd $(PROGRAM) && mkdir -p out && head -n 4 stdin > out/first && rt try -- replay < out/first
+
+lib:
+	@python3 tools/prove.py bw_reading
+	@cd crates/bw_reading && rt lib
+	@python3 tools/lib.py
+
+install:
+	@python3 tools/lib.py install $(PREFIX)
 
 test:
 	python3 tools/same.py
@@ -37,6 +48,9 @@ test:
 	python3 tests/program/fuzz.py --cases 500
 	python3 tests/program/waits.py
 	python3 tests/program/clients.py
+	cd crates/bw_reading && rt lib
+	python3 tools/lib.py
+	python3 tests/program/reading.py
 	python3 tests/program/sums.py
 	python3 tests/program/rescue.py
 	python3 tests/program/failing.py

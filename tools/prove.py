@@ -20,7 +20,7 @@ def stands_on():
     """What each crate of the repository names of the others."""
     lines = open(os.path.join(TOP, "crates.txt"), encoding="utf-8").read().splitlines()
     rows = [line.split(":") for line in lines if line.strip() and not line.startswith("#")]
-    named = {name.strip(): deps.split() for name, deps in rows}
+    named = {name.split()[0]: deps.split() for name, deps in rows}
     return {name: [dep for dep in deps if dep in named] for name, deps in named.items()}
 
 

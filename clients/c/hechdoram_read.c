@@ -1,0 +1,311 @@
+/* The library's part in C: it reads the files of a folder, and looks pairs up in memory of its own.
+ *
+ * What the bytes of the files say is for the part in Rattle to tell, crates/bw_reading: it checks
+ * them, finds the pairs, writes them into one run of memory here, and searches there. `make lib`
+ * makes one library of both. */
+#define _DEFAULT_SOURCE
+#define _FILE_OFFSET_BITS 64
+#include <hechdoram_read.h>
+
+#include <dirent.h>
+#include <fcntl.h>
+#include <limits.h>
+#include <stdbool.h>
+#include <stdio.h>
+#include <stdlib.h>
+#include <sys/file.h>
+#include <sys/stat.h>
+#include <unistd.h>
+
+/* The calls of crates/bw_reading. No pointer may be null, not even where its length is 0. */
+
+/* The pairs of the segments whose bytes, and the sums beside them, stand one behind the other; of
+ * each segment `parts` has two lengths, of its bytes and of its sums. Writes to the image as much
+ * as there is room for, and tells how many bytes it has and how many pairs. */
+int32_t bw_pairs_in(const uint8_t *bytes, size_t bytes_len, const uint8_t *sums, size_t sums_len,
+                    const uint64_t *parts, size_t parts_len, uint8_t *image, size_t image_len,
+                    uint64_t *needed, uint64_t *count);
+/* Where each pair of an image begins. */
+void bw_index_of(const uint8_t *image, size_t image_len, uint64_t *starts, size_t starts_len);
+/* How many pairs have a key below this one. */
+size_t bw_first_at(const uint8_t *image, size_t image_len, const uint64_t *starts,
+                   size_t starts_len, const uint8_t *key, size_t key_len);
+
+/* No file of a segment is longer, and no lease has a greater number. */
+enum { MAX_FILE = 1 << 30, MAX_LEASES = 4096 };
+
+/* A run of bytes; what it points to is never null once it was made. */
+typedef struct run { uint8_t *bytes; size_t len; } run;
+
+/* The files of a folder: the bytes of all segments, those of all sums, and two lengths of each. */
+typedef struct files { run bytes, sums; uint64_t *parts; size_t count; } files;
+
+/* What was read of a folder: in the image, of each pair in the order of keys, the key's length, the
+ * value's in two bytes, the lower first, the key and the value; and where each begins. */
+typedef struct held { run image; uint64_t *starts; size_t count; } held;
+
+/* Memory for so many things, and one at least. */
+static void *room_for(size_t count, size_t size) {
+    return count > SIZE_MAX / 2 / size ? NULL : malloc((count ? count : 1) * size);
+}
+
+/* What is told of a call that the system refused. */
+static int refusal(int32_t *reason) {
+    if (errno == ENOMEM) return BW_NO_MEMORY;
+    if (errno == ENOENT) return BW_NO_STORE;
+    *reason = errno;
+    return BW_IO;
+}
+
+/* ---- files */
+
+/* Opens a file of the folder to be read; BW_NOT_FOUND where it is not there. What has its name and
+ * is no plain file is not opened. */
+static int open_plain(int dir, const char *name, int *fd, int32_t *reason) {
+    struct stat about;
+    if (fstatat(dir, name, &about, AT_SYMLINK_NOFOLLOW) != 0)
+        return errno == ENOENT ? BW_NOT_FOUND : refusal(reason);
+    if (!S_ISREG(about.st_mode)) return BW_DAMAGED;
+    *fd = openat(dir, name, O_RDONLY | O_CLOEXEC | O_NOFOLLOW | O_NONBLOCK);
+    if (*fd >= 0) return BW_OK;
+    return errno == ENOENT ? BW_NOT_FOUND : refusal(reason);
+}
+
+/* Takes the lock of the folder beside other readers, where it has the file for it. */
+static int lock(int dir, int *fd, int32_t *reason) {
+    int answer = open_plain(dir, "lock", fd, reason);
+    if (answer == BW_NOT_FOUND) return BW_OK;
+    if (answer != BW_OK) return answer;
+    while (flock(*fd, LOCK_SH | LOCK_NB) != 0) {
+        if (errno == EWOULDBLOCK) return BW_IN_USE;
+        if (errno != EINTR) return refusal(reason);
+    }
+    return BW_OK;
+}
+
+/* Reads so many bytes of a file behind those of a run. */
+static int read_whole(int fd, size_t len, run *into, int32_t *reason) {
+    if (len == 0) return BW_OK;
+    uint8_t *bytes = (uint8_t *)realloc(into->bytes, into->len + len);
+    if (!bytes) return BW_NO_MEMORY;
+    into->bytes = bytes;
+    for (size_t end = into->len + len; into->len < end;) {
+        ssize_t n = read(fd, bytes + into->len, end - into->len);
+        if (n < 0 && errno == EINTR) continue;
+        if (n < 0) return refusal(reason);
+        if (n == 0) return BW_IO; /* it is shorter than it was */
+        into->len += (size_t)n;
+    }
+    return BW_OK;
+}
+
+/* Adds the bytes of a file to a run, and tells how many. Of sums no more are read than a segment
+ * may have bytes; a segment that is longer is none. */
+static int add_file(int dir, const char *name, bool is_sums, run *into, uint64_t *len,
+                    int32_t *reason) {
+    struct stat about;
+    int fd = -1, answer = open_plain(dir, name, &fd, reason);
+    *len = 0;
+    if (answer == BW_NOT_FOUND) return is_sums ? BW_OK : BW_NO_STORE;
+    if (answer != BW_OK) return answer;
+    if (fstat(fd, &about) != 0) answer = refusal(reason);
+    else if (about.st_size > MAX_FILE && !is_sums) answer = BW_DAMAGED;
+    else {
+        *len = (uint64_t)(about.st_size > MAX_FILE ? MAX_FILE : about.st_size);
+        answer = read_whole(fd, (size_t)*len, into, reason);
+    }
+    close(fd);
+    return answer;
+}
+
+/* The number of the lease whose file has this name; -1 of another. */
+static int lease_of(const char *name) {
+    int number = 0;
+    if (strncmp(name, "segment-", 8) != 0 || strlen(name) != 15 || strcmp(name + 12, ".bw") != 0)
+        return -1;
+    for (int at = 8; at < 12; at++) {
+        if (name[at] < '0' || name[at] > '9') return -1;
+        number = 10 * number + (name[at] - '0');
+    }
+    return number < MAX_LEASES ? number : -1;
+}
+
+/* Says of each lease whether it has a file. */
+static int list(int dir, bool *has_file, int32_t *reason) {
+    int fd = openat(dir, ".", O_RDONLY | O_CLOEXEC | O_DIRECTORY);
+    if (fd < 0) return refusal(reason);
+    DIR *names = fdopendir(fd);
+    if (!names) { /* it is a folder: so there was no memory */
+        close(fd);
+        return BW_NO_MEMORY;
+    }
+    struct dirent *entry;
+    while (errno = 0, (entry = readdir(names)) != NULL) {
+        int lease = lease_of(entry->d_name);
+        if (lease >= 0) has_file[lease] = true;
+    }
+    int answer = errno ? refusal(reason) : BW_OK;
+    closedir(names);
+    return answer;
+}
+
+/* Adds the two files of a lease. */
+static int add_lease(int dir, int lease, files *all, int32_t *reason) {
+    char name[32];
+    uint64_t *parts = all->parts + 2 * all->count;
+    snprintf(name, sizeof name, "segment-%04d.bw", lease);
+    int answer = add_file(dir, name, false, &all->bytes, &parts[0], reason);
+    if (answer != BW_OK) return answer;
+    snprintf(name, sizeof name, "segment-%04d.sum", lease);
+    answer = add_file(dir, name, true, &all->sums, &parts[1], reason);
+    all->count++;
+    return answer;
+}
+
+/* Reads all files of a folder. */
+static int read_files(int dir, files *all, int32_t *reason) {
+    bool has_file[MAX_LEASES] = {false};
+    int answer = list(dir, has_file, reason);
+    all->bytes.bytes = (uint8_t *)room_for(1, 1);
+    all->sums.bytes = (uint8_t *)room_for(1, 1);
+    all->parts = (uint64_t *)room_for(2 * MAX_LEASES, sizeof *all->parts);
+    if (answer == BW_OK && (!all->bytes.bytes || !all->sums.bytes || !all->parts))
+        return BW_NO_MEMORY;
+    for (int lease = 0; answer == BW_OK && lease < MAX_LEASES; lease++)
+        if (has_file[lease]) answer = add_lease(dir, lease, all, reason);
+    return answer == BW_OK && all->count == 0 ? BW_NO_STORE : answer;
+}
+
+static void free_files(files *all) {
+    free(all->bytes.bytes);
+    free(all->sums.bytes);
+    free(all->parts);
+}
+
+/* Reads all files of the folder of this path, under its lock. */
+static int read_folder(const char *path, files *all, int32_t *reason) {
+    int dir = open(path, O_RDONLY | O_CLOEXEC | O_DIRECTORY), locked = -1;
+    if (dir < 0) return refusal(reason);
+    int answer = lock(dir, &locked, reason);
+    if (answer == BW_OK) answer = read_files(dir, all, reason);
+    if (locked >= 0) close(locked);
+    close(dir);
+    return answer;
+}
+
+/* ---- pairs */
+
+/* Fills an image with the pairs that the files stand for. Where it has too little room it is made
+ * again, with as much as is needed. */
+static int fill(const files *all, held *found) {
+    size_t room = all->bytes.len + 1;
+    for (;;) {
+        uint64_t needed = 0, count = 0;
+        found->image.bytes = (uint8_t *)room_for(room, 1);
+        if (!found->image.bytes) return BW_NO_MEMORY;
+        int answer = (int)bw_pairs_in(all->bytes.bytes, all->bytes.len, all->sums.bytes,
+                                      all->sums.len, all->parts, 2 * all->count,
+                                      found->image.bytes, room, &needed, &count);
+        if (answer != BW_OK) return answer;
+        if (needed > SIZE_MAX / 2 || count > SIZE_MAX / 2) return BW_NO_MEMORY;
+        found->image.len = (size_t)needed;
+        found->count = (size_t)count;
+        if (needed <= room) return BW_OK;
+        free(found->image.bytes);
+        room = (size_t)needed;
+    }
+}
+
+/* Gives back what the image has of room that it does not need, and notes where its pairs begin. */
+static int finish(held *found) {
+    run *image = &found->image;
+    uint8_t *less = (uint8_t *)realloc(image->bytes, image->len ? image->len : 1);
+    if (less) image->bytes = less;
+    found->starts = (uint64_t *)room_for(found->count, sizeof *found->starts);
+    if (!found->starts) return BW_NO_MEMORY;
+    bw_index_of(image->bytes, image->len, found->starts, found->count);
+    return BW_OK;
+}
+
+static void free_held(held *found) {
+    if (!found) return;
+    free(found->image.bytes);
+    free(found->starts);
+    free(found);
+}
+
+/* What a folder holds. */
+static int hold(const char *path, held *found, int32_t *reason) {
+    files all = {{NULL, 0}, {NULL, 0}, NULL, 0};
+    int answer = read_folder(path, &all, reason);
+    if (answer == BW_OK) answer = fill(&all, found);
+    free_files(&all);
+    return answer == BW_OK ? finish(found) : answer;
+}
+
+int32_t bw_raw_open(const uint8_t *path, size_t path_len, void **at, int32_t *reason) {
+    *reason = 0;
+    if (memchr(path, 0, path_len)) return BW_BAD_PATH;
+    char *name = (char *)room_for(path_len + 1, 1);
+    held *found = (held *)calloc(1, sizeof *found);
+    int answer = BW_NO_MEMORY;
+    if (name && found) {
+        memcpy(name, path, path_len);
+        name[path_len] = 0;
+        answer = hold(name, found, reason);
+    }
+    free(name);
+    if (answer == BW_OK) *at = found;
+    else free_held(found);
+    return answer;
+}
+
+/* ---- look-ups */
+
+/* A pair in the image: it is not copied. */
+typedef struct seen { const uint8_t *key, *value; size_t key_len, value_len; } seen;
+
+/* The pair with the least key at or above this one. */
+static bool first_at(const bw_reader *reader, const uint8_t *key, size_t key_len, seen *pair) {
+    const held *all = (const held *)reader->at;
+    size_t at =
+        bw_first_at(all->image.bytes, all->image.len, all->starts, all->count, key, key_len);
+    if (at >= all->count) return false;
+    const uint8_t *begin = all->image.bytes + all->starts[at];
+    pair->key_len = begin[0];
+    pair->value_len = (size_t)begin[1] + 256 * (size_t)begin[2];
+    pair->key = begin + 3;
+    pair->value = pair->key + pair->key_len;
+    return true;
+}
+
+/* Copies as many bytes as there is room for, and says how many there are. */
+static size_t copy(const uint8_t *bytes, size_t len, uint8_t *into, size_t room) {
+    memcpy(into, bytes, len < room ? len : room);
+    return len;
+}
+
+int32_t bw_raw_get(const bw_reader *reader, const uint8_t *key, size_t key_len, uint8_t *value,
+                   size_t value_room, size_t *value_len) {
+    seen pair;
+    if (key_len == 0 || key_len > BW_MAX_KEY) return BW_BAD_LENGTH;
+    if (!first_at(reader, key, key_len, &pair)) return BW_NOT_FOUND;
+    if (pair.key_len != key_len || memcmp(pair.key, key, key_len) != 0) return BW_NOT_FOUND;
+    *value_len = copy(pair.value, pair.value_len, value, value_room);
+    return BW_OK;
+}
+
+int32_t bw_raw_at_or_above(const bw_reader *reader, const uint8_t *key, size_t key_len,
+                           uint8_t *key_out, size_t key_room, size_t *key_out_len, uint8_t *value,
+                           size_t value_room, size_t *value_len) {
+    seen pair;
+    if (key_len == 0 || key_len > BW_MAX_KEY) return BW_BAD_LENGTH;
+    if (!first_at(reader, key, key_len, &pair)) return BW_NOT_FOUND;
+    *key_out_len = copy(pair.key, pair.key_len, key_out, key_room);
+    *value_len = copy(pair.value, pair.value_len, value, value_room);
+    return BW_OK;
+}
+
+uint64_t bw_raw_count(const bw_reader *reader) { return ((const held *)reader->at)->count; }
+
+void bw_raw_close(bw_reader reader) { free_held((held *)reader.at); }

@@ -1,0 +1,11 @@
+//! Where the library is that `make lib` makes: in the folder that HECHDORAM_READ_LIB names, or in out/.
+use std::env;
+
+fn main() {
+    let here = env::var("CARGO_MANIFEST_DIR").unwrap_or_default();
+    let folder = env::var("HECHDORAM_READ_LIB").unwrap_or(format!("{here}/../../out"));
+    println!("cargo:rerun-if-env-changed=HECHDORAM_READ_LIB");
+    println!("cargo:rerun-if-changed={folder}/libhechdoram_read.a");
+    println!("cargo:rustc-link-search=native={folder}");
+    println!("cargo:rustc-link-lib=static=hechdoram_read");
+}

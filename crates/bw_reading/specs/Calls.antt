@@ -1,0 +1,30 @@
+-- What the calls write for C.
+
+use Rattle.std.specs.Prelude.{ℕ, ◌/◌, ◌%◌, Bool, [], ◌∷◌, ◌++◌, take, drop, length}
+use Rattle.bw_record.specs.Keys.{is_below}
+use Rattle.bw_leaf.specs.Changed.{Bytes}
+
+-- room of C's after bytes were written there, as many as it has room for
+abbrev pub over : Bytes → Bytes → Bytes
+over room bytes = take (length room) bytes ++ drop (length bytes) room
+
+-- ---- an image
+
+-- a pair in an image: the key's length, the value's in two bytes, the lower first, the key and the value
+abbrev pub pair_bytes : Bytes × Bytes → Bytes
+pair_bytes pair = length pair.0 ∷ length pair.1 % 256 ∷ length pair.1 / 256 ∷ pair.0 ++ pair.1
+
+-- the key of the pair that bytes begin with, or no bytes
+abbrev pub key_in : Bytes → Bytes
+key_in [] = []
+key_in (a ∷ []) = []
+key_in (a ∷ b ∷ []) = []
+key_in (a ∷ b ∷ c ∷ rest) = take a rest
+
+-- the key of the pair that begins there in an image
+abbrev pub key_at : Bytes → ℕ → Bytes
+key_at image at = key_in (drop at image)
+
+-- whether the pair that begins there has a key below this one
+abbrev pub is_below_at : Bytes → Bytes → ℕ → Bool
+is_below_at image key at = is_below (key_at image at) key

@@ -1,0 +1,96 @@
+//! The store in a folder, to be read by a program in another language: its files are read by C, and
+//! what they say is told here.
+//!
+//! C hands in the bytes of all segments with the sums beside them, and gets the pairs in the order
+//! of their keys, as an image in memory of its own: `bw_pairs_in`. From then on it looks up keys
+//! there: `bw_index_of` notes once where each pair begins, and `bw_first_at` finds the first pair at
+//! or above a key. These two take no memory, and read alone what C lends, so any number of threads
+//! may call. Nothing of Rattle's stays behind a call.
+//!
+//! What no clause says, and the tests of the program show: that the image has all pairs of the pages
+//! in the order of their keys, that the pages are those of the bytes that C handed in, and that the
+//! index is right. What an answer of `bw_first_at` means rests on keys that ascend.
+//!
+//! `clients/c/hechdoram_read.c` has the part in C, and `include/hechdoram_read.h` the calls for a
+//! program.
+#![tactic(auto)]
+
+ghost use Rattle.std.specs.Prelude.{◌≡◌, ◌⊎◌, ◌≤◌, pos, length, true, false};
+ghost use Rattle.std.specs.List.Sorted.{IsPartitionedBy, IsPartitionPoint};
+ghost use Rattle.bw_reading.specs.Calls.{is_below_at};
+ghost use Rattle.bw_reading.specs.Answers.{IsRefusal};
+
+mod answer;
+mod image;
+mod segments;
+
+use answer::{DONE, Fault};
+use bw_codec::is_before;
+use image::{Image, end_of, image_of, key_of, write};
+use segments::pages_in;
+use std::alloc::Global;
+
+// The image of what these segments hold.
+fn image_in(
+    alloc: Global,
+    bytes: &[u8],
+    sums: &[u8],
+    parts: &[u64],
+    room: usize,
+) -> Result<Image, Fault> {
+    let leaves = pages_in(alloc, bytes, sums, parts)?;
+    image_of(alloc, &leaves, room)
+}
+
+/// Writes the image of all pairs that these segments hold: as many bytes as there is room for; and
+/// how many it has, and how many pairs. Where that is refused, nothing is written.
+///
+/// The bytes of the segments stand one behind the other, and so do those of the sums beside them; of
+/// each segment `parts` has two lengths, of its bytes and of its sums.
+#[unsafe(no_mangle)]
+pub extern "C" fn bw_pairs_in(
+    alloc: Global,
+    bytes: &[u8],
+    sums: &[u8],
+    parts: &[u64],
+    image: &mut [u8],
+    needed: &mut u64,
+    count: &mut u64,
+) -> i32
+    ensures told { (result ≡ pos 0) ⊎ IsRefusal result }
+    ensures image { IsRefusal result → image.new ≡ image.old }
+    ensures needed { IsRefusal result → needed.new ≡ needed.old }
+    ensures count { IsRefusal result → count.new ≡ count.old }
+{
+    match image_in(alloc, bytes, sums, parts, image.len()) {
+        Ok(found) => {
+            write(found.bytes.as_slice(), image);
+            *needed = found.bytes.len() as u64;
+            *count = found.count;
+            DONE
+        }
+        Err(fault) => fault.number(),
+    }
+}
+
+/// Notes where each pair of an image begins, as many as there is room for.
+#[unsafe(no_mangle)]
+pub extern "C" fn bw_index_of(image: &[u8], starts: &mut [u64]) {
+    let mut at = 0u64;
+    for start in starts {
+        *start = at;
+        at = end_of(image, at);
+    }
+}
+
+/// How many of these pairs, in the order of their keys, have a key below this one: where the first
+/// is that is at or above it. No memory is taken.
+#[unsafe(no_mangle)]
+pub extern "C" fn bw_first_at(image: &[u8], starts: &[u64], key: &[u8]) -> usize
+    ensures within { result ≤ length starts.now }
+    ensures first { IsPartitionedBy (is_below_at image.now key.now) starts.now
+        → IsPartitionPoint (λ at. is_below_at image.now key.now at ≡ true)
+        (λ at. is_below_at image.now key.now at ≡ false) starts.now result }
+{
+    starts.partition_point(|start| is_before(key_of(image, *start), key))
+}

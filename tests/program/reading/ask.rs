@@ -1,0 +1,62 @@
+//! Answers questions about a folder, a line each, as ask.c does.
+
+use hechdoram_read::{Error, Pair, Reader};
+use std::io::{self, BufRead, Write};
+use std::{env, process, thread};
+
+fn bytes_of(word: &str) -> Vec<u8> {
+    let digits: Vec<u8> = word.bytes().map(|c| (c as char).to_digit(16).unwrap_or(0) as u8).collect();
+    digits.chunks(2).map(|two| two[0] * 16 + two[1]).collect()
+}
+
+fn hex(bytes: &[u8]) -> String {
+    bytes.iter().map(|byte| format!("{byte:02x}")).collect()
+}
+
+fn pair_line((key, value): &Pair) -> String {
+    format!("pair {} {}\n", hex(key), hex(value))
+}
+
+fn answer(reader: &Reader, line: &str) -> String {
+    let (word, rest) = line.split_once(' ').unwrap_or((line, ""));
+    let bytes = bytes_of(rest);
+    match word {
+        "get" => reader.get(&bytes).map_or("none\n".into(), |value| format!("value {}\n", hex(&value))),
+        "at" => reader.at_or_above(&bytes).map_or("none\n".into(), |pair| pair_line(&pair)),
+        "walk" => reader.items(&bytes).map(|pair| pair_line(&pair)).collect::<String>() + "end\n",
+        _ => format!("count {}\n", reader.count()),
+    }
+}
+
+fn number(error: Error) -> i32 {
+    match error {
+        Error::NoMemory => -1,
+        Error::NoStore => -12,
+        Error::Damaged => -13,
+        Error::Io(_) => -15,
+        Error::InUse => -16,
+        Error::BadPath => -17,
+        Error::Unknown(answer) => answer,
+    }
+}
+
+fn main() {
+    let folder = env::args().nth(1).unwrap_or_default();
+    let reader = match Reader::open(&folder) {
+        Ok(reader) => reader,
+        Err(error) => {
+            println!("refused {}", number(error));
+            process::exit(if error.to_string().is_empty() { 4 } else { 3 });
+        }
+    };
+    // It may go to another thread.
+    let reader = thread::spawn(move || {
+        assert_eq!((&reader).into_iter().count() as u64, reader.count());
+        reader
+    });
+    let reader = reader.join().expect("a thread ended well");
+    let mut out = io::BufWriter::new(io::stdout().lock());
+    for line in io::stdin().lock().lines().map_while(Result::ok) {
+        out.write_all(answer(&reader, &line).as_bytes()).expect("written");
+    }
+}
