@@ -48,9 +48,6 @@ test:
 	python3 tests/program/fuzz.py --cases 500
 	python3 tests/program/waits.py
 	python3 tests/program/clients.py
-	cd crates/bw_reading && rt lib
-	python3 tools/lib.py
-	python3 tests/program/reading.py
 	python3 tests/program/sums.py
 	python3 tests/program/rescue.py
 	python3 tests/program/failing.py
