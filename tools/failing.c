@@ -16,6 +16,8 @@
 #include <sys/stat.h>
 #include <unistd.h>
 
+#include "shim.h"
+
 static char folder[PATH_MAX];
 static long wanted;
 static atomic_long unseen;
@@ -63,18 +65,6 @@ static int fails(int counts)
     errno = EIO;
     return 1;
 }
-
-#define REAL(kind, name, ...) \
-    static kind (*real)(__VA_ARGS__); \
-    if (!real) \
-        real = (kind (*)(__VA_ARGS__))dlsym(RTLD_NEXT, name)
-
-/* The mode that stands behind the flags where a file may be made. */
-#define MODE(mode, flags) \
-    va_list more; \
-    va_start(more, flags); \
-    mode_t mode = ((flags) & O_CREAT) ? (mode_t)va_arg(more, int) : 0; \
-    va_end(more)
 
 int open(const char *path, int flags, ...)
 {

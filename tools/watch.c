@@ -17,6 +17,8 @@
 #include <sys/stat.h>
 #include <unistd.h>
 
+#include "shim.h"
+
 static pthread_mutex_t one_by_one = PTHREAD_MUTEX_INITIALIZER;
 static char folder[PATH_MAX];
 static int notes = -1;
@@ -69,18 +71,6 @@ static void note(char letter, int file, uint64_t at, uint64_t length, const void
         abort();
     pthread_mutex_unlock(&one_by_one);
 }
-
-#define REAL(kind, name, ...) \
-    static kind (*real)(__VA_ARGS__); \
-    if (!real) \
-        real = (kind (*)(__VA_ARGS__))dlsym(RTLD_NEXT, name)
-
-/* The mode that stands behind the flags where a file may be made. */
-#define MODE(mode, flags) \
-    va_list more; \
-    va_start(more, flags); \
-    mode_t mode = ((flags) & O_CREAT) ? (mode_t)va_arg(more, int) : 0; \
-    va_end(more)
 
 static int opened(int file, int flags)
 {

@@ -17,6 +17,7 @@ import collections.abc
 import ctypes
 import os
 import sys
+import threading
 
 MAX_KEY, MAX_VALUE = 128, 512
 NAME = "libhechdoram_read.so"
@@ -81,8 +82,16 @@ def after(key):
     return front[:-1] + bytes([front[-1] + 1]) if front else None
 
 
+class Room(threading.local):
+    """Where an answer is written: each thread has its own."""
+
+    def __init__(self):
+        self.key, self.value = ctypes.create_string_buffer(MAX_KEY), ctypes.create_string_buffer(MAX_VALUE)
+        self.key_len, self.value_len = ctypes.c_size_t(), ctypes.c_size_t()
+
+
 class Reader(collections.abc.Mapping):
-    """The pairs of a folder as they were when it was opened."""
+    """The pairs of a folder as they were when it was opened. Any number of threads may ask it at once; it is closed once no other does."""
 
     def __init__(self, folder, path=None):
         self._word = ctypes.c_void_p()
@@ -97,8 +106,7 @@ class Reader(collections.abc.Mapping):
             raise OSError(reason.value, os.strerror(reason.value), os.fsdecode(folder))
         if answer != OK:
             raise Refused(answer, os.fsdecode(folder))
-        self._key, self._value = ctypes.create_string_buffer(MAX_KEY), ctypes.create_string_buffer(MAX_VALUE)
-        self._key_len, self._value_len = ctypes.c_size_t(), ctypes.c_size_t()
+        self._room = Room()
 
     def __enter__(self):
         return self
@@ -118,10 +126,11 @@ class Reader(collections.abc.Mapping):
 
     def __getitem__(self, key):
         self._check(key)
-        answer = self._calls.get(self._word, key, len(key), self._value, MAX_VALUE, self._value_len)
+        room = self._room
+        answer = self._calls.get(self._word, key, len(key), room.value, MAX_VALUE, room.value_len)
         if answer != OK:  # no pair has a key of another length either
             raise KeyError(key)
-        return self._value.raw[: self._value_len.value]
+        return room.value.raw[: room.value_len.value]
 
     def __len__(self):
         self._check(b"")
@@ -139,11 +148,11 @@ class Reader(collections.abc.Mapping):
             if key is None:
                 return None
         key = key or b"\0"
-        lens = self._key_len, self._value_len
-        answer = self._calls.at(self._word, key, len(key), self._key, MAX_KEY, lens[0], self._value, MAX_VALUE, lens[1])
+        room = self._room
+        answer = self._calls.at(self._word, key, len(key), room.key, MAX_KEY, room.key_len, room.value, MAX_VALUE, room.value_len)
         if answer == NOT_FOUND:
             return None
-        return self._key.raw[: lens[0].value], self._value.raw[: lens[1].value]
+        return room.key.raw[: room.key_len.value], room.value.raw[: room.value_len.value]
 
     def items(self, prefix=b"", start=None):
         """All pairs whose key begins with this prefix, from `start` on, in the order of their keys."""

@@ -12,6 +12,7 @@ EMBEDDING run.
 It prints one line with counts; what is left out is said."""
 
 import bisect
+import concurrent.futures
 import os
 import random
 import re
@@ -149,6 +150,11 @@ def ask_python(drawn, folder, pairs):
         expect(list(other.items()), [(key, pairs[key]) for key in keys], "a second reader of %s" % folder)
         for key in keys:
             expect((reader[key], key in reader), (pairs[key], True), "%s at %r" % (folder, key))
+        # Threads ask one reader at once, and each is answered what it asked for.
+        with concurrent.futures.ThreadPoolExecutor(4) as pool:
+            expect(list(pool.map(reader.get, keys * 3)), [pairs[key] for key in keys] * 3, "%s by threads" % folder)
+            walks = list(pool.map(lambda prefix: list(reader.items(prefix)), [b""] * 4))
+            expect(walks, [[(key, pairs[key]) for key in keys]] * 4, "walks of %s by threads" % folder)
         for key in near(drawn, keys) + [b"", b"k" * 129, b"\xff" * 200]:
             expect((reader.get(key), key in reader), (pairs.get(key), key in pairs), "%s at %r" % (folder, key))
             expect(reader.at_or_above(key), first(keys, pairs, key), "%s from %r" % (folder, key))

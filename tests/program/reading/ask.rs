@@ -49,6 +49,16 @@ fn main() {
             process::exit(if error.to_string().is_empty() { 4 } else { 3 });
         }
     };
+    // Several threads may ask it at once.
+    let seen: Vec<Pair> = reader.items(b"").collect();
+    thread::scope(|threads| {
+        for _ in 0..4 {
+            threads.spawn(|| {
+                assert!(reader.items(b"").eq(seen.iter().cloned()));
+                assert!(seen.iter().all(|pair| reader.get(&pair.0).as_ref() == Some(&pair.1)));
+            });
+        }
+    });
     // It may go to another thread.
     let reader = thread::spawn(move || {
         assert_eq!((&reader).into_iter().count() as u64, reader.count());
